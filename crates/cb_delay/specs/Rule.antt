@@ -1,0 +1,8 @@
+-- The delay rule of CBCAST (Birman, Schiper and Stephenson 1991, section 5): when a receiver may deliver a message.
+use Rattle.std.specs.Prelude.{◌≡◌, ◌≢◌, ℕ, ◌+◌, ◌≤◌}
+
+-- A message of this sender, stamped so, may be delivered where `now` has been delivered of each member:
+-- it is the sender's next one, and nothing that its sender had delivered is missing.
+pub record IsReady (sender : ℕ) (stamp now : ℕ → ℕ) : Type 0 where
+  pub next : stamp sender ≡ now sender + 1
+  pub others : (k : ℕ) → k ≢ sender → stamp k ≤ now k

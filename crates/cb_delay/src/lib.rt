@@ -1,0 +1,4 @@
+//! The delay queue of CBCAST: messages that wait until all before them are delivered.
+//!
+//! Stands on `cb_times`.
+#![tactic(auto)]
