@@ -1,0 +1,4 @@
+pub mod Worth
+pub mod Fronts
+pub mod Spelled
+pub mod Turns

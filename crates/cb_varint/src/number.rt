@@ -1,0 +1,86 @@
+//! Reading and writing a number.
+
+ghost use Rattle.std.specs.Prelude.{◌≡◌, ℕ, ◌+◌, ◌<◌, ◌≤◌, ◌++◌, ◌↔◌, List, length as len, take as front, IfOk, OnOk, OnErr, vec_capacity, vec_len};
+ghost use Rattle.cb_varint.specs.declared.fault.NumberFault.{NumberFault as Fault};
+ghost use Rattle.cb_varint.specs.Spelling.{Spells, IsFault};
+ghost use Rattle.cb_varint.specs.Reading.{number_at, spelling};
+
+use crate::fault::NumberFault;
+use std::alloc::AllocError;
+
+/// Want of memory: a growth was refused, and nothing has changed.
+pub type NoMemory = AllocError;
+
+/// How many bytes a spelling has at most.
+const LONGEST: usize = 5;
+
+/// How many bytes spell `v`: 1 to 5.
+pub fn length(v: u32) -> usize
+    ensures text { (text : List ℕ) → Spells text v → len text ≡ result }
+    ensures exact { result ≡ len (spelling v) }
+{
+    groups_in(v)
+}
+
+fn groups_in(v: u32) -> usize
+    ensures { result ≡ len (spelling v) }
+{
+    match v {
+        0..=0x7f => 1,
+        0x80..=0x3fff => 2,
+        0x4000..=0x1f_ffff => 3,
+        0x20_0000..=0xfff_ffff => 4,
+        _ => 5,
+    }
+}
+
+/// Appends the one spelling of `v` to `out`. Where memory is wanting `out` keeps its bytes.
+pub fn put(v: u32, out: &mut Vec<u8>) -> Result<(), NoMemory>
+    ensures text { OnOk result ((text : List ℕ) × Spells text v × (out.new.items ≡ out.old.items ++ text)) }
+    ensures exact { OnOk result (out.new.items ≡ out.old.items ++ spelling v) }
+    ensures err { OnErr result (out.new.items ≡ out.old.items) }
+    ensures full { OnErr result (vec_capacity out.old < vec_len out.old + len (spelling v)) }
+{
+    let mut text = [0; LONGEST];
+    let mut rest = v;
+    let mut count = 0;
+    while rest >= 0x80 {
+        text[count] = (rest % 0x80) as u8 + 0x80;
+        rest /= 0x80;
+        count += 1;
+    }
+    text[count] = rest as u8;
+    out.extend_from_slice(&text[..=count])
+}
+
+/// Reads the number at the front of `bytes`, and says how many bytes it has. What follows it is not looked at.
+pub fn take(bytes: &[u8]) -> Result<(u32, usize), NumberFault>
+    ensures within { IfOk result (λ found. found.1 ≤ len bytes.now) }
+    ensures found { IfOk result (λ found. Spells (front found.1 bytes.now) found.0) }
+    ensures only { (text rest : List ℕ) (n : ℕ) → Spells text n → bytes.now ≡ text ++ rest → result ≡ Ok (n, len text) }
+    ensures fault { (fault : Fault) → (result ≡ Err fault) ↔ IsFault fault bytes.now }
+    ensures exact { result ≡ number_at bytes.now }
+{
+    first_number(bytes)
+}
+
+fn first_number(bytes: &[u8]) -> Result<(u32, usize), NumberFault>
+    ensures { result ≡ number_at bytes.now }
+{
+    let mut value = 0;
+    for (place, byte) in bytes.iter().enumerate() {
+        let byte = *byte;
+        if place == 4 && byte > 0x0f {
+            return Err(NumberFault::TooLarge);
+        }
+        value += u32::from(byte & 0x7f) << (7 * place);
+        if byte < 0x80 {
+            return if byte == 0 && place > 0 {
+                Err(NumberFault::NotMinimal)
+            } else {
+                Ok((value, place + 1))
+            };
+        }
+    }
+    Err(NumberFault::Short)
+}
