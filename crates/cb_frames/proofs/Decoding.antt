@@ -1,0 +1,109 @@
+-- What decoding answers, from what reading gives.
+use Rattle.std.proofs.Common.{◌≡◌, ℕ, ◌+◌, ◌-◌, ◌≤◌, List, [], ◌∷◌, ◌++◌, length, take, drop, Result, Ok, Err, MatchResult, refl, sym, ap, subst, ◌∙◌, arith, inl, inr, ◌⊎◌, append_assoc, suc, get_or, ◌<◌}
+use Rattle.std.specs.Prelude.{IfOk}
+use Rattle.std.proofs.lemmas.Bool.{eq-eqb}
+use Rattle.std.proofs.lemmas.List.{length-append, drop_at, append-nil}
+use Rattle.cb_frames.specs.declared.frame.Frame.{Frame}
+use Rattle.cb_frames.specs.declared.fault.FrameFault.{FrameFault}
+use Rattle.cb_frames.specs.declared.fault.FrameFault.TheVariants.{NoMemory}
+use Rattle.cb_frames.specs.Fields.{CastFields, FrameFields, CastFrame, fields_of}
+use Rattle.cb_frames.specs.Text.{cast_kind, SpellAll, cast_numbers, IsText}
+use Rattle.cb_frames.specs.Fault.{FirstFault}
+use Rattle.cb_frames.specs.Reading.{◌>>=◌, cast_at, frame_at, Gives, Fails}
+use Rattle.cb_frames.specs.Laws.{EachIsTextOrFault, ReadingIsExact}
+use Rattle.cb_frames.proofs.Fronts.{IsBytes}
+use Rattle.cb_frames.proofs.Outcome.{CastOutcome, cast_outcome, FrameOutcome, frame_outcome}
+use Rattle.cb_frames.proofs.Unique.{none_begins_another, text_has_no_fault, one_first_fault}
+
+either_of : (bytes : List ℕ) (r : Result FrameFields FrameFault) → FrameOutcome bytes r → ((f : FrameFields) × (r ≡ Ok f) × IsText f bytes) ⊎ ((e : FrameFault) × (r ≡ Err e) × FirstFault bytes e)
+either_of bytes (Ok f) o = inl (f, refl, o)
+either_of bytes (Err e) o = inr (e, refl, o)
+
+pub either : (bytes : List ℕ) → IsBytes bytes → ((f : FrameFields) × (frame_at bytes ≡ Ok f) × IsText f bytes) ⊎ ((e : FrameFault) × (frame_at bytes ≡ Err e) × FirstFault bytes e)
+either bytes fits = either_of bytes (frame_at bytes) (frame_outcome bytes fits)
+
+same_text : (f g : FrameFields) (bytes : List ℕ) → IsText f bytes → IsText g bytes → f ≡ g
+same_text f g bytes p q = (none_begins_another f g bytes [] p (subst (IsText g) (sym (append-nil bytes)) q)).0
+
+pub text_is_read : (bytes : List ℕ) (f : FrameFields) → IsBytes bytes → IsText f bytes → frame_at bytes ≡ Ok f
+text_is_read bytes f fits text =
+    elim (either bytes fits) [
+      | inl x ↦ x.1 ∙ ap (λ (g : FrameFields). Ok g) (same_text x.0 f bytes x.2 text)
+      | inr x ↦ absurd (text_has_no_fault f bytes x.0 text x.2)
+    ]
+
+pub fault_is_read : (bytes : List ℕ) (e : FrameFault) → IsBytes bytes → FirstFault bytes e → frame_at bytes ≡ Err e
+fault_is_read bytes e fits fault =
+    elim (either bytes fits) [
+      | inl x ↦ absurd (text_has_no_fault x.0 bytes e x.2 fault)
+      | inr x ↦ x.1 ∙ ap (λ (d : FrameFault). Err d) (one_first_fault bytes x.0 e x.2 fault)
+    ]
+
+read_is_text : (bytes : List ℕ) (f : FrameFields) → IsBytes bytes → frame_at bytes ≡ Ok f → IsText f bytes
+read_is_text bytes f fits e = subst (FrameOutcome bytes) e (frame_outcome bytes fits)
+
+read_is_fault : (bytes : List ℕ) (d : FrameFault) → IsBytes bytes → frame_at bytes ≡ Err d → FirstFault bytes d
+read_is_fault bytes d fits e = subst (FrameOutcome bytes) e (frame_outcome bytes fits)
+
+pub each_is : EachIsTextOrFault
+each_is bytes fits = elim (either bytes fits) [ inl x ↦ inl (x.0, x.2) | inr x ↦ inr (x.0, x.2) ]
+
+pub reading_is_exact : ReadingIsExact
+reading_is_exact = record {
+  text = λ bytes f fits. (read_is_text bytes f fits, text_is_read bytes f fits);
+  fault = λ bytes e fits. (read_is_fault bytes e fits, fault_is_read bytes e fits);
+}
+
+-- ---- the clauses of `decode`
+
+pub answers_text : (bytes : List ℕ) (r : Result Frame FrameFault) → IsBytes bytes → Gives fields_of r (frame_at bytes) → IfOk r (λ frame. IsText (fields_of frame) bytes)
+answers_text bytes (Ok frame) fits given = read_is_text bytes (fields_of frame) fits given
+answers_text bytes (Err e) fits given = tt
+
+no_value : (e d : FrameFault) (read : Result FrameFields FrameFault) → read ≡ Err d → Fails e read → e ≡ d
+no_value e d read h (inl same) = cc
+no_value e d (Ok f) h (inr want) = absurd cc
+no_value e d (Err x) h (inr want) = absurd want.1
+
+pub answers_fault : (bytes : List ℕ) (r : Result Frame FrameFault) (e : FrameFault) → IsBytes bytes → Gives fields_of r (frame_at bytes) → FirstFault bytes e → r ≡ Err e
+answers_fault bytes (Ok frame) e fits given fault =
+    let read = fault_is_read bytes e fits fault in
+    let found : frame_at bytes ≡ Ok (fields_of frame) = given in
+    absurd cc
+answers_fault bytes (Err d) e fits given fault = ap (λ (x : FrameFault). Err x) (no_value d e (frame_at bytes) (fault_is_read bytes e fits fault) given)
+
+no_memory : (e : FrameFault) (f : FrameFields) (read : Result FrameFields FrameFault) → read ≡ Ok f → Fails e read → e ≡ NoMemory
+no_memory e f read h (inl other) = absurd cc
+no_memory e f read h (inr want) = want.0
+
+pub answers_found : (bytes : List ℕ) (r : Result Frame FrameFault) (f : FrameFields) → IsBytes bytes → Gives fields_of r (frame_at bytes) → IsText f bytes → MatchResult r (λ frame. fields_of frame ≡ f) (λ e. e ≡ NoMemory)
+answers_found bytes (Ok frame) f fits given text =
+    let read : frame_at bytes ≡ Ok f = text_is_read bytes f fits text in
+    let found : frame_at bytes ≡ Ok (fields_of frame) = given in
+    cc
+answers_found bytes (Err e) f fits given text = no_memory e f (frame_at bytes) (text_is_read bytes f fits text) given
+
+-- ---- the payload is the end of the bytes
+
+pub payload_is_end : (bytes : List ℕ) (c : CastFields) → IsBytes bytes → cast_at bytes ≡ Ok c → (front : List ℕ) × (bytes ≡ front ++ c.payload)
+payload_is_end bytes c fits e =
+    let text = subst (CastOutcome bytes) e (cast_outcome bytes fits) in
+    (text.2.0, text.2.2)
+
+pub end_of : (front payload bytes : List ℕ) → bytes ≡ front ++ payload → (length payload ≤ length bytes) × (drop (length bytes - length payload) bytes ≡ payload)
+end_of front payload bytes e =
+    let len : length bytes ≡ length front + length payload = ap length e ∙ length-append front payload in
+    let at : length bytes - length payload ≡ length front = omega (arith, len) in
+    (omega (arith, len), ap (λ (n : ℕ). drop n bytes) at ∙ ap (drop (length front)) e ∙ drop_at front payload (length front) refl)
+
+-- ---- the way from the fields to the frame
+
+pub fault_of_cast : (bytes : List ℕ) (kind : ℕ) (fields : List ℕ) (e : FrameFault) → bytes ≡ kind ∷ fields → kind ≡ cast_kind → cast_at fields ≡ Err e → frame_at bytes ≡ Err e
+unfolding frame_at
+fault_of_cast bytes kind fields e parts k h = ap frame_at parts ∙ rw (eq-eqb kind cast_kind k, h) refl
+
+pub cast_of_frame : (bytes : List ℕ) (kind : ℕ) (fields : List ℕ) (c : CastFields) → bytes ≡ kind ∷ fields → IsBytes bytes → cast_at fields ≡ Ok c → (front : List ℕ) × (bytes ≡ front ++ c.payload)
+cast_of_frame bytes kind fields c parts fits h =
+    let fields_fit : IsBytes fields = λ i. subst (λ (t : List ℕ). get_or t (suc i) 0 < 256) parts (fits (suc i)) in
+    let end = payload_is_end fields c fields_fit h in
+    (kind ∷ end.0, parts ∙ ap (λ (t : List ℕ). kind ∷ t) end.1)

@@ -1,0 +1,106 @@
+-- Fields at the front of bytes: what is read there is there, and what is there is the one thing that is.
+use Rattle.std.proofs.Common.{◌≡◌, ℕ, zero, suc, ◌+◌, ◌-◌, ◌<◌, ◌≤◌, List, [], ◌∷◌, ◌++◌, length, take, drop, get_or, Option, Some, None, Result, Ok, Err, refl, sym, ap, subst, ◌∙◌, append_assoc, arith, inl, inr, ◌⊎◌, ltb, cond}
+use Rattle.std.proofs.lemmas.List.{take-append-drop, get_or-drop, append_cancel_left}
+use Rattle.std.proofs.lemmas.Bool.{cond_both, ltb-true, ltb-false}
+use Rattle.cb_varint.specs.declared.fault.NumberFault.{NumberFault}
+use Rattle.cb_varint.specs.Spelling.{Spells, IsFault}
+use Rattle.cb_varint.specs.Reading.{number_at as number_and_length}
+use Rattle.cb_varint.proofs.Fronts.{read_is_spelled, fault_is_there, number_is_read, fault_is_answered}
+use Rattle.cb_varint.proofs.Spelled.{apart}
+use Rattle.cb_frames.specs.declared.fault.FrameFault.{FrameFault}
+use Rattle.cb_frames.specs.declared.fault.FrameFault.TheVariants.{Short, Trailing}
+use Rattle.cb_frames.specs.NumberFaults.{as_frame_fault}
+use Rattle.cb_frames.specs.Text.{SpellAll}
+use Rattle.cb_frames.specs.Fault.{Field, Number, Payload, Accepts, Follows, IsWrong, FirstFaultOf}
+use Rattle.cb_frames.specs.Reading.{◌>>=◌, behind_number, number_at, unless, field_at, payload_at}
+
+abbrev pub IsBytes : List ℕ → Type 0
+IsBytes bytes = (i : ℕ) → get_or bytes i 0 < 256
+
+pub IsBytes-drop : (n : ℕ) (bytes : List ℕ) → IsBytes bytes → IsBytes (drop n bytes)
+IsBytes-drop n bytes h i = rw get_or-drop (h (n + i))
+
+-- a step of a chain, by what its first part gives
+pub bind_cases : {A B : Type 0} (r : Result A FrameFault) (f : A → Result B FrameFault) (P : Result B FrameFault → Type 0) → ((x : A) → r ≡ Ok x → P (f x)) → ((e : FrameFault) → r ≡ Err e → P (Err e)) → P (r >>= f)
+bind_cases (Ok x) f P ok err = ok x refl
+bind_cases (Err e) f P ok err = err e refl
+
+-- ---- one number
+
+-- what reading a field that is a number gives
+pub record Found (rule : ℕ → Option FrameFault) (bytes : List ℕ) (n : ℕ) (rest : List ℕ) : Type 0 where
+  pub text : List ℕ
+  pub spelled : Spells text n
+  pub parts : bytes ≡ text ++ rest
+  pub kept : rule n ≡ None
+  pub rest_fits : IsBytes rest
+
+unless_cases : {A : Type 0} (o : Option FrameFault) (x : A) (P : Result A FrameFault → Type 0) → (o ≡ None → P (Ok x)) → ((e : FrameFault) → o ≡ Some e → P (Err e)) → P (unless o x)
+unless_cases None x P ok err = ok refl
+unless_cases (Some e) x P ok err = err e refl
+
+abbrev pub FieldOutcome : (ℕ → Option FrameFault) → List ℕ → Result (ℕ × List ℕ) FrameFault → Type 0
+FieldOutcome rule bytes (Ok x) = Found rule bytes x.0 x.1
+FieldOutcome rule bytes (Err e) = IsWrong (Number rule) bytes e
+
+number_cases : (bytes : List ℕ) (r : Result (ℕ × ℕ) NumberFault) (P : Result (ℕ × List ℕ) FrameFault → Type 0) → ((x : ℕ × ℕ) → r ≡ Ok x → P (Ok (x.0, drop x.1 bytes))) → ((e : NumberFault) → r ≡ Err e → P (Err (as_frame_fault e))) → P (behind_number bytes r)
+number_cases bytes (Ok x) P ok err = ok x refl
+number_cases bytes (Err e) P ok err = err e refl
+
+pub field_outcome : (rule : ℕ → Option FrameFault) (bytes : List ℕ) → IsBytes bytes → FieldOutcome rule bytes (field_at rule bytes)
+field_outcome rule bytes fits =
+    number_cases bytes (number_and_length bytes) (λ r. FieldOutcome rule bytes (r >>= λ n. unless (rule n.0) n))
+    (λ x e.
+        let s = read_is_spelled bytes x fits e in
+        let parts : bytes ≡ take x.1 bytes ++ drop x.1 bytes = sym (take-append-drop x.1 bytes) in
+        unless_cases (rule x.0) (x.0, drop x.1 bytes) (FieldOutcome rule bytes)
+        (λ kept. record { text = take x.1 bytes; spelled = s.1; parts = parts; kept = kept; rest_fits = IsBytes-drop x.1 bytes fits })
+        (λ f broken. inr (take x.1 bytes, drop x.1 bytes, x.0, s.1, parts, broken)))
+    (λ f e. inl (f, fault_is_there bytes f fits e, refl))
+
+pub payload_outcome : (n : ℕ) (bytes : List ℕ) (P : Result (List ℕ) FrameFault → Type 0) → (length bytes ≡ n → P (Ok bytes)) → ((e : FrameFault) → IsWrong (Payload n) bytes e → P (Err e)) → P (payload_at n bytes)
+payload_outcome n bytes P ok err =
+    cond_both (ltb (length bytes) n) (Err Short) (cond (ltb n (length bytes)) (Err Trailing) (Ok bytes)) P
+    (λ less. err Short (inl (ltb-true _ _ less, refl)))
+    (λ not_less. cond_both (ltb n (length bytes)) (Err Trailing) (Ok bytes) P
+      (λ more. err Trailing (inr (ltb-true _ _ more, refl)))
+      (λ not_more. ok (omega (arith, ltb-false _ _ not_less, ltb-false _ _ not_more))))
+
+-- ---- the first fault, field by field
+
+pub fault_here : (fields : List ℕ → Field) (bytes : List ℕ) (e : FrameFault) → IsWrong (fields []) bytes e → FirstFaultOf fields bytes e
+fault_here fields bytes e wrong = record { values = []; rest = bytes; good = refl; wrong = wrong }
+
+pub fault_later : (fields : List ℕ → Field) (n : ℕ) (text more bytes : List ℕ) (e : FrameFault) → Accepts (fields []) n → Spells text n → bytes ≡ text ++ more → FirstFaultOf (λ before. fields (n ∷ before)) more e → FirstFaultOf fields bytes e
+fault_later fields n text more bytes e accepts spelled parts f = record {
+  values = n ∷ f.values;
+  rest = f.rest;
+  good = (accepts, (text, more, spelled, parts, f.good));
+  wrong = f.wrong;
+}
+
+-- ---- numbers at the front of bytes
+
+pub record Opens (numbers bytes rest : List ℕ) : Type 0 where
+  pub text : List ℕ
+  pub spelled : SpellAll numbers text
+  pub parts : bytes ≡ text ++ rest
+
+pub Opens-none : (bytes : List ℕ) → Opens [] bytes bytes
+Opens-none bytes = record { text = []; spelled = refl; parts = refl }
+
+pub Opens-one : (n : ℕ) (ns text more bytes rest : List ℕ) → Spells text n → bytes ≡ text ++ more → Opens ns more rest → Opens (n ∷ ns) bytes rest
+Opens-one n ns text more bytes rest spelled parts o = record {
+  text = text ++ o.text;
+  spelled = (text, o.text, spelled, o.spelled, refl);
+  parts = parts ∙ ap (λ (t : List ℕ). text ++ t) o.parts ∙ sym (append_assoc text o.text rest);
+}
+
+pub Opens-append : (ms ns bytes more rest : List ℕ) → Opens ms bytes more → Opens ns more rest → Opens (ms ++ ns) bytes rest
+Opens-append [] ns bytes more rest a b =
+    let same : bytes ≡ more = a.parts ∙ ap (λ (t : List ℕ). t ++ more) a.spelled in
+    subst (λ (t : List ℕ). Opens ns t rest) (sym same) b
+Opens-append (m ∷ ms) ns bytes more rest a b =
+    let s = a.spelled in
+    let parts : bytes ≡ s.0 ++ (s.1 ++ more) = a.parts ∙ ap (λ (t : List ℕ). t ++ more) s.4 ∙ append_assoc s.0 s.1 more in
+    Opens-one m (ms ++ ns) s.0 (s.1 ++ more) bytes rest s.2 parts (Opens-append ms ns (s.1 ++ more) more rest (record { text = s.1; spelled = s.3; parts = refl }) b)

@@ -1,0 +1,5 @@
+pub mod ChangeLoop
+pub mod Fronts
+pub mod Outcome
+pub mod Unique
+pub mod Decoding

@@ -1,0 +1,33 @@
+-- The laws of frames' texts.
+use Rattle.std.specs.Prelude.{◌≡◌, ℕ, ◌<◌, List, [], ◌++◌, ◌⊎◌, ◌↔◌, Ok, Err, slice_index}
+use Rattle.cb_frames.specs.declared.fault.FrameFault.{FrameFault}
+use Rattle.cb_frames.specs.Fields.{FrameFields}
+use Rattle.cb_frames.specs.Text.{IsText, text_of}
+use Rattle.cb_frames.specs.Fault.{FirstFault}
+use Rattle.cb_frames.specs.Reading.{frame_at}
+
+-- no bytes are the text of two frames, and no frame's text is a proper prefix of another's
+abbrev pub NoneBeginsAnother : Type 0
+NoneBeginsAnother = (f g : FrameFields) (bytes more : List ℕ) → IsText f bytes → IsText g (bytes ++ more) → (f ≡ g) × (more ≡ [])
+
+-- a frame has one text, which `text_of` names
+abbrev pub OneText : Type 0
+OneText = (f : FrameFields) (bytes : List ℕ) → IsText f bytes → bytes ≡ text_of f
+
+-- bytes have one first fault at most, and none where they are a frame's text
+abbrev pub OneFault : Type 0
+OneFault = (bytes : List ℕ) (e d : FrameFault) → FirstFault bytes e → FirstFault bytes d → e ≡ d
+
+abbrev pub TextHasNoFault : Type 0
+TextHasNoFault = (f : FrameFields) (bytes : List ℕ) (e : FrameFault) → IsText f bytes → ¬ FirstFault bytes e
+
+abbrev pub IsBytes : List ℕ → Type 0
+IsBytes bytes = (i : ℕ) → slice_index bytes i < 256
+
+abbrev pub EachIsTextOrFault : Type 0
+EachIsTextOrFault = (bytes : List ℕ) → IsBytes bytes → ((f : FrameFields) × IsText f bytes) ⊎ ((e : FrameFault) × FirstFault bytes e)
+
+-- `frame_at` finds a text exactly where there is one, and else the first fault
+pub record ReadingIsExact : Type 0 where
+  pub text : (bytes : List ℕ) (f : FrameFields) → IsBytes bytes → (frame_at bytes ≡ Ok f) ↔ IsText f bytes
+  pub fault : (bytes : List ℕ) (e : FrameFault) → IsBytes bytes → (frame_at bytes ≡ Err e) ↔ FirstFault bytes e

@@ -1,0 +1,38 @@
+//! What a frame says.
+
+use bytes::Bytes;
+
+/// The greatest member number and index of a field: a group has at most 64 members.
+pub const LAST_MEMBER: u32 = 63;
+
+/// The most bytes of a payload.
+pub const LONGEST_PAYLOAD: usize = 1024;
+
+/// A field of a vector time, 0 to 63, and by how much it has grown, at least 1.
+#[derive(Clone, Copy, Debug, Default, PartialEq, Eq, Hash)]
+pub struct Change {
+    pub field: u32,
+    pub amount: u32,
+}
+
+/// One broadcast message on the wire.
+#[derive(Debug, PartialEq, Eq, Drop)]
+pub struct Cast {
+    /// The number of the group.
+    pub group: u32,
+    /// Who casts, 0 to 63.
+    pub sender: u32,
+    /// Which of the sender's casts it is, from 1.
+    pub number: u32,
+    /// How the other fields of the sender's time have grown since its previous cast, in rising order of the field.
+    /// The sender's own field never stands here: it is the number.
+    pub changes: Vec<Change>,
+    /// What the application sends, at most 1,024 bytes.
+    pub payload: Bytes,
+}
+
+/// A frame of any kind.
+#[derive(Debug, PartialEq, Eq, Drop)]
+pub enum Frame {
+    Cast(Cast),
+}

@@ -1,0 +1,19 @@
+//! The laws of texts and faults, as contracts of functions that do nothing.
+
+ghost use Rattle.cb_frames.specs.Laws.{NoneBeginsAnother, OneText, OneFault, TextHasNoFault, EachIsTextOrFault, ReadingIsExact};
+
+/// No bytes are the text of two frames, no frame's text is a proper prefix of another's, and `text_of` names the text.
+pub fn one_text()
+    ensures apart { NoneBeginsAnother }
+    ensures named { OneText }
+{
+}
+
+/// Bytes are a frame's text, or have just one first fault. Reading from the left finds the one or the other.
+pub fn each_is_a_text_or_a_fault()
+    ensures each { EachIsTextOrFault }
+    ensures not_both { TextHasNoFault }
+    ensures one { OneFault }
+    ensures reading { ReadingIsExact }
+{
+}
