@@ -3,3 +3,4 @@ pub mod Fronts
 pub mod Outcome
 pub mod Unique
 pub mod Decoding
+pub mod ChangesWritten

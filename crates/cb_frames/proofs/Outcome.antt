@@ -170,7 +170,7 @@ whole_cast bytes group sender number count rest changes after size payload h d l
     let o = h.opens (pairs_from 0 changes ++ size ∷ []) payload (Opens-append (pairs_from 0 changes) (size ∷ []) rest after payload d.opens tail) in
     let numbers : SpellAll (group ∷ sender ∷ number ∷ length changes ∷ (pairs_from 0 changes ++ length payload ∷ [])) o.text =
       rw (d.count_is, whole) o.spelled in (
-      record { sender = h.sender_kept; number = h.number_kept; rising = d.rising; changes = d.each },
+      record { sender = h.sender_kept; number = h.number_kept; changes = record { rising = d.rising; each = d.each } },
       omega (arith, whole, length_kept size l.kept),
       (o.text, numbers, o.parts),
     )

@@ -157,7 +157,7 @@ cast_whole c numbers rules small spelled =
     let sender = spelled.3 in
     let number = sender.3 in
     let count = number.3 in
-    let tail = pairs_whole c.sender 0 c.changes (length c.payload ∷ []) count.1 c.payload rules.rising rules.changes count.3 (λ rest s. payload_whole c.payload rest small s) in
+    let tail = pairs_whole c.sender 0 c.changes (length c.payload ∷ []) count.1 c.payload rules.changes.rising rules.changes.each count.3 (λ rest s. payload_whole c.payload rest small s) in
     let behind : (first rest whole : List ℕ) → whole ≡ first ++ rest → whole ++ c.payload ≡ first ++ (rest ++ c.payload) = λ first rest whole e. ap (λ (t : List ℕ). t ++ c.payload) e ∙ append_assoc first rest c.payload in
     record {
       follows = (refl, (spelled.0, spelled.1 ++ c.payload, spelled.2, behind spelled.0 spelled.1 numbers spelled.4,
@@ -224,7 +224,7 @@ none_begins_another (CastFrame c) (CastFrame d) bytes more f g =
       subst (λ (t : List ℕ). Follows cast_field (cast_numbers c) t (c.payload ++ more)) parts (follows_longer cast_field (cast_numbers c) (f.2.0 ++ c.payload) c.payload more one.follows) in
     let stuck : IsStuck (cast_field (cast_numbers c)) (c.payload ++ more) = subst (λ (k : Field). IsStuck k (c.payload ++ more)) (sym one.ends) (stuck_at_payload (length c.payload) (c.payload ++ more)) in
     let same = same_values cast_field (cast_numbers c) (cast_numbers d) (g.2.0 ++ d.payload) (c.payload ++ more) d.payload longer stuck two.follows (whole_stuck cast_field (cast_numbers d) _ d.payload two) in
-    let fields = same_cast c d f.0.rising g.0.rising same.0 in
+    let fields = same_cast c d f.0.changes.rising g.0.changes.rising same.0 in
     let end = longer_by_none c.payload d.payload more fields.4 same.1 in
     (ap CastFrame (cast_is c d fields.0 fields.1 fields.2 fields.3 end.0), end.1)
 

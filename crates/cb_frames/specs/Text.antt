@@ -35,12 +35,16 @@ pub record IsChange (sender : ℕ) (d : Change) : Type 0 where
   pub other : d.field ≢ sender
   pub grown : 1 ≤ d.amount
 
+-- changes of others' fields, each with an index that is at least `least` and above those before it
+pub record AreChanges (sender least : ℕ) (changes : List Change) : Type 0 where
+  pub rising : RisesFrom least changes
+  pub each : AllByRecursion (IsChange sender) changes
+
 -- the rules of a cast frame but for its payload's
 pub record KeepsCastRules (c : CastFields) : Type 0 where
   pub sender : c.sender ≤ LAST_MEMBER
   pub number : 1 ≤ c.number
-  pub rising : RisesFrom 0 c.changes
-  pub changes : AllByRecursion (IsChange c.sender) c.changes
+  pub changes : AreChanges c.sender 0 c.changes
 
 -- the rules that a value has to keep to have a text
 abbrev pub KeepsRules : FrameFields → Type 0
