@@ -1,5 +1,5 @@
 -- The laws of the order of times, each of all times.
-use Rattle.std.specs.Prelude.{◌≡◌, ℕ, ◌≤◌, List}
+use Rattle.std.specs.Prelude.{◌≡◌, ℕ, List}
 use Rattle.cb_times.specs.declared.order.TimeOrder.{TimeOrder}
 use Rattle.cb_times.specs.declared.order.TimeOrder.TheVariants.{Before, After, Same, Concurrent}
 use Rattle.cb_times.specs.Order.{field, AtMost, Compares}
