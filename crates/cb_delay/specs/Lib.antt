@@ -1,1 +1,3 @@
 pub mod Rule
+pub mod Message
+pub mod Queue
