@@ -1,3 +1,4 @@
 pub mod Rule
 pub mod Message
 pub mod Queue
+pub mod Lists
