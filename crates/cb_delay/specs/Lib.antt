@@ -1,1 +1,4 @@
 pub mod Rule
+pub mod Message
+pub mod Queue
+pub mod Lists

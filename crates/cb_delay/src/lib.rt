@@ -2,3 +2,9 @@
 //!
 //! Stands on `cb_times`.
 #![tactic(auto)]
+
+mod message;
+mod queue;
+
+pub use message::{Message, Name};
+pub use queue::DelayQueue;

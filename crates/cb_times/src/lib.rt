@@ -3,6 +3,11 @@
 //! Stands on nothing but std. `cb_diffs`, `cb_delay` and all above use its words.
 #![tactic(auto)]
 
+pub mod laws;
+mod no_memory;
 mod order;
+mod time;
 
+pub use no_memory::NoMemory;
 pub use order::TimeOrder;
+pub use time::VectorTime;

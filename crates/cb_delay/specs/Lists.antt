@@ -1,0 +1,39 @@
+-- How the plain queue keeps its messages: a list for each sender, in the order of the numbers.
+use Rattle.std.specs.Prelude.{◌≡◌, ℕ, suc, ◌≤◌, List, [], ◌∷◌, ◌++◌, length, map, slice_index_or}
+use Rattle.std.specs.FinMap.{FinMap, from_sorted}
+use Rattle.cb_delay.specs.declared.message.Name.{Name}
+use Rattle.cb_delay.specs.declared.message.Message.{Message}
+use Rattle.cb_delay.specs.Message.{name_cmp, IsOfGroup}
+use Rattle.cb_delay.specs.Queue.{Queue}
+
+abbrev pub entries_of : List Message → List (Name × Message)
+entries_of messages = map (λ m. (m.name, m)) messages
+
+abbrev pub all_entries : List (List Message) → List (Name × Message)
+all_entries [] = []
+all_entries (list ∷ lists) = entries_of list ++ all_entries lists
+
+-- the sender's messages with these numbers, from this one on
+abbrev pub IsRunFrom : ℕ → ℕ → ℕ → List Message → Type 0
+IsRunFrom size sender number [] = Unit {0}
+IsRunFrom size sender number (m ∷ list) =
+    (m.name.sender ≡ sender) × (m.name.number ≡ number) × IsOfGroup size m × IsRunFrom size sender (suc number) list
+
+abbrev pub IsRun : ℕ → ℕ → List Message → Type 0
+IsRun size sender list = (first : ℕ) × IsRunFrom size sender first list
+
+-- the list of each sender, none for a sender that the group lacks
+abbrev pub list_of : List (List Message) → ℕ → List Message
+list_of lists sender = slice_index_or lists sender []
+
+pub record AreLists (window : ℕ) (lists : List (List Message)) : Type 0 where
+  pub two_or_more : 2 ≤ length lists
+  pub at_most_sixty_four : length lists ≤ 64
+  pub window_one_or_more : 1 ≤ window
+  pub window_at_most : window ≤ 256
+  pub runs : (sender : ℕ) → IsRun (length lists) sender (list_of lists sender)
+  pub room : (sender : ℕ) → length (list_of lists sender) ≤ window
+
+-- the queue that the lists are
+abbrev pub queue_of : ℕ → List (List Message) → Queue
+queue_of window lists = record { size = length lists; window = window; held = from_sorted (all_entries lists) }

@@ -1,0 +1,75 @@
+-- What a delay queue holds.
+use Rattle.std.specs.Prelude.{◌≡◌, ℕ, ◌+◌, ◌==◌, ◌<◌, ◌≤◌, ◌↔◌, List, IsSome, Some, count_by, refl}
+use Rattle.std.specs.Coded.{Coded, code_by, coded×, coded_list, coded_ℕ}
+use Rattle.std.specs.FinMap as map
+use Rattle.cb_times.specs.Order.{field}
+use Rattle.cb_delay.specs.declared.message.Name.{Name}
+use Rattle.cb_delay.specs.declared.message.Message.{Message}
+use Rattle.cb_delay.specs.Message.{name_cmp, IsOfGroup}
+use Rattle.cb_delay.specs.Rule.{IsReady}
+
+-- the size of the group, how many messages of one sender there is room for, and the messages held, each by its name
+pub record Queue : Type 0 where
+  pub size : ℕ
+  pub window : ℕ
+  pub held : map.FinMap name_cmp Message
+
+abbrev pub IsHeld : Queue → Message → Type 0
+IsHeld queue message = map.get queue.held message.name ≡ Some message
+
+-- how many messages of a sender are held
+abbrev pub count_of : Queue → ℕ → ℕ
+count_of queue sender = count_by (λ name. name.sender == sender) (map.keys queue.held)
+
+-- of the sender's messages held this one has the smallest number
+pub record IsFirst (queue : Queue) (sender : ℕ) (first : Message) : Type 0 where
+  pub held : IsHeld queue first
+  pub of_sender : first.name.sender ≡ sender
+  pub least : (other : Message) → IsHeld queue other → other.name.sender ≡ sender → first.name.number ≤ other.name.number
+
+-- and this one the greatest
+pub record IsLast (queue : Queue) (sender : ℕ) (last : Message) : Type 0 where
+  pub held : IsHeld queue last
+  pub of_sender : last.name.sender ≡ sender
+  pub greatest : (other : Message) → IsHeld queue other → other.name.sender ≡ sender → other.name.number ≤ last.name.number
+
+-- the name follows that of the last message held of its sender, where one is held
+abbrev pub FollowsLast : Queue → Name → Type 0
+FollowsLast queue name = (last : Message) → IsLast queue name.sender last → name.number ≡ last.name.number + 1
+
+-- some message held of the sender may be delivered at this time
+abbrev pub HasReady : Queue → List ℕ → ℕ → Type 0
+HasReady queue now sender =
+    (message : Message) × IsHeld queue message × (message.name.sender ≡ sender) × IsReady sender (field message.time) (field now)
+
+-- of the senders with such a message this one is the smallest
+pub record IsSmallestReady (queue : Queue) (now : List ℕ) (sender : ℕ) : Type 0 where
+  pub ready : HasReady queue now sender
+  pub smallest : (other : ℕ) → other < sender → ¬ HasReady queue now other
+
+-- the numbers held of a sender follow one another
+abbrev pub AreInARow : Queue → ℕ → Type 0
+AreInARow queue sender =
+    (first : ℕ) × ((number : ℕ)
+      → IsSome (map.get queue.held (record { sender = sender; number = number })) ↔ ((first ≤ number) × (number < first + count_of queue sender)))
+
+-- what is true of every queue
+pub record IsDelayQueue (queue : Queue) : Type 0 where
+  pub by_name : (name : Name) (message : Message) → map.get queue.held name ≡ Some message → message.name ≡ name
+  pub of_group : (message : Message) → IsHeld queue message → IsOfGroup queue.size message
+  pub in_a_row : (sender : ℕ) → AreInARow queue sender
+  pub room : (sender : ℕ) → count_of queue sender ≤ queue.window
+
+-- how a queue is stored: its fields as pairs
+abbrev pub name_code : Coded Name
+name_code = code_by (ℕ × ℕ) (coded× coded_ℕ coded_ℕ) (λ n. (n.sender, n.number)) (λ p. record { sender = p.0; number = p.1 }) (λ _. refl)
+
+abbrev pub message_code : Coded Message
+message_code =
+    code_by (Name × (List ℕ × List ℕ)) (coded× name_code (coded× (coded_list coded_ℕ) (coded_list coded_ℕ)))
+    (λ m. (m.name, (m.time, m.payload))) (λ p. record { name = p.0; time = p.1.0; payload = p.1.1 }) (λ _. refl)
+
+abbrev pub queue_code : Coded Queue
+queue_code =
+    code_by (ℕ × (ℕ × map.FinMap name_cmp Message)) (coded× coded_ℕ (coded× coded_ℕ (map.code name_code message_code)))
+    (λ q. (q.size, (q.window, q.held))) (λ p. record { size = p.0; window = p.1.0; held = p.1.1 }) (λ _. refl)

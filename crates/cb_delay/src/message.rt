@@ -1,0 +1,40 @@
+//! A message of the group, with the name and the time that its sender gave it.
+//!
+//! Birman, Schiper and Stephenson 1991, section 5.
+ghost use Rattle.std.specs.Prelude.{◌≡◌, IfOk};
+
+use bytes::Bytes;
+use cb_times::{NoMemory, VectorTime};
+
+/// Which message it is: the message of this number by this member.
+///
+/// Members are numbered from 0, the messages of each from 1.
+#[derive(Clone, Copy, Debug, PartialEq, Eq, PartialOrd, Ord, Hash)]
+pub struct Name {
+    pub sender: u32,
+    pub number: u32,
+}
+
+/// A message as it is delivered.
+#[derive(Debug, Drop)]
+pub struct Message {
+    /// Who sent it, and as which of its messages.
+    pub name: Name,
+    /// What its sender had delivered when it sent it, this message included.
+    pub time: VectorTime,
+    /// What it says. A `copy` shares these bytes.
+    pub payload: Bytes,
+}
+
+impl Message {
+    /// The same message once more.
+    pub fn copy(&self) -> Result<Message, NoMemory>
+        ensures { IfOk result (λ message. message ≡ self.now) }
+    {
+        Ok(Message {
+            name: self.name,
+            time: self.time.copy()?,
+            payload: self.payload.clone()?,
+        })
+    }
+}

@@ -1,0 +1,145 @@
+//! The plain delay queue: a list for each sender, and a look at every held message for each answer.
+ghost use Rattle.std.specs.Prelude.{◌≡◌, ◌+◌, ◌<◌, ◌≤◌, ◌↔◌, ℕ, length, map, All, Any, IfOk, IfSome, IfNone, IsTrue, sum_by, ◌^◌, ◌≢◌};
+ghost use Rattle.std.specs.Bool.{OnTrue, OnFalse};
+ghost use Rattle.std.specs.FinMap as map;
+ghost use Rattle.std.specs.VecDeque.{deque_len};
+ghost use Rattle.cb_times.specs.Order.{field};
+ghost use Rattle.cb_delay.specs.Message.{IsOfGroup};
+ghost use Rattle.cb_delay.specs.Queue.{IsHeld, IsDelayQueue, IsFirst, IsSmallestReady, HasReady, FollowsLast, count_of};
+ghost use Rattle.cb_delay.specs.Rule.{IsReady};
+
+use crate::message::Message;
+use cb_times::{NoMemory, VectorTime};
+use std::alloc::Global;
+use std::collections::VecDeque;
+use std::marker::Model;
+
+/// Messages that were received and may not be delivered yet.
+///
+/// A message that comes, in the order of its sender's numbers, is given to `hold`. Then, and after each delivery:
+///
+/// ```text
+/// while let Some(sender) = queue.next_ready(&time) {
+///     if let Some(message) = queue.release(sender) {
+///         time.raise(&message.time);
+///         // deliver the message
+///     }
+/// }
+/// ```
+///
+/// A message may be delivered where it is its sender's next one and its sender had delivered nothing that is missing
+/// here. Only `new` takes memory: it reserves the places for all messages that may be held at once.
+#[derive(Debug, Drop)]
+pub struct DelayQueue {
+    window: u32,
+    lists: Vec<VecDeque<Message>>,
+}
+
+impl Model for DelayQueue {
+    ghost use Rattle.std.specs.Prelude.{◌≤◌, map, All};
+    ghost use Rattle.std.specs.VecDeque.{deque_capacity};
+    ghost use Rattle.cb_delay.specs.Queue.{Queue, queue_code};
+    ghost use Rattle.cb_delay.specs.Lists.{AreLists, queue_of};
+
+    ghost Value = { Queue };
+
+    ghost coded = { queue_code };
+
+    ghost view = { λ queue. queue_of queue.window (map (λ list. list.items) queue.lists.items) };
+
+    ghost invariant = { λ queue. AreLists queue.window (map (λ list. list.items) queue.lists.items)
+        × All (λ list. queue.window ≤ deque_capacity list) queue.lists.items };
+}
+
+impl DelayQueue {
+    /// A queue that holds nothing, for a group of `size` members and `window` messages of each.
+    pub fn new(alloc: Global, size: u32, window: u32) -> Result<DelayQueue, NoMemory>
+        requires two_or_more { 2 ≤ size }
+        requires at_most_sixty_four { size ≤ 64 }
+        requires window_one_or_more { 1 ≤ window }
+        requires window_at_most { window ≤ 256 }
+        ensures { IfOk result (λ queue. queue ≡ record { size = size; window = window; held = map.empty }) }
+    {
+        let mut lists = Vec::with_capacity(alloc, size as usize)?;
+        for _ in 0..size {
+            lists.push(VecDeque::with_capacity(alloc, window as usize)?)?;
+        }
+        Ok(DelayQueue { window, lists })
+    }
+
+    /// Keeps a message until it is released.
+    pub fn hold(&mut self, message: Message)
+        requires of_group { IsOfGroup self.old.size message }
+        requires room { count_of self.old message.name.sender < self.old.window }
+        requires next { FollowsLast self.old message.name }
+        ensures { self.new ≡ record self.old { held = map.insert self.old.held message.name message } }
+    {
+        let list = &mut self.lists[message.name.sender as usize];
+        list.push_back_reserved(message);
+    }
+
+    /// The smallest sender of which some held message may be delivered at this time.
+    pub fn next_ready(&mut self, now: &VectorTime) -> Option<u32>
+        requires { length now.now ≡ self.old.size }
+        ensures some { IfSome result (IsSmallestReady self.old now.now) }
+        ensures none { IfNone result ((sender : ℕ) → ¬ HasReady self.old now.now sender) }
+        ensures same { self.new ≡ self.old }
+        ensures queue { IsDelayQueue self.old }
+    {
+        for (sender, list) in self.lists.iter().enumerate() {
+            if any_ready(list, now) {
+                return Some(sender as u32);
+            }
+        }
+        None
+    }
+
+    /// Takes out the message of this sender with the smallest number, where one is held.
+    pub fn release(&mut self, sender: u32) -> Option<Message>
+        ensures first { IfSome result (IsFirst self.old sender) }
+        ensures taken { IfSome result (λ first. self.new ≡ record self.old { held = map.remove self.old.held first.name }) }
+        ensures none { IfNone result ((other : Message) → IsHeld self.old other → other.name.sender ≢ sender) }
+        ensures same { IfNone result (self.new ≡ self.old) }
+    {
+        self.lists.get_mut(sender as usize)?.pop_front()
+    }
+
+    /// How many messages are held.
+    pub fn len(&self) -> usize
+        ensures len { result ≡ map.len self.now.held }
+        ensures queue { IsDelayQueue self.now }
+    {
+        total_len(&self.lists)
+    }
+}
+
+fn total_len(lists: &[VecDeque<Message>]) -> usize
+    requires { sum_by (λ list. deque_len list) lists.now < 2 ^ 64 }
+    ensures { result ≡ sum_by (λ list. deque_len list) lists.now }
+{
+    lists.iter().map(|list| list.len()).sum()
+}
+
+fn any_ready(list: &VecDeque<Message>, now: &VectorTime) -> bool
+    requires { All (IsOfGroup (length now.now)) list.now.items }
+    ensures yes { OnTrue result (Any (λ message. IsReady message.name.sender (field message.time) (field now.now)) list.now.items) }
+    ensures no { OnFalse result (All (λ message. ¬ IsReady message.name.sender (field message.time) (field now.now)) list.now.items) }
+{
+    list.iter().any(|message| is_ready(message, now))
+}
+
+fn is_ready(message: &Message, now: &VectorTime) -> bool
+    requires { IsOfGroup (length now.now) message.now }
+    ensures { IsTrue result ↔ IsReady message.now.name.sender (field message.now.time) (field now.now) }
+{
+    let sender = message.name.sender;
+    for k in 0..now.size() {
+        let stamp = message.time.get(k);
+        let count = now.get(k);
+        let in_time = if k == sender { count.checked_add(1) == Some(stamp) } else { stamp <= count };
+        if !in_time {
+            return false;
+        }
+    }
+    true
+}

@@ -1,0 +1,3 @@
+pub mod Deciding
+mod Rows
+pub mod Text

@@ -1,0 +1,197 @@
+//! A vector time: how many messages of each member of a group someone has delivered.
+//!
+//! Birman, Schiper and Stephenson 1991, section 4.
+ghost use Rattle.std.specs.Prelude.{◌≡◌, ◌+◌, ◌<◌, ◌≤◌, ◌^◌, ℕ, length, replicate, slice_set, IfOk, Some};
+ghost use Rattle.std.specs.Bool.{OnTrue, OnFalse};
+ghost use Rattle.cb_times.specs.Order.{field, AtMost, Compares};
+ghost use Rattle.cb_times.specs.Time.{IsTime, IsRaised, text_of};
+
+use crate::no_memory::NoMemory;
+use crate::order::TimeOrder;
+use std::alloc::Global;
+use std::fmt;
+use std::marker::Model;
+
+/// A time of a group of 2 to 64 members, with one field for each member.
+///
+/// Members are numbered from 0. A field counts that member's messages, so it is also the number of the last one.
+///
+/// A member starts at `zero`. Before it sends it calls `add_one` at its own field and stamps the message with a `copy`;
+/// at a delivery it `raise`s its time to the stamp. `compare` then tells of two stamps which message came before the
+/// other. `size` and `get` read a time, and `set` is for who works a stamp out from numbers.
+///
+/// Only `zero` and `copy` take memory.
+#[derive(Debug, Drop)]
+pub struct VectorTime {
+    fields: Vec<u32>,
+}
+
+impl Model for VectorTime {
+    ghost use Rattle.std.specs.Prelude.{List, ℕ};
+    ghost use Rattle.cb_times.specs.Time.{IsTime};
+
+    ghost Value = { List ℕ };
+
+    ghost view = { λ time. time.fields.items };
+
+    ghost invariant = { λ time. IsTime time.fields.items };
+}
+
+impl VectorTime {
+    /// The time at which nothing was sent, for a group of that many members.
+    pub fn zero(alloc: Global, size: u32) -> Result<VectorTime, NoMemory>
+        requires two_or_more { 2 ≤ size }
+        requires at_most_sixty_four { size ≤ 64 }
+        ensures { IfOk result (λ time. time ≡ replicate size 0) }
+    {
+        let fields = vec![in alloc; 0; size as usize]?;
+        Ok(VectorTime { fields })
+    }
+
+    /// How many members the group has.
+    pub fn size(&self) -> u32
+        ensures size { result ≡ length self.now }
+        ensures time { IsTime self.now }
+    {
+        self.fields.len() as u32
+    }
+
+    /// The field of member `k`: how many of its messages are counted.
+    pub fn get(&self, k: u32) -> u32
+        requires { k < length self.now }
+        ensures field { result ≡ field self.now k }
+        ensures time { IsTime self.now }
+    {
+        self.fields[k as usize]
+    }
+
+    /// Counts one more message of member `k`.
+    pub fn add_one(&mut self, k: u32)
+        requires member { k < length self.old }
+        requires room { field self.old k < 4294967295 }
+        ensures { self.new ≡ slice_set self.old k (field self.old k + 1) }
+    {
+        self.fields[k as usize] += 1;
+    }
+
+    /// Makes the field of member `k` this count.
+    pub fn set(&mut self, k: u32, count: u32)
+        requires { k < length self.old }
+        ensures { self.new ≡ slice_set self.old k count }
+    {
+        self.fields[k as usize] = count;
+    }
+
+    /// Counts whatever the other time counts too: each field becomes the greater of the two.
+    pub fn raise(&mut self, other: &VectorTime)
+        requires { length other.now ≡ length self.old }
+        ensures { IsRaised self.old other.now self.new }
+    {
+        raise_fields(&mut self.fields, &other.fields);
+    }
+
+    /// How this time stands to the other.
+    pub fn compare(&self, other: &VectorTime) -> TimeOrder
+        requires { length other.now ≡ length self.now }
+        ensures { Compares (field self.now) (field other.now) result }
+    {
+        let ours = self.fields.as_slice();
+        let theirs = other.fields.as_slice();
+        match (is_at_most(ours, theirs), is_at_most(theirs, ours)) {
+            (true, true) => TimeOrder::Same,
+            (true, false) => TimeOrder::Before,
+            (false, true) => TimeOrder::After,
+            (false, false) => TimeOrder::Concurrent,
+        }
+    }
+
+    /// A second time with the same fields.
+    pub fn copy(&self) -> Result<VectorTime, NoMemory>
+        ensures equal { IfOk result (λ time. time ≡ self.now) }
+        ensures time { IsTime self.now }
+    {
+        let fields = self.fields.clone()?;
+        Ok(VectorTime { fields })
+    }
+}
+
+impl fmt::Display for VectorTime {
+    ghost output = { λ time. Some (text_of time) };
+
+    fn fmt<W: fmt::Write>(&self, f: &mut fmt::Formatter<W>) -> fmt::Result {
+        let Some((first, others)) = self.fields.split_first() else {
+            unreachable!("a group has two members or more");
+        };
+        write!(f, "[{first}")?;
+        for field in others {
+            write!(f, ",{field}")?;
+        }
+        write!(f, "]")
+    }
+}
+
+fn raise_fields(ours: &mut [u32], theirs: &[u32])
+    requires { length theirs.now ≡ length ours.old }
+    ensures { IsRaised ours.old theirs.now ours.new }
+{
+    for (k, field) in ours.iter_mut().enumerate() {
+        *field = (*field).max(theirs[k]);
+    }
+}
+
+fn is_at_most(ours: &[u32], theirs: &[u32]) -> bool
+    requires { length theirs.now ≡ length ours.now }
+    ensures yes { OnTrue result (AtMost (field ours.now) (field theirs.now)) }
+    ensures no { OnFalse result ((k : ℕ) × (field theirs.now k < field ours.now k)) }
+{
+    ours.iter().zip(theirs).all(|(our, their)| our <= their)
+}
+
+#[cfg(test)]
+mod tests {
+    use super::*;
+    use std::test::Fail;
+
+    fn time_of(alloc: Global, fields: &[u32; 3]) -> Result<VectorTime, NoMemory>
+        ensures { IfOk result (λ time. time ≡ fields.now) }
+    {
+        let fields = Vec::from_slice(alloc, fields)?;
+        Ok(VectorTime { fields })
+    }
+
+    #[test]
+    fn first_messages_are_concurrent_and_an_answer_comes_after(
+        rt: HostRuntime,
+    ) -> Result<(), Fail> {
+        let of_0 = time_of(rt.alloc(), &[1, 0, 0])?;
+        let of_1 = time_of(rt.alloc(), &[0, 1, 0])?;
+        let answer = time_of(rt.alloc(), &[1, 1, 0])?;
+        assert_eq!(rt; of_0.compare(&of_1), TimeOrder::Concurrent);
+        assert_eq!(rt; of_0.compare(&answer), TimeOrder::Before);
+        assert_eq!(rt; answer.compare(&of_0), TimeOrder::After);
+        assert_eq!(rt; of_0.compare(&of_0.copy()?), TimeOrder::Same);
+        Ok(())
+    }
+
+    #[test]
+    fn a_sender_counts_its_own_and_a_receiver_raises(rt: HostRuntime) -> Result<(), Fail> {
+        let mut sender = VectorTime::zero(rt.alloc(), 3)?;
+        sender.add_one(0);
+        sender.set(2, 4294967295);
+        let mut receiver = time_of(rt.alloc(), &[0, 7, 5])?;
+        receiver.raise(&sender);
+        assert_eq!(rt; receiver.size(), 3);
+        for (k, field) in [(0, 1), (1, 7), (2, 4294967295)] {
+            assert_eq!(rt; receiver.get(k), field, "at field {k}");
+        }
+        Ok(())
+    }
+
+    #[test]
+    fn a_time_prints_its_fields(rt: HostRuntime) -> Result<(), Fail> {
+        let time = time_of(rt.alloc(), &[203, 0, 4294967295])?;
+        assert_eq!(rt; time.to_string(rt.alloc())?.as_str(), "[203,0,4294967295]");
+        assert_eq!(rt; NoMemory.to_string(rt.alloc())?.as_str(), "out of memory");
+        Ok(())
+    }
+}
