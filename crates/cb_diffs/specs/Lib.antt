@@ -1,0 +1,5 @@
+pub mod Expansion
+pub mod Laws
+pub use Rattle.cb_times.specs.Order
+pub use Rattle.cb_times.specs.Time
+pub use Rattle.cb_frames.specs.Fields

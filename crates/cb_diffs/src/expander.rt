@@ -1,0 +1,113 @@
+//! From the increments in cast frames back to the time of each cast.
+
+ghost use Rattle.std.specs.Prelude.{◌≡◌, ◌≢◌, ◌+◌, ◌≤◌, ◌<◌, ℕ, List, min, length, replicate, IfOk, OnErr, OnOk, IsTrue, ◌↔◌, Err};
+ghost use Rattle.std.specs.List.{AllByRecursion};
+ghost use Rattle.cb_times.specs.Order.{field};
+ghost use Rattle.cb_times.specs.Time.{IsTime};
+ghost use Rattle.cb_frames.specs.Fields.{cast_fields};
+ghost use Rattle.cb_diffs.specs.Expansion.{AreMembers, IsGrown, Expands, time_of, expected_number};
+ghost use Rattle.cb_diffs.specs.declared.expander.ExpandFault.TheVariants.{NoMemory as WantsMemory};
+
+use cb_frames::Cast;
+use cb_times::{NoMemory, VectorTime};
+use std::alloc::{AllocError, AllocFailed, Global};
+use std::marker::Model;
+
+/// Why a cast was not expanded. The expander is as it was.
+#[derive(Clone, Copy, Debug, PartialEq, Eq, Hash)]
+pub enum ExpandFault {
+    /// The sender or the field of a change is no member of the group.
+    BadMember,
+    /// The cast is not the sender's next one. After number 4,294,967,295 no cast is.
+    NotNext { expected: u32, found: u32 },
+    /// A growth was refused.
+    NoMemory,
+}
+
+impl From<NoMemory> for ExpandFault {
+    ghost from_gives = { λ _ e. e ≡ WantsMemory };
+
+    fn from(_refused: NoMemory) -> ExpandFault {
+        ExpandFault::NoMemory
+    }
+}
+
+/// The times of the last cast of each member that was expanded, from which those of the next casts follow.
+///
+/// Hand it each sender's casts in the order of their numbers, from 1, with none left out; the senders may mix.
+#[derive(Debug, Drop)]
+pub struct Expander {
+    times: Vec<VectorTime>,
+}
+
+impl Model for Expander {
+    ghost use Rattle.std.specs.Prelude.{List, ℕ};
+    ghost use Rattle.cb_diffs.specs.Expansion.{AreTimes};
+
+    ghost Value = { List (List ℕ) };
+
+    ghost view = { λ e. e.times.items };
+
+    ghost invariant = { λ e. AreTimes e.times.items };
+}
+
+impl Expander {
+    /// For a group of that many members, none of whose casts were expanded.
+    pub fn new(alloc: Global, size: u32) -> Result<Expander, NoMemory>
+        requires two_or_more { 2 ≤ size }
+        requires at_most_sixty_four { size ≤ 64 }
+        ensures { IfOk result (λ e. e ≡ replicate size (replicate size 0)) }
+    {
+        let mut times = Vec::new(alloc);
+        for _ in 0..size {
+            times.push(VectorTime::zero(alloc, size)?)?;
+        }
+        Ok(Expander { times })
+    }
+
+    /// The time of the sender's next cast. The faults come in the order in which they are listed, and change nothing.
+    pub fn expand(&mut self, cast: &Cast) -> Result<VectorTime, ExpandFault>
+        ensures ok { IfOk result (λ time. Expands self.old (cast_fields cast.now) time self.new) }
+        ensures bad_member { (result ≡ Err ExpandFault.BadMember) ↔ ¬ AreMembers (length self.old) (cast_fields cast.now) }
+        ensures not_next { (expected found : ℕ) → (result ≡ Err (ExpandFault.NotNext expected found))
+            ↔ (AreMembers (length self.old) (cast_fields cast.now)
+            × (cast.now.number ≢ field (time_of self.old cast.now.sender) cast.now.sender + 1)
+            × (expected ≡ expected_number (time_of self.old cast.now.sender) cast.now.sender) × (found ≡ cast.now.number)) }
+        ensures err { OnErr result (self.new ≡ self.old) }
+    {
+        if !are_members(self.times.len(), cast) {
+            return Err(ExpandFault::BadMember);
+        }
+        let sender = cast.sender as usize;
+        let last = self.times[sender].get(cast.sender);
+        if last.checked_add(1) != Some(cast.number) {
+            return Err(ExpandFault::NotNext {
+                expected: last.saturating_add(1),
+                found: cast.number,
+            });
+        }
+        let mut given = self.times[sender].copy()?;
+        grow(&mut given, cast);
+        grow(&mut self.times[sender], cast);
+        Ok(given)
+    }
+}
+
+fn are_members(size: usize, cast: &Cast) -> bool
+    ensures { IsTrue result ↔ AreMembers size (cast_fields cast.now) }
+{
+    (cast.sender as usize) < size && cast.changes.iter().all(|change| (change.field as usize) < size)
+}
+
+/// The sender's time with what the cast adds to it.
+fn grow(time: &mut VectorTime, cast: &Cast)
+    requires members { AreMembers (length time.old) (cast_fields cast.now) }
+    requires time { IsTime time.old }
+    ensures { IsGrown time.old (cast_fields cast.now) time.new }
+{
+    for change in &cast.changes {
+        let before = time.get(change.field);
+        time.set(change.field, before.saturating_add(change.amount));
+    }
+    time.set(cast.sender, cast.number);
+}
