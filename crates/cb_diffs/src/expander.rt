@@ -10,7 +10,7 @@ ghost use Rattle.cb_diffs.specs.declared.expander.ExpandFault.TheVariants.{NoMem
 
 use cb_frames::Cast;
 use cb_times::{NoMemory, VectorTime};
-use std::alloc::{AllocError, AllocFailed, Global};
+use std::alloc::Global;
 use std::marker::Model;
 
 /// Why a cast was not expanded. The expander is as it was.

@@ -4,10 +4,8 @@
 #![tactic(auto)]
 
 pub mod laws;
-mod no_memory;
 mod order;
 mod time;
 
-pub use no_memory::NoMemory;
 pub use order::TimeOrder;
-pub use time::VectorTime;
+pub use time::{NoMemory, VectorTime};

@@ -6,11 +6,13 @@ ghost use Rattle.std.specs.Bool.{OnTrue, OnFalse};
 ghost use Rattle.cb_times.specs.Order.{field, AtMost, Compares};
 ghost use Rattle.cb_times.specs.Time.{IsTime, IsRaised, text_of};
 
-use crate::no_memory::NoMemory;
 use crate::order::TimeOrder;
-use std::alloc::Global;
+use std::alloc::{AllocError, Global};
 use std::fmt;
 use std::marker::Model;
+
+/// Want of memory: a growth was refused, and nothing has changed.
+pub type NoMemory = AllocError;
 
 /// A time of a group of 2 to 64 members, with one field for each member.
 ///
@@ -191,7 +193,6 @@ mod tests {
     fn a_time_prints_its_fields(rt: HostRuntime) -> Result<(), Fail> {
         let time = time_of(rt.alloc(), &[203, 0, 4294967295])?;
         assert_eq!(rt; time.to_string(rt.alloc())?.as_str(), "[203,0,4294967295]");
-        assert_eq!(rt; NoMemory.to_string(rt.alloc())?.as_str(), "out of memory");
         Ok(())
     }
 }

@@ -1,0 +1,5 @@
+pub mod Refusals
+pub mod Answers
+pub mod Lines
+pub mod Accepted
+pub mod Progress

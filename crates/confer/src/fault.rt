@@ -1,0 +1,33 @@
+//! What ends a run of `confer` before its end.
+
+use std::alloc::{AllocError, AllocFailed};
+use thiserror::Error;
+
+/// Why `confer expand` stopped. What was read and written before stays so.
+#[derive(Debug, PartialEq, Eq, Drop, Error)]
+pub enum LinesFault {
+    /// The reader answered a fault; a read that was interrupted counts as one.
+    #[error("read fault")]
+    Read,
+    /// The writer answered a fault.
+    #[error("write fault")]
+    Write,
+    /// The input has more than 67,108,864 bytes.
+    #[error("input too long")]
+    TooLong,
+    /// A growth was refused.
+    #[error("out of memory")]
+    NoMemory,
+}
+
+impl From<AllocError> for LinesFault {
+    fn from(_refused: AllocError) -> LinesFault {
+        LinesFault::NoMemory
+    }
+}
+
+impl<T: Drop> From<AllocFailed<T>> for LinesFault {
+    fn from(_refused: AllocFailed<T>) -> LinesFault {
+        LinesFault::NoMemory
+    }
+}
