@@ -30,19 +30,19 @@ pub growing_goes_on : (old new : List ℕ) (changes : List Change) (i : ℕ) (d 
 growing_goes_on old new changes i d value s lt at member v = record {
   size = length-set new d.field value ∙ s.size;
   each = λ k in_old.
-    let more = one_more changes i k d lt at in
-    let before = s.each k in_old in
-    elim (cases_eq d.field k) [
-      | inl e ↦
-        let here : field (set new d.field value) k ≡ value = ap (λ (j : ℕ). get_or (set new d.field value) j 0) (sym e) ∙ get_or-set_same new d.field value 0 (omega (arith, s.size)) in
-        let grown : cond (eqb d.field k) d.amount 0 ≡ d.amount = rw (eq-eqb d.field k e) refl in
-        let was : field new d.field ≡ field new k = ap (field new) e in
-        omega (arith, here, grown, was, v, before, more)
-      | inr ne ↦
-        let same : field (set new d.field value) k ≡ field new k = get_or-set_other new d.field k value 0 (λ e. ne (sym e)) in
-        let none : cond (eqb d.field k) d.amount 0 ≡ 0 = rw (ne_eqb d.field k ne) refl in
-        omega (arith, same, none, before, more)
-    ];
+      let more = one_more changes i k d lt at in
+      let before = s.each k in_old in
+      elim (cases_eq d.field k) [
+        | inl e ↦
+            let here : field (set new d.field value) k ≡ value = ap (λ (j : ℕ). get_or (set new d.field value) j 0) (sym e) ∙ get_or-set_same new d.field value 0 (omega (arith, s.size)) in
+            let grown : cond (eqb d.field k) d.amount 0 ≡ d.amount = rw (eq-eqb d.field k e) refl in
+            let was : field new d.field ≡ field new k = ap (field new) e in
+            omega (arith, here, grown, was, v, before, more)
+        | inr ne ↦
+            let same : field (set new d.field value) k ≡ field new k = get_or-set_other new d.field k value 0 (λ e. ne (sym e)) in
+            let none : cond (eqb d.field k) d.amount 0 ≡ 0 = rw (ne_eqb d.field k ne) refl in
+            omega (arith, same, none, before, more)
+      ];
 }
 
 pub growing_ends : (old new : List ℕ) (c : CastFields) (i : ℕ) → GrownSoFar old new c.changes i → length c.changes ≤ i → c.sender < length old → IsGrown old c (set new c.sender c.number)

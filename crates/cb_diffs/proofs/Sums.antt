@@ -57,13 +57,13 @@ total_past (c ∷ casts) j n m k ln lm =
     let b = sum_by-cons (growth_of j m k) c casts in
     elim (cases_eq c.sender j) [
       | inl e ↦
-        let is : last_in (c ∷ casts) j ≡ max (last_number c) (last_in casts j) = rw (eq-eqb c.sender j e) refl in
-        let others = total_past casts j n m k (omega (arith, is, ln)) (omega (arith, is, lm)) in
-        omega (arith, a, b, others, growth_of-own j n k c e (omega (arith, is, ln)), growth_of-own j m k c e (omega (arith, is, lm)))
+          let is : last_in (c ∷ casts) j ≡ max (last_number c) (last_in casts j) = rw (eq-eqb c.sender j e) refl in
+          let others = total_past casts j n m k (omega (arith, is, ln)) (omega (arith, is, lm)) in
+          omega (arith, a, b, others, growth_of-own j n k c e (omega (arith, is, ln)), growth_of-own j m k c e (omega (arith, is, lm)))
       | inr ne ↦
-        let is : last_in (c ∷ casts) j ≡ last_in casts j = rw (ne_eqb c.sender j ne) refl in
-        let others = total_past casts j n m k (omega (arith, is, ln)) (omega (arith, is, lm)) in
-        omega (arith, a, b, others, growth_of-other j n k c ne, growth_of-other j m k c ne)
+          let is : last_in (c ∷ casts) j ≡ last_in casts j = rw (ne_eqb c.sender j ne) refl in
+          let others = total_past casts j n m k (omega (arith, is, ln)) (omega (arith, is, lm)) in
+          omega (arith, a, b, others, growth_of-other j n k c ne, growth_of-other j m k c ne)
     ]
 
 -- ---- one expansion
@@ -93,22 +93,22 @@ expanding_is_summing size casts c time old new s e =
     let next : first_number c ≡ last_in casts c.sender + 1 = e.next ∙ ap (λ (n : ℕ). n + 1) (s.own c.sender member) in
     let time_size : length time ≡ size = e.grown.size ∙ s.sizes c.sender member in
     let grown : (k : ℕ) → k < size → k ≢ c.sender → field time k ≡ min greatest (total (casts ++ c ∷ []) c.sender (first_number c) k) = λ k lt ne.
-      let up_to = sum_up_to size casts c (first_number c) k (omega arith) (omega (arith, next)) in
-      let before = s.others c.sender k member lt ne in
-      e.grown.others k (omega (arith, s.sizes c.sender member)) ne ∙ ap (λ (n : ℕ). min greatest (n + growth_in c.changes k)) before
-      ∙ min_of_min (total casts c.sender (last_in casts c.sender) k) (growth_in c.changes k) ∙ ap (min greatest) (sym up_to) in
+    let up_to = sum_up_to size casts c (first_number c) k (omega arith) (omega (arith, next)) in
+    let before = s.others c.sender k member lt ne in
+    e.grown.others k (omega (arith, s.sizes c.sender member)) ne ∙ ap (λ (n : ℕ). min greatest (n + growth_in c.changes k)) before
+    ∙ min_of_min (total casts c.sender (last_in casts c.sender) k) (growth_in c.changes k) ∙ ap (min greatest) (sym up_to) in
     let there : time_of new c.sender ≡ time = ap (λ (ts : List (List ℕ)). time_of ts c.sender) e.kept ∙ get_or-set_same old c.sender time [] (omega (arith, s.senders)) in
     let elsewhere : (j : ℕ) → c.sender ≢ j → time_of new j ≡ time_of old j = λ j ne. ap (λ (ts : List (List ℕ)). time_of ts j) e.kept ∙ get_or-set_other old c.sender j time [] (λ h. ne (sym h)) in
     let last : last_in (casts ++ c ∷ []) c.sender ≡ first_number c = last_in-own casts c ∙ omega (arith, next) in
     record {
       next = next;
       sum = ext_get_or 0 time (expanded_time size (casts ++ c ∷ []) c.sender (first_number c)) (time_size ∙ sym (length-map-range_with_len (expanded_field (casts ++ c ∷ []) c.sender (first_number c)) 0 size)) (λ k lt.
-        let in_size : k < size = omega (arith, time_size) in
-        let right = field-expanded_time size (casts ++ c ∷ []) c.sender (first_number c) k in_size in
-        elim (cases_eq k c.sender) [
-          | inl h ↦ ap (field time) h ∙ e.grown.own ∙ sym (right ∙ rw (eq-eqb k c.sender h) refl)
-          | inr ne ↦ grown k in_size ne ∙ sym (right ∙ rw (ne_eqb k c.sender ne) refl)
-        ]);
+          let in_size : k < size = omega (arith, time_size) in
+          let right = field-expanded_time size (casts ++ c ∷ []) c.sender (first_number c) k in_size in
+          elim (cases_eq k c.sender) [
+            | inl h ↦ ap (field time) h ∙ e.grown.own ∙ sym (right ∙ rw (eq-eqb k c.sender h) refl)
+            | inr ne ↦ grown k in_size ne ∙ sym (right ∙ rw (ne_eqb k c.sender ne) refl)
+          ]);
       kept = record {
         senders = ap length e.kept ∙ length-set old c.sender time ∙ s.senders;
         sizes = λ j lt. elim (cases_eq c.sender j) [
@@ -121,12 +121,12 @@ expanding_is_summing size casts c time old new s e =
         ];
         others = λ j k lt lt' ne. elim (cases_eq c.sender j) [
           | inl h ↦
-            subst (λ (i : ℕ). k ≢ i → field (time_of new i) k ≡ min greatest (total (casts ++ c ∷ []) i (last_in (casts ++ c ∷ []) i) k)) h
-            (λ ne'. ap (λ (t : List ℕ). field t k) there ∙ grown k lt' ne' ∙ ap (λ (n : ℕ). min greatest (total (casts ++ c ∷ []) c.sender n k)) (sym last)) ne
+              subst (λ (i : ℕ). k ≢ i → field (time_of new i) k ≡ min greatest (total (casts ++ c ∷ []) i (last_in (casts ++ c ∷ []) i) k)) h
+              (λ ne'. ap (λ (t : List ℕ). field t k) there ∙ grown k lt' ne' ∙ ap (λ (n : ℕ). min greatest (total (casts ++ c ∷ []) c.sender n k)) (sym last)) ne
           | inr nh ↦
-            let same_last = last_in-other casts c j nh in
-            let same : total (casts ++ c ∷ []) j (last_in casts j) k ≡ total casts j (last_in casts j) k = omega (arith, sum_by_push (growth_of j (last_in casts j) k) casts c, growth_of-other j (last_in casts j) k c nh) in
-            ap (λ (t : List ℕ). field t k) (elsewhere j nh) ∙ s.others j k lt lt' ne ∙ ap (min greatest) (sym same) ∙ ap (λ (n : ℕ). min greatest (total (casts ++ c ∷ []) j n k)) (sym same_last)
+              let same_last = last_in-other casts c j nh in
+              let same : total (casts ++ c ∷ []) j (last_in casts j) k ≡ total casts j (last_in casts j) k = omega (arith, sum_by_push (growth_of j (last_in casts j) k) casts c, growth_of-other j (last_in casts j) k c nh) in
+              ap (λ (t : List ℕ). field t k) (elsewhere j nh) ∙ s.others j k lt lt' ne ∙ ap (min greatest) (sym same) ∙ ap (λ (n : ℕ). min greatest (total (casts ++ c ∷ []) j n k)) (sym same_last)
         ];
       };
     }
@@ -153,9 +153,9 @@ later_add_nothing size done (c ∷ casts) (time ∷ times) old new kept all s n 
 same_expanded : (size : ℕ) (done more : List CastFields) (s n : ℕ) → ((k : ℕ) → sum_by (growth_of s n k) more ≡ 0) → expanded_time size (done ++ more) s n ≡ expanded_time size done s n
 same_expanded size done more s n none =
     ext_get_or 0 _ _ (length-map-range_with_len (expanded_field (done ++ more) s n) 0 size ∙ sym (length-map-range_with_len (expanded_field done s n) 0 size)) (λ k lt.
-      let in_size : k < size = omega (arith, length-map-range_with_len (expanded_field (done ++ more) s n) 0 size) in
-      let same : total (done ++ more) s n k ≡ total done s n k = omega (arith, sum_by-append (growth_of s n k) done more, none k) in
-      field-expanded_time size (done ++ more) s n k in_size ∙ ap (λ (x : ℕ). cond (eqb k s) n (min greatest x)) same ∙ sym (field-expanded_time size done s n k in_size))
+    let in_size : k < size = omega (arith, length-map-range_with_len (expanded_field (done ++ more) s n) 0 size) in
+    let same : total (done ++ more) s n k ≡ total done s n k = omega (arith, sum_by-append (growth_of s n k) done more, none k) in
+    field-expanded_time size (done ++ more) s n k in_size ∙ ap (λ (x : ℕ). cond (eqb k s) n (min greatest x)) same ∙ sym (field-expanded_time size done s n k in_size))
 
 all_are_sums : (size : ℕ) (done casts : List CastFields) (times old new : List (List ℕ)) → IsKept size done old → ExpandsAll old casts times new
     → AllByRecursion (λ given. given.1 ≡ expanded_time size (done ++ casts) given.0.sender (first_number given.0)) (zip casts times)

@@ -18,7 +18,7 @@ growth_of sender number k c = if c.sender == sender && nat_le (first_number c) n
 -- held at the greatest number. The sender's own field is the message's number.
 abbrev pub expanded_field : List CastFields → ℕ → ℕ → ℕ → ℕ
 expanded_field casts sender number k =
-  if k == sender then number else min greatest (sum_by (growth_of sender number k) casts)
+    if k == sender then number else min greatest (sum_by (growth_of sender number k) casts)
 
 abbrev pub expanded_time : ℕ → List CastFields → ℕ → ℕ → List ℕ
 expanded_time size casts sender number = map (expanded_field casts sender number) (range_with_len 0 size)
@@ -70,4 +70,3 @@ ExpandsAll old [] [] new = new ≡ old
 ExpandsAll old (c ∷ casts) (time ∷ times) new = (mid : List (List ℕ)) × Expands old c time mid × ExpandsAll mid casts times new
 ExpandsAll old [] (time ∷ times) new = ⊥
 ExpandsAll old (c ∷ casts) [] new = ⊥
-

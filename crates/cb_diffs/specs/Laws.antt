@@ -27,4 +27,4 @@ ExpandingIsSumming = (size : ℕ) (casts : List CastFields) (c : CastFields) (ti
 -- Over any casts that were accepted, each time that was given is the one that the increments add up to.
 abbrev pub TimesAreSums : Type 0
 TimesAreSums = (size : ℕ) (casts : List CastFields) (times new : List (List ℕ)) → ExpandsAll (replicate size (replicate size 0)) casts times new
-  → AllByRecursion (λ given. given.1 ≡ expanded_time size casts given.0.sender (first_number given.0)) (zip casts times)
+    → AllByRecursion (λ given. given.1 ≡ expanded_time size casts given.0.sender (first_number given.0)) (zip casts times)

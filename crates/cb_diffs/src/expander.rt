@@ -96,7 +96,11 @@ impl Expander {
 fn are_members(size: usize, cast: &Cast) -> bool
     ensures { IsTrue result ↔ AreMembers size (cast_fields cast.now) }
 {
-    (cast.sender as usize) < size && cast.changes.iter().all(|change| (change.field as usize) < size)
+    (cast.sender as usize) < size
+        && cast
+            .changes
+            .iter()
+            .all(|change| (change.field as usize) < size)
 }
 
 /// The sender's time with what the cast adds to it.

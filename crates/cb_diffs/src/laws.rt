@@ -7,5 +7,4 @@ pub fn expanding_is_summing()
     ensures start { NothingIsKept }
     ensures step { ExpandingIsSumming }
     ensures all { TimesAreSums }
-{
-}
+{}

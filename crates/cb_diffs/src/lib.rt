@@ -8,3 +8,6 @@ mod laws;
 
 pub use expander::{ExpandFault, Expander};
 pub use laws::expanding_is_summing;
+
+#[cfg(test)]
+mod tests;

@@ -77,9 +77,9 @@ writing_goes_on sender changes old new newer newest least i d w lt at a gap amou
       text = w.text ++ (gap.0 ++ amount.0);
       appended = amount.2 ∙ ap (λ (t : List ℕ). t ++ amount.0) (gap.2 ∙ ap (λ (t : List ℕ). t ++ gap.0) w.appended) ∙ regroup old w.text gap.0 amount.0;
       whole = λ more s.
-        let pair : SpellAll (pairs_from least (d ∷ drop (i + 1) changes)) (gap.0 ++ (amount.0 ++ more)) = (gap.0, amount.0 ++ more, gap.1, (amount.0, more, amount.1, s, refl), refl) in
-        let all = w.whole (gap.0 ++ (amount.0 ++ more)) (subst (λ (ds : List Change). SpellAll (pairs_from least ds) (gap.0 ++ (amount.0 ++ more))) (sym here) pair) in
-        subst (SpellAll (pairs_from 0 changes)) (sym (regroup_behind w.text gap.0 amount.0 more)) all;
+          let pair : SpellAll (pairs_from least (d ∷ drop (i + 1) changes)) (gap.0 ++ (amount.0 ++ more)) = (gap.0, amount.0 ++ more, gap.1, (amount.0, more, amount.1, s, refl), refl) in
+          let all = w.whole (gap.0 ++ (amount.0 ++ more)) (subst (λ (ds : List Change). SpellAll (pairs_from least ds) (gap.0 ++ (amount.0 ++ more))) (sym here) pair) in
+          subst (SpellAll (pairs_from 0 changes)) (sym (regroup_behind w.text gap.0 amount.0 more)) all;
     }
 
 pub writing_ends : (sender : ℕ) (changes : List Change) (old new : List ℕ) (least i : ℕ) → Written sender changes old new least i → length changes ≤ i → (text : List ℕ) × SpellAll (pairs_from 0 changes) text × (new ≡ old ++ text)

@@ -51,11 +51,11 @@ pub field_outcome : (rule : ℕ → Option FrameFault) (bytes : List ℕ) → Is
 field_outcome rule bytes fits =
     number_cases bytes (number_and_length bytes) (λ r. FieldOutcome rule bytes (r >>= λ n. unless (rule n.0) n))
     (λ x e.
-        let s = read_is_spelled bytes x fits e in
-        let parts : bytes ≡ take x.1 bytes ++ drop x.1 bytes = sym (take-append-drop x.1 bytes) in
-        unless_cases (rule x.0) (x.0, drop x.1 bytes) (FieldOutcome rule bytes)
-        (λ kept. record { text = take x.1 bytes; spelled = s.1; parts = parts; kept = kept; rest_fits = IsBytes-drop x.1 bytes fits })
-        (λ f broken. inr (take x.1 bytes, drop x.1 bytes, x.0, s.1, parts, broken)))
+    let s = read_is_spelled bytes x fits e in
+    let parts : bytes ≡ take x.1 bytes ++ drop x.1 bytes = sym (take-append-drop x.1 bytes) in
+    unless_cases (rule x.0) (x.0, drop x.1 bytes) (FieldOutcome rule bytes)
+    (λ kept. record { text = take x.1 bytes; spelled = s.1; parts = parts; kept = kept; rest_fits = IsBytes-drop x.1 bytes fits })
+    (λ f broken. inr (take x.1 bytes, drop x.1 bytes, x.0, s.1, parts, broken)))
     (λ f e. inl (f, fault_is_there bytes f fits e, refl))
 
 pub payload_outcome : (n : ℕ) (bytes : List ℕ) (P : Result (List ℕ) FrameFault → Type 0) → (length bytes ≡ n → P (Ok bytes)) → ((e : FrameFault) → IsWrong (Payload n) bytes e → P (Err e)) → P (payload_at n bytes)
@@ -63,8 +63,8 @@ payload_outcome n bytes P ok err =
     cond_both (ltb (length bytes) n) (Err Short) (cond (ltb n (length bytes)) (Err Trailing) (Ok bytes)) P
     (λ less. err Short (inl (ltb-true _ _ less, refl)))
     (λ not_less. cond_both (ltb n (length bytes)) (Err Trailing) (Ok bytes) P
-      (λ more. err Trailing (inr (ltb-true _ _ more, refl)))
-      (λ not_more. ok (omega (arith, ltb-false _ _ not_less, ltb-false _ _ not_more))))
+    (λ more. err Trailing (inr (ltb-true _ _ more, refl)))
+    (λ not_more. ok (omega (arith, ltb-false _ _ not_less, ltb-false _ _ not_more))))
 
 -- ---- the first fault, field by field
 

@@ -135,12 +135,21 @@ pairs_whole sender least (d ∷ changes) tail text payload rises each spelled wh
     let at : least + (d.field - least) + 1 ≡ d.field + 1 = let h = rises.0 in omega arith in
     let others = pairs_whole sender (d.field + 1) changes tail amount.1 payload rises.1 each.1 amount.3 whole in
     let others_at : IsWhole (pair_field sender (length changes) (least + (d.field - least) + 1)) (pairs_from (d.field + 1) changes ++ tail) (amount.1 ++ payload) payload =
-      subst (λ (n : ℕ). IsWhole (pair_field sender (length changes) n) (pairs_from (d.field + 1) changes ++ tail) (amount.1 ++ payload) payload) (sym at) others in
+    subst (λ (n : ℕ). IsWhole (pair_field sender (length changes) n) (pairs_from (d.field + 1) changes ++ tail) (amount.1 ++ payload) payload) (sym at) others in
     record {
-      follows = (rule_kept_index sender least d.field rises.0 each.0.index each.0.other,
-        (spelled.0, spelled.1 ++ payload, spelled.2, ap (λ (t : List ℕ). t ++ payload) spelled.4 ∙ append_assoc spelled.0 spelled.1 payload,
-          (rule_kept_amount d.amount each.0.grown,
-            (amount.0, amount.1 ++ payload, amount.2, ap (λ (t : List ℕ). t ++ payload) amount.4 ∙ append_assoc amount.0 amount.1 payload, others_at.follows))));
+      follows = (
+        rule_kept_index sender least d.field rises.0 each.0.index each.0.other,
+        (
+          spelled.0,
+          spelled.1 ++ payload,
+          spelled.2,
+          ap (λ (t : List ℕ). t ++ payload) spelled.4 ∙ append_assoc spelled.0 spelled.1 payload,
+          (
+            rule_kept_amount d.amount each.0.grown,
+            (amount.0, amount.1 ++ payload, amount.2, ap (λ (t : List ℕ). t ++ payload) amount.4 ∙ append_assoc amount.0 amount.1 payload, others_at.follows),
+          ),
+        ),
+      );
       ends = others_at.ends;
     }
 
@@ -160,10 +169,34 @@ cast_whole c numbers rules small spelled =
     let tail = pairs_whole c.sender 0 c.changes (length c.payload ∷ []) count.1 c.payload rules.changes.rising rules.changes.each count.3 (λ rest s. payload_whole c.payload rest small s) in
     let behind : (first rest whole : List ℕ) → whole ≡ first ++ rest → whole ++ c.payload ≡ first ++ (rest ++ c.payload) = λ first rest whole e. ap (λ (t : List ℕ). t ++ c.payload) e ∙ append_assoc first rest c.payload in
     record {
-      follows = (refl, (spelled.0, spelled.1 ++ c.payload, spelled.2, behind spelled.0 spelled.1 numbers spelled.4,
-        (rule_kept_member c.sender rules.sender, (sender.0, sender.1 ++ c.payload, sender.2, behind sender.0 sender.1 spelled.1 sender.4,
-          (rule_kept_message c.number rules.number, (number.0, number.1 ++ c.payload, number.2, behind number.0 number.1 sender.1 number.4,
-            (refl, (count.0, count.1 ++ c.payload, count.2, behind count.0 count.1 number.1 count.4, tail.follows))))))));
+      follows = (
+        refl,
+        (
+          spelled.0,
+          spelled.1 ++ c.payload,
+          spelled.2,
+          behind spelled.0 spelled.1 numbers spelled.4,
+          (
+            rule_kept_member c.sender rules.sender,
+            (
+              sender.0,
+              sender.1 ++ c.payload,
+              sender.2,
+              behind sender.0 sender.1 spelled.1 sender.4,
+              (
+                rule_kept_message c.number rules.number,
+                (
+                  number.0,
+                  number.1 ++ c.payload,
+                  number.2,
+                  behind number.0 number.1 sender.1 number.4,
+                  (refl, (count.0, count.1 ++ c.payload, count.2, behind count.0 count.1 number.1 count.4, tail.follows)),
+                ),
+              ),
+            ),
+          ),
+        ),
+      );
       ends = tail.ends;
     }
 
@@ -221,7 +254,7 @@ none_begins_another (CastFrame c) (CastFrame d) bytes more f g =
     let one = cast_whole c f.2.0 f.0 f.1 f.2.1 in
     let two = cast_whole d g.2.0 g.0 g.1 g.2.1 in
     let longer : Follows cast_field (cast_numbers c) (g.2.0 ++ d.payload) (c.payload ++ more) =
-      subst (λ (t : List ℕ). Follows cast_field (cast_numbers c) t (c.payload ++ more)) parts (follows_longer cast_field (cast_numbers c) (f.2.0 ++ c.payload) c.payload more one.follows) in
+    subst (λ (t : List ℕ). Follows cast_field (cast_numbers c) t (c.payload ++ more)) parts (follows_longer cast_field (cast_numbers c) (f.2.0 ++ c.payload) c.payload more one.follows) in
     let stuck : IsStuck (cast_field (cast_numbers c)) (c.payload ++ more) = subst (λ (k : Field). IsStuck k (c.payload ++ more)) (sym one.ends) (stuck_at_payload (length c.payload) (c.payload ++ more)) in
     let same = same_values cast_field (cast_numbers c) (cast_numbers d) (g.2.0 ++ d.payload) (c.payload ++ more) d.payload longer stuck two.follows (whole_stuck cast_field (cast_numbers d) _ d.payload two) in
     let fields = same_cast c d f.0.changes.rising g.0.changes.rising same.0 in

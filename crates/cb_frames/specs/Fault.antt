@@ -30,8 +30,8 @@ message_rule n = if n == 0 then Some ZeroNumber else None
 -- the index of a change, given as its distance from the least that may follow
 abbrev pub index_rule : ℕ → ℕ → ℕ → Option FrameFault
 index_rule sender least gap =
-  if nat_lt LAST_MEMBER (least + gap) then Some BadIndex else
-  if least + gap == sender then Some OwnField else None
+    if nat_lt LAST_MEMBER (least + gap) then Some BadIndex else
+    if least + gap == sender then Some OwnField else None
 
 abbrev pub amount_rule : ℕ → Option FrameFault
 amount_rule n = if n == 0 then Some ZeroDifference else None
@@ -76,15 +76,15 @@ Accepts (Payload length) n = ⊥
 abbrev pub Follows : (List ℕ → Field) → List ℕ → List ℕ → List ℕ → Type 0
 Follows fields [] bytes rest = bytes ≡ rest
 Follows fields (n ∷ ns) bytes rest = Accepts (fields []) n
-  × ((text more : List ℕ) × Spells text n × (bytes ≡ text ++ more) × Follows (λ before. fields (n ∷ before)) ns more rest)
+    × ((text more : List ℕ) × Spells text n × (bytes ≡ text ++ more) × Follows (λ before. fields (n ∷ before)) ns more rest)
 
 -- what is wrong where this field stands: a number's own fault comes before its rule's
 abbrev pub IsWrong : Field → List ℕ → FrameFault → Type 0
 IsWrong (Number rule) bytes fault =
-  ((number_fault : NumberFault) × IsFault number_fault bytes × (fault ≡ as_frame_fault number_fault))
-  ⊎ ((text more : List ℕ) × (n : ℕ) × Spells text n × (bytes ≡ text ++ more) × (rule n ≡ Some fault))
+    ((number_fault : NumberFault) × IsFault number_fault bytes × (fault ≡ as_frame_fault number_fault))
+    ⊎ ((text more : List ℕ) × (n : ℕ) × Spells text n × (bytes ≡ text ++ more) × (rule n ≡ Some fault))
 IsWrong (Payload n) bytes fault =
-  ((length bytes < n) × (fault ≡ Short)) ⊎ ((n < length bytes) × (fault ≡ Trailing))
+    ((length bytes < n) × (fault ≡ Short)) ⊎ ((n < length bytes) × (fault ≡ Trailing))
 
 -- the fault of the field that follows the good ones
 pub record FirstFaultOf (fields : List ℕ → Field) (bytes : List ℕ) (fault : FrameFault) : Type 0 where

@@ -56,7 +56,7 @@ payload_of (CastFrame c) = c.payload
 -- the bytes are the frame's: its kind, the spellings of its number fields in order, and its payload
 abbrev pub IsText : FrameFields → List ℕ → Type 0
 IsText (CastFrame c) bytes = KeepsCastRules c × (length c.payload ≤ LONGEST_PAYLOAD)
-  × ((numbers : List ℕ) × SpellAll (cast_numbers c) numbers × (bytes ≡ cast_kind ∷ numbers ++ c.payload))
+    × ((numbers : List ℕ) × SpellAll (cast_numbers c) numbers × (bytes ≡ cast_kind ∷ numbers ++ c.payload))
 
 -- the same bytes as a function, for the layers above: what has a text has this one
 unfoldable pub text_of : FrameFields → List ℕ

@@ -6,8 +6,7 @@ ghost use Rattle.cb_frames.specs.Laws.{NoneBeginsAnother, OneText, OneFault, Tex
 pub fn one_text()
     ensures apart { NoneBeginsAnother }
     ensures named { OneText }
-{
-}
+{}
 
 /// Bytes are a frame's text, or have just one first fault. Reading from the left finds the one or the other.
 pub fn each_is_a_text_or_a_fault()
@@ -15,5 +14,4 @@ pub fn each_is_a_text_or_a_fault()
     ensures not_both { TextHasNoFault }
     ensures one { OneFault }
     ensures reading { ReadingIsExact }
-{
-}
+{}

@@ -15,3 +15,5 @@ pub use laws::{each_is_a_text_or_a_fault, one_text};
 pub use reading::decode;
 pub use writing::encode;
 
+#[cfg(test)]
+mod tests;

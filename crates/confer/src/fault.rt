@@ -31,3 +31,20 @@ impl<T: Drop> From<AllocFailed<T>> for LinesFault {
         LinesFault::NoMemory
     }
 }
+
+/// Why a run of `confer` did not end as it should.
+#[derive(Debug, Drop, Error)]
+pub enum Fault {
+    /// A fault in the words, or a call for help.
+    #[error(transparent)]
+    Words(#[from] clap::Error),
+    /// A fault while lines were read and answered.
+    #[error(transparent)]
+    Lines(#[from] LinesFault),
+}
+
+impl From<AllocError> for Fault {
+    fn from(_refused: AllocError) -> Fault {
+        Fault::Lines(LinesFault::NoMemory)
+    }
+}

@@ -8,6 +8,15 @@ mod answer;
 mod fault;
 mod lines;
 mod refusal;
+mod words;
 
-fn main(rt: HostRuntime) {
+use std::env;
+use std::io;
+use std::process::ExitCode;
+
+fn main(rt: HostRuntime) -> io::Result<ExitCode> {
+    let alloc = rt.alloc();
+    let words: Vec<String> = env::args(&rt)?.collect(alloc)?;
+    let status = words::run_words(alloc, &words, &mut rt.stdin(), &mut rt.stdout(), &mut rt.stderr());
+    Ok(ExitCode::from(status))
 }

@@ -13,5 +13,5 @@ returns-clause-ok c =
     let next : c.args.cast.now.number ≡ field c.index.result.now sender + 1 = search rules in
     let given : c.in_ok-given.given ≡ get_or times sender c.in_ok-given.given = search rules in
     let all = expands times (cast_fields c.args.cast.now) c.index.result.now c.in_ok-given.given c.index_mut.result.now c.grow.new.time c.grow-2.new.time
-      members c.index.ensures next given c.grow.ensures c.index_mut.ensures.value c.grow-2.ensures in
+    members c.index.ensures next given c.grow.ensures c.index_mut.ensures.value c.grow-2.ensures in
     subst (λ (ts : List (List ℕ)). Expands ts (cast_fields c.args.cast.now) c.grow.new.time (set times sender c.grow-2.new.time)) c.self.view_is all
