@@ -1,0 +1,5 @@
+pub mod Events
+pub mod HappenedBefore
+pub mod Machine
+pub mod Stamped
+pub mod Laws

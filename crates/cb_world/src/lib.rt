@@ -2,3 +2,7 @@
 //!
 //! Stands on the definitions of `cb_times` and `cb_delay`.
 #![tactic(auto)]
+
+mod event;
+
+pub use event::{Event, Name};

@@ -1,0 +1,21 @@
+//! What a member of a group does with a message: it casts it, or delivers it.
+
+use bytes::Bytes;
+
+/// A message's name: the member that cast it, and which of that member's casts it is, counted from 1.
+#[derive(Clone, Copy, Debug, PartialEq, Eq)]
+pub struct Name {
+    /// The member that cast the message, counted from 0.
+    pub sender: u32,
+    /// Which of the sender's casts it is.
+    pub number: u32,
+}
+
+/// An event of a member. It carries no time.
+#[derive(Drop)]
+pub enum Event {
+    /// The member casts the message of this name, with this payload.
+    Cast(Name, Bytes),
+    /// The member delivers the message of this name, with this payload.
+    Deliver(Name, Bytes),
+}
