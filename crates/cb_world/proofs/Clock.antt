@@ -1,7 +1,7 @@
 -- The clock of a place: how many messages of each member its list has up to and with it. It grows along every path.
 use Rattle.std.specs.Prelude.{slice_get}
-use Rattle.std.proofs.Common.{◌≡◌, ◌≢◌, ℕ, zero, suc, ◌+◌, ◌<◌, ◌≤◌, Bool, true, false, cond, ◌⊎◌, inl, inr, List, [], ◌∷◌, ◌++◌, length, take, Option, None, Some, refl, sym, ◌∙◌, ap, subst, arith, eq-eqb}
-use Rattle.std.proofs.lemmas.Bool.{cases_eq, cases_order}
+use Rattle.std.proofs.Common.{◌≡◌, ◌≢◌, ℕ, zero, suc, ◌+◌, ◌<◌, ◌≤◌, Bool, true, false, cond, ◌⊎◌, inl, inr, List, [], ◌∷◌, ◌++◌, length, take, Option, None, Some, refl, sym, ◌∙◌, ap, subst, arith, eq-eqb, le_trans, ◌-◌}
+use Rattle.std.proofs.lemmas.Bool.{cases_eq, cases_lt, cases_order}
 use Rattle.cb_delay.specs.Rule.{IsReady}
 use Rattle.cb_world.specs.declared.event.Name.{Name}
 use Rattle.cb_world.specs.declared.event.Event.{Event}
@@ -73,15 +73,51 @@ module _ (lists : Lists) (sound : IsSound lists) where
             | inr (inr after) ↦ absurd (omega arith)
           ]
 
-  -- What may be delivered meets the delay rule at the clock of its cast.
+  -- what happened before a message that may be delivered is counted where it may be delivered
+  past_is_had : (j : ℕ) (m : Name) (payload : List ℕ) → MayDeliver lists j m payload → (k t : ℕ) → HappenedBefore lists (named k t) m → t ≤ count k (lists j)
+  past_is_had j m payload may k t h = (number_of_had lists sound j (named k t) (may.closed (named k t) h)).1
+
+  -- so what may be delivered meets the delay rule at the clock of its cast
   pub may_deliver_is_ready : (p : Place) (j : ℕ) (m : Name) (payload : List ℕ) → IsCastAt lists p m → MayDeliver lists j m payload
       → IsReady m.sender (clock lists p) (λ k. count k (lists j))
   may_deliver_is_ready p j m payload c may = record { next = next; others = others }
     where
       others : (k : ℕ) → k ≢ m.sender → clock lists p k ≤ count k (lists j)
-      others k other = ?
+      others k other =
+          elim (cases_order (clock lists p k) 0) [
+              inl none ↦ omega arith
+            | inr (inl below) ↦ absurd (omega arith)
+            | inr (inr some) ↦
+                elim (counted_is_past p m c k (clock lists p k) some (omega arith)) [
+                    inl same ↦ absurd (other (ap (λ (x : Name). x.sender) same))
+                  | inr past ↦ past_is_had j m payload may k (clock lists p k) past
+                ]
+          ]
+
+      -- the sender's message before it, where there is one, is counted
+      up_to : (t : ℕ) → m.number ≡ suc t → t ≤ count m.sender (lists j)
+      up_to zero e = omega arith
+      up_to (suc t) e =
+          let own : clock lists p m.sender ≡ m.number = clock_own p m c in
+          elim (counted_is_past p m c m.sender (suc t) (omega arith) (omega arith)) [
+              inl same ↦ let number : suc t ≡ m.number = ap (λ (x : Name). x.number) same in absurd (omega arith)
+            | inr past ↦ past_is_had j m payload may m.sender (suc t) past
+          ]
+
+      above : count m.sender (lists j) < m.number
+      above =
+          elim (cases_lt (count m.sender (lists j)) m.number) [
+              inl less ↦ less
+            | inr more ↦ absurd (may.unseen (had_from_number lists sound j m (cast_number lists sound p m c) more))
+          ]
+
       next : clock lists p m.sender ≡ count m.sender (lists j) + 1
-      next = ?
+      next =
+          let own : clock lists p m.sender ≡ m.number = clock_own p m c in
+          let one : 1 ≤ m.number = cast_number lists sound p m c in
+          let most : m.number - 1 ≤ count m.sender (lists j) = up_to (m.number - 1) (omega arith) in
+          let less : count m.sender (lists j) < m.number = above in
+          omega arith
 
 module _ (lists : Lists) (sound : IsSound lists) (closed : IsClosed lists) where
   -- the clock grows along an edge
@@ -104,3 +140,42 @@ module _ (lists : Lists) (sound : IsSound lists) (closed : IsClosed lists) where
       let own : clock lists h.from earlier.sender ≡ earlier.number = clock_own lists sound h.from earlier h.cast_earlier in
       let there : clock lists h.to earlier.sender ≡ clock lists p earlier.sender = ap (λ (q : Place). clock lists q earlier.sender) one in
       omega arith
+
+  -- What meets the delay rule at the clock of its cast may be delivered.
+  pub ready_may_deliver : (irreflexive : (m : Name) → ¬ HappenedBefore lists m m) (p : Place) (j : ℕ) (m : Name) (c : IsCastAt lists p m) → m.sender ≢ j
+      → IsReady m.sender (clock lists p) (λ k. count k (lists j)) → MayDeliver lists j m c.payload
+  ready_may_deliver irreflexive p j m c another ready =
+      record {
+        caster = p.member;
+        index = p.index;
+        another = λ e. another (sound.casters p m c ∙ e);
+        stands = c.stands;
+        unseen = unseen;
+        closed = closed_there;
+      }
+    where
+      own : clock lists p m.sender ≡ m.number
+      own = clock_own lists sound p m c
+
+      unseen : ¬ Has (lists j) m
+      unseen h =
+          let (one, most) = number_of_had lists sound j m h in
+          let next : clock lists p m.sender ≡ count m.sender (lists j) + 1 = ready.next in
+          let own_number : clock lists p m.sender ≡ m.number = own in
+          omega arith
+
+      closed_there : (earlier : Name) → HappenedBefore lists earlier m → Has (lists j) earlier
+      closed_there earlier h =
+          let one : 1 ≤ earlier.number = cast_number lists sound h.from earlier h.cast_earlier in
+          let counted_there : earlier.number ≤ clock lists p earlier.sender = past_is_counted p m earlier c h in
+          elim (cases_eq earlier.sender m.sender) [
+              inl same ↦
+                let next : clock lists p m.sender ≡ count m.sender (lists j) + 1 = ready.next in
+                let own_number : clock lists p m.sender ≡ m.number = own in
+                let clocks : clock lists p earlier.sender ≡ clock lists p m.sender = ap (clock lists p) same in
+                let counts : count earlier.sender (lists j) ≡ count m.sender (lists j) = ap (λ (k : ℕ). count k (lists j)) same in
+                let differs : earlier.number ≢ m.number =
+                    λ e. irreflexive m (subst (λ (x : Name). HappenedBefore lists x m) (same_name earlier m same e) h) in
+                had_from_number lists sound j earlier one (omega arith)
+            | inr other ↦ had_from_number lists sound j earlier one (le_trans counted_there (ready.others earlier.sender other))
+          ]

@@ -2,3 +2,4 @@ pub mod Counting
 pub mod Places
 pub mod Names
 pub mod Clock
+pub mod Runs
