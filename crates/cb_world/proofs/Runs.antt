@@ -11,7 +11,7 @@ use Rattle.cb_world.specs.HappenedBefore.{Lists, Place, event_at, IsPlace, IsCas
 use Rattle.cb_world.specs.Machine.{next_name, MayDeliver, Step, Casts, Delivers, Run, Start, Then}
 use Rattle.cb_world.specs.Laws.{IsIrreflexive, IsTransitive, KeepsPaths}
 use Rattle.cb_world.proofs.Counting.{get_below, take_left, take_whole, counted_more}
-use Rattle.cb_world.proofs.Places.{joined, is_place, old_or_new, old_stays, new_stands, cast_stays, delivery_stays, cast_was, delivery_was, path_was, path_from_old, paths_kept}
+use Rattle.cb_world.proofs.Places.{joined, is_place, length_own, old_or_new, old_stays, new_stands, cast_stays, delivery_stays, cast_was, delivery_was, path_was, path_from_old, paths_kept}
 use Rattle.cb_world.proofs.Names.{IsSound, number_within, cast_once, own_casts, number_of_had}
 use Rattle.cb_world.proofs.Clock.{clock, IsClosed, may_deliver_is_ready, clock_own}
 
@@ -33,9 +33,11 @@ module _ (before after : Lists) (i : ℕ) (x : Event) (app : Appends before afte
   -- the clock of the new place is what its list has
   pub clock_new : (k : ℕ) → clock after (record { member = i; index = length (before i) }) k ≡ count k (before i) + cond (is_of k x) 1 0
   clock_new k =
-      ?
+      let whole : take (suc (length (before i))) (after i) ≡ before i ++ x ∷ [] =
+          ap (λ (n : ℕ). take n (after i)) (sym (length_own before after i x app)) ∙ take_whole (after i) ∙ app.own in
+      ap (count k) whole ∙ counted_more (is_of k) (before i) x
 
-  -- what is to hold of a new event
+  -- what is to hold of a new event, so that the lists stay as they should be:
   pub record IsNext : Type 0 where
     pub caster : (m : Name) (payload : List ℕ) → x ≡ Cast m payload → m.sender ≡ i
     pub number : (name_of x).number ≡ count (name_of x).sender (before i) + 1
@@ -43,3 +45,139 @@ module _ (before after : Lists) (i : ℕ) (x : Event) (app : Appends before afte
     pub sent : (m : Name) (payload : List ℕ) → x ≡ Deliver m payload → (index : ℕ) × IsCastAt before (record { member = m.sender; index = index }) m
     pub nothing_missing : (m : Name) (payload : List ℕ) → x ≡ Deliver m payload → (p : Place) → IsCastAt before p m
         → (k : ℕ) → clock before p k ≤ count k (before i) + cond (is_of k x) 1 0
+
+  module _ (sound : IsSound before) (next : IsNext) where
+    -- a new cast has not been delivered
+    pub fresh : (m : Name) (payload : List ℕ) (q : Place) → x ≡ Cast m payload → IsDeliveryAt after q m → ⊥
+    fresh m payload q is_cast d =
+        elim (old_or_new before after i x app q.member q.index (Deliver m d.payload) d.stands) [
+            inl old ↦
+              let was : IsDeliveryAt before q m = record { payload = d.payload; stands = old } in
+              let (index, sent) = sound.sent q m was in
+              let sender : m.sender ≡ i = next.caster m payload is_cast in
+              let had : m.number ≤ count m.sender (before m.sender) =
+                  (number_of_had before sound m.sender m (record { index = index; event = Cast m sent.payload; stands = sent.stands; named = refl })).1 in
+              let at_i : count m.sender (before m.sender) ≡ count m.sender (before i) = ap (λ (k : ℕ). count m.sender (before k)) sender in
+              let number : m.number ≡ count m.sender (before i) + 1 = subst (λ (e : Event). (name_of e).number ≡ count (name_of e).sender (before i) + 1) is_cast next.number in
+              omega arith
+          | inr new ↦ absurd (cc (is_cast, new.2))
+        ]
+
+    pub still_sound : IsSound after
+    still_sound = record { casters = casters; in_order = in_order; others = others; sent = sent }
+      where
+        casters : (p : Place) (m : Name) → IsCastAt after p m → m.sender ≡ p.member
+        casters p m c =
+            elim (old_or_new before after i x app p.member p.index (Cast m c.payload) c.stands) [
+                inl old ↦ sound.casters p m (record { payload = c.payload; stands = old })
+              | inr new ↦ next.caster m c.payload (sym new.2) ∙ sym new.0
+            ]
+
+        in_order : (p : Place) (e : Event) → event_at after p ≡ Some e → (name_of e).number ≡ count (name_of e).sender (take p.index (after p.member)) + 1
+        in_order p e stands =
+            elim (old_or_new before after i x app p.member p.index e stands) [
+                inl old ↦
+                  let is_old : IsPlace before p = is_place before p e old in
+                  let same : count (name_of e).sender (take p.index (after p.member)) ≡ count (name_of e).sender (take p.index (before p.member)) =
+                      ap (count (name_of e).sender) (take_stays p.member p.index (omega arith)) in
+                  sound.in_order p e old ∙ ap (λ (n : ℕ). n + 1) (sym same)
+              | inr new ↦
+                  let same : take p.index (after p.member) ≡ before i =
+                      ap (λ (n : ℕ). take n (after p.member)) new.1 ∙ ap (λ (k : ℕ). take (length (before i)) (after k)) new.0
+                      ∙ take_stays i (length (before i)) (omega arith) ∙ take_whole (before i) in
+                  rw (new.2, same) next.number
+            ]
+
+        others : (p : Place) (m : Name) → IsDeliveryAt after p m → m.sender ≢ p.member
+        others p m d =
+            elim (old_or_new before after i x app p.member p.index (Deliver m d.payload) d.stands) [
+                inl old ↦ sound.others p m (record { payload = d.payload; stands = old })
+              | inr new ↦ λ e. next.other m d.payload (sym new.2) (e ∙ new.0)
+            ]
+
+        sent : (p : Place) (m : Name) → IsDeliveryAt after p m → (index : ℕ) × IsCastAt after (record { member = m.sender; index = index }) m
+        sent p m d =
+            elim (old_or_new before after i x app p.member p.index (Deliver m d.payload) d.stands) [
+                inl old ↦
+                  let (index, cast) = sound.sent p m (record { payload = d.payload; stands = old }) in
+                  (index, cast_stays before after i x app (record { member = m.sender; index = index }) m cast)
+              | inr new ↦
+                  let (index, cast) = next.sent m d.payload (sym new.2) in
+                  (index, cast_stays before after i x app (record { member = m.sender; index = index }) m cast)
+            ]
+
+    pub still_closed : IsClosed before → IsClosed after
+    still_closed closed p q m c d k =
+        elim (old_or_new before after i x app p.member p.index (Cast m c.payload) c.stands) [
+            inl old_p ↦
+              let was_p : IsCastAt before p m = record { payload = c.payload; stands = old_p } in
+              let clock_p : clock after p k ≡ clock before p k = clock_stays p k (is_place before p (Cast m c.payload) old_p) in
+              elim (old_or_new before after i x app q.member q.index (Deliver m d.payload) d.stands) [
+                  inl old_q ↦
+                    let clock_q : clock after q k ≡ clock before q k = clock_stays q k (is_place before q (Deliver m d.payload) old_q) in
+                    let less : clock before p k ≤ clock before q k = closed p q m was_p (record { payload = d.payload; stands = old_q }) k in
+                    omega arith
+                | inr new_q ↦
+                    let places : clock after q k ≡ clock after (record { member = i; index = length (before i) }) k =
+                        ap (λ (j : ℕ). count k (take (suc q.index) (after j))) new_q.0 ∙ ap (λ (n : ℕ). count k (take (suc n) (after i))) new_q.1 in
+                    let less : clock before p k ≤ count k (before i) + cond (is_of k x) 1 0 = next.nothing_missing m d.payload (sym new_q.2) p was_p k in
+                    omega (arith, clock_new k)
+              ]
+          | inr new_p ↦ absurd (fresh m c.payload q (sym new_p.2) d)
+        ]
+
+-- lists in which nothing stands
+module _ (lists : Lists) (empty : (k : ℕ) → lists k ≡ []) where
+  nothing_stands : (p : Place) (e : Event) → event_at lists p ≡ Some e → ⊥
+  nothing_stands p e h =
+      let none : slice_get [] p.index ≡ Some e = subst (λ (es : List Event). slice_get es p.index ≡ Some e) (empty p.member) h in
+      cc
+
+  empty_sound : IsSound lists
+  empty_sound = record {
+    casters = λ p m c. absurd (nothing_stands p (Cast m c.payload) c.stands);
+    in_order = λ p e h. absurd (nothing_stands p e h);
+    others = λ p m d. absurd (nothing_stands p (Deliver m d.payload) d.stands);
+    sent = λ p m d. absurd (nothing_stands p (Deliver m d.payload) d.stands);
+  }
+
+  no_edge : {p q : Place} → Edge lists p q → ⊥
+  no_edge {p} {q} (Later same less in_list) = let e : length (lists q.member) ≡ 0 = ap length (empty q.member) in omega arith
+  no_edge {p} {q} (Message m c d) = nothing_stands p (Cast m c.payload) c.stands
+
+  no_path : {p q : Place} → Path lists p q → ⊥
+  no_path (One e) = no_edge e
+  no_path (On e w) = no_edge e
+
+-- what a step appends, where, and that it is a next event
+pub record Appended (before after : Lists) : Type 0 where
+  pub member : ℕ
+  pub event : Event
+  pub appends : Appends before after member event
+  pub next : IsNext before after member event appends
+
+pub appended : (size : ℕ) (before after : Lists) → IsSound before → Step size before after → Appended before after
+appended size before after sound (Casts i payload in_group app) = record {
+  member = i;
+  event = Cast (next_name i (before i)) payload;
+  appends = app;
+  next = record {
+    caster = λ m p e. ?;
+    number = ?;
+    other = λ m p e. ?;
+    sent = λ m p e. ?;
+    nothing_missing = λ m p e. ?;
+  };
+}
+appended size before after sound (Delivers j m payload in_group may app) = record {
+  member = j;
+  event = Deliver m payload;
+  appends = app;
+  next = record {
+    caster = λ x p e. absurd (cc e);
+    number = ?;
+    other = λ x p e. ?;
+    sent = λ x p e. ?;
+    nothing_missing = λ x p e. ?;
+  };
+}
