@@ -162,11 +162,11 @@ appended size before after sound (Casts i payload in_group app) = record {
   event = Cast (next_name i (before i)) payload;
   appends = app;
   next = record {
-    caster = λ m p e. ?;
-    number = ?;
-    other = λ m p e. ?;
-    sent = λ m p e. ?;
-    nothing_missing = λ m p e. ?;
+    caster = λ m p e. let same : next_name i (before i) ≡ m = cc e in sym (ap (λ (x : Name). x.sender) same);
+    number = ap (λ (n : ℕ). n + 1) (sym (own_casts before sound i));
+    other = λ m p e. absurd (cc e);
+    sent = λ m p e. absurd (cc e);
+    nothing_missing = λ m p e. absurd (cc e);
   };
 }
 appended size before after sound (Delivers j m payload in_group may app) = record {
@@ -175,9 +175,95 @@ appended size before after sound (Delivers j m payload in_group may app) = recor
   appends = app;
   next = record {
     caster = λ x p e. absurd (cc e);
-    number = ?;
-    other = λ x p e. ?;
-    sent = λ x p e. ?;
-    nothing_missing = λ x p e. ?;
+    number = sym (clock_own before sound place m cast) ∙ (ready place cast).next;
+    other = λ x p e. subst (λ (y : Name). y.sender ≢ j) (same x p e) another;
+    sent = λ x p e. subst (λ (y : Name). (index : ℕ) × IsCastAt before (record { member = y.sender; index = index }) y) (same x p e) sent_here;
+    nothing_missing = λ x p e q c k. missing q (subst (λ (y : Name). IsCastAt before q y) (sym (same x p e)) c) k;
   };
 }
+  where
+    place : Place
+    place = record { member = may.caster; index = may.index }
+
+    cast : IsCastAt before place m
+    cast = record { payload = payload; stands = may.stands }
+
+    sender : m.sender ≡ may.caster
+    sender = sound.casters place m cast
+
+    another : m.sender ≢ j
+    another e = may.another (sym sender ∙ e)
+
+    sent_here : (index : ℕ) × IsCastAt before (record { member = m.sender; index = index }) m
+    sent_here = (may.index, subst (λ (k : ℕ). IsCastAt before (record { member = k; index = may.index }) m) (sym sender) cast)
+
+    same : (x : Name) (p : List ℕ) → Deliver m payload ≡ Deliver x p → m ≡ x
+    same x p e = cc e
+
+    ready : (q : Place) → IsCastAt before q m → IsReady m.sender (clock before q) (λ k. count k (before j))
+    ready q c = may_deliver_is_ready before sound q j m payload c may
+
+    missing : (q : Place) → IsCastAt before q m → (k : ℕ) → clock before q k ≤ count k (before j) + cond (is_of k (Deliver m payload)) 1 0
+    missing q c k =
+        elim (cases_eq k m.sender) [
+            inl own ↦
+              let one : ◌≡◌ {A = ℕ} (cond (is_of k (Deliver m payload)) 1 0) 1 = ap {B = ℕ} (λ (b : Bool). cond b 1 0) (eq-eqb m.sender k (sym own)) in
+              let next : clock before q m.sender ≡ count m.sender (before j) + 1 = (ready q c).next in
+              let clocks : clock before q k ≡ clock before q m.sender = ap (clock before q) own in
+              let counts : count k (before j) ≡ count m.sender (before j) = ap (λ (l : ℕ). count l (before j)) own in
+              omega arith
+          | inr other ↦ let less : clock before q k ≤ count k (before j) = (ready q c).others k other in omega arith
+        ]
+
+-- how the lists of a run stand
+pub record IsRegular (lists : Lists) : Type 0 where
+  pub sound : IsSound lists
+  pub closed : IsClosed lists
+  pub acyclic : (p : Place) → ¬ Path lists p p
+
+-- a step keeps them so
+pub step_regular : (size : ℕ) (before after : Lists) → IsRegular before → Step size before after → IsRegular after
+step_regular size before after reg step =
+    let a : Appended before after = appended size before after reg.sound step in
+    record {
+      sound = still_sound before after a.member a.event a.appends reg.sound a.next;
+      closed = still_closed before after a.member a.event a.appends reg.sound a.next reg.closed;
+      acyclic = λ p w.
+          let new : (m : Name) (payload : List ℕ) (q : Place) → a.event ≡ Cast m payload → IsDeliveryAt after q m → ⊥ =
+              fresh before after a.member a.event a.appends reg.sound a.next in
+          let old : IsPlace before p = path_from_old before after a.member a.event a.appends new w in
+          reg.acyclic p (path_was before after a.member a.event a.appends new w old);
+    }
+
+pub run_regular : (size : ℕ) (lists : Lists) → Run size lists → IsRegular lists
+run_regular size lists (Start _ empty) = record {
+  sound = empty_sound lists empty;
+  closed = λ p q m c d k. absurd (nothing_stands lists empty p (Cast m c.payload) c.stands);
+  acyclic = λ p w. no_path lists empty w;
+}
+run_regular size lists (Then before _ run step) = step_regular size before lists (run_regular size before run) step
+
+-- appending an event to the lists of a run adds no path between older places
+pub step_keeps_paths : (size : ℕ) (before after : Lists) → Run size before → Step size before after → KeepsPaths before after
+step_keeps_paths size before after run step =
+    let sound : IsSound before = (run_regular size before run).sound in
+    let a : Appended before after = appended size before after sound step in
+    paths_kept before after a.member a.event a.appends (fresh before after a.member a.event a.appends sound a.next)
+
+-- happened-before is irreflexive
+pub regular_irreflexive : (lists : Lists) → IsRegular lists → IsIrreflexive lists
+regular_irreflexive lists reg m h =
+    let one : h.to ≡ h.from = cast_once lists reg.sound h.to h.from m h.cast_later h.cast_earlier in
+    reg.acyclic h.from (subst (λ (q : Place). Path lists h.from q) one h.path)
+
+-- and transitive
+pub regular_transitive : (lists : Lists) → IsRegular lists → IsTransitive lists
+regular_transitive lists reg a b m first second =
+    let one : second.from ≡ first.to = cast_once lists reg.sound second.from first.to b second.cast_earlier first.cast_later in
+    record {
+      from = first.from;
+      to = second.to;
+      cast_earlier = first.cast_earlier;
+      cast_later = second.cast_later;
+      path = joined first.path (subst (λ (q : Place). Path lists q second.to) one second.path);
+    }
