@@ -30,12 +30,12 @@ module _ (before after : Lists) (i : ℕ) (x : Event) (app : Appends before afte
   pub clock_stays : (p : Place) (k : ℕ) → IsPlace before p → clock after p k ≡ clock before p k
   clock_stays p k old = ap (count k) (take_stays p.member (suc p.index) old)
 
-  -- the clock of the new place is what its list has
+  -- the clock of the new place is what its list has now
+  pub clock_whole : (k : ℕ) → clock after (record { member = i; index = length (before i) }) k ≡ count k (after i)
+  clock_whole k = ap (count k) (ap (λ (n : ℕ). take n (after i)) (sym (length_own before after i x app)) ∙ take_whole (after i))
+
   pub clock_new : (k : ℕ) → clock after (record { member = i; index = length (before i) }) k ≡ count k (before i) + cond (is_of k x) 1 0
-  clock_new k =
-      let whole : take (suc (length (before i))) (after i) ≡ before i ++ x ∷ [] =
-          ap (λ (n : ℕ). take n (after i)) (sym (length_own before after i x app)) ∙ take_whole (after i) ∙ app.own in
-      ap (count k) whole ∙ counted_more (is_of k) (before i) x
+  clock_new k = clock_whole k ∙ ap (count k) app.own ∙ counted_more (is_of k) (before i) x
 
   -- what is to hold of a new event, so that the lists stay as they should be:
   pub record IsNext : Type 0 where

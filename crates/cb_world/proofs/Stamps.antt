@@ -1,0 +1,146 @@
+-- A stamped run without its times is a run of the causal machine, and its times are the clocks of its casts.
+use Rattle.std.specs.Prelude.{slice_get}
+use Rattle.std.proofs.Common.{◌≡◌, ◌≢◌, ℕ, zero, suc, ◌+◌, ◌<◌, ◌≤◌, ◌⊎◌, inl, inr, ◌↔◌, List, [], ◌∷◌, ◌++◌, map, length, take, Option, None, Some, refl, sym, ◌∙◌, ap, subst, arith}
+use Rattle.std.proofs.lemmas.List.{map_push}
+use Rattle.cb_times.specs.Order.{field, Compares}
+use Rattle.cb_times.specs.declared.order.TimeOrder.{TimeOrder}
+use Rattle.cb_delay.specs.Rule.{IsReady}
+use Rattle.cb_world.specs.declared.event.Name.{Name}
+use Rattle.cb_world.specs.declared.event.Event.{Event}
+use Rattle.cb_world.specs.declared.event.Event.TheVariants.{Cast, Deliver}
+use Rattle.cb_world.specs.Events.{name_of, count, Appends}
+use Rattle.cb_world.specs.HappenedBefore.{Lists, Place, IsPlace, IsCastAt, HappenedBefore}
+use Rattle.cb_world.specs.Machine.{next_name, MayDeliver, Step, Casts, Delivers, Run, Start, Then}
+use Rattle.cb_world.specs.Stamped.{Stamped, StampedLists, events_of, erased, IsTimeOfList, StampedStep, StampedRun, IsTimeOf}
+use Rattle.cb_world.specs.Laws.{Related, IsInOrder, TimesTellOrder, TimesCountThePast}
+use Rattle.cb_world.proofs.Counting.{get_map}
+use Rattle.cb_world.proofs.Places.{old_or_new, new_stands, cast_stays, is_place}
+use Rattle.cb_world.proofs.Names.{IsSound, cast_once}
+use Rattle.cb_world.proofs.Clock.{clock, ready_may_deliver}
+use Rattle.cb_world.proofs.Runs.{IsRegular, run_regular, regular_irreflexive, clock_stays, clock_whole}
+use Rattle.cb_world.proofs.Comparing.{IsClockOf, compares, counts_past, sound_in_order}
+
+-- leaving out the times commutes with appending an event
+pub erased_appends : (before after : StampedLists) (i : ℕ) (s : Stamped) → Appends before after i s → Appends (erased before) (erased after) i s.event
+erased_appends before after i s app = record {
+  own = ap events_of app.own ∙ map_push (λ (x : Stamped). x.event) (before i) s;
+  others = λ k other. ap events_of (app.others k other);
+}
+
+-- how the lists of a stamped run stand
+pub record IsStamped (size : ℕ) (lists : StampedLists) : Type 0 where
+  pub causal : Run size (erased lists)
+  pub times : (j a : ℕ) (s : Stamped) → slice_get (lists j) a ≡ Some s → IsClockOf (erased lists) (name_of s.event) s.time
+
+-- the clock of a cast stays when an event is appended
+clock_kept : (before after : Lists) (i : ℕ) (x : Event) → Appends before after i x → (m : Name) (time : List ℕ) → IsClockOf before m time → IsClockOf after m time
+clock_kept before after i x app m time c = record {
+  place = c.place;
+  cast = cast_stays before after i x app c.place m c.cast;
+  same = λ k. c.same k ∙ sym (clock_stays before after i x app c.place k (is_place before c.place (Cast m c.cast.payload) c.cast.stands));
+}
+
+-- the times stay so, if that of the new event is so
+times_kept : (before after : StampedLists) (i : ℕ) (s : Stamped) → Appends before after i s
+    → ((j a : ℕ) (x : Stamped) → slice_get (before j) a ≡ Some x → IsClockOf (erased before) (name_of x.event) x.time)
+    → IsClockOf (erased after) (name_of s.event) s.time
+    → (j a : ℕ) (x : Stamped) → slice_get (after j) a ≡ Some x → IsClockOf (erased after) (name_of x.event) x.time
+times_kept before after i s app times new j a x stands =
+    elim (old_or_new before after i s app j a x stands) [
+        inl old ↦ clock_kept (erased before) (erased after) i s.event (erased_appends before after i s app) (name_of x.event) x.time (times j a x old)
+      | inr here ↦ subst (λ (y : Stamped). IsClockOf (erased after) (name_of y.event) y.time) (sym here.2) new
+    ]
+
+pub step_stamped : (size : ℕ) (before after : StampedLists) → IsStamped size before → StampedStep size before after → IsStamped size after
+step_stamped size before after is (StampedStep.Casts i payload time in_group app stamp) = record {
+  causal = Then (erased before) (erased after) is.causal (Casts i payload in_group plain);
+  times = times_kept before after i new app is.times clock_of_new;
+}
+  where
+    new : Stamped
+    new = record { event = Cast (next_name i (events_of (before i))) payload; time = time }
+
+    plain : Appends (erased before) (erased after) i (Cast (next_name i (events_of (before i))) payload)
+    plain = erased_appends before after i (record { event = Cast (next_name i (events_of (before i))) payload; time = time }) app
+
+    clock_of_new : IsClockOf (erased after) (next_name i (events_of (before i))) time
+    clock_of_new = record {
+      place = record { member = i; index = length (events_of (before i)) };
+      cast = record { payload = payload; stands = new_stands (erased before) (erased after) i (Cast (next_name i (events_of (before i))) payload) plain };
+      same = λ k. stamp.counts k ∙ sym (clock_whole (erased before) (erased after) i (Cast (next_name i (events_of (before i))) payload) plain k);
+    }
+step_stamped size before after is (StampedStep.Delivers i j index m payload time in_group another stands ready app) = record {
+  causal = Then (erased before) (erased after) is.causal (Delivers j m payload in_group may plain);
+  times = times_kept before after j (record { event = Deliver m payload; time = time }) app is.times
+      (clock_kept (erased before) (erased after) j (Deliver m payload) plain m time clock_of_m);
+}
+  where
+    reg : IsRegular (erased before)
+    reg = run_regular size (erased before) is.causal
+
+    plain : Appends (erased before) (erased after) j (Deliver m payload)
+    plain = erased_appends before after j (record { event = Deliver m payload; time = time }) app
+
+    place : Place
+    place = record { member = i; index = index }
+
+    cast : IsCastAt (erased before) place m
+    cast = record { payload = payload; stands = get_map (λ (x : Stamped). x.event) (before i) index (record { event = Cast m payload; time = time }) stands }
+
+    clock_of_m : IsClockOf (erased before) m time
+    clock_of_m = is.times i index (record { event = Cast m payload; time = time }) stands
+
+    sender : m.sender ≡ i
+    sender = reg.sound.casters place m cast
+
+    fields : (k : ℕ) → field time k ≡ clock (erased before) place k
+    fields k =
+        let one : clock_of_m.place ≡ place = cast_once (erased before) reg.sound clock_of_m.place place m clock_of_m.cast cast in
+        clock_of_m.same k ∙ ap (λ (p : Place). clock (erased before) p k) one
+
+    ready_at_clock : IsReady m.sender (clock (erased before) place) (λ k. count k (erased before j))
+    ready_at_clock = record {
+      next =
+          let next : clock (erased before) place i ≡ count i (erased before j) + 1 = sym (fields i) ∙ ready.next in
+          subst (λ (k : ℕ). clock (erased before) place k ≡ count k (erased before j) + 1) (sym sender) next;
+      others = λ k other.
+          let less : field time k ≤ count k (erased before j) = ready.others k (λ e. other (e ∙ sym sender)) in
+          omega (arith, fields k);
+    }
+
+    may : MayDeliver (erased before) j m payload
+    may = ready_may_deliver (erased before) reg.sound reg.closed (regular_irreflexive (erased before) reg) place j m cast (λ e. another (sym sender ∙ e)) ready_at_clock
+
+pub run_stamped : (size : ℕ) (lists : StampedLists) → StampedRun size lists → IsStamped size lists
+run_stamped size lists (StampedRun.Start _ empty) = record {
+  causal = Start (erased lists) (λ k. ap events_of (empty k));
+  times = λ j a s stands.
+      let none : slice_get [] a ≡ Some s = subst (λ (xs : List Stamped). slice_get xs a ≡ Some s) (empty j) stands in
+      absurd (cc none);
+}
+run_stamped size lists (StampedRun.Then before _ earlier next) = step_stamped size before lists (run_stamped size before earlier) next
+
+-- without its times a stamped run is a run of the causal machine
+pub stamped_is_causal : (size : ℕ) (lists : StampedLists) → StampedRun size lists → Run size (erased lists)
+stamped_is_causal size lists r = (run_stamped size lists r).causal
+
+-- the time that stands with a message is the clock of its cast
+time_is_clock : (size : ℕ) (lists : StampedLists) → StampedRun size lists → (m : Name) (time : List ℕ) → IsTimeOf lists m time → IsClockOf (erased lists) m time
+time_is_clock size lists r m time t =
+    subst (λ (x : Name). IsClockOf (erased lists) x time) t.named
+    ((run_stamped size lists r).times t.member t.index (record { event = t.event; time = time }) t.stands)
+
+-- the times of any two messages compare exactly as the messages do
+pub times_tell_order : (size : ℕ) (lists : StampedLists) → StampedRun size lists → TimesTellOrder lists
+times_tell_order size lists r a b time_a time_b of_a of_b order =
+    compares (erased lists) (run_regular size (erased lists) (stamped_is_causal size lists r)) a b time_a time_b
+    (time_is_clock size lists r a time_a of_a) (time_is_clock size lists r b time_b of_b) order
+
+-- the fundamental law
+pub times_count_the_past : (size : ℕ) (lists : StampedLists) → StampedRun size lists → TimesCountThePast lists
+times_count_the_past size lists r m time of_m k t one =
+    counts_past (erased lists) (run_regular size (erased lists) (stamped_is_causal size lists r)) m time (time_is_clock size lists r m time of_m) k t one
+
+-- the messages of each sender stand in order
+pub run_in_order : (size : ℕ) (lists : Lists) → Run size lists → IsInOrder lists
+run_in_order size lists r = sound_in_order lists (run_regular size lists r).sound
