@@ -12,7 +12,7 @@ use Rattle.cb_world.specs.Events.{name_of, count, Appends}
 use Rattle.cb_world.specs.HappenedBefore.{Lists, Place, IsPlace, IsCastAt, HappenedBefore}
 use Rattle.cb_world.specs.Machine.{next_name, MayDeliver, Step, Casts, Delivers, Run, Start, Then}
 use Rattle.cb_world.specs.Stamped.{Stamped, StampedLists, events_of, erased, IsTimeOfList, StampedStep, StampedRun, IsTimeOf}
-use Rattle.cb_world.specs.Laws.{Related, IsInOrder, TimesTellOrder, TimesCountThePast}
+use Rattle.cb_world.specs.Laws.{IsInOrder, TimesTellOrder, TimesCountThePast, TimesHaveSize}
 use Rattle.cb_world.proofs.Counting.{get_map}
 use Rattle.cb_world.proofs.Places.{old_or_new, new_stands, cast_stays, is_place}
 use Rattle.cb_world.proofs.Names.{IsSound, cast_once}
@@ -119,6 +119,26 @@ run_stamped size lists (StampedRun.Start _ empty) = record {
       absurd (cc none);
 }
 run_stamped size lists (StampedRun.Then before _ earlier next) = step_stamped size before lists (run_stamped size before earlier) next
+
+-- each time of a run has a field for each member of the group
+run_sizes : (size : ℕ) (lists : StampedLists) → StampedRun size lists → (j a : ℕ) (s : Stamped) → slice_get (lists j) a ≡ Some s → length s.time ≡ size
+run_sizes size lists (StampedRun.Start _ empty) j a s stands =
+    let none : slice_get [] a ≡ Some s = subst (λ (xs : List Stamped). slice_get xs a ≡ Some s) (empty j) stands in
+    absurd (cc none)
+run_sizes size lists (StampedRun.Then before _ earlier (StampedStep.Casts i payload time inside app stamp)) j a s stands =
+    elim (old_or_new before lists i (record { event = Cast (next_name i (events_of (before i))) payload; time = time }) app j a s stands) [
+        inl old ↦ run_sizes size before earlier j a s old
+      | inr new ↦ rw new.2 stamp.fields
+    ]
+run_sizes size lists (StampedRun.Then before _ earlier (StampedStep.Delivers i k index m payload time inside another at_cast ready app)) j a s stands =
+    let fields : length time ≡ size = run_sizes size before earlier i index (record { event = Cast m payload; time = time }) at_cast in
+    elim (old_or_new before lists k (record { event = Deliver m payload; time = time }) app j a s stands) [
+        inl old ↦ run_sizes size before earlier j a s old
+      | inr new ↦ rw new.2 fields
+    ]
+
+pub times_have_size : (size : ℕ) (lists : StampedLists) → StampedRun size lists → TimesHaveSize size lists
+times_have_size size lists r m time t = run_sizes size lists r t.member t.index (record { event = t.event; time = time }) t.stands
 
 -- without its times a stamped run is a run of the causal machine
 pub stamped_is_causal : (size : ℕ) (lists : StampedLists) → StampedRun size lists → Run size (erased lists)

@@ -1,5 +1,5 @@
 -- What the laws of this crate say.
-use Rattle.std.specs.Prelude.{◌≡◌, ◌≢◌, ℕ, ◌≤◌, ◌⊎◌, ◌↔◌, List}
+use Rattle.std.specs.Prelude.{◌≡◌, ◌≢◌, ℕ, ◌≤◌, ◌⊎◌, ◌↔◌, List, length}
 use Rattle.cb_times.specs.Order.{field, Compares}
 use Rattle.cb_times.specs.declared.order.TimeOrder.{TimeOrder}
 use Rattle.cb_times.specs.declared.order.TimeOrder.TheVariants.{Before, After, Same, Concurrent}
@@ -45,6 +45,14 @@ TimesCountThePast lists =
 abbrev pub IsInOrder : Lists → Type 0
 IsInOrder lists = (j k : ℕ) → numbers_of k (lists j) ≡ consecutive 1 (count k (lists j))
 
--- some run of the stamped machine has these lists where its times are left out, as follows: lists without times are these
+-- each time has a field for each member of the group
+abbrev pub TimesHaveSize : ℕ → StampedLists → Type 0
+TimesHaveSize size lists = (m : Name) (time : List ℕ) → IsTimeOf lists m time → length time ≡ size
+
+-- these are the lists of some stamped run, without its times
 abbrev pub IsErasure : ℕ → Lists → Type 0
 IsErasure size lists = (stamped : StampedLists) × StampedRun size stamped × ((k : ℕ) → erased stamped k ≡ lists k)
+
+-- no path leads from a place back to it
+abbrev pub IsAcyclic : Lists → Type 0
+IsAcyclic lists = (place : Place) → ¬ Path lists place place

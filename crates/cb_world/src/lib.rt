@@ -4,5 +4,10 @@
 #![tactic(auto)]
 
 mod event;
+mod laws;
 
 pub use event::{Event, Name};
+pub use laws::{
+    causal_broadcast_can_be_stamped, happened_before_is_strict_order, stamped_broadcast_is_causal,
+    steps_keep_the_past,
+};
