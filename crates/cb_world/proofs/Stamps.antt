@@ -8,10 +8,11 @@ use Rattle.cb_delay.specs.Rule.{IsReady}
 use Rattle.cb_world.specs.declared.event.Name.{Name}
 use Rattle.cb_world.specs.declared.event.Event.{Event}
 use Rattle.cb_world.specs.declared.event.Event.TheVariants.{Cast, Deliver}
+use Rattle.cb_world.specs.declared.stamp.StampedEvent.{StampedEvent}
 use Rattle.cb_world.specs.Events.{name_of, count, Appends}
 use Rattle.cb_world.specs.HappenedBefore.{Lists, Place, IsPlace, IsCastAt, HappenedBefore}
 use Rattle.cb_world.specs.Machine.{next_name, MayDeliver, Step, Casts, Delivers, Run, Start, Then}
-use Rattle.cb_world.specs.Stamped.{Stamped, StampedLists, events_of, erased, IsTimeOfList, StampedStep, StampedRun, IsTimeOf}
+use Rattle.cb_world.specs.Stamped.{StampedLists, events_of, erased, IsTimeOfList, StampedStep, StampedRun, IsTimeOf}
 use Rattle.cb_world.specs.Laws.{IsInOrder, TimesTellOrder, TimesCountThePast, TimesHaveSize}
 use Rattle.cb_world.proofs.Counting.{get_map}
 use Rattle.cb_world.proofs.Places.{old_or_new, new_stands, cast_stays, is_place}
@@ -21,16 +22,16 @@ use Rattle.cb_world.proofs.Runs.{IsRegular, run_regular, regular_irreflexive, cl
 use Rattle.cb_world.proofs.Comparing.{IsClockOf, compares, counts_past, sound_in_order}
 
 -- leaving out the times commutes with appending an event
-pub erased_appends : (before after : StampedLists) (i : ℕ) (s : Stamped) → Appends before after i s → Appends (erased before) (erased after) i s.event
+pub erased_appends : (before after : StampedLists) (i : ℕ) (s : StampedEvent) → Appends before after i s → Appends (erased before) (erased after) i s.event
 erased_appends before after i s app = record {
-  own = ap events_of app.own ∙ map_push (λ (x : Stamped). x.event) (before i) s;
+  own = ap events_of app.own ∙ map_push (λ (x : StampedEvent). x.event) (before i) s;
   others = λ k other. ap events_of (app.others k other);
 }
 
 -- how the lists of a stamped run stand
 pub record IsStamped (size : ℕ) (lists : StampedLists) : Type 0 where
   pub causal : Run size (erased lists)
-  pub times : (j a : ℕ) (s : Stamped) → slice_get (lists j) a ≡ Some s → IsClockOf (erased lists) (name_of s.event) s.time
+  pub times : (j a : ℕ) (s : StampedEvent) → slice_get (lists j) a ≡ Some s → IsClockOf (erased lists) (name_of s.event) s.time
 
 -- the clock of a cast stays when an event is appended
 clock_kept : (before after : Lists) (i : ℕ) (x : Event) → Appends before after i x → (m : Name) (time : List ℕ) → IsClockOf before m time → IsClockOf after m time
@@ -41,14 +42,14 @@ clock_kept before after i x app m time c = record {
 }
 
 -- the times stay so, if that of the new event is so
-times_kept : (before after : StampedLists) (i : ℕ) (s : Stamped) → Appends before after i s
-    → ((j a : ℕ) (x : Stamped) → slice_get (before j) a ≡ Some x → IsClockOf (erased before) (name_of x.event) x.time)
+times_kept : (before after : StampedLists) (i : ℕ) (s : StampedEvent) → Appends before after i s
+    → ((j a : ℕ) (x : StampedEvent) → slice_get (before j) a ≡ Some x → IsClockOf (erased before) (name_of x.event) x.time)
     → IsClockOf (erased after) (name_of s.event) s.time
-    → (j a : ℕ) (x : Stamped) → slice_get (after j) a ≡ Some x → IsClockOf (erased after) (name_of x.event) x.time
+    → (j a : ℕ) (x : StampedEvent) → slice_get (after j) a ≡ Some x → IsClockOf (erased after) (name_of x.event) x.time
 times_kept before after i s app times new j a x stands =
     elim (old_or_new before after i s app j a x stands) [
         inl old ↦ clock_kept (erased before) (erased after) i s.event (erased_appends before after i s app) (name_of x.event) x.time (times j a x old)
-      | inr here ↦ subst (λ (y : Stamped). IsClockOf (erased after) (name_of y.event) y.time) (sym here.2) new
+      | inr here ↦ subst (λ (y : StampedEvent). IsClockOf (erased after) (name_of y.event) y.time) (sym here.2) new
     ]
 
 pub step_stamped : (size : ℕ) (before after : StampedLists) → IsStamped size before → StampedStep size before after → IsStamped size after
@@ -57,7 +58,7 @@ step_stamped size before after is (StampedStep.Casts i payload time in_group app
   times = times_kept before after i new app is.times clock_of_new;
 }
   where
-    new : Stamped
+    new : StampedEvent
     new = record { event = Cast (next_name i (events_of (before i))) payload; time = time }
 
     plain : Appends (erased before) (erased after) i (Cast (next_name i (events_of (before i))) payload)
@@ -85,7 +86,7 @@ step_stamped size before after is (StampedStep.Delivers i j index m payload time
     place = record { member = i; index = index }
 
     cast : IsCastAt (erased before) place m
-    cast = record { payload = payload; stands = get_map (λ (x : Stamped). x.event) (before i) index (record { event = Cast m payload; time = time }) stands }
+    cast = record { payload = payload; stands = get_map (λ (x : StampedEvent). x.event) (before i) index (record { event = Cast m payload; time = time }) stands }
 
     clock_of_m : IsClockOf (erased before) m time
     clock_of_m = is.times i index (record { event = Cast m payload; time = time }) stands
@@ -115,15 +116,15 @@ pub run_stamped : (size : ℕ) (lists : StampedLists) → StampedRun size lists 
 run_stamped size lists (StampedRun.Start _ empty) = record {
   causal = Start (erased lists) (λ k. ap events_of (empty k));
   times = λ j a s stands.
-      let none : slice_get [] a ≡ Some s = subst (λ (xs : List Stamped). slice_get xs a ≡ Some s) (empty j) stands in
+      let none : slice_get [] a ≡ Some s = subst (λ (xs : List StampedEvent). slice_get xs a ≡ Some s) (empty j) stands in
       absurd (cc none);
 }
 run_stamped size lists (StampedRun.Then before _ earlier next) = step_stamped size before lists (run_stamped size before earlier) next
 
 -- each time of a run has a field for each member of the group
-run_sizes : (size : ℕ) (lists : StampedLists) → StampedRun size lists → (j a : ℕ) (s : Stamped) → slice_get (lists j) a ≡ Some s → length s.time ≡ size
+run_sizes : (size : ℕ) (lists : StampedLists) → StampedRun size lists → (j a : ℕ) (s : StampedEvent) → slice_get (lists j) a ≡ Some s → length s.time ≡ size
 run_sizes size lists (StampedRun.Start _ empty) j a s stands =
-    let none : slice_get [] a ≡ Some s = subst (λ (xs : List Stamped). slice_get xs a ≡ Some s) (empty j) stands in
+    let none : slice_get [] a ≡ Some s = subst (λ (xs : List StampedEvent). slice_get xs a ≡ Some s) (empty j) stands in
     absurd (cc none)
 run_sizes size lists (StampedRun.Then before _ earlier (StampedStep.Casts i payload time inside app stamp)) j a s stands =
     elim (old_or_new before lists i (record { event = Cast (next_name i (events_of (before i))) payload; time = time }) app j a s stands) [

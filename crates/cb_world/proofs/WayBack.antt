@@ -9,10 +9,11 @@ use Rattle.cb_delay.specs.Rule.{IsReady}
 use Rattle.cb_world.specs.declared.event.Name.{Name}
 use Rattle.cb_world.specs.declared.event.Event.{Event}
 use Rattle.cb_world.specs.declared.event.Event.TheVariants.{Cast, Deliver}
+use Rattle.cb_world.specs.declared.stamp.StampedEvent.{StampedEvent}
 use Rattle.cb_world.specs.Events.{name_of, is_of, counted, count, Appends}
 use Rattle.cb_world.specs.HappenedBefore.{Lists, Place, event_at, IsCastAt}
 use Rattle.cb_world.specs.Machine.{next_name, MayDeliver, Step, Casts, Delivers, Run, Start, Then}
-use Rattle.cb_world.specs.Stamped.{Stamped, StampedLists, events_of, erased, IsTimeOfList, StampedStep, StampedRun}
+use Rattle.cb_world.specs.Stamped.{StampedLists, events_of, erased, IsTimeOfList, StampedStep, StampedRun}
 use Rattle.cb_world.specs.Laws.{IsErasure}
 use Rattle.cb_world.proofs.Counting.{get_map_from}
 use Rattle.cb_world.proofs.Places.{old_or_new}
@@ -71,7 +72,7 @@ none_outside size lists run j k outside =
         ne_eqb (name_of e).sender k (λ same. let differ : ⊥ = omega arith in differ))
 
 -- an event with a time, as it is looked up
-abbrev with_time : List ℕ → Event → Option Stamped
+abbrev with_time : List ℕ → Event → Option StampedEvent
 with_time time e = Some (record { event = e; time = time })
 
 -- lists that got x at the end of member i's
@@ -86,14 +87,14 @@ grown_appends lists i x = record {
 }
 
 -- and without their times they are the lists that got the event
-grown_erased : (before : StampedLists) (after : Lists) (i : ℕ) (s : Stamped) → Appends (erased before) after i s.event
+grown_erased : (before : StampedLists) (after : Lists) (i : ℕ) (s : StampedEvent) → Appends (erased before) after i s.event
     → (k : ℕ) → erased (grown before i s) k ≡ after k
 grown_erased before after i s app k =
     let grows : Appends before (grown before i s) i s = grown_appends before i s in
     elim (cases_eq k i) [
         inl here ↦
           let at_i : erased (grown before i s) i ≡ after i =
-              ap events_of grows.own ∙ map_push (λ (x : Stamped). x.event) (before i) s ∙ sym app.own in
+              ap events_of grows.own ∙ map_push (λ (x : StampedEvent). x.event) (before i) s ∙ sym app.own in
           subst (λ (j : ℕ). erased (grown before i s) j ≡ after j) (sym here) at_i
       | inr other ↦ ap events_of (grows.others k other) ∙ sym (app.others k other)
     ]
@@ -106,7 +107,7 @@ step_is_erasure size stamped run after (Casts i payload inside app) =
     time : List ℕ
     time = tabulate size (λ k. count k (after i))
 
-    new : Stamped
+    new : StampedEvent
     new = record { event = Cast (next_name i (events_of (stamped i))) payload; time = tabulate size (λ k. count k (after i)) }
 
     same : (k : ℕ) → erased (grown stamped i new) k ≡ after k
@@ -123,7 +124,7 @@ step_is_erasure size stamped run after (Casts i payload inside app) =
           ∙ ap (count k) (sym (same i));
     }
 step_is_erasure size stamped run after (Delivers j m payload inside may app) =
-    let (s, at, is) = get_map_from (λ (x : Stamped). x.event) (stamped may.caster) may.index (Cast m payload) may.stands in
+    let (s, at, is) = get_map_from (λ (x : StampedEvent). x.event) (stamped may.caster) may.index (Cast m payload) may.stands in
     with_stamp s at is
   where
     place : Place
@@ -132,9 +133,9 @@ step_is_erasure size stamped run after (Delivers j m payload inside may app) =
     cast : IsCastAt (erased stamped) place m
     cast = record { payload = payload; stands = may.stands }
 
-    with_stamp : (s : Stamped) → slice_get (stamped may.caster) may.index ≡ Some s → s.event ≡ Cast m payload → IsErasure size after
+    with_stamp : (s : StampedEvent) → slice_get (stamped may.caster) may.index ≡ Some s → s.event ≡ Cast m payload → IsErasure size after
     with_stamp s at is =
-        let new : Stamped = record { event = Deliver m payload; time = s.time } in
+        let new : StampedEvent = record { event = Deliver m payload; time = s.time } in
         let stands : slice_get (stamped may.caster) may.index ≡ Some (record { event = Cast m payload; time = s.time }) =
             at ∙ ap (with_time s.time) is in
         (grown stamped j new,

@@ -9,6 +9,11 @@ abbrev pub name_of : Event → Name
 name_of (Cast m payload) = m
 name_of (Deliver m payload) = m
 
+-- what that message says
+abbrev pub payload_of : Event → List ℕ
+payload_of (Cast m payload) = payload
+payload_of (Deliver m payload) = payload
+
 -- the event is a cast
 abbrev pub is_cast : Event → Bool
 is_cast (Cast m payload) = true

@@ -6,21 +6,17 @@ use Rattle.cb_delay.specs.Rule.{IsReady}
 use Rattle.cb_world.specs.declared.event.Name.{Name}
 use Rattle.cb_world.specs.declared.event.Event.{Event}
 use Rattle.cb_world.specs.declared.event.Event.TheVariants.{Cast, Deliver}
+use Rattle.cb_world.specs.declared.stamp.StampedEvent.{StampedEvent}
 use Rattle.cb_world.specs.Events.{count, name_of, Appends}
 use Rattle.cb_world.specs.HappenedBefore.{Lists}
 use Rattle.cb_world.specs.Machine.{next_name}
 
--- an event with a vector time
-pub record Stamped : Type 0 where
-  pub event : Event
-  pub time : List ℕ
-
 -- what each member's list of stamped events is
 abbrev pub StampedLists : Type 0
-StampedLists = ℕ → List Stamped
+StampedLists = ℕ → List StampedEvent
 
 -- a list without its times
-abbrev pub events_of : List Stamped → List Event
+abbrev pub events_of : List StampedEvent → List Event
 events_of list = map (λ s. s.event) list
 
 -- the lists without their times

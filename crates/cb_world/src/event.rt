@@ -19,3 +19,28 @@ pub enum Event {
     /// The member delivers the message of this name, with this payload.
     Deliver(Name, Bytes),
 }
+
+impl Event {
+    ghost use Rattle.std.specs.Prelude.{◌≡◌};
+    ghost use Rattle.cb_world.specs.Events.{name_of, payload_of};
+
+    /// The message that the event casts or delivers.
+    pub fn name(&self) -> Name
+        ensures { result ≡ name_of self.now }
+    {
+        match self {
+            Event::Cast(name, _) => *name,
+            Event::Deliver(name, _) => *name,
+        }
+    }
+
+    /// What the message says.
+    pub fn payload(&self) -> &Bytes
+        ensures { result.now ≡ payload_of self.now }
+    {
+        match self {
+            Event::Cast(_, payload) => payload,
+            Event::Deliver(_, payload) => payload,
+        }
+    }
+}

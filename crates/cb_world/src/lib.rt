@@ -5,8 +5,10 @@
 
 mod event;
 mod laws;
+mod stamp;
 
 pub use event::{Event, Name};
+pub use stamp::{Stamp, StampedEvent};
 pub use laws::{
     causal_broadcast_can_be_stamped, happened_before_is_strict_order, stamped_broadcast_is_causal,
     steps_keep_the_past,
