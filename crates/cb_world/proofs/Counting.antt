@@ -1,6 +1,6 @@
 -- Lists that grow at their end, and how many of their first elements pass a test.
 use Rattle.std.specs.Prelude.{slice_get}
-use Rattle.std.proofs.Common.{◌≡◌, ◌≢◌, ℕ, zero, suc, ◌+◌, ◌<◌, ◌≤◌, Bool, true, false, cond, ◌⊎◌, inl, inr, List, [], ◌∷◌, ◌++◌, length, take, map, Option, None, Some, refl, ap, arith, take-take}
+use Rattle.std.proofs.Common.{◌≡◌, ◌≢◌, ℕ, zero, suc, ◌+◌, ◌<◌, ◌≤◌, Bool, true, false, cond, ◌⊎◌, inl, inr, List, [], ◌∷◌, ◌++◌, length, take, map, Option, None, Some, refl, ap, arith, take-take, add-one}
 use Rattle.std.proofs.lemmas.Bool.{false≢true, true≢false, cases_order, cases_Bool}
 use Rattle.cb_world.specs.Events.{counted}
 
@@ -60,6 +60,7 @@ module _ {X : Type 0} where
   get_take (y ∷ ys) (suc n) zero x e = (omega arith, e)
   get_take (y ∷ ys) (suc n) (suc i) x e = let h : (i < n) × (slice_get ys i ≡ Some x) = get_take ys n i x e in (omega arith, h.1)
 
+  -- and below n they agree
   pub get_take_from : (xs : List X) (n i : ℕ) → i < n → slice_get (take n xs) i ≡ slice_get xs i
   get_take_from [] zero i h = refl
   get_take_from [] (suc n) i h = refl
@@ -83,6 +84,22 @@ module _ {X : Type 0} where
         let same : ◌≡◌ {A = ℕ} (cond (test y) 1 0) (cond (test x) 1 0) = ap {B = ℕ} (λ (z : X). cond (test z) 1 0) one in omega arith
     counted_step (y ∷ ys) (suc i) x e =
         let h : counted test (take (suc i) ys) ≡ counted test (take i ys) + cond (test x) 1 0 = counted_step ys i x e in omega arith
+
+    pub counted_next : (xs : List X) (i : ℕ) (x : X) → slice_get xs i ≡ Some x
+        → counted test (take (i + 1) xs) ≡ counted test (take i xs) + cond (test x) 1 0
+    counted_next xs i x e = rw add-one (counted_step xs i x e)
+
+    -- no more pass than there are
+    pub counted_length : (xs : List X) → counted test xs ≤ length xs
+    counted_length [] = omega arith
+    counted_length (x ∷ xs) =
+        let h : counted test xs ≤ length xs = counted_length xs in
+        elim (cases_Bool (test x)) [
+            inl passes ↦
+              let one : ◌≡◌ {A = ℕ} (cond (test x) 1 0) 1 = ap {B = ℕ} (λ (b : Bool). cond b 1 0) passes in omega arith
+          | inr fails ↦
+              let none : ◌≡◌ {A = ℕ} (cond (test x) 1 0) 0 = ap {B = ℕ} (λ (b : Bool). cond b 1 0) fails in omega arith
+        ]
 
     -- more of the first elements have no fewer that pass
     pub counted_mono : (xs : List X) (i j : ℕ) → i ≤ j → counted test (take i xs) ≤ counted test (take j xs)

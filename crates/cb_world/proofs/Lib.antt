@@ -6,3 +6,5 @@ pub mod Runs
 pub mod Comparing
 pub mod Stamps
 pub mod WayBack
+pub mod GroupLists
+pub mod Deliverable

@@ -3,3 +3,4 @@ pub mod HappenedBefore
 pub mod Machine
 pub mod Stamped
 pub mod Laws
+pub mod Groups

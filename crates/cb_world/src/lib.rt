@@ -3,6 +3,7 @@
 //! Stands on the definitions of `cb_times` and `cb_delay`.
 #![tactic(auto)]
 
+mod causal;
 mod event;
 mod laws;
 mod stamp;

@@ -1,0 +1,11 @@
+use Rattle.std.proofs.Common.{rules}
+use Rattle.cb_world.proofs.GroupLists.{contents_more, contents_same}
+use Rattle.cb_world.proofs.causal.append.Goals as goal
+
+pub returns-in_err-push-clause-err : goal.returns-in_err-push-clause-err
+returns-in_err-push-clause-err g c =
+    let same : _ = contents_same c.args.lists.now c.args.at c.index-lists-at.result c.push.new.self c.requires c.in_err-push.ensures.items in
+    search (rules, same)
+
+pub returns-clause-ok : goal.returns-clause-ok
+returns-clause-ok g c = contents_more c.args.lists.now c.args.at c.index-lists-at.result c.push.new.self c.args.item c.requires c.in_ok-push.ensures.items
