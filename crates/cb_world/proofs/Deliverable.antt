@@ -55,15 +55,15 @@ never_cast caster receiver m i whole passed h =
 
 module _ (lists : Lists) (reg : IsRegular lists) (receiver : ℕ) (m : Name) where
   -- on a run the past of a message is what stands before it in its caster's list
-  pub past_is_deliverable : m.sender ≢ receiver → HasPastOf (lists m.sender) (lists receiver) m → IsDeliverable lists receiver m
-  past_is_deliverable another h = (h.payload, record {
+  pub past_is_deliverable : m.sender ≢ receiver → (h : HasPastOf (lists m.sender) (lists receiver) m) → MayDeliver lists receiver m h.payload
+  past_is_deliverable another h = record {
     caster = m.sender;
     index = h.index;
     another = another;
     stands = h.stands;
     unseen = h.unseen;
     closed = closed;
-  })
+  }
     where
       place : Place
       place = record { member = m.sender; index = h.index }

@@ -1,10 +1,11 @@
 -- Lists of a group as the program keeps them.
 use Rattle.std.specs.Prelude.{slice_get}
-use Rattle.std.proofs.Common.{◌≡◌, ◌≢◌, ℕ, zero, suc, ◌+◌, ◌<◌, ◌≤◌, Bool, true, false, ◌⊎◌, inl, inr, ◌↔◌, List, [], ◌∷◌, ◌++◌, length, get_or, set, map, Option, None, Some, refl, sym, ◌∙◌, ap, subst, arith}
+use Rattle.std.proofs.Common.{◌≡◌, ◌≢◌, ℕ, zero, suc, ◌+◌, ◌<◌, ◌≤◌, Bool, true, false, ◌⊎◌, inl, inr, ◌↔◌, List, [], ◌∷◌, ◌++◌, length, get_or, set, replicate, map, Option, None, Some, refl, sym, ◌∙◌, ap, subst, arith}
 use Rattle.std.proofs.lemmas.List.{map-set}
 use Rattle.std.proofs.lemmas.Bool.{cases_eq}
 use Rattle.std.specs.declared.vec.Vec.{Vec}
 use Rattle.std.specs.declared.alloc.Global.{Global}
+use Rattle.cb_world.specs.Events.{Appends}
 use Rattle.cb_world.specs.Groups.{contents, lists_in}
 
 module _ {X : Type 0} where
@@ -56,12 +57,28 @@ module _ {X : Type 0} where
   lists_in_past (m ∷ ms) (suc k) past = lists_in_past ms k (omega arith)
 
   -- a write of a `Vec` that got an item, and of one that holds what it held
-  pub contents_more : (vecs : List (Vec X Global)) (i : ℕ) (v w : Vec X Global) (x : X) → i < length vecs → w.items ≡ (get_or vecs i v).items ++ x ∷ []
-      → contents (set vecs i w) ≡ set (contents vecs) i (lists_in (contents vecs) i ++ x ∷ [])
-  contents_more vecs i v w x less holds =
-      contents_set vecs i w ∙ ap (set (contents vecs) i) (holds ∙ ap (λ (l : List X). l ++ x ∷ []) (sym (lists_in_read vecs i v less)))
+  pub contents_more : (vecs : List (Vec X Global)) (i : ℕ) (v w : Vec X Global) (x : X) → i < length vecs → v ≡ get_or vecs i v
+      → w.items ≡ v.items ++ x ∷ [] → contents (set vecs i w) ≡ set (contents vecs) i (lists_in (contents vecs) i ++ x ∷ [])
+  contents_more vecs i v w x less is holds =
+      let held : v.items ≡ lists_in (contents vecs) i = ap (λ (u : Vec X Global). u.items) is ∙ sym (lists_in_read vecs i v less) in
+      contents_set vecs i w ∙ ap (set (contents vecs) i) (holds ∙ ap (λ (l : List X). l ++ x ∷ []) held)
 
-  pub contents_same : (vecs : List (Vec X Global)) (i : ℕ) (v w : Vec X Global) → i < length vecs → w.items ≡ (get_or vecs i v).items
-      → contents (set vecs i w) ≡ contents vecs
-  contents_same vecs i v w less holds =
-      contents_set vecs i w ∙ ap (set (contents vecs) i) (holds ∙ sym (lists_in_read vecs i v less)) ∙ set_same (contents vecs) i
+  pub contents_same : (vecs : List (Vec X Global)) (i : ℕ) (v w : Vec X Global) → i < length vecs → v ≡ get_or vecs i v
+      → w.items ≡ v.items → contents (set vecs i w) ≡ contents vecs
+  contents_same vecs i v w less is holds =
+      let held : v.items ≡ lists_in (contents vecs) i = ap (λ (u : Vec X Global). u.items) is ∙ sym (lists_in_read vecs i v less) in
+      contents_set vecs i w ∙ ap (set (contents vecs) i) (holds ∙ held) ∙ set_same (contents vecs) i
+
+  -- the lists with one item more are the lists to which it was appended
+  pub set_appends : (lists : List (List X)) (i : ℕ) (x : X) → i < length lists
+      → Appends (lists_in lists) (lists_in (set lists i (lists_in lists i ++ x ∷ []))) i x
+  set_appends lists i x less = record {
+    own = lists_in_set_same lists i (lists_in lists i ++ x ∷ []) less;
+    others = λ k other. lists_in_set_other lists i k (lists_in lists i ++ x ∷ []) other;
+  }
+
+  -- a group in which nothing has happened
+  pub lists_in_replicate : (n k : ℕ) → lists_in (replicate n (let none : List X = [] in none)) k ≡ []
+  lists_in_replicate zero k = refl
+  lists_in_replicate (suc n) zero = refl
+  lists_in_replicate (suc n) (suc k) = lists_in_replicate n k

@@ -8,3 +8,4 @@ pub mod Stamps
 pub mod WayBack
 pub mod GroupLists
 pub mod Deliverable
+pub mod CausalGroups

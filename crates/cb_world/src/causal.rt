@@ -1,7 +1,7 @@
 //! The causal machine as a program: each member's list of events, and the two steps.
 
 ghost use Rattle.std.specs.Prelude.{◌≡◌, ℕ, ◌+◌, ◌*◌, ◌^◌, ◌<◌, ◌≤◌, ◌↔◌, List, [], ◌∷◌, ◌++◌, length, replicate, slice_set, slice_get, IsTrue, IsFalse, IsSome, IsNone, IfSome, IfOk, OnOk, OnErr, Some};
-ghost use Rattle.cb_world.specs.Events.{Has, casts_of};
+ghost use Rattle.cb_world.specs.Events.{Has, casts_of, is_cast as is_cast_event};
 ghost use Rattle.cb_world.specs.Groups.{contents, lists_in, CastsNext, IsDeliverable, IsDeliverableAt, DeliversNow, HasPastOf, HasPastAt, SaysAt, IsCausal};
 ghost use Rattle.cb_world.specs.HappenedBefore.{Lists};
 ghost use Rattle.cb_world.specs.Machine.{Run, next_name};
@@ -53,10 +53,10 @@ fn cast_with_past(caster: &[Event], receiver: &[Event], name: Name) -> Option<us
 }
 
 /// Puts an item at the end of one of the lists.
-pub fn append<T: Drop>(lists: &mut [Vec<T>], at: usize, item: T) -> Result<(), AllocError>
-    requires { at < length lists.old }
-    ensures ok { OnOk result (contents lists.new ≡ slice_set (contents lists.old) at (lists_in (contents lists.old) at ++ item ∷ [])) }
-    ensures err { OnErr result (contents lists.new ≡ contents lists.old) }
+pub fn append<T: Drop>(lists: &mut Vec<Vec<T>>, at: usize, item: T) -> Result<(), AllocError>
+    requires { at < length lists.old.items }
+    ensures ok { OnOk result (contents lists.new.items ≡ slice_set (contents lists.old.items) at (lists_in (contents lists.old.items) at ++ item ∷ [])) }
+    ensures err { OnErr result (contents lists.new.items ≡ contents lists.old.items) }
 {
     let list = &mut lists[at];
     list.push(item)?;
@@ -71,13 +71,20 @@ pub fn list_of<T>(lists: &[Vec<T>], at: usize) -> &[T]
     lists[at].as_slice()
 }
 
+/// Whether the event is a cast.
+fn is_cast(event: &Event) -> bool
+    ensures { result ≡ is_cast_event event.now }
+{
+    matches!(event, Event::Cast(_, _))
+}
+
 /// How many casts a list has.
 fn cast_count(events: &[Event]) -> usize
     ensures { result ≡ casts_of events.now }
 {
     let mut casts = 0;
     for event in events {
-        if matches!(event, Event::Cast(_, _)) {
+        if is_cast(event) {
             casts += 1;
         }
     }
@@ -85,6 +92,7 @@ fn cast_count(events: &[Event]) -> usize
 }
 
 /// The name of the member's next cast, where its list is this.
+#[tactic(auto, using(crate::proofs::Counting::counted_length))]
 fn name_after(events: &[Event], member: usize) -> Name
     requires member { member < 2 ^ 32 }
     requires room { length events.now < u32.MAX }
@@ -113,7 +121,10 @@ fn deliverable_at(lists: &[Vec<Event>], receiver: usize, name: Name) -> Option<u
     ensures missing { IsNone result → ¬ IsDeliverable (lists_in (contents lists.now)) receiver name }
 {
     let sender = name.sender as usize;
-    if sender == receiver || sender >= lists.len() {
+    if sender == receiver {
+        return None;
+    }
+    if sender >= lists.len() {
         return None;
     }
     cast_with_past(list_of(lists, sender), list_of(lists, receiver), name)
@@ -129,6 +140,9 @@ pub enum CastRefusal {
 }
 
 impl From<AllocError> for CastRefusal {
+    ghost use Rattle.std.specs.Prelude.{◌≡◌};
+    ghost use Rattle.cb_world.specs.declared.causal.CastRefusal.{CastRefusal};
+
     ghost from_gives = { λ _ e. e ≡ CastRefusal.NoMemory };
 
     fn from(_: AllocError) -> CastRefusal {
@@ -200,7 +214,7 @@ impl CausalGroup {
             return Err(CastRefusal::Full);
         }
         let name = name_after(list, member);
-        append(self.lists.as_mut_slice(), member, Event::Cast(name, payload))?;
+        append(&mut self.lists, member, Event::Cast(name, payload))?;
         Ok(name)
     }
 
@@ -226,7 +240,7 @@ impl CausalGroup {
             return Ok(false);
         };
         let payload = payload_at(list_of(self.lists.as_slice(), name.sender as usize), index)?;
-        append(self.lists.as_mut_slice(), receiver, Event::Deliver(name, payload))?;
+        append(&mut self.lists, receiver, Event::Deliver(name, payload))?;
         Ok(true)
     }
 }
