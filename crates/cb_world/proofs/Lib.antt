@@ -9,3 +9,4 @@ pub mod WayBack
 pub mod GroupLists
 pub mod Deliverable
 pub mod CausalGroups
+pub mod Ready

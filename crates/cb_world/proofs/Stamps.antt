@@ -52,8 +52,10 @@ times_kept before after i s app times new j a x stands =
       | inr here ↦ subst (λ (y : StampedEvent). IsClockOf (erased after) (name_of y.event) y.time) (sym here.2) new
     ]
 
-pub step_stamped : (size : ℕ) (before after : StampedLists) → IsStamped size before → StampedStep size before after → IsStamped size after
-step_stamped size before after is (StampedStep.Casts i payload time in_group app stamp) = record {
+casts_stamped : (size : ℕ) (before after : StampedLists) → IsStamped size before → (i : ℕ) (payload time : List ℕ) → i < size
+    → Appends before after i (record { event = Cast (next_name i (events_of (before i))) payload; time = time })
+    → IsTimeOfList size time (events_of (after i)) → IsStamped size after
+casts_stamped size before after is i payload time in_group app stamp = record {
   causal = Then (erased before) (erased after) is.causal (Casts i payload in_group plain);
   times = times_kept before after i new app is.times clock_of_new;
 }
@@ -70,7 +72,12 @@ step_stamped size before after is (StampedStep.Casts i payload time in_group app
       cast = record { payload = payload; stands = new_stands (erased before) (erased after) i (Cast (next_name i (events_of (before i))) payload) plain };
       same = λ k. stamp.counts k ∙ sym (clock_whole (erased before) (erased after) i (Cast (next_name i (events_of (before i))) payload) plain k);
     }
-step_stamped size before after is (StampedStep.Delivers i j index m payload time in_group another stands ready app) = record {
+
+delivers_stamped : (size : ℕ) (before after : StampedLists) → IsStamped size before → (i j index : ℕ) (m : Name) (payload time : List ℕ) → j < size → i ≢ j
+    → slice_get (before i) index ≡ Some (record { event = Cast m payload; time = time })
+    → IsReady i (field time) (λ k. count k (events_of (before j)))
+    → Appends before after j (record { event = Deliver m payload; time = time }) → IsStamped size after
+delivers_stamped size before after is i j index m payload time in_group another stands ready app = record {
   causal = Then (erased before) (erased after) is.causal (Delivers j m payload in_group may plain);
   times = times_kept before after j (record { event = Deliver m payload; time = time }) app is.times
       (clock_kept (erased before) (erased after) j (Deliver m payload) plain m time clock_of_m);
@@ -112,6 +119,12 @@ step_stamped size before after is (StampedStep.Delivers i j index m payload time
     may : MayDeliver (erased before) j m payload
     may = ready_may_deliver (erased before) reg.sound reg.closed (regular_irreflexive (erased before) reg) place j m cast (λ e. another (sym sender ∙ e)) ready_at_clock
 
+pub step_stamped : (size : ℕ) (before after : StampedLists) → IsStamped size before → StampedStep size before after → IsStamped size after
+step_stamped size before after is (StampedStep.Casts i payload in_group casts) =
+    casts_stamped size before after is i payload casts.time in_group casts.appends casts.stamp
+step_stamped size before after is (StampedStep.Delivers j m payload time in_group may app) =
+    delivers_stamped size before after is may.caster j may.index m payload time in_group may.another may.stands may.ready app
+
 pub run_stamped : (size : ℕ) (lists : StampedLists) → StampedRun size lists → IsStamped size lists
 run_stamped size lists (StampedRun.Start _ empty) = record {
   causal = Start (erased lists) (λ k. ap events_of (empty k));
@@ -126,13 +139,13 @@ run_sizes : (size : ℕ) (lists : StampedLists) → StampedRun size lists → (j
 run_sizes size lists (StampedRun.Start _ empty) j a s stands =
     let none : slice_get [] a ≡ Some s = subst (λ (xs : List StampedEvent). slice_get xs a ≡ Some s) (empty j) stands in
     absurd (cc none)
-run_sizes size lists (StampedRun.Then before _ earlier (StampedStep.Casts i payload time inside app stamp)) j a s stands =
-    elim (old_or_new before lists i (record { event = Cast (next_name i (events_of (before i))) payload; time = time }) app j a s stands) [
+run_sizes size lists (StampedRun.Then before _ earlier (StampedStep.Casts i payload inside casts)) j a s stands =
+    elim (old_or_new before lists i (record { event = Cast (next_name i (events_of (before i))) payload; time = casts.time }) casts.appends j a s stands) [
         inl old ↦ run_sizes size before earlier j a s old
-      | inr new ↦ rw new.2 stamp.fields
+      | inr new ↦ rw new.2 casts.stamp.fields
     ]
-run_sizes size lists (StampedRun.Then before _ earlier (StampedStep.Delivers i k index m payload time inside another at_cast ready app)) j a s stands =
-    let fields : length time ≡ size = run_sizes size before earlier i index (record { event = Cast m payload; time = time }) at_cast in
+run_sizes size lists (StampedRun.Then before _ earlier (StampedStep.Delivers k m payload time inside may app)) j a s stands =
+    let fields : length time ≡ size = run_sizes size before earlier may.caster may.index (record { event = Cast m payload; time = time }) may.stands in
     elim (old_or_new before lists k (record { event = Deliver m payload; time = time }) app j a s stands) [
         inl old ↦ run_sizes size before earlier j a s old
       | inr new ↦ rw new.2 fields

@@ -13,7 +13,7 @@ use Rattle.cb_world.specs.declared.stamp.StampedEvent.{StampedEvent}
 use Rattle.cb_world.specs.Events.{name_of, is_of, counted, count, Appends}
 use Rattle.cb_world.specs.HappenedBefore.{Lists, Place, event_at, IsCastAt}
 use Rattle.cb_world.specs.Machine.{next_name, MayDeliver, Step, Casts, Delivers, Run, Start, Then}
-use Rattle.cb_world.specs.Stamped.{StampedLists, events_of, erased, IsTimeOfList, StampedStep, StampedRun}
+use Rattle.cb_world.specs.Stamped.{StampedLists, events_of, erased, IsTimeOfList, DelayRuleAllows, StampedStep, StampedRun}
 use Rattle.cb_world.specs.Laws.{IsErasure}
 use Rattle.cb_world.proofs.Counting.{get_map_from}
 use Rattle.cb_world.proofs.Places.{old_or_new}
@@ -102,7 +102,7 @@ grown_erased before after i s app k =
 -- a step of the causal machine from the erasure of a stamped run leads to the erasure of a longer one
 step_is_erasure : (size : ℕ) (stamped : StampedLists) → StampedRun size stamped → (after : Lists) → Step size (erased stamped) after → IsErasure size after
 step_is_erasure size stamped run after (Casts i payload inside app) =
-    (grown stamped i new, StampedRun.Then stamped (grown stamped i new) run (StampedStep.Casts i payload time inside (grown_appends stamped i new) stamp), same)
+    (grown stamped i new, StampedRun.Then stamped (grown stamped i new) run (StampedStep.Casts i payload inside (record { time = time; appends = grown_appends stamped i new; stamp = stamp })), same)
   where
     time : List ℕ
     time = tabulate size (λ k. count k (after i))
@@ -138,8 +138,10 @@ step_is_erasure size stamped run after (Delivers j m payload inside may app) =
         let new : StampedEvent = record { event = Deliver m payload; time = s.time } in
         let stands : slice_get (stamped may.caster) may.index ≡ Some (record { event = Cast m payload; time = s.time }) =
             at ∙ ap (with_time s.time) is in
+        let allowed : DelayRuleAllows stamped j m payload s.time =
+            record { caster = may.caster; index = may.index; another = may.another; stands = stands; ready = ready } in
         (grown stamped j new,
-          StampedRun.Then stamped (grown stamped j new) run (StampedStep.Delivers may.caster j may.index m payload s.time inside may.another stands ready (grown_appends stamped j new)),
+          StampedRun.Then stamped (grown stamped j new) run (StampedStep.Delivers j m payload s.time inside allowed (grown_appends stamped j new)),
           λ k. grown_erased stamped after j new app k)
       where
         causal : Run size (erased stamped)

@@ -19,6 +19,10 @@ abbrev pub is_cast : Event → Bool
 is_cast (Cast m payload) = true
 is_cast (Deliver m payload) = false
 
+-- the event is the cast of m
+abbrev pub IsCastOf : Name → Event → Type 0
+IsCastOf m e = (payload : List ℕ) × (e ≡ Cast m payload)
+
 -- the event casts or delivers a message of member k
 abbrev pub is_of : ℕ → Event → Bool
 is_of k e = (name_of e).sender == k

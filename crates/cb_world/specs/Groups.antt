@@ -1,13 +1,16 @@
 -- How the program keeps the lists of a group, and what it asks of two of them.
-use Rattle.std.specs.Prelude.{◌≡◌, ℕ, zero, suc, ◌<◌, ◌≤◌, List, [], ◌∷◌, map, length, slice_get, Some}
+use Rattle.std.specs.Prelude.{◌≡◌, ℕ, zero, suc, ◌<◌, ◌≤◌, List, [], ◌∷◌, ◌+◌, if◌then◌else◌, ◌==◌, map, length, slice_get, Some}
 use Rattle.std.specs.declared.vec.Vec.{Vec}
 use Rattle.std.specs.declared.alloc.Global.{Global}
 use Rattle.cb_world.specs.declared.event.Name.{Name}
 use Rattle.cb_world.specs.declared.event.Event.{Event}
 use Rattle.cb_world.specs.declared.event.Event.TheVariants.{Cast, Deliver}
-use Rattle.cb_world.specs.Events.{name_of, payload_of, Has, Appends}
+use Rattle.cb_times.specs.Order.{field}
+use Rattle.cb_world.specs.declared.stamp.StampedEvent.{StampedEvent}
+use Rattle.cb_world.specs.Events.{name_of, payload_of, count, Has, Appends}
 use Rattle.cb_world.specs.HappenedBefore.{Lists}
 use Rattle.cb_world.specs.Machine.{next_name, MayDeliver, Run}
+use Rattle.cb_world.specs.Stamped.{StampedLists, events_of, DelayRuleAllows, StampedRun}
 
 -- what a `Vec` of `Vec`s holds
 abbrev pub contents : {X : Type 0} → List (Vec X Global) → List (List X)
@@ -57,3 +60,41 @@ HasPastAt caster receiver m index = (past : HasPastOf caster receiver m) × (pas
 pub record IsCausal (lists : List (List Event)) : Type 0 where
   pub small : length lists ≤ 64
   pub run : Run (length lists) (lists_in lists)
+
+-- The same for the stamped machine.
+
+-- the lists are a stamped run of a group of at most 64 members
+pub record IsStampedGroup (lists : List (List StampedEvent)) : Type 0 where
+  pub small : length lists ≤ 64
+  pub run : StampedRun (length lists) (lists_in lists)
+
+-- the delay rule lets the receiver deliver m, with the payload and the time that it was cast with
+abbrev pub IsAllowed : StampedLists → ℕ → Name → Type 0
+IsAllowed lists receiver m = (payload : List ℕ) × (time : List ℕ) × DelayRuleAllows lists receiver m payload time
+
+-- the same, with the index of the cast in the sender's list
+abbrev pub IsAllowedAt : StampedLists → ℕ → Name → ℕ → Type 0
+IsAllowedAt lists receiver m index =
+    (payload : List ℕ) × (time : List ℕ) × DelayRuleAllows lists receiver m payload time
+    × (slice_get (lists m.sender) index ≡ Some (record { event = Cast m payload; time = time }))
+
+-- the receiver has delivered m, as the delay rule lets it
+abbrev pub DeliversStamped : StampedLists → StampedLists → ℕ → Name → Type 0
+DeliversStamped before after receiver m =
+    (payload : List ℕ) × (time : List ℕ) × DelayRuleAllows before receiver m payload time
+    × Appends before after receiver (record { event = Deliver m payload; time = time })
+
+-- m is cast at this index of the list
+abbrev pub IsStampedCastAt : List StampedEvent → Name → ℕ → Type 0
+IsStampedCastAt list m index =
+    (payload : List ℕ) × (time : List ℕ) × (slice_get list index ≡ Some (record { event = Cast m payload; time = time }))
+
+-- the delivery of m with what stands at this index of the list
+abbrev pub IsDeliveryOf : List StampedEvent → ℕ → Name → StampedEvent → Type 0
+IsDeliveryOf list index m delivery =
+    (e : StampedEvent) × (slice_get list index ≡ Some e) × (delivery ≡ record { event = Deliver m (payload_of e.event); time = e.time })
+
+-- the time has, at each field of the group, what the list has of that member, and one more at the member's own
+pub record IsStampAfter (size member : ℕ) (time : List ℕ) (events : List Event) : Type 0 where
+  pub fields : length time ≡ size
+  pub counts : (k : ℕ) → k < size → field time k ≡ count k events + (if k == member then 1 else 0)

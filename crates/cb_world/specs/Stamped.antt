@@ -28,16 +28,26 @@ pub record IsTimeOfList (size : ℕ) (time : List ℕ) (events : List Event) : T
   pub fields : length time ≡ size
   pub counts : (k : ℕ) → field time k ≡ count k events
 
+-- Member i has cast its next message, stamped with what its list has with that cast.
+pub record CastsStamped (size : ℕ) (before after : StampedLists) (i : ℕ) (payload : List ℕ) : Type 0 where
+  pub time : List ℕ
+  pub appends : Appends before after i (record { event = Cast (next_name i (events_of (before i))) payload; time = time })
+  pub stamp : IsTimeOfList size time (events_of (after i))
+
+-- The delay rule lets the receiver deliver m: another member has cast it, and its time is ready at what the receiver's list has.
+pub record DelayRuleAllows (lists : StampedLists) (receiver : ℕ) (m : Name) (payload time : List ℕ) : Type 0 where
+  pub caster : ℕ
+  pub index : ℕ
+  pub another : caster ≢ receiver
+  pub stands : slice_get (lists caster) index ≡ Some (record { event = Cast m payload; time = time })
+  pub ready : IsReady caster (field time) (λ k. count k (events_of (lists receiver)))
+
 -- one step of a group of this size
 pub data StampedStep (size : ℕ) (before after : StampedLists) : Type 0 where
-  -- member i casts its next message, and stamps it with what its list has with that cast
-  Casts : (i : ℕ) (payload time : List ℕ) → i < size
-      → Appends before after i (record { event = Cast (next_name i (events_of (before i))) payload; time = time })
-      → IsTimeOfList size time (events_of (after i)) → StampedStep size before after
-  -- member j delivers a message that another member i has cast, where the delay rule lets it; the stamp goes with it
-  Delivers : (i j index : ℕ) (m : Name) (payload time : List ℕ) → j < size → i ≢ j
-      → slice_get (before i) index ≡ Some (record { event = Cast m payload; time = time })
-      → IsReady i (field time) (λ k. count k (events_of (before j)))
+  -- member i casts its next message
+  Casts : (i : ℕ) (payload : List ℕ) → i < size → CastsStamped size before after i payload → StampedStep size before after
+  -- member j delivers a message where the delay rule lets it; the message's time goes with it
+  Delivers : (j : ℕ) (m : Name) (payload time : List ℕ) → j < size → DelayRuleAllows before j m payload time
       → Appends before after j (record { event = Deliver m payload; time = time }) → StampedStep size before after
 
 -- the lists come about by steps, in any order, from empty lists

@@ -1,12 +1,14 @@
 //! The causal machine as a program: each member's list of events, and the two steps.
 
 ghost use Rattle.std.specs.Prelude.{◌≡◌, ℕ, ◌+◌, ◌*◌, ◌^◌, ◌<◌, ◌≤◌, ◌↔◌, List, [], ◌∷◌, ◌++◌, length, replicate, slice_set, slice_get, IsTrue, IsFalse, IsSome, IsNone, IfSome, IfOk, OnOk, OnErr, Some};
-ghost use Rattle.cb_world.specs.Events.{Has, casts_of, is_cast as is_cast_event};
+ghost use Rattle.cb_world.specs.Events.{Has, casts_of};
 ghost use Rattle.cb_world.specs.Groups.{contents, lists_in, CastsNext, IsDeliverable, IsDeliverableAt, DeliversNow, HasPastOf, HasPastAt, SaysAt, IsCausal};
 ghost use Rattle.cb_world.specs.HappenedBefore.{Lists};
 ghost use Rattle.cb_world.specs.Machine.{Run, next_name};
 
 use crate::event::{Event, Name};
+use crate::lists::{append, list_of};
+use crate::refusal::CastRefusal;
 use bytes::Bytes;
 use std::alloc::{AllocError, Global};
 use std::marker::Model;
@@ -23,16 +25,6 @@ fn has(events: &[Event], name: Name) -> bool
     false
 }
 
-/// Whether the event is the cast of this message.
-fn is_cast_of(event: &Event, name: Name) -> bool
-    ensures { IsTrue result ↔ ((payload : List ℕ) × (event.now ≡ Event.Cast name payload)) }
-{
-    match event {
-        Event::Cast(cast, _) => *cast == name,
-        Event::Deliver(_, _) => false,
-    }
-}
-
 /// Where the message is cast, if the receiver's list lacks it and has all that stands before that cast.
 fn cast_with_past(caster: &[Event], receiver: &[Event], name: Name) -> Option<usize>
     ensures found { IfSome result (λ index. HasPastAt caster.now receiver.now name index) }
@@ -42,7 +34,7 @@ fn cast_with_past(caster: &[Event], receiver: &[Event], name: Name) -> Option<us
         return None;
     }
     for (index, event) in caster.iter().enumerate() {
-        if is_cast_of(event, name) {
+        if event.is_cast_of(name) {
             return Some(index);
         }
         if !has(receiver, event.name()) {
@@ -52,39 +44,13 @@ fn cast_with_past(caster: &[Event], receiver: &[Event], name: Name) -> Option<us
     None
 }
 
-/// Puts an item at the end of one of the lists.
-pub fn append<T: Drop>(lists: &mut Vec<Vec<T>>, at: usize, item: T) -> Result<(), AllocError>
-    requires { at < length lists.old.items }
-    ensures ok { OnOk result (contents lists.new.items ≡ slice_set (contents lists.old.items) at (lists_in (contents lists.old.items) at ++ item ∷ [])) }
-    ensures err { OnErr result (contents lists.new.items ≡ contents lists.old.items) }
-{
-    let list = &mut lists[at];
-    list.push(item)?;
-    Ok(())
-}
-
-/// One of the lists.
-pub fn list_of<T>(lists: &[Vec<T>], at: usize) -> &[T]
-    requires { at < length lists.now }
-    ensures { result.now ≡ lists_in (contents lists.now) at }
-{
-    lists[at].as_slice()
-}
-
-/// Whether the event is a cast.
-fn is_cast(event: &Event) -> bool
-    ensures { result ≡ is_cast_event event.now }
-{
-    matches!(event, Event::Cast(_, _))
-}
-
 /// How many casts a list has.
 fn cast_count(events: &[Event]) -> usize
     ensures { result ≡ casts_of events.now }
 {
     let mut casts = 0;
     for event in events {
-        if is_cast(event) {
+        if event.is_cast() {
             casts += 1;
         }
     }
@@ -128,26 +94,6 @@ fn deliverable_at(lists: &[Vec<Event>], receiver: usize, name: Name) -> Option<u
         return None;
     }
     cast_with_past(list_of(lists, sender), list_of(lists, receiver), name)
-}
-
-/// Why a cast was refused.
-#[derive(Clone, Copy, Debug, PartialEq, Eq)]
-pub enum CastRefusal {
-    /// The member's list has no room for a further number.
-    Full,
-    /// There is no memory for the event.
-    NoMemory,
-}
-
-impl From<AllocError> for CastRefusal {
-    ghost use Rattle.std.specs.Prelude.{◌≡◌};
-    ghost use Rattle.cb_world.specs.declared.causal.CastRefusal.{CastRefusal};
-
-    ghost from_gives = { λ _ e. e ≡ CastRefusal.NoMemory };
-
-    fn from(_: AllocError) -> CastRefusal {
-        CastRefusal::NoMemory
-    }
 }
 
 /// A group in which each member has a list of events. Whatever is called, the lists are a run of the causal machine.

@@ -21,8 +21,8 @@ pub enum Event {
 }
 
 impl Event {
-    ghost use Rattle.std.specs.Prelude.{◌≡◌};
-    ghost use Rattle.cb_world.specs.Events.{name_of, payload_of};
+    ghost use Rattle.std.specs.Prelude.{◌≡◌, ◌↔◌, IsTrue};
+    ghost use Rattle.cb_world.specs.Events.{name_of, payload_of, is_cast, IsCastOf};
 
     /// The message that the event casts or delivers.
     pub fn name(&self) -> Name
@@ -41,6 +41,23 @@ impl Event {
         match self {
             Event::Cast(_, payload) => payload,
             Event::Deliver(_, payload) => payload,
+        }
+    }
+
+    /// Whether the event is a cast.
+    pub fn is_cast(&self) -> bool
+        ensures { result ≡ is_cast self.now }
+    {
+        matches!(self, Event::Cast(_, _))
+    }
+
+    /// Whether the event is the cast of this message.
+    pub fn is_cast_of(&self, name: Name) -> bool
+        ensures { IsTrue result ↔ IsCastOf name self.now }
+    {
+        match self {
+            Event::Cast(cast, _) => *cast == name,
+            Event::Deliver(_, _) => false,
         }
     }
 }

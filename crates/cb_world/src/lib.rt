@@ -6,10 +6,16 @@
 mod causal;
 mod event;
 mod laws;
+mod lists;
+mod refusal;
 mod stamp;
+mod stamped;
 
+pub use causal::CausalGroup;
 pub use event::{Event, Name};
+pub use refusal::CastRefusal;
 pub use stamp::{Stamp, StampedEvent};
+pub use stamped::StampedGroup;
 pub use laws::{
     causal_broadcast_can_be_stamped, happened_before_is_strict_order, stamped_broadcast_is_causal,
     steps_keep_the_past,

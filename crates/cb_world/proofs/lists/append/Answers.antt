@@ -1,6 +1,6 @@
 use Rattle.std.proofs.Common.{rules}
 use Rattle.cb_world.proofs.GroupLists.{contents_more, contents_same}
-use Rattle.cb_world.proofs.causal.append.Goals as goal
+use Rattle.cb_world.proofs.lists.append.Goals as goal
 
 pub returns-in_err-push-clause-err : goal.returns-in_err-push-clause-err
 returns-in_err-push-clause-err g c =

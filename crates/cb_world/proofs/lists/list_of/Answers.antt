@@ -1,6 +1,6 @@
 use Rattle.std.proofs.Common.{Vec, Global, sym, ◌∙◌, ap}
 use Rattle.cb_world.proofs.GroupLists.{lists_in_read}
-use Rattle.cb_world.proofs.causal.list_of.Goals as goal
+use Rattle.cb_world.proofs.lists.list_of.Goals as goal
 
 pub returns : goal.returns
 returns g c =
