@@ -10,3 +10,4 @@ pub mod GroupLists
 pub mod Deliverable
 pub mod CausalGroups
 pub mod Ready
+pub mod StampedGroups

@@ -1,7 +1,7 @@
 -- The delay rule, field by field.
-use Rattle.std.proofs.Common.{◌≡◌, ◌≢◌, ℕ, ◌+◌, ◌<◌, ◌≤◌, ◌⊎◌, inl, inr, List, length, get_or, refl, sym, ◌∙◌, ap, subst, arith}
+use Rattle.std.proofs.Common.{◌≡◌, ◌≢◌, ℕ, ◌+◌, ◌<◌, ◌≤◌, ◌⊎◌, inl, inr, List, length, get_or, refl, sym, ◌∙◌, ap, subst, arith, eqb, leb, true}
 use Rattle.std.proofs.lemmas.List.{get_or_past}
-use Rattle.std.proofs.lemmas.Bool.{cases_eq, cases_lt}
+use Rattle.std.proofs.lemmas.Bool.{cases_eq, cases_lt, eqb-true, leb-true}
 use Rattle.cb_times.specs.Order.{field}
 use Rattle.cb_delay.specs.Rule.{IsReady}
 
@@ -38,3 +38,20 @@ sender_inside sender time now ready =
           let next : field time sender ≡ now sender + 1 = ready.next in
           absurd (omega arith)
     ]
+
+-- what the tests of the program say of one field
+pub sender_field_ready : (sender : ℕ) (stamp now : ℕ → ℕ) (k s d : ℕ) → k ≡ sender → s ≡ stamp k → d ≡ now k → eqb s (d + 1) ≡ true → IsFieldReady sender stamp now k
+sender_field_ready sender stamp now k s d same is_s is_d passes =
+    let next : s ≡ d + 1 = eqb-true s (d + 1) passes in
+    record { next = λ e. sym is_s ∙ next ∙ ap (λ (n : ℕ). n + 1) is_d; other = λ differ. absurd (differ same) }
+
+pub other_field_ready : (sender : ℕ) (stamp now : ℕ → ℕ) (k s d : ℕ) → k ≢ sender → s ≡ stamp k → d ≡ now k → leb s d ≡ true → IsFieldReady sender stamp now k
+other_field_ready sender stamp now k s d differ is_s is_d passes =
+    let less : s ≤ d = leb-true s d passes in
+    record { next = λ same. absurd (differ same); other = λ e. omega arith }
+
+-- what holds of each number below k, and of k, holds below the next one
+pub fields_more : (sender : ℕ) (stamp now : ℕ → ℕ) (i : ℕ) → ((k : ℕ) → k < i → IsFieldReady sender stamp now k) → IsFieldReady sender stamp now i
+    → (k : ℕ) → k < i + 1 → IsFieldReady sender stamp now k
+fields_more sender stamp now i below here k less =
+    elim (cases_eq k i) [ inl same ↦ subst (λ (j : ℕ). IsFieldReady sender stamp now j) (sym same) here | inr other ↦ below k (omega arith) ]

@@ -64,7 +64,7 @@ in_group size lists (Then before _ run (Delivers i m payload inside may app)) j 
     ]
 
 -- so nothing is counted of those outside the group
-none_outside : (size : ℕ) (lists : Lists) → Run size lists → (j k : ℕ) → size ≤ k → count k (lists j) ≡ 0
+pub none_outside : (size : ℕ) (lists : Lists) → Run size lists → (j k : ℕ) → size ≤ k → count k (lists j) ≡ 0
 none_outside size lists run j k outside =
     counted_none (is_of k) (lists j)
     (λ a e stands.

@@ -76,6 +76,7 @@ fn is_ready(events: &[StampedEvent], sender: usize, time: &Stamp) -> bool
 /// Where a list has the cast of a message.
 fn cast_index(events: &[StampedEvent], name: Name) -> Option<usize>
     ensures found { IfSome result (IsStampedCastAt events.now name) }
+    ensures inside { IfSome result (λ index. index < length events.now) }
     ensures missing { IsNone result → (index : ℕ) → ¬ IsStampedCastAt events.now name index }
 {
     for (index, stamped) in events.iter().enumerate() {
