@@ -63,9 +63,9 @@ module _ (lists : List (List Event)) (receiver : ℕ) (m : Name) where
     pub outside_not_deliverable : length lists ≤ m.sender → IsDeliverable (lists_in lists) receiver m → ⊥
     outside_not_deliverable outside d =
         let past : HasPastOf (lists_in lists m.sender) (lists_in lists receiver) m =
-            deliverable_has_past (lists_in lists) (run_regular (length lists) (lists_in lists) is.run) receiver m d in
+        deliverable_has_past (lists_in lists) (run_regular (length lists) (lists_in lists) is.run) receiver m d in
         let none : slice_get [] past.index ≡ Some (Cast m past.payload) =
-            subst (λ (es : List Event). slice_get es past.index ≡ Some (Cast m past.payload)) (lists_in_past lists m.sender outside) past.stands in
+        subst (λ (es : List Event). slice_get es past.index ≡ Some (Cast m past.payload)) (lists_in_past lists m.sender outside) past.stands in
         cc none
 
     -- what the look at the two lists found
@@ -75,7 +75,7 @@ module _ (lists : List (List Event)) (receiver : ℕ) (m : Name) where
     past_deliverable_at None another h = tt
     past_deliverable_at (Some index) another (past, same) =
         let may : MayDeliver (lists_in lists) receiver m past.payload =
-            past_is_deliverable (lists_in lists) (run_regular (length lists) (lists_in lists) is.run) receiver m another past in
+        past_is_deliverable (lists_in lists) (run_regular (length lists) (lists_in lists) is.run) receiver m another past in
         (past.payload, may, subst (λ (i : ℕ). slice_get (lists_in lists m.sender) i ≡ Some (Cast m past.payload)) same past.stands)
 
     pub no_past_not_deliverable : (HasPastOf (lists_in lists m.sender) (lists_in lists receiver) m → ⊥) → IsDeliverable (lists_in lists) receiver m → ⊥

@@ -27,7 +27,7 @@ module _ (lists : Lists) (sound : IsSound lists) where
   clock_own p m c =
       let number : m.number ≡ count m.sender (take p.index (lists p.member)) + 1 = sound.in_order p (Cast m c.payload) c.stands in
       let step : clock lists p m.sender ≡ count m.sender (take p.index (lists p.member)) + 1 =
-          rw (eq-eqb m.sender m.sender refl) at (counted_step (is_of m.sender) (lists p.member) p.index (Cast m c.payload) c.stands) in
+      rw (eq-eqb m.sender m.sender refl) at (counted_step (is_of m.sender) (lists p.member) p.index (Cast m c.payload) c.stands) in
       omega arith
 
   -- what the clock of a cast counts is that message, or happened before it
@@ -41,22 +41,22 @@ module _ (lists : Lists) (sound : IsSound lists) where
           → (named k t ≡ m) ⊎ HappenedBefore lists (named k t) m
       by_event index (Cast x payload) less stands called =
           elim (cases_order index p.index) [
-              inl same ↦
+            | inl same ↦
                 let here : Some (Cast x payload) ≡ Some (Cast m c.payload) = sym stands ∙ ap (slice_get (lists p.member)) same ∙ c.stands in
                 let one_name : x ≡ m = cc here in
                 inl (sym called ∙ one_name)
             | inr (inl before) ↦ inr (record {
-                from = record { member = p.member; index = index };
-                to = p;
-                cast_earlier = record { payload = payload; stands = stands ∙ ap (λ (y : Name). Some (Cast y payload)) called };
-                cast_later = c;
-                path = One (Later refl before (is_place lists p (Cast m c.payload) c.stands));
-              })
+              from = record { member = p.member; index = index };
+              to = p;
+              cast_earlier = record { payload = payload; stands = stands ∙ ap (λ (y : Name). Some (Cast y payload)) called };
+              cast_later = c;
+              path = One (Later refl before (is_place lists p (Cast m c.payload) c.stands));
+            })
             | inr (inr after) ↦ absurd (omega arith)
           ]
       by_event index (Deliver x payload) less stands called =
           elim (cases_order index p.index) [
-              inl same ↦
+            | inl same ↦
                 let here : Some (Deliver x payload) ≡ Some (Cast m c.payload) = sym stands ∙ ap (slice_get (lists p.member)) same ∙ c.stands in
                 absurd (cc here)
             | inr (inl before) ↦
@@ -85,11 +85,11 @@ module _ (lists : Lists) (sound : IsSound lists) where
       others : (k : ℕ) → k ≢ m.sender → clock lists p k ≤ count k (lists j)
       others k other =
           elim (cases_order (clock lists p k) 0) [
-              inl none ↦ omega arith
+            | inl none ↦ omega arith
             | inr (inl below) ↦ absurd (omega arith)
             | inr (inr some) ↦
                 elim (counted_is_past p m c k (clock lists p k) some (omega arith)) [
-                    inl same ↦ absurd (other (ap (λ (x : Name). x.sender) same))
+                  | inl same ↦ absurd (other (ap (λ (x : Name). x.sender) same))
                   | inr past ↦ past_is_had j m payload may k (clock lists p k) past
                 ]
           ]
@@ -100,14 +100,14 @@ module _ (lists : Lists) (sound : IsSound lists) where
       up_to (suc t) e =
           let own : clock lists p m.sender ≡ m.number = clock_own p m c in
           elim (counted_is_past p m c m.sender (suc t) (omega arith) (omega arith)) [
-              inl same ↦ let number : suc t ≡ m.number = ap (λ (x : Name). x.number) same in absurd (omega arith)
+            | inl same ↦ let number : suc t ≡ m.number = ap (λ (x : Name). x.number) same in absurd (omega arith)
             | inr past ↦ past_is_had j m payload may m.sender (suc t) past
           ]
 
       above : count m.sender (lists j) < m.number
       above =
           elim (cases_lt (count m.sender (lists j)) m.number) [
-              inl less ↦ less
+            | inl less ↦ less
             | inr more ↦ absurd (may.unseen (had_from_number lists sound j m (cast_number lists sound p m c) more))
           ]
 
@@ -169,13 +169,13 @@ module _ (lists : Lists) (sound : IsSound lists) (closed : IsClosed lists) where
           let one : 1 ≤ earlier.number = cast_number lists sound h.from earlier h.cast_earlier in
           let counted_there : earlier.number ≤ clock lists p earlier.sender = past_is_counted p m earlier c h in
           elim (cases_eq earlier.sender m.sender) [
-              inl same ↦
+            | inl same ↦
                 let next : clock lists p m.sender ≡ count m.sender (lists j) + 1 = ready.next in
                 let own_number : clock lists p m.sender ≡ m.number = own in
                 let clocks : clock lists p earlier.sender ≡ clock lists p m.sender = ap (clock lists p) same in
                 let counts : count earlier.sender (lists j) ≡ count m.sender (lists j) = ap (λ (k : ℕ). count k (lists j)) same in
                 let differs : earlier.number ≢ m.number =
-                    λ e. irreflexive m (subst (λ (x : Name). HappenedBefore lists x m) (same_name earlier m same e) h) in
+                λ e. irreflexive m (subst (λ (x : Name). HappenedBefore lists x m) (same_name earlier m same e) h) in
                 had_from_number lists sound j earlier one (omega arith)
             | inr other ↦ had_from_number lists sound j earlier one (le_trans counted_there (ready.others earlier.sender other))
           ]

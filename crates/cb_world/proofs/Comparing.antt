@@ -56,7 +56,7 @@ module _ (lists : Lists) (reg : IsRegular lists) where
     same_clocks : a ≡ b → (k : ℕ) → field time_a k ≡ field time_b k
     same_clocks same k =
         let one : of_a.place ≡ of_b.place =
-            cast_once lists reg.sound of_a.place of_b.place b (subst (λ (x : Name). IsCastAt lists of_a.place x) same of_a.cast) of_b.cast in
+        cast_once lists reg.sound of_a.place of_b.place b (subst (λ (x : Name). IsCastAt lists of_a.place x) same of_a.cast) of_b.cast in
         of_a.same k ∙ ap (λ (p : Place). clock lists p k) one ∙ sym (of_b.same k)
 
     before_at_most : HappenedBefore lists a b → AtMost (field time_a) (field time_b)
@@ -75,10 +75,10 @@ module _ (lists : Lists) (reg : IsRegular lists) where
         strict =
             let own : clock lists of_b.place b.sender ≡ b.number = clock_own lists reg.sound of_b.place b of_b.cast in
             elim (cases_lt (field time_a b.sender) b.number) [
-                inl less ↦ omega (arith, of_b.same b.sender)
+              | inl less ↦ omega (arith, of_b.same b.sender)
               | inr more ↦
                   elim ((counts_past a time_a of_a b.sender b.number (cast_number lists reg.sound of_b.place b of_b.cast)).0 more) [
-                      inl same ↦ absurd (regular_irreflexive lists reg a (subst (λ (x : Name). HappenedBefore lists a x) same h))
+                    | inl same ↦ absurd (regular_irreflexive lists reg a (subst (λ (x : Name). HappenedBefore lists a x) same h))
                     | inr past ↦ absurd (never_both a b h past)
                   ]
             ]
@@ -86,7 +86,7 @@ module _ (lists : Lists) (reg : IsRegular lists) where
     less_before : Less (field time_a) (field time_b) → HappenedBefore lists a b
     less_before (all, some) =
         elim (at_most_there all) [
-            inl same ↦ let e : field time_a some.0 ≡ field time_b some.0 = same_clocks same some.0 in let l : field time_a some.0 < field time_b some.0 = some.1 in absurd (omega arith)
+          | inl same ↦ let e : field time_a some.0 ≡ field time_b some.0 = same_clocks same some.0 in let l : field time_a some.0 < field time_b some.0 = some.1 in absurd (omega arith)
           | inr past ↦ past
         ]
 
@@ -100,10 +100,10 @@ module _ (lists : Lists) (reg : IsRegular lists) (a b : Name) (time_a time_b : L
       there : ((k : ℕ) → field time_a k ≡ field time_b k) → a ≡ b
       there h =
           elim (at_most_there lists reg a b time_a time_b of_a of_b (λ k. omega (arith, h k))) [
-              inl same ↦ same
+            | inl same ↦ same
             | inr past ↦
                 elim (at_most_there lists reg b a time_b time_a of_b of_a (λ k. omega (arith, h k))) [
-                    inl same ↦ sym same
+                  | inl same ↦ sym same
                   | inr back ↦ absurd (never_both lists reg a b past back)
                 ]
           ]
@@ -111,18 +111,18 @@ module _ (lists : Lists) (reg : IsRegular lists) (a b : Name) (time_a time_b : L
     where
       there : ¬ AtMost (field time_a) (field time_b) × ¬ AtMost (field time_b) (field time_a)
           → (a ≢ b) × ¬ HappenedBefore lists a b × ¬ HappenedBefore lists b a
-      there (not_a, not_b) =
-          ( (λ e. not_a (λ k. omega (arith, same_clocks lists reg a b time_a time_b of_a of_b e k)))
-          , (λ h. not_a (before_at_most lists reg a b time_a time_b of_a of_b h))
-          , (λ h. not_b (before_at_most lists reg b a time_b time_a of_b of_a h))
-          )
+      there (not_a, not_b) = (
+        (λ e. not_a (λ k. omega (arith, same_clocks lists reg a b time_a time_b of_a of_b e k))),
+        (λ h. not_a (before_at_most lists reg a b time_a time_b of_a of_b h)),
+        (λ h. not_b (before_at_most lists reg b a time_b time_a of_b of_a h)),
+      )
 
       back : (a ≢ b) × ¬ HappenedBefore lists a b × ¬ HappenedBefore lists b a
           → ¬ AtMost (field time_a) (field time_b) × ¬ AtMost (field time_b) (field time_a)
-      back (differ, not_ab, not_ba) =
-          ( (λ h. elim (at_most_there lists reg a b time_a time_b of_a of_b h) [ inl e ↦ differ e | inr past ↦ not_ab past ])
-          , (λ h. elim (at_most_there lists reg b a time_b time_a of_b of_a h) [ inl e ↦ differ (sym e) | inr past ↦ not_ba past ])
-          )
+      back (differ, not_ab, not_ba) = (
+        (λ h. elim (at_most_there lists reg a b time_a time_b of_a of_b h) [ inl e ↦ differ e | inr past ↦ not_ab past ]),
+        (λ h. elim (at_most_there lists reg b a time_b time_a of_b of_a h) [ inl e ↦ differ (sym e) | inr past ↦ not_ba past ]),
+      )
 
 -- a list in which each message of k has the number that follows those before it
 numbers_in_order : (k a : ℕ) (xs : List Event)
@@ -131,23 +131,23 @@ numbers_in_order : (k a : ℕ) (xs : List Event)
 numbers_in_order k a [] h = refl
 numbers_in_order k a (e ∷ es) h =
     elim (cases_Bool (is_of k e)) [
-        inl is_k ↦
+      | inl is_k ↦
           let one : ◌≡◌ {A = ℕ} (cond (is_of k e) 1 0) 1 = ap {B = ℕ} (λ (b : Bool). cond b 1 0) is_k in
           let rest : numbers_of k es ≡ consecutive (a + 1) (count k es) =
-              numbers_in_order k (a + 1) es
-              (λ i x stands is_x.
-                  let number : (name_of x).number ≡ count k (take (suc i) (e ∷ es)) + a = h (suc i) x stands is_x in
-                  omega arith) in
+          numbers_in_order k (a + 1) es
+          (λ i x stands is_x.
+          let number : (name_of x).number ≡ count k (take (suc i) (e ∷ es)) + a = h (suc i) x stands is_x in
+          omega arith) in
           let first : (name_of e).number ≡ a = let number : (name_of e).number ≡ 0 + a = h 0 e refl is_k in omega arith in
           let conses : ℕ → List ℕ → List ℕ = λ n ns. n ∷ ns in
           rw (is_k, one-add) (ap₂ conses first rest)
       | inr is_not ↦
           let none : ◌≡◌ {A = ℕ} (cond (is_of k e) 1 0) 0 = ap {B = ℕ} (λ (b : Bool). cond b 1 0) is_not in
           let rest : numbers_of k es ≡ consecutive a (count k es) =
-              numbers_in_order k a es
-              (λ i x stands is_x.
-                  let number : (name_of x).number ≡ count k (take (suc i) (e ∷ es)) + a = h (suc i) x stands is_x in
-                  omega arith) in
+          numbers_in_order k a es
+          (λ i x stands is_x.
+          let number : (name_of x).number ≡ count k (take (suc i) (e ∷ es)) + a = h (suc i) x stands is_x in
+          omega arith) in
           let count_is : 0 + count k es ≡ count k es = omega arith in
           rw (is_not, count_is) rest
     ]

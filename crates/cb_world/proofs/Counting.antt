@@ -95,7 +95,7 @@ module _ {X : Type 0} where
     counted_length (x ∷ xs) =
         let h : counted test xs ≤ length xs = counted_length xs in
         elim (cases_Bool (test x)) [
-            inl passes ↦
+          | inl passes ↦
               let one : ◌≡◌ {A = ℕ} (cond (test x) 1 0) 1 = ap {B = ℕ} (λ (b : Bool). cond b 1 0) passes in omega arith
           | inr fails ↦
               let none : ◌≡◌ {A = ℕ} (cond (test x) 1 0) 0 = ap {B = ℕ} (λ (b : Bool). cond b 1 0) fails in omega arith
@@ -122,14 +122,14 @@ module _ {X : Type 0} where
     counted_at [] t h = absurd (omega arith)
     counted_at (x ∷ xs) zero h =
         elim (cases_Bool (test x)) [
-            inl passes ↦ (0, x, refl, passes, refl)
+          | inl passes ↦ (0, x, refl, passes, refl)
           | inr fails ↦
               let none : ◌≡◌ {A = ℕ} (cond (test x) 1 0) 0 = ap {B = ℕ} (λ (b : Bool). cond b 1 0) fails in
               let (i, y, at, pass, before) = counted_at xs zero (omega arith) in (suc i, y, at, pass, omega arith)
         ]
     counted_at (x ∷ xs) (suc t) h =
         elim (cases_Bool (test x)) [
-            inl passes ↦
+          | inl passes ↦
               let one : ◌≡◌ {A = ℕ} (cond (test x) 1 0) 1 = ap {B = ℕ} (λ (b : Bool). cond b 1 0) passes in
               let (i, y, at, pass, before) = counted_at xs t (omega arith) in (suc i, y, at, pass, omega arith)
           | inr fails ↦
@@ -153,7 +153,7 @@ module _ {X : Type 0} where
         let one_x : counted test (take (suc i) xs) ≡ counted test (take i xs) + 1 = rw pass_x at (counted_step xs i x at_i) in
         let one_y : counted test (take (suc j) xs) ≡ counted test (take j xs) + 1 = rw pass_y at (counted_step xs j y at_j) in
         elim (cases_order i j) [
-            inl e ↦ e
+          | inl e ↦ e
           | inr (inl less) ↦ absurd (omega (arith, counted_mono xs (suc i) j less))
           | inr (inr more) ↦ absurd (omega (arith, counted_mono xs (suc j) i more))
         ]

@@ -24,7 +24,7 @@ pub missing_in_past : (caster receiver : List Event) (m : Name) (i : ℕ) (e : E
     → ((k : ℕ) (x : Event) → k < i → slice_get caster k ≡ Some x → IsPassed receiver m x) → HasPastOf caster receiver m → ⊥
 missing_in_past caster receiver m i e at missing other passed h =
     elim (cases_order h.index i) [
-        inl same ↦
+      | inl same ↦
           let here : Some e ≡ Some (Cast m h.payload) = sym at ∙ ap (slice_get caster) (sym same) ∙ h.stands in
           let one : e ≡ Cast m h.payload = cc here in
           other h.payload one
@@ -36,14 +36,16 @@ missing_in_past caster receiver m i e at missing other passed h =
 pub past_found : (caster receiver : List Event) (m : Name) (i : ℕ) (e : Event) → slice_get caster i ≡ Some e
     → (payload : List ℕ) × (e ≡ Cast m payload) → (Has receiver m → ⊥)
     → ((k : ℕ) (x : Event) → k < i → slice_get caster k ≡ Some x → IsPassed receiver m x) → HasPastAt caster receiver m i
-past_found caster receiver m i e at (payload, is) unseen passed =
-    (record {
-      index = i;
-      payload = payload;
-      stands = at ∙ ap (λ (x : Event). Some x) is;
-      unseen = unseen;
-      past = λ k x less stands. (passed k x less stands).0;
-    }, refl)
+past_found caster receiver m i e at (payload, is) unseen passed = (
+  record {
+    index = i;
+    payload = payload;
+    stands = at ∙ ap (λ (x : Event). Some x) is;
+    unseen = unseen;
+    past = λ k x less stands. (passed k x less stands).0;
+  },
+  refl,
+)
 
 -- where the message is not cast at all, it is not
 pub never_cast : (caster receiver : List Event) (m : Name) (i : ℕ) → length caster ≤ i
@@ -77,7 +79,7 @@ module _ (lists : Lists) (reg : IsRegular lists) (receiver : ℕ) (m : Name) whe
           let one : 1 ≤ earlier.number = cast_number lists reg.sound before.from earlier before.cast_earlier in
           let (k, e, less, stands, called) = stands_within lists reg.sound m.sender (suc h.index) earlier.sender earlier.number one most in
           elim (cases_order k h.index) [
-              inl same ↦
+            | inl same ↦
                 let here : Some e ≡ Some (Cast m h.payload) = sym stands ∙ ap (slice_get (lists m.sender)) same ∙ h.stands in
                 let event : e ≡ Cast m h.payload = cc here in
                 let itself : earlier ≡ m = sym called ∙ ap name_of event in
@@ -113,15 +115,15 @@ module _ (lists : Lists) (reg : IsRegular lists) (receiver : ℕ) (m : Name) whe
           let at_take : slice_get (take (suc may.index) (lists m.sender)) k ≡ Some e = get_take_from (lists m.sender) (suc may.index) k (omega arith) ∙ stands in
           let (one, most) = number_within lists reg.sound m.sender (suc may.index) k e at_take in
           elim (counted_is_past lists reg.sound place m cast (name_of e).sender (name_of e).number one most) [
-              inl same ↦
+            | inl same ↦
                 let of_sender : (name_of e).sender ≡ m.sender = ap (λ (x : Name). x.sender) same in
                 let number : (name_of e).number ≡ m.number = ap (λ (x : Name). x.number) same in
                 let at_k : (name_of e).number ≡ count (name_of e).sender (take k (lists m.sender)) + 1 = reg.sound.in_order (record { member = m.sender; index = k }) e stands in
                 let at_k' : (name_of e).number ≡ count m.sender (take k (lists m.sender)) + 1 = rw of_sender at at_k in
                 let at_m : m.number ≡ count m.sender (take may.index (lists m.sender)) + 1 = reg.sound.in_order place (Cast m payload) at_sender in
                 let one_place : k ≡ may.index =
-                    counted_once (is_of m.sender) (lists m.sender) k may.index e (Cast m payload) stands at_sender
-                    (eq-eqb (name_of e).sender m.sender of_sender) (eq-eqb m.sender m.sender refl) (omega arith) in
+                counted_once (is_of m.sender) (lists m.sender) k may.index e (Cast m payload) stands at_sender
+                (eq-eqb (name_of e).sender m.sender of_sender) (eq-eqb m.sender m.sender refl) (omega arith) in
                 absurd (omega arith)
             | inr before ↦ may.closed (name_of e) before
           ]

@@ -21,7 +21,7 @@ module _ {X : Type 0} where
       → (k : ℕ) (y : X) → k < i + 1 → slice_get xs k ≡ Some y → P y
   each_more P xs i x here holds below k y less at =
       elim (cases_eq k i) [
-          inl same ↦ let one : x ≡ y = cc in subst P one holds
+        | inl same ↦ let one : x ≡ y = cc in subst P one holds
         | inr other ↦ below k y (omega arith) at
       ]
 

@@ -37,7 +37,7 @@ module _ (lists : Lists) (sound : IsSound lists) where
       let k : ℕ = (name_of e).sender in
       let number : (name_of e).number ≡ count k (take index (lists j)) + 1 = sound.in_order (record { member = j; index = index }) e stands in
       let step : count k (take (suc index) (lists j)) ≡ count k (take index (lists j)) + 1 =
-          rw (eq-eqb k k refl) at (counted_step (is_of k) (lists j) index e stands) in
+      rw (eq-eqb k k refl) at (counted_step (is_of k) (lists j) index e stands) in
       (omega arith, omega (arith, counted_mono (is_of k) (lists j) (suc index) n less))
 
   -- and each such number is that of a message that stands there
@@ -56,7 +56,7 @@ module _ (lists : Lists) (sound : IsSound lists) where
   number_of_had j m h =
       let at : slice_get (take (length (lists j)) (lists j)) h.index ≡ Some h.event = rw (take_whole (lists j)) h.stands in
       let within : (1 ≤ (name_of h.event).number) × ((name_of h.event).number ≤ count (name_of h.event).sender (take (length (lists j)) (lists j))) =
-          number_within j (length (lists j)) h.index h.event at in
+      number_within j (length (lists j)) h.index h.event at in
       rw (h.named, take_whole (lists j)) at within
 
   pub had_from_number : (j : ℕ) (m : Name) → 1 ≤ m.number → m.number ≤ count m.sender (lists j) → Has (lists j) m
@@ -78,7 +78,7 @@ module _ (lists : Lists) (sound : IsSound lists) where
       let stands_q : slice_get (lists p.member) q.index ≡ Some (Cast m d.payload) = subst (λ (k : ℕ). slice_get (lists k) q.index ≡ Some (Cast m d.payload)) members d.stands in
       let is_m : is_of m.sender (Cast m c.payload) ≡ true = eq-eqb m.sender m.sender refl in
       let indexes : p.index ≡ q.index =
-          counted_once (is_of m.sender) (lists p.member) p.index q.index (Cast m c.payload) (Cast m d.payload) c.stands stands_q is_m is_m (omega arith) in
+      counted_once (is_of m.sender) (lists p.member) p.index q.index (Cast m c.payload) (Cast m d.payload) c.stands stands_q is_m is_m (omega arith) in
       let places : ℕ → ℕ → Place = λ k a. record { member = k; index = a } in
       ap₂ places (sym members) indexes
 

@@ -24,7 +24,7 @@ module _ {X : Type 0} (before after : ℕ → List X) (i : ℕ) (x : X) (app : A
   pub old_stays : (k a : ℕ) (y : X) → slice_get (before k) a ≡ Some y → slice_get (after k) a ≡ Some y
   old_stays k a y h =
       elim (cases_eq k i) [
-          inl same ↦
+        | inl same ↦
             let own : after k ≡ before k ++ x ∷ [] = subst (λ (m : ℕ). after m ≡ before m ++ x ∷ []) (sym same) app.own in
             rw (own, get_left (before k) (x ∷ []) a (get_below (before k) a y h)) h
         | inr other ↦ rw (app.others k other) h
@@ -39,10 +39,10 @@ module _ {X : Type 0} (before after : ℕ → List X) (i : ℕ) (x : X) (app : A
       → (slice_get (before k) a ≡ Some y) ⊎ ((k ≡ i) × (a ≡ length (before i)) × (y ≡ x))
   old_or_new k a y h =
       elim (cases_eq k i) [
-          inl same ↦
+        | inl same ↦
             let own : after k ≡ before k ++ x ∷ [] = subst (λ (m : ℕ). after m ≡ before m ++ x ∷ []) (sym same) app.own in
             elim (get_more (before k) x a y (rw own at h)) [
-                inl old ↦ inl old
+              | inl old ↦ inl old
               | inr new ↦ inr (same, new.0 ∙ ap (λ (m : ℕ). length (before m)) same, new.1)
             ]
         | inr other ↦ inl (rw (app.others k other) at h)
@@ -52,7 +52,7 @@ module _ {X : Type 0} (before after : ℕ → List X) (i : ℕ) (x : X) (app : A
   pub old_had : (k a : ℕ) (y : X) → a < length (before k) → slice_get (after k) a ≡ Some y → slice_get (before k) a ≡ Some y
   old_had k a y old h =
       elim (old_or_new k a y h) [
-          inl stood ↦ stood
+        | inl stood ↦ stood
         | inr new ↦ let e : length (before k) ≡ length (before i) = ap (λ (m : ℕ). length (before m)) new.0 in absurd (omega arith)
       ]
 
@@ -60,7 +60,7 @@ module _ {X : Type 0} (before after : ℕ → List X) (i : ℕ) (x : X) (app : A
   pub length_grows : (k : ℕ) → length (before k) ≤ length (after k)
   length_grows k =
       elim (cases_eq k i) [
-          inl same ↦
+        | inl same ↦
             let own : after k ≡ before k ++ x ∷ [] = subst (λ (m : ℕ). after m ≡ before m ++ x ∷ []) (sym same) app.own in
             omega (arith, length_more (before k) x, ap length own)
         | inr other ↦ omega (arith, ap length (app.others k other))
@@ -96,7 +96,7 @@ module _ (before after : Lists) (i : ℕ) (x : Event) (app : Appends before afte
     source_is_old : {p q : Place} → Edge after p q → IsPlace before p
     source_is_old {p} {q} (Later same less old) =
         elim (cases_eq p.member i) [
-            inl own ↦
+          | inl own ↦
               let e : length (after q.member) ≡ suc (length (before i)) = ap (λ (k : ℕ). length (after k)) (sym same ∙ own) ∙ length_own before after i x app in
               let f : length (before p.member) ≡ length (before i) = ap (λ (k : ℕ). length (before k)) own in
               omega arith
@@ -106,7 +106,7 @@ module _ (before after : Lists) (i : ℕ) (x : Event) (app : Appends before afte
         ]
     source_is_old {p} {q} (Message m c d) =
         elim (old_or_new before after i x app p.member p.index (Cast m c.payload) c.stands) [
-            inl old ↦ is_place before p (Cast m c.payload) old
+          | inl old ↦ is_place before p (Cast m c.payload) old
           | inr new ↦ absurd (fresh m c.payload q (sym new.2) d)
         ]
 

@@ -17,7 +17,7 @@ ready_from_fields sender time now each inside = record {
   next = (each sender inside).next refl;
   others = λ k other.
       elim (cases_lt k (length time)) [
-          inl less ↦ (each k less).other other
+        | inl less ↦ (each k less).other other
         | inr past ↦ let none : field time k ≡ 0 = get_or_past time k 0 past in omega arith
       ];
 }
@@ -32,7 +32,7 @@ field_from_ready sender time now ready k = record {
 pub sender_inside : (sender : ℕ) (time : List ℕ) (now : ℕ → ℕ) → IsReady sender (field time) now → sender < length time
 sender_inside sender time now ready =
     elim (cases_lt sender (length time)) [
-        inl less ↦ less
+      | inl less ↦ less
       | inr past ↦
           let none : field time sender ≡ 0 = get_or_past time sender 0 past in
           let next : field time sender ≡ now sender + 1 = ready.next in

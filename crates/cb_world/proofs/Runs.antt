@@ -20,7 +20,7 @@ module _ (before after : Lists) (i : ℕ) (x : Event) (app : Appends before afte
   take_stays : (k n : ℕ) → n ≤ length (before k) → take n (after k) ≡ take n (before k)
   take_stays k n h =
       elim (cases_eq k i) [
-          inl same ↦
+        | inl same ↦
             let own : after k ≡ before k ++ x ∷ [] = subst (λ (m : ℕ). after m ≡ before m ++ x ∷ []) (sym same) app.own in
             rw (own, take_left (before k) (x ∷ []) n h)
         | inr other ↦ ap (take n) (app.others k other)
@@ -51,12 +51,12 @@ module _ (before after : Lists) (i : ℕ) (x : Event) (app : Appends before afte
     pub fresh : (m : Name) (payload : List ℕ) (q : Place) → x ≡ Cast m payload → IsDeliveryAt after q m → ⊥
     fresh m payload q is_cast d =
         elim (old_or_new before after i x app q.member q.index (Deliver m d.payload) d.stands) [
-            inl old ↦
+          | inl old ↦
               let was : IsDeliveryAt before q m = record { payload = d.payload; stands = old } in
               let (index, sent) = sound.sent q m was in
               let sender : m.sender ≡ i = next.caster m payload is_cast in
               let had : m.number ≤ count m.sender (before m.sender) =
-                  (number_of_had before sound m.sender m (record { index = index; event = Cast m sent.payload; stands = sent.stands; named = refl })).1 in
+              (number_of_had before sound m.sender m (record { index = index; event = Cast m sent.payload; stands = sent.stands; named = refl })).1 in
               let at_i : count m.sender (before m.sender) ≡ count m.sender (before i) = ap (λ (k : ℕ). count m.sender (before k)) sender in
               let number : m.number ≡ count m.sender (before i) + 1 = subst (λ (e : Event). (name_of e).number ≡ count (name_of e).sender (before i) + 1) is_cast next.number in
               omega arith
@@ -69,36 +69,36 @@ module _ (before after : Lists) (i : ℕ) (x : Event) (app : Appends before afte
         casters : (p : Place) (m : Name) → IsCastAt after p m → m.sender ≡ p.member
         casters p m c =
             elim (old_or_new before after i x app p.member p.index (Cast m c.payload) c.stands) [
-                inl old ↦ sound.casters p m (record { payload = c.payload; stands = old })
+              | inl old ↦ sound.casters p m (record { payload = c.payload; stands = old })
               | inr new ↦ next.caster m c.payload (sym new.2) ∙ sym new.0
             ]
 
         in_order : (p : Place) (e : Event) → event_at after p ≡ Some e → (name_of e).number ≡ count (name_of e).sender (take p.index (after p.member)) + 1
         in_order p e stands =
             elim (old_or_new before after i x app p.member p.index e stands) [
-                inl old ↦
+              | inl old ↦
                   let is_old : IsPlace before p = is_place before p e old in
                   let same : count (name_of e).sender (take p.index (after p.member)) ≡ count (name_of e).sender (take p.index (before p.member)) =
-                      ap (count (name_of e).sender) (take_stays p.member p.index (omega arith)) in
+                  ap (count (name_of e).sender) (take_stays p.member p.index (omega arith)) in
                   sound.in_order p e old ∙ ap (λ (n : ℕ). n + 1) (sym same)
               | inr new ↦
                   let same : take p.index (after p.member) ≡ before i =
-                      ap (λ (n : ℕ). take n (after p.member)) new.1 ∙ ap (λ (k : ℕ). take (length (before i)) (after k)) new.0
-                      ∙ take_stays i (length (before i)) (omega arith) ∙ take_whole (before i) in
+                  ap (λ (n : ℕ). take n (after p.member)) new.1 ∙ ap (λ (k : ℕ). take (length (before i)) (after k)) new.0
+                  ∙ take_stays i (length (before i)) (omega arith) ∙ take_whole (before i) in
                   rw (new.2, same) next.number
             ]
 
         others : (p : Place) (m : Name) → IsDeliveryAt after p m → m.sender ≢ p.member
         others p m d =
             elim (old_or_new before after i x app p.member p.index (Deliver m d.payload) d.stands) [
-                inl old ↦ sound.others p m (record { payload = d.payload; stands = old })
+              | inl old ↦ sound.others p m (record { payload = d.payload; stands = old })
               | inr new ↦ λ e. next.other m d.payload (sym new.2) (e ∙ new.0)
             ]
 
         sent : (p : Place) (m : Name) → IsDeliveryAt after p m → (index : ℕ) × IsCastAt after (record { member = m.sender; index = index }) m
         sent p m d =
             elim (old_or_new before after i x app p.member p.index (Deliver m d.payload) d.stands) [
-                inl old ↦
+              | inl old ↦
                   let (index, cast) = sound.sent p m (record { payload = d.payload; stands = old }) in
                   (index, cast_stays before after i x app (record { member = m.sender; index = index }) m cast)
               | inr new ↦
@@ -109,17 +109,17 @@ module _ (before after : Lists) (i : ℕ) (x : Event) (app : Appends before afte
     pub still_closed : IsClosed before → IsClosed after
     still_closed closed p q m c d k =
         elim (old_or_new before after i x app p.member p.index (Cast m c.payload) c.stands) [
-            inl old_p ↦
+          | inl old_p ↦
               let was_p : IsCastAt before p m = record { payload = c.payload; stands = old_p } in
               let clock_p : clock after p k ≡ clock before p k = clock_stays p k (is_place before p (Cast m c.payload) old_p) in
               elim (old_or_new before after i x app q.member q.index (Deliver m d.payload) d.stands) [
-                  inl old_q ↦
+                | inl old_q ↦
                     let clock_q : clock after q k ≡ clock before q k = clock_stays q k (is_place before q (Deliver m d.payload) old_q) in
                     let less : clock before p k ≤ clock before q k = closed p q m was_p (record { payload = d.payload; stands = old_q }) k in
                     omega arith
                 | inr new_q ↦
                     let places : clock after q k ≡ clock after (record { member = i; index = length (before i) }) k =
-                        ap (λ (j : ℕ). count k (take (suc q.index) (after j))) new_q.0 ∙ ap (λ (n : ℕ). count k (take (suc n) (after i))) new_q.1 in
+                    ap (λ (j : ℕ). count k (take (suc q.index) (after j))) new_q.0 ∙ ap (λ (n : ℕ). count k (take (suc n) (after i))) new_q.1 in
                     let less : clock before p k ≤ count k (before i) + cond (is_of k x) 1 0 = next.nothing_missing m d.payload (sym new_q.2) p was_p k in
                     omega (arith, clock_new k)
               ]
@@ -206,7 +206,7 @@ appended size before after sound (Delivers j m payload in_group may app) = recor
     missing : (q : Place) → IsCastAt before q m → (k : ℕ) → clock before q k ≤ count k (before j) + cond (is_of k (Deliver m payload)) 1 0
     missing q c k =
         elim (cases_eq k m.sender) [
-            inl own ↦
+          | inl own ↦
               let one : ◌≡◌ {A = ℕ} (cond (is_of k (Deliver m payload)) 1 0) 1 = ap {B = ℕ} (λ (b : Bool). cond b 1 0) (eq-eqb m.sender k (sym own)) in
               let next : clock before q m.sender ≡ count m.sender (before j) + 1 = (ready q c).next in
               let clocks : clock before q k ≡ clock before q m.sender = ap (clock before q) own in
@@ -230,7 +230,7 @@ step_regular size before after reg step =
       closed = still_closed before after a.member a.event a.appends reg.sound a.next reg.closed;
       acyclic = λ p w.
           let new : (m : Name) (payload : List ℕ) (q : Place) → a.event ≡ Cast m payload → IsDeliveryAt after q m → ⊥ =
-              fresh before after a.member a.event a.appends reg.sound a.next in
+          fresh before after a.member a.event a.appends reg.sound a.next in
           let old : IsPlace before p = path_from_old before after a.member a.event a.appends new w in
           reg.acyclic p (path_was before after a.member a.event a.appends new w old);
     }

@@ -73,8 +73,8 @@ module _ (lists : List (List StampedEvent)) (is : IsStampedGroup lists) where
     pub outside_not_allowed : length lists ≤ m.sender → IsAllowed (lists_in lists) receiver m → ⊥
     outside_not_allowed outside (payload, time, may) =
         let none : slice_get [] may.index ≡ Some (let s : StampedEvent = record { event = Cast m payload; time = time } in s) =
-            subst (λ (es : List StampedEvent). slice_get es may.index ≡ Some (let s : StampedEvent = record { event = Cast m payload; time = time } in s))
-            (lists_in_past lists m.sender outside) (at_sender payload time may) in
+        subst (λ (es : List StampedEvent). slice_get es may.index ≡ Some (let s : StampedEvent = record { event = Cast m payload; time = time } in s))
+        (lists_in_past lists m.sender outside) (at_sender payload time may) in
         cc none
 
     -- a cast of the sender whose time is ready may be delivered
@@ -86,9 +86,9 @@ module _ (lists : List (List StampedEvent)) (is : IsStampedGroup lists) where
         let one : e ≡ record { event = Cast m payload; time = time } = cc here in
         let times : e.time ≡ time = ap (λ (x : StampedEvent). x.time) one in
         let ready_time : IsReady m.sender (field time) (λ k. count k (events_of (lists_in lists receiver))) =
-            subst (λ (t : List ℕ). IsReady m.sender (field t) (λ k. count k (events_of (lists_in lists receiver)))) times ready in
+        subst (λ (t : List ℕ). IsReady m.sender (field t) (λ k. count k (events_of (lists_in lists receiver)))) times ready in
         let may : DelayRuleAllows (lists_in lists) receiver m payload time =
-            record { caster = m.sender; index = index; another = another; stands = stands; ready = ready_time } in
+        record { caster = m.sender; index = index; another = another; stands = stands; ready = ready_time } in
         (payload, time, may, stands)
 
     -- and one whose time is not, may not
@@ -99,16 +99,16 @@ module _ (lists : List (List StampedEvent)) (is : IsStampedGroup lists) where
         let p : Place = record { member = m.sender; index = may.index } in
         let q : Place = record { member = m.sender; index = index } in
         let places : p ≡ q =
-            cast_once (erased (lists_in lists)) sound p q m
-            (plain_cast m.sender may.index m other other_time (at_sender other other_time may)) (plain_cast m.sender index m payload time stands) in
+        cast_once (erased (lists_in lists)) sound p q m
+        (plain_cast m.sender may.index m other other_time (at_sender other other_time may)) (plain_cast m.sender index m payload time stands) in
         let indexes : may.index ≡ index = ap (λ (r : Place). r.index) places in
         let here : Some e ≡ Some (record { event = Cast m other; time = other_time }) =
-            sym at ∙ ap (slice_get (lists_in lists m.sender)) (sym indexes) ∙ at_sender other other_time may in
+        sym at ∙ ap (slice_get (lists_in lists m.sender)) (sym indexes) ∙ at_sender other other_time may in
         let one : e ≡ record { event = Cast m other; time = other_time } = cc here in
         let times : other_time ≡ e.time = sym (ap (λ (x : StampedEvent). x.time) one) in
         let at_other : IsReady m.sender (field other_time) (λ k. count k (events_of (lists_in lists receiver))) =
-            subst (λ (i : ℕ). IsReady i (field other_time) (λ k. count k (events_of (lists_in lists receiver))))
-            (sym (allowed_sender other other_time may)) may.ready in
+        subst (λ (i : ℕ). IsReady i (field other_time) (λ k. count k (events_of (lists_in lists receiver))))
+        (sym (allowed_sender other other_time may)) may.ready in
         unready (subst (λ (t : List ℕ). IsReady m.sender (field t) (λ k. count k (events_of (lists_in lists receiver)))) times at_other)
 
 -- whether something was found says whether the rule allows the delivery
@@ -140,7 +140,7 @@ step_group lists i es is step = record {
 pub casts_now : (lists : List (List StampedEvent)) (i : ℕ) (payload time : List ℕ) → i < length lists → IsStampedGroup lists
     → IsStampAfter (length lists) i time (events_of (lists_in lists i))
     → CastsStamped (length lists) (lists_in lists)
-      (lists_in (set lists i (lists_in lists i ++ record { event = Cast (next_name i (events_of (lists_in lists i))) payload; time = time } ∷ []))) i payload
+    (lists_in (set lists i (lists_in lists i ++ record { event = Cast (next_name i (events_of (lists_in lists i))) payload; time = time } ∷ []))) i payload
 casts_now lists i payload time inside is stamp = record { time = time; appends = app; stamp = record { fields = stamp.fields; counts = counts } }
   where
     name : Name
@@ -160,9 +160,9 @@ casts_now lists i payload time inside is stamp = record { time = time; appends =
     counts : (k : ℕ) → field time k ≡ count k (events_of (after i))
     counts k =
         elim (cases_lt k (length lists)) [
-            inl less ↦
+          | inl less ↦
               elim (cases_eq k i) [
-                  inl own ↦
+                | inl own ↦
                     let one : ◌≡◌ {A = ℕ} (cond (is_of k (Cast name payload)) 1 0) 1 = ap {B = ℕ} (λ (b : Bool). cond b 1 0) (eq-eqb i k (sym own)) in
                     let stamped : ◌≡◌ {A = ℕ} (cond (eqb k i) 1 0) 1 = ap {B = ℕ} (λ (b : Bool). cond b 1 0) (eq-eqb k i own) in
                     omega (arith, stamp.counts k less, grown k)
@@ -175,7 +175,7 @@ casts_now lists i payload time inside is stamp = record { time = time; appends =
               let differ : i ≢ k = λ e. let f : ⊥ = omega arith in f in
               let none : ◌≡◌ {A = ℕ} (cond (is_of k (Cast name payload)) 1 0) 0 = ap {B = ℕ} (λ (b : Bool). cond b 1 0) (ne_eqb i k differ) in
               let before : count k (events_of (lists_in lists i)) ≡ 0 =
-                  none_outside (length lists) (erased (lists_in lists)) (stamped_is_causal (length lists) (lists_in lists) is.run) i k past in
+              none_outside (length lists) (erased (lists_in lists)) (stamped_is_causal (length lists) (lists_in lists) is.run) i k past in
               let zero_field : field time k ≡ 0 = get_or_past time k 0 (omega (arith, stamp.fields)) in
               omega (arith, grown k)
         ]
@@ -195,10 +195,13 @@ delivers_stamped_now lists receiver m index d inside (payload, time, may, stands
     let here : Some e ≡ Some (record { event = Cast m payload; time = time }) = sym at ∙ stands in
     let one : e ≡ record { event = Cast m payload; time = time } = cc here in
     let same : d ≡ record { event = Deliver m payload; time = time } =
-        is ∙ ap (λ (x : StampedEvent). let s : StampedEvent = record { event = Deliver m (payload_of x.event); time = x.time } in s) one in
-    (payload, time, may,
+    is ∙ ap (λ (x : StampedEvent). let s : StampedEvent = record { event = Deliver m (payload_of x.event); time = x.time } in s) one in (
+      payload,
+      time,
+      may,
       subst (λ (x : StampedEvent). Appends (lists_in lists) (lists_in (set lists receiver (lists_in lists receiver ++ d ∷ []))) receiver x) same
-      (set_appends lists receiver d inside))
+          (set_appends lists receiver d inside),
+    )
 
 pub delivery_group : (lists : List (List StampedEvent)) (receiver : ℕ) (m : Name) (index : ℕ) (d : StampedEvent) → receiver < length lists → IsStampedGroup lists
     → IsAllowedAt (lists_in lists) receiver m index → IsDeliveryOf (lists_in lists m.sender) index m d

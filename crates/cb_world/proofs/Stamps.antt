@@ -48,7 +48,7 @@ times_kept : (before after : StampedLists) (i : ℕ) (s : StampedEvent) → Appe
     → (j a : ℕ) (x : StampedEvent) → slice_get (after j) a ≡ Some x → IsClockOf (erased after) (name_of x.event) x.time
 times_kept before after i s app times new j a x stands =
     elim (old_or_new before after i s app j a x stands) [
-        inl old ↦ clock_kept (erased before) (erased after) i s.event (erased_appends before after i s app) (name_of x.event) x.time (times j a x old)
+      | inl old ↦ clock_kept (erased before) (erased after) i s.event (erased_appends before after i s app) (name_of x.event) x.time (times j a x old)
       | inr here ↦ subst (λ (y : StampedEvent). IsClockOf (erased after) (name_of y.event) y.time) (sym here.2) new
     ]
 
@@ -141,13 +141,13 @@ run_sizes size lists (StampedRun.Start _ empty) j a s stands =
     absurd (cc none)
 run_sizes size lists (StampedRun.Then before _ earlier (StampedStep.Casts i payload inside casts)) j a s stands =
     elim (old_or_new before lists i (record { event = Cast (next_name i (events_of (before i))) payload; time = casts.time }) casts.appends j a s stands) [
-        inl old ↦ run_sizes size before earlier j a s old
+      | inl old ↦ run_sizes size before earlier j a s old
       | inr new ↦ rw new.2 casts.stamp.fields
     ]
 run_sizes size lists (StampedRun.Then before _ earlier (StampedStep.Delivers k m payload time inside may app)) j a s stands =
     let fields : length time ≡ size = run_sizes size before earlier may.caster may.index (record { event = Cast m payload; time = time }) may.stands in
     elim (old_or_new before lists k (record { event = Deliver m payload; time = time }) app j a s stands) [
-        inl old ↦ run_sizes size before earlier j a s old
+      | inl old ↦ run_sizes size before earlier j a s old
       | inr new ↦ rw new.2 fields
     ]
 

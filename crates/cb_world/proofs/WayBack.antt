@@ -53,13 +53,13 @@ in_group size lists (Start _ empty) j a e stands =
     let none : slice_get [] a ≡ Some e = subst (λ (xs : List Event). slice_get xs a ≡ Some e) (empty j) stands in absurd (cc none)
 in_group size lists (Then before _ run (Casts i payload inside app)) j a e stands =
     elim (old_or_new before lists i (Cast (next_name i (before i)) payload) app j a e stands) [
-        inl old ↦ in_group size before run j a e old
+      | inl old ↦ in_group size before run j a e old
       | inr new ↦ rw new.2 inside
     ]
 in_group size lists (Then before _ run (Delivers i m payload inside may app)) j a e stands =
     let sender_inside : m.sender < size = in_group size before run may.caster may.index (Cast m payload) may.stands in
     elim (old_or_new before lists i (Deliver m payload) app j a e stands) [
-        inl old ↦ in_group size before run j a e old
+      | inl old ↦ in_group size before run j a e old
       | inr new ↦ rw new.2 sender_inside
     ]
 
@@ -68,8 +68,8 @@ pub none_outside : (size : ℕ) (lists : Lists) → Run size lists → (j k : �
 none_outside size lists run j k outside =
     counted_none (is_of k) (lists j)
     (λ a e stands.
-        let inside : (name_of e).sender < size = in_group size lists run j a e stands in
-        ne_eqb (name_of e).sender k (λ same. let differ : ⊥ = omega arith in differ))
+    let inside : (name_of e).sender < size = in_group size lists run j a e stands in
+    ne_eqb (name_of e).sender k (λ same. let differ : ⊥ = omega arith in differ))
 
 -- an event with a time, as it is looked up
 abbrev with_time : List ℕ → Event → Option StampedEvent
@@ -92,9 +92,9 @@ grown_erased : (before : StampedLists) (after : Lists) (i : ℕ) (s : StampedEve
 grown_erased before after i s app k =
     let grows : Appends before (grown before i s) i s = grown_appends before i s in
     elim (cases_eq k i) [
-        inl here ↦
+      | inl here ↦
           let at_i : erased (grown before i s) i ≡ after i =
-              ap events_of grows.own ∙ map_push (λ (x : StampedEvent). x.event) (before i) s ∙ sym app.own in
+          ap events_of grows.own ∙ map_push (λ (x : StampedEvent). x.event) (before i) s ∙ sym app.own in
           subst (λ (j : ℕ). erased (grown before i s) j ≡ after j) (sym here) at_i
       | inr other ↦ ap events_of (grows.others k other) ∙ sym (app.others k other)
     ]
@@ -137,12 +137,13 @@ step_is_erasure size stamped run after (Delivers j m payload inside may app) =
     with_stamp s at is =
         let new : StampedEvent = record { event = Deliver m payload; time = s.time } in
         let stands : slice_get (stamped may.caster) may.index ≡ Some (record { event = Cast m payload; time = s.time }) =
-            at ∙ ap (with_time s.time) is in
+        at ∙ ap (with_time s.time) is in
         let allowed : DelayRuleAllows stamped j m payload s.time =
-            record { caster = may.caster; index = may.index; another = may.another; stands = stands; ready = ready } in
-        (grown stamped j new,
+        record { caster = may.caster; index = may.index; another = may.another; stands = stands; ready = ready } in (
+          grown stamped j new,
           StampedRun.Then stamped (grown stamped j new) run (StampedStep.Delivers j m payload s.time inside allowed (grown_appends stamped j new)),
-          λ k. grown_erased stamped after j new app k)
+          λ k. grown_erased stamped after j new app k,
+        )
       where
         causal : Run size (erased stamped)
         causal = (run_stamped size stamped run).causal

@@ -13,14 +13,12 @@ pub fn happened_before_is_strict_order()
     ensures irreflexive { (size : ℕ) (lists : Lists) → Run size lists → IsIrreflexive lists }
     ensures transitive { (size : ℕ) (lists : Lists) → Run size lists → IsTransitive lists }
     ensures acyclic { (size : ℕ) (lists : Lists) → Run size lists → IsAcyclic lists }
-{
-}
+{}
 
 /// What happens later adds no path between older places, and takes none away.
 pub fn steps_keep_the_past()
     ensures { (size : ℕ) (before after : Lists) → Run size before → Step size before after → KeepsPaths before after }
-{
-}
+{}
 
 /// Vector times and the delay rule give causal broadcast (Birman, Schiper and Stephenson 1991, section 5).
 ///
@@ -32,11 +30,9 @@ pub fn stamped_broadcast_is_causal()
     ensures past { (size : ℕ) (lists : StampedLists) → StampedRun size lists → TimesCountThePast lists }
     ensures fields { (size : ℕ) (lists : StampedLists) → StampedRun size lists → TimesHaveSize size lists }
     ensures in_order { (size : ℕ) (lists : StampedLists) → StampedRun size lists → IsInOrder (erased lists) }
-{
-}
+{}
 
 /// Every run of the causal machine can be stamped: the delay rule holds nothing back longer than causality asks.
 pub fn causal_broadcast_can_be_stamped()
     ensures { (size : ℕ) (lists : Lists) → Run size lists → IsErasure size lists }
-{
-}
+{}

@@ -13,10 +13,13 @@ mod stamped;
 
 pub use causal::CausalGroup;
 pub use event::{Event, Name};
-pub use refusal::CastRefusal;
-pub use stamp::{Stamp, StampedEvent};
-pub use stamped::StampedGroup;
 pub use laws::{
     causal_broadcast_can_be_stamped, happened_before_is_strict_order, stamped_broadcast_is_causal,
     steps_keep_the_past,
 };
+pub use refusal::CastRefusal;
+pub use stamp::{Stamp, StampedEvent};
+pub use stamped::StampedGroup;
+
+#[cfg(test)]
+mod tests;

@@ -45,7 +45,12 @@ fn cast_count(events: &[StampedEvent]) -> usize
 }
 
 /// The time of the member's next cast: what its list has of each member, that cast included.
-fn time_after(alloc: Global, events: &[StampedEvent], member: usize, size: usize) -> Result<Stamp, AllocError>
+fn time_after(
+    alloc: Global,
+    events: &[StampedEvent],
+    member: usize,
+    size: usize,
+) -> Result<Stamp, AllocError>
     requires { length events.now < u32.MAX }
     ensures { IfOk result (λ time. IsStampAfter size member time (events_of events.now)) }
 {
@@ -65,7 +70,11 @@ fn is_ready(events: &[StampedEvent], sender: usize, time: &Stamp) -> bool
     for k in 0..time.len() {
         let delivered = count(events, k);
         let stamped = time.get(k) as usize;
-        let allowed = if k == sender { stamped == delivered + 1 } else { stamped <= delivered };
+        let allowed = if k == sender {
+            stamped == delivered + 1
+        } else {
+            stamped <= delivered
+        };
         if !allowed {
             return false;
         }
@@ -88,7 +97,11 @@ fn cast_index(events: &[StampedEvent], name: Name) -> Option<usize>
 }
 
 /// The delivery of a message that is cast at an index of a list.
-fn delivery_of(events: &[StampedEvent], index: usize, name: Name) -> Result<StampedEvent, AllocError>
+fn delivery_of(
+    events: &[StampedEvent],
+    index: usize,
+    name: Name,
+) -> Result<StampedEvent, AllocError>
     requires { index < length events.now }
     ensures { IfOk result (IsDeliveryOf events.now index name) }
 {
@@ -217,7 +230,11 @@ impl StampedGroup {
         let Some(index) = allowed_at(self.lists.as_slice(), receiver, name) else {
             return Ok(false);
         };
-        let delivery = delivery_of(list_of(self.lists.as_slice(), name.sender as usize), index, name)?;
+        let delivery = delivery_of(
+            list_of(self.lists.as_slice(), name.sender as usize),
+            index,
+            name,
+        )?;
         append(&mut self.lists, receiver, delivery)?;
         Ok(true)
     }

@@ -11,7 +11,7 @@ loop-event-preserved c =
     let next : _ = counted_next is_cast c.args.events.now c.loop-event.event-index c.event-item.result at in
     let worth : ◌≡◌ {A = ℕ} (cond (is_cast c.event-item.result) 1 0) (cond c.is_cast.result 1 0) = ap {B = ℕ} (λ (b : Bool). cond b 1 0) (sym c.is_cast.ensures) in
     elim c.if-is_cast.branch [
-        then-is_cast w ↦
+      | then-is_cast w ↦
           let one : ◌≡◌ {A = ℕ} (cond c.is_cast.result 1 0) 1 = ap {B = ℕ} (λ (b : Bool). cond b 1 0) w.if-is_cast.true in
           record { counted = omega arith; fits = omega arith }
       | else-is_cast w ↦

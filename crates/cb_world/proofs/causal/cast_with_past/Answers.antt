@@ -8,23 +8,23 @@ pub returns-then-is_cast_of-clause-found : goal.returns-then-is_cast_of-clause-f
 returns-then-is_cast_of-clause-found c =
     let at : _ = read_stands c.args.caster.now c.loop-index.index c.index-caster-index.result c.loop-index-test.true c.index-caster-index.is in
     past_found c.args.caster.now c.args.receiver.now c.args.name c.loop-index.index c.index-caster-index.result at
-        (c.is_cast_of.ensures.0 c.if-is_cast_of.true) (λ had. false≢true (c.if-has.ensures.1 had)) c.loop-index.invariant
+    (c.is_cast_of.ensures.0 c.if-is_cast_of.true) (λ had. false≢true (c.if-has.ensures.1 had)) c.loop-index.invariant
 
 pub returns-then-not-has-clause-missing : goal.returns-then-not-has-clause-missing
 returns-then-not-has-clause-missing c =
     λ none h.
-        let at : _ = read_stands c.args.caster.now c.loop-index.index c.index-caster-index.result c.loop-index-test.true c.index-caster-index.is in
-        missing_in_past c.args.caster.now c.args.receiver.now c.args.name c.loop-index.index c.index-caster-index.result at
-        (λ had. false≢true (c.if-not-has.ensures.1 (rw c.name.ensures had)))
-        (λ payload e. false≢true (c.if-is_cast_of.ensures.1 (payload, e)))
-        c.loop-index.invariant h
+    let at : _ = read_stands c.args.caster.now c.loop-index.index c.index-caster-index.result c.loop-index-test.true c.index-caster-index.is in
+    missing_in_past c.args.caster.now c.args.receiver.now c.args.name c.loop-index.index c.index-caster-index.result at
+    (λ had. false≢true (c.if-not-has.ensures.1 (rw c.name.ensures had)))
+    (λ payload e. false≢true (c.if-is_cast_of.ensures.1 (payload, e)))
+    c.loop-index.invariant h
 
 pub loop-index-preserved : goal.loop-index-preserved
 loop-index-preserved c =
     let at : _ = read_stands c.args.caster.now c.loop-index.index c.index-caster-index.result c.loop-index-test.true c.index-caster-index.is in
-    each_more (IsPassed c.args.receiver.now c.args.name) c.args.caster.now c.loop-index.index c.index-caster-index.result at
-    ( (rw c.name.ensures at (c.has-in-loop-index.ensures.0 c.if-not-has.false))
-    , (λ payload e. false≢true (c.if-is_cast_of.ensures.1 (payload, e)))
+    each_more (IsPassed c.args.receiver.now c.args.name) c.args.caster.now c.loop-index.index c.index-caster-index.result at (
+      (rw c.name.ensures at (c.has-in-loop-index.ensures.0 c.if-not-has.false)),
+      (λ payload e. false≢true (c.if-is_cast_of.ensures.1 (payload, e))),
     )
     c.loop-index.invariant
 

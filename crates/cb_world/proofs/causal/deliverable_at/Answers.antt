@@ -12,8 +12,8 @@ returns-then-sender-receiver-clause-missing c =
 pub returns-then-sender-lists-clause-missing : goal.returns-then-sender-lists-clause-missing
 returns-then-sender-lists-clause-missing c =
     λ none d.
-        let outside : length (contents c.args.lists.now) ≤ c.args.name.sender = rw length-map c.if-sender-lists.true in
-        outside_not_deliverable (contents c.args.lists.now) c.args.receiver c.args.name c.requires.run outside d
+    let outside : length (contents c.args.lists.now) ≤ c.args.name.sender = rw length-map c.if-sender-lists.true in
+    outside_not_deliverable (contents c.args.lists.now) c.args.receiver c.args.name c.requires.run outside d
 
 pub returns-clause-found : goal.returns-clause-found
 returns-clause-found c =
@@ -23,4 +23,4 @@ returns-clause-found c =
 pub returns-clause-missing : goal.returns-clause-missing
 returns-clause-missing c =
     λ none. no_past_not_deliverable (contents c.args.lists.now) c.args.receiver c.args.name c.requires.run
-        (rw (c.list_of.ensures, c.list_of-2.ensures) at (c.cast_with_past.ensures.missing none))
+    (rw (c.list_of.ensures, c.list_of-2.ensures) at (c.cast_with_past.ensures.missing none))

@@ -13,13 +13,13 @@ returns-then-sender-receiver-clause-missing c =
 pub returns-then-sender-lists-clause-missing : goal.returns-then-sender-lists-clause-missing
 returns-then-sender-lists-clause-missing c =
     λ none d.
-        let outside : length (contents c.args.lists.now) ≤ c.args.name.sender = rw length-map c.if-sender-lists.true in
-        outside_not_allowed (contents c.args.lists.now) c.requires.run c.args.receiver c.args.name outside d
+    let outside : length (contents c.args.lists.now) ≤ c.args.name.sender = rw length-map c.if-sender-lists.true in
+    outside_not_allowed (contents c.args.lists.now) c.requires.run c.args.receiver c.args.name outside d
 
 pub returns-in_err-index-clause-missing : goal.returns-in_err-index-clause-missing
 returns-in_err-index-clause-missing c =
     λ none d. uncast_not_allowed (contents c.args.lists.now) c.requires.run c.args.receiver c.args.name
-        (rw c.list_of-casts.ensures at (c.in_err-index.ensures.missing refl)) d
+    (rw c.list_of-casts.ensures at (c.in_err-index.ensures.missing refl)) d
 
 pub returns-then-is_ready-clause-found : goal.returns-then-is_ready-clause-found
 returns-then-is_ready-clause-found c =
@@ -31,7 +31,7 @@ returns-then-is_ready-clause-found c =
 pub returns-else-is_ready-clause-missing : goal.returns-else-is_ready-clause-missing
 returns-else-is_ready-clause-missing c =
     λ none d.
-        let at : _ = read_stands c.list_of-casts.result.now c.in_ok-index.index c.index-casts-index.result c.in_ok-index.ensures.inside c.index-casts-index.is in
-        unready_not_allowed (contents c.args.lists.now) c.requires.run c.args.receiver c.args.name c.in_ok-index.index c.index-casts-index.result
-        (rw c.list_of-casts.ensures at c.in_ok-index.ensures.found) (rw c.list_of-casts.ensures at at)
-        (λ ready. false≢true (c.if-is_ready.ensures.1 (rw (c.list_of.ensures, ← c.index-casts-index.is) ready))) d
+    let at : _ = read_stands c.list_of-casts.result.now c.in_ok-index.index c.index-casts-index.result c.in_ok-index.ensures.inside c.index-casts-index.is in
+    unready_not_allowed (contents c.args.lists.now) c.requires.run c.args.receiver c.args.name c.in_ok-index.index c.index-casts-index.result
+    (rw c.list_of-casts.ensures at c.in_ok-index.ensures.found) (rw c.list_of-casts.ensures at at)
+    (λ ready. false≢true (c.if-is_ready.ensures.1 (rw (c.list_of.ensures, ← c.index-casts-index.is) ready))) d

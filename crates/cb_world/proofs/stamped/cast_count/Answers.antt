@@ -11,11 +11,11 @@ pub loop-stamped-preserved : goal.loop-stamped-preserved
 loop-stamped-preserved c =
     let at : _ = read_stands c.args.events.now c.loop-stamped.stamped-index c.stamped-item.result c.loop-stamped-test.true c.stamped-item.is in
     let next : _ =
-        counted_next is_cast (events_of c.args.events.now) c.loop-stamped.stamped-index c.stamped-item.result.event
-        (get_map (λ (x : StampedEvent). x.event) c.args.events.now c.loop-stamped.stamped-index c.stamped-item.result at) in
+    counted_next is_cast (events_of c.args.events.now) c.loop-stamped.stamped-index c.stamped-item.result.event
+    (get_map (λ (x : StampedEvent). x.event) c.args.events.now c.loop-stamped.stamped-index c.stamped-item.result at) in
     let worth : ◌≡◌ {A = ℕ} (cond (is_cast c.stamped-item.result.event) 1 0) (cond c.is_cast.result 1 0) = ap {B = ℕ} (λ (b : Bool). cond b 1 0) (sym c.is_cast.ensures) in
     elim c.if-is_cast.branch [
-        then-is_cast w ↦
+      | then-is_cast w ↦
           let one : ◌≡◌ {A = ℕ} (cond c.is_cast.result 1 0) 1 = ap {B = ℕ} (λ (b : Bool). cond b 1 0) w.if-is_cast.true in
           record { counted = omega arith; fits = omega arith }
       | else-is_cast w ↦

@@ -16,6 +16,6 @@ loop-index-preserved c =
 pub returns-clause-missing : goal.returns-clause-missing
 returns-clause-missing c =
     λ none index cast.
-        let inside : index < length c.args.events.now = get_below c.args.events.now index (record { event = Cast c.args.name cast.0; time = cast.1 }) cast.2 in
-        let whole : length c.args.events.now ≤ c.loop-index.index = c.loop-index-test.false in
-        c.loop-index.invariant index (omega arith) cast
+    let inside : index < length c.args.events.now = get_below c.args.events.now index (record { event = Cast c.args.name cast.0; time = cast.1 }) cast.2 in
+    let whole : length c.args.events.now ≤ c.loop-index.index = c.loop-index-test.false in
+    c.loop-index.invariant index (omega arith) cast

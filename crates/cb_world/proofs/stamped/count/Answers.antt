@@ -11,12 +11,12 @@ loop-stamped-preserved c =
     let at : _ = read_stands c.args.events.now c.loop-stamped.stamped-index c.stamped-item.result c.loop-stamped-test.true c.stamped-item.is in
     let next : _ = count_next c.args.member c.args.events.now c.loop-stamped.stamped-index c.stamped-item.result at in
     elim c.if-name-member.branch [
-        then-name-member w ↦
+      | then-name-member w ↦
           let one : ◌≡◌ {A = ℕ} (cond (is_of c.args.member c.stamped-item.result.event) 1 0) 1 =
-              ap {B = ℕ} (λ (b : Bool). cond b 1 0) (eq-eqb _ _ (rw c.name.ensures at w.if-name-member.true)) in
+          ap {B = ℕ} (λ (b : Bool). cond b 1 0) (eq-eqb _ _ (rw c.name.ensures at w.if-name-member.true)) in
           record { counted = omega arith; fits = omega arith }
       | else-name-member w ↦
           let none : ◌≡◌ {A = ℕ} (cond (is_of c.args.member c.stamped-item.result.event) 1 0) 0 =
-              ap {B = ℕ} (λ (b : Bool). cond b 1 0) (ne_eqb _ _ (rw c.name.ensures at w.if-name-member.false)) in
+          ap {B = ℕ} (λ (b : Bool). cond b 1 0) (ne_eqb _ _ (rw c.name.ensures at w.if-name-member.false)) in
           record { counted = omega arith; fits = omega arith }
     ]

@@ -21,4 +21,4 @@ returns-clause-cast c =
     let list : _ = c.list_of-list.ensures in
     rw (c.in_ok-append.ensures.ok, name, list, c.as_slice.ensures.value, ← c.self.view_is)
     (set_appends (contents c.self.inside.lists.items) c.args.member
-        (Cast (next_name c.args.member (lists_in (contents c.self.inside.lists.items) c.args.member)) c.args.payload) inside)
+    (Cast (next_name c.args.member (lists_in (contents c.self.inside.lists.items) c.args.member)) c.args.payload) inside)
