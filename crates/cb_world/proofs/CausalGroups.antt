@@ -1,14 +1,14 @@
 -- What the calls of a group of the causal machine leave is a run again.
 use Rattle.std.specs.Prelude.{slice_get, IfSome, IsNone, IsTrue, is_some}
-use Rattle.std.proofs.Common.{◌≡◌, ◌≢◌, ℕ, zero, suc, ◌+◌, ◌<◌, ◌≤◌, Bool, true, false, ◌⊎◌, inl, inr, ◌↔◌, List, [], ◌∷◌, ◌++◌, length, replicate, set, Option, None, Some, refl, sym, ◌∙◌, ap, subst, arith, length-set}
+use Rattle.std.proofs.Common.{◌≡◌, ◌≢◌, ℕ, ◌<◌, ◌≤◌, ◌↔◌, List, [], ◌∷◌, ◌++◌, length, replicate, set, Option, None, Some, refl, sym, ◌∙◌, ap, subst, length-set}
 use Rattle.std.proofs.lemmas.List.{length-replicate}
 use Rattle.std.proofs.lemmas.Bool.{false≢true}
 use Rattle.cb_world.specs.declared.event.Name.{Name}
 use Rattle.cb_world.specs.declared.event.Event.{Event}
 use Rattle.cb_world.specs.declared.event.Event.TheVariants.{Cast, Deliver}
-use Rattle.cb_world.specs.Events.{payload_of, Appends}
+use Rattle.cb_world.specs.Events.{payload_of}
 use Rattle.cb_world.specs.HappenedBefore.{Lists}
-use Rattle.cb_world.specs.Machine.{next_name, MayDeliver, Step, Casts, Delivers, Run, Start, Then}
+use Rattle.cb_world.specs.Machine.{next_name, MayDeliver, Step, Casts, Delivers, Start, Then}
 use Rattle.cb_world.specs.Groups.{lists_in, IsDeliverable, IsDeliverableAt, DeliversNow, HasPastOf, HasPastAt, SaysAt, IsCausal}
 use Rattle.cb_world.proofs.Counting.{get_below}
 use Rattle.cb_world.proofs.GroupLists.{set_appends, lists_in_replicate, lists_in_past}

@@ -1,15 +1,15 @@
 -- The clock of a place: how many messages of each member its list has up to and with it. It grows along every path.
 use Rattle.std.specs.Prelude.{slice_get}
-use Rattle.std.proofs.Common.{◌≡◌, ◌≢◌, ℕ, zero, suc, ◌+◌, ◌<◌, ◌≤◌, Bool, true, false, cond, ◌⊎◌, inl, inr, List, [], ◌∷◌, ◌++◌, length, take, Option, None, Some, refl, sym, ◌∙◌, ap, subst, arith, eq-eqb, le_trans, ◌-◌}
+use Rattle.std.proofs.Common.{◌≡◌, ◌≢◌, ℕ, zero, suc, ◌+◌, ◌<◌, ◌≤◌, ◌⊎◌, inl, inr, List, take, Some, refl, sym, ◌∙◌, ap, subst, arith, eq-eqb, le_trans, ◌-◌}
 use Rattle.std.proofs.lemmas.Bool.{cases_eq, cases_lt, cases_order}
 use Rattle.cb_delay.specs.Rule.{IsReady}
 use Rattle.cb_world.specs.declared.event.Name.{Name}
 use Rattle.cb_world.specs.declared.event.Event.{Event}
 use Rattle.cb_world.specs.declared.event.Event.TheVariants.{Cast, Deliver}
-use Rattle.cb_world.specs.Events.{name_of, is_of, counted, count, Has}
-use Rattle.cb_world.specs.HappenedBefore.{Lists, Place, event_at, IsPlace, IsCastAt, IsDeliveryAt, Edge, Later, Message, Path, One, On, HappenedBefore}
+use Rattle.cb_world.specs.Events.{name_of, is_of, count, Has}
+use Rattle.cb_world.specs.HappenedBefore.{Lists, Place, IsCastAt, IsDeliveryAt, Edge, Later, Message, Path, One, On, HappenedBefore}
 use Rattle.cb_world.specs.Machine.{MayDeliver}
-use Rattle.cb_world.proofs.Counting.{get_below, counted_step, counted_mono, counted_take, take_whole}
+use Rattle.cb_world.proofs.Counting.{counted_step, counted_mono}
 use Rattle.cb_world.proofs.Places.{is_place}
 use Rattle.cb_world.proofs.Names.{IsSound, named, same_name, stands_within, number_of_had, had_from_number, cast_once, cast_number}
 

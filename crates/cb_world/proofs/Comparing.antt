@@ -1,14 +1,14 @@
 -- On lists that stand as those of a run do, clocks of casts compare exactly as the messages do.
 use Rattle.std.specs.Prelude.{slice_get}
-use Rattle.std.proofs.Common.{◌≡◌, ◌≢◌, ℕ, zero, suc, ◌+◌, ◌<◌, ◌≤◌, Bool, true, false, cond, ◌⊎◌, inl, inr, ◌↔◌, List, [], ◌∷◌, ◌++◌, length, take, Option, None, Some, refl, sym, ◌∙◌, ap, ap₂, subst, arith, eqb-true, one-add}
-use Rattle.std.proofs.lemmas.Bool.{cases_lt, cases_Bool, eq-eqb}
+use Rattle.std.proofs.Common.{◌≡◌, ◌≢◌, ℕ, suc, ◌+◌, ◌<◌, ◌≤◌, Bool, true, cond, ◌⊎◌, inl, inr, ◌↔◌, List, [], ◌∷◌, take, Some, refl, sym, ◌∙◌, ap, ap₂, subst, arith, eqb-true, one-add}
+use Rattle.std.proofs.lemmas.Bool.{cases_lt, cases_Bool}
 use Rattle.cb_times.specs.Order.{field, AtMost, Less, Compares}
 use Rattle.cb_times.specs.declared.order.TimeOrder.{TimeOrder}
 use Rattle.cb_times.specs.declared.order.TimeOrder.TheVariants.{Before, After, Same, Concurrent}
 use Rattle.cb_world.specs.declared.event.Name.{Name}
 use Rattle.cb_world.specs.declared.event.Event.{Event}
-use Rattle.cb_world.specs.Events.{name_of, is_of, counted, count, numbers_of, consecutive}
-use Rattle.cb_world.specs.HappenedBefore.{Lists, Place, event_at, IsCastAt, Path, HappenedBefore}
+use Rattle.cb_world.specs.Events.{name_of, is_of, count, numbers_of, consecutive}
+use Rattle.cb_world.specs.HappenedBefore.{Lists, Place, IsCastAt, HappenedBefore}
 use Rattle.cb_world.specs.Laws.{Related, IsInOrder}
 use Rattle.cb_world.proofs.Names.{IsSound, named, cast_once, cast_number}
 use Rattle.cb_world.proofs.Clock.{clock, clock_own, counted_is_past, clock_path, past_is_counted}

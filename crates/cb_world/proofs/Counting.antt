@@ -1,7 +1,7 @@
 -- Lists that grow at their end, and how many of their first elements pass a test.
 use Rattle.std.specs.Prelude.{slice_get}
-use Rattle.std.proofs.Common.{◌≡◌, ◌≢◌, ℕ, zero, suc, ◌+◌, ◌<◌, ◌≤◌, Bool, true, false, cond, ◌⊎◌, inl, inr, List, [], ◌∷◌, ◌++◌, length, take, map, Option, None, Some, refl, ap, arith, take-take, add-one}
-use Rattle.std.proofs.lemmas.Bool.{false≢true, true≢false, cases_order, cases_Bool}
+use Rattle.std.proofs.Common.{◌≡◌, ℕ, zero, suc, ◌+◌, ◌<◌, ◌≤◌, Bool, true, cond, ◌⊎◌, inl, inr, List, [], ◌∷◌, ◌++◌, length, take, map, Some, refl, ap, arith, take-take, add-one}
+use Rattle.std.proofs.lemmas.Bool.{cases_order, cases_Bool}
 use Rattle.cb_world.specs.Events.{counted}
 
 module _ {X : Type 0} where

@@ -1,18 +1,18 @@
 -- What the program looks at says whether a message may be delivered.
 use Rattle.std.specs.Prelude.{slice_get}
-use Rattle.std.proofs.Common.{◌≡◌, ◌≢◌, ℕ, zero, suc, ◌+◌, ◌<◌, ◌≤◌, Bool, true, false, ◌⊎◌, inl, inr, ◌↔◌, List, [], ◌∷◌, ◌++◌, length, take, Option, None, Some, refl, sym, ◌∙◌, ap, subst, arith, eq-eqb}
+use Rattle.std.proofs.Common.{◌≡◌, ◌≢◌, ℕ, suc, ◌+◌, ◌<◌, ◌≤◌, inl, inr, List, length, take, Some, refl, sym, ◌∙◌, ap, subst, arith, eq-eqb}
 use Rattle.std.proofs.lemmas.Bool.{cases_order}
 use Rattle.cb_world.specs.declared.event.Name.{Name}
 use Rattle.cb_world.specs.declared.event.Event.{Event}
-use Rattle.cb_world.specs.declared.event.Event.TheVariants.{Cast, Deliver}
+use Rattle.cb_world.specs.declared.event.Event.TheVariants.{Cast}
 use Rattle.cb_world.specs.Events.{name_of, is_of, count, Has}
 use Rattle.cb_world.specs.HappenedBefore.{Lists, Place, IsCastAt, HappenedBefore}
-use Rattle.cb_world.specs.Machine.{MayDeliver, Run}
+use Rattle.cb_world.specs.Machine.{MayDeliver}
 use Rattle.cb_world.specs.Groups.{HasPastOf, HasPastAt, IsDeliverable}
 use Rattle.cb_world.proofs.Counting.{get_below, get_take_from, counted_once}
 use Rattle.cb_world.proofs.Names.{number_within, stands_within, cast_number}
 use Rattle.cb_world.proofs.Clock.{clock, counted_is_past, past_is_counted}
-use Rattle.cb_world.proofs.Runs.{IsRegular, run_regular, regular_irreflexive}
+use Rattle.cb_world.proofs.Runs.{IsRegular, regular_irreflexive}
 
 -- an event of which the receiver has the message, and which is not the cast of m
 abbrev pub IsPassed : List Event → Name → Event → Type 0

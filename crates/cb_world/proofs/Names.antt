@@ -1,12 +1,12 @@
 -- What holds of the names in lists in which each member's messages stand in order.
 use Rattle.std.specs.Prelude.{slice_get}
-use Rattle.std.proofs.Common.{◌≡◌, ◌≢◌, ℕ, zero, suc, ◌+◌, ◌<◌, ◌≤◌, Bool, true, false, cond, eqb, ◌⊎◌, inl, inr, List, [], ◌∷◌, ◌++◌, length, take, Option, None, Some, refl, sym, ◌∙◌, ap, ap₂, subst, arith, eq-eqb, eqb-true}
+use Rattle.std.proofs.Common.{◌≡◌, ◌≢◌, ℕ, zero, suc, ◌+◌, ◌<◌, ◌≤◌, true, length, take, Some, refl, sym, ◌∙◌, ap₂, subst, arith, eq-eqb, eqb-true}
 use Rattle.std.proofs.lemmas.Bool.{ne_eqb}
 use Rattle.cb_world.specs.declared.event.Name.{Name}
 use Rattle.cb_world.specs.declared.event.Event.{Event}
 use Rattle.cb_world.specs.declared.event.Event.TheVariants.{Cast, Deliver}
-use Rattle.cb_world.specs.Events.{name_of, is_cast, is_of, counted, count, casts_of, Has, Appends}
-use Rattle.cb_world.specs.HappenedBefore.{Lists, Place, event_at, IsPlace, IsCastAt, IsDeliveryAt}
+use Rattle.cb_world.specs.Events.{name_of, is_cast, is_of, count, casts_of, Has}
+use Rattle.cb_world.specs.HappenedBefore.{Lists, Place, event_at, IsCastAt, IsDeliveryAt}
 use Rattle.cb_world.proofs.Counting.{get_take, counted_step, counted_mono, counted_within, counted_once, counted_same, take_whole}
 
 -- a name is its sender and its number

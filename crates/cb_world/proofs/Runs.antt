@@ -1,18 +1,18 @@
 -- Every run of the causal machine is sound and closed, and no path leads round in it.
 use Rattle.std.specs.Prelude.{slice_get}
-use Rattle.std.proofs.Common.{◌≡◌, ◌≢◌, ℕ, zero, suc, ◌+◌, ◌<◌, ◌≤◌, Bool, true, false, cond, ◌⊎◌, inl, inr, List, [], ◌∷◌, ◌++◌, length, take, Option, None, Some, refl, sym, ◌∙◌, ap, subst, arith, eq-eqb}
-use Rattle.std.proofs.lemmas.Bool.{cases_eq, cases_lt, ne_eqb}
+use Rattle.std.proofs.Common.{◌≡◌, ◌≢◌, ℕ, suc, ◌+◌, ◌≤◌, Bool, cond, inl, inr, List, [], ◌∷◌, ◌++◌, length, take, Some, refl, sym, ◌∙◌, ap, subst, arith, eq-eqb}
+use Rattle.std.proofs.lemmas.Bool.{cases_eq}
 use Rattle.cb_delay.specs.Rule.{IsReady}
 use Rattle.cb_world.specs.declared.event.Name.{Name}
 use Rattle.cb_world.specs.declared.event.Event.{Event}
 use Rattle.cb_world.specs.declared.event.Event.TheVariants.{Cast, Deliver}
-use Rattle.cb_world.specs.Events.{name_of, is_of, counted, count, casts_of, Has, Appends}
-use Rattle.cb_world.specs.HappenedBefore.{Lists, Place, event_at, IsPlace, IsCastAt, IsDeliveryAt, Edge, Later, Message, Path, One, On, HappenedBefore}
-use Rattle.cb_world.specs.Machine.{next_name, MayDeliver, Step, Casts, Delivers, Run, Start, Then}
+use Rattle.cb_world.specs.Events.{name_of, is_of, count, Appends}
+use Rattle.cb_world.specs.HappenedBefore.{Lists, Place, event_at, IsPlace, IsCastAt, IsDeliveryAt, Edge, Later, Message, Path, One, On}
+use Rattle.cb_world.specs.Machine.{next_name, Step, Casts, Delivers, Run, Start, Then}
 use Rattle.cb_world.specs.Laws.{IsIrreflexive, IsTransitive, KeepsPaths}
-use Rattle.cb_world.proofs.Counting.{get_below, take_left, take_whole, counted_more}
-use Rattle.cb_world.proofs.Places.{joined, is_place, length_own, old_or_new, old_stays, new_stands, cast_stays, delivery_stays, cast_was, delivery_was, path_was, path_from_old, paths_kept}
-use Rattle.cb_world.proofs.Names.{IsSound, number_within, cast_once, own_casts, number_of_had}
+use Rattle.cb_world.proofs.Counting.{take_left, take_whole, counted_more}
+use Rattle.cb_world.proofs.Places.{joined, is_place, length_own, old_or_new, cast_stays, path_was, path_from_old, paths_kept}
+use Rattle.cb_world.proofs.Names.{IsSound, cast_once, own_casts, number_of_had}
 use Rattle.cb_world.proofs.Clock.{clock, IsClosed, may_deliver_is_ready, clock_own}
 
 module _ (before after : Lists) (i : ℕ) (x : Event) (app : Appends before after i x) where

@@ -1,6 +1,6 @@
 -- What the calls of a group of the stamped machine look at, and what they leave.
 use Rattle.std.specs.Prelude.{slice_get, IfSome, IsNone, IsTrue, is_some}
-use Rattle.std.proofs.Common.{◌≡◌, ◌≢◌, ℕ, zero, suc, ◌+◌, ◌<◌, ◌≤◌, Bool, true, false, cond, ◌⊎◌, inl, inr, ◌↔◌, List, [], ◌∷◌, ◌++◌, length, replicate, set, take, map, Option, None, Some, refl, sym, ◌∙◌, ap, subst, arith, length-set, eq-eqb, eqb}
+use Rattle.std.proofs.Common.{◌≡◌, ◌≢◌, ℕ, ◌+◌, ◌<◌, ◌≤◌, Bool, cond, inl, inr, ◌↔◌, List, [], ◌∷◌, ◌++◌, length, replicate, set, take, Option, None, Some, refl, sym, ◌∙◌, ap, subst, arith, length-set, eq-eqb, eqb}
 use Rattle.std.proofs.lemmas.List.{length-replicate, get_or_past}
 use Rattle.std.proofs.lemmas.Bool.{false≢true, cases_eq, cases_lt, ne_eqb}
 use Rattle.cb_times.specs.Order.{field}
@@ -11,8 +11,8 @@ use Rattle.cb_world.specs.declared.event.Event.TheVariants.{Cast, Deliver}
 use Rattle.cb_world.specs.declared.stamp.StampedEvent.{StampedEvent}
 use Rattle.cb_world.specs.Events.{payload_of, is_of, count, IsCastOf, Appends}
 use Rattle.cb_world.specs.HappenedBefore.{Place, IsCastAt}
-use Rattle.cb_world.specs.Machine.{next_name, Run}
-use Rattle.cb_world.specs.Stamped.{StampedLists, events_of, erased, IsTimeOfList, CastsStamped, DelayRuleAllows, StampedStep, StampedRun}
+use Rattle.cb_world.specs.Machine.{next_name}
+use Rattle.cb_world.specs.Stamped.{StampedLists, events_of, erased, CastsStamped, DelayRuleAllows, StampedStep, StampedRun}
 use Rattle.cb_world.specs.Groups.{lists_in, IsAllowed, IsAllowedAt, DeliversStamped, IsStampedCastAt, IsDeliveryOf, IsStampAfter, IsStampedGroup}
 use Rattle.cb_world.proofs.Counting.{get_below, get_map, counted_next, counted_more}
 use Rattle.cb_world.proofs.GroupLists.{set_appends, lists_in_replicate, lists_in_past}

@@ -1,22 +1,21 @@
 -- A stamped run without its times is a run of the causal machine, and its times are the clocks of its casts.
 use Rattle.std.specs.Prelude.{slice_get}
-use Rattle.std.proofs.Common.{◌≡◌, ◌≢◌, ℕ, zero, suc, ◌+◌, ◌<◌, ◌≤◌, ◌⊎◌, inl, inr, ◌↔◌, List, [], ◌∷◌, ◌++◌, map, length, take, Option, None, Some, refl, sym, ◌∙◌, ap, subst, arith}
+use Rattle.std.proofs.Common.{◌≡◌, ◌≢◌, ℕ, ◌+◌, ◌<◌, ◌≤◌, inl, inr, List, [], length, Some, sym, ◌∙◌, ap, subst, arith}
 use Rattle.std.proofs.lemmas.List.{map_push}
-use Rattle.cb_times.specs.Order.{field, Compares}
-use Rattle.cb_times.specs.declared.order.TimeOrder.{TimeOrder}
+use Rattle.cb_times.specs.Order.{field}
 use Rattle.cb_delay.specs.Rule.{IsReady}
 use Rattle.cb_world.specs.declared.event.Name.{Name}
 use Rattle.cb_world.specs.declared.event.Event.{Event}
 use Rattle.cb_world.specs.declared.event.Event.TheVariants.{Cast, Deliver}
 use Rattle.cb_world.specs.declared.stamp.StampedEvent.{StampedEvent}
 use Rattle.cb_world.specs.Events.{name_of, count, Appends}
-use Rattle.cb_world.specs.HappenedBefore.{Lists, Place, IsPlace, IsCastAt, HappenedBefore}
-use Rattle.cb_world.specs.Machine.{next_name, MayDeliver, Step, Casts, Delivers, Run, Start, Then}
+use Rattle.cb_world.specs.HappenedBefore.{Lists, Place, IsCastAt}
+use Rattle.cb_world.specs.Machine.{next_name, MayDeliver, Casts, Delivers, Run, Start, Then}
 use Rattle.cb_world.specs.Stamped.{StampedLists, events_of, erased, IsTimeOfList, StampedStep, StampedRun, IsTimeOf}
 use Rattle.cb_world.specs.Laws.{IsInOrder, TimesTellOrder, TimesCountThePast, TimesHaveSize}
 use Rattle.cb_world.proofs.Counting.{get_map}
 use Rattle.cb_world.proofs.Places.{old_or_new, new_stands, cast_stays, is_place}
-use Rattle.cb_world.proofs.Names.{IsSound, cast_once}
+use Rattle.cb_world.proofs.Names.{cast_once}
 use Rattle.cb_world.proofs.Clock.{clock, ready_may_deliver}
 use Rattle.cb_world.proofs.Runs.{IsRegular, run_regular, regular_irreflexive, clock_stays, clock_whole}
 use Rattle.cb_world.proofs.Comparing.{IsClockOf, compares, counts_past, sound_in_order}

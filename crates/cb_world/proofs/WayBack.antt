@@ -1,18 +1,17 @@
 -- Every run of the causal machine is a stamped run without its times.
 use Rattle.std.specs.Prelude.{slice_get}
-use Rattle.std.proofs.Common.{◌≡◌, ◌≢◌, ℕ, zero, suc, ◌+◌, ◌<◌, ◌≤◌, Bool, true, false, cond, eqb, ◌⊎◌, inl, inr, List, [], ◌∷◌, ◌++◌, map, length, take, get_or, Option, None, Some, refl, sym, ◌∙◌, ap, subst, arith, eq-eqb, ne_eqb}
+use Rattle.std.proofs.Common.{◌≡◌, ℕ, zero, suc, ◌+◌, ◌<◌, ◌≤◌, Bool, false, cond, eqb, inl, inr, List, [], ◌∷◌, ◌++◌, length, Option, Some, refl, sym, ◌∙◌, ap, subst, arith, eq-eqb, ne_eqb}
 use Rattle.std.proofs.lemmas.List.{map_push}
-use Rattle.std.proofs.lemmas.Bool.{cases_lt, cases_eq}
+use Rattle.std.proofs.lemmas.Bool.{cases_eq}
 use mathlib.Core.Path.{fun_ext}
 use Rattle.cb_times.specs.Order.{field}
 use Rattle.cb_delay.specs.Rule.{IsReady}
-use Rattle.cb_world.specs.declared.event.Name.{Name}
 use Rattle.cb_world.specs.declared.event.Event.{Event}
 use Rattle.cb_world.specs.declared.event.Event.TheVariants.{Cast, Deliver}
 use Rattle.cb_world.specs.declared.stamp.StampedEvent.{StampedEvent}
 use Rattle.cb_world.specs.Events.{name_of, is_of, counted, count, Appends}
-use Rattle.cb_world.specs.HappenedBefore.{Lists, Place, event_at, IsCastAt}
-use Rattle.cb_world.specs.Machine.{next_name, MayDeliver, Step, Casts, Delivers, Run, Start, Then}
+use Rattle.cb_world.specs.HappenedBefore.{Lists, Place, IsCastAt}
+use Rattle.cb_world.specs.Machine.{next_name, Step, Casts, Delivers, Run, Start, Then}
 use Rattle.cb_world.specs.Stamped.{StampedLists, events_of, erased, IsTimeOfList, DelayRuleAllows, StampedStep, StampedRun}
 use Rattle.cb_world.specs.Laws.{IsErasure}
 use Rattle.cb_world.proofs.Counting.{get_map_from}
@@ -21,7 +20,7 @@ use Rattle.cb_world.proofs.Names.{cast_once}
 use Rattle.cb_world.proofs.Clock.{clock, may_deliver_is_ready}
 use Rattle.cb_world.proofs.Runs.{IsRegular, run_regular}
 use Rattle.cb_world.proofs.Comparing.{IsClockOf}
-use Rattle.cb_world.proofs.Stamps.{IsStamped, run_stamped}
+use Rattle.cb_world.proofs.Stamps.{run_stamped}
 
 -- the list of the first n values of a function
 tabulate : ℕ → (ℕ → ℕ) → List ℕ

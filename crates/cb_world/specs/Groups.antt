@@ -10,7 +10,7 @@ use Rattle.cb_world.specs.declared.stamp.StampedEvent.{StampedEvent}
 use Rattle.cb_world.specs.Events.{name_of, payload_of, count, Has, Appends}
 use Rattle.cb_world.specs.HappenedBefore.{Lists}
 use Rattle.cb_world.specs.Machine.{next_name, MayDeliver, Run}
-use Rattle.cb_world.specs.Stamped.{StampedLists, events_of, DelayRuleAllows, StampedRun}
+use Rattle.cb_world.specs.Stamped.{StampedLists, DelayRuleAllows, StampedRun}
 
 -- what a `Vec` of `Vec`s holds
 abbrev pub contents : {X : Type 0} → List (Vec X Global) → List (List X)

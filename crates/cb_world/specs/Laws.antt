@@ -6,7 +6,6 @@ use Rattle.cb_times.specs.declared.order.TimeOrder.TheVariants.{Before, After, S
 use Rattle.cb_world.specs.declared.event.Name.{Name}
 use Rattle.cb_world.specs.Events.{count, numbers_of, consecutive}
 use Rattle.cb_world.specs.HappenedBefore.{Lists, Place, IsPlace, Path, HappenedBefore}
-use Rattle.cb_world.specs.Machine.{Step, Run}
 use Rattle.cb_world.specs.Stamped.{StampedLists, StampedRun, erased, IsTimeOf}
 
 -- no message happened before itself

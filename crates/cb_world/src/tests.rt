@@ -1,14 +1,13 @@
 //! The worked examples, on both machines at once.
 
-ghost use Rattle.std.specs.Prelude.{◌≡◌, ◌<◌, length};
+ghost use Rattle.std.specs.Prelude.{◌≡◌, ◌<◌, ◌≤◌, length};
 
 use crate::causal::CausalGroup;
 use crate::event::Name;
 use crate::refusal::CastRefusal;
 use crate::stamped::StampedGroup;
 use bytes::Bytes;
-use cb_times::TimeOrder;
-use std::alloc::AllocError;
+use std::alloc::{AllocError, Global};
 use std::process::Abort;
 use std::test::Fail;
 
@@ -53,172 +52,129 @@ fn deliver(
     Ok(done)
 }
 
-/// The time of the last event of a member, or no field where it has none.
-fn last_time(group: &StampedGroup, member: usize) -> &[u32]
+/// A step of both groups, and what it gives.
+#[derive(Clone, Copy)]
+enum Move {
+    /// The member casts; its message gets this name and this time.
+    Cast(usize, &'static [u8], Name, &'static [u32]),
+    /// The member delivers this message.
+    Deliver(usize, Name),
+    /// The member may not deliver this message.
+    Waits(usize, Name),
+}
+
+/// The message of a sender with this number.
+fn name(sender: u32, number: u32) -> Name {
+    Name { sender, number }
+}
+
+/// Whether the last event of a member has this time.
+fn has_last_time(group: &StampedGroup, member: usize, time: &[u32]) -> bool
     requires { member < length group.now }
 {
     match group.events(member).last() {
-        Some(stamped) => stamped.time.as_slice(),
-        None => &[],
+        Some(stamped) => stamped.time.as_slice() == time,
+        None => false,
     }
 }
 
-/// How two times compare, field by field.
-fn order_of(a: &[u32], b: &[u32]) -> TimeOrder {
-    let less = a.iter().zip(b).any(|(x, y)| x < y);
-    let greater = a.iter().zip(b).any(|(x, y)| x > y);
-    match (less, greater) {
-        (true, false) => TimeOrder::Before,
-        (false, true) => TimeOrder::After,
-        (false, false) => TimeOrder::Same,
-        (true, true) => TimeOrder::Concurrent,
+/// Makes one move in both groups.
+fn make(
+    rt: &impl Abort,
+    causal: &mut CausalGroup,
+    stamped: &mut StampedGroup,
+    step: &Move,
+) -> Result<(), CastRefusal> {
+    match step {
+        Move::Cast(member, text, expected, time) => {
+            assert!(rt; *member < causal.size() && *member < stamped.size());
+            let got = cast(rt, causal, stamped, *member, *text)?;
+            assert_eq!(rt; got, *expected);
+            assert!(rt; *member < stamped.size());
+            assert!(rt; has_last_time(stamped, *member, *time), "{got:?}");
+        }
+        Move::Deliver(receiver, message) => {
+            assert!(rt; *receiver < causal.size() && *receiver < stamped.size());
+            assert!(rt;
+                deliver(rt, causal, stamped, *receiver, *message)?,
+                "{message:?} at {receiver}"
+            );
+        }
+        Move::Waits(receiver, message) => {
+            assert!(rt; *receiver < causal.size() && *receiver < stamped.size());
+            assert!(rt;
+                !deliver(rt, causal, stamped, *receiver, *message)?,
+                "{message:?} at {receiver}"
+            );
+        }
     }
+    Ok(())
+}
+
+/// Makes the moves in two new groups of this size.
+fn make_all(rt: &impl Abort, alloc: Global, size: usize, moves: &[Move]) -> Result<(), CastRefusal>
+    requires { size ≤ 64 }
+{
+    let mut causal = CausalGroup::new(alloc, size)?;
+    let mut stamped = StampedGroup::new(alloc, size)?;
+    for step in moves {
+        make(rt, &mut causal, &mut stamped, step)?;
+    }
+    Ok(())
 }
 
 #[test]
 fn two_answers_overtake_their_question(rt: HostRuntime) -> Result<(), Fail> {
-    let mut causal = CausalGroup::new(rt.alloc(), 3)?;
-    let mut stamped = StampedGroup::new(rt.alloc(), 3)?;
-
-    let question = cast(&rt, &mut causal, &mut stamped, 0, b"hi")?;
-    assert_eq!(rt;
-        question,
-        Name {
-            sender: 0,
-            number: 1
-        }
-    );
-    assert_eq!(rt; last_time(&stamped, 0), [1, 0, 0].as_slice());
-
-    assert!(rt; deliver(&rt, &mut causal, &mut stamped, 1, question)?);
-    let first = cast(&rt, &mut causal, &mut stamped, 1, b"yo")?;
-    assert_eq!(rt;
-        first,
-        Name {
-            sender: 1,
-            number: 1
-        }
-    );
-    assert_eq!(rt; last_time(&stamped, 1), [1, 1, 0].as_slice());
-    let second = cast(&rt, &mut causal, &mut stamped, 1, b"ok")?;
-    assert_eq!(rt;
-        second,
-        Name {
-            sender: 1,
-            number: 2
-        }
-    );
-    assert_eq!(rt; last_time(&stamped, 1), [1, 2, 0].as_slice());
-
-    assert!(rt;
-        !deliver(&rt, &mut causal, &mut stamped, 2, first)?,
-        "before the question"
-    );
-    assert!(rt;
-        !deliver(&rt, &mut causal, &mut stamped, 2, second)?,
-        "before the question"
-    );
-    assert!(rt; deliver(&rt, &mut causal, &mut stamped, 2, question)?);
-    assert!(rt;
-        !deliver(&rt, &mut causal, &mut stamped, 2, second)?,
-        "before the first answer"
-    );
-    assert!(rt; deliver(&rt, &mut causal, &mut stamped, 2, first)?);
-    assert!(rt; deliver(&rt, &mut causal, &mut stamped, 2, second)?);
-    assert_eq!(rt; last_time(&stamped, 2), [1, 2, 0].as_slice());
-    assert_eq!(rt; causal.events(2).len(), 3);
-
-    assert!(rt;
-        !deliver(&rt, &mut causal, &mut stamped, 2, question)?,
-        "a second time"
-    );
-    assert!(rt;
-        !deliver(&rt, &mut causal, &mut stamped, 0, question)?,
-        "its own message"
-    );
-    assert!(rt;
-        !deliver(
-            &rt,
-            &mut causal,
-            &mut stamped,
-            0,
-            Name {
-                sender: 2,
-                number: 1
-            }
-        )?,
-        "never cast"
-    );
-    assert!(rt;
-        !deliver(
-            &rt,
-            &mut causal,
-            &mut stamped,
-            0,
-            Name {
-                sender: 3,
-                number: 1
-            }
-        )?,
-        "outside the group"
-    );
-    assert_eq!(rt;
-        order_of([1, 0, 0].as_slice(), last_time(&stamped, 1)),
-        TimeOrder::Before
-    );
+    let question = name(0, 1);
+    let first = name(1, 1);
+    let second = name(1, 2);
+    let moves = [
+        Move::Cast(0, b"hi", question, &[1, 0, 0]),
+        Move::Deliver(1, question),
+        Move::Cast(1, b"yo", first, &[1, 1, 0]),
+        Move::Cast(1, b"ok", second, &[1, 2, 0]),
+        // Both answers come to member 2 before the question, the second one first.
+        Move::Waits(2, second),
+        Move::Waits(2, first),
+        Move::Deliver(2, question),
+        Move::Waits(2, second),
+        Move::Deliver(2, first),
+        Move::Deliver(2, second),
+        // Nothing is delivered twice, to its own sender, or without a cast.
+        Move::Waits(2, question),
+        Move::Waits(0, question),
+        Move::Waits(0, name(2, 1)),
+        Move::Waits(0, name(3, 1)),
+        Move::Cast(2, b"so", name(2, 1), &[1, 2, 1]),
+    ];
+    make_all(&rt, rt.alloc(), 3, &moves)?;
     Ok(())
 }
 
 #[test]
 fn four_members_cast_at_once(rt: HostRuntime) -> Result<(), Fail> {
-    let mut causal = CausalGroup::new(rt.alloc(), 4)?;
-    let mut stamped = StampedGroup::new(rt.alloc(), 4)?;
-
-    let a = cast(&rt, &mut causal, &mut stamped, 0, b"a")?;
-    let b = cast(&rt, &mut causal, &mut stamped, 1, b"b")?;
-    assert_eq!(rt; last_time(&stamped, 0), [1, 0, 0, 0].as_slice());
-    assert_eq!(rt; last_time(&stamped, 1), [0, 1, 0, 0].as_slice());
-    assert_eq!(rt;
-        order_of(last_time(&stamped, 0), last_time(&stamped, 1)),
-        TimeOrder::Concurrent
-    );
-
-    assert!(rt; deliver(&rt, &mut causal, &mut stamped, 2, b)?);
-    assert!(rt; deliver(&rt, &mut causal, &mut stamped, 2, a)?);
-    let c = cast(&rt, &mut causal, &mut stamped, 2, b"c")?;
-    assert_eq!(rt; last_time(&stamped, 2), [1, 1, 1, 0].as_slice());
-
-    assert!(rt; deliver(&rt, &mut causal, &mut stamped, 0, b)?);
-    let d = cast(&rt, &mut causal, &mut stamped, 0, b"d")?;
-    assert_eq!(rt; last_time(&stamped, 0), [2, 1, 0, 0].as_slice());
-    assert_eq!(rt;
-        order_of(last_time(&stamped, 2), last_time(&stamped, 0)),
-        TimeOrder::Concurrent
-    );
-
-    assert!(rt; !deliver(&rt, &mut causal, &mut stamped, 3, c)?);
-    assert!(rt; deliver(&rt, &mut causal, &mut stamped, 3, a)?);
-    assert!(rt; !deliver(&rt, &mut causal, &mut stamped, 3, c)?);
-    assert!(rt; !deliver(&rt, &mut causal, &mut stamped, 3, d)?);
-    assert!(rt; deliver(&rt, &mut causal, &mut stamped, 3, b)?);
-    assert!(rt; deliver(&rt, &mut causal, &mut stamped, 3, d)?);
-    assert!(rt; deliver(&rt, &mut causal, &mut stamped, 3, c)?);
-    let e = cast(&rt, &mut causal, &mut stamped, 3, b"e")?;
-    assert_eq!(rt;
-        e,
-        Name {
-            sender: 3,
-            number: 1
-        }
-    );
-    assert_eq!(rt; last_time(&stamped, 3), [2, 1, 1, 1].as_slice());
-    assert_eq!(rt;
-        order_of(last_time(&stamped, 0), last_time(&stamped, 3)),
-        TimeOrder::Before
-    );
-    assert_eq!(rt;
-        order_of(last_time(&stamped, 3), last_time(&stamped, 2)),
-        TimeOrder::After
-    );
+    let (a, b, c, d) = (name(0, 1), name(1, 1), name(2, 1), name(0, 2));
+    let moves = [
+        // Two casts of which neither happened before the other.
+        Move::Cast(0, b"a", a, &[1, 0, 0, 0]),
+        Move::Cast(1, b"b", b, &[0, 1, 0, 0]),
+        Move::Deliver(2, b),
+        Move::Deliver(2, a),
+        // Two more, each after the first two.
+        Move::Cast(2, b"c", c, &[1, 1, 1, 0]),
+        Move::Deliver(0, b),
+        Move::Cast(0, b"d", d, &[2, 1, 0, 0]),
+        Move::Waits(3, c),
+        Move::Deliver(3, a),
+        Move::Waits(3, c),
+        Move::Waits(3, d),
+        Move::Deliver(3, b),
+        Move::Deliver(3, d),
+        Move::Deliver(3, c),
+        Move::Cast(3, b"e", name(3, 1), &[2, 1, 1, 1]),
+        Move::Deliver(1, a),
+        Move::Waits(1, name(3, 1)),
+    ];
+    make_all(&rt, rt.alloc(), 4, &moves)?;
     Ok(())
 }

@@ -1,5 +1,5 @@
-use Rattle.std.proofs.Common.{◌≡◌, ℕ, ◌+◌, cond, take, Bool, ap, sym, ◌∙◌, arith}
-use Rattle.cb_world.specs.Events.{is_cast, casts_of}
+use Rattle.std.proofs.Common.{◌≡◌, ℕ, cond, Bool, ap, sym, arith}
+use Rattle.cb_world.specs.Events.{is_cast}
 use Rattle.cb_world.proofs.Counting.{counted_next}
 use Rattle.cb_world.proofs.GroupLists.{read_stands}
 use Rattle.cb_world.proofs.causal.cast_count.Goals as goal

@@ -1,7 +1,6 @@
 use Rattle.std.proofs.lemmas.List.{length-map}
-use Rattle.std.specs.Prelude.{◌≡◌, ℕ, List, IfSome, ◌≤◌, length}
-use Rattle.cb_world.specs.declared.event.Event.{Event}
-use Rattle.cb_world.specs.Groups.{contents, lists_in, HasPastAt, HasPastOf}
+use Rattle.std.specs.Prelude.{◌≤◌, length}
+use Rattle.cb_world.specs.Groups.{contents}
 use Rattle.cb_world.proofs.CausalGroups.{own_not_deliverable, outside_not_deliverable, past_deliverable_at, no_past_not_deliverable}
 use Rattle.cb_world.proofs.causal.deliverable_at.Goals as goal
 

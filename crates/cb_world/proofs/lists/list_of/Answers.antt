@@ -1,4 +1,3 @@
-use Rattle.std.proofs.Common.{Vec, Global, sym, ◌∙◌, ap}
 use Rattle.cb_world.proofs.GroupLists.{lists_in_read}
 use Rattle.cb_world.proofs.lists.list_of.Goals as goal
 
