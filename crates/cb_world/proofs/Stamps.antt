@@ -1,6 +1,6 @@
 -- A stamped run without its times is a run of the causal machine, and its times are the clocks of its casts.
 use Rattle.std.specs.Prelude.{slice_get}
-use Rattle.std.proofs.Common.{◌≡◌, ◌≢◌, ℕ, ◌+◌, ◌<◌, ◌≤◌, inl, inr, List, [], length, Some, sym, ◌∙◌, ap, subst, arith}
+use Rattle.std.proofs.Common.{◌≡◌, ℕ, ◌+◌, ◌<◌, ◌≤◌, inl, inr, List, [], length, Option, Some, sym, ◌∙◌, ap, subst, arith}
 use Rattle.std.proofs.lemmas.List.{map_push}
 use Rattle.cb_times.specs.Order.{field}
 use Rattle.cb_delay.specs.Rule.{IsReady}
@@ -11,12 +11,12 @@ use Rattle.cb_world.specs.declared.stamp.StampedEvent.{StampedEvent}
 use Rattle.cb_world.specs.Events.{name_of, count, Appends}
 use Rattle.cb_world.specs.HappenedBefore.{Lists, Place, IsCastAt}
 use Rattle.cb_world.specs.Machine.{next_name, MayDeliver, Casts, Delivers, Run, Start, Then}
-use Rattle.cb_world.specs.Stamped.{StampedLists, events_of, erased, IsTimeOfList, StampedStep, StampedRun, IsTimeOf}
-use Rattle.cb_world.specs.Laws.{IsInOrder, TimesTellOrder, TimesCountThePast, TimesHaveSize}
-use Rattle.cb_world.proofs.Counting.{get_map}
+use Rattle.cb_world.specs.Stamped.{StampedLists, events_of, erased, IsTimeOfList, StampedStep, StampedRun, IsTimeOf, DelayRuleAllows}
+use Rattle.cb_world.specs.Laws.{IsInOrder, TimesTellOrder, TimesCountThePast, TimesHaveSize, DelayRuleIsExact}
+use Rattle.cb_world.proofs.Counting.{get_map, get_map_from}
 use Rattle.cb_world.proofs.Places.{old_or_new, new_stands, cast_stays, is_place}
 use Rattle.cb_world.proofs.Names.{cast_once}
-use Rattle.cb_world.proofs.Clock.{clock, ready_may_deliver}
+use Rattle.cb_world.proofs.Clock.{clock, ready_may_deliver, may_deliver_is_ready}
 use Rattle.cb_world.proofs.Runs.{IsRegular, run_regular, regular_irreflexive, clock_stays, clock_whole}
 use Rattle.cb_world.proofs.Comparing.{IsClockOf, compares, counts_past, sound_in_order}
 
@@ -72,57 +72,120 @@ casts_stamped size before after is i payload time in_group app stamp = record {
       same = λ k. stamp.counts k ∙ sym (clock_whole (erased before) (erased after) i (Cast (next_name i (events_of (before i))) payload) plain k);
     }
 
-delivers_stamped : (size : ℕ) (before after : StampedLists) → IsStamped size before → (i j index : ℕ) (m : Name) (payload time : List ℕ) → j < size → i ≢ j
-    → slice_get (before i) index ≡ Some (record { event = Cast m payload; time = time })
-    → IsReady i (field time) (λ k. count k (events_of (before j)))
+-- an event with a time, as it is looked up
+abbrev with_time : List ℕ → Event → Option StampedEvent
+with_time time e = Some (record { event = e; time = time })
+
+-- What the delay rule allows may be delivered.
+module _ (size : ℕ) (lists : StampedLists) (is : IsStamped size lists) (j : ℕ) (m : Name) (payload time : List ℕ) (may : DelayRuleAllows lists j m payload time) where
+  reg : IsRegular (erased lists)
+  reg = run_regular size (erased lists) is.causal
+
+  cast : IsCastAt (erased lists) (record { member = may.caster; index = may.index }) m
+  cast = record {
+    payload = payload;
+    stands = get_map (λ (x : StampedEvent). x.event) (lists may.caster) may.index (record { event = Cast m payload; time = time }) may.stands;
+  }
+
+  clock_of_m : IsClockOf (erased lists) m time
+  clock_of_m = is.times may.caster may.index (record { event = Cast m payload; time = time }) may.stands
+
+  sender : m.sender ≡ may.caster
+  sender = reg.sound.casters (record { member = may.caster; index = may.index }) m cast
+
+  fields : (k : ℕ) → field time k ≡ clock (erased lists) (record { member = may.caster; index = may.index }) k
+  fields k =
+      let place : Place = record { member = may.caster; index = may.index } in
+      let one : clock_of_m.place ≡ place = cast_once (erased lists) reg.sound clock_of_m.place place m clock_of_m.cast cast in
+      clock_of_m.same k ∙ ap (λ (p : Place). clock (erased lists) p k) one
+
+  ready_at_clock : IsReady m.sender (clock (erased lists) (record { member = may.caster; index = may.index })) (λ k. count k (erased lists j))
+  ready_at_clock =
+      let place : Place = record { member = may.caster; index = may.index } in
+      record {
+        next =
+            let next : clock (erased lists) place may.caster ≡ count may.caster (erased lists j) + 1 = sym (fields may.caster) ∙ may.ready.next in
+            subst (λ (k : ℕ). clock (erased lists) place k ≡ count k (erased lists j) + 1) (sym sender) next;
+        others = λ k other.
+            let less : field time k ≤ count k (erased lists j) = may.ready.others k (λ e. other (e ∙ sym sender)) in
+            omega (arith, fields k);
+      }
+
+  pub allowed_may_deliver : MayDeliver (erased lists) j m payload
+  unfolding cast
+  allowed_may_deliver =
+      ready_may_deliver (erased lists) reg.sound reg.closed (regular_irreflexive (erased lists) reg) (record { member = may.caster; index = may.index }) j m
+      cast (λ e. may.another (sym sender ∙ e)) ready_at_clock
+
+  pub allowed_clock : IsClockOf (erased lists) m time
+  allowed_clock = clock_of_m
+
+-- What may be delivered, the delay rule allows.
+module _ (size : ℕ) (lists : StampedLists) (is : IsStamped size lists) (j : ℕ) (m : Name) (payload : List ℕ) (may : MayDeliver (erased lists) j m payload) where
+  with_stamp : (s : StampedEvent) → slice_get (lists may.caster) may.index ≡ Some s → s.event ≡ Cast m payload → DelayRuleAllows lists j m payload s.time
+  with_stamp s at is_cast = record {
+    caster = may.caster;
+    index = may.index;
+    another = may.another;
+    stands = at ∙ ap (with_time s.time) is_cast;
+    ready = ready;
+  }
+    where
+      place : Place
+      place = record { member = may.caster; index = may.index }
+
+      cast_there : IsCastAt (erased lists) place m
+      cast_there = record { payload = payload; stands = may.stands }
+
+      regular : IsRegular (erased lists)
+      regular = run_regular size (erased lists) is.causal
+
+      clock_there : IsClockOf (erased lists) m s.time
+      clock_there = subst (λ (e : Event). IsClockOf (erased lists) (name_of e) s.time) is_cast (is.times may.caster may.index s at)
+
+      same_fields : (k : ℕ) → field s.time k ≡ clock (erased lists) place k
+      same_fields k =
+          let one : clock_there.place ≡ place = cast_once (erased lists) regular.sound clock_there.place place m clock_there.cast cast_there in
+          clock_there.same k ∙ ap (λ (p : Place). clock (erased lists) p k) one
+
+      sender_there : m.sender ≡ may.caster
+      sender_there = regular.sound.casters place m cast_there
+
+      at_clock : IsReady m.sender (clock (erased lists) place) (λ k. count k (erased lists j))
+      at_clock = may_deliver_is_ready (erased lists) regular.sound place j m payload cast_there may
+
+      ready : IsReady may.caster (field s.time) (λ k. count k (events_of (lists j)))
+      ready = record {
+        next =
+            let next : field s.time m.sender ≡ count m.sender (erased lists j) + 1 = same_fields m.sender ∙ at_clock.next in
+            subst (λ (k : ℕ). field s.time k ≡ count k (erased lists j) + 1) sender_there next;
+        others = λ k other.
+            let less : clock (erased lists) place k ≤ count k (erased lists j) = at_clock.others k (λ e. other (e ∙ sender_there)) in
+            omega (arith, same_fields k);
+      }
+
+  pub may_deliver_is_allowed : (time : List ℕ) × DelayRuleAllows lists j m payload time
+  may_deliver_is_allowed =
+      let (s, at, is_cast) = get_map_from (λ (x : StampedEvent). x.event) (lists may.caster) may.index (Cast m payload) may.stands in
+      (s.time, with_stamp s at is_cast)
+
+delivers_stamped : (size : ℕ) (before after : StampedLists) → IsStamped size before → (j : ℕ) (m : Name) (payload time : List ℕ) → j < size
+    → DelayRuleAllows before j m payload time
     → Appends before after j (record { event = Deliver m payload; time = time }) → IsStamped size after
-delivers_stamped size before after is i j index m payload time in_group another stands ready app = record {
-  causal = Then (erased before) (erased after) is.causal (Delivers j m payload in_group may plain);
+delivers_stamped size before after is j m payload time in_group may app = record {
+  causal = Then (erased before) (erased after) is.causal (Delivers j m payload in_group (allowed_may_deliver size before is j m payload time may) plain);
   times = times_kept before after j (record { event = Deliver m payload; time = time }) app is.times
-      (clock_kept (erased before) (erased after) j (Deliver m payload) plain m time clock_of_m);
+      (clock_kept (erased before) (erased after) j (Deliver m payload) plain m time (allowed_clock size before is j m payload time may));
 }
   where
-    reg : IsRegular (erased before)
-    reg = run_regular size (erased before) is.causal
-
     plain : Appends (erased before) (erased after) j (Deliver m payload)
     plain = erased_appends before after j (record { event = Deliver m payload; time = time }) app
-
-    place : Place
-    place = record { member = i; index = index }
-
-    cast : IsCastAt (erased before) place m
-    cast = record { payload = payload; stands = get_map (λ (x : StampedEvent). x.event) (before i) index (record { event = Cast m payload; time = time }) stands }
-
-    clock_of_m : IsClockOf (erased before) m time
-    clock_of_m = is.times i index (record { event = Cast m payload; time = time }) stands
-
-    sender : m.sender ≡ i
-    sender = reg.sound.casters place m cast
-
-    fields : (k : ℕ) → field time k ≡ clock (erased before) place k
-    fields k =
-        let one : clock_of_m.place ≡ place = cast_once (erased before) reg.sound clock_of_m.place place m clock_of_m.cast cast in
-        clock_of_m.same k ∙ ap (λ (p : Place). clock (erased before) p k) one
-
-    ready_at_clock : IsReady m.sender (clock (erased before) place) (λ k. count k (erased before j))
-    ready_at_clock = record {
-      next =
-          let next : clock (erased before) place i ≡ count i (erased before j) + 1 = sym (fields i) ∙ ready.next in
-          subst (λ (k : ℕ). clock (erased before) place k ≡ count k (erased before j) + 1) (sym sender) next;
-      others = λ k other.
-          let less : field time k ≤ count k (erased before j) = ready.others k (λ e. other (e ∙ sym sender)) in
-          omega (arith, fields k);
-    }
-
-    may : MayDeliver (erased before) j m payload
-    may = ready_may_deliver (erased before) reg.sound reg.closed (regular_irreflexive (erased before) reg) place j m cast (λ e. another (sym sender ∙ e)) ready_at_clock
 
 pub step_stamped : (size : ℕ) (before after : StampedLists) → IsStamped size before → StampedStep size before after → IsStamped size after
 step_stamped size before after is (StampedStep.Casts i payload in_group casts) =
     casts_stamped size before after is i payload casts.time in_group casts.appends casts.stamp
 step_stamped size before after is (StampedStep.Delivers j m payload time in_group may app) =
-    delivers_stamped size before after is may.caster j may.index m payload time in_group may.another may.stands may.ready app
+    delivers_stamped size before after is j m payload time in_group may app
 
 pub run_stamped : (size : ℕ) (lists : StampedLists) → StampedRun size lists → IsStamped size lists
 run_stamped size lists (StampedRun.Start _ empty) = record {
@@ -177,3 +240,10 @@ times_count_the_past size lists r m time of_m k t one =
 -- the messages of each sender stand in order
 pub run_in_order : (size : ℕ) (lists : Lists) → Run size lists → IsInOrder lists
 run_in_order size lists r = sound_in_order lists (run_regular size lists r).sound
+
+-- the delay rule allows exactly what may be delivered
+pub delay_rule_is_exact : (size : ℕ) (lists : StampedLists) → StampedRun size lists → DelayRuleIsExact lists
+delay_rule_is_exact size lists r receiver m payload = (
+  (λ allowed. allowed_may_deliver size lists (run_stamped size lists r) receiver m payload allowed.0 allowed.1),
+  (λ may. may_deliver_is_allowed size lists (run_stamped size lists r) receiver m payload may),
+)

@@ -1,26 +1,20 @@
 -- Every run of the causal machine is a stamped run without its times.
 use Rattle.std.specs.Prelude.{slice_get}
-use Rattle.std.proofs.Common.{◌≡◌, ℕ, zero, suc, ◌+◌, ◌<◌, ◌≤◌, Bool, false, cond, eqb, inl, inr, List, [], ◌∷◌, ◌++◌, length, Option, Some, refl, sym, ◌∙◌, ap, subst, arith, eq-eqb, ne_eqb}
+use Rattle.std.proofs.Common.{◌≡◌, ℕ, zero, suc, ◌<◌, ◌≤◌, Bool, false, cond, eqb, inl, inr, List, [], ◌∷◌, ◌++◌, length, Some, refl, sym, ◌∙◌, ap, subst, arith, eq-eqb, ne_eqb}
 use Rattle.std.proofs.lemmas.List.{map_push}
 use Rattle.std.proofs.lemmas.Bool.{cases_eq}
 use mathlib.Core.Path.{fun_ext}
 use Rattle.cb_times.specs.Order.{field}
-use Rattle.cb_delay.specs.Rule.{IsReady}
 use Rattle.cb_world.specs.declared.event.Event.{Event}
 use Rattle.cb_world.specs.declared.event.Event.TheVariants.{Cast, Deliver}
 use Rattle.cb_world.specs.declared.stamp.StampedEvent.{StampedEvent}
 use Rattle.cb_world.specs.Events.{name_of, is_of, counted, count, Appends}
-use Rattle.cb_world.specs.HappenedBefore.{Lists, Place, IsCastAt}
+use Rattle.cb_world.specs.HappenedBefore.{Lists}
 use Rattle.cb_world.specs.Machine.{next_name, Step, Casts, Delivers, Run, Start, Then}
-use Rattle.cb_world.specs.Stamped.{StampedLists, events_of, erased, IsTimeOfList, DelayRuleAllows, StampedStep, StampedRun}
+use Rattle.cb_world.specs.Stamped.{StampedLists, events_of, erased, IsTimeOfList, StampedStep, StampedRun}
 use Rattle.cb_world.specs.Laws.{IsErasure}
-use Rattle.cb_world.proofs.Counting.{get_map_from}
 use Rattle.cb_world.proofs.Places.{old_or_new}
-use Rattle.cb_world.proofs.Names.{cast_once}
-use Rattle.cb_world.proofs.Clock.{clock, may_deliver_is_ready}
-use Rattle.cb_world.proofs.Runs.{IsRegular, run_regular}
-use Rattle.cb_world.proofs.Comparing.{IsClockOf}
-use Rattle.cb_world.proofs.Stamps.{run_stamped}
+use Rattle.cb_world.proofs.Stamps.{run_stamped, may_deliver_is_allowed}
 
 -- the list of the first n values of a function
 tabulate : ℕ → (ℕ → ℕ) → List ℕ
@@ -69,10 +63,6 @@ none_outside size lists run j k outside =
     (λ a e stands.
     let inside : (name_of e).sender < size = in_group size lists run j a e stands in
     ne_eqb (name_of e).sender k (λ same. let differ : ⊥ = omega arith in differ))
-
--- an event with a time, as it is looked up
-abbrev with_time : List ℕ → Event → Option StampedEvent
-with_time time e = Some (record { event = e; time = time })
 
 -- lists that got x at the end of member i's
 grown : {X : Type 0} → (ℕ → List X) → ℕ → X → ℕ → List X
@@ -123,56 +113,12 @@ step_is_erasure size stamped run after (Casts i payload inside app) =
           ∙ ap (count k) (sym (same i));
     }
 step_is_erasure size stamped run after (Delivers j m payload inside may app) =
-    let (s, at, is) = get_map_from (λ (x : StampedEvent). x.event) (stamped may.caster) may.index (Cast m payload) may.stands in
-    with_stamp s at is
-  where
-    place : Place
-    place = record { member = may.caster; index = may.index }
-
-    cast : IsCastAt (erased stamped) place m
-    cast = record { payload = payload; stands = may.stands }
-
-    with_stamp : (s : StampedEvent) → slice_get (stamped may.caster) may.index ≡ Some s → s.event ≡ Cast m payload → IsErasure size after
-    with_stamp s at is =
-        let new : StampedEvent = record { event = Deliver m payload; time = s.time } in
-        let stands : slice_get (stamped may.caster) may.index ≡ Some (record { event = Cast m payload; time = s.time }) =
-        at ∙ ap (with_time s.time) is in
-        let allowed : DelayRuleAllows stamped j m payload s.time =
-        record { caster = may.caster; index = may.index; another = may.another; stands = stands; ready = ready } in (
-          grown stamped j new,
-          StampedRun.Then stamped (grown stamped j new) run (StampedStep.Delivers j m payload s.time inside allowed (grown_appends stamped j new)),
-          λ k. grown_erased stamped after j new app k,
-        )
-      where
-        causal : Run size (erased stamped)
-        causal = (run_stamped size stamped run).causal
-
-        reg : IsRegular (erased stamped)
-        reg = run_regular size (erased stamped) causal
-
-        clock_of_m : IsClockOf (erased stamped) m s.time
-        clock_of_m = subst (λ (e : Event). IsClockOf (erased stamped) (name_of e) s.time) is ((run_stamped size stamped run).times may.caster may.index s at)
-
-        fields : (k : ℕ) → field s.time k ≡ clock (erased stamped) place k
-        fields k =
-            let one : clock_of_m.place ≡ place = cast_once (erased stamped) reg.sound clock_of_m.place place m clock_of_m.cast cast in
-            clock_of_m.same k ∙ ap (λ (p : Place). clock (erased stamped) p k) one
-
-        sender : m.sender ≡ may.caster
-        sender = reg.sound.casters place m cast
-
-        at_clock : IsReady m.sender (clock (erased stamped) place) (λ k. count k (erased stamped j))
-        at_clock = may_deliver_is_ready (erased stamped) reg.sound place j m payload cast may
-
-        ready : IsReady may.caster (field s.time) (λ k. count k (events_of (stamped j)))
-        ready = record {
-          next =
-              let next : field s.time m.sender ≡ count m.sender (erased stamped j) + 1 = fields m.sender ∙ at_clock.next in
-              subst (λ (k : ℕ). field s.time k ≡ count k (erased stamped j) + 1) sender next;
-          others = λ k other.
-              let less : clock (erased stamped) place k ≤ count k (erased stamped j) = at_clock.others k (λ e. other (e ∙ sender)) in
-              omega (arith, fields k);
-        }
+    let (time, allowed) = may_deliver_is_allowed size stamped (run_stamped size stamped run) j m payload may in
+    let new : StampedEvent = record { event = Deliver m payload; time = time } in (
+      grown stamped j new,
+      StampedRun.Then stamped (grown stamped j new) run (StampedStep.Delivers j m payload time inside allowed (grown_appends stamped j new)),
+      λ k. grown_erased stamped after j new app k,
+    )
 
 -- every run of the causal machine is the erasure of a stamped run
 pub causal_is_erasure : (size : ℕ) (lists : Lists) → Run size lists → IsErasure size lists

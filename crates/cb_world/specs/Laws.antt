@@ -6,7 +6,8 @@ use Rattle.cb_times.specs.declared.order.TimeOrder.TheVariants.{Before, After, S
 use Rattle.cb_world.specs.declared.event.Name.{Name}
 use Rattle.cb_world.specs.Events.{count, numbers_of, consecutive}
 use Rattle.cb_world.specs.HappenedBefore.{Lists, Place, IsPlace, Path, HappenedBefore}
-use Rattle.cb_world.specs.Stamped.{StampedLists, StampedRun, erased, IsTimeOf}
+use Rattle.cb_world.specs.Machine.{MayDeliver}
+use Rattle.cb_world.specs.Stamped.{StampedLists, StampedRun, erased, IsTimeOf, DelayRuleAllows}
 
 -- no message happened before itself
 abbrev pub IsIrreflexive : Lists → Type 0
@@ -51,6 +52,12 @@ TimesHaveSize size lists = (m : Name) (time : List ℕ) → IsTimeOf lists m tim
 -- these are the lists of some stamped run, without its times
 abbrev pub IsErasure : ℕ → Lists → Type 0
 IsErasure size lists = (stamped : StampedLists) × StampedRun size stamped × ((k : ℕ) → erased stamped k ≡ lists k)
+
+-- the delay rule lets a member deliver a message exactly where causality does
+abbrev pub DelayRuleIsExact : StampedLists → Type 0
+DelayRuleIsExact lists =
+    (receiver : ℕ) (m : Name) (payload : List ℕ)
+    → ((time : List ℕ) × DelayRuleAllows lists receiver m payload time) ↔ MayDeliver (erased lists) receiver m payload
 
 -- no path leads from a place back to it
 abbrev pub IsAcyclic : Lists → Type 0

@@ -6,7 +6,7 @@ ghost use Rattle.std.specs.Prelude.{ℕ};
 ghost use Rattle.cb_world.specs.HappenedBefore.{Lists};
 ghost use Rattle.cb_world.specs.Machine.{Step, Run};
 ghost use Rattle.cb_world.specs.Stamped.{StampedLists, StampedRun, erased};
-ghost use Rattle.cb_world.specs.Laws.{IsAcyclic, IsIrreflexive, IsTransitive, KeepsPaths, TimesTellOrder, TimesCountThePast, TimesHaveSize, IsInOrder, IsErasure};
+ghost use Rattle.cb_world.specs.Laws.{IsAcyclic, IsIrreflexive, IsTransitive, KeepsPaths, TimesTellOrder, TimesCountThePast, TimesHaveSize, IsInOrder, IsErasure, DelayRuleIsExact};
 
 /// Happened-before is a strict order on the messages of every run of the causal machine (Lamport 1978, "The partial ordering").
 pub fn happened_before_is_strict_order()
@@ -32,7 +32,9 @@ pub fn stamped_broadcast_is_causal()
     ensures in_order { (size : ℕ) (lists : StampedLists) → StampedRun size lists → IsInOrder (erased lists) }
 {}
 
-/// Every run of the causal machine can be stamped: the delay rule holds nothing back longer than causality asks.
+/// The stamped machine is no smaller thing: the delay rule holds nothing back longer than causality asks, and every run of
+/// the causal machine is one of the stamped machine without its times.
 pub fn causal_broadcast_can_be_stamped()
-    ensures { (size : ℕ) (lists : Lists) → Run size lists → IsErasure size lists }
+    ensures exact { (size : ℕ) (lists : StampedLists) → StampedRun size lists → DelayRuleIsExact lists }
+    ensures erasure { (size : ℕ) (lists : Lists) → Run size lists → IsErasure size lists }
 {}
