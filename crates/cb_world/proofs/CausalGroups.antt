@@ -30,6 +30,7 @@ step_causal lists i es is step = record {
   run = rw length-set (Then (lists_in lists) (lists_in (set lists i es)) is.run step);
 }
 
+-- a cast leads from a run to a run
 pub cast_causal : (lists : List (List Event)) (i : ℕ) (payload : List ℕ) → IsCausal lists → i < length lists
     → IsCausal (set lists i (lists_in lists i ++ Cast (next_name i (lists_in lists i)) payload ∷ []))
 cast_causal lists i payload is inside =
@@ -47,6 +48,7 @@ module _ (lists : List (List Event)) (receiver : ℕ) (m : Name) where
       let same : cast ≡ payload = sym (ap payload_of event) ∙ says in
       (payload, subst (λ (p : List ℕ). MayDeliver (lists_in lists) receiver m p) same may, set_appends lists receiver (Deliver m payload) inside)
 
+  -- and such a delivery leads from a run to a run
   pub delivery_causal : (index : ℕ) (payload : List ℕ) → receiver < length lists → IsCausal lists → IsDeliverableAt (lists_in lists) receiver m index
       → SaysAt (lists_in lists m.sender) index payload → IsCausal (set lists receiver (lists_in lists receiver ++ Deliver m payload ∷ []))
   delivery_causal index payload inside is at says =
@@ -60,6 +62,7 @@ module _ (lists : List (List Event)) (receiver : ℕ) (m : Name) where
     own_not_deliverable own (payload, may) =
         may.another (sym (deliverable_sender (lists_in lists) (run_regular (length lists) (lists_in lists) is.run) receiver m payload may) ∙ own)
 
+    -- nor one of a sender outside the group
     pub outside_not_deliverable : length lists ≤ m.sender → IsDeliverable (lists_in lists) receiver m → ⊥
     outside_not_deliverable outside d =
         let past : HasPastOf (lists_in lists m.sender) (lists_in lists receiver) m =
@@ -78,6 +81,7 @@ module _ (lists : List (List Event)) (receiver : ℕ) (m : Name) where
         past_is_deliverable (lists_in lists) (run_regular (length lists) (lists_in lists) is.run) receiver m another past in
         (past.payload, may, subst (λ (i : ℕ). slice_get (lists_in lists m.sender) i ≡ Some (Cast m past.payload)) same past.stands)
 
+    -- nor one whose past it lacks
     pub no_past_not_deliverable : (HasPastOf (lists_in lists m.sender) (lists_in lists receiver) m → ⊥) → IsDeliverable (lists_in lists) receiver m → ⊥
     no_past_not_deliverable none d = none (deliverable_has_past (lists_in lists) (run_regular (length lists) (lists_in lists) is.run) receiver m d)
 

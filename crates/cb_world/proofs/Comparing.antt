@@ -53,12 +53,14 @@ module _ (lists : Lists) (reg : IsRegular lists) where
         let most : a.number ≤ field time_b a.sender = omega (arith, of_a.same a.sender) in
         (counts_past b time_b of_b a.sender a.number (cast_number lists reg.sound of_a.place a of_a.cast)).0 most
 
+    -- one message has one time
     same_clocks : a ≡ b → (k : ℕ) → field time_a k ≡ field time_b k
     same_clocks same k =
         let one : of_a.place ≡ of_b.place =
         cast_once lists reg.sound of_a.place of_b.place b (subst (λ (x : Name). IsCastAt lists of_a.place x) same of_a.cast) of_b.cast in
         of_a.same k ∙ ap (λ (p : Place). clock lists p k) one ∙ sym (of_b.same k)
 
+    -- the time of what happened before is at most the later time
     before_at_most : HappenedBefore lists a b → AtMost (field time_a) (field time_b)
     before_at_most h k =
         let from : h.from ≡ of_a.place = cast_once lists reg.sound h.from of_a.place a h.cast_earlier of_a.cast in
@@ -68,6 +70,7 @@ module _ (lists : Lists) (reg : IsRegular lists) where
         let at_to : clock lists h.to k ≡ clock lists of_b.place k = ap (λ (p : Place). clock lists p k) to in
         omega (arith, of_a.same k, of_b.same k)
 
+    -- and less at the later sender's own field
     before_less : HappenedBefore lists a b → Less (field time_a) (field time_b)
     before_less h = (before_at_most h, (b.sender, strict))
       where
@@ -83,6 +86,7 @@ module _ (lists : Lists) (reg : IsRegular lists) where
                   ]
             ]
 
+    -- and the other way round
     less_before : Less (field time_a) (field time_b) → HappenedBefore lists a b
     less_before (all, some) =
         elim (at_most_there all) [

@@ -48,6 +48,7 @@ module _ {X : Type 0} where
   take_left [] ys (suc n) h = absurd (omega arith)
   take_left (x ∷ xs) ys (suc n) h = ap (λ (zs : List X). x ∷ zs) (take_left xs ys n (omega arith))
 
+  -- all elements are the whole list
   pub take_whole : (xs : List X) → take (length xs) xs ≡ xs
   take_whole [] = refl
   take_whole (x ∷ xs) = ap (λ (zs : List X). x ∷ zs) (take_whole xs)
@@ -85,6 +86,7 @@ module _ {X : Type 0} where
     counted_step (y ∷ ys) (suc i) x e =
         let h : counted test (take (suc i) ys) ≡ counted test (take i ys) + cond (test x) 1 0 = counted_step ys i x e in omega arith
 
+    -- the same at the index and 1
     pub counted_next : (xs : List X) (i : ℕ) (x : X) → slice_get xs i ≡ Some x
         → counted test (take (i + 1) xs) ≡ counted test (take i xs) + cond (test x) 1 0
     counted_next xs i x e = rw add-one (counted_step xs i x e)
@@ -110,6 +112,7 @@ module _ {X : Type 0} where
     counted_mono (x ∷ xs) (suc i) (suc j) h =
         let less : counted test (take i xs) ≤ counted test (take j xs) = counted_mono xs i j (omega arith) in omega arith
 
+    -- among the first elements no more pass than among all
     pub counted_take : (xs : List X) (i : ℕ) → counted test (take i xs) ≤ counted test xs
     counted_take [] zero = omega arith
     counted_take [] (suc i) = omega arith
@@ -173,6 +176,7 @@ get_map {X} f [] i x e = absurd (cc)
 get_map {X} f (y ∷ ys) zero x e = let one : y ≡ x = cc in ap (λ (z : X). Some (f z)) one
 get_map {X} f (y ∷ ys) (suc i) x e = get_map f ys i x e
 
+-- and the other way round
 pub get_map_from : {X Y : Type 0} (f : X → Y) (xs : List X) (i : ℕ) (y : Y) → slice_get (map f xs) i ≡ Some y
     → (x : X) × (slice_get xs i ≡ Some x) × (f x ≡ y)
 get_map_from f [] i y e = absurd (cc)

@@ -92,6 +92,7 @@ module _ (lists : Lists) (reg : IsRegular lists) (receiver : ℕ) (m : Name) whe
   pub deliverable_sender : (payload : List ℕ) (may : MayDeliver lists receiver m payload) → m.sender ≡ may.caster
   deliverable_sender payload may = reg.sound.casters (record { member = may.caster; index = may.index }) m (record { payload = payload; stands = may.stands })
 
+  -- and the other way round
   pub deliverable_has_past : IsDeliverable lists receiver m → HasPastOf (lists m.sender) (lists receiver) m
   deliverable_has_past (payload, may) = record {
     index = may.index;

@@ -31,19 +31,23 @@ module _ {X : Type 0} where
   lists_in_read (w ∷ vecs) zero v less = refl
   lists_in_read (w ∷ vecs) (suc i) v less = lists_in_read vecs i v (omega arith)
 
+  -- a write of one `Vec` writes one list
   pub contents_set : (vecs : List (Vec X Global)) (i : ℕ) (v : Vec X Global) → contents (set vecs i v) ≡ set (contents vecs) i v.items
   contents_set vecs i v = map-set (λ (u : Vec X Global). u.items) vecs i v
 
+  -- a write of what a list was changes nothing
   pub set_same : (lists : List (List X)) (i : ℕ) → set lists i (lists_in lists i) ≡ lists
   set_same [] i = refl
   set_same (l ∷ ls) zero = refl
   set_same (l ∷ ls) (suc i) = ap (λ (ms : List (List X)). l ∷ ms) (set_same ls i)
 
+  -- the list that was written
   pub lists_in_set_same : (lists : List (List X)) (i : ℕ) (l : List X) → i < length lists → lists_in (set lists i l) i ≡ l
   lists_in_set_same [] i l less = absurd (omega arith)
   lists_in_set_same (m ∷ ms) zero l less = refl
   lists_in_set_same (m ∷ ms) (suc i) l less = lists_in_set_same ms i l (omega arith)
 
+  -- and each other list
   pub lists_in_set_other : (lists : List (List X)) (i k : ℕ) (l : List X) → k ≢ i → lists_in (set lists i l) k ≡ lists_in lists k
   lists_in_set_other [] i k l other = refl
   lists_in_set_other (m ∷ ms) zero zero l other = absurd (other refl)
@@ -51,6 +55,7 @@ module _ {X : Type 0} where
   lists_in_set_other (m ∷ ms) (suc i) zero l other = refl
   lists_in_set_other (m ∷ ms) (suc i) (suc k) l other = lists_in_set_other ms i k l (λ e. other (ap suc e))
 
+  -- past the group the lists are empty
   pub lists_in_past : (lists : List (List X)) (k : ℕ) → length lists ≤ k → lists_in lists k ≡ []
   lists_in_past [] k past = refl
   lists_in_past (m ∷ ms) zero past = absurd (omega arith)
@@ -63,6 +68,7 @@ module _ {X : Type 0} where
       let held : v.items ≡ lists_in (contents vecs) i = ap (λ (u : Vec X Global). u.items) is ∙ sym (lists_in_read vecs i v less) in
       contents_set vecs i w ∙ ap (set (contents vecs) i) (holds ∙ ap (λ (l : List X). l ++ x ∷ []) held)
 
+  -- and a write of a `Vec` that holds what it held
   pub contents_same : (vecs : List (Vec X Global)) (i : ℕ) (v w : Vec X Global) → i < length vecs → v ≡ get_or vecs i v
       → w.items ≡ v.items → contents (set vecs i w) ≡ contents vecs
   contents_same vecs i v w less is holds =

@@ -14,6 +14,7 @@ pub same_name : (a b : Name) → a.sender ≡ b.sender → a.number ≡ b.number
 same_name a b s n =
     let names : ℕ → ℕ → Name = λ i t. record { sender = i; number = t } in ap₂ names s n
 
+-- message t of member i
 abbrev pub named : ℕ → ℕ → Name
 named i t = record { sender = i; number = t }
 
@@ -59,6 +60,7 @@ module _ (lists : Lists) (sound : IsSound lists) where
       number_within j (length (lists j)) h.index h.event at in
       rw (h.named, take_whole (lists j)) at within
 
+  -- and a message whose number is so, the list has
   pub had_from_number : (j : ℕ) (m : Name) → 1 ≤ m.number → m.number ≤ count m.sender (lists j) → Has (lists j) m
   had_from_number j m one most =
       let (index, e, less, stands, called) = stands_within j (length (lists j)) m.sender m.number one (rw (take_whole (lists j)) most) in

@@ -66,19 +66,24 @@ module _ {X : Type 0} (before after : ℕ → List X) (i : ℕ) (x : X) (app : A
         | inr other ↦ omega (arith, ap length (app.others k other))
       ]
 
+  -- and the length of that list by one
   pub length_own : length (after i) ≡ suc (length (before i))
   length_own = ap length app.own ∙ length_more (before i) x
 
 module _ (before after : Lists) (i : ℕ) (x : Event) (app : Appends before after i x) where
+  -- casts and deliveries stay
   pub cast_stays : (p : Place) (m : Name) → IsCastAt before p m → IsCastAt after p m
   cast_stays p m c = record { payload = c.payload; stands = old_stays before after i x app p.member p.index (Cast m c.payload) c.stands }
 
+  -- deliveries too
   pub delivery_stays : (p : Place) (m : Name) → IsDeliveryAt before p m → IsDeliveryAt after p m
   delivery_stays p m d = record { payload = d.payload; stands = old_stays before after i x app p.member p.index (Deliver m d.payload) d.stands }
 
+  -- a cast at a place that was there, was there
   pub cast_was : (p : Place) (m : Name) → IsPlace before p → IsCastAt after p m → IsCastAt before p m
   cast_was p m old c = record { payload = c.payload; stands = old_had before after i x app p.member p.index (Cast m c.payload) old c.stands }
 
+  -- and so was a delivery
   pub delivery_was : (p : Place) (m : Name) → IsPlace before p → IsDeliveryAt after p m → IsDeliveryAt before p m
   delivery_was p m old d = record { payload = d.payload; stands = old_had before after i x app p.member p.index (Deliver m d.payload) old d.stands }
 
@@ -87,6 +92,7 @@ module _ (before after : Lists) (i : ℕ) (x : Event) (app : Appends before afte
   edge_stays {p} {q} (Later same less old) = Later same less (omega (arith, length_grows before after i x app q.member))
   edge_stays {p} {q} (Message m c d) = Message m (cast_stays p m c) (delivery_stays q m d)
 
+  -- and paths
   pub path_stays : {p q : Place} → Path before p q → Path after p q
   path_stays (One e) = One (edge_stays e)
   path_stays (On e w) = On (edge_stays e) (path_stays w)
@@ -116,6 +122,7 @@ module _ (before after : Lists) (i : ℕ) (x : Event) (app : Appends before afte
     edge_was {p} {q} (Message m c d) old =
         Message m (cast_was p m (source_is_old {p = p} {q = q} (Message m c d)) c) (delivery_was q m old d)
 
+    -- and so was a path
     pub path_was : {p q : Place} → Path after p q → IsPlace before q → Path before p q
     path_was (One e) old = One (edge_was e old)
     path_was (On e (One f)) old = On (edge_was e (source_is_old f)) (path_was (One f) old)

@@ -22,6 +22,7 @@ ready_from_fields sender time now each inside = record {
       ];
 }
 
+-- where the rule holds, it holds of each field
 pub field_from_ready : (sender : ℕ) (time : List ℕ) (now : ℕ → ℕ) → IsReady sender (field time) now → (k : ℕ) → IsFieldReady sender (field time) now k
 field_from_ready sender time now ready k = record {
   next = λ same. subst (λ (j : ℕ). field time j ≡ now j + 1) (sym same) ready.next;
@@ -45,6 +46,7 @@ sender_field_ready sender stamp now k s d same is_s is_d passes =
     let next : s ≡ d + 1 = eqb-true s (d + 1) passes in
     record { next = λ e. sym is_s ∙ next ∙ ap (λ (n : ℕ). n + 1) is_d; other = λ differ. absurd (differ same) }
 
+-- and of a field that is not the sender's
 pub other_field_ready : (sender : ℕ) (stamp now : ℕ → ℕ) (k s d : ℕ) → k ≢ sender → s ≡ stamp k → d ≡ now k → leb s d ≡ true → IsFieldReady sender stamp now k
 other_field_ready sender stamp now k s d differ is_s is_d passes =
     let less : s ≤ d = leb-true s d passes in

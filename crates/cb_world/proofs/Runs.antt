@@ -34,6 +34,7 @@ module _ (before after : Lists) (i : ℕ) (x : Event) (app : Appends before afte
   pub clock_whole : (k : ℕ) → clock after (record { member = i; index = length (before i) }) k ≡ count k (after i)
   clock_whole k = ap (count k) (ap (λ (n : ℕ). take n (after i)) (sym (length_own before after i x app)) ∙ take_whole (after i))
 
+  -- which is what it had and the new event
   pub clock_new : (k : ℕ) → clock after (record { member = i; index = length (before i) }) k ≡ count k (before i) + cond (is_of k x) 1 0
   clock_new k = clock_whole k ∙ ap (count k) app.own ∙ counted_more (is_of k) (before i) x
 
@@ -63,6 +64,7 @@ module _ (before after : Lists) (i : ℕ) (x : Event) (app : Appends before afte
           | inr new ↦ absurd (cc (is_cast, new.2))
         ]
 
+    -- the names stay in order
     pub still_sound : IsSound after
     still_sound = record { casters = casters; in_order = in_order; others = others; sent = sent }
       where
@@ -106,6 +108,7 @@ module _ (before after : Lists) (i : ℕ) (x : Event) (app : Appends before afte
                   (index, cast_stays before after i x app (record { member = m.sender; index = index }) m cast)
             ]
 
+    -- and the deliveries stay closed
     pub still_closed : IsClosed before → IsClosed after
     still_closed closed p q m c d k =
         elim (old_or_new before after i x app p.member p.index (Cast m c.payload) c.stands) [
@@ -128,11 +131,13 @@ module _ (before after : Lists) (i : ℕ) (x : Event) (app : Appends before afte
 
 -- lists in which nothing stands
 module _ (lists : Lists) (empty : (k : ℕ) → lists k ≡ []) where
+  -- no event stands there
   nothing_stands : (p : Place) (e : Event) → event_at lists p ≡ Some e → ⊥
   nothing_stands p e h =
       let none : slice_get [] p.index ≡ Some e = subst (λ (es : List Event). slice_get es p.index ≡ Some e) (empty p.member) h in
       cc
 
+  -- so the names are in order
   empty_sound : IsSound lists
   empty_sound = record {
     casters = λ p m c. absurd (nothing_stands p (Cast m c.payload) c.stands);
@@ -141,10 +146,12 @@ module _ (lists : Lists) (empty : (k : ℕ) → lists k ≡ []) where
     sent = λ p m d. absurd (nothing_stands p (Deliver m d.payload) d.stands);
   }
 
+  -- and no edge leads anywhere
   no_edge : {p q : Place} → Edge lists p q → ⊥
   no_edge {p} {q} (Later same less in_list) = let e : length (lists q.member) ≡ 0 = ap length (empty q.member) in omega arith
   no_edge {p} {q} (Message m c d) = nothing_stands p (Cast m c.payload) c.stands
 
+  -- nor a path
   no_path : {p q : Place} → Path lists p q → ⊥
   no_path (One e) = no_edge e
   no_path (On e w) = no_edge e
@@ -156,6 +163,7 @@ pub record Appended (before after : Lists) : Type 0 where
   pub appends : Appends before after member event
   pub next : IsNext before after member event appends
 
+-- each step appends a next event
 pub appended : (size : ℕ) (before after : Lists) → IsSound before → Step size before after → Appended before after
 appended size before after sound (Casts i payload in_group app) = record {
   member = i;
@@ -235,6 +243,7 @@ step_regular size before after reg step =
           reg.acyclic p (path_was before after a.member a.event a.appends new w old);
     }
 
+-- so do all steps of a run
 pub run_regular : (size : ℕ) (lists : Lists) → Run size lists → IsRegular lists
 run_regular size lists (Start _ empty) = record {
   sound = empty_sound lists empty;

@@ -29,6 +29,7 @@ not_cast_here list m i e at other (payload, time, stands) =
     let one : e ≡ record { event = Cast m payload; time = time } = cc here in
     other (payload, ap (λ (x : StampedEvent). x.event) one)
 
+-- and one that is, is
 pub cast_here : (list : List StampedEvent) (m : Name) (i : ℕ) (e : StampedEvent) → slice_get list i ≡ Some e → IsCastOf m e.event → IsStampedCastAt list m i
 cast_here list m i e at (payload, is) =
     (payload, e.time, at ∙ ap (λ (x : Event). Some (let s : StampedEvent = record { event = x; time = e.time } in s)) is)
@@ -57,6 +58,7 @@ module _ (lists : List (List StampedEvent)) (is : IsStampedGroup lists) where
     allowed_sender payload time may =
         sound.casters (record { member = may.caster; index = may.index }) m (plain_cast may.caster may.index m payload time may.stands)
 
+    -- its cast stands in the list of its sender
     at_sender : (payload time : List ℕ) (may : DelayRuleAllows (lists_in lists) receiver m payload time)
         → slice_get (lists_in lists m.sender) may.index ≡ Some (record { event = Cast m payload; time = time })
     at_sender payload time may =
@@ -67,9 +69,11 @@ module _ (lists : List (List StampedEvent)) (is : IsStampedGroup lists) where
     pub own_not_allowed : m.sender ≡ receiver → IsAllowed (lists_in lists) receiver m → ⊥
     own_not_allowed own (payload, time, may) = may.another (sym (allowed_sender payload time may) ∙ own)
 
+    -- nor one that its sender has not cast
     pub uncast_not_allowed : ((index : ℕ) → IsStampedCastAt (lists_in lists m.sender) m index → ⊥) → IsAllowed (lists_in lists) receiver m → ⊥
     uncast_not_allowed never (payload, time, may) = never may.index (payload, time, at_sender payload time may)
 
+    -- nor one of a sender outside the group
     pub outside_not_allowed : length lists ≤ m.sender → IsAllowed (lists_in lists) receiver m → ⊥
     outside_not_allowed outside (payload, time, may) =
         let none : slice_get [] may.index ≡ Some (let s : StampedEvent = record { event = Cast m payload; time = time } in s) =
@@ -118,6 +122,7 @@ pub allowed_says : (lists : StampedLists) (receiver : ℕ) (m : Name) (found : O
 allowed_says lists receiver m None here none = ((λ t. absurd (false≢true t)), (λ d. absurd (none refl d)))
 allowed_says lists receiver m (Some index) here none = ((λ t. (here.0, here.1, here.2)), (λ d. refl))
 
+-- the index of what was found is one of the list
 pub allowed_inside : (lists : StampedLists) (receiver : ℕ) (m : Name) (index : ℕ) → IsAllowedAt lists receiver m index → index < length (lists m.sender)
 allowed_inside lists receiver m index at = get_below (lists m.sender) index (record { event = Cast m at.0; time = at.1 }) at.3
 
@@ -180,6 +185,7 @@ casts_now lists i payload time inside is stamp = record { time = time; appends =
               omega (arith, grown k)
         ]
 
+-- and such a cast leads from a run to a run
 pub cast_group : (lists : List (List StampedEvent)) (i : ℕ) (payload time : List ℕ) → i < length lists → IsStampedGroup lists
     → IsStampAfter (length lists) i time (events_of (lists_in lists i))
     → IsStampedGroup (set lists i (lists_in lists i ++ record { event = Cast (next_name i (events_of (lists_in lists i))) payload; time = time } ∷ []))
@@ -203,6 +209,7 @@ delivers_stamped_now lists receiver m index d inside (payload, time, may, stands
           (set_appends lists receiver d inside),
     )
 
+-- and such a delivery leads from a run to a run
 pub delivery_group : (lists : List (List StampedEvent)) (receiver : ℕ) (m : Name) (index : ℕ) (d : StampedEvent) → receiver < length lists → IsStampedGroup lists
     → IsAllowedAt (lists_in lists) receiver m index → IsDeliveryOf (lists_in lists m.sender) index m d
     → IsStampedGroup (set lists receiver (lists_in lists receiver ++ d ∷ []))

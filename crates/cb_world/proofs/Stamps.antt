@@ -51,6 +51,7 @@ times_kept before after i s app times new j a x stands =
       | inr here ↦ subst (λ (y : StampedEvent). IsClockOf (erased after) (name_of y.event) y.time) (sym here.2) new
     ]
 
+-- a cast keeps the times so
 casts_stamped : (size : ℕ) (before after : StampedLists) → IsStamped size before → (i : ℕ) (payload time : List ℕ) → i < size
     → Appends before after i (record { event = Cast (next_name i (events_of (before i))) payload; time = time })
     → IsTimeOfList size time (events_of (after i)) → IsStamped size after
@@ -78,27 +79,33 @@ with_time time e = Some (record { event = e; time = time })
 
 -- What the delay rule allows may be delivered.
 module _ (size : ℕ) (lists : StampedLists) (is : IsStamped size lists) (j : ℕ) (m : Name) (payload time : List ℕ) (may : DelayRuleAllows lists j m payload time) where
+  -- the lists without their times stand as those of a run do
   reg : IsRegular (erased lists)
   reg = run_regular size (erased lists) is.causal
 
+  -- the cast that the rule looked at
   cast : IsCastAt (erased lists) (record { member = may.caster; index = may.index }) m
   cast = record {
     payload = payload;
     stands = get_map (λ (x : StampedEvent). x.event) (lists may.caster) may.index (record { event = Cast m payload; time = time }) may.stands;
   }
 
+  -- its time is its clock
   clock_of_m : IsClockOf (erased lists) m time
   clock_of_m = is.times may.caster may.index (record { event = Cast m payload; time = time }) may.stands
 
+  -- it stands in the list of its sender
   sender : m.sender ≡ may.caster
   sender = reg.sound.casters (record { member = may.caster; index = may.index }) m cast
 
+  -- field by field
   fields : (k : ℕ) → field time k ≡ clock (erased lists) (record { member = may.caster; index = may.index }) k
   fields k =
       let place : Place = record { member = may.caster; index = may.index } in
       let one : clock_of_m.place ≡ place = cast_once (erased lists) reg.sound clock_of_m.place place m clock_of_m.cast cast in
       clock_of_m.same k ∙ ap (λ (p : Place). clock (erased lists) p k) one
 
+  -- so the rule holds at the clock
   ready_at_clock : IsReady m.sender (clock (erased lists) (record { member = may.caster; index = may.index })) (λ k. count k (erased lists j))
   ready_at_clock =
       let place : Place = record { member = may.caster; index = may.index } in
@@ -111,17 +118,20 @@ module _ (size : ℕ) (lists : StampedLists) (is : IsStamped size lists) (j : �
             omega (arith, fields k);
       }
 
+  -- and the message may be delivered
   pub allowed_may_deliver : MayDeliver (erased lists) j m payload
   unfolding cast
   allowed_may_deliver =
       ready_may_deliver (erased lists) reg.sound reg.closed (regular_irreflexive (erased lists) reg) (record { member = may.caster; index = may.index }) j m
       cast (λ e. may.another (sym sender ∙ e)) ready_at_clock
 
+  -- with the time that it was cast with
   pub allowed_clock : IsClockOf (erased lists) m time
   allowed_clock = clock_of_m
 
 -- What may be delivered, the delay rule allows.
 module _ (size : ℕ) (lists : StampedLists) (is : IsStamped size lists) (j : ℕ) (m : Name) (payload : List ℕ) (may : MayDeliver (erased lists) j m payload) where
+  -- the time that stands with its cast is ready
   with_stamp : (s : StampedEvent) → slice_get (lists may.caster) may.index ≡ Some s → s.event ≡ Cast m payload → DelayRuleAllows lists j m payload s.time
   with_stamp s at is_cast = record {
     caster = may.caster;
@@ -164,11 +174,13 @@ module _ (size : ℕ) (lists : StampedLists) (is : IsStamped size lists) (j : �
             omega (arith, same_fields k);
       }
 
+  -- so the rule allows it
   pub may_deliver_is_allowed : (time : List ℕ) × DelayRuleAllows lists j m payload time
   may_deliver_is_allowed =
       let (s, at, is_cast) = get_map_from (λ (x : StampedEvent). x.event) (lists may.caster) may.index (Cast m payload) may.stands in
       (s.time, with_stamp s at is_cast)
 
+-- a delivery keeps the times so
 delivers_stamped : (size : ℕ) (before after : StampedLists) → IsStamped size before → (j : ℕ) (m : Name) (payload time : List ℕ) → j < size
     → DelayRuleAllows before j m payload time
     → Appends before after j (record { event = Deliver m payload; time = time }) → IsStamped size after
@@ -181,12 +193,14 @@ delivers_stamped size before after is j m payload time in_group may app = record
     plain : Appends (erased before) (erased after) j (Deliver m payload)
     plain = erased_appends before after j (record { event = Deliver m payload; time = time }) app
 
+-- and so does each step
 pub step_stamped : (size : ℕ) (before after : StampedLists) → IsStamped size before → StampedStep size before after → IsStamped size after
 step_stamped size before after is (StampedStep.Casts i payload in_group casts) =
     casts_stamped size before after is i payload casts.time in_group casts.appends casts.stamp
 step_stamped size before after is (StampedStep.Delivers j m payload time in_group may app) =
     delivers_stamped size before after is j m payload time in_group may app
 
+-- and each run
 pub run_stamped : (size : ℕ) (lists : StampedLists) → StampedRun size lists → IsStamped size lists
 run_stamped size lists (StampedRun.Start _ empty) = record {
   causal = Start (erased lists) (λ k. ap events_of (empty k));
@@ -213,6 +227,7 @@ run_sizes size lists (StampedRun.Then before _ earlier (StampedStep.Delivers k m
       | inr new ↦ rw new.2 fields
     ]
 
+-- whatever the time stands with
 pub times_have_size : (size : ℕ) (lists : StampedLists) → StampedRun size lists → TimesHaveSize size lists
 times_have_size size lists r m time t = run_sizes size lists r t.member t.index (record { event = t.event; time = time }) t.stands
 

@@ -21,11 +21,13 @@ tabulate : ℕ → (ℕ → ℕ) → List ℕ
 tabulate zero f = []
 tabulate (suc n) f = f 0 ∷ tabulate n (λ k. f (suc k))
 
+-- how long it is
 length_tabulate : (n : ℕ) (f : ℕ → ℕ) → length (tabulate n f) ≡ n
 unfolding tabulate
 length_tabulate zero f = refl
 length_tabulate (suc n) f = ap suc (length_tabulate n (λ k. f (suc k)))
 
+-- what it has at a field
 field_tabulate : (n : ℕ) (f : ℕ → ℕ) → ((k : ℕ) → n ≤ k → f k ≡ 0) → (k : ℕ) → field (tabulate n f) k ≡ f k
 unfolding tabulate
 field_tabulate zero f none k = sym (none k (omega arith))
@@ -68,6 +70,7 @@ none_outside size lists run j k outside =
 grown : {X : Type 0} → (ℕ → List X) → ℕ → X → ℕ → List X
 grown lists i x k = cond (eqb k i) (lists k ++ x ∷ []) (lists k)
 
+-- they are the lists to which x was appended
 grown_appends : {X : Type 0} (lists : ℕ → List X) (i : ℕ) (x : X) → Appends lists (grown lists i x) i x
 unfolding grown
 grown_appends lists i x = record {

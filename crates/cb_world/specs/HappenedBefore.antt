@@ -13,6 +13,7 @@ pub record Place : Type 0 where
   pub member : ℕ
   pub index : ℕ
 
+-- the event at a place, where there is one
 abbrev pub event_at : Lists → Place → Option Event
 event_at lists place = slice_get (lists place.member) place.index
 

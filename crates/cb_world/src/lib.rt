@@ -1,6 +1,10 @@
 //! Causal broadcast as a machine, and the law that ties vector times to it.
 //!
-//! Stands on the definitions of `cb_times` and `cb_delay`.
+//! `specs/` says what happened-before is (Lamport 1978), what a group of members may do in causal broadcast, and how vector
+//! times and the delay rule do it (Birman, Schiper and Stephenson 1991). The laws, of every run of any length, are the
+//! contracts of four functions that do nothing. `CausalGroup` and `StampedGroup` are the two machines as programs.
+//!
+//! Stands on the definitions of `cb_times` and `cb_delay`; payloads are buffers of `bytes`.
 #![tactic(auto)]
 
 mod causal;
