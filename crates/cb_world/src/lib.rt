@@ -1,4 +1,29 @@
 //! Causal broadcast as a machine, and the law that ties vector times to it.
 //!
-//! Stands on the definitions of `cb_times` and `cb_delay`.
+//! `specs/` says what happened-before is (Lamport 1978), what a group of members may do in causal broadcast, and how vector
+//! times and the delay rule do it (Birman, Schiper and Stephenson 1991). The laws, of every run of any length, are the
+//! contracts of four functions that do nothing. `CausalGroup` and `StampedGroup` are the two machines as programs.
+//!
+//! Stands on the definitions of `cb_times` and `cb_delay`; payloads are buffers of `bytes`.
 #![tactic(auto)]
+
+mod causal;
+mod event;
+mod laws;
+mod lists;
+mod refusal;
+mod stamp;
+mod stamped;
+
+pub use causal::CausalGroup;
+pub use event::{Event, Name};
+pub use laws::{
+    causal_broadcast_can_be_stamped, happened_before_is_strict_order, stamped_broadcast_is_causal,
+    steps_keep_the_past,
+};
+pub use refusal::CastRefusal;
+pub use stamp::{Stamp, StampedEvent};
+pub use stamped::StampedGroup;
+
+#[cfg(test)]
+mod tests;

@@ -1,0 +1,13 @@
+pub mod Counting
+pub mod Places
+pub mod Names
+pub mod Clock
+pub mod Runs
+pub mod Comparing
+pub mod Stamps
+pub mod WayBack
+pub mod GroupLists
+pub mod Deliverable
+pub mod CausalGroups
+pub mod Ready
+pub mod StampedGroups
