@@ -65,8 +65,29 @@ fn time_of(group: u32, expander: &mut Expander, cast: &Cast) -> Result<VectorTim
     }
 }
 
-/// The answer to a line is put behind what `out` holds, with a line feed. Whether the line was refused.
+/// The answer to a line is put behind what `out` holds, with a line feed. Whether the line was refused. At want of
+/// memory `out` is as it was: no part of a line is ever shown.
 pub fn answer(
+    alloc: Global,
+    group: u32,
+    expander: &mut Expander,
+    line: &[u8],
+    out: &mut Vec<u8>,
+) -> Result<bool, AllocError>
+    ensures { (accepted : List CastFields) → IsKept (length expander.old) accepted expander.old
+        → IfOk result (λ refused. IsAnswered group (length expander.old) accepted line.now out.old.items out.new.items refused expander.new) }
+{
+    let before = out.len();
+    match put_answer(alloc, group, expander, line, out) {
+        Ok(refused) => Ok(refused),
+        Err(fault) => {
+            out.truncate(before);
+            Err(fault)
+        }
+    }
+}
+
+fn put_answer(
     alloc: Global,
     group: u32,
     expander: &mut Expander,

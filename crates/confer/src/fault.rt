@@ -38,6 +38,9 @@ pub enum Fault {
     /// A fault in the words, or a call for help.
     #[error(transparent)]
     Words(#[from] clap::Error),
+    /// A word of the command line is no text.
+    #[error("a word of the command line is not UTF-8")]
+    NotText,
     /// A fault while lines were read and answered.
     #[error(transparent)]
     Lines(#[from] LinesFault),

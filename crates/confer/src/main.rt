@@ -10,13 +10,27 @@ mod lines;
 mod refusal;
 mod words;
 
+#[cfg(test)]
+mod tests;
+
+use crate::fault::{Fault, LinesFault};
+use crate::words::{report, run_words};
 use std::env;
-use std::io;
+use std::io::ErrorKind;
 use std::process::ExitCode;
 
-fn main(rt: HostRuntime) -> io::Result<ExitCode> {
-    let alloc = rt.alloc();
-    let words: Vec<String> = env::args(&rt)?.collect(alloc)?;
-    let status = words::run_words(alloc, &words, &mut rt.stdin(), &mut rt.stdout(), &mut rt.stderr());
-    Ok(ExitCode::from(status))
+fn words_of(rt: &HostRuntime) -> Result<Vec<String>, Fault> {
+    let words = env::args(rt).map_err(|fault| match fault.kind() {
+        ErrorKind::OutOfMemory => Fault::Lines(LinesFault::NoMemory),
+        _ => Fault::NotText,
+    })?;
+    Ok(words.collect(rt.alloc())?)
+}
+
+fn main(rt: HostRuntime) -> ExitCode {
+    let status = match words_of(&rt) {
+        Ok(words) => run_words(rt.alloc(), &words, &mut rt.stdin(), &mut rt.stdout(), &mut rt.stderr()),
+        Err(fault) => report(&fault, &mut rt.stderr()),
+    };
+    ExitCode::from(status)
 }

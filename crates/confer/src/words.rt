@@ -79,10 +79,11 @@ fn obey<S: AsStr, R: Read, W: Write>(
 }
 
 /// Says on `errors` what ended the run, and gives its exit status.
-fn report<E: Write>(fault: &Fault, errors: &mut E) -> u8 {
+pub fn report<E: Write>(fault: &Fault, errors: &mut E) -> u8 {
     let (status, written) = match fault {
         Fault::Words(error) if error.kind() == ErrorKind::OutOfMemory => (MEMORY, writeln!(errors, "confer: out of memory")),
         Fault::Words(error) => (WORDS, write!(errors, "{error}")),
+        Fault::NotText => (WORDS, writeln!(errors, "confer: {fault}")),
         Fault::Lines(fault) => (status_of(fault), writeln!(errors, "confer: {fault}")),
     };
     // Nobody is left to be told where even this can't be written.

@@ -1,5 +1,5 @@
 use Rattle.confer.proofs.Accepting.{answered}
-use Rattle.confer.proofs.answer.answer.Goals as goal
+use Rattle.confer.proofs.answer.put_answer.Goals as goal
 
 pub returns-in_ok-push-in-Ok : goal.returns-in_ok-push-in-Ok
 returns-in_ok-push-in-Ok c accepted kept =
