@@ -2,3 +2,4 @@ pub mod Names
 pub mod Runs
 pub mod Entries
 pub mod Kept
+pub mod Deques
