@@ -1,16 +1,20 @@
 -- The lists of a queue as the program keeps them, each with the places reserved for it.
-use Rattle.std.proofs.Common.{◌≡◌, ◌≢◌, ℕ, ◌+◌, ◌-◌, ◌*◌, ◌<◌, ◌≤◌, List, [], ◌∷◌, ◌++◌, length, map, sym, ◌∙◌, ap, subst, arith, get_or, refl, All, sum_by, Global, deque_capacity, inl, inr}
+use Rattle.std.proofs.Common.{◌≡◌, ◌≢◌, ℕ, ◌+◌, ◌-◌, ◌*◌, ◌^◌, ◌<◌, ◌≤◌, List, [], ◌∷◌, ◌++◌, length, map, sym, ◌∙◌, ap, subst, arith, get_or, refl, All, sum_by, Global, deque_capacity, inl, inr, ◌⊎◌, Some, None}
 use Rattle.std.specs.declared.collections.VecDeque.{VecDeque}
+use Rattle.std.specs.Prelude.{Option, IsSome, IfSome, IfNone}
+use Rattle.std.specs.Option.{option_to_list}
 use Rattle.std.specs.VecDeque.{deque_len}
 use Rattle.std.specs.FinMap as fin
 use Rattle.std.proofs.Math.ListN.{set, length-set}
+use Rattle.std.proofs.lemmas.Bool.{cases_lt}
 use Rattle.std.proofs.lemmas.Bool.Decides.{eqb_tells}
-use Rattle.std.proofs.lemmas.List.{get_or-map, get_or-set_same, get_or-set_other, map-set, length-map}
+use Rattle.std.proofs.lemmas.List.{get_or-map, get_or-set_same, get_or-set_other, set-get_or, get_or_past, map-set, length-map, length-append}
+use Rattle.std.proofs.lemmas.List.Sums.{sum_by-cons}
 use Rattle.cb_delay.specs.declared.message.Message.{Message}
-use Rattle.cb_delay.specs.Message.{IsOfGroup}
-use Rattle.cb_delay.specs.Queue.{Queue, count_of, FollowsLast}
-use Rattle.cb_delay.specs.Lists.{AreLists, list_of, queue_of}
-use Rattle.cb_delay.proofs.Kept.{count-held, lists_holding, queue_holding}
+use Rattle.cb_delay.specs.Message.{name_cmp, IsOfGroup}
+use Rattle.cb_delay.specs.Queue.{Queue, IsHeld, IsFirst, count_of, FollowsLast}
+use Rattle.cb_delay.specs.Lists.{AreLists, list_of, queue_of, entries_of, all_entries}
+use Rattle.cb_delay.proofs.Kept.{sorted, count-held, lists_holding, queue_holding, lists_releasing, queue_releasing, first_held, none_held}
 
 abbrev pub Deque : Type 0
 Deque = VecDeque Message Global
@@ -24,6 +28,10 @@ deque_len-items d = d.ok.0
 pub list_of-deques : (deques : List Deque) (i : ℕ) (d : Deque) → i < length deques → d ≡ get_or deques i d
     → list_of (lists_of deques) i ≡ d.items
 list_of-deques deques i d within e = get_or-map (λ (x : Deque). x.items) deques i d [] within ∙ ap (λ (x : Deque). x.items) (sym e)
+
+nil_of_length : {A : Type 0} (xs : List A) → length xs ≡ 0 → xs ≡ []
+nil_of_length [] e = refl
+nil_of_length (x ∷ xs) e = absurd (omega (arith, e))
 
 length-lists_of : (deques : List Deque) → length (lists_of deques) ≡ length deques
 length-lists_of deques = length-map deques (λ (x : Deque). x.items)
@@ -86,3 +94,91 @@ module _ (window : ℕ) (deques : List Deque) (kept : AreLists window (lists_of 
           held = fin.insert (queue_of window (lists_of deques)).held message.name message;
         }
     hold_gives = ap (queue_of window) appended ∙ queue_holding window (lists_of deques) kept.0 message group room follows
+
+module _ (window : ℕ) (deques : List Deque) (kept : AreLists window (lists_of deques) × AreReserved window deques) (sender : ℕ)
+    (within : sender < length deques) (d : Deque) (here : d ≡ get_or deques sender d) (after : Deque) where
+  list_here : list_of (lists_of deques) sender ≡ d.items
+  list_here = list_of-deques deques sender d within here
+
+  unchanged : d.items ≡ after.items → lists_of (set deques sender after) ≡ lists_of deques
+  unchanged same =
+      lists_of-set deques sender after
+      ∙ ap (λ l. set (lists_of deques) sender l) (sym (list_here ∙ same))
+      ∙ set-get_or (lists_of deques) sender []
+
+  within_lists : sender < length (lists_of deques)
+  within_lists = omega (arith, within, length-lists_of deques)
+
+  pub release_keeps : (taken : Option Message) → d.items ≡ option_to_list taken ++ after.items → deque_capacity after ≡ deque_capacity d
+      → AreLists window (lists_of (set deques sender after)) × AreReserved window (set deques sender after)
+  release_keeps taken items capacity =
+      let reserved_here : window ≤ deque_capacity d = subst (λ (x : Deque). window ≤ deque_capacity x) (sym here) (kept.1 sender d within) in
+      ( elim taken as (λ t. d.items ≡ option_to_list t ++ after.items → AreLists window (lists_of (set deques sender after))) [
+          None ↦ λ same. subst (λ (ls : List (List Message)). AreLists window ls) (sym (unchanged same)) kept.0
+        | (Some first) ↦ λ front.
+          subst (λ (ls : List (List Message)). AreLists window ls) (sym (lists_of-set deques sender after))
+          (lists_releasing window (lists_of deques) kept.0 sender first after.items within_lists (list_here ∙ front))
+        ] items
+      , reserved-set window deques sender after kept.1 within (omega (arith, capacity, reserved_here)) )
+
+  pub release_first : (taken : Option Message) → d.items ≡ option_to_list taken ++ after.items
+      → IfSome taken (IsFirst (queue_of window (lists_of deques)) sender)
+  release_first None items = tt
+  release_first (Some first) items = first_held window (lists_of deques) kept.0 sender first after.items (list_here ∙ items)
+
+  pub release_takes : (taken : Option Message) → d.items ≡ option_to_list taken ++ after.items
+      → IfSome taken (λ first. queue_of window (lists_of (set deques sender after))
+        ≡ record {
+          size = length (lists_of deques);
+          window = window;
+          held = fin.remove (queue_of window (lists_of deques)).held first.name;
+        })
+  release_takes None items = tt
+  release_takes (Some first) items =
+      ap (queue_of window) (lists_of-set deques sender after)
+      ∙ queue_releasing window (lists_of deques) kept.0 sender first after.items within_lists (list_here ∙ items)
+
+  pub release_same : (taken : Option Message) → d.items ≡ option_to_list taken ++ after.items
+      → IfNone taken (queue_of window (lists_of (set deques sender after)) ≡ queue_of window (lists_of deques))
+  release_same None items = ap (queue_of window) (unchanged items)
+  release_same (Some first) items = tt
+
+  pub release_none : (taken : Option Message) → (0 < deque_len d → IsSome taken)
+      → IfNone taken ((other : Message) → IsHeld (queue_of window (lists_of deques)) other → other.name.sender ≢ sender)
+  release_none None some =
+      let empty : length d.items ≡ 0 =
+        elim (cases_lt 0 (length d.items)) as (λ _. length d.items ≡ 0) [
+          inl filled ↦ let wrong = some (omega (arith, filled, deque_len-items d)) in cc
+        | inr none ↦ omega (arith, none)
+        ] in
+      λ other. none_held window (lists_of deques) kept.0 sender other (list_here ∙ nil_of_length d.items empty)
+  release_none (Some first) some = tt
+
+-- of a sender that the group lacks none is held
+pub release_outside : (window : ℕ) (deques : List Deque) → AreLists window (lists_of deques) → (sender : ℕ) → length deques ≤ sender
+    → (other : Message) → IsHeld (queue_of window (lists_of deques)) other → other.name.sender ≢ sender
+release_outside window deques are sender outside other =
+    none_held window (lists_of deques) are sender other
+    (get_or_past (lists_of deques) sender [] (omega (arith, outside, length-lists_of deques)))
+
+sum-lengths : (deques : List Deque) → length (all_entries (lists_of deques)) ≡ sum_by (λ (d : Deque). deque_len d) deques
+sum-lengths [] = refl
+sum-lengths (d ∷ deques) =
+    length-append (entries_of d.items) (all_entries (lists_of deques))
+    ∙ omega (arith, length-map d.items (λ (m : Message). (m.name, m)), deque_len-items d, sum-lengths deques, sum_by-cons (λ (x : Deque). deque_len x) d deques)
+
+-- as many are held as the lists have messages
+pub len-held : (window : ℕ) (deques : List Deque) → AreLists window (lists_of deques)
+    → fin.len (queue_of window (lists_of deques)).held ≡ sum_by (λ (d : Deque). deque_len d) deques
+len-held window deques are =
+    fin.len-entries _ ∙ ap length (fin.entries-from_sorted name_cmp (all_entries (lists_of deques)) (sorted window (lists_of deques) are))
+    ∙ sum-lengths deques
+
+-- and those are few
+pub few-held : (window : ℕ) (deques : List Deque) → AreLists window (lists_of deques)
+    → sum_by (λ (d : Deque). deque_len d) deques < 2 ^ 64
+few-held window deques are = ?
+
+-- empty lists are an empty queue
+pub AreEmpty : List Deque → Type 0
+AreEmpty deques = ?
