@@ -1,5 +1,5 @@
 -- The lists of a queue as the program keeps them, each with the places reserved for it.
-use Rattle.std.proofs.Common.{◌≡◌, ◌≢◌, ℕ, ◌+◌, ◌-◌, ◌*◌, ◌^◌, ◌<◌, ◌≤◌, List, [], ◌∷◌, ◌++◌, length, map, sym, ◌∙◌, ap, subst, arith, get_or, refl, All, sum_by, Global, deque_capacity, inl, inr, ◌⊎◌, Some, None}
+use Rattle.std.proofs.Common.{◌≡◌, ◌≢◌, ℕ, zero, suc, ◌+◌, ◌-◌, ◌*◌, ◌^◌, ◌<◌, ◌≤◌, List, [], ◌∷◌, ◌++◌, length, map, sym, ◌∙◌, ap, subst, arith, get_or, refl, All, sum_by, Global, deque_capacity, inl, inr, ◌⊎◌, Some, None}
 use Rattle.std.specs.declared.collections.VecDeque.{VecDeque}
 use Rattle.std.specs.Prelude.{Option, IsSome, IfSome, IfNone}
 use Rattle.std.specs.Option.{option_to_list}
@@ -8,13 +8,17 @@ use Rattle.std.specs.FinMap as fin
 use Rattle.std.proofs.Math.ListN.{set, length-set}
 use Rattle.std.proofs.lemmas.Bool.{cases_lt}
 use Rattle.std.proofs.lemmas.Bool.Decides.{eqb_tells}
-use Rattle.std.proofs.lemmas.List.{get_or-map, get_or-set_same, get_or-set_other, set-get_or, get_or_past, map-set, length-map, length-append}
-use Rattle.std.proofs.lemmas.List.Sums.{sum_by-cons}
+use Rattle.std.proofs.lemmas.List.{get_or-map, get_or-set_same, get_or-set_other, set-get_or, get_or_past, get_or_default, map-set, length-map, length-append}
+use Rattle.std.proofs.lemmas.List.Sums.{sum_by-cons, sum_by-le}
+use Rattle.std.proofs.Math.Nat.{mul-le-mul_right}
+use Rattle.cb_delay.specs.declared.message.Name.{Name}
 use Rattle.cb_delay.specs.declared.message.Message.{Message}
 use Rattle.cb_delay.specs.Message.{name_cmp, IsOfGroup}
 use Rattle.cb_delay.specs.Queue.{Queue, IsHeld, IsFirst, count_of, FollowsLast}
-use Rattle.cb_delay.specs.Lists.{AreLists, list_of, queue_of, entries_of, all_entries}
-use Rattle.cb_delay.proofs.Kept.{sorted, count-held, lists_holding, queue_holding, lists_releasing, queue_releasing, first_held, none_held}
+use Rattle.cb_delay.specs.Lists.{IsRun, AreLists, list_of, queue_of, entries_of, all_entries}
+use Rattle.cb_delay.proofs.Names.{names_total, exact_names}
+use Rattle.cb_delay.proofs.Runs.{found}
+use Rattle.cb_delay.proofs.Kept.{sorted, get-held, count-held, lists_holding, queue_holding, lists_releasing, queue_releasing, first_held, none_held}
 
 abbrev pub Deque : Type 0
 Deque = VecDeque Message Global
@@ -161,11 +165,14 @@ release_outside window deques are sender outside other =
     none_held window (lists_of deques) are sender other
     (get_or_past (lists_of deques) sender [] (omega (arith, outside, length-lists_of deques)))
 
+entries_of-length : (list : List Message) → length (entries_of list) ≡ length list
+entries_of-length list = length-map list (λ (m : Message). let e : Name × Message = (m.name, m) in e)
+
 sum-lengths : (deques : List Deque) → length (all_entries (lists_of deques)) ≡ sum_by (λ (d : Deque). deque_len d) deques
 sum-lengths [] = refl
 sum-lengths (d ∷ deques) =
     length-append (entries_of d.items) (all_entries (lists_of deques))
-    ∙ omega (arith, length-map d.items (λ (m : Message). (m.name, m)), deque_len-items d, sum-lengths deques, sum_by-cons (λ (x : Deque). deque_len x) d deques)
+    ∙ omega (arith, entries_of-length d.items, deque_len-items d, sum-lengths deques, sum_by-cons (λ (x : Deque). deque_len x) d deques)
 
 -- as many are held as the lists have messages
 pub len-held : (window : ℕ) (deques : List Deque) → AreLists window (lists_of deques)
@@ -174,11 +181,62 @@ len-held window deques are =
     fin.len-entries _ ∙ ap length (fin.entries-from_sorted name_cmp (all_entries (lists_of deques)) (sorted window (lists_of deques) are))
     ∙ sum-lengths deques
 
+again : (deques : List Deque) (k : ℕ) (d : Deque) → k < length deques → get_or deques k d ≡ get_or deques k (get_or deques k d)
+again deques k d below = get_or_default deques k d (get_or deques k d) below
+
 -- and those are few
 pub few-held : (window : ℕ) (deques : List Deque) → AreLists window (lists_of deques)
     → sum_by (λ (d : Deque). deque_len d) deques < 2 ^ 64
-few-held window deques are = ?
+few-held window deques are =
+    let each : All (λ (d : Deque). deque_len d ≤ 256) deques =
+      λ k d below.
+        let list = list_of-deques deques k (get_or deques k d) below (again deques k d below) in
+        let items : length (list_of (lists_of deques) k) ≡ length (get_or deques k d).items = ap length list in
+        omega (arith, deque_len-items (get_or deques k d), items, are.room k, are.window_at_most) in
+    let few : length deques ≤ 64 = omega (arith, are.at_most_sixty_four, length-lists_of deques) in
+    let most : length deques * 256 ≤ 64 * 256 = mul-le-mul_right 256 few in
+    omega (arith, sum_by-le (λ (d : Deque). deque_len d) 256 deques each, most)
 
--- empty lists are an empty queue
-pub AreEmpty : List Deque → Type 0
-AreEmpty deques = ?
+-- a list that was just made, with its places
+abbrev pub AreFresh : ℕ → List Deque → Type 0
+AreFresh window deques = All (λ (d : Deque). (d.items ≡ []) × (window ≤ deque_capacity d)) deques
+
+empty_at : (window : ℕ) (deques : List Deque) → AreFresh window deques → (sender : ℕ) → sender < length deques
+    → list_of (lists_of deques) sender ≡ []
+empty_at window [] fresh sender below = absurd (omega arith)
+empty_at window (d ∷ deques) fresh zero below = (fresh 0 d below).0
+empty_at window (d ∷ deques) fresh (suc sender) below =
+    empty_at window deques (λ k x under. fresh (suc k) x (omega (arith, under))) sender (omega (arith, below))
+
+module _ (window : ℕ) (deques : List Deque) (fresh : AreFresh window deques) where
+  no_list : (sender : ℕ) → list_of (lists_of deques) sender ≡ []
+  no_list sender =
+      elim (cases_lt sender (length deques)) [
+        inl below ↦ empty_at window deques fresh sender below
+      | inr past ↦ get_or_past (lists_of deques) sender [] (omega (arith, past, length-lists_of deques))
+      ]
+
+  pub new_keeps : 2 ≤ length deques → length deques ≤ 64 → 1 ≤ window → window ≤ 256
+      → AreLists window (lists_of deques) × AreReserved window deques
+  new_keeps two sixty_four one most =
+      let same = length-lists_of deques in
+      ( record {
+          two_or_more = omega (arith, two, same);
+          at_most_sixty_four = omega (arith, sixty_four, same);
+          window_one_or_more = one;
+          window_at_most = most;
+          runs = λ sender. subst (λ (l : List Message). IsRun (length (lists_of deques)) sender l) (sym (no_list sender)) (0, tt);
+          room = λ sender. subst (λ (l : List Message). length l ≤ window) (sym (no_list sender)) (omega arith);
+        }
+      , λ k d below. (fresh k d below).1 )
+
+  pub new_gives : (are : AreLists window (lists_of deques)) (size : ℕ) → length deques ≡ size
+      → queue_of window (lists_of deques) ≡ record { size = size; window = window; held = fin.empty }
+  new_gives are size e =
+      let held : (queue_of window (lists_of deques)).held ≡ fin.empty =
+        fin.same_map names_total exact_names _ _ (λ name.
+          get-held window (lists_of deques) are name
+          ∙ ap (λ l. found name l) (no_list name.sender)
+          ∙ sym (fin.get-empty name_cmp name)) in
+      let same = length-lists_of deques ∙ e in
+      λ i. record { size = same i; window = window; held = held i }
