@@ -1,7 +1,7 @@
 -- The lists of a queue as the program keeps them, each with the places reserved for it.
 use Rattle.std.proofs.Common.{◌≡◌, ◌≢◌, ℕ, zero, suc, ◌+◌, ◌-◌, ◌*◌, ◌^◌, ◌<◌, ◌≤◌, List, [], ◌∷◌, ◌++◌, length, map, sym, ◌∙◌, ap, subst, arith, get_or, refl, All, sum_by, Global, deque_capacity, inl, inr, ◌⊎◌, Some, None}
 use Rattle.std.specs.declared.collections.VecDeque.{VecDeque}
-use Rattle.std.specs.Prelude.{Option, IsSome, IfSome, IfNone}
+use Rattle.std.specs.Prelude.{Option, IsSome, IfSome, IfNone, Any}
 use Rattle.std.specs.Option.{option_to_list}
 use Rattle.std.specs.VecDeque.{deque_len}
 use Rattle.std.specs.FinMap as fin
@@ -14,11 +14,11 @@ use Rattle.std.proofs.Math.Nat.{mul-le-mul_right}
 use Rattle.cb_delay.specs.declared.message.Name.{Name}
 use Rattle.cb_delay.specs.declared.message.Message.{Message}
 use Rattle.cb_delay.specs.Message.{name_cmp, IsOfGroup}
-use Rattle.cb_delay.specs.Queue.{Queue, IsHeld, IsFirst, count_of, FollowsLast}
+use Rattle.cb_delay.specs.Queue.{Queue, HasReady, IsSmallestReady, IsHeld, IsFirst, count_of, FollowsLast}
 use Rattle.cb_delay.specs.Lists.{IsRun, AreLists, list_of, queue_of, entries_of, all_entries}
 use Rattle.cb_delay.proofs.Names.{names_total, exact_names}
 use Rattle.cb_delay.proofs.Runs.{found}
-use Rattle.cb_delay.proofs.Kept.{sorted, get-held, count-held, lists_holding, queue_holding, lists_releasing, queue_releasing, first_held, none_held}
+use Rattle.cb_delay.proofs.Kept.{sorted, get-held, count-held, lists_holding, queue_holding, lists_releasing, queue_releasing, first_held, none_held, IsReadyAt, all_of_group, has_ready, has_none_ready}
 
 abbrev pub Deque : Type 0
 Deque = VecDeque Message Global
@@ -240,3 +240,37 @@ module _ (window : ℕ) (deques : List Deque) (fresh : AreFresh window deques) w
           ∙ sym (fin.get-empty name_cmp name)) in
       let same = length-lists_of deques ∙ e in
       λ i. record { size = same i; window = window; held = held i }
+
+module _ (deques : List Deque) (sender : ℕ) (d : Deque) (below : sender < length deques) (here : d ≡ get_or deques sender d) where
+  pub none_here : (now : List ℕ) → All (λ m. ¬ IsReadyAt now m) d.items → All (λ m. ¬ IsReadyAt now m) (list_of (lists_of deques) sender)
+  none_here now none = subst (λ (l : List Message). All (λ m. ¬ IsReadyAt now m) l) (sym (list_of-deques deques sender d below here)) none
+
+  module _ (window : ℕ) (are : AreLists window (lists_of deques)) (now : List ℕ) where
+    pub of_group_here : length now ≡ length (lists_of deques) → All (IsOfGroup (length now)) d.items
+    of_group_here size =
+        subst (λ (n : ℕ). All (IsOfGroup n) d.items) (sym size)
+        (subst (λ (l : List Message). All (IsOfGroup (length (lists_of deques))) l) (list_of-deques deques sender d below here)
+         (all_of_group window (lists_of deques) are sender))
+
+    -- the first list with a ready message is of the smallest sender
+    pub smallest_here : Any (IsReadyAt now) d.items
+        → ((i : ℕ) → i < sender → All (λ m. ¬ IsReadyAt now m) (list_of (lists_of deques) i))
+        → IsSmallestReady (queue_of window (lists_of deques)) now sender
+    smallest_here ready none = record {
+        ready = has_ready window (lists_of deques) are sender now
+          (subst (λ (l : List Message). Any (IsReadyAt now) l) (sym (list_of-deques deques sender d below here)) ready);
+        smallest = λ other under. has_none_ready window (lists_of deques) are other now (none other under);
+      }
+
+-- and where no list has one none is ready
+pub none_anywhere : (window : ℕ) (deques : List Deque) (are : AreLists window (lists_of deques)) (now : List ℕ) (end : ℕ) → length deques ≤ end
+    → ((i : ℕ) → i < end → All (λ m. ¬ IsReadyAt now m) (list_of (lists_of deques) i))
+    → (sender : ℕ) → ¬ HasReady (queue_of window (lists_of deques)) now sender
+none_anywhere window deques are now end all none sender =
+    has_none_ready window (lists_of deques) are sender now
+    (elim (cases_lt sender end) as (λ _. All (λ m. ¬ IsReadyAt now m) (list_of (lists_of deques) sender)) [
+      inl below ↦ none sender below
+    | inr past ↦
+        let nothing = get_or_past (lists_of deques) sender [] (omega (arith, past, all, length-lists_of deques)) in
+        subst (λ (l : List Message). All (λ m. ¬ IsReadyAt now m) l) (sym nothing) (λ k x under. absurd (omega (arith, under)))
+    ])
