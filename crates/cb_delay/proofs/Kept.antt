@@ -21,7 +21,7 @@ use Rattle.cb_delay.proofs.Entries.{AreRunsFrom, find-all_entries, sorted-all_en
 one_name : (a b : Name) → a.sender ≡ b.sender → a.number ≡ b.number → a ≡ b
 one_name a b s n = λ i. record { sender = s i; number = n i }
 
-value_of : {A : Type 0} (o : Option A) → IsSome o → (x : A) × (o ≡ Some x)
+pub value_of : {A : Type 0} (o : Option A) → IsSome o → (x : A) × (o ≡ Some x)
 value_of None h = cc
 value_of (Some x) h = (x, refl)
 

@@ -3,3 +3,4 @@ pub mod Runs
 pub mod Entries
 pub mod Kept
 pub mod Deques
+pub mod Room

@@ -3,6 +3,7 @@
 //! Stands on `cb_times`.
 #![tactic(auto)]
 
+pub mod laws;
 mod message;
 mod queue;
 

@@ -143,3 +143,6 @@ fn is_ready(message: &Message, now: &VectorTime) -> bool
     }
     true
 }
+
+#[cfg(test)]
+mod tests;
