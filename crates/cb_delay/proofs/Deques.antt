@@ -1,5 +1,5 @@
 -- The lists of a queue as the program keeps them, each with the places reserved for it.
-use Rattle.std.proofs.Common.{◌≡◌, ◌≢◌, ℕ, zero, suc, ◌+◌, ◌-◌, ◌*◌, ◌^◌, ◌<◌, ◌≤◌, List, [], ◌∷◌, ◌++◌, length, map, sym, ◌∙◌, ap, subst, arith, get_or, refl, All, sum_by, Global, deque_capacity, inl, inr, ◌⊎◌, Some, None}
+use Rattle.std.proofs.Common.{◌≡◌, ◌≢◌, ℕ, zero, suc, ◌*◌, ◌^◌, ◌<◌, ◌≤◌, List, [], ◌∷◌, ◌++◌, length, map, sym, ◌∙◌, ap, subst, arith, get_or, refl, All, sum_by, Global, deque_capacity, inl, inr, Some, None}
 use Rattle.std.specs.declared.collections.VecDeque.{VecDeque}
 use Rattle.std.specs.Prelude.{Option, IsSome, IfSome, IfNone, Any}
 use Rattle.std.specs.Option.{option_to_list}
@@ -14,7 +14,7 @@ use Rattle.std.proofs.Math.Nat.{mul-le-mul_right}
 use Rattle.cb_delay.specs.declared.message.Name.{Name}
 use Rattle.cb_delay.specs.declared.message.Message.{Message}
 use Rattle.cb_delay.specs.Message.{name_cmp, IsOfGroup}
-use Rattle.cb_delay.specs.Queue.{Queue, HasReady, IsSmallestReady, IsHeld, IsFirst, count_of, FollowsLast}
+use Rattle.cb_delay.specs.Queue.{HasReady, IsSmallestReady, IsHeld, IsFirst, count_of, FollowsLast}
 use Rattle.cb_delay.specs.Lists.{IsRun, AreLists, list_of, queue_of, entries_of, all_entries}
 use Rattle.cb_delay.proofs.Names.{names_total, exact_names}
 use Rattle.cb_delay.proofs.Runs.{found}
@@ -51,13 +51,13 @@ reserved-set : (window : ℕ) (deques : List Deque) (sender : ℕ) (d : Deque) �
     → window ≤ deque_capacity d → AreReserved window (set deques sender d)
 reserved-set window deques sender d reserved within room k x below =
     elim (eqb_tells k sender) [
-      inl at ↦
-        let to : sender ≡ k = sym at.1 in
-        subst (λ (j : ℕ). window ≤ deque_capacity (get_or (set deques sender d) j x)) to
-        (subst (λ (y : Deque). window ≤ deque_capacity y) (sym (get_or-set_same deques sender d x within)) room)
-    | inr apart ↦
-        subst (λ (y : Deque). window ≤ deque_capacity y) (sym (get_or-set_other deques sender k d x apart.1))
-        (reserved k x (omega (arith, below, length-set deques sender d)))
+      | inl at ↦
+          let to : sender ≡ k = sym at.1 in
+          subst (λ (j : ℕ). window ≤ deque_capacity (get_or (set deques sender d) j x)) to
+          (subst (λ (y : Deque). window ≤ deque_capacity y) (sym (get_or-set_same deques sender d x within)) room)
+      | inr apart ↦
+          subst (λ (y : Deque). window ≤ deque_capacity y) (sym (get_or-set_other deques sender k d x apart.1))
+          (reserved k x (omega (arith, below, length-set deques sender d)))
     ]
 
 module _ (window : ℕ) (deques : List Deque) (kept : AreLists window (lists_of deques) × AreReserved window deques)
@@ -83,13 +83,14 @@ module _ (window : ℕ) (deques : List Deque) (kept : AreLists window (lists_of 
     appended =
         lists_of-set deques message.name.sender after
         ∙ ap (λ l. set (lists_of deques) message.name.sender l)
-          (items ∙ ap (λ l. l ++ message ∷ []) (sym (list_of-deques deques message.name.sender d within here)))
+        (items ∙ ap (λ l. l ++ message ∷ []) (sym (list_of-deques deques message.name.sender d within here)))
 
     pub hold_keeps : AreLists window (lists_of (set deques message.name.sender after)) × AreReserved window (set deques message.name.sender after)
-    hold_keeps =
-        ( subst (λ (ls : List (List Message)). AreLists window ls) (sym appended)
-          (lists_holding window (lists_of deques) kept.0 message group room follows)
-        , reserved-set window deques message.name.sender after kept.1 within (omega (arith, capacity, reserved_here)) )
+    hold_keeps = (
+      subst (λ (ls : List (List Message)). AreLists window ls) (sym appended)
+          (lists_holding window (lists_of deques) kept.0 message group room follows),
+      reserved-set window deques message.name.sender after kept.1 within (omega (arith, capacity, reserved_here)),
+    )
 
     pub hold_gives : queue_of window (lists_of (set deques message.name.sender after))
         ≡ record {
@@ -116,14 +117,15 @@ module _ (window : ℕ) (deques : List Deque) (kept : AreLists window (lists_of 
   pub release_keeps : (taken : Option Message) → d.items ≡ option_to_list taken ++ after.items → deque_capacity after ≡ deque_capacity d
       → AreLists window (lists_of (set deques sender after)) × AreReserved window (set deques sender after)
   release_keeps taken items capacity =
-      let reserved_here : window ≤ deque_capacity d = subst (λ (x : Deque). window ≤ deque_capacity x) (sym here) (kept.1 sender d within) in
-      ( elim taken as (λ t. d.items ≡ option_to_list t ++ after.items → AreLists window (lists_of (set deques sender after))) [
-          None ↦ λ same. subst (λ (ls : List (List Message)). AreLists window ls) (sym (unchanged same)) kept.0
-        | (Some first) ↦ λ front.
-          subst (λ (ls : List (List Message)). AreLists window ls) (sym (lists_of-set deques sender after))
-          (lists_releasing window (lists_of deques) kept.0 sender first after.items within_lists (list_here ∙ front))
-        ] items
-      , reserved-set window deques sender after kept.1 within (omega (arith, capacity, reserved_here)) )
+      let reserved_here : window ≤ deque_capacity d = subst (λ (x : Deque). window ≤ deque_capacity x) (sym here) (kept.1 sender d within) in (
+        elim taken as (λ t. d.items ≡ option_to_list t ++ after.items → AreLists window (lists_of (set deques sender after))) [
+          | None ↦ λ same. subst (λ (ls : List (List Message)). AreLists window ls) (sym (unchanged same)) kept.0
+          | (Some first) ↦ λ front.
+              subst (λ (ls : List (List Message)). AreLists window ls) (sym (lists_of-set deques sender after))
+              (lists_releasing window (lists_of deques) kept.0 sender first after.items within_lists (list_here ∙ front))
+        ] items,
+        reserved-set window deques sender after kept.1 within (omega (arith, capacity, reserved_here)),
+      )
 
   pub release_first : (taken : Option Message) → d.items ≡ option_to_list taken ++ after.items
       → IfSome taken (IsFirst (queue_of window (lists_of deques)) sender)
@@ -132,11 +134,11 @@ module _ (window : ℕ) (deques : List Deque) (kept : AreLists window (lists_of 
 
   pub release_takes : (taken : Option Message) → d.items ≡ option_to_list taken ++ after.items
       → IfSome taken (λ first. queue_of window (lists_of (set deques sender after))
-        ≡ record {
-          size = length (lists_of deques);
-          window = window;
-          held = fin.remove (queue_of window (lists_of deques)).held first.name;
-        })
+      ≡ record {
+        size = length (lists_of deques);
+        window = window;
+        held = fin.remove (queue_of window (lists_of deques)).held first.name;
+      })
   release_takes None items = tt
   release_takes (Some first) items =
       ap (queue_of window) (lists_of-set deques sender after)
@@ -151,10 +153,10 @@ module _ (window : ℕ) (deques : List Deque) (kept : AreLists window (lists_of 
       → IfNone taken ((other : Message) → IsHeld (queue_of window (lists_of deques)) other → other.name.sender ≢ sender)
   release_none None some =
       let empty : length d.items ≡ 0 =
-        elim (cases_lt 0 (length d.items)) as (λ _. length d.items ≡ 0) [
-          inl filled ↦ let wrong = some (omega (arith, filled, deque_len-items d)) in cc
+      elim (cases_lt 0 (length d.items)) as (λ _. length d.items ≡ 0) [
+        | inl filled ↦ let wrong = some (omega (arith, filled, deque_len-items d)) in cc
         | inr none ↦ omega (arith, none)
-        ] in
+      ] in
       λ other. none_held window (lists_of deques) kept.0 sender other (list_here ∙ nil_of_length d.items empty)
   release_none (Some first) some = tt
 
@@ -189,10 +191,10 @@ pub few-held : (window : ℕ) (deques : List Deque) → AreLists window (lists_o
     → sum_by (λ (d : Deque). deque_len d) deques < 2 ^ 64
 few-held window deques are =
     let each : All (λ (d : Deque). deque_len d ≤ 256) deques =
-      λ k d below.
-        let list = list_of-deques deques k (get_or deques k d) below (again deques k d below) in
-        let items : length (list_of (lists_of deques) k) ≡ length (get_or deques k d).items = ap length list in
-        omega (arith, deque_len-items (get_or deques k d), items, are.room k, are.window_at_most) in
+    λ k d below.
+    let list = list_of-deques deques k (get_or deques k d) below (again deques k d below) in
+    let items : length (list_of (lists_of deques) k) ≡ length (get_or deques k d).items = ap length list in
+    omega (arith, deque_len-items (get_or deques k d), items, are.room k, are.window_at_most) in
     let few : length deques ≤ 64 = omega (arith, are.at_most_sixty_four, length-lists_of deques) in
     let most : length deques * 256 ≤ 64 * 256 = mul-le-mul_right 256 few in
     omega (arith, sum_by-le (λ (d : Deque). deque_len d) 256 deques each, most)
@@ -212,32 +214,33 @@ module _ (window : ℕ) (deques : List Deque) (fresh : AreFresh window deques) w
   no_list : (sender : ℕ) → list_of (lists_of deques) sender ≡ []
   no_list sender =
       elim (cases_lt sender (length deques)) [
-        inl below ↦ empty_at window deques fresh sender below
-      | inr past ↦ get_or_past (lists_of deques) sender [] (omega (arith, past, length-lists_of deques))
+        | inl below ↦ empty_at window deques fresh sender below
+        | inr past ↦ get_or_past (lists_of deques) sender [] (omega (arith, past, length-lists_of deques))
       ]
 
   pub new_keeps : 2 ≤ length deques → length deques ≤ 64 → 1 ≤ window → window ≤ 256
       → AreLists window (lists_of deques) × AreReserved window deques
   new_keeps two sixty_four one most =
-      let same = length-lists_of deques in
-      ( record {
+      let same = length-lists_of deques in (
+        record {
           two_or_more = omega (arith, two, same);
           at_most_sixty_four = omega (arith, sixty_four, same);
           window_one_or_more = one;
           window_at_most = most;
           runs = λ sender. subst (λ (l : List Message). IsRun (length (lists_of deques)) sender l) (sym (no_list sender)) (0, tt);
           room = λ sender. subst (λ (l : List Message). length l ≤ window) (sym (no_list sender)) (omega arith);
-        }
-      , λ k d below. (fresh k d below).1 )
+        },
+        λ k d below. (fresh k d below).1,
+      )
 
   pub new_gives : (are : AreLists window (lists_of deques)) (size : ℕ) → length deques ≡ size
       → queue_of window (lists_of deques) ≡ record { size = size; window = window; held = fin.empty }
   new_gives are size e =
       let held : (queue_of window (lists_of deques)).held ≡ fin.empty =
-        fin.same_map names_total exact_names _ _ (λ name.
-          get-held window (lists_of deques) are name
-          ∙ ap (λ l. found name l) (no_list name.sender)
-          ∙ sym (fin.get-empty name_cmp name)) in
+      fin.same_map names_total exact_names _ _ (λ name.
+      get-held window (lists_of deques) are name
+      ∙ ap (λ l. found name l) (no_list name.sender)
+      ∙ sym (fin.get-empty name_cmp name)) in
       let same = length-lists_of deques ∙ e in
       λ i. record { size = same i; window = window; held = held i }
 
@@ -250,17 +253,17 @@ module _ (deques : List Deque) (sender : ℕ) (d : Deque) (below : sender < leng
     of_group_here size =
         subst (λ (n : ℕ). All (IsOfGroup n) d.items) (sym size)
         (subst (λ (l : List Message). All (IsOfGroup (length (lists_of deques))) l) (list_of-deques deques sender d below here)
-         (all_of_group window (lists_of deques) are sender))
+        (all_of_group window (lists_of deques) are sender))
 
     -- the first list with a ready message is of the smallest sender
     pub smallest_here : Any (IsReadyAt now) d.items
         → ((i : ℕ) → i < sender → All (λ m. ¬ IsReadyAt now m) (list_of (lists_of deques) i))
         → IsSmallestReady (queue_of window (lists_of deques)) now sender
     smallest_here ready none = record {
-        ready = has_ready window (lists_of deques) are sender now
+      ready = has_ready window (lists_of deques) are sender now
           (subst (λ (l : List Message). Any (IsReadyAt now) l) (sym (list_of-deques deques sender d below here)) ready);
-        smallest = λ other under. has_none_ready window (lists_of deques) are other now (none other under);
-      }
+      smallest = λ other under. has_none_ready window (lists_of deques) are other now (none other under);
+    }
 
 -- and where no list has one none is ready
 pub none_anywhere : (window : ℕ) (deques : List Deque) (are : AreLists window (lists_of deques)) (now : List ℕ) (end : ℕ) → length deques ≤ end
@@ -269,8 +272,8 @@ pub none_anywhere : (window : ℕ) (deques : List Deque) (are : AreLists window 
 none_anywhere window deques are now end all none sender =
     has_none_ready window (lists_of deques) are sender now
     (elim (cases_lt sender end) as (λ _. All (λ m. ¬ IsReadyAt now m) (list_of (lists_of deques) sender)) [
-      inl below ↦ none sender below
-    | inr past ↦
-        let nothing = get_or_past (lists_of deques) sender [] (omega (arith, past, all, length-lists_of deques)) in
-        subst (λ (l : List Message). All (λ m. ¬ IsReadyAt now m) l) (sym nothing) (λ k x under. absurd (omega (arith, under)))
+      | inl below ↦ none sender below
+      | inr past ↦
+          let nothing = get_or_past (lists_of deques) sender [] (omega (arith, past, all, length-lists_of deques)) in
+          subst (λ (l : List Message). All (λ m. ¬ IsReadyAt now m) l) (sym nothing) (λ k x under. absurd (omega (arith, under)))
     ])

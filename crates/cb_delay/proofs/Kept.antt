@@ -1,6 +1,6 @@
 -- What the lists of a queue say of the queue that they are.
-use Rattle.std.proofs.Common.{◌≡◌, ◌≢◌, ℕ, suc, ◌+◌, ◌-◌, ◌<◌, ◌≤◌, ◌==◌, Bool, true, false, cond, T, List, [], ◌∷◌, ◌++◌, length, map, sym, ◌∙◌, ap, subst, arith, Some, None, get_or, refl, inl, inr}
-use Rattle.std.specs.Prelude.{Option, IsSome, ◌↔◌, All, Any}
+use Rattle.std.proofs.Common.{◌≡◌, ◌≢◌, ℕ, suc, ◌+◌, ◌-◌, ◌<◌, ◌≤◌, true, false, cond, T, List, [], ◌∷◌, ◌++◌, length, sym, ◌∙◌, ap, subst, arith, Some, None, get_or, refl, inl, inr}
+use Rattle.std.specs.Prelude.{Option, IsSome, All, Any}
 use Rattle.std.specs.Ordering.{eq_by_cmp}
 use Rattle.std.specs.FinMap as fin
 use Rattle.std.specs.FinMap.Entries.{find-append}
@@ -10,15 +10,15 @@ use Rattle.std.proofs.lemmas.Bool.Decides.{eqb_tells}
 use Rattle.cb_delay.specs.declared.message.Name.{Name}
 use Rattle.cb_delay.specs.declared.message.Message.{Message}
 use Rattle.cb_delay.specs.Message.{name_cmp, IsOfGroup}
-use Rattle.cb_delay.specs.Queue.{Queue, HasReady, IsHeld, count_of, IsFirst, IsLast, FollowsLast, AreInARow, IsDelayQueue}
-use Rattle.cb_delay.specs.Lists.{entries_of, all_entries, IsRunFrom, IsRun, list_of, AreLists, queue_of}
+use Rattle.cb_delay.specs.Queue.{HasReady, IsHeld, count_of, IsFirst, FollowsLast, AreInARow, IsDelayQueue}
+use Rattle.cb_delay.specs.Lists.{entries_of, all_entries, IsRun, list_of, AreLists, queue_of}
 use Rattle.cb_times.specs.Order.{field}
 use Rattle.cb_delay.specs.Rule.{IsReady}
-use Rattle.cb_delay.proofs.Names.{names_total, exact_names, eq_by_cmp-same, eq_by_cmp-sender, eq_by_cmp-true}
+use Rattle.cb_delay.proofs.Names.{names_total, exact_names, eq_by_cmp-sender, eq_by_cmp-true}
 use Rattle.cb_delay.proofs.Runs.{found, IsFound, found-below, found-above, found-within, is_found, run_push, is_at, found_at, place_of}
 use Rattle.cb_delay.proofs.Entries.{AreRunsFrom, find-all_entries, sorted-all_entries, count_in, count_in-all_entries}
 
-one_name : (a b : Name) → a.sender ≡ b.sender → a.number ≡ b.number → a ≡ b
+pub one_name : (a b : Name) → a.sender ≡ b.sender → a.number ≡ b.number → a ≡ b
 one_name a b s n = λ i. record { sender = s i; number = n i }
 
 pub value_of : {A : Type 0} (o : Option A) → IsSome o → (x : A) × (o ≡ Some x)
@@ -63,23 +63,26 @@ module _ (window : ℕ) (lists : List (List Message)) (are : AreLists window lis
 
   in_a_row : (sender : ℕ) → AreInARow (queue_of window lists) sender
   in_a_row sender =
-      let first = (are.runs sender).0 in
-      (first, λ number.
-          let name : Name = record { sender = sender; number = number } in
-          ( (λ some. let v = value_of (fin.get (queue_of window lists).held name) some in
-              let f = found_for name v.0 v.1 in
-              (f.from, omega (arith, f.below, count-held sender)))
-          , (λ within. subst (λ (o : Option Message). IsSome o) (sym (get-held name))
-              (found-within (length lists) sender first (list_of lists sender) name (are.runs sender).1 refl within.0
-               (omega (arith, within.1, count-held sender)))) ))
+      let first = (are.runs sender).0 in (
+        first,
+        λ number.
+            let name : Name = record { sender = sender; number = number } in (
+              (λ some. let v = value_of (fin.get (queue_of window lists).held name) some in
+                  let f = found_for name v.0 v.1 in
+                  (f.from, omega (arith, f.below, count-held sender))),
+              (λ within. subst (λ (o : Option Message). IsSome o) (sym (get-held name))
+                  (found-within (length lists) sender first (list_of lists sender) name (are.runs sender).1 refl within.0
+                  (omega (arith, within.1, count-held sender)))),
+            ),
+      )
 
   pub is_delay_queue : IsDelayQueue (queue_of window lists)
   is_delay_queue = record {
-      by_name = λ name message h. let f = found_for name message h in one_name message.name name f.same_sender f.same_number;
-      of_group = λ message h. (found_for message.name message h).of_group;
-      in_a_row = in_a_row;
-      room = λ sender. subst (λ (n : ℕ). n ≤ window) (sym (count-held sender)) (are.room sender);
-    }
+    by_name = λ name message h. let f = found_for name message h in one_name message.name name f.same_sender f.same_number;
+    of_group = λ message h. (found_for message.name message h).of_group;
+    in_a_row = in_a_row;
+    room = λ sender. subst (λ (n : ℕ). n ≤ window) (sym (count-held sender)) (are.room sender);
+  }
 
   -- the message at a place of a sender's list is held
   pub held_at : (sender k : ℕ) (d : Message) → k < length (list_of lists sender)
@@ -100,12 +103,12 @@ module _ (window : ℕ) (lists : List (List Message)) (are : AreLists window lis
       let within : k < length list = omega (arith, some) in
       let here = is_at (length lists) name.sender run.0 list k x run.1 within in
       let next = follows (get_or list k x) (record {
-          held = held_at name.sender k x within;
-          of_sender = here.of_sender;
-          greatest = λ other h of.
+        held = held_at name.sender k x within;
+        of_sender = here.of_sender;
+        greatest = λ other h of.
             let f = is_found (length lists) name.sender run.0 list other.name other run.1 (found_of_held name.sender other.name other of h) in
             omega (arith, f.below, here.numbered, within);
-        }) in
+      }) in
       omega (arith, next, here.numbered, some)
 
 found-next : (size sender : ℕ) (list : List Message) (name : Name) (run : IsRun size sender list)
@@ -136,23 +139,23 @@ module _ (window : ℕ) (lists : List (List Message)) (are : AreLists window lis
         window_one_or_more = are.window_one_or_more;
         window_at_most = are.window_at_most;
         runs = λ other. subst (λ (n : ℕ). IsRun n other (list_of (set lists sender list) other)) (sym same_length)
-          (elim (eqb_tells other sender) [
-            inl at ↦
-              let to : sender ≡ other = sym at.1 in
-              subst (λ (o : ℕ). IsRun (length lists) o (list_of (set lists sender list) o)) to
-              (subst (λ (l : List Message). IsRun (length lists) sender l) (sym (list_of-set within)) run)
-          | inr apart ↦
-              subst (λ (l : List Message). IsRun (length lists) other l) (sym (list_of-set_other other apart.1)) (are.runs other)
-          ]);
+            (elim (eqb_tells other sender) [
+              | inl at ↦
+                  let to : sender ≡ other = sym at.1 in
+                  subst (λ (o : ℕ). IsRun (length lists) o (list_of (set lists sender list) o)) to
+                  (subst (λ (l : List Message). IsRun (length lists) sender l) (sym (list_of-set within)) run)
+              | inr apart ↦
+                  subst (λ (l : List Message). IsRun (length lists) other l) (sym (list_of-set_other other apart.1)) (are.runs other)
+            ]);
         room = λ other.
-          elim (eqb_tells other sender) [
-            inl at ↦
-              let to : sender ≡ other = sym at.1 in
-              subst (λ (o : ℕ). length (list_of (set lists sender list) o) ≤ window) to
-              (subst (λ (l : List Message). length l ≤ window) (sym (list_of-set within)) room)
-          | inr apart ↦
-              subst (λ (l : List Message). length l ≤ window) (sym (list_of-set_other other apart.1)) (are.room other)
-          ];
+            elim (eqb_tells other sender) [
+              | inl at ↦
+                  let to : sender ≡ other = sym at.1 in
+                  subst (λ (o : ℕ). length (list_of (set lists sender list) o) ≤ window) to
+                  (subst (λ (l : List Message). length l ≤ window) (sym (list_of-set within)) room)
+              | inr apart ↦
+                  subst (λ (l : List Message). length l ≤ window) (sym (list_of-set_other other apart.1)) (are.room other)
+            ];
       }
 
   -- and then the queue holds what each look-up says
@@ -162,12 +165,12 @@ module _ (window : ℕ) (lists : List (List Message)) (are : AreLists window lis
       → queue_of window (set lists sender list) ≡ record { size = length lists; window = window; held = held }
   queue_with within with held here elsewhere =
       let same : (queue_of window (set lists sender list)).held ≡ held =
-        fin.same_map names_total exact_names _ _ (λ name.
-          get-held window (set lists sender list) with name
-          ∙ elim (eqb_tells name.sender sender) [
-            inl at ↦ ap (λ o. found name (list_of (set lists sender list) o)) at.1 ∙ ap (λ l. found name l) (list_of-set within) ∙ here name at.1
-          | inr apart ↦ ap (λ l. found name l) (list_of-set_other name.sender apart.1) ∙ elsewhere name apart.1
-          ]) in
+      fin.same_map names_total exact_names _ _ (λ name.
+      get-held window (set lists sender list) with name
+      ∙ elim (eqb_tells name.sender sender) [
+        | inl at ↦ ap (λ o. found name (list_of (set lists sender list) o)) at.1 ∙ ap (λ l. found name l) (list_of-set within) ∙ here name at.1
+        | inr apart ↦ ap (λ l. found name l) (list_of-set_other name.sender apart.1) ∙ elsewhere name apart.1
+      ]) in
       let size = length-set lists sender list in
       λ i. record { size = size i; window = window; held = same i }
 
@@ -180,14 +183,14 @@ lists_holding window lists are message group room follows =
     let list = list_of lists message.name.sender in
     lists_with window lists are message.name.sender (list ++ message ∷ []) group.sender
     (run_grown (length lists) message.name.sender list message (are.runs message.name.sender)
-     (next_number window lists are message.name message follows) refl group)
+    (next_number window lists are message.name message follows) refl group)
     (omega (arith, length-append list (message ∷ []), room, count-held window lists are message.name.sender))
 
 pub queue_holding : (window : ℕ) (lists : List (List Message)) (are : AreLists window lists) (message : Message)
     → IsOfGroup (length lists) message → count_of (queue_of window lists) message.name.sender < window
     → FollowsLast (queue_of window lists) message.name
     → queue_of window (set lists message.name.sender (list_of lists message.name.sender ++ message ∷ []))
-      ≡ record { size = length lists; window = window; held = fin.insert (queue_of window lists).held message.name message }
+    ≡ record { size = length lists; window = window; held = fin.insert (queue_of window lists).held message.name message }
 queue_holding window lists are message group room follows =
     let list = list_of lists message.name.sender in
     let run = are.runs message.name.sender in
@@ -195,14 +198,14 @@ queue_holding window lists are message group room follows =
     queue_with window lists are message.name.sender (list ++ message ∷ []) group.sender
     (lists_holding window lists are message group room follows) (fin.insert held message.name message)
     (λ name of.
-      let new = found-next (length lists) message.name.sender list message.name run (next_number window lists are message.name message follows) in
-      ap (λ es. fin.find name_cmp name es) (map-append (λ (m : Message). (m.name, m)) list (message ∷ []))
-      ∙ find-append name_cmp names_total (entries_of list) message.name message name new
-      ∙ ap (cond (eq_by_cmp name_cmp name message.name) (Some message)) (ap (λ s. found name (list_of lists s)) (sym of) ∙ sym (get-held window lists are name))
-      ∙ sym (fin.get-insert names_total held message.name message name))
+    let new = found-next (length lists) message.name.sender list message.name run (next_number window lists are message.name message follows) in
+    ap (λ es. fin.find name_cmp name es) (map-append (λ (m : Message). (m.name, m)) list (message ∷ []))
+    ∙ find-append name_cmp names_total (entries_of list) message.name message name new
+    ∙ ap (cond (eq_by_cmp name_cmp name message.name) (Some message)) (ap (λ s. found name (list_of lists s)) (sym of) ∙ sym (get-held window lists are name))
+    ∙ sym (fin.get-insert names_total held message.name message name))
     (λ name apart.
-      sym (fin.get-insert names_total held message.name message name
-        ∙ rw (eq_by_cmp-sender name message.name apart) (get-held window lists are name)))
+    sym (fin.get-insert names_total held message.name message name
+    ∙ rw (eq_by_cmp-sender name message.name apart) (get-held window lists are name)))
 
 -- releasing takes the front of the sender's list
 run_rest : (size sender : ℕ) (first : Message) (list : List Message) → IsRun size sender (first ∷ list) → IsRun size sender list
@@ -220,26 +223,26 @@ found-rest : (size sender : ℕ) (first : Message) (rest : List Message) (name :
 found-rest size sender first rest name run =
     elim (eq_by_cmp name_cmp name first.name)
     as (λ b. eq_by_cmp name_cmp name first.name ≡ b → found name rest ≡ cond b None (cond b (Some first) (found name rest))) [
-      true ↦ λ e. found-below size sender (suc run.0) rest name run.1.3 (omega (arith, (eq_by_cmp-true name first.name e).1, run.1.1))
-    | false ↦ λ e. refl
+      | true ↦ λ e. found-below size sender (suc run.0) rest name run.1.3 (omega (arith, (eq_by_cmp-true name first.name e).1, run.1.1))
+      | false ↦ λ e. refl
     ] refl
 
 pub queue_releasing : (window : ℕ) (lists : List (List Message)) (are : AreLists window lists) (sender : ℕ) (first : Message) (rest : List Message)
     → sender < length lists → list_of lists sender ≡ first ∷ rest
     → queue_of window (set lists sender rest)
-      ≡ record { size = length lists; window = window; held = fin.remove (queue_of window lists).held first.name }
+    ≡ record { size = length lists; window = window; held = fin.remove (queue_of window lists).held first.name }
 queue_releasing window lists are sender first rest within e =
     let held = (queue_of window lists).held in
     let run = subst (λ (l : List Message). IsRun (length lists) sender l) e (are.runs sender) in
     queue_with window lists are sender rest within (lists_releasing window lists are sender first rest within e) (fin.remove held first.name)
     (λ name of.
-      found-rest (length lists) sender first rest name run
-      ∙ ap (cond (eq_by_cmp name_cmp name first.name) None) (ap (λ l. found name l) (sym e) ∙ ap (λ s. found name (list_of lists s)) (sym of) ∙ sym (get-held window lists are name))
-      ∙ sym (fin.get-remove names_total held first.name name))
+    found-rest (length lists) sender first rest name run
+    ∙ ap (cond (eq_by_cmp name_cmp name first.name) None) (ap (λ l. found name l) (sym e) ∙ ap (λ s. found name (list_of lists s)) (sym of) ∙ sym (get-held window lists are name))
+    ∙ sym (fin.get-remove names_total held first.name name))
     (λ name apart.
-      let differs : name.sender ≢ first.name.sender = λ same. apart (same ∙ run.1.0) in
-      sym (fin.get-remove names_total held first.name name
-        ∙ rw (eq_by_cmp-sender name first.name differs) (get-held window lists are name)))
+    let differs : name.sender ≢ first.name.sender = λ same. apart (same ∙ run.1.0) in
+    sym (fin.get-remove names_total held first.name name
+    ∙ rw (eq_by_cmp-sender name first.name differs) (get-held window lists are name)))
 
 -- and the front has the smallest number
 pub first_held : (window : ℕ) (lists : List (List Message)) (are : AreLists window lists) (sender : ℕ) (first : Message) (rest : List Message)
@@ -248,12 +251,12 @@ first_held window lists are sender first rest e =
     let run = subst (λ (l : List Message). IsRun (length lists) sender l) e (are.runs sender) in
     record {
       held = held_of_found window lists are sender first run.1.0
-        (ap (λ l. found first.name l) e ∙ found_at (length lists) sender run.0 (first ∷ rest) 0 first run.1 (omega arith));
+          (ap (λ l. found first.name l) e ∙ found_at (length lists) sender run.0 (first ∷ rest) 0 first run.1 (omega arith));
       of_sender = run.1.0;
       least = λ other h of.
-        let f = is_found (length lists) sender run.0 (first ∷ rest) other.name other run.1
+          let f = is_found (length lists) sender run.0 (first ∷ rest) other.name other run.1
           (ap (λ l. found other.name l) (sym e) ∙ found_of_held window lists are sender other.name other of h) in
-        omega (arith, f.from, run.1.1);
+          omega (arith, f.from, run.1.1);
     }
 
 -- where a sender's list is empty none of its messages is held
@@ -275,11 +278,12 @@ module _ (window : ℕ) (lists : List (List Message)) (are : AreLists window lis
   pub has_ready : (now : List ℕ) → Any (IsReadyAt now) (list_of lists sender) → HasReady (queue_of window lists) now sender
   has_ready now (k, x, below, at, ready) =
       let of : x.name.sender ≡ sender = subst (λ (m : Message). m.name.sender ≡ sender) at
-        (is_at (length lists) sender (are.runs sender).0 (list_of lists sender) k x (are.runs sender).1 below).of_sender in
-      ( x
-      , subst (λ (m : Message). IsHeld (queue_of window lists) m) at (held_at window lists are sender k x below)
-      , of
-      , subst (λ (s : ℕ). IsReady s (field x.time) (field now)) of ready )
+      (is_at (length lists) sender (are.runs sender).0 (list_of lists sender) k x (are.runs sender).1 below).of_sender in (
+        x,
+        subst (λ (m : Message). IsHeld (queue_of window lists) m) at (held_at window lists are sender k x below),
+        of,
+        subst (λ (s : ℕ). IsReady s (field x.time) (field now)) of ready,
+      )
 
   -- where none of the list is ready none that is held of the sender is
   pub has_none_ready : (now : List ℕ) → All (λ m. ¬ IsReadyAt now m) (list_of lists sender) → ¬ HasReady (queue_of window lists) now sender

@@ -1,9 +1,9 @@
 -- How the plain queue keeps its messages: a list for each sender, in the order of the numbers.
 use Rattle.std.specs.Prelude.{◌≡◌, ℕ, suc, ◌≤◌, List, [], ◌∷◌, ◌++◌, length, map, slice_index_or}
-use Rattle.std.specs.FinMap.{FinMap, from_sorted}
+use Rattle.std.specs.FinMap.{from_sorted}
 use Rattle.cb_delay.specs.declared.message.Name.{Name}
 use Rattle.cb_delay.specs.declared.message.Message.{Message}
-use Rattle.cb_delay.specs.Message.{name_cmp, IsOfGroup}
+use Rattle.cb_delay.specs.Message.{IsOfGroup}
 use Rattle.cb_delay.specs.Queue.{Queue}
 
 abbrev pub entries_of : List Message → List (Name × Message)

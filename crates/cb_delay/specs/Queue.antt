@@ -51,7 +51,7 @@ pub record IsSmallestReady (queue : Queue) (now : List ℕ) (sender : ℕ) : Typ
 abbrev pub AreInARow : Queue → ℕ → Type 0
 AreInARow queue sender =
     (first : ℕ) × ((number : ℕ)
-      → IsSome (map.get queue.held (record { sender = sender; number = number })) ↔ ((first ≤ number) × (number < first + count_of queue sender)))
+    → IsSome (map.get queue.held (record { sender = sender; number = number })) ↔ ((first ≤ number) × (number < first + count_of queue sender)))
 
 -- what is true of every queue
 pub record IsDelayQueue (queue : Queue) : Type 0 where

@@ -136,7 +136,11 @@ fn is_ready(message: &Message, now: &VectorTime) -> bool
     for k in 0..now.size() {
         let stamp = message.time.get(k);
         let count = now.get(k);
-        let in_time = if k == sender { count.checked_add(1) == Some(stamp) } else { stamp <= count };
+        let in_time = if k == sender {
+            count.checked_add(1) == Some(stamp)
+        } else {
+            stamp <= count
+        };
         if !in_time {
             return false;
         }

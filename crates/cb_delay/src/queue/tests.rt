@@ -75,8 +75,14 @@ fn an_answer_waits_for_its_question(rt: HostRuntime) -> Result<(), Fail> {
     assert_eq!(rt; queue.next_ready(&start), None);
     hold_second(&mut queue, ANSWER, message_of(rt.alloc(), QUESTION, 0)?);
     assert_eq!(rt; queue.next_ready(&start), Some(0));
-    assert_eq!(rt; queue.release(0).map(|message| message.name), Some(QUESTION));
-    assert_eq!(rt; queue.next_ready(&time_of(rt.alloc(), &[1, 0, 0])?), Some(1));
+    assert_eq!(rt;
+        queue.release(0).map(|message| message.name),
+        Some(QUESTION)
+    );
+    assert_eq!(rt;
+        queue.next_ready(&time_of(rt.alloc(), &[1, 0, 0])?),
+        Some(1)
+    );
     assert_eq!(rt; queue.len(), 1);
     Ok(())
 }
@@ -98,9 +104,15 @@ fn a_later_message_may_be_the_ready_one(rt: HostRuntime) -> Result<(), Fail> {
     };
     let mut queue = queue_with(rt.alloc(), message_of(rt.alloc(), QUESTION, 0)?)?;
     hold_second(&mut queue, QUESTION, message_of(rt.alloc(), second, 0)?);
-    assert_eq!(rt; queue.next_ready(&time_of(rt.alloc(), &[1, 0, 0])?), Some(0));
+    assert_eq!(rt;
+        queue.next_ready(&time_of(rt.alloc(), &[1, 0, 0])?),
+        Some(0)
+    );
     assert_eq!(rt; queue.next_ready(&time_of(rt.alloc(), &[5, 0, 0])?), None);
-    assert_eq!(rt; queue.release(0).map(|message| message.name), Some(QUESTION));
+    assert_eq!(rt;
+        queue.release(0).map(|message| message.name),
+        Some(QUESTION)
+    );
     assert_eq!(rt; queue.release(2).map(|message| message.name), None);
     assert_eq!(rt; queue.release(64).map(|message| message.name), None);
     Ok(())

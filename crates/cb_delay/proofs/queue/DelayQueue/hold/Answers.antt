@@ -19,5 +19,5 @@ returns c =
     let known = rw (← c.self.view_is) at c.requires in
     rw (← c.self.view_is)
     (hold_gives c.self.inside.window c.self.inside.lists.items c.self.invariant c.args.message c.index_mut-list.result.now
-     c.index_mut-list.ensures.value known.of_group known.room known.next
-     c.push_back_reserved.new.self c.push_back_reserved.ensures.items c.push_back_reserved.ensures.capacity)
+    c.index_mut-list.ensures.value known.of_group known.room known.next
+    c.push_back_reserved.new.self c.push_back_reserved.ensures.items c.push_back_reserved.ensures.capacity)

@@ -1,4 +1,4 @@
-use Rattle.std.proofs.Common.{sym, ◌∙◌}
+use Rattle.std.proofs.Common.{sym}
 use Rattle.cb_delay.proofs.Kept.{is_delay_queue}
 use Rattle.cb_delay.proofs.Deques.{few-held, len-held, lists_of}
 use Rattle.cb_delay.proofs.queue.DelayQueue.len.Goals as goal

@@ -1,5 +1,4 @@
-use Rattle.std.proofs.Common.{◌≡◌, ◌<◌, ◌≤◌, length, arith, below_more, sym, ◌∙◌, ap}
-use Rattle.cb_delay.specs.Queue.{Queue}
+use Rattle.std.proofs.Common.{◌<◌, ◌≤◌, length, arith, below_more, ap}
 use Rattle.cb_delay.proofs.Kept.{is_delay_queue}
 use Rattle.cb_delay.proofs.Deques.{lists_of, none_here, of_group_here, smallest_here, none_anywhere}
 use Rattle.cb_delay.proofs.queue.DelayQueue.next_ready.Goals as goal
@@ -16,7 +15,7 @@ pub loop-sender-preserved : goal.loop-sender-preserved
 loop-sender-preserved c =
     below_more _ _ c.loop-sender.invariant
     (none_here c.deref-list-items.result.now c.loop-sender.sender c.list-item.result (omega arith) c.list-item.is c.args.now.now
-     c.if-any_ready.ensures.no)
+    c.if-any_ready.ensures.no)
 
 pub returns-then-any_ready-clause-some : goal.returns-then-any_ready-clause-some
 returns-then-any_ready-clause-some c =
@@ -25,7 +24,7 @@ returns-then-any_ready-clause-some c =
     let below : c.loop-sender.sender < length c.self.inside.lists.items = omega (arith, ap length c.deref-list-items.ensures.value) in
     rw (← c.self.view_is)
     (smallest_here c.self.inside.lists.items c.loop-sender.sender c.list-item.result below here c.self.inside.window c.self.invariant.0
-     c.args.now.now c.if-any_ready.ensures.yes none)
+    c.args.now.now c.if-any_ready.ensures.yes none)
 
 pub returns-then-any_ready-clause-queue : goal.returns-then-any_ready-clause-queue
 returns-then-any_ready-clause-queue c =
