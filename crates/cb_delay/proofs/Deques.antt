@@ -14,7 +14,7 @@ use Rattle.std.proofs.Math.Nat.{mul-le-mul_right}
 use Rattle.cb_delay.specs.declared.message.Name.{Name}
 use Rattle.cb_delay.specs.declared.message.Message.{Message}
 use Rattle.cb_delay.specs.Message.{name_cmp, IsOfGroup}
-use Rattle.cb_delay.specs.Queue.{HasReady, IsSmallestReady, IsHeld, IsFirst, count_of, FollowsLast}
+use Rattle.cb_delay.specs.Queue.{IsNew, HasReady, IsSmallestReady, IsHeld, IsFirst, count_of, FollowsLast}
 use Rattle.cb_delay.specs.Lists.{IsRun, AreLists, list_of, queue_of, entries_of, all_entries}
 use Rattle.cb_delay.proofs.Names.{names_total, exact_names}
 use Rattle.cb_delay.proofs.Runs.{found}
@@ -234,15 +234,15 @@ module _ (window : ℕ) (deques : List Deque) (fresh : AreFresh window deques) w
       )
 
   pub new_gives : (are : AreLists window (lists_of deques)) (size : ℕ) → length deques ≡ size
-      → queue_of window (lists_of deques) ≡ record { size = size; window = window; held = fin.empty }
-  new_gives are size e =
-      let held : (queue_of window (lists_of deques)).held ≡ fin.empty =
-      fin.same_map names_total exact_names _ _ (λ name.
-      get-held window (lists_of deques) are name
-      ∙ ap (λ l. found name l) (no_list name.sender)
-      ∙ sym (fin.get-empty name_cmp name)) in
-      let same = length-lists_of deques ∙ e in
-      λ i. record { size = same i; window = window; held = held i }
+      → IsNew size window (queue_of window (lists_of deques))
+  new_gives are size e = record {
+      of_size = length-lists_of deques ∙ e;
+      of_window = refl;
+      empty = fin.same_map names_total exact_names _ _ (λ name.
+          get-held window (lists_of deques) are name
+          ∙ ap (λ l. found name l) (no_list name.sender)
+          ∙ sym (fin.get-empty name_cmp name));
+    }
 
 module _ (deques : List Deque) (sender : ℕ) (d : Deque) (below : sender < length deques) (here : d ≡ get_or deques sender d) where
   pub none_here : (now : List ℕ) → All (λ m. ¬ IsReadyAt now m) d.items → All (λ m. ¬ IsReadyAt now m) (list_of (lists_of deques) sender)

@@ -5,7 +5,7 @@ ghost use Rattle.std.specs.FinMap as map;
 ghost use Rattle.std.specs.VecDeque.{deque_len};
 ghost use Rattle.cb_times.specs.Order.{field};
 ghost use Rattle.cb_delay.specs.Message.{IsOfGroup};
-ghost use Rattle.cb_delay.specs.Queue.{IsHeld, IsDelayQueue, IsFirst, IsSmallestReady, HasReady, FollowsLast, count_of};
+ghost use Rattle.cb_delay.specs.Queue.{IsNew, HoldsTheSame, IsHeld, IsDelayQueue, IsFirst, IsSmallestReady, HasReady, FollowsLast, count_of};
 ghost use Rattle.cb_delay.specs.Rule.{IsReady};
 
 use crate::message::Message;
@@ -16,7 +16,7 @@ use std::marker::Model;
 
 /// Messages that were received and may not be delivered yet.
 ///
-/// A message that comes, in the order of its sender's numbers, is given to `hold`. Then, and after each delivery:
+/// A message that came is given to `hold`, those of one sender in the order of their numbers. Then:
 ///
 /// ```text
 /// while let Some(sender) = queue.next_ready(&time) {
@@ -58,7 +58,7 @@ impl DelayQueue {
         requires at_most_sixty_four { size ≤ 64 }
         requires window_one_or_more { 1 ≤ window }
         requires window_at_most { window ≤ 256 }
-        ensures { IfOk result (λ queue. queue ≡ record { size = size; window = window; held = map.empty }) }
+        ensures { IfOk result (IsNew size window) }
     {
         let mut lists = Vec::with_capacity(alloc, size as usize)?;
         for _ in 0..size {
@@ -68,6 +68,9 @@ impl DelayQueue {
     }
 
     /// Keeps a message until it is released.
+    ///
+    /// It is of the queue's group, its number follows that of the last message held of its sender, where one is held, and
+    /// fewer than the window are held of that sender.
     pub fn hold(&mut self, message: Message)
         requires of_group { IsOfGroup self.old.size message }
         requires room { count_of self.old message.name.sender < self.old.window }
@@ -79,11 +82,14 @@ impl DelayQueue {
     }
 
     /// The smallest sender of which some held message may be delivered at this time.
+    ///
+    /// Ask it with what is delivered now, as often as you like: what is held stays. Where messages are delivered in the order
+    /// of their numbers, the ready one is the first held of its sender, which `release` gives.
     pub fn next_ready(&mut self, now: &VectorTime) -> Option<u32>
         requires { length now.now ≡ self.old.size }
         ensures some { IfSome result (IsSmallestReady self.old now.now) }
         ensures none { IfNone result ((sender : ℕ) → ¬ HasReady self.old now.now sender) }
-        ensures same { self.new ≡ self.old }
+        ensures same { HoldsTheSame self.old self.new }
         ensures queue { IsDelayQueue self.old }
     {
         for (sender, list) in self.lists.iter().enumerate() {
