@@ -1,7 +1,8 @@
 -- The lists of a queue as the program keeps them, each with the places reserved for it.
 use Rattle.std.proofs.Common.{◌≡◌, ◌≢◌, ℕ, zero, suc, ◌*◌, ◌^◌, ◌<◌, ◌≤◌, List, [], ◌∷◌, ◌++◌, length, map, sym, ◌∙◌, ap, subst, arith, get_or, refl, All, sum_by, Global, deque_capacity, inl, inr, Some, None}
 use Rattle.std.specs.declared.collections.VecDeque.{VecDeque}
-use Rattle.std.specs.Prelude.{Option, IsSome, IfSome, IfNone, Any}
+use Rattle.std.specs.Prelude.{Option, IsSome, IfSome, IfNone}
+use Rattle.std.specs.List.{AllWithin, HoldsAt}
 use Rattle.std.specs.Option.{option_to_list}
 use Rattle.std.specs.VecDeque.{deque_len}
 use Rattle.std.specs.FinMap as fin
@@ -15,10 +16,10 @@ use Rattle.cb_delay.specs.declared.message.Name.{Name}
 use Rattle.cb_delay.specs.declared.message.Message.{Message}
 use Rattle.cb_delay.specs.Message.{name_cmp, IsOfGroup}
 use Rattle.cb_delay.specs.Queue.{IsNew, HasReady, IsSmallestReady, IsHeld, IsFirst, count_of, FollowsLast}
-use Rattle.cb_delay.specs.Lists.{IsRun, AreLists, list_of, queue_of, entries_of, all_entries}
+use Rattle.cb_delay.specs.Lists.{IsRun, AreLists, list_of, queue_of, entries_of, all_entries, HasSomeReady}
 use Rattle.cb_delay.proofs.Names.{names_total, exact_names}
 use Rattle.cb_delay.proofs.Runs.{found}
-use Rattle.cb_delay.proofs.Kept.{sorted, get-held, count-held, lists_holding, queue_holding, lists_releasing, queue_releasing, first_held, none_held, IsReadyAt, all_of_group, has_ready, has_none_ready}
+use Rattle.cb_delay.proofs.Kept.{sorted, get-held, count-held, lists_holding, queue_holding, lists_releasing, queue_releasing, first_held, none_held, all_of_group, has_ready, has_none_ready}
 
 abbrev pub Deque : Type 0
 Deque = VecDeque Message Global
@@ -236,44 +237,57 @@ module _ (window : ℕ) (deques : List Deque) (fresh : AreFresh window deques) w
   pub new_gives : (are : AreLists window (lists_of deques)) (size : ℕ) → length deques ≡ size
       → IsNew size window (queue_of window (lists_of deques))
   new_gives are size e = record {
-      of_size = length-lists_of deques ∙ e;
-      of_window = refl;
-      empty = fin.same_map names_total exact_names _ _ (λ name.
-          get-held window (lists_of deques) are name
-          ∙ ap (λ l. found name l) (no_list name.sender)
-          ∙ sym (fin.get-empty name_cmp name));
-    }
+    of_size = length-lists_of deques ∙ e;
+    of_window = refl;
+    empty = fin.same_map names_total exact_names _ _ (λ name.
+        get-held window (lists_of deques) are name
+        ∙ ap (λ l. found name l) (no_list name.sender)
+        ∙ sym (fin.get-empty name_cmp name));
+  }
 
-module _ (deques : List Deque) (sender : ℕ) (d : Deque) (below : sender < length deques) (here : d ≡ get_or deques sender d) where
-  pub none_here : (now : List ℕ) → All (λ m. ¬ IsReadyAt now m) d.items → All (λ m. ¬ IsReadyAt now m) (list_of (lists_of deques) sender)
-  none_here now none = subst (λ (l : List Message). All (λ m. ¬ IsReadyAt now m) l) (sym (list_of-deques deques sender d below here)) none
+-- the message of each list are of the group
+pub all_of_group_here : (window : ℕ) (deques : List Deque) → AreLists window (lists_of deques) → (n : ℕ) → n ≡ length (lists_of deques)
+    → All (λ (d : Deque). All (IsOfGroup n) d.items) deques
+all_of_group_here window deques are n size k d below =
+    let list = list_of-deques deques k (get_or deques k d) below (again deques k d below) in
+    subst (λ (m : ℕ). All (IsOfGroup m) (get_or deques k d).items) (sym size)
+    (subst (λ (l : List Message). All (IsOfGroup (length (lists_of deques))) l) list (all_of_group window (lists_of deques) are k))
 
-  module _ (window : ℕ) (are : AreLists window (lists_of deques)) (now : List ℕ) where
-    pub of_group_here : length now ≡ length (lists_of deques) → All (IsOfGroup (length now)) d.items
-    of_group_here size =
-        subst (λ (n : ℕ). All (IsOfGroup n) d.items) (sym size)
-        (subst (λ (l : List Message). All (IsOfGroup (length (lists_of deques))) l) (list_of-deques deques sender d below here)
-        (all_of_group window (lists_of deques) are sender))
+a_deque : (deques : List Deque) → 2 ≤ length deques → Deque
+a_deque [] two = absurd (omega (arith, two))
+a_deque (d ∷ deques) two = d
 
-    -- the first list with a ready message is of the smallest sender
-    pub smallest_here : Any (IsReadyAt now) d.items
-        → ((i : ℕ) → i < sender → All (λ m. ¬ IsReadyAt now m) (list_of (lists_of deques) i))
-        → IsSmallestReady (queue_of window (lists_of deques)) now sender
-    smallest_here ready none = record {
-      ready = has_ready window (lists_of deques) are sender now
-          (subst (λ (l : List Message). Any (IsReadyAt now) l) (sym (list_of-deques deques sender d below here)) ready);
-      smallest = λ other under. has_none_ready window (lists_of deques) are other now (none other under);
-    }
+module _ (window : ℕ) (deques : List Deque) (are : AreLists window (lists_of deques)) (now : List ℕ) where
+  default : Deque
+  default = a_deque deques (omega (arith, are.two_or_more, length-lists_of deques))
 
--- and where no list has one none is ready
-pub none_anywhere : (window : ℕ) (deques : List Deque) (are : AreLists window (lists_of deques)) (now : List ℕ) (end : ℕ) → length deques ≤ end
-    → ((i : ℕ) → i < end → All (λ m. ¬ IsReadyAt now m) (list_of (lists_of deques) i))
-    → (sender : ℕ) → ¬ HasReady (queue_of window (lists_of deques)) now sender
-none_anywhere window deques are now end all none sender =
-    has_none_ready window (lists_of deques) are sender now
-    (elim (cases_lt sender end) as (λ _. All (λ m. ¬ IsReadyAt now m) (list_of (lists_of deques) sender)) [
-      | inl below ↦ none sender below
-      | inr past ↦
-          let nothing = get_or_past (lists_of deques) sender [] (omega (arith, past, all, length-lists_of deques)) in
-          subst (λ (l : List Message). All (λ m. ¬ IsReadyAt now m) l) (sym nothing) (λ k x under. absurd (omega (arith, under)))
-    ])
+  list_at : (sender : ℕ) → sender < length deques → list_of (lists_of deques) sender ≡ (get_or deques sender default).items
+  list_at sender below = list_of-deques deques sender (get_or deques sender default) below (again deques sender default below)
+
+  no_list_ready : (l : List Message) → l ≡ [] → ¬ HasSomeReady now l
+  no_list_ready l empty (k, x, below, at, ready) = omega (arith, below, ap length empty)
+
+  none_at : (sender : ℕ) → (sender < length deques → ¬ HasSomeReady now (get_or deques sender default).items)
+      → ¬ HasReady (queue_of window (lists_of deques)) now sender
+  none_at sender none =
+      has_none_ready window (lists_of deques) are sender now
+      (elim (cases_lt sender (length deques)) as (λ _. ¬ HasSomeReady now (list_of (lists_of deques) sender)) [
+        | inl below ↦ subst (λ (l : List Message). ¬ HasSomeReady now l) (sym (list_at sender below)) (none below)
+        | inr past ↦ no_list_ready (list_of (lists_of deques) sender)
+            (get_or_past (lists_of deques) sender [] (omega (arith, past, length-lists_of deques)))
+      ])
+
+  -- the first list with a ready message is of the smallest sender
+  pub smallest_ready : (sender : ℕ) → (sender < length deques) × HoldsAt (λ (x : Deque). HasSomeReady now x.items) deques sender
+      × AllWithin (λ (x : Deque). ¬ HasSomeReady now x.items) deques 0 sender
+      → IsSmallestReady (queue_of window (lists_of deques)) now sender
+  smallest_ready sender (below, ready, none) = record {
+    ready = has_ready window (lists_of deques) are sender now
+        (subst (λ (l : List Message). HasSomeReady now l) (sym (list_at sender below)) (ready default));
+    smallest = λ other under. none_at other (λ _. none other default (omega arith) under);
+  }
+
+  -- and where no list has one none is ready
+  pub none_ready : AllWithin (λ (x : Deque). ¬ HasSomeReady now x.items) deques 0 (length deques)
+      → (sender : ℕ) → ¬ HasReady (queue_of window (lists_of deques)) now sender
+  none_ready none sender = none_at sender (λ below. none sender default (omega arith) below)

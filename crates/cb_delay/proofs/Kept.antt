@@ -1,6 +1,6 @@
 -- What the lists of a queue say of the queue that they are.
 use Rattle.std.proofs.Common.{◌≡◌, ◌≢◌, ℕ, suc, ◌+◌, ◌-◌, ◌<◌, ◌≤◌, true, false, cond, T, List, [], ◌∷◌, ◌++◌, length, sym, ◌∙◌, ap, subst, arith, Some, None, get_or, refl, inl, inr}
-use Rattle.std.specs.Prelude.{Option, IsSome, All, Any}
+use Rattle.std.specs.Prelude.{Option, IsSome, All}
 use Rattle.std.specs.Ordering.{eq_by_cmp}
 use Rattle.std.specs.FinMap as fin
 use Rattle.std.specs.FinMap.Entries.{find-append}
@@ -11,7 +11,7 @@ use Rattle.cb_delay.specs.declared.message.Name.{Name}
 use Rattle.cb_delay.specs.declared.message.Message.{Message}
 use Rattle.cb_delay.specs.Message.{name_cmp, IsOfGroup}
 use Rattle.cb_delay.specs.Queue.{HasReady, IsHeld, count_of, IsFirst, FollowsLast, AreInARow, IsDelayQueue}
-use Rattle.cb_delay.specs.Lists.{entries_of, all_entries, IsRun, list_of, AreLists, queue_of}
+use Rattle.cb_delay.specs.Lists.{entries_of, all_entries, IsRun, list_of, AreLists, queue_of, HasSomeReady}
 use Rattle.cb_times.specs.Order.{field}
 use Rattle.cb_delay.specs.Rule.{IsReady}
 use Rattle.cb_delay.proofs.Names.{names_total, exact_names, eq_by_cmp-sender, eq_by_cmp-true}
@@ -265,17 +265,13 @@ pub none_held : (window : ℕ) (lists : List (List Message)) (are : AreLists win
 none_held window lists are sender other e h of =
     let nothing : None ≡ Some other = ap (λ l. found other.name l) (sym e) ∙ found_of_held window lists are sender other.name other of h in cc
 
--- what a message says of itself against a time
-abbrev pub IsReadyAt : List ℕ → Message → Type 0
-IsReadyAt now message = IsReady message.name.sender (field message.time) (field now)
-
 module _ (window : ℕ) (lists : List (List Message)) (are : AreLists window lists) (sender : ℕ) where
   pub all_of_group : All (IsOfGroup (length lists)) (list_of lists sender)
   all_of_group k d below =
       (is_at (length lists) sender (are.runs sender).0 (list_of lists sender) k d (are.runs sender).1 below).of_group
 
   -- a message of the sender's list that is ready is held and ready
-  pub has_ready : (now : List ℕ) → Any (IsReadyAt now) (list_of lists sender) → HasReady (queue_of window lists) now sender
+  pub has_ready : (now : List ℕ) → HasSomeReady now (list_of lists sender) → HasReady (queue_of window lists) now sender
   has_ready now (k, x, below, at, ready) =
       let of : x.name.sender ≡ sender = subst (λ (m : Message). m.name.sender ≡ sender) at
       (is_at (length lists) sender (are.runs sender).0 (list_of lists sender) k x (are.runs sender).1 below).of_sender in (
@@ -286,8 +282,7 @@ module _ (window : ℕ) (lists : List (List Message)) (are : AreLists window lis
       )
 
   -- where none of the list is ready none that is held of the sender is
-  pub has_none_ready : (now : List ℕ) → All (λ m. ¬ IsReadyAt now m) (list_of lists sender) → ¬ HasReady (queue_of window lists) now sender
+  pub has_none_ready : (now : List ℕ) → ¬ HasSomeReady now (list_of lists sender) → ¬ HasReady (queue_of window lists) now sender
   has_none_ready now none (message, held, of, ready) =
       let place = place_of (list_of lists sender) message.name message (found_of_held window lists are sender message.name message of held) in
-      subst (λ (m : Message). ¬ IsReadyAt now m) (place.2 message) (none place.0 message place.1)
-      (subst (λ (s : ℕ). IsReady s (field message.time) (field now)) (sym of) ready)
+      none (place.0, message, place.1, place.2 message, subst (λ (s : ℕ). IsReady s (field message.time) (field now)) (sym of) ready)

@@ -1,5 +1,5 @@
 //! The plain delay queue: a list for each sender, and a look at every held message for each answer.
-ghost use Rattle.std.specs.Prelude.{◌≡◌, ◌+◌, ◌<◌, ◌≤◌, ◌↔◌, ℕ, length, map, All, Any, IfOk, IfSome, IfNone, IsTrue, sum_by, ◌^◌, ◌≢◌};
+ghost use Rattle.std.specs.Prelude.{◌≡◌, ◌+◌, ◌<◌, ◌≤◌, ◌↔◌, ℕ, length, map, All, MatchOption, IfOk, IfSome, IfNone, IsTrue, sum_by, ◌^◌, ◌≢◌};
 ghost use Rattle.std.specs.Bool.{OnTrue, OnFalse};
 ghost use Rattle.std.specs.FinMap as map;
 ghost use Rattle.std.specs.VecDeque.{deque_len};
@@ -7,6 +7,8 @@ ghost use Rattle.cb_times.specs.Order.{field};
 ghost use Rattle.cb_delay.specs.Message.{IsOfGroup};
 ghost use Rattle.cb_delay.specs.Queue.{IsNew, HoldsTheSame, IsHeld, IsDelayQueue, IsFirst, IsSmallestReady, HasReady, FollowsLast, count_of};
 ghost use Rattle.cb_delay.specs.Rule.{IsReady};
+ghost use Rattle.cb_delay.specs.Lists.{HasSomeReady};
+ghost use Rattle.std.specs.List.{HoldsAt, AllWithin};
 
 use crate::message::Message;
 use cb_times::{NoMemory, VectorTime};
@@ -92,12 +94,8 @@ impl DelayQueue {
         ensures same { HoldsTheSame self.old self.new }
         ensures queue { IsDelayQueue self.old }
     {
-        for (sender, list) in self.lists.iter().enumerate() {
-            if any_ready(list, now) {
-                return Some(sender as u32);
-            }
-        }
-        None
+        let sender = first_ready(&self.lists, now)?;
+        Some(sender as u32)
     }
 
     /// Takes out the message of this sender with the smallest number, where one is held.
@@ -126,10 +124,18 @@ fn total_len(lists: &[VecDeque<Message>]) -> usize
     lists.iter().map(|list| list.len()).sum()
 }
 
+fn first_ready(lists: &[VecDeque<Message>], now: &VectorTime) -> Option<usize>
+    requires { All (λ list. All (IsOfGroup (length now.now)) list.items) lists.now }
+    ensures { MatchOption result (AllWithin (λ list. ¬ HasSomeReady now.now list.items) lists.now 0 (length lists.now))
+        (λ sender. (sender < length lists.now) × HoldsAt (λ list. HasSomeReady now.now list.items) lists.now sender
+        × AllWithin (λ list. ¬ HasSomeReady now.now list.items) lists.now 0 sender) }
+{
+    lists.iter().position(|list| any_ready(list, now))
+}
+
 fn any_ready(list: &VecDeque<Message>, now: &VectorTime) -> bool
     requires { All (IsOfGroup (length now.now)) list.now.items }
-    ensures yes { OnTrue result (Any (λ message. IsReady message.name.sender (field message.time) (field now.now)) list.now.items) }
-    ensures no { OnFalse result (All (λ message. ¬ IsReady message.name.sender (field message.time) (field now.now)) list.now.items) }
+    ensures { IsTrue result ↔ HasSomeReady now.now list.now.items }
 {
     list.iter().any(|message| is_ready(message, now))
 }

@@ -11,5 +11,5 @@ pub returns : goal.returns
 returns c =
     new_gives c.args.window c.loop.lists.items c.loop.invariant.fresh
     (new_keeps c.args.window c.loop.lists.items c.loop.invariant.fresh
-     (omega arith) (omega arith) c.requires.window_one_or_more c.requires.window_at_most).0
+    (omega arith) (omega arith) c.requires.window_one_or_more c.requires.window_at_most).0
     c.args.size (omega arith)

@@ -1,41 +1,28 @@
-use Rattle.std.proofs.Common.{◌<◌, ◌≤◌, length, arith, below_more, ap}
 use Rattle.cb_delay.proofs.Kept.{is_delay_queue}
-use Rattle.cb_delay.proofs.Deques.{lists_of, none_here, of_group_here, smallest_here, none_anywhere}
+use Rattle.cb_delay.proofs.Deques.{lists_of, all_of_group_here, smallest_ready, none_ready}
 use Rattle.cb_delay.proofs.queue.DelayQueue.next_ready.Goals as goal
 
-pub any_ready-requires : goal.any_ready-requires
-any_ready-requires c =
-    let here = rw c.deref-list-items.ensures.value at c.list-item.is in
-    let below : c.loop-sender.sender < length c.self.inside.lists.items = omega (arith, ap length c.deref-list-items.ensures.value) in
+pub first_ready-requires : goal.first_ready-requires
+first_ready-requires c =
     let size = rw (← c.self.view_is) at c.requires in
-    of_group_here c.self.inside.lists.items c.loop-sender.sender c.list-item.result below here c.self.inside.window c.self.invariant.0
-    c.args.now.now size
+    rw c.deref.ensures.value
+    (all_of_group_here c.self.inside.window c.self.inside.lists.items c.self.invariant.0 _ size)
 
-pub loop-sender-preserved : goal.loop-sender-preserved
-loop-sender-preserved c =
-    below_more _ _ c.loop-sender.invariant
-    (none_here c.deref-list-items.result.now c.loop-sender.sender c.list-item.result (omega arith) c.list-item.is c.args.now.now
-    c.if-any_ready.ensures.no)
+pub returns-in_err-sender-clause-none : goal.returns-in_err-sender-clause-none
+returns-in_err-sender-clause-none c =
+    let none = rw c.deref.ensures.value at c.in_err-sender.ensures in
+    rw (c.from_residual.ensures, ← c.self.view_is)
+    (none_ready c.self.inside.window c.self.inside.lists.items c.self.invariant.0 c.args.now.now none)
 
-pub returns-then-any_ready-clause-some : goal.returns-then-any_ready-clause-some
-returns-then-any_ready-clause-some c =
-    let here = rw c.deref-list-items.ensures.value at c.list-item.is in
-    let none = rw c.deref-list-items.ensures.value at c.loop-sender.invariant in
-    let below : c.loop-sender.sender < length c.self.inside.lists.items = omega (arith, ap length c.deref-list-items.ensures.value) in
-    rw (← c.self.view_is)
-    (smallest_here c.self.inside.lists.items c.loop-sender.sender c.list-item.result below here c.self.inside.window c.self.invariant.0
-    c.args.now.now c.if-any_ready.ensures.yes none)
-
-pub returns-then-any_ready-clause-queue : goal.returns-then-any_ready-clause-queue
-returns-then-any_ready-clause-queue c =
+pub returns-in_err-sender-clause-queue : goal.returns-in_err-sender-clause-queue
+returns-in_err-sender-clause-queue c =
     rw (← c.self.view_is) (is_delay_queue c.self.inside.window (lists_of c.self.inside.lists.items) c.self.invariant.0)
 
-pub returns-clause-none : goal.returns-clause-none
-returns-clause-none c =
-    let none = rw c.deref-list-items.ensures.value at c.loop-sender.invariant in
-    let all : length c.self.inside.lists.items ≤ c.loop-sender.sender = omega (arith, ap length c.deref-list-items.ensures.value) in
+pub returns-clause-some : goal.returns-clause-some
+returns-clause-some c =
+    let some = rw c.deref.ensures.value at c.in_ok-sender.ensures in
     rw (← c.self.view_is)
-    (none_anywhere c.self.inside.window c.self.inside.lists.items c.self.invariant.0 c.args.now.now c.loop-sender.sender all none)
+    (smallest_ready c.self.inside.window c.self.inside.lists.items c.self.invariant.0 c.args.now.now c.in_ok-sender.sender some)
 
 pub returns-clause-queue : goal.returns-clause-queue
 returns-clause-queue c =
