@@ -245,7 +245,7 @@ module _ (window : ℕ) (deques : List Deque) (fresh : AreFresh window deques) w
         ∙ sym (fin.get-empty name_cmp name));
   }
 
--- the message of each list are of the group
+-- the messages of each list are of the group
 pub all_of_group_here : (window : ℕ) (deques : List Deque) → AreLists window (lists_of deques) → (n : ℕ) → n ≡ length (lists_of deques)
     → All (λ (d : Deque). All (IsOfGroup n) d.items) deques
 all_of_group_here window deques are n size k d below =
