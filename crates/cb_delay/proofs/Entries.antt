@@ -1,16 +1,15 @@
 -- The entries of all lists, one after another, as one map.
-use Rattle.std.proofs.Common.{◌≡◌, ◌≢◌, ℕ, zero, suc, ◌+◌, ◌<◌, ◌≤◌, ◌==◌, Bool, true, false, cond, ◌&&◌, T, List, [], ◌∷◌, ◌++◌, length, map, sym, ◌∙◌, ap, subst, arith, Some, None, get_or, refl, count_by}
-use Rattle.std.specs.Prelude.{Option}
-use Rattle.std.specs.Ordering.{eq_by_cmp, is_lt}
-use Rattle.std.specs.FinMap.{find, is_sorted, from_sorted, get, get-from_sorted, entries, entries-from_sorted, len, len-entries}
+use Rattle.std.proofs.Common.{◌≡◌, ◌≢◌, ℕ, zero, suc, ◌+◌, ◌<◌, ◌==◌, Bool, true, false, cond, ◌&&◌, T, List, [], ◌∷◌, ◌++◌, length, map, sym, ◌∙◌, ap, subst, arith, Some, None, refl, count_by}
+use Rattle.std.specs.Ordering.{eq_by_cmp}
+use Rattle.std.specs.FinMap.{find, is_sorted}
 use Rattle.std.specs.FinMap.Entries.{below_all}
 use Rattle.std.proofs.lemmas.Bool.Decides.{nat_tests}
 use Rattle.std.proofs.lemmas.List.Sums.{sum_by-cons}
 use Rattle.cb_delay.specs.declared.message.Name.{Name}
 use Rattle.cb_delay.specs.declared.message.Message.{Message}
-use Rattle.cb_delay.specs.Message.{name_cmp, IsOfGroup}
+use Rattle.cb_delay.specs.Message.{name_cmp}
 use Rattle.cb_delay.specs.Lists.{entries_of, all_entries, IsRunFrom, IsRun, list_of}
-use Rattle.cb_delay.proofs.Names.{eq_by_cmp-same, eq_by_cmp-sender, eq_by_cmp-number, eq_by_cmp-true, is_lt-sender, is_lt-number}
+use Rattle.cb_delay.proofs.Names.{is_lt-sender, is_lt-number}
 use Rattle.cb_delay.proofs.Runs.{found, found-other}
 
 -- the lists are those of the senders from this one on
@@ -26,9 +25,9 @@ find-skip [] others name none = refl
 find-skip (m ∷ list) others name none =
     elim (eq_by_cmp name_cmp name m.name)
     as (λ b. cond b (Some m) (found name list) ≡ None
-        → cond b (Some m) (find name_cmp name (entries_of list ++ others)) ≡ find name_cmp name others) [
-      true ↦ λ h. cc
-    | false ↦ λ h. find-skip list others name h
+    → cond b (Some m) (find name_cmp name (entries_of list ++ others)) ≡ find name_cmp name others) [
+      | true ↦ λ h. cc
+      | false ↦ λ h. find-skip list others name h
     ] none
 
 find-stop : (list : List Message) (others : List (Name × Message)) (name : Name) → find name_cmp name others ≡ None

@@ -1,3 +1,6 @@
 pub mod Names
 pub mod Runs
 pub mod Entries
+pub mod Kept
+pub mod Deques
+pub mod Room

@@ -1,5 +1,5 @@
 -- A run of one sender's messages, and which of them a name finds.
-use Rattle.std.proofs.Common.{◌≡◌, ◌≢◌, ℕ, zero, suc, ◌+◌, ◌<◌, ◌≤◌, Bool, true, false, cond, List, [], ◌∷◌, ◌++◌, length, sym, inl, inr, ◌∙◌, ap, subst, arith, Some, None, get_or, refl}
+use Rattle.std.proofs.Common.{◌≡◌, ◌≢◌, ℕ, zero, suc, ◌+◌, ◌<◌, ◌≤◌, true, false, cond, List, [], ◌∷◌, ◌++◌, length, sym, inl, inr, ◌∙◌, subst, arith, Some, None, get_or, refl}
 use Rattle.std.specs.Prelude.{Option, IsSome}
 use Rattle.std.specs.Ordering.{eq_by_cmp}
 use Rattle.std.specs.FinMap.{find}
@@ -7,7 +7,7 @@ use Rattle.std.proofs.lemmas.Bool.{cases_lt}
 use Rattle.cb_delay.specs.declared.message.Name.{Name}
 use Rattle.cb_delay.specs.declared.message.Message.{Message}
 use Rattle.cb_delay.specs.Message.{name_cmp, IsOfGroup}
-use Rattle.cb_delay.specs.Lists.{entries_of, IsRunFrom, IsRun}
+use Rattle.cb_delay.specs.Lists.{entries_of, IsRunFrom}
 use Rattle.cb_delay.proofs.Names.{eq_by_cmp-same, eq_by_cmp-sender, eq_by_cmp-number, eq_by_cmp-true}
 
 -- what a name finds
@@ -49,12 +49,12 @@ pub found-within : (size sender number : ℕ) (list : List Message) (name : Name
 found-within size sender number [] name run of from below = absurd (omega arith)
 found-within size sender number (m ∷ list) name run of from below =
     elim (cases_lt number name.number) [
-      inl later ↦
-        let differs : name.number ≢ m.name.number = λ e. absurd (omega (arith, later, e, run.1)) in
-        rw (eq_by_cmp-number name m.name differs) (found-within size sender (suc number) list name run.3 of (omega arith) (omega arith))
-    | inr first ↦
-        let same : name.number ≡ m.name.number = omega (arith, from, first, run.1) in
-        rw (eq_by_cmp-same name m.name (of ∙ sym run.0) same) refl
+      | inl later ↦
+          let differs : name.number ≢ m.name.number = λ e. absurd (omega (arith, later, e, run.1)) in
+          rw (eq_by_cmp-number name m.name differs) (found-within size sender (suc number) list name run.3 of (omega arith) (omega arith))
+      | inr first ↦
+          let same : name.number ≡ m.name.number = omega (arith, from, first, run.1) in
+          rw (eq_by_cmp-same name m.name (of ∙ sym run.0) same) refl
     ]
 
 pub is_found : (size sender number : ℕ) (list : List Message) (name : Name) (message : Message) → IsRunFrom size sender number list
@@ -63,29 +63,29 @@ is_found size sender number [] name message run h = cc
 is_found size sender number (m ∷ list) name message run h =
     elim (eq_by_cmp name_cmp name m.name)
     as (λ b. eq_by_cmp name_cmp name m.name ≡ b → cond b (Some m) (found name list) ≡ Some message
-        → IsFound size sender number (m ∷ list) name message) [
-      true ↦ λ e here.
-        let parts = eq_by_cmp-true name m.name e in
-        let same : m ≡ message = cc in
-        subst (λ (x : Message). IsFound size sender number (m ∷ list) name x) same
-        (record {
-          same_sender = sym parts.0;
-          same_number = sym parts.1;
-          of_sender = parts.0 ∙ run.0;
-          from = omega (arith, parts.1, run.1);
-          below = omega (arith, parts.1, run.1);
-          of_group = run.2;
-        })
-    | false ↦ λ e later.
-        let rest = is_found size sender (suc number) list name message run.3 later in
-        record {
-          same_sender = rest.same_sender;
-          same_number = rest.same_number;
-          of_sender = rest.of_sender;
-          from = omega (arith, rest.from);
-          below = omega (arith, rest.below);
-          of_group = rest.of_group;
-        }
+    → IsFound size sender number (m ∷ list) name message) [
+      | true ↦ λ e here.
+          let parts = eq_by_cmp-true name m.name e in
+          let same : m ≡ message = cc in
+          subst (λ (x : Message). IsFound size sender number (m ∷ list) name x) same
+          (record {
+            same_sender = sym parts.0;
+            same_number = sym parts.1;
+            of_sender = parts.0 ∙ run.0;
+            from = omega (arith, parts.1, run.1);
+            below = omega (arith, parts.1, run.1);
+            of_group = run.2;
+          })
+      | false ↦ λ e later.
+          let rest = is_found size sender (suc number) list name message run.3 later in
+          record {
+            same_sender = rest.same_sender;
+            same_number = rest.same_number;
+            of_sender = rest.of_sender;
+            from = omega (arith, rest.from);
+            below = omega (arith, rest.below);
+            of_group = rest.of_group;
+          }
     ] refl h
 
 pub run_push : (size sender number : ℕ) (list : List Message) (message : Message) → IsRunFrom size sender number list
@@ -125,7 +125,7 @@ place_of [] name message h = cc
 place_of (m ∷ list) name message h =
     elim (eq_by_cmp name_cmp name m.name)
     as (λ b. cond b (Some m) (found name list) ≡ Some message
-        → (k : ℕ) × (k < length (m ∷ list)) × ((d : Message) → get_or (m ∷ list) k d ≡ message)) [
-      true ↦ λ here. (0, omega arith, λ d. cc)
-    | false ↦ λ later. let rest = place_of list name message later in (suc rest.0, omega (arith, rest.1), rest.2)
+    → (k : ℕ) × (k < length (m ∷ list)) × ((d : Message) → get_or (m ∷ list) k d ≡ message)) [
+      | true ↦ λ here. (0, omega arith, λ d. cc)
+      | false ↦ λ later. let rest = place_of list name message later in (suc rest.0, omega (arith, rest.1), rest.2)
     ] h

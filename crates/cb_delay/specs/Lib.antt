@@ -2,3 +2,4 @@ pub mod Rule
 pub mod Message
 pub mod Queue
 pub mod Lists
+pub mod Laws

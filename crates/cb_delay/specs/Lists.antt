@@ -1,10 +1,12 @@
 -- How the plain queue keeps its messages: a list for each sender, in the order of the numbers.
-use Rattle.std.specs.Prelude.{◌≡◌, ℕ, suc, ◌≤◌, List, [], ◌∷◌, ◌++◌, length, map, slice_index_or}
-use Rattle.std.specs.FinMap.{FinMap, from_sorted}
+use Rattle.std.specs.Prelude.{◌≡◌, ℕ, suc, ◌≤◌, List, [], ◌∷◌, ◌++◌, length, map, slice_index_or, Any}
+use Rattle.std.specs.FinMap.{from_sorted}
 use Rattle.cb_delay.specs.declared.message.Name.{Name}
 use Rattle.cb_delay.specs.declared.message.Message.{Message}
-use Rattle.cb_delay.specs.Message.{name_cmp, IsOfGroup}
+use Rattle.cb_delay.specs.Message.{IsOfGroup}
 use Rattle.cb_delay.specs.Queue.{Queue}
+use Rattle.cb_delay.specs.Rule.{IsReady}
+use Rattle.cb_times.specs.Order.{field}
 
 abbrev pub entries_of : List Message → List (Name × Message)
 entries_of messages = map (λ m. (m.name, m)) messages
@@ -37,3 +39,7 @@ pub record AreLists (window : ℕ) (lists : List (List Message)) : Type 0 where
 -- the queue that the lists are
 abbrev pub queue_of : ℕ → List (List Message) → Queue
 queue_of window lists = record { size = length lists; window = window; held = from_sorted (all_entries lists) }
+
+-- a message of the list may be delivered at this time
+abbrev pub HasSomeReady : List ℕ → List Message → Type 0
+HasSomeReady now list = Any (λ message. IsReady message.name.sender (field message.time) (field now)) list

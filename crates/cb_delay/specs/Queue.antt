@@ -14,6 +14,18 @@ pub record Queue : Type 0 where
   pub window : ℕ
   pub held : map.FinMap name_cmp Message
 
+-- a queue that was just made
+pub record IsNew (size window : ℕ) (queue : Queue) : Type 0 where
+  pub of_size : queue.size ≡ size
+  pub of_window : queue.window ≡ window
+  pub empty : queue.held ≡ map.empty
+
+-- the queue is the same to a caller
+pub record HoldsTheSame (old new : Queue) : Type 0 where
+  pub size : new.size ≡ old.size
+  pub window : new.window ≡ old.window
+  pub held : new.held ≡ old.held
+
 abbrev pub IsHeld : Queue → Message → Type 0
 IsHeld queue message = map.get queue.held message.name ≡ Some message
 
@@ -51,7 +63,7 @@ pub record IsSmallestReady (queue : Queue) (now : List ℕ) (sender : ℕ) : Typ
 abbrev pub AreInARow : Queue → ℕ → Type 0
 AreInARow queue sender =
     (first : ℕ) × ((number : ℕ)
-      → IsSome (map.get queue.held (record { sender = sender; number = number })) ↔ ((first ≤ number) × (number < first + count_of queue sender)))
+    → IsSome (map.get queue.held (record { sender = sender; number = number })) ↔ ((first ≤ number) × (number < first + count_of queue sender)))
 
 -- what is true of every queue
 pub record IsDelayQueue (queue : Queue) : Type 0 where

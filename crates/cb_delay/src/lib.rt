@@ -1,8 +1,10 @@
 //! The delay queue of CBCAST: messages that wait until all before them are delivered.
 //!
-//! Stands on `cb_times`.
+//! A `Message` has the name and the time that its sender gave it; a `DelayQueue` holds those that came too early. Stands on
+//! `cb_times`, and on `bytes` for what a message says.
 #![tactic(auto)]
 
+pub mod laws;
 mod message;
 mod queue;
 

@@ -1,12 +1,14 @@
 //! The plain delay queue: a list for each sender, and a look at every held message for each answer.
-ghost use Rattle.std.specs.Prelude.{◌≡◌, ◌+◌, ◌<◌, ◌≤◌, ◌↔◌, ℕ, length, map, All, Any, IfOk, IfSome, IfNone, IsTrue, sum_by, ◌^◌, ◌≢◌};
+ghost use Rattle.std.specs.Prelude.{◌≡◌, ◌+◌, ◌<◌, ◌≤◌, ◌↔◌, ℕ, length, map, All, MatchOption, IfOk, IfSome, IfNone, IsTrue, sum_by, ◌^◌, ◌≢◌};
 ghost use Rattle.std.specs.Bool.{OnTrue, OnFalse};
 ghost use Rattle.std.specs.FinMap as map;
 ghost use Rattle.std.specs.VecDeque.{deque_len};
 ghost use Rattle.cb_times.specs.Order.{field};
 ghost use Rattle.cb_delay.specs.Message.{IsOfGroup};
-ghost use Rattle.cb_delay.specs.Queue.{IsHeld, IsDelayQueue, IsFirst, IsSmallestReady, HasReady, FollowsLast, count_of};
+ghost use Rattle.cb_delay.specs.Queue.{IsNew, HoldsTheSame, IsHeld, IsDelayQueue, IsFirst, IsSmallestReady, HasReady, FollowsLast, count_of};
 ghost use Rattle.cb_delay.specs.Rule.{IsReady};
+ghost use Rattle.cb_delay.specs.Lists.{HasSomeReady};
+ghost use Rattle.std.specs.List.{HoldsAt, AllWithin};
 
 use crate::message::Message;
 use cb_times::{NoMemory, VectorTime};
@@ -16,7 +18,7 @@ use std::marker::Model;
 
 /// Messages that were received and may not be delivered yet.
 ///
-/// A message that comes, in the order of its sender's numbers, is given to `hold`. Then, and after each delivery:
+/// A message that came is given to `hold`, those of one sender in the order of their numbers. Then:
 ///
 /// ```text
 /// while let Some(sender) = queue.next_ready(&time) {
@@ -58,7 +60,7 @@ impl DelayQueue {
         requires at_most_sixty_four { size ≤ 64 }
         requires window_one_or_more { 1 ≤ window }
         requires window_at_most { window ≤ 256 }
-        ensures { IfOk result (λ queue. queue ≡ record { size = size; window = window; held = map.empty }) }
+        ensures { IfOk result (IsNew size window) }
     {
         let mut lists = Vec::with_capacity(alloc, size as usize)?;
         for _ in 0..size {
@@ -68,6 +70,9 @@ impl DelayQueue {
     }
 
     /// Keeps a message until it is released.
+    ///
+    /// It is of the queue's group, its number follows that of the last message held of its sender, where one is held, and
+    /// fewer than the window are held of that sender.
     pub fn hold(&mut self, message: Message)
         requires of_group { IsOfGroup self.old.size message }
         requires room { count_of self.old message.name.sender < self.old.window }
@@ -79,19 +84,18 @@ impl DelayQueue {
     }
 
     /// The smallest sender of which some held message may be delivered at this time.
+    ///
+    /// Ask it with what is delivered now, as often as you like: what is held stays. Where messages are delivered in the order
+    /// of their numbers, the ready one is the first held of its sender, which `release` gives.
     pub fn next_ready(&mut self, now: &VectorTime) -> Option<u32>
         requires { length now.now ≡ self.old.size }
         ensures some { IfSome result (IsSmallestReady self.old now.now) }
         ensures none { IfNone result ((sender : ℕ) → ¬ HasReady self.old now.now sender) }
-        ensures same { self.new ≡ self.old }
+        ensures same { HoldsTheSame self.old self.new }
         ensures queue { IsDelayQueue self.old }
     {
-        for (sender, list) in self.lists.iter().enumerate() {
-            if any_ready(list, now) {
-                return Some(sender as u32);
-            }
-        }
-        None
+        let sender = first_ready(&self.lists, now)?;
+        Some(sender as u32)
     }
 
     /// Takes out the message of this sender with the smallest number, where one is held.
@@ -120,10 +124,18 @@ fn total_len(lists: &[VecDeque<Message>]) -> usize
     lists.iter().map(|list| list.len()).sum()
 }
 
+fn first_ready(lists: &[VecDeque<Message>], now: &VectorTime) -> Option<usize>
+    requires { All (λ list. All (IsOfGroup (length now.now)) list.items) lists.now }
+    ensures { MatchOption result (AllWithin (λ list. ¬ HasSomeReady now.now list.items) lists.now 0 (length lists.now))
+        (λ sender. (sender < length lists.now) × HoldsAt (λ list. HasSomeReady now.now list.items) lists.now sender
+        × AllWithin (λ list. ¬ HasSomeReady now.now list.items) lists.now 0 sender) }
+{
+    lists.iter().position(|list| any_ready(list, now))
+}
+
 fn any_ready(list: &VecDeque<Message>, now: &VectorTime) -> bool
     requires { All (IsOfGroup (length now.now)) list.now.items }
-    ensures yes { OnTrue result (Any (λ message. IsReady message.name.sender (field message.time) (field now.now)) list.now.items) }
-    ensures no { OnFalse result (All (λ message. ¬ IsReady message.name.sender (field message.time) (field now.now)) list.now.items) }
+    ensures { IsTrue result ↔ HasSomeReady now.now list.now.items }
 {
     list.iter().any(|message| is_ready(message, now))
 }
@@ -136,10 +148,17 @@ fn is_ready(message: &Message, now: &VectorTime) -> bool
     for k in 0..now.size() {
         let stamp = message.time.get(k);
         let count = now.get(k);
-        let in_time = if k == sender { count.checked_add(1) == Some(stamp) } else { stamp <= count };
+        let in_time = if k == sender {
+            count.checked_add(1) == Some(stamp)
+        } else {
+            stamp <= count
+        };
         if !in_time {
             return false;
         }
     }
     true
 }
+
+#[cfg(test)]
+mod tests;

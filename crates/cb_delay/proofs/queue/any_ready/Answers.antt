@@ -1,8 +1,6 @@
 use Rattle.std.proofs.lemmas.Iterator.Adapters.{serves_from_places}
 use Rattle.std.proofs.lemmas.Iterator.Consumers.{YieldsList-from_deque}
-use Rattle.std.proofs.Common.{arith, rules, ap, sym, refl}
-use Rattle.std.proofs.iter.Serving.{serving}
-use Rattle.std.proofs.lemmas.Grind.{common_steps}
+use Rattle.std.proofs.Common.{rules}
 use Rattle.cb_delay.proofs.queue.any_ready.Goals as goal
 
 pub any-requires-clause-callable : goal.any-requires-clause-callable

@@ -1,0 +1,293 @@
+-- The lists of a queue as the program keeps them, each with the places reserved for it.
+use Rattle.std.proofs.Common.{◌≡◌, ◌≢◌, ℕ, zero, suc, ◌*◌, ◌^◌, ◌<◌, ◌≤◌, List, [], ◌∷◌, ◌++◌, length, map, sym, ◌∙◌, ap, subst, arith, get_or, refl, All, sum_by, Global, deque_capacity, inl, inr, Some, None}
+use Rattle.std.specs.declared.collections.VecDeque.{VecDeque}
+use Rattle.std.specs.Prelude.{Option, IsSome, IfSome, IfNone}
+use Rattle.std.specs.List.{AllWithin, HoldsAt}
+use Rattle.std.specs.Option.{option_to_list}
+use Rattle.std.specs.VecDeque.{deque_len}
+use Rattle.std.specs.FinMap as fin
+use Rattle.std.proofs.Math.ListN.{set, length-set}
+use Rattle.std.proofs.lemmas.Bool.{cases_lt}
+use Rattle.std.proofs.lemmas.Bool.Decides.{eqb_tells}
+use Rattle.std.proofs.lemmas.List.{get_or-map, get_or-set_same, get_or-set_other, set-get_or, get_or_past, get_or_default, map-set, length-map, length-append}
+use Rattle.std.proofs.lemmas.List.Sums.{sum_by-cons, sum_by-le}
+use Rattle.std.proofs.Math.Nat.{mul-le-mul_right}
+use Rattle.cb_delay.specs.declared.message.Name.{Name}
+use Rattle.cb_delay.specs.declared.message.Message.{Message}
+use Rattle.cb_delay.specs.Message.{name_cmp, IsOfGroup}
+use Rattle.cb_delay.specs.Queue.{IsNew, HasReady, IsSmallestReady, IsHeld, IsFirst, count_of, FollowsLast}
+use Rattle.cb_delay.specs.Lists.{IsRun, AreLists, list_of, queue_of, entries_of, all_entries, HasSomeReady}
+use Rattle.cb_delay.proofs.Names.{names_total, exact_names}
+use Rattle.cb_delay.proofs.Runs.{found}
+use Rattle.cb_delay.proofs.Kept.{sorted, get-held, count-held, lists_holding, queue_holding, lists_releasing, queue_releasing, first_held, none_held, all_of_group, has_ready, has_none_ready}
+
+abbrev pub Deque : Type 0
+Deque = VecDeque Message Global
+
+abbrev pub lists_of : List Deque → List (List Message)
+lists_of deques = map (λ (d : Deque). d.items) deques
+
+deque_len-items : (d : Deque) → deque_len d ≡ length d.items
+deque_len-items d = d.ok.0
+
+pub list_of-deques : (deques : List Deque) (i : ℕ) (d : Deque) → i < length deques → d ≡ get_or deques i d
+    → list_of (lists_of deques) i ≡ d.items
+list_of-deques deques i d within e = get_or-map (λ (x : Deque). x.items) deques i d [] within ∙ ap (λ (x : Deque). x.items) (sym e)
+
+nil_of_length : {A : Type 0} (xs : List A) → length xs ≡ 0 → xs ≡ []
+nil_of_length [] e = refl
+nil_of_length (x ∷ xs) e = absurd (omega (arith, e))
+
+length-lists_of : (deques : List Deque) → length (lists_of deques) ≡ length deques
+length-lists_of deques = length-map deques (λ (x : Deque). x.items)
+
+lists_of-set : (deques : List Deque) (sender : ℕ) (d : Deque) → lists_of (set deques sender d) ≡ set (lists_of deques) sender d.items
+lists_of-set deques sender d = map-set (λ (x : Deque). x.items) deques sender d
+
+-- places are reserved in each of them
+abbrev pub AreReserved : ℕ → List Deque → Type 0
+AreReserved window deques = All (λ (x : Deque). window ≤ deque_capacity x) deques
+
+reserved-set : (window : ℕ) (deques : List Deque) (sender : ℕ) (d : Deque) → AreReserved window deques → sender < length deques
+    → window ≤ deque_capacity d → AreReserved window (set deques sender d)
+reserved-set window deques sender d reserved within room k x below =
+    elim (eqb_tells k sender) [
+      | inl at ↦
+          let to : sender ≡ k = sym at.1 in
+          subst (λ (j : ℕ). window ≤ deque_capacity (get_or (set deques sender d) j x)) to
+          (subst (λ (y : Deque). window ≤ deque_capacity y) (sym (get_or-set_same deques sender d x within)) room)
+      | inr apart ↦
+          subst (λ (y : Deque). window ≤ deque_capacity y) (sym (get_or-set_other deques sender k d x apart.1))
+          (reserved k x (omega (arith, below, length-set deques sender d)))
+    ]
+
+module _ (window : ℕ) (deques : List Deque) (kept : AreLists window (lists_of deques) × AreReserved window deques)
+    (message : Message) (d : Deque) (here : d ≡ get_or deques message.name.sender d)
+    (group : IsOfGroup (length (lists_of deques)) message)
+    (room : count_of (queue_of window (lists_of deques)) message.name.sender < window) where
+  within : message.name.sender < length deques
+  within = omega (arith, length-lists_of deques, group.sender)
+
+  reserved_here : window ≤ deque_capacity d
+  reserved_here = subst (λ (x : Deque). window ≤ deque_capacity x) (sym here) (kept.1 message.name.sender d within)
+
+  pub hold_room : deque_len d < deque_capacity d
+  hold_room =
+      let list = list_of-deques deques message.name.sender d within here in
+      let items : length (list_of (lists_of deques) message.name.sender) ≡ length d.items = ap length list in
+      omega (arith, reserved_here, room, count-held window (lists_of deques) kept.0 message.name.sender, items, deque_len-items d)
+
+  module _ (follows : FollowsLast (queue_of window (lists_of deques)) message.name)
+      (after : Deque) (items : after.items ≡ d.items ++ message ∷ []) (capacity : deque_capacity after ≡ deque_capacity d) where
+    appended : lists_of (set deques message.name.sender after)
+        ≡ set (lists_of deques) message.name.sender (list_of (lists_of deques) message.name.sender ++ message ∷ [])
+    appended =
+        lists_of-set deques message.name.sender after
+        ∙ ap (λ l. set (lists_of deques) message.name.sender l)
+        (items ∙ ap (λ l. l ++ message ∷ []) (sym (list_of-deques deques message.name.sender d within here)))
+
+    pub hold_keeps : AreLists window (lists_of (set deques message.name.sender after)) × AreReserved window (set deques message.name.sender after)
+    hold_keeps = (
+      subst (λ (ls : List (List Message)). AreLists window ls) (sym appended)
+          (lists_holding window (lists_of deques) kept.0 message group room follows),
+      reserved-set window deques message.name.sender after kept.1 within (omega (arith, capacity, reserved_here)),
+    )
+
+    pub hold_gives : queue_of window (lists_of (set deques message.name.sender after))
+        ≡ record {
+          size = length (lists_of deques);
+          window = window;
+          held = fin.insert (queue_of window (lists_of deques)).held message.name message;
+        }
+    hold_gives = ap (queue_of window) appended ∙ queue_holding window (lists_of deques) kept.0 message group room follows
+
+module _ (window : ℕ) (deques : List Deque) (kept : AreLists window (lists_of deques) × AreReserved window deques) (sender : ℕ)
+    (within : sender < length deques) (d : Deque) (here : d ≡ get_or deques sender d) (after : Deque) where
+  list_here : list_of (lists_of deques) sender ≡ d.items
+  list_here = list_of-deques deques sender d within here
+
+  unchanged : d.items ≡ after.items → lists_of (set deques sender after) ≡ lists_of deques
+  unchanged same =
+      lists_of-set deques sender after
+      ∙ ap (λ l. set (lists_of deques) sender l) (sym (list_here ∙ same))
+      ∙ set-get_or (lists_of deques) sender []
+
+  within_lists : sender < length (lists_of deques)
+  within_lists = omega (arith, within, length-lists_of deques)
+
+  pub release_keeps : (taken : Option Message) → d.items ≡ option_to_list taken ++ after.items → deque_capacity after ≡ deque_capacity d
+      → AreLists window (lists_of (set deques sender after)) × AreReserved window (set deques sender after)
+  release_keeps taken items capacity =
+      let reserved_here : window ≤ deque_capacity d = subst (λ (x : Deque). window ≤ deque_capacity x) (sym here) (kept.1 sender d within) in (
+        elim taken as (λ t. d.items ≡ option_to_list t ++ after.items → AreLists window (lists_of (set deques sender after))) [
+          | None ↦ λ same. subst (λ (ls : List (List Message)). AreLists window ls) (sym (unchanged same)) kept.0
+          | (Some first) ↦ λ front.
+              subst (λ (ls : List (List Message)). AreLists window ls) (sym (lists_of-set deques sender after))
+              (lists_releasing window (lists_of deques) kept.0 sender first after.items within_lists (list_here ∙ front))
+        ] items,
+        reserved-set window deques sender after kept.1 within (omega (arith, capacity, reserved_here)),
+      )
+
+  pub release_first : (taken : Option Message) → d.items ≡ option_to_list taken ++ after.items
+      → IfSome taken (IsFirst (queue_of window (lists_of deques)) sender)
+  release_first None items = tt
+  release_first (Some first) items = first_held window (lists_of deques) kept.0 sender first after.items (list_here ∙ items)
+
+  pub release_takes : (taken : Option Message) → d.items ≡ option_to_list taken ++ after.items
+      → IfSome taken (λ first. queue_of window (lists_of (set deques sender after))
+      ≡ record {
+        size = length (lists_of deques);
+        window = window;
+        held = fin.remove (queue_of window (lists_of deques)).held first.name;
+      })
+  release_takes None items = tt
+  release_takes (Some first) items =
+      ap (queue_of window) (lists_of-set deques sender after)
+      ∙ queue_releasing window (lists_of deques) kept.0 sender first after.items within_lists (list_here ∙ items)
+
+  pub release_same : (taken : Option Message) → d.items ≡ option_to_list taken ++ after.items
+      → IfNone taken (queue_of window (lists_of (set deques sender after)) ≡ queue_of window (lists_of deques))
+  release_same None items = ap (queue_of window) (unchanged items)
+  release_same (Some first) items = tt
+
+  pub release_none : (taken : Option Message) → (0 < deque_len d → IsSome taken)
+      → IfNone taken ((other : Message) → IsHeld (queue_of window (lists_of deques)) other → other.name.sender ≢ sender)
+  release_none None some =
+      let empty : length d.items ≡ 0 =
+      elim (cases_lt 0 (length d.items)) as (λ _. length d.items ≡ 0) [
+        | inl filled ↦ let wrong = some (omega (arith, filled, deque_len-items d)) in cc
+        | inr none ↦ omega (arith, none)
+      ] in
+      λ other. none_held window (lists_of deques) kept.0 sender other (list_here ∙ nil_of_length d.items empty)
+  release_none (Some first) some = tt
+
+-- of a sender that the group lacks none is held
+pub release_outside : (window : ℕ) (deques : List Deque) → AreLists window (lists_of deques) → (sender : ℕ) → length deques ≤ sender
+    → (other : Message) → IsHeld (queue_of window (lists_of deques)) other → other.name.sender ≢ sender
+release_outside window deques are sender outside other =
+    none_held window (lists_of deques) are sender other
+    (get_or_past (lists_of deques) sender [] (omega (arith, outside, length-lists_of deques)))
+
+entries_of-length : (list : List Message) → length (entries_of list) ≡ length list
+entries_of-length list = length-map list (λ (m : Message). let e : Name × Message = (m.name, m) in e)
+
+sum-lengths : (deques : List Deque) → length (all_entries (lists_of deques)) ≡ sum_by (λ (d : Deque). deque_len d) deques
+sum-lengths [] = refl
+sum-lengths (d ∷ deques) =
+    length-append (entries_of d.items) (all_entries (lists_of deques))
+    ∙ omega (arith, entries_of-length d.items, deque_len-items d, sum-lengths deques, sum_by-cons (λ (x : Deque). deque_len x) d deques)
+
+-- as many are held as the lists have messages
+pub len-held : (window : ℕ) (deques : List Deque) → AreLists window (lists_of deques)
+    → fin.len (queue_of window (lists_of deques)).held ≡ sum_by (λ (d : Deque). deque_len d) deques
+len-held window deques are =
+    fin.len-entries _ ∙ ap length (fin.entries-from_sorted name_cmp (all_entries (lists_of deques)) (sorted window (lists_of deques) are))
+    ∙ sum-lengths deques
+
+again : (deques : List Deque) (k : ℕ) (d : Deque) → k < length deques → get_or deques k d ≡ get_or deques k (get_or deques k d)
+again deques k d below = get_or_default deques k d (get_or deques k d) below
+
+-- and those are few
+pub few-held : (window : ℕ) (deques : List Deque) → AreLists window (lists_of deques)
+    → sum_by (λ (d : Deque). deque_len d) deques < 2 ^ 64
+few-held window deques are =
+    let each : All (λ (d : Deque). deque_len d ≤ 256) deques =
+    λ k d below.
+    let list = list_of-deques deques k (get_or deques k d) below (again deques k d below) in
+    let items : length (list_of (lists_of deques) k) ≡ length (get_or deques k d).items = ap length list in
+    omega (arith, deque_len-items (get_or deques k d), items, are.room k, are.window_at_most) in
+    let few : length deques ≤ 64 = omega (arith, are.at_most_sixty_four, length-lists_of deques) in
+    let most : length deques * 256 ≤ 64 * 256 = mul-le-mul_right 256 few in
+    omega (arith, sum_by-le (λ (d : Deque). deque_len d) 256 deques each, most)
+
+-- a list that was just made, with its places
+abbrev pub AreFresh : ℕ → List Deque → Type 0
+AreFresh window deques = All (λ (d : Deque). (d.items ≡ []) × (window ≤ deque_capacity d)) deques
+
+empty_at : (window : ℕ) (deques : List Deque) → AreFresh window deques → (sender : ℕ) → sender < length deques
+    → list_of (lists_of deques) sender ≡ []
+empty_at window [] fresh sender below = absurd (omega arith)
+empty_at window (d ∷ deques) fresh zero below = (fresh 0 d below).0
+empty_at window (d ∷ deques) fresh (suc sender) below =
+    empty_at window deques (λ k x under. fresh (suc k) x (omega (arith, under))) sender (omega (arith, below))
+
+module _ (window : ℕ) (deques : List Deque) (fresh : AreFresh window deques) where
+  no_list : (sender : ℕ) → list_of (lists_of deques) sender ≡ []
+  no_list sender =
+      elim (cases_lt sender (length deques)) [
+        | inl below ↦ empty_at window deques fresh sender below
+        | inr past ↦ get_or_past (lists_of deques) sender [] (omega (arith, past, length-lists_of deques))
+      ]
+
+  pub new_keeps : 2 ≤ length deques → length deques ≤ 64 → 1 ≤ window → window ≤ 256
+      → AreLists window (lists_of deques) × AreReserved window deques
+  new_keeps two sixty_four one most =
+      let same = length-lists_of deques in (
+        record {
+          two_or_more = omega (arith, two, same);
+          at_most_sixty_four = omega (arith, sixty_four, same);
+          window_one_or_more = one;
+          window_at_most = most;
+          runs = λ sender. subst (λ (l : List Message). IsRun (length (lists_of deques)) sender l) (sym (no_list sender)) (0, tt);
+          room = λ sender. subst (λ (l : List Message). length l ≤ window) (sym (no_list sender)) (omega arith);
+        },
+        λ k d below. (fresh k d below).1,
+      )
+
+  pub new_gives : (are : AreLists window (lists_of deques)) (size : ℕ) → length deques ≡ size
+      → IsNew size window (queue_of window (lists_of deques))
+  new_gives are size e = record {
+    of_size = length-lists_of deques ∙ e;
+    of_window = refl;
+    empty = fin.same_map names_total exact_names _ _ (λ name.
+        get-held window (lists_of deques) are name
+        ∙ ap (λ l. found name l) (no_list name.sender)
+        ∙ sym (fin.get-empty name_cmp name));
+  }
+
+-- the messages of each list are of the group
+pub all_of_group_here : (window : ℕ) (deques : List Deque) → AreLists window (lists_of deques) → (n : ℕ) → n ≡ length (lists_of deques)
+    → All (λ (d : Deque). All (IsOfGroup n) d.items) deques
+all_of_group_here window deques are n size k d below =
+    let list = list_of-deques deques k (get_or deques k d) below (again deques k d below) in
+    subst (λ (m : ℕ). All (IsOfGroup m) (get_or deques k d).items) (sym size)
+    (subst (λ (l : List Message). All (IsOfGroup (length (lists_of deques))) l) list (all_of_group window (lists_of deques) are k))
+
+a_deque : (deques : List Deque) → 2 ≤ length deques → Deque
+a_deque [] two = absurd (omega (arith, two))
+a_deque (d ∷ deques) two = d
+
+module _ (window : ℕ) (deques : List Deque) (are : AreLists window (lists_of deques)) (now : List ℕ) where
+  default : Deque
+  default = a_deque deques (omega (arith, are.two_or_more, length-lists_of deques))
+
+  list_at : (sender : ℕ) → sender < length deques → list_of (lists_of deques) sender ≡ (get_or deques sender default).items
+  list_at sender below = list_of-deques deques sender (get_or deques sender default) below (again deques sender default below)
+
+  no_list_ready : (l : List Message) → l ≡ [] → ¬ HasSomeReady now l
+  no_list_ready l empty (k, x, below, at, ready) = omega (arith, below, ap length empty)
+
+  none_at : (sender : ℕ) → (sender < length deques → ¬ HasSomeReady now (get_or deques sender default).items)
+      → ¬ HasReady (queue_of window (lists_of deques)) now sender
+  none_at sender none =
+      has_none_ready window (lists_of deques) are sender now
+      (elim (cases_lt sender (length deques)) as (λ _. ¬ HasSomeReady now (list_of (lists_of deques) sender)) [
+        | inl below ↦ subst (λ (l : List Message). ¬ HasSomeReady now l) (sym (list_at sender below)) (none below)
+        | inr past ↦ no_list_ready (list_of (lists_of deques) sender)
+            (get_or_past (lists_of deques) sender [] (omega (arith, past, length-lists_of deques)))
+      ])
+
+  -- the first list with a ready message is of the smallest sender
+  pub smallest_ready : (sender : ℕ) → (sender < length deques) × HoldsAt (λ (x : Deque). HasSomeReady now x.items) deques sender
+      × AllWithin (λ (x : Deque). ¬ HasSomeReady now x.items) deques 0 sender
+      → IsSmallestReady (queue_of window (lists_of deques)) now sender
+  smallest_ready sender (below, ready, none) = record {
+    ready = has_ready window (lists_of deques) are sender now
+        (subst (λ (l : List Message). HasSomeReady now l) (sym (list_at sender below)) (ready default));
+    smallest = λ other under. none_at other (λ _. none other default (omega arith) under);
+  }
+
+  -- and where no list has one none is ready
+  pub none_ready : AllWithin (λ (x : Deque). ¬ HasSomeReady now x.items) deques 0 (length deques)
+      → (sender : ℕ) → ¬ HasReady (queue_of window (lists_of deques)) now sender
+  none_ready none sender = none_at sender (λ below. none sender default (omega arith) below)
