@@ -3,3 +3,4 @@ pub mod Answers
 pub mod Lines
 pub mod Accepted
 pub mod Progress
+pub mod Words

@@ -1,5 +1,8 @@
 //! The words of the command line.
 
+ghost use Rattle.std.specs.Prelude.{IsTrue, IfSome};
+ghost use Rattle.confer.specs.Words.{is_status};
+
 use crate::fault::{Fault, LinesFault};
 use crate::lines::expand_lines;
 use clap::error::ErrorKind;
@@ -79,7 +82,9 @@ fn obey<S: AsStr, R: Read, W: Write>(
 }
 
 /// Says on `errors` what ended the run, and gives its exit status.
-pub fn report<E: Write>(fault: &Fault, errors: &mut E) -> u8 {
+pub fn report<E: Write>(fault: &Fault, errors: &mut E) -> u8
+    ensures { IsTrue (is_status result) }
+{
     let (status, written) = match fault {
         Fault::Words(error) if error.kind() == ErrorKind::OutOfMemory => (MEMORY, writeln!(errors, "confer: out of memory")),
         Fault::Words(error) => (WORDS, write!(errors, "{error}")),
@@ -91,7 +96,9 @@ pub fn report<E: Write>(fault: &Fault, errors: &mut E) -> u8 {
     status
 }
 
-fn status_of(fault: &LinesFault) -> u8 {
+fn status_of(fault: &LinesFault) -> u8
+    ensures { IsTrue (is_status result) }
+{
     match fault {
         LinesFault::Read | LinesFault::Write | LinesFault::TooLong => STREAMS,
         LinesFault::NoMemory => MEMORY,
@@ -105,7 +112,9 @@ pub fn run_plain<S: AsStr, R: Read, W: Write, E: Write>(
     input: &mut R,
     output: &mut W,
     errors: &mut E,
-) -> Option<u8> {
+) -> Option<u8>
+    ensures { IfSome result (λ status. IsTrue (is_status status)) }
+{
     Some(match obey(alloc, words, input, output) {
         Ok(false) => DONE,
         Ok(true) => REFUSED,
@@ -120,6 +129,8 @@ pub fn run_words<S: AsStr, R: Read, W: Write, E: Write>(
     input: &mut R,
     output: &mut W,
     errors: &mut E,
-) -> u8 {
+) -> u8
+    ensures { IsTrue (is_status result) }
+{
     run_plain(alloc, words, input, output, errors).unwrap_or(WORDS)
 }
