@@ -3,7 +3,6 @@ use Rattle.std.proofs.Common.{◌≡◌, ℕ, ◌+◌, ◌-◌, ◌<◌, ◌≤�
 use Rattle.std.specs.Prelude.{Result, Ok, Err, OnOk}
 use Rattle.std.proofs.lemmas.List.{append-nil, drop_all, drop_more}
 use Rattle.cb_varint.specs.Spelling.{Spells}
-use Rattle.cb_frames.specs.declared.frame.TheConstants.{LAST_MEMBER}
 use Rattle.cb_frames.specs.declared.frame.Change.{Change}
 use Rattle.cb_frames.specs.Fields.{CastFields}
 use Rattle.cb_frames.specs.Text.{SpellAll, pairs_from, cast_numbers, IsChange, AreChanges}

@@ -1,15 +1,15 @@
 -- What decoding answers, from what reading gives.
-use Rattle.std.proofs.Common.{◌≡◌, ℕ, ◌+◌, ◌-◌, ◌≤◌, List, [], ◌∷◌, ◌++◌, length, take, drop, Result, Ok, Err, MatchResult, refl, sym, ap, subst, ◌∙◌, arith, inl, inr, ◌⊎◌, append_assoc, suc, get_or, ◌<◌}
+use Rattle.std.proofs.Common.{◌≡◌, ℕ, ◌+◌, ◌-◌, ◌≤◌, List, [], ◌∷◌, ◌++◌, length, drop, Result, Ok, Err, MatchResult, refl, sym, ap, subst, ◌∙◌, arith, inl, inr, ◌⊎◌, suc, get_or, ◌<◌}
 use Rattle.std.specs.Prelude.{IfOk}
 use Rattle.std.proofs.lemmas.Bool.{eq-eqb}
 use Rattle.std.proofs.lemmas.List.{length-append, drop_at, append-nil}
 use Rattle.cb_frames.specs.declared.frame.Frame.{Frame}
 use Rattle.cb_frames.specs.declared.fault.FrameFault.{FrameFault}
 use Rattle.cb_frames.specs.declared.fault.FrameFault.TheVariants.{NoMemory}
-use Rattle.cb_frames.specs.Fields.{CastFields, FrameFields, CastFrame, fields_of}
-use Rattle.cb_frames.specs.Text.{cast_kind, SpellAll, cast_numbers, IsText}
+use Rattle.cb_frames.specs.Fields.{CastFields, FrameFields, fields_of}
+use Rattle.cb_frames.specs.Text.{cast_kind, IsText}
 use Rattle.cb_frames.specs.Fault.{FirstFault}
-use Rattle.cb_frames.specs.Reading.{◌>>=◌, cast_at, frame_at, Gives, Fails}
+use Rattle.cb_frames.specs.Reading.{cast_at, frame_at, Gives, Fails}
 use Rattle.cb_frames.specs.Laws.{EachIsTextOrFault, ReadingIsExact}
 use Rattle.cb_frames.proofs.Fronts.{IsBytes}
 use Rattle.cb_frames.proofs.Outcome.{CastOutcome, cast_outcome, FrameOutcome, frame_outcome}

@@ -1,18 +1,17 @@
 -- Fields at the front of bytes: what is read there is there, and what is there is the one thing that is.
-use Rattle.std.proofs.Common.{◌≡◌, ℕ, zero, suc, ◌+◌, ◌-◌, ◌<◌, ◌≤◌, List, [], ◌∷◌, ◌++◌, length, take, drop, get_or, Option, Some, None, Result, Ok, Err, refl, sym, ap, subst, ◌∙◌, append_assoc, arith, inl, inr, ◌⊎◌, ltb, cond}
-use Rattle.std.proofs.lemmas.List.{take-append-drop, get_or-drop, append_cancel_left}
+use Rattle.std.proofs.Common.{◌≡◌, ℕ, ◌+◌, ◌<◌, List, [], ◌∷◌, ◌++◌, length, take, drop, get_or, Option, Some, None, Result, Ok, Err, refl, sym, ap, subst, ◌∙◌, append_assoc, arith, inl, inr, ltb, cond}
+use Rattle.std.proofs.lemmas.List.{take-append-drop, get_or-drop}
 use Rattle.std.proofs.lemmas.Bool.{cond_both, ltb-true, ltb-false}
 use Rattle.cb_varint.specs.declared.fault.NumberFault.{NumberFault}
-use Rattle.cb_varint.specs.Spelling.{Spells, IsFault}
+use Rattle.cb_varint.specs.Spelling.{Spells}
 use Rattle.cb_varint.specs.Reading.{number_at as number_and_length}
-use Rattle.cb_varint.proofs.Fronts.{read_is_spelled, fault_is_there, number_is_read, fault_is_answered}
-use Rattle.cb_varint.proofs.Spelled.{apart}
+use Rattle.cb_varint.proofs.Fronts.{read_is_spelled, fault_is_there}
 use Rattle.cb_frames.specs.declared.fault.FrameFault.{FrameFault}
 use Rattle.cb_frames.specs.declared.fault.FrameFault.TheVariants.{Short, Trailing}
 use Rattle.cb_frames.specs.NumberFaults.{as_frame_fault}
 use Rattle.cb_frames.specs.Text.{SpellAll}
-use Rattle.cb_frames.specs.Fault.{Field, Number, Payload, Accepts, Follows, IsWrong, FirstFaultOf}
-use Rattle.cb_frames.specs.Reading.{◌>>=◌, behind_number, number_at, unless, field_at, payload_at}
+use Rattle.cb_frames.specs.Fault.{Field, Number, Payload, Accepts, IsWrong, FirstFaultOf}
+use Rattle.cb_frames.specs.Reading.{◌>>=◌, behind_number, unless, field_at, payload_at}
 
 abbrev pub IsBytes : List ℕ → Type 0
 IsBytes bytes = (i : ℕ) → get_or bytes i 0 < 256

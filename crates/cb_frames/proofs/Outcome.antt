@@ -1,15 +1,14 @@
 -- What reading gives: the frame whose text the bytes are, or their first fault.
-use Rattle.std.proofs.Common.{◌≡◌, ◌≢◌, ℕ, zero, suc, ◌+◌, ◌-◌, ◌<◌, ◌≤◌, Bool, true, false, cond, eqb, ltb, List, [], ◌∷◌, ◌++◌, length, Option, Some, None, MatchOption, Result, Ok, Err, refl, sym, ap, subst, ◌∙◌, arith, inl, inr, ◌⊎◌, zero-add, add-zero}
+use Rattle.std.proofs.Common.{◌≡◌, ◌≢◌, ℕ, zero, suc, ◌+◌, ◌-◌, ◌≤◌, Bool, true, false, cond, eqb, ltb, List, [], ◌∷◌, ◌++◌, length, Option, Some, None, Result, Ok, Err, refl, sym, ap, subst, arith}
 use Rattle.std.specs.List.{AllByRecursion}
-use Rattle.std.proofs.lemmas.Bool.{cond_both, ltb-true, ltb-false, eqb-true, eqb-false, eq-eqb, cond-true, cond-false}
-use Rattle.cb_varint.specs.Spelling.{Spells}
+use Rattle.std.proofs.lemmas.Bool.{cond_both, ltb-false, eqb-true, eqb-false, eq-eqb, cond-true, cond-false}
 use Rattle.cb_frames.specs.declared.frame.TheConstants.{LAST_MEMBER, LONGEST_PAYLOAD}
 use Rattle.cb_frames.specs.declared.frame.Change.{Change}
 use Rattle.cb_frames.specs.declared.fault.FrameFault.{FrameFault}
-use Rattle.cb_frames.specs.declared.fault.FrameFault.TheVariants.{Short, UnknownKind, BadIndex, ZeroNumber, ZeroDifference, OwnField, PayloadTooLong, Trailing}
+use Rattle.cb_frames.specs.declared.fault.FrameFault.TheVariants.{UnknownKind, BadIndex, ZeroNumber, ZeroDifference, OwnField, PayloadTooLong}
 use Rattle.cb_frames.specs.Fields.{CastFields, FrameFields, CastFrame}
 use Rattle.cb_frames.specs.Text.{cast_kind, SpellAll, pairs_from, RisesFrom, cast_numbers, IsChange, KeepsCastRules, IsText}
-use Rattle.cb_frames.specs.Fault.{Field, Number, Payload, any_number, member_rule, message_rule, index_rule, amount_rule, length_rule, pair_field, payload_field, cast_field, kind_fields, Accepts, Follows, IsWrong, FirstFaultOf, FirstFault}
+use Rattle.cb_frames.specs.Fault.{Number, any_number, member_rule, message_rule, index_rule, amount_rule, length_rule, pair_field, payload_field, cast_field, kind_fields, IsWrong, FirstFaultOf, FirstFault}
 use Rattle.cb_frames.specs.Reading.{◌>>=◌, field_at, change_at, changes_at, payload_at, cast_at, frame_at}
 use Rattle.cb_frames.proofs.Fronts.{IsBytes, bind_cases, Found, FieldOutcome, field_outcome, payload_outcome, fault_here, fault_later, Opens, Opens-none, Opens-one, Opens-append}
 

@@ -1,8 +1,8 @@
 -- Bytes are the text of one frame, or have one first fault.
-use Rattle.std.proofs.Common.{◌≡◌, ◌≢◌, ℕ, zero, suc, ◌+◌, ◌-◌, ◌<◌, ◌≤◌, Bool, true, false, cond, eqb, ltb, List, [], ◌∷◌, ◌++◌, length, Option, Some, None, MatchOption, Result, Ok, Err, refl, sym, ap, subst, ◌∙◌, arith, inl, inr, ◌⊎◌, append_assoc}
+use Rattle.std.proofs.Common.{◌≡◌, ◌≢◌, ℕ, ◌+◌, ◌-◌, ◌≤◌, eqb, ltb, List, [], ◌∷◌, ◌++◌, length, Option, Some, None, MatchOption, Ok, Err, refl, sym, ap, subst, ◌∙◌, arith, inl, inr, append_assoc}
 use Rattle.std.specs.List.{AllByRecursion, flat_map}
-use Rattle.std.proofs.lemmas.Bool.{eq-eqb, ne_eqb, le-ltb, cond-true, cond-false}
-use Rattle.std.proofs.lemmas.List.{append-nil, length-append, append_cancel_left, nil_from_length}
+use Rattle.std.proofs.lemmas.Bool.{ne_eqb, le-ltb, cond-false}
+use Rattle.std.proofs.lemmas.List.{append-nil, length-append, nil_from_length}
 use Rattle.cb_varint.specs.declared.fault.NumberFault.{NumberFault}
 use Rattle.cb_varint.specs.Spelling.{Spells, IsFault}
 use Rattle.cb_varint.specs.Reading.{number_at as number_and_length, spelling}
@@ -11,11 +11,11 @@ use Rattle.cb_varint.proofs.Spelled.{apart, spelling_is}
 use Rattle.cb_frames.specs.declared.frame.TheConstants.{LAST_MEMBER, LONGEST_PAYLOAD}
 use Rattle.cb_frames.specs.declared.frame.Change.{Change}
 use Rattle.cb_frames.specs.declared.fault.FrameFault.{FrameFault}
-use Rattle.cb_frames.specs.declared.fault.FrameFault.TheVariants.{Short, UnknownKind, BadIndex, ZeroNumber, ZeroDifference, OwnField, PayloadTooLong, Trailing}
+use Rattle.cb_frames.specs.declared.fault.FrameFault.TheVariants.{UnknownKind, BadIndex, ZeroNumber, ZeroDifference, PayloadTooLong}
 use Rattle.cb_frames.specs.NumberFaults.{as_frame_fault}
-use Rattle.cb_frames.specs.Fields.{CastFields, FrameFields, CastFrame}
-use Rattle.cb_frames.specs.Text.{cast_kind, SpellAll, pairs_from, RisesFrom, cast_numbers, IsChange, KeepsCastRules, IsText, text_of}
-use Rattle.cb_frames.specs.Fault.{Field, Number, Payload, any_number, member_rule, message_rule, index_rule, amount_rule, length_rule, pair_field, payload_field, cast_field, kind_fields, Accepts, Follows, IsWrong, FirstFaultOf, FirstFault}
+use Rattle.cb_frames.specs.Fields.{CastFields, CastFrame}
+use Rattle.cb_frames.specs.Text.{cast_kind, SpellAll, pairs_from, RisesFrom, cast_numbers, IsChange, KeepsCastRules, text_of}
+use Rattle.cb_frames.specs.Fault.{Field, Number, Payload, member_rule, message_rule, index_rule, amount_rule, length_rule, pair_field, payload_field, cast_field, kind_fields, Accepts, Follows, IsWrong, FirstFaultOf, FirstFault}
 use Rattle.cb_frames.specs.Laws.{NoneBeginsAnother, OneText, OneFault, TextHasNoFault}
 
 -- ---- one number

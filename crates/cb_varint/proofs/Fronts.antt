@@ -1,11 +1,10 @@
 -- Reading finds the spelling at the front of bytes, and else the fault.
-use Rattle.std.proofs.Common.{◌≡◌, ◌≢◌, ℕ, zero, suc, inl, inr, ◌+◌, ◌*◌, ◌-◌, ◌%◌, ◌^◌, ◌<◌, ◌≤◌, Bool, true, false, cond, eqb, ltb, ◌&&◌, List, [], ◌∷◌, ◌++◌, length, get_or, take, Result, Ok, Err, refl, sym, ap, subst, ◌∙◌, arith, append_assoc, add-suc, zero-add}
+use Rattle.std.proofs.Common.{◌≡◌, ◌≢◌, ℕ, zero, suc, inl, inr, ◌+◌, ◌*◌, ◌-◌, ◌^◌, ◌<◌, ◌≤◌, true, false, cond, eqb, ltb, ◌&&◌, List, [], ◌∷◌, ◌++◌, length, get_or, take, Result, Ok, Err, refl, sym, ap, subst, ◌∙◌, arith, append_assoc, zero-add}
 use Rattle.std.specs.List.{AllByRecursion}
 use Rattle.std.specs.Prelude.{IfOk}
-use Rattle.std.proofs.lemmas.Bool.{eqb-true, eqb-false, eq-eqb, ltb-true, ltb-false, le-ltb, lt-ltb, ne_eqb, cond_both, and_parts, and_cases, and_left, and_right, and_from, cases_eq, cases_lt, cond-false, cond-true}
+use Rattle.std.proofs.lemmas.Bool.{eqb-true, eqb-false, eq-eqb, ltb-true, ltb-false, le-ltb, lt-ltb, ne_eqb, cond_both, and_parts, and_cases, and_left, and_right, and_from, cases_eq, cases_lt}
 use Rattle.std.proofs.lemmas.List.{take_at, length-append, append-nil}
 use Rattle.std.proofs.Math.Nat.{pow-suc}
-use Rattle.std.proofs.Math.Nat.{one-le-pow}
 use Rattle.cb_varint.specs.declared.fault.NumberFault.{NumberFault}
 use Rattle.cb_varint.specs.declared.fault.NumberFault.TheVariants.{Short, NotMinimal, TooLarge}
 use Rattle.cb_varint.specs.Spelling.{value_of, HasTopBit, Spells, IsFault}
@@ -35,10 +34,10 @@ pub record Found (m k : ℕ) (bytes : List ℕ) (x : ℕ × ℕ) : Type 0 where
 -- a fault of bytes that k others stand before
 abbrev FaultAt : ℕ → NumberFault → List ℕ → Type 0
 FaultAt k TooLarge bytes = (front rest : List ℕ) × (fifth : ℕ) × (bytes ≡ front ++ fifth ∷ rest)
-  × (length front + k ≡ 4) × AllByRecursion HasTopBit front × (15 < fifth)
+    × (length front + k ≡ 4) × AllByRecursion HasTopBit front × (15 < fifth)
 FaultAt k Short bytes = (length bytes + k ≤ 4) × AllByRecursion HasTopBit bytes
 FaultAt k NotMinimal bytes = (front rest : List ℕ) × (bytes ≡ front ++ 0 ∷ rest)
-  × (0 < length front + k) × (length front + k ≤ 4) × AllByRecursion HasTopBit front
+    × (0 < length front + k) × (length front + k ≤ 4) × AllByRecursion HasTopBit front
 
 abbrev Outcome : ℕ → ℕ → List ℕ → Result (ℕ × ℕ) NumberFault → Type 0
 Outcome m k bytes (Ok x) = Found m k bytes x
@@ -85,19 +84,19 @@ closing_outcome m k b bytes total fifth ends = cond_both (eqb b 0 && ltb 0 k) (E
     let b-is : b ≡ 0 = eqb-true b 0 p.0 in
     let k-pos : 0 < k = ltb-true 0 k p.1 in
     ([], bytes, ap (λ (x : ℕ). x ∷ bytes) b-is, omega arith, omega arith, tt))
-  (λ f. record {
-    front = [];
-    last = b;
-    rest = bytes;
-    parts = refl;
-    more = tt;
-    ends = ends;
-    at_most_five = omega arith;
-    shortest = λ pos. closing_nonzero k b f (omega arith);
-    worth = sym (value_of-last b ends);
-    count = refl;
-    bound = closing_bound m k b total fifth ends;
-  })
+    (λ f. record {
+      front = [];
+      last = b;
+      rest = bytes;
+      parts = refl;
+      more = tt;
+      ends = ends;
+      at_most_five = omega arith;
+      shortest = λ pos. closing_nonzero k b f (omega arith);
+      worth = sym (value_of-last b ends);
+      count = refl;
+      bound = closing_bound m k b total fifth ends;
+    })
 
 not_fifth : (k b : ℕ) → (eqb k 4 && ltb 15 b) ≡ false → k ≡ 4 → b ≤ 15
 not_fifth k b f e =
@@ -117,17 +116,17 @@ outcome m k [] total fits = (omega arith, tt)
 outcome m k (b ∷ bytes) total fits =
     cond_both (eqb k 4 && ltb 15 b) (Err TooLarge) (cond (ltb b 128) (cond (eqb b 0 && ltb 0 k) (Err NotMinimal) (Ok (b, 1))) (behind b (groups_at (k + 1) bytes))) (Outcome m k (b ∷ bytes))
     (λ t.
-        let p = and_parts (eqb k 4) (ltb 15 b) t in
-        let k-is = eqb-true k 4 p.0 in
-        ([], bytes, b, refl, omega (arith, k-is), tt, ltb-true 15 b p.1))
+    let p = and_parts (eqb k 4) (ltb 15 b) t in
+    let k-is = eqb-true k 4 p.0 in
+    ([], bytes, b, refl, omega (arith, k-is), tt, ltb-true 15 b p.1))
     (λ f.
-        cond_both (ltb b 128) (cond (eqb b 0 && ltb 0 k) (Err NotMinimal) (Ok (b, 1))) (behind b (groups_at (k + 1) bytes)) (Outcome m k (b ∷ bytes))
-        (λ closes. closing_outcome m k b bytes total (not_fifth k b f) (ltb-true b 128 closes))
-        (λ goes.
-            let top : 128 ≤ b = ltb-false b 128 goes in
-            let l = going_on m k b total (not_fifth k b f) top in
-            subst (λ (n : ℕ). Outcome n k (b ∷ bytes) (behind b (groups_at (k + 1) bytes))) (sym l.1)
-            (behind_outcome l.0 k b bytes (groups_at (k + 1) bytes) (top, fits 0) (outcome l.0 (k + 1) bytes l.2 (IsBytes-rest b bytes fits)))))
+    cond_both (ltb b 128) (cond (eqb b 0 && ltb 0 k) (Err NotMinimal) (Ok (b, 1))) (behind b (groups_at (k + 1) bytes)) (Outcome m k (b ∷ bytes))
+    (λ closes. closing_outcome m k b bytes total (not_fifth k b f) (ltb-true b 128 closes))
+    (λ goes.
+    let top : 128 ≤ b = ltb-false b 128 goes in
+    let l = going_on m k b total (not_fifth k b f) top in
+    subst (λ (n : ℕ). Outcome n k (b ∷ bytes) (behind b (groups_at (k + 1) bytes))) (sym l.1)
+    (behind_outcome l.0 k b bytes (groups_at (k + 1) bytes) (top, fits 0) (outcome l.0 (k + 1) bytes l.2 (IsBytes-rest b bytes fits)))))
 
 -- ---- what stands at the front is read
 
@@ -197,18 +196,20 @@ pub is_spelled : (bytes : List ℕ) (x : ℕ × ℕ) → Found 4 0 bytes x → (
 is_spelled bytes x f =
     let regrouped : bytes ≡ (f.front ++ f.last ∷ []) ++ f.rest = f.parts ∙ sym (append_assoc f.front (f.last ∷ []) f.rest) in
     let len : length (f.front ++ f.last ∷ []) ≡ x.1 = omega (arith, length-append f.front (f.last ∷ []), f.count) in
-    let text : take x.1 bytes ≡ f.front ++ f.last ∷ [] = ap (take x.1) regrouped ∙ take_at (f.front ++ f.last ∷ []) f.rest x.1 len in
-    (omega (arith, ap length regrouped, length-append (f.front ++ f.last ∷ []) f.rest, len), record {
-      front = f.front;
-      last = f.last;
-      parts = text;
-      more = f.more;
-      ends = f.ends;
-      at_most_five = omega (arith, f.at_most_five);
-      shortest = λ pos. f.shortest (omega arith);
-      worth = f.worth ∙ ap value_of (sym text);
-      fits = omega (arith, f.bound);
-    })
+    let text : take x.1 bytes ≡ f.front ++ f.last ∷ [] = ap (take x.1) regrouped ∙ take_at (f.front ++ f.last ∷ []) f.rest x.1 len in (
+      omega (arith, ap length regrouped, length-append (f.front ++ f.last ∷ []) f.rest, len),
+      record {
+        front = f.front;
+        last = f.last;
+        parts = text;
+        more = f.more;
+        ends = f.ends;
+        at_most_five = omega (arith, f.at_most_five);
+        shortest = λ pos. f.shortest (omega arith);
+        worth = f.worth ∙ ap value_of (sym text);
+        fits = omega (arith, f.bound);
+      },
+    )
 
 pub number_is_read : (text rest : List ℕ) (n : ℕ) → Spells text n → number_at (text ++ rest) ≡ Ok (n, length text)
 unfolding number_at

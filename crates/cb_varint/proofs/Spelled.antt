@@ -1,16 +1,16 @@
 -- The one spelling of each number.
-use Rattle.std.proofs.Common.{◌≡◌, ◌≢◌, ℕ, zero, suc, ◌+◌, ◌*◌, ◌-◌, ◌/◌, ◌%◌, ◌^◌, ◌<◌, ◌≤◌, Bool, true, false, cond, ltb, List, [], ◌∷◌, ◌++◌, length, take, Result, Ok, Err, refl, sym, ap, subst, ◌∙◌, arith, inl, inr}
+use Rattle.std.proofs.Common.{◌≡◌, ◌≢◌, ℕ, zero, suc, ◌+◌, ◌*◌, ◌-◌, ◌/◌, ◌%◌, ◌^◌, ◌<◌, ◌≤◌, false, ltb, List, [], ◌∷◌, ◌++◌, length, Result, Ok, Err, refl, sym, ap, subst, ◌∙◌, arith, inl, inr}
 use Rattle.std.specs.List.{AllByRecursion}
 use Rattle.std.specs.Prelude.{OnOk}
-use Rattle.std.proofs.lemmas.Bool.{lt-ltb, le-ltb, ltb-true, ltb-false, cond_both, cases_lt, cases_eq}
-use Rattle.std.proofs.lemmas.List.{append_cancel_left, take_at}
+use Rattle.std.proofs.lemmas.Bool.{lt-ltb, le-ltb, cases_lt}
+use Rattle.std.proofs.lemmas.List.{append_cancel_left}
 use Rattle.std.proofs.Math.Nat.{pow-suc}
 use Rattle.cb_varint.specs.declared.fault.NumberFault.{NumberFault}
 use Rattle.cb_varint.specs.Spelling.{value_of, HasTopBit, Spells}
 use Rattle.cb_varint.specs.Reading.{groups_of, number_at, spelling}
 use Rattle.cb_varint.specs.Laws.{OneSpelling, NoneBeginsAnother, SpellingIsIt}
 use Rattle.cb_varint.proofs.Worth.{value_of-top, value_of-last, value_of-pos}
-use Rattle.cb_varint.proofs.Fronts.{number_is_read, power_pos}
+use Rattle.cb_varint.proofs.Fronts.{number_is_read}
 
 -- the groups of a text's worth are the text
 groups_again : (m : ℕ) (front : List ℕ) (last : ℕ) → AllByRecursion HasTopBit front → last < 128 → length front ≤ m → (0 < length front → last ≢ 0) → groups_of m (value_of (front ++ last ∷ [])) ≡ front ++ last ∷ []
@@ -59,20 +59,20 @@ grouped (suc m) n small =
     elim (cases_lt n 128) [
       | inl one ↦ grouped_one (suc m) n (rw (lt-ltb n 128 one) refl) one
       | inr more ↦
-        let high : n / 128 < 128 ^ (suc m) = omega (arith, pow-suc 128 (suc m)) in
-        let g = grouped m (n / 128) high in
-        let top : HasTopBit (n % 128 + 128) = (omega arith, omega arith) in
-        record {
-          front = (n % 128 + 128) ∷ g.front;
-          last = g.last;
-          parts = rw (le-ltb n 128 more, g.parts) refl;
-          more = (top, g.more);
-          ends = g.ends;
-          few = omega (arith, g.few);
-          nonzero = λ _. g.nonzero (omega arith);
-          single = λ h. absurd (omega arith);
-          worth = omega (arith, value_of-top (n % 128 + 128) (g.front ++ g.last ∷ []) top, g.worth);
-        }
+          let high : n / 128 < 128 ^ (suc m) = omega (arith, pow-suc 128 (suc m)) in
+          let g = grouped m (n / 128) high in
+          let top : HasTopBit (n % 128 + 128) = (omega arith, omega arith) in
+          record {
+            front = (n % 128 + 128) ∷ g.front;
+            last = g.last;
+            parts = rw (le-ltb n 128 more, g.parts) refl;
+            more = (top, g.more);
+            ends = g.ends;
+            few = omega (arith, g.few);
+            nonzero = λ _. g.nonzero (omega arith);
+            single = λ h. absurd (omega arith);
+            worth = omega (arith, value_of-top (n % 128 + 128) (g.front ++ g.last ∷ []) top, g.worth);
+          }
     ]
 
 pub spelled : (n : ℕ) → n < 2 ^ 32 → Spells (spelling n) n

@@ -1,5 +1,5 @@
 -- One turn of each loop.
-use Rattle.std.proofs.Common.{◌≡◌, ◌≢◌, ℕ, zero, suc, ◌+◌, ◌*◌, ◌-◌, ◌/◌, ◌%◌, ◌^◌, ◌<◌, ◌≤◌, Bool, true, false, cond, eqb, ltb, ◌&&◌, List, [], ◌∷◌, ◌++◌, length, take, drop, get_or, set, Result, Ok, Err, refl, sym, ap, append_assoc, subst, ◌∙◌, arith, inl, inr, ◌⊎◌}
+use Rattle.std.proofs.Common.{◌≡◌, ℕ, zero, suc, ◌+◌, ◌*◌, ◌-◌, ◌/◌, ◌%◌, ◌^◌, ◌<◌, ◌≤◌, false, cond, eqb, ltb, ◌&&◌, List, [], ◌∷◌, ◌++◌, length, take, drop, get_or, set, Result, Ok, Err, refl, sym, ap, append_assoc, ◌∙◌, arith, inl, inr, ◌⊎◌}
 use Rattle.std.specs.Prelude.{bit_and, is_ok, OnOk}
 use Rattle.std.proofs.lemmas.Bool.{lt-ltb, le-ltb, eq-eqb, ne_eqb, and_left, and_right, cases_eq}
 use Rattle.std.proofs.lemmas.List.{drop_more, drop_all, take_more_set, length-set}
@@ -9,7 +9,6 @@ use Rattle.std.proofs.Math.Numerals.{add-one}
 use Rattle.cb_varint.specs.declared.fault.NumberFault.{NumberFault}
 use Rattle.cb_varint.specs.declared.fault.NumberFault.TheVariants.{Short, NotMinimal, TooLarge}
 use Rattle.cb_varint.specs.Reading.{behind, groups_of, groups_at, spelling}
-use Rattle.cb_varint.proofs.Fronts.{power_pos}
 
 -- what reading gives where k bytes worth v were passed over, and r is what the rest gives
 abbrev pub ahead : ℕ → ℕ → Result (ℕ × ℕ) NumberFault → Result (ℕ × ℕ) NumberFault

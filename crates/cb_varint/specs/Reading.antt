@@ -12,9 +12,9 @@ behind b (Err fault) = Err fault
 abbrev pub groups_at : ℕ → List ℕ → Result (ℕ × ℕ) NumberFault
 groups_at k [] = Err Short
 groups_at k (b ∷ bytes) =
-  if k == 4 && nat_lt 15 b then Err TooLarge else
-  if nat_lt b 128 then (if b == 0 && nat_lt 0 k then Err NotMinimal else Ok (b, 1)) else
-  behind b (groups_at (k + 1) bytes)
+    if k == 4 && nat_lt 15 b then Err TooLarge else
+    if nat_lt b 128 then (if b == 0 && nat_lt 0 k then Err NotMinimal else Ok (b, 1)) else
+    behind b (groups_at (k + 1) bytes)
 
 -- the number at the front and how many bytes it has, or its fault
 unfoldable pub number_at : List ℕ → Result (ℕ × ℕ) NumberFault

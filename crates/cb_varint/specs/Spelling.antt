@@ -1,5 +1,5 @@
 -- Which bytes spell which number, and what is wrong with bytes that begin with no number's spelling.
-use Rattle.std.specs.Prelude.{◌≡◌, ◌≢◌, ℕ, ◌+◌, ◌*◌, ◌%◌, ◌^◌, ◌<◌, ◌≤◌, List, [], ◌∷◌, ◌++◌, length}
+use Rattle.std.specs.Prelude.{◌≡◌, ◌≢◌, ℕ, ◌*◌, ◌%◌, ◌^◌, ◌<◌, ◌≤◌, List, [], ◌∷◌, ◌++◌, length}
 use Rattle.std.specs.List.{AllByRecursion, enumerate_from, sum_by}
 use Rattle.cb_varint.specs.declared.fault.NumberFault.{NumberFault}
 use Rattle.cb_varint.specs.declared.fault.NumberFault.TheVariants.{Short, NotMinimal, TooLarge}
@@ -32,9 +32,9 @@ pub record Spells (text : List ℕ) (n : ℕ) : Type 0 where
 abbrev pub IsFault : NumberFault → List ℕ → Type 0
 -- four bytes with their top bit set, and a fifth that no number below 2 ^ 32 has there
 IsFault TooLarge bytes = (front rest : List ℕ) × (fifth : ℕ) × (bytes ≡ front ++ fifth ∷ rest)
-  × (length front ≡ 4) × AllByRecursion HasTopBit front × (15 < fifth)
+    × (length front ≡ 4) × AllByRecursion HasTopBit front × (15 < fifth)
 -- the bytes end, and each asks for another one
 IsFault Short bytes = (length bytes ≤ 4) × AllByRecursion HasTopBit bytes
 -- the last byte of two or more adds nothing
 IsFault NotMinimal bytes = (front rest : List ℕ) × (bytes ≡ front ++ 0 ∷ rest)
-  × (0 < length front) × (length front ≤ 4) × AllByRecursion HasTopBit front
+    × (0 < length front) × (length front ≤ 4) × AllByRecursion HasTopBit front

@@ -7,5 +7,4 @@ pub fn one_spelling()
     ensures one { OneSpelling }
     ensures apart { NoneBeginsAnother }
     ensures named { SpellingIsIt }
-{
-}
+{}

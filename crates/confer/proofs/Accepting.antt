@@ -48,7 +48,7 @@ pub answered : (group size : ℕ) (accepted : List CastFields) (line old mid new
     → mid ≡ old ++ accepted_text a → new ≡ mid ++ line_feed ∷ [] → IsAnswered group size accepted line old new false kept
 answered group size accepted line old mid new a kept is time keeps put end =
     let text : answer_text size accepted (outcome group size accepted line) ≡ accepted_text a = ap (answer_text size accepted) is
-      ∙ ap (λ (t : List ℕ). decimal a.cast.sender ++ codes "." ++ decimal a.cast.number ++ codes " " ++ text_of t ++ codes " " ++ payload_text a.cast.payload) (sym time) in
+    ∙ ap (λ (t : List ℕ). decimal a.cast.sender ++ codes "." ++ decimal a.cast.number ++ codes " " ++ text_of t ++ codes " " ++ payload_text a.cast.payload) (sym time) in
     record {
       text = end ∙ ap (λ (t : List ℕ). t ++ line_feed ∷ []) (put ∙ ap (λ (t : List ℕ). old ++ t) (sym text)) ∙ append_assoc old (answer_text size accepted (outcome group size accepted line)) (line_feed ∷ []);
       refusal = sym (ap is_err is);

@@ -68,17 +68,17 @@ goes_by_line group size accepted bytes left old mid new refused refused' kept ke
       unended = tt;
       appended = a.text ∙ ap (λ (t : List ℕ). t ++ line) g.appended ∙ append_assoc old g.added line;
       text = λ more.
-        let here : lines_of (left ++ line_feed ∷ more) ≡ left ∷ lines_of more = lines_of-line left more g.unended in
-        ap (λ (t : List ℕ). answers group size accepted (lines_of t)) (append_assoc bytes (line_feed ∷ []) more)
-        ∙ g.text (line_feed ∷ more) ∙ ap (λ (ls : List (List ℕ)). g.added ++ answers group size g.after ls) here
-        ∙ ap (λ (t : List ℕ). g.added ++ t) (sym (append_assoc (answer_text size g.after r) (line_feed ∷ []) (answers group size (accepted_after g.after r) (lines_of more))))
-        ∙ sym (append_assoc g.added line (answers group size (accepted_after g.after r) (lines_of more)));
+          let here : lines_of (left ++ line_feed ∷ more) ≡ left ∷ lines_of more = lines_of-line left more g.unended in
+          ap (λ (t : List ℕ). answers group size accepted (lines_of t)) (append_assoc bytes (line_feed ∷ []) more)
+          ∙ g.text (line_feed ∷ more) ∙ ap (λ (ls : List (List ℕ)). g.added ++ answers group size g.after ls) here
+          ∙ ap (λ (t : List ℕ). g.added ++ t) (sym (append_assoc (answer_text size g.after r) (line_feed ∷ []) (answers group size (accepted_after g.after r) (lines_of more))))
+          ∙ sym (append_assoc g.added line (answers group size (accepted_after g.after r) (lines_of more)));
       refusal = λ more.
-        let here : lines_of (left ++ line_feed ∷ more) ≡ left ∷ lines_of more = lines_of-line left more g.unended in
-        ap (λ (t : List ℕ). any_refused group size accepted (lines_of t)) (append_assoc bytes (line_feed ∷ []) more)
-        ∙ g.refusal (line_feed ∷ more) ∙ ap (λ (ls : List (List ℕ)). refused || any_refused group size g.after ls) here
-        ∙ ap (λ (b : Bool). refused || (b || any_refused group size (accepted_after g.after r) (lines_of more))) (sym a.refusal)
-        ∙ sym (or_assoc refused refused' (any_refused group size (accepted_after g.after r) (lines_of more)));
+          let here : lines_of (left ++ line_feed ∷ more) ≡ left ∷ lines_of more = lines_of-line left more g.unended in
+          ap (λ (t : List ℕ). any_refused group size accepted (lines_of t)) (append_assoc bytes (line_feed ∷ []) more)
+          ∙ g.refusal (line_feed ∷ more) ∙ ap (λ (ls : List (List ℕ)). refused || any_refused group size g.after ls) here
+          ∙ ap (λ (b : Bool). refused || (b || any_refused group size (accepted_after g.after r) (lines_of more))) (sym a.refusal)
+          ∙ sym (or_assoc refused refused' (any_refused group size (accepted_after g.after r) (lines_of more)));
     }
 
 -- one piece after another
@@ -91,13 +91,13 @@ goes_further group size accepted bytes left chunk left' old mid new refused refu
   unended = h.unended;
   appended = h.appended ∙ ap (λ (t : List ℕ). t ++ h.added) g.appended ∙ append_assoc old g.added h.added;
   text = λ more.
-    ap (λ (t : List ℕ). answers group size accepted (lines_of t)) (append_assoc bytes chunk more) ∙ g.text (chunk ++ more)
-    ∙ ap (λ (t : List ℕ). g.added ++ answers group size g.after (lines_of t)) (sym (append_assoc left chunk more))
-    ∙ ap (λ (t : List ℕ). g.added ++ t) (h.text more) ∙ sym (append_assoc g.added h.added (answers group size h.after (lines_of (left' ++ more))));
+      ap (λ (t : List ℕ). answers group size accepted (lines_of t)) (append_assoc bytes chunk more) ∙ g.text (chunk ++ more)
+      ∙ ap (λ (t : List ℕ). g.added ++ answers group size g.after (lines_of t)) (sym (append_assoc left chunk more))
+      ∙ ap (λ (t : List ℕ). g.added ++ t) (h.text more) ∙ sym (append_assoc g.added h.added (answers group size h.after (lines_of (left' ++ more))));
   refusal = λ more.
-    ap (λ (t : List ℕ). any_refused group size accepted (lines_of t)) (append_assoc bytes chunk more) ∙ g.refusal (chunk ++ more)
-    ∙ ap (λ (t : List ℕ). refused || any_refused group size g.after (lines_of t)) (sym (append_assoc left chunk more))
-    ∙ ap (λ (b : Bool). refused || b) (h.refusal more) ∙ sym (or_assoc refused refused' (any_refused group size h.after (lines_of (left' ++ more))));
+      ap (λ (t : List ℕ). any_refused group size accepted (lines_of t)) (append_assoc bytes chunk more) ∙ g.refusal (chunk ++ more)
+      ∙ ap (λ (t : List ℕ). refused || any_refused group size g.after (lines_of t)) (sym (append_assoc left chunk more))
+      ∙ ap (λ (b : Bool). refused || b) (h.refusal more) ∙ sym (or_assoc refused refused' (any_refused group size h.after (lines_of (left' ++ more))));
 }
 
 -- ---- one chunk
@@ -127,12 +127,12 @@ chunk_goes_on group first begun₀ chunk out₀ rest begun out out' refused refu
   seen = (s.seen ++ take i rest) ++ line_feed ∷ [];
   parts = s.parts ∙ ap (λ (t : List ℕ). s.seen ++ t) (line_cut rest i lt e) ∙ sym (append_assoc s.seen (take i rest) (line_feed ∷ drop (i + 1) rest)) ∙ sym (append_assoc (s.seen ++ take i rest) (line_feed ∷ []) (drop (i + 1) rest));
   goes = λ accepted k.
-    let g = goes_on group (length first) accepted (begun₀ ++ s.seen) begun out₀ out (take i rest) refused kept (s.goes accepted k) h in
-    let size : length kept ≡ length first = g.keeps.senders in
-    let a : IsAnswered group (length first) g.after (begun ++ take i rest) out out' refused' kept' =
+      let g = goes_on group (length first) accepted (begun₀ ++ s.seen) begun out₀ out (take i rest) refused kept (s.goes accepted k) h in
+      let size : length kept ≡ length first = g.keeps.senders in
+      let a : IsAnswered group (length first) g.after (begun ++ take i rest) out out' refused' kept' =
       subst (λ (n : ℕ). IsAnswered group n g.after (begun ++ take i rest) out out' refused' kept') size (answered g.after (subst (λ (n : ℕ). IsKept n g.after kept) (sym size) g.keeps)) in
-    let line = goes_by_line group (length first) accepted ((begun₀ ++ s.seen) ++ take i rest) (begun ++ take i rest) out₀ out out' refused refused' kept kept' g a in
-    subst (λ (t : List ℕ). Goes group (length first) accepted t [] out₀ out' (refused || refused') kept')
+      let line = goes_by_line group (length first) accepted ((begun₀ ++ s.seen) ++ take i rest) (begun ++ take i rest) out₀ out out' refused refused' kept kept' g a in
+      subst (λ (t : List ℕ). Goes group (length first) accepted t [] out₀ out' (refused || refused') kept')
       (ap (λ (t : List ℕ). t ++ line_feed ∷ []) (append_assoc begun₀ s.seen (take i rest)) ∙ append_assoc begun₀ (s.seen ++ take i rest) (line_feed ∷ [])) line;
 }
 
@@ -212,7 +212,7 @@ pub input_goes_on : (group size : ℕ) (input left left' before now now' : Optio
 input_goes_on group size input left left' before now now' begun begun' chunk out refused refused' kept kept' s read answered written =
     let len : length kept ≡ size = s.goes.keeps.senders in
     let g : Goes group size s.goes.after (begun ++ chunk) begun' [] out refused' kept' =
-      subst (λ (n : ℕ). Goes group n s.goes.after (begun ++ chunk) begun' [] out refused' kept') len (answered s.goes.after (subst (λ (n : ℕ). IsKept n s.goes.after kept) (sym len) s.goes.keeps)) in
+    subst (λ (n : ℕ). Goes group n s.goes.after (begun ++ chunk) begun' [] out refused' kept') len (answered s.goes.after (subst (λ (n : ℕ). IsKept n s.goes.after kept) (sym len) s.goes.keeps)) in
     let moved : Goes group size s.goes.after (begun ++ chunk) begun' s.written (s.written ++ g.added) refused' kept' = record {
       after = g.after;
       added = g.added;
@@ -227,7 +227,7 @@ input_goes_on group size input left left' before now now' begun begun' chunk out
       written = s.written ++ out;
       read = consumes_more input left left' s.seen chunk s.read read;
       goes = subst (λ (t : List ℕ). Goes group size [] (s.seen ++ chunk) begun' [] (s.written ++ t) (refused || refused') kept') (sym g.appended)
-        (goes_further group size [] s.seen begun chunk begun' [] s.written (s.written ++ g.added) refused refused' kept kept' s.goes moved);
+          (goes_further group size [] s.seen begun chunk begun' [] s.written (s.written ++ g.added) refused refused' kept kept' s.goes moved);
       appended = appends_more before now now' s.written out s.appended written;
     }
 
@@ -245,15 +245,15 @@ input_ends group size None left before now now' begun out refused refused' kept 
 input_ends group size (Some bytes) left before now now' begun out refused refused' kept s end answered written =
     let len : length kept ≡ size = s.goes.keeps.senders in
     let e : Ends group size s.goes.after begun [] out refused' =
-      subst (λ (n : ℕ). Ends group n s.goes.after begun [] out refused') len (answered s.goes.after (subst (λ (n : ℕ). IsKept n s.goes.after kept) (sym len) s.goes.keeps)) in
+    subst (λ (n : ℕ). Ends group n s.goes.after begun [] out refused') len (answered s.goes.after (subst (λ (n : ℕ). IsKept n s.goes.after kept) (sym len) s.goes.keeps)) in
     let all : bytes ≡ s.seen = all_seen (Some bytes) left s.seen s.read end in
     let added : s.written ≡ s.goes.added = s.goes.appended in
     let text : output_of group size bytes ≡ s.written ++ out =
-      ap (output_of group size) (all ∙ sym (append-nil s.seen)) ∙ s.goes.text [] ∙ ap (λ (t : List ℕ). s.goes.added ++ answers group size s.goes.after (lines_of t)) (append-nil begun)
-      ∙ ap (λ (t : List ℕ). s.goes.added ++ t) (sym e.text) ∙ ap (λ (t : List ℕ). t ++ out) (sym added) in
+    ap (output_of group size) (all ∙ sym (append-nil s.seen)) ∙ s.goes.text [] ∙ ap (λ (t : List ℕ). s.goes.added ++ answers group size s.goes.after (lines_of t)) (append-nil begun)
+    ∙ ap (λ (t : List ℕ). s.goes.added ++ t) (sym e.text) ∙ ap (λ (t : List ℕ). t ++ out) (sym added) in
     let refusal : is_refused group size bytes ≡ (refused || refused') =
-      ap (is_refused group size) (all ∙ sym (append-nil s.seen)) ∙ s.goes.refusal [] ∙ ap (λ (t : List ℕ). refused || any_refused group size s.goes.after (lines_of t)) (append-nil begun)
-      ∙ ap (λ (b : Bool). refused || b) (sym e.refusal) in
+    ap (is_refused group size) (all ∙ sym (append-nil s.seen)) ∙ s.goes.refusal [] ∙ ap (λ (t : List ℕ). refused || any_refused group size s.goes.after (lines_of t)) (append-nil begun)
+    ∙ ap (λ (b : Bool). refused || b) (sym e.refusal) in
     (subst (λ (t : List ℕ). Appends before now' t) (sym text) (appends_more before now now' s.written out s.appended written), sym refusal)
 
 -- ---- the same, in the words of the code
@@ -276,8 +276,8 @@ whole_input r group size input left left' before now now' begun line chunk old n
       appended = s.appended;
     } in
     let last : (accepted : List CastFields) → IsKept (length kept) accepted kept → Ends group (length kept) accepted begun [] new refused' = λ accepted k.
-      subst (λ (t : List ℕ). Ends group (length kept) accepted t [] new refused') line_is (subst (λ (t : List ℕ). Ends group (length kept) accepted line t new refused') old_is
-        (IfOk-at_ok (λ last. Ends group (length kept) accepted line old new last) is (answered accepted k))) in
+    subst (λ (t : List ℕ). Ends group (length kept) accepted t [] new refused') line_is (subst (λ (t : List ℕ). Ends group (length kept) accepted line t new refused') old_is
+    (IfOk-at_ok (λ last. Ends group (length kept) accepted line old new last) is (answered accepted k))) in
     input_ends group size input left' before now now' begun new refused refused' kept moved end last (subst (Appends now now') out_is written)
 
 -- one more piece of the input
@@ -287,6 +287,6 @@ pub more_input : {E : Type 0} (r : Result Bool E) (group size : ℕ) (input left
     → r ≡ Ok refused' → Appends now now' out → InputSoFar group size input left' before now' begun' (refused || refused') kept'
 more_input r group size input left left' before now now' begun begun' chunk part old new out refused refused' kept kept' s read part_is old_is out_is answered is written =
     let goes : (accepted : List CastFields) → IsKept (length kept) accepted kept → Goes group (length kept) accepted (begun ++ chunk) begun' [] new refused' kept' = λ accepted k.
-      subst (λ (t : List ℕ). Goes group (length kept) accepted (begun ++ t) begun' [] new refused' kept') part_is (subst (λ (t : List ℕ). Goes group (length kept) accepted (begun ++ part) begun' t new refused' kept') old_is
-        (IfOk-at_ok (λ last. Goes group (length kept) accepted (begun ++ part) begun' old new last kept') is (answered accepted k))) in
+    subst (λ (t : List ℕ). Goes group (length kept) accepted (begun ++ t) begun' [] new refused' kept') part_is (subst (λ (t : List ℕ). Goes group (length kept) accepted (begun ++ part) begun' t new refused' kept') old_is
+    (IfOk-at_ok (λ last. Goes group (length kept) accepted (begun ++ part) begun' old new last kept') is (answered accepted k))) in
     input_goes_on group size input left left' before now now' begun begun' chunk new refused refused' kept kept' s read goes (subst (Appends now now') out_is written)

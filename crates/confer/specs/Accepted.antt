@@ -31,17 +31,17 @@ GivesCast bytes (Err fault) = Fails fault (or_bad_frame (frame_at bytes))
 -- a time is the sum over the casts accepted before and this one, which is kept; a fault changes nothing
 abbrev pub GivesTime : ℕ → List CastFields → CastFields → List (List ℕ) → List (List ℕ) → Result (List ℕ) LineFault → Type 0
 GivesTime group accepted c old new (Ok time) =
-  (accept group (length old) accepted c ≡ Ok c)
-  × (time ≡ expanded_time (length old) (accepted ++ c ∷ []) c.sender (first_number c))
-  × IsKept (length old) (accepted ++ c ∷ []) new
+    (accept group (length old) accepted c ≡ Ok c)
+    × (time ≡ expanded_time (length old) (accepted ++ c ∷ []) c.sender (first_number c))
+    × IsKept (length old) (accepted ++ c ∷ []) new
 GivesTime group accepted c old new (Err fault) = Fails fault (accept group (length old) accepted c) × (new ≡ old)
 
 -- all steps of an answer
 abbrev pub GivesAccepted : ℕ → List CastFields → List ℕ → List (List ℕ) → List (List ℕ) → Result Accepted LineFault → Type 0
 GivesAccepted group accepted line old new (Ok a) =
-  (outcome group (length old) accepted line ≡ Ok (cast_fields a.cast))
-  × (a.time ≡ expanded_time (length old) (accepted ++ cast_fields a.cast ∷ []) a.cast.sender a.cast.number)
-  × IsKept (length old) (accepted ++ cast_fields a.cast ∷ []) new
+    (outcome group (length old) accepted line ≡ Ok (cast_fields a.cast))
+    × (a.time ≡ expanded_time (length old) (accepted ++ cast_fields a.cast ∷ []) a.cast.sender a.cast.number)
+    × IsKept (length old) (accepted ++ cast_fields a.cast ∷ []) new
 GivesAccepted group accepted line old new (Err fault) = Fails fault (outcome group (length old) accepted line) × (new ≡ old)
 
 -- a cast and its time, as they are printed

@@ -34,10 +34,10 @@ are_members size c = nat_lt c.sender size && list_all (λ d. nat_lt d.field size
 -- the cast, where it is of this group and its sender's next one
 abbrev pub accept : ℕ → ℕ → List CastFields → CastFields → Result CastFields Refusal
 accept group size accepted c =
-  if not (c.group == group) then Err refusals.OtherGroup else
-  if not (are_members size c) then Err refusals.BadMember else
-  if first_number c == last_in accepted c.sender + 1 then Ok c else
-  Err (refusals.NotNext (min greatest (last_in accepted c.sender + 1)) (first_number c))
+    if not (c.group == group) then Err refusals.OtherGroup else
+    if not (are_members size c) then Err refusals.BadMember else
+    if first_number c == last_in accepted c.sender + 1 then Ok c else
+    Err (refusals.NotNext (min greatest (last_in accepted c.sender + 1)) (first_number c))
 
 -- the cast that the line is, or why it is refused
 unfoldable pub outcome : ℕ → ℕ → List CastFields → List ℕ → Result CastFields Refusal
@@ -55,13 +55,13 @@ is_plain b = nat_le 0x20 b && nat_le b 0x7e && not (b == 34) && not (b == 92)
 -- a payload as text in quotation marks, or else as x and hexadecimal
 abbrev pub payload_text : List ℕ → List ℕ
 payload_text payload =
-  if list_all is_plain payload then 34 ∷ payload ++ 34 ∷ [] else 120 ∷ encode_lower payload
+    if list_all is_plain payload then 34 ∷ payload ++ 34 ∷ [] else 120 ∷ encode_lower payload
 
 -- the message's name, its time, which adds up the casts accepted so far and itself, and its payload
 abbrev pub cast_text : ℕ → List CastFields → CastFields → List ℕ
 cast_text size accepted c =
-  decimal c.sender ++ codes "." ++ decimal (first_number c) ++ codes " "
-  ++ text_of (expanded_time size (accepted ++ c ∷ []) c.sender (first_number c)) ++ codes " " ++ payload_text c.payload
+    decimal c.sender ++ codes "." ++ decimal (first_number c) ++ codes " "
+    ++ text_of (expanded_time size (accepted ++ c ∷ []) c.sender (first_number c)) ++ codes " " ++ payload_text c.payload
 
 abbrev pub answer_text : ℕ → List CastFields → Result CastFields Refusal → List ℕ
 answer_text size accepted (Ok c) = cast_text size accepted c

@@ -20,15 +20,15 @@ lines_of (b ∷ bytes) = if b == line_feed then [] ∷ lines_of bytes else put_f
 abbrev pub answers : ℕ → ℕ → List CastFields → List (List ℕ) → List ℕ
 answers group size accepted [] = []
 answers group size accepted (line ∷ lines) =
-  answer_text size accepted (outcome group size accepted line)
-  ++ line_feed ∷ answers group size (accepted_after accepted (outcome group size accepted line)) lines
+    answer_text size accepted (outcome group size accepted line)
+    ++ line_feed ∷ answers group size (accepted_after accepted (outcome group size accepted line)) lines
 
 -- whether a line is refused
 abbrev pub any_refused : ℕ → ℕ → List CastFields → List (List ℕ) → Bool
 any_refused group size accepted [] = false
 any_refused group size accepted (line ∷ lines) =
-  is_err (outcome group size accepted line)
-  || any_refused group size (accepted_after accepted (outcome group size accepted line)) lines
+    is_err (outcome group size accepted line)
+    || any_refused group size (accepted_after accepted (outcome group size accepted line)) lines
 
 -- the answers to a whole input, and whether one of its lines is refused
 unfoldable pub output_of : ℕ → ℕ → List ℕ → List ℕ

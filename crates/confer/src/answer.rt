@@ -60,7 +60,10 @@ fn time_of(group: u32, expander: &mut Expander, cast: &Cast) -> Result<VectorTim
     match expander.expand(cast) {
         Ok(time) => Ok(time),
         Err(ExpandFault::BadMember) => Err(LineFault::Refused(Refusal::BadMember)),
-        Err(ExpandFault::NotNext { expected, found }) => Err(LineFault::Refused(Refusal::NotNext { expected, found })),
+        Err(ExpandFault::NotNext { expected, found }) => Err(LineFault::Refused(Refusal::NotNext {
+            expected,
+            found,
+        })),
         Err(ExpandFault::NoMemory) => Err(LineFault::NoMemory),
     }
 }
@@ -120,7 +123,12 @@ struct Accepted {
 }
 
 #[tactic(auto, unfolding(crate::specs::Answers::outcome))]
-fn accept(alloc: Global, group: u32, expander: &mut Expander, line: &[u8]) -> Result<Accepted, LineFault>
+fn accept(
+    alloc: Global,
+    group: u32,
+    expander: &mut Expander,
+    line: &[u8],
+) -> Result<Accepted, LineFault>
     ensures { (accepted : List CastFields) → IsKept (length expander.old) accepted expander.old
         → GivesAccepted group accepted line.now expander.old expander.new result }
 {

@@ -39,7 +39,7 @@ fn answer_chunk(
     requires { HasNoFeed begun.old.items }
     ensures { (accepted : List CastFields) → IsKept (length expander.old) accepted expander.old
         → IfOk result (λ refused. Goes group (length expander.old) accepted (begun.old.items ++ chunk.now) begun.new.items
-            out.old.items out.new.items refused expander.new) }
+        out.old.items out.new.items refused expander.new) }
 {
     let mut refused = false;
     let mut rest = chunk;
@@ -134,7 +134,14 @@ pub fn expand_lines<R: Read, W: Write>(
             return Ok(refused | put(output, &out, answered)?);
         }
         let within = chunk.len().min(LONGEST_INPUT - total);
-        let answered = answer_chunk(alloc, group, &mut expander, &mut begun, &chunk[..within], &mut out);
+        let answered = answer_chunk(
+            alloc,
+            group,
+            &mut expander,
+            &mut begun,
+            &chunk[..within],
+            &mut out,
+        );
         refused |= put(output, &out, answered)?;
         if within < chunk.len() {
             break;

@@ -8,10 +8,9 @@ mod answer;
 mod fault;
 mod lines;
 mod refusal;
-mod words;
-
 #[cfg(test)]
 mod tests;
+mod words;
 
 use crate::fault::{Fault, LinesFault};
 use crate::words::{report, run_words};
@@ -29,7 +28,13 @@ fn words_of(rt: &HostRuntime) -> Result<Vec<String>, Fault> {
 
 fn main(rt: HostRuntime) -> ExitCode {
     let status = match words_of(&rt) {
-        Ok(words) => run_words(rt.alloc(), &words, &mut rt.stdin(), &mut rt.stdout(), &mut rt.stderr()),
+        Ok(words) => run_words(
+            rt.alloc(),
+            &words,
+            &mut rt.stdin(),
+            &mut rt.stdout(),
+            &mut rt.stderr(),
+        ),
         Err(fault) => report(&fault, &mut rt.stderr()),
     };
     ExitCode::from(status)

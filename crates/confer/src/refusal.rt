@@ -49,7 +49,10 @@ impl fmt::Display for Refusal {
             Refusal::Frame(fault) => f.write_str(fault_name(*fault)),
             Refusal::OtherGroup => f.write_str("OtherGroup"),
             Refusal::BadMember => f.write_str("BadMember"),
-            Refusal::NotNext { expected, found } => write!(f, "NotNext expected {expected} found {found}"),
+            Refusal::NotNext { expected, found } => write!(
+                f,
+                "NotNext expected {expected} found {found}"
+            ),
         }
     }
 }

@@ -8,7 +8,9 @@ use std::process::Abort;
 use std::test::Fail;
 
 const HI: &str = "1107000100026869";
+
 const YO: &str = "1107010101000102796f";
+
 const OK: &str = "1107010200026f6b";
 
 /// Gives its text `most` bytes at a time; the read after `good` of them is a fault.
@@ -34,7 +36,12 @@ impl<'a> Read for Source<'a> {
 }
 
 fn reading(text: &[u8]) -> Source<'_> {
-    Source { text, most: 5, good: usize::MAX, fault: ErrorKind::BrokenPipe }
+    Source {
+        text,
+        most: 5,
+        good: usize::MAX,
+        fault: ErrorKind::BrokenPipe,
+    }
 }
 
 /// Keeps what it is given, `most` bytes at a time; the write after `good` of them is a fault.
@@ -62,7 +69,11 @@ impl Write for Sink {
 }
 
 fn writing(alloc: Global) -> Sink {
-    Sink { text: Vec::new(alloc), most: 3, good: usize::MAX }
+    Sink {
+        text: Vec::new(alloc),
+        most: 3,
+        good: usize::MAX,
+    }
 }
 
 /// What `confer expand --group 7 --size 3` does with the lines.
@@ -70,7 +81,10 @@ fn expands(rt: &impl Abort, alloc: Global, lines: &[u8], status: u8, text: &str)
     let words = ["confer", "expand", "--group", "7", "--size", "3"];
     let mut output = writing(alloc);
     let mut errors = writing(alloc);
-    assert_eq!(rt; run_words(alloc, &words, &mut reading(lines), &mut output, &mut errors), status);
+    assert_eq!(rt;
+        run_words(alloc, &words, &mut reading(lines), &mut output, &mut errors),
+        status
+    );
     assert_eq!(rt; output.text.as_slice(), text.as_bytes());
     assert!(rt; errors.text.is_empty());
 }
@@ -108,7 +122,13 @@ fn lines_that_are_no_frames_are_refused_by_name(rt: HostRuntime) {
 #[test]
 fn digits_in_upper_case_and_an_unended_last_line_are_read(rt: HostRuntime) {
     let alloc = rt.alloc();
-    expands(&rt, alloc, b"1107010101000102796F", 0, "1.1 [1,1,0] \"yo\"\n");
+    expands(
+        &rt,
+        alloc,
+        b"1107010101000102796F",
+        0,
+        "1.1 [1,1,0] \"yo\"\n",
+    );
     expands(&rt, alloc, b"11070001000268", 1, "refused Short\n");
 }
 
@@ -117,13 +137,26 @@ fn payloads_that_are_not_plain_are_in_hexadecimal(rt: HostRuntime) {
     let alloc = rt.alloc();
     expands(&rt, alloc, b"11070001000122\n", 0, "0.1 [1,0,0] x22\n");
     expands(&rt, alloc, b"1107000100015c\n", 0, "0.1 [1,0,0] x5c\n");
-    expands(&rt, alloc, b"110700010003207e41\n", 0, "0.1 [1,0,0] \" ~A\"\n");
+    expands(
+        &rt,
+        alloc,
+        b"110700010003207e41\n",
+        0,
+        "0.1 [1,0,0] \" ~A\"\n",
+    );
     expands(&rt, alloc, b"1107000100021f7f\n", 0, "0.1 [1,0,0] x1f7f\n");
     expands(&rt, alloc, b"110700010000\n", 0, "0.1 [1,0,0] \"\"\n");
 }
 
 /// What a fault of the reader or of the writer leaves.
-fn stops(rt: &impl Abort, alloc: Global, input: &mut Source<'_>, output: &mut Sink, said: &str, shown: &[u8]) {
+fn stops(
+    rt: &impl Abort,
+    alloc: Global,
+    input: &mut Source<'_>,
+    output: &mut Sink,
+    said: &str,
+    shown: &[u8],
+) {
     let words = ["confer", "expand", "--group", "7", "--size", "3"];
     let mut errors = writing(alloc);
     assert_eq!(rt; run_words(alloc, &words, input, output, &mut errors), 3);
@@ -140,7 +173,14 @@ fn a_failing_read_keeps_what_was_answered(rt: HostRuntime) {
         input.fault = fault;
         let mut output = writing(rt.alloc());
         let shown = b"refused Short\nrefused UnknownKind\n";
-        stops(&rt, rt.alloc(), &mut input, &mut output, "confer: read fault\n", shown);
+        stops(
+            &rt,
+            rt.alloc(),
+            &mut input,
+            &mut output,
+            "confer: read fault\n",
+            shown,
+        );
     }
 }
 
@@ -152,7 +192,14 @@ fn each_write_failing_in_turn_keeps_what_was_written(rt: HostRuntime) {
         output.good = good;
         let upto = good.saturating_mul(3).min(shown.len());
         let mut input = reading(b"\n00\n");
-        stops(&rt, rt.alloc(), &mut input, &mut output, "confer: write fault\n", &shown[..upto]);
+        stops(
+            &rt,
+            rt.alloc(),
+            &mut input,
+            &mut output,
+            "confer: write fault\n",
+            &shown[..upto],
+        );
     }
 }
 
@@ -197,16 +244,25 @@ fn the_longest_input_is_read_and_one_byte_more_is_too_long(rt: HostRuntime) {
     let answers = 1024 * "refused BadHex\n".len();
     let mut output = Counter { count: 0 };
     let mut input = Letters { left: 67_108_864 };
-    assert_eq!(rt; expand_lines(alloc, 7, 3, &mut input, &mut output), Ok(true));
+    assert_eq!(rt;
+        expand_lines(alloc, 7, 3, &mut input, &mut output),
+        Ok(true)
+    );
     assert_eq!(rt; output.count, answers);
 
     let words = ["confer", "expand", "--group", "7", "--size", "3"];
     let mut output = Counter { count: 0 };
     let mut input = Letters { left: 67_108_865 };
     let mut errors = writing(alloc);
-    assert_eq!(rt; run_words(alloc, &words, &mut input, &mut output, &mut errors), 3);
+    assert_eq!(rt;
+        run_words(alloc, &words, &mut input, &mut output, &mut errors),
+        3
+    );
     assert_eq!(rt; output.count, answers);
-    assert_eq!(rt; errors.text.as_slice(), "confer: input too long\n".as_bytes());
+    assert_eq!(rt;
+        errors.text.as_slice(),
+        "confer: input too long\n".as_bytes()
+    );
 }
 
 /// What is said of words that are no command: nothing is read and nothing is printed.
@@ -214,7 +270,10 @@ fn says(rt: &impl Abort, alloc: Global, words: &[&str], part: &str) -> Result<()
     let mut input = reading(b"1107000100026869\n");
     let mut output = writing(alloc);
     let mut errors = writing(alloc);
-    assert_eq!(rt; run_words(alloc, words, &mut input, &mut output, &mut errors), 2);
+    assert_eq!(rt;
+        run_words(alloc, words, &mut input, &mut output, &mut errors),
+        2
+    );
     assert!(rt; output.text.is_empty());
     assert_eq!(rt; input.text.len(), 17);
     let Ok(said) = String::from_utf8(errors.text) else {
@@ -233,13 +292,48 @@ fn words_that_are_no_command_end_with_status_two(rt: HostRuntime) -> Result<(), 
     says(&rt, alloc, &["confer", "--help"], "Usage: confer")?;
     says(&rt, alloc, &["confer", "expand", "--help"], "--group <G>")?;
     says(&rt, alloc, &["confer", "juggle"], "juggle")?;
-    says(&rt, alloc, &["confer", "expand", "--size", "3"], "--group <G>")?;
-    says(&rt, alloc, &["confer", "expand", "--group", "7"], "--size <N>")?;
-    says(&rt, alloc, &["confer", "expand", "--group", "7", "--size", "1"], "'1'")?;
-    says(&rt, alloc, &["confer", "expand", "--group", "7", "--size", "65"], "'65'")?;
-    says(&rt, alloc, &["confer", "expand", "--group", "4294967296", "--size", "3"], "4294967296")?;
-    says(&rt, alloc, &["confer", "expand", "--group", "-1", "--size", "3"], "-1")?;
-    says(&rt, alloc, &["confer", "expand", "--group", "7", "--size", "3", "more"], "more")?;
+    says(
+        &rt,
+        alloc,
+        &["confer", "expand", "--size", "3"],
+        "--group <G>",
+    )?;
+    says(
+        &rt,
+        alloc,
+        &["confer", "expand", "--group", "7"],
+        "--size <N>",
+    )?;
+    says(
+        &rt,
+        alloc,
+        &["confer", "expand", "--group", "7", "--size", "1"],
+        "'1'",
+    )?;
+    says(
+        &rt,
+        alloc,
+        &["confer", "expand", "--group", "7", "--size", "65"],
+        "'65'",
+    )?;
+    says(
+        &rt,
+        alloc,
+        &["confer", "expand", "--group", "4294967296", "--size", "3"],
+        "4294967296",
+    )?;
+    says(
+        &rt,
+        alloc,
+        &["confer", "expand", "--group", "-1", "--size", "3"],
+        "-1",
+    )?;
+    says(
+        &rt,
+        alloc,
+        &["confer", "expand", "--group", "7", "--size", "3", "more"],
+        "more",
+    )?;
     Ok(())
 }
 
@@ -250,7 +344,10 @@ fn the_greatest_group_and_size_are_taken(rt: HostRuntime) {
     let mut output = writing(alloc);
     let mut errors = writing(alloc);
     let mut input = reading(b"11ffffffff0f3f010000\n");
-    assert_eq!(rt; run_plain(alloc, &words, &mut input, &mut output, &mut errors), Some(0));
+    assert_eq!(rt;
+        run_plain(alloc, &words, &mut input, &mut output, &mut errors),
+        Some(0)
+    );
     assert!(rt; output.text.starts_with(b"63.1 [0,0,"));
     assert!(rt; output.text.ends_with(b",0,1] \"\"\n"));
     assert!(rt; errors.text.is_empty());

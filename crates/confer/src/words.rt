@@ -48,7 +48,9 @@ fn size_option<'a>(alloc: Global) -> Arg<'a> {
 
 fn command<'a>(alloc: Global) -> Result<Command<'a>, AllocError> {
     let expand = Command::new(alloc, "expand")
-        .about("Reads cast frames in hexadecimal, a frame a line, and prints the vector time of each")
+        .about(
+            "Reads cast frames in hexadecimal, a frame a line, and prints the vector time of each",
+        )
         .arg(group_option(alloc))?
         .arg(size_option(alloc))?;
     Command::new(alloc, "confer")
@@ -86,7 +88,10 @@ pub fn report<E: Write>(fault: &Fault, errors: &mut E) -> u8
     ensures { IsTrue (is_status result) }
 {
     let (status, written) = match fault {
-        Fault::Words(error) if error.kind() == ErrorKind::OutOfMemory => (MEMORY, writeln!(errors, "confer: out of memory")),
+        Fault::Words(error) if error.kind() == ErrorKind::OutOfMemory => (
+            MEMORY,
+            writeln!(errors, "confer: out of memory"),
+        ),
         Fault::Words(error) => (WORDS, write!(errors, "{error}")),
         Fault::NotText => (WORDS, writeln!(errors, "confer: {fault}")),
         Fault::Lines(fault) => (status_of(fault), writeln!(errors, "confer: {fault}")),

@@ -1,6 +1,6 @@
 use Rattle.std.proofs.Common.{arith, rules}
 use Rattle.std.proofs.lemmas.Result.{err_from_is_err_and}
-use Rattle.cb_frames.proofs.ChangeLoop.{SoFar, starts, reads_one, ends, is_done}
+use Rattle.cb_frames.proofs.ChangeLoop.{starts, reads_one, ends, is_done}
 use Rattle.cb_frames.proofs.reading.all_changes.Goals as goal
 
 pub loop-init : goal.loop-init

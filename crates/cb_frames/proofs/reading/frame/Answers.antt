@@ -1,4 +1,4 @@
-use Rattle.std.proofs.Common.{◌≡◌, arith, refl, sym, ◌∙◌, inl}
+use Rattle.std.proofs.Common.{◌≡◌, arith, sym, ◌∙◌, inl}
 use Rattle.std.proofs.lemmas.Result.{err_from_is_err_and}
 use Rattle.cb_frames.proofs.Decoding.{fault_of_cast, cast_of_frame}
 use Rattle.cb_frames.proofs.reading.frame.Goals as goal

@@ -1,4 +1,4 @@
-use Rattle.std.proofs.Common.{arith, List, subst, ap, sym, ◌∙◌, length}
+use Rattle.std.proofs.Common.{arith, List, subst}
 use Rattle.cb_frames.specs.declared.frame.Change.{Change}
 use Rattle.cb_frames.specs.Fields.{cast_fields}
 use Rattle.cb_frames.specs.Text.{SpellAll, pairs_from}

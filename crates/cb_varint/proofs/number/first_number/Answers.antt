@@ -1,4 +1,4 @@
-use Rattle.std.proofs.Common.{◌+◌, ◌≡◌, ◌≤◌, ℕ, ap, subst, sym, ◌∙◌, refl, arith, Ok, get_or}
+use Rattle.std.proofs.Common.{◌+◌, ℕ, ap, subst, sym, ◌∙◌, refl, arith, Ok, get_or}
 use Rattle.cb_varint.specs.Reading.{number_at}
 use Rattle.cb_varint.proofs.Turns.{SoFar, starts, at_most_fifteen, alone_if_zero, group_in_place, sum_fits, closes, goes_on, is_too_large, is_not_minimal, is_short}
 use Rattle.cb_varint.proofs.number.first_number.Goals as goal

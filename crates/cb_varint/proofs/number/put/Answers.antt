@@ -1,6 +1,4 @@
-use Rattle.std.proofs.Common.{◌≡◌, ◌<◌, ◌+◌, ◌++◌, ℕ, List, Result, Ok, Err, length, take, set, cond, refl, ap, sym, ◌∙◌, arith}
-use Rattle.std.specs.Prelude.{is_ok, OnOk}
-use Rattle.cb_varint.specs.Spelling.{Spells}
+use Rattle.std.proofs.Common.{refl}
 use Rattle.cb_varint.specs.Reading.{spelling}
 use Rattle.cb_varint.proofs.Spelled.{spelled_on_ok}
 use Rattle.cb_varint.proofs.Turns.{nothing_written, group_written, last_written, written_on_ok}

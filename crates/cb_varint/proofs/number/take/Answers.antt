@@ -1,6 +1,4 @@
-use Rattle.std.proofs.Common.{◌≡◌, ℕ, Result, Ok, Err, refl, ap, sym, ◌∙◌, arith}
-use Rattle.std.specs.Prelude.{IfOk}
-use Rattle.cb_varint.specs.declared.fault.NumberFault.{NumberFault}
+use Rattle.std.proofs.Common.{ap, sym, ◌∙◌, arith}
 use Rattle.cb_varint.specs.Reading.{number_at}
 use Rattle.cb_varint.proofs.Fronts.{number_is_read, found_within, found_spelled, fault_is_there, fault_is_answered}
 use Rattle.cb_varint.proofs.number.take.Goals as goal

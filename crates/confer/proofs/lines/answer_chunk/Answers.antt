@@ -18,8 +18,8 @@ loop-end-preserved c =
     let after : take (length c.split_at.result.1.now - 1) (drop 1 c.split_at.result.1.now) ≡ drop (i + 1) rest = take_rest c.split_at.result.1.now 1 ∙ ap (drop 1) c.split_at.ensures.back ∙ drop-drop 1 i rest in
     let line : c.deref.result.now ≡ c.loop-end.begun.items ++ take i rest = c.deref.ensures.value ∙ c.in_ok-extend_from_slice.ensures.items ∙ ap (λ (t : List ℕ). c.loop-end.begun.items ++ t) c.split_at.ensures.front in
     rw (after, c.clear.ensures.items) (chunk_goes_on c.args.group c.args.expander.now c.args.begun.now.items c.args.chunk.now c.args.out.now.items rest c.loop-end.begun.items c.loop-end.out.items c.answer.new.out.items
-      c.loop-end.refused c.in_ok-refused.field-0 c.loop-end.expander c.answer.new.expander i c.loop-end.invariant found.0 found.1 found.2
-      (λ accepted kept. subst (λ (t : List ℕ). IsAnswered c.args.group (length c.loop-end.expander) accepted t c.loop-end.out.items c.answer.new.out.items c.in_ok-refused.field-0 c.answer.new.expander) line (c.in_ok-refused.ensures accepted kept)))
+    c.loop-end.refused c.in_ok-refused.field-0 c.loop-end.expander c.answer.new.expander i c.loop-end.invariant found.0 found.1 found.2
+    (λ accepted kept. subst (λ (t : List ℕ). IsAnswered c.args.group (length c.loop-end.expander) accepted t c.loop-end.out.items c.answer.new.out.items c.in_ok-refused.field-0 c.answer.new.expander) line (c.in_ok-refused.ensures accepted kept)))
 
 pub returns : goal.returns
 returns c accepted kept =

@@ -10,7 +10,7 @@ pub loop-init : goal.loop-init
 loop-init g c = record {
   small = omega arith;
   so_far = rw c.new-begun.ensures.items (input_starts c.args.group c.args.size (g.R.Read.remaining c.args.input.now) (g.W.Write.contents c.args.output.now) c.in_ok-expander.expander
-    (subst (IsKept c.args.size []) (sym c.in_ok-expander.ensures) (nothing_is_kept c.args.size)));
+      (subst (IsKept c.args.size []) (sym c.in_ok-expander.ensures) (nothing_is_kept c.args.size)));
 }
 
 pub returns-then-is_empty : goal.returns-then-is_empty
@@ -18,19 +18,19 @@ returns-then-is_empty g c =
     let none : vec_len c.in_ok-chunk.chunk ≡ 0 = eqb-true _ 0 (sym c.if-is_empty.ensures) in
     let chunk = c.in_ok-chunk.chunk.items in
     whole_input c.answer_last-answered.result c.args.group c.args.size (g.R.Read.remaining c.args.input.now) (g.R.Read.remaining c.loop.input) (g.R.Read.remaining c.read.new.input)
-      (g.W.Write.contents c.args.output.now) (g.W.Write.contents c.loop.output) (g.W.Write.contents c.put.new.output)
-      c.loop.begun.items c.deref.result.now chunk c.new-out.result.items c.answer_last-answered.new.out.items c.deref-then-is_empty.result.now c.loop.refused c.in_ok-put.field-0 c.loop.expander
-      c.loop.invariant.so_far c.in_ok-chunk.ensures.0 (omega (arith, none, c.in_ok-chunk.chunk.ok.0)) (c.in_ok-chunk.ensures.1 none) c.deref.ensures.value c.new-out.ensures.items c.deref-then-is_empty.ensures.value
-      c.answer_last-answered.ensures c.in_ok-put.ensures.0 c.in_ok-put.ensures.1
+    (g.W.Write.contents c.args.output.now) (g.W.Write.contents c.loop.output) (g.W.Write.contents c.put.new.output)
+    c.loop.begun.items c.deref.result.now chunk c.new-out.result.items c.answer_last-answered.new.out.items c.deref-then-is_empty.result.now c.loop.refused c.in_ok-put.field-0 c.loop.expander
+    c.loop.invariant.so_far c.in_ok-chunk.ensures.0 (omega (arith, none, c.in_ok-chunk.chunk.ok.0)) (c.in_ok-chunk.ensures.1 none) c.deref.ensures.value c.new-out.ensures.items c.deref-then-is_empty.ensures.value
+    c.answer_last-answered.ensures c.in_ok-put.ensures.0 c.in_ok-put.ensures.1
 
 pub loop-preserved : goal.loop-preserved
 loop-preserved g c = record {
   small = omega (arith, c.min-within.ensures, c.loop.invariant.small);
   so_far =
-    let chunk = c.in_ok-chunk.chunk.items in
-    let within : length c.deref-in-loop.result.now ≤ c.min-within.result = omega (arith, c.if-within-len.false, c.len-in-loop.ensures, c.deref-in-loop.ensures.len) in
-    let whole : take c.min-within.result c.deref-in-loop.result.now ≡ chunk = take_all c.min-within.result c.deref-in-loop.result.now within ∙ c.deref-in-loop.ensures.value in
-    more_input c.answer_chunk-answered.result c.args.group c.args.size (g.R.Read.remaining c.args.input.now) (g.R.Read.remaining c.loop.input) (g.R.Read.remaining c.read.new.input)
+      let chunk = c.in_ok-chunk.chunk.items in
+      let within : length c.deref-in-loop.result.now ≤ c.min-within.result = omega (arith, c.if-within-len.false, c.len-in-loop.ensures, c.deref-in-loop.ensures.len) in
+      let whole : take c.min-within.result c.deref-in-loop.result.now ≡ chunk = take_all c.min-within.result c.deref-in-loop.result.now within ∙ c.deref-in-loop.ensures.value in
+      more_input c.answer_chunk-answered.result c.args.group c.args.size (g.R.Read.remaining c.args.input.now) (g.R.Read.remaining c.loop.input) (g.R.Read.remaining c.read.new.input)
       (g.W.Write.contents c.args.output.now) (g.W.Write.contents c.loop.output) (g.W.Write.contents c.put-in-loop.new.output)
       c.loop.begun.items c.answer_chunk-answered.new.begun.items chunk (take c.min-within.result c.deref-in-loop.result.now) c.new-out.result.items c.answer_chunk-answered.new.out.items c.deref-in-loop-2.result.now c.loop.refused c.in_ok-refused.field-0 c.loop.expander c.answer_chunk-answered.new.expander
       c.loop.invariant.so_far c.in_ok-chunk.ensures.0 whole c.new-out.ensures.items c.deref-in-loop-2.ensures.value
