@@ -92,6 +92,7 @@ impl Expander {
             × (expected ≡ expected_number (time_of self.old cast.now.sender) cast.now.sender) × (found ≡ cast.now.number)) }
         ensures never_for_memory { result ≢ Err ExpandFault.NoMemory }
         ensures err { OnErr result ((self.new ≡ self.old) × (into.new ≡ into.old)) }
+        ensures size { length into.new ≡ length self.new }
     {
         self.check_next(cast)?;
         self.take_next(cast, into);
@@ -124,7 +125,8 @@ impl Expander {
     fn take_next(&mut self, cast: &Cast, into: &mut VectorTime)
         requires next { IsNext self.old (cast_fields cast.now) }
         requires size { length into.old ≡ length self.old }
-        ensures { Expands self.old (cast_fields cast.now) into.new self.new }
+        ensures expands { Expands self.old (cast_fields cast.now) into.new self.new }
+        ensures size { length into.new ≡ length self.new }
     {
         let sender = cast.sender as usize;
         copy_fields(into, &self.times[sender]);
