@@ -1,2 +1,4 @@
 pub mod Growing
+pub mod Returning
 pub mod Sums
+pub mod Telling

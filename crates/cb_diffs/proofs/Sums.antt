@@ -1,15 +1,14 @@
 -- The kept times are sums over all frames.
-use Rattle.std.proofs.Common.{◌≡◌, ◌≢◌, ℕ, ◌+◌, ◌<◌, ◌≤◌, Bool, true, false, cond, eqb, leb, ◌&&◌, List, [], ◌∷◌, ◌++◌, length, get_or, set, map, min, max, replicate, refl, sym, ap, subst, ◌∙◌, arith, inl, inr, append_assoc}
-use Rattle.std.specs.Prelude.{All}
-use Rattle.std.specs.List.{AllByRecursion, sum_by, range_with_len, zip}
+use Rattle.std.proofs.Common.{◌≡◌, ◌≢◌, ℕ, ◌+◌, ◌<◌, ◌≤◌, cond, eqb, leb, List, [], ◌∷◌, ◌++◌, length, min, max, replicate, refl, sym, ap, subst, ◌∙◌, arith, inl, inr, append_assoc}
+use Rattle.std.specs.List.{AllByRecursion, sum_by, zip}
 use Rattle.std.proofs.lemmas.Bool.{cases_eq, eq-eqb, ne_eqb, le-leb, lt-leb, and_left, and_right}
-use Rattle.std.proofs.lemmas.List.{length-set, get_or-set_same, get_or-set_other, get_or-replicate, length-replicate, ext_get_or, append-nil}
+use Rattle.std.proofs.lemmas.List.{length-set, get_or-set_same, get_or-set_other, get_or-replicate, length-replicate, ext_get_or}
 use Rattle.std.proofs.lemmas.List.Sums.{sum_by-cons, sum_by-append, sum_by_push}
 use Rattle.std.proofs.lemmas.List.FromFn.{get_or-map-range_with_len, length-map-range_with_len}
 use Rattle.cb_times.specs.Order.{field}
 use Rattle.cb_frames.specs.Fields.{CastFields, first_number, last_number, growth_in}
-use Rattle.cb_diffs.specs.Expansion.{greatest, growth_of, expanded_field, expanded_time, last_in, time_of, IsGrown, Expands, ExpandsAll}
-use Rattle.cb_diffs.specs.Laws.{IsKept, NothingIsKept, IsSum, ExpandingIsSumming, TimesAreSums}
+use Rattle.cb_diffs.specs.Expansion.{greatest, growth_of, expanded_field, expanded_time, last_in, time_of, ExpandsAll}
+use Rattle.cb_diffs.specs.Laws.{IsKept, NothingIsKept, ExpandingIsSumming, TimesAreSums}
 
 abbrev total : List CastFields → ℕ → ℕ → ℕ → ℕ
 total casts sender number k = sum_by (growth_of sender number k) casts

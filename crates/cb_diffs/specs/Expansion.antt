@@ -1,6 +1,6 @@
 -- The time of a cast from the increments of its sender's frames.
-use Rattle.std.specs.Prelude.{◌≡◌, ◌≢◌, ℕ, ◌+◌, ◌<◌, ◌≤◌, Bool, ◌&&◌, All, List, [], ◌∷◌, ◌++◌, length, map, max, min, replicate, slice_index, slice_index_or, slice_set, nat_le, ◌==◌, if◌then◌else◌}
-use Rattle.std.specs.List.{AllByRecursion, sum_by, range_with_len, zip}
+use Rattle.std.specs.Prelude.{◌≡◌, ◌≢◌, ℕ, ◌+◌, ◌<◌, ◌≤◌, ◌&&◌, All, List, [], ◌∷◌, length, map, max, min, slice_index_or, slice_set, nat_le, ◌==◌, if◌then◌else◌}
+use Rattle.std.specs.List.{sum_by, range_with_len}
 use Rattle.cb_times.specs.Order.{field}
 use Rattle.cb_frames.specs.Fields.{CastFields, first_number, last_number, growth_in}
 
@@ -54,6 +54,11 @@ pub record IsGrown (old : List ℕ) (c : CastFields) (new : List ℕ) : Type 0 w
 -- the number that the sender's next cast would have
 abbrev pub expected_number : List ℕ → ℕ → ℕ
 expected_number time sender = min greatest (field time sender + 1)
+
+-- the cast is of members, and its sender's next one
+pub record IsNext (times : List (List ℕ)) (c : CastFields) : Type 0 where
+  pub members : AreMembers (length times) c
+  pub next : first_number c ≡ field (time_of times c.sender) c.sender + 1
 
 -- the cast is its sender's next one, `time` is its time, and is kept in place of the sender's time before
 pub record Expands (old : List (List ℕ)) (c : CastFields) (time : List ℕ) (new : List (List ℕ)) : Type 0 where

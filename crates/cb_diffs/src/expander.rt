@@ -5,7 +5,7 @@ ghost use Rattle.std.specs.List.{AllByRecursion};
 ghost use Rattle.cb_times.specs.Order.{field};
 ghost use Rattle.cb_times.specs.Time.{IsTime};
 ghost use Rattle.cb_frames.specs.Fields.{cast_fields};
-ghost use Rattle.cb_diffs.specs.Expansion.{AreMembers, IsGrown, Expands, time_of, expected_number};
+ghost use Rattle.cb_diffs.specs.Expansion.{AreMembers, IsGrown, IsNext, Expands, time_of, expected_number};
 ghost use Rattle.cb_diffs.specs.declared.expander.ExpandFault.TheVariants.{NoMemory as WantsMemory};
 
 use cb_frames::Cast;
@@ -75,21 +75,74 @@ impl Expander {
             × (expected ≡ expected_number (time_of self.old cast.now.sender) cast.now.sender) × (found ≡ cast.now.number)) }
         ensures err { OnErr result (self.new ≡ self.old) }
     {
+        self.check_next(cast)?;
+        let mut time = self.times[cast.sender as usize].copy()?;
+        self.take_next(cast, &mut time);
+        Ok(time)
+    }
+
+    /// The same, with the time put in place of what `into` was. It takes no memory, and changes `into` neither at a fault.
+    pub fn expand_into(&mut self, cast: &Cast, into: &mut VectorTime) -> Result<(), ExpandFault>
+        requires { length into.old ≡ length self.old }
+        ensures ok { OnOk result (Expands self.old (cast_fields cast.now) into.new self.new) }
+        ensures bad_member { (result ≡ Err ExpandFault.BadMember) ↔ ¬ AreMembers (length self.old) (cast_fields cast.now) }
+        ensures not_next { (expected found : ℕ) → (result ≡ Err (ExpandFault.NotNext expected found))
+            ↔ (AreMembers (length self.old) (cast_fields cast.now)
+            × (cast.now.number ≢ field (time_of self.old cast.now.sender) cast.now.sender + 1)
+            × (expected ≡ expected_number (time_of self.old cast.now.sender) cast.now.sender) × (found ≡ cast.now.number)) }
+        ensures never_for_memory { result ≢ Err ExpandFault.NoMemory }
+        ensures err { OnErr result ((self.new ≡ self.old) × (into.new ≡ into.old)) }
+        ensures size { length into.new ≡ length self.new }
+    {
+        self.check_next(cast)?;
+        self.take_next(cast, into);
+        Ok(())
+    }
+
+    fn check_next(&self, cast: &Cast) -> Result<(), ExpandFault>
+        ensures ok { OnOk result (IsNext self.now (cast_fields cast.now)) }
+        ensures bad_member { (result ≡ Err ExpandFault.BadMember) ↔ ¬ AreMembers (length self.now) (cast_fields cast.now) }
+        ensures not_next { (expected found : ℕ) → (result ≡ Err (ExpandFault.NotNext expected found))
+            ↔ (AreMembers (length self.now) (cast_fields cast.now)
+            × (cast.now.number ≢ field (time_of self.now cast.now.sender) cast.now.sender + 1)
+            × (expected ≡ expected_number (time_of self.now cast.now.sender) cast.now.sender) × (found ≡ cast.now.number)) }
+        ensures never_for_memory { result ≢ Err ExpandFault.NoMemory }
+    {
         if !are_members(self.times.len(), cast) {
             return Err(ExpandFault::BadMember);
         }
-        let sender = cast.sender as usize;
-        let last = self.times[sender].get(cast.sender);
+        let last = self.times[cast.sender as usize].get(cast.sender);
         if last.checked_add(1) != Some(cast.number) {
             return Err(ExpandFault::NotNext {
                 expected: last.saturating_add(1),
                 found: cast.number,
             });
         }
-        let mut given = self.times[sender].copy()?;
-        grow(&mut given, cast);
-        grow(&mut self.times[sender], cast);
-        Ok(given)
+        Ok(())
+    }
+
+    /// Makes `into` the time of the cast, and keeps it as its sender's last one.
+    fn take_next(&mut self, cast: &Cast, into: &mut VectorTime)
+        requires next { IsNext self.old (cast_fields cast.now) }
+        requires size { length into.old ≡ length self.old }
+        ensures expands { Expands self.old (cast_fields cast.now) into.new self.new }
+        ensures size { length into.new ≡ length self.new }
+    {
+        let sender = cast.sender as usize;
+        copy_fields(into, &self.times[sender]);
+        grow(into, cast);
+        copy_fields(&mut self.times[sender], into);
+    }
+}
+
+/// Makes a time the same as another of its size.
+fn copy_fields(time: &mut VectorTime, from: &VectorTime)
+    requires { length time.old ≡ length from.now }
+    ensures copied { time.new ≡ from.now }
+    ensures time { IsTime from.now }
+{
+    for k in 0..from.size() {
+        time.set(k, from.get(k));
     }
 }
 

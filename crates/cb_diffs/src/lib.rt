@@ -3,11 +3,13 @@
 //! Stands on `cb_times` and on the cast frames of `cb_frames`.
 #![tactic(auto)]
 
+mod differences;
 mod expander;
 mod laws;
 
+pub use differences::difference;
 pub use expander::{ExpandFault, Expander};
-pub use laws::expanding_is_summing;
+pub use laws::{differences_expand_back, expanding_is_summing};
 
 #[cfg(test)]
 mod tests;

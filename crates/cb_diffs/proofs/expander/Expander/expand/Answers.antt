@@ -1,17 +1,10 @@
-use Rattle.std.proofs.Common.{◌≡◌, ◌+◌, length, get_or, set, rules, arith, sym, subst, ap, ◌∙◌, List, ℕ}
-use Rattle.cb_times.specs.Order.{field}
-use Rattle.cb_frames.specs.Fields.{cast_fields}
-use Rattle.cb_diffs.specs.Expansion.{AreMembers, Expands}
-use Rattle.cb_diffs.proofs.Growing.{expands}
+use Rattle.std.proofs.lemmas.Result.{err_from_is_err_and}
 use Rattle.cb_diffs.proofs.expander.Expander.expand.Goals as goal
 
-pub returns-clause-ok : goal.returns-clause-ok
-returns-clause-ok c =
-    let times = c.self.inside.times.items in
-    let sender = c.args.cast.now.sender in
-    let members : AreMembers (length times) (cast_fields c.args.cast.now) = search rules in
-    let next : c.args.cast.now.number ≡ field c.index.result.now sender + 1 = search rules in
-    let given : c.in_ok-given.given ≡ get_or times sender c.in_ok-given.given = search rules in
-    let all = expands times (cast_fields c.args.cast.now) c.index.result.now c.in_ok-given.given c.index_mut.result.now c.grow.new.time c.grow-2.new.time
-    members c.index.ensures next given c.grow.ensures c.index_mut.ensures.value c.grow-2.ensures in
-    subst (λ (ts : List (List ℕ)). Expands ts (cast_fields c.args.cast.now) c.grow.new.time (set times sender c.grow-2.new.time)) c.self.view_is all
+pub returns-in_err-check_next-clause-not_next : goal.returns-in_err-check_next-clause-not_next
+returns-in_err-check_next-clause-not_next c =
+    let exit = err_from_is_err_and c.from_residual.result c.from_residual.ensures.1 in
+    rw (exit.1, exit.2)
+    (λ expected found.
+    let told = c.in_err-check_next.ensures.not_next expected found in
+    (λ h. told.0 (cc), λ h. let same = told.1 h in cc))
