@@ -81,7 +81,9 @@ impl Expander {
         Ok(time)
     }
 
-    /// The same, with the time put in place of what `into` was. It takes no memory, and changes `into` neither at a fault.
+    /// The same without memory: the time takes the place of what `into` was, and a fault leaves `into` as it was too.
+    ///
+    /// A copy of any time of the group will do for `into`, and it will do again for the next cast.
     pub fn expand_into(&mut self, cast: &Cast, into: &mut VectorTime) -> Result<(), ExpandFault>
         requires { length into.old ≡ length self.old }
         ensures ok { OnOk result (Expands self.old (cast_fields cast.now) into.new self.new) }
