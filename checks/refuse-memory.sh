@@ -1,0 +1,42 @@
+#!/usr/bin/env bash
+# Runs `confer expand` with each growth that it asks of the operating system refused in turn. Every run must end with status 5 and `confer: out of memory`, and
+# must have written a beginning of the answers in whole lines, or go on as if nothing had been refused.
+# It wants a C compiler and the proved program: `rt run` in crates/confer leaves it in crates/confer/out.
+set -eu
+here=$(cd "$(dirname "$0")" && pwd)
+confer=$here/../crates/confer/out/confer
+[ -x "$confer" ] || (cd "$here/../crates/confer" && rt run -- expand --group 7 --size 3 < stdin > /dev/null)
+work=$(mktemp -d)
+trap 'rm -rf "$work"' EXIT
+cc -O -shared -fPIC -o "$work/refuse.so" "$here/refuse_nth.c" -ldl
+
+# accepted casts as text and as hexadecimal, short ones and the longest, a refusal of each kind, and a line of 4 MB
+payload=$(printf '61%.0s' {1..1024})
+printf '%s\n' 1107000100026869 110701010100010122 11070103 zz 1108000100026869 1107030100026869 1107000300026869 \
+    11070002008008"$payload" 11070003008008"${payload/61/00}" 11070004008008"$payload$payload" > "$work/lines"
+head -c 4000000 /dev/zero | tr '\0' '0' >> "$work/lines"
+status=0
+"$confer" expand --group 7 --size 3 < "$work/lines" > "$work/whole" || status=$?
+[ "$status" = 1 ] || { echo "the whole run ended with status $status"; exit 1; }
+
+fault() {
+    echo "growth $1 refused: $2"
+    exit 1
+}
+ended=0
+for ((nth = 1; ; nth++)); do
+    status=0
+    rm -f "$work/refused"
+    REFUSE=$nth REFUSED=$work/refused LD_PRELOAD=$work/refuse.so "$confer" expand --group 7 --size 3 \
+        < "$work/lines" > "$work/shown" 2> "$work/said" || status=$?
+    cmp -s <(head -n "$(wc -l < "$work/shown")" "$work/whole") "$work/shown" || fault "$nth" 'no beginning of the answers'
+    [ -e "$work/refused" ] || break
+    # the kit's libraries do without some growths: then the run is the whole one
+    [ "$status" = 1 ] && cmp -s "$work/whole" "$work/shown" && continue
+    [ "$status" = 5 ] || fault "$nth" "status $status"
+    [ "$(cat "$work/said")" = 'confer: out of memory' ] || fault "$nth" "standard error says: $(cat "$work/said")"
+    ended=$((ended + 1))
+done
+[ "$status" = 1 ]
+cmp "$work/whole" "$work/shown"
+echo "$((nth - 1)) growths, each refused in turn: $ended ended the run, $((nth - 1 - ended)) were done without"
