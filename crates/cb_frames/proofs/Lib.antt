@@ -1,3 +1,4 @@
+mod Rows
 pub mod ChangeLoop
 pub mod Fronts
 pub mod Outcome

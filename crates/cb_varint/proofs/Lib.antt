@@ -1,3 +1,4 @@
+mod Rows
 pub mod Worth
 pub mod Fronts
 pub mod Spelled

@@ -1,6 +1,6 @@
 //! The words of the command line.
 
-ghost use Rattle.std.specs.Prelude.{IsTrue, IfSome};
+ghost use Rattle.std.specs.Prelude.{IsTrue, MatchOption};
 ghost use Rattle.confer.specs.Words.{is_status};
 
 use crate::fault::{Fault, LinesFault};
@@ -118,7 +118,7 @@ pub fn run_plain<S: AsStr, R: Read, W: Write, E: Write>(
     output: &mut W,
     errors: &mut E,
 ) -> Option<u8>
-    ensures { IfSome result (λ status. IsTrue (is_status status)) }
+    ensures { MatchOption result ⊥ (λ status. IsTrue (is_status status)) }
 {
     Some(match obey(alloc, words, input, output) {
         Ok(false) => DONE,
