@@ -15,6 +15,13 @@ pub struct Change {
     pub amount: u32,
 }
 
+/// The numbers of some casts of one sender: `first`, `last` and all between them.
+#[derive(Clone, Copy, Debug, Default, PartialEq, Eq, Hash)]
+pub struct Range {
+    pub first: u32,
+    pub last: u32,
+}
+
 /// One broadcast message on the wire.
 #[derive(Debug, PartialEq, Eq, Drop)]
 pub struct Cast {

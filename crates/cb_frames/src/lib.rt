@@ -10,7 +10,7 @@ mod reading;
 mod writing;
 
 pub use fault::{EncodeFault, FrameFault};
-pub use frame::{Cast, Change, Frame, LAST_MEMBER, LONGEST_PAYLOAD};
+pub use frame::{Cast, Change, Frame, LAST_MEMBER, LONGEST_PAYLOAD, Range};
 pub use laws::{each_is_a_text_or_a_fault, one_text};
 pub use reading::decode;
 pub use writing::encode;
