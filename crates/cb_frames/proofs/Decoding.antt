@@ -7,9 +7,9 @@ use Rattle.cb_frames.specs.declared.frame.Frame.{Frame}
 use Rattle.cb_frames.specs.declared.fault.FrameFault.{FrameFault}
 use Rattle.cb_frames.specs.declared.fault.FrameFault.TheVariants.{NoMemory}
 use Rattle.cb_frames.specs.Fields.{CastFields, FrameFields, fields_of}
-use Rattle.cb_frames.specs.Text.{cast_kind, IsText}
+use Rattle.cb_frames.specs.Text.{cast_kind, status_kind, request_kind, IsText}
 use Rattle.cb_frames.specs.Fault.{FirstFault}
-use Rattle.cb_frames.specs.Reading.{cast_at, frame_at, Gives, Fails}
+use Rattle.cb_frames.specs.Reading.{cast_at, status_at, request_at, frame_at, Gives, Fails}
 use Rattle.cb_frames.specs.Laws.{EachIsTextOrFault, ReadingIsExact}
 use Rattle.cb_frames.proofs.Fronts.{IsBytes}
 use Rattle.cb_frames.proofs.Outcome.{CastOutcome, cast_outcome, FrameOutcome, frame_outcome}
@@ -101,6 +101,14 @@ end_of front payload bytes e =
 pub fault_of_cast : (bytes : List ℕ) (kind : ℕ) (fields : List ℕ) (e : FrameFault) → bytes ≡ kind ∷ fields → kind ≡ cast_kind → cast_at fields ≡ Err e → frame_at bytes ≡ Err e
 unfolding frame_at
 fault_of_cast bytes kind fields e parts k h = ap frame_at parts ∙ rw (eq-eqb kind cast_kind k, h) refl
+
+pub fault_of_status : (bytes : List ℕ) (kind : ℕ) (fields : List ℕ) (e : FrameFault) → bytes ≡ kind ∷ fields → kind ≡ status_kind → status_at fields ≡ Err e → frame_at bytes ≡ Err e
+unfolding frame_at
+fault_of_status bytes kind fields e parts k h = ap frame_at (parts ∙ ap (λ (n : ℕ). n ∷ fields) k) ∙ rw h refl
+
+pub fault_of_request : (bytes : List ℕ) (kind : ℕ) (fields : List ℕ) (e : FrameFault) → bytes ≡ kind ∷ fields → kind ≡ request_kind → request_at fields ≡ Err e → frame_at bytes ≡ Err e
+unfolding frame_at
+fault_of_request bytes kind fields e parts k h = ap frame_at (parts ∙ ap (λ (n : ℕ). n ∷ fields) k) ∙ rw h refl
 
 pub cast_of_frame : (bytes : List ℕ) (kind : ℕ) (fields : List ℕ) (c : CastFields) → bytes ≡ kind ∷ fields → IsBytes bytes → cast_at fields ≡ Ok c → (front : List ℕ) × (bytes ≡ front ++ c.payload)
 cast_of_frame bytes kind fields c parts fits h =

@@ -1,7 +1,8 @@
 mod Rows
-pub mod ChangeLoop
+pub mod PairLoop
+pub mod SaidPairs
 pub mod Fronts
 pub mod Outcome
 pub mod Unique
 pub mod Decoding
-pub mod ChangesWritten
+pub mod PairsWritten

@@ -1,9 +1,9 @@
 -- The worked frames, and bytes that are none.
-use Rattle.std.proofs.Common.{◌≡◌, ℕ, [], ◌∷◌, List, Result, Ok, Err, refl}
+use Rattle.std.proofs.Common.{◌≡◌, [], ◌∷◌, Ok, Err, refl}
 use Rattle.cb_frames.specs.declared.fault.FrameFault.TheVariants as faults
-use Rattle.cb_frames.specs.Fields.{CastFields, FrameFields, CastFrame}
+use Rattle.cb_frames.specs.Fields.{CastFields, StatusFields, RequestFields, CastFrame, StatusFrame, RequestFrame}
 use Rattle.cb_varint.specs.Reading.{number_at, spelling}
-use Rattle.cb_frames.specs.Reading.{frame_at, cast_at, changes_at, change_at}
+use Rattle.cb_frames.specs.Reading.{frame_at, cast_at, status_at, request_at, pairs_at, pair_at}
 use Rattle.cb_frames.specs.Text.{text_of}
 
 -- the first cast of member 0 of group 7, "hi"
@@ -15,7 +15,7 @@ abbrev after_six : CastFields
 after_six = record { group = 300; sender = 2; number = 1; changes = record { field = 0; amount = 3 } ∷ record { field = 1; amount = 1 } ∷ record { field = 4; amount = 2 } ∷ []; payload = [] }
 
 reads_hi : frame_at (0x11 ∷ 7 ∷ 0 ∷ 1 ∷ 0 ∷ 2 ∷ 0x68 ∷ 0x69 ∷ []) ≡ Ok (CastFrame hi)
-unfolding frame_at cast_at changes_at change_at number_at
+unfolding frame_at cast_at status_at request_at pairs_at pair_at number_at
 reads_hi = refl
 
 writes_hi : text_of (CastFrame hi) ≡ 0x11 ∷ 7 ∷ 0 ∷ 1 ∷ 0 ∷ 2 ∷ 0x68 ∷ 0x69 ∷ []
@@ -23,45 +23,107 @@ unfolding text_of spelling
 writes_hi = refl
 
 reads_after_six : frame_at (0x11 ∷ 0xac ∷ 2 ∷ 2 ∷ 1 ∷ 3 ∷ 0 ∷ 3 ∷ 0 ∷ 1 ∷ 2 ∷ 2 ∷ 0 ∷ []) ≡ Ok (CastFrame after_six)
-unfolding frame_at cast_at changes_at change_at number_at
+unfolding frame_at cast_at status_at request_at pairs_at pair_at number_at
 reads_after_six = refl
 
+-- the same member's status after 200 more of member 0
+abbrev told : StatusFields
+told = record {
+  group = 300;
+  sender = 2;
+  values = record { field = 0; amount = 203 } ∷ record { field = 1; amount = 1 } ∷ record { field = 2; amount = 2 } ∷ record { field = 4; amount = 2 } ∷ [];
+}
+
+-- member 2 misses 2 to 3, 5 and 9 to 12 of member 0
+abbrev asked : RequestFields
+asked = record {
+  group = 7;
+  requester = 2;
+  asked = 0;
+  ranges = record { first = 2; last = 3 } ∷ record { first = 5; last = 5 } ∷ record { first = 9; last = 12 } ∷ [];
+}
+
+reads_told : frame_at (0x12 ∷ 0xac ∷ 2 ∷ 2 ∷ 4 ∷ 0 ∷ 0xcb ∷ 1 ∷ 0 ∷ 1 ∷ 0 ∷ 2 ∷ 1 ∷ 2 ∷ []) ≡ Ok (StatusFrame told)
+unfolding frame_at cast_at status_at request_at pairs_at pair_at number_at
+reads_told = refl
+
+writes_told : text_of (StatusFrame told) ≡ 0x12 ∷ 0xac ∷ 2 ∷ 2 ∷ 4 ∷ 0 ∷ 0xcb ∷ 1 ∷ 0 ∷ 1 ∷ 0 ∷ 2 ∷ 1 ∷ 2 ∷ []
+unfolding text_of spelling
+writes_told = refl
+
+reads_asked : frame_at (0x13 ∷ 7 ∷ 2 ∷ 0 ∷ 3 ∷ 1 ∷ 1 ∷ 0 ∷ 0 ∷ 2 ∷ 3 ∷ []) ≡ Ok (RequestFrame asked)
+unfolding frame_at cast_at status_at request_at pairs_at pair_at number_at
+reads_asked = refl
+
+writes_asked : text_of (RequestFrame asked) ≡ 0x13 ∷ 7 ∷ 2 ∷ 0 ∷ 3 ∷ 1 ∷ 1 ∷ 0 ∷ 0 ∷ 2 ∷ 3 ∷ []
+unfolding text_of spelling
+writes_asked = refl
+
+-- a new member's status
+reads_nothing_delivered : frame_at (0x12 ∷ 7 ∷ 2 ∷ 0 ∷ []) ≡ Ok (StatusFrame (record { group = 7; sender = 2; values = [] }))
+unfolding frame_at cast_at status_at request_at pairs_at pair_at number_at
+reads_nothing_delivered = refl
+
 no_bytes : frame_at [] ≡ Err faults.Short
-unfolding frame_at cast_at changes_at change_at number_at
+unfolding frame_at cast_at status_at request_at pairs_at pair_at number_at
 no_bytes = refl
 
-another_kind : frame_at (0x12 ∷ 7 ∷ 1 ∷ 0 ∷ []) ≡ Err faults.UnknownKind
-unfolding frame_at cast_at changes_at change_at number_at
+another_kind : frame_at (0x14 ∷ []) ≡ Err faults.UnknownKind
+unfolding frame_at cast_at status_at request_at pairs_at pair_at number_at
 another_kind = refl
 
 a_longer_spelling : frame_at (0x11 ∷ 0x87 ∷ 0 ∷ 0 ∷ 1 ∷ []) ≡ Err faults.NotMinimal
-unfolding frame_at cast_at changes_at change_at number_at
+unfolding frame_at cast_at status_at request_at pairs_at pair_at number_at
 a_longer_spelling = refl
 
 above_the_greatest : frame_at (0x11 ∷ 255 ∷ 255 ∷ 255 ∷ 255 ∷ 0x1f ∷ []) ≡ Err faults.TooLarge
-unfolding frame_at cast_at changes_at change_at number_at
+unfolding frame_at cast_at status_at request_at pairs_at pair_at number_at
 above_the_greatest = refl
 
 no_such_sender : frame_at (0x11 ∷ 7 ∷ 64 ∷ 0 ∷ []) ≡ Err faults.BadIndex
-unfolding frame_at cast_at changes_at change_at number_at
+unfolding frame_at cast_at status_at request_at pairs_at pair_at number_at
 no_such_sender = refl
 
 message_zero : frame_at (0x11 ∷ 7 ∷ 0 ∷ 0 ∷ []) ≡ Err faults.ZeroNumber
-unfolding frame_at cast_at changes_at change_at number_at
+unfolding frame_at cast_at status_at request_at pairs_at pair_at number_at
 message_zero = refl
 
 its_own_field : frame_at (0x11 ∷ 7 ∷ 1 ∷ 1 ∷ 1 ∷ 1 ∷ []) ≡ Err faults.OwnField
-unfolding frame_at cast_at changes_at change_at number_at
+unfolding frame_at cast_at status_at request_at pairs_at pair_at number_at
 its_own_field = refl
 
 grows_by_nothing : frame_at (0x11 ∷ 7 ∷ 1 ∷ 1 ∷ 1 ∷ 0 ∷ 0 ∷ []) ≡ Err faults.ZeroDifference
-unfolding frame_at cast_at changes_at change_at number_at
+unfolding frame_at cast_at status_at request_at pairs_at pair_at number_at
 grows_by_nothing = refl
 
 too_long_a_payload : frame_at (0x11 ∷ 7 ∷ 0 ∷ 1 ∷ 0 ∷ 0x81 ∷ 8 ∷ []) ≡ Err faults.PayloadTooLong
-unfolding frame_at cast_at changes_at change_at number_at
+unfolding frame_at cast_at status_at request_at pairs_at pair_at number_at
 too_long_a_payload = refl
 
 a_byte_too_many : frame_at (0x11 ∷ 7 ∷ 0 ∷ 1 ∷ 0 ∷ 0 ∷ 0 ∷ []) ≡ Err faults.Trailing
-unfolding frame_at cast_at changes_at change_at number_at
+unfolding frame_at cast_at status_at request_at pairs_at pair_at number_at
 a_byte_too_many = refl
+
+no_ranges : frame_at (0x13 ∷ 7 ∷ 2 ∷ 0 ∷ 0 ∷ []) ≡ Err faults.BadRange
+unfolding frame_at cast_at status_at request_at pairs_at pair_at number_at
+no_ranges = refl
+
+a_33rd_range : frame_at (0x13 ∷ 7 ∷ 2 ∷ 0 ∷ 33 ∷ []) ≡ Err faults.BadRange
+unfolding frame_at cast_at status_at request_at pairs_at pair_at number_at
+a_33rd_range = refl
+
+begins_above_the_greatest : frame_at (0x13 ∷ 7 ∷ 2 ∷ 0 ∷ 1 ∷ 255 ∷ 255 ∷ 255 ∷ 255 ∷ 15 ∷ []) ≡ Err faults.BadRange
+unfolding frame_at cast_at status_at request_at pairs_at pair_at number_at
+begins_above_the_greatest = refl
+
+ends_above_the_greatest : frame_at (0x13 ∷ 7 ∷ 2 ∷ 0 ∷ 1 ∷ 0 ∷ 255 ∷ 255 ∷ 255 ∷ 255 ∷ 15 ∷ []) ≡ Err faults.BadRange
+unfolding frame_at cast_at status_at request_at pairs_at pair_at number_at
+ends_above_the_greatest = refl
+
+a_value_of_nothing : frame_at (0x12 ∷ 7 ∷ 2 ∷ 1 ∷ 0 ∷ 0 ∷ []) ≡ Err faults.ZeroDifference
+unfolding frame_at cast_at status_at request_at pairs_at pair_at number_at
+a_value_of_nothing = refl
+
+a_byte_behind_a_status : frame_at (0x12 ∷ 7 ∷ 2 ∷ 0 ∷ 0 ∷ []) ≡ Err faults.Trailing
+unfolding frame_at cast_at status_at request_at pairs_at pair_at number_at
+a_byte_behind_a_status = refl

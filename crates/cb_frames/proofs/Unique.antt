@@ -1,21 +1,22 @@
 -- Bytes are the text of one frame, or have one first fault.
-use Rattle.std.proofs.Common.{◌≡◌, ◌≢◌, ℕ, ◌+◌, ◌-◌, ◌≤◌, eqb, ltb, List, [], ◌∷◌, ◌++◌, length, Option, Some, None, MatchOption, Ok, Err, refl, sym, ap, subst, ◌∙◌, arith, inl, inr, append_assoc}
-use Rattle.std.specs.List.{AllByRecursion, flat_map}
-use Rattle.std.proofs.lemmas.Bool.{ne_eqb, le-ltb, cond-false}
+use Rattle.std.proofs.Common.{◌≡◌, ℕ, suc, ◌+◌, ◌≤◌, List, [], ◌∷◌, ◌++◌, length, Option, Some, None, MatchOption, Ok, Err, refl, sym, ap, subst, ◌∙◌, arith, inl, inr, append_assoc}
+use Rattle.std.specs.List.{flat_map}
 use Rattle.std.proofs.lemmas.List.{append-nil, length-append, nil_from_length}
 use Rattle.cb_varint.specs.declared.fault.NumberFault.{NumberFault}
 use Rattle.cb_varint.specs.Spelling.{Spells, IsFault}
 use Rattle.cb_varint.specs.Reading.{number_at as number_and_length, spelling}
 use Rattle.cb_varint.proofs.Fronts.{number_is_read, fault_is_answered}
 use Rattle.cb_varint.proofs.Spelled.{apart, spelling_is}
-use Rattle.cb_frames.specs.declared.frame.TheConstants.{LAST_MEMBER, LONGEST_PAYLOAD}
+use Rattle.cb_frames.specs.declared.frame.TheConstants.{LONGEST_PAYLOAD}
 use Rattle.cb_frames.specs.declared.frame.Change.{Change}
+use Rattle.cb_frames.specs.declared.frame.Range.{Range}
 use Rattle.cb_frames.specs.declared.fault.FrameFault.{FrameFault}
-use Rattle.cb_frames.specs.declared.fault.FrameFault.TheVariants.{UnknownKind, BadIndex, ZeroNumber, ZeroDifference, PayloadTooLong}
+use Rattle.cb_frames.specs.declared.fault.FrameFault.TheVariants.{UnknownKind}
 use Rattle.cb_frames.specs.NumberFaults.{as_frame_fault}
-use Rattle.cb_frames.specs.Fields.{CastFields, CastFrame}
-use Rattle.cb_frames.specs.Text.{cast_kind, SpellAll, pairs_from, RisesFrom, cast_numbers, IsChange, KeepsCastRules, text_of}
-use Rattle.cb_frames.specs.Fault.{Field, Number, Payload, member_rule, message_rule, index_rule, amount_rule, length_rule, pair_field, payload_field, cast_field, kind_fields, Accepts, Follows, IsWrong, FirstFaultOf, FirstFault}
+use Rattle.cb_frames.specs.Fields.{CastFields, StatusFields, RequestFields, CastFrame, StatusFrame, RequestFrame}
+use Rattle.cb_frames.specs.Text.{cast_kind, status_kind, request_kind, SpellAll, pairs_from, ranges_from, cast_numbers, status_numbers, request_numbers, KeepsCastRules, KeepsStatusRules, KeepsRequestRules, text_of}
+use Rattle.cb_frames.specs.Fault.{Field, Number, Payload, Pairs, change_pairs, value_pairs, range_pairs, pairs_field, payload_field, end_field, cast_field, status_field, request_field, kind_fields, Accepts, Follows, IsWrong, FirstFaultOf, FirstFault}
+use Rattle.cb_frames.proofs.SaidPairs.{keeps_member, keeps_message, keeps_length, keeps_ranges, Says, says_changes, says_values, says_ranges, says_one}
 use Rattle.cb_frames.specs.Laws.{NoneBeginsAnother, OneText, OneFault, TextHasNoFault}
 
 -- ---- one number
@@ -105,131 +106,96 @@ follows_longer fields [] bytes rest more f = ap (λ (t : List ℕ). t ++ more) f
 follows_longer fields (v ∷ vs) bytes rest more f =
     (f.0, (f.1.0, f.1.1 ++ more, f.1.2, ap (λ (t : List ℕ). t ++ more) f.1.3 ∙ append_assoc f.1.0 f.1.1 more, follows_longer (λ before. fields (v ∷ before)) vs f.1.1 rest more f.1.4))
 
--- ---- a cast frame's numbers are good fields
-
-rule_kept_member : (n : ℕ) → n ≤ LAST_MEMBER → member_rule n ≡ None
-rule_kept_member n h = cond-false (ltb LAST_MEMBER n) (Some BadIndex) None (le-ltb LAST_MEMBER n h)
-
-rule_kept_message : (n : ℕ) → 1 ≤ n → message_rule n ≡ None
-rule_kept_message n h = cond-false (eqb n 0) (Some ZeroNumber) None (ne_eqb n 0 (λ e. omega (arith, e, h)))
-
-rule_kept_amount : (n : ℕ) → 1 ≤ n → amount_rule n ≡ None
-rule_kept_amount n h = cond-false (eqb n 0) (Some ZeroDifference) None (ne_eqb n 0 (λ e. omega (arith, e, h)))
-
-rule_kept_length : (n : ℕ) → n ≤ LONGEST_PAYLOAD → length_rule n ≡ None
-rule_kept_length n h = cond-false (ltb LONGEST_PAYLOAD n) (Some PayloadTooLong) None (le-ltb LONGEST_PAYLOAD n h)
-
-rule_kept_index : (sender least field : ℕ) → least ≤ field → field ≤ LAST_MEMBER → field ≢ sender → index_rule sender least (field - least) ≡ None
-rule_kept_index sender least field rises small other =
-    let at : least + (field - least) ≡ field = omega arith in
-    rw (at, le-ltb LAST_MEMBER field small, ne_eqb field sender other) refl
+-- ---- a frame's numbers are good fields
 
 -- the values of the pairs, and then those behind them
-pairs_whole : (sender least : ℕ) (changes : List Change) (tail text payload : List ℕ) → RisesFrom least changes → AllByRecursion (IsChange sender) changes
-    → SpellAll (pairs_from least changes ++ tail) text
-    → ((rest : List ℕ) → SpellAll tail rest → IsWhole payload_field tail (rest ++ payload) payload)
-    → IsWhole (pair_field sender (length changes) least) (pairs_from least changes ++ tail) (text ++ payload) payload
-pairs_whole sender least [] tail text payload rises each spelled whole = whole text spelled
-pairs_whole sender least (d ∷ changes) tail text payload rises each spelled whole =
-    let amount = spelled.3 in
-    let at : least + (d.field - least) + 1 ≡ d.field + 1 = let h = rises.0 in omega arith in
-    let others = pairs_whole sender (d.field + 1) changes tail amount.1 payload rises.1 each.1 amount.3 whole in
-    let others_at : IsWhole (pair_field sender (length changes) (least + (d.field - least) + 1)) (pairs_from (d.field + 1) changes ++ tail) (amount.1 ++ payload) payload =
-    subst (λ (n : ℕ). IsWhole (pair_field sender (length changes) n) (pairs_from (d.field + 1) changes ++ tail) (amount.1 ++ payload) payload) (sym at) others in
-    record {
+pairs_whole : {A : Type 0} (p : Pairs A) (behind : List ℕ → Field) (least : ℕ) (ds : List A) (numbers tail text payload : List ℕ) → Says p least ds numbers → SpellAll (numbers ++ tail) text
+    → ((rest : List ℕ) → SpellAll tail rest → IsWhole behind tail (rest ++ payload) payload)
+    → IsWhole (pairs_field p behind (length ds) least) (numbers ++ tail) (text ++ payload) payload
+pairs_whole p behind least [] numbers tail text payload says spelled whole =
+    let none : numbers ++ tail ≡ tail = ap (λ (ns : List ℕ). ns ++ tail) says in
+    subst (λ (ns : List ℕ). IsWhole behind ns (text ++ payload) payload) (sym none) (whole text (subst (λ (ns : List ℕ). SpellAll ns text) none spelled))
+pairs_whole p behind least (d ∷ ds) numbers tail text payload says spelled whole =
+    let here : numbers ++ tail ≡ says.0 ∷ says.1 ∷ (says.2 ++ tail) = ap (λ (ns : List ℕ). ns ++ tail) says.4 in
+    let first : SpellAll (says.0 ∷ says.1 ∷ (says.2 ++ tail)) text = subst (λ (ns : List ℕ). SpellAll ns text) here spelled in
+    let second = first.3 in
+    let others = pairs_whole p behind (p.next (least + says.0) says.1) ds says.2 tail second.1 payload says.5 second.3 whole in
+    let all : IsWhole (pairs_field p behind (suc (length ds)) least) (says.0 ∷ says.1 ∷ (says.2 ++ tail)) (text ++ payload) payload = record {
       follows = (
-        rule_kept_index sender least d.field rises.0 each.0.index each.0.other,
+        says.3.first,
         (
-          spelled.0,
-          spelled.1 ++ payload,
-          spelled.2,
-          ap (λ (t : List ℕ). t ++ payload) spelled.4 ∙ append_assoc spelled.0 spelled.1 payload,
-          (
-            rule_kept_amount d.amount each.0.grown,
-            (amount.0, amount.1 ++ payload, amount.2, ap (λ (t : List ℕ). t ++ payload) amount.4 ∙ append_assoc amount.0 amount.1 payload, others_at.follows),
-          ),
+          first.0,
+          first.1 ++ payload,
+          first.2,
+          ap (λ (t : List ℕ). t ++ payload) first.4 ∙ append_assoc first.0 first.1 payload,
+          (says.3.second, (second.0, second.1 ++ payload, second.2, ap (λ (t : List ℕ). t ++ payload) second.4 ∙ append_assoc second.0 second.1 payload, others.follows)),
         ),
       );
-      ends = others_at.ends;
-    }
+      ends = others.ends;
+    } in
+    subst (λ (ns : List ℕ). IsWhole (pairs_field p behind (suc (length ds)) least) ns (text ++ payload) payload) (sym here) all
 
 payload_whole : (payload rest : List ℕ) → length payload ≤ LONGEST_PAYLOAD → SpellAll (length payload ∷ []) rest → IsWhole payload_field (length payload ∷ []) (rest ++ payload) payload
 payload_whole payload rest small spelled =
     let parts : rest ++ payload ≡ spelled.0 ++ (spelled.1 ++ payload) = ap (λ (t : List ℕ). t ++ payload) spelled.4 ∙ append_assoc spelled.0 spelled.1 payload in
     record {
-      follows = (rule_kept_length (length payload) small, (spelled.0, spelled.1 ++ payload, spelled.2, parts, ap (λ (t : List ℕ). t ++ payload) spelled.3));
+      follows = (keeps_length (length payload) small, (spelled.0, spelled.1 ++ payload, spelled.2, parts, ap (λ (t : List ℕ). t ++ payload) spelled.3));
       ends = refl;
     }
+
+end_whole : (rest : List ℕ) → SpellAll [] rest → IsWhole end_field [] (rest ++ []) []
+end_whole rest spelled = record { follows = append-nil rest ∙ spelled; ends = refl }
+
+-- one more field in front
+field_whole : (fields : List ℕ → Field) (n : ℕ) (ns text payload : List ℕ) → Accepts (fields []) n → (spelled : SpellAll (n ∷ ns) text) → IsWhole (λ before. fields (n ∷ before)) ns (spelled.1 ++ payload) payload
+    → IsWhole fields (n ∷ ns) (text ++ payload) payload
+field_whole fields n ns text payload accepts spelled rest = record {
+  follows = (accepts, (spelled.0, spelled.1 ++ payload, spelled.2, ap (λ (t : List ℕ). t ++ payload) spelled.4 ∙ append_assoc spelled.0 spelled.1 payload, rest.follows));
+  ends = rest.ends;
+}
 
 cast_whole : (c : CastFields) (numbers : List ℕ) → KeepsCastRules c → length c.payload ≤ LONGEST_PAYLOAD → SpellAll (cast_numbers c) numbers → IsWhole cast_field (cast_numbers c) (numbers ++ c.payload) c.payload
 cast_whole c numbers rules small spelled =
     let sender = spelled.3 in
     let number = sender.3 in
     let count = number.3 in
-    let tail = pairs_whole c.sender 0 c.changes (length c.payload ∷ []) count.1 c.payload rules.changes.rising rules.changes.each count.3 (λ rest s. payload_whole c.payload rest small s) in
-    let behind : (first rest whole : List ℕ) → whole ≡ first ++ rest → whole ++ c.payload ≡ first ++ (rest ++ c.payload) = λ first rest whole e. ap (λ (t : List ℕ). t ++ c.payload) e ∙ append_assoc first rest c.payload in
-    record {
-      follows = (
-        refl,
-        (
-          spelled.0,
-          spelled.1 ++ c.payload,
-          spelled.2,
-          behind spelled.0 spelled.1 numbers spelled.4,
-          (
-            rule_kept_member c.sender rules.sender,
-            (
-              sender.0,
-              sender.1 ++ c.payload,
-              sender.2,
-              behind sender.0 sender.1 spelled.1 sender.4,
-              (
-                rule_kept_message c.number rules.number,
-                (
-                  number.0,
-                  number.1 ++ c.payload,
-                  number.2,
-                  behind number.0 number.1 sender.1 number.4,
-                  (refl, (count.0, count.1 ++ c.payload, count.2, behind count.0 count.1 number.1 count.4, tail.follows)),
-                ),
-              ),
-            ),
-          ),
-        ),
-      );
-      ends = tail.ends;
-    }
+    let tail = pairs_whole (change_pairs c.sender) payload_field 0 c.changes (pairs_from 0 c.changes) (length c.payload ∷ []) count.1 c.payload (says_changes c.sender 0 c.changes rules.changes) count.3 (λ rest s. payload_whole c.payload rest small s) in
+    field_whole cast_field c.group _ numbers c.payload refl spelled
+    (field_whole _ c.sender _ spelled.1 c.payload (keeps_member c.sender rules.sender) sender
+    (field_whole _ c.number _ sender.1 c.payload (keeps_message c.number rules.number) number
+    (field_whole _ (length c.changes) _ number.1 c.payload refl count tail)))
+
+status_whole : (s : StatusFields) (numbers : List ℕ) → KeepsStatusRules s → SpellAll (status_numbers s) numbers → IsWhole status_field (status_numbers s) (numbers ++ []) []
+status_whole s numbers rules spelled =
+    let sender = spelled.3 in
+    let count = sender.3 in
+    let pairs : SpellAll (pairs_from 0 s.values ++ []) count.1 = rw append-nil count.3 in
+    let behind = pairs_whole value_pairs end_field 0 s.values (pairs_from 0 s.values) [] count.1 [] (says_values 0 s.values rules.values) pairs end_whole in
+    let tail : IsWhole (pairs_field value_pairs end_field (length s.values) 0) (pairs_from 0 s.values) (count.1 ++ []) [] =
+    subst (λ (ns : List ℕ). IsWhole (pairs_field value_pairs end_field (length s.values) 0) ns (count.1 ++ []) []) (append-nil (pairs_from 0 s.values)) behind in
+    field_whole status_field s.group _ numbers [] refl spelled
+    (field_whole _ s.sender _ spelled.1 [] (keeps_member s.sender rules.sender) sender
+    (field_whole _ (length s.values) _ sender.1 [] refl count tail))
+
+request_whole : (r : RequestFields) (numbers : List ℕ) → KeepsRequestRules r → SpellAll (request_numbers r) numbers → IsWhole request_field (request_numbers r) (numbers ++ []) []
+request_whole r numbers rules spelled =
+    let requester = spelled.3 in
+    let asked = requester.3 in
+    let count = asked.3 in
+    let pairs : SpellAll (ranges_from 1 r.ranges ++ []) count.1 = rw append-nil count.3 in
+    let behind = pairs_whole range_pairs end_field 1 r.ranges (ranges_from 1 r.ranges) [] count.1 [] (says_ranges 1 r.ranges rules.ranges) pairs end_whole in
+    let tail : IsWhole (pairs_field range_pairs end_field (length r.ranges) 1) (ranges_from 1 r.ranges) (count.1 ++ []) [] =
+    subst (λ (ns : List ℕ). IsWhole (pairs_field range_pairs end_field (length r.ranges) 1) ns (count.1 ++ []) []) (append-nil (ranges_from 1 r.ranges)) behind in
+    field_whole request_field r.group _ numbers [] refl spelled
+    (field_whole _ r.requester _ spelled.1 [] (keeps_member r.requester rules.requester) requester
+    (field_whole _ r.asked _ requester.1 [] (keeps_member r.asked rules.asked) asked
+    (field_whole _ (length r.ranges) _ asked.1 [] (keeps_ranges (length r.ranges) rules.some rules.few) count tail)))
 
 -- ---- a frame is told by its numbers and its payload
 
-same_change : (d e : Change) → d.field ≡ e.field → d.amount ≡ e.amount → d ≡ e
-same_change d e f a = ap (λ (n : ℕ). record { field = n; amount = d.amount }) f ∙ ap (λ (n : ℕ). record { field = e.field; amount = n }) a
-
-pairs_same : (least : ℕ) (ds es : List Change) (x y : List ℕ) → RisesFrom least ds → RisesFrom least es → length ds ≡ length es → pairs_from least ds ++ x ≡ pairs_from least es ++ y → (ds ≡ es) × (x ≡ y)
-pairs_same least [] [] x y r s len e = (refl, e)
-pairs_same least [] (b ∷ es) x y r s len e = absurd (omega (arith, len))
-pairs_same least (a ∷ ds) [] x y r s len e = absurd (omega (arith, len))
-pairs_same least (a ∷ ds) (b ∷ es) x y r s len e =
-    let gap : a.field - least ≡ b.field - least = cc in
-    let amount : a.amount ≡ b.amount = cc in
-    let tail : pairs_from (a.field + 1) ds ++ x ≡ pairs_from (b.field + 1) es ++ y = cc in
-    let rises_a = r.0 in
-    let rises_b = s.0 in
-    let field : a.field ≡ b.field = omega (arith, gap, rises_a, rises_b) in
-    let tail_at : pairs_from (b.field + 1) ds ++ x ≡ pairs_from (b.field + 1) es ++ y = ap (λ (n : ℕ). pairs_from (n + 1) ds ++ x) (sym field) ∙ tail in
-    let others = pairs_same (b.field + 1) ds es x y (subst (λ (n : ℕ). RisesFrom (n + 1) ds) field r.1) s.1 (omega (arith, len)) tail_at in
-    (ap (λ (d : Change). d ∷ ds) (same_change a b field amount) ∙ ap (λ (others : List Change). b ∷ others) others.0, others.1)
-
-same_cast : (c d : CastFields) → RisesFrom 0 c.changes → RisesFrom 0 d.changes → cast_numbers c ≡ cast_numbers d → (c.group ≡ d.group) × (c.sender ≡ d.sender) × (c.number ≡ d.number) × (c.changes ≡ d.changes) × (length c.payload ≡ length d.payload)
-same_cast c d r s e =
-    let group : c.group ≡ d.group = cc in
-    let sender : c.sender ≡ d.sender = cc in
-    let number : c.number ≡ d.number = cc in
-    let count : length c.changes ≡ length d.changes = cc in
-    let tail : pairs_from 0 c.changes ++ length c.payload ∷ [] ≡ pairs_from 0 d.changes ++ length d.payload ∷ [] = cc in
-    let pairs = pairs_same 0 c.changes d.changes (length c.payload ∷ []) (length d.payload ∷ []) r s count tail in
-    let size : length c.payload ≡ length d.payload = let p = pairs.1 in cc in
-    (group, sender, number, pairs.0, size)
+abbrev head_of : List ℕ → ℕ
+head_of [] = 0
+head_of (x ∷ xs) = x
 
 cast_is : (c d : CastFields) → c.group ≡ d.group → c.sender ≡ d.sender → c.number ≡ d.number → c.changes ≡ d.changes → c.payload ≡ d.payload → c ≡ d
 cast_is c d g s n k p =
@@ -238,6 +204,60 @@ cast_is c d g s n k p =
     ∙ ap (λ (x : ℕ). record { group = d.group; sender = d.sender; number = x; changes = c.changes; payload = c.payload }) n
     ∙ ap (λ (x : List Change). record { group = d.group; sender = d.sender; number = d.number; changes = x; payload = c.payload }) k
     ∙ ap (λ (x : List ℕ). record { group = d.group; sender = d.sender; number = d.number; changes = d.changes; payload = x }) p
+
+status_is : (s t : StatusFields) → s.group ≡ t.group → s.sender ≡ t.sender → s.values ≡ t.values → s ≡ t
+status_is s t g m v =
+    ap (λ (x : ℕ). record { group = x; sender = s.sender; values = s.values }) g
+    ∙ ap (λ (x : ℕ). record { group = t.group; sender = x; values = s.values }) m
+    ∙ ap (λ (x : List Change). record { group = t.group; sender = t.sender; values = x }) v
+
+request_is : (r s : RequestFields) → r.group ≡ s.group → r.requester ≡ s.requester → r.asked ≡ s.asked → r.ranges ≡ s.ranges → r ≡ s
+request_is r s g q a k =
+    ap (λ (x : ℕ). record { group = x; requester = r.requester; asked = r.asked; ranges = r.ranges }) g
+    ∙ ap (λ (x : ℕ). record { group = s.group; requester = x; asked = r.asked; ranges = r.ranges }) q
+    ∙ ap (λ (x : ℕ). record { group = s.group; requester = s.requester; asked = x; ranges = r.ranges }) a
+    ∙ ap (λ (x : List Range). record { group = s.group; requester = s.requester; asked = s.asked; ranges = x }) k
+
+same_cast : (c d : CastFields) → KeepsCastRules c → KeepsCastRules d → cast_numbers c ≡ cast_numbers d → c.payload ≡ d.payload → c ≡ d
+same_cast c d r s e payload =
+    let group : c.group ≡ d.group = cc in
+    let sender : c.sender ≡ d.sender = cc in
+    let number : c.number ≡ d.number = cc in
+    let count : length c.changes ≡ length d.changes = cc in
+    let tail : pairs_from 0 c.changes ++ length c.payload ∷ [] ≡ pairs_from 0 d.changes ++ length d.payload ∷ [] = cc in
+    let says = says_changes c.sender 0 c.changes r.changes in
+    let says' : Says (change_pairs c.sender) 0 d.changes (pairs_from 0 d.changes) = subst (λ (n : ℕ). Says (change_pairs n) 0 d.changes (pairs_from 0 d.changes)) (sym sender) (says_changes d.sender 0 d.changes s.changes) in
+    let pairs = says_one (change_pairs c.sender) 0 c.changes d.changes (pairs_from 0 c.changes) (pairs_from 0 d.changes) (length c.payload ∷ []) (length d.payload ∷ []) says says' count tail in
+    cast_is c d group sender number pairs.0 payload
+
+same_length : (c d : CastFields) → KeepsCastRules c → KeepsCastRules d → cast_numbers c ≡ cast_numbers d → length c.payload ≡ length d.payload
+same_length c d r s e =
+    let sender : c.sender ≡ d.sender = cc in
+    let count : length c.changes ≡ length d.changes = cc in
+    let tail : pairs_from 0 c.changes ++ length c.payload ∷ [] ≡ pairs_from 0 d.changes ++ length d.payload ∷ [] = cc in
+    let says = says_changes c.sender 0 c.changes r.changes in
+    let says' : Says (change_pairs c.sender) 0 d.changes (pairs_from 0 d.changes) = subst (λ (n : ℕ). Says (change_pairs n) 0 d.changes (pairs_from 0 d.changes)) (sym sender) (says_changes d.sender 0 d.changes s.changes) in
+    let pairs = says_one (change_pairs c.sender) 0 c.changes d.changes (pairs_from 0 c.changes) (pairs_from 0 d.changes) (length c.payload ∷ []) (length d.payload ∷ []) says says' count tail in
+    ap head_of pairs.1
+
+same_status : (s t : StatusFields) → KeepsStatusRules s → KeepsStatusRules t → status_numbers s ≡ status_numbers t → s ≡ t
+same_status s t p q e =
+    let group : s.group ≡ t.group = cc in
+    let sender : s.sender ≡ t.sender = cc in
+    let count : length s.values ≡ length t.values = cc in
+    let tail : pairs_from 0 s.values ≡ pairs_from 0 t.values = cc in
+    let pairs = says_one value_pairs 0 s.values t.values (pairs_from 0 s.values) (pairs_from 0 t.values) [] [] (says_values 0 s.values p.values) (says_values 0 t.values q.values) count (ap (λ (ns : List ℕ). ns ++ []) tail) in
+    status_is s t group sender pairs.0
+
+same_request : (r s : RequestFields) → KeepsRequestRules r → KeepsRequestRules s → request_numbers r ≡ request_numbers s → r ≡ s
+same_request r s p q e =
+    let group : r.group ≡ s.group = cc in
+    let requester : r.requester ≡ s.requester = cc in
+    let asked : r.asked ≡ s.asked = cc in
+    let count : length r.ranges ≡ length s.ranges = cc in
+    let tail : ranges_from 1 r.ranges ≡ ranges_from 1 s.ranges = cc in
+    let pairs = says_one range_pairs 1 r.ranges s.ranges (ranges_from 1 r.ranges) (ranges_from 1 s.ranges) [] [] (says_ranges 1 r.ranges p.ranges) (says_ranges 1 s.ranges q.ranges) count (ap (λ (ns : List ℕ). ns ++ []) tail) in
+    request_is r s group requester asked pairs.0
 
 longer_by_none : (a b more : List ℕ) → length a ≡ length b → a ++ more ≡ b → (a ≡ b) × (more ≡ [])
 longer_by_none a b more len e =
@@ -248,26 +268,52 @@ abbrev tail_after : List ℕ → List ℕ
 tail_after [] = []
 tail_after (x ∷ xs) = xs
 
+-- one kind's texts: what is read of the longer bytes are the numbers and the payload of either
+one_kind : (fields : List ℕ → Field) (kind : ℕ) (ms ns bytes more text text' p q : List ℕ) → bytes ≡ kind ∷ text ++ p → bytes ++ more ≡ kind ∷ text' ++ q → IsWhole fields ms (text ++ p) p → IsWhole fields ns (text' ++ q) q
+    → (ms ≡ ns) × (p ++ more ≡ q)
+one_kind fields kind ms ns bytes more text text' p q f g one two =
+    let parts : (text ++ p) ++ more ≡ text' ++ q = ap tail_after (ap (λ (t : List ℕ). t ++ more) (sym f) ∙ g) in
+    let longer : Follows fields ms (text' ++ q) (p ++ more) = subst (λ (t : List ℕ). Follows fields ms t (p ++ more)) parts (follows_longer fields ms (text ++ p) p more one.follows) in
+    let stuck : IsStuck (fields ms) (p ++ more) = subst (λ (k : Field). IsStuck k (p ++ more)) (sym one.ends) (stuck_at_payload (length p) (p ++ more)) in
+    same_values fields ms ns (text' ++ q) (p ++ more) q longer stuck two.follows (whole_stuck fields ns _ q two)
+
+-- a frame without payload
+without : (kind : ℕ) (text bytes : List ℕ) → bytes ≡ kind ∷ text → bytes ≡ kind ∷ text ++ []
+without kind text bytes e = e ∙ ap (λ (t : List ℕ). kind ∷ t) (sym (append-nil text))
+
+-- texts of two kinds
+other_kind : (a b : ℕ) (bytes more text text' : List ℕ) → bytes ≡ a ∷ text → bytes ++ more ≡ b ∷ text' → a ≡ b
+other_kind a b bytes more text text' f g = ap head_of (ap (λ (t : List ℕ). t ++ more) (sym f) ∙ g)
+
 pub none_begins_another : NoneBeginsAnother
 none_begins_another (CastFrame c) (CastFrame d) bytes more f g =
-    let parts : (f.2.0 ++ c.payload) ++ more ≡ g.2.0 ++ d.payload = let a = f.2.2 in let b = g.2.2 in ap tail_after (ap (λ (t : List ℕ). t ++ more) (sym a) ∙ b) in
-    let one = cast_whole c f.2.0 f.0 f.1 f.2.1 in
-    let two = cast_whole d g.2.0 g.0 g.1 g.2.1 in
-    let longer : Follows cast_field (cast_numbers c) (g.2.0 ++ d.payload) (c.payload ++ more) =
-    subst (λ (t : List ℕ). Follows cast_field (cast_numbers c) t (c.payload ++ more)) parts (follows_longer cast_field (cast_numbers c) (f.2.0 ++ c.payload) c.payload more one.follows) in
-    let stuck : IsStuck (cast_field (cast_numbers c)) (c.payload ++ more) = subst (λ (k : Field). IsStuck k (c.payload ++ more)) (sym one.ends) (stuck_at_payload (length c.payload) (c.payload ++ more)) in
-    let same = same_values cast_field (cast_numbers c) (cast_numbers d) (g.2.0 ++ d.payload) (c.payload ++ more) d.payload longer stuck two.follows (whole_stuck cast_field (cast_numbers d) _ d.payload two) in
-    let fields = same_cast c d f.0.changes.rising g.0.changes.rising same.0 in
-    let end = longer_by_none c.payload d.payload more fields.4 same.1 in
-    (ap CastFrame (cast_is c d fields.0 fields.1 fields.2 fields.3 end.0), end.1)
-
-kind_is_cast : kind_fields cast_kind ≡ Some cast_field
-kind_is_cast = refl
+    let same = one_kind cast_field cast_kind (cast_numbers c) (cast_numbers d) bytes more f.2.0 g.2.0 c.payload d.payload f.2.2 g.2.2 (cast_whole c f.2.0 f.0 f.1 f.2.1) (cast_whole d g.2.0 g.0 g.1 g.2.1) in
+    let len : length c.payload ≡ length d.payload = same_length c d f.0 g.0 same.0 in
+    let end = longer_by_none c.payload d.payload more len same.1 in
+    (ap CastFrame (same_cast c d f.0 g.0 same.0 end.0), end.1)
+none_begins_another (StatusFrame s) (StatusFrame t) bytes more f g =
+    let same = one_kind status_field status_kind (status_numbers s) (status_numbers t) bytes more f.1.0 g.1.0 [] [] (without _ _ _ f.1.2) (without _ _ _ g.1.2) (status_whole s f.1.0 f.0 f.1.1) (status_whole t g.1.0 g.0 g.1.1) in
+    (ap StatusFrame (same_status s t f.0 g.0 same.0), same.1)
+none_begins_another (RequestFrame r) (RequestFrame s) bytes more f g =
+    let same = one_kind request_field request_kind (request_numbers r) (request_numbers s) bytes more f.1.0 g.1.0 [] [] (without _ _ _ f.1.2) (without _ _ _ g.1.2) (request_whole r f.1.0 f.0 f.1.1) (request_whole s g.1.0 g.0 g.1.1) in
+    (ap RequestFrame (same_request r s f.0 g.0 same.0), same.1)
+none_begins_another (CastFrame c) (StatusFrame t) bytes more f g = absurd (omega (arith, other_kind _ _ _ more _ _ f.2.2 g.1.2))
+none_begins_another (CastFrame c) (RequestFrame s) bytes more f g = absurd (omega (arith, other_kind _ _ _ more _ _ f.2.2 g.1.2))
+none_begins_another (StatusFrame s) (CastFrame d) bytes more f g = absurd (omega (arith, other_kind _ _ _ more _ _ f.1.2 g.2.2))
+none_begins_another (StatusFrame s) (RequestFrame r) bytes more f g = absurd (omega (arith, other_kind _ _ _ more _ _ f.1.2 g.1.2))
+none_begins_another (RequestFrame r) (CastFrame d) bytes more f g = absurd (omega (arith, other_kind _ _ _ more _ _ f.1.2 g.2.2))
+none_begins_another (RequestFrame r) (StatusFrame s) bytes more f g = absurd (omega (arith, other_kind _ _ _ more _ _ f.1.2 g.1.2))
 
 pub text_has_no_fault : TextHasNoFault
 text_has_no_fault (CastFrame c) bytes e f fault =
     let at : FirstFault (cast_kind ∷ f.2.0 ++ c.payload) e = subst (λ (t : List ℕ). FirstFault t e) f.2.2 fault in
     whole_has_no_fault cast_field (cast_numbers c) (f.2.0 ++ c.payload) c.payload e (cast_whole c f.2.0 f.0 f.1 f.2.1) at
+text_has_no_fault (StatusFrame s) bytes e f fault =
+    let at : FirstFault (status_kind ∷ f.1.0 ++ []) e = subst (λ (t : List ℕ). FirstFault t e) (without _ _ _ f.1.2) fault in
+    whole_has_no_fault status_field (status_numbers s) (f.1.0 ++ []) [] e (status_whole s f.1.0 f.0 f.1.1) at
+text_has_no_fault (RequestFrame r) bytes e f fault =
+    let at : FirstFault (request_kind ∷ f.1.0 ++ []) e = subst (λ (t : List ℕ). FirstFault t e) (without _ _ _ f.1.2) fault in
+    whole_has_no_fault request_field (request_numbers r) (f.1.0 ++ []) [] e (request_whole r f.1.0 f.0 f.1.1) at
 
 same_kind_fault : (o : Option (List ℕ → Field)) (bytes : List ℕ) (e d : FrameFault) → MatchOption o (e ≡ UnknownKind) (λ fields. FirstFaultOf fields bytes e) → MatchOption o (d ≡ UnknownKind) (λ fields. FirstFaultOf fields bytes d) → e ≡ d
 same_kind_fault None bytes e d p q = p ∙ sym q
@@ -283,4 +329,6 @@ spelled_all (n ∷ ns) text s = s.4 ∙ ap (λ (t : List ℕ). t ++ s.1) (spelli
 
 pub one_text : OneText
 unfolding text_of
+one_text (StatusFrame s) bytes f = f.1.2 ∙ ap (λ (t : List ℕ). status_kind ∷ t) (spelled_all (status_numbers s) f.1.0 f.1.1)
+one_text (RequestFrame r) bytes f = f.1.2 ∙ ap (λ (t : List ℕ). request_kind ∷ t) (spelled_all (request_numbers r) f.1.0 f.1.1)
 one_text (CastFrame c) bytes f = f.2.2 ∙ ap (λ (t : List ℕ). cast_kind ∷ t ++ c.payload) (spelled_all (cast_numbers c) f.2.0 f.2.1)

@@ -5,13 +5,15 @@
 use Rattle.std.specs.Prelude.{◌≡◌, ℕ, zero, suc, ◌+◌, ◌<◌, List, [], ◌∷◌, ◌++◌, ◌⊎◌, length, Option, Some, None, MatchOption, nat_lt, ◌==◌, if◌then◌else◌}
 use Rattle.cb_varint.specs.declared.fault.NumberFault.{NumberFault}
 use Rattle.cb_varint.specs.Spelling.{Spells, IsFault}
-use Rattle.cb_frames.specs.declared.frame.TheConstants.{LAST_MEMBER, LONGEST_PAYLOAD}
+use Rattle.cb_frames.specs.declared.frame.TheConstants.{LAST_MEMBER, LAST_NUMBER, LONGEST_PAYLOAD, MOST_RANGES}
+use Rattle.cb_frames.specs.declared.frame.Change.{Change}
+use Rattle.cb_frames.specs.declared.frame.Range.{Range}
 use Rattle.cb_frames.specs.declared.fault.FrameFault.{FrameFault}
-use Rattle.cb_frames.specs.declared.fault.FrameFault.TheVariants.{Short, UnknownKind, BadIndex, ZeroNumber, ZeroDifference, OwnField, PayloadTooLong, Trailing}
+use Rattle.cb_frames.specs.declared.fault.FrameFault.TheVariants.{Short, UnknownKind, BadIndex, ZeroNumber, ZeroDifference, OwnField, BadRange, PayloadTooLong, Trailing}
 use Rattle.cb_frames.specs.NumberFaults.{as_frame_fault}
-use Rattle.cb_frames.specs.Text.{cast_kind}
+use Rattle.cb_frames.specs.Text.{cast_kind, status_kind, request_kind}
 
--- a field: a number with what is wrong with a value of it, or so many bytes of payload, which end the frame
+-- a field: a number with what is wrong with a value of it, or so many bytes of payload, which end the frame (0 in a frame that has none)
 pub data Field : Type 0 where
   Number : (ℕ → Option FrameFault) → Field
   Payload : ℕ → Field
@@ -39,6 +41,61 @@ amount_rule n = if n == 0 then Some ZeroDifference else None
 abbrev pub length_rule : ℕ → Option FrameFault
 length_rule n = if nat_lt LONGEST_PAYLOAD n then Some PayloadTooLong else None
 
+-- the index of a value in a status, likewise as a distance
+abbrev pub value_rule : ℕ → ℕ → Option FrameFault
+value_rule least gap = if nat_lt LAST_MEMBER (least + gap) then Some BadIndex else None
+
+-- how many ranges there are
+abbrev pub ranges_rule : ℕ → Option FrameFault
+ranges_rule n = if n == 0 then Some BadRange else if nat_lt MOST_RANGES n then Some BadRange else None
+
+-- where a range begins, given as its distance from the least number that may follow, and where it ends, as its distance from there
+abbrev pub start_rule : ℕ → ℕ → Option FrameFault
+start_rule least skip = if nat_lt LAST_NUMBER (least + skip) then Some BadRange else None
+
+abbrev pub end_rule : ℕ → ℕ → Option FrameFault
+end_rule start extra = if nat_lt LAST_NUMBER (start + extra) then Some BadRange else None
+
+-- ---- lists of pairs
+
+-- The first number of a pair is a distance from the least place that is left, and so says a place; the second says something of it.
+pub record Pairs (A : Type 0) : Type 0 where
+  -- what is wrong with a distance from this least place
+  pub first : ℕ → ℕ → Option FrameFault
+  -- what is wrong with the second number of this place
+  pub second : ℕ → ℕ → Option FrameFault
+  -- the least place that is left after this place and its second number
+  pub next : ℕ → ℕ → ℕ
+  -- what the place and its second number say
+  pub said : ℕ → ℕ → A
+
+-- a change says an index and an increment; the least index comes to stand above the last one
+abbrev pub change_pairs : ℕ → Pairs Change
+change_pairs sender = record {
+  first = index_rule sender;
+  second = λ index. amount_rule;
+  next = λ index amount. index + 1;
+  said = λ index amount. record { field = index; amount = amount };
+}
+
+-- so does a value of a status, which may stand at any index
+abbrev pub value_pairs : Pairs Change
+value_pairs = record {
+  first = value_rule;
+  second = λ index. amount_rule;
+  next = λ index amount. index + 1;
+  said = λ index amount. record { field = index; amount = amount };
+}
+
+-- a range leaves out at least the number behind it
+abbrev pub range_pairs : Pairs Range
+range_pairs = record {
+  first = start_rule;
+  second = end_rule;
+  next = λ start extra. start + extra + 2;
+  said = λ start extra. record { first = start; last = start + extra };
+}
+
 -- ---- which field follows
 
 -- the length of the payload, and the payload
@@ -46,12 +103,20 @@ abbrev pub payload_field : List ℕ → Field
 payload_field [] = Number length_rule
 payload_field (n ∷ more) = Payload n
 
--- so many pairs, whose indices rise from `least` on, and then a payload
+-- no payload
+abbrev pub end_field : List ℕ → Field
+end_field before = Payload 0
+
+-- so many pairs, whose places rise from `least` on, and then what stands behind them
+abbrev pub pairs_field : {A : Type 0} → Pairs A → (List ℕ → Field) → ℕ → ℕ → List ℕ → Field
+pairs_field pairs behind zero least before = behind before
+pairs_field pairs behind (suc count) least [] = Number (pairs.first least)
+pairs_field pairs behind (suc count) least (distance ∷ []) = Number (pairs.second (least + distance))
+pairs_field pairs behind (suc count) least (distance ∷ n ∷ more) = pairs_field pairs behind count (pairs.next (least + distance) n) more
+
+-- so many changes, and then a payload
 abbrev pub pair_field : ℕ → ℕ → ℕ → List ℕ → Field
-pair_field sender zero least before = payload_field before
-pair_field sender (suc count) least [] = Number (index_rule sender least)
-pair_field sender (suc count) least (gap ∷ []) = Number amount_rule
-pair_field sender (suc count) least (gap ∷ amount ∷ more) = pair_field sender count (least + gap + 1) more
+pair_field sender = pairs_field (change_pairs sender) payload_field
 
 -- the fields of a cast frame: group, sender, number, count of pairs, the pairs, length of the payload, payload
 abbrev pub cast_field : List ℕ → Field
@@ -61,9 +126,27 @@ cast_field (group ∷ sender ∷ []) = Number message_rule
 cast_field (group ∷ sender ∷ number ∷ []) = Number any_number
 cast_field (group ∷ sender ∷ number ∷ count ∷ pairs) = pair_field sender count 0 pairs
 
+-- of a status: group, sender, count of pairs, the pairs
+abbrev pub status_field : List ℕ → Field
+status_field [] = Number any_number
+status_field (group ∷ []) = Number member_rule
+status_field (group ∷ sender ∷ []) = Number any_number
+status_field (group ∷ sender ∷ count ∷ pairs) = pairs_field value_pairs end_field count 0 pairs
+
+-- of a request: group, requester, asked member, count of ranges, the ranges, which begin at number 1 or later
+abbrev pub request_field : List ℕ → Field
+request_field [] = Number any_number
+request_field (group ∷ []) = Number member_rule
+request_field (group ∷ requester ∷ []) = Number member_rule
+request_field (group ∷ requester ∷ asked ∷ []) = Number ranges_rule
+request_field (group ∷ requester ∷ asked ∷ count ∷ pairs) = pairs_field range_pairs end_field count 1 pairs
+
 -- the fields of each kind of frame
 abbrev pub kind_fields : ℕ → Option (List ℕ → Field)
-kind_fields kind = if kind == cast_kind then Some cast_field else None
+kind_fields kind =
+    if kind == cast_kind then Some cast_field else
+    if kind == status_kind then Some status_field else
+    if kind == request_kind then Some request_field else None
 
 -- ---- the longest front of whole good fields, and what is wrong behind it
 

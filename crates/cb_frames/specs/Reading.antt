@@ -2,13 +2,12 @@
 use Rattle.std.specs.Prelude.{◌≡◌, ℕ, zero, suc, ◌+◌, List, [], ◌∷◌, ◌⊎◌, length, drop, Option, Some, None, Result, Ok, Err, nat_lt, ◌==◌, if◌then◌else◌}
 use Rattle.cb_varint.specs.declared.fault.NumberFault.{NumberFault}
 use Rattle.cb_varint.specs.Reading.{number_at as number_and_length}
-use Rattle.cb_frames.specs.declared.frame.Change.{Change}
 use Rattle.cb_frames.specs.declared.fault.FrameFault.{FrameFault}
 use Rattle.cb_frames.specs.declared.fault.FrameFault.TheVariants as faults
 use Rattle.cb_frames.specs.NumberFaults.{as_frame_fault}
-use Rattle.cb_frames.specs.Fields.{CastFields, FrameFields, CastFrame}
-use Rattle.cb_frames.specs.Text.{cast_kind}
-use Rattle.cb_frames.specs.Fault.{any_number, member_rule, message_rule, index_rule, amount_rule, length_rule}
+use Rattle.cb_frames.specs.Fields.{CastFields, StatusFields, RequestFields, FrameFields, CastFrame, StatusFrame, RequestFrame}
+use Rattle.cb_frames.specs.Text.{cast_kind, status_kind, request_kind}
+use Rattle.cb_frames.specs.Fault.{any_number, member_rule, message_rule, length_rule, ranges_rule, Pairs, change_pairs, value_pairs, range_pairs}
 
 infixl 10 ◌>>=◌
 abbrev pub ◌>>=◌ : {A B : Type 0} → Result A FrameFault → (A → Result B FrameFault) → Result B FrameFault
@@ -32,22 +31,28 @@ unless (Some fault) x = Err fault
 abbrev pub field_at : (ℕ → Option FrameFault) → List ℕ → Result (ℕ × List ℕ) FrameFault
 field_at rule bytes = number_at bytes >>= λ n. unless (rule n.0) n
 
-unfoldable pub change_at : ℕ → ℕ → List ℕ → Result (Change × List ℕ) FrameFault
-change_at sender least bytes = do
-  gap ← field_at (index_rule sender least) bytes
-  amount ← field_at amount_rule gap.1
-  Ok (record { field = least + gap.0; amount = amount.0 }, amount.1)
+-- a place and its second number
+unfoldable pub pair_at : {A : Type 0} → Pairs A → ℕ → List ℕ → Result ((ℕ × ℕ) × List ℕ) FrameFault
+pair_at pairs least bytes = do
+  distance ← field_at (pairs.first least) bytes
+  n ← field_at (pairs.second (least + distance.0)) distance.1
+  Ok ((least + distance.0, n.0), n.1)
 
-unfoldable pub changes_at : ℕ → ℕ → ℕ → List ℕ → Result (List Change × List ℕ) FrameFault
-changes_at sender zero least bytes = Ok ([], bytes)
-changes_at sender (suc count) least bytes = do
-  first ← change_at sender least bytes
-  others ← changes_at sender count (first.0.field + 1) first.1
-  Ok (first.0 ∷ others.0, others.1)
+unfoldable pub pairs_at : {A : Type 0} → Pairs A → ℕ → ℕ → List ℕ → Result (List A × List ℕ) FrameFault
+pairs_at pairs zero least bytes = Ok ([], bytes)
+pairs_at pairs (suc count) least bytes = do
+  first ← pair_at pairs least bytes
+  others ← pairs_at pairs count (pairs.next first.0.0 first.0.1) first.1
+  Ok (pairs.said first.0.0 first.0.1 ∷ others.0, others.1)
 
 -- so many bytes, and no more
 abbrev pub payload_at : ℕ → List ℕ → Result (List ℕ) FrameFault
 payload_at n bytes = if nat_lt (length bytes) n then Err faults.Short else if nat_lt n (length bytes) then Err faults.Trailing else Ok bytes
+
+-- no byte more
+abbrev pub end_at : List ℕ → Result (Unit {0}) FrameFault
+end_at [] = Ok tt
+end_at (b ∷ bytes) = Err faults.Trailing
 
 unfoldable pub cast_at : List ℕ → Result CastFields FrameFault
 cast_at bytes = do
@@ -55,14 +60,36 @@ cast_at bytes = do
   sender ← field_at member_rule group.1
   number ← field_at message_rule sender.1
   count ← field_at any_number number.1
-  changes ← changes_at sender.0 count.0 0 count.1
+  changes ← pairs_at (change_pairs sender.0) count.0 0 count.1
   length ← field_at length_rule changes.1
   payload ← payload_at length.0 length.1
   Ok (record { group = group.0; sender = sender.0; number = number.0; changes = changes.0; payload = payload })
 
+unfoldable pub status_at : List ℕ → Result StatusFields FrameFault
+status_at bytes = do
+  group ← field_at any_number bytes
+  sender ← field_at member_rule group.1
+  count ← field_at any_number sender.1
+  values ← pairs_at value_pairs count.0 0 count.1
+  end ← end_at values.1
+  Ok (record { group = group.0; sender = sender.0; values = values.0 })
+
+unfoldable pub request_at : List ℕ → Result RequestFields FrameFault
+request_at bytes = do
+  group ← field_at any_number bytes
+  requester ← field_at member_rule group.1
+  asked ← field_at member_rule requester.1
+  count ← field_at ranges_rule asked.1
+  ranges ← pairs_at range_pairs count.0 1 count.1
+  end ← end_at ranges.1
+  Ok (record { group = group.0; requester = requester.0; asked = asked.0; ranges = ranges.0 })
+
 unfoldable pub frame_at : List ℕ → Result FrameFields FrameFault
 frame_at [] = Err faults.Short
-frame_at (kind ∷ bytes) = if kind == cast_kind then (cast_at bytes >>= λ c. Ok (CastFrame c)) else Err faults.UnknownKind
+frame_at (kind ∷ bytes) =
+    if kind == cast_kind then (cast_at bytes >>= λ c. Ok (CastFrame c)) else
+    if kind == status_kind then (status_at bytes >>= λ s. Ok (StatusFrame s)) else
+    if kind == request_kind then (request_at bytes >>= λ r. Ok (RequestFrame r)) else Err faults.UnknownKind
 
 -- ---- what a function answers, seen by a view
 

@@ -3,13 +3,21 @@ use Rattle.std.specs.Prelude.{◌≡◌, ◌≢◌, ℕ, ◌+◌, ◌-◌, ◌�
 use Rattle.std.specs.List.{AllByRecursion, flat_map}
 use Rattle.cb_varint.specs.Spelling.{Spells}
 use Rattle.cb_varint.specs.Reading.{spelling}
-use Rattle.cb_frames.specs.declared.frame.TheConstants.{LAST_MEMBER, LONGEST_PAYLOAD}
+use Rattle.cb_frames.specs.declared.frame.TheConstants.{LAST_MEMBER, LAST_NUMBER, LONGEST_PAYLOAD, MOST_RANGES}
 use Rattle.cb_frames.specs.declared.frame.Change.{Change}
-use Rattle.cb_frames.specs.Fields.{CastFields, FrameFields, CastFrame}
+use Rattle.cb_frames.specs.declared.frame.Range.{Range}
+use Rattle.cb_frames.specs.Fields.{CastFields, StatusFields, RequestFields, FrameFields, CastFrame, StatusFrame, RequestFrame}
 
 -- the first byte of a cast frame
 abbrev pub cast_kind : ℕ
 cast_kind = 0x11
+
+-- of a status frame, and of a request
+abbrev pub status_kind : ℕ
+status_kind = 0x12
+
+abbrev pub request_kind : ℕ
+request_kind = 0x13
 
 -- numbers, spelled one after another
 abbrev pub SpellAll : List ℕ → List ℕ → Type 0
@@ -25,9 +33,22 @@ abbrev pub RisesFrom : ℕ → List Change → Type 0
 RisesFrom least [] = Unit {0}
 RisesFrom least (d ∷ changes) = (least ≤ d.field) × RisesFrom (d.field + 1) changes
 
+-- The ranges rise from `least` on and do not touch: the first number is written as its distance from the least that may stand there,
+-- the last as its distance from the first.
+abbrev pub ranges_from : ℕ → List Range → List ℕ
+ranges_from least [] = []
+ranges_from least (r ∷ ranges) = (r.first - least) ∷ (r.last - r.first) ∷ ranges_from (r.last + 2) ranges
+
 -- the number fields of a cast frame, in order
 abbrev pub cast_numbers : CastFields → List ℕ
 cast_numbers c = c.group ∷ c.sender ∷ c.number ∷ length c.changes ∷ (pairs_from 0 c.changes ++ length c.payload ∷ [])
+
+-- those of a status frame, and of a request
+abbrev pub status_numbers : StatusFields → List ℕ
+status_numbers s = s.group ∷ s.sender ∷ length s.values ∷ pairs_from 0 s.values
+
+abbrev pub request_numbers : RequestFields → List ℕ
+request_numbers r = r.group ∷ r.requester ∷ r.asked ∷ length r.ranges ∷ ranges_from 1 r.ranges
 
 -- a field of another member's, grown
 pub record IsChange (sender : ℕ) (d : Change) : Type 0 where
@@ -46,18 +67,52 @@ pub record KeepsCastRules (c : CastFields) : Type 0 where
   pub number : 1 ≤ c.number
   pub changes : AreChanges c.sender 0 c.changes
 
+-- a field of a time that is not 0
+pub record IsValue (d : Change) : Type 0 where
+  pub index : d.field ≤ LAST_MEMBER
+  pub nonzero : 1 ≤ d.amount
+
+-- fields of a time, each with an index that is at least `least` and above those before it
+pub record AreValues (least : ℕ) (values : List Change) : Type 0 where
+  pub rising : RisesFrom least values
+  pub each : AllByRecursion IsValue values
+
+pub record KeepsStatusRules (s : StatusFields) : Type 0 where
+  pub sender : s.sender ≤ LAST_MEMBER
+  pub values : AreValues 0 s.values
+
+-- ranges that begin at `least` or later, and each behind a number that none of them has
+abbrev pub AreRanges : ℕ → List Range → Type 0
+AreRanges least [] = Unit {0}
+AreRanges least (r ∷ ranges) = (least ≤ r.first) × (r.first ≤ r.last) × (r.last ≤ LAST_NUMBER) × AreRanges (r.last + 2) ranges
+
+pub record KeepsRequestRules (r : RequestFields) : Type 0 where
+  pub requester : r.requester ≤ LAST_MEMBER
+  pub asked : r.asked ≤ LAST_MEMBER
+  pub some : 1 ≤ length r.ranges
+  pub few : length r.ranges ≤ MOST_RANGES
+  pub ranges : AreRanges 1 r.ranges
+
 -- the rules that a value has to keep to have a text
 abbrev pub KeepsRules : FrameFields → Type 0
 KeepsRules (CastFrame c) = KeepsCastRules c
+KeepsRules (StatusFrame s) = KeepsStatusRules s
+KeepsRules (RequestFrame r) = KeepsRequestRules r
 
 abbrev pub payload_of : FrameFields → List ℕ
 payload_of (CastFrame c) = c.payload
+payload_of (StatusFrame s) = []
+payload_of (RequestFrame r) = []
 
 -- the bytes are the frame's: its kind, the spellings of its number fields in order, and its payload
 abbrev pub IsText : FrameFields → List ℕ → Type 0
 IsText (CastFrame c) bytes = KeepsCastRules c × (length c.payload ≤ LONGEST_PAYLOAD)
     × ((numbers : List ℕ) × SpellAll (cast_numbers c) numbers × (bytes ≡ cast_kind ∷ numbers ++ c.payload))
+IsText (StatusFrame s) bytes = KeepsStatusRules s × ((numbers : List ℕ) × SpellAll (status_numbers s) numbers × (bytes ≡ status_kind ∷ numbers))
+IsText (RequestFrame r) bytes = KeepsRequestRules r × ((numbers : List ℕ) × SpellAll (request_numbers r) numbers × (bytes ≡ request_kind ∷ numbers))
 
 -- the same bytes as a function, for the layers above: what has a text has this one
 unfoldable pub text_of : FrameFields → List ℕ
 text_of (CastFrame c) = cast_kind ∷ flat_map spelling (cast_numbers c) ++ c.payload
+text_of (StatusFrame s) = status_kind ∷ flat_map spelling (status_numbers s)
+text_of (RequestFrame r) = request_kind ∷ flat_map spelling (request_numbers r)

@@ -5,10 +5,16 @@ use bytes::Bytes;
 /// The greatest member number and index of a field: a group has at most 64 members.
 pub const LAST_MEMBER: u32 = 63;
 
+/// The greatest number of a message.
+pub const LAST_NUMBER: u32 = 4_294_967_295;
+
 /// The most bytes of a payload.
 pub const LONGEST_PAYLOAD: usize = 1024;
 
-/// A field of a vector time, 0 to 63, and by how much it has grown, at least 1.
+/// The most ranges of a request.
+pub const MOST_RANGES: usize = 32;
+
+/// A field of a vector time, 0 to 63, and by how much it has grown, or what it is; at least 1.
 #[derive(Clone, Copy, Debug, Default, PartialEq, Eq, Hash)]
 pub struct Change {
     pub field: u32,
@@ -38,8 +44,34 @@ pub struct Cast {
     pub payload: Bytes,
 }
 
+/// What a member has delivered, told to all others.
+#[derive(Debug, PartialEq, Eq, Drop)]
+pub struct Status {
+    /// The number of the group.
+    pub group: u32,
+    /// Whose time it is, 0 to 63.
+    pub sender: u32,
+    /// The fields of that time that are not 0, its own among them, in rising order.
+    pub values: Vec<Change>,
+}
+
+/// What a member misses of another's casts, told to that other.
+#[derive(Debug, PartialEq, Eq, Drop)]
+pub struct Request {
+    /// The number of the group.
+    pub group: u32,
+    /// Who misses them, 0 to 63.
+    pub requester: u32,
+    /// Whose casts are asked for, 0 to 63.
+    pub asked: u32,
+    /// The numbers asked for: 1 to 32 ranges, rising, which neither touch nor overlap.
+    pub ranges: Vec<Range>,
+}
+
 /// A frame of any kind.
 #[derive(Debug, PartialEq, Eq, Drop)]
 pub enum Frame {
     Cast(Cast),
+    Status(Status),
+    Request(Request),
 }

@@ -4,15 +4,17 @@
 
 ghost use Rattle.std.specs.Prelude.{◌≡◌, ◌≤◌, ◌++◌, List, ℕ, IfOk, MatchResult};
 ghost use Rattle.cb_frames.specs.declared.fault.FrameFault.{FrameFault as Fault};
-ghost use Rattle.cb_frames.specs.Fields.{FrameFields, fields_of, cast_fields};
+ghost use Rattle.cb_frames.specs.Fields.{FrameFields, fields_of, cast_fields, status_fields, request_fields};
 ghost use Rattle.cb_frames.specs.Text.{IsText};
-ghost use Rattle.cb_frames.specs.Fault.{any_number, member_rule, message_rule, length_rule, FirstFault};
-ghost use Rattle.cb_frames.specs.Reading.{Answers, Gives, number_at, field_at, change_at, changes_at, payload_at, cast_at, frame_at};
+ghost use Rattle.cb_frames.specs.Fault.{FirstFault};
+ghost use Rattle.cb_frames.specs.Reading.{Answers, Gives, payload_at, end_at, cast_at, status_at, request_at, frame_at};
 ghost use Rattle.cb_frames.specs.Laws.{IsBytes};
-ghost use Rattle.cb_frames.specs.Parts.{part_fields};
+ghost use Rattle.cb_frames.specs.Parts.{part_fields, status_parts_fields, request_parts_fields};
 
 use crate::fault::FrameFault;
-use crate::frame::{Cast, Change, Frame, LAST_MEMBER, LONGEST_PAYLOAD};
+use crate::frame::{Cast, Change, Frame, MOST_RANGES, Range, Request, Status};
+use crate::numbers::{count_of_ranges, member, message_number, number, payload_length};
+use crate::pairs::{MOST_CHANGES, all_changes, all_ranges};
 use arrayvec::ArrayVec;
 use bytes::Bytes;
 use std::alloc::Global;
@@ -20,8 +22,11 @@ use std::alloc::Global;
 /// The first byte of a cast frame.
 pub const CAST: u8 = 0x11;
 
-/// A list of changes is at most this long: their indices rise, and none is above 63.
-const MOST_CHANGES: usize = 64;
+/// The first byte of a status frame.
+pub const STATUS: u8 = 0x12;
+
+/// The first byte of a request.
+pub const REQUEST: u8 = 0x13;
 
 /// A cast frame that was read, before anything of it is copied.
 #[derive(Drop)]
@@ -33,82 +38,21 @@ struct CastParts<'a> {
     payload: &'a [u8],
 }
 
-fn number(bytes: &[u8]) -> Result<(u32, &[u8]), FrameFault>
-    ensures { Answers (λ x. (x.0, x.1.now)) result (number_at bytes.now) }
-{
-    let (value, length) = cb_varint::take(bytes)?;
-    Ok((value, &bytes[length..]))
-}
-
-fn member(bytes: &[u8]) -> Result<(u32, &[u8]), FrameFault>
-    ensures { Answers (λ x. (x.0, x.1.now)) result (field_at member_rule bytes.now) }
-{
-    let (member, rest) = number(bytes)?;
-    if member > LAST_MEMBER {
-        return Err(FrameFault::BadIndex);
-    }
-    Ok((member, rest))
-}
-
-fn message_number(bytes: &[u8]) -> Result<(u32, &[u8]), FrameFault>
-    ensures { Answers (λ x. (x.0, x.1.now)) result (field_at message_rule bytes.now) }
-{
-    let (message, rest) = number(bytes)?;
-    if message == 0 {
-        return Err(FrameFault::ZeroNumber);
-    }
-    Ok((message, rest))
-}
-
-fn payload_length(bytes: &[u8]) -> Result<(usize, &[u8]), FrameFault>
-    ensures { Answers (λ x. (x.0, x.1.now)) result (field_at length_rule bytes.now) }
-{
-    let (length, rest) = number(bytes)?;
-    let length = length as usize;
-    if length > LONGEST_PAYLOAD {
-        return Err(FrameFault::PayloadTooLong);
-    }
-    Ok((length, rest))
-}
-
-/// The next change, whose index is at least `least`.
-#[tactic(auto, unfolding(crate::specs::Reading::change_at))]
-fn next_change(sender: u32, least: u32, bytes: &[u8]) -> Result<(Change, &[u8]), FrameFault>
-    ensures value { Answers (λ x. (x.0, x.1.now)) result (change_at sender least bytes.now) }
-    ensures index { IfOk result (λ x. (least ≤ x.0.field) × (x.0.field ≤ LAST_MEMBER)) }
-{
-    let (gap, rest) = number(bytes)?;
-    let field = least.saturating_add(gap);
-    if field > LAST_MEMBER {
-        return Err(FrameFault::BadIndex);
-    }
-    if field == sender {
-        return Err(FrameFault::OwnField);
-    }
-    let (amount, rest) = number(rest)?;
-    if amount == 0 {
-        return Err(FrameFault::ZeroDifference);
-    }
-    Ok((Change { field, amount }, rest))
-}
-
-fn all_changes(
+/// A status frame that was read.
+#[derive(Drop)]
+struct StatusParts {
+    group: u32,
     sender: u32,
-    count: u32,
-    bytes: &[u8],
-) -> Result<(ArrayVec<Change, MOST_CHANGES>, &[u8]), FrameFault>
-    ensures { Answers (λ x. (x.0.items, x.1.now)) result (changes_at sender count 0 bytes.now) }
-{
-    let mut changes = ArrayVec::new();
-    let mut least = 0;
-    let mut rest = bytes;
-    for _ in 0..count {
-        let (change, after) = next_change(sender, least, rest)?;
-        changes.push(change);
-        least = change.field + 1;
-        rest = after;
-    }
-    Ok((changes, rest))
+    values: ArrayVec<Change, MOST_CHANGES>,
+}
+
+/// A request that was read.
+#[derive(Drop)]
+struct RequestParts {
+    group: u32,
+    requester: u32,
+    asked: u32,
+    ranges: ArrayVec<Range, MOST_RANGES>,
 }
 
 /// All of the bytes, where there are just so many.
@@ -124,28 +68,72 @@ fn whole_payload(length: usize, bytes: &[u8]) -> Result<&[u8], FrameFault>
     Ok(bytes)
 }
 
+fn end(bytes: &[u8]) -> Result<(), FrameFault>
+    ensures { Answers (λ x. x) result (end_at bytes.now) }
+{
+    if bytes.is_empty() {
+        Ok(())
+    } else {
+        Err(FrameFault::Trailing)
+    }
+}
+
 #[tactic(auto, unfolding(crate::specs::Reading::cast_at))]
 fn cast_parts(bytes: &[u8]) -> Result<CastParts<'_>, FrameFault>
     ensures { Answers part_fields result (cast_at bytes.now) }
 {
     let (group, rest) = number(bytes)?;
     let (sender, rest) = member(rest)?;
-    let (number, rest) = message_number(rest)?;
-    let (count, rest) = crate::reading::number(rest)?;
-    let (changes, rest) = all_changes(sender, count, rest)?;
+    let (message, rest) = message_number(rest)?;
+    let (count, rest) = number(rest)?;
+    let (changes, rest) = all_changes(Some(sender), count, rest)?;
     let (length, rest) = payload_length(rest)?;
     let payload = whole_payload(length, rest)?;
     Ok(CastParts {
         group,
         sender,
-        number,
+        number: message,
         changes,
         payload,
     })
 }
 
+#[tactic(auto, unfolding(crate::specs::Reading::status_at))]
+fn status_parts(bytes: &[u8]) -> Result<StatusParts, FrameFault>
+    ensures { Answers status_parts_fields result (status_at bytes.now) }
+{
+    let (group, rest) = number(bytes)?;
+    let (sender, rest) = member(rest)?;
+    let (count, rest) = number(rest)?;
+    let (values, rest) = all_changes(None, count, rest)?;
+    end(rest)?;
+    Ok(StatusParts {
+        group,
+        sender,
+        values,
+    })
+}
+
+#[tactic(auto, unfolding(crate::specs::Reading::request_at))]
+fn request_parts(bytes: &[u8]) -> Result<RequestParts, FrameFault>
+    ensures { Answers request_parts_fields result (request_at bytes.now) }
+{
+    let (group, rest) = number(bytes)?;
+    let (requester, rest) = member(rest)?;
+    let (asked, rest) = member(rest)?;
+    let (count, rest) = count_of_ranges(rest)?;
+    let (ranges, rest) = all_ranges(count, rest)?;
+    end(rest)?;
+    Ok(RequestParts {
+        group,
+        requester,
+        asked,
+        ranges,
+    })
+}
+
 /// Copies what was read. The payload shares the bytes that it was read from, whose end it is.
-fn copied(alloc: Global, bytes: &Bytes, parts: &CastParts<'_>) -> Result<Cast, FrameFault>
+fn cast(alloc: Global, bytes: &Bytes, parts: &CastParts<'_>) -> Result<Cast, FrameFault>
     requires { (front : List ℕ) × (bytes.now ≡ front ++ parts.now.payload.now) }
     ensures { MatchResult result (λ cast. cast_fields cast ≡ part_fields parts.now)
         (λ fault. fault ≡ FrameFault.NoMemory) }
@@ -161,6 +149,29 @@ fn copied(alloc: Global, bytes: &Bytes, parts: &CastParts<'_>) -> Result<Cast, F
     })
 }
 
+fn status(alloc: Global, parts: &StatusParts) -> Result<Status, FrameFault>
+    ensures { MatchResult result (λ status. status_fields status ≡ status_parts_fields parts.now)
+        (λ fault. fault ≡ FrameFault.NoMemory) }
+{
+    Ok(Status {
+        group: parts.group,
+        sender: parts.sender,
+        values: Vec::from_slice(alloc, parts.values.as_slice())?,
+    })
+}
+
+fn request(alloc: Global, parts: &RequestParts) -> Result<Request, FrameFault>
+    ensures { MatchResult result (λ request. request_fields request ≡ request_parts_fields parts.now)
+        (λ fault. fault ≡ FrameFault.NoMemory) }
+{
+    Ok(Request {
+        group: parts.group,
+        requester: parts.requester,
+        asked: parts.asked,
+        ranges: Vec::from_slice(alloc, parts.ranges.as_slice())?,
+    })
+}
+
 /// `text` is what `bytes` has: a slice, whose elements are known to be bytes.
 #[tactic(auto, unfolding(crate::specs::Reading::frame_at))]
 fn frame(alloc: Global, bytes: &Bytes, text: &[u8]) -> Result<Frame, FrameFault>
@@ -172,7 +183,15 @@ fn frame(alloc: Global, bytes: &Bytes, text: &[u8]) -> Result<Frame, FrameFault>
         None => Err(FrameFault::Short),
         Some((&CAST, fields)) => {
             let parts = cast_parts(fields)?;
-            Ok(Frame::Cast(copied(alloc, bytes, &parts)?))
+            Ok(Frame::Cast(cast(alloc, bytes, &parts)?))
+        }
+        Some((&STATUS, fields)) => {
+            let parts = status_parts(fields)?;
+            Ok(Frame::Status(status(alloc, &parts)?))
+        }
+        Some((&REQUEST, fields)) => {
+            let parts = request_parts(fields)?;
+            Ok(Frame::Request(request(alloc, &parts)?))
         }
         Some(_) => Err(FrameFault::UnknownKind),
     }

@@ -35,6 +35,24 @@ fn changes_of(
     Ok(changes)
 }
 
+fn status(alloc: Global, group: u32, sender: u32, values: &[Change]) -> Result<Frame, AllocError> {
+    Ok(Frame::Status(Status {
+        group,
+        sender,
+        values: Vec::from_slice(alloc, values)?,
+    }))
+}
+
+fn request(alloc: Global, members: [u32; 2], ranges: &[Range]) -> Result<Frame, AllocError> {
+    let [requester, asked] = members;
+    Ok(Frame::Request(Request {
+        group: 7,
+        requester,
+        asked,
+        ranges: Vec::from_slice(alloc, ranges)?,
+    }))
+}
+
 /// The frame is written so, and read again from there.
 fn is_text(rt: &impl Abort, alloc: Global, frame: &Frame, text: &[u8]) {
     match encode(alloc, frame) {
@@ -133,8 +151,84 @@ fn the_longest_cast_has_1417_bytes(rt: HostRuntime) -> Result<(), Fail> {
 }
 
 #[test]
-fn bytes_that_are_no_cast_have_their_first_fault(rt: HostRuntime) -> Result<(), Fail> {
-    const FAULTS: [(&[u8], FrameFault); 18] = [
+fn a_status_says_each_field_that_is_not_zero(rt: HostRuntime) -> Result<(), Fail> {
+    let alloc = rt.alloc();
+    let value = |field, amount| Change { field, amount };
+    let values = [value(0, 203), value(1, 1), value(2, 2), value(4, 2)];
+    let text = b"\x12\xac\x02\x02\x04\x00\xcb\x01\x00\x01\x00\x02\x01\x02";
+    is_text(&rt, alloc, &status(alloc, 300, 2, &values)?, text);
+    is_text(&rt, alloc, &status(alloc, 7, 2, &[])?, b"\x12\x07\x02\x00");
+    is_text(
+        &rt,
+        alloc,
+        &status(alloc, 7, 2, &[value(0, 1)])?,
+        b"\x12\x07\x02\x01\x00\x01",
+    );
+    Ok(())
+}
+
+#[test]
+fn a_request_says_its_ranges_by_their_distances(rt: HostRuntime) -> Result<(), Fail> {
+    let alloc = rt.alloc();
+    let range = |first, last| Range { first, last };
+    is_text(
+        &rt,
+        alloc,
+        &request(alloc, [2, 0], &[range(2, 3), range(5, 5), range(9, 12)])?,
+        b"\x13\x07\x02\x00\x03\x01\x01\x00\x00\x02\x03",
+    );
+    is_text(
+        &rt,
+        alloc,
+        &request(alloc, [2, 0], &[range(2, 3)])?,
+        b"\x13\x07\x02\x00\x01\x01\x01",
+    );
+    Ok(())
+}
+
+#[test]
+fn a_request_may_ask_up_to_the_last_number(rt: HostRuntime) -> Result<(), Fail> {
+    let alloc = rt.alloc();
+    let ranges = [
+        Range { first: 1, last: 1 },
+        Range {
+            first: 3,
+            last: LAST_NUMBER,
+        },
+    ];
+    is_text(
+        &rt,
+        alloc,
+        &request(alloc, [0, 1], &ranges)?,
+        b"\x13\x07\x00\x01\x02\x00\x00\x00\xfc\xff\xff\xff\x0f",
+    );
+    Ok(())
+}
+
+#[test]
+fn a_request_has_at_most_32_ranges(rt: HostRuntime) -> Result<(), Fail> {
+    let alloc = rt.alloc();
+    let mut ranges = Vec::new(alloc);
+    let mut text = b"\x13\x07\x02\x00\x20".to_vec(alloc)?;
+    for i in 0..32 {
+        ranges.push(Range {
+            first: 2 * i + 1,
+            last: 2 * i + 1,
+        })?;
+        text.extend_from_slice(b"\x00\x00")?;
+    }
+    is_text(&rt, alloc, &request(alloc, [2, 0], &ranges)?, &text);
+    ranges.push(Range {
+        first: 99,
+        last: 99,
+    })?;
+    assert!(rt; encode(alloc, &request(alloc, [2, 0], &ranges)?) == Err(EncodeFault::BadField));
+    Ok(())
+}
+
+#[test]
+fn bytes_that_are_no_frame_have_their_first_fault(rt: HostRuntime) -> Result<(), Fail> {
+    const FAULTS: [(&[u8], FrameFault); 32] = [
         (b"\x11\x87\x00\x00\x01\x00\x02hi", FrameFault::NotMinimal),
         (b"\x11\x07\x00\x01\x00\x02h", FrameFault::Short),
         (b"\x11\x07\x00\x01\x00\x02hi\x00", FrameFault::Trailing),
@@ -146,8 +240,6 @@ fn bytes_that_are_no_cast_have_their_first_fault(rt: HostRuntime) -> Result<(), 
         (b"", FrameFault::Short),
         (b"\x11\xff\xff\xff\xff\x1f", FrameFault::TooLarge),
         (b"\x14", FrameFault::UnknownKind),
-        (b"\x12\x07\x01\x00", FrameFault::UnknownKind),
-        (b"\x13\x07\x02\x00\x00", FrameFault::UnknownKind),
         (b"\x11\x07\x40", FrameFault::BadIndex),
         (b"\x11\x07\x00\x00", FrameFault::ZeroNumber),
         (b"\x11\x07\x00\x01\x00\x81\x08", FrameFault::PayloadTooLong),
@@ -158,6 +250,36 @@ fn bytes_that_are_no_cast_have_their_first_fault(rt: HostRuntime) -> Result<(), 
         (b"\x11\x07\x40\x00", FrameFault::BadIndex),
         (b"\x11\x07\x00\x01\xff\xff\xff\xff\x0f", FrameFault::Short),
         (b"\x11", FrameFault::Short),
+        // A request has 1 to 32 ranges, which end at the last number.
+        (b"\x13\x07\x02\x00\x00", FrameFault::BadRange),
+        (b"\x13\x07\x02\x00\x21", FrameFault::BadRange),
+        (
+            b"\x13\x07\x02\x00\x01\xff\xff\xff\xff\x0f",
+            FrameFault::BadRange,
+        ),
+        (
+            b"\x13\x07\x02\x00\x01\x00\xff\xff\xff\xff\x0f",
+            FrameFault::BadRange,
+        ),
+        // Behind a range that ends at the last number or one before it no other can begin.
+        (
+            b"\x13\x07\x02\x00\x02\x00\xfe\xff\xff\xff\x0f\x00",
+            FrameFault::BadRange,
+        ),
+        (
+            b"\x13\x07\x02\x00\x02\x00\xfd\xff\xff\xff\x0f\x00",
+            FrameFault::BadRange,
+        ),
+        (b"\x13\x07\x40", FrameFault::BadIndex),
+        (b"\x13\x07\x02\x40", FrameFault::BadIndex),
+        (b"\x13\x07\x02\x00\x01\x01", FrameFault::Short),
+        (b"\x13\x07\x02\x00\x01\x01\x01\x00", FrameFault::Trailing),
+        (b"\x12\x07\x40", FrameFault::BadIndex),
+        (b"\x12\x07\x02\x01\x40", FrameFault::BadIndex),
+        (b"\x12\x07\x02\x02\x3f\x01\x00", FrameFault::BadIndex),
+        (b"\x12\x07\x02\x01\x00\x00", FrameFault::ZeroDifference),
+        (b"\x12\x07\x02\x00\x00", FrameFault::Trailing),
+        (b"\x12\x07\x02", FrameFault::Short),
     ];
     for (bytes, fault) in FAULTS {
         assert_eq!(rt; fault_of(rt.alloc(), bytes)?, Some(fault), "at {bytes:?}");
@@ -194,6 +316,26 @@ fn values_that_break_a_rule_have_no_text(rt: HostRuntime) -> Result<(), Fail> {
             EncodeFault::BadField,
         ),
     ];
+    let range = |first, last| Range { first, last };
+    let others = [
+        status(alloc, 7, 64, &[])?,
+        status(alloc, 7, 0, &[grown(64, 1)])?,
+        status(alloc, 7, 0, &[grown(1, 0)])?,
+        status(alloc, 7, 0, &[grown(2, 1), grown(1, 1)])?,
+        request(alloc, [64, 0], &[range(1, 1)])?,
+        request(alloc, [0, 64], &[range(1, 1)])?,
+        request(alloc, [0, 1], &[])?,
+        request(alloc, [0, 1], &[range(0, 1)])?,
+        request(alloc, [0, 1], &[range(2, 1)])?,
+        request(alloc, [0, 1], &[range(1, 1), range(2, 2)])?,
+        request(alloc, [0, 1], &[range(1, LAST_NUMBER), range(1, 1)])?,
+    ];
+    for frame in &others {
+        assert!(rt;
+            encode(alloc, frame) == Err(EncodeFault::BadField),
+            "at {frame:?}"
+        );
+    }
     for (frame, fault) in &values {
         assert!(rt; encode(alloc, frame) == Err(*fault), "at {frame:?}");
     }

@@ -1,23 +1,27 @@
 //! Frames to bytes.
 
-ghost use Rattle.std.specs.Prelude.{◌≡◌, ◌≤◌, ◌<◌, ◌+◌, ◌++◌, ◌↔◌, [], ◌∷◌, List, ℕ, length, IsTrue, IfOk, OnOk};
+ghost use Rattle.std.specs.Prelude.{◌≡◌, ◌≤◌, ◌<◌, ◌+◌, ◌++◌, ◌↔◌, ◌⊎◌, [], ◌∷◌, List, ℕ, length, Option, IsTrue, IfOk, OnOk, MatchResult};
 ghost use Rattle.cb_varint.specs.Spelling.{Spells};
-ghost use Rattle.cb_frames.specs.Fields.{fields_of, cast_fields};
-ghost use Rattle.cb_frames.specs.Text.{SpellAll, pairs_from, cast_numbers, AreChanges, KeepsCastRules, KeepsRules, payload_of, IsText};
+ghost use Rattle.cb_frames.specs.Fields.{FrameFields, fields_of, cast_fields, status_fields, request_fields};
+ghost use Rattle.cb_frames.specs.Text.{SpellAll, pairs_from, ranges_from, cast_numbers, status_numbers, request_numbers, AreRanges, KeepsCastRules, KeepsStatusRules, KeepsRequestRules, KeepsRules, payload_of, IsText};
+ghost use Rattle.cb_frames.specs.Parts.{AreChangesBut};
 
 use crate::fault::EncodeFault;
-use crate::frame::{Cast, Change, Frame, LAST_MEMBER, LONGEST_PAYLOAD};
-use crate::reading::CAST;
+use crate::frame::{
+    Cast, Change, Frame, LAST_MEMBER, LONGEST_PAYLOAD, MOST_RANGES, Range, Request, Status,
+};
+use crate::reading::{CAST, REQUEST, STATUS};
 use bytes::Bytes;
 use std::alloc::{AllocError, Global};
 
-fn are_changes(sender: u32, changes: &[Change]) -> bool
-    ensures { IsTrue result ↔ AreChanges sender 0 changes.now }
+/// Changes of fields other than `own`, or values where none is.
+fn are_changes(own: Option<u32>, changes: &[Change]) -> bool
+    ensures { IsTrue result ↔ AreChangesBut own 0 changes.now }
 {
     let mut least = 0;
     for change in changes {
         let Change { field, amount } = *change;
-        if field < least || field > LAST_MEMBER || field == sender || amount == 0 {
+        if field < least || field > LAST_MEMBER || own == Some(field) || amount == 0 {
             return false;
         }
         least = field + 1;
@@ -25,14 +29,55 @@ fn are_changes(sender: u32, changes: &[Change]) -> bool
     true
 }
 
-fn keeps_rules(cast: &Cast) -> bool
+fn are_ranges(ranges: &[Range]) -> bool
+    ensures { IsTrue result ↔ AreRanges 1 ranges.now }
+{
+    let mut least = 1;
+    for range in ranges {
+        let Range { first, last } = *range;
+        if u64::from(first) < least || last < first {
+            return false;
+        }
+        least = u64::from(last) + 2;
+    }
+    true
+}
+
+fn keeps_cast_rules(cast: &Cast) -> bool
     ensures { IsTrue result ↔ KeepsCastRules (cast_fields cast.now) }
 {
-    cast.sender <= LAST_MEMBER && cast.number != 0 && are_changes(cast.sender, &cast.changes)
+    cast.sender <= LAST_MEMBER && cast.number != 0 && are_changes(Some(cast.sender), &cast.changes)
+}
+
+fn keeps_status_rules(status: &Status) -> bool
+    ensures { IsTrue result ↔ KeepsStatusRules (status_fields status.now) }
+{
+    status.sender <= LAST_MEMBER && are_changes(None, &status.values)
+}
+
+fn keeps_request_rules(request: &Request) -> bool
+    ensures { IsTrue result ↔ KeepsRequestRules (request_fields request.now) }
+{
+    let ranges = &request.ranges;
+    request.requester <= LAST_MEMBER
+        && request.asked <= LAST_MEMBER
+        && !ranges.is_empty()
+        && ranges.len() <= MOST_RANGES
+        && are_ranges(ranges)
+}
+
+fn keeps_rules(frame: &Frame) -> bool
+    ensures { IsTrue result ↔ KeepsRules (fields_of frame.now) }
+{
+    match frame {
+        Frame::Cast(cast) => keeps_cast_rules(cast),
+        Frame::Status(status) => keeps_status_rules(status),
+        Frame::Request(request) => keeps_request_rules(request),
+    }
 }
 
 fn put_changes(out: &mut Vec<u8>, changes: &[Change]) -> Result<(), AllocError>
-    requires { (sender : ℕ) × AreChanges sender 0 changes.now }
+    requires { (own : Option ℕ) × AreChangesBut own 0 changes.now }
     ensures { OnOk result ((text : List ℕ) × SpellAll (pairs_from 0 changes.now) text
         × (out.new.items ≡ out.old.items ++ text)) }
 {
@@ -45,7 +90,21 @@ fn put_changes(out: &mut Vec<u8>, changes: &[Change]) -> Result<(), AllocError>
     Ok(())
 }
 
-fn put_numbers(out: &mut Vec<u8>, cast: &Cast) -> Result<(), AllocError>
+fn put_ranges(out: &mut Vec<u8>, ranges: &[Range]) -> Result<(), AllocError>
+    requires { AreRanges 1 ranges.now }
+    ensures { OnOk result ((text : List ℕ) × SpellAll (ranges_from 1 ranges.now) text
+        × (out.new.items ≡ out.old.items ++ text)) }
+{
+    let mut least = 1;
+    for range in ranges {
+        cb_varint::put((u64::from(range.first) - least) as u32, out)?;
+        cb_varint::put(range.last - range.first, out)?;
+        least = u64::from(range.last) + 2;
+    }
+    Ok(())
+}
+
+fn put_cast(out: &mut Vec<u8>, cast: &Cast) -> Result<(), AllocError>
     requires rules { KeepsCastRules (cast_fields cast.now) }
     requires payload { length cast.now.payload ≤ LONGEST_PAYLOAD }
     ensures { OnOk result ((text : List ℕ) × SpellAll (cast_numbers (cast_fields cast.now)) text
@@ -59,6 +118,64 @@ fn put_numbers(out: &mut Vec<u8>, cast: &Cast) -> Result<(), AllocError>
     cb_varint::put(cast.payload.len() as u32, out)
 }
 
+fn put_status(out: &mut Vec<u8>, status: &Status) -> Result<(), AllocError>
+    requires { KeepsStatusRules (status_fields status.now) }
+    ensures { OnOk result ((text : List ℕ) × SpellAll (status_numbers (status_fields status.now)) text
+        × (out.new.items ≡ out.old.items ++ text)) }
+{
+    cb_varint::put(status.group, out)?;
+    cb_varint::put(status.sender, out)?;
+    cb_varint::put(status.values.len() as u32, out)?;
+    put_changes(out, &status.values)
+}
+
+fn put_request(out: &mut Vec<u8>, request: &Request) -> Result<(), AllocError>
+    requires { KeepsRequestRules (request_fields request.now) }
+    ensures { OnOk result ((text : List ℕ) × SpellAll (request_numbers (request_fields request.now)) text
+        × (out.new.items ≡ out.old.items ++ text)) }
+{
+    cb_varint::put(request.group, out)?;
+    cb_varint::put(request.requester, out)?;
+    cb_varint::put(request.asked, out)?;
+    cb_varint::put(request.ranges.len() as u32, out)?;
+    put_ranges(out, &request.ranges)
+}
+
+/// The text of a frame that keeps the rules, its payload's among them.
+fn text(alloc: Global, frame: &Frame) -> Result<Vec<u8>, AllocError>
+    requires rules { KeepsRules (fields_of frame.now) }
+    requires payload { length (payload_of (fields_of frame.now)) ≤ LONGEST_PAYLOAD }
+    ensures { IfOk result (λ bytes. IsText (fields_of frame.now) bytes.items) }
+{
+    let mut out = Vec::new(alloc);
+    match frame {
+        Frame::Cast(cast) => {
+            out.push(CAST)?;
+            put_cast(&mut out, cast)?;
+            out.extend_from_slice(cast.payload.as_slice())?;
+        }
+        Frame::Status(status) => {
+            out.push(STATUS)?;
+            put_status(&mut out, status)?;
+        }
+        Frame::Request(request) => {
+            out.push(REQUEST)?;
+            put_request(&mut out, request)?;
+        }
+    }
+    Ok(out)
+}
+
+/// The payload of a cast; no other frame has one.
+fn has_long_payload(frame: &Frame) -> bool
+    ensures { IsTrue result ↔ (LONGEST_PAYLOAD < length (payload_of (fields_of frame.now))) }
+{
+    match frame {
+        Frame::Cast(cast) => cast.payload.len() > LONGEST_PAYLOAD,
+        Frame::Status(_) | Frame::Request(_) => false,
+    }
+}
+
 /// The text of a frame, or why it has none.
 pub fn encode(alloc: Global, frame: &Frame) -> Result<Bytes, EncodeFault>
     ensures text { IfOk result (λ bytes. IsText (fields_of frame.now) bytes) }
@@ -67,16 +184,11 @@ pub fn encode(alloc: Global, frame: &Frame) -> Result<Bytes, EncodeFault>
     ensures bad_field { (result ≡ Err EncodeFault.BadField)
         ↔ ((length (payload_of (fields_of frame.now)) ≤ LONGEST_PAYLOAD) × ¬ KeepsRules (fields_of frame.now)) }
 {
-    let Frame::Cast(cast) = frame;
-    if cast.payload.len() > LONGEST_PAYLOAD {
+    if has_long_payload(frame) {
         return Err(EncodeFault::PayloadTooLong);
     }
-    if !keeps_rules(cast) {
+    if !keeps_rules(frame) {
         return Err(EncodeFault::BadField);
     }
-    let mut out = Vec::new(alloc);
-    out.push(CAST)?;
-    put_numbers(&mut out, cast)?;
-    out.extend_from_slice(cast.payload.as_slice())?;
-    Ok(Bytes::from_vec(out)?)
+    Ok(Bytes::from_vec(text(alloc, frame)?)?)
 }

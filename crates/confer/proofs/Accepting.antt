@@ -1,6 +1,6 @@
 -- What the expander's answers say of the casts accepted before.
-use Rattle.std.proofs.Common.{◌≡◌, ◌≢◌, ℕ, ◌+◌, ◌<◌, ◌≤◌, Bool, true, false, cond, eqb, ltb, not, ◌&&◌, List, [], ◌∷◌, ◌++◌, length, min, Result, Ok, Err, refl, sym, ap, subst, ◌∙◌, arith, append_assoc}
-use Rattle.std.specs.Prelude.{All, codes, is_err}
+use Rattle.std.proofs.Common.{◌≡◌, ◌≢◌, ℕ, ◌+◌, ◌<◌, true, false, ltb, List, [], ◌∷◌, ◌++◌, length, min, Result, Ok, Err, refl, sym, ap, subst, ◌∙◌, append_assoc}
+use Rattle.std.specs.Prelude.{codes, is_err}
 use Rattle.std.specs.Fmt.{decimal}
 use Rattle.std.specs.List.{list_all, AllByRecursion}
 use Rattle.std.proofs.lemmas.Bool.{eq-eqb, ne_eqb, lt-ltb, and_from}
@@ -10,7 +10,7 @@ use Rattle.cb_frames.specs.declared.frame.Change.{Change}
 use Rattle.cb_times.specs.Time.{text_of}
 use Rattle.cb_frames.specs.Fields.{CastFields, cast_fields, first_number}
 use Rattle.cb_diffs.specs.Expansion.{greatest, expanded_time, last_in, time_of, expected_number, AreMembers, Expands}
-use Rattle.cb_diffs.specs.Laws.{IsKept, IsSum}
+use Rattle.cb_diffs.specs.Laws.{IsKept}
 use Rattle.cb_diffs.proofs.Sums.{expanding_is_summing}
 use Rattle.confer.specs.declared.refusal.Refusal.{Refusal}
 use Rattle.confer.specs.declared.refusal.Refusal.TheVariants.{NotNext}

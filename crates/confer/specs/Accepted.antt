@@ -12,7 +12,7 @@ use Rattle.confer.specs.declared.answer.Accepted.{Accepted}
 use Rattle.confer.specs.declared.answer.LineFault.{LineFault}
 use Rattle.confer.specs.declared.answer.LineFault.TheVariants.{Refused, NoMemory}
 use Rattle.confer.specs.declared.refusal.Refusal.{Refusal}
-use Rattle.confer.specs.Answers.{or_bad_hex, or_bad_frame, accept, outcome, payload_text, answer_text, accepted_after}
+use Rattle.confer.specs.Answers.{or_bad_hex, cast_or_refusal, accept, outcome, payload_text, answer_text, accepted_after}
 use Rattle.confer.specs.Lines.{line_feed}
 
 -- a refusal is the stated one; of want of memory nothing is said
@@ -25,8 +25,8 @@ GivesBytes line (Ok bytes) = or_bad_hex (decode_of line) ≡ Ok bytes
 GivesBytes line (Err fault) = Fails fault (or_bad_hex (decode_of line))
 
 abbrev pub GivesCast : List ℕ → Result Cast LineFault → Type 0
-GivesCast bytes (Ok cast) = or_bad_frame (frame_at bytes) ≡ Ok (cast_fields cast)
-GivesCast bytes (Err fault) = Fails fault (or_bad_frame (frame_at bytes))
+GivesCast bytes (Ok cast) = cast_or_refusal (frame_at bytes) ≡ Ok (cast_fields cast)
+GivesCast bytes (Err fault) = Fails fault (cast_or_refusal (frame_at bytes))
 
 -- a time is the sum over the casts accepted before and this one, which is kept; a fault changes nothing
 abbrev pub GivesTime : ℕ → List CastFields → CastFields → List (List ℕ) → List (List ℕ) → Result (List ℕ) LineFault → Type 0

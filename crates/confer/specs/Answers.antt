@@ -1,12 +1,12 @@
 -- What `confer expand` answers to one line, where these casts were accepted before.
-use Rattle.std.specs.Prelude.{◌≡◌, ℕ, ◌+◌, ◌<◌, Bool, not, ◌&&◌, ◌||◌, List, [], ◌∷◌, ◌++◌, codes, min, nat_lt, nat_le, ◌==◌, if◌then◌else◌, Result, Ok, Err, is_err}
+use Rattle.std.specs.Prelude.{ℕ, ◌+◌, Bool, not, ◌&&◌, List, [], ◌∷◌, ◌++◌, codes, min, nat_lt, nat_le, ◌==◌, if◌then◌else◌, Result, Ok, Err}
 use Rattle.std.specs.List.{list_all}
 use Rattle.std.specs.Fmt.{decimal}
 use Rattle.hex.specs.declared.error.FromHexError.{FromHexError}
 use Rattle.hex.specs.Hex.{decode_of, encode_lower}
 use Rattle.cb_times.specs.Time.{text_of}
 use Rattle.cb_frames.specs.declared.fault.FrameFault.{FrameFault}
-use Rattle.cb_frames.specs.Fields.{CastFields, FrameFields, CastFrame, first_number}
+use Rattle.cb_frames.specs.Fields.{CastFields, FrameFields, CastFrame, StatusFrame, RequestFrame, first_number}
 use Rattle.cb_frames.specs.Reading.{frame_at}
 use Rattle.cb_diffs.specs.Expansion.{greatest, expanded_time, last_in}
 use Rattle.confer.specs.declared.refusal.Refusal.{Refusal}
@@ -24,9 +24,11 @@ abbrev pub or_bad_hex : Result (List ℕ) FromHexError → Result (List ℕ) Ref
 or_bad_hex (Ok bytes) = Ok bytes
 or_bad_hex (Err fault) = Err refusals.BadHex
 
-abbrev pub or_bad_frame : Result FrameFields FrameFault → Result CastFields Refusal
-or_bad_frame (Ok (CastFrame c)) = Ok c
-or_bad_frame (Err fault) = Err (refusals.Frame fault)
+abbrev pub cast_or_refusal : Result FrameFields FrameFault → Result CastFields Refusal
+cast_or_refusal (Ok (CastFrame c)) = Ok c
+cast_or_refusal (Ok (StatusFrame s)) = Err refusals.NotACast
+cast_or_refusal (Ok (RequestFrame r)) = Err refusals.NotACast
+cast_or_refusal (Err fault) = Err (refusals.Frame fault)
 
 abbrev pub are_members : ℕ → CastFields → Bool
 are_members size c = nat_lt c.sender size && list_all (λ d. nat_lt d.field size) c.changes
@@ -43,7 +45,7 @@ accept group size accepted c =
 unfoldable pub outcome : ℕ → ℕ → List CastFields → List ℕ → Result CastFields Refusal
 outcome group size accepted line = do
   bytes ← or_bad_hex (decode_of line)
-  c ← or_bad_frame (frame_at bytes)
+  c ← cast_or_refusal (frame_at bytes)
   accept group size accepted c
 
 -- ---- what is printed

@@ -1,5 +1,5 @@
 -- What `confer expand` writes for the whole of an input.
-use Rattle.std.specs.Prelude.{◌≡◌, ℕ, Bool, false, ◌||◌, List, [], ◌∷◌, ◌++◌, ◌==◌, if◌then◌else◌, is_err}
+use Rattle.std.specs.Prelude.{ℕ, Bool, false, ◌||◌, List, [], ◌∷◌, ◌++◌, ◌==◌, if◌then◌else◌, is_err}
 use Rattle.cb_frames.specs.Fields.{CastFields}
 use Rattle.confer.specs.Answers.{outcome, answer_text, accepted_after}
 

@@ -23,6 +23,7 @@ fault_name faults.NoMemory = codes "NoMemory"
 abbrev pub refusal_text : Refusal → List ℕ
 refusal_text refusals.BadHex = codes "BadHex"
 refusal_text (refusals.Frame fault) = fault_name fault
+refusal_text refusals.NotACast = codes "NotACast"
 refusal_text refusals.OtherGroup = codes "OtherGroup"
 refusal_text refusals.BadMember = codes "BadMember"
 refusal_text (refusals.NotNext expected found) = codes "NotNext expected " ++ decimal expected ++ codes " found " ++ decimal found

@@ -1,5 +1,5 @@
 -- The exit statuses of `confer`.
-use Rattle.std.specs.Prelude.{ℕ, Bool, true, false, ◌||◌, nat_le, ◌==◌}
+use Rattle.std.specs.Prelude.{ℕ, Bool, ◌||◌, nat_le, ◌==◌}
 
 -- done, a line refused, a fault in the words, a fault of the streams, and want of memory
 abbrev pub is_status : ℕ → Bool

@@ -45,6 +45,7 @@ fn cast_of(alloc: Global, bytes: &Bytes) -> Result<Cast, LineFault>
 {
     match cb_frames::decode(alloc, bytes) {
         Ok(Frame::Cast(cast)) => Ok(cast),
+        Ok(Frame::Status(_) | Frame::Request(_)) => Err(LineFault::Refused(Refusal::NotACast)),
         Err(FrameFault::NoMemory) => Err(LineFault::NoMemory),
         Err(fault) => Err(LineFault::Refused(Refusal::Frame(fault))),
     }

@@ -13,6 +13,8 @@ pub enum Refusal {
     BadHex,
     /// The bytes are no frame.
     Frame(FrameFault),
+    /// The frame is a status or a request.
+    NotACast,
     /// The frame is of another group.
     OtherGroup,
     /// A member in the frame is none of the group.
@@ -47,6 +49,7 @@ impl fmt::Display for Refusal {
         match self {
             Refusal::BadHex => f.write_str("BadHex"),
             Refusal::Frame(fault) => f.write_str(fault_name(*fault)),
+            Refusal::NotACast => f.write_str("NotACast"),
             Refusal::OtherGroup => f.write_str("OtherGroup"),
             Refusal::BadMember => f.write_str("BadMember"),
             Refusal::NotNext { expected, found } => write!(

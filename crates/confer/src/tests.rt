@@ -113,7 +113,12 @@ fn lines_that_are_no_frames_are_refused_by_name(rt: HostRuntime) {
     expands(&rt, alloc, b"1107000100026869\r\n", 1, "refused BadHex\n");
     expands(&rt, alloc, b"110700010002686\n", 1, "refused BadHex\n");
     expands(&rt, alloc, b"11 07\n", 1, "refused BadHex\n");
-    expands(&rt, alloc, b"12\n", 1, "refused UnknownKind\n");
+    expands(&rt, alloc, b"14\n", 1, "refused UnknownKind\n");
+    expands(&rt, alloc, b"120702\n", 1, "refused Short\n");
+    expands(&rt, alloc, b"1307020000\n", 1, "refused BadRange\n");
+    expands(&rt, alloc, b"12070200\n", 1, "refused NotACast\n");
+    expands(&rt, alloc, b"12080200\n", 1, "refused NotACast\n");
+    expands(&rt, alloc, b"13070200010101\n", 1, "refused NotACast\n");
     expands(&rt, alloc, b"1108000100026869\n", 1, "refused OtherGroup\n");
     expands(&rt, alloc, b"1107030100026869\n", 1, "refused BadMember\n");
     expands(&rt, alloc, b"11070001000268696a\n", 1, "refused Trailing\n");

@@ -11,7 +11,7 @@ returns-in_err-parts-in-Some-eq17-default-clause-exact c =
     let p = err_from_is_err_and c.from_residual.result c.from_residual.ensures.1 in
     rw (p.1, p.2) (inl (fault_of_cast c.args.bytes.now a.field-0-0.now a.fields.now _ (sym c.requires ∙ a.ensures.cases.0) kind c.in_err-parts-in-Some-eq17-default.ensures))
 
-pub copied-requires : goal.copied-requires
-copied-requires c =
+pub cast-requires : goal.cast-requires
+cast-requires c =
     let a = c.in-Some-eq17-default in
     cast_of_frame c.args.bytes.now a.field-0-0.now a.fields.now _ (sym c.requires ∙ a.ensures.cases.0) (rw (← c.requires) (λ i. omega (arith, c.type_inv.text i))) c.in_ok-parts-in-Some-eq17-default.ensures

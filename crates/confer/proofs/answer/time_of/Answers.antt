@@ -1,4 +1,4 @@
-use Rattle.std.proofs.Common.{refl, sym, rules}
+use Rattle.std.proofs.Common.{refl}
 use Rattle.cb_frames.specs.Fields.{cast_fields}
 use Rattle.confer.proofs.Accepting.{accepts, not_next}
 use Rattle.confer.proofs.answer.time_of.Goals as goal

@@ -1,10 +1,7 @@
-use Rattle.std.proofs.Common.{◌≡◌, ◌+◌, ◌-◌, ◌++◌, ℕ, List, length, take, drop, ap, sym, subst, ◌∙◌, refl, arith}
+use Rattle.std.proofs.Common.{◌≡◌, ◌+◌, ◌-◌, ◌++◌, ℕ, List, length, take, drop, ap, subst, ◌∙◌}
 use Rattle.std.proofs.lemmas.List.{take_rest, drop-drop}
-use Rattle.cb_frames.specs.Fields.{CastFields}
 use Rattle.confer.specs.Accepted.{IsAnswered}
-use Rattle.cb_diffs.specs.Laws.{IsKept}
-use Rattle.confer.specs.Progress.{Goes}
-use Rattle.confer.proofs.LineSteps.{ChunkSoFar, chunk_starts, chunk_goes_on, chunk_ends}
+use Rattle.confer.proofs.LineSteps.{chunk_starts, chunk_goes_on, chunk_ends}
 use Rattle.confer.proofs.lines.answer_chunk.Goals as goal
 
 pub loop-end-init : goal.loop-end-init

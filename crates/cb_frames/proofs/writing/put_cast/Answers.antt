@@ -1,12 +1,15 @@
-use Rattle.std.proofs.Common.{arith, List, subst}
+use Rattle.std.proofs.Common.{arith, List, Some, subst}
 use Rattle.cb_frames.specs.declared.frame.Change.{Change}
 use Rattle.cb_frames.specs.Fields.{cast_fields}
 use Rattle.cb_frames.specs.Text.{SpellAll, pairs_from}
-use Rattle.cb_frames.proofs.ChangesWritten.{Appends, changes_few, numbers_written}
-use Rattle.cb_frames.proofs.writing.put_numbers.Goals as goal
+use Rattle.cb_frames.proofs.PairsWritten.{Appends, row_of_changes, changes_few, numbers_written}
+use Rattle.cb_frames.proofs.writing.put_cast.Goals as goal
 
 pub overflow_cast-len : goal.overflow_cast-len
-overflow_cast-len c = omega (arith, c.len.ensures, changes_few c.args.cast.now.sender 0 c.args.cast.now.changes.items (omega arith) c.requires.rules.changes)
+overflow_cast-len c =
+    let own = Some c.args.cast.now.sender in
+    let ds = c.args.cast.now.changes.items in
+    omega (arith, c.len.ensures, changes_few own 0 ds (omega arith) (row_of_changes own 0 ds c.requires.rules.changes))
 
 pub returns : goal.returns
 returns c =
