@@ -1,10 +1,10 @@
 -- The answers line by line.
-use Rattle.std.proofs.Common.{◌≡◌, ◌≢◌, ℕ, ◌+◌, Bool, true, false, ◌||◌, ◌<◌, List, [], ◌∷◌, ◌++◌, length, take, drop, Result, Ok, Err, refl, sym, ap, subst, ◌∙◌, arith, append_assoc}
+use Rattle.std.proofs.Common.{◌≡◌, ◌≢◌, ℕ, ◌+◌, Bool, true, false, ◌||◌, ◌<◌, ◌≤◌, List, [], ◌∷◌, ◌++◌, length, take, drop, Result, Ok, Err, refl, sym, ap, subst, ◌∙◌, arith, append_assoc}
 use Rattle.std.specs.Prelude.{Option, Some, None, IfOk, IfSome, is_err, slice_index}
 use Rattle.std.specs.Io.KnownBytes.{Appends, Consumes, IsAtEnd}
 use Rattle.std.proofs.lemmas.Bool.{ne_eqb}
 use Rattle.std.proofs.lemmas.Result.{IfOk-at_ok}
-use Rattle.std.proofs.lemmas.List.{append-nil, take-append-drop, drop_more}
+use Rattle.std.proofs.lemmas.List.{append-nil, length-append, take-append-drop, drop_more}
 use Rattle.cb_frames.specs.Fields.{CastFields}
 use Rattle.cb_diffs.specs.Laws.{IsKept}
 use Rattle.confer.specs.Answers.{outcome, answer_text, accepted_after}
@@ -289,3 +289,33 @@ more_input r group size input left left' before now now' begun begun' chunk part
     subst (λ (t : List ℕ). Goes group (length kept) accepted (begun ++ t) begun' [] new refused' kept') part_is (subst (λ (t : List ℕ). Goes group (length kept) accepted (begun ++ part) begun' t new refused' kept') old_is
     (IfOk-at_ok (λ last. Goes group (length kept) accepted (begun ++ part) begun' old new last kept') is (answered accepted k))) in
     input_goes_on group size input left left' before now now' begun begun' chunk new refused refused' kept kept' s read goes (subst (Appends now now') out_is written)
+
+-- ---- how many bytes were read
+
+-- so many bytes of the input were read
+abbrev pub Counted : Option (List ℕ) → Option (List ℕ) → ℕ → Type 0
+Counted None now n = Unit {0}
+Counted (Some old) None n = ⊥
+Counted (Some old) (Some now) n = length old ≡ n + length now
+
+pub counted_none : (input : Option (List ℕ)) → Counted input input 0
+counted_none None = tt
+counted_none (Some bytes) = omega arith
+
+pub counted_more : (old mid new : Option (List ℕ)) (chunk : List ℕ) (n m : ℕ) → Counted old mid n → Consumes mid new chunk → m ≡ n + length chunk → Counted old new m
+counted_more None mid new chunk n m c x e = tt
+counted_more (Some old) None new chunk n m c x e = absurd c
+counted_more (Some old) (Some mid) None chunk n m c x e = absurd x
+counted_more (Some old) (Some mid) (Some new) chunk n m c x e = omega (arith, c, ap length x, length-append chunk new, e)
+
+pub counted_all : (old mid new : Option (List ℕ)) (chunk : List ℕ) (n limit : ℕ) → Counted old mid n → Consumes mid new chunk → length chunk ≡ 0 → IsAtEnd new → n ≤ limit → IfSome old (λ bytes. length bytes ≤ limit)
+counted_all None mid new chunk n limit c x none end le = tt
+counted_all (Some old) None new chunk n limit c x none end le = absurd c
+counted_all (Some old) (Some mid) None chunk n limit c x none end le = absurd x
+counted_all (Some old) (Some mid) (Some new) chunk n limit c x none end le = omega (arith, c, ap length x, length-append chunk new, none, ap length end, le)
+
+pub counted_past : (old mid new : Option (List ℕ)) (chunk : List ℕ) (n limit : ℕ) → Counted old mid n → Consumes mid new chunk → limit < n + length chunk → IfSome old (λ bytes. limit < length bytes)
+counted_past None mid new chunk n limit c x past = tt
+counted_past (Some old) None new chunk n limit c x past = absurd c
+counted_past (Some old) (Some mid) None chunk n limit c x past = absurd x
+counted_past (Some old) (Some mid) (Some new) chunk n limit c x past = omega (arith, c, ap length x, length-append chunk new, past)

@@ -1,5 +1,8 @@
 //! What ends a run of `confer` before its end.
 
+ghost use Rattle.std.specs.Prelude.{◌≡◌};
+ghost use Rattle.confer.specs.declared.fault.LinesFault.TheVariants.{NoMemory};
+
 use std::alloc::{AllocError, AllocFailed};
 use thiserror::Error;
 
@@ -21,12 +24,16 @@ pub enum LinesFault {
 }
 
 impl From<AllocError> for LinesFault {
+    ghost from_gives = { λ _ e. e ≡ NoMemory };
+
     fn from(_refused: AllocError) -> LinesFault {
         LinesFault::NoMemory
     }
 }
 
 impl<T: Drop> From<AllocFailed<T>> for LinesFault {
+    ghost from_gives = { λ _ e. e ≡ NoMemory };
+
     fn from(_refused: AllocFailed<T>) -> LinesFault {
         LinesFault::NoMemory
     }

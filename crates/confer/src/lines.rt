@@ -1,6 +1,6 @@
 //! Lines from a reader, answers to a writer.
 
-ghost use Rattle.std.specs.Prelude.{◌≡◌, ◌≢◌, ◌≤◌, ◌<◌, ◌↔◌, ◌++◌, ◌∷◌, [], ℕ, List, Some, Ok, length, IfOk, OnOk, IfSome, IsTrue, true, MatchOption, vec_len, slice_index, take};
+ghost use Rattle.std.specs.Prelude.{◌≡◌, ◌≢◌, ◌≤◌, ◌<◌, ◌↔◌, ◌++◌, ◌∷◌, [], ℕ, List, Some, Ok, Err, length, IfOk, OnOk, IfSome, IsTrue, true, MatchOption, vec_len, slice_index, take};
 ghost use Rattle.std.specs.Io.KnownBytes.{Appends, Consumes, IsAtEnd};
 ghost use Rattle.cb_frames.specs.Fields.{CastFields};
 ghost use Rattle.cb_diffs.specs.Laws.{IsKept};
@@ -81,8 +81,9 @@ fn room(alloc: Global) -> Result<Vec<u8>, AllocError>
 
 /// The bytes of one read: none at the end of the input alone.
 fn read<R: Read>(alloc: Global, input: &mut R) -> Result<Vec<u8>, LinesFault>
-    ensures { IfOk result (λ chunk. Consumes (R.remaining input.old) (R.remaining input.new) chunk.items
+    ensures bytes { IfOk result (λ chunk. Consumes (R.remaining input.old) (R.remaining input.new) chunk.items
         × (vec_len chunk ≡ 0 → IsAtEnd (R.remaining input.new))) }
+    ensures fault { result ≢ Err LinesFault.TooLong }
 {
     let mut chunk = room(alloc)?;
     let count = input.read(&mut chunk).map_err(|_| LinesFault::Read)?;
@@ -96,8 +97,9 @@ fn put<W: Write>(
     out: &[u8],
     answered: Result<bool, AllocError>,
 ) -> Result<bool, LinesFault>
-    ensures { IfOk result (λ refused. (answered ≡ Ok refused)
+    ensures bytes { IfOk result (λ refused. (answered ≡ Ok refused)
         × Appends (W.contents output.old) (W.contents output.new) out.now) }
+    ensures fault { result ≢ Err LinesFault.TooLong }
 {
     output.write_all(out).map_err(|_| LinesFault::Write)?;
     Ok(answered?)
@@ -118,9 +120,12 @@ pub fn expand_lines<R: Read, W: Write>(
 ) -> Result<bool, LinesFault>
     requires two_or_more { 2 ≤ size }
     requires at_most_sixty_four { size ≤ 64 }
-    ensures { IfOk result (λ refused. IfSome (R.remaining input.old) (λ bytes.
+    ensures text { IfOk result (λ refused. IfSome (R.remaining input.old) (λ bytes.
         Appends (W.contents output.old) (W.contents output.new) (output_of group size bytes)
         × (refused ≡ is_refused group size bytes))) }
+    ensures limit { IfOk result (λ refused. IfSome (R.remaining input.old) (λ bytes. length bytes ≤ LONGEST_INPUT)) }
+    ensures too_long { result ≡ Err LinesFault.TooLong
+        → IfSome (R.remaining input.old) (λ bytes. LONGEST_INPUT < length bytes) }
 {
     let mut expander = Expander::new(alloc, size)?;
     let mut begun = Vec::new(alloc);

@@ -1,7 +1,7 @@
 //! The words of the command line.
 
-ghost use Rattle.std.specs.Prelude.{IsTrue, MatchOption};
-ghost use Rattle.confer.specs.Words.{is_status};
+ghost use Rattle.std.specs.Prelude.{◌≡◌, IsTrue, MatchOption};
+ghost use Rattle.confer.specs.Words.{is_status, lines_status, IsStatusOf};
 
 use crate::fault::{Fault, LinesFault};
 use crate::lines::expand_lines;
@@ -85,7 +85,8 @@ fn obey<S: AsStr, R: Read, W: Write>(
 
 /// Says on `errors` what ended the run, and gives its exit status.
 pub fn report<E: Write>(fault: &Fault, errors: &mut E) -> u8
-    ensures { IsTrue (is_status result) }
+    ensures stated { IsTrue (is_status result) }
+    ensures exact { IsStatusOf fault.now result }
 {
     let (status, written) = match fault {
         Fault::Words(error) if error.kind() == ErrorKind::OutOfMemory => (
@@ -102,7 +103,7 @@ pub fn report<E: Write>(fault: &Fault, errors: &mut E) -> u8
 }
 
 fn status_of(fault: &LinesFault) -> u8
-    ensures { IsTrue (is_status result) }
+    ensures { result ≡ lines_status fault.now }
 {
     match fault {
         LinesFault::Read | LinesFault::Write | LinesFault::TooLong => STREAMS,
