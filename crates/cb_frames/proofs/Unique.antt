@@ -1,12 +1,12 @@
 -- Bytes are the text of one frame, or have one first fault.
-use Rattle.std.proofs.Common.{◌≡◌, ℕ, suc, ◌+◌, ◌≤◌, List, [], ◌∷◌, ◌++◌, length, Option, Some, None, MatchOption, Ok, Err, refl, sym, ap, subst, ◌∙◌, arith, inl, inr, append_assoc}
-use Rattle.std.specs.List.{flat_map}
+use Rattle.std.proofs.Common.{◌≡◌, ℕ, suc, ◌+◌, ◌<◌, ◌≤◌, ◌^◌, List, [], ◌∷◌, ◌++◌, length, Option, Some, None, MatchOption, Ok, Err, refl, sym, ap, subst, ◌∙◌, arith, inl, inr, append_assoc}
+use Rattle.std.specs.List.{AllByRecursion, flat_map}
 use Rattle.std.proofs.lemmas.List.{append-nil, length-append, nil_from_length}
 use Rattle.cb_varint.specs.declared.fault.NumberFault.{NumberFault}
 use Rattle.cb_varint.specs.Spelling.{Spells, IsFault}
 use Rattle.cb_varint.specs.Reading.{number_at as number_and_length, spelling}
 use Rattle.cb_varint.proofs.Fronts.{number_is_read, fault_is_answered}
-use Rattle.cb_varint.proofs.Spelled.{apart, spelling_is}
+use Rattle.cb_varint.proofs.Spelled.{apart, spelled, spelling_is}
 use Rattle.cb_frames.specs.declared.frame.TheConstants.{LONGEST_PAYLOAD}
 use Rattle.cb_frames.specs.declared.frame.Change.{Change}
 use Rattle.cb_frames.specs.declared.frame.Range.{Range}
@@ -17,7 +17,7 @@ use Rattle.cb_frames.specs.Fields.{CastFields, StatusFields, RequestFields, Cast
 use Rattle.cb_frames.specs.Text.{cast_kind, status_kind, request_kind, SpellAll, pairs_from, ranges_from, cast_numbers, status_numbers, request_numbers, KeepsCastRules, KeepsStatusRules, KeepsRequestRules, text_of}
 use Rattle.cb_frames.specs.Fault.{Field, Number, Payload, Pairs, change_pairs, value_pairs, range_pairs, pairs_field, payload_field, end_field, cast_field, status_field, request_field, kind_fields, Accepts, Follows, IsWrong, FirstFaultOf, FirstFault}
 use Rattle.cb_frames.proofs.SaidPairs.{keeps_member, keeps_message, keeps_length, keeps_ranges, Says, says_changes, says_values, says_ranges, says_one}
-use Rattle.cb_frames.specs.Laws.{NoneBeginsAnother, OneText, OneFault, TextHasNoFault}
+use Rattle.cb_frames.specs.Laws.{NoneBeginsAnother, OneText, SomeText, OneFault, TextHasNoFault}
 
 -- ---- one number
 
@@ -332,3 +332,19 @@ unfolding text_of
 one_text (StatusFrame s) bytes f = f.1.2 ∙ ap (λ (t : List ℕ). status_kind ∷ t) (spelled_all (status_numbers s) f.1.0 f.1.1)
 one_text (RequestFrame r) bytes f = f.1.2 ∙ ap (λ (t : List ℕ). request_kind ∷ t) (spelled_all (request_numbers r) f.1.0 f.1.1)
 one_text (CastFrame c) bytes f = f.2.2 ∙ ap (λ (t : List ℕ). cast_kind ∷ t ++ c.payload) (spelled_all (cast_numbers c) f.2.0 f.2.1)
+
+-- ---- what can be written has its text
+
+all_spelled : (ns : List ℕ) → AllByRecursion (λ n. n < 2 ^ 32) ns → SpellAll ns (flat_map spelling ns)
+all_spelled [] small = refl
+all_spelled (n ∷ ns) small = (spelling n, flat_map spelling ns, spelled n small.0, all_spelled ns small.1, refl)
+
+all_small : (ns text : List ℕ) → SpellAll ns text → AllByRecursion (λ n. n < 2 ^ 32) ns
+all_small [] text s = tt
+all_small (n ∷ ns) text s = (s.2.fits, all_small ns s.1 s.3)
+
+pub some_text : SomeText
+unfolding text_of
+some_text (CastFrame c) = (λ t. (t.0, t.1, all_small (cast_numbers c) t.2.0 t.2.1), λ w. (w.0, w.1, (flat_map spelling (cast_numbers c), all_spelled (cast_numbers c) w.2, refl)))
+some_text (StatusFrame s) = (λ t. (t.0, omega arith, all_small (status_numbers s) t.1.0 t.1.1), λ w. (w.0, (flat_map spelling (status_numbers s), all_spelled (status_numbers s) w.2, refl)))
+some_text (RequestFrame r) = (λ t. (t.0, omega arith, all_small (request_numbers r) t.1.0 t.1.1), λ w. (w.0, (flat_map spelling (request_numbers r), all_spelled (request_numbers r) w.2, refl)))

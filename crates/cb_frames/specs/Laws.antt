@@ -1,8 +1,10 @@
 -- The laws of frames' texts.
-use Rattle.std.specs.Prelude.{◌≡◌, ℕ, ◌<◌, List, [], ◌++◌, ◌⊎◌, ◌↔◌, Ok, Err, slice_index}
+use Rattle.std.specs.Prelude.{◌≡◌, ℕ, ◌<◌, ◌≤◌, ◌^◌, List, [], ◌++◌, length, ◌⊎◌, ◌↔◌, Ok, Err, slice_index}
+use Rattle.std.specs.List.{AllByRecursion}
+use Rattle.cb_frames.specs.declared.frame.TheConstants.{LONGEST_PAYLOAD}
 use Rattle.cb_frames.specs.declared.fault.FrameFault.{FrameFault}
-use Rattle.cb_frames.specs.Fields.{FrameFields}
-use Rattle.cb_frames.specs.Text.{IsText, text_of}
+use Rattle.cb_frames.specs.Fields.{FrameFields, CastFrame, StatusFrame, RequestFrame}
+use Rattle.cb_frames.specs.Text.{IsText, KeepsRules, cast_numbers, status_numbers, request_numbers, payload_of, text_of}
 use Rattle.cb_frames.specs.Fault.{FirstFault}
 use Rattle.cb_frames.specs.Reading.{frame_at}
 
@@ -13,6 +15,18 @@ NoneBeginsAnother = (f g : FrameFields) (bytes more : List ℕ) → IsText f byt
 -- a frame has one text, which `text_of` names
 abbrev pub OneText : Type 0
 OneText = (f : FrameFields) (bytes : List ℕ) → IsText f bytes → bytes ≡ text_of f
+
+-- A frame has a text exactly where it keeps the rules, its payload's among them, and its numbers are below 2 ^ 32.
+abbrev pub numbers_of : FrameFields → List ℕ
+numbers_of (CastFrame c) = cast_numbers c
+numbers_of (StatusFrame s) = status_numbers s
+numbers_of (RequestFrame r) = request_numbers r
+
+abbrev pub CanBeWritten : FrameFields → Type 0
+CanBeWritten f = KeepsRules f × (length (payload_of f) ≤ LONGEST_PAYLOAD) × AllByRecursion (λ n. n < 2 ^ 32) (numbers_of f)
+
+abbrev pub SomeText : Type 0
+SomeText = (f : FrameFields) → IsText f (text_of f) ↔ CanBeWritten f
 
 -- bytes have one first fault at most, and none where they are a frame's text
 abbrev pub OneFault : Type 0

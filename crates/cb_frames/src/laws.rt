@@ -1,11 +1,13 @@
 //! The laws of texts and faults, as contracts of functions that do nothing.
 
-ghost use Rattle.cb_frames.specs.Laws.{NoneBeginsAnother, OneText, OneFault, TextHasNoFault, EachIsTextOrFault, ReadingIsExact};
+ghost use Rattle.cb_frames.specs.Laws.{NoneBeginsAnother, OneText, SomeText, OneFault, TextHasNoFault, EachIsTextOrFault, ReadingIsExact};
 
-/// No bytes are the text of two frames, no frame's text is a proper prefix of another's, and `text_of` names the text.
+/// No bytes are the text of two frames, no frame's text is a proper prefix of another's, and `text_of` names the text, which
+/// exists exactly where the rules are kept and no number is too large.
 pub fn one_text()
     ensures apart { NoneBeginsAnother }
     ensures named { OneText }
+    ensures exists { SomeText }
 {}
 
 /// Bytes are a frame's text, or have just one first fault. Reading from the left finds the one or the other.
