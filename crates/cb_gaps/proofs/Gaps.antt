@@ -1,0 +1,145 @@
+-- The gaps between casts of rising numbers.
+use Rattle.std.proofs.Common.{◌≡◌, ◌≢◌, ℕ, zero, suc, ◌+◌, ◌-◌, ◌<◌, ◌≤◌, ◌⊎◌, true, false, cond, ltb, min, List, [], ◌∷◌, ◌++◌, length, sym, ◌∙◌, subst, arith, None, append-nil, refl, inl, inr, All, Any}
+use Rattle.std.proofs.lemmas.Bool.{cases_lt}
+use Rattle.std.proofs.lemmas.Bool.Decides.{nat_tests}
+use Rattle.std.proofs.lemmas.List.Elements.{All-cons, All-weaker}
+use Rattle.std.proofs.lemmas.List.Kept.{AllPairs-cons}
+use Rattle.cb_frames.specs.declared.frame.Cast.{Cast}
+use Rattle.cb_frames.specs.declared.frame.Range.{Range}
+use Rattle.cb_gaps.specs.Ranges.{IsWithin, AreRangesOf, gap_between}
+use Rattle.cb_gaps.specs.Lists.{Rise, IsGap}
+use Rattle.cb_gaps.proofs.Entries.{found, found-before, tied-other, tied-same}
+
+-- the gaps from above `before`, up to `last`
+abbrev pub gaps_from : ℕ → ℕ → List Cast → List Range
+gaps_from before last [] = gap_between before last
+gaps_from before last (c ∷ casts) = gap_between before (min last (c.number - 1)) ++ gaps_from c.number last casts
+
+-- what the gaps are, over how a gap in front of ranges changes them
+record AreGaps (numbers : ℕ → Type 0) (before : ℕ) (ranges : List Range) : Type 0 where
+  are : AreRangesOf numbers ranges
+  later : All (λ r. before < r.first) ranges
+
+any_cons : (P : Range → Type 0) (r : Range) (ranges : List Range) → Any P ranges → Any P (r ∷ ranges)
+any_cons P r ranges (k, x, below, at, holds) = (suc k, x, omega arith, at, holds)
+
+any_cases : (P : Range → Type 0) (r : Range) (ranges : List Range) → Any P (r ∷ ranges) → P r ⊎ Any P ranges
+any_cases P r ranges (zero, x, below, at, holds) = inl (subst P (sym at) holds)
+any_cases P r ranges (suc k, x, below, at, holds) = inr (k, x, omega arith, at, holds)
+
+at_front : (P : Range → Type 0) (r : Range) (ranges : List Range) → P r → Any P (r ∷ ranges)
+at_front P r ranges holds = (0, r, omega arith, refl, holds)
+
+ltb-less : (a b : ℕ) → ltb a b ≡ true → a < b
+ltb-less a b e = grind (arith, nat_tests)
+
+ltb-not : (a b : ℕ) → ltb a b ≡ false → b ≤ a
+ltb-not a b e = grind (arith, nat_tests)
+
+-- a gap in front of ranges that begin above `middle`
+gap_in_front : (numbers rest : ℕ → Type 0) (before end middle : ℕ) (ranges : List Range) → AreGaps rest middle ranges
+    → before ≤ middle → end < middle
+    → ((n : ℕ) → numbers n → ((before < n) × (n ≤ end)) ⊎ rest n)
+    → ((n : ℕ) → before < n → n ≤ end → numbers n)
+    → ((n : ℕ) → rest n → numbers n)
+    → AreGaps numbers before (gap_between before end ++ ranges)
+gap_in_front numbers rest before end middle ranges gaps order below split in_gap in_rest =
+    let r : Range = record { first = before + 1; last = end } in
+    elim (ltb before end) as (λ b. ltb before end ≡ b → AreGaps numbers before (cond b (r ∷ []) [] ++ ranges)) [
+      | true ↦ λ e.
+          let some : before < end = ltb-less before end e in
+          record {
+            are = record {
+              exactly = λ n. (
+                λ any. elim (any_cases (IsWithin n) r ranges any) as (λ _. numbers n) [
+                  | inl within ↦ in_gap n (omega (arith, within.0)) within.1
+                  | inr later ↦ in_rest n ((gaps.are.exactly n).0 later)
+                ],
+                λ holds. elim (split n holds) as (λ _. Any (IsWithin n) (r ∷ ranges)) [
+                  | inl within ↦ at_front (IsWithin n) r ranges (omega (arith, within.0), within.1)
+                  | inr later ↦ any_cons (IsWithin n) r ranges ((gaps.are.exactly n).1 later)
+                ],
+              );
+              filled = All-cons (λ x. x.first ≤ x.last) r ranges (omega (arith, some)) gaps.are.filled;
+              apart = AllPairs-cons (λ x y. x.last + 2 ≤ y.first) r ranges
+                  (All-weaker (λ x. middle < x.first) (λ x. end + 2 ≤ x.first) (λ x h. omega (arith, h, below)) ranges gaps.later)
+                  gaps.are.apart;
+            };
+            later = All-cons (λ x. before < x.first) r ranges (omega arith)
+                (All-weaker (λ x. middle < x.first) (λ x. before < x.first) (λ x h. omega (arith, h, order)) ranges gaps.later);
+          }
+      | false ↦ λ e.
+          let none : end ≤ before = ltb-not before end e in
+          record {
+            are = record {
+              exactly = λ n. (
+                λ any. in_rest n ((gaps.are.exactly n).0 any),
+                λ holds. elim (split n holds) as (λ _. Any (IsWithin n) ranges) [
+                  | inl within ↦ absurd (omega (arith, within.0, within.1, none))
+                  | inr later ↦ (gaps.are.exactly n).1 later
+                ],
+              );
+              filled = gaps.are.filled;
+              apart = gaps.are.apart;
+            };
+            later = All-weaker (λ x. middle < x.first) (λ x. before < x.first) (λ x h. omega (arith, h, order)) ranges gaps.later;
+          }
+    ] refl
+
+none_in : (P : Range → Type 0) → Any P [] → ⊥
+none_in P (k, x, below, at, holds) = omega (arith, below)
+
+no_gaps : (middle : ℕ) → AreGaps (λ _. ⊥) middle []
+no_gaps middle = record {
+  are = record {
+    exactly = λ n. (λ any. none_in (IsWithin n) any, λ none. absurd none);
+    filled = λ k d below. absurd (omega (arith, below));
+    apart = λ i j d order below. absurd (omega (arith, below));
+  };
+  later = λ k d below. absurd (omega (arith, below));
+}
+
+not_this : (n : ℕ) (c : Cast) (casts : List Cast) → found n (c ∷ casts) ≡ None → n ≢ c.number
+not_this n c casts none e = let some = rw (tied-same n c.number e) at none in cc
+
+gaps : (before last : ℕ) (casts : List Cast) → Rise before casts → AreGaps (IsGap before last casts) before (gaps_from before last casts)
+gaps before last [] rise =
+    subst (λ (l : List Range). AreGaps (IsGap before last []) before l) (append-nil (gap_between before last))
+    (gap_in_front (IsGap before last []) (λ _. ⊥) before last (before + last + 1) [] (no_gaps (before + last + 1)) (omega arith) (omega arith)
+    (λ n gap. inl (gap.after, gap.upto))
+    (λ n after upto. record { after = after; upto = upto; not_kept = refl })
+    (λ n none. absurd none))
+gaps before last (c ∷ casts) rise =
+    gap_in_front (IsGap before last (c ∷ casts)) (IsGap c.number last casts) before (min last (c.number - 1)) c.number
+    (gaps_from c.number last casts) (gaps c.number last casts rise.1) (omega (arith, rise.0)) (omega (arith, rise.0))
+    (λ n gap.
+    let differs = not_this n c casts gap.not_kept in
+    elim (cases_lt n c.number) as (λ _. ((before < n) × (n ≤ min last (c.number - 1))) ⊎ IsGap c.number last casts n) [
+      | inl less ↦ inl (gap.after, omega (arith, less, gap.upto))
+      | inr more ↦ inr (record {
+        after = omega (arith, more, differs);
+        upto = gap.upto;
+        not_kept = rw (tied-other n c.number differs) at gap.not_kept;
+      })
+    ])
+    (λ n after upto. record {
+      after = after;
+      upto = omega (arith, upto);
+      not_kept = found-before n n (c ∷ casts) (omega (arith, upto, rise.0), rise.1) (omega arith);
+    })
+    (λ n gap. record {
+      after = omega (arith, gap.after, rise.0);
+      upto = gap.upto;
+      not_kept = rw (tied-other n c.number (λ e. absurd (omega (arith, e, gap.after)))) gap.not_kept;
+    })
+
+pub gaps_are : (before last : ℕ) (casts : List Cast) → Rise before casts → AreRangesOf (IsGap before last casts) (gaps_from before last casts)
+gaps_are before last casts rise = (gaps before last casts rise).are
+
+-- and so what a walk over all casts has made
+pub walked : (taken last before : ℕ) (casts rest : List Cast) (so_far all : List Range) → Rise taken casts → length rest ≡ 0
+    → so_far ++ gaps_from before last rest ≡ gaps_from taken last casts → all ≡ so_far ++ gap_between before last
+    → AreRangesOf (IsGap taken last casts) all
+walked taken last before casts [] so_far all rise done kept made =
+    subst (λ (l : List Range). AreRangesOf (IsGap taken last casts) l) (sym (made ∙ kept)) (gaps_are taken last casts rise)
+walked taken last before casts (c ∷ rest) so_far all rise done kept made = absurd (omega (arith, done))

@@ -1,0 +1,240 @@
+-- What the list of a buffer says of the buffer that it is.
+use Rattle.std.proofs.Common.{◌≡◌, ◌≢◌, ℕ, ◌+◌, ◌<◌, ◌≤◌, ◌^◌, Bool, true, false, cond, min, List, [], ◌∷◌, ◌++◌, length, sym, ◌∙◌, ap, subst, arith, Some, None, get_or, refl, inr, All}
+use Rattle.std.specs.Prelude.{Option, IsSome, IfSome, Any, insert}
+use Rattle.std.specs.Option.{option_to_list}
+use Rattle.std.specs.Ordering.{nat_cmp, eq_by_cmp}
+use Rattle.std.specs.Cmp.{nat_cmp_total}
+use Rattle.std.specs.FinMap as fin
+use Rattle.std.proofs.lemmas.List.{length-map}
+use Rattle.std.proofs.lemmas.List.Elements.{All-weaker, All-tail}
+use Rattle.std.proofs.lemmas.List.Edits.{length-insert}
+use Rattle.cb_frames.specs.declared.frame.Cast.{Cast}
+use Rattle.cb_frames.specs.declared.frame.Range.{Range}
+use Rattle.cb_frames.specs.Fields.{CastFields, cast_fields}
+use Rattle.cb_gaps.specs.Buffer.{IsNew, IsKept, IsReceived, IsLacking, IsNext, IsMissing, IsReorderBuffer}
+use Rattle.cb_gaps.specs.Ranges.{AreRangesOf}
+use Rattle.cb_gaps.specs.Lists.{entries_of, Rise, IsPlaceFor, IsGap, AreKept, buffer_of}
+use Rattle.cb_gaps.proofs.Entries.{found, tied-same, tied-true, sorted, found-before, found_cast, found_after, found_at, not_found_place, rise_insert, found-insert, all_insert, few}
+
+pub value_of : {A : Type 0} (o : Option A) → IsSome o → (x : A) × (o ≡ Some x)
+value_of None h = cc
+value_of (Some x) h = (x, refl)
+
+length-entries_of : (casts : List Cast) → length (entries_of casts) ≡ length casts
+length-entries_of casts = length-map casts (λ (c : Cast). let e : ℕ × CastFields = (c.number, cast_fields c) in e)
+
+-- the buffer has at a number what the list has
+pub get-kept : (window taken : ℕ) (casts : List Cast) → Rise taken casts → (number : ℕ)
+    → fin.get (buffer_of window taken casts).kept number ≡ found number casts
+get-kept window taken casts rise number = fin.get-from_sorted nat_cmp (entries_of casts) number (sorted taken casts rise)
+
+pub len-kept : (window taken : ℕ) (casts : List Cast) → Rise taken casts → fin.len (buffer_of window taken casts).kept ≡ length casts
+len-kept window taken casts rise =
+    fin.len-entries _ ∙ ap length (fin.entries-from_sorted nat_cmp (entries_of casts) (sorted taken casts rise)) ∙ length-entries_of casts
+
+module _ (window taken : ℕ) (casts : List Cast) (are : AreKept window taken casts) where
+  found_of_kept : (number : ℕ) (fields : CastFields) → fin.get (buffer_of window taken casts).kept number ≡ Some fields → found number casts ≡ Some fields
+  found_of_kept number fields h = sym (get-kept window taken casts are.rise number) ∙ h
+
+  -- a kept cast, and what is true of all casts
+  cast_of : (P : Cast → Type 0) → All P casts → (number : ℕ) → IsKept (buffer_of window taken casts) number
+      → (c : Cast) × (c.number ≡ number) × P c
+  cast_of P all number some =
+      let v = value_of (fin.get (buffer_of window taken casts).kept number) some in
+      let c = found_cast P number casts v.0 all (found_of_kept number v.0 v.1) in
+      (c.0, c.1, c.3)
+
+  -- no cast beyond the greatest number
+  pub none_beyond : (number : ℕ) → 2 ^ 32 ≤ number → fin.get (buffer_of window taken casts).kept number ≡ None
+  none_beyond number beyond =
+      elim (fin.get (buffer_of window taken casts).kept number)
+      as (λ o. fin.get (buffer_of window taken casts).kept number ≡ o → o ≡ None) [
+        | None ↦ λ _. refl
+        | (Some fields) ↦ λ h.
+            let c = found_cast (λ x. x.number < 2 ^ 32) number casts fields are.in_range (found_of_kept number fields h) in
+            absurd (omega (arith, beyond, c.1, c.3))
+      ] refl
+
+  pub is_reorder_buffer : IsReorderBuffer (buffer_of window taken casts)
+  is_reorder_buffer = record {
+    window_one_or_more = are.window_one_or_more;
+    window_at_most = are.window_at_most;
+    by_number = λ number fields h.
+        let c = found_cast (λ _. Unit {0}) number casts fields (λ _ _ _. tt) (found_of_kept number fields h) in
+        sym (ap (λ (f : CastFields). f.number) c.2) ∙ c.1;
+    not_taken = λ number some.
+        let v = value_of (fin.get (buffer_of window taken casts).kept number) some in
+        found_after number taken casts v.0 are.rise (found_of_kept number v.0 v.1);
+    near = λ number some. let c = cast_of (λ x. x.number < taken + window + 1) are.near number some in omega (arith, c.1, c.2);
+    in_range = λ number some. let c = cast_of (λ x. x.number < 2 ^ 32) are.in_range number some in omega (arith, c.1, c.2);
+    room = omega (arith, len-kept window taken casts are.rise, few taken (taken + window + 1) casts are.rise are.near (omega arith));
+  }
+
+pub new_keeps : (window : ℕ) → 1 ≤ window → window ≤ 256 → AreKept window 0 []
+new_keeps window one most = record {
+  window_one_or_more = one;
+  window_at_most = most;
+  rise = tt;
+  near = λ k d below. absurd (omega (arith, below));
+  in_range = λ k d below. absurd (omega (arith, below));
+}
+
+pub new_gives : (window : ℕ) → IsNew window (buffer_of window 0 [])
+new_gives window = record {
+  of_window = refl;
+  none_taken = refl;
+  none_kept = fin.same_map nat_cmp_total fin.nat_cmp-IsAntisymmetric _ _ (λ number.
+      get-kept window 0 [] tt number ∙ sym (fin.get-empty nat_cmp number));
+}
+
+-- the next cast is not kept where none is, and where the first kept one is a later one
+pub next-empty : (window taken : ℕ) (casts : List Cast) → AreKept window taken casts → length casts ≡ 0
+    → fin.get (buffer_of window taken casts).kept (taken + 1) ≡ None
+next-empty window taken [] are empty = get-kept window taken [] are.rise (taken + 1)
+next-empty window taken (c ∷ casts) are empty = absurd (omega (arith, empty))
+
+pub next-later : (window taken : ℕ) (casts : List Cast) (first : Cast) → AreKept window taken casts → 0 < length casts
+    → first ≡ get_or casts 0 first → first.number ≢ taken + 1
+    → fin.get (buffer_of window taken casts).kept (taken + 1) ≡ None
+next-later window taken [] first are some at later = absurd (omega arith)
+next-later window taken (c ∷ casts) first are some at later =
+    let number : first.number ≡ c.number = ap (λ (x : Cast). x.number) at in
+    let beyond : taken + 1 < c.number = omega (arith, are.rise.0, later, number) in
+    get-kept window taken (c ∷ casts) are.rise (taken + 1)
+    ∙ found-before (taken + 1) (taken + 1) (c ∷ casts) (beyond, are.rise.1) (omega arith)
+
+-- the first cast, where it is the next one, and those behind it
+module _ (window taken : ℕ) (first : Cast) (after : List Cast) (are : AreKept window taken (first ∷ after)) (next : first.number ≡ taken + 1) where
+  front_keeps : AreKept window first.number after
+  front_keeps = record {
+    window_one_or_more = are.window_one_or_more;
+    window_at_most = are.window_at_most;
+    rise = are.rise.1;
+    near = All-weaker (λ x. x.number < taken + window + 1) (λ x. x.number < first.number + window + 1) (λ x h. omega (arith, h, next)) after
+        (All-tail (λ x. x.number < taken + window + 1) first after are.near);
+    in_range = All-tail (λ x. x.number < 2 ^ 32) first after are.in_range;
+  }
+
+  front_is_next : IsNext (buffer_of window taken (first ∷ after)) (cast_fields first)
+  front_is_next = record {
+    follows = next;
+    kept = get-kept window taken (first ∷ after) are.rise first.number ∙ rw (tied-same first.number first.number refl) refl;
+  }
+
+  front_removed : (b : Bool) (number : ℕ) → eq_by_cmp nat_cmp number first.number ≡ b
+      → found number after ≡ cond b None (cond b (Some (cast_fields first)) (found number after))
+  front_removed true number e = found-before number first.number after are.rise.1 (omega (arith, tied-true number first.number e))
+  front_removed false number e = refl
+
+  front_taken : buffer_of window first.number after
+      ≡ record {
+        window = window;
+        taken = first.number;
+        kept = fin.remove (buffer_of window taken (first ∷ after)).kept first.number;
+      }
+  front_taken =
+      let same : (buffer_of window first.number after).kept ≡ fin.remove (buffer_of window taken (first ∷ after)).kept first.number =
+      fin.same_map nat_cmp_total fin.nat_cmp-IsAntisymmetric _ _ (λ number.
+      get-kept window first.number after are.rise.1 number
+      ∙ front_removed (eq_by_cmp nat_cmp number first.number) number refl
+      ∙ ap (cond (eq_by_cmp nat_cmp number first.number) None) (sym (get-kept window taken (first ∷ after) are.rise number))
+      ∙ sym (fin.get-remove nat_cmp_total (buffer_of window taken (first ∷ after)).kept first.number number)) in
+      ap (λ (k : fin.FinMap nat_cmp CastFields). record { window = window; taken = first.number; kept = k }) same
+
+-- what comes out at the front
+module _ (window taken : ℕ) (casts after : List Cast) (first : Cast) (are : AreKept window taken casts)
+    (at : first ≡ get_or casts 0 first) (next : first.number ≡ taken + 1) where
+  number_of : (x : Cast) → casts ≡ x ∷ after → x.number ≡ taken + 1
+  number_of x e =
+      let same : first ≡ x = at ∙ ap (λ l. get_or l 0 first) e in
+      sym (ap (λ (c : Cast). c.number) same) ∙ next
+
+  here : (x : Cast) → casts ≡ x ∷ after → AreKept window taken (x ∷ after)
+  here x e = subst (λ (l : List Cast). AreKept window taken l) e are
+
+  pub pop_keeps : (popped : Option Cast) → IsSome popped → casts ≡ option_to_list popped ++ after → AreKept window (taken + 1) after
+  pop_keeps None some e = cc
+  pop_keeps (Some x) some e =
+      subst (λ (n : ℕ). AreKept window n after) (number_of x e) (front_keeps window taken x after (here x e) (number_of x e))
+
+  pub pop_next : (popped : Option Cast) → casts ≡ option_to_list popped ++ after
+      → IfSome popped (λ x. IsNext (buffer_of window taken casts) (cast_fields x))
+  pop_next None e = tt
+  pop_next (Some x) e =
+      subst (λ (l : List Cast). IsNext (buffer_of window taken l) (cast_fields x)) (sym e)
+      (front_is_next window taken x after (here x e) (number_of x e))
+
+  pub pop_taken : (popped : Option Cast) → casts ≡ option_to_list popped ++ after
+      → IfSome popped (λ x. buffer_of window (taken + 1) after
+      ≡ record { window = window; taken = x.number; kept = fin.remove (buffer_of window taken casts).kept x.number })
+  pop_taken None e = tt
+  pop_taken (Some x) e =
+      subst
+      (λ (l : List Cast). buffer_of window (taken + 1) after
+      ≡ record { window = window; taken = x.number; kept = fin.remove (buffer_of window taken l).kept x.number }) (sym e)
+      (subst
+      (λ (n : ℕ). buffer_of window n after
+      ≡ record { window = window; taken = x.number; kept = fin.remove (buffer_of window taken (x ∷ after)).kept x.number }) (number_of x e)
+      (front_taken window taken x after (here x e) (number_of x e)))
+
+-- a cast that came
+module _ (window taken : ℕ) (casts : List Cast) (are : AreKept window taken casts) (number : ℕ) where
+  pub is_received : Any (λ (c : Cast). c.number ≡ number) casts → IsReceived (buffer_of window taken casts) number
+  is_received (k, x, below, at, same) =
+      inr (subst (λ (o : Option CastFields). IsSome o) (sym (get-kept window taken casts are.rise number))
+      (found_at number casts k x below (ap (λ (c : Cast). c.number) at ∙ same)))
+
+  pub is_lacking : (place : ℕ) → taken < number → IsPlaceFor number casts place → IsLacking (buffer_of window taken casts) number
+  is_lacking place later is = record {
+    not_taken = later;
+    not_kept = get-kept window taken casts are.rise number ∙ not_found_place number place casts is;
+  }
+
+module _ (window taken : ℕ) (casts : List Cast) (are : AreKept window taken casts) (place delivered : ℕ) (c : Cast)
+    (is : IsPlaceFor c.number casts place) (later : taken < c.number) (fits : c.number < 2 ^ 32)
+    (order : delivered ≤ taken) (near : c.number ≤ delivered + window) where
+  pub keep_keeps : AreKept window taken (insert casts place c)
+  keep_keeps = record {
+    window_one_or_more = are.window_one_or_more;
+    window_at_most = are.window_at_most;
+    rise = rise_insert casts place c is taken are.rise later;
+    near = all_insert casts place c is (λ x. x.number < taken + window + 1) are.near (omega (arith, order, near));
+    in_range = all_insert casts place c is (λ x. x.number < 2 ^ 32) are.in_range fits;
+  }
+
+  pub keep_room : length casts < window
+  keep_room =
+      let all = few taken (taken + window + 1) (insert casts place c) keep_keeps.rise keep_keeps.near (omega arith) in
+      omega (arith, all, length-insert casts place c is.within)
+
+  pub keep_gives : buffer_of window taken (insert casts place c)
+      ≡ record { window = window; taken = taken; kept = fin.insert (buffer_of window taken casts).kept c.number (cast_fields c) }
+  keep_gives =
+      let same : (buffer_of window taken (insert casts place c)).kept ≡ fin.insert (buffer_of window taken casts).kept c.number (cast_fields c) =
+      fin.same_map nat_cmp_total fin.nat_cmp-IsAntisymmetric _ _ (λ number.
+      get-kept window taken (insert casts place c) keep_keeps.rise number
+      ∙ found-insert casts place c is number
+      ∙ ap (cond (eq_by_cmp nat_cmp number c.number) (Some (cast_fields c))) (sym (get-kept window taken casts are.rise number))
+      ∙ sym (fin.get-insert nat_cmp_total (buffer_of window taken casts).kept c.number (cast_fields c) number)) in
+      ap (λ (k : fin.FinMap nat_cmp CastFields). record { window = window; taken = taken; kept = k }) same
+
+-- the numbers missing are the gaps up to the limit
+pub missing_are : (window taken : ℕ) (casts : List Cast) (are : AreKept window taken casts) (delivered known last : ℕ) (ranges : List Range)
+    → last ≡ min known (delivered + window) → AreRangesOf (IsGap taken last casts) ranges
+    → AreRangesOf (IsMissing (buffer_of window taken casts) delivered known) ranges
+missing_are window taken casts are delivered known last ranges limit gaps = record {
+  exactly = λ n. (
+    λ any. let gap = (gaps.exactly n).0 any in record {
+      lacking = record { not_taken = gap.after; not_kept = get-kept window taken casts are.rise n ∙ gap.not_kept };
+      heard_of = omega (arith, gap.upto, limit);
+      in_window = omega (arith, gap.upto, limit);
+    },
+    λ missing. (gaps.exactly n).1 (record {
+      after = missing.lacking.not_taken;
+      upto = omega (arith, missing.heard_of, missing.in_window, limit);
+      not_kept = sym (get-kept window taken casts are.rise n) ∙ missing.lacking.not_kept;
+    }),
+  );
+  filled = gaps.filled;
+  apart = gaps.apart;
+}

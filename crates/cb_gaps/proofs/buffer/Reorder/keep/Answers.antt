@@ -1,0 +1,55 @@
+use Rattle.std.proofs.Common.{◌^◌, ◌<◌, ◌≤◌, arith}
+use Rattle.cb_gaps.proofs.Entries.{rise_from}
+use Rattle.cb_gaps.proofs.Kept.{is_received, is_lacking, keep_room, keep_keeps, keep_gives}
+use Rattle.cb_gaps.proofs.buffer.Reorder.keep.Goals as goal
+
+pub place_for-requires : goal.place_for-requires
+place_for-requires c = rise_from c.self.inside.taken 0 c.self.inside.kept.items (omega arith) c.self.invariant.0.rise
+
+pub returns-in_default-clause-answer : goal.returns-in_default-clause-answer
+returns-in_default-clause-answer c =
+    rw (← c.self.view_is)
+    (is_received c.self.inside.window c.self.inside.taken c.self.inside.kept.items c.self.invariant.0 c.args.cast.number c.in_default.ensures)
+
+pub returns-then-number-saturating_add-clause-answer : goal.returns-then-number-saturating_add-clause-answer
+returns-then-number-saturating_add-clause-answer c =
+    let fits : c.args.cast.number < 2 ^ 32 = omega arith in
+    rw (← c.self.view_is) (
+      is_lacking c.self.inside.window c.self.inside.taken c.self.inside.kept.items c.self.invariant.0 c.args.cast.number c.in-Some.place
+          c.if-number-self.false c.in-Some.ensures,
+      omega (arith, fits, c.if-number-saturating_add.true, c.saturating_add.ensures),
+    )
+
+pub put-requires-clause-room : goal.put-requires-clause-room
+put-requires-clause-room c =
+    let fits : c.args.cast.number < 2 ^ 32 = omega arith in
+    let order : c.args.delivered ≤ c.self.inside.taken = rw (← c.self.view_is) at c.requires in
+    let room = keep_room c.self.inside.window c.self.inside.taken c.self.inside.kept.items c.self.invariant.0 c.in-Some.place c.args.delivered
+    c.args.cast c.in-Some.ensures c.if-number-self.false fits order (omega (arith, c.if-number-saturating_add.false, c.saturating_add.ensures)) in
+    omega (arith, room, c.self.invariant.1, c.self.inside.kept.ok.0)
+
+pub invariant_of-self : goal.invariant_of-self
+invariant_of-self c =
+    let fits : c.args.cast.number < 2 ^ 32 = omega arith in
+    let order : c.args.delivered ≤ c.self.inside.taken = rw (← c.self.view_is) at c.requires in (
+      rw c.put.ensures.items
+          (keep_keeps c.self.inside.window c.self.inside.taken c.self.inside.kept.items c.self.invariant.0 c.in-Some.place c.args.delivered
+          c.args.cast c.in-Some.ensures c.if-number-self.false fits order (omega (arith, c.if-number-saturating_add.false, c.saturating_add.ensures))),
+      omega (arith, c.put.ensures.capacity, c.self.invariant.1),
+    )
+
+pub returns-clause-answer : goal.returns-clause-answer
+returns-clause-answer c =
+    rw (← c.self.view_is) (
+      is_lacking c.self.inside.window c.self.inside.taken c.self.inside.kept.items c.self.invariant.0 c.args.cast.number c.in-Some.place
+          c.if-number-self.false c.in-Some.ensures,
+      omega (arith, c.if-number-saturating_add.false, c.saturating_add.ensures),
+    )
+
+pub returns-clause-after : goal.returns-clause-after
+returns-clause-after c =
+    let fits : c.args.cast.number < 2 ^ 32 = omega arith in
+    let order : c.args.delivered ≤ c.self.inside.taken = rw (← c.self.view_is) at c.requires in
+    rw (← c.self.view_is, c.put.ensures.items)
+    (keep_gives c.self.inside.window c.self.inside.taken c.self.inside.kept.items c.self.invariant.0 c.in-Some.place c.args.delivered
+    c.args.cast c.in-Some.ensures c.if-number-self.false fits order (omega (arith, c.if-number-saturating_add.false, c.saturating_add.ensures)))

@@ -1,0 +1,86 @@
+-- What a reorder buffer holds of the casts of one sender.
+use Rattle.std.specs.Prelude.{◌≡◌, ℕ, ◌+◌, ◌<◌, ◌≤◌, ◌^◌, ◌⊎◌, List, Some, None, IsSome, refl}
+use Rattle.std.specs.Ordering.{nat_cmp}
+use Rattle.std.specs.Coded.{Coded, code_by, coded×, coded_list, coded_ℕ}
+use Rattle.std.specs.FinMap as map
+use Rattle.cb_frames.specs.declared.frame.Change.{Change}
+use Rattle.cb_frames.specs.Fields.{CastFields}
+use Rattle.cb_gaps.specs.declared.buffer.Keeping.{Keeping}
+use Rattle.cb_gaps.specs.declared.buffer.Keeping.TheVariants.{Kept, Repeat, TooFar}
+
+-- how far ahead casts are accepted, how many were taken, and the casts kept, each by its number
+pub record Buffer : Type 0 where
+  pub window : ℕ
+  pub taken : ℕ
+  pub kept : map.FinMap nat_cmp CastFields
+
+-- a buffer that was just made
+pub record IsNew (window : ℕ) (buffer : Buffer) : Type 0 where
+  pub of_window : buffer.window ≡ window
+  pub none_taken : buffer.taken ≡ 0
+  pub none_kept : buffer.kept ≡ map.empty
+
+abbrev pub IsKept : Buffer → ℕ → Type 0
+IsKept buffer number = IsSome (map.get buffer.kept number)
+
+-- the cast of this number was taken, or is kept
+abbrev pub IsReceived : Buffer → ℕ → Type 0
+IsReceived buffer number = (number ≤ buffer.taken) ⊎ IsKept buffer number
+
+-- and neither of the two
+pub record IsLacking (buffer : Buffer) (number : ℕ) : Type 0 where
+  pub not_taken : buffer.taken < number
+  pub not_kept : map.get buffer.kept number ≡ None
+
+-- the number is one that the window admits after so many delivered casts
+abbrev pub IsInWindow : Buffer → ℕ → ℕ → Type 0
+IsInWindow buffer delivered number = number ≤ delivered + buffer.window
+
+-- the answer for a cast of this number; exactly one of the three holds
+abbrev pub IsAnswer : Buffer → ℕ → ℕ → Keeping → Type 0
+IsAnswer buffer delivered number Kept = IsLacking buffer number × IsInWindow buffer delivered number
+IsAnswer buffer delivered number Repeat = IsReceived buffer number
+IsAnswer buffer delivered number TooFar = IsLacking buffer number × (delivered + buffer.window < number)
+
+-- what an answer does to the buffer
+abbrev pub IsAfter : Buffer → CastFields → Keeping → Buffer → Type 0
+IsAfter old cast Kept new = new ≡ record old { kept = map.insert old.kept cast.number cast }
+IsAfter old cast Repeat new = new ≡ old
+IsAfter old cast TooFar new = new ≡ old
+
+-- the cast that follows the last one taken, where it is kept
+pub record IsNext (buffer : Buffer) (cast : CastFields) : Type 0 where
+  pub follows : cast.number ≡ buffer.taken + 1
+  pub kept : map.get buffer.kept cast.number ≡ Some cast
+
+-- a number that the sender is known to have used and that has not come
+pub record IsMissing (buffer : Buffer) (delivered known number : ℕ) : Type 0 where
+  pub lacking : IsLacking buffer number
+  pub heard_of : number ≤ known
+  pub in_window : IsInWindow buffer delivered number
+
+-- what is true of every buffer
+pub record IsReorderBuffer (buffer : Buffer) : Type 0 where
+  pub window_one_or_more : 1 ≤ buffer.window
+  pub window_at_most : buffer.window ≤ 256
+  pub by_number : (number : ℕ) (cast : CastFields) → map.get buffer.kept number ≡ Some cast → cast.number ≡ number
+  pub not_taken : (number : ℕ) → IsKept buffer number → buffer.taken < number
+  pub near : (number : ℕ) → IsKept buffer number → number ≤ buffer.taken + buffer.window
+  pub in_range : (number : ℕ) → IsKept buffer number → number < 2 ^ 32
+  pub room : map.len buffer.kept ≤ buffer.window
+
+-- how a buffer is stored: its fields as pairs
+abbrev pub change_code : Coded Change
+change_code = code_by (ℕ × ℕ) (coded× coded_ℕ coded_ℕ) (λ c. (c.field, c.amount)) (λ p. record { field = p.0; amount = p.1 }) (λ _. refl)
+
+abbrev pub cast_code : Coded CastFields
+cast_code =
+    code_by (ℕ × (ℕ × (ℕ × (List Change × List ℕ))))
+    (coded× coded_ℕ (coded× coded_ℕ (coded× coded_ℕ (coded× (coded_list change_code) (coded_list coded_ℕ)))))
+    (λ c. (c.group, (c.sender, (c.number, (c.changes, c.payload)))))
+    (λ p. record { group = p.0; sender = p.1.0; number = p.1.1.0; changes = p.1.1.1.0; payload = p.1.1.1.1 }) (λ _. refl)
+
+abbrev pub buffer_code : Coded Buffer
+buffer_code =
+    code_by (ℕ × (ℕ × map.FinMap nat_cmp CastFields)) (coded× coded_ℕ (coded× coded_ℕ (map.code coded_ℕ cast_code)))
+    (λ b. (b.window, (b.taken, b.kept))) (λ p. record { window = p.0; taken = p.1.0; kept = p.1.1 }) (λ _. refl)

@@ -1,0 +1,4 @@
+pub mod Buffer
+pub mod Ranges
+pub mod Lists
+pub mod Request

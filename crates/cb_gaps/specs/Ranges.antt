@@ -1,0 +1,18 @@
+-- Sets of numbers as ranges.
+use Rattle.std.specs.Prelude.{ℕ, ◌+◌, ◌≤◌, ◌↔◌, nat_lt, if◌then◌else◌, List, [], ◌∷◌, Any, All, AllPairs}
+use Rattle.cb_frames.specs.declared.frame.Range.{Range}
+
+-- the number is one of the range, both ends of which are in it
+abbrev pub IsWithin : ℕ → Range → Type 0
+IsWithin number range = (range.first ≤ number) × (number ≤ range.last)
+
+-- the ranges of these numbers: each number of the set stands in one, and no other number does.
+-- They rise, none is empty, and between each two some number is missing from the set.
+pub record AreRangesOf (numbers : ℕ → Type 0) (ranges : List Range) : Type 0 where
+  pub exactly : (number : ℕ) → Any (IsWithin number) ranges ↔ numbers number
+  pub filled : All (λ range. range.first ≤ range.last) ranges
+  pub apart : AllPairs (λ earlier later. earlier.last + 2 ≤ later.first) ranges
+
+-- the numbers above `before`, up to `last`, as one range or none
+abbrev pub gap_between : ℕ → ℕ → List Range
+gap_between before last = if nat_lt before last then record { first = before + 1; last = last } ∷ [] else []

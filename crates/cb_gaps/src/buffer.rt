@@ -1,0 +1,191 @@
+//! The reorder buffer: the casts of one sender that came before those in front of them.
+ghost use Rattle.std.specs.Prelude.{◌≡◌, ◌+◌, ◌<◌, ◌≤◌, ◌++◌, None, Any, MatchOption, IfOk, IfSome, IfNone, OnOk, insert};
+ghost use Rattle.std.specs.FinMap as map;
+ghost use Rattle.std.specs.VecDeque.{deque_len, deque_capacity};
+ghost use Rattle.cb_frames.specs.Fields.{cast_fields};
+ghost use Rattle.cb_gaps.specs.Buffer.{IsNew, IsAnswer, IsAfter, IsNext, IsMissing, IsReorderBuffer};
+ghost use Rattle.cb_gaps.specs.Ranges.{AreRangesOf, gap_between};
+ghost use Rattle.cb_gaps.specs.Lists.{Rise, IsGap, IsPlaceFor};
+
+use cb_frames::{Cast, Range};
+use cb_times::NoMemory;
+use std::alloc::Global;
+use std::collections::VecDeque;
+use std::marker::Model;
+
+/// What became of a cast that came.
+#[derive(Clone, Copy, Debug, PartialEq, Eq, Hash)]
+pub enum Keeping {
+    /// It is kept until those before it came.
+    Kept,
+    /// It was taken before, or is kept already.
+    Repeat,
+    /// Its number is beyond the window.
+    TooFar,
+}
+
+/// The casts of one sender that came and wait for those before them.
+///
+/// Make one for each other sender; nothing here looks at who the sender of a cast is. A cast that came is given to `keep`,
+/// with how many casts of the sender are delivered. Then:
+///
+/// ```text
+/// while let Some(cast) = reorder.take_next() {
+///     // the sender's next cast, with none missing before it
+/// }
+/// ```
+///
+/// `missing` names the numbers that have not come, for a request. `new` reserves all places, and `missing` takes memory for
+/// its answer.
+#[derive(Debug, Drop)]
+pub struct Reorder {
+    /// How far above the delivered casts a number may be, 1 to 256.
+    window: u32,
+    /// How many casts were taken, which is the number of the last one.
+    taken: u32,
+    /// By rising numbers, all above `taken`; room for `window` of them.
+    kept: VecDeque<Cast>,
+}
+
+impl Model for Reorder {
+    ghost use Rattle.std.specs.Prelude.{◌≤◌};
+    ghost use Rattle.std.specs.VecDeque.{deque_capacity};
+    ghost use Rattle.cb_gaps.specs.Buffer.{Buffer, buffer_code};
+    ghost use Rattle.cb_gaps.specs.Lists.{AreKept, buffer_of};
+
+    ghost Value = { Buffer };
+
+    ghost coded = { buffer_code };
+
+    ghost view = { λ reorder. buffer_of reorder.window reorder.taken reorder.kept.items };
+
+    ghost invariant = { λ reorder. AreKept reorder.window reorder.taken reorder.kept.items
+        × (reorder.window ≤ deque_capacity reorder.kept) };
+}
+
+impl Reorder {
+    /// A buffer of which no cast was taken and none is kept, with a window of 1 to 256 casts.
+    pub fn new(alloc: Global, window: u32) -> Result<Reorder, NoMemory>
+        requires one_or_more { 1 ≤ window }
+        requires at_most { window ≤ 256 }
+        ensures { IfOk result (IsNew window) }
+    {
+        let kept = VecDeque::with_capacity(alloc, window as usize)?;
+        Ok(Reorder {
+            window,
+            taken: 0,
+            kept,
+        })
+    }
+
+    /// How many casts were taken, which is also the number of the last one.
+    pub fn taken(&self) -> u32
+        ensures taken { result ≡ self.now.taken }
+        ensures buffer { IsReorderBuffer self.now }
+    {
+        self.taken
+    }
+
+    /// Keeps a cast that came until those before it came; `delivered` of the sender's casts are delivered, at most as many
+    /// as were taken.
+    ///
+    /// A number that was taken, and one that is kept, is a repeat, wherever it lies; number 0 is one too. Any other is kept
+    /// where it is at most the window above `delivered`, and else too far. Only a cast that is kept changes the buffer.
+    pub fn keep(&mut self, delivered: u32, cast: Cast) -> Keeping
+        requires { delivered ≤ self.old.taken }
+        ensures answer { IsAnswer self.old delivered cast.number result }
+        ensures after { IsAfter self.old (cast_fields cast) result self.new }
+    {
+        let number = cast.number;
+        if number <= self.taken {
+            return Keeping::Repeat;
+        }
+        let Some(place) = place_for(&self.kept, number) else {
+            return Keeping::Repeat;
+        };
+        if number > delivered.saturating_add(self.window) {
+            return Keeping::TooFar;
+        }
+        put(&mut self.kept, place, cast);
+        Keeping::Kept
+    }
+
+    /// Takes out the cast that follows the last one taken, where it is kept.
+    ///
+    /// `None` where it is not; the buffer is then unchanged. None follows number 4,294,967,295.
+    pub fn take_next(&mut self) -> Option<Cast>
+        ensures next { IfSome result (λ cast. IsNext self.old (cast_fields cast)) }
+        ensures taken { IfSome result (λ cast. self.new ≡ record self.old { taken = cast.number; kept = map.remove self.old.kept cast.number }) }
+        ensures none { IfNone result (map.get self.old.kept (self.old.taken + 1) ≡ None) }
+        ensures same { IfNone result (self.new ≡ self.old) }
+    {
+        let next = self.taken.checked_add(1)?;
+        if self.kept.front()?.number != next {
+            return None;
+        }
+        self.taken = next;
+        self.kept.pop_front()
+    }
+
+    /// The numbers that are neither taken nor kept, up to `known`, the greatest number of the sender that was heard of, and
+    /// to the window above `delivered`.
+    ///
+    /// They come as ranges in rising order that neither touch nor overlap; none is missing where the list is empty. The work
+    /// grows with the casts that are kept, and not with how many numbers are missing. Any two numbers will do.
+    pub fn missing(&self, delivered: u32, known: u32) -> Result<Vec<Range>, NoMemory>
+        ensures { IfOk result (λ ranges. AreRangesOf (IsMissing self.now delivered known) ranges.items) }
+    {
+        let last = known.min(delivered.saturating_add(self.window));
+        gaps(*self.kept.allocator(), &self.kept, self.taken, last)
+    }
+}
+
+// where a cast of this number is to stand, unless one of that number stands there
+fn place_for(kept: &VecDeque<Cast>, number: u32) -> Option<usize>
+    requires { Rise 0 kept.now.items }
+    ensures { MatchOption result (Any (λ cast. cast.number ≡ number) kept.now.items)
+        (IsPlaceFor number kept.now.items) }
+{
+    kept.binary_search_by_key(&number, |cast| cast.number).err()
+}
+
+fn put(kept: &mut VecDeque<Cast>, place: usize, cast: Cast)
+    requires place { place ≤ deque_len kept.old }
+    requires room { deque_len kept.old < deque_capacity kept.old }
+    ensures items { kept.new.items ≡ insert kept.old.items place cast }
+    ensures capacity { deque_capacity kept.old ≤ deque_capacity kept.new }
+{
+    let Ok(()) = kept.insert(place, cast) else {
+        unreachable!("there is room")
+    };
+}
+
+// the numbers above `taken`, up to `last`, that are not kept
+fn gaps(alloc: Global, kept: &VecDeque<Cast>, taken: u32, last: u32) -> Result<Vec<Range>, NoMemory>
+    requires { Rise taken kept.now.items }
+    ensures { IfOk result (λ ranges. AreRangesOf (IsGap taken last kept.now.items) ranges.items) }
+{
+    let mut ranges = Vec::new(alloc);
+    let mut before = taken;
+    for cast in kept {
+        push_gap(&mut ranges, before, last.min(cast.number - 1))?;
+        before = cast.number;
+    }
+    push_gap(&mut ranges, before, last)?;
+    Ok(ranges)
+}
+
+fn push_gap(ranges: &mut Vec<Range>, before: u32, last: u32) -> Result<(), NoMemory>
+    ensures { OnOk result (ranges.new.items ≡ ranges.old.items ++ gap_between before last) }
+{
+    if before < last {
+        ranges.push(Range {
+            first: before + 1,
+            last,
+        })?;
+    }
+    Ok(())
+}
+
+#[cfg(test)]
+mod tests;

@@ -1,0 +1,5 @@
+pub mod Least
+pub mod Unknown
+pub mod Entries
+pub mod Windows
+pub mod Found

@@ -1,0 +1,5 @@
+use Rattle.cb_stability.proofs.Windows.{fresh_window}
+use Rattle.cb_stability.proofs.window.SentWindow.new.Goals as goal
+
+pub returns : goal.returns
+returns c = fresh_window c.args.window c.in_ok-frames.frames.items c.in_ok-frames.ensures.items

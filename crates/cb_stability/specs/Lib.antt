@@ -1,0 +1,5 @@
+pub mod Known
+pub mod Rows
+pub mod Ranges
+pub mod Sent
+pub mod Numbered

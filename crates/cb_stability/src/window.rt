@@ -1,0 +1,171 @@
+//! The window of a member's own frames that are not stable yet: a queue in the order of their numbers.
+ghost use Rattle.std.specs.Prelude.{◌≡◌, ◌+◌, ◌^◌, ◌<◌, ◌≤◌, [], ◌∷◌, ◌++◌, length, drop, nat_lt, if◌then◌else◌, IfOk, OnOk};
+ghost use Rattle.std.specs.FinMap as map;
+ghost use Rattle.std.specs.VecDeque.{deque_len, deque_capacity};
+ghost use Rattle.cb_stability.specs.Ranges.{is_in_some};
+ghost use Rattle.cb_stability.specs.Sent.{IsFresh, IsSentWindow, room_of, frames_in};
+ghost use Rattle.cb_stability.specs.Numbered.{numbered_after, first_in};
+
+use bytes::Bytes;
+use cb_frames::Range;
+use cb_times::NoMemory;
+use std::alloc::Global;
+use std::collections::VecDeque;
+use std::marker::Model;
+
+/// The most frames of one answer.
+const MOST_FRAMES: usize = 64;
+
+/// The frames that a member sent and may have to send again.
+///
+/// Each frame of an own cast is given to `put`, in the order of the casts' numbers, where there is `room`. Once casts are
+/// stable their frames are let go of by `trim`. Where another member asks for casts, `frames_in` gives their frames.
+/// `new` reserves the places for all frames that are kept at once, and only it and `frames_in` take memory.
+#[derive(Debug, Drop)]
+pub struct SentWindow {
+    /// How many frames are kept at most, 1 to 256.
+    window: u32,
+    /// How many frames were put so far, so the number of the last one.
+    put: u32,
+    /// The last of these, those that were not trimmed. Places are reserved for a full window.
+    frames: VecDeque<Bytes>,
+}
+
+impl Model for SentWindow {
+    ghost use Rattle.std.specs.Prelude.{◌≤◌};
+    ghost use Rattle.std.specs.VecDeque.{deque_capacity};
+    ghost use Rattle.cb_stability.specs.Sent.{Sent, sent_code};
+    ghost use Rattle.cb_stability.specs.Numbered.{AreFrames, sent_of};
+
+    ghost Value = { Sent };
+
+    ghost coded = { sent_code };
+
+    ghost view = { λ sent. sent_of sent.window sent.put sent.frames.items };
+
+    ghost invariant = { λ sent. AreFrames sent.window sent.put sent.frames.items
+        × (sent.window ≤ deque_capacity sent.frames) };
+}
+
+impl SentWindow {
+    /// An empty window with places for `window` frames; none was put yet. It fails only for want of memory.
+    pub fn new(alloc: Global, window: u32) -> Result<SentWindow, NoMemory>
+        requires window_one_or_more { 1 ≤ window }
+        requires window_at_most { window ≤ 256 }
+        ensures { IfOk result (IsFresh window) }
+    {
+        let frames = VecDeque::with_capacity(alloc, window as usize)?;
+        Ok(SentWindow {
+            window,
+            put: 0,
+            frames,
+        })
+    }
+
+    /// Keeps a frame under the next number: the first frame put has number 1. All other frames stay.
+    ///
+    /// There must be `room`.
+    pub fn put(&mut self, frame: Bytes)
+        requires { 0 < room_of self.old }
+        ensures { let number = self.old.put + 1 in
+            self.new ≡ record self.old { put = number; kept = map.insert self.old.kept number frame } }
+    {
+        self.frames.push_back_reserved(frame);
+        self.put += 1;
+    }
+
+    /// Lets go of the frames with numbers up to `last`, this one included.
+    ///
+    /// Numbers that were trimmed before or never put are no fault: past the end it empties the window, and the next frame
+    /// put still gets the number after the last one put.
+    pub fn trim(&mut self, last: u32)
+        ensures { self.new
+            ≡ record self.old { kept = map.retain_keys self.old.kept (λ number. nat_lt last number) } }
+    {
+        let trimmed = self.put - self.frames.len() as u32;
+        let count = last.saturating_sub(trimmed) as usize;
+        let_go(&mut self.frames, count);
+    }
+
+    /// The frames that are kept with numbers in some of these ranges, each once, byte for byte as they were put.
+    ///
+    /// They come in rising order of the number, the first 64 of them where there are more. Ranges may overlap, come in any
+    /// order, be empty, or name numbers that are not kept. It fails only for want of memory. The window stays as it is.
+    pub fn frames_in(&self, ranges: &[Range]) -> Result<Vec<Bytes>, NoMemory>
+        ensures { IfOk result (λ frames. frames.items ≡ frames_in ranges.now self.now) }
+    {
+        let trimmed = self.put - self.frames.len() as u32;
+        copies_in(*self.frames.allocator(), &self.frames, trimmed, ranges)
+    }
+
+    /// How many places are left: the window less the frames kept, but 0 once number 4,294,967,295 was given.
+    ///
+    /// A frame can be put where this is not 0.
+    pub fn room(&self) -> u32
+        ensures room { result ≡ room_of self.now }
+        ensures window { IsSentWindow self.now }
+    {
+        if self.put == u32::MAX {
+            0
+        } else {
+            self.window - self.frames.len() as u32
+        }
+    }
+}
+
+// The oldest frames go, so many or all that there are.
+fn let_go(frames: &mut VecDeque<Bytes>, count: usize)
+    ensures items { frames.new.items ≡ drop count frames.old.items }
+    ensures capacity { deque_capacity frames.new ≡ deque_capacity frames.old }
+{
+    let count = count.min(frames.len());
+    frames.drain(..count);
+}
+
+// Of the frames with the numbers after those trimmed, the first in some range.
+fn copies_in(
+    alloc: Global,
+    frames: &VecDeque<Bytes>,
+    trimmed: u32,
+    ranges: &[Range],
+) -> Result<Vec<Bytes>, NoMemory>
+    requires { trimmed + length frames.now.items < 2 ^ 32 }
+    ensures { IfOk result (λ copies.
+        copies.items ≡ first_in ranges.now (numbered_after trimmed frames.now.items)) }
+{
+    let mut copies = Vec::new(alloc);
+    for (k, frame) in frames.iter().enumerate() {
+        if copies.len() == MOST_FRAMES {
+            break;
+        }
+        copy_if_in_some(&mut copies, frame, trimmed + 1 + k as u32, ranges)?;
+    }
+    Ok(copies)
+}
+
+// The frame of this number is copied where some range asks for it.
+fn copy_if_in_some(
+    copies: &mut Vec<Bytes>,
+    frame: &Bytes,
+    number: u32,
+    ranges: &[Range],
+) -> Result<(), NoMemory>
+    ensures { let with_it = copies.old.items ++ frame.now ∷ [] in
+        OnOk result (copies.new.items ≡ (if is_in_some ranges.now number then with_it else copies.old.items)) }
+{
+    if is_in_some(ranges, number) {
+        copies.push(frame.clone()?)?;
+    }
+    Ok(())
+}
+
+fn is_in_some(ranges: &[Range], number: u32) -> bool
+    ensures { result ≡ is_in_some ranges.now number }
+{
+    ranges
+        .iter()
+        .any(|range| range.first <= number && number <= range.last)
+}
+
+#[cfg(test)]
+mod tests;
