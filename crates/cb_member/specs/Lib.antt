@@ -1,0 +1,5 @@
+pub mod Group
+pub mod Facts
+pub mod View
+pub mod Known
+pub mod Answers

@@ -1,0 +1,98 @@
+//! What a member answers to a cast, an arrival and a tick.
+
+use bytes::Bytes;
+use cb_delay::{Message, Name};
+use cb_frames::FrameFault;
+use cb_times::VectorTime;
+
+/// What a member did with a message.
+#[derive(Debug, Drop)]
+pub enum Event {
+    /// It cast the message, which counts as delivered to itself.
+    Cast(Message),
+    /// It delivered the message of another member.
+    Deliver(Message),
+}
+
+/// A cast that was made.
+#[derive(Debug, Drop)]
+pub struct CastDone {
+    pub name: Name,
+    pub time: VectorTime,
+    /// The frame, which goes to all others.
+    pub out: Bytes,
+}
+
+/// Why there was no cast. The member is as it was.
+#[derive(Clone, Copy, Debug, PartialEq, Eq)]
+pub enum CastRefusal {
+    /// The payload has more than 1,024 bytes.
+    PayloadTooLong,
+    /// As many own casts as the window are not known to be delivered by every other member.
+    WindowFull,
+    /// The history has as many entries as its limit.
+    HistoryFull,
+    /// A growth was refused.
+    NoMemory,
+}
+
+/// A frame to be sent: to all others, or to one member.
+#[derive(Debug, Drop)]
+pub struct Outgoing {
+    /// `None` for all others.
+    pub to: Option<u32>,
+    pub bytes: Bytes,
+}
+
+/// What an arrival that was not refused did.
+#[derive(Debug, Drop)]
+pub enum Arrival {
+    /// The frame was taken.
+    Accepted {
+        /// The messages that are delivered by it, in order.
+        deliveries: Vec<Message>,
+        /// Whether the member's state changed, so that the history has an entry more.
+        changed: bool,
+        /// What is to be sent in answer.
+        out: Vec<Outgoing>,
+    },
+    /// The cast came before, or is the member's own. Nothing changed.
+    Repeat,
+}
+
+/// Why an arrival was refused. The member is as it was.
+#[derive(Clone, Copy, Debug, PartialEq, Eq)]
+pub enum ArriveRefusal {
+    /// The bytes are no frame.
+    Malformed(FrameFault),
+    /// The frame is of another group.
+    OtherGroup,
+    /// A member or a field in the frame is not below the group's size.
+    BadMember,
+    /// The frame says of this member what it never did, or asks its own sender.
+    Impossible,
+    /// The cast is further ahead than the window allows.
+    TooFar,
+    /// The frame would change the state, and the history has as many entries as its limit.
+    HistoryFull,
+    /// A growth was refused.
+    NoMemory,
+}
+
+/// What a tick did.
+#[derive(Debug, Drop)]
+pub struct Ticked {
+    /// Whether the status differs from the last one, so that the history has an entry more.
+    pub entered: bool,
+    /// The status to all, and a request to each member of which casts are missing.
+    pub out: Vec<Outgoing>,
+}
+
+/// Why there was no tick. The member is as it was.
+#[derive(Clone, Copy, Debug, PartialEq, Eq)]
+pub enum TickRefusal {
+    /// The status differs from the last one, and the history has as many entries as its limit.
+    HistoryFull,
+    /// A growth was refused.
+    NoMemory,
+}

@@ -1,0 +1,18 @@
+//! One member of a group as a function of its history.
+//!
+//! A member is a machine without clock, link or thread: what it answers to a cast, an arrival or a tick depends on its history
+//! and on nothing else. This crate says what that answer is, in `specs/`, in the terms of the protocol and from the entries' bytes.
+//!
+//! Stands on `cb_frames` for the bytes, on `cb_times` and `cb_diffs` for the times, and on `cb_delay` for names and messages.
+#![tactic(auto)]
+
+mod answer;
+mod group;
+mod history;
+
+pub use answer::{
+    Arrival, ArriveRefusal, CastDone, CastRefusal, Event, Outgoing, TickRefusal, Ticked,
+};
+pub use cb_delay::{Message, Name};
+pub use group::{BadGroup, Group};
+pub use history::{Entry, History};
