@@ -114,7 +114,7 @@ abbrev pub is_news : Seat → List Fact → StatusFields → Bool
 is_news seat facts s =
     not (s.sender == seat.me)
     && (list_any (λ k. not (k == seat.me) && nat_lt (known facts k) (value_in s.values k)) (range_with_len 0 seat.group.size)
-        || nat_lt (acknowledged seat facts s.sender) (value_in s.values seat.me))
+    || nat_lt (acknowledged seat facts s.sender) (value_in s.values seat.me))
 
 -- the frame, which is neither refused so far nor a repeat, would change the state
 abbrev pub is_change : Seat → List Fact → FrameFields → Bool
@@ -226,5 +226,7 @@ requests seat facts =
 unfoldable pub tick_answer : Seat → ℕ → List EntryFields → Result (Bool × List Outgoing) TickRefusal
 tick_answer seat limit entries =
     if is_new_status seat (facts_of entries) && is_full limit entries then Err ticks.HistoryFull else
-    Ok (is_new_status seat (facts_of entries),
-        record { to = None; bytes = text_of (StatusFrame (status_of seat (facts_of entries))) } ∷ requests seat (facts_of entries))
+    Ok (
+      is_new_status seat (facts_of entries),
+      record { to = None; bytes = text_of (StatusFrame (status_of seat (facts_of entries))) } ∷ requests seat (facts_of entries),
+    )

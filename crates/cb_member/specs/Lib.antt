@@ -3,3 +3,4 @@ pub mod Facts
 pub mod View
 pub mod Known
 pub mod Answers
+pub mod Legal
