@@ -4,3 +4,4 @@ pub mod View
 pub mod Known
 pub mod Answers
 pub mod Legal
+pub mod Laws

@@ -9,6 +9,7 @@
 mod answer;
 mod group;
 mod history;
+mod laws;
 
 pub use answer::{
     Arrival, ArriveRefusal, CastDone, CastRefusal, Event, Outgoing, TickRefusal, Ticked,
@@ -16,3 +17,4 @@ pub use answer::{
 pub use cb_delay::{Message, Name};
 pub use group::{BadGroup, Group};
 pub use history::{Entry, History};
+pub use laws::view_with_one_more_fact;
