@@ -1,2 +1,3 @@
 mod Rows
 pub mod Views
+pub mod Copies

@@ -1,14 +1,16 @@
 //! What a member stores: all that ever changed its state.
 
-ghost use Rattle.std.specs.Prelude.{◌≡◌, IfOk};
+ghost use Rattle.std.specs.Prelude.{◌≡◌, IfOk, map};
+ghost use Rattle.cb_member.specs.Facts.{entry_fields};
 
 use crate::group::Group;
 use bytes::Bytes;
 use cb_delay::Name;
 use cb_times::NoMemory;
+use std::alloc::Global;
 
 /// One entry of a history.
-#[derive(Debug, Drop)]
+#[derive(Debug, PartialEq, Eq, Drop)]
 pub enum Entry {
     /// The member cast a message by this frame.
     Cast { frame: Bytes },
@@ -26,4 +28,49 @@ pub struct History {
     pub me: u32,
     /// Entry 1 is the first.
     pub entries: Vec<Entry>,
+}
+
+impl Entry {
+    /// The same entry once more; the bytes of its frame are shared.
+    pub fn copy(&self) -> Result<Entry, NoMemory>
+        ensures { IfOk result (λ entry. entry_fields entry ≡ entry_fields self.now) }
+    {
+        Ok(match self {
+            Entry::Cast { frame } => Entry::Cast {
+                frame: frame.clone()?,
+            },
+            Entry::Arrive { frame, delivered } => Entry::Arrive {
+                frame: frame.clone()?,
+                delivered: delivered.clone()?,
+            },
+            Entry::Tick { status } => Entry::Tick {
+                status: status.clone()?,
+            },
+        })
+    }
+}
+
+impl History {
+    /// The same history once more.
+    pub fn copy(&self) -> Result<History, NoMemory>
+        ensures { IfOk result (λ history. (history.group ≡ self.now.group) × (history.me ≡ self.now.me)
+            × (map entry_fields history.entries.items ≡ map entry_fields self.now.entries.items)) }
+    {
+        let entries = copies(*self.entries.allocator(), &self.entries)?;
+        Ok(History {
+            group: self.group,
+            me: self.me,
+            entries,
+        })
+    }
+}
+
+fn copies(alloc: Global, entries: &[Entry]) -> Result<Vec<Entry>, NoMemory>
+    ensures { IfOk result (λ copies. map entry_fields copies.items ≡ map entry_fields entries.now) }
+{
+    let mut copies = Vec::with_capacity(alloc, entries.len())?;
+    for entry in entries {
+        copies.push(entry.copy()?)?;
+    }
+    Ok(copies)
 }

@@ -18,3 +18,6 @@ pub use cb_delay::{Message, Name};
 pub use group::{BadGroup, Group};
 pub use history::{Entry, History};
 pub use laws::view_with_one_more_fact;
+
+#[cfg(test)]
+mod tests;
