@@ -1,5 +1,5 @@
 -- The parameters of a group, and the member whose history is looked at.
-use Rattle.std.specs.Prelude.{ℕ, ◌≤◌, ◌<◌, refl}
+use Rattle.std.specs.Prelude.{ℕ, ◌≤◌, ◌<◌, ◌^◌, refl}
 use Rattle.std.specs.Coded.{Coded, code_by, coded×, coded_ℕ}
 
 pub record Parameters : Type 0 where
@@ -13,6 +13,7 @@ pub record AreParameters (p : Parameters) : Type 0 where
   pub at_most_sixty_four : p.size ≤ 64
   pub window_one_or_more : 1 ≤ p.window
   pub window_at_most : p.window ≤ 256
+  pub number_fits : p.number < 2 ^ 32
 
 -- how they are stored: as pairs
 abbrev pub parameters_code : Coded Parameters

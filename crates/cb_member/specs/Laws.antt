@@ -1,13 +1,15 @@
 -- What one more fact does, and what is true of every legal history.
-use Rattle.std.specs.Prelude.{◌≡◌, ℕ, ◌+◌, ◌<◌, ◌≤◌, Bool, true, false, List, [], ◌∷◌, ◌++◌, length, take, Some, None, max}
+use Rattle.std.specs.Prelude.{◌≡◌, ◌≢◌, ℕ, ◌+◌, ◌<◌, ◌≤◌, true, false, List, [], ◌∷◌, ◌++◌, length, None, max, ◌==◌, if◌then◌else◌}
 use Rattle.std.specs.List.{AllByRecursion}
 use Rattle.cb_frames.specs.Fields.{CastFields, StatusFields, Carried}
-use Rattle.cb_diffs.specs.Expansion.{expanded_field}
+use Rattle.cb_diffs.specs.Expansion.{expanded_field, expanded_time}
 use Rattle.cb_member.specs.Group.{Seat}
-use Rattle.cb_member.specs.Facts.{EntryFields, Fact, OwnCast, CastCame, StatusCame, OwnStatus, facts_of, casts_in, cast_in}
-use Rattle.cb_member.specs.View.{count, is_ready, next_delivery, drain, view, seen_after}
+use Rattle.cb_member.specs.Facts.{EntryFields, Fact, OwnCast, CastCame, StatusCame, OwnStatus, said_by, facts_of, casts_in, messages_in}
+use Rattle.cb_member.specs.View.{count, is_among, is_expanded, is_ready, next_delivery, drain, view, time_of, seen_after}
 use Rattle.cb_member.specs.Known.{value_in, known, acknowledged, stable}
+use Rattle.cb_member.specs.Answers.{own_casts, delivered}
 use Rattle.cb_member.specs.Legal.{IsLegal}
+use Rattle.cb_member.specs.LegalFacts.{AreFactsOf}
 
 -- ---- the view
 
@@ -23,3 +25,101 @@ NothingReadyIsLeft = (size : ℕ) (casts : List CastFields) (seen : List Carried
 abbrev pub NextIsTheOnlyCandidate : Type 0
 NextIsTheOnlyCandidate =
     (size : ℕ) (casts : List CastFields) (seen : List Carried) (m : Carried) → m.sender < size → is_ready size casts seen m ≡ true → m.number ≡ count seen m.sender + 1
+
+-- ---- names and order
+
+-- no two of these messages have one name
+abbrev pub NamesDiffer : List Carried → Type 0
+NamesDiffer [] = Unit {0}
+NamesDiffer (m ∷ ms) = (is_among ms m ≡ false) × NamesDiffer ms
+
+-- the number of each of these messages is one more than how many of its sender's stand before it
+abbrev pub InOrderAfter : List Carried → List Carried → Type 0
+InOrderAfter before [] = Unit {0}
+InOrderAfter before (m ∷ ms) = (m.number ≡ count before m.sender + 1) × InOrderAfter (before ++ m ∷ []) ms
+
+-- these casts are of the member and numbered from n on
+abbrev pub NumberedFrom : ℕ → ℕ → List CastFields → Type 0
+NumberedFrom me n [] = Unit {0}
+NumberedFrom me n (c ∷ casts) = (c.sender ≡ me) × (c.number ≡ n) × NumberedFrom me (n + 1) casts
+
+-- no cast that came is the member's
+abbrev pub CameFromOthers : ℕ → List Fact → Type 0
+CameFromOthers me [] = Unit {0}
+CameFromOthers me (CastCame c ∷ facts) = (c.sender ≢ me) × CameFromOthers me facts
+CameFromOthers me (OwnCast c ∷ facts) = CameFromOthers me facts
+CameFromOthers me (StatusCame s ∷ facts) = CameFromOthers me facts
+CameFromOthers me (OwnStatus s ∷ facts) = CameFromOthers me facts
+
+-- no two casts carry the same message
+abbrev pub NamesStandOnce : Type 0
+NamesStandOnce = (seat : Seat) (facts : List Fact) → AreFactsOf seat facts → NamesDiffer (messages_in (casts_in facts))
+
+-- the member's own casts are numbered 1, 2, 3 and so on, as many as it has delivered of its own
+abbrev pub OwnCastsAreNumbered : Type 0
+OwnCastsAreNumbered = (seat : Seat) (facts : List Fact) → AreFactsOf seat facts → NumberedFrom seat.me 1 (own_casts facts) × (delivered seat facts seat.me ≡ length (own_casts facts))
+
+-- the member's messages come from its own casts alone
+abbrev pub OwnMessagesAreOwn : Type 0
+OwnMessagesAreOwn = (seat : Seat) (facts : List Fact) → AreFactsOf seat facts → CameFromOthers seat.me facts
+
+-- the view holds each sender's messages in order, each once
+abbrev pub ViewIsInOrder : Type 0
+ViewIsInOrder = (seat : Seat) (facts : List Fact) → AreFactsOf seat facts → InOrderAfter [] (view seat.group.size facts)
+
+-- all messages of the view are of the casts
+abbrev pub ViewIsOfCasts : Type 0
+ViewIsOfCasts = (seat : Seat) (facts : List Fact) (m : Carried) → AreFactsOf seat facts → is_among (view seat.group.size facts) m ≡ true → is_among (messages_in (casts_in facts)) m ≡ true
+
+-- ---- what is known, acknowledged and stable
+
+-- a status that came says how far each sender has cast
+abbrev pub StatusIsKnown : Type 0
+StatusIsKnown = (facts : List Fact) (s : StatusFields) (i : ℕ) → known (facts ++ StatusCame s ∷ []) i ≡ max (known facts i) (value_in s.values i)
+
+-- and how many of this member's casts its own sender has delivered
+abbrev pub StatusIsAcknowledged : Type 0
+StatusIsAcknowledged = (seat : Seat) (facts : List Fact) (s : StatusFields) (k : ℕ)
+    → acknowledged seat (facts ++ StatusCame s ∷ []) k ≡ (if s.sender == k then max (acknowledged seat facts k) (value_in s.values seat.me) else acknowledged seat facts k)
+
+-- an own status says nothing new
+abbrev pub OwnStatusTellsNothing : Type 0
+OwnStatusTellsNothing = (seat : Seat) (facts : List Fact) (s : StatusFields) (k : ℕ) → (known (facts ++ OwnStatus s ∷ []) k ≡ known facts k) × (acknowledged seat (facts ++ OwnStatus s ∷ []) k ≡ acknowledged seat facts k)
+
+-- one more fact makes nothing that is known, acknowledged or stable smaller
+abbrev pub NothingFalls : Type 0
+NothingFalls = (seat : Seat) (facts : List Fact) (f : Fact)
+    → ((i : ℕ) → known facts i ≤ known (facts ++ f ∷ []) i) × ((k : ℕ) → acknowledged seat facts k ≤ acknowledged seat (facts ++ f ∷ []) k) × (stable seat facts ≤ stable seat (facts ++ f ∷ []))
+
+-- ---- prefixes
+
+-- the entries before any place of a legal history are a legal history
+abbrev pub PrefixIsLegal : Type 0
+PrefixIsLegal = (seat : Seat) (entries more : List EntryFields) → IsLegal seat (entries ++ more) → IsLegal seat entries
+
+-- ---- histories and facts
+
+-- the facts of a legal history are each a step from those before it
+abbrev pub LegalHistoriesSayLegalFacts : Type 0
+LegalHistoriesSayLegalFacts = (seat : Seat) (entries : List EntryFields) → IsLegal seat entries → AreFactsOf seat (facts_of entries)
+
+-- every entry of a legal history says one fact, so there are as many facts as entries
+abbrev pub EachEntrySaysOneFact : Type 0
+EachEntrySaysOneFact = (seat : Seat) (entries : List EntryFields) → IsLegal seat entries → AllByRecursion (λ e. length (said_by e) ≡ 1) entries × (length (facts_of entries) ≡ length entries)
+
+-- ---- times
+
+-- the time of a message that is expanded does not change by one more fact
+abbrev pub TimesStay : Type 0
+TimesStay = (seat : Seat) (facts : List Fact) (f : Fact) (m : Carried) (k : ℕ) → AreFactsOf seat (facts ++ f ∷ []) → is_expanded (casts_in facts) m ≡ true
+    → expanded_field (casts_in (facts ++ f ∷ [])) m.sender m.number k ≡ expanded_field (casts_in facts) m.sender m.number k
+
+-- the time that an own cast tells is the view's at that cast
+abbrev pub OwnCastsTellTheView : Type 0
+OwnCastsTellTheView = (seat : Seat) (facts : List Fact) (c : CastFields) → AreFactsOf seat (facts ++ OwnCast c ∷ [])
+    → expanded_time seat.group.size (casts_in (facts ++ OwnCast c ∷ [])) seat.me c.number ≡ time_of seat.group.size (facts ++ OwnCast c ∷ [])
+
+-- what a message of the view had seen, the member has delivered: no field of its time is above the member's own
+abbrev pub TimesAreReached : Type 0
+TimesAreReached = (seat : Seat) (facts : List Fact) (m : Carried) (k : ℕ) → AreFactsOf seat facts → is_among (view seat.group.size facts) m ≡ true → k < seat.group.size
+    → expanded_field (casts_in facts) m.sender m.number k ≤ delivered seat facts k

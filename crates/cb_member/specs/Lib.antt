@@ -5,4 +5,5 @@ pub mod Known
 pub mod Answers
 pub mod Events
 pub mod Legal
+pub mod LegalFacts
 pub mod Laws

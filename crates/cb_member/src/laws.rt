@@ -1,10 +1,48 @@
 //! What the definitions of one member imply, as contracts of functions that do nothing.
 
-ghost use Rattle.cb_member.specs.Laws.{ViewWithOneMore, NothingReadyIsLeft, NextIsTheOnlyCandidate};
+ghost use Rattle.cb_member.specs.Laws.{ViewWithOneMore, NothingReadyIsLeft, NextIsTheOnlyCandidate, NamesStandOnce, OwnCastsAreNumbered, OwnMessagesAreOwn, ViewIsInOrder, ViewIsOfCasts, StatusIsKnown, StatusIsAcknowledged, OwnStatusTellsNothing, NothingFalls, PrefixIsLegal, LegalHistoriesSayLegalFacts, EachEntrySaysOneFact, TimesStay, OwnCastsTellTheView, TimesAreReached};
 
 /// What one more fact does to the view, and what a drain leaves: nothing that is ready. Of each sender only the next message can be.
 pub fn view_with_one_more_fact()
     ensures grows { ViewWithOneMore }
     ensures drained { NothingReadyIsLeft }
     ensures candidate { NextIsTheOnlyCandidate }
+{}
+
+/// In legal facts no two casts carry one message. The member's messages are its own casts, numbered from 1. The view holds
+/// messages of the casts, each sender's in order and once.
+pub fn names_and_order()
+    ensures once { NamesStandOnce }
+    ensures numbered { OwnCastsAreNumbered }
+    ensures own { OwnMessagesAreOwn }
+    ensures order { ViewIsInOrder }
+    ensures there { ViewIsOfCasts }
+{}
+
+/// What one more fact does to what is known, acknowledged and stable: a status that came raises it to what it says, an own status
+/// leaves it, and none makes it smaller.
+pub fn knowledge_grows()
+    ensures known { StatusIsKnown }
+    ensures acknowledged { StatusIsAcknowledged }
+    ensures own { OwnStatusTellsNothing }
+    ensures grows { NothingFalls }
+{}
+
+/// The entries before any place of a legal history are a legal history.
+pub fn prefixes_are_legal()
+    ensures { PrefixIsLegal }
+{}
+
+/// What is written is read back: each entry of a legal history says one fact, and each fact is a step from those before it.
+pub fn histories_say_facts()
+    ensures legal { LegalHistoriesSayLegalFacts }
+    ensures each { EachEntrySaysOneFact }
+{}
+
+/// The times of messages: one that can be told stays as it is, an own cast tells the time of its view, and no delivered message
+/// has seen more than the member has delivered.
+pub fn times_of_messages()
+    ensures stay { TimesStay }
+    ensures own { OwnCastsTellTheView }
+    ensures reached { TimesAreReached }
 {}

@@ -1,0 +1,50 @@
+-- The entries before any place of a legal history are legal.
+use Rattle.std.proofs.Common.{◌≡◌, List, [], ◌∷◌, ◌++◌, refl, sym, ap, subst, ◌∙◌, append_assoc, inl, inr, ◌⊎◌}
+use Rattle.std.proofs.lemmas.List.{append-nil}
+use Rattle.cb_member.specs.Group.{Seat}
+use Rattle.cb_member.specs.Facts.{EntryFields}
+use Rattle.cb_member.specs.Legal.{AreLegal, NoEntries, OneMore}
+use Rattle.cb_member.specs.Laws.{PrefixIsLegal}
+
+-- a list is empty, or has a last element
+abbrev Ends : {A : Type 0} → List A → Type 0
+Ends {A} xs = (xs ≡ []) ⊎ ((front : List A) × (last : A) × (xs ≡ front ++ last ∷ []))
+
+ends : {A : Type 0} (xs : List A) → Ends xs
+ends [] = inl refl
+ends {A} (x ∷ xs) = elim (ends xs) [
+  | inl none ↦ inr ([], x, ap (λ (ys : List A). x ∷ ys) none)
+  | inr e ↦ inr (x ∷ e.0, e.1, ap (λ (ys : List A). x ∷ ys) e.2)
+]
+
+-- two lists that end in one element and are one
+same_front : {A : Type 0} (xs ys : List A) (x y : A) → xs ++ x ∷ [] ≡ ys ++ y ∷ [] → xs ≡ ys
+same_front [] [] x y e = refl
+same_front [] (b ∷ []) x y e = absurd cc
+same_front [] (b ∷ d ∷ ys) x y e = absurd cc
+same_front (a ∷ []) [] x y e = absurd cc
+same_front (a ∷ d ∷ xs) [] x y e = absurd cc
+same_front {A} (a ∷ xs) (b ∷ ys) x y e =
+    let head : a ≡ b = cc in
+    let tails : xs ++ x ∷ [] ≡ ys ++ y ∷ [] = cc in
+    let fronts : xs ≡ ys = same_front xs ys x y tails in
+    cc
+
+none_before : {A : Type 0} (xs ys : List A) → [] ≡ xs ++ ys → xs ≡ []
+none_before [] ys e = refl
+none_before (x ∷ xs) ys e = absurd cc
+
+prefix : (seat : Seat) (all : List EntryFields) → AreLegal seat all → (entries more : List EntryFields) → all ≡ entries ++ more → AreLegal seat entries
+prefix seat _ NoEntries entries more e = subst (AreLegal seat) (sym (none_before entries more e)) NoEntries
+prefix seat _ (OneMore before call last legal says) entries more e =
+    elim (ends more) [
+      | inl none ↦ subst (AreLegal seat) (e ∙ ap (λ (m : List EntryFields). entries ++ m) none ∙ append-nil entries) (OneMore before call last legal says)
+      | inr w ↦ prefix seat before legal entries w.0 (same_front before (entries ++ w.0) last w.1 (e ∙ ap (λ (m : List EntryFields). entries ++ m) w.2 ∙ sym (append_assoc entries w.0 (w.1 ∷ []))))
+    ]
+
+pub prefix_is_legal : PrefixIsLegal
+prefix_is_legal seat entries more legal = record {
+  group = legal.group;
+  member = legal.member;
+  entries_are = prefix seat (entries ++ more) legal.entries_are entries more refl;
+}

@@ -1,0 +1,14 @@
+use Rattle.cb_member.proofs.Rising.{status_is_known, status_is_acknowledged, own_status_tells_nothing, nothing_falls}
+use Rattle.cb_member.proofs.laws.knowledge_grows.Goals as goal
+
+pub returns-clause-known : goal.returns-clause-known
+returns-clause-known c = status_is_known
+
+pub returns-clause-acknowledged : goal.returns-clause-acknowledged
+returns-clause-acknowledged c = status_is_acknowledged
+
+pub returns-clause-own : goal.returns-clause-own
+returns-clause-own c = own_status_tells_nothing
+
+pub returns-clause-grows : goal.returns-clause-grows
+returns-clause-grows c = nothing_falls

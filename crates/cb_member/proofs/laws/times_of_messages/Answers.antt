@@ -1,0 +1,11 @@
+use Rattle.cb_member.proofs.Times.{times_stay, own_casts_tell_the_view, times_are_reached}
+use Rattle.cb_member.proofs.laws.times_of_messages.Goals as goal
+
+pub returns-clause-stay : goal.returns-clause-stay
+returns-clause-stay c = times_stay
+
+pub returns-clause-own : goal.returns-clause-own
+returns-clause-own c = own_casts_tell_the_view
+
+pub returns-clause-reached : goal.returns-clause-reached
+returns-clause-reached c = times_are_reached
