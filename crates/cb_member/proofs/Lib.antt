@@ -12,3 +12,4 @@ pub mod Histories
 pub mod Growth
 pub mod Times
 pub mod Copies
+pub mod Gaps

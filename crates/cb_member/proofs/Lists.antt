@@ -84,10 +84,10 @@ pub among_is : (ms : List Carried) (m : Carried) → is_among ms m ≡ true → 
 among_is [] m h = absurd cc
 among_is (x ∷ ms) m h = either_among x ms m (eqb x.sender m.sender && eqb x.number m.number) refl h (λ later. among_is ms m later)
   where
-  either_among : (x : Carried) (ms : List Carried) (m : Carried) (b : Bool) → (eqb x.sender m.sender && eqb x.number m.number) ≡ b → (b || is_among ms m) ≡ true → (is_among ms m ≡ true → (n : Carried) × IsIn n ms × (n.sender ≡ m.sender) × (n.number ≡ m.number))
-      → (n : Carried) × IsIn n (x ∷ ms) × (n.sender ≡ m.sender) × (n.number ≡ m.number)
-  either_among x ms m true e h go = let both = test_true (eqb x.sender m.sender) (eqb x.number m.number) e in (x, inl refl, eqb-true x.sender m.sender both.0, eqb-true x.number m.number both.1)
-  either_among x ms m false e h go = let found = go h in (found.0, inr found.1, found.2, found.3)
+    either_among : (x : Carried) (ms : List Carried) (m : Carried) (b : Bool) → (eqb x.sender m.sender && eqb x.number m.number) ≡ b → (b || is_among ms m) ≡ true → (is_among ms m ≡ true → (n : Carried) × IsIn n ms × (n.sender ≡ m.sender) × (n.number ≡ m.number))
+        → (n : Carried) × IsIn n (x ∷ ms) × (n.sender ≡ m.sender) × (n.number ≡ m.number)
+    either_among x ms m true e h go = let both = test_true (eqb x.sender m.sender) (eqb x.number m.number) e in (x, inl refl, eqb-true x.sender m.sender both.0, eqb-true x.number m.number both.1)
+    either_among x ms m false e h go = let found = go h in (found.0, inr found.1, found.2, found.3)
 
 -- ---- counts and order
 

@@ -65,23 +65,23 @@ own_stands seat casts seen own c member s sender number = record {
   own_numbers = numbered_push seat.me 1 c.number own c s.own_numbers sender refl (omega (arith, number, s.own_count));
 }
   where
-  none_above : (seat : Seat) (casts : List CastFields) (seen : List Carried) (own : List CastFields) (c : CastFields) → Stands seat casts seen own → c.sender ≡ seat.me → c.number ≡ count seen seat.me + 1 → is_among (messages_in casts) (message c) ≡ true → ⊥
-  none_above seat casts seen own c s sender number h =
-      let found = among_is (messages_in casts) (message c) h in
-      let n : Carried = found.0 in
-      let own_one : n.sender ≡ seat.me = found.2 ∙ sender in
-      let seen_one = among_is seen n (s.own_seen n found.1 own_one) in
-      let bound = order_bound [] seen seen_one.0 s.order seen_one.1 in
-      let at : count seen seen_one.0.sender ≡ count seen seat.me = ap (count seen) (seen_one.2 ∙ own_one) in
-      let same : seen_one.0.number ≡ c.number = seen_one.3 ∙ found.3 in
-      omega (arith, bound, at, same, number)
+    none_above : (seat : Seat) (casts : List CastFields) (seen : List Carried) (own : List CastFields) (c : CastFields) → Stands seat casts seen own → c.sender ≡ seat.me → c.number ≡ count seen seat.me + 1 → is_among (messages_in casts) (message c) ≡ true → ⊥
+    none_above seat casts seen own c s sender number h =
+        let found = among_is (messages_in casts) (message c) h in
+        let n : Carried = found.0 in
+        let own_one : n.sender ≡ seat.me = found.2 ∙ sender in
+        let seen_one = among_is seen n (s.own_seen n found.1 own_one) in
+        let bound = order_bound [] seen seen_one.0 s.order seen_one.1 in
+        let at : count seen seen_one.0.sender ≡ count seen seat.me = ap (count seen) (seen_one.2 ∙ own_one) in
+        let same : seen_one.0.number ≡ c.number = seen_one.3 ∙ found.3 in
+        omega (arith, bound, at, same, number)
 
-  is_false : (b : Bool) → (b ≡ true → ⊥) → b ≡ false
-  is_false true h = absurd (h refl)
-  is_false false h = refl
+    is_false : (b : Bool) → (b ≡ true → ⊥) → b ≡ false
+    is_false true h = absurd (h refl)
+    is_false false h = refl
 
-  new_name : (seat : Seat) (casts : List CastFields) (seen : List Carried) (own : List CastFields) (c : CastFields) → Stands seat casts seen own → c.sender ≡ seat.me → c.number ≡ count seen seat.me + 1 → is_among (messages_in casts) (message c) ≡ false
-  new_name seat casts seen own c s sender number = is_false (is_among (messages_in casts) (message c)) (none_above seat casts seen own c s sender number)
+    new_name : (seat : Seat) (casts : List CastFields) (seen : List Carried) (own : List CastFields) (c : CastFields) → Stands seat casts seen own → c.sender ≡ seat.me → c.number ≡ count seen seat.me + 1 → is_among (messages_in casts) (message c) ≡ false
+    new_name seat casts seen own c s sender number = is_false (is_among (messages_in casts) (message c)) (none_above seat casts seen own c s sender number)
 
 -- ---- a cast that came
 

@@ -38,9 +38,9 @@ pairs_read p least [] numbers rest says small = ap (λ (ns : List ℕ). Ok ([], 
 pairs_read {A} p least (d ∷ ds) numbers rest says small =
     let parts : AreSmall (says.0 ∷ says.1 ∷ says.2) = subst AreSmall says.4 small in
     let text : flat_map spelling numbers ++ rest ≡ spelling says.0 ++ (spelling says.1 ++ (flat_map spelling says.2 ++ rest)) =
-        ap (λ (ns : List ℕ). flat_map spelling ns ++ rest) says.4
-        ∙ append_assoc (spelling says.0) (spelling says.1 ++ flat_map spelling says.2) rest
-        ∙ ap (λ (t : List ℕ). spelling says.0 ++ t) (append_assoc (spelling says.1) (flat_map spelling says.2) rest) in
+    ap (λ (ns : List ℕ). flat_map spelling ns ++ rest) says.4
+    ∙ append_assoc (spelling says.0) (spelling says.1 ++ flat_map spelling says.2) rest
+    ∙ ap (λ (t : List ℕ). spelling says.0 ++ t) (append_assoc (spelling says.1) (flat_map spelling says.2) rest) in
     let one = pair_read p least says.0 says.1 d (flat_map spelling says.2 ++ rest) says.3 parts.0 parts.1.0 in
     let others = pairs_read p (p.next (least + says.0) says.1) ds says.2 rest says.5 parts.1.1 in
     ap (pairs_at p (suc (length ds)) least) text ∙ rw (one, others) (ap (λ (x : A). Ok (x ∷ ds, rest)) (sym says.3.said))
@@ -128,11 +128,11 @@ cast_numbered bytes c =
     (λ f e' h. absurd cc))
     (λ f e' h. absurd cc)
   where
-  number_kept : (bytes : List ℕ) (x : ℕ × List ℕ) → field_at message_rule bytes ≡ Ok x → 1 ≤ x.0
-  number_kept bytes x =
-      bind_cases (number_at bytes) _ (λ (r : Result (ℕ × List ℕ) FrameFault). r ≡ Ok x → 1 ≤ x.0)
-      (λ n e h. let kept = rule_kept (message_rule n.0) n x h in subst (λ (y : ℕ × List ℕ). 1 ≤ y.0) kept.1 (message_kept n.0 kept.0))
-      (λ f e h. absurd cc)
+    number_kept : (bytes : List ℕ) (x : ℕ × List ℕ) → field_at message_rule bytes ≡ Ok x → 1 ≤ x.0
+    number_kept bytes x =
+        bind_cases (number_at bytes) _ (λ (r : Result (ℕ × List ℕ) FrameFault). r ≡ Ok x → 1 ≤ x.0)
+        (λ n e h. let kept = rule_kept (message_rule n.0) n x h in subst (λ (y : ℕ × List ℕ). 1 ≤ y.0) kept.1 (message_kept n.0 kept.0))
+        (λ f e h. absurd cc)
 
 pub frame_numbered : (bytes : List ℕ) (c : CastFields) → frame_at bytes ≡ Ok (CastFrame c) → 1 ≤ c.number
 unfolding frame_at

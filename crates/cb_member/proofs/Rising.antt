@@ -24,9 +24,9 @@ any_more : {A : Type 0} (p : A → Bool) (xs ys : List A) → list_any p xs ≡ 
 any_more p [] ys h = absurd cc
 any_more p (x ∷ xs) ys h = more_at (p x) (list_any p xs) (list_any p (xs ++ ys)) h (any_more p xs ys)
   where
-  more_at : (a b c : Bool) → (a || b) ≡ true → (b ≡ true → c ≡ true) → (a || c) ≡ true
-  more_at true b c h more = refl
-  more_at false b c h more = more h
+    more_at : (a b c : Bool) → (a || b) ≡ true → (b ≡ true → c ≡ true) → (a || c) ≡ true
+    more_at true b c h more = refl
+    more_at false b c h more = more h
 
 all_weaker : {A : Type 0} (p q : A → Bool) (xs : List A) → ((x : A) → p x ≡ true → q x ≡ true) → list_all p xs ≡ true → list_all q xs ≡ true
 all_weaker p q [] weaker h = refl
@@ -137,7 +137,7 @@ acknowledged_rises seat facts f k =
     let parts = acknowledged_parts seat facts k in
     let grown = view_grows seat.group.size facts f in
     let counted : counted_at seat (casts_in facts) (view seat.group.size facts) k ≤ counted_at seat (casts_in facts ++ cast_in f) (view seat.group.size (facts ++ f ∷ [])) k =
-        subst (λ (ms : List Carried). counted_at seat (casts_in facts) (view seat.group.size facts) k ≤ counted_at seat (casts_in facts ++ cast_in f) ms k) (sym grown.1) (counts_rise (casts_in facts) (cast_in f) (view seat.group.size facts) grown.0 k seat.me) in
+    subst (λ (ms : List Carried). counted_at seat (casts_in facts) (view seat.group.size facts) k ≤ counted_at seat (casts_in facts ++ cast_in f) ms k) (sym grown.1) (counts_rise (casts_in facts) (cast_in f) (view seat.group.size facts) grown.0 k seat.me) in
     omega (arith, more, parts, counted)
 
 -- ---- own statuses

@@ -1,24 +1,20 @@
 -- The worked examples of one member.
-use Rattle.std.proofs.Common.{◌≡◌, ℕ, Bool, true, false, List, [], ◌∷◌, ◌++◌, map, Option, Some, None, Result, Ok, Err, refl}
+use Rattle.std.proofs.Common.{◌≡◌, ℕ, true, false, List, [], ◌∷◌, map, Option, Some, None, Result, Ok, Err, refl}
 use Rattle.cb_varint.specs.Reading.{number_at, spelling}
-use Rattle.cb_frames.specs.declared.frame.Range.{Range}
 use Rattle.cb_frames.specs.declared.fault.FrameFault.TheVariants as faults
 use Rattle.cb_frames.specs.Fields.{CastFields, CastFrame}
 use Rattle.cb_frames.specs.Text.{text_of}
 use Rattle.cb_frames.specs.Reading.{frame_at, cast_at, status_at, request_at, pairs_at, pair_at}
-use Rattle.cb_delay.specs.declared.message.Name.{Name}
 use Rattle.cb_delay.specs.declared.message.Message.{Message}
 use Rattle.cb_member.specs.declared.answer.CastRefusal.{CastRefusal}
 use Rattle.cb_member.specs.declared.answer.CastRefusal.TheVariants as casts
-use Rattle.cb_member.specs.declared.answer.ArriveRefusal.{ArriveRefusal}
 use Rattle.cb_member.specs.declared.answer.ArriveRefusal.TheVariants as arrivals
 use Rattle.cb_member.specs.declared.answer.TickRefusal.TheVariants as ticks
-use Rattle.cb_member.specs.declared.answer.Outgoing.{Outgoing}
 use Rattle.cb_member.specs.Group.{Seat}
-use Rattle.cb_member.specs.Facts.{EntryFields, CastEntry, ArriveEntry, TickEntry, facts_of, casts_in}
+use Rattle.cb_member.specs.Facts.{EntryFields, facts_of, casts_in}
 use Rattle.cb_member.specs.View.{view, drained, expanded_in, message_in}
 use Rattle.cb_member.specs.Known.{missing, ranges_of, acknowledged, stable}
-use Rattle.cb_member.specs.Answers.{cast_answer, arrive_answer, tick_answer, window, ArrivalSays, Accepted, Repeat}
+use Rattle.cb_member.specs.Answers.{cast_answer, arrive_answer, tick_answer, window, Accepted, Repeat}
 use Rattle.cb_member.specs.Legal.{Call, ToCast, ToTake, ToTick, history_after}
 
 -- member `me` of group 7 with three members and a window of 4

@@ -48,9 +48,9 @@ names_last (x ∷ ms) m differ =
     let other : is_among (ms ++ m ∷ []) x ≡ false = differ.0 in
     both_false _ (is_among ms m) (rw (flipped x.sender m.sender, flipped x.number m.number) (last_differs ms m x other)) (names_last ms m differ.1)
   where
-  last_differs : (ms : List Carried) (m x : Carried) → is_among (ms ++ m ∷ []) x ≡ false → (eqb m.sender x.sender && eqb m.number x.number) ≡ false
-  last_differs [] m x h = (or_false (eqb m.sender x.sender && eqb m.number x.number) false h).0
-  last_differs (y ∷ ms) m x h = last_differs ms m x (or_false (eqb y.sender x.sender && eqb y.number x.number) (is_among (ms ++ m ∷ []) x) h).1
+    last_differs : (ms : List Carried) (m x : Carried) → is_among (ms ++ m ∷ []) x ≡ false → (eqb m.sender x.sender && eqb m.number x.number) ≡ false
+    last_differs [] m x h = (or_false (eqb m.sender x.sender && eqb m.number x.number) false h).0
+    last_differs (y ∷ ms) m x h = last_differs ms m x (or_false (eqb y.sender x.sender && eqb y.number x.number) (is_among (ms ++ m ∷ []) x) h).1
 
 record IsNew (casts : List CastFields) (c : CastFields) : Type 0 where
   new : is_there casts c.sender c.number ≡ false
@@ -65,9 +65,9 @@ is_new seat facts f c s is =
       positive = s.positive (message c) (subst (IsIn (message c)) (sym messages) (last_is_in (messages_in (casts_in facts)) (message c)));
     }
   where
-  last_is_in : (ms : List Carried) (m : Carried) → IsIn m (ms ++ m ∷ [])
-  last_is_in [] m = inl refl
-  last_is_in (x ∷ ms) m = inr (last_is_in ms m)
+    last_is_in : (ms : List Carried) (m : Carried) → IsIn m (ms ++ m ∷ [])
+    last_is_in [] m = inl refl
+    last_is_in (x ∷ ms) m = inr (last_is_in ms m)
 
 one_cast_more : (facts : List Fact) (f : Fact) (c : CastFields) (m : Carried) (k : ℕ) → cast_in f ≡ c ∷ [] → IsNew (casts_in facts) c → is_expanded (casts_in facts) m ≡ true
     → expanded_field (casts_in (facts ++ f ∷ [])) m.sender m.number k ≡ expanded_field (casts_in facts) m.sender m.number k
@@ -156,8 +156,8 @@ own_growth : (seat : Seat) (facts : List Fact) (c : CastFields) (k : ℕ) → Is
 own_growth seat facts c k step lt other =
     let size : length (time_of seat.group.size facts) ≡ seat.group.size = length-map-range_with_len (count (view seat.group.size facts)) 0 seat.group.size in
     let told : growth_in c.changes k ≡ field (time_of seat.group.size facts) k - field (time_of seat.group.size (upto_last_cast facts)) k =
-        ap (λ (x : CastFields). growth_in x.changes k) step.next
-        ∙ growth_in-differences (time_of seat.group.size (upto_last_cast facts)) (time_of seat.group.size facts) seat.me k (omega (arith, lt, size)) other in
+    ap (λ (x : CastFields). growth_in x.changes k) step.next
+    ∙ growth_in-differences (time_of seat.group.size (upto_last_cast facts)) (time_of seat.group.size facts) seat.me k (omega (arith, lt, size)) other in
     omega (arith, told, time_at seat.group.size facts k lt, time_at seat.group.size (upto_last_cast facts) k lt)
 
 sum_push : (facts : List Fact) (f : Fact) (c : CastFields) (sender number k : ℕ) → cast_in f ≡ c ∷ [] → sum_by (growth_of sender number k) (casts_in (facts ++ f ∷ [])) ≡ sum_by (growth_of sender number k) (casts_in facts) + growth_of sender number k c
@@ -264,8 +264,8 @@ in_time_reached casts seen m k h =
           le_trans _ _ _ at (omega (arith, more))
     ]
   where
-  le_trans : (a b d : ℕ) → a ≤ b → b ≤ d → a ≤ d
-  le_trans a b d p q = omega (arith, p, q)
+    le_trans : (a b d : ℕ) → a ≤ b → b ≤ d → a ≤ d
+    le_trans a b d p q = omega (arith, p, q)
 
 le_more : (a b d e : ℕ) → a ≤ b → d ≡ b + e → a ≤ d
 le_more a b d e p q = omega (arith, p, q)
@@ -300,13 +300,13 @@ reached_step seat facts (OwnCast c) member legal s reached =
     (λ k lt.
     let told = tells seat facts c k member legal (few_facts seat (facts ++ OwnCast c ∷ []) legal) lt in
     let at : expanded_field (casts_in (facts ++ OwnCast c ∷ [])) c.sender c.number k ≡ count (view seat.group.size facts ++ message c ∷ []) k =
-        ap (λ (i : ℕ). expanded_field (casts_in (facts ++ OwnCast c ∷ [])) i c.number k) number.0 ∙ told ∙ ap (λ (ms : List Carried). count ms k) (view_own seat.group.size facts c) in
+    ap (λ (i : ℕ). expanded_field (casts_in (facts ++ OwnCast c ∷ [])) i c.number k) number.0 ∙ told ∙ ap (λ (ms : List Carried). count ms k) (view_own seat.group.size facts c) in
     subst (λ (n : ℕ). n ≤ count (view seat.group.size facts ++ message c ∷ []) k) (sym at) (omega arith)))
 reached_step seat facts (CastCame c) member legal s reached =
     let after = all_stand seat (facts ++ CastCame c ∷ []) member legal in
     let old : Reached seat.group.size (casts_in facts ++ c ∷ []) (view seat.group.size facts) = subst (λ (cs : List CastFields). Reached seat.group.size cs (view seat.group.size facts)) (casts_in-append facts (CastCame c)) (reached_stays seat facts (CastCame c) s after reached) in
     let drained : Reached seat.group.size (casts_in facts ++ c ∷ []) (drain seat.group.size (casts_in facts ++ c ∷ []) (view seat.group.size facts)) =
-        drain_keeps seat.group.size (casts_in facts ++ c ∷ []) (Reached seat.group.size (casts_in facts ++ c ∷ [])) (reached_next seat.group.size (casts_in facts ++ c ∷ [])) (view seat.group.size facts) old in
+    drain_keeps seat.group.size (casts_in facts ++ c ∷ []) (Reached seat.group.size (casts_in facts ++ c ∷ [])) (reached_next seat.group.size (casts_in facts ++ c ∷ [])) (view seat.group.size facts) old in
     subst (Reached seat.group.size (casts_in (facts ++ CastCame c ∷ []))) (sym (view_came seat.group.size facts c))
     (subst (λ (cs : List CastFields). Reached seat.group.size cs (drain seat.group.size (casts_in facts ++ c ∷ []) (view seat.group.size facts))) (sym (casts_in-append facts (CastCame c))) drained)
 reached_step seat facts (StatusCame t) member legal s reached =

@@ -56,7 +56,6 @@ view_told size facts s = view_with_one_more size facts (OwnStatus s)
 
 -- ---- own casts
 
-
 pub own_casts-own : (facts : List Fact) (c : CastFields) → own_casts (facts ++ OwnCast c ∷ []) ≡ own_casts facts ++ c ∷ []
 own_casts-own [] c = refl
 own_casts-own (OwnCast d ∷ facts) c = ap (λ (cs : List CastFields). d ∷ cs) (own_casts-own facts c)

@@ -82,8 +82,7 @@ cast_can seat facts payload group member legal room short =
     let number = count_below seat facts seat.me legal in
     let few : length (differences previous now seat.me) ≤ length now = few_from (is_told seat.me) (change_of previous now) 0 (length now) in
     let small : AllByRecursion IsSmall (differences previous now seat.me) = each_from (is_told seat.me) (change_of previous now) IsSmall 0 (length now) (λ k lt told.
-        let below = amount_below seat facts previous k legal (omega (arith, lt, size)) in (omega (arith, lt, size, few_members), omega (arith, below, room))) in
-    (
+    let below = amount_below seat facts previous k legal (omega (arith, lt, size)) in (omega (arith, lt, size, few_members), omega (arith, below, room))) in (
       record {
         sender = omega (arith, member, few_members);
         number = omega arith;
@@ -95,8 +94,19 @@ cast_can seat facts payload group member legal room short =
         };
       },
       short,
-      (fits, (omega (arith, member, few_members), (omega (arith, number, room), (omega (arith, few, size, few_members),
-      small_both (pairs_from 0 (differences previous now seat.me)) (length payload ∷ []) (pairs_small 0 (differences previous now seat.me) small) (omega (arith, short), tt))))),
+      (
+        fits,
+        (
+          omega (arith, member, few_members),
+          (
+            omega (arith, number, room),
+            (
+              omega (arith, few, size, few_members),
+              small_both (pairs_from 0 (differences previous now seat.me)) (length payload ∷ []) (pairs_small 0 (differences previous now seat.me) small) (omega (arith, short), tt),
+            ),
+          ),
+        ),
+      ),
     )
 
 -- ---- the own status
@@ -109,8 +119,7 @@ status_can seat facts group member legal room =
     let fits = group.number_fits in
     let few : length (filter some (map value (range_with_len 0 seat.group.size))) ≤ seat.group.size = few_from some value 0 seat.group.size in
     let small : AllByRecursion IsSmall (filter some (map value (range_with_len 0 seat.group.size))) = each_from some value IsSmall 0 seat.group.size (λ k lt told.
-        let below = count_below seat facts k legal in (omega (arith, lt, few_members), omega (arith, below, room))) in
-    (
+    let below = count_below seat facts k legal in (omega (arith, lt, few_members), omega (arith, below, room))) in (
       record {
         sender = omega (arith, member, few_members);
         values = record {

@@ -1,5 +1,5 @@
 -- What a member did, as its caller sees it.
-use Rattle.std.specs.Prelude.{ℕ, ◌==◌, List, map, if◌then◌else◌}
+use Rattle.std.specs.Prelude.{◌==◌, List, map, if◌then◌else◌}
 use Rattle.cb_frames.specs.Fields.{Carried}
 use Rattle.cb_member.specs.declared.answer.Event.{Event}
 use Rattle.cb_member.specs.declared.answer.Event.TheVariants.{Cast, Deliver}

@@ -1,6 +1,6 @@
 -- What the entries of a history say. Everything else about a member is a function of these facts.
-use Rattle.std.specs.Prelude.{ℕ, List, [], ◌∷◌, ◌++◌, Result, Ok, Err, map, filter, Bool, ◌&&◌, ◌==◌, nat_le, ◌+◌, ◌-◌}
-use Rattle.std.specs.List.{flat_map, list_any, list_all, range_with_len}
+use Rattle.std.specs.Prelude.{ℕ, List, [], ◌∷◌, Result, Ok, Err, Bool, ◌&&◌, ◌==◌, ◌+◌, ◌-◌}
+use Rattle.std.specs.List.{flat_map, list_any, range_with_len}
 use Rattle.cb_delay.specs.declared.message.Name.{Name}
 use Rattle.cb_frames.specs.declared.fault.FrameFault.{FrameFault}
 use Rattle.cb_frames.specs.Fields.{CastFields, StatusFields, FrameFields, CastFrame, StatusFrame, RequestFrame, Carried, messages_of}

@@ -1,9 +1,9 @@
 -- What a member knows of the others: how far they cast, and how far they delivered its own casts.
-use Rattle.std.specs.Prelude.{ℕ, ◌+◌, ◌-◌, Bool, ◌&&◌, not, ◌==◌, ◌++◌, nat_le, nat_lt, List, [], ◌∷◌, length, map, filter, max, min, Option, Some, None, if◌then◌else◌}
-use Rattle.std.specs.List.{list_any, list_all, range_with_len, flat_map}
+use Rattle.std.specs.Prelude.{ℕ, ◌+◌, not, ◌==◌, ◌++◌, List, [], ◌∷◌, map, filter, max, min, if◌then◌else◌}
+use Rattle.std.specs.List.{range_with_len, flat_map}
 use Rattle.cb_frames.specs.declared.frame.Change.{Change}
 use Rattle.cb_frames.specs.declared.frame.Range.{Range}
-use Rattle.cb_frames.specs.Fields.{CastFields, StatusFields, Carried, last_number}
+use Rattle.cb_frames.specs.Fields.{CastFields, Carried, last_number}
 use Rattle.cb_diffs.specs.Expansion.{expanded_field}
 use Rattle.cb_member.specs.Group.{Seat}
 use Rattle.cb_member.specs.Facts.{Fact, OwnCast, CastCame, StatusCame, OwnStatus, casts_in, is_there, numbers_between}

@@ -1,12 +1,13 @@
 -- What one more fact does, and what is true of every legal history.
-use Rattle.std.specs.Prelude.{◌≡◌, ◌≢◌, ℕ, ◌+◌, ◌<◌, ◌≤◌, true, false, List, [], ◌∷◌, ◌++◌, length, None, max, ◌==◌, if◌then◌else◌}
+use Rattle.std.specs.Prelude.{◌≡◌, ◌≢◌, ℕ, ◌+◌, ◌<◌, ◌≤◌, true, false, List, [], ◌∷◌, ◌++◌, length, None, max, ◌==◌, if◌then◌else◌, ◌⊎◌, ◌↔◌}
 use Rattle.std.specs.List.{AllByRecursion}
 use Rattle.cb_frames.specs.Fields.{CastFields, StatusFields, Carried}
 use Rattle.cb_diffs.specs.Expansion.{expanded_field, expanded_time}
 use Rattle.cb_member.specs.Group.{Seat}
-use Rattle.cb_member.specs.Facts.{EntryFields, Fact, OwnCast, CastCame, StatusCame, OwnStatus, said_by, facts_of, casts_in, messages_in}
+use Rattle.cb_member.specs.Facts.{EntryFields, Fact, OwnCast, CastCame, StatusCame, OwnStatus, said_by, facts_of, casts_in, messages_in, is_there}
 use Rattle.cb_member.specs.View.{count, is_among, is_expanded, is_ready, next_delivery, drain, view, time_of, seen_after}
-use Rattle.cb_member.specs.Known.{value_in, known, acknowledged, stable}
+use Rattle.cb_frames.specs.declared.frame.Range.{Range}
+use Rattle.cb_member.specs.Known.{value_in, known, expanded_count, missing, ranges_of, acknowledged, stable}
 use Rattle.cb_member.specs.Answers.{own_casts, delivered}
 use Rattle.cb_member.specs.Legal.{IsLegal}
 use Rattle.cb_member.specs.LegalFacts.{AreFactsOf}
@@ -123,3 +124,36 @@ OwnCastsTellTheView = (seat : Seat) (facts : List Fact) (c : CastFields) → Are
 abbrev pub TimesAreReached : Type 0
 TimesAreReached = (seat : Seat) (facts : List Fact) (m : Carried) (k : ℕ) → AreFactsOf seat facts → is_among (view seat.group.size facts) m ≡ true → k < seat.group.size
     → expanded_field (casts_in facts) m.sender m.number k ≤ delivered seat facts k
+
+-- ---- what is missing
+
+-- a number stands in a list
+abbrev pub Has : List ℕ → ℕ → Type 0
+Has [] n = ⊥
+Has (m ∷ ms) n = (m ≡ n) ⊎ Has ms n
+
+-- a number that the sender is known to have used and whose cast is not there
+pub record IsMissing (seat : Seat) (facts : List Fact) (i n : ℕ) : Type 0 where
+  pub above : expanded_count (casts_in facts) i < n
+  pub heard_of : n ≤ known facts i
+  pub in_window : n ≤ delivered seat facts i + seat.group.window
+  pub not_there : is_there (casts_in facts) i n ≡ false
+
+abbrev pub MissingIsExact : Type 0
+MissingIsExact = (seat : Seat) (facts : List Fact) (i n : ℕ) → Has (missing seat facts i) n ↔ IsMissing seat facts i n
+
+-- a number lies in one of these ranges
+abbrev pub InSome : List Range → ℕ → Type 0
+InSome [] n = ⊥
+InSome (r ∷ ranges) n = ((r.first ≤ n) × (n ≤ r.last)) ⊎ InSome ranges n
+
+-- no range is empty, and between two some number is left out
+abbrev pub AreApart : List Range → Type 0
+AreApart [] = Unit {0}
+AreApart (r ∷ []) = r.first ≤ r.last
+AreApart (r ∷ s ∷ ranges) = (r.first ≤ r.last) × (r.last + 2 ≤ s.first) × AreApart (s ∷ ranges)
+
+-- the ranges have just the missing numbers
+abbrev pub RangesOfMissing : Type 0
+RangesOfMissing = (seat : Seat) (facts : List Fact) (i : ℕ)
+    → ((n : ℕ) → InSome (ranges_of (missing seat facts i)) n ↔ Has (missing seat facts i) n) × AreApart (ranges_of (missing seat facts i))

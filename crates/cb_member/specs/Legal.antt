@@ -1,7 +1,5 @@
 -- Histories that a member can have.
-use Rattle.std.specs.Prelude.{◌≡◌, ℕ, ◌<◌, Bool, true, false, List, [], ◌∷◌, ◌++◌, map, Option, Some, None, Result, Ok, Err, if◌then◌else◌}
-use Rattle.cb_delay.specs.declared.message.Name.{Name}
-use Rattle.cb_delay.specs.declared.message.Message.{Message}
+use Rattle.std.specs.Prelude.{◌≡◌, ℕ, ◌<◌, Bool, List, [], ◌∷◌, ◌++◌, map, Option, Some, None, Result, Ok, Err, if◌then◌else◌}
 use Rattle.cb_frames.specs.Fields.{CastFields, StatusFrame, CastFrame}
 use Rattle.cb_frames.specs.Text.{text_of}
 use Rattle.cb_member.specs.declared.answer.CastRefusal.{CastRefusal}

@@ -1,10 +1,10 @@
 -- What a member has delivered, by a walk over the facts.
-use Rattle.std.specs.Prelude.{ℕ, zero, suc, ◌+◌, ◌-◌, Bool, ◌&&◌, not, ◌==◌, nat_le, List, [], ◌∷◌, ◌++◌, length, map, filter, Option, Some, None, MatchOption, if◌then◌else◌}
+use Rattle.std.specs.Prelude.{ℕ, zero, suc, ◌+◌, Bool, ◌&&◌, not, ◌==◌, nat_le, List, [], ◌∷◌, ◌++◌, length, map, filter, Option, Some, None, if◌then◌else◌}
 use Rattle.std.specs.List.{list_any, list_all, range_with_len}
 use Rattle.cb_frames.specs.Fields.{CastFields, Carried, messages_of}
 use Rattle.cb_delay.specs.declared.message.Message.{Message}
 use Rattle.cb_diffs.specs.Expansion.{expanded_field, expanded_time}
-use Rattle.cb_member.specs.Facts.{Fact, OwnCast, CastCame, StatusCame, OwnStatus, cast_in, casts_in, messages_in, is_there, numbers_between}
+use Rattle.cb_member.specs.Facts.{Fact, OwnCast, CastCame, StatusCame, OwnStatus, cast_in, messages_in, is_there, numbers_between}
 
 -- how many of these messages are member k's
 abbrev pub count : List Carried → ℕ → ℕ

@@ -1,6 +1,6 @@
 //! What the definitions of one member imply, as contracts of functions that do nothing.
 
-ghost use Rattle.cb_member.specs.Laws.{ViewWithOneMore, NothingReadyIsLeft, NextIsTheOnlyCandidate, NamesStandOnce, OwnCastsAreNumbered, OwnMessagesAreOwn, ViewIsInOrder, ViewIsOfCasts, StatusIsKnown, StatusIsAcknowledged, OwnStatusTellsNothing, NothingFalls, PrefixIsLegal, LegalHistoriesSayLegalFacts, EachEntrySaysOneFact, TimesStay, OwnCastsTellTheView, TimesAreReached};
+ghost use Rattle.cb_member.specs.Laws.{ViewWithOneMore, NothingReadyIsLeft, NextIsTheOnlyCandidate, NamesStandOnce, OwnCastsAreNumbered, OwnMessagesAreOwn, ViewIsInOrder, ViewIsOfCasts, StatusIsKnown, StatusIsAcknowledged, OwnStatusTellsNothing, NothingFalls, PrefixIsLegal, LegalHistoriesSayLegalFacts, EachEntrySaysOneFact, TimesStay, OwnCastsTellTheView, TimesAreReached, MissingIsExact, RangesOfMissing};
 
 /// What one more fact does to the view, and what a drain leaves: nothing that is ready. Of each sender only the next message can be.
 pub fn view_with_one_more_fact()
@@ -45,4 +45,11 @@ pub fn times_of_messages()
     ensures stay { TimesStay }
     ensures own { OwnCastsTellTheView }
     ensures reached { TimesAreReached }
+{}
+
+/// What is missing of a sender: the numbers above what is expanded, heard of and within the window, whose casts are not there. As
+/// ranges they are the same numbers, in rising order, and neither touch nor overlap.
+pub fn missing_numbers()
+    ensures exact { MissingIsExact }
+    ensures ranges { RangesOfMissing }
 {}

@@ -6,7 +6,10 @@ use std::test::Fail;
 #[test]
 fn a_group_has_2_to_64_members_and_a_window_of_1_to_256(rt: HostRuntime) {
     for (number, size, window) in [(7, 1, 4), (7, 65, 4), (7, 3, 0), (7, 3, 257)] {
-        assert!(rt; Group::new(number, size, window) == Err(BadGroup), "at {size} and {window}");
+        assert!(rt;
+            Group::new(number, size, window) == Err(BadGroup),
+            "at {size} and {window}"
+        );
     }
     for (number, size, window) in [(4_294_967_295, 64, 256), (0, 2, 1)] {
         match Group::new(number, size, window) {
@@ -29,7 +32,10 @@ fn a_copied_history_has_the_same_entries(rt: HostRuntime) -> Result<(), Fail> {
     let mut entries = Vec::new(alloc);
     entries.push(Entry::Arrive {
         frame: Bytes::from_static(b"\x11\x07\x00\x01\x00\x02hi"),
-        delivered: vec![in alloc; Name { sender: 0, number: 1 }; 1]?,
+        delivered: vec![in alloc; Name {
+            sender: 0,
+            number: 1
+        }; 1]?,
     })?;
     entries.push(Entry::Cast {
         frame: Bytes::from_static(b"\x11\x07\x01\x01\x01\x00\x01\x02yo"),

@@ -1,0 +1,8 @@
+use Rattle.cb_member.proofs.Gaps.{missing_is_exact, ranges_of_missing}
+use Rattle.cb_member.proofs.laws.missing_numbers.Goals as goal
+
+pub returns-clause-exact : goal.returns-clause-exact
+returns-clause-exact c = missing_is_exact
+
+pub returns-clause-ranges : goal.returns-clause-ranges
+returns-clause-ranges c = ranges_of_missing
