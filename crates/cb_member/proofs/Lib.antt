@@ -11,5 +11,9 @@ pub mod Written
 pub mod Histories
 pub mod Growth
 pub mod Times
+pub mod Acknowledged
+pub mod Agreement
+pub mod Requests
+pub mod InTime
 pub mod Copies
 pub mod Gaps

@@ -8,7 +8,7 @@ use Rattle.cb_member.specs.Facts.{Fact, OwnCast, CastCame, StatusCame, OwnStatus
 use Rattle.cb_member.specs.View.{count, is_among, next_delivery, drain, view}
 use Rattle.cb_member.specs.Answers.{own_casts, delivered}
 use Rattle.cb_member.specs.LegalFacts.{IsCastTaken, IsStep, AreLegalFacts, NoFacts, OneFactMore}
-use Rattle.cb_member.specs.Laws.{InOrderAfter, NamesDiffer, NumberedFrom, CameFromOthers, NamesStandOnce, OwnCastsAreNumbered, OwnMessagesAreOwn, ViewIsInOrder, ViewIsOfCasts}
+use Rattle.cb_member.specs.Laws.{InOrderAfter, NamesDiffer, NumberedFrom, CameFromOthers, NamesStandOnce, OwnCastsAreNumbered, OwnMessagesAreOwn, ViewIsInOrder, ViewHoldsTheFirst, ViewIsOfCasts}
 use Rattle.cb_member.proofs.Views.{IsIn, next_is, next_is_the_only_candidate, ready_is_new, expanded_is_there, casts_in-append, test_true, among_more, among_itself}
 use Rattle.cb_member.proofs.Lists.{messages_in-push, in_front, in_back, in_push, names_push, in_is_among, among_is, count_own, count_other, order_push, among_by_order, order_bound}
 use Rattle.cb_member.proofs.Walks.{drain_keeps, view_own, view_came, view_status, view_told, own_casts-own, own_casts-other}
@@ -235,3 +235,18 @@ view_is_of_casts seat facts m are among =
     let found = among_is (view seat.group.size facts) m among in
     let there : is_among (messages_in (casts_in facts)) found.0 ≡ true = in_is_among (messages_in (casts_in facts)) found.0 (s.there found.0 found.1) in
     subst (λ (k : ℕ). is_there (casts_in facts) k m.number ≡ true) found.2 (subst (λ (n : ℕ). is_there (casts_in facts) found.0.sender n ≡ true) found.3 there)
+
+pub view_holds_the_first : ViewHoldsTheFirst
+view_holds_the_first seat facts m are = (first_of_there, there_of_first)
+  where
+    first_of_there : is_among (view seat.group.size facts) m ≡ true → (1 ≤ m.number) × (m.number ≤ delivered seat facts m.sender)
+    first_of_there among =
+        let s = all_stand seat facts are.member are.facts_are in
+        let found = among_is (view seat.group.size facts) m among in
+        let bound = order_bound [] (view seat.group.size facts) found.0 s.order found.1 in
+        let positive = s.positive found.0 (s.there found.0 found.1) in
+        let at : delivered seat facts found.0.sender ≡ delivered seat facts m.sender = ap (delivered seat facts) found.2 in
+        (omega (arith, positive, found.3), omega (arith, bound, at, found.3))
+
+    there_of_first : (1 ≤ m.number) × (m.number ≤ delivered seat facts m.sender) → is_among (view seat.group.size facts) m ≡ true
+    there_of_first h = among_by_order [] (view seat.group.size facts) m (all_stand seat facts are.member are.facts_are).order (omega (arith, h.0)) (omega (arith, h.1))

@@ -2,15 +2,16 @@
 use Rattle.std.proofs.Common.{◌≡◌, List, [], ◌∷◌, ◌++◌, refl, sym, ap, subst, ◌∙◌, append_assoc, inl, inr, ◌⊎◌}
 use Rattle.std.proofs.lemmas.List.{append-nil}
 use Rattle.cb_member.specs.Group.{Seat}
-use Rattle.cb_member.specs.Facts.{EntryFields}
+use Rattle.cb_member.specs.Facts.{EntryFields, Fact}
 use Rattle.cb_member.specs.Legal.{AreLegal, NoEntries, OneMore}
-use Rattle.cb_member.specs.Laws.{PrefixIsLegal}
+use Rattle.cb_member.specs.LegalFacts.{IsStep, AreLegalFacts, NoFacts, OneFactMore}
+use Rattle.cb_member.specs.Laws.{PrefixIsLegal, PrefixOfFactsIsLegal, LastFactIsAStep}
 
 -- a list is empty, or has a last element
-abbrev Ends : {A : Type 0} → List A → Type 0
+abbrev pub Ends : {A : Type 0} → List A → Type 0
 Ends {A} xs = (xs ≡ []) ⊎ ((front : List A) × (last : A) × (xs ≡ front ++ last ∷ []))
 
-ends : {A : Type 0} (xs : List A) → Ends xs
+pub ends : {A : Type 0} (xs : List A) → Ends xs
 ends [] = inl refl
 ends {A} (x ∷ xs) = elim (ends xs) [
   | inl none ↦ inr ([], x, ap (λ (ys : List A). x ∷ ys) none)
@@ -18,7 +19,7 @@ ends {A} (x ∷ xs) = elim (ends xs) [
 ]
 
 -- two lists that end in one element and are one
-same_front : {A : Type 0} (xs ys : List A) (x y : A) → xs ++ x ∷ [] ≡ ys ++ y ∷ [] → xs ≡ ys
+pub same_front : {A : Type 0} (xs ys : List A) (x y : A) → xs ++ x ∷ [] ≡ ys ++ y ∷ [] → xs ≡ ys
 same_front [] [] x y e = refl
 same_front [] (b ∷ []) x y e = absurd cc
 same_front [] (b ∷ d ∷ ys) x y e = absurd cc
@@ -29,6 +30,17 @@ same_front {A} (a ∷ xs) (b ∷ ys) x y e =
     let tails : xs ++ x ∷ [] ≡ ys ++ y ∷ [] = cc in
     let fronts : xs ≡ ys = same_front xs ys x y tails in
     cc
+
+-- and they end in one element
+pub same_last : {A : Type 0} (xs ys : List A) (x y : A) → xs ++ x ∷ [] ≡ ys ++ y ∷ [] → x ≡ y
+same_last [] [] x y e = cc
+same_last [] (b ∷ []) x y e = absurd cc
+same_last [] (b ∷ d ∷ ys) x y e = absurd cc
+same_last (a ∷ []) [] x y e = absurd cc
+same_last (a ∷ d ∷ xs) [] x y e = absurd cc
+same_last {A} (a ∷ xs) (b ∷ ys) x y e =
+    let tails : xs ++ x ∷ [] ≡ ys ++ y ∷ [] = cc in
+    same_last xs ys x y tails
 
 none_before : {A : Type 0} (xs ys : List A) → [] ≡ xs ++ ys → xs ≡ []
 none_before [] ys e = refl
@@ -48,3 +60,32 @@ prefix_is_legal seat entries more legal = record {
   member = legal.member;
   entries_are = prefix seat (entries ++ more) legal.entries_are entries more refl;
 }
+
+-- ---- facts
+
+prefix_of_facts : (seat : Seat) (all : List Fact) → AreLegalFacts seat all → (facts more : List Fact) → all ≡ facts ++ more → AreLegalFacts seat facts
+prefix_of_facts seat _ NoFacts facts more e = subst (AreLegalFacts seat) (sym (none_before facts more e)) NoFacts
+prefix_of_facts seat _ (OneFactMore before f legal room step) facts more e =
+    elim (ends more) [
+      | inl none ↦ subst (AreLegalFacts seat) (e ∙ ap (λ (m : List Fact). facts ++ m) none ∙ append-nil facts) (OneFactMore before f legal room step)
+      | inr w ↦ prefix_of_facts seat before legal facts w.0 (same_front before (facts ++ w.0) f w.1 (e ∙ ap (λ (m : List Fact). facts ++ m) w.2 ∙ sym (append_assoc facts w.0 (w.1 ∷ []))))
+    ]
+
+pub prefix_of_facts_is_legal : PrefixOfFactsIsLegal
+prefix_of_facts_is_legal seat facts more are = record {
+  group = are.group;
+  member = are.member;
+  facts_are = prefix_of_facts seat (facts ++ more) are.facts_are facts more refl;
+}
+
+no_last : {A : Type 0} (xs : List A) (x : A) → [] ≡ xs ++ x ∷ [] → ⊥
+no_last [] x e = cc
+no_last (y ∷ xs) x e = cc
+
+last_step : (seat : Seat) (all : List Fact) → AreLegalFacts seat all → (facts : List Fact) (f : Fact) → all ≡ facts ++ f ∷ [] → IsStep seat facts f
+last_step seat _ NoFacts facts f e = absurd (no_last facts f e)
+last_step seat _ (OneFactMore before g legal room step) facts f e =
+    subst (λ (fs : List Fact). IsStep seat fs f) (same_front before facts g f e) (subst (IsStep seat before) (same_last before facts g f e) step)
+
+pub last_fact_is_a_step : LastFactIsAStep
+last_fact_is_a_step seat facts f are = last_step seat (facts ++ f ∷ []) are.facts_are facts f refl

@@ -14,7 +14,7 @@ use Rattle.cb_member.proofs.Views.{casts_in-append, test_true}
 use Rattle.cb_member.proofs.Lists.{flat_map-append}
 use Rattle.cb_member.proofs.Walks.{view_grows, view_status, view_told}
 
-greatest_of-append : (xs ys : List ℕ) → greatest_of (xs ++ ys) ≡ max (greatest_of xs) (greatest_of ys)
+pub greatest_of-append : (xs ys : List ℕ) → greatest_of (xs ++ ys) ≡ max (greatest_of xs) (greatest_of ys)
 greatest_of-append [] ys = omega arith
 greatest_of-append (x ∷ xs) ys = let others = greatest_of-append xs ys in omega (arith, others)
 

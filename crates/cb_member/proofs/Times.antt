@@ -1,5 +1,5 @@
 -- The times of messages, and the views that they were cast in.
-use Rattle.std.proofs.Common.{◌≡◌, ◌≢◌, ℕ, zero, suc, ◌+◌, ◌-◌, ◌<◌, ◌≤◌, Bool, true, false, ◌&&◌, ◌||◌, cond, eqb, leb, List, [], ◌∷◌, ◌++◌, length, map, Some, refl, sym, ap, subst, ◌∙◌, arith, inl, inr}
+use Rattle.std.proofs.Common.{◌≡◌, ◌≢◌, ℕ, zero, suc, ◌+◌, ◌-◌, ◌<◌, ◌≤◌, Bool, true, false, ◌&&◌, ◌||◌, cond, eqb, leb, List, [], ◌∷◌, ◌++◌, length, map, Some, refl, sym, ap, subst, ◌∙◌, append_assoc, arith, inl, inr}
 use Rattle.std.specs.List.{list_any, list_all, range_with_len, sum_by}
 use Rattle.std.proofs.lemmas.Bool.{cases_eq, eq-eqb, ne_eqb, eqb-true, leb-true}
 use Rattle.std.proofs.lemmas.List.{append-nil, length-append}
@@ -12,13 +12,15 @@ use Rattle.cb_member.specs.Group.{Seat}
 use Rattle.cb_member.specs.Facts.{Fact, OwnCast, CastCame, StatusCame, OwnStatus, cast_in, casts_in, messages_in, is_there}
 use Rattle.cb_member.specs.View.{count, is_among, is_expanded, is_in_time, next_delivery, drain, view, time_of}
 use Rattle.cb_member.specs.Answers.{own_casts, delivered, is_own_cast, upto_last_cast}
-use Rattle.cb_member.specs.LegalFacts.{IsOwnCast, IsStep, AreLegalFacts, NoFacts, OneFactMore}
+use Rattle.cb_member.specs.LegalFacts.{IsOwnCast, IsStep, AreLegalFacts, NoFacts, OneFactMore, AreFactsOf}
 use Rattle.cb_member.specs.Laws.{NamesDiffer, NumberedFrom, TimesStay, OwnCastsTellTheView, TimesAreReached}
 use Rattle.cb_member.proofs.Views.{IsIn, next_is, casts_in-append, test_true, all_in_range, or_right}
 use Rattle.cb_member.proofs.Lists.{messages_in-push, in_push, in_is_among, among_is, count-append, count_own, count_other, among_by_order, order_bound, or_false, both_false, flipped}
 use Rattle.cb_member.proofs.Walks.{drain_keeps, view_grows, view_own, view_came, view_status, view_told, own_casts-own, IsNotOwn}
 use Rattle.cb_member.proofs.Names.{Stands, StandsAt, all_stand, message, came_is_others}
 use Rattle.cb_member.proofs.Bounds.{count_below}
+use Rattle.cb_member.proofs.Prefixes.{prefix_of_facts_is_legal}
+use Rattle.cb_member.proofs.Rising.{expanded_more}
 use Rattle.cb_member.proofs.Growth.{growth_of-other, growth_of-own, same_field, growth_in-differences}
 
 -- ---- what the view holds is expanded
@@ -35,7 +37,7 @@ seen_is_there seat casts seen own sender number s low high =
     let there : is_among (messages_in casts) found.0 ≡ true = in_is_among (messages_in casts) found.0 (s.there found.0 found.1) in
     subst (λ (k : ℕ). is_there casts k number ≡ true) found.2 (subst (λ (n : ℕ). is_there casts found.0.sender n ≡ true) found.3 there)
 
-seen_is_expanded : (seat : Seat) (casts : List CastFields) (seen : List Carried) (own : List CastFields) (m : Carried) → Stands seat casts seen own → IsIn m seen → is_expanded casts m ≡ true
+pub seen_is_expanded : (seat : Seat) (casts : List CastFields) (seen : List Carried) (own : List CastFields) (m : Carried) → Stands seat casts seen own → IsIn m seen → is_expanded casts m ≡ true
 seen_is_expanded seat casts seen own m s there =
     let bound = order_bound [] seen m s.order there in
     all_from_range (is_there casts m.sender) (0 + 1) (m.number - 0) (λ k low high. seen_is_there seat casts seen own m.sender k s (omega (arith, low)) (omega (arith, high, bound)))
@@ -52,6 +54,10 @@ names_last (x ∷ ms) m differ =
     last_differs [] m x h = (or_false (eqb m.sender x.sender && eqb m.number x.number) false h).0
     last_differs (y ∷ ms) m x h = last_differs ms m x (or_false (eqb y.sender x.sender && eqb y.number x.number) (is_among (ms ++ m ∷ []) x) h).1
 
+last_is_in : (ms : List Carried) (m : Carried) → IsIn m (ms ++ m ∷ [])
+last_is_in [] m = inl refl
+last_is_in (x ∷ ms) m = inr (last_is_in ms m)
+
 record IsNew (casts : List CastFields) (c : CastFields) : Type 0 where
   new : is_there casts c.sender c.number ≡ false
   positive : 1 ≤ c.number
@@ -64,10 +70,6 @@ is_new seat facts f c s is =
       new = names_last (messages_in (casts_in facts)) (message c) (subst NamesDiffer messages s.names);
       positive = s.positive (message c) (subst (IsIn (message c)) (sym messages) (last_is_in (messages_in (casts_in facts)) (message c)));
     }
-  where
-    last_is_in : (ms : List Carried) (m : Carried) → IsIn m (ms ++ m ∷ [])
-    last_is_in [] m = inl refl
-    last_is_in (x ∷ ms) m = inr (last_is_in ms m)
 
 one_cast_more : (facts : List Fact) (f : Fact) (c : CastFields) (m : Carried) (k : ℕ) → cast_in f ≡ c ∷ [] → IsNew (casts_in facts) c → is_expanded (casts_in facts) m ≡ true
     → expanded_field (casts_in (facts ++ f ∷ [])) m.sender m.number k ≡ expanded_field (casts_in facts) m.sender m.number k
@@ -78,7 +80,7 @@ one_cast_more facts f c m k is n expanded =
 no_cast_more : (facts : List Fact) (f : Fact) (m : Carried) (k : ℕ) → cast_in f ≡ [] → expanded_field (casts_in (facts ++ f ∷ [])) m.sender m.number k ≡ expanded_field (casts_in facts) m.sender m.number k
 no_cast_more facts f m k is = ap (λ (cs : List CastFields). expanded_field cs m.sender m.number k) (casts_in-append facts f ∙ ap (λ (cs : List CastFields). casts_in facts ++ cs) is ∙ append-nil (casts_in facts))
 
-stays : (seat : Seat) (facts : List Fact) (f : Fact) (m : Carried) (k : ℕ) → StandsAt seat (facts ++ f ∷ []) → is_expanded (casts_in facts) m ≡ true
+pub stays : (seat : Seat) (facts : List Fact) (f : Fact) (m : Carried) (k : ℕ) → StandsAt seat (facts ++ f ∷ []) → is_expanded (casts_in facts) m ≡ true
     → expanded_field (casts_in (facts ++ f ∷ [])) m.sender m.number k ≡ expanded_field (casts_in facts) m.sender m.number k
 stays seat facts (OwnCast c) m k s expanded = one_cast_more facts (OwnCast c) c m k refl (is_new seat facts (OwnCast c) c s refl) expanded
 stays seat facts (CastCame c) m k s expanded = one_cast_more facts (CastCame c) c m k refl (is_new seat facts (CastCame c) c s refl) expanded
@@ -86,7 +88,15 @@ stays seat facts (StatusCame t) m k s expanded = no_cast_more facts (StatusCame 
 stays seat facts (OwnStatus t) m k s expanded = no_cast_more facts (OwnStatus t) m k refl
 
 pub times_stay : TimesStay
-times_stay seat facts f m k are expanded = stays seat facts f m k (all_stand seat (facts ++ f ∷ []) are.member are.facts_are) expanded
+times_stay seat facts [] m k are expanded = ap (λ (fs : List Fact). expanded_field (casts_in fs) m.sender m.number k) (append-nil facts)
+times_stay seat facts (f ∷ more) m k are expanded =
+    let regrouped : (facts ++ f ∷ []) ++ more ≡ facts ++ f ∷ more = append_assoc facts (f ∷ []) more in
+    let all : AreFactsOf seat ((facts ++ f ∷ []) ++ more) = subst (AreFactsOf seat) (sym regrouped) are in
+    let one = prefix_of_facts_is_legal seat (facts ++ f ∷ []) more all in
+    let expanded_now : is_expanded (casts_in (facts ++ f ∷ [])) m ≡ true = subst (λ (cs : List CastFields). is_expanded cs m ≡ true) (sym (casts_in-append facts f)) (expanded_more (casts_in facts) (cast_in f) m expanded) in
+    ap (λ (fs : List Fact). expanded_field (casts_in fs) m.sender m.number k) (sym regrouped)
+    ∙ times_stay seat (facts ++ f ∷ []) more m k all expanded_now
+    ∙ stays seat facts f m k (all_stand seat (facts ++ f ∷ []) one.member one.facts_are) expanded
 
 -- ---- the facts up to the last own cast
 
@@ -115,7 +125,7 @@ upto_other (g ∷ facts) f h =
     ap (λ (b : Bool). cond b (g ∷ upto_last_cast (facts ++ f ∷ [])) []) (any_other (g ∷ facts) f h)
     ∙ ap (λ (fs : List Fact). cond (list_any is_own_cast (g ∷ facts)) (g ∷ fs) []) (upto_other facts f h)
 
-count_grows : (size : ℕ) (facts : List Fact) (f : Fact) (k : ℕ) → count (view size facts) k ≤ count (view size (facts ++ f ∷ [])) k
+pub count_grows : (size : ℕ) (facts : List Fact) (f : Fact) (k : ℕ) → count (view size facts) k ≤ count (view size (facts ++ f ∷ [])) k
 count_grows size facts f k =
     let grown = view_grows size facts f in
     let counted : count (view size (facts ++ f ∷ [])) k ≡ count (view size facts) k + count grown.0 k = ap (λ (ms : List Carried). count ms k) grown.1 ∙ count-append (view size facts) grown.0 k in
@@ -204,14 +214,14 @@ numbered_last : (me n : ℕ) (own : List CastFields) (c : CastFields) → Number
 numbered_last me n [] c numbered = (numbered.0, omega (arith, numbered.1))
 numbered_last me n (d ∷ own) c numbered = let last = numbered_last me (n + 1) own c numbered.2 in (last.0, omega (arith, last.1))
 
-own_number : (seat : Seat) (facts : List Fact) (c : CastFields) → StandsAt seat (facts ++ OwnCast c ∷ []) → (c.sender ≡ seat.me) × (c.number ≡ count (view seat.group.size (facts ++ OwnCast c ∷ [])) seat.me)
+pub own_number : (seat : Seat) (facts : List Fact) (c : CastFields) → StandsAt seat (facts ++ OwnCast c ∷ []) → (c.sender ≡ seat.me) × (c.number ≡ count (view seat.group.size (facts ++ OwnCast c ∷ [])) seat.me)
 own_number seat facts c s =
     let own : own_casts (facts ++ OwnCast c ∷ []) ≡ own_casts facts ++ c ∷ [] = own_casts-own facts c in
     let last = numbered_last seat.me 1 (own_casts facts) c (subst (NumberedFrom seat.me 1) own s.own_numbers) in
     let as_many : length (own_casts (facts ++ OwnCast c ∷ [])) ≡ length (own_casts facts) + 1 = ap length own ∙ length-append (own_casts facts) (c ∷ []) in
     (last.0, omega (arith, last.1, s.own_count, as_many))
 
-tells : (seat : Seat) (facts : List Fact) (c : CastFields) (k : ℕ) → seat.me < seat.group.size → AreLegalFacts seat (facts ++ OwnCast c ∷ []) → length (facts ++ OwnCast c ∷ []) ≤ greatest → k < seat.group.size
+pub tells : (seat : Seat) (facts : List Fact) (c : CastFields) (k : ℕ) → seat.me < seat.group.size → AreLegalFacts seat (facts ++ OwnCast c ∷ []) → length (facts ++ OwnCast c ∷ []) ≤ greatest → k < seat.group.size
     → expanded_field (casts_in (facts ++ OwnCast c ∷ [])) seat.me c.number k ≡ count (view seat.group.size (facts ++ OwnCast c ∷ [])) k
 tells seat facts c k member legal few lt =
     let last = own_number seat facts c (all_stand seat (facts ++ OwnCast c ∷ []) member legal) in
@@ -224,7 +234,7 @@ tells seat facts c k member legal few lt =
           rw (ne_eqb k seat.me ne) (omega (arith, sum, upto, small, few))
     ]
 
-few_facts : (seat : Seat) (facts : List Fact) → AreLegalFacts seat facts → length facts ≤ greatest
+pub few_facts : (seat : Seat) (facts : List Fact) → AreLegalFacts seat facts → length facts ≤ greatest
 few_facts seat _ NoFacts = omega arith
 few_facts seat _ (OneFactMore facts f before room step) = omega (arith, room, length-append facts (f ∷ []))
 
@@ -233,10 +243,24 @@ same_over_range f g a zero same = refl
 same_over_range f g a (suc n) same =
     ap (λ (x : ℕ). x ∷ map f (range_with_len (a + 1) n)) (same a (omega arith)) ∙ ap (λ (xs : List ℕ). g a ∷ xs) (same_over_range f g (a + 1) n (λ k lt. same k (omega arith)))
 
+own_is_expanded : (seat : Seat) (facts : List Fact) (c : CastFields) → StandsAt seat (facts ++ OwnCast c ∷ []) → is_expanded (casts_in (facts ++ OwnCast c ∷ [])) (message c) ≡ true
+own_is_expanded seat facts c s =
+    seen_is_expanded seat (casts_in (facts ++ OwnCast c ∷ [])) (view seat.group.size (facts ++ OwnCast c ∷ [])) (own_casts (facts ++ OwnCast c ∷ [])) (message c) s
+    (subst (IsIn (message c)) (sym (view_own seat.group.size facts c)) (last_is_in (view seat.group.size facts) (message c)))
+
 pub own_casts_tell_the_view : OwnCastsTellTheView
-own_casts_tell_the_view seat facts c are =
-    same_over_range (expanded_field (casts_in (facts ++ OwnCast c ∷ [])) seat.me c.number) (count (view seat.group.size (facts ++ OwnCast c ∷ []))) 0 seat.group.size
-    (λ k lt. tells seat facts c k are.member are.facts_are (few_facts seat (facts ++ OwnCast c ∷ []) are.facts_are) (omega (arith, lt)))
+own_casts_tell_the_view seat facts more c are =
+    let regrouped : (facts ++ OwnCast c ∷ []) ++ more ≡ facts ++ OwnCast c ∷ more = append_assoc facts (OwnCast c ∷ []) more in
+    let all : AreFactsOf seat ((facts ++ OwnCast c ∷ []) ++ more) = subst (AreFactsOf seat) (sym regrouped) are in
+    let now = prefix_of_facts_is_legal seat (facts ++ OwnCast c ∷ []) more all in
+    let s = all_stand seat (facts ++ OwnCast c ∷ []) now.member now.facts_are in
+    let sender = (own_number seat facts c s).0 in
+    let stay : (k : ℕ) → expanded_field (casts_in (facts ++ OwnCast c ∷ more)) seat.me c.number k ≡ expanded_field (casts_in (facts ++ OwnCast c ∷ [])) seat.me c.number k = λ k.
+    subst (λ (i : ℕ). expanded_field (casts_in (facts ++ OwnCast c ∷ more)) i c.number k ≡ expanded_field (casts_in (facts ++ OwnCast c ∷ [])) i c.number k) sender
+    (subst (λ (fs : List Fact). expanded_field (casts_in fs) c.sender c.number k ≡ expanded_field (casts_in (facts ++ OwnCast c ∷ [])) c.sender c.number k) regrouped
+    (times_stay seat (facts ++ OwnCast c ∷ []) more (message c) k all (own_is_expanded seat facts c s))) in
+    same_over_range (expanded_field (casts_in (facts ++ OwnCast c ∷ more)) seat.me c.number) (count (view seat.group.size (facts ++ OwnCast c ∷ []))) 0 seat.group.size
+    (λ k lt. stay k ∙ tells seat facts c k now.member now.facts_are (few_facts seat (facts ++ OwnCast c ∷ []) now.facts_are) (omega (arith, lt)))
 
 -- ---- the times of what was delivered
 
@@ -251,7 +275,7 @@ pick_false : (b x y : Bool) → b ≡ false → cond b x y ≡ true → y ≡ tr
 pick_false true x y e h = absurd cc
 pick_false false x y e h = h
 
-in_time_reached : (casts : List CastFields) (seen : List Carried) (m : Carried) (k : ℕ) → is_in_time casts seen m k ≡ true → expanded_field casts m.sender m.number k ≤ count (seen ++ m ∷ []) k
+pub in_time_reached : (casts : List CastFields) (seen : List Carried) (m : Carried) (k : ℕ) → is_in_time casts seen m k ≡ true → expanded_field casts m.sender m.number k ≤ count (seen ++ m ∷ []) k
 in_time_reached casts seen m k h =
     elim (cases_eq k m.sender) [
       | inl e ↦

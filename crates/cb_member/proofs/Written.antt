@@ -71,7 +71,7 @@ told_says own d h =
     let some = ltb-true 0 d.amount both.1 in
     (eqb-false d.field own (not_true (eqb d.field own) both.0), omega (arith, some))
 
-pub cast_can : (seat : Seat) (facts : List Fact) (payload : List ℕ) → AreParameters seat.group → seat.me < seat.group.size → AreLegalFacts seat facts → length facts < longest_history → length payload ≤ LONGEST_PAYLOAD
+pub cast_can : (seat : Seat) (facts : List Fact) (payload : List ℕ) → AreParameters seat.group → seat.me < seat.group.size → AreLegalFacts seat facts → length facts ≤ longest_history → length payload ≤ LONGEST_PAYLOAD
     → CanBeWritten (CastFrame (next_cast seat facts payload))
 cast_can seat facts payload group member legal room short =
     let previous = time_of seat.group.size (upto_last_cast facts) in
@@ -111,7 +111,7 @@ cast_can seat facts payload group member legal room short =
 
 -- ---- the own status
 
-pub status_can : (seat : Seat) (facts : List Fact) → AreParameters seat.group → seat.me < seat.group.size → AreLegalFacts seat facts → length facts < longest_history → CanBeWritten (StatusFrame (status_of seat facts))
+pub status_can : (seat : Seat) (facts : List Fact) → AreParameters seat.group → seat.me < seat.group.size → AreLegalFacts seat facts → length facts ≤ longest_history → CanBeWritten (StatusFrame (status_of seat facts))
 status_can seat facts group member legal room =
     let value : ℕ → Change = λ k. record { field = k; amount = delivered seat facts k } in
     let some : Change → Bool = λ d. ltb 0 d.amount in

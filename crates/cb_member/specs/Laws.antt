@@ -1,16 +1,18 @@
 -- What one more fact does, and what is true of every legal history.
-use Rattle.std.specs.Prelude.{◌≡◌, ◌≢◌, ℕ, ◌+◌, ◌<◌, ◌≤◌, true, false, List, [], ◌∷◌, ◌++◌, length, None, max, ◌==◌, if◌then◌else◌, ◌⊎◌, ◌↔◌}
+use Rattle.std.specs.Prelude.{◌≡◌, ◌≢◌, ℕ, ◌+◌, ◌<◌, ◌≤◌, ◌↔◌, true, false, List, [], ◌∷◌, ◌++◌, length, take, None, max, ◌==◌, if◌then◌else◌, ◌⊎◌}
 use Rattle.std.specs.List.{AllByRecursion}
-use Rattle.cb_frames.specs.Fields.{CastFields, StatusFields, Carried}
+use Rattle.cb_frames.specs.declared.frame.TheConstants.{LONGEST_PAYLOAD, MOST_RANGES}
+use Rattle.cb_frames.specs.declared.frame.Range.{Range}
+use Rattle.cb_frames.specs.Fields.{CastFields, StatusFields, Carried, CastFrame, StatusFrame, RequestFrame}
+use Rattle.cb_frames.specs.Laws.{CanBeWritten}
 use Rattle.cb_diffs.specs.Expansion.{expanded_field, expanded_time}
 use Rattle.cb_member.specs.Group.{Seat}
 use Rattle.cb_member.specs.Facts.{EntryFields, Fact, OwnCast, CastCame, StatusCame, OwnStatus, said_by, facts_of, casts_in, messages_in, is_there}
 use Rattle.cb_member.specs.View.{count, is_among, is_expanded, is_ready, next_delivery, drain, view, time_of, seen_after}
-use Rattle.cb_frames.specs.declared.frame.Range.{Range}
 use Rattle.cb_member.specs.Known.{value_in, known, expanded_count, missing, ranges_of, acknowledged, stable}
-use Rattle.cb_member.specs.Answers.{own_casts, delivered}
+use Rattle.cb_member.specs.Answers.{own_casts, delivered, next_cast, status_of}
 use Rattle.cb_member.specs.Legal.{IsLegal}
-use Rattle.cb_member.specs.LegalFacts.{AreFactsOf}
+use Rattle.cb_member.specs.LegalFacts.{AreFactsOf, IsStep}
 
 -- ---- the view
 
@@ -68,6 +70,10 @@ OwnMessagesAreOwn = (seat : Seat) (facts : List Fact) → AreFactsOf seat facts 
 abbrev pub ViewIsInOrder : Type 0
 ViewIsInOrder = (seat : Seat) (facts : List Fact) → AreFactsOf seat facts → InOrderAfter [] (view seat.group.size facts)
 
+-- so of each sender it holds the first messages, as many as it counts
+abbrev pub ViewHoldsTheFirst : Type 0
+ViewHoldsTheFirst = (seat : Seat) (facts : List Fact) (m : Carried) → AreFactsOf seat facts → (is_among (view seat.group.size facts) m ≡ true) ↔ ((1 ≤ m.number) × (m.number ≤ delivered seat facts m.sender))
+
 -- all messages of the view are of the casts
 abbrev pub ViewIsOfCasts : Type 0
 ViewIsOfCasts = (seat : Seat) (facts : List Fact) (m : Carried) → AreFactsOf seat facts → is_among (view seat.group.size facts) m ≡ true → is_among (messages_in (casts_in facts)) m ≡ true
@@ -92,11 +98,23 @@ abbrev pub NothingFalls : Type 0
 NothingFalls = (seat : Seat) (facts : List Fact) (f : Fact)
     → ((i : ℕ) → known facts i ≤ known (facts ++ f ∷ []) i) × ((k : ℕ) → acknowledged seat facts k ≤ acknowledged seat (facts ++ f ∷ []) k) × (stable seat facts ≤ stable seat (facts ++ f ∷ []))
 
+-- no member is known to have delivered more of this member's casts than it made
+abbrev pub AcknowledgedIsDelivered : Type 0
+AcknowledgedIsDelivered = (seat : Seat) (facts : List Fact) → AreFactsOf seat facts → ((k : ℕ) → acknowledged seat facts k ≤ delivered seat facts seat.me) × (stable seat facts ≤ delivered seat facts seat.me)
+
 -- ---- prefixes
 
 -- the entries before any place of a legal history are a legal history
 abbrev pub PrefixIsLegal : Type 0
 PrefixIsLegal = (seat : Seat) (entries more : List EntryFields) → IsLegal seat (entries ++ more) → IsLegal seat entries
+
+-- the facts before any place of legal facts are legal facts
+abbrev pub PrefixOfFactsIsLegal : Type 0
+PrefixOfFactsIsLegal = (seat : Seat) (facts more : List Fact) → AreFactsOf seat (facts ++ more) → AreFactsOf seat facts
+
+-- the last of legal facts is a step from those before it
+abbrev pub LastFactIsAStep : Type 0
+LastFactIsAStep = (seat : Seat) (facts : List Fact) (f : Fact) → AreFactsOf seat (facts ++ f ∷ []) → IsStep seat facts f
 
 -- ---- histories and facts
 
@@ -110,20 +128,48 @@ EachEntrySaysOneFact = (seat : Seat) (entries : List EntryFields) → IsLegal se
 
 -- ---- times
 
--- the time of a message that is expanded does not change by one more fact
+-- the time of a message that is expanded does not change by more facts
 abbrev pub TimesStay : Type 0
-TimesStay = (seat : Seat) (facts : List Fact) (f : Fact) (m : Carried) (k : ℕ) → AreFactsOf seat (facts ++ f ∷ []) → is_expanded (casts_in facts) m ≡ true
-    → expanded_field (casts_in (facts ++ f ∷ [])) m.sender m.number k ≡ expanded_field (casts_in facts) m.sender m.number k
+TimesStay = (seat : Seat) (facts more : List Fact) (m : Carried) (k : ℕ) → AreFactsOf seat (facts ++ more) → is_expanded (casts_in facts) m ≡ true
+    → expanded_field (casts_in (facts ++ more)) m.sender m.number k ≡ expanded_field (casts_in facts) m.sender m.number k
 
 -- the time that an own cast tells is the view's at that cast
 abbrev pub OwnCastsTellTheView : Type 0
-OwnCastsTellTheView = (seat : Seat) (facts : List Fact) (c : CastFields) → AreFactsOf seat (facts ++ OwnCast c ∷ [])
-    → expanded_time seat.group.size (casts_in (facts ++ OwnCast c ∷ [])) seat.me c.number ≡ time_of seat.group.size (facts ++ OwnCast c ∷ [])
+OwnCastsTellTheView = (seat : Seat) (facts more : List Fact) (c : CastFields) → AreFactsOf seat (facts ++ OwnCast c ∷ more)
+    → expanded_time seat.group.size (casts_in (facts ++ OwnCast c ∷ more)) seat.me c.number ≡ time_of seat.group.size (facts ++ OwnCast c ∷ [])
 
 -- what a message of the view had seen, the member has delivered: no field of its time is above the member's own
 abbrev pub TimesAreReached : Type 0
 TimesAreReached = (seat : Seat) (facts : List Fact) (m : Carried) (k : ℕ) → AreFactsOf seat facts → is_among (view seat.group.size facts) m ≡ true → k < seat.group.size
     → expanded_field (casts_in facts) m.sender m.number k ≤ delivered seat facts k
+
+-- each of these messages has a time that the messages up to it and with it reach
+abbrev pub InTimeAfter : ℕ → List CastFields → List Carried → List Carried → Type 0
+InTimeAfter size casts before [] = Unit {0}
+InTimeAfter size casts before (m ∷ ms) = ((k : ℕ) → k < size → expanded_field casts m.sender m.number k ≤ count (before ++ m ∷ []) k) × InTimeAfter size casts (before ++ m ∷ []) ms
+
+-- before each message of the view stands all that its sender had delivered when it cast it
+abbrev pub ViewIsInTime : Type 0
+ViewIsInTime = (seat : Seat) (facts : List Fact) → AreFactsOf seat facts → InTimeAfter seat.group.size (casts_in facts) [] (view seat.group.size facts)
+
+-- where both have a cast of this sender under one number, its changes are the same
+abbrev pub SameFrames : List CastFields → List CastFields → ℕ → Type 0
+SameFrames casts others sender = AllByRecursion (λ c. AllByRecursion (λ d. c.sender ≡ sender → d.sender ≡ sender → c.number ≡ d.number → c.changes ≡ d.changes) others) casts
+
+-- two members that have the same frames of a sender, and can tell the time of its message, tell the same time
+abbrev pub TimesAgree : Type 0
+TimesAgree = (seat other : Seat) (facts others : List Fact) (m : Carried) (k : ℕ) → AreFactsOf seat facts → AreFactsOf other others → SameFrames (casts_in facts) (casts_in others) m.sender
+    → is_expanded (casts_in facts) m ≡ true → is_expanded (casts_in others) m ≡ true → expanded_field (casts_in facts) m.sender m.number k ≡ expanded_field (casts_in others) m.sender m.number k
+
+-- ---- frames that are sent
+
+-- The next cast of a payload that is not too long, the status and each request for what is missing have a text.
+abbrev pub OwnFramesHaveTexts : Type 0
+OwnFramesHaveTexts = (seat : Seat) (facts : List Fact) → AreFactsOf seat facts
+    → ((payload : List ℕ) → length payload ≤ LONGEST_PAYLOAD → CanBeWritten (CastFrame (next_cast seat facts payload)))
+    × CanBeWritten (StatusFrame (status_of seat facts))
+    × ((i : ℕ) (r : Range) (ranges : List Range) → i < seat.group.size → ranges_of (missing seat facts i) ≡ r ∷ ranges
+    → CanBeWritten (RequestFrame (record { group = seat.group.number; requester = seat.me; asked = i; ranges = take MOST_RANGES (r ∷ ranges) })))
 
 -- ---- what is missing
 

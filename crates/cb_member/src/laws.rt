@@ -1,6 +1,6 @@
 //! What the definitions of one member imply, as contracts of functions that do nothing.
 
-ghost use Rattle.cb_member.specs.Laws.{ViewWithOneMore, NothingReadyIsLeft, NextIsTheOnlyCandidate, NamesStandOnce, OwnCastsAreNumbered, OwnMessagesAreOwn, ViewIsInOrder, ViewIsOfCasts, StatusIsKnown, StatusIsAcknowledged, OwnStatusTellsNothing, NothingFalls, PrefixIsLegal, LegalHistoriesSayLegalFacts, EachEntrySaysOneFact, TimesStay, OwnCastsTellTheView, TimesAreReached, MissingIsExact, RangesOfMissing};
+ghost use Rattle.cb_member.specs.Laws.{ViewWithOneMore, NothingReadyIsLeft, NextIsTheOnlyCandidate, NamesStandOnce, OwnCastsAreNumbered, OwnMessagesAreOwn, ViewIsInOrder, ViewIsOfCasts, StatusIsKnown, StatusIsAcknowledged, OwnStatusTellsNothing, NothingFalls, AcknowledgedIsDelivered, PrefixOfFactsIsLegal, LastFactIsAStep, ViewHoldsTheFirst, PrefixIsLegal, LegalHistoriesSayLegalFacts, EachEntrySaysOneFact, OwnFramesHaveTexts, TimesStay, OwnCastsTellTheView, TimesAreReached, ViewIsInTime, TimesAgree, MissingIsExact, RangesOfMissing};
 
 /// What one more fact does to the view, and what a drain leaves: nothing that is ready. Of each sender only the next message can be.
 pub fn view_with_one_more_fact()
@@ -16,35 +16,43 @@ pub fn names_and_order()
     ensures numbered { OwnCastsAreNumbered }
     ensures own { OwnMessagesAreOwn }
     ensures order { ViewIsInOrder }
+    ensures first { ViewHoldsTheFirst }
     ensures there { ViewIsOfCasts }
 {}
 
 /// What one more fact does to what is known, acknowledged and stable: a status that came raises it to what it says, an own status
-/// leaves it, and none makes it smaller.
+/// leaves it, and none makes it smaller. No more is acknowledged than was cast.
 pub fn knowledge_grows()
     ensures known { StatusIsKnown }
     ensures acknowledged { StatusIsAcknowledged }
     ensures own { OwnStatusTellsNothing }
     ensures grows { NothingFalls }
+    ensures bound { AcknowledgedIsDelivered }
 {}
 
-/// The entries before any place of a legal history are a legal history.
+/// What stands before any place of a legal history is one, and so it is with its facts, each of which is a step from those before it.
 pub fn prefixes_are_legal()
-    ensures { PrefixIsLegal }
+    ensures entries { PrefixIsLegal }
+    ensures facts { PrefixOfFactsIsLegal }
+    ensures step { LastFactIsAStep }
 {}
 
 /// What is written is read back: each entry of a legal history says one fact, and each fact is a step from those before it.
+/// All that a member sends has a text.
 pub fn histories_say_facts()
     ensures legal { LegalHistoriesSayLegalFacts }
     ensures each { EachEntrySaysOneFact }
+    ensures texts { OwnFramesHaveTexts }
 {}
 
-/// The times of messages: one that can be told stays as it is, an own cast tells the time of its view, and no delivered message
-/// has seen more than the member has delivered.
+/// The times of messages: one that can be told stays as it is, an own cast tells the time of its view, and before each delivered
+/// message stands all that its sender had delivered. Members that have the same frames of a sender tell the same times.
 pub fn times_of_messages()
     ensures stay { TimesStay }
     ensures own { OwnCastsTellTheView }
     ensures reached { TimesAreReached }
+    ensures in_time { ViewIsInTime }
+    ensures agree { TimesAgree }
 {}
 
 /// What is missing of a sender: the numbers above what is expanded, heard of and within the window, whose casts are not there. As

@@ -1,4 +1,5 @@
 use Rattle.cb_member.proofs.Histories.{legal_histories_say_legal_facts, each_entry_says_one_fact}
+use Rattle.cb_member.proofs.Requests.{own_frames_have_texts}
 use Rattle.cb_member.proofs.laws.histories_say_facts.Goals as goal
 
 pub returns-clause-legal : goal.returns-clause-legal
@@ -6,3 +7,6 @@ returns-clause-legal c = legal_histories_say_legal_facts
 
 pub returns-clause-each : goal.returns-clause-each
 returns-clause-each c = each_entry_says_one_fact
+
+pub returns-clause-texts : goal.returns-clause-texts
+returns-clause-texts c = own_frames_have_texts

@@ -1,3 +1,4 @@
+use Rattle.cb_member.proofs.Acknowledged.{acknowledged_is_delivered}
 use Rattle.cb_member.proofs.Rising.{status_is_known, status_is_acknowledged, own_status_tells_nothing, nothing_falls}
 use Rattle.cb_member.proofs.laws.knowledge_grows.Goals as goal
 
@@ -12,3 +13,6 @@ returns-clause-own c = own_status_tells_nothing
 
 pub returns-clause-grows : goal.returns-clause-grows
 returns-clause-grows c = nothing_falls
+
+pub returns-clause-bound : goal.returns-clause-bound
+returns-clause-bound c = acknowledged_is_delivered
