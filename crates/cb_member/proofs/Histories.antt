@@ -178,7 +178,7 @@ all_say seat _ group member NoEntries = record {
   before = record { group = group; member = member; facts_are = NoFacts; as_many = refl };
   each = tt;
 }
-all_say seat _ group member (OneMore entries call e legal added) =
+all_say seat _ group member (OneMore entries call e legal bytes added) =
     let s = all_say seat entries group member legal in
     says_more seat entries e s (call_added seat entries call e s.before added)
 

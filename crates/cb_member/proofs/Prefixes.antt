@@ -48,9 +48,9 @@ none_before (x ∷ xs) ys e = absurd cc
 
 prefix : (seat : Seat) (all : List EntryFields) → AreLegal seat all → (entries more : List EntryFields) → all ≡ entries ++ more → AreLegal seat entries
 prefix seat _ NoEntries entries more e = subst (AreLegal seat) (sym (none_before entries more e)) NoEntries
-prefix seat _ (OneMore before call last legal says) entries more e =
+prefix seat _ (OneMore before call last legal bytes says) entries more e =
     elim (ends more) [
-      | inl none ↦ subst (AreLegal seat) (e ∙ ap (λ (m : List EntryFields). entries ++ m) none ∙ append-nil entries) (OneMore before call last legal says)
+      | inl none ↦ subst (AreLegal seat) (e ∙ ap (λ (m : List EntryFields). entries ++ m) none ∙ append-nil entries) (OneMore before call last legal bytes says)
       | inr w ↦ prefix seat before legal entries w.0 (same_front before (entries ++ w.0) last w.1 (e ∙ ap (λ (m : List EntryFields). entries ++ m) w.2 ∙ sym (append_assoc entries w.0 (w.1 ∷ []))))
     ]
 

@@ -2,6 +2,7 @@
 use Rattle.std.specs.Prelude.{◌≡◌, ℕ, ◌<◌, Bool, List, [], ◌∷◌, ◌++◌, map, Option, Some, None, Result, Ok, Err, if◌then◌else◌}
 use Rattle.cb_frames.specs.Fields.{CastFields, StatusFrame, CastFrame}
 use Rattle.cb_frames.specs.Text.{text_of}
+use Rattle.cb_frames.specs.Laws.{IsBytes}
 use Rattle.cb_member.specs.declared.answer.CastRefusal.{CastRefusal}
 use Rattle.cb_member.specs.declared.answer.ArriveRefusal.{ArriveRefusal}
 use Rattle.cb_member.specs.declared.answer.TickRefusal.{TickRefusal}
@@ -19,6 +20,12 @@ pub data Call : Type 0 where
   ToCast : List ℕ → Call
   ToTake : List ℕ → Call
   ToTick : Call
+
+-- what is cast and what comes are bytes
+abbrev pub OfBytes : Call → Type 0
+OfBytes (ToCast payload) = IsBytes payload
+OfBytes (ToTake bytes) = IsBytes bytes
+OfBytes ToTick = Unit {0}
 
 -- the entry that an answer adds, where it adds one
 abbrev pub cast_entry : Result CastFields CastRefusal → Option EntryFields
@@ -50,7 +57,7 @@ history_after seat limit entries call = and_entry entries (entry_of seat limit e
 -- Each entry is the one that some call adds to the entries before it.
 pub data AreLegal (seat : Seat) : List EntryFields → Type 0 where
   NoEntries : AreLegal seat []
-  OneMore : (entries : List EntryFields) (call : Call) (e : EntryFields) → AreLegal seat entries → entry_of seat longest_history entries call ≡ Some e → AreLegal seat (entries ++ e ∷ [])
+  OneMore : (entries : List EntryFields) (call : Call) (e : EntryFields) → AreLegal seat entries → OfBytes call → entry_of seat longest_history entries call ≡ Some e → AreLegal seat (entries ++ e ∷ [])
 
 -- a history of a member of a group
 pub record IsLegal (seat : Seat) (entries : List EntryFields) : Type 0 where
