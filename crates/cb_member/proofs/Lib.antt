@@ -17,3 +17,8 @@ pub mod Requests
 pub mod InTime
 pub mod Copies
 pub mod Gaps
+pub mod PlainWalks
+pub mod PlainMessages
+pub mod PlainKnown
+pub mod PlainBounds
+pub mod PlainCasting

@@ -82,7 +82,7 @@ abbrev pub left : List Carried → List Carried → ℕ
 left [] seen = 0
 left (m ∷ ms) seen = one_unless (is_among seen m) + left ms seen
 
-unless_more : (b c : Bool) → (b ≡ true → c ≡ true) → one_unless c ≤ one_unless b
+pub unless_more : (b c : Bool) → (b ≡ true → c ≡ true) → one_unless c ≤ one_unless b
 unless_more true c h = rw (h refl) (omega arith)
 unless_more false true h = omega arith
 unless_more false false h = omega arith

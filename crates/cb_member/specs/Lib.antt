@@ -7,3 +7,6 @@ pub mod Events
 pub mod Legal
 pub mod LegalFacts
 pub mod Laws
+pub mod Plain
+pub mod PlainMessages
+pub mod PlainState

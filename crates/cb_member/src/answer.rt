@@ -1,9 +1,24 @@
 //! What a member answers to a cast, an arrival and a tick.
 
+ghost use Rattle.std.specs.Prelude.{◌≡◌};
+ghost use Rattle.cb_member.specs.declared.answer.CastRefusal.TheVariants.{NoMemory as CastNoMemory};
+
 use bytes::Bytes;
 use cb_delay::{Message, Name};
 use cb_frames::FrameFault;
 use cb_times::VectorTime;
+use std::alloc::{AllocError, AllocFailed};
+
+/// Why no member was made.
+#[derive(Clone, Copy, Debug, PartialEq, Eq)]
+pub enum NewFault {
+    /// The member's number is not below the group's size.
+    BadMember,
+    /// The limit of the history is not 1 to 16,777,216.
+    BadLimit,
+    /// A growth was refused.
+    NoMemory,
+}
 
 /// What a member did with a message.
 #[derive(Debug, Drop)]
@@ -34,6 +49,22 @@ pub enum CastRefusal {
     HistoryFull,
     /// A growth was refused.
     NoMemory,
+}
+
+impl From<AllocError> for CastRefusal {
+    ghost from_gives = { λ _ e. e ≡ CastNoMemory };
+
+    fn from(_refused: AllocError) -> CastRefusal {
+        CastRefusal::NoMemory
+    }
+}
+
+impl<T: Drop> From<AllocFailed<T>> for CastRefusal {
+    ghost from_gives = { λ _ e. e ≡ CastNoMemory };
+
+    fn from(_refused: AllocFailed<T>) -> CastRefusal {
+        CastRefusal::NoMemory
+    }
 }
 
 /// A frame to be sent: to all others, or to one member.

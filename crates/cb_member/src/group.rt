@@ -56,7 +56,8 @@ impl Group {
 
     /// How many members there are: 0 to one less than this.
     pub fn size(&self) -> u32
-        ensures { result ≡ self.now.size }
+        ensures size { result ≡ self.now.size }
+        ensures group { AreParameters self.now }
     {
         self.size
     }

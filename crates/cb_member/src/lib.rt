@@ -10,9 +10,10 @@ mod answer;
 mod group;
 mod history;
 mod laws;
+mod plain;
 
 pub use answer::{
-    Arrival, ArriveRefusal, CastDone, CastRefusal, Event, Outgoing, TickRefusal, Ticked,
+    Arrival, ArriveRefusal, CastDone, CastRefusal, Event, NewFault, Outgoing, TickRefusal, Ticked,
 };
 pub use cb_delay::{Message, Name};
 pub use group::{BadGroup, Group};

@@ -1,0 +1,147 @@
+//! The slow member: it keeps nothing but its history, and works everything out from the entries at each call.
+
+ghost use Rattle.std.specs.Prelude.{◌≡◌, ◌↔◌, ◌⊎◌, ◌≤◌, ◌<◌, ◌++◌, [], ◌∷◌, length, map, IfOk, IfErr, OnErr};
+ghost use Rattle.cb_frames.specs.Fields.{CastFrame};
+ghost use Rattle.cb_frames.specs.Text.{text_of};
+ghost use Rattle.cb_member.specs.Answers.{cast_answer, cast_done, next_cast};
+ghost use Rattle.cb_member.specs.Facts.{entry_fields, CastEntry, facts_of};
+ghost use Rattle.cb_member.specs.View.{time_of};
+ghost use Rattle.cb_member.specs.Known.{missing, stable};
+ghost use Rattle.cb_member.specs.Legal.{longest_history};
+
+mod arriving;
+mod casting;
+mod facts;
+mod known;
+mod view;
+
+use crate::answer::{CastDone, CastRefusal, NewFault};
+use crate::group::Group;
+use crate::history::Entry;
+use crate::plain::casting::{Casting, answer_cast};
+use crate::plain::facts::{casts_in, facts_of};
+use crate::plain::known::{missing, stable};
+use crate::plain::view::{counts, view};
+use cb_frames::LONGEST_PAYLOAD;
+use cb_times::{NoMemory, VectorTime};
+use std::alloc::Global;
+use std::marker::Model;
+
+/// The most entries that a history can have.
+const LONGEST_HISTORY: usize = 16_777_216;
+
+/// One member of a group, worked out from its history alone.
+#[derive(Drop)]
+pub struct PlainMember {
+    group: Group,
+    me: u32,
+    limit: usize,
+    entries: Vec<Entry>,
+}
+
+impl Model for PlainMember {
+    ghost use Rattle.std.specs.Prelude.{map};
+    ghost use Rattle.cb_member.specs.Facts.{entry_fields};
+    ghost use Rattle.cb_member.specs.PlainState.{MemberState, IsMemberState};
+
+    ghost Value = { MemberState };
+
+    ghost view = { λ m. record { seat = record { group = m.group; me = m.me }; limit = m.limit; entries = map entry_fields m.entries.items } };
+
+    ghost invariant = { λ m. IsMemberState (record { seat = record { group = m.group; me = m.me }; limit = m.limit; entries = map entry_fields m.entries.items }) };
+}
+
+impl PlainMember {
+    /// A member without entries, whose history may have 1 to 16,777,216 of them.
+    pub fn new(
+        alloc: Global,
+        group: Group,
+        me: u32,
+        history_max: usize,
+    ) -> Result<PlainMember, NewFault>
+        ensures ok { IfOk result (λ member. member ≡ record { seat = record { group = group; me = me }; limit = history_max; entries = [] }) }
+        ensures bad_member { (result ≡ Err NewFault.BadMember) ↔ (group.size ≤ me) }
+        ensures bad_limit { (result ≡ Err NewFault.BadLimit) ↔ ((me < group.size) × ¬ ((1 ≤ history_max) × (history_max ≤ longest_history))) }
+    {
+        if me >= group.size() {
+            return Err(NewFault::BadMember);
+        }
+        if !(1..=LONGEST_HISTORY).contains(&history_max) {
+            return Err(NewFault::BadLimit);
+        }
+        Ok(PlainMember {
+            group,
+            me,
+            limit: history_max,
+            entries: Vec::new(alloc),
+        })
+    }
+
+    /// All that the member did, in order.
+    pub fn history(&self) -> &[Entry]
+        ensures { map entry_fields result.now ≡ self.now.entries }
+    {
+        &self.entries
+    }
+
+    /// How many messages of each member are delivered, own casts included.
+    pub fn time(&self) -> Result<VectorTime, NoMemory>
+        ensures { IfOk result (λ time. time ≡ time_of self.now.seat.group.size (facts_of self.now.entries)) }
+    {
+        let alloc = *self.entries.allocator();
+        let facts = facts_of(alloc, &self.entries)?;
+        let seen = view(alloc, self.group.size(), &facts)?;
+        counts(alloc, self.group.size(), &seen)
+    }
+
+    /// The numbers of casts of member i that are missing.
+    pub fn missing(&self, i: u32) -> Result<Vec<u32>, NoMemory>
+        ensures { IfOk result (λ numbers. numbers.items ≡ missing self.now.seat (facts_of self.now.entries) i) }
+    {
+        let alloc = *self.entries.allocator();
+        let facts = facts_of(alloc, &self.entries)?;
+        let casts = casts_in(alloc, &facts)?;
+        let seen = view(alloc, self.group.size(), &facts)?;
+        missing(alloc, self.group, self.me, &facts, &casts, &seen, i)
+    }
+
+    /// How many own casts are known to be delivered by every other member.
+    pub fn stable(&self) -> Result<u32, NoMemory>
+        ensures { IfOk result (λ count. count ≡ stable self.now.seat (facts_of self.now.entries)) }
+    {
+        let alloc = *self.entries.allocator();
+        let facts = facts_of(alloc, &self.entries)?;
+        let casts = casts_in(alloc, &facts)?;
+        let seen = view(alloc, self.group.size(), &facts)?;
+        Ok(stable(self.group, self.me, &facts, &casts, &seen))
+    }
+
+    /// Casts a message of this payload.
+    ///
+    /// A refusal is that of the definition. Want of memory may stand in place of any answer but `PayloadTooLong`, since the
+    /// entries are read again at each call.
+    pub fn cast(&mut self, payload: &[u8]) -> Result<CastDone, CastRefusal>
+        ensures done { IfOk result (λ done. let facts = facts_of self.old.entries in let c = next_cast self.old.seat facts payload.now in
+            (cast_answer self.old.seat self.old.limit self.old.entries payload.now ≡ Ok c) × (done ≡ cast_done self.old.seat facts c)
+            × (self.new ≡ record self.old { entries = self.old.entries ++ CastEntry (text_of (CastFrame c)) ∷ [] })) }
+        ensures refused { IfErr result (λ refusal. (cast_answer self.old.seat self.old.limit self.old.entries payload.now ≡ Err refusal)
+            ⊎ ((refusal ≡ CastRefusal.NoMemory) × (length payload.now ≤ LONGEST_PAYLOAD))) }
+        ensures same { OnErr result (self.new ≡ self.old) }
+    {
+        let alloc = *self.entries.allocator();
+        let casting = answer_cast(
+            alloc,
+            self.group,
+            self.me,
+            self.limit,
+            &self.entries,
+            payload,
+        )?;
+        let Casting { done, entry } = casting;
+        self.entries.push(entry)?;
+        Ok(done)
+    }
+}
+
+#[cfg(test)]
+mod tests;
