@@ -7,7 +7,7 @@ use Rattle.cb_frames.specs.declared.fault.FrameFault.{FrameFault}
 use Rattle.cb_frames.specs.Fields.{CastFields, FrameFields, CastFrame, StatusFrame, RequestFrame, Carried, messages_of}
 use Rattle.cb_frames.specs.Reading.{frame_at}
 use Rattle.cb_member.specs.Facts.{EntryFields, CastEntry, ArriveEntry, TickEntry, Fact, OwnCast, CastCame, StatusCame, OwnStatus, messages_in, facts_of, said_by, cast_said, arrival_said, status_said}
-use Rattle.cb_member.specs.View.{count, counts, is_among, next_delivery, with_next, drained, seen_from, view}
+use Rattle.cb_member.specs.View.{count, is_among, next_delivery, with_next, drained, seen_from, view}
 use Rattle.cb_member.proofs.Views.{left, left_more, left_shrinks, one_unless, unless_more, among_itself, next_is, expanded_is_there, ready_is_new}
 
 -- what was seen, with what is left of the casts' messages, is at most as much as these
@@ -116,10 +116,10 @@ count_at_most (m ∷ seen) k =
     let one = one_or_none (eqb m.sender k) in
     omega (arith, one, others)
 
--- the counts of all members, in their order
-pub counts_are : (size : ℕ) (seen : List Carried) (time : List ℕ) → length time ≡ size → ((j : ℕ) → j < size → get_or time j 0 ≡ count seen j) → time ≡ counts size seen
-counts_are size seen time e each =
-    same_lists time (map (count seen) (range_with_len 0 size)) (e ∙ sym (length-map-range_with_len (count seen) 0 size))
+-- the values of all fields, in their order
+pub fields_are : (f : ℕ → ℕ) (size : ℕ) (time : List ℕ) → length time ≡ size → ((j : ℕ) → j < size → get_or time j 0 ≡ f j) → time ≡ map f (range_with_len 0 size)
+fields_are f size time e each =
+    same_lists time (map f (range_with_len 0 size)) (e ∙ sym (length-map-range_with_len f 0 size))
     (λ k d lt.
     let small : k < size = omega (arith, lt, e) in
-    get_or_default time k d 0 lt ∙ each k small ∙ sym (get_or-map-range_with_len (count seen) 0 size k k d small (omega arith)))
+    get_or_default time k d 0 lt ∙ each k small ∙ sym (get_or-map-range_with_len f 0 size k k d small (omega arith)))

@@ -1,6 +1,6 @@
 -- Steps of the plain program's loops, over plain variables.
 use Rattle.std.proofs.Common.{◌≡◌, ℕ, zero, suc, ◌+◌, ◌-◌, ◌<◌, ◌≤◌, Bool, true, false, not, ◌&&◌, List, [], ◌∷◌, ◌++◌, length, Option, Some, None, refl, ap, arith}
-use Rattle.std.specs.List.{list_all, range_with_len}
+use Rattle.std.specs.List.{list_all, list_any, range_with_len}
 use Rattle.cb_frames.specs.Fields.{CastFields, Carried}
 use Rattle.cb_member.specs.View.{lesser_sender, next_delivery, drained}
 use Rattle.cb_member.specs.Facts.{messages_in}
@@ -12,6 +12,11 @@ range_more a n i lt =
     let e : n - i ≡ suc (n - (i + 1)) = omega arith in
     let j : (i + 1) + a ≡ (i + a) + 1 = omega arith in
     rw (e, j) refl
+
+row_of : (i n : ℕ) → i < n → range_with_len i (n - i) ≡ i ∷ range_with_len (i + 1) (n - (i + 1))
+row_of i n lt =
+    let e : n - i ≡ suc (n - (i + 1)) = omega arith in
+    rw e refl
 
 pub range_end : (a n i : ℕ) → n ≤ i → range_with_len a (n - i) ≡ []
 range_end a n i le =
@@ -60,3 +65,14 @@ drained_end size casts budget i seen le =
 pub length_messages : (casts : List CastFields) → length (messages_in casts) ≡ length casts
 length_messages [] = refl
 length_messages (c ∷ casts) = ap (λ (n : ℕ). suc n) (length_messages casts)
+
+-- ---- the first number in a row that meets a test
+
+pub any_more : (p : ℕ → Bool) (n i : ℕ) → i < n → p i ≡ false → list_any p (range_with_len (i + 1) (n - (i + 1))) ≡ list_any p (range_with_len i (n - i))
+any_more p n i lt fails = rw (row_of i n lt, fails) refl
+
+pub any_holds : (p : ℕ → Bool) (n i : ℕ) → i < n → p i ≡ true → list_any p (range_with_len i (n - i)) ≡ true
+any_holds p n i lt holds = rw (row_of i n lt, holds) refl
+
+pub any_end : (p : ℕ → Bool) (a n i : ℕ) → n ≤ i → list_any p (range_with_len a (n - i)) ≡ false
+any_end p a n i le = rw (range_end a n i le) refl

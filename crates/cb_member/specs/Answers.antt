@@ -11,6 +11,8 @@ use Rattle.cb_delay.specs.declared.message.Message.{Message}
 use Rattle.cb_diffs.specs.Differences.{differences}
 use Rattle.cb_member.specs.declared.answer.CastRefusal.{CastRefusal}
 use Rattle.cb_member.specs.declared.answer.CastRefusal.TheVariants as casts
+use Rattle.cb_member.specs.declared.answer.Arrival.{Arrival}
+use Rattle.cb_member.specs.declared.answer.Arrival.TheVariants as told
 use Rattle.cb_member.specs.declared.answer.ArriveRefusal.{ArriveRefusal}
 use Rattle.cb_member.specs.declared.answer.ArriveRefusal.TheVariants as arrivals
 use Rattle.cb_member.specs.declared.answer.TickRefusal.{TickRefusal}
@@ -164,6 +166,11 @@ sent_in_answer seat facts (RequestFrame r) =
 pub data ArrivalSays : Type 0 where
   Accepted : List Message → Bool → List Outgoing → ArrivalSays
   Repeat : ArrivalSays
+
+-- what the caller is told of it
+abbrev pub arrival_says : Arrival → ArrivalSays
+arrival_says (told.Accepted deliveries changed out) = Accepted deliveries.items changed out.items
+arrival_says told.Repeat = Repeat
 
 -- the answer to a frame of the group, by its rules in order
 abbrev pub frame_answer : Seat → ℕ → List EntryFields → List Fact → FrameFields → Result ArrivalSays ArriveRefusal

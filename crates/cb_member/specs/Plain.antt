@@ -1,11 +1,16 @@
 -- What the values of the plain program stand for.
-use Rattle.std.specs.Prelude.{ℕ, List, [], ◌∷◌, min, Option, Some, None}
+use Rattle.std.specs.Prelude.{◌≡◌, ℕ, true, false, List, [], ◌∷◌, min, Option, Some, None, Result, Ok, Err}
 use Rattle.std.specs.Borrow.{Bor}
 use Rattle.cb_frames.specs.declared.frame.Cast.{Cast}
-use Rattle.cb_frames.specs.Fields.{CastFields, cast_fields, status_fields}
+use Rattle.cb_frames.specs.Fields.{CastFields, cast_fields, status_fields, FrameFields}
 use Rattle.cb_member.specs.declared.plain.facts.Fact.{Fact as PlainFact}
 use Rattle.cb_member.specs.declared.plain.facts.Fact.TheVariants as plain
+use Rattle.cb_member.specs.declared.plain.accepting.Verdict.{Verdict}
+use Rattle.cb_member.specs.declared.plain.accepting.Verdict.TheVariants as verdicts
+use Rattle.cb_member.specs.declared.answer.ArriveRefusal.{ArriveRefusal}
+use Rattle.cb_member.specs.Group.{Seat}
 use Rattle.cb_member.specs.Facts.{Fact, OwnCast, CastCame, StatusCame, OwnStatus}
+use Rattle.cb_member.specs.Answers.{deliveries, sent_in_answer, ArrivalSays, Accepted, Repeat}
 
 abbrev pub fact_of : PlainFact → Fact
 fact_of (plain.OwnCast c) = OwnCast (cast_fields c)
@@ -30,3 +35,10 @@ as_casts (Some c) = cast_of c ∷ []
 abbrev pub lesser_of : Option ℕ → ℕ → ℕ
 lesser_of None n = n
 lesser_of (Some m) n = min m n
+
+-- what the rules say of a frame, as the answer that follows
+abbrev pub IsVerdict : Seat → List Fact → FrameFields → Result ArrivalSays ArriveRefusal → Result Verdict ArriveRefusal → Type 0
+IsVerdict seat facts frame answer (Ok verdicts.Repeat) = answer ≡ Ok Repeat
+IsVerdict seat facts frame answer (Ok verdicts.Change) = answer ≡ Ok (Accepted (deliveries seat facts frame) true (sent_in_answer seat facts frame))
+IsVerdict seat facts frame answer (Ok verdicts.NoChange) = answer ≡ Ok (Accepted [] false (sent_in_answer seat facts frame))
+IsVerdict seat facts frame answer (Err refusal) = answer ≡ Err refusal

@@ -1,20 +1,21 @@
 //! What the rules say of a frame that came.
 
-ghost use Rattle.std.specs.Prelude.{◌≡◌, map, nat_lt};
-ghost use Rattle.std.specs.List.{list_any, list_all};
-ghost use Rattle.cb_frames.specs.Fields.{fields_of};
+ghost use Rattle.std.specs.Prelude.{◌≡◌, ◌&&◌, not, ◌==◌, map, nat_lt};
+ghost use Rattle.std.specs.List.{list_any, list_all, range_with_len};
+ghost use Rattle.cb_frames.specs.Fields.{fields_of, status_fields};
 ghost use Rattle.cb_member.specs.Group.{Seat};
 ghost use Rattle.cb_member.specs.Facts.{casts_in};
 ghost use Rattle.cb_member.specs.View.{count, view};
-ghost use Rattle.cb_member.specs.Answers.{are_members, group_of, is_impossible, is_repeat, is_too_far};
+ghost use Rattle.cb_member.specs.Known.{known, value_in};
+ghost use Rattle.cb_member.specs.Answers.{are_members, group_of, is_impossible, is_repeat, is_too_far, is_news, is_change};
 ghost use Rattle.cb_member.specs.Plain.{fact_of, cast_of};
 ghost use Rattle.cb_member.specs.PlainMessages.{carried_of};
 
 use crate::group::Group;
 use crate::plain::facts::Fact;
-use crate::plain::known::value_in;
+use crate::plain::known::{acknowledged, known, value_in};
 use crate::plain::view::{Message, count, is_there};
-use cb_frames::{Cast, Change, Frame};
+use cb_frames::{Cast, Change, Frame, Status};
 
 pub fn group_of(frame: &Frame) -> u32
     ensures { result ≡ group_of (fields_of frame.now) }
@@ -105,5 +106,63 @@ pub fn is_impossible(
             }
         }
         Frame::Request(request) => request.requester == request.asked,
+    }
+}
+
+/// Some value tells more of another sender's casts than the member has heard of.
+fn tells_of_casts(
+    size: u32,
+    me: u32,
+    facts: &[Fact],
+    casts: &[&Cast],
+    values: &[Change],
+) -> bool
+    requires { map cast_of casts.now ≡ casts_in (map fact_of facts.now) }
+    ensures { result ≡ list_any (λ k. not (k == me) && nat_lt (known (map fact_of facts.now) k) (value_in values.now k)) (range_with_len 0 size) }
+{
+    for k in 0..size {
+        if k != me && known(facts, casts, k) < value_in(values, k) {
+            return true;
+        }
+    }
+    false
+}
+
+/// A status of another that raises what is known.
+fn is_news(
+    group: Group,
+    me: u32,
+    facts: &[Fact],
+    casts: &[&Cast],
+    seen: &[Message<'_>],
+    status: &Status,
+) -> bool
+    requires casts { map cast_of casts.now ≡ casts_in (map fact_of facts.now) }
+    requires seen { map carried_of seen.now ≡ view group.size (map fact_of facts.now) }
+    ensures { result ≡ is_news (record { group = group; me = me }) (map fact_of facts.now) (status_fields status.now) }
+{
+    status.sender != me
+        && (tells_of_casts(group.size(), me, facts, casts, &status.values)
+            || acknowledged(group, me, facts, casts, seen, status.sender)
+                < value_in(&status.values, me))
+}
+
+/// The frame, which is neither refused so far nor a repeat, would change the state.
+pub fn is_change(
+    group: Group,
+    me: u32,
+    facts: &[Fact],
+    casts: &[&Cast],
+    seen: &[Message<'_>],
+    frame: &Frame,
+) -> bool
+    requires casts { map cast_of casts.now ≡ casts_in (map fact_of facts.now) }
+    requires seen { map carried_of seen.now ≡ view group.size (map fact_of facts.now) }
+    ensures { result ≡ is_change (record { group = group; me = me }) (map fact_of facts.now) (fields_of frame.now) }
+{
+    match frame {
+        Frame::Cast(_) => true,
+        Frame::Status(status) => is_news(group, me, facts, casts, seen, status),
+        Frame::Request(_) => false,
     }
 }

@@ -1,11 +1,12 @@
 use Rattle.std.proofs.Common.{map, arith}
 use Rattle.std.proofs.lemmas.List.{length-map}
+use Rattle.cb_member.specs.View.{count}
 use Rattle.cb_member.specs.PlainMessages.{carried_of}
-use Rattle.cb_member.proofs.PlainBounds.{count_at_most, counts_are}
+use Rattle.cb_member.proofs.PlainBounds.{count_at_most, fields_are}
 use Rattle.cb_member.proofs.plain.view.counts.Goals as goal
 
 pub overflow_cast-count : goal.overflow_cast-count
 overflow_cast-count c = omega (arith, c.count.ensures, count_at_most (map carried_of c.args.seen.now) c.loop-k.k, length-map c.args.seen.now carried_of)
 
 pub returns : goal.returns
-returns c = counts_are c.args.size (map carried_of c.args.seen.now) c.loop-k.time c.loop-k.invariant.size (λ j lt. c.loop-k.invariant.counted j (omega (arith, lt)))
+returns c = fields_are (count (map carried_of c.args.seen.now)) c.args.size c.loop-k.time c.loop-k.invariant.size (λ j lt. c.loop-k.invariant.counted j (omega (arith, lt)))
