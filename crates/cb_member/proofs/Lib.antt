@@ -19,6 +19,7 @@ pub mod Copies
 pub mod Gaps
 pub mod PlainWalks
 pub mod PlainMessages
+pub mod PlainReading
 pub mod PlainKnown
 pub mod PlainBounds
 pub mod PlainCasting

@@ -2,6 +2,7 @@
 
 ghost use Rattle.std.specs.Prelude.{◌≡◌};
 ghost use Rattle.cb_member.specs.declared.answer.CastRefusal.TheVariants.{NoMemory as CastNoMemory};
+ghost use Rattle.cb_member.specs.declared.answer.ArriveRefusal.TheVariants.{NoMemory as ArriveNoMemory};
 
 use bytes::Bytes;
 use cb_delay::{Message, Name};
@@ -108,6 +109,22 @@ pub enum ArriveRefusal {
     HistoryFull,
     /// A growth was refused.
     NoMemory,
+}
+
+impl From<AllocError> for ArriveRefusal {
+    ghost from_gives = { λ _ e. e ≡ ArriveNoMemory };
+
+    fn from(_refused: AllocError) -> ArriveRefusal {
+        ArriveRefusal::NoMemory
+    }
+}
+
+impl<T: Drop> From<AllocFailed<T>> for ArriveRefusal {
+    ghost from_gives = { λ _ e. e ≡ ArriveNoMemory };
+
+    fn from(_refused: AllocFailed<T>) -> ArriveRefusal {
+        ArriveRefusal::NoMemory
+    }
 }
 
 /// What a tick did.

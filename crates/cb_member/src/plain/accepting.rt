@@ -1,18 +1,17 @@
 //! The answer to a frame that came.
 
-ghost use Rattle.std.specs.Prelude.{◌≡◌, ◌⊎◌, ◌≤◌, ◌<◌, ◌++◌, List, IfOk, IfErr, IsSome, map, option_map, drop, length};
+ghost use Rattle.std.specs.Prelude.{◌≡◌, ◌⊎◌, ◌≤◌, ◌<◌, ◌++◌, true, List, IfOk, IfErr, IsSome, map, option_map, drop, length};
 ghost use Rattle.cb_frames.specs.Fields.{fields_of};
 ghost use Rattle.cb_frames.specs.Reading.{frame_at, HasValue};
 ghost use Rattle.cb_diffs.specs.Expansion.{expanded_time};
 ghost use Rattle.cb_member.specs.Group.{Seat, AreParameters};
 ghost use Rattle.cb_member.specs.Facts.{Fact as SaidFact, entry_fields, facts_of, casts_in, ArriveEntry};
 ghost use Rattle.cb_member.specs.View.{view, message_in};
-ghost use Rattle.cb_member.specs.Answers.{with_frame, frame_answer, arrive_answer, arrival_says};
-ghost use Rattle.cb_member.specs.Legal.{arrive_entry};
-ghost use Rattle.cb_member.specs.Plain.{fact_of, as_facts, cast_of, IsVerdict};
+ghost use Rattle.cb_member.specs.Answers.{with_frame, deliveries, sent_in_answer, frame_answer, arrive_answer, Accepted};
+ghost use Rattle.cb_member.specs.Plain.{fact_of, as_facts, cast_of, IsVerdict, IsReadRefusal, IsAccepting};
 ghost use Rattle.cb_member.specs.PlainMessages.{carried_of};
 
-use crate::answer::{Arrival, ArriveRefusal};
+use crate::answer::{Arrival, ArriveRefusal, Outgoing};
 use crate::group::Group;
 use crate::history::Entry;
 use crate::plain::answering::sent_in_answer;
@@ -23,7 +22,7 @@ use crate::plain::facts::{Fact, casts_in, facts_of};
 use crate::plain::view::{Message, expanded_field, view};
 use bytes::Bytes;
 use cb_delay::{Message as Delivery, Name};
-use cb_frames::{Cast, Frame, decode};
+use cb_frames::{Cast, Frame, FrameFault, decode};
 use cb_times::{NoMemory, VectorTime};
 use std::alloc::Global;
 
@@ -187,4 +186,156 @@ fn judged(
         return Err(ArriveRefusal::HistoryFull);
     }
     Ok(Verdict::Change)
+}
+
+/// The frame of the bytes. What is no frame is refused without memory.
+fn read(alloc: Global, bytes: &Bytes) -> Result<Frame, ArriveRefusal>
+    ensures frame { IfOk result (λ frame. frame_at bytes.now ≡ Ok (fields_of frame)) }
+    ensures refused { IfErr result (λ refusal. IsReadRefusal bytes.now refusal) }
+{
+    match decode(alloc, bytes) {
+        Ok(frame) => Ok(frame),
+        Err(FrameFault::NoMemory) => Err(ArriveRefusal::NoMemory),
+        Err(fault) => Err(ArriveRefusal::Malformed(fault)),
+    }
+}
+
+/// What an arrival did, and the entry that it adds.
+#[derive(Drop)]
+pub struct Accepting {
+    pub arrival: Arrival,
+    pub entry: Option<Entry>,
+}
+
+/// Takes a frame that changes the state: delivers what it makes ready.
+fn taken(
+    alloc: Global,
+    group: Group,
+    me: u32,
+    facts: Vec<Fact>,
+    before: usize,
+    frame: Frame,
+    bytes: &Bytes,
+    out: Vec<Outgoing>,
+) -> Result<Accepting, NoMemory>
+    requires group { AreParameters group }
+    requires before { before ≡ length (view group.size (map fact_of facts.items)) }
+    ensures { IfOk result (λ a. let seat : Seat = record { group = group; me = me } in
+        IsAccepting bytes.now (Ok (Accepted (deliveries seat (map fact_of facts.items) (fields_of frame)) true out.items)) a) }
+{
+    let facts = with_frame(facts, frame)?;
+    let deliveries = deliveries(alloc, group.size(), &facts, before)?;
+    let delivered = names(alloc, &deliveries)?;
+    let entry = Entry::Arrive {
+        frame: bytes.clone()?,
+        delivered,
+    };
+    Ok(Accepting {
+        arrival: Arrival::Accepted {
+            deliveries,
+            changed: true,
+            out,
+        },
+        entry: Some(entry),
+    })
+}
+
+/// What is to be done with a frame that is not refused.
+#[derive(Drop)]
+struct Judgement {
+    verdict: Verdict,
+    /// What is sent in answer.
+    out: Vec<Outgoing>,
+    /// How many messages the view has so far.
+    before: usize,
+}
+
+/// What is to be done with a frame.
+fn judge(
+    alloc: Global,
+    group: Group,
+    me: u32,
+    limit: usize,
+    entries: &[Entry],
+    facts: &[Fact],
+    frame: &Frame,
+) -> Result<Judgement, ArriveRefusal>
+    requires { map fact_of facts.now ≡ facts_of (map entry_fields entries.now) }
+    ensures verdict { IfOk result (λ j. let seat : Seat = record { group = group; me = me } in let said = map entry_fields entries.now in
+        IsVerdict seat (facts_of said) (fields_of frame.now) (frame_answer seat limit said (facts_of said) (fields_of frame.now)) (Ok j.verdict)) }
+    ensures out { IfOk result (λ j. j.out.items ≡ sent_in_answer (record { group = group; me = me }) (facts_of (map entry_fields entries.now)) (fields_of frame.now)) }
+    ensures before { IfOk result (λ j. j.before ≡ length (view group.size (map fact_of facts.now))) }
+    ensures room { IfOk result (λ j. (j.verdict ≡ Verdict.Change) → length entries.now < limit) }
+    ensures refused { IfErr result (λ refusal. let seat : Seat = record { group = group; me = me } in let said = map entry_fields entries.now in
+        (frame_answer seat limit said (facts_of said) (fields_of frame.now) ≡ Err refusal) ⊎ (refusal ≡ ArriveRefusal.NoMemory)) }
+{
+    let casts = casts_in(alloc, facts)?;
+    let seen = view(alloc, group.size(), facts)?;
+    let verdict = judged(group, me, limit, entries, facts, &casts, &seen, frame)?;
+    let out = sent_in_answer(alloc, group, me, entries, facts, &casts, &seen, frame)?;
+    Ok(Judgement {
+        verdict,
+        out,
+        before: seen.len(),
+    })
+}
+
+/// The answer to a frame.
+fn answer_frame(
+    alloc: Global,
+    group: Group,
+    me: u32,
+    limit: usize,
+    entries: &[Entry],
+    frame: Frame,
+    bytes: &Bytes,
+) -> Result<Accepting, ArriveRefusal>
+    requires group { AreParameters group }
+    ensures accepted { IfOk result (λ a. let seat : Seat = record { group = group; me = me } in let said = map entry_fields entries.now in
+        IsAccepting bytes.now (frame_answer seat limit said (facts_of said) (fields_of frame)) a) }
+    ensures room { IfOk result (λ a. IsSome a.entry → length entries.now < limit) }
+    ensures refused { IfErr result (λ refusal. let seat : Seat = record { group = group; me = me } in let said = map entry_fields entries.now in
+        (frame_answer seat limit said (facts_of said) (fields_of frame) ≡ Err refusal) ⊎ (refusal ≡ ArriveRefusal.NoMemory)) }
+{
+    let facts = facts_of(alloc, entries)?;
+    let Judgement {
+        verdict,
+        out,
+        before,
+    } = judge(alloc, group, me, limit, entries, &facts, &frame)?;
+    match verdict {
+        Verdict::Repeat => Ok(Accepting {
+            arrival: Arrival::Repeat,
+            entry: None,
+        }),
+        Verdict::NoChange => Ok(Accepting {
+            arrival: Arrival::Accepted {
+                deliveries: Vec::new(alloc),
+                changed: false,
+                out,
+            },
+            entry: None,
+        }),
+        Verdict::Change => Ok(taken(alloc, group, me, facts, before, frame, bytes, out)?),
+    }
+}
+
+/// The answer to bytes that came.
+#[tactic(auto, unfolding(crate::specs::Answers::arrive_answer))]
+pub fn answer_arrive(
+    alloc: Global,
+    group: Group,
+    me: u32,
+    limit: usize,
+    entries: &[Entry],
+    bytes: &Bytes,
+) -> Result<Accepting, ArriveRefusal>
+    requires group { AreParameters group }
+    ensures accepted { IfOk result (λ a. let seat : Seat = record { group = group; me = me } in IsAccepting bytes.now (arrive_answer seat limit (map entry_fields entries.now) bytes.now) a) }
+    ensures room { IfOk result (λ a. IsSome a.entry → length entries.now < limit) }
+    ensures refused { IfErr result (λ refusal. let seat : Seat = record { group = group; me = me } in (arrive_answer seat limit (map entry_fields entries.now) bytes.now ≡ Err refusal)
+        ⊎ ((refusal ≡ ArriveRefusal.NoMemory) × HasValue (frame_at bytes.now))) }
+{
+    let frame = read(alloc, bytes)?;
+    answer_frame(alloc, group, me, limit, entries, frame, bytes)
 }
