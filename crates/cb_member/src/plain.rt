@@ -1,13 +1,14 @@
 //! The slow member: it keeps nothing but its history, and works everything out from the entries at each call.
 
-ghost use Rattle.std.specs.Prelude.{◌≡◌, ◌↔◌, ◌⊎◌, ◌≤◌, ◌<◌, ◌++◌, [], ◌∷◌, length, map, IfOk, IfErr, OnErr};
+ghost use Rattle.std.specs.Prelude.{◌≡◌, ◌↔◌, ◌⊎◌, ◌≤◌, ◌<◌, ◌++◌, [], ◌∷◌, ℕ, length, map, option_map, IsSome, IfOk, IfErr, OnOk, OnErr};
 ghost use Rattle.cb_frames.specs.Fields.{CastFrame};
 ghost use Rattle.cb_frames.specs.Text.{text_of};
-ghost use Rattle.cb_member.specs.Answers.{cast_answer, cast_done, next_cast};
+ghost use Rattle.cb_frames.specs.Reading.{frame_at, HasValue};
+ghost use Rattle.cb_member.specs.Answers.{cast_answer, cast_done, next_cast, arrive_answer, arrival_says};
 ghost use Rattle.cb_member.specs.Facts.{entry_fields, CastEntry, facts_of};
 ghost use Rattle.cb_member.specs.View.{time_of};
 ghost use Rattle.cb_member.specs.Known.{missing, stable};
-ghost use Rattle.cb_member.specs.Legal.{longest_history};
+ghost use Rattle.cb_member.specs.Legal.{longest_history, ToTake, and_entry, history_after};
 
 mod accepting;
 mod answering;
@@ -17,13 +18,15 @@ mod facts;
 mod known;
 mod view;
 
-use crate::answer::{CastDone, CastRefusal, NewFault};
+use crate::answer::{Arrival, ArriveRefusal, CastDone, CastRefusal, NewFault};
 use crate::group::Group;
 use crate::history::Entry;
+use crate::plain::accepting::{Accepting, answer_arrive};
 use crate::plain::casting::{Casting, answer_cast};
 use crate::plain::facts::{casts_in, facts_of};
 use crate::plain::known::{missing, stable};
 use crate::plain::view::{counts, view};
+use bytes::Bytes;
 use cb_frames::LONGEST_PAYLOAD;
 use cb_times::{NoMemory, VectorTime};
 use std::alloc::Global;
@@ -143,6 +146,43 @@ impl PlainMember {
         self.entries.push(entry)?;
         Ok(done)
     }
+
+    /// Takes bytes that came.
+    ///
+    /// A refusal is that of the definition. Want of memory may stand in place of any answer for bytes that are a frame, since the
+    /// entries are read again at each call; what is no frame is refused without memory.
+    pub fn arrive(&mut self, bytes: &Bytes) -> Result<Arrival, ArriveRefusal>
+        ensures answer { IfOk result (λ arrival. arrive_answer self.old.seat self.old.limit self.old.entries bytes.now ≡ Ok (arrival_says arrival)) }
+        ensures after { OnOk result (self.new ≡ record self.old { entries = history_after self.old.seat self.old.limit self.old.entries (ToTake bytes.now) }) }
+        ensures refused { IfErr result (λ refusal. (arrive_answer self.old.seat self.old.limit self.old.entries bytes.now ≡ Err refusal)
+            ⊎ ((refusal ≡ ArriveRefusal.NoMemory) × HasValue (frame_at bytes.now))) }
+        ensures same { OnErr result (self.new ≡ self.old) }
+    {
+        let alloc = *self.entries.allocator();
+        let accepting = answer_arrive(
+            alloc,
+            self.group,
+            self.me,
+            self.limit,
+            &self.entries,
+            bytes,
+        )?;
+        let Accepting { arrival, entry } = accepting;
+        enter(&mut self.entries, entry)?;
+        Ok(arrival)
+    }
+}
+
+/// Adds the entry, where there is one.
+fn enter(entries: &mut Vec<Entry>, entry: Option<Entry>) -> Result<(), NoMemory>
+    ensures added { OnOk result (map entry_fields entries.new.items ≡ and_entry (map entry_fields entries.old.items) (option_map entry_fields entry)) }
+    ensures room { OnOk result ((limit : ℕ) → length entries.old.items ≤ limit → (IsSome entry → length entries.old.items < limit) → length entries.new.items ≤ limit) }
+    ensures same { OnErr result (entries.new.items ≡ entries.old.items) }
+{
+    if let Some(entry) = entry {
+        entries.push(entry)?;
+    }
+    Ok(())
 }
 
 #[cfg(test)]

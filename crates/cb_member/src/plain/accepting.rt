@@ -332,6 +332,7 @@ pub fn answer_arrive(
 ) -> Result<Accepting, ArriveRefusal>
     requires group { AreParameters group }
     ensures accepted { IfOk result (λ a. let seat : Seat = record { group = group; me = me } in IsAccepting bytes.now (arrive_answer seat limit (map entry_fields entries.now) bytes.now) a) }
+    ensures frame { IfOk result (λ a. HasValue (frame_at bytes.now)) }
     ensures room { IfOk result (λ a. IsSome a.entry → length entries.now < limit) }
     ensures refused { IfErr result (λ refusal. let seat : Seat = record { group = group; me = me } in (arrive_answer seat limit (map entry_fields entries.now) bytes.now ≡ Err refusal)
         ⊎ ((refusal ≡ ArriveRefusal.NoMemory) × HasValue (frame_at bytes.now))) }
