@@ -23,3 +23,4 @@ pub mod PlainReading
 pub mod PlainKnown
 pub mod PlainBounds
 pub mod PlainCasting
+pub mod PlainAnswering

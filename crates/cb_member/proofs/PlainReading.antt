@@ -1,14 +1,13 @@
 -- Reading never finds want of memory.
-use Rattle.std.proofs.Common.{◌≡◌, ◌≢◌, ℕ, zero, suc, ◌+◌, Bool, true, false, cond, eqb, ltb, List, [], ◌∷◌, length, Option, Some, None, Result, Ok, Err, MatchResult, refl}
-use Rattle.std.proofs.lemmas.Bool.{cond_both}
+use Rattle.std.proofs.Common.{◌≢◌, ℕ, zero, suc, ◌+◌, Bool, true, false, cond, eqb, ltb, List, [], ◌∷◌, length, Option, Some, None, Result, Ok, Err}
 use Rattle.cb_varint.specs.declared.fault.NumberFault.{NumberFault}
 use Rattle.cb_varint.specs.declared.fault.NumberFault.TheVariants as numbers
 use Rattle.cb_varint.specs.Reading.{number_at as number_and_length}
 use Rattle.cb_frames.specs.declared.frame.TheConstants.{LAST_MEMBER, LAST_NUMBER, LONGEST_PAYLOAD, MOST_RANGES}
 use Rattle.cb_frames.specs.declared.fault.FrameFault.{FrameFault}
 use Rattle.cb_frames.specs.declared.fault.FrameFault.TheVariants as faults
-use Rattle.cb_frames.specs.Fields.{CastFields, StatusFields, RequestFields, FrameFields, CastFrame, StatusFrame, RequestFrame}
-use Rattle.cb_frames.specs.Fault.{any_number, member_rule, message_rule, index_rule, amount_rule, length_rule, value_rule, ranges_rule, start_rule, end_rule, Pairs, change_pairs, value_pairs, range_pairs}
+use Rattle.cb_frames.specs.Fields.{FrameFields, CastFrame, StatusFrame, RequestFrame}
+use Rattle.cb_frames.specs.Fault.{any_number, member_rule, message_rule, length_rule, ranges_rule, Pairs, change_pairs, value_pairs, range_pairs}
 use Rattle.cb_frames.specs.Text.{cast_kind, status_kind, request_kind}
 use Rattle.cb_frames.specs.Reading.{◌>>=◌, behind_number, number_at, unless, field_at, pair_at, pairs_at, payload_at, end_at, cast_at, status_at, request_at, frame_at}
 

@@ -110,13 +110,7 @@ pub fn is_impossible(
 }
 
 /// Some value tells more of another sender's casts than the member has heard of.
-fn tells_of_casts(
-    size: u32,
-    me: u32,
-    facts: &[Fact],
-    casts: &[&Cast],
-    values: &[Change],
-) -> bool
+fn tells_of_casts(size: u32, me: u32, facts: &[Fact], casts: &[&Cast], values: &[Change]) -> bool
     requires { map cast_of casts.now ≡ casts_in (map fact_of facts.now) }
     ensures { result ≡ list_any (λ k. not (k == me) && nat_lt (known (map fact_of facts.now) k) (value_in values.now k)) (range_with_len 0 size) }
 {

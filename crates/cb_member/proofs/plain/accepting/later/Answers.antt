@@ -1,4 +1,4 @@
-use Rattle.std.proofs.Common.{◌≡◌, ◌-◌, ◌∙◌, ℕ, List, map, min, take, drop, length, ap, sym, arith}
+use Rattle.std.proofs.Common.{◌≡◌, ◌-◌, ◌∙◌, ℕ, List, map, min, drop, length, ap, sym, arith}
 use Rattle.std.proofs.lemmas.List.{drop_min, drop-map, take_all, length-drop}
 use Rattle.cb_member.specs.declared.plain.view.Message.{Message}
 use Rattle.cb_member.specs.PlainMessages.{carried_of}
