@@ -17,6 +17,7 @@ pub mod Requests
 pub mod InTime
 pub mod Copies
 pub mod Gaps
+pub mod GapsLater
 pub mod PlainWalks
 pub mod PlainMessages
 pub mod PlainReading

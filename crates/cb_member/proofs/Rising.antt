@@ -95,7 +95,7 @@ status_is_known facts s i =
     let same = same_times facts i in
     omega (arith, more, parts, same)
 
-known_rises : (facts : List Fact) (f : Fact) (i : ℕ) → known facts i ≤ known (facts ++ f ∷ []) i
+pub known_rises : (facts : List Fact) (f : Fact) (i : ℕ) → known facts i ≤ known (facts ++ f ∷ []) i
 known_rises facts f i =
     let more = known_more facts f i in
     let parts = known_parts facts i in

@@ -188,6 +188,15 @@ pub record IsMissing (seat : Seat) (facts : List Fact) (i n : ℕ) : Type 0 wher
 abbrev pub MissingIsExact : Type 0
 MissingIsExact = (seat : Seat) (facts : List Fact) (i n : ℕ) → Has (missing seat facts i) n ↔ IsMissing seat facts i n
 
+-- what is missing stays so until its cast is there
+abbrev pub MissingStays : Type 0
+MissingStays = (seat : Seat) (facts : List Fact) (f : Fact) (i n : ℕ) → Has (missing seat facts i) n → is_there (casts_in (facts ++ f ∷ [])) i n ≡ false → Has (missing seat (facts ++ f ∷ []) i) n
+
+-- and what comes to be missing by one more fact was not heard of before, or was beyond the window
+abbrev pub MissingComes : Type 0
+MissingComes = (seat : Seat) (facts : List Fact) (f : Fact) (i n : ℕ) → Has (missing seat (facts ++ f ∷ []) i) n
+    → Has (missing seat facts i) n ⊎ (known facts i < n) ⊎ (delivered seat facts i + seat.group.window < n)
+
 -- a number lies in one of these ranges
 abbrev pub InSome : List Range → ℕ → Type 0
 InSome [] n = ⊥

@@ -1,6 +1,6 @@
 //! What the definitions of one member imply, as contracts of functions that do nothing.
 
-ghost use Rattle.cb_member.specs.Laws.{ViewWithOneMore, NothingReadyIsLeft, NextIsTheOnlyCandidate, NamesStandOnce, OwnCastsAreNumbered, OwnMessagesAreOwn, ViewIsInOrder, ViewIsOfCasts, StatusIsKnown, StatusIsAcknowledged, OwnStatusTellsNothing, NothingFalls, AcknowledgedIsDelivered, PrefixOfFactsIsLegal, LastFactIsAStep, ViewHoldsTheFirst, PrefixIsLegal, LegalHistoriesSayLegalFacts, EachEntrySaysOneFact, OwnFramesHaveTexts, TimesStay, OwnCastsTellTheView, TimesAreReached, ViewIsInTime, TimesAgree, MissingIsExact, RangesOfMissing};
+ghost use Rattle.cb_member.specs.Laws.{ViewWithOneMore, NothingReadyIsLeft, NextIsTheOnlyCandidate, NamesStandOnce, OwnCastsAreNumbered, OwnMessagesAreOwn, ViewIsInOrder, ViewIsOfCasts, StatusIsKnown, StatusIsAcknowledged, OwnStatusTellsNothing, NothingFalls, AcknowledgedIsDelivered, PrefixOfFactsIsLegal, LastFactIsAStep, ViewHoldsTheFirst, PrefixIsLegal, LegalHistoriesSayLegalFacts, EachEntrySaysOneFact, OwnFramesHaveTexts, TimesStay, OwnCastsTellTheView, TimesAreReached, ViewIsInTime, TimesAgree, MissingIsExact, MissingStays, MissingComes, RangesOfMissing};
 
 /// What one more fact does to the view, and what a drain leaves: nothing that is ready. Of each sender only the next message can be.
 pub fn view_with_one_more_fact()
@@ -55,9 +55,12 @@ pub fn times_of_messages()
     ensures agree { TimesAgree }
 {}
 
-/// What is missing of a sender: the numbers above what is expanded, heard of and within the window, whose casts are not there. As
-/// ranges they are the same numbers, in rising order, and neither touch nor overlap.
+/// What is missing of a sender: the numbers above what is expanded, heard of and within the window, whose casts are not there. One
+/// more fact takes none away but by its cast, and adds none but what was not heard of or beyond the window. As ranges they are the
+/// same numbers, in rising order, and neither touch nor overlap.
 pub fn missing_numbers()
     ensures exact { MissingIsExact }
+    ensures stays { MissingStays }
+    ensures comes { MissingComes }
     ensures ranges { RangesOfMissing }
 {}
