@@ -60,7 +60,8 @@ told-there previous now own a (suc n) k le lt ne =
           omega (arith, told-suc previous now own a n k, others, counts-other previous now own a k far)
     ]
 
-growth_in-differences : (previous now : List ℕ) (own k : ℕ) → k < length now → k ≢ own → growth_in (differences previous now own) k ≡ field now k - field previous k
+-- the differences say of each other field by how much it grew
+pub growth_in-differences : (previous now : List ℕ) (own k : ℕ) → k < length now → k ≢ own → growth_in (differences previous now own) k ≡ field now k - field previous k
 growth_in-differences previous now own k lt ne = told-there previous now own 0 (length now) k (omega arith) (omega arith) ne
 
 are_fields : (previous now : List ℕ) (own : ℕ) → All (λ (d : Change). d.field < length now) (differences previous now own)

@@ -15,13 +15,13 @@ total casts sender number k = sum_by (growth_of sender number k) casts
 
 -- ---- what one frame adds
 
-growth_of-other : (sender number k : ℕ) (c : CastFields) → c.sender ≢ sender → growth_of sender number k c ≡ 0
+pub growth_of-other : (sender number k : ℕ) (c : CastFields) → c.sender ≢ sender → growth_of sender number k c ≡ 0
 growth_of-other sender number k c ne = rw (and_left (eqb c.sender sender) (leb (first_number c) number) (ne_eqb c.sender sender ne)) refl
 
-growth_of-later : (sender number k : ℕ) (c : CastFields) → number < first_number c → growth_of sender number k c ≡ 0
+pub growth_of-later : (sender number k : ℕ) (c : CastFields) → number < first_number c → growth_of sender number k c ≡ 0
 growth_of-later sender number k c lt = rw (and_right (eqb c.sender sender) (leb (first_number c) number) (lt-leb (first_number c) number lt)) refl
 
-growth_of-own : (sender number k : ℕ) (c : CastFields) → c.sender ≡ sender → first_number c ≤ number → growth_of sender number k c ≡ growth_in c.changes k
+pub growth_of-own : (sender number k : ℕ) (c : CastFields) → c.sender ≡ sender → first_number c ≤ number → growth_of sender number k c ≡ growth_in c.changes k
 growth_of-own sender number k c e le = rw (eq-eqb c.sender sender e, le-leb (first_number c) number le) refl
 
 -- ---- the last number

@@ -9,7 +9,7 @@ use Rattle.cb_member.specs.Facts.{casts_in, messages_in, is_there}
 use Rattle.cb_member.specs.Laws.{NamesDiffer, SameFrames, TimesAgree}
 use Rattle.cb_member.proofs.Views.{IsIn, all_in_range}
 use Rattle.cb_member.proofs.Names.{all_stand, message}
-use Rattle.cb_member.proofs.Growth.{growth_of-other, growth_of-later, growth_of-own}
+use Rattle.cb_diffs.proofs.Sums.{growth_of-other, growth_of-later, growth_of-own}
 
 abbrev total : List CastFields → ℕ → ℕ → ℕ → ℕ
 total casts sender number k = sum_by (growth_of sender number k) casts

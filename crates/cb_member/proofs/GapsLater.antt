@@ -3,12 +3,11 @@ use Rattle.std.proofs.Common.{◌≡◌, ℕ, ◌+◌, ◌<◌, ◌≤◌, Bool,
 use Rattle.std.specs.List.{filter, list_any}
 use Rattle.std.proofs.lemmas.Bool.{cond_both, eqb-true, ltb-true, ltb-false}
 use Rattle.cb_frames.specs.Fields.{CastFields, Carried, messages_of}
-use Rattle.cb_member.specs.Group.{Seat}
 use Rattle.cb_member.specs.Facts.{Fact, casts_in, cast_in, messages_in, is_there}
-use Rattle.cb_member.specs.View.{count, view, is_expanded, expanded_in}
+use Rattle.cb_member.specs.View.{is_expanded, expanded_in}
 use Rattle.cb_member.specs.Known.{greatest_of, known, expanded_count, missing}
 use Rattle.cb_member.specs.Answers.{delivered}
-use Rattle.cb_member.specs.Laws.{Has, IsMissing, MissingStays, MissingComes}
+use Rattle.cb_member.specs.Laws.{Has, MissingStays, MissingComes}
 use Rattle.cb_member.proofs.Views.{IsIn, filter_in, all_in_range, casts_in-append}
 use Rattle.cb_member.proofs.Lists.{flat_map-append, or_false}
 use Rattle.cb_member.proofs.Rising.{known_rises}

@@ -21,7 +21,9 @@ use Rattle.cb_member.proofs.Names.{Stands, StandsAt, all_stand, message, came_is
 use Rattle.cb_member.proofs.Bounds.{count_below}
 use Rattle.cb_member.proofs.Prefixes.{prefix_of_facts_is_legal}
 use Rattle.cb_member.proofs.Rising.{expanded_more}
-use Rattle.cb_member.proofs.Growth.{growth_of-other, growth_of-own, same_field, growth_in-differences}
+use Rattle.cb_diffs.proofs.Sums.{growth_of-other, growth_of-own}
+use Rattle.cb_diffs.proofs.Returning.{growth_in-differences}
+use Rattle.cb_member.proofs.Growth.{same_field}
 
 -- ---- what the view holds is expanded
 
