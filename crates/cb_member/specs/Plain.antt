@@ -2,7 +2,8 @@
 use Rattle.std.specs.Prelude.{ℕ, List, [], ◌∷◌, min, Option, Some, None}
 use Rattle.std.specs.Borrow.{Bor}
 use Rattle.cb_frames.specs.declared.frame.Cast.{Cast}
-use Rattle.cb_frames.specs.Fields.{CastFields, cast_fields, status_fields}
+use Rattle.cb_frames.specs.declared.frame.Status.{Status}
+use Rattle.cb_frames.specs.Fields.{CastFields, StatusFields, cast_fields, status_fields}
 use Rattle.cb_member.specs.declared.plain.facts.Fact.{Fact as PlainFact}
 use Rattle.cb_member.specs.declared.plain.facts.Fact.TheVariants as plain
 use Rattle.cb_member.specs.Facts.{Fact, OwnCast, CastCame, StatusCame, OwnStatus}
@@ -30,3 +31,8 @@ as_casts (Some c) = cast_of c ∷ []
 abbrev pub lesser_of : Option ℕ → ℕ → ℕ
 lesser_of None n = n
 lesser_of (Some m) n = min m n
+
+-- a status that is referred to
+abbrev pub as_status : Option (Bor Status) → Option StatusFields
+as_status None = None
+as_status (Some s) = Some (status_fields s.now)

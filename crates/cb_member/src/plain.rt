@@ -13,6 +13,7 @@ mod arriving;
 mod casting;
 mod facts;
 mod known;
+mod ticking;
 mod view;
 
 use crate::answer::{CastDone, CastRefusal, NewFault};
