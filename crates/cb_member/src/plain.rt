@@ -1,13 +1,15 @@
 //! The slow member: it keeps nothing but its history, and works everything out from the entries at each call.
 
-ghost use Rattle.std.specs.Prelude.{◌≡◌, ◌↔◌, ◌⊎◌, ◌≤◌, ◌<◌, ◌++◌, [], ◌∷◌, length, map, IfOk, IfErr, OnErr};
+ghost use Rattle.std.specs.Prelude.{◌≡◌, ◌↔◌, ◌⊎◌, ◌≤◌, ◌<◌, ◌++◌, [], ◌∷◌, length, map, IfOk, IfErr, OnOk, OnErr};
 ghost use Rattle.cb_frames.specs.Fields.{CastFrame};
 ghost use Rattle.cb_frames.specs.Text.{text_of};
 ghost use Rattle.cb_member.specs.Answers.{cast_answer, cast_done, next_cast};
+ghost use Rattle.cb_member.specs.Answers.{tick_answer};
 ghost use Rattle.cb_member.specs.Facts.{entry_fields, CastEntry, facts_of};
 ghost use Rattle.cb_member.specs.View.{time_of};
 ghost use Rattle.cb_member.specs.Known.{missing, stable};
 ghost use Rattle.cb_member.specs.Legal.{longest_history};
+ghost use Rattle.cb_member.specs.Legal.{ToTick, history_after};
 
 mod arriving;
 mod casting;
@@ -16,12 +18,13 @@ mod known;
 mod ticking;
 mod view;
 
-use crate::answer::{CastDone, CastRefusal, NewFault};
+use crate::answer::{CastDone, CastRefusal, NewFault, TickRefusal, Ticked};
 use crate::group::Group;
 use crate::history::Entry;
 use crate::plain::casting::{Casting, answer_cast};
 use crate::plain::facts::{casts_in, facts_of};
 use crate::plain::known::{missing, stable};
+use crate::plain::ticking::{Ticking, answer_tick};
 use crate::plain::view::{counts, view};
 use cb_frames::LONGEST_PAYLOAD;
 use cb_times::{NoMemory, VectorTime};
@@ -140,6 +143,24 @@ impl PlainMember {
         )?;
         let Casting { done, entry } = casting;
         self.entries.push(entry)?;
+        Ok(done)
+    }
+
+    /// Tells the status to all others, and asks each for what is missing of it.
+    ///
+    /// Want of memory may stand in place of any answer, since the entries are read again at each call.
+    pub fn tick(&mut self) -> Result<Ticked, TickRefusal>
+        ensures done { IfOk result (λ done. tick_answer self.old.seat self.old.limit self.old.entries ≡ Ok (done.entered, done.out.items)) }
+        ensures after { OnOk result (self.new ≡ record self.old { entries = history_after self.old.seat self.old.limit self.old.entries ToTick }) }
+        ensures refused { IfErr result (λ refusal. (tick_answer self.old.seat self.old.limit self.old.entries ≡ Err refusal) ⊎ (refusal ≡ TickRefusal.NoMemory)) }
+        ensures same { OnErr result (self.new ≡ self.old) }
+    {
+        let alloc = *self.entries.allocator();
+        let ticking = answer_tick(alloc, self.group, self.me, self.limit, &self.entries)?;
+        let Ticking { done, entry } = ticking;
+        if let Some(told) = entry {
+            self.entries.push(told)?;
+        }
         Ok(done)
     }
 }

@@ -1,25 +1,27 @@
 //! What a tick sends: the status, and the requests for what is missing.
 
-ghost use Rattle.std.specs.Prelude.{◌≡◌, ◌≤◌, ◌<◌, ◌==◌, nat_lt, IfOk, Some, None, filter, length, map, take, option_to_list};
+ghost use Rattle.std.specs.Prelude.{◌≡◌, ◌⊎◌, ◌≤◌, ◌<◌, ◌==◌, nat_lt, IfOk, IfErr, IfSome, Ok, Err, Some, None, ◌∷◌, filter, length, map, take, option_map, option_to_list, if◌then◌else◌};
 ghost use Rattle.std.specs.List.{list_all, range_with_len};
 ghost use Rattle.cb_frames.specs.declared.frame.Change.{Change};
-ghost use Rattle.cb_frames.specs.Fields.{status_fields, RequestFrame};
+ghost use Rattle.cb_frames.specs.Fields.{status_fields, RequestFrame, StatusFrame};
 ghost use Rattle.cb_frames.specs.Text.{AreRanges, text_of};
 ghost use Rattle.cb_member.specs.Group.{Seat, AreParameters};
-ghost use Rattle.cb_member.specs.Facts.{casts_in};
+ghost use Rattle.cb_member.specs.Facts.{entry_fields, TickEntry, facts_of, casts_in};
 ghost use Rattle.cb_member.specs.View.{count, view};
 ghost use Rattle.cb_member.specs.Known.{value_in, missing, ranges_of};
-ghost use Rattle.cb_member.specs.Answers.{status_of, last_status, is_new_status, request_to, requests};
-ghost use Rattle.cb_member.specs.Legal.{longest_history};
+ghost use Rattle.cb_member.specs.Answers.{status_of, last_status, is_new_status, request_to, requests, tick_answer};
+ghost use Rattle.cb_member.specs.Legal.{longest_history, tick_entry};
 ghost use Rattle.cb_member.specs.Plain.{fact_of, cast_of, as_status};
 ghost use Rattle.cb_member.specs.PlainMessages.{carried_of};
 
-use crate::answer::Outgoing;
+use crate::answer::{Outgoing, TickRefusal, Ticked};
 use crate::group::Group;
+use crate::history::Entry;
 use crate::plain::casting::frame_text;
-use crate::plain::facts::Fact;
+use crate::plain::facts::{Fact, casts_in, facts_of};
 use crate::plain::known::{missing, value_in};
-use crate::plain::view::{Message, count};
+use crate::plain::view::{Message, count, view};
+use bytes::Bytes;
 use cb_frames::{Cast, Change, Frame, MOST_RANGES, Range, Request, Status};
 use cb_times::NoMemory;
 use std::alloc::Global;
@@ -216,4 +218,106 @@ pub fn requests(
         }
     }
     Ok(requests)
+}
+
+/// What a tick did, and the entry that it adds, where it adds one.
+#[derive(Drop)]
+pub struct Ticking {
+    pub done: Ticked,
+    pub entry: Option<Entry>,
+}
+
+/// The text of the status that says the time.
+fn status_text(
+    alloc: Global,
+    group: Group,
+    me: u32,
+    facts: &[Fact],
+    seen: &[Message<'_>],
+) -> Result<Bytes, NoMemory>
+    requires group { AreParameters group }
+    requires member { me < group.size }
+    requires few_seen { length seen.now ≤ longest_history }
+    requires seen { map carried_of seen.now ≡ view group.size (map fact_of facts.now) }
+    ensures { IfOk result (λ bytes. bytes ≡ text_of (StatusFrame (status_of (record { group = group; me = me }) (map fact_of facts.now)))) }
+{
+    let status = status_of(alloc, group, me, facts, seen)?;
+    let frame = Frame::Status(status);
+    frame_text(alloc, &frame)
+}
+
+/// The entry of a status, where it is new.
+fn entry_if_new(is_new: bool, status: &Bytes) -> Result<Option<Entry>, NoMemory>
+    ensures { IfOk result (λ entry. option_map entry_fields entry ≡ if is_new then Some (TickEntry status.now) else None) }
+{
+    Ok(if is_new {
+        Some(Entry::Tick {
+            status: status.clone()?,
+        })
+    } else {
+        None
+    })
+}
+
+/// Tells the status to all, and asks for what is missing.
+fn made(
+    alloc: Global,
+    group: Group,
+    me: u32,
+    facts: &[Fact],
+    casts: &[&Cast],
+    seen: &[Message<'_>],
+    is_new: bool,
+) -> Result<Ticking, NoMemory>
+    requires group { AreParameters group }
+    requires member { me < group.size }
+    requires few_seen { length seen.now ≤ longest_history }
+    requires casts { map cast_of casts.now ≡ casts_in (map fact_of facts.now) }
+    requires seen { map carried_of seen.now ≡ view group.size (map fact_of facts.now) }
+    ensures entered { IfOk result (λ ticking. ticking.done.entered ≡ is_new) }
+    ensures out { IfOk result (λ ticking. let seat : Seat = record { group = group; me = me } in
+        ticking.done.out.items ≡ record { to = None; bytes = text_of (StatusFrame (status_of seat (map fact_of facts.now))) } ∷ requests seat (map fact_of facts.now)) }
+    ensures entry { IfOk result (λ ticking. let seat : Seat = record { group = group; me = me } in
+        option_map entry_fields ticking.entry ≡ if is_new then Some (TickEntry (text_of (StatusFrame (status_of seat (map fact_of facts.now))))) else None) }
+{
+    let bytes = status_text(alloc, group, me, facts, seen)?;
+    let entry = entry_if_new(is_new, &bytes)?;
+    let mut out = requests(alloc, group, me, facts, casts, seen)?;
+    out.insert(0, Outgoing { to: None, bytes })?;
+    Ok(Ticking {
+        done: Ticked {
+            entered: is_new,
+            out,
+        },
+        entry,
+    })
+}
+
+/// The answer to a tick.
+#[tactic(auto, unfolding(crate::specs::Answers::tick_answer))]
+pub fn answer_tick(
+    alloc: Global,
+    group: Group,
+    me: u32,
+    limit: usize,
+    entries: &[Entry],
+) -> Result<Ticking, TickRefusal>
+    requires group { AreParameters group }
+    requires member { me < group.size }
+    requires few { length entries.now ≤ longest_history }
+    ensures done { IfOk result (λ ticking. tick_answer (record { group = group; me = me }) limit (map entry_fields entries.now) ≡ Ok (ticking.done.entered, ticking.done.out.items)) }
+    ensures entry { IfOk result (λ ticking. let seat : Seat = record { group = group; me = me } in
+        option_map entry_fields ticking.entry ≡ tick_entry (text_of (StatusFrame (status_of seat (facts_of (map entry_fields entries.now))))) (tick_answer seat limit (map entry_fields entries.now))) }
+    ensures room { IfOk result (λ ticking. IfSome ticking.entry (λ _. length entries.now < limit)) }
+    ensures refused { IfErr result (λ refusal. (tick_answer (record { group = group; me = me }) limit (map entry_fields entries.now) ≡ Err refusal) ⊎ (refusal ≡ TickRefusal.NoMemory)) }
+{
+    let facts = facts_of(alloc, entries)?;
+    let casts = casts_in(alloc, &facts)?;
+    let seen = view(alloc, group.size(), &facts)?;
+    let is_new = is_new_status(group, me, &facts, &seen);
+    if is_new && entries.len() >= limit {
+        return Err(TickRefusal::HistoryFull);
+    }
+    let ticking = made(alloc, group, me, &facts, &casts, &seen, is_new)?;
+    Ok(ticking)
 }
