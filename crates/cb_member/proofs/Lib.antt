@@ -25,3 +25,4 @@ pub mod PlainKnown
 pub mod PlainBounds
 pub mod PlainCasting
 pub mod PlainAnswering
+pub mod PlainTicking

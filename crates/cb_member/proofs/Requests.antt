@@ -19,11 +19,11 @@ use Rattle.cb_member.proofs.Bounds.{count_below}
 use Rattle.cb_member.proofs.Written.{cast_can, status_can}
 
 -- rising numbers, each at least `low` and at most the greatest
-abbrev Rise : ℕ → List ℕ → Type 0
+abbrev pub Rise : ℕ → List ℕ → Type 0
 Rise low [] = Unit {0}
 Rise low (n ∷ ns) = (low ≤ n) × (n ≤ LAST_NUMBER) × Rise (n + 1) ns
 
-filtered_rise : (p : ℕ → Bool) (a n low : ℕ) → low ≤ a → ((k : ℕ) → k < n → a + k ≤ LAST_NUMBER) → Rise low (filter p (range_with_len a n))
+pub filtered_rise : (p : ℕ → Bool) (a n low : ℕ) → low ≤ a → ((k : ℕ) → k < n → a + k ≤ LAST_NUMBER) → Rise low (filter p (range_with_len a n))
 filtered_rise p a zero low le small = tt
 filtered_rise p a (suc n) low le small =
     let here = small 0 (omega arith) in
@@ -39,16 +39,16 @@ before_are low n (r ∷ ranges) le small are =
     (λ touches. (le, omega (arith, are.0, are.1), are.2, are.3))
     (λ apart. let ne = eqb-false r.first (n + 1) apart in (le, omega arith, small, (omega (arith, are.0, ne), are.1, are.2, are.3)))
 
-ranges_are : (low : ℕ) (ns : List ℕ) → Rise low ns → AreRanges low (ranges_of ns)
+pub ranges_are : (low : ℕ) (ns : List ℕ) → Rise low ns → AreRanges low (ranges_of ns)
 ranges_are low [] rise = tt
 ranges_are low (n ∷ ns) rise = before_are low n (ranges_of ns) rise.0 rise.1 (ranges_are (n + 1) ns rise.2)
 
-taken_are : (j least : ℕ) (ranges : List Range) → AreRanges least ranges → AreRanges least (take j ranges)
+pub taken_are : (j least : ℕ) (ranges : List Range) → AreRanges least ranges → AreRanges least (take j ranges)
 taken_are zero least ranges are = tt
 taken_are (suc j) least [] are = tt
 taken_are (suc j) least (r ∷ ranges) are = (are.0, are.1, are.2, taken_are j (r.last + 2) ranges are.3)
 
-taken_few : {A : Type 0} (j : ℕ) (xs : List A) → length (take j xs) ≤ j
+pub taken_few : {A : Type 0} (j : ℕ) (xs : List A) → length (take j xs) ≤ j
 taken_few zero xs = omega arith
 taken_few (suc j) [] = omega arith
 taken_few (suc j) (x ∷ xs) = let others = taken_few j xs in omega (arith, others)

@@ -2,9 +2,10 @@
 use Rattle.std.specs.Prelude.{◌≡◌, ◌⊎◌, ℕ, true, false, List, [], ◌∷◌, min, Option, Some, None, option_map, Result, Ok, Err}
 use Rattle.std.specs.Borrow.{Bor}
 use Rattle.cb_frames.specs.declared.frame.Cast.{Cast}
+use Rattle.cb_frames.specs.declared.frame.Status.{Status}
 use Rattle.cb_frames.specs.declared.fault.FrameFault.{FrameFault}
 use Rattle.cb_frames.specs.Reading.{frame_at, HasValue}
-use Rattle.cb_frames.specs.Fields.{CastFields, cast_fields, status_fields, FrameFields}
+use Rattle.cb_frames.specs.Fields.{CastFields, StatusFields, cast_fields, status_fields, FrameFields}
 use Rattle.cb_member.specs.declared.plain.facts.Fact.{Fact as PlainFact}
 use Rattle.cb_member.specs.declared.plain.facts.Fact.TheVariants as plain
 use Rattle.cb_member.specs.declared.plain.accepting.Verdict.{Verdict}
@@ -40,6 +41,11 @@ as_casts (Some c) = cast_of c ∷ []
 abbrev pub lesser_of : Option ℕ → ℕ → ℕ
 lesser_of None n = n
 lesser_of (Some m) n = min m n
+
+-- a status that is referred to
+abbrev pub as_status : Option (Bor Status) → Option StatusFields
+as_status None = None
+as_status (Some s) = Some (status_fields s.now)
 
 -- what the rules say of a frame, as the answer that follows
 abbrev pub IsVerdict : Seat → List Fact → FrameFields → Result ArrivalSays ArriveRefusal → Result Verdict ArriveRefusal → Type 0

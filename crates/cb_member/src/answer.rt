@@ -3,6 +3,7 @@
 ghost use Rattle.std.specs.Prelude.{◌≡◌};
 ghost use Rattle.cb_member.specs.declared.answer.CastRefusal.TheVariants.{NoMemory as CastNoMemory};
 ghost use Rattle.cb_member.specs.declared.answer.ArriveRefusal.TheVariants.{NoMemory as ArriveNoMemory};
+ghost use Rattle.cb_member.specs.declared.answer.TickRefusal.TheVariants.{NoMemory as TickNoMemory};
 
 use bytes::Bytes;
 use cb_delay::{Message, Name};
@@ -143,4 +144,20 @@ pub enum TickRefusal {
     HistoryFull,
     /// A growth was refused.
     NoMemory,
+}
+
+impl From<AllocError> for TickRefusal {
+    ghost from_gives = { λ _ e. e ≡ TickNoMemory };
+
+    fn from(_refused: AllocError) -> TickRefusal {
+        TickRefusal::NoMemory
+    }
+}
+
+impl<T: Drop> From<AllocFailed<T>> for TickRefusal {
+    ghost from_gives = { λ _ e. e ≡ TickNoMemory };
+
+    fn from(_refused: AllocFailed<T>) -> TickRefusal {
+        TickRefusal::NoMemory
+    }
 }

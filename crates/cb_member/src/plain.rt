@@ -4,11 +4,11 @@ ghost use Rattle.std.specs.Prelude.{◌≡◌, ◌↔◌, ◌⊎◌, ◌≤◌, 
 ghost use Rattle.cb_frames.specs.Fields.{CastFrame};
 ghost use Rattle.cb_frames.specs.Text.{text_of};
 ghost use Rattle.cb_frames.specs.Reading.{frame_at, HasValue};
-ghost use Rattle.cb_member.specs.Answers.{cast_answer, cast_done, next_cast, arrive_answer, arrival_says};
+ghost use Rattle.cb_member.specs.Answers.{cast_answer, cast_done, next_cast, arrive_answer, arrival_says, tick_answer};
 ghost use Rattle.cb_member.specs.Facts.{entry_fields, CastEntry, facts_of};
 ghost use Rattle.cb_member.specs.View.{time_of};
 ghost use Rattle.cb_member.specs.Known.{missing, stable};
-ghost use Rattle.cb_member.specs.Legal.{longest_history, ToTake, and_entry, history_after};
+ghost use Rattle.cb_member.specs.Legal.{longest_history, ToTake, ToTick, and_entry, history_after};
 
 mod accepting;
 mod answering;
@@ -16,15 +16,17 @@ mod arriving;
 mod casting;
 mod facts;
 mod known;
+mod ticking;
 mod view;
 
-use crate::answer::{Arrival, ArriveRefusal, CastDone, CastRefusal, NewFault};
+use crate::answer::{Arrival, ArriveRefusal, CastDone, CastRefusal, NewFault, TickRefusal, Ticked};
 use crate::group::Group;
 use crate::history::Entry;
 use crate::plain::accepting::{Accepting, answer_arrive};
 use crate::plain::casting::{Casting, answer_cast};
 use crate::plain::facts::{casts_in, facts_of};
 use crate::plain::known::{missing, stable};
+use crate::plain::ticking::{Ticking, answer_tick};
 use crate::plain::view::{counts, view};
 use bytes::Bytes;
 use cb_frames::LONGEST_PAYLOAD;
@@ -170,6 +172,22 @@ impl PlainMember {
         let Accepting { arrival, entry } = accepting;
         enter(&mut self.entries, entry)?;
         Ok(arrival)
+    }
+
+    /// Tells the status to all others, and asks each for what is missing of it.
+    ///
+    /// Want of memory may stand in place of any answer, since the entries are read again at each call.
+    pub fn tick(&mut self) -> Result<Ticked, TickRefusal>
+        ensures done { IfOk result (λ done. tick_answer self.old.seat self.old.limit self.old.entries ≡ Ok (done.entered, done.out.items)) }
+        ensures after { OnOk result (self.new ≡ record self.old { entries = history_after self.old.seat self.old.limit self.old.entries ToTick }) }
+        ensures refused { IfErr result (λ refusal. (tick_answer self.old.seat self.old.limit self.old.entries ≡ Err refusal) ⊎ (refusal ≡ TickRefusal.NoMemory)) }
+        ensures same { OnErr result (self.new ≡ self.old) }
+    {
+        let alloc = *self.entries.allocator();
+        let ticking = answer_tick(alloc, self.group, self.me, self.limit, &self.entries)?;
+        let Ticking { done, entry } = ticking;
+        enter(&mut self.entries, entry)?;
+        Ok(done)
     }
 }
 

@@ -1,7 +1,8 @@
 //! What the member knows of the others.
 
-ghost use Rattle.std.specs.Prelude.{◌≡◌, ◌+◌, ◌-◌, not, IfOk, map, filter};
+ghost use Rattle.std.specs.Prelude.{◌≡◌, ◌≤◌, ◌+◌, ◌-◌, not, IfOk, map, filter};
 ghost use Rattle.std.specs.List.{flat_map};
+ghost use Rattle.cb_frames.specs.declared.frame.TheConstants.{LAST_NUMBER};
 ghost use Rattle.cb_frames.specs.Fields.{Carried};
 ghost use Rattle.cb_member.specs.Group.{Seat};
 ghost use Rattle.cb_member.specs.Facts.{casts_in, is_there, numbers_between};
@@ -205,7 +206,8 @@ pub fn missing(
 ) -> Result<Vec<u32>, NoMemory>
     requires casts { map cast_of casts.now ≡ casts_in (map fact_of facts.now) }
     requires seen { map carried_of seen.now ≡ view group.size (map fact_of facts.now) }
-    ensures { IfOk result (λ numbers. numbers.items ≡ missing (record { group = group; me = me }) (map fact_of facts.now) i) }
+    ensures numbers { IfOk result (λ numbers. numbers.items ≡ missing (record { group = group; me = me }) (map fact_of facts.now) i) }
+    ensures small { IfOk result (λ numbers. known (map fact_of facts.now) i ≤ LAST_NUMBER) }
 {
     let low = expanded_count(casts, i);
     let known = known(facts, casts, i);

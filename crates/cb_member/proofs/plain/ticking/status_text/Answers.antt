@@ -1,0 +1,12 @@
+use Rattle.std.proofs.Common.{map, subst, sym}
+use Rattle.cb_frames.specs.Fields.{StatusFields}
+use Rattle.cb_frames.specs.Text.{KeepsStatusRules}
+use Rattle.cb_member.specs.Group.{Seat}
+use Rattle.cb_member.specs.Plain.{fact_of}
+use Rattle.cb_member.proofs.PlainTicking.{status_keeps}
+use Rattle.cb_member.proofs.plain.ticking.status_text.Goals as goal
+
+pub frame_text-requires-clause-rules : goal.frame_text-requires-clause-rules
+frame_text-requires-clause-rules c =
+    let seat : Seat = record { group = c.args.group; me = c.args.me } in
+    subst (λ (s : StatusFields). KeepsStatusRules s) (sym c.in_ok-status.ensures) (status_keeps seat (map fact_of c.args.facts.now) c.requires.group.at_most_sixty_four c.requires.member)
