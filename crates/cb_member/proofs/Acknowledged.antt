@@ -1,8 +1,8 @@
 -- No more is acknowledged than was cast.
-use Rattle.std.proofs.Common.{◌≡◌, ℕ, ◌≤◌, Bool, true, false, not, cond, eqb, ltb, List, [], ◌∷◌, ◌++◌, map, max, refl, ap, ◌∙◌, arith, inl, inr}
+use Rattle.std.proofs.Common.{◌≡◌, ℕ, ◌≤◌, Bool, true, false, not, cond, eqb, ltb, List, [], ◌∷◌, ◌++◌, map, max, ap, ◌∙◌, arith}
 use Rattle.std.specs.List.{filter, flat_map, list_any, range_with_len}
-use Rattle.std.proofs.lemmas.Bool.{cond_both, ltb-false}
-use Rattle.cb_frames.specs.Fields.{StatusFields, Carried, StatusFrame}
+use Rattle.std.proofs.lemmas.Bool.{ltb-false}
+use Rattle.cb_frames.specs.Fields.{StatusFields, StatusFrame}
 use Rattle.cb_diffs.specs.Expansion.{expanded_field}
 use Rattle.cb_member.specs.Group.{Seat}
 use Rattle.cb_member.specs.Facts.{Fact, OwnCast, CastCame, StatusCame, OwnStatus, casts_in}
@@ -11,9 +11,9 @@ use Rattle.cb_member.specs.Known.{greatest_of, value_in, told_by, counted_by, ac
 use Rattle.cb_member.specs.Answers.{delivered}
 use Rattle.cb_member.specs.LegalFacts.{IsTaken, IsStep, AreLegalFacts, NoFacts, OneFactMore, AreFactsOf}
 use Rattle.cb_member.specs.Laws.{AcknowledgedIsDelivered}
-use Rattle.cb_member.proofs.Views.{IsIn, test_true, not_true}
+use Rattle.cb_member.proofs.Views.{test_true, not_true}
 use Rattle.cb_member.proofs.Lists.{flat_map-append, in_is_among}
-use Rattle.cb_member.proofs.Rising.{greatest_of-append}
+use Rattle.cb_member.proofs.Rising.{greatest_of-append, all_at_most}
 use Rattle.cb_member.proofs.Times.{count_grows, times_are_reached}
 
 -- what a status that was taken says of this member's casts
@@ -44,18 +44,11 @@ all_told_below seat _ k (OneFactMore facts f before room step) =
     ap greatest_of (flat_map-append (told_by k seat.me) facts (f ∷ [])) ∙ greatest_of-append (flat_map (told_by k seat.me) facts) (told_by k seat.me f ++ []) in
     omega (arith, parts, all_told_below seat facts k before, told_below seat facts f k step, count_grows seat.group.size facts f seat.me)
 
-all_counted_below : (p : Carried → Bool) (g : Carried → ℕ) (n : ℕ) (seen : List Carried) → ((m : Carried) → IsIn m seen → g m ≤ n) → greatest_of (map g (filter p seen)) ≤ n
-all_counted_below p g n [] each = omega arith
-all_counted_below p g n (m ∷ seen) each =
-    let others = all_counted_below p g n seen (λ x there. each x (inr there)) in
-    let here = each m (inl refl) in
-    cond_both (p m) (m ∷ filter p seen) (filter p seen) (λ (ms : List Carried). greatest_of (map g ms) ≤ n) (λ yes. omega (arith, here, others)) (λ no. others)
-
 acknowledged_below : (seat : Seat) (facts : List Fact) (k : ℕ) → AreFactsOf seat facts → acknowledged seat facts k ≤ delivered seat facts seat.me
 acknowledged_below seat facts k are =
     let parts = greatest_of-append (flat_map (told_by k seat.me) facts) (counted_by (casts_in facts) (view seat.group.size facts) k seat.me) in
-    let counted = all_counted_below (λ m. eqb m.sender k) (λ m. expanded_field (casts_in facts) m.sender m.number seat.me) (delivered seat facts seat.me) (view seat.group.size facts)
-    (λ m there. times_are_reached seat facts m seat.me are (in_is_among (view seat.group.size facts) m there) are.member) in
+    let counted = all_at_most (λ m. eqb m.sender k) (λ m. expanded_field (casts_in facts) m.sender m.number seat.me) (delivered seat facts seat.me) (view seat.group.size facts)
+    (λ m there by. times_are_reached seat facts m seat.me are (in_is_among (view seat.group.size facts) m there) are.member) in
     let told = all_told_below seat facts k are.facts_are in
     omega (arith, parts, counted, told)
 

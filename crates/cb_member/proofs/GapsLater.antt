@@ -1,28 +1,21 @@
 -- What one more fact does to what is missing.
-use Rattle.std.proofs.Common.{◌≡◌, ℕ, ◌+◌, ◌<◌, ◌≤◌, Bool, true, false, eqb, ltb, ◌-◌, ◌&&◌, List, [], ◌∷◌, ◌++◌, map, refl, sym, ap, ◌∙◌, arith, inl, inr, ◌⊎◌}
-use Rattle.std.specs.List.{filter, list_any}
-use Rattle.std.proofs.lemmas.Bool.{cond_both, eqb-true, ltb-true, ltb-false}
+use Rattle.std.proofs.Common.{◌≡◌, ℕ, ◌+◌, ◌<◌, ◌≤◌, Bool, true, false, eqb, ltb, ◌-◌, ◌&&◌, List, [], ◌∷◌, ◌++◌, refl, sym, ap, ◌∙◌, arith, inl, inr, ◌⊎◌}
+use Rattle.std.specs.List.{list_any}
+use Rattle.std.proofs.lemmas.Bool.{eqb-true, ltb-true, ltb-false}
 use Rattle.cb_frames.specs.Fields.{CastFields, Carried, messages_of}
 use Rattle.cb_member.specs.Facts.{Fact, casts_in, cast_in, messages_in, is_there}
 use Rattle.cb_member.specs.View.{is_expanded, expanded_in}
-use Rattle.cb_member.specs.Known.{greatest_of, known, expanded_count, missing}
+use Rattle.cb_member.specs.Known.{known, expanded_count, missing}
 use Rattle.cb_member.specs.Answers.{delivered}
 use Rattle.cb_member.specs.Laws.{Has, MissingStays, MissingComes}
-use Rattle.cb_member.proofs.Views.{IsIn, filter_in, all_in_range, casts_in-append}
+use Rattle.cb_member.proofs.Views.{filter_in, all_in_range, casts_in-append}
 use Rattle.cb_member.proofs.Lists.{flat_map-append, or_false}
-use Rattle.cb_member.proofs.Rising.{known_rises}
+use Rattle.cb_member.proofs.Rising.{all_at_most, known_rises}
 use Rattle.cb_member.proofs.Times.{count_grows}
 use Rattle.cb_member.proofs.Gaps.{missing_is_exact}
 
-all_below : (p : Carried → Bool) (g : Carried → ℕ) (n : ℕ) (ms : List Carried) → 0 < n → ((m : Carried) → IsIn m ms → p m ≡ true → g m < n) → greatest_of (map g (filter p ms)) < n
-all_below p g n [] some each = some
-all_below p g n (m ∷ ms) some each =
-    let others = all_below p g n ms some (λ x there. each x (inr there)) in
-    cond_both (p m) (m ∷ filter p ms) (filter p ms) (λ (xs : List Carried). greatest_of (map g xs) < n)
-    (λ yes. let here = each m (inl refl) yes in omega (arith, here, others)) (λ no. others)
-
 -- the casts up to a message that is expanded are there
-there_below : (casts : List CastFields) (m : Carried) (n : ℕ) → is_expanded casts m ≡ true → 1 ≤ n → n ≤ m.number → is_there casts m.sender n ≡ true
+pub there_below : (casts : List CastFields) (m : Carried) (n : ℕ) → is_expanded casts m ≡ true → 1 ≤ n → n ≤ m.number → is_there casts m.sender n ≡ true
 there_below casts m n expanded low high = all_in_range (is_there casts m.sender) (0 + 1) (m.number - 0) n expanded (omega (arith, low)) (omega (arith, high))
 
 number_below : (casts : List CastFields) (m : Carried) (i n : ℕ) (b : Bool) → ltb m.number n ≡ b → is_expanded casts m ≡ true → m.sender ≡ i → 1 ≤ n → is_there casts i n ≡ false → m.number < n
@@ -33,8 +26,9 @@ number_below casts m i n false e expanded own low lacks =
 -- what is not there is above what is expanded
 lacking_is_above : (casts : List CastFields) (i n : ℕ) → 1 ≤ n → is_there casts i n ≡ false → expanded_count casts i < n
 lacking_is_above casts i n low lacks =
-    all_below (λ m. eqb m.sender i) (λ m. m.number) n (expanded_in casts) (omega (arith, low))
-    (λ m there own. number_below casts m i n (ltb m.number n) refl (filter_in (is_expanded casts) (messages_in casts) m there).0 (eqb-true m.sender i own) low lacks)
+    let most = all_at_most (λ m. eqb m.sender i) (λ m. m.number) (n - 1) (expanded_in casts)
+    (λ m there own. let below = number_below casts m i n (ltb m.number n) refl (filter_in (is_expanded casts) (messages_in casts) m there).0 (eqb-true m.sender i own) low lacks in omega (arith, below)) in
+    omega (arith, low, most)
 
 -- what was there before is there still
 any_front : (p : Carried → Bool) (ms more : List Carried) → list_any p (ms ++ more) ≡ false → list_any p ms ≡ false

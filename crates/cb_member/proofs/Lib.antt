@@ -18,6 +18,7 @@ pub mod InTime
 pub mod Copies
 pub mod Gaps
 pub mod GapsLater
+pub mod RisingByCasts
 pub mod PlainWalks
 pub mod PlainMessages
 pub mod PlainReading

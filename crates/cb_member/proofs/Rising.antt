@@ -1,6 +1,7 @@
 -- What is known, acknowledged and stable with one more fact.
-use Rattle.std.proofs.Common.{◌≡◌, ℕ, ◌≤◌, Bool, true, false, not, cond, ◌&&◌, ◌||◌, eqb, List, [], ◌∷◌, ◌++◌, map, max, min, refl, sym, ap, subst, ◌∙◌, arith}
+use Rattle.std.proofs.Common.{◌≡◌, ℕ, ◌≤◌, Bool, true, false, not, cond, ◌&&◌, ◌||◌, eqb, List, [], ◌∷◌, ◌++◌, map, max, min, refl, sym, ap, subst, ◌∙◌, arith, inl, inr}
 use Rattle.std.specs.List.{filter, list_any, list_all, flat_map, range_with_len, sum_by}
+use Rattle.std.proofs.lemmas.Bool.{cond_both}
 use Rattle.std.proofs.lemmas.List.{append-nil}
 use Rattle.std.proofs.lemmas.List.Sums.{sum_by-append}
 use Rattle.cb_frames.specs.Fields.{CastFields, Carried, messages_of}
@@ -10,13 +11,20 @@ use Rattle.cb_member.specs.Facts.{Fact, StatusCame, OwnStatus, cast_in, casts_in
 use Rattle.cb_member.specs.View.{is_expanded, view}
 use Rattle.cb_member.specs.Known.{greatest_of, value_in, told_of, counted_in_times, known, told_by, counted_by, acknowledged, least_of}
 use Rattle.cb_member.specs.Laws.{StatusIsKnown, StatusIsAcknowledged, OwnStatusTellsNothing, NothingFalls}
-use Rattle.cb_member.proofs.Views.{casts_in-append, test_true}
+use Rattle.cb_member.proofs.Views.{IsIn, casts_in-append, test_true}
 use Rattle.cb_member.proofs.Lists.{flat_map-append}
 use Rattle.cb_member.proofs.Walks.{view_grows, view_status, view_told}
 
 pub greatest_of-append : (xs ys : List ℕ) → greatest_of (xs ++ ys) ≡ max (greatest_of xs) (greatest_of ys)
 greatest_of-append [] ys = omega arith
 greatest_of-append (x ∷ xs) ys = let others = greatest_of-append xs ys in omega (arith, others)
+
+pub all_at_most : (p : Carried → Bool) (g : Carried → ℕ) (n : ℕ) (ms : List Carried) → ((m : Carried) → IsIn m ms → p m ≡ true → g m ≤ n) → greatest_of (map g (filter p ms)) ≤ n
+all_at_most p g n [] each = omega arith
+all_at_most p g n (m ∷ ms) each =
+    let others = all_at_most p g n ms (λ x there. each x (inr there)) in
+    cond_both (p m) (m ∷ filter p ms) (filter p ms) (λ (xs : List Carried). greatest_of (map g xs) ≤ n)
+    (λ yes. let here = each m (inl refl) yes in omega (arith, here, others)) (λ no. others)
 
 -- ---- more casts
 
@@ -28,7 +36,7 @@ any_more p (x ∷ xs) ys h = more_at (p x) (list_any p xs) (list_any p (xs ++ ys
     more_at true b c h more = refl
     more_at false b c h more = more h
 
-all_weaker : {A : Type 0} (p q : A → Bool) (xs : List A) → ((x : A) → p x ≡ true → q x ≡ true) → list_all p xs ≡ true → list_all q xs ≡ true
+pub all_weaker : {A : Type 0} (p q : A → Bool) (xs : List A) → ((x : A) → p x ≡ true → q x ≡ true) → list_all p xs ≡ true → list_all q xs ≡ true
 all_weaker p q [] weaker h = refl
 all_weaker p q (x ∷ xs) weaker h =
     let both = test_true (p x) (list_all p xs) h in
@@ -64,7 +72,7 @@ greatest_rises : (p q : Carried → Bool) (g h : Carried → ℕ) (xs ys : List 
 greatest_rises p q g h [] ys weaker le = omega arith
 greatest_rises p q g h (x ∷ xs) ys weaker le = rises_at (p x) (q x) g h x (filter p xs) (filter q (xs ++ ys)) (weaker x) (le x) (greatest_rises p q g h xs ys weaker le)
 
-times_rise : (casts more : List CastFields) (i : ℕ) → greatest_of (counted_in_times casts i) ≤ greatest_of (counted_in_times (casts ++ more) i)
+pub times_rise : (casts more : List CastFields) (i : ℕ) → greatest_of (counted_in_times casts i) ≤ greatest_of (counted_in_times (casts ++ more) i)
 times_rise casts more i =
     subst (λ (ms : List Carried). greatest_of (counted_in_times casts i) ≤ greatest_of (map (λ m. expanded_field (casts ++ more) m.sender m.number i) (filter (is_expanded (casts ++ more)) ms))) (sym (flat_map-append messages_of casts more))
     (greatest_rises (is_expanded casts) (is_expanded (casts ++ more)) (λ m. expanded_field casts m.sender m.number i) (λ m. expanded_field (casts ++ more) m.sender m.number i) (messages_in casts) (messages_in more) (expanded_more casts more) (λ m. field_rises casts more m.sender m.number i))
@@ -75,10 +83,10 @@ counts_rise casts more seen later k me =
 
 -- ---- what is known
 
-known_parts : (facts : List Fact) (i : ℕ) → known facts i ≡ max (greatest_of (flat_map (told_of i) facts)) (greatest_of (counted_in_times (casts_in facts) i))
+pub known_parts : (facts : List Fact) (i : ℕ) → known facts i ≡ max (greatest_of (flat_map (told_of i) facts)) (greatest_of (counted_in_times (casts_in facts) i))
 known_parts facts i = greatest_of-append (flat_map (told_of i) facts) (counted_in_times (casts_in facts) i)
 
-known_more : (facts : List Fact) (f : Fact) (i : ℕ) → known (facts ++ f ∷ []) i ≡ max (max (greatest_of (flat_map (told_of i) facts)) (greatest_of (told_of i f ++ []))) (greatest_of (counted_in_times (casts_in facts ++ cast_in f) i))
+pub known_more : (facts : List Fact) (f : Fact) (i : ℕ) → known (facts ++ f ∷ []) i ≡ max (max (greatest_of (flat_map (told_of i) facts)) (greatest_of (told_of i f ++ []))) (greatest_of (counted_in_times (casts_in facts ++ cast_in f) i))
 known_more facts f i =
     known_parts (facts ++ f ∷ []) i
     ∙ ap (λ (ns : List ℕ). max (greatest_of ns) (greatest_of (counted_in_times (casts_in (facts ++ f ∷ [])) i))) (flat_map-append (told_of i) facts (f ∷ []))
@@ -104,13 +112,13 @@ known_rises facts f i =
 
 -- ---- what is acknowledged
 
-abbrev counted_at : Seat → List CastFields → List Carried → ℕ → ℕ
+abbrev pub counted_at : Seat → List CastFields → List Carried → ℕ → ℕ
 counted_at seat casts seen k = greatest_of (counted_by casts seen k seat.me)
 
-acknowledged_parts : (seat : Seat) (facts : List Fact) (k : ℕ) → acknowledged seat facts k ≡ max (greatest_of (flat_map (told_by k seat.me) facts)) (counted_at seat (casts_in facts) (view seat.group.size facts) k)
+pub acknowledged_parts : (seat : Seat) (facts : List Fact) (k : ℕ) → acknowledged seat facts k ≡ max (greatest_of (flat_map (told_by k seat.me) facts)) (counted_at seat (casts_in facts) (view seat.group.size facts) k)
 acknowledged_parts seat facts k = greatest_of-append (flat_map (told_by k seat.me) facts) (counted_by (casts_in facts) (view seat.group.size facts) k seat.me)
 
-acknowledged_more : (seat : Seat) (facts : List Fact) (f : Fact) (k : ℕ) → acknowledged seat (facts ++ f ∷ []) k ≡ max (max (greatest_of (flat_map (told_by k seat.me) facts)) (greatest_of (told_by k seat.me f ++ []))) (counted_at seat (casts_in facts ++ cast_in f) (view seat.group.size (facts ++ f ∷ [])) k)
+pub acknowledged_more : (seat : Seat) (facts : List Fact) (f : Fact) (k : ℕ) → acknowledged seat (facts ++ f ∷ []) k ≡ max (max (greatest_of (flat_map (told_by k seat.me) facts)) (greatest_of (told_by k seat.me f ++ []))) (counted_at seat (casts_in facts ++ cast_in f) (view seat.group.size (facts ++ f ∷ [])) k)
 acknowledged_more seat facts f k =
     acknowledged_parts seat (facts ++ f ∷ []) k
     ∙ ap (λ (ns : List ℕ). max (greatest_of ns) (counted_at seat (casts_in (facts ++ f ∷ [])) (view seat.group.size (facts ++ f ∷ [])) k)) (flat_map-append (told_by k seat.me) facts (f ∷ []))

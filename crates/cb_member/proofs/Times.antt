@@ -60,11 +60,11 @@ last_is_in : (ms : List Carried) (m : Carried) → IsIn m (ms ++ m ∷ [])
 last_is_in [] m = inl refl
 last_is_in (x ∷ ms) m = inr (last_is_in ms m)
 
-record IsNew (casts : List CastFields) (c : CastFields) : Type 0 where
-  new : is_there casts c.sender c.number ≡ false
-  positive : 1 ≤ c.number
+pub record IsNew (casts : List CastFields) (c : CastFields) : Type 0 where
+  pub new : is_there casts c.sender c.number ≡ false
+  pub positive : 1 ≤ c.number
 
-is_new : (seat : Seat) (facts : List Fact) (f : Fact) (c : CastFields) → StandsAt seat (facts ++ f ∷ []) → cast_in f ≡ c ∷ [] → IsNew (casts_in facts) c
+pub is_new : (seat : Seat) (facts : List Fact) (f : Fact) (c : CastFields) → StandsAt seat (facts ++ f ∷ []) → cast_in f ≡ c ∷ [] → IsNew (casts_in facts) c
 is_new seat facts f c s is =
     let casts : casts_in (facts ++ f ∷ []) ≡ casts_in facts ++ c ∷ [] = casts_in-append facts f ∙ ap (λ (cs : List CastFields). casts_in facts ++ cs) is in
     let messages : messages_in (casts_in (facts ++ f ∷ [])) ≡ messages_in (casts_in facts) ++ message c ∷ [] = ap messages_in casts ∙ messages_in-push (casts_in facts) c in

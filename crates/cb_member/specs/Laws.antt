@@ -1,15 +1,15 @@
 -- What one more fact does, and what is true of every legal history.
-use Rattle.std.specs.Prelude.{◌≡◌, ◌≢◌, ℕ, ◌+◌, ◌<◌, ◌≤◌, ◌↔◌, true, false, List, [], ◌∷◌, ◌++◌, length, take, None, max, ◌==◌, if◌then◌else◌, ◌⊎◌}
+use Rattle.std.specs.Prelude.{◌≡◌, ◌≢◌, ℕ, ◌+◌, ◌<◌, ◌≤◌, ◌↔◌, true, false, List, [], ◌∷◌, ◌++◌, length, map, filter, not, take, None, max, ◌==◌, if◌then◌else◌, ◌⊎◌}
 use Rattle.std.specs.List.{AllByRecursion}
 use Rattle.cb_frames.specs.declared.frame.TheConstants.{LONGEST_PAYLOAD, MOST_RANGES}
 use Rattle.cb_frames.specs.declared.frame.Range.{Range}
-use Rattle.cb_frames.specs.Fields.{CastFields, StatusFields, Carried, CastFrame, StatusFrame, RequestFrame}
+use Rattle.cb_frames.specs.Fields.{CastFields, StatusFields, Carried, last_number, CastFrame, StatusFrame, RequestFrame}
 use Rattle.cb_frames.specs.Laws.{CanBeWritten}
 use Rattle.cb_diffs.specs.Expansion.{expanded_field, expanded_time}
 use Rattle.cb_member.specs.Group.{Seat}
 use Rattle.cb_member.specs.Facts.{EntryFields, Fact, OwnCast, CastCame, StatusCame, OwnStatus, said_by, facts_of, casts_in, messages_in, is_there}
-use Rattle.cb_member.specs.View.{count, is_among, is_expanded, is_ready, next_delivery, drain, view, time_of, seen_after}
-use Rattle.cb_member.specs.Known.{value_in, known, expanded_count, missing, ranges_of, acknowledged, stable}
+use Rattle.cb_member.specs.View.{count, is_among, is_expanded, expanded_in, is_ready, next_delivery, drain, view, time_of, seen_after}
+use Rattle.cb_member.specs.Known.{greatest_of, value_in, known, counted_by, expanded_count, missing, ranges_of, acknowledged, stable}
 use Rattle.cb_member.specs.Answers.{own_casts, delivered, next_cast, status_of}
 use Rattle.cb_member.specs.Legal.{IsLegal}
 use Rattle.cb_member.specs.LegalFacts.{AreFactsOf, IsStep}
@@ -89,9 +89,33 @@ abbrev pub StatusIsAcknowledged : Type 0
 StatusIsAcknowledged = (seat : Seat) (facts : List Fact) (s : StatusFields) (k : ℕ)
     → acknowledged seat (facts ++ StatusCame s ∷ []) k ≡ (if s.sender == k then max (acknowledged seat facts k) (value_in s.values seat.me) else acknowledged seat facts k)
 
+-- the messages whose times can be told by one more cast, and not before
+abbrev pub newly_expanded : List CastFields → CastFields → List Carried
+newly_expanded casts c = filter (λ m. not (is_expanded casts m)) (expanded_in (casts ++ c ∷ []))
+
+-- a cast that came says its own number, and what the times say that can be told by it
+abbrev pub CastIsKnown : Type 0
+CastIsKnown = (seat : Seat) (facts : List Fact) (c : CastFields) (i : ℕ) → AreFactsOf seat (facts ++ CastCame c ∷ []) → known (facts ++ CastCame c ∷ []) i ≡ max (known facts i)
+    (max (if c.sender == i then last_number c else 0) (greatest_of (map (λ m. expanded_field (casts_in facts ++ c ∷ []) m.sender m.number i) (newly_expanded (casts_in facts) c))))
+
+-- and how many of this member's casts the senders of the messages that are delivered by it had delivered
+abbrev pub CastIsAcknowledged : Type 0
+CastIsAcknowledged = (seat : Seat) (facts : List Fact) (c : CastFields) (k : ℕ) (deliveries : List Carried) → AreFactsOf seat (facts ++ CastCame c ∷ [])
+    → view seat.group.size (facts ++ CastCame c ∷ []) ≡ view seat.group.size facts ++ deliveries
+    → acknowledged seat (facts ++ CastCame c ∷ []) k ≡ max (acknowledged seat facts k) (greatest_of (counted_by (casts_in facts ++ c ∷ []) deliveries k seat.me))
+
+-- an own cast says nothing new of the others
+abbrev pub OwnCastTellsNothing : Type 0
+OwnCastTellsNothing = (seat : Seat) (facts : List Fact) (c : CastFields) (k : ℕ) → AreFactsOf seat (facts ++ OwnCast c ∷ []) → k < seat.group.size → k ≢ seat.me
+    → (known (facts ++ OwnCast c ∷ []) k ≡ known facts k) × (acknowledged seat (facts ++ OwnCast c ∷ []) k ≡ acknowledged seat facts k)
+
 -- an own status says nothing new
 abbrev pub OwnStatusTellsNothing : Type 0
 OwnStatusTellsNothing = (seat : Seat) (facts : List Fact) (s : StatusFields) (k : ℕ) → (known (facts ++ OwnStatus s ∷ []) k ≡ known facts k) × (acknowledged seat (facts ++ OwnStatus s ∷ []) k ≡ acknowledged seat facts k)
+
+-- what is delivered is known
+abbrev pub DeliveredIsKnown : Type 0
+DeliveredIsKnown = (seat : Seat) (facts : List Fact) (i : ℕ) → AreFactsOf seat facts → delivered seat facts i ≤ known facts i
 
 -- one more fact makes nothing that is known, acknowledged or stable smaller
 abbrev pub NothingFalls : Type 0

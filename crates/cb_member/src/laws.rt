@@ -1,6 +1,6 @@
 //! What the definitions of one member imply, as contracts of functions that do nothing.
 
-ghost use Rattle.cb_member.specs.Laws.{ViewWithOneMore, NothingReadyIsLeft, NextIsTheOnlyCandidate, NamesStandOnce, OwnCastsAreNumbered, OwnMessagesAreOwn, ViewIsInOrder, ViewIsOfCasts, StatusIsKnown, StatusIsAcknowledged, OwnStatusTellsNothing, NothingFalls, AcknowledgedIsDelivered, PrefixOfFactsIsLegal, LastFactIsAStep, ViewHoldsTheFirst, PrefixIsLegal, LegalHistoriesSayLegalFacts, EachEntrySaysOneFact, OwnFramesHaveTexts, TimesStay, OwnCastsTellTheView, TimesAreReached, ViewIsInTime, TimesAgree, MissingIsExact, MissingStays, MissingComes, RangesOfMissing};
+ghost use Rattle.cb_member.specs.Laws.{ViewWithOneMore, NothingReadyIsLeft, NextIsTheOnlyCandidate, NamesStandOnce, OwnCastsAreNumbered, OwnMessagesAreOwn, ViewIsInOrder, ViewIsOfCasts, StatusIsKnown, StatusIsAcknowledged, CastIsKnown, CastIsAcknowledged, OwnStatusTellsNothing, OwnCastTellsNothing, NothingFalls, DeliveredIsKnown, AcknowledgedIsDelivered, PrefixOfFactsIsLegal, LastFactIsAStep, ViewHoldsTheFirst, PrefixIsLegal, LegalHistoriesSayLegalFacts, EachEntrySaysOneFact, OwnFramesHaveTexts, TimesStay, OwnCastsTellTheView, TimesAreReached, ViewIsInTime, TimesAgree, MissingIsExact, MissingStays, MissingComes, RangesOfMissing};
 
 /// What one more fact does to the view, and what a drain leaves: nothing that is ready. Of each sender only the next message can be.
 pub fn view_with_one_more_fact()
@@ -20,13 +20,18 @@ pub fn names_and_order()
     ensures there { ViewIsOfCasts }
 {}
 
-/// What one more fact does to what is known, acknowledged and stable: a status that came raises it to what it says, an own status
-/// leaves it, and none makes it smaller. No more is acknowledged than was cast.
+/// What one more fact does to what is known, acknowledged and stable: a status that came raises it to what it says, a cast that came
+/// to what it and the times say that can be told by it, an own cast or status leaves it, and none makes it smaller. What is
+/// delivered is known, and no more is acknowledged than was cast.
 pub fn knowledge_grows()
     ensures known { StatusIsKnown }
     ensures acknowledged { StatusIsAcknowledged }
+    ensures cast_known { CastIsKnown }
+    ensures cast_acknowledged { CastIsAcknowledged }
     ensures own { OwnStatusTellsNothing }
+    ensures own_cast { OwnCastTellsNothing }
     ensures grows { NothingFalls }
+    ensures delivered { DeliveredIsKnown }
     ensures bound { AcknowledgedIsDelivered }
 {}
 
