@@ -31,7 +31,7 @@ least_with_more : (least : Option ℕ) (n : ℕ) (ns : List ℕ) → least_with 
 least_with_more None n ns = refl
 least_with_more (Some m) n ns = least_of_more m n ns
 
-row_more : (n i : ℕ) → i < n → range_with_len i (n - i) ≡ i ∷ range_with_len (i + 1) (n - (i + 1))
+pub row_more : (n i : ℕ) → i < n → range_with_len i (n - i) ≡ i ∷ range_with_len (i + 1) (n - (i + 1))
 row_more n i lt =
     let e : n - i ≡ suc (n - (i + 1)) = omega arith in
     rw e refl

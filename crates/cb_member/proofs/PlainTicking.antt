@@ -1,5 +1,5 @@
 -- Steps of the loops of a tick.
-use Rattle.std.proofs.Common.{◌≡◌, ℕ, suc, ◌+◌, ◌-◌, ◌<◌, ◌≤◌, min, Bool, true, false, not, eqb, ltb, if◌then◌else◌, List, [], ◌∷◌, ◌++◌, map, length, take, Some, refl, sym, ap, ◌∙◌, append_assoc, arith}
+use Rattle.std.proofs.Common.{◌≡◌, ℕ, ◌+◌, ◌-◌, ◌<◌, ◌≤◌, min, Bool, true, false, not, eqb, ltb, if◌then◌else◌, List, [], ◌∷◌, ◌++◌, map, length, take, Some, refl, sym, ap, ◌∙◌, append_assoc, arith}
 use Rattle.std.specs.List.{filter, flat_map, range_with_len}
 use Rattle.std.proofs.lemmas.Bool.{ltb-true}
 use Rattle.cb_frames.specs.declared.frame.TheConstants.{LAST_MEMBER, LAST_NUMBER, MOST_RANGES}
@@ -13,6 +13,7 @@ use Rattle.cb_member.specs.Facts.{Fact, casts_in, is_there}
 use Rattle.cb_member.specs.View.{count, view}
 use Rattle.cb_member.specs.Known.{known, expanded_count, missing, ranges_of}
 use Rattle.cb_member.specs.Answers.{delivered, status_of, request_to}
+use Rattle.cb_member.proofs.PlainKnown.{row_more}
 use Rattle.cb_member.proofs.Written.{rises_from, each_from}
 use Rattle.cb_member.proofs.Requests.{filtered_rise, ranges_are, taken_are, taken_few}
 
@@ -24,11 +25,7 @@ value_at seen k = record { field = k; amount = count seen k }
 abbrev pub is_not_zero : Change → Bool
 is_not_zero d = ltb 0 d.amount
 
-row_more : (n i : ℕ) → i < n → range_with_len i (n - i) ≡ i ∷ range_with_len (i + 1) (n - (i + 1))
-row_more n i lt =
-    let e : n - i ≡ suc (n - (i + 1)) = omega arith in
-    rw e refl
-
+-- one field more, which counts or does not
 pub value_more : (seen : List Carried) (n i : ℕ) (items new whole : List Change) → i < n → is_not_zero (value_at seen i) ≡ true → new ≡ items ++ value_at seen i ∷ []
     → items ++ filter is_not_zero (map (value_at seen) (range_with_len i (n - i))) ≡ whole → new ++ filter is_not_zero (map (value_at seen) (range_with_len (i + 1) (n - (i + 1)))) ≡ whole
 value_more seen n i items new whole lt holds pushed h =
@@ -56,7 +53,7 @@ opened r (s ∷ ranges) = if eqb s.first (r.last + 1) then record { first = r.fi
 abbrev pub requests_to : Seat → List Fact → List ℕ → List Outgoing
 requests_to seat facts members = flat_map (λ i. request_to seat i (ranges_of (missing seat facts i))) (filter (λ i. not (eqb i seat.me)) members)
 
--- as ranges the missing numbers keep the rules where they fit
+-- The missing numbers keep the rules as ranges, where they fit,
 pub missing_are : (seat : Seat) (facts : List Fact) (i : ℕ) → known facts i ≤ LAST_NUMBER → AreRanges 1 (ranges_of (missing seat facts i))
 missing_are seat facts i fits =
     let low = expanded_count (casts_in facts) i in
@@ -64,13 +61,7 @@ missing_are seat facts i fits =
     let bound : high ≤ LAST_NUMBER = omega (arith, fits) in
     ranges_are 1 (missing seat facts i) (filtered_rise (λ n. not (is_there (casts_in facts) i n)) (low + 1) (high - low) 1 (omega arith) (λ k lt. omega (arith, lt, bound)))
 
--- the request where something is missing
-pub some_request : (seat : Seat) (i : ℕ) (ranges : List Range) → 1 ≤ length ranges
-    → record { to = Some i; bytes = text_of (RequestFrame (record { group = seat.group.number; requester = seat.me; asked = i; ranges = take MOST_RANGES ranges })) } ∷ [] ≡ request_to seat i ranges
-some_request seat i [] some = absurd (omega (arith, some))
-some_request seat i (r ∷ ranges) some = refl
-
--- so does the request for them, cut to the most that one may have
+-- and so does the request for them, cut to the most that one may have.
 pub request_keeps : (group requester asked : ℕ) (ranges cut : List Range) → requester ≤ LAST_MEMBER → asked ≤ LAST_MEMBER → 1 ≤ length ranges → AreRanges 1 ranges → cut ≡ take MOST_RANGES ranges
     → KeepsRequestRules (record { group = group; requester = requester; asked = asked; ranges = cut })
 request_keeps group requester asked [] cut small low some are is = absurd (omega (arith, some))
@@ -83,6 +74,12 @@ request_keeps group requester asked (r ∷ ranges) cut small low some are is =
       few = taken_few MOST_RANGES (r ∷ ranges);
       ranges = taken_are MOST_RANGES 1 (r ∷ ranges) are;
     })
+
+-- the request where something is missing
+pub some_request : (seat : Seat) (i : ℕ) (ranges : List Range) → 1 ≤ length ranges
+    → record { to = Some i; bytes = text_of (RequestFrame (record { group = seat.group.number; requester = seat.me; asked = i; ranges = take MOST_RANGES ranges })) } ∷ [] ≡ request_to seat i ranges
+some_request seat i [] some = absurd (omega (arith, some))
+some_request seat i (r ∷ ranges) some = refl
 
 -- one member more, and the member itself
 pub requests_more : (seat : Seat) (facts : List Fact) (n i : ℕ) (items new whole : List Outgoing) → i < n → not (eqb i seat.me) ≡ true → new ≡ items ++ request_to seat i (ranges_of (missing seat facts i))
