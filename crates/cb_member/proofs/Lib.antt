@@ -22,3 +22,4 @@ pub mod PlainMessages
 pub mod PlainKnown
 pub mod PlainBounds
 pub mod PlainCasting
+pub mod PlainAnswering

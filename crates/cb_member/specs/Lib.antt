@@ -9,4 +9,5 @@ pub mod LegalFacts
 pub mod Laws
 pub mod Plain
 pub mod PlainMessages
+pub mod PlainAnswers
 pub mod PlainState

@@ -9,6 +9,7 @@ ghost use Rattle.cb_member.specs.View.{time_of};
 ghost use Rattle.cb_member.specs.Known.{missing, stable};
 ghost use Rattle.cb_member.specs.Legal.{longest_history};
 
+mod answering;
 mod arriving;
 mod casting;
 mod facts;
