@@ -204,4 +204,7 @@ fn enter(entries: &mut Vec<Entry>, entry: Option<Entry>) -> Result<(), NoMemory>
 }
 
 #[cfg(test)]
+mod rows;
+
+#[cfg(test)]
 mod tests;
