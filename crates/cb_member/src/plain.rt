@@ -88,7 +88,7 @@ impl PlainMember {
     pub fn history(&self) -> &[Entry]
         ensures { map entry_fields result.now ≡ self.now.entries }
     {
-        &self.entries
+        self.entries.as_slice()
     }
 
     /// How many messages of each member are delivered, own casts included.
