@@ -22,6 +22,7 @@ pub use laws::{
     histories_say_facts, knowledge_grows, missing_numbers, names_and_order, prefixes_are_legal,
     times_of_messages, view_with_one_more_fact,
 };
+pub use plain::PlainMember;
 
 #[cfg(test)]
 mod tests;

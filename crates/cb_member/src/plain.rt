@@ -37,7 +37,9 @@ use std::marker::Model;
 /// The most entries that a history can have.
 const LONGEST_HISTORY: usize = 16_777_216;
 
-/// One member of a group, worked out from its history alone.
+/// One member of a group, worked out from its history alone: slow on purpose, for tests to compare a fast member with.
+///
+/// Every call reads all entries again, so every call may want memory. After a refusal the member is as it was.
 #[derive(Drop)]
 pub struct PlainMember {
     group: Group,
@@ -125,8 +127,8 @@ impl PlainMember {
 
     /// Casts a message of this payload.
     ///
-    /// A refusal is that of the definition. Want of memory may stand in place of any answer but `PayloadTooLong`, since the
-    /// entries are read again at each call.
+    /// A refusal is that of the definition, in the order of `CastRefusal`. Want of memory may stand in place of any answer but
+    /// `PayloadTooLong`.
     pub fn cast(&mut self, payload: &[u8]) -> Result<CastDone, CastRefusal>
         ensures done { IfOk result (λ done. let facts = facts_of self.old.entries in let c = next_cast self.old.seat facts payload.now in
             (cast_answer self.old.seat self.old.limit self.old.entries payload.now ≡ Ok c) × (done ≡ cast_done self.old.seat facts c)
@@ -149,10 +151,10 @@ impl PlainMember {
         Ok(done)
     }
 
-    /// Takes bytes that came.
+    /// Takes bytes that came: delivers what they make ready, or answers a request.
     ///
-    /// A refusal is that of the definition. Want of memory may stand in place of any answer for bytes that are a frame, since the
-    /// entries are read again at each call; what is no frame is refused without memory.
+    /// A refusal is that of the definition, in the order of `ArriveRefusal`; a repeat is told before a cast that is too far ahead. Want
+    /// of memory may stand in place of any answer for bytes that are a frame; what is no frame is refused without memory.
     pub fn arrive(&mut self, bytes: &Bytes) -> Result<Arrival, ArriveRefusal>
         ensures answer { IfOk result (λ arrival. arrive_answer self.old.seat self.old.limit self.old.entries bytes.now ≡ Ok (arrival_says arrival)) }
         ensures after { OnOk result (self.new ≡ record self.old { entries = history_after self.old.seat self.old.limit self.old.entries (ToTake bytes.now) }) }
@@ -176,7 +178,7 @@ impl PlainMember {
 
     /// Tells the status to all others, and asks each for what is missing of it.
     ///
-    /// Want of memory may stand in place of any answer, since the entries are read again at each call.
+    /// The status is an entry only where it differs from the last one. Want of memory may stand in place of any answer.
     pub fn tick(&mut self) -> Result<Ticked, TickRefusal>
         ensures done { IfOk result (λ done. tick_answer self.old.seat self.old.limit self.old.entries ≡ Ok (done.entered, done.out.items)) }
         ensures after { OnOk result (self.new ≡ record self.old { entries = history_after self.old.seat self.old.limit self.old.entries ToTick }) }
@@ -205,6 +207,5 @@ fn enter(entries: &mut Vec<Entry>, entry: Option<Entry>) -> Result<(), NoMemory>
 
 #[cfg(test)]
 mod rows;
-
 #[cfg(test)]
 mod tests;
