@@ -1,5 +1,5 @@
 -- The worked examples of one member.
-use Rattle.std.proofs.Common.{◌≡◌, ℕ, true, false, List, [], ◌∷◌, map, Option, Some, None, Result, Ok, Err, refl}
+use Rattle.std.proofs.Common.{◌≡◌, ℕ, true, false, List, [], ◌∷◌, map, replicate, Option, Some, None, Result, Ok, Err, refl, arith}
 use Rattle.cb_varint.specs.Reading.{number_at, spelling}
 use Rattle.cb_frames.specs.declared.fault.FrameFault.TheVariants as faults
 use Rattle.cb_frames.specs.Fields.{CastFields, CastFrame}
@@ -10,9 +10,9 @@ use Rattle.cb_member.specs.declared.answer.CastRefusal.{CastRefusal}
 use Rattle.cb_member.specs.declared.answer.CastRefusal.TheVariants as casts
 use Rattle.cb_member.specs.declared.answer.ArriveRefusal.TheVariants as arrivals
 use Rattle.cb_member.specs.declared.answer.TickRefusal.TheVariants as ticks
-use Rattle.cb_member.specs.Group.{Seat}
+use Rattle.cb_member.specs.Group.{Seat, AreParameters}
 use Rattle.cb_member.specs.Facts.{EntryFields, facts_of, casts_in}
-use Rattle.cb_member.specs.View.{view, drained, expanded_in, message_in}
+use Rattle.cb_member.specs.View.{view, drained, time_of, expanded_in, message_in}
 use Rattle.cb_member.specs.Known.{missing, ranges_of, acknowledged, stable}
 use Rattle.cb_member.specs.Answers.{cast_answer, arrive_answer, tick_answer, window, Accepted, Repeat}
 use Rattle.cb_member.specs.Legal.{Call, ToCast, ToTake, ToTick, history_after}
@@ -248,3 +248,58 @@ its_status_makes_the_cast_stable = refl
 a_late_request_gets_nothing : arrive_answer (at 0) 100 (after (at 0) (ToCast (104 ∷ 105 ∷ []) ∷ ToTake ok ∷ ToTake yo ∷ ToTake (18 ∷ 7 ∷ 2 ∷ 1 ∷ 0 ∷ 1 ∷ []) ∷ [])) (19 ∷ 7 ∷ 2 ∷ 0 ∷ 1 ∷ 0 ∷ 0 ∷ []) ≡ Ok (Accepted [] false [])
 unfolding cast_answer arrive_answer tick_answer view drained frame_at cast_at status_at request_at pairs_at pair_at number_at text_of spelling
 a_late_request_gets_nothing = refl
+
+-- payloads of the greatest length, and of one byte more, where the window is full too
+the_longest_payload_is_cast : bytes_of (cast_answer (at 0) 100 [] (replicate 1024 120)) ≡ Some (17 ∷ 7 ∷ 0 ∷ 1 ∷ 0 ∷ 128 ∷ 8 ∷ replicate 1024 120)
+unfolding cast_answer arrive_answer tick_answer view drained frame_at cast_at status_at request_at pairs_at pair_at number_at text_of spelling
+the_longest_payload_is_cast = refl
+
+a_longer_one_is_not : cast_answer (at 0) 100 [] (replicate 1025 120) ≡ Err casts.PayloadTooLong
+unfolding cast_answer arrive_answer tick_answer view drained frame_at cast_at status_at request_at pairs_at pair_at number_at text_of spelling
+a_longer_one_is_not = refl
+
+nor_where_the_window_is_full : cast_answer narrow 100 (after narrow (ToCast (97 ∷ []) ∷ ToCast (98 ∷ []) ∷ [])) (replicate 1025 120) ≡ Err casts.PayloadTooLong
+unfolding cast_answer arrive_answer tick_answer view drained frame_at cast_at status_at request_at pairs_at pair_at number_at text_of spelling
+nor_where_the_window_is_full = refl
+
+-- member 2 of five in group 300, which has delivered three casts of member 0, one of member 1 and two of member 4
+abbrev of_five : Seat
+of_five = record { group = record { number = 300; size = 5; window = 4 }; me = 2 }
+
+abbrev six_calls : List Call
+six_calls =
+    ToTake (17 ∷ 172 ∷ 2 ∷ 0 ∷ 1 ∷ 0 ∷ 0 ∷ [])
+    ∷ ToTake (17 ∷ 172 ∷ 2 ∷ 0 ∷ 2 ∷ 0 ∷ 0 ∷ [])
+    ∷ ToTake (17 ∷ 172 ∷ 2 ∷ 0 ∷ 3 ∷ 0 ∷ 0 ∷ [])
+    ∷ ToTake (17 ∷ 172 ∷ 2 ∷ 4 ∷ 1 ∷ 0 ∷ 0 ∷ [])
+    ∷ ToTake (17 ∷ 172 ∷ 2 ∷ 4 ∷ 2 ∷ 0 ∷ 0 ∷ [])
+    ∷ ToTake (17 ∷ 172 ∷ 2 ∷ 1 ∷ 1 ∷ 0 ∷ 0 ∷ [])
+    ∷ []
+
+it_says_what_it_delivered : bytes_of (cast_answer of_five 100 (after of_five six_calls) []) ≡ Some (17 ∷ 172 ∷ 2 ∷ 2 ∷ 1 ∷ 3 ∷ 0 ∷ 3 ∷ 0 ∷ 1 ∷ 2 ∷ 2 ∷ 0 ∷ [])
+unfolding cast_answer arrive_answer tick_answer view drained frame_at cast_at status_at request_at pairs_at pair_at number_at text_of spelling
+it_says_what_it_delivered = refl
+
+its_time_counts_its_cast : time_of 5 (facts_of (after_from of_five (after of_five six_calls) (ToCast [] ∷ []))) ≡ 3 ∷ 1 ∷ 1 ∷ 0 ∷ 2 ∷ []
+unfolding cast_answer arrive_answer tick_answer view drained frame_at cast_at status_at request_at pairs_at pair_at number_at text_of spelling
+its_time_counts_its_cast = refl
+
+its_status_says_the_time : tick_answer of_five 100 (after_from of_five (after of_five six_calls) (ToCast [] ∷ [])) ≡ Ok (true, record { to = None; bytes = (18 ∷ 172 ∷ 2 ∷ 2 ∷ 4 ∷ 0 ∷ 3 ∷ 0 ∷ 1 ∷ 0 ∷ 1 ∷ 1 ∷ 2 ∷ []) } ∷ [])
+unfolding cast_answer arrive_answer tick_answer view drained frame_at cast_at status_at request_at pairs_at pair_at number_at text_of spelling
+its_status_says_the_time = refl
+
+-- groups and what is none
+a_large_group : AreParameters (record { number = 4294967295; size = 64; window = 256 })
+a_large_group = record { two_or_more = omega arith; at_most_sixty_four = omega arith; window_one_or_more = omega arith; window_at_most = omega arith; number_fits = omega arith }
+
+no_group_of_one : ¬ AreParameters (record { number = 7; size = 1; window = 4 })
+no_group_of_one p = let no = p.two_or_more in omega (arith, no)
+
+no_group_of_65 : ¬ AreParameters (record { number = 7; size = 65; window = 4 })
+no_group_of_65 p = let no = p.at_most_sixty_four in omega (arith, no)
+
+no_window_of_none : ¬ AreParameters (record { number = 7; size = 3; window = 0 })
+no_window_of_none p = let no = p.window_one_or_more in omega (arith, no)
+
+no_window_of_257 : ¬ AreParameters (record { number = 7; size = 3; window = 257 })
+no_window_of_257 p = let no = p.window_at_most in omega (arith, no)
