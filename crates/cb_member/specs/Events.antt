@@ -1,6 +1,6 @@
 -- What a member did, as its caller sees it.
 use Rattle.std.specs.Prelude.{◌==◌, List, map, if◌then◌else◌}
-use Rattle.cb_frames.specs.Fields.{Carried}
+use Rattle.cb_frames.specs.Fields.{CastFields, Carried}
 use Rattle.cb_member.specs.declared.answer.Event.{Event}
 use Rattle.cb_member.specs.declared.answer.Event.TheVariants.{Cast, Deliver}
 use Rattle.cb_member.specs.Group.{Seat}
@@ -8,10 +8,9 @@ use Rattle.cb_member.specs.Facts.{Fact, casts_in}
 use Rattle.cb_member.specs.View.{view, message_in}
 
 -- a message of the view, cast by the member itself or delivered to it
-abbrev pub event_of : Seat → List Fact → Carried → Event
-event_of seat facts m =
-    if m.sender == seat.me then Cast (message_in seat.group.size (casts_in facts) m) else Deliver (message_in seat.group.size (casts_in facts) m)
+abbrev pub event_in : Seat → List CastFields → Carried → Event
+event_in seat casts m = if m.sender == seat.me then Cast (message_in seat.group.size casts m) else Deliver (message_in seat.group.size casts m)
 
 -- the casts and deliveries in their order, each with its message's time
 abbrev pub events : Seat → List Fact → List Event
-events seat facts = map (event_of seat facts) (view seat.group.size facts)
+events seat facts = map (event_in seat (casts_in facts)) (view seat.group.size facts)

@@ -7,6 +7,7 @@ ghost use Rattle.cb_frames.specs.Reading.{frame_at, HasValue};
 ghost use Rattle.cb_member.specs.Answers.{cast_answer, cast_done, next_cast, arrive_answer, arrival_says, tick_answer};
 ghost use Rattle.cb_member.specs.Facts.{entry_fields, CastEntry, facts_of};
 ghost use Rattle.cb_member.specs.View.{time_of};
+ghost use Rattle.cb_member.specs.Events.{events};
 ghost use Rattle.cb_member.specs.Known.{missing, stable};
 ghost use Rattle.cb_member.specs.Legal.{longest_history, ToTake, ToTick, and_entry, history_after};
 
@@ -14,16 +15,20 @@ mod accepting;
 mod answering;
 mod arriving;
 mod casting;
+mod events;
 mod facts;
 mod known;
 mod ticking;
 mod view;
 
-use crate::answer::{Arrival, ArriveRefusal, CastDone, CastRefusal, NewFault, TickRefusal, Ticked};
+use crate::answer::{
+    Arrival, ArriveRefusal, CastDone, CastRefusal, Event, NewFault, TickRefusal, Ticked,
+};
 use crate::group::Group;
 use crate::history::Entry;
 use crate::plain::accepting::{Accepting, answer_arrive};
 use crate::plain::casting::{Casting, answer_cast};
+use crate::plain::events::events_of;
 use crate::plain::facts::{casts_in, facts_of};
 use crate::plain::known::{missing, stable};
 use crate::plain::ticking::{Ticking, answer_tick};
@@ -101,6 +106,17 @@ impl PlainMember {
         let facts = facts_of(alloc, &self.entries)?;
         let seen = view(alloc, self.group.size(), &facts)?;
         counts(alloc, self.group.size(), &seen)
+    }
+
+    /// The casts and deliveries so far, in order.
+    pub fn events(&self) -> Result<Vec<Event>, NoMemory>
+        ensures { IfOk result (λ done. done.items ≡ events self.now.seat (facts_of self.now.entries)) }
+    {
+        let alloc = *self.entries.allocator();
+        let facts = facts_of(alloc, &self.entries)?;
+        let casts = casts_in(alloc, &facts)?;
+        let seen = view(alloc, self.group.size(), &facts)?;
+        events_of(alloc, self.group, self.me, &casts, &seen)
     }
 
     /// The numbers of casts of member i that are missing.

@@ -46,7 +46,7 @@ fn expanded_time(
 }
 
 /// A message as it is delivered, with its name and its time.
-fn message_in(
+pub fn message_in(
     alloc: Global,
     size: u32,
     casts: &[&Cast],

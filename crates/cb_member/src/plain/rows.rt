@@ -3,7 +3,9 @@
 //! What a call did is compared as one text: how many entries the history has then, and the answer. Bytes are in hexadecimal.
 
 use super::PlainMember;
-use crate::answer::{Arrival, ArriveRefusal, CastDone, CastRefusal, Outgoing, TickRefusal, Ticked};
+use crate::answer::{
+    Arrival, ArriveRefusal, CastDone, CastRefusal, Event, Outgoing, TickRefusal, Ticked,
+};
 use crate::group::Group;
 use crate::history::Entry;
 use crate::plain::facts::{casts_in, facts_of};
@@ -181,6 +183,22 @@ fn entries(member: &PlainMember) -> Result<String, Fail> {
 fn time(member: &PlainMember) -> Result<String, Fail> {
     let alloc = *member.entries.allocator();
     Ok(member.time()?.to_string(alloc)?)
+}
+
+/// The events, one after another.
+fn events(member: &PlainMember) -> Result<String, Fail> {
+    let alloc = *member.entries.allocator();
+    let mut text = String::new(alloc);
+    for event in &member.events()? {
+        let (kind, Message { name, time, .. }) = match event {
+            Event::Cast(message) => ("cast", message),
+            Event::Deliver(message) => ("deliver", message),
+        };
+        let Name { sender, number } = *name;
+        let event = format!(in alloc; "{kind} {sender}.{number} {time};")?;
+        text.push_str(event.as_str())?;
+    }
+    Ok(text)
 }
 
 /// How many of the member's casts it knows that member k has delivered.
@@ -489,7 +507,7 @@ fn a_delivered_time_acknowledges(rt: HostRuntime) -> Result<(), Fail> {
     Ok(())
 }
 
-/// An entry for each call that changed something, with what was delivered then.
+/// An entry for each call that changed something, with what was delivered then; and the events.
 #[test]
 fn the_history_says_what_was_done(rt: HostRuntime) -> Result<(), Fail> {
     let mut one = member(rt.alloc(), 1)?;
@@ -500,6 +518,10 @@ fn the_history_says_what_was_done(rt: HostRuntime) -> Result<(), Fail> {
         entries(&one)?.as_str(),
         "arrive 1107000100026869 0.1;cast 1107010101000102796f;tick 1207010200010001;"
     );
+    assert_eq!(rt;
+        events(&one)?.as_str(),
+        "deliver 0.1 [1,0,0];cast 1.1 [1,1,0];"
+    );
     let mut two = member(rt.alloc(), 2)?;
     for frame in [YO, HI, b"\x12\x07\x00\x01\x00\x02"] {
         let _said = answer(&mut two, Call::Take(frame))?;
@@ -507,6 +529,10 @@ fn the_history_says_what_was_done(rt: HostRuntime) -> Result<(), Fail> {
     assert_eq!(rt;
         entries(&two)?.as_str(),
         "arrive 1107010101000102796f;arrive 1107000100026869 0.1 1.1;arrive 120700010002;"
+    );
+    assert_eq!(rt;
+        events(&two)?.as_str(),
+        "deliver 0.1 [1,0,0];deliver 1.1 [1,1,0];"
     );
     Ok(())
 }
