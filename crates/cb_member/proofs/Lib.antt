@@ -9,6 +9,7 @@ pub mod ReadBack
 pub mod Bounds
 pub mod Written
 pub mod Histories
+pub mod Calls
 pub mod Growth
 pub mod Times
 pub mod Acknowledged

@@ -11,7 +11,7 @@ use Rattle.cb_member.specs.Facts.{EntryFields, Fact, OwnCast, CastCame, StatusCa
 use Rattle.cb_member.specs.View.{count, is_among, is_expanded, expanded_in, is_ready, next_delivery, drain, view, time_of, seen_after}
 use Rattle.cb_member.specs.Known.{greatest_of, value_in, known, counted_by, expanded_count, missing, ranges_of, acknowledged, stable}
 use Rattle.cb_member.specs.Answers.{own_casts, delivered, next_cast, status_of}
-use Rattle.cb_member.specs.Legal.{IsLegal}
+use Rattle.cb_member.specs.Legal.{longest_history, Call, OfBytes, history_after, IsLegal}
 use Rattle.cb_member.specs.LegalFacts.{AreFactsOf, IsStep}
 
 -- ---- the view
@@ -139,6 +139,11 @@ PrefixOfFactsIsLegal = (seat : Seat) (facts more : List Fact) → AreFactsOf sea
 -- the last of legal facts is a step from those before it
 abbrev pub LastFactIsAStep : Type 0
 LastFactIsAStep = (seat : Seat) (facts : List Fact) (f : Fact) → AreFactsOf seat (facts ++ f ∷ []) → IsStep seat facts f
+
+-- a call of bytes keeps a history legal, whatever limit it is made with
+abbrev pub CallsKeepLegal : Type 0
+CallsKeepLegal =
+    (seat : Seat) (limit : ℕ) (entries : List EntryFields) (call : Call) → limit ≤ longest_history → IsLegal seat entries → OfBytes call → IsLegal seat (history_after seat limit entries call)
 
 -- ---- histories and facts
 

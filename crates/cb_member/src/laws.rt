@@ -1,6 +1,6 @@
 //! What the definitions of one member imply, as contracts of functions that do nothing.
 
-ghost use Rattle.cb_member.specs.Laws.{ViewWithOneMore, NothingReadyIsLeft, NextIsTheOnlyCandidate, NamesStandOnce, OwnCastsAreNumbered, OwnMessagesAreOwn, ViewIsInOrder, ViewIsOfCasts, StatusIsKnown, StatusIsAcknowledged, CastIsKnown, CastIsAcknowledged, OwnStatusTellsNothing, OwnCastTellsNothing, NothingFalls, DeliveredIsKnown, AcknowledgedIsDelivered, PrefixOfFactsIsLegal, LastFactIsAStep, ViewHoldsTheFirst, PrefixIsLegal, LegalHistoriesSayLegalFacts, EachEntrySaysOneFact, OwnFramesHaveTexts, TimesStay, OwnCastsTellTheView, TimesAreReached, ViewIsInTime, TimesAgree, MissingIsExact, MissingStays, MissingComes, RangesOfMissing};
+ghost use Rattle.cb_member.specs.Laws.{ViewWithOneMore, NothingReadyIsLeft, NextIsTheOnlyCandidate, NamesStandOnce, OwnCastsAreNumbered, OwnMessagesAreOwn, ViewIsInOrder, ViewIsOfCasts, StatusIsKnown, StatusIsAcknowledged, CastIsKnown, CastIsAcknowledged, OwnStatusTellsNothing, OwnCastTellsNothing, NothingFalls, DeliveredIsKnown, AcknowledgedIsDelivered, PrefixOfFactsIsLegal, LastFactIsAStep, ViewHoldsTheFirst, PrefixIsLegal, CallsKeepLegal, LegalHistoriesSayLegalFacts, EachEntrySaysOneFact, OwnFramesHaveTexts, TimesStay, OwnCastsTellTheView, TimesAreReached, ViewIsInTime, TimesAgree, MissingIsExact, MissingStays, MissingComes, RangesOfMissing};
 
 /// What one more fact does to the view, and what a drain leaves: nothing that is ready. Of each sender only the next message can be.
 pub fn view_with_one_more_fact()
@@ -40,6 +40,11 @@ pub fn prefixes_are_legal()
     ensures entries { PrefixIsLegal }
     ensures facts { PrefixOfFactsIsLegal }
     ensures step { LastFactIsAStep }
+{}
+
+/// A call of bytes keeps a history legal, whatever limit up to the greatest it is made with.
+pub fn calls_keep_histories_legal()
+    ensures { CallsKeepLegal }
 {}
 
 /// What is written is read back: each entry of a legal history says one fact, and each fact is a step from those before it.
