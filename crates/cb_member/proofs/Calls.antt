@@ -1,12 +1,11 @@
 -- What a call adds with any limit, it adds with the greatest.
-use Rattle.std.proofs.Common.{◌≡◌, ℕ, ◌<◌, ◌≤◌, Bool, true, false, cond, not, ◌&&◌, eqb, leb, ltb, List, [], ◌∷◌, ◌++◌, length, Option, Some, None, Result, Ok, Err, refl, arith}
+use Rattle.std.proofs.Common.{◌≡◌, ℕ, ◌≤◌, Bool, true, false, cond, not, ◌&&◌, eqb, ltb, List, [], ◌∷◌, length, Option, Some, None, Result, Ok, Err, refl, arith}
 use Rattle.std.proofs.lemmas.Bool.{leb-false, lt-leb}
 use Rattle.cb_frames.specs.declared.frame.TheConstants.{LONGEST_PAYLOAD}
 use Rattle.cb_frames.specs.declared.fault.FrameFault.{FrameFault}
 use Rattle.cb_frames.specs.Fields.{CastFields, FrameFields, StatusFrame}
 use Rattle.cb_frames.specs.Text.{text_of}
 use Rattle.cb_frames.specs.Reading.{frame_at}
-use Rattle.cb_delay.specs.declared.message.Message.{Message}
 use Rattle.cb_member.specs.declared.answer.CastRefusal.{CastRefusal}
 use Rattle.cb_member.specs.declared.answer.CastRefusal.TheVariants as casts
 use Rattle.cb_member.specs.declared.answer.ArriveRefusal.{ArriveRefusal}
@@ -15,9 +14,9 @@ use Rattle.cb_member.specs.declared.answer.TickRefusal.{TickRefusal}
 use Rattle.cb_member.specs.declared.answer.TickRefusal.TheVariants as ticks
 use Rattle.cb_member.specs.declared.answer.Outgoing.{Outgoing}
 use Rattle.cb_member.specs.Group.{Seat}
-use Rattle.cb_member.specs.Facts.{EntryFields, Fact, facts_of}
-use Rattle.cb_member.specs.Answers.{is_full, is_window_full, next_cast, cast_answer, group_of, are_members, is_impossible, is_repeat, is_too_far, is_change, deliveries, sent_in_answer, ArrivalSays, Accepted, Repeat, frame_answer, answer_to, arrive_answer, status_of, is_new_status, requests, tick_answer}
-use Rattle.cb_member.specs.Legal.{longest_history, Call, ToCast, ToTake, ToTick, OfBytes, cast_entry, arrive_entry, tick_entry, entry_of, and_entry, history_after, AreLegal, OneMore, IsLegal}
+use Rattle.cb_member.specs.Facts.{EntryFields, facts_of}
+use Rattle.cb_member.specs.Answers.{is_full, is_window_full, next_cast, cast_answer, group_of, are_members, is_impossible, is_repeat, is_too_far, is_change, deliveries, sent_in_answer, ArrivalSays, Accepted, Repeat, answer_to, arrive_answer, status_of, is_new_status, requests, tick_answer}
+use Rattle.cb_member.specs.Legal.{longest_history, Call, ToCast, ToTake, ToTick, OfBytes, cast_entry, arrive_entry, tick_entry, entry_of, and_entry, OneMore, IsLegal}
 use Rattle.cb_member.specs.Laws.{CallsKeepLegal}
 
 room_at_most : (limit : ℕ) (entries : List EntryFields) → limit ≤ longest_history → is_full limit entries ≡ false → is_full longest_history entries ≡ false

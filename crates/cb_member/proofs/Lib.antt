@@ -26,5 +26,6 @@ pub mod PlainReading
 pub mod PlainKnown
 pub mod PlainBounds
 pub mod PlainCasting
+pub mod PlainCalls
 pub mod PlainAnswering
 pub mod PlainTicking

@@ -19,8 +19,8 @@ pub use cb_delay::{Message, Name};
 pub use group::{BadGroup, Group};
 pub use history::{Entry, History};
 pub use laws::{
-    calls_keep_histories_legal, histories_say_facts, knowledge_grows, missing_numbers, names_and_order, prefixes_are_legal,
-    times_of_messages, view_with_one_more_fact,
+    calls_keep_histories_legal, histories_say_facts, knowledge_grows, missing_numbers,
+    names_and_order, prefixes_are_legal, times_of_messages, view_with_one_more_fact,
 };
 pub use plain::PlainMember;
 

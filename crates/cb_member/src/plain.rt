@@ -4,12 +4,13 @@ ghost use Rattle.std.specs.Prelude.{◌≡◌, ◌↔◌, ◌⊎◌, ◌≤◌, 
 ghost use Rattle.cb_frames.specs.Fields.{CastFrame};
 ghost use Rattle.cb_frames.specs.Text.{text_of};
 ghost use Rattle.cb_frames.specs.Reading.{frame_at, HasValue};
+ghost use Rattle.cb_frames.specs.Laws.{IsBytes};
 ghost use Rattle.cb_member.specs.Answers.{cast_answer, cast_done, next_cast, arrive_answer, arrival_says, tick_answer};
 ghost use Rattle.cb_member.specs.Facts.{entry_fields, CastEntry, facts_of};
 ghost use Rattle.cb_member.specs.View.{time_of};
 ghost use Rattle.cb_member.specs.Events.{events};
 ghost use Rattle.cb_member.specs.Known.{missing, stable};
-ghost use Rattle.cb_member.specs.Legal.{longest_history, ToTake, ToTick, and_entry, history_after};
+ghost use Rattle.cb_member.specs.Legal.{longest_history, ToTake, ToTick, IsLegal, and_entry, history_after};
 
 mod accepting;
 mod answering;
@@ -91,9 +92,10 @@ impl PlainMember {
         })
     }
 
-    /// All that the member did, in order.
+    /// All that the member did, in order. The history is legal, whatever came.
     pub fn history(&self) -> &[Entry]
-        ensures { map entry_fields result.now ≡ self.now.entries }
+        ensures entries { map entry_fields result.now ≡ self.now.entries }
+        ensures legal { IsLegal self.now.seat self.now.entries }
     {
         self.entries.as_slice()
     }
@@ -178,6 +180,7 @@ impl PlainMember {
             ⊎ ((refusal ≡ ArriveRefusal.NoMemory) × HasValue (frame_at bytes.now))) }
         ensures same { OnErr result (self.new ≡ self.old) }
     {
+        are_bytes(bytes.as_slice());
         let alloc = *self.entries.allocator();
         let accepting = answer_arrive(
             alloc,
@@ -208,6 +211,11 @@ impl PlainMember {
         Ok(done)
     }
 }
+
+/// What a slice of bytes holds is below 256. The prover does not know it of `Bytes` but by their slice.
+fn are_bytes(_bytes: &[u8])
+    ensures { IsBytes _bytes.now }
+{}
 
 /// Adds the entry, where there is one.
 fn enter(entries: &mut Vec<Entry>, entry: Option<Entry>) -> Result<(), NoMemory>

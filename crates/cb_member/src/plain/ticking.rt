@@ -1,6 +1,6 @@
 //! What a tick sends: the status, and the requests for what is missing.
 
-ghost use Rattle.std.specs.Prelude.{◌≡◌, ◌⊎◌, ◌≤◌, ◌<◌, ◌==◌, nat_lt, IfOk, IfErr, IfSome, Ok, Err, Some, None, ◌∷◌, filter, length, map, take, option_map, option_to_list, if◌then◌else◌};
+ghost use Rattle.std.specs.Prelude.{◌≡◌, ◌⊎◌, ◌≤◌, ◌<◌, ◌==◌, nat_lt, IfOk, IfErr, IsSome, Ok, Err, Some, None, ◌∷◌, filter, length, map, take, option_map, option_to_list, if◌then◌else◌};
 ghost use Rattle.std.specs.List.{list_all, range_with_len};
 ghost use Rattle.cb_frames.specs.declared.frame.Change.{Change};
 ghost use Rattle.cb_frames.specs.Fields.{status_fields, RequestFrame, StatusFrame};
@@ -308,7 +308,7 @@ pub fn answer_tick(
     ensures done { IfOk result (λ ticking. tick_answer (record { group = group; me = me }) limit (map entry_fields entries.now) ≡ Ok (ticking.done.entered, ticking.done.out.items)) }
     ensures entry { IfOk result (λ ticking. let seat : Seat = record { group = group; me = me } in
         option_map entry_fields ticking.entry ≡ tick_entry (text_of (StatusFrame (status_of seat (facts_of (map entry_fields entries.now))))) (tick_answer seat limit (map entry_fields entries.now))) }
-    ensures room { IfOk result (λ ticking. IfSome ticking.entry (λ _. length entries.now < limit)) }
+    ensures room { IfOk result (λ ticking. IsSome ticking.entry → length entries.now < limit) }
     ensures refused { IfErr result (λ refusal. (tick_answer (record { group = group; me = me }) limit (map entry_fields entries.now) ≡ Err refusal) ⊎ (refusal ≡ TickRefusal.NoMemory)) }
 {
     let facts = facts_of(alloc, entries)?;
