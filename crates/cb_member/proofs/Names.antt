@@ -8,7 +8,7 @@ use Rattle.cb_member.specs.Facts.{Fact, OwnCast, CastCame, StatusCame, OwnStatus
 use Rattle.cb_member.specs.View.{count, is_among, next_delivery, drain, view}
 use Rattle.cb_member.specs.Answers.{own_casts, delivered}
 use Rattle.cb_member.specs.LegalFacts.{IsCastTaken, IsStep, AreLegalFacts, NoFacts, OneFactMore}
-use Rattle.cb_member.specs.Laws.{InOrderAfter, NamesDiffer, NumberedFrom, CameFromOthers, NamesStandOnce, OwnCastsAreNumbered, OwnMessagesAreOwn, ViewIsInOrder, ViewHoldsTheFirst, ViewIsOfCasts}
+use Rattle.cb_member.specs.Laws.{InOrderAfter, NamesDiffer, NumberedFrom, CameFromOthers, NamesStandOnce, OwnCastsAreNumbered, OwnMessagesAreOwn, ViewIsInOrder, ViewHoldsTheFirst, ViewIsOfCasts, IsOneOf, ViewIsAsCast}
 use Rattle.cb_member.proofs.Views.{IsIn, next_is, next_is_the_only_candidate, ready_is_new, expanded_is_there, casts_in-append, test_true, among_more, among_itself}
 use Rattle.cb_member.proofs.Lists.{messages_in-push, in_front, in_back, in_push, names_push, in_is_among, among_is, count_own, count_other, order_push, among_by_order, order_bound}
 use Rattle.cb_member.proofs.Walks.{drain_keeps, view_own, view_came, view_status, view_told, own_casts-own, own_casts-other}
@@ -235,6 +235,20 @@ view_is_of_casts seat facts m are among =
     let found = among_is (view seat.group.size facts) m among in
     let there : is_among (messages_in (casts_in facts)) found.0 ≡ true = in_is_among (messages_in (casts_in facts)) found.0 (s.there found.0 found.1) in
     subst (λ (k : ℕ). is_there (casts_in facts) k m.number ≡ true) found.2 (subst (λ (n : ℕ). is_there (casts_in facts) found.0.sender n ≡ true) found.3 there)
+
+one_of_is_in : (m : Carried) (ms : List Carried) → IsOneOf m ms → IsIn m ms
+one_of_is_in m [] h = h
+one_of_is_in m (n ∷ ms) (inl same) = inl same
+one_of_is_in m (n ∷ ms) (inr later) = inr (one_of_is_in m ms later)
+
+in_is_one_of : (m : Carried) (ms : List Carried) → IsIn m ms → IsOneOf m ms
+in_is_one_of m [] h = h
+in_is_one_of m (n ∷ ms) (inl same) = inl same
+in_is_one_of m (n ∷ ms) (inr later) = inr (in_is_one_of m ms later)
+
+pub view_is_as_cast : ViewIsAsCast
+view_is_as_cast seat facts m are there =
+    in_is_one_of m (messages_in (casts_in facts)) ((all_stand seat facts are.member are.facts_are).there m (one_of_is_in m (view seat.group.size facts) there))
 
 pub view_holds_the_first : ViewHoldsTheFirst
 view_holds_the_first seat facts m are = (first_of_there, there_of_first)

@@ -1,9 +1,9 @@
 -- The entries before any place of a legal history are legal.
-use Rattle.std.proofs.Common.{◌≡◌, List, [], ◌∷◌, ◌++◌, refl, sym, ap, subst, ◌∙◌, append_assoc, inl, inr, ◌⊎◌}
+use Rattle.std.proofs.Common.{◌≡◌, List, [], ◌∷◌, ◌++◌, Some, refl, sym, ap, subst, ◌∙◌, append_assoc, inl, inr, ◌⊎◌}
 use Rattle.std.proofs.lemmas.List.{append-nil}
 use Rattle.cb_member.specs.Group.{Seat}
 use Rattle.cb_member.specs.Facts.{EntryFields, Fact}
-use Rattle.cb_member.specs.Legal.{AreLegal, NoEntries, OneMore}
+use Rattle.cb_member.specs.Legal.{longest_history, Call, entry_of, AreLegal, NoEntries, OneMore}
 use Rattle.cb_member.specs.LegalFacts.{IsStep, AreLegalFacts, NoFacts, OneFactMore}
 use Rattle.cb_member.specs.Laws.{PrefixIsLegal, PrefixOfFactsIsLegal, LastFactIsAStep}
 
@@ -81,6 +81,17 @@ prefix_of_facts_is_legal seat facts more are = record {
 no_last : {A : Type 0} (xs : List A) (x : A) → [] ≡ xs ++ x ∷ [] → ⊥
 no_last [] x e = cc
 no_last (y ∷ xs) x e = cc
+
+last_added : (seat : Seat) (all : List EntryFields) → AreLegal seat all → (entries : List EntryFields) (e : EntryFields) → all ≡ entries ++ e ∷ [] → (call : Call) × (entry_of seat longest_history entries call ≡ Some e)
+last_added seat _ NoEntries entries e is = absurd (no_last entries e is)
+last_added seat _ (OneMore before call f legal bytes added) entries e is = (
+  call,
+  subst (λ (es : List EntryFields). entry_of seat longest_history es call ≡ Some e) (same_front before entries f e is) (subst (λ (x : EntryFields). entry_of seat longest_history before call ≡ Some x) (same_last before entries f e is) added),
+)
+
+-- the last entry of a legal history is one that a call adds
+pub last_entry : (seat : Seat) (entries : List EntryFields) (e : EntryFields) → AreLegal seat (entries ++ e ∷ []) → (call : Call) × (entry_of seat longest_history entries call ≡ Some e)
+last_entry seat entries e legal = last_added seat (entries ++ e ∷ []) legal entries e refl
 
 last_step : (seat : Seat) (all : List Fact) → AreLegalFacts seat all → (facts : List Fact) (f : Fact) → all ≡ facts ++ f ∷ [] → IsStep seat facts f
 last_step seat _ NoFacts facts f e = absurd (no_last facts f e)

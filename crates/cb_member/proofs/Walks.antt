@@ -5,6 +5,7 @@ use Rattle.cb_frames.specs.Fields.{CastFields, StatusFields, Carried, messages_o
 use Rattle.cb_member.specs.Facts.{Fact, OwnCast, CastCame, StatusCame, OwnStatus, casts_in, messages_in}
 use Rattle.cb_member.specs.View.{next_delivery, with_next, drained, drain, seen_after, view}
 use Rattle.cb_member.specs.Answers.{own_casts}
+use Rattle.cb_member.specs.Laws.{ViewGrows}
 use Rattle.cb_member.proofs.Views.{view_with_one_more, casts_in-append}
 
 keeps_on : (size : ℕ) (casts : List CastFields) (P : List Carried → Type 0) (budget : ℕ) (seen : List Carried) (o : Option Carried) → next_delivery size casts seen ≡ o → P seen
@@ -39,6 +40,15 @@ pub view_grows : (size : ℕ) (facts : List Fact) (f : Fact) → (more : List Ca
 view_grows size facts f =
     let after = after_grows size (casts_in (facts ++ f ∷ [])) (view size facts) f in
     (after.0, view_with_one_more size facts f ∙ after.1)
+
+pub view_only_grows : ViewGrows
+view_only_grows size facts [] = ([], ap (view size) (append-nil facts) ∙ sym (append-nil (view size facts)))
+view_only_grows size facts (f ∷ more) =
+    let one = view_grows size facts f in
+    let others = view_only_grows size (facts ++ f ∷ []) more in (
+      one.0 ++ others.0,
+      ap (view size) (sym (append_assoc facts (f ∷ []) more)) ∙ others.1 ∙ ap (λ (ms : List Carried). ms ++ others.0) one.1 ∙ append_assoc (view size facts) one.0 others.0,
+    )
 
 -- ---- the view after each kind of fact
 

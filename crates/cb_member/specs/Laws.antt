@@ -1,13 +1,16 @@
 -- What one more fact does, and what is true of every legal history.
-use Rattle.std.specs.Prelude.{◌≡◌, ◌≢◌, ℕ, ◌+◌, ◌<◌, ◌≤◌, ◌↔◌, true, false, List, [], ◌∷◌, ◌++◌, length, map, filter, not, take, None, max, ◌==◌, if◌then◌else◌, ◌⊎◌}
+use Rattle.std.specs.Prelude.{◌≡◌, ◌≢◌, ℕ, ◌+◌, ◌<◌, ◌≤◌, ◌↔◌, true, false, List, [], ◌∷◌, ◌++◌, length, map, filter, not, take, drop, None, Ok, max, ◌==◌, if◌then◌else◌, ◌⊎◌}
 use Rattle.std.specs.List.{AllByRecursion}
 use Rattle.cb_frames.specs.declared.frame.TheConstants.{LONGEST_PAYLOAD, MOST_RANGES}
 use Rattle.cb_frames.specs.declared.frame.Range.{Range}
-use Rattle.cb_frames.specs.Fields.{CastFields, StatusFields, Carried, last_number, CastFrame, StatusFrame, RequestFrame}
+use Rattle.cb_frames.specs.Fields.{CastFields, StatusFields, FrameFields, Carried, last_number, CastFrame, StatusFrame, RequestFrame}
+use Rattle.cb_frames.specs.Text.{text_of}
+use Rattle.cb_frames.specs.Reading.{frame_at}
 use Rattle.cb_frames.specs.Laws.{CanBeWritten}
+use Rattle.cb_delay.specs.declared.message.Name.{Name}
 use Rattle.cb_diffs.specs.Expansion.{expanded_field, expanded_time}
 use Rattle.cb_member.specs.Group.{Seat}
-use Rattle.cb_member.specs.Facts.{EntryFields, Fact, OwnCast, CastCame, StatusCame, OwnStatus, said_by, facts_of, casts_in, messages_in, is_there}
+use Rattle.cb_member.specs.Facts.{EntryFields, CastEntry, ArriveEntry, TickEntry, Fact, OwnCast, CastCame, StatusCame, OwnStatus, said_by, facts_of, casts_in, messages_in, is_there}
 use Rattle.cb_member.specs.View.{count, is_among, is_expanded, expanded_in, is_ready, next_delivery, drain, view, time_of, seen_after}
 use Rattle.cb_member.specs.Known.{greatest_of, value_in, known, counted_by, expanded_count, missing, ranges_of, acknowledged, stable}
 use Rattle.cb_member.specs.Answers.{own_casts, delivered, next_cast, status_of}
@@ -19,6 +22,10 @@ use Rattle.cb_member.specs.LegalFacts.{AreFactsOf, IsStep}
 -- one more fact adds to the view what it says, and the deliveries that it makes possible
 abbrev pub ViewWithOneMore : Type 0
 ViewWithOneMore = (size : ℕ) (facts : List Fact) (f : Fact) → view size (facts ++ f ∷ []) ≡ seen_after size (casts_in (facts ++ f ∷ [])) (view size facts) f
+
+-- more facts leave what the view has, and add to it
+abbrev pub ViewGrows : Type 0
+ViewGrows = (size : ℕ) (facts more : List Fact) → (later : List Carried) × (view size (facts ++ more) ≡ view size facts ++ later)
 
 -- after the deliveries no message is ready
 abbrev pub NothingReadyIsLeft : Type 0
@@ -77,6 +84,15 @@ ViewHoldsTheFirst = (seat : Seat) (facts : List Fact) (m : Carried) → AreFacts
 -- all messages of the view are of the casts
 abbrev pub ViewIsOfCasts : Type 0
 ViewIsOfCasts = (seat : Seat) (facts : List Fact) (m : Carried) → AreFactsOf seat facts → is_among (view seat.group.size facts) m ≡ true → is_among (messages_in (casts_in facts)) m ≡ true
+
+-- one of these messages, with its payload
+abbrev pub IsOneOf : Carried → List Carried → Type 0
+IsOneOf m [] = ⊥
+IsOneOf m (n ∷ ms) = (m ≡ n) ⊎ IsOneOf m ms
+
+-- each message of the view is as a cast carries it
+abbrev pub ViewIsAsCast : Type 0
+ViewIsAsCast = (seat : Seat) (facts : List Fact) (m : Carried) → AreFactsOf seat facts → IsOneOf m (view seat.group.size facts) → IsOneOf m (messages_in (casts_in facts))
 
 -- ---- what is known, acknowledged and stable
 
@@ -154,6 +170,24 @@ LegalHistoriesSayLegalFacts = (seat : Seat) (entries : List EntryFields) → IsL
 -- every entry of a legal history says one fact, so there are as many facts as entries
 abbrev pub EachEntrySaysOneFact : Type 0
 EachEntrySaysOneFact = (seat : Seat) (entries : List EntryFields) → IsLegal seat entries → AllByRecursion (λ e. length (said_by e) ≡ 1) entries × (length (facts_of entries) ≡ length entries)
+
+-- What the entry says by its kind, and that its bytes are the one text of it: an own cast, a frame that came, an own status.
+abbrev pub SaysItsText : EntryFields → Type 0
+SaysItsText (CastEntry frame) = (c : CastFields) × (frame_at frame ≡ Ok (CastFrame c)) × (frame ≡ text_of (CastFrame c))
+SaysItsText (ArriveEntry frame delivered) = (f : FrameFields) × (frame_at frame ≡ Ok f) × (frame ≡ text_of f)
+SaysItsText (TickEntry status) = (s : StatusFields) × (frame_at status ≡ Ok (StatusFrame s)) × (status ≡ text_of (StatusFrame s))
+
+-- so what is sent again has the bytes that were sent first
+abbrev pub EntriesSayTheirTexts : Type 0
+EntriesSayTheirTexts = (seat : Seat) (entries : List EntryFields) → IsLegal seat entries → AllByRecursion SaysItsText entries
+
+abbrev pub name_of : Carried → Name
+name_of m = record { sender = m.sender; number = m.number }
+
+-- the names of an arrival's entry are those of the messages that the view has more by it
+abbrev pub ArrivalsNameDeliveries : Type 0
+ArrivalsNameDeliveries = (seat : Seat) (entries : List EntryFields) (frame : List ℕ) (delivered : List Name) → IsLegal seat (entries ++ ArriveEntry frame delivered ∷ [])
+    → delivered ≡ map name_of (drop (length (view seat.group.size (facts_of entries))) (view seat.group.size (facts_of (entries ++ ArriveEntry frame delivered ∷ []))))
 
 -- ---- times
 

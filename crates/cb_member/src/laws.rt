@@ -1,16 +1,18 @@
 //! What the definitions of one member imply, as contracts of functions that do nothing.
 
-ghost use Rattle.cb_member.specs.Laws.{ViewWithOneMore, NothingReadyIsLeft, NextIsTheOnlyCandidate, NamesStandOnce, OwnCastsAreNumbered, OwnMessagesAreOwn, ViewIsInOrder, ViewIsOfCasts, StatusIsKnown, StatusIsAcknowledged, CastIsKnown, CastIsAcknowledged, OwnStatusTellsNothing, OwnCastTellsNothing, NothingFalls, DeliveredIsKnown, AcknowledgedIsDelivered, PrefixOfFactsIsLegal, LastFactIsAStep, ViewHoldsTheFirst, PrefixIsLegal, CallsKeepLegal, LegalHistoriesSayLegalFacts, EachEntrySaysOneFact, OwnFramesHaveTexts, TimesStay, OwnCastsTellTheView, TimesAreReached, ViewIsInTime, TimesAgree, MissingIsExact, MissingStays, MissingComes, RangesOfMissing};
+ghost use Rattle.cb_member.specs.Laws.{ViewWithOneMore, ViewGrows, NothingReadyIsLeft, NextIsTheOnlyCandidate, NamesStandOnce, OwnCastsAreNumbered, OwnMessagesAreOwn, ViewIsInOrder, ViewIsOfCasts, ViewIsAsCast, StatusIsKnown, StatusIsAcknowledged, CastIsKnown, CastIsAcknowledged, OwnStatusTellsNothing, OwnCastTellsNothing, NothingFalls, DeliveredIsKnown, AcknowledgedIsDelivered, PrefixOfFactsIsLegal, LastFactIsAStep, ViewHoldsTheFirst, PrefixIsLegal, CallsKeepLegal, LegalHistoriesSayLegalFacts, EachEntrySaysOneFact, OwnFramesHaveTexts, EntriesSayTheirTexts, ArrivalsNameDeliveries, TimesStay, OwnCastsTellTheView, TimesAreReached, ViewIsInTime, TimesAgree, MissingIsExact, MissingStays, MissingComes, RangesOfMissing};
 
-/// What one more fact does to the view, and what a drain leaves: nothing that is ready. Of each sender only the next message can be.
+/// What one more fact does to the view, and more facts leave of it, and what a drain leaves: nothing that is ready. Of each sender
+/// only the next message can be.
 pub fn view_with_one_more_fact()
     ensures grows { ViewWithOneMore }
+    ensures stays { ViewGrows }
     ensures drained { NothingReadyIsLeft }
     ensures candidate { NextIsTheOnlyCandidate }
 {}
 
 /// In legal facts no two casts carry one message. The member's messages are its own casts, numbered from 1. The view holds
-/// messages of the casts, each sender's in order and once.
+/// messages of the casts with their payloads, each sender's in order and once.
 pub fn names_and_order()
     ensures once { NamesStandOnce }
     ensures numbered { OwnCastsAreNumbered }
@@ -18,6 +20,7 @@ pub fn names_and_order()
     ensures order { ViewIsInOrder }
     ensures first { ViewHoldsTheFirst }
     ensures there { ViewIsOfCasts }
+    ensures payloads { ViewIsAsCast }
 {}
 
 /// What one more fact does to what is known, acknowledged and stable: a status that came raises it to what it says, a cast that came
@@ -48,11 +51,14 @@ pub fn calls_keep_histories_legal()
 {}
 
 /// What is written is read back: each entry of a legal history says one fact, and each fact is a step from those before it.
-/// All that a member sends has a text.
+/// All that a member sends has a text, and what it stores is the text of what it says, so what is sent again is as it was sent
+/// first. An arrival's entry names what was delivered by it.
 pub fn histories_say_facts()
     ensures legal { LegalHistoriesSayLegalFacts }
     ensures each { EachEntrySaysOneFact }
     ensures texts { OwnFramesHaveTexts }
+    ensures stored { EntriesSayTheirTexts }
+    ensures delivered { ArrivalsNameDeliveries }
 {}
 
 /// The times of messages: one that can be told stays as it is, an own cast tells the time of its view, and before each delivered

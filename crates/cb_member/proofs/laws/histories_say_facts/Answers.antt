@@ -1,4 +1,4 @@
-use Rattle.cb_member.proofs.Histories.{legal_histories_say_legal_facts, each_entry_says_one_fact}
+use Rattle.cb_member.proofs.Histories.{legal_histories_say_legal_facts, each_entry_says_one_fact, entries_say_their_texts, arrivals_name_deliveries}
 use Rattle.cb_member.proofs.Requests.{own_frames_have_texts}
 use Rattle.cb_member.proofs.laws.histories_say_facts.Goals as goal
 
@@ -10,3 +10,9 @@ returns-clause-each c = each_entry_says_one_fact
 
 pub returns-clause-texts : goal.returns-clause-texts
 returns-clause-texts c = own_frames_have_texts
+
+pub returns-clause-stored : goal.returns-clause-stored
+returns-clause-stored c = entries_say_their_texts
+
+pub returns-clause-delivered : goal.returns-clause-delivered
+returns-clause-delivered c = arrivals_name_deliveries

@@ -1,4 +1,4 @@
-use Rattle.cb_member.proofs.Names.{names_stand_once, own_casts_are_numbered, own_messages_are_own, view_is_in_order, view_holds_the_first, view_is_of_casts}
+use Rattle.cb_member.proofs.Names.{names_stand_once, own_casts_are_numbered, own_messages_are_own, view_is_in_order, view_holds_the_first, view_is_of_casts, view_is_as_cast}
 use Rattle.cb_member.proofs.laws.names_and_order.Goals as goal
 
 pub returns-clause-once : goal.returns-clause-once
@@ -18,3 +18,6 @@ returns-clause-there c = view_is_of_casts
 
 pub returns-clause-first : goal.returns-clause-first
 returns-clause-first c = view_holds_the_first
+
+pub returns-clause-payloads : goal.returns-clause-payloads
+returns-clause-payloads c = view_is_as_cast

@@ -1,4 +1,5 @@
 use Rattle.cb_member.proofs.Views.{view_with_one_more, nothing_ready_is_left, next_is_the_only_candidate}
+use Rattle.cb_member.proofs.Walks.{view_only_grows}
 use Rattle.cb_member.proofs.laws.view_with_one_more_fact.Goals as goal
 
 pub returns-clause-grows : goal.returns-clause-grows
@@ -9,3 +10,6 @@ returns-clause-drained c = nothing_ready_is_left
 
 pub returns-clause-candidate : goal.returns-clause-candidate
 returns-clause-candidate c = next_is_the_only_candidate
+
+pub returns-clause-stays : goal.returns-clause-stays
+returns-clause-stays c = view_only_grows
