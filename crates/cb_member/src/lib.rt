@@ -2,6 +2,7 @@
 //!
 //! A member is a machine without clock, link or thread: what it answers to a cast, an arrival or a tick depends on its history
 //! and on nothing else. This crate says what that answer is, in `specs/`, in the terms of the protocol and from the entries' bytes.
+//! `PlainMember` is that as a program: slow, and there to compare a fast member with.
 //!
 //! Stands on `cb_frames` for the bytes, on `cb_times` and `cb_diffs` for the times, and on `cb_delay` for names and messages.
 #![tactic(auto)]

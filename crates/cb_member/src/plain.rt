@@ -45,7 +45,7 @@ const LONGEST_HISTORY: usize = 16_777_216;
 
 /// One member of a group, worked out from its history alone: slow on purpose, for tests to compare a fast member with.
 ///
-/// Every call reads all entries again, so every call may want memory. After a refusal the member is as it was.
+/// Every call but `history` reads all entries again, and so may want memory. After a refusal the member is as it was.
 #[derive(Drop)]
 pub struct PlainMember {
     group: Group,
