@@ -13,7 +13,7 @@ use Rattle.cb_member.specs.LegalFacts.{IsTaken, IsStep, AreLegalFacts, NoFacts, 
 use Rattle.cb_member.specs.Laws.{AcknowledgedIsDelivered}
 use Rattle.cb_member.proofs.Views.{test_true, not_true}
 use Rattle.cb_member.proofs.Lists.{flat_map-append, in_is_among}
-use Rattle.cb_member.proofs.Rising.{greatest_of-append, all_at_most}
+use Rattle.cb_member.proofs.Rising.{greatest_append, all_at_most}
 use Rattle.cb_member.proofs.Times.{count_grows, times_are_reached}
 
 -- what a status that was taken says of this member's casts
@@ -41,12 +41,12 @@ all_told_below : (seat : Seat) (facts : List Fact) (k : ℕ) → AreLegalFacts s
 all_told_below seat _ k NoFacts = omega arith
 all_told_below seat _ k (OneFactMore facts f before room step) =
     let parts : greatest_of (flat_map (told_by k seat.me) (facts ++ f ∷ [])) ≡ max (greatest_of (flat_map (told_by k seat.me) facts)) (greatest_of (told_by k seat.me f ++ [])) =
-    ap greatest_of (flat_map-append (told_by k seat.me) facts (f ∷ [])) ∙ greatest_of-append (flat_map (told_by k seat.me) facts) (told_by k seat.me f ++ []) in
+    ap greatest_of (flat_map-append (told_by k seat.me) facts (f ∷ [])) ∙ greatest_append (flat_map (told_by k seat.me) facts) (told_by k seat.me f ++ []) in
     omega (arith, parts, all_told_below seat facts k before, told_below seat facts f k step, count_grows seat.group.size facts f seat.me)
 
 acknowledged_below : (seat : Seat) (facts : List Fact) (k : ℕ) → AreFactsOf seat facts → acknowledged seat facts k ≤ delivered seat facts seat.me
 acknowledged_below seat facts k are =
-    let parts = greatest_of-append (flat_map (told_by k seat.me) facts) (counted_by (casts_in facts) (view seat.group.size facts) k seat.me) in
+    let parts = greatest_append (flat_map (told_by k seat.me) facts) (counted_by (casts_in facts) (view seat.group.size facts) k seat.me) in
     let counted = all_at_most (λ m. eqb m.sender k) (λ m. expanded_field (casts_in facts) m.sender m.number seat.me) (delivered seat facts seat.me) (view seat.group.size facts)
     (λ m there by. times_are_reached seat facts m seat.me are (in_is_among (view seat.group.size facts) m there) are.member) in
     let told = all_told_below seat facts k are.facts_are in

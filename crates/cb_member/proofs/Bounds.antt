@@ -1,85 +1,91 @@
--- No more messages are delivered than there are facts.
-use Rattle.std.proofs.Common.{◌≡◌, ℕ, ◌+◌, ◌≤◌, Bool, true, false, cond, eqb, List, [], ◌∷◌, ◌++◌, length, Some, sym, ap, subst, ◌∙◌, arith}
+-- A view has at most as many messages as there are facts.
+use Rattle.std.proofs.Common.{◌≡◌, ℕ, zero, suc, ◌+◌, ◌≤◌, Bool, true, false, List, [], ◌∷◌, ◌++◌, length, Option, Some, None, cond, eqb, refl, ap, arith}
 use Rattle.std.proofs.lemmas.List.{append-nil, length-append}
 use Rattle.cb_frames.specs.Fields.{CastFields, Carried, messages_of}
+use Rattle.cb_member.specs.Facts.{Fact, OwnCast, CastCame, StatusCame, OwnStatus, messages_in}
+use Rattle.cb_member.specs.View.{count, is_among, next_delivery, with_next, drained, seen_from, view}
 use Rattle.cb_member.specs.Group.{Seat}
-use Rattle.cb_member.specs.Facts.{Fact, OwnCast, CastCame, StatusCame, OwnStatus, casts_in, messages_in}
-use Rattle.cb_member.specs.View.{count, is_among, next_delivery, drain, view}
+use Rattle.cb_member.specs.Legal.{longest_history}
 use Rattle.cb_member.specs.LegalFacts.{AreLegalFacts, NoFacts, OneFactMore}
-use Rattle.cb_member.proofs.Views.{next_is, ready_is_new, expanded_is_there, casts_in-append, among_itself, one_unless, left, left_more, left_shrinks}
 use Rattle.cb_member.proofs.Lists.{messages_in-push}
-use Rattle.cb_member.proofs.Walks.{drain_keeps, view_own, view_came, view_status, view_told}
+use Rattle.cb_member.proofs.Views.{left, left_more, left_shrinks, one_unless, unless_more, among_itself, next_is, expanded_is_there, ready_is_new}
 
-one_at : (b : Bool) → cond {A = ℕ} b 1 0 ≤ 1
-one_at true = omega arith
-one_at false = omega arith
+-- what was seen, with what is left of the casts' messages, is at most as much as these
+abbrev IsWithin : List Carried → List Carried → Type 0
+IsWithin ms seen = length seen + left ms seen ≤ length ms
 
-count_bound : (seen : List Carried) (k : ℕ) → count seen k ≤ length seen
-count_bound [] k = omega arith
-count_bound (m ∷ seen) k =
-    let one = one_at (eqb m.sender k) in
-    let others = count_bound seen k in
-    omega (arith, one, others)
+left_append : (ms seen : List Carried) (m : Carried) → left (ms ++ m ∷ []) seen ≡ left ms seen + one_unless (is_among seen m)
+left_append [] seen m = omega arith
+left_append (x ∷ ms) seen m =
+    let others = left_append ms seen m in
+    omega (arith, others)
 
-messages_bound : (facts : List Fact) → length (messages_in (casts_in facts)) ≤ length facts
-messages_bound [] = omega arith
-messages_bound (OwnCast c ∷ facts) = let others = messages_bound facts in omega (arith, others)
-messages_bound (CastCame c ∷ facts) = let others = messages_bound facts in omega (arith, others)
-messages_bound (StatusCame s ∷ facts) = let others = messages_bound facts in omega (arith, others)
-messages_bound (OwnStatus s ∷ facts) = let others = messages_bound facts in omega (arith, others)
-
--- those seen, and those left to be seen, are no more than all
-abbrev Fit : List Carried → List Carried → Type 0
-Fit ms seen = length seen + left ms seen ≤ length ms
-
-left-append : (ms ns seen : List Carried) → left (ms ++ ns) seen ≡ left ms seen + left ns seen
-left-append [] ns seen = omega arith
-left-append (m ∷ ms) ns seen = let others = left-append ms ns seen in omega (arith, others)
-
-one_left : (b : Bool) → one_unless b ≤ 1
-one_left true = omega arith
-one_left false = omega arith
-
-fit_next : (size : ℕ) (casts : List CastFields) (seen : List Carried) (m : Carried) → Fit (messages_in casts) seen → next_delivery size casts seen ≡ Some m → Fit (messages_in casts) (seen ++ m ∷ [])
-fit_next size casts seen m fit e =
+drained_on : (size : ℕ) (casts : List CastFields) (budget : ℕ) (seen : List Carried) (o : Option Carried) → next_delivery size casts seen ≡ o → IsWithin (messages_in casts) seen
+    → ((more : List Carried) → IsWithin (messages_in casts) more → IsWithin (messages_in casts) (drained size casts budget more))
+    → IsWithin (messages_in casts) (with_next o seen (λ m. drained size casts budget (seen ++ m ∷ [])))
+drained_on size casts budget seen None e h go = h
+drained_on size casts budget seen (Some m) e h go =
     let next = next_is size casts seen m e in
     let shrinks = left_shrinks (messages_in casts) seen m (expanded_is_there casts m next.1) (ready_is_new size casts seen m next.0) in
-    omega (arith, fit, shrinks, length-append seen (m ∷ []))
+    go (seen ++ m ∷ []) (omega (arith, h, shrinks, length-append seen (m ∷ [])))
 
-fit_came : (ms seen : List Carried) (m : Carried) → Fit ms seen → Fit (ms ++ m ∷ []) seen
-fit_came ms seen m fit = omega (arith, fit, left-append ms (m ∷ []) seen, one_left (is_among seen m), length-append ms (m ∷ []))
+drained_within : (size : ℕ) (casts : List CastFields) (budget : ℕ) (seen : List Carried) → IsWithin (messages_in casts) seen → IsWithin (messages_in casts) (drained size casts budget seen)
+unfolding drained
+drained_within size casts zero seen h = h
+drained_within size casts (suc budget) seen h = drained_on size casts budget seen (next_delivery size casts seen) refl h (λ more k. drained_within size casts budget more k)
 
-fit_own : (ms seen : List Carried) (m : Carried) → Fit ms seen → Fit (ms ++ m ∷ []) (seen ++ m ∷ [])
-fit_own ms seen m fit =
-    let none : one_unless (is_among (seen ++ m ∷ []) m) ≡ 0 = ap one_unless (among_itself seen m) in
-    omega (arith, fit, left-append ms (m ∷ []) (seen ++ m ∷ []), left_more ms seen m, none, length-append ms (m ∷ []), length-append seen (m ∷ []))
+own_within : (casts : List CastFields) (seen : List Carried) (c : CastFields) → IsWithin (messages_in casts) seen → IsWithin (messages_in (casts ++ c ∷ [])) (seen ++ messages_of c)
+own_within casts seen c h =
+    let m : Carried = record { sender = c.sender; number = c.number; payload = c.payload } in
+    let ms = messages_in casts in
+    let more = left_more ms seen m in
+    let itself : one_unless (is_among (seen ++ m ∷ []) m) ≡ 0 = ap one_unless (among_itself seen m) in
+    rw (messages_in-push casts c)
+    (omega (arith, h, more, itself, left_append ms (seen ++ m ∷ []) m, length-append seen (m ∷ []), length-append ms (m ∷ [])))
 
-abbrev FitAt : ℕ → List Fact → Type 0
-FitAt size facts = Fit (messages_in (casts_in facts)) (view size facts)
+came_within : (casts : List CastFields) (seen : List Carried) (c : CastFields) → IsWithin (messages_in casts) seen → IsWithin (messages_in (casts ++ c ∷ [])) seen
+came_within casts seen c h =
+    let m : Carried = record { sender = c.sender; number = c.number; payload = c.payload } in
+    let ms = messages_in casts in
+    let one : one_unless (is_among seen m) ≤ 1 = unless_more false (is_among seen m) (λ e. absurd cc) in
+    rw (messages_in-push casts c) (omega (arith, h, one, left_append ms seen m, length-append ms (m ∷ [])))
 
-moved : (casts casts' : List CastFields) (seen seen' : List Carried) → casts' ≡ casts → seen' ≡ seen → Fit (messages_in casts) seen → Fit (messages_in casts') seen'
-moved casts casts' seen seen' a b fit = subst (λ (x : List CastFields). Fit (messages_in x) seen') (sym a) (subst (λ (x : List Carried). Fit (messages_in casts) x) (sym b) fit)
+seen_from_at_most : (size : ℕ) (casts : List CastFields) (seen : List Carried) (facts : List Fact) → IsWithin (messages_in casts) seen → length (seen_from size casts seen facts) ≤ length (messages_in casts) + length facts
+seen_from_at_most size casts seen [] h = omega (arith, h)
+seen_from_at_most size casts seen (OwnCast c ∷ facts) h =
+    let others = seen_from_at_most size (casts ++ c ∷ []) (seen ++ messages_of c) facts (own_within casts seen c h) in
+    omega (arith, others, ap (λ (ms : List Carried). length ms) (messages_in-push casts c), length-append (messages_in casts) (messages_of c))
+seen_from_at_most size casts seen (CastCame c ∷ facts) h =
+    let all = casts ++ c ∷ [] in
+    let others = seen_from_at_most size all (drained size all (length (messages_in all)) seen) facts (drained_within size all (length (messages_in all)) seen (came_within casts seen c h)) in
+    omega (arith, others, ap (λ (ms : List Carried). length ms) (messages_in-push casts c), length-append (messages_in casts) (messages_of c))
+seen_from_at_most size casts seen (StatusCame s ∷ facts) h =
+    let others = seen_from_at_most size casts seen facts h in
+    rw (append-nil casts) (omega (arith, others))
+seen_from_at_most size casts seen (OwnStatus s ∷ facts) h =
+    let others = seen_from_at_most size casts seen facts h in
+    rw (append-nil casts) (omega (arith, others))
 
-fit_step : (size : ℕ) (facts : List Fact) (f : Fact) → FitAt size facts → FitAt size (facts ++ f ∷ [])
-fit_step size facts (OwnCast c) fit =
-    moved (casts_in facts ++ c ∷ []) _ (view size facts ++ messages_of c) _ (casts_in-append facts (OwnCast c)) (view_own size facts c)
-    (subst (λ (ms : List Carried). Fit ms (view size facts ++ messages_of c)) (sym (messages_in-push (casts_in facts) c)) (fit_own (messages_in (casts_in facts)) (view size facts) _ fit))
-fit_step size facts (CastCame c) fit =
-    moved (casts_in facts ++ c ∷ []) _ (drain size (casts_in facts ++ c ∷ []) (view size facts)) _ (casts_in-append facts (CastCame c)) (view_came size facts c)
-    (drain_keeps size (casts_in facts ++ c ∷ []) (Fit (messages_in (casts_in facts ++ c ∷ []))) (fit_next size (casts_in facts ++ c ∷ [])) (view size facts)
-    (subst (λ (ms : List Carried). Fit ms (view size facts)) (sym (messages_in-push (casts_in facts) c)) (fit_came (messages_in (casts_in facts)) (view size facts) _ fit)))
-fit_step size facts (StatusCame s) fit = moved (casts_in facts) _ (view size facts) _ (casts_in-append facts (StatusCame s) ∙ append-nil (casts_in facts)) (view_status size facts s) fit
-fit_step size facts (OwnStatus s) fit = moved (casts_in facts) _ (view size facts) _ (casts_in-append facts (OwnStatus s) ∙ append-nil (casts_in facts)) (view_told size facts s) fit
-
-none_fit : (size : ℕ) → FitAt size []
+pub view_at_most : (size : ℕ) (facts : List Fact) → length (view size facts) ≤ length facts
 unfolding view
-none_fit size = omega arith
+view_at_most size facts = let h = seen_from_at_most size [] [] facts (omega arith) in omega (arith, h)
 
-all_fit : (seat : Seat) (facts : List Fact) → AreLegalFacts seat facts → FitAt seat.group.size facts
-all_fit seat _ NoFacts = none_fit seat.group.size
-all_fit seat _ (OneFactMore facts f before room step) = fit_step seat.group.size facts f (all_fit seat facts before)
+one_or_none : (b : Bool) → cond b 1 0 ≤ 1
+one_or_none true = omega arith
+one_or_none false = omega arith
 
-pub count_below : (seat : Seat) (facts : List Fact) (k : ℕ) → AreLegalFacts seat facts → count (view seat.group.size facts) k ≤ length facts
-count_below seat facts k legal =
-    let fit = all_fit seat facts legal in
-    omega (arith, fit, messages_bound facts, count_bound (view seat.group.size facts) k)
+pub count_at_most : (seen : List Carried) (k : ℕ) → count seen k ≤ length seen
+count_at_most [] k = omega arith
+count_at_most (m ∷ seen) k =
+    let others = count_at_most seen k in
+    let one = one_or_none (eqb m.sender k) in
+    omega (arith, one, others)
+
+-- ---- legal facts
+
+pub few_facts : (seat : Seat) (facts : List Fact) → AreLegalFacts seat facts → length facts ≤ longest_history
+few_facts seat _ NoFacts = omega arith
+few_facts seat _ (OneFactMore facts f before room step) = omega (arith, room, length-append facts (f ∷ []))
+
+pub count_below : (size : ℕ) (facts : List Fact) (k : ℕ) → count (view size facts) k ≤ length facts
+count_below size facts k = omega (arith, view_at_most size facts, count_at_most (view size facts) k)

@@ -13,7 +13,8 @@ use Rattle.cb_member.specs.Laws.{InTimeAfter, ViewIsInTime}
 use Rattle.cb_member.proofs.Views.{IsIn, next_is, casts_in-append, test_true, all_in_range}
 use Rattle.cb_member.proofs.Walks.{drain_keeps, view_own, view_came, view_status, view_told}
 use Rattle.cb_member.proofs.Names.{StandsAt, all_stand, message}
-use Rattle.cb_member.proofs.Times.{seen_is_expanded, stays, own_number, tells, few_facts, in_time_reached}
+use Rattle.cb_member.proofs.Bounds.{few_facts}
+use Rattle.cb_member.proofs.Times.{seen_is_expanded, stays, own_number, tells, in_time_reached}
 
 -- the time of the message is reached by these
 abbrev IsReached : ℕ → List CastFields → Carried → List Carried → Type 0
@@ -51,7 +52,7 @@ in_time_step seat facts (OwnCast c) member legal s all =
     subst (InTimeAfter seat.group.size (casts_in (facts ++ OwnCast c ∷ [])) []) (sym (view_own seat.group.size facts c))
     (in_time_push seat.group.size (casts_in (facts ++ OwnCast c ∷ [])) [] (view seat.group.size facts) (message c) (in_time_stays seat facts (OwnCast c) s after all)
     (λ k lt.
-    let told = tells seat facts c k member legal (few_facts seat (facts ++ OwnCast c ∷ []) legal) lt in
+    let told = tells seat facts c k member legal (omega (arith, few_facts seat (facts ++ OwnCast c ∷ []) legal)) lt in
     let at : expanded_field (casts_in (facts ++ OwnCast c ∷ [])) c.sender c.number k ≡ count (view seat.group.size facts ++ message c ∷ []) k =
     ap (λ (i : ℕ). expanded_field (casts_in (facts ++ OwnCast c ∷ [])) i c.number k) number.0 ∙ told ∙ ap (λ (ms : List Carried). count ms k) (view_own seat.group.size facts c) in
     subst (λ (n : ℕ). n ≤ count (view seat.group.size facts ++ message c ∷ []) k) (sym at) (omega arith)))

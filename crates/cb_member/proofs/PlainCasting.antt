@@ -1,20 +1,17 @@
 -- The facts up to the last own cast, and the next cast.
-use Rattle.std.proofs.Common.{◌≡◌, ◌≢◌, ℕ, zero, suc, ◌+◌, ◌-◌, ◌<◌, ◌≤◌, Bool, true, false, not, ◌&&◌, ◌||◌, eqb, ltb, List, [], ◌∷◌, ◌++◌, length, map, Ok, refl, ap, ◌∙◌, arith}
-use Rattle.std.specs.List.{list_any, filter, range_with_len, AllByRecursion}
-use Rattle.std.proofs.lemmas.Bool.{cond_both, eq-eqb, ltb-true, le-ltb, lt-leb}
-use Rattle.std.proofs.lemmas.List.FromFn.{length-map-range_with_len}
-use Rattle.cb_times.specs.Order.{field}
+use Rattle.std.proofs.Common.{◌≡◌, ℕ, ◌+◌, ◌<◌, ◌≤◌, Bool, true, false, ◌||◌, List, [], ◌∷◌, ◌++◌, length, map, Ok, refl, ap, ◌∙◌}
+use Rattle.std.specs.List.{list_any}
+use Rattle.std.proofs.lemmas.Bool.{le-ltb, lt-leb}
 use Rattle.cb_frames.specs.declared.frame.TheConstants.{LONGEST_PAYLOAD}
 use Rattle.cb_frames.specs.declared.frame.Change.{Change}
 use Rattle.cb_frames.specs.Fields.{Carried}
-use Rattle.cb_frames.specs.Text.{RisesFrom, IsChange, KeepsCastRules}
-use Rattle.cb_diffs.specs.Differences.{differences, change_of, is_told}
+use Rattle.cb_diffs.specs.Differences.{differences}
 use Rattle.cb_member.specs.Group.{Seat}
 use Rattle.cb_member.specs.Facts.{EntryFields, entry_fields, Fact, facts_of}
 use Rattle.cb_member.specs.declared.history.Entry.{Entry}
 use Rattle.cb_member.specs.PlainState.{MemberState}
 use Rattle.std.proofs.lemmas.List.{map-append}
-use Rattle.cb_member.specs.View.{count, counts, view, time_of}
+use Rattle.cb_member.specs.View.{count, counts, view}
 use Rattle.cb_member.specs.Answers.{is_own_cast, upto_last_cast, next_cast, is_window_full, cast_answer}
 
 or_true : (b : Bool) → (b || true) ≡ true
@@ -43,50 +40,6 @@ pub next_is_made : (seat : Seat) (facts front : List Fact) (payload bytes : List
     → record { group = group; sender = seat.me; number = number; changes = changes; payload = bytes } ≡ next_cast seat facts payload
 next_is_made seat facts front payload bytes before seen previous now group size number changes eg es ef eb en ep ew ek ec et =
     rw (eg, ek, ec, et, ep, ew, eb, ef, en, es) refl
-
--- ---- the next cast keeps the rules of frames
-
-both_true : (b c : Bool) → (b && c) ≡ true → (b ≡ true) × (c ≡ true)
-both_true true c h = (refl, h)
-both_true false c h = absurd cc
-
-not_equal : (a b : ℕ) → not (eqb a b) ≡ true → a ≢ b
-not_equal a b h e = let same = eq-eqb a b e in absurd (cc)
-
-told : (previous now : List ℕ) (own k : ℕ) → k ≤ 63 → is_told own (change_of previous now k) ≡ true → IsChange own (change_of previous now k)
-told previous now own k le h =
-    let both = both_true (not (eqb k own)) (ltb 0 (field now k - field previous k)) h in
-    let grown = ltb-true 0 (field now k - field previous k) both.1 in
-    record { index = le; other = not_equal k own both.0; grown = omega (arith, grown) }
-
-rises : (own : ℕ) (previous now : List ℕ) (least a n : ℕ) → least ≤ a → RisesFrom least (filter (is_told own) (map (change_of previous now) (range_with_len a n)))
-rises own previous now least a zero le = tt
-rises own previous now least a (suc n) le =
-    let others = filter (is_told own) (map (change_of previous now) (range_with_len (a + 1) n)) in
-    cond_both (is_told own (change_of previous now a)) (change_of previous now a ∷ others) others (λ (cs : List Change). RisesFrom least cs)
-    (λ _. (le, rises own previous now (a + 1) (a + 1) n (omega arith))) (λ _. rises own previous now least (a + 1) n (omega (arith, le)))
-
-each_told : (own : ℕ) (previous now : List ℕ) (a n : ℕ) → a + n ≤ 64 → AllByRecursion (IsChange own) (filter (is_told own) (map (change_of previous now) (range_with_len a n)))
-each_told own previous now a zero le = tt
-each_told own previous now a (suc n) le =
-    let others = filter (is_told own) (map (change_of previous now) (range_with_len (a + 1) n)) in
-    let rest = each_told own previous now (a + 1) n (omega (arith, le)) in
-    cond_both (is_told own (change_of previous now a)) (change_of previous now a ∷ others) others (λ (cs : List Change). AllByRecursion (IsChange own) cs)
-    (λ h. (told previous now own a (omega (arith, le)) h, rest)) (λ _. rest)
-
-pub next_keeps : (seat : Seat) (facts : List Fact) (payload : List ℕ) → seat.group.size ≤ 64 → seat.me < seat.group.size → KeepsCastRules (next_cast seat facts payload)
-next_keeps seat facts payload small member =
-    let previous = time_of seat.group.size (upto_last_cast facts) in
-    let now = time_of seat.group.size facts in
-    let size = length-map-range_with_len (count (view seat.group.size facts)) 0 seat.group.size in
-    record {
-      sender = omega (arith, small, member);
-      number = omega arith;
-      changes = record {
-        rising = rises seat.me previous now 0 0 (length now) (omega arith);
-        each = each_told seat.me previous now 0 (length now) (omega (arith, small, size));
-      };
-    }
 
 abbrev pub with_entries : Seat → ℕ → List EntryFields → MemberState
 with_entries seat limit entries = record { seat = seat; limit = limit; entries = entries }

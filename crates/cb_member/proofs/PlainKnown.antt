@@ -1,16 +1,11 @@
 -- Steps of the loops for the greatest and the least of numbers.
-use Rattle.std.proofs.Common.{◌≡◌, ℕ, suc, ◌+◌, ◌-◌, ◌<◌, Bool, true, false, List, [], ◌∷◌, ◌++◌, map, Option, Some, None, refl, sym, ap, ◌∙◌, arith, min, max}
+use Rattle.std.proofs.Common.{◌≡◌, ℕ, ◌+◌, ◌-◌, ◌<◌, Bool, true, false, List, [], ◌∷◌, ◌++◌, map, Option, Some, None, refl, sym, ap, ◌∙◌, arith, min, max}
 use Rattle.std.specs.List.{filter, range_with_len, flat_map}
 use Rattle.std.proofs.lemmas.List.{append_assoc}
 use Rattle.cb_member.specs.Known.{greatest_of, least_of}
 use Rattle.cb_member.specs.Plain.{lesser_of}
-use Rattle.cb_member.proofs.PlainWalks.{range_more}
-
-pub greatest_append : (xs ys : List ℕ) → greatest_of (xs ++ ys) ≡ max (greatest_of xs) (greatest_of ys)
-greatest_append [] ys = omega arith
-greatest_append (x ∷ xs) ys =
-    let others = greatest_append xs ys in
-    omega (arith, others)
+use Rattle.cb_member.proofs.PlainWalks.{range_more, row_more}
+use Rattle.cb_member.proofs.Rising.{greatest_append}
 
 -- the next part of what the numbers are found in
 pub greatest_more : {A : Type 0} (h : A → List ℕ) (best n : ℕ) (x : A) (xs : List A) → n ≡ greatest_of (h x) → max (max best n) (greatest_of (flat_map h xs)) ≡ max best (greatest_of (flat_map h (x ∷ xs)))
@@ -30,11 +25,6 @@ least_of_more m n (k ∷ ns) = omega arith
 least_with_more : (least : Option ℕ) (n : ℕ) (ns : List ℕ) → least_with (Some (lesser_of least n)) ns ≡ least_with least (n ∷ ns)
 least_with_more None n ns = refl
 least_with_more (Some m) n ns = least_of_more m n ns
-
-pub row_more : (n i : ℕ) → i < n → range_with_len i (n - i) ≡ i ∷ range_with_len (i + 1) (n - (i + 1))
-row_more n i lt =
-    let e : n - i ≡ suc (n - (i + 1)) = omega arith in
-    rw e refl
 
 -- one more number that counts, and one that does not
 pub least_more : (f : ℕ → ℕ) (p : ℕ → Bool) (least : Option ℕ) (n i : ℕ) → i < n → p i ≡ true

@@ -1,20 +1,18 @@
 -- Steps of the loops of a tick.
 use Rattle.std.proofs.Common.{◌≡◌, ℕ, ◌+◌, ◌-◌, ◌<◌, ◌≤◌, min, Bool, true, false, not, eqb, ltb, if◌then◌else◌, List, [], ◌∷◌, ◌++◌, map, length, take, Some, refl, sym, ap, ◌∙◌, append_assoc, arith}
 use Rattle.std.specs.List.{filter, flat_map, range_with_len}
-use Rattle.std.proofs.lemmas.Bool.{ltb-true}
 use Rattle.cb_frames.specs.declared.frame.TheConstants.{LAST_MEMBER, LAST_NUMBER, MOST_RANGES}
 use Rattle.cb_frames.specs.declared.frame.Change.{Change}
 use Rattle.cb_frames.specs.declared.frame.Range.{Range}
 use Rattle.cb_frames.specs.Fields.{Carried, RequestFrame}
-use Rattle.cb_frames.specs.Text.{AreRanges, IsValue, KeepsRequestRules, KeepsStatusRules, text_of}
+use Rattle.cb_frames.specs.Text.{AreRanges, KeepsRequestRules, text_of}
 use Rattle.cb_member.specs.declared.answer.Outgoing.{Outgoing}
 use Rattle.cb_member.specs.Group.{Seat}
 use Rattle.cb_member.specs.Facts.{Fact, casts_in, is_there}
 use Rattle.cb_member.specs.View.{count, view}
 use Rattle.cb_member.specs.Known.{known, expanded_count, missing, ranges_of}
-use Rattle.cb_member.specs.Answers.{delivered, status_of, request_to}
-use Rattle.cb_member.proofs.PlainKnown.{row_more}
-use Rattle.cb_member.proofs.Written.{rises_from, each_from}
+use Rattle.cb_member.specs.Answers.{request_to}
+use Rattle.cb_member.proofs.PlainWalks.{row_more}
 use Rattle.cb_member.proofs.Requests.{filtered_rise, ranges_are, taken_are, taken_few}
 
 -- ---- the fields that are not 0
@@ -96,19 +94,3 @@ requests_same seat facts n i items new whole lt own same h =
     let others = requests_to seat facts (range_with_len (i + 1) (n - (i + 1))) in
     let e : requests_to seat facts (range_with_len i (n - i)) ≡ others = rw (row_more n i lt, own) refl in
     rw same (ap (λ (out : List Outgoing). items ++ out) (sym e) ∙ h)
-
--- ---- the answer
-
--- the status keeps the rules
-pub status_keeps : (seat : Seat) (facts : List Fact) → seat.group.size ≤ 64 → seat.me < seat.group.size → KeepsStatusRules (status_of seat facts)
-status_keeps seat facts small member =
-    let value = value_at (view seat.group.size facts) in
-    record {
-      sender = omega (arith, small, member);
-      values = record {
-        rising = rises_from is_not_zero value (λ k. refl) 0 seat.group.size 0 (omega arith);
-        each = each_from is_not_zero value IsValue 0 seat.group.size (λ k lt told.
-            let positive = ltb-true 0 (delivered seat facts k) told in
-            record { index = omega (arith, lt, small); nonzero = omega (arith, positive) });
-      };
-    }

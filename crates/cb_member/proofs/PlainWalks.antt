@@ -13,8 +13,8 @@ range_more a n i lt =
     let j : (i + 1) + a ≡ (i + a) + 1 = omega arith in
     rw (e, j) refl
 
-row_of : (i n : ℕ) → i < n → range_with_len i (n - i) ≡ i ∷ range_with_len (i + 1) (n - (i + 1))
-row_of i n lt =
+pub row_more : (n i : ℕ) → i < n → range_with_len i (n - i) ≡ i ∷ range_with_len (i + 1) (n - (i + 1))
+row_more n i lt =
     let e : n - i ≡ suc (n - (i + 1)) = omega arith in
     rw e refl
 
@@ -69,10 +69,10 @@ length_messages (c ∷ casts) = ap (λ (n : ℕ). suc n) (length_messages casts)
 -- ---- the first number in a row that meets a test
 
 pub any_more : (p : ℕ → Bool) (n i : ℕ) → i < n → p i ≡ false → list_any p (range_with_len (i + 1) (n - (i + 1))) ≡ list_any p (range_with_len i (n - i))
-any_more p n i lt fails = rw (row_of i n lt, fails) refl
+any_more p n i lt fails = rw (row_more n i lt, fails) refl
 
 pub any_holds : (p : ℕ → Bool) (n i : ℕ) → i < n → p i ≡ true → list_any p (range_with_len i (n - i)) ≡ true
-any_holds p n i lt holds = rw (row_of i n lt, holds) refl
+any_holds p n i lt holds = rw (row_more n i lt, holds) refl
 
 pub any_end : (p : ℕ → Bool) (a n i : ℕ) → n ≤ i → list_any p (range_with_len a (n - i)) ≡ false
 any_end p a n i le = rw (range_end a n i le) refl

@@ -2,7 +2,6 @@
 use Rattle.std.proofs.Common.{◌≡◌, ℕ, zero, suc, ◌+◌, ◌-◌, ◌<◌, ◌≤◌, ◌^◌, Bool, not, eqb, List, [], ◌∷◌, length, take, min, subst, arith}
 use Rattle.std.specs.List.{AllByRecursion, filter, range_with_len}
 use Rattle.std.proofs.lemmas.Bool.{cond_both, eqb-false}
-use Rattle.std.proofs.lemmas.List.{length-append}
 use Rattle.cb_frames.specs.declared.frame.TheConstants.{LAST_NUMBER, MOST_RANGES}
 use Rattle.cb_frames.specs.declared.frame.Range.{Range}
 use Rattle.cb_frames.specs.Fields.{RequestFrame}
@@ -12,10 +11,9 @@ use Rattle.cb_member.specs.Group.{Seat, AreParameters}
 use Rattle.cb_member.specs.Facts.{Fact, casts_in, is_there}
 use Rattle.cb_member.specs.View.{count, view}
 use Rattle.cb_member.specs.Known.{known, expanded_count, missing, before_ranges, ranges_of}
-use Rattle.cb_member.specs.Legal.{longest_history}
-use Rattle.cb_member.specs.LegalFacts.{AreLegalFacts, NoFacts, OneFactMore}
+use Rattle.cb_member.specs.LegalFacts.{AreLegalFacts}
 use Rattle.cb_member.specs.Laws.{OwnFramesHaveTexts}
-use Rattle.cb_member.proofs.Bounds.{count_below}
+use Rattle.cb_member.proofs.Bounds.{few_facts, count_below}
 use Rattle.cb_member.proofs.Written.{cast_can, status_can}
 
 -- rising numbers, each at least `low` and at most the greatest
@@ -57,15 +55,11 @@ ranges_small : (least : ℕ) (ranges : List Range) → AreRanges least ranges �
 ranges_small least [] are = tt
 ranges_small least (r ∷ ranges) are = (omega (arith, are.1, are.2), (omega (arith, are.2), ranges_small (r.last + 2) ranges are.3))
 
-few_facts : (seat : Seat) (facts : List Fact) → AreLegalFacts seat facts → length facts ≤ longest_history
-few_facts seat _ NoFacts = omega arith
-few_facts seat _ (OneFactMore facts f before room step) = omega (arith, room, length-append facts (f ∷ []))
-
 missing_rise : (seat : Seat) (facts : List Fact) (i : ℕ) → AreParameters seat.group → AreLegalFacts seat facts → Rise 1 (missing seat facts i)
 missing_rise seat facts i group legal =
     let low = expanded_count (casts_in facts) i in
     let high = min (known facts i) (count (view seat.group.size facts) i + seat.group.window) in
-    let bound : high ≤ LAST_NUMBER = omega (arith, count_below seat facts i legal, few_facts seat facts legal, group.window_at_most) in
+    let bound : high ≤ LAST_NUMBER = omega (arith, count_below seat.group.size facts i, few_facts seat facts legal, group.window_at_most) in
     filtered_rise (λ n. not (is_there (casts_in facts) i n)) (low + 1) (high - low) 1 (omega arith) (λ k lt. omega (arith, lt, bound))
 
 request_can : (seat : Seat) (facts : List Fact) (i : ℕ) (r : Range) (ranges : List Range) → AreParameters seat.group → seat.me < seat.group.size → AreLegalFacts seat facts → i < seat.group.size → ranges_of (missing seat facts i) ≡ r ∷ ranges

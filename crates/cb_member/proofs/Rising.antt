@@ -15,9 +15,9 @@ use Rattle.cb_member.proofs.Views.{IsIn, casts_in-append, test_true}
 use Rattle.cb_member.proofs.Lists.{flat_map-append}
 use Rattle.cb_member.proofs.Walks.{view_grows, view_status, view_told}
 
-pub greatest_of-append : (xs ys : List ℕ) → greatest_of (xs ++ ys) ≡ max (greatest_of xs) (greatest_of ys)
-greatest_of-append [] ys = omega arith
-greatest_of-append (x ∷ xs) ys = let others = greatest_of-append xs ys in omega (arith, others)
+pub greatest_append : (xs ys : List ℕ) → greatest_of (xs ++ ys) ≡ max (greatest_of xs) (greatest_of ys)
+greatest_append [] ys = omega arith
+greatest_append (x ∷ xs) ys = let others = greatest_append xs ys in omega (arith, others)
 
 pub all_at_most : (p : Carried → Bool) (g : Carried → ℕ) (n : ℕ) (ms : List Carried) → ((m : Carried) → IsIn m ms → p m ≡ true → g m ≤ n) → greatest_of (map g (filter p ms)) ≤ n
 all_at_most p g n [] each = omega arith
@@ -84,13 +84,13 @@ counts_rise casts more seen later k me =
 -- ---- what is known
 
 pub known_parts : (facts : List Fact) (i : ℕ) → known facts i ≡ max (greatest_of (flat_map (told_of i) facts)) (greatest_of (counted_in_times (casts_in facts) i))
-known_parts facts i = greatest_of-append (flat_map (told_of i) facts) (counted_in_times (casts_in facts) i)
+known_parts facts i = greatest_append (flat_map (told_of i) facts) (counted_in_times (casts_in facts) i)
 
 pub known_more : (facts : List Fact) (f : Fact) (i : ℕ) → known (facts ++ f ∷ []) i ≡ max (max (greatest_of (flat_map (told_of i) facts)) (greatest_of (told_of i f ++ []))) (greatest_of (counted_in_times (casts_in facts ++ cast_in f) i))
 known_more facts f i =
     known_parts (facts ++ f ∷ []) i
     ∙ ap (λ (ns : List ℕ). max (greatest_of ns) (greatest_of (counted_in_times (casts_in (facts ++ f ∷ [])) i))) (flat_map-append (told_of i) facts (f ∷ []))
-    ∙ ap (λ (n : ℕ). max n (greatest_of (counted_in_times (casts_in (facts ++ f ∷ [])) i))) (greatest_of-append (flat_map (told_of i) facts) (told_of i f ++ []))
+    ∙ ap (λ (n : ℕ). max n (greatest_of (counted_in_times (casts_in (facts ++ f ∷ [])) i))) (greatest_append (flat_map (told_of i) facts) (told_of i f ++ []))
     ∙ ap (λ (cs : List CastFields). max (max (greatest_of (flat_map (told_of i) facts)) (greatest_of (told_of i f ++ []))) (greatest_of (counted_in_times cs i))) (casts_in-append facts f)
 
 same_times : (facts : List Fact) (i : ℕ) → greatest_of (counted_in_times (casts_in facts ++ []) i) ≡ greatest_of (counted_in_times (casts_in facts) i)
@@ -116,13 +116,13 @@ abbrev pub counted_at : Seat → List CastFields → List Carried → ℕ → �
 counted_at seat casts seen k = greatest_of (counted_by casts seen k seat.me)
 
 pub acknowledged_parts : (seat : Seat) (facts : List Fact) (k : ℕ) → acknowledged seat facts k ≡ max (greatest_of (flat_map (told_by k seat.me) facts)) (counted_at seat (casts_in facts) (view seat.group.size facts) k)
-acknowledged_parts seat facts k = greatest_of-append (flat_map (told_by k seat.me) facts) (counted_by (casts_in facts) (view seat.group.size facts) k seat.me)
+acknowledged_parts seat facts k = greatest_append (flat_map (told_by k seat.me) facts) (counted_by (casts_in facts) (view seat.group.size facts) k seat.me)
 
 pub acknowledged_more : (seat : Seat) (facts : List Fact) (f : Fact) (k : ℕ) → acknowledged seat (facts ++ f ∷ []) k ≡ max (max (greatest_of (flat_map (told_by k seat.me) facts)) (greatest_of (told_by k seat.me f ++ []))) (counted_at seat (casts_in facts ++ cast_in f) (view seat.group.size (facts ++ f ∷ [])) k)
 acknowledged_more seat facts f k =
     acknowledged_parts seat (facts ++ f ∷ []) k
     ∙ ap (λ (ns : List ℕ). max (greatest_of ns) (counted_at seat (casts_in (facts ++ f ∷ [])) (view seat.group.size (facts ++ f ∷ [])) k)) (flat_map-append (told_by k seat.me) facts (f ∷ []))
-    ∙ ap (λ (n : ℕ). max n (counted_at seat (casts_in (facts ++ f ∷ [])) (view seat.group.size (facts ++ f ∷ [])) k)) (greatest_of-append (flat_map (told_by k seat.me) facts) (told_by k seat.me f ++ []))
+    ∙ ap (λ (n : ℕ). max n (counted_at seat (casts_in (facts ++ f ∷ [])) (view seat.group.size (facts ++ f ∷ [])) k)) (greatest_append (flat_map (told_by k seat.me) facts) (told_by k seat.me f ++ []))
     ∙ ap (λ (cs : List CastFields). max (max (greatest_of (flat_map (told_by k seat.me) facts)) (greatest_of (told_by k seat.me f ++ []))) (counted_at seat cs (view seat.group.size (facts ++ f ∷ [])) k)) (casts_in-append facts f)
 
 same_counts : (seat : Seat) (facts : List Fact) (seen : List Carried) (k : ℕ) → seen ≡ view seat.group.size facts → counted_at seat (casts_in facts ++ []) seen k ≡ counted_at seat (casts_in facts) (view seat.group.size facts) k

@@ -20,7 +20,7 @@ use Rattle.cb_member.proofs.Prefixes.{prefix_of_facts_is_legal}
 use Rattle.cb_member.proofs.Walks.{view_own}
 use Rattle.cb_member.proofs.Growth.{same_field}
 use Rattle.cb_member.proofs.Times.{IsNew, is_new, own_number, seen_is_expanded, times_are_reached}
-use Rattle.cb_member.proofs.Rising.{greatest_of-append, all_at_most, all_weaker, times_rise, known_parts, known_more, counted_at, acknowledged_parts, acknowledged_more}
+use Rattle.cb_member.proofs.Rising.{greatest_append, all_at_most, all_weaker, times_rise, known_parts, known_more, counted_at, acknowledged_parts, acknowledged_more}
 use Rattle.cb_member.proofs.GapsLater.{there_below}
 
 -- ---- the greatest of some values
@@ -106,7 +106,7 @@ counted_append casts seen later k me =
     let time : Carried → ℕ = λ m. expanded_field casts m.sender m.number me in
     let own : Carried → Bool = λ m. eqb m.sender k in
     ap (λ (ms : List Carried). greatest_of (map time ms)) (filter-append own seen later) ∙ ap greatest_of (map-append time (filter own seen) (filter own later))
-    ∙ greatest_of-append (map time (filter own seen)) (map time (filter own later))
+    ∙ greatest_append (map time (filter own seen)) (map time (filter own later))
 
 acknowledged_by : (seat : Seat) (facts : List Fact) (c : CastFields) (later : List Carried) (k : ℕ) → IsNew (casts_in facts) c → StandsAt seat facts
     → counted_at seat (casts_in facts ++ c ∷ []) (view seat.group.size facts ++ later) k ≡ max (counted_at seat (casts_in facts) (view seat.group.size facts) k) (greatest_of (counted_by (casts_in facts ++ c ∷ []) later k seat.me))

@@ -18,7 +18,7 @@ use Rattle.cb_member.proofs.Views.{IsIn, next_is, casts_in-append, test_true, al
 use Rattle.cb_member.proofs.Lists.{messages_in-push, in_push, in_is_among, among_is, count-append, count_own, count_other, among_by_order, order_bound, or_false, both_false, flipped}
 use Rattle.cb_member.proofs.Walks.{drain_keeps, view_grows, view_own, view_came, view_status, view_told, own_casts-own, IsNotOwn}
 use Rattle.cb_member.proofs.Names.{Stands, StandsAt, all_stand, message, came_is_others}
-use Rattle.cb_member.proofs.Bounds.{count_below}
+use Rattle.cb_member.proofs.Bounds.{few_facts, count_below}
 use Rattle.cb_member.proofs.Prefixes.{prefix_of_facts_is_legal}
 use Rattle.cb_member.proofs.Rising.{expanded_more}
 use Rattle.cb_diffs.proofs.Sums.{growth_of-other, growth_of-own}
@@ -232,13 +232,9 @@ tells seat facts c k member legal few lt =
       | inr ne ↦
           let sum = own_sum seat (facts ++ OwnCast c ∷ []) k member lt ne legal c.number (omega (arith, last.1)) in
           let upto : count (view seat.group.size (upto_last_cast (facts ++ OwnCast c ∷ []))) k ≡ count (view seat.group.size (facts ++ OwnCast c ∷ [])) k = ap (λ (fs : List Fact). count (view seat.group.size fs) k) (upto_own facts c) in
-          let small = count_below seat (facts ++ OwnCast c ∷ []) k legal in
+          let small = count_below seat.group.size (facts ++ OwnCast c ∷ []) k in
           rw (ne_eqb k seat.me ne) (omega (arith, sum, upto, small, few))
     ]
-
-pub few_facts : (seat : Seat) (facts : List Fact) → AreLegalFacts seat facts → length facts ≤ greatest
-few_facts seat _ NoFacts = omega arith
-few_facts seat _ (OneFactMore facts f before room step) = omega (arith, room, length-append facts (f ∷ []))
 
 same_over_range : (f g : ℕ → ℕ) (a n : ℕ) → ((k : ℕ) → k < a + n → f k ≡ g k) → map f (range_with_len a n) ≡ map g (range_with_len a n)
 same_over_range f g a zero same = refl
@@ -262,7 +258,7 @@ own_casts_tell_the_view seat facts more c are =
     (subst (λ (fs : List Fact). expanded_field (casts_in fs) c.sender c.number k ≡ expanded_field (casts_in (facts ++ OwnCast c ∷ [])) c.sender c.number k) regrouped
     (times_stay seat (facts ++ OwnCast c ∷ []) more (message c) k all (own_is_expanded seat facts c s))) in
     same_over_range (expanded_field (casts_in (facts ++ OwnCast c ∷ more)) seat.me c.number) (count (view seat.group.size (facts ++ OwnCast c ∷ []))) 0 seat.group.size
-    (λ k lt. stay k ∙ tells seat facts c k now.member now.facts_are (few_facts seat (facts ++ OwnCast c ∷ []) now.facts_are) (omega (arith, lt)))
+    (λ k lt. stay k ∙ tells seat facts c k now.member now.facts_are (omega (arith, few_facts seat (facts ++ OwnCast c ∷ []) now.facts_are)) (omega (arith, lt)))
 
 -- ---- the times of what was delivered
 
@@ -324,7 +320,7 @@ reached_step seat facts (OwnCast c) member legal s reached =
     subst (Reached seat.group.size (casts_in (facts ++ OwnCast c ∷ []))) (sym (view_own seat.group.size facts c))
     (reached_push seat.group.size (casts_in (facts ++ OwnCast c ∷ [])) (view seat.group.size facts) (message c) (reached_stays seat facts (OwnCast c) s after reached)
     (λ k lt.
-    let told = tells seat facts c k member legal (few_facts seat (facts ++ OwnCast c ∷ []) legal) lt in
+    let told = tells seat facts c k member legal (omega (arith, few_facts seat (facts ++ OwnCast c ∷ []) legal)) lt in
     let at : expanded_field (casts_in (facts ++ OwnCast c ∷ [])) c.sender c.number k ≡ count (view seat.group.size facts ++ message c ∷ []) k =
     ap (λ (i : ℕ). expanded_field (casts_in (facts ++ OwnCast c ∷ [])) i c.number k) number.0 ∙ told ∙ ap (λ (ms : List Carried). count ms k) (view_own seat.group.size facts c) in
     subst (λ (n : ℕ). n ≤ count (view seat.group.size facts ++ message c ∷ []) k) (sym at) (omega arith)))

@@ -68,7 +68,7 @@ fn counted_in_times(casts: &[&Cast], i: u32) -> u32
 }
 
 /// The greatest number of sender i that the member has heard of.
-#[tactic(auto, using(crate::proofs::PlainKnown::greatest_append))]
+#[tactic(auto, using(crate::proofs::Rising::greatest_append))]
 pub fn known(facts: &[Fact], casts: &[&Cast], i: u32) -> u32
     requires { map cast_of casts.now ≡ casts_in (map fact_of facts.now) }
     ensures { result ≡ known (map fact_of facts.now) i }
@@ -133,7 +133,7 @@ fn counted_by(casts: &[&Cast], seen: &[Message<'_>], k: u32, me: u32) -> u32
 }
 
 /// How many of its casts the member knows that member k has delivered.
-#[tactic(auto, using(crate::proofs::PlainKnown::greatest_append))]
+#[tactic(auto, using(crate::proofs::Rising::greatest_append))]
 pub fn acknowledged(
     group: Group,
     me: u32,

@@ -4,7 +4,8 @@ use Rattle.cb_frames.specs.Fields.{Carried}
 use Rattle.cb_member.specs.Facts.{Fact, entry_fields}
 use Rattle.cb_member.specs.Plain.{fact_of}
 use Rattle.cb_member.specs.PlainMessages.{carried_of}
-use Rattle.cb_member.proofs.PlainBounds.{view_at_most, facts_at_most}
+use Rattle.cb_member.proofs.Bounds.{view_at_most}
+use Rattle.cb_member.proofs.PlainBounds.{facts_at_most}
 use Rattle.cb_member.proofs.plain.PlainMember.time.Goals as goal
 
 pub counts-requires-clause-few : goal.counts-requires-clause-few

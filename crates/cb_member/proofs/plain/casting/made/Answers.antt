@@ -3,7 +3,7 @@ use Rattle.cb_frames.specs.Fields.{CastFields}
 use Rattle.cb_frames.specs.Text.{KeepsCastRules}
 use Rattle.cb_member.specs.Group.{Seat}
 use Rattle.cb_member.specs.Plain.{fact_of}
-use Rattle.cb_member.proofs.PlainCasting.{next_keeps}
+use Rattle.cb_member.proofs.Written.{next_keeps}
 use Rattle.cb_member.proofs.plain.casting.made.Goals as goal
 
 pub frame_text-requires-clause-rules : goal.frame_text-requires-clause-rules

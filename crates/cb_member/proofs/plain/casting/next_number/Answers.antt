@@ -1,7 +1,7 @@
 use Rattle.std.proofs.Common.{map, arith}
 use Rattle.std.proofs.lemmas.List.{length-map}
 use Rattle.cb_member.specs.PlainMessages.{carried_of}
-use Rattle.cb_member.proofs.PlainBounds.{count_at_most}
+use Rattle.cb_member.proofs.Bounds.{count_at_most}
 use Rattle.cb_member.proofs.plain.casting.next_number.Goals as goal
 
 pub overflow_cast-result : goal.overflow_cast-result

@@ -3,7 +3,7 @@ use Rattle.cb_frames.specs.Fields.{StatusFields}
 use Rattle.cb_frames.specs.Text.{KeepsStatusRules}
 use Rattle.cb_member.specs.Group.{Seat}
 use Rattle.cb_member.specs.Plain.{fact_of}
-use Rattle.cb_member.proofs.PlainTicking.{status_keeps}
+use Rattle.cb_member.proofs.Written.{status_keeps}
 use Rattle.cb_member.proofs.plain.ticking.status_text.Goals as goal
 
 pub frame_text-requires-clause-rules : goal.frame_text-requires-clause-rules

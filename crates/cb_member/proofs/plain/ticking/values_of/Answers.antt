@@ -3,7 +3,7 @@ use Rattle.std.proofs.lemmas.Bool.{lt-ltb, le-ltb}
 use Rattle.std.proofs.lemmas.List.{length-map}
 use Rattle.std.specs.List.{filter, range_with_len}
 use Rattle.cb_member.specs.PlainMessages.{carried_of}
-use Rattle.cb_member.proofs.PlainBounds.{count_at_most}
+use Rattle.cb_member.proofs.Bounds.{count_at_most}
 use Rattle.cb_member.proofs.PlainTicking.{value_at, is_not_zero, value_more, value_none}
 use Rattle.cb_member.proofs.plain.ticking.values_of.Goals as goal
 use Rattle.cb_member.proofs.plain.ticking.values_of.Goals.{then-amount-gt0+in_ok-push, else-amount-gt0}

@@ -2,7 +2,8 @@ use Rattle.std.proofs.Common.{map, arith}
 use Rattle.std.proofs.lemmas.List.{length-map}
 use Rattle.cb_member.specs.View.{count}
 use Rattle.cb_member.specs.PlainMessages.{carried_of}
-use Rattle.cb_member.proofs.PlainBounds.{count_at_most, fields_are}
+use Rattle.cb_member.proofs.Bounds.{count_at_most}
+use Rattle.cb_member.proofs.PlainBounds.{fields_are}
 use Rattle.cb_member.proofs.plain.view.counts.Goals as goal
 
 pub overflow_cast-count : goal.overflow_cast-count

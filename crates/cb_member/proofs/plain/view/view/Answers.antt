@@ -5,7 +5,7 @@ use Rattle.cb_member.specs.declared.plain.facts.Fact.{Fact}
 use Rattle.cb_member.specs.View.{seen_from, view}
 use Rattle.cb_member.specs.Plain.{fact_of, cast_of}
 use Rattle.cb_member.specs.PlainMessages.{carried_of}
-use Rattle.cb_member.proofs.PlainBounds.{view_at_most}
+use Rattle.cb_member.proofs.Bounds.{view_at_most}
 use Rattle.cb_member.proofs.plain.view.view.Goals as goal
 
 pub returns-clause-few : goal.returns-clause-few
