@@ -8,7 +8,7 @@ use Rattle.cb_frames.specs.Text.{IsText, KeepsRules, cast_numbers, status_number
 use Rattle.cb_frames.specs.Fault.{FirstFault}
 use Rattle.cb_frames.specs.Reading.{frame_at}
 
--- no bytes are the text of two frames, and no frame's text is a proper prefix of another's
+-- two frames never share a text, and the text of one never begins that of another
 abbrev pub NoneBeginsAnother : Type 0
 NoneBeginsAnother = (f g : FrameFields) (bytes more : List ℕ) → IsText f bytes → IsText g (bytes ++ more) → (f ≡ g) × (more ≡ [])
 

@@ -2,8 +2,8 @@
 
 ghost use Rattle.cb_frames.specs.Laws.{NoneBeginsAnother, OneText, SomeText, OneFault, TextHasNoFault, EachIsTextOrFault, ReadingIsExact};
 
-/// No bytes are the text of two frames, no frame's text is a proper prefix of another's, and `text_of` names the text, which
-/// exists exactly where the rules are kept and no number is too large.
+/// Two frames never share a text, and the text of one never begins that of another. `text_of` names the text, which exists exactly
+/// where the rules are kept and no number is too large.
 pub fn one_text()
     ensures apart { NoneBeginsAnother }
     ensures named { OneText }

@@ -48,7 +48,7 @@ IsAfter old cast Kept new = new ≡ record old { kept = map.insert old.kept cast
 IsAfter old cast Repeat new = new ≡ old
 IsAfter old cast TooFar new = new ≡ old
 
--- the cast that follows the last one taken, where it is kept
+-- the next cast of the sender, which waits in the buffer
 pub record IsNext (buffer : Buffer) (cast : CastFields) : Type 0 where
   pub follows : cast.number ≡ buffer.taken + 1
   pub kept : map.get buffer.kept cast.number ≡ Some cast

@@ -110,7 +110,7 @@ impl Reorder {
         Keeping::Kept
     }
 
-    /// Takes out the cast that follows the last one taken, where it is kept.
+    /// Takes out the next cast of the sender, if it waits here.
     ///
     /// `None` where it is not; the buffer is then unchanged. None follows number 4,294,967,295.
     pub fn take_next(&mut self) -> Option<Cast>

@@ -100,7 +100,7 @@ pub enum ArriveRefusal {
     Malformed(FrameFault),
     /// The frame is of another group.
     OtherGroup,
-    /// A member or a field in the frame is not below the group's size.
+    /// The frame names a member, or a field, that the group does not have.
     BadMember,
     /// The frame says of this member what it never did, or asks its own sender.
     Impossible,
