@@ -12,10 +12,11 @@ use Rattle.std.proofs.lemmas.Bool.Decides.{eqb_tells}
 use Rattle.std.proofs.lemmas.List.{get_or-map, get_or-set_same, get_or-set_other, set-get_or, get_or_past, get_or_default, map-set, length-map, length-append}
 use Rattle.std.proofs.lemmas.List.Sums.{sum_by-cons, sum_by-le}
 use Rattle.std.proofs.Math.Nat.{mul-le-mul_right}
-use Rattle.cb_delay.specs.declared.message.Name.{Name}
+use Rattle.cb_times.specs.Group.{IsGroupSize, IsWindow}
+use Rattle.cb_times.specs.declared.name.Name.{Name}
 use Rattle.cb_delay.specs.declared.message.Message.{Message}
 use Rattle.cb_delay.specs.Message.{name_cmp, IsOfGroup}
-use Rattle.cb_delay.specs.Queue.{IsNew, HasReady, IsSmallestReady, IsHeld, IsFirst, count_of, FollowsLast}
+use Rattle.cb_delay.specs.Queue.{Queue, Holds, IsNew, HasReady, IsSmallestReady, IsHeld, IsFirst, count_of, FollowsLast}
 use Rattle.cb_delay.specs.Lists.{IsRun, AreLists, list_of, queue_of, entries_of, all_entries, HasSomeReady}
 use Rattle.cb_delay.proofs.Names.{names_total, exact_names}
 use Rattle.cb_delay.proofs.Runs.{found}
@@ -61,6 +62,10 @@ reserved-set window deques sender d reserved within room k x below =
           (reserved k x (omega (arith, below, length-set deques sender d)))
     ]
 
+-- a queue that is this one but for what it holds
+holds_now : {old new : Queue} {held : fin.FinMap name_cmp Message} → new ≡ record { size = old.size; window = old.window; held = held } → Holds old new held
+holds_now same = record { size = ap (λ (q : Queue). q.size) same; window = ap (λ (q : Queue). q.window) same; now_held = ap (λ (q : Queue). q.held) same }
+
 module _ (window : ℕ) (deques : List Deque) (kept : AreLists window (lists_of deques) × AreReserved window deques)
     (message : Message) (d : Deque) (here : d ≡ get_or deques message.name.sender d)
     (group : IsOfGroup (length (lists_of deques)) message)
@@ -93,13 +98,8 @@ module _ (window : ℕ) (deques : List Deque) (kept : AreLists window (lists_of 
       reserved-set window deques message.name.sender after kept.1 within (omega (arith, capacity, reserved_here)),
     )
 
-    pub hold_gives : queue_of window (lists_of (set deques message.name.sender after))
-        ≡ record {
-          size = length (lists_of deques);
-          window = window;
-          held = fin.insert (queue_of window (lists_of deques)).held message.name message;
-        }
-    hold_gives = ap (queue_of window) appended ∙ queue_holding window (lists_of deques) kept.0 message group room follows
+    pub hold_gives : Holds (queue_of window (lists_of deques)) (queue_of window (lists_of (set deques message.name.sender after))) (fin.insert (queue_of window (lists_of deques)).held message.name message)
+    hold_gives = holds_now (ap (queue_of window) appended ∙ queue_holding window (lists_of deques) kept.0 message group room follows)
 
 module _ (window : ℕ) (deques : List Deque) (kept : AreLists window (lists_of deques) × AreReserved window deques) (sender : ℕ)
     (within : sender < length deques) (d : Deque) (here : d ≡ get_or deques sender d) (after : Deque) where
@@ -134,20 +134,15 @@ module _ (window : ℕ) (deques : List Deque) (kept : AreLists window (lists_of 
   release_first (Some first) items = first_held window (lists_of deques) kept.0 sender first after.items (list_here ∙ items)
 
   pub release_takes : (taken : Option Message) → d.items ≡ option_to_list taken ++ after.items
-      → IfSome taken (λ first. queue_of window (lists_of (set deques sender after))
-      ≡ record {
-        size = length (lists_of deques);
-        window = window;
-        held = fin.remove (queue_of window (lists_of deques)).held first.name;
-      })
+      → IfSome taken (λ first. Holds (queue_of window (lists_of deques)) (queue_of window (lists_of (set deques sender after))) (fin.remove (queue_of window (lists_of deques)).held first.name))
   release_takes None items = tt
   release_takes (Some first) items =
-      ap (queue_of window) (lists_of-set deques sender after)
-      ∙ queue_releasing window (lists_of deques) kept.0 sender first after.items within_lists (list_here ∙ items)
+      holds_now (ap (queue_of window) (lists_of-set deques sender after)
+      ∙ queue_releasing window (lists_of deques) kept.0 sender first after.items within_lists (list_here ∙ items))
 
   pub release_same : (taken : Option Message) → d.items ≡ option_to_list taken ++ after.items
-      → IfNone taken (queue_of window (lists_of (set deques sender after)) ≡ queue_of window (lists_of deques))
-  release_same None items = ap (queue_of window) (unchanged items)
+      → IfNone taken (Holds (queue_of window (lists_of deques)) (queue_of window (lists_of (set deques sender after))) (queue_of window (lists_of deques)).held)
+  release_same None items = holds_now (ap (queue_of window) (unchanged items))
   release_same (Some first) items = tt
 
   pub release_none : (taken : Option Message) → (0 < deque_len d → IsSome taken)
@@ -195,8 +190,8 @@ few-held window deques are =
     λ k d below.
     let list = list_of-deques deques k (get_or deques k d) below (again deques k d below) in
     let items : length (list_of (lists_of deques) k) ≡ length (get_or deques k d).items = ap length list in
-    omega (arith, deque_len-items (get_or deques k d), items, are.room k, are.window_at_most) in
-    let few : length deques ≤ 64 = omega (arith, are.at_most_sixty_four, length-lists_of deques) in
+    omega (arith, deque_len-items (get_or deques k d), items, are.room k, are.width.at_most_widest) in
+    let few : length deques ≤ 64 = omega (arith, are.group.at_most_sixty_four, length-lists_of deques) in
     let most : length deques * 256 ≤ 64 * 256 = mul-le-mul_right 256 few in
     omega (arith, sum_by-le (λ (d : Deque). deque_len d) 256 deques each, most)
 
@@ -219,15 +214,12 @@ module _ (window : ℕ) (deques : List Deque) (fresh : AreFresh window deques) w
         | inr past ↦ get_or_past (lists_of deques) sender [] (omega (arith, past, length-lists_of deques))
       ]
 
-  pub new_keeps : 2 ≤ length deques → length deques ≤ 64 → 1 ≤ window → window ≤ 256
-      → AreLists window (lists_of deques) × AreReserved window deques
-  new_keeps two sixty_four one most =
+  pub new_keeps : IsGroupSize (length deques) → IsWindow window → AreLists window (lists_of deques) × AreReserved window deques
+  new_keeps group width =
       let same = length-lists_of deques in (
         record {
-          two_or_more = omega (arith, two, same);
-          at_most_sixty_four = omega (arith, sixty_four, same);
-          window_one_or_more = one;
-          window_at_most = most;
+          group = subst IsGroupSize (sym same) group;
+          width = width;
           runs = λ sender. subst (λ (l : List Message). IsRun (length (lists_of deques)) sender l) (sym (no_list sender)) (0, tt);
           room = λ sender. subst (λ (l : List Message). length l ≤ window) (sym (no_list sender)) (omega arith);
         },
@@ -259,7 +251,7 @@ a_deque (d ∷ deques) two = d
 
 module _ (window : ℕ) (deques : List Deque) (are : AreLists window (lists_of deques)) (now : List ℕ) where
   default : Deque
-  default = a_deque deques (omega (arith, are.two_or_more, length-lists_of deques))
+  default = a_deque deques (omega (arith, are.group.two_or_more, length-lists_of deques))
 
   list_at : (sender : ℕ) → sender < length deques → list_of (lists_of deques) sender ≡ (get_or deques sender default).items
   list_at sender below = list_of-deques deques sender (get_or deques sender default) below (again deques sender default below)

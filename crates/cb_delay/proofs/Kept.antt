@@ -7,7 +7,8 @@ use Rattle.std.specs.FinMap.Entries.{find-append}
 use Rattle.std.proofs.Math.ListN.{set, length-set}
 use Rattle.std.proofs.lemmas.List.{get_or-set_same, get_or-set_other, map-append, length-append}
 use Rattle.std.proofs.lemmas.Bool.Decides.{eqb_tells}
-use Rattle.cb_delay.specs.declared.message.Name.{Name}
+use Rattle.cb_times.specs.Group.{IsGroupSize}
+use Rattle.cb_times.specs.declared.name.Name.{Name}
 use Rattle.cb_delay.specs.declared.message.Message.{Message}
 use Rattle.cb_delay.specs.Message.{name_cmp, IsOfGroup}
 use Rattle.cb_delay.specs.Queue.{HasReady, IsHeld, count_of, IsFirst, FollowsLast, AreInARow, IsDelayQueue}
@@ -134,10 +135,8 @@ module _ (window : ℕ) (lists : List (List Message)) (are : AreLists window lis
   lists_with within run room =
       let same_length : length (set lists sender list) ≡ length lists = length-set lists sender list in
       record {
-        two_or_more = omega (arith, same_length, are.two_or_more);
-        at_most_sixty_four = omega (arith, same_length, are.at_most_sixty_four);
-        window_one_or_more = are.window_one_or_more;
-        window_at_most = are.window_at_most;
+        group = subst IsGroupSize (sym same_length) are.group;
+        width = are.width;
         runs = λ other. subst (λ (n : ℕ). IsRun n other (list_of (set lists sender list) other)) (sym same_length)
             (elim (eqb_tells other sender) [
               | inl at ↦

@@ -1,11 +1,12 @@
 -- How the plain queue keeps its messages: a list for each sender, in the order of the numbers.
 use Rattle.std.specs.Prelude.{◌≡◌, ℕ, suc, ◌≤◌, List, [], ◌∷◌, ◌++◌, length, map, slice_index_or, Any}
 use Rattle.std.specs.FinMap.{from_sorted}
-use Rattle.cb_delay.specs.declared.message.Name.{Name}
+use Rattle.cb_times.specs.declared.name.Name.{Name}
 use Rattle.cb_delay.specs.declared.message.Message.{Message}
 use Rattle.cb_delay.specs.Message.{IsOfGroup}
 use Rattle.cb_delay.specs.Queue.{Queue}
 use Rattle.cb_delay.specs.Rule.{IsReady}
+use Rattle.cb_times.specs.Group.{IsGroupSize, IsWindow}
 use Rattle.cb_times.specs.Order.{field}
 
 abbrev pub entries_of : List Message → List (Name × Message)
@@ -29,10 +30,8 @@ abbrev pub list_of : List (List Message) → ℕ → List Message
 list_of lists sender = slice_index_or lists sender []
 
 pub record AreLists (window : ℕ) (lists : List (List Message)) : Type 0 where
-  pub two_or_more : 2 ≤ length lists
-  pub at_most_sixty_four : length lists ≤ 64
-  pub window_one_or_more : 1 ≤ window
-  pub window_at_most : window ≤ 256
+  pub group : IsGroupSize (length lists)
+  pub width : IsWindow window
   pub runs : (sender : ℕ) → IsRun (length lists) sender (list_of lists sender)
   pub room : (sender : ℕ) → length (list_of lists sender) ≤ window
 

@@ -1,9 +1,9 @@
 -- What a delay queue holds.
-use Rattle.std.specs.Prelude.{◌≡◌, ℕ, ◌+◌, ◌==◌, ◌<◌, ◌≤◌, ◌↔◌, List, IsSome, Some, count_by, refl}
+use Rattle.std.specs.Prelude.{◌≡◌, ◌≢◌, ℕ, ◌+◌, ◌==◌, ◌<◌, ◌≤◌, ◌↔◌, List, IsSome, Some, count_by, refl}
 use Rattle.std.specs.Coded.{Coded, code_by, coded×, coded_list, coded_ℕ}
 use Rattle.std.specs.FinMap as map
 use Rattle.cb_times.specs.Order.{field}
-use Rattle.cb_delay.specs.declared.message.Name.{Name}
+use Rattle.cb_times.specs.declared.name.Name.{Name}
 use Rattle.cb_delay.specs.declared.message.Message.{Message}
 use Rattle.cb_delay.specs.Message.{name_cmp, IsOfGroup}
 use Rattle.cb_delay.specs.Rule.{IsReady}
@@ -20,14 +20,22 @@ pub record IsNew (size window : ℕ) (queue : Queue) : Type 0 where
   pub of_window : queue.window ≡ window
   pub empty : queue.held ≡ map.empty
 
--- the queue is the same to a caller
-pub record HoldsTheSame (old new : Queue) : Type 0 where
+-- the queue holds just this now, and nothing else has changed that a caller can see
+pub record Holds (old new : Queue) (held : map.FinMap name_cmp Message) : Type 0 where
   pub size : new.size ≡ old.size
   pub window : new.window ≡ old.window
-  pub held : new.held ≡ old.held
+  pub now_held : new.held ≡ held
 
 abbrev pub IsHeld : Queue → Message → Type 0
 IsHeld queue message = map.get queue.held message.name ≡ Some message
+
+-- this message was taken out, and nothing else
+abbrev pub Releases : Queue → Queue → Message → Type 0
+Releases old new message = Holds old new (map.remove old.held message.name)
+
+-- no message of this sender is held
+abbrev pub HoldsNoneOf : Queue → ℕ → Type 0
+HoldsNoneOf queue sender = (other : Message) → IsHeld queue other → other.name.sender ≢ sender
 
 -- how many messages of a sender are held
 abbrev pub count_of : Queue → ℕ → ℕ

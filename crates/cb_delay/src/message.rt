@@ -1,19 +1,10 @@
-//! A message of the group, with the name and the time that its sender gave it.
+//! A message of the group, with the name and the time that its sender gave it, and what a member does with it.
 //!
 //! Birman, Schiper and Stephenson 1991, section 5.
 ghost use Rattle.std.specs.Prelude.{◌≡◌, IfOk};
 
 use bytes::Bytes;
-use cb_times::{NoMemory, VectorTime};
-
-/// Which message it is: the message of this number by this member.
-///
-/// Members are numbered from 0, the messages of each from 1.
-#[derive(Clone, Copy, Debug, PartialEq, Eq, PartialOrd, Ord, Hash)]
-pub struct Name {
-    pub sender: u32,
-    pub number: u32,
-}
+use cb_times::{Name, NoMemory, VectorTime};
 
 /// A message as it is delivered.
 #[derive(Debug, Drop)]
@@ -37,4 +28,13 @@ impl Message {
             payload: self.payload.clone()?,
         })
     }
+}
+
+/// What a member did with a message.
+#[derive(Debug, Drop)]
+pub enum Event {
+    /// It cast the message, which counts as delivered to itself.
+    Cast(Message),
+    /// It delivered the message of another member.
+    Deliver(Message),
 }

@@ -3,9 +3,10 @@ ghost use Rattle.std.specs.Prelude.{◌≡◌, ◌+◌, ◌<◌, ◌≤◌, ◌�
 ghost use Rattle.std.specs.Bool.{OnTrue, OnFalse};
 ghost use Rattle.std.specs.FinMap as map;
 ghost use Rattle.std.specs.VecDeque.{deque_len};
+ghost use Rattle.cb_times.specs.Group.{IsGroupSize, IsWindow};
 ghost use Rattle.cb_times.specs.Order.{field};
 ghost use Rattle.cb_delay.specs.Message.{IsOfGroup};
-ghost use Rattle.cb_delay.specs.Queue.{IsNew, HoldsTheSame, IsHeld, IsDelayQueue, IsFirst, IsSmallestReady, HasReady, FollowsLast, count_of};
+ghost use Rattle.cb_delay.specs.Queue.{IsNew, Holds, Releases, HoldsNoneOf, IsHeld, IsDelayQueue, IsFirst, IsSmallestReady, HasReady, FollowsLast, count_of};
 ghost use Rattle.cb_delay.specs.Rule.{IsReady};
 ghost use Rattle.cb_delay.specs.Lists.{HasSomeReady};
 ghost use Rattle.std.specs.List.{HoldsAt, AllWithin};
@@ -56,10 +57,8 @@ impl Model for DelayQueue {
 impl DelayQueue {
     /// A queue that holds nothing, for a group of `size` members and `window` messages of each.
     pub fn new(alloc: Global, size: u32, window: u32) -> Result<DelayQueue, NoMemory>
-        requires two_or_more { 2 ≤ size }
-        requires at_most_sixty_four { size ≤ 64 }
-        requires window_one_or_more { 1 ≤ window }
-        requires window_at_most { window ≤ 256 }
+        requires group { IsGroupSize size }
+        requires window { IsWindow window }
         ensures { IfOk result (IsNew size window) }
     {
         let mut lists = Vec::with_capacity(alloc, size as usize)?;
@@ -77,7 +76,7 @@ impl DelayQueue {
         requires of_group { IsOfGroup self.old.size message }
         requires room { count_of self.old message.name.sender < self.old.window }
         requires next { FollowsLast self.old message.name }
-        ensures { self.new ≡ record self.old { held = map.insert self.old.held message.name message } }
+        ensures { Holds self.old self.new (map.insert self.old.held message.name message) }
     {
         let list = &mut self.lists[message.name.sender as usize];
         list.push_back_reserved(message);
@@ -91,7 +90,7 @@ impl DelayQueue {
         requires { length now.now ≡ self.old.size }
         ensures some { IfSome result (IsSmallestReady self.old now.now) }
         ensures none { IfNone result ((sender : ℕ) → ¬ HasReady self.old now.now sender) }
-        ensures same { HoldsTheSame self.old self.new }
+        ensures same { Holds self.old self.new self.old.held }
         ensures queue { IsDelayQueue self.old }
     {
         let sender = first_ready(&self.lists, now)?;
@@ -101,9 +100,9 @@ impl DelayQueue {
     /// Takes out the message of this sender with the smallest number, where one is held.
     pub fn release(&mut self, sender: u32) -> Option<Message>
         ensures first { IfSome result (IsFirst self.old sender) }
-        ensures taken { IfSome result (λ first. self.new ≡ record self.old { held = map.remove self.old.held first.name }) }
-        ensures none { IfNone result ((other : Message) → IsHeld self.old other → other.name.sender ≢ sender) }
-        ensures same { IfNone result (self.new ≡ self.old) }
+        ensures taken { IfSome result (Releases self.old self.new) }
+        ensures none { IfNone result (HoldsNoneOf self.old sender) }
+        ensures same { IfNone result (Holds self.old self.new self.old.held) }
     {
         self.lists.get_mut(sender as usize)?.pop_front()
     }
@@ -126,8 +125,10 @@ fn total_len(lists: &[VecDeque<Message>]) -> usize
 
 fn first_ready(lists: &[VecDeque<Message>], now: &VectorTime) -> Option<usize>
     requires { All (λ list. All (IsOfGroup (length now.now)) list.items) lists.now }
-    ensures { MatchOption result (AllWithin (λ list. ¬ HasSomeReady now.now list.items) lists.now 0 (length lists.now))
-        (λ sender. (sender < length lists.now) × HoldsAt (λ list. HasSomeReady now.now list.items) lists.now sender
+    ensures { MatchOption result
+        (AllWithin (λ list. ¬ HasSomeReady now.now list.items) lists.now 0 (length lists.now))
+        (λ sender. (sender < length lists.now)
+        × HoldsAt (λ list. HasSomeReady now.now list.items) lists.now sender
         × AllWithin (λ list. ¬ HasSomeReady now.now list.items) lists.now 0 sender) }
 {
     lists.iter().position(|list| any_ready(list, now))
@@ -142,7 +143,8 @@ fn any_ready(list: &VecDeque<Message>, now: &VectorTime) -> bool
 
 fn is_ready(message: &Message, now: &VectorTime) -> bool
     requires { IsOfGroup (length now.now) message.now }
-    ensures { IsTrue result ↔ IsReady message.now.name.sender (field message.now.time) (field now.now) }
+    ensures { IsTrue result
+        ↔ IsReady message.now.name.sender (field message.now.time) (field now.now) }
 {
     let sender = message.name.sender;
     for k in 0..now.size() {

@@ -1,13 +1,13 @@
 -- The loop that adds increments to a time.
 use Rattle.std.proofs.Common.{◌≡◌, ℕ, ◌+◌, ◌<◌, ◌≤◌, cond, eqb, List, [], length, take, get_or, set, min, refl, sym, ap, subst, ◌∙◌, arith, inl, inr}
 use Rattle.std.proofs.lemmas.Bool.{cases_eq, eq-eqb, ne_eqb}
-use Rattle.std.proofs.lemmas.List.{length-set, get_or-set_same, get_or-set_other, take_all, ext_get_or, get_or_default}
+use Rattle.std.proofs.lemmas.List.{length-set, get_or-set_same, get_or-set_other, set-get_or, take_all, ext_get_or, get_or_default}
 use Rattle.std.proofs.lemmas.List.Sums.{sum_by_more}
 use Rattle.cb_times.specs.Order.{field}
 use Rattle.cb_times.specs.Time.{IsTime}
 use Rattle.cb_frames.specs.declared.frame.Change.{Change}
-use Rattle.cb_frames.specs.Fields.{CastFields, growth_in}
-use Rattle.cb_diffs.specs.Expansion.{greatest, AreMembers, IsGrown, Expands, time_of}
+use Rattle.cb_frames.specs.Fields.{CastFields, first_number, growth_in}
+use Rattle.cb_diffs.specs.Expansion.{greatest, AreMembers, IsGrown, Expands, time_of, kept_time}
 
 -- what the loop knows after some changes
 pub record GrownSoFar (old new : List ℕ) (changes : List Change) (i : ℕ) : Type 0 where
@@ -61,6 +61,10 @@ grown_once old a b c p q = ext_get_or 0 a b (p.size ∙ sym q.size) (λ k lt. el
 read_there : (times : List (List ℕ)) (i : ℕ) (read : List ℕ) → i < length times → read ≡ get_or times i read → read ≡ time_of times i
 read_there times i read lt e = e ∙ get_or_default times i read [] lt
 
+-- a cast has one message, so what is kept of its time is its time
+pub kept_is_given : (c : CastFields) (time : List ℕ) → field time c.sender ≡ first_number c → kept_time c time ≡ time
+kept_is_given c time own = ap (set time c.sender) (sym own) ∙ set-get_or time c.sender 0
+
 -- the time that was given and the one that is kept, which grew apart, are one
 pub expands : (times : List (List ℕ)) (c : CastFields) (before given kept grown grown' : List ℕ) → AreMembers (length times) c
     → before ≡ get_or times c.sender before → c.number ≡ field before c.sender + 1
@@ -76,5 +80,5 @@ expands times c before given kept grown grown' members at_before next at_given g
       members = members;
       next = next ∙ ap (λ (t : List ℕ). field t c.sender + 1) before_is;
       grown = g-there;
-      kept = ap (set times c.sender) (grown_once (time_of times c.sender) grown' grown c k-there g-there);
+      kept = ap (set times c.sender) (grown_once (time_of times c.sender) grown' grown c k-there g-there ∙ sym (kept_is_given c grown g-there.own));
     }

@@ -1,4 +1,5 @@
 pub mod Growing
+pub mod Repeats
 pub mod Returning
 pub mod Sums
 pub mod Telling

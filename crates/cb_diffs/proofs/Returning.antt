@@ -13,6 +13,7 @@ use Rattle.cb_frames.specs.Fields.{CastFields, first_number, growth_in}
 use Rattle.cb_diffs.specs.Differences.{change_of, is_told, differences}
 use Rattle.cb_diffs.specs.Expansion.{expanded_time, time_of, Expands, ExpandsAll}
 use Rattle.cb_diffs.specs.Returning.{IsLater, AreSendersTimes, TellsDifference, TellDifferences, DifferencesExpandBack, DifferencesAddUp}
+use Rattle.cb_diffs.proofs.Growing.{kept_is_given}
 use Rattle.cb_diffs.proofs.Sums.{times_are_sums}
 
 -- ---- what the differences say of one field
@@ -91,6 +92,7 @@ expands_back : (size sender number : ℕ) (previous time : List ℕ) (c : CastFi
     → Expands kept c time (set kept sender time)
 expands_back size sender number previous time c kept member ready later tells =
     let last : time_of kept c.sender ≡ previous = ap (time_of kept) tells.sent_by ∙ ready.last in
+    let own : field time c.sender ≡ first_number c = ap (field time) tells.sent_by ∙ later.own ∙ sym tells.numbered in
     record {
       members = record {
         sender = omega (arith, tells.sent_by, ready.senders);
@@ -99,13 +101,13 @@ expands_back size sender number previous time c kept member ready later tells =
       next = rw (last, tells.sent_by) (tells.numbered ∙ ready.next);
       grown = rw last (record {
         size = later.has_size ∙ sym ready.fields;
-        own = ap (field time) tells.sent_by ∙ later.own ∙ sym tells.numbered;
+        own = own;
         others = λ k lt ne.
             let other : k ≢ sender = λ e. ne (e ∙ sym tells.sent_by) in
             let growth : growth_in c.changes k ≡ field time k - field previous k = ap (λ (ds : List Change). growth_in ds k) tells.changes ∙ growth_in-differences previous time sender k (omega (arith, later.has_size, ready.fields)) other in
             omega (arith, growth, later.grown k, later.in_range k);
       });
-      kept = ap (λ (j : ℕ). set kept j time) (sym tells.sent_by);
+      kept = ap (λ (j : ℕ). set kept j time) (sym tells.sent_by) ∙ ap (set kept c.sender) (sym (kept_is_given c time own));
     }
 
 ready_again : (size sender number : ℕ) (previous time : List ℕ) (kept : List (List ℕ)) → sender < size → IsReady size sender number previous kept → IsLater size sender number previous time → IsReady size sender (number + 1) time (set kept sender time)

@@ -1,5 +1,5 @@
 -- The kept times are sums over all frames.
-use Rattle.std.proofs.Common.{◌≡◌, ◌≢◌, ℕ, ◌+◌, ◌<◌, ◌≤◌, cond, eqb, leb, List, [], ◌∷◌, ◌++◌, length, min, max, replicate, refl, sym, ap, subst, ◌∙◌, arith, inl, inr, append_assoc}
+use Rattle.std.proofs.Common.{◌≡◌, ◌≢◌, ℕ, ◌+◌, ◌<◌, ◌≤◌, cond, eqb, leb, List, [], ◌∷◌, ◌++◌, length, set, min, max, replicate, refl, sym, ap, subst, ◌∙◌, arith, inl, inr, append_assoc}
 use Rattle.std.specs.List.{AllByRecursion, sum_by, zip}
 use Rattle.std.proofs.lemmas.Bool.{cases_eq, eq-eqb, ne_eqb, le-leb, lt-leb, and_left, and_right}
 use Rattle.std.proofs.lemmas.List.{length-set, get_or-set_same, get_or-set_other, get_or-replicate, length-replicate, ext_get_or}
@@ -8,6 +8,7 @@ use Rattle.std.proofs.lemmas.List.FromFn.{get_or-map-range_with_len, length-map-
 use Rattle.cb_times.specs.Order.{field}
 use Rattle.cb_frames.specs.Fields.{CastFields, first_number, last_number, growth_in}
 use Rattle.cb_diffs.specs.Expansion.{greatest, growth_of, expanded_field, expanded_time, last_in, time_of, ExpandsAll}
+use Rattle.cb_diffs.proofs.Growing.{kept_is_given}
 use Rattle.cb_diffs.specs.Laws.{IsKept, NothingIsKept, ExpandingIsSumming, TimesAreSums}
 
 abbrev total : List CastFields → ℕ → ℕ → ℕ → ℕ
@@ -89,6 +90,7 @@ min_of_min a b = omega arith
 pub expanding_is_summing : ExpandingIsSumming
 expanding_is_summing size casts c time old new s e =
     let member : c.sender < size = omega (arith, e.members.sender, s.senders) in
+    let kept_there : new ≡ set old c.sender time = e.kept ∙ ap (set old c.sender) (kept_is_given c time e.grown.own) in
     let next : first_number c ≡ last_in casts c.sender + 1 = e.next ∙ ap (λ (n : ℕ). n + 1) (s.own c.sender member) in
     let time_size : length time ≡ size = e.grown.size ∙ s.sizes c.sender member in
     let grown : (k : ℕ) → k < size → k ≢ c.sender → field time k ≡ min greatest (total (casts ++ c ∷ []) c.sender (first_number c) k) = λ k lt ne.
@@ -96,8 +98,8 @@ expanding_is_summing size casts c time old new s e =
     let before = s.others c.sender k member lt ne in
     e.grown.others k (omega (arith, s.sizes c.sender member)) ne ∙ ap (λ (n : ℕ). min greatest (n + growth_in c.changes k)) before
     ∙ min_of_min (total casts c.sender (last_in casts c.sender) k) (growth_in c.changes k) ∙ ap (min greatest) (sym up_to) in
-    let there : time_of new c.sender ≡ time = ap (λ (ts : List (List ℕ)). time_of ts c.sender) e.kept ∙ get_or-set_same old c.sender time [] (omega (arith, s.senders)) in
-    let elsewhere : (j : ℕ) → c.sender ≢ j → time_of new j ≡ time_of old j = λ j ne. ap (λ (ts : List (List ℕ)). time_of ts j) e.kept ∙ get_or-set_other old c.sender j time [] (λ h. ne (sym h)) in
+    let there : time_of new c.sender ≡ time = ap (λ (ts : List (List ℕ)). time_of ts c.sender) kept_there ∙ get_or-set_same old c.sender time [] (omega (arith, s.senders)) in
+    let elsewhere : (j : ℕ) → c.sender ≢ j → time_of new j ≡ time_of old j = λ j ne. ap (λ (ts : List (List ℕ)). time_of ts j) kept_there ∙ get_or-set_other old c.sender j time [] (λ h. ne (sym h)) in
     let last : last_in (casts ++ c ∷ []) c.sender ≡ first_number c = last_in-own casts c ∙ omega (arith, next) in
     record {
       next = next;
@@ -109,7 +111,7 @@ expanding_is_summing size casts c time old new s e =
             | inr ne ↦ grown k in_size ne ∙ sym (right ∙ rw (ne_eqb k c.sender ne) refl)
           ]);
       kept = record {
-        senders = ap length e.kept ∙ length-set old c.sender time ∙ s.senders;
+        senders = ap length kept_there ∙ length-set old c.sender time ∙ s.senders;
         sizes = λ j lt. elim (cases_eq c.sender j) [
           | inl h ↦ ap (λ (i : ℕ). length (time_of new i)) (sym h) ∙ ap length there ∙ time_size
           | inr ne ↦ ap length (elsewhere j ne) ∙ s.sizes j lt

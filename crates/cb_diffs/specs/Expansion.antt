@@ -1,12 +1,14 @@
 -- The time of a cast from the increments of its sender's frames.
-use Rattle.std.specs.Prelude.{◌≡◌, ◌≢◌, ℕ, ◌+◌, ◌<◌, ◌≤◌, ◌&&◌, All, List, [], ◌∷◌, length, map, max, min, slice_index_or, slice_set, nat_le, ◌==◌, if◌then◌else◌}
+use Rattle.std.specs.Prelude.{◌≡◌, ◌≢◌, ℕ, ◌+◌, ◌<◌, ◌&&◌, All, List, [], ◌∷◌, length, map, max, min, slice_index_or, slice_set, nat_le, ◌==◌, if◌then◌else◌}
 use Rattle.std.specs.List.{sum_by, range_with_len}
+use Rattle.cb_times.specs.Group.{IsGroupSize}
 use Rattle.cb_times.specs.Order.{field}
+use Rattle.cb_frames.specs.declared.frame.TheConstants.{LAST_NUMBER}
 use Rattle.cb_frames.specs.Fields.{CastFields, first_number, last_number, growth_in}
 
 -- the greatest number, at which a field stays
 abbrev pub greatest : ℕ
-greatest = 4294967295
+greatest = LAST_NUMBER
 
 -- ---- the expanded time
 
@@ -36,8 +38,7 @@ time_of times sender = slice_index_or times sender []
 
 -- one time for each member, each with a field for each
 pub record AreTimes (times : List (List ℕ)) : Type 0 where
-  pub two_or_more : 2 ≤ length times
-  pub at_most_sixty_four : length times ≤ 64
+  pub group : IsGroupSize (length times)
   pub sizes : All (λ t. length t ≡ length times) times
 
 -- the sender and the changed fields are members of a group of this size
@@ -45,10 +46,10 @@ pub record AreMembers (size : ℕ) (c : CastFields) : Type 0 where
   pub sender : c.sender < size
   pub changes : All (λ d. d.field < size) c.changes
 
--- the new time is the old one with what the cast adds, and the cast's number as the sender's field
+-- The new time is the old one with what the cast adds. It is the time of the first message of the cast.
 pub record IsGrown (old : List ℕ) (c : CastFields) (new : List ℕ) : Type 0 where
   pub size : length new ≡ length old
-  pub own : field new c.sender ≡ last_number c
+  pub own : field new c.sender ≡ first_number c
   pub others : (k : ℕ) → k < length old → k ≢ c.sender → field new k ≡ min greatest (field old k + growth_in c.changes k)
 
 -- the number that the sender's next cast would have
@@ -60,12 +61,26 @@ pub record IsNext (times : List (List ℕ)) (c : CastFields) : Type 0 where
   pub members : AreMembers (length times) c
   pub next : first_number c ≡ field (time_of times c.sender) c.sender + 1
 
--- the cast is its sender's next one, `time` is its time, and is kept in place of the sender's time before
+-- and why it may not be: a member is strange, or the number is not the next one
+abbrev pub IsStrange : List (List ℕ) → CastFields → Type 0
+IsStrange times c = ¬ AreMembers (length times) c
+
+pub record IsNotNext (times : List (List ℕ)) (c : CastFields) (expected found : ℕ) : Type 0 where
+  pub members : AreMembers (length times) c
+  pub not_next : first_number c ≢ field (time_of times c.sender) c.sender + 1
+  pub expected_is : expected ≡ expected_number (time_of times c.sender) c.sender
+  pub found_is : found ≡ first_number c
+
+-- what is kept of the time of a cast's first message: it counts the cast's last one
+abbrev pub kept_time : CastFields → List ℕ → List ℕ
+kept_time c time = slice_set time c.sender (last_number c)
+
+-- the cast is its sender's next one, `time` is its time, and what is kept of it takes the place of the sender's time before
 pub record Expands (old : List (List ℕ)) (c : CastFields) (time : List ℕ) (new : List (List ℕ)) : Type 0 where
   pub members : AreMembers (length old) c
   pub next : first_number c ≡ field (time_of old c.sender) c.sender + 1
   pub grown : IsGrown (time_of old c.sender) c time
-  pub kept : new ≡ slice_set old c.sender time
+  pub kept : new ≡ slice_set old c.sender (kept_time c time)
 
 -- ---- many expansions
 

@@ -1,7 +1,7 @@
 -- The way back: the times of a sender's casts, from the differences of each and the one before.
 use Rattle.std.specs.Prelude.{◌≡◌, ℕ, ◌+◌, ◌<◌, ◌^◌, List, [], ◌∷◌, length, replicate, slice_index_or}
 use Rattle.cb_times.specs.Order.{field, AtMost}
-use Rattle.cb_frames.specs.Fields.{CastFields}
+use Rattle.cb_frames.specs.Fields.{CastFields, first_number}
 use Rattle.cb_diffs.specs.Differences.{differences}
 use Rattle.cb_diffs.specs.Expansion.{expanded_time, ExpandsAll}
 
@@ -20,7 +20,7 @@ AreSendersTimes size sender number previous (time ∷ times) = IsLater size send
 -- the frame of a sender's message of that number, where its time is `time` and that of the message before `previous`
 pub record TellsDifference (sender number : ℕ) (previous time : List ℕ) (c : CastFields) : Type 0 where
   pub sent_by : c.sender ≡ sender
-  pub numbered : c.number ≡ number
+  pub numbered : first_number c ≡ number
   pub changes : c.changes ≡ differences previous time sender
 
 -- one frame for each of these times

@@ -11,7 +11,7 @@ use std::alloc::Global;
 /// The fields other than `own` that grew from `previous` to `now`, in rising order, each with its growth.
 ///
 /// These are the changes of a cast of member `own` whose time is `now`, where its cast before had the time `previous`,
-/// or all zeros if there is none. The only error is a refused growth.
+/// or all zeros if there is none. The only error is out of memory.
 pub fn difference(
     alloc: Global,
     previous: &VectorTime,

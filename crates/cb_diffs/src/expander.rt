@@ -1,16 +1,19 @@
 //! From the increments in cast frames back to the time of each cast.
 
-ghost use Rattle.std.specs.Prelude.{◌≡◌, ◌≢◌, ◌+◌, ◌≤◌, ◌<◌, ℕ, List, min, length, replicate, IfOk, OnErr, OnOk, IsTrue, ◌↔◌, Err};
+ghost use Rattle.std.specs.Prelude.{◌≡◌, ◌≢◌, ◌+◌, ◌≤◌, ◌<◌, ℕ, List, min, length, replicate, IfOk, OnErr, OnOk, IsTrue, ◌↔◌, Err, Some};
 ghost use Rattle.std.specs.List.{AllByRecursion};
-ghost use Rattle.cb_times.specs.Order.{field};
+ghost use Rattle.cb_times.specs.Group.{IsGroupSize};
 ghost use Rattle.cb_times.specs.Time.{IsTime};
 ghost use Rattle.cb_frames.specs.Fields.{cast_fields};
-ghost use Rattle.cb_diffs.specs.Expansion.{AreMembers, IsGrown, IsNext, Expands, time_of, expected_number};
-ghost use Rattle.cb_diffs.specs.declared.expander.ExpandFault.TheVariants.{NoMemory as WantsMemory};
+ghost use Rattle.cb_diffs.specs.Expansion.{AreMembers, IsGrown, IsNext, IsNotNext, IsStrange, Expands};
+ghost use Rattle.cb_diffs.specs.FaultText.{expand_fault_text};
+ghost use Rattle.cb_diffs.specs.declared.expander.ExpandFault.TheVariants.{NoMemory as OutOfMemory};
 
 use cb_frames::Cast;
 use cb_times::{NoMemory, VectorTime};
 use std::alloc::Global;
+use std::error::Error;
+use std::fmt;
 use std::marker::Model;
 
 /// Why a cast was not expanded. The expander is as it was.
@@ -20,12 +23,28 @@ pub enum ExpandFault {
     BadMember,
     /// The cast is not the sender's next one. After number 4,294,967,295 no cast is.
     NotNext { expected: u32, found: u32 },
-    /// A growth was refused.
+    /// Out of memory.
     NoMemory,
 }
 
+impl fmt::Display for ExpandFault {
+    ghost output = { λ fault. Some (expand_fault_text fault) };
+
+    fn fmt<W: fmt::Write>(&self, f: &mut fmt::Formatter<W>) -> fmt::Result {
+        match self {
+            ExpandFault::BadMember => f.write_str("BadMember"),
+            ExpandFault::NotNext { expected, found } => {
+                write!(f, "NotNext expected {expected} found {found}")
+            }
+            ExpandFault::NoMemory => f.write_str("NoMemory"),
+        }
+    }
+}
+
+impl Error for ExpandFault {}
+
 impl From<NoMemory> for ExpandFault {
-    ghost from_gives = { λ _ e. e ≡ WantsMemory };
+    ghost from_gives = { λ _ e. e ≡ OutOfMemory };
 
     fn from(_refused: NoMemory) -> ExpandFault {
         ExpandFault::NoMemory
@@ -54,8 +73,7 @@ impl Model for Expander {
 impl Expander {
     /// For a group of that many members, none of whose casts were expanded.
     pub fn new(alloc: Global, size: u32) -> Result<Expander, NoMemory>
-        requires two_or_more { 2 ≤ size }
-        requires at_most_sixty_four { size ≤ 64 }
+        requires { IsGroupSize size }
         ensures { IfOk result (λ e. e ≡ replicate size (replicate size 0)) }
     {
         let mut times = Vec::new(alloc);
@@ -68,11 +86,11 @@ impl Expander {
     /// The time of the sender's next cast. The faults come in the order in which they are listed, and change nothing.
     pub fn expand(&mut self, cast: &Cast) -> Result<VectorTime, ExpandFault>
         ensures ok { IfOk result (λ time. Expands self.old (cast_fields cast.now) time self.new) }
-        ensures bad_member { (result ≡ Err ExpandFault.BadMember) ↔ ¬ AreMembers (length self.old) (cast_fields cast.now) }
-        ensures not_next { (expected found : ℕ) → (result ≡ Err (ExpandFault.NotNext expected found))
-            ↔ (AreMembers (length self.old) (cast_fields cast.now)
-            × (cast.now.number ≢ field (time_of self.old cast.now.sender) cast.now.sender + 1)
-            × (expected ≡ expected_number (time_of self.old cast.now.sender) cast.now.sender) × (found ≡ cast.now.number)) }
+        ensures bad_member { (result ≡ Err ExpandFault.BadMember)
+            ↔ IsStrange self.old (cast_fields cast.now) }
+        ensures not_next { (expected found : ℕ)
+            → (result ≡ Err (ExpandFault.NotNext expected found))
+            ↔ IsNotNext self.old (cast_fields cast.now) expected found }
         ensures err { OnErr result (self.new ≡ self.old) }
     {
         self.check_next(cast)?;
@@ -87,11 +105,11 @@ impl Expander {
     pub fn expand_into(&mut self, cast: &Cast, into: &mut VectorTime) -> Result<(), ExpandFault>
         requires { length into.old ≡ length self.old }
         ensures ok { OnOk result (Expands self.old (cast_fields cast.now) into.new self.new) }
-        ensures bad_member { (result ≡ Err ExpandFault.BadMember) ↔ ¬ AreMembers (length self.old) (cast_fields cast.now) }
-        ensures not_next { (expected found : ℕ) → (result ≡ Err (ExpandFault.NotNext expected found))
-            ↔ (AreMembers (length self.old) (cast_fields cast.now)
-            × (cast.now.number ≢ field (time_of self.old cast.now.sender) cast.now.sender + 1)
-            × (expected ≡ expected_number (time_of self.old cast.now.sender) cast.now.sender) × (found ≡ cast.now.number)) }
+        ensures bad_member { (result ≡ Err ExpandFault.BadMember)
+            ↔ IsStrange self.old (cast_fields cast.now) }
+        ensures not_next { (expected found : ℕ)
+            → (result ≡ Err (ExpandFault.NotNext expected found))
+            ↔ IsNotNext self.old (cast_fields cast.now) expected found }
         ensures never_for_memory { result ≢ Err ExpandFault.NoMemory }
         ensures err { OnErr result ((self.new ≡ self.old) × (into.new ≡ into.old)) }
         ensures size { length into.new ≡ length self.new }
@@ -103,11 +121,11 @@ impl Expander {
 
     fn check_next(&self, cast: &Cast) -> Result<(), ExpandFault>
         ensures ok { OnOk result (IsNext self.now (cast_fields cast.now)) }
-        ensures bad_member { (result ≡ Err ExpandFault.BadMember) ↔ ¬ AreMembers (length self.now) (cast_fields cast.now) }
-        ensures not_next { (expected found : ℕ) → (result ≡ Err (ExpandFault.NotNext expected found))
-            ↔ (AreMembers (length self.now) (cast_fields cast.now)
-            × (cast.now.number ≢ field (time_of self.now cast.now.sender) cast.now.sender + 1)
-            × (expected ≡ expected_number (time_of self.now cast.now.sender) cast.now.sender) × (found ≡ cast.now.number)) }
+        ensures bad_member { (result ≡ Err ExpandFault.BadMember)
+            ↔ IsStrange self.now (cast_fields cast.now) }
+        ensures not_next { (expected found : ℕ)
+            → (result ≡ Err (ExpandFault.NotNext expected found))
+            ↔ IsNotNext self.now (cast_fields cast.now) expected found }
         ensures never_for_memory { result ≢ Err ExpandFault.NoMemory }
     {
         if !are_members(self.times.len(), cast) {
@@ -131,20 +149,9 @@ impl Expander {
         ensures size { length into.new ≡ length self.new }
     {
         let sender = cast.sender as usize;
-        copy_fields(into, &self.times[sender]);
+        into.copy_from(&self.times[sender]);
         grow(into, cast);
-        copy_fields(&mut self.times[sender], into);
-    }
-}
-
-/// Makes a time the same as another of its size.
-fn copy_fields(time: &mut VectorTime, from: &VectorTime)
-    requires { length time.old ≡ length from.now }
-    ensures copied { time.new ≡ from.now }
-    ensures time { IsTime from.now }
-{
-    for k in 0..from.size() {
-        time.set(k, from.get(k));
+        self.times[sender].copy_from(into);
     }
 }
 

@@ -9,7 +9,7 @@ mod laws;
 
 pub use differences::difference;
 pub use expander::{ExpandFault, Expander};
-pub use laws::{differences_expand_back, expanding_is_summing};
+pub use laws::{differences_expand_back, expanding_is_summing, repeats_count_once};
 
 #[cfg(test)]
 mod tests;

@@ -1,19 +1,15 @@
-ghost use Rattle.std.specs.Prelude.{◌≡◌, ◌≤◌, length};
+ghost use Rattle.std.specs.Prelude.{◌≡◌, length};
+ghost use Rattle.cb_times.specs.Group.{IsGroupSize};
 
 use super::*;
 use bytes::Bytes;
 use cb_frames::{Cast, Change};
-use cb_times::{TimeOrder, VectorTime};
-use std::alloc::{AllocError, Global};
+use cb_times::{NoMemory, TimeOrder, VectorTime};
+use std::alloc::Global;
 use std::process::Abort;
 use std::test::Fail;
 
-fn cast(
-    alloc: Global,
-    sender: u32,
-    number: u32,
-    changes: &[(u32, u32)],
-) -> Result<Cast, AllocError> {
+fn cast(alloc: Global, sender: u32, number: u32, changes: &[(u32, u32)]) -> Result<Cast, NoMemory> {
     let mut grown = Vec::new(alloc);
     for (field, amount) in changes {
         grown.push(Change {
@@ -77,9 +73,8 @@ fn refuses(
     shows(rt, alloc, into, before.as_str());
 }
 
-fn time_of(alloc: Global, fields: &[u32]) -> Result<VectorTime, AllocError>
-    requires two_or_more { 2 ≤ length fields.now }
-    requires at_most_sixty_four { length fields.now ≤ 64 }
+fn time_of(alloc: Global, fields: &[u32]) -> Result<VectorTime, NoMemory>
+    requires { IsGroupSize (length fields.now) }
 {
     let mut time = VectorTime::zero(alloc, fields.len() as u32)?;
     for (k, count) in (0..time.size()).zip(fields) {
@@ -286,6 +281,28 @@ fn a_filled_field_stays_at_the_greatest_number(rt: HostRuntime) -> Result<(), Fa
         &mut into,
         &second,
         "[4294967295,2,0]",
+    );
+    Ok(())
+}
+
+#[test]
+fn a_fault_prints_its_name_and_its_numbers(rt: HostRuntime) -> Result<(), Fail> {
+    let alloc = rt.alloc();
+    let not_next = ExpandFault::NotNext {
+        expected: 3,
+        found: 4_294_967_295,
+    };
+    assert_eq!(rt;
+        ExpandFault::BadMember.to_string(alloc)?.as_str(),
+        "BadMember"
+    );
+    assert_eq!(rt;
+        not_next.to_string(alloc)?.as_str(),
+        "NotNext expected 3 found 4294967295"
+    );
+    assert_eq!(rt;
+        ExpandFault::NoMemory.to_string(alloc)?.as_str(),
+        "NoMemory"
     );
     Ok(())
 }

@@ -1,6 +1,6 @@
 -- What decoding answers, from what reading gives.
 use Rattle.std.proofs.Common.{◌≡◌, ℕ, ◌+◌, ◌-◌, ◌≤◌, List, [], ◌∷◌, ◌++◌, length, drop, Result, Ok, Err, MatchResult, refl, sym, ap, subst, ◌∙◌, arith, inl, inr, ◌⊎◌, suc, get_or, ◌<◌}
-use Rattle.std.specs.Prelude.{IfOk}
+use Rattle.std.specs.Prelude.{IfOk, IfErr}
 use Rattle.std.proofs.lemmas.Bool.{eq-eqb}
 use Rattle.std.proofs.lemmas.List.{length-append, drop_at, append-nil}
 use Rattle.cb_frames.specs.declared.frame.Frame.{Frame}
@@ -10,8 +10,8 @@ use Rattle.cb_frames.specs.Fields.{CastFields, FrameFields, fields_of}
 use Rattle.cb_frames.specs.Text.{cast_kind, status_kind, request_kind, IsText}
 use Rattle.cb_frames.specs.Fault.{FirstFault}
 use Rattle.cb_frames.specs.Reading.{cast_at, status_at, request_at, frame_at, Gives, Fails}
-use Rattle.cb_frames.specs.Laws.{EachIsTextOrFault, ReadingIsExact}
-use Rattle.cb_frames.proofs.Fronts.{IsBytes}
+use Rattle.cb_frames.specs.Laws.{EachIsTextOrFault, MayFail, ReadingIsExact}
+use Rattle.cb_varint.proofs.Fronts.{IsBytes}
 use Rattle.cb_frames.proofs.Outcome.{CastOutcome, cast_outcome, FrameOutcome, frame_outcome}
 use Rattle.cb_frames.proofs.Unique.{none_begins_another, text_has_no_fault, one_first_fault}
 
@@ -82,6 +82,17 @@ answers_found bytes (Ok frame) f fits given text =
     let found : frame_at bytes ≡ Ok (fields_of frame) = given in
     cc
 answers_found bytes (Err e) f fits given text = no_memory e f (frame_at bytes) (text_is_read bytes f fits text) given
+
+-- reading that has a value finds a text
+refused_is : (bytes : List ℕ) (e : FrameFault) (read : Result FrameFields FrameFault) → frame_at bytes ≡ read → IsBytes bytes → Fails e read → MayFail bytes e
+refused_is bytes e (Ok f) is fits (inl other) = absurd cc
+refused_is bytes e (Ok f) is fits (inr want) = inr (want.0, (f, (reading_is_exact.text bytes f fits).0 is))
+refused_is bytes e (Err d) is fits (inl same) = inl ((reading_is_exact.fault bytes e fits).0 (is ∙ same))
+refused_is bytes e (Err d) is fits (inr want) = absurd want.1
+
+pub answers_refused : (bytes : List ℕ) (r : Result Frame FrameFault) → IsBytes bytes → Gives fields_of r (frame_at bytes) → IfErr r (MayFail bytes)
+answers_refused bytes (Ok frame) fits given = tt
+answers_refused bytes (Err e) fits given = refused_is bytes e (frame_at bytes) refl fits given
 
 -- ---- the payload is the end of the bytes
 

@@ -5,16 +5,13 @@ use Rattle.std.proofs.lemmas.Bool.{cond_both, ltb-true, ltb-false}
 use Rattle.cb_varint.specs.declared.fault.NumberFault.{NumberFault}
 use Rattle.cb_varint.specs.Spelling.{Spells}
 use Rattle.cb_varint.specs.Reading.{number_at as number_and_length}
-use Rattle.cb_varint.proofs.Fronts.{read_is_spelled, fault_is_there}
+use Rattle.cb_varint.proofs.Fronts.{IsBytes, read_is_spelled, fault_is_there}
 use Rattle.cb_frames.specs.declared.fault.FrameFault.{FrameFault}
 use Rattle.cb_frames.specs.declared.fault.FrameFault.TheVariants.{Short, Trailing}
 use Rattle.cb_frames.specs.NumberFaults.{as_frame_fault}
 use Rattle.cb_frames.specs.Text.{SpellAll}
 use Rattle.cb_frames.specs.Fault.{Field, Number, Payload, Accepts, IsWrong, FirstFaultOf}
 use Rattle.cb_frames.specs.Reading.{◌>>=◌, behind_number, unless, field_at, payload_at}
-
-abbrev pub IsBytes : List ℕ → Type 0
-IsBytes bytes = (i : ℕ) → get_or bytes i 0 < 256
 
 pub IsBytes-drop : (n : ℕ) (bytes : List ℕ) → IsBytes bytes → IsBytes (drop n bytes)
 IsBytes-drop n bytes h i = rw get_or-drop (h (n + i))

@@ -6,3 +6,4 @@ pub mod Outcome
 pub mod Unique
 pub mod Decoding
 pub mod PairsWritten
+pub mod NeverMemory

@@ -10,7 +10,8 @@ use Rattle.cb_frames.specs.Fields.{CastFields, StatusFields, RequestFields, Fram
 use Rattle.cb_frames.specs.Text.{cast_kind, status_kind, request_kind, SpellAll, pairs_from, ranges_from, cast_numbers, status_numbers, request_numbers, KeepsCastRules, KeepsStatusRules, KeepsRequestRules, IsText}
 use Rattle.cb_frames.specs.Fault.{Field, Number, any_number, member_rule, message_rule, length_rule, ranges_rule, Pairs, change_pairs, value_pairs, range_pairs, pairs_field, payload_field, end_field, cast_field, status_field, request_field, IsWrong, FirstFaultOf, FirstFault}
 use Rattle.cb_frames.specs.Reading.{◌>>=◌, field_at, pair_at, pairs_at, payload_at, end_at, cast_at, status_at, request_at, frame_at}
-use Rattle.cb_frames.proofs.Fronts.{IsBytes, bind_cases, Found, FieldOutcome, field_outcome, payload_outcome, fault_here, fault_later, Opens, Opens-none, Opens-one, Opens-append}
+use Rattle.cb_varint.proofs.Fronts.{IsBytes}
+use Rattle.cb_frames.proofs.Fronts.{bind_cases, Found, FieldOutcome, field_outcome, payload_outcome, fault_here, fault_later, Opens, Opens-none, Opens-one, Opens-append}
 use Rattle.cb_frames.proofs.SaidPairs.{member_kept, message_kept, length_kept, ranges_kept, Says, are_changes, are_values, are_ranges}
 
 -- a field that reads as a number, by what stands there

@@ -222,7 +222,7 @@ spelled_both (m ∷ ms) ns a b s t =
 pub all_then_all : (ms ns a b c : List ℕ) → Appends (SpellAll ms) a b → Appends (SpellAll ns) b c → Appends (SpellAll (ms ++ ns)) a c
 all_then_all ms ns a b c one two = (one.0 ++ two.0, spelled_both ms ns one.0 two.0 one.1 two.1, two.2 ∙ ap (λ (t : List ℕ). t ++ two.0) one.2 ∙ append_assoc a one.0 two.0)
 
--- the number fields of a cast frame, one after another; the last one's want of memory is that of all
+-- the number fields of a cast frame, one after another; where the last one is out of memory, all are
 pub numbers_written : {E : Type 0} (r : Result (Unit {0}) E) (c : CastFields) (count size : ℕ) (a b d e f g h : List ℕ) → count ≡ length c.changes → size ≡ length c.payload
     → Appends (λ text. Spells text c.group) a b → Appends (λ text. Spells text c.sender) b d → Appends (λ text. Spells text c.number) d e
     → Appends (λ text. Spells text count) e f → Appends (SpellAll (pairs_from 0 c.changes)) f g

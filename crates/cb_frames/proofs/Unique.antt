@@ -191,7 +191,7 @@ request_whole r numbers rules spelled =
     (field_whole _ r.asked _ requester.1 [] (keeps_member r.asked rules.asked) asked
     (field_whole _ (length r.ranges) _ asked.1 [] (keeps_ranges (length r.ranges) rules.some rules.few) count tail)))
 
--- ---- a frame is told by its numbers and its payload
+-- ---- its numbers and its payload determine a frame
 
 abbrev head_of : List ℕ → ℕ
 head_of [] = 0

@@ -1,4 +1,4 @@
--- The first fault of bytes that are no frame's text.
+-- What is wrong with bytes that no frame is written as, seen from the left.
 --
 -- What may stand in a field depends on the numbers before it. So a kind of frame is a function from the numbers
 -- that were read to the field that follows them.

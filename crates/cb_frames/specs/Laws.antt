@@ -1,8 +1,9 @@
 -- The laws of frames' texts.
-use Rattle.std.specs.Prelude.{◌≡◌, ℕ, ◌<◌, ◌≤◌, ◌^◌, List, [], ◌++◌, length, ◌⊎◌, ◌↔◌, Ok, Err, slice_index}
+use Rattle.std.specs.Prelude.{◌≡◌, ◌≢◌, ℕ, ◌<◌, ◌≤◌, ◌^◌, List, [], ◌++◌, length, ◌⊎◌, ◌↔◌, Ok, Err, slice_index}
 use Rattle.std.specs.List.{AllByRecursion}
 use Rattle.cb_frames.specs.declared.frame.TheConstants.{LONGEST_PAYLOAD}
 use Rattle.cb_frames.specs.declared.fault.FrameFault.{FrameFault}
+use Rattle.cb_frames.specs.declared.fault.FrameFault.TheVariants as faults
 use Rattle.cb_frames.specs.Fields.{FrameFields, CastFrame, StatusFrame, RequestFrame}
 use Rattle.cb_frames.specs.Text.{IsText, KeepsRules, cast_numbers, status_numbers, request_numbers, payload_of, text_of}
 use Rattle.cb_frames.specs.Fault.{FirstFault}
@@ -40,6 +41,14 @@ IsBytes bytes = (i : ℕ) → slice_index bytes i < 256
 
 abbrev pub EachIsTextOrFault : Type 0
 EachIsTextOrFault = (bytes : List ℕ) → IsBytes bytes → ((f : FrameFields) × IsText f bytes) ⊎ ((e : FrameFault) × FirstFault bytes e)
+
+-- out of memory is no fault of bytes: reading them never finds it
+abbrev pub ReadingNeedsNoMemory : Type 0
+ReadingNeedsNoMemory = (bytes : List ℕ) → frame_at bytes ≢ Err faults.NoMemory
+
+-- why `decode` may answer no frame: the first fault of the bytes, or for a frame's text that memory is out
+abbrev pub MayFail : List ℕ → FrameFault → Type 0
+MayFail bytes fault = FirstFault bytes fault ⊎ ((fault ≡ faults.NoMemory) × ((f : FrameFields) × IsText f bytes))
 
 -- `frame_at` finds a text exactly where there is one, and else the first fault
 pub record ReadingIsExact : Type 0 where

@@ -5,3 +5,4 @@ pub mod Fault
 pub mod Reading
 pub mod Parts
 pub mod Laws
+pub mod FaultText

@@ -98,7 +98,7 @@ abbrev pub Answers : {X Y : Type 0} → (X → Y) → Result X FrameFault → Re
 Answers view (Ok x) read = read ≡ Ok (view x)
 Answers view (Err fault) read = read ≡ Err fault
 
--- Want of memory may be met only where there is something to read.
+-- Out of memory is answered only where there is something to read.
 abbrev pub HasValue : {Y : Type 0} → Result Y FrameFault → Type 0
 HasValue (Ok y) = Unit {0}
 HasValue (Err fault) = ⊥

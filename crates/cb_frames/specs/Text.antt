@@ -1,5 +1,5 @@
 -- Which bytes are the text of which frame.
-use Rattle.std.specs.Prelude.{◌≡◌, ◌≢◌, ℕ, ◌+◌, ◌-◌, ◌≤◌, List, [], ◌∷◌, ◌++◌, length}
+use Rattle.std.specs.Prelude.{◌≡◌, ◌≢◌, ℕ, ◌+◌, ◌-◌, ◌<◌, ◌≤◌, List, [], ◌∷◌, ◌++◌, length}
 use Rattle.std.specs.List.{AllByRecursion, flat_map}
 use Rattle.cb_varint.specs.Spelling.{Spells}
 use Rattle.cb_varint.specs.Reading.{spelling}
@@ -23,6 +23,10 @@ request_kind = 0x13
 abbrev pub SpellAll : List ℕ → List ℕ → Type 0
 SpellAll [] text = text ≡ []
 SpellAll (n ∷ ns) text = (first rest : List ℕ) × Spells first n × SpellAll ns rest × (text ≡ first ++ rest)
+
+-- the spellings of numbers were appended, one after another
+abbrev pub AppendsNumbers : List ℕ → List ℕ → List ℕ → Type 0
+AppendsNumbers old new numbers = (text : List ℕ) × SpellAll numbers text × (new ≡ old ++ text)
 
 -- The indices of the changes rise from `least` on: each is written as what lies between it and the one before.
 abbrev pub pairs_from : ℕ → List Change → List ℕ
@@ -103,6 +107,14 @@ abbrev pub payload_of : FrameFields → List ℕ
 payload_of (CastFrame c) = c.payload
 payload_of (StatusFrame s) = []
 payload_of (RequestFrame r) = []
+
+-- the payload has more bytes than a frame may carry
+abbrev pub HasLongPayload : FrameFields → Type 0
+HasLongPayload f = LONGEST_PAYLOAD < length (payload_of f)
+
+-- the payload is short enough, and another rule is broken
+abbrev pub BreaksRule : FrameFields → Type 0
+BreaksRule f = (length (payload_of f) ≤ LONGEST_PAYLOAD) × ¬ KeepsRules f
 
 -- the bytes are the frame's: its kind, the spellings of its number fields in order, and its payload
 abbrev pub IsText : FrameFields → List ℕ → Type 0

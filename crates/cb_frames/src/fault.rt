@@ -1,12 +1,15 @@
 //! Why bytes are no frame, or a value has no text.
 
-ghost use Rattle.std.specs.Prelude.{◌≡◌};
+ghost use Rattle.std.specs.Prelude.{◌≡◌, Some};
 ghost use Rattle.cb_frames.specs.declared.fault.FrameFault.TheVariants.{NoMemory};
 ghost use Rattle.cb_frames.specs.declared.fault.EncodeFault.TheVariants.{NoMemory as EncodeNoMemory};
+ghost use Rattle.cb_frames.specs.FaultText.{encode_fault_text, fault_text};
 ghost use Rattle.cb_frames.specs.NumberFaults.{as_frame_fault};
 
 use cb_varint::NumberFault;
 use std::alloc::{AllocError, AllocFailed};
+use std::error::Error;
+use std::fmt;
 
 /// The first fault of bytes that are no frame, from the left.
 #[derive(Clone, Copy, Debug, PartialEq, Eq, Hash)]
@@ -29,11 +32,11 @@ pub enum FrameFault {
     OwnField,
     /// A count of ranges is not 1 to 32, or a range passes 4,294,967,295.
     BadRange,
-    /// A payload is said to have more than 1,024 bytes.
+    /// The length of the payload is above 1,024 bytes.
     PayloadTooLong,
     /// Bytes follow the last field.
     Trailing,
-    /// A growth was refused. Only bytes that are a frame can meet it.
+    /// Out of memory. Only bytes that are a frame can meet it.
     NoMemory,
 }
 
@@ -44,7 +47,7 @@ pub enum EncodeFault {
     PayloadTooLong,
     /// Another rule of frames is broken.
     BadField,
-    /// A growth was refused.
+    /// Out of memory.
     NoMemory,
 }
 
@@ -91,3 +94,40 @@ impl<T: Drop> From<AllocFailed<T>> for EncodeFault {
         EncodeFault::NoMemory
     }
 }
+
+impl fmt::Display for FrameFault {
+    ghost output = { λ fault. Some (fault_text fault) };
+
+    fn fmt<W: fmt::Write>(&self, f: &mut fmt::Formatter<W>) -> fmt::Result {
+        f.write_str(match self {
+            FrameFault::Short => "Short",
+            FrameFault::UnknownKind => "UnknownKind",
+            FrameFault::NotMinimal => "NotMinimal",
+            FrameFault::TooLarge => "TooLarge",
+            FrameFault::BadIndex => "BadIndex",
+            FrameFault::ZeroNumber => "ZeroNumber",
+            FrameFault::ZeroDifference => "ZeroDifference",
+            FrameFault::OwnField => "OwnField",
+            FrameFault::BadRange => "BadRange",
+            FrameFault::PayloadTooLong => "PayloadTooLong",
+            FrameFault::Trailing => "Trailing",
+            FrameFault::NoMemory => "NoMemory",
+        })
+    }
+}
+
+impl Error for FrameFault {}
+
+impl fmt::Display for EncodeFault {
+    ghost output = { λ fault. Some (encode_fault_text fault) };
+
+    fn fmt<W: fmt::Write>(&self, f: &mut fmt::Formatter<W>) -> fmt::Result {
+        f.write_str(match self {
+            EncodeFault::PayloadTooLong => "PayloadTooLong",
+            EncodeFault::BadField => "BadField",
+            EncodeFault::NoMemory => "NoMemory",
+        })
+    }
+}
+
+impl Error for EncodeFault {}

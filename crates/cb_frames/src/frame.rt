@@ -14,6 +14,9 @@ pub const LONGEST_PAYLOAD: usize = 1024;
 /// The most ranges of a request.
 pub const MOST_RANGES: usize = 32;
 
+/// The most frames that are sent in answer to one request.
+pub const MOST_FRAMES: usize = 64;
+
 /// A field of a vector time, 0 to 63, and by how much it has grown, or what it is; at least 1.
 #[derive(Clone, Copy, Debug, Default, PartialEq, Eq, Hash)]
 pub struct Change {
@@ -44,7 +47,7 @@ pub struct Cast {
     pub payload: Bytes,
 }
 
-/// What a member has delivered, told to all others.
+/// What a member has delivered, sent to all others.
 #[derive(Debug, PartialEq, Eq, Drop)]
 pub struct Status {
     /// The number of the group.
@@ -55,7 +58,7 @@ pub struct Status {
     pub values: Vec<Change>,
 }
 
-/// What a member misses of another's casts, told to that other.
+/// Which casts of another member a member lacks, sent to that other member.
 #[derive(Debug, PartialEq, Eq, Drop)]
 pub struct Request {
     /// The number of the group.

@@ -13,8 +13,8 @@ mod writing;
 
 pub use fault::{EncodeFault, FrameFault};
 pub use frame::{
-    Cast, Change, Frame, LAST_MEMBER, LAST_NUMBER, LONGEST_PAYLOAD, MOST_RANGES, Range, Request,
-    Status,
+    Cast, Change, Frame, LAST_MEMBER, LAST_NUMBER, LONGEST_PAYLOAD, MOST_FRAMES, MOST_RANGES,
+    Range, Request, Status,
 };
 pub use laws::{each_is_a_text_or_a_fault, one_text};
 pub use reading::decode;

@@ -1,6 +1,6 @@
 //! The lists of pairs in frames: changes, values and ranges. Each pair says a place by its distance from the least that is left.
 //!
-//! They are read into arrays of fixed size, so that no fault hides behind want of memory.
+//! They are read into arrays of fixed size, so that a fault of the bytes is answered even out of memory.
 
 ghost use Rattle.std.specs.Prelude.{◌≡◌, ◌≤◌, ◌-◌, ◌+◌, IfOk};
 ghost use Rattle.cb_frames.specs.Fault.{range_pairs};
@@ -18,7 +18,8 @@ pub const MOST_CHANGES: usize = 64;
 /// The next change, whose index is at least `least` and not `own`.
 #[tactic(auto, unfolding(crate::specs::Reading::pair_at))]
 fn next_change(own: Option<u32>, least: u32, bytes: &[u8]) -> Result<(Change, &[u8]), FrameFault>
-    ensures value { Answers (λ x. ((x.0.field, x.0.amount), x.1.now)) result (pair_at (pairs_but own) least bytes.now) }
+    ensures value { Answers (λ x. ((x.0.field, x.0.amount), x.1.now)) result
+        (pair_at (pairs_but own) least bytes.now) }
     ensures index { IfOk result (λ x. (least ≤ x.0.field) × (x.0.field ≤ LAST_MEMBER)) }
 {
     let (gap, rest) = number(bytes)?;
@@ -42,7 +43,8 @@ pub fn all_changes(
     count: u32,
     bytes: &[u8],
 ) -> Result<(ArrayVec<Change, MOST_CHANGES>, &[u8]), FrameFault>
-    ensures { Answers (λ x. (x.0.items, x.1.now)) result (pairs_at (pairs_but own) count 0 bytes.now) }
+    ensures { Answers (λ x. (x.0.items, x.1.now)) result
+        (pairs_at (pairs_but own) count 0 bytes.now) }
 {
     let mut changes = ArrayVec::new();
     let mut least = 0;
@@ -60,7 +62,8 @@ pub fn all_changes(
 #[tactic(auto, unfolding(crate::specs::Reading::pair_at))]
 fn next_range(least: u64, bytes: &[u8]) -> Result<(Range, &[u8]), FrameFault>
     requires { least ≤ LAST_NUMBER + 2 }
-    ensures value { Answers (λ x. ((x.0.first, x.0.last - x.0.first), x.1.now)) result (pair_at range_pairs least bytes.now) }
+    ensures value { Answers (λ x. ((x.0.first, x.0.last - x.0.first), x.1.now)) result
+        (pair_at range_pairs least bytes.now) }
     ensures within { IfOk result (λ x. (x.0.first ≤ x.0.last) × (x.0.last ≤ LAST_NUMBER)) }
 {
     let (skip, rest) = number(bytes)?;

@@ -1,14 +1,14 @@
 //! Bytes to frames: from left to right, so that the first fault is the one that is answered.
 //!
-//! All is read before memory is asked for, so a fault of the bytes never hides behind want of memory.
+//! All is read before memory is asked for, so a fault of the bytes is answered even out of memory.
 
-ghost use Rattle.std.specs.Prelude.{◌≡◌, ◌≤◌, ◌++◌, List, ℕ, IfOk, MatchResult};
+ghost use Rattle.std.specs.Prelude.{◌≡◌, ◌≤◌, ◌++◌, List, ℕ, IfErr, IfOk, MatchResult};
 ghost use Rattle.cb_frames.specs.declared.fault.FrameFault.{FrameFault as Fault};
 ghost use Rattle.cb_frames.specs.Fields.{FrameFields, fields_of, cast_fields, status_fields, request_fields};
 ghost use Rattle.cb_frames.specs.Text.{IsText};
 ghost use Rattle.cb_frames.specs.Fault.{FirstFault};
 ghost use Rattle.cb_frames.specs.Reading.{Answers, Gives, payload_at, end_at, cast_at, status_at, request_at, frame_at};
-ghost use Rattle.cb_frames.specs.Laws.{IsBytes};
+ghost use Rattle.cb_frames.specs.Laws.{IsBytes, MayFail};
 ghost use Rattle.cb_frames.specs.Parts.{part_fields, status_parts_fields, request_parts_fields};
 
 use crate::fault::FrameFault;
@@ -161,7 +161,8 @@ fn status(alloc: Global, parts: &StatusParts) -> Result<Status, FrameFault>
 }
 
 fn request(alloc: Global, parts: &RequestParts) -> Result<Request, FrameFault>
-    ensures { MatchResult result (λ request. request_fields request ≡ request_parts_fields parts.now)
+    ensures { MatchResult result
+        (λ request. request_fields request ≡ request_parts_fields parts.now)
         (λ fault. fault ≡ FrameFault.NoMemory) }
 {
     Ok(Request {
@@ -197,14 +198,16 @@ fn frame(alloc: Global, bytes: &Bytes, text: &[u8]) -> Result<Frame, FrameFault>
     }
 }
 
-/// The frame whose text the whole of `bytes` is, or the first fault of bytes that are no frame's text. A fault is
-/// answered without memory: `NoMemory` comes only where the bytes are a frame.
+/// The frame whose text the whole of `bytes` is, or else what is first wrong with them from the left. A fault is
+/// answered without memory: `NoMemory` comes only where the bytes are a frame. The payload shares the bytes, by design.
 pub fn decode(alloc: Global, bytes: &Bytes) -> Result<Frame, FrameFault>
     ensures text { IfOk result (λ frame. IsText (fields_of frame) bytes.now) }
     ensures found { (f : FrameFields) → IsText f bytes.now
         → MatchResult result (λ frame. fields_of frame ≡ f) (λ fault. fault ≡ FrameFault.NoMemory) }
     ensures fault { (fault : Fault) → FirstFault bytes.now fault → result ≡ Err fault }
+    ensures refused { IfErr result (MayFail bytes.now) }
     ensures exact { Gives fields_of result (frame_at bytes.now) }
+    ensures bytes { IsBytes bytes.now }
 {
     frame(alloc, bytes, bytes.as_slice())
 }

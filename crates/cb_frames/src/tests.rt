@@ -228,7 +228,7 @@ fn a_request_has_at_most_32_ranges(rt: HostRuntime) -> Result<(), Fail> {
 
 #[test]
 fn bytes_that_are_no_frame_have_their_first_fault(rt: HostRuntime) -> Result<(), Fail> {
-    const FAULTS: [(&[u8], FrameFault); 32] = [
+    const FAULTS: [(&[u8], FrameFault); 34] = [
         (b"\x11\x87\x00\x00\x01\x00\x02hi", FrameFault::NotMinimal),
         (b"\x11\x07\x00\x01\x00\x02h", FrameFault::Short),
         (b"\x11\x07\x00\x01\x00\x02hi\x00", FrameFault::Trailing),
@@ -237,11 +237,13 @@ fn bytes_that_are_no_frame_have_their_first_fault(rt: HostRuntime) -> Result<(),
             FrameFault::ZeroDifference,
         ),
         (b"\x11\x07\x01\x01\x01\x01\x01\x02yo", FrameFault::OwnField),
+        (b"\x11\x07\x00\x01\x01\x00\x01\x02yo", FrameFault::OwnField),
         (b"", FrameFault::Short),
         (b"\x11\xff\xff\xff\xff\x1f", FrameFault::TooLarge),
         (b"\x14", FrameFault::UnknownKind),
         (b"\x11\x07\x40", FrameFault::BadIndex),
         (b"\x11\x07\x00\x00", FrameFault::ZeroNumber),
+        (b"\x11\x07\x00\x00\x00\x02hi", FrameFault::ZeroNumber),
         (b"\x11\x07\x00\x01\x00\x81\x08", FrameFault::PayloadTooLong),
         // An index is above 63 by its distance from the one before.
         (b"\x11\x07\x00\x01\x02\x3e\x01\x01", FrameFault::BadIndex),
@@ -338,6 +340,36 @@ fn values_that_break_a_rule_have_no_text(rt: HostRuntime) -> Result<(), Fail> {
     }
     for (frame, fault) in &values {
         assert!(rt; encode(alloc, frame) == Err(*fault), "at {frame:?}");
+    }
+    Ok(())
+}
+
+#[test]
+fn a_fault_prints_its_name(rt: HostRuntime) -> Result<(), Fail> {
+    const FRAME_FAULTS: [(FrameFault, &str); 12] = [
+        (FrameFault::Short, "Short"),
+        (FrameFault::UnknownKind, "UnknownKind"),
+        (FrameFault::NotMinimal, "NotMinimal"),
+        (FrameFault::TooLarge, "TooLarge"),
+        (FrameFault::BadIndex, "BadIndex"),
+        (FrameFault::ZeroNumber, "ZeroNumber"),
+        (FrameFault::ZeroDifference, "ZeroDifference"),
+        (FrameFault::OwnField, "OwnField"),
+        (FrameFault::BadRange, "BadRange"),
+        (FrameFault::PayloadTooLong, "PayloadTooLong"),
+        (FrameFault::Trailing, "Trailing"),
+        (FrameFault::NoMemory, "NoMemory"),
+    ];
+    const ENCODE_FAULTS: [(EncodeFault, &str); 3] = [
+        (EncodeFault::PayloadTooLong, "PayloadTooLong"),
+        (EncodeFault::BadField, "BadField"),
+        (EncodeFault::NoMemory, "NoMemory"),
+    ];
+    for (fault, name) in FRAME_FAULTS {
+        assert_eq!(rt; fault.to_string(rt.alloc())?.as_str(), name);
+    }
+    for (fault, name) in ENCODE_FAULTS {
+        assert_eq!(rt; fault.to_string(rt.alloc())?.as_str(), name);
     }
     Ok(())
 }

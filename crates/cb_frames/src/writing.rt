@@ -3,7 +3,7 @@
 ghost use Rattle.std.specs.Prelude.{◌≡◌, ◌≤◌, ◌<◌, ◌+◌, ◌++◌, ◌↔◌, ◌⊎◌, [], ◌∷◌, List, ℕ, length, Option, IsTrue, IfOk, OnOk, MatchResult};
 ghost use Rattle.cb_varint.specs.Spelling.{Spells};
 ghost use Rattle.cb_frames.specs.Fields.{FrameFields, fields_of, cast_fields, status_fields, request_fields};
-ghost use Rattle.cb_frames.specs.Text.{SpellAll, pairs_from, ranges_from, cast_numbers, status_numbers, request_numbers, AreRanges, KeepsCastRules, KeepsStatusRules, KeepsRequestRules, KeepsRules, payload_of, IsText};
+ghost use Rattle.cb_frames.specs.Text.{SpellAll, AppendsNumbers, HasLongPayload, BreaksRule, pairs_from, ranges_from, cast_numbers, status_numbers, request_numbers, AreRanges, KeepsCastRules, KeepsStatusRules, KeepsRequestRules, KeepsRules, payload_of, IsText};
 ghost use Rattle.cb_frames.specs.Parts.{AreChangesBut};
 
 use crate::fault::EncodeFault;
@@ -78,8 +78,7 @@ fn keeps_rules(frame: &Frame) -> bool
 
 fn put_changes(out: &mut Vec<u8>, changes: &[Change]) -> Result<(), AllocError>
     requires { (own : Option ℕ) × AreChangesBut own 0 changes.now }
-    ensures { OnOk result ((text : List ℕ) × SpellAll (pairs_from 0 changes.now) text
-        × (out.new.items ≡ out.old.items ++ text)) }
+    ensures { OnOk result (AppendsNumbers out.old.items out.new.items (pairs_from 0 changes.now)) }
 {
     let mut least = 0;
     for change in changes {
@@ -92,8 +91,7 @@ fn put_changes(out: &mut Vec<u8>, changes: &[Change]) -> Result<(), AllocError>
 
 fn put_ranges(out: &mut Vec<u8>, ranges: &[Range]) -> Result<(), AllocError>
     requires { AreRanges 1 ranges.now }
-    ensures { OnOk result ((text : List ℕ) × SpellAll (ranges_from 1 ranges.now) text
-        × (out.new.items ≡ out.old.items ++ text)) }
+    ensures { OnOk result (AppendsNumbers out.old.items out.new.items (ranges_from 1 ranges.now)) }
 {
     let mut least = 1;
     for range in ranges {
@@ -107,8 +105,8 @@ fn put_ranges(out: &mut Vec<u8>, ranges: &[Range]) -> Result<(), AllocError>
 fn put_cast(out: &mut Vec<u8>, cast: &Cast) -> Result<(), AllocError>
     requires rules { KeepsCastRules (cast_fields cast.now) }
     requires payload { length cast.now.payload ≤ LONGEST_PAYLOAD }
-    ensures { OnOk result ((text : List ℕ) × SpellAll (cast_numbers (cast_fields cast.now)) text
-        × (out.new.items ≡ out.old.items ++ text)) }
+    ensures { OnOk result (AppendsNumbers out.old.items out.new.items
+        (cast_numbers (cast_fields cast.now))) }
 {
     cb_varint::put(cast.group, out)?;
     cb_varint::put(cast.sender, out)?;
@@ -120,8 +118,8 @@ fn put_cast(out: &mut Vec<u8>, cast: &Cast) -> Result<(), AllocError>
 
 fn put_status(out: &mut Vec<u8>, status: &Status) -> Result<(), AllocError>
     requires { KeepsStatusRules (status_fields status.now) }
-    ensures { OnOk result ((text : List ℕ) × SpellAll (status_numbers (status_fields status.now)) text
-        × (out.new.items ≡ out.old.items ++ text)) }
+    ensures { OnOk result (AppendsNumbers out.old.items out.new.items
+        (status_numbers (status_fields status.now))) }
 {
     cb_varint::put(status.group, out)?;
     cb_varint::put(status.sender, out)?;
@@ -131,8 +129,8 @@ fn put_status(out: &mut Vec<u8>, status: &Status) -> Result<(), AllocError>
 
 fn put_request(out: &mut Vec<u8>, request: &Request) -> Result<(), AllocError>
     requires { KeepsRequestRules (request_fields request.now) }
-    ensures { OnOk result ((text : List ℕ) × SpellAll (request_numbers (request_fields request.now)) text
-        × (out.new.items ≡ out.old.items ++ text)) }
+    ensures { OnOk result (AppendsNumbers out.old.items out.new.items
+        (request_numbers (request_fields request.now))) }
 {
     cb_varint::put(request.group, out)?;
     cb_varint::put(request.requester, out)?;
@@ -168,7 +166,7 @@ fn text(alloc: Global, frame: &Frame) -> Result<Vec<u8>, AllocError>
 
 /// The payload of a cast; no other frame has one.
 fn has_long_payload(frame: &Frame) -> bool
-    ensures { IsTrue result ↔ (LONGEST_PAYLOAD < length (payload_of (fields_of frame.now))) }
+    ensures { IsTrue result ↔ HasLongPayload (fields_of frame.now) }
 {
     match frame {
         Frame::Cast(cast) => cast.payload.len() > LONGEST_PAYLOAD,
@@ -180,9 +178,9 @@ fn has_long_payload(frame: &Frame) -> bool
 pub fn encode(alloc: Global, frame: &Frame) -> Result<Bytes, EncodeFault>
     ensures text { IfOk result (λ bytes. IsText (fields_of frame.now) bytes) }
     ensures too_long { (result ≡ Err EncodeFault.PayloadTooLong)
-        ↔ (LONGEST_PAYLOAD < length (payload_of (fields_of frame.now))) }
+        ↔ HasLongPayload (fields_of frame.now) }
     ensures bad_field { (result ≡ Err EncodeFault.BadField)
-        ↔ ((length (payload_of (fields_of frame.now)) ≤ LONGEST_PAYLOAD) × ¬ KeepsRules (fields_of frame.now)) }
+        ↔ BreaksRule (fields_of frame.now) }
 {
     if has_long_payload(frame) {
         return Err(EncodeFault::PayloadTooLong);

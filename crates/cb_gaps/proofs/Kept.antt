@@ -11,6 +11,7 @@ use Rattle.std.proofs.lemmas.List.Edits.{length-insert}
 use Rattle.cb_frames.specs.declared.frame.Cast.{Cast}
 use Rattle.cb_frames.specs.declared.frame.Range.{Range}
 use Rattle.cb_frames.specs.Fields.{CastFields, cast_fields}
+use Rattle.cb_times.specs.Group.{IsWindow}
 use Rattle.cb_gaps.specs.Buffer.{IsNew, IsKept, IsReceived, IsLacking, IsNext, IsMissing, IsReorderBuffer}
 use Rattle.cb_gaps.specs.Ranges.{AreRangesOf}
 use Rattle.cb_gaps.specs.Lists.{entries_of, Rise, IsPlaceFor, IsGap, AreKept, buffer_of}
@@ -57,8 +58,7 @@ module _ (window taken : ℕ) (casts : List Cast) (are : AreKept window taken ca
 
   pub is_reorder_buffer : IsReorderBuffer (buffer_of window taken casts)
   is_reorder_buffer = record {
-    window_one_or_more = are.window_one_or_more;
-    window_at_most = are.window_at_most;
+    width = are.width;
     by_number = λ number fields h.
         let c = found_cast (λ _. Unit {0}) number casts fields (λ _ _ _. tt) (found_of_kept number fields h) in
         sym (ap (λ (f : CastFields). f.number) c.2) ∙ c.1;
@@ -70,10 +70,9 @@ module _ (window taken : ℕ) (casts : List Cast) (are : AreKept window taken ca
     room = omega (arith, len-kept window taken casts are.rise, few taken (taken + window + 1) casts are.rise are.near (omega arith));
   }
 
-pub new_keeps : (window : ℕ) → 1 ≤ window → window ≤ 256 → AreKept window 0 []
-new_keeps window one most = record {
-  window_one_or_more = one;
-  window_at_most = most;
+pub new_keeps : (window : ℕ) → IsWindow window → AreKept window 0 []
+new_keeps window width = record {
+  width = width;
   rise = tt;
   near = λ k d below. absurd (omega (arith, below));
   in_range = λ k d below. absurd (omega (arith, below));
@@ -107,8 +106,7 @@ next-later window taken (c ∷ casts) first are some at later =
 module _ (window taken : ℕ) (first : Cast) (after : List Cast) (are : AreKept window taken (first ∷ after)) (next : first.number ≡ taken + 1) where
   front_keeps : AreKept window first.number after
   front_keeps = record {
-    window_one_or_more = are.window_one_or_more;
-    window_at_most = are.window_at_most;
+    width = are.width;
     rise = are.rise.1;
     near = All-weaker (λ x. x.number < taken + window + 1) (λ x. x.number < first.number + window + 1) (λ x h. omega (arith, h, next)) after
         (All-tail (λ x. x.number < taken + window + 1) first after are.near);
@@ -195,8 +193,7 @@ module _ (window taken : ℕ) (casts : List Cast) (are : AreKept window taken ca
     (order : delivered ≤ taken) (near : c.number ≤ delivered + window) where
   pub keep_keeps : AreKept window taken (insert casts place c)
   keep_keeps = record {
-    window_one_or_more = are.window_one_or_more;
-    window_at_most = are.window_at_most;
+    width = are.width;
     rise = rise_insert casts place c is taken are.rise later;
     near = all_insert casts place c is (λ x. x.number < taken + window + 1) are.near (omega (arith, order, near));
     in_range = all_insert casts place c is (λ x. x.number < 2 ^ 32) are.in_range fits;

@@ -3,12 +3,13 @@ use Rattle.std.specs.Prelude.{◌≡◌, ℕ, ◌+◌, ◌<◌, ◌≤◌, ◌^�
 use Rattle.std.specs.Ordering.{nat_cmp}
 use Rattle.std.specs.Coded.{Coded, code_by, coded×, coded_list, coded_ℕ}
 use Rattle.std.specs.FinMap as map
+use Rattle.cb_times.specs.Group.{IsWindow}
 use Rattle.cb_frames.specs.declared.frame.Change.{Change}
-use Rattle.cb_frames.specs.Fields.{CastFields}
-use Rattle.cb_gaps.specs.declared.buffer.Keeping.{Keeping}
-use Rattle.cb_gaps.specs.declared.buffer.Keeping.TheVariants.{Kept, Repeat, TooFar}
+use Rattle.cb_frames.specs.Fields.{CastFields, first_number, last_number}
+use Rattle.cb_gaps.specs.declared.buffer.Admission.{Admission}
+use Rattle.cb_gaps.specs.declared.buffer.Admission.TheVariants.{Kept, Repeat, TooFar}
 
--- how far ahead casts are accepted, how many were taken, and the casts kept, each by its number
+-- how far ahead casts are accepted, how many messages were taken, and the casts kept, each by the number of its first message
 pub record Buffer : Type 0 where
   pub window : ℕ
   pub taken : ℕ
@@ -36,22 +37,26 @@ pub record IsLacking (buffer : Buffer) (number : ℕ) : Type 0 where
 abbrev pub IsInWindow : Buffer → ℕ → ℕ → Type 0
 IsInWindow buffer delivered number = number ≤ delivered + buffer.window
 
--- the answer for a cast of this number; exactly one of the three holds
-abbrev pub IsAnswer : Buffer → ℕ → ℕ → Keeping → Type 0
-IsAnswer buffer delivered number Kept = IsLacking buffer number × IsInWindow buffer delivered number
-IsAnswer buffer delivered number Repeat = IsReceived buffer number
-IsAnswer buffer delivered number TooFar = IsLacking buffer number × (delivered + buffer.window < number)
+-- the answer for a cast; exactly one of the three holds
+abbrev pub IsAnswer : Buffer → ℕ → CastFields → Admission → Type 0
+IsAnswer buffer delivered c Kept = IsLacking buffer (first_number c) × IsInWindow buffer delivered (last_number c)
+IsAnswer buffer delivered c Repeat = IsReceived buffer (first_number c)
+IsAnswer buffer delivered c TooFar = IsLacking buffer (first_number c) × (delivered + buffer.window < last_number c)
 
 -- what an answer does to the buffer
-abbrev pub IsAfter : Buffer → CastFields → Keeping → Buffer → Type 0
-IsAfter old cast Kept new = new ≡ record old { kept = map.insert old.kept cast.number cast }
+abbrev pub IsAfter : Buffer → CastFields → Admission → Buffer → Type 0
+IsAfter old cast Kept new = new ≡ record old { kept = map.insert old.kept (first_number cast) cast }
 IsAfter old cast Repeat new = new ≡ old
 IsAfter old cast TooFar new = new ≡ old
 
 -- the next cast of the sender, which waits in the buffer
 pub record IsNext (buffer : Buffer) (cast : CastFields) : Type 0 where
-  pub follows : cast.number ≡ buffer.taken + 1
-  pub kept : map.get buffer.kept cast.number ≡ Some cast
+  pub follows : first_number cast ≡ buffer.taken + 1
+  pub kept : map.get buffer.kept (first_number cast) ≡ Some cast
+
+-- and what taking it leaves
+abbrev pub Takes : Buffer → CastFields → Buffer → Type 0
+Takes old cast new = new ≡ record old { taken = last_number cast; kept = map.remove old.kept (first_number cast) }
 
 -- a number that the sender is known to have used and that has not come
 pub record IsMissing (buffer : Buffer) (delivered known number : ℕ) : Type 0 where
@@ -61,9 +66,8 @@ pub record IsMissing (buffer : Buffer) (delivered known number : ℕ) : Type 0 w
 
 -- what is true of every buffer
 pub record IsReorderBuffer (buffer : Buffer) : Type 0 where
-  pub window_one_or_more : 1 ≤ buffer.window
-  pub window_at_most : buffer.window ≤ 256
-  pub by_number : (number : ℕ) (cast : CastFields) → map.get buffer.kept number ≡ Some cast → cast.number ≡ number
+  pub width : IsWindow buffer.window
+  pub by_number : (number : ℕ) (cast : CastFields) → map.get buffer.kept number ≡ Some cast → first_number cast ≡ number
   pub not_taken : (number : ℕ) → IsKept buffer number → buffer.taken < number
   pub near : (number : ℕ) → IsKept buffer number → number ≤ buffer.taken + buffer.window
   pub in_range : (number : ℕ) → IsKept buffer number → number < 2 ^ 32

@@ -2,6 +2,7 @@
 use Rattle.std.specs.Prelude.{◌≡◌, ℕ, ◌+◌, ◌<◌, ◌≤◌, ◌^◌, List, [], ◌∷◌, length, None, map, take, drop, All}
 use Rattle.std.specs.Ordering.{nat_cmp}
 use Rattle.std.specs.FinMap.{from_sorted, find}
+use Rattle.cb_times.specs.Group.{IsWindow}
 use Rattle.cb_frames.specs.declared.frame.Cast.{Cast}
 use Rattle.cb_frames.specs.Fields.{CastFields, cast_fields}
 use Rattle.cb_gaps.specs.Buffer.{Buffer}
@@ -19,8 +20,7 @@ abbrev pub Below : ℕ → List Cast → Type 0
 Below bound casts = All (λ c. c.number < bound) casts
 
 pub record AreKept (window taken : ℕ) (casts : List Cast) : Type 0 where
-  pub window_one_or_more : 1 ≤ window
-  pub window_at_most : window ≤ 256
+  pub width : IsWindow window
   pub rise : Rise taken casts
   pub near : Below (taken + window + 1) casts
   pub in_range : Below (2 ^ 32) casts

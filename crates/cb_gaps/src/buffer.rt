@@ -3,7 +3,8 @@ ghost use Rattle.std.specs.Prelude.{◌≡◌, ◌+◌, ◌<◌, ◌≤◌, ◌+
 ghost use Rattle.std.specs.FinMap as map;
 ghost use Rattle.std.specs.VecDeque.{deque_len, deque_capacity};
 ghost use Rattle.cb_frames.specs.Fields.{cast_fields};
-ghost use Rattle.cb_gaps.specs.Buffer.{IsNew, IsAnswer, IsAfter, IsNext, IsMissing, IsReorderBuffer};
+ghost use Rattle.cb_times.specs.Group.{IsWindow};
+ghost use Rattle.cb_gaps.specs.Buffer.{IsNew, IsAnswer, IsAfter, IsNext, Takes, IsMissing, IsReorderBuffer};
 ghost use Rattle.cb_gaps.specs.Ranges.{AreRangesOf, gap_between};
 ghost use Rattle.cb_gaps.specs.Lists.{Rise, IsGap, IsPlaceFor};
 
@@ -15,7 +16,7 @@ use std::marker::Model;
 
 /// What became of a cast that came.
 #[derive(Clone, Copy, Debug, PartialEq, Eq, Hash)]
-pub enum Keeping {
+pub enum Admission {
     /// It is kept until those before it came.
     Kept,
     /// It was taken before, or is kept already.
@@ -50,6 +51,7 @@ pub struct Reorder {
 impl Model for Reorder {
     ghost use Rattle.std.specs.Prelude.{◌≤◌};
     ghost use Rattle.std.specs.VecDeque.{deque_capacity};
+    ghost use Rattle.cb_times.specs.Group.{IsWindow};
     ghost use Rattle.cb_gaps.specs.Buffer.{Buffer, buffer_code};
     ghost use Rattle.cb_gaps.specs.Lists.{AreKept, buffer_of};
 
@@ -66,8 +68,7 @@ impl Model for Reorder {
 impl Reorder {
     /// A buffer of which no cast was taken and none is kept, with a window of 1 to 256 casts.
     pub fn new(alloc: Global, window: u32) -> Result<Reorder, NoMemory>
-        requires one_or_more { 1 ≤ window }
-        requires at_most { window ≤ 256 }
+        requires { IsWindow window }
         ensures { IfOk result (IsNew window) }
     {
         let kept = VecDeque::with_capacity(alloc, window as usize)?;
@@ -91,23 +92,23 @@ impl Reorder {
     ///
     /// A number that was taken, and one that is kept, is a repeat, wherever it lies; number 0 is one too. Any other is kept
     /// where it is at most the window above `delivered`, and else too far. Only a cast that is kept changes the buffer.
-    pub fn keep(&mut self, delivered: u32, cast: Cast) -> Keeping
+    pub fn keep(&mut self, delivered: u32, cast: Cast) -> Admission
         requires { delivered ≤ self.old.taken }
-        ensures answer { IsAnswer self.old delivered cast.number result }
+        ensures answer { IsAnswer self.old delivered (cast_fields cast) result }
         ensures after { IsAfter self.old (cast_fields cast) result self.new }
     {
         let number = cast.number;
         if number <= self.taken {
-            return Keeping::Repeat;
+            return Admission::Repeat;
         }
         let Some(place) = place_for(&self.kept, number) else {
-            return Keeping::Repeat;
+            return Admission::Repeat;
         };
         if number > delivered.saturating_add(self.window) {
-            return Keeping::TooFar;
+            return Admission::TooFar;
         }
         put(&mut self.kept, place, cast);
-        Keeping::Kept
+        Admission::Kept
     }
 
     /// Takes out the next cast of the sender, if it waits here.
@@ -115,7 +116,7 @@ impl Reorder {
     /// `None` where it is not; the buffer is then unchanged. None follows number 4,294,967,295.
     pub fn take_next(&mut self) -> Option<Cast>
         ensures next { IfSome result (λ cast. IsNext self.old (cast_fields cast)) }
-        ensures taken { IfSome result (λ cast. self.new ≡ record self.old { taken = cast.number; kept = map.remove self.old.kept cast.number }) }
+        ensures taken { IfSome result (λ cast. Takes self.old (cast_fields cast) self.new) }
         ensures none { IfNone result (map.get self.old.kept (self.old.taken + 1) ≡ None) }
         ensures same { IfNone result (self.new ≡ self.old) }
     {
@@ -133,7 +134,8 @@ impl Reorder {
     /// They come as ranges in rising order that neither touch nor overlap; none is missing where the list is empty. The work
     /// grows with the casts that are kept, and not with how many numbers are missing. Any two numbers will do.
     pub fn missing(&self, delivered: u32, known: u32) -> Result<Vec<Range>, NoMemory>
-        ensures { IfOk result (λ ranges. AreRangesOf (IsMissing self.now delivered known) ranges.items) }
+        ensures { IfOk result (λ ranges.
+            AreRangesOf (IsMissing self.now delivered known) ranges.items) }
     {
         let last = known.min(delivered.saturating_add(self.window));
         gaps(*self.kept.allocator(), &self.kept, self.taken, last)

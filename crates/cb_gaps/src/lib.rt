@@ -2,11 +2,11 @@
 //!
 //! A `Reorder` keeps what came too early, gives the casts back in the order of their numbers with none missing, and names
 //! the numbers that are missing; `request_of` asks for them. Stands on `cb_frames`, whose casts and ranges these are, on
-//! `cb_times` for want of memory, and on `bytes` for what a cast carries.
+//! `cb_times` for the limits of windows, and on `bytes` for what a cast carries.
 #![tactic(auto)]
 
 mod buffer;
 mod request;
 
-pub use buffer::{Keeping, Reorder};
+pub use buffer::{Admission, Reorder};
 pub use request::request_of;

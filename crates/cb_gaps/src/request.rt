@@ -18,7 +18,8 @@ pub fn request_of(
     asked: u32,
     ranges: &[Range],
 ) -> Result<Option<Frame>, NoMemory>
-    ensures { IfOk result (λ frame. option_map fields_of frame ≡ request_for group requester asked ranges.now) }
+    ensures { IfOk result (λ frame.
+        option_map fields_of frame ≡ request_for group requester asked ranges.now) }
 {
     if ranges.is_empty() {
         return Ok(None);

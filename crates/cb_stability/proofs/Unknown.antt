@@ -1,8 +1,9 @@
 -- Rows of which none says anything.
-use Rattle.std.proofs.Common.{◌≡◌, ℕ, zero, suc, ◌≤◌, List, [], length, replicate, ap, ◌∙◌, sym, arith, refl, inl, inr}
+use Rattle.std.proofs.Common.{◌≡◌, ℕ, zero, suc, ◌≤◌, List, [], length, replicate, ap, ◌∙◌, sym, subst, arith, refl, inl, inr}
 use Rattle.std.specs.Prelude.{All, slice_index}
 use Rattle.std.proofs.lemmas.List.{get_or_past, length-replicate}
 use Rattle.std.proofs.lemmas.Bool.{cases_lt}
+use Rattle.cb_times.specs.Group.{IsGroupSize}
 use Rattle.cb_stability.specs.Known.{count, IsUnknown}
 use Rattle.cb_stability.specs.Rows.{AreRows, known_of}
 
@@ -16,10 +17,9 @@ zero_at (suc n) zero = refl
 zero_at (suc n) (suc i) = zero_at n i
 
 module _ (size : ℕ) (rows : List (List ℕ)) (made : length rows ≡ size) where
-  pub rows_made : 2 ≤ size → size ≤ 64 → AreZero size rows → AreRows rows
-  rows_made two sixty_four none = record {
-    two_or_more = omega (arith, made);
-    at_most_sixty_four = omega (arith, made);
+  pub rows_made : IsGroupSize size → AreZero size rows → AreRows rows
+  rows_made group none = record {
+    group = subst IsGroupSize (sym made) group;
     square = λ k d below. ap length (none k d below) ∙ length-replicate size 0 ∙ sym made;
   }
 

@@ -11,7 +11,7 @@ use Rattle.std.proofs.lemmas.Cmp.{nat_cmp_total}
 use Rattle.std.proofs.lemmas.List.{length-append, length-drop}
 use Rattle.std.proofs.lemmas.List.FromFn.{length-enumerate_from}
 use Rattle.std.proofs.lemmas.Option.{slice_get_past}
-use Rattle.cb_stability.specs.Sent.{Sent, IsFresh, IsSentWindow, room_of}
+use Rattle.cb_stability.specs.Sent.{Keeps, Sent, IsFresh, IsSentWindow, room_of}
 use Rattle.cb_stability.specs.Numbered.{AreFrames, sent_of}
 use Rattle.cb_stability.proofs.Entries.{find-before, find-at, enumerate_from-push, sorted_numbered, slice_get-drop}
 
@@ -135,6 +135,10 @@ nothing_is_some (Some x) e some = cc
 pub fresh_window : (window : ℕ) (xs : List (List ℕ)) → xs ≡ [] → IsFresh window (sent_of window 0 xs)
 fresh_window window xs none = record { of_window = refl; none_put = refl; empty = none_kept (0 - length xs + 1) xs none }
 
+-- a window that is this one but for what was put and what is kept
+keeps_now : {old new : Sent} {put : ℕ} {kept : fin.FinMap nat_cmp (List ℕ)} → new ≡ record { window = old.window; put = put; kept = kept } → Keeps old new put kept
+keeps_now same = record { window = ap (λ (s : Sent). s.window) same; now_put = ap (λ (s : Sent). s.put) same; now_kept = ap (λ (s : Sent). s.kept) same }
+
 module _ (window put : ℕ) (xs : List (List ℕ)) (are : AreFrames window put xs) where
   pub len_of : fin.len (sent_of window put xs).kept ≡ length xs
   len_of = len-kept (put - length xs + 1) xs
@@ -159,8 +163,7 @@ module _ (window put : ℕ) (xs : List (List ℕ)) (are : AreFrames window put x
 
   pub is_sent_window : IsSentWindow (sent_of window put xs)
   is_sent_window = record {
-    window_one_or_more = are.window_one_or_more;
-    window_at_most = are.window_at_most;
+    width = are.width;
     room = omega (arith, len_of, are.room);
     put_at_most = are.put_at_most;
     in_a_row = (put - length xs, omega (arith, len_of, are.put_before), kept_number);
@@ -185,16 +188,15 @@ module _ (window put : ℕ) (xs : List (List ℕ)) (are : AreFrames window put x
 
     pub put_keeps : AreFrames window (put + 1) (xs ++ x ∷ [])
     put_keeps = record {
-      window_one_or_more = are.window_one_or_more;
-      window_at_most = are.window_at_most;
+      width = are.width;
       room = omega (arith, longer, places);
       put_before = omega (arith, longer, are.put_before);
       put_at_most = omega (arith, numbers);
     }
 
-    pub put_gives : sent_of window (put + 1) (xs ++ x ∷ [])
+    put_is : sent_of window (put + 1) (xs ++ x ∷ [])
         ≡ record { window = window; put = put + 1; kept = fin.insert (sent_of window put xs).kept (put + 1) x }
-    put_gives =
+    put_is =
         let same : put + 1 - length (xs ++ x ∷ []) + 1 ≡ put - length xs + 1 = omega (arith, longer, are.put_before) in
         let next : put - length xs + 1 + length xs ≡ put + 1 = omega (arith, are.put_before) in
         let of_kept : fin.FinMap nat_cmp (List ℕ) → Sent = λ k. record { window = window; put = put + 1; kept = k } in
@@ -202,18 +204,19 @@ module _ (window put : ℕ) (xs : List (List ℕ)) (are : AreFrames window put x
         ∙ ap of_kept (push_kept (put - length xs + 1) xs x)
         ∙ ap (λ (n : ℕ). of_kept (fin.insert (sent_of window put xs).kept n x)) next
 
+    pub put_gives : Keeps (sent_of window put xs) (sent_of window (put + 1) (xs ++ x ∷ [])) (put + 1) (fin.insert (sent_of window put xs).kept (put + 1) x)
+    put_gives = keeps_now put_is
+
   module _ (last d : ℕ) (e : d ≡ last - (put - length xs)) where
     pub trim_keeps : AreFrames window put (drop d xs)
     trim_keeps = record {
-      window_one_or_more = are.window_one_or_more;
-      window_at_most = are.window_at_most;
+      width = are.width;
       room = omega (arith, length-drop d xs, are.room);
       put_before = omega (arith, length-drop d xs, are.put_before);
       put_at_most = are.put_at_most;
     }
 
-    pub trim_gives : sent_of window put (drop d xs)
-        ≡ record { window = window; put = put; kept = fin.retain_keys (sent_of window put xs).kept (λ number. nat_lt last number) }
+    pub trim_gives : Keeps (sent_of window put xs) (sent_of window put (drop d xs)) put (fin.retain_keys (sent_of window put xs).kept (λ number. nat_lt last number))
     trim_gives =
         let of_kept : fin.FinMap nat_cmp (List ℕ) → Sent = λ k. record { window = window; put = put; kept = k } in
-        ap of_kept (trim_kept put last d xs are.put_before e)
+        keeps_now (ap of_kept (trim_kept put last d xs are.put_before e))

@@ -1,5 +1,6 @@
 -- What is known of how far the members of a group have delivered.
 use Rattle.std.specs.Prelude.{◌≡◌, ◌≢◌, ℕ, ◌<◌, ◌≤◌, List, [], slice_index, slice_index_or, max, refl}
+use Rattle.cb_times.specs.Group.{IsGroupSize}
 use Rattle.std.specs.Coded.{Coded, code_by, coded×, coded_list, coded_ℕ}
 
 -- the size of the group, and for each member how many casts of each sender it is known to have delivered
@@ -33,8 +34,7 @@ IsCountOfOther known i number = (k : ℕ) × (k < known.size) × (k ≢ i) × (n
 
 -- what is true of all that is ever known
 pub record IsKnown (known : Known) : Type 0 where
-  pub two_or_more : 2 ≤ known.size
-  pub at_most_sixty_four : known.size ≤ 64
+  pub group : IsGroupSize known.size
 
 -- how it is stored: its fields as a pair
 abbrev pub known_code : Coded Known

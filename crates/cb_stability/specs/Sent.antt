@@ -3,6 +3,8 @@ use Rattle.std.specs.Prelude.{◌≡◌, ℕ, ◌+◌, ◌-◌, ◌==◌, ◌<�
 use Rattle.std.specs.Coded.{Coded, code_by, coded×, coded_list, coded_ℕ}
 use Rattle.std.specs.FinMap as fin
 use Rattle.std.specs.Ordering.{nat_cmp}
+use Rattle.cb_times.specs.Group.{IsWindow}
+use Rattle.cb_frames.specs.declared.frame.TheConstants.{LAST_NUMBER, MOST_FRAMES}
 use Rattle.cb_frames.specs.declared.frame.Range.{Range}
 use Rattle.cb_stability.specs.Ranges.{is_in_some}
 
@@ -18,13 +20,19 @@ pub record IsFresh (window : ℕ) (sent : Sent) : Type 0 where
   pub none_put : sent.put ≡ 0
   pub empty : sent.kept ≡ fin.empty
 
+-- so many frames were put, the window keeps just these now, and nothing else has changed that a caller can see
+pub record Keeps (old new : Sent) (put : ℕ) (kept : fin.FinMap nat_cmp (List ℕ)) : Type 0 where
+  pub window : new.window ≡ old.window
+  pub now_put : new.put ≡ put
+  pub now_kept : new.kept ≡ kept
+
 -- how many places are left: none once the greatest number was given
 abbrev pub room_of : Sent → ℕ
-room_of sent = if sent.put == 4294967295 then 0 else sent.window - fin.len sent.kept
+room_of sent = if sent.put == LAST_NUMBER then 0 else sent.window - fin.len sent.kept
 
 -- the frames kept whose numbers lie in some range, in rising order of the number, the first 64 where there are more
 abbrev pub frames_in : List Range → Sent → List (List ℕ)
-frames_in ranges sent = map (λ e. e.1) (take 64 (filter (λ e. is_in_some ranges e.0) (fin.entries sent.kept)))
+frames_in ranges sent = map (λ e. e.1) (take MOST_FRAMES (filter (λ e. is_in_some ranges e.0) (fin.entries sent.kept)))
 
 -- the numbers kept are those after the last one trimmed, up to the last one put
 abbrev pub AreInARow : Sent → Type 0
@@ -34,10 +42,9 @@ AreInARow sent =
 
 -- what is true of every window
 pub record IsSentWindow (sent : Sent) : Type 0 where
-  pub window_one_or_more : 1 ≤ sent.window
-  pub window_at_most : sent.window ≤ 256
+  pub width : IsWindow sent.window
   pub room : fin.len sent.kept ≤ sent.window
-  pub put_at_most : sent.put ≤ 4294967295
+  pub put_at_most : sent.put ≤ LAST_NUMBER
   pub in_a_row : AreInARow sent
 
 -- how a window is stored: its fields as pairs

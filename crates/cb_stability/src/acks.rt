@@ -1,5 +1,6 @@
 //! The plain acknowledgements: a row of counts for each member, and a look at all of them for each answer.
 ghost use Rattle.std.specs.Prelude.{◌≡◌, ◌≢◌, ◌<◌, ◌≤◌, ℕ, length, All, IfOk};
+ghost use Rattle.cb_times.specs.Group.{IsGroupSize};
 ghost use Rattle.cb_stability.specs.Known.{IsUnknown, IsKnown, Learns, IsStable, IsCountOfOther};
 ghost use Rattle.cb_stability.specs.Rows.{AreRows, known_of};
 
@@ -31,10 +32,9 @@ impl Model for Acks {
 }
 
 impl Acks {
-    /// Nothing is known of a group of `size` members: all counts are 0. It fails only for want of memory.
+    /// Nothing is known of a group of `size` members: all counts are 0. The only error is out of memory.
     pub fn new(alloc: Global, size: u32) -> Result<Acks, NoMemory>
-        requires two_or_more { 2 ≤ size }
-        requires at_most_sixty_four { size ≤ 64 }
+        requires { IsGroupSize size }
         ensures { IfOk result (IsUnknown size) }
     {
         let mut rows = Vec::with_capacity(alloc, size as usize)?;

@@ -2,19 +2,17 @@
 ghost use Rattle.std.specs.Prelude.{◌≡◌, ◌+◌, ◌^◌, ◌<◌, ◌≤◌, [], ◌∷◌, ◌++◌, length, drop, nat_lt, if◌then◌else◌, IfOk, OnOk};
 ghost use Rattle.std.specs.FinMap as map;
 ghost use Rattle.std.specs.VecDeque.{deque_len, deque_capacity};
+ghost use Rattle.cb_times.specs.Group.{IsWindow};
 ghost use Rattle.cb_stability.specs.Ranges.{is_in_some};
-ghost use Rattle.cb_stability.specs.Sent.{IsFresh, IsSentWindow, room_of, frames_in};
+ghost use Rattle.cb_stability.specs.Sent.{IsFresh, IsSentWindow, Keeps, room_of, frames_in};
 ghost use Rattle.cb_stability.specs.Numbered.{numbered_after, first_in};
 
 use bytes::Bytes;
-use cb_frames::Range;
+use cb_frames::{MOST_FRAMES, Range};
 use cb_times::NoMemory;
 use std::alloc::Global;
 use std::collections::VecDeque;
 use std::marker::Model;
-
-/// The most frames of one answer.
-const MOST_FRAMES: usize = 64;
 
 /// The frames that a member sent and may have to send again.
 ///
@@ -48,10 +46,9 @@ impl Model for SentWindow {
 }
 
 impl SentWindow {
-    /// An empty window with places for `window` frames; none was put yet. It fails only for want of memory.
+    /// An empty window with places for `window` frames; none was put yet. The only error is out of memory.
     pub fn new(alloc: Global, window: u32) -> Result<SentWindow, NoMemory>
-        requires window_one_or_more { 1 ≤ window }
-        requires window_at_most { window ≤ 256 }
+        requires { IsWindow window }
         ensures { IfOk result (IsFresh window) }
     {
         let frames = VecDeque::with_capacity(alloc, window as usize)?;
@@ -68,7 +65,7 @@ impl SentWindow {
     pub fn put(&mut self, frame: Bytes)
         requires { 0 < room_of self.old }
         ensures { let number = self.old.put + 1 in
-            self.new ≡ record self.old { put = number; kept = map.insert self.old.kept number frame } }
+            Keeps self.old self.new number (map.insert self.old.kept number frame) }
     {
         self.frames.push_back_reserved(frame);
         self.put += 1;
@@ -79,8 +76,8 @@ impl SentWindow {
     /// Numbers that were trimmed before or never put are no fault: past the end it empties the window, and the next frame
     /// put still gets the number after the last one put.
     pub fn trim(&mut self, last: u32)
-        ensures { self.new
-            ≡ record self.old { kept = map.retain_keys self.old.kept (λ number. nat_lt last number) } }
+        ensures { let later = map.retain_keys self.old.kept (λ number. nat_lt last number) in
+            Keeps self.old self.new self.old.put later }
     {
         let trimmed = self.put - self.frames.len() as u32;
         let count = last.saturating_sub(trimmed) as usize;
@@ -90,7 +87,7 @@ impl SentWindow {
     /// The frames that are kept with numbers in some of these ranges, each once, byte for byte as they were put.
     ///
     /// They come in rising order of the number, the first 64 of them where there are more. Ranges may overlap, come in any
-    /// order, be empty, or name numbers that are not kept. It fails only for want of memory. The window stays as it is.
+    /// order, be empty, or name numbers that are not kept. The only error is out of memory. The window stays as it is.
     pub fn frames_in(&self, ranges: &[Range]) -> Result<Vec<Bytes>, NoMemory>
         ensures { IfOk result (λ frames. frames.items ≡ frames_in ranges.now self.now) }
     {
@@ -151,7 +148,8 @@ fn copy_if_in_some(
     ranges: &[Range],
 ) -> Result<(), NoMemory>
     ensures { let with_it = copies.old.items ++ frame.now ∷ [] in
-        OnOk result (copies.new.items ≡ (if is_in_some ranges.now number then with_it else copies.old.items)) }
+        OnOk result (copies.new.items
+        ≡ (if is_in_some ranges.now number then with_it else copies.old.items)) }
 {
     if is_in_some(ranges, number) {
         copies.push(frame.clone()?)?;

@@ -8,7 +8,7 @@ use Rattle.cb_times.specs.declared.order.TimeOrder.TheVariants.{Before, After, S
 abbrev pub field : List ℕ → ℕ → ℕ
 field time k = slice_index time k
 
--- every field of a is at most that of b
+-- no field of a is above b's
 abbrev pub AtMost : (ℕ → ℕ) → (ℕ → ℕ) → Type 0
 AtMost a b = (k : ℕ) → a k ≤ b k
 

@@ -1,13 +1,13 @@
 -- What a vector time is, seen as the list of its fields.
-use Rattle.std.specs.Prelude.{◌≡◌, ℕ, ◌<◌, ◌≤◌, ◌^◌, List, ◌++◌, codes, length, map, max}
+use Rattle.std.specs.Prelude.{◌≡◌, ℕ, ◌<◌, ◌^◌, List, ◌++◌, codes, length, map, max}
 use Rattle.std.specs.Fmt.{decimal}
 use Rattle.std.specs.List.{join_with_byte}
+use Rattle.cb_times.specs.Group.{IsGroupSize}
 use Rattle.cb_times.specs.Order.{field}
 
 -- a time of a group of 2 to 64 members, whose fields are message numbers
 pub record IsTime (time : List ℕ) : Type 0 where
-  pub two_or_more : 2 ≤ length time
-  pub at_most_sixty_four : length time ≤ 64
+  pub size : IsGroupSize (length time)
   pub in_range : (k : ℕ) → field time k < 2 ^ 32
 
 -- the greater of the two at every field

@@ -1,12 +1,16 @@
-//! Vector times of a group, and their order.
+//! Vector times of a group and their order, the names of messages, and the limits of groups.
 //!
-//! A `VectorTime` counts each member's messages, and `TimeOrder` says how two compare. `NoMemory` is the one fault here and in the
-//! crates above. Stands on nothing but std. `cb_diffs`, `cb_delay` and all above use its words.
+//! A `VectorTime` counts each member's messages, and `TimeOrder` says how two compare. `NoMemory` is the one word for an
+//! allocation that was refused, here and in the crates above. Stands on nothing but std.
 #![tactic(auto)]
 
+mod group;
 pub mod laws;
+mod name;
 mod order;
 mod time;
 
+pub use group::{FEWEST_MEMBERS, MOST_MEMBERS, WIDEST_WINDOW};
+pub use name::Name;
 pub use order::TimeOrder;
 pub use time::{NoMemory, VectorTime};

@@ -3,6 +3,7 @@
 //! Birman, Schiper and Stephenson 1991, section 4.
 ghost use Rattle.std.specs.Prelude.{◌≡◌, ◌+◌, ◌<◌, ◌≤◌, ◌^◌, ℕ, length, replicate, slice_set, IfOk, Some};
 ghost use Rattle.std.specs.Bool.{OnTrue, OnFalse};
+ghost use Rattle.cb_times.specs.Group.{IsGroupSize};
 ghost use Rattle.cb_times.specs.Order.{field, AtMost, Compares};
 ghost use Rattle.cb_times.specs.Time.{IsTime, IsRaised, text_of};
 
@@ -11,7 +12,7 @@ use std::alloc::{AllocError, Global};
 use std::fmt;
 use std::marker::Model;
 
-/// Want of memory: a growth was refused, and nothing has changed.
+/// Out of memory: an allocation was refused, and nothing has changed.
 pub type NoMemory = AllocError;
 
 /// A time of a group of 2 to 64 members, with one field for each member.
@@ -20,7 +21,8 @@ pub type NoMemory = AllocError;
 ///
 /// A member starts at `zero`. Before it sends it calls `add_one` at its own field and stamps the message with a `copy`;
 /// at a delivery it `raise`s its time to the stamp. `compare` then tells of two stamps which message came before the
-/// other. `size` and `get` read a time, and `set` is for who works a stamp out from numbers.
+/// other. `size`, `get` and `as_slice` read a time; `set` is for who works a stamp out from numbers, and `copy_from` for who
+/// has a time to write over.
 ///
 /// Only `zero` and `copy` take memory.
 #[derive(Debug, Drop)]
@@ -42,8 +44,7 @@ impl Model for VectorTime {
 impl VectorTime {
     /// The time at which nothing was sent, for a group of that many members.
     pub fn zero(alloc: Global, size: u32) -> Result<VectorTime, NoMemory>
-        requires two_or_more { 2 ≤ size }
-        requires at_most_sixty_four { size ≤ 64 }
+        requires { IsGroupSize size }
         ensures { IfOk result (λ time. time ≡ replicate size 0) }
     {
         let fields = vec![in alloc; 0; size as usize]?;
@@ -67,10 +68,18 @@ impl VectorTime {
         self.fields[k as usize]
     }
 
+    /// The fields, member 0's first.
+    pub fn as_slice(&self) -> &[u32]
+        ensures fields { result.now ≡ self.now }
+        ensures time { IsTime self.now }
+    {
+        self.fields.as_slice()
+    }
+
     /// Counts one more message of member `k`.
     pub fn add_one(&mut self, k: u32)
         requires member { k < length self.old }
-        requires room { field self.old k < 4294967295 }
+        requires room { field self.old k < u32.MAX }
         ensures { self.new ≡ slice_set self.old k (field self.old k + 1) }
     {
         self.fields[k as usize] += 1;
@@ -105,6 +114,15 @@ impl VectorTime {
             (false, true) => TimeOrder::After,
             (false, false) => TimeOrder::Concurrent,
         }
+    }
+
+    /// Becomes the same as another time of the group.
+    pub fn copy_from(&mut self, other: &VectorTime)
+        requires { length other.now ≡ length self.old }
+        ensures copied { self.new ≡ other.now }
+        ensures time { IsTime other.now }
+    {
+        self.fields.copy_from_slice(&other.fields);
     }
 
     /// A second time with the same fields.
@@ -179,11 +197,17 @@ mod tests {
     fn a_sender_counts_its_own_and_a_receiver_raises(rt: HostRuntime) -> Result<(), Fail> {
         let mut sender = VectorTime::zero(rt.alloc(), 3)?;
         sender.add_one(0);
+        sender.set(1, 7);
+        sender.add_one(1);
         sender.set(2, 4294967295);
         let mut receiver = time_of(rt.alloc(), &[0, 7, 5])?;
         receiver.raise(&sender);
         assert_eq!(rt; receiver.size(), 3);
-        for (k, field) in [(0, 1), (1, 7), (2, 4294967295)] {
+        assert_eq!(rt; receiver.as_slice(), [1, 8, 4294967295].as_slice());
+        let mut other = time_of(rt.alloc(), &[2, 9, 0])?;
+        other.copy_from(&receiver);
+        assert_eq!(rt; other.as_slice(), receiver.as_slice());
+        for (k, field) in [(0, 1), (1, 8), (2, 4294967295)] {
             assert_eq!(rt; receiver.get(k), field, "at field {k}");
         }
         Ok(())

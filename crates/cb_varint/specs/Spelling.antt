@@ -28,6 +28,10 @@ pub record Spells (text : List ℕ) (n : ℕ) : Type 0 where
   pub worth : n ≡ value_of text
   pub fits : n < 2 ^ 32
 
+-- the spelling of n was appended
+abbrev pub AppendsSpelling : List ℕ → List ℕ → ℕ → Type 0
+AppendsSpelling old new n = (text : List ℕ) × Spells text n × (new ≡ old ++ text)
+
 -- What is wrong with bytes at whose front no number is spelled.
 abbrev pub IsFault : NumberFault → List ℕ → Type 0
 -- four bytes with their top bit set, and a fifth that no number below 2 ^ 32 has there

@@ -1,6 +1,6 @@
 //! Numbers on the wire: 0 to 4,294,967,295 in one to five bytes, each number in one spelling only.
 //!
-//! Stands on std alone; `cb_frames` and `cb_rooms` build their fields from it.
+//! Stands on std alone.
 #![tactic(auto)]
 
 mod fault;
@@ -9,7 +9,7 @@ mod number;
 
 pub use fault::NumberFault;
 pub use laws::one_spelling;
-pub use number::{NoMemory, length, put, take};
+pub use number::{length, put, take};
 
 #[cfg(test)]
 mod tests;

@@ -2,14 +2,11 @@
 
 ghost use Rattle.std.specs.Prelude.{◌≡◌, ℕ, ◌+◌, ◌<◌, ◌≤◌, ◌++◌, ◌↔◌, List, length as len, take as front, IfOk, OnOk, OnErr, vec_capacity, vec_len};
 ghost use Rattle.cb_varint.specs.declared.fault.NumberFault.{NumberFault as Fault};
-ghost use Rattle.cb_varint.specs.Spelling.{Spells, IsFault};
+ghost use Rattle.cb_varint.specs.Spelling.{Spells, AppendsSpelling, IsFault};
 ghost use Rattle.cb_varint.specs.Reading.{number_at, spelling};
 
 use crate::fault::NumberFault;
 use std::alloc::AllocError;
-
-/// Want of memory: a growth was refused, and nothing has changed.
-pub type NoMemory = AllocError;
 
 /// How many bytes a spelling has at most.
 const LONGEST: usize = 5;
@@ -34,9 +31,9 @@ fn groups_in(v: u32) -> usize
     }
 }
 
-/// Appends the one spelling of `v` to `out`. Where memory is wanting `out` keeps its bytes.
-pub fn put(v: u32, out: &mut Vec<u8>) -> Result<(), NoMemory>
-    ensures text { OnOk result ((text : List ℕ) × Spells text v × (out.new.items ≡ out.old.items ++ text)) }
+/// Appends the one spelling of `v` to `out`. Out of memory, `out` keeps its bytes.
+pub fn put(v: u32, out: &mut Vec<u8>) -> Result<(), AllocError>
+    ensures text { OnOk result (AppendsSpelling out.old.items out.new.items v) }
     ensures exact { OnOk result (out.new.items ≡ out.old.items ++ spelling v) }
     ensures err { OnErr result (out.new.items ≡ out.old.items) }
     ensures full { OnErr result (vec_capacity out.old < vec_len out.old + len (spelling v)) }
@@ -57,7 +54,8 @@ pub fn put(v: u32, out: &mut Vec<u8>) -> Result<(), NoMemory>
 pub fn take(bytes: &[u8]) -> Result<(u32, usize), NumberFault>
     ensures within { IfOk result (λ found. found.1 ≤ len bytes.now) }
     ensures found { IfOk result (λ found. Spells (front found.1 bytes.now) found.0) }
-    ensures only { (text rest : List ℕ) (n : ℕ) → Spells text n → bytes.now ≡ text ++ rest → result ≡ Ok (n, len text) }
+    ensures only { (text rest : List ℕ) (n : ℕ)
+        → Spells text n → bytes.now ≡ text ++ rest → result ≡ Ok (n, len text) }
     ensures fault { (fault : Fault) → (result ≡ Err fault) ↔ IsFault fault bytes.now }
     ensures exact { result ≡ number_at bytes.now }
 {

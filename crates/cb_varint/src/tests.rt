@@ -43,3 +43,16 @@ fn what_begins_with_no_number_has_its_fault(rt: HostRuntime) {
         assert_eq!(rt; take(bytes), Err(fault), "at {bytes:?}");
     }
 }
+
+#[test]
+fn a_fault_prints_its_name(rt: HostRuntime) -> Result<(), Fail> {
+    const NAMES: [(NumberFault, &str); 3] = [
+        (NumberFault::Short, "Short"),
+        (NumberFault::NotMinimal, "NotMinimal"),
+        (NumberFault::TooLarge, "TooLarge"),
+    ];
+    for (fault, name) in NAMES {
+        assert_eq!(rt; fault.to_string(rt.alloc())?.as_str(), name);
+    }
+    Ok(())
+}

@@ -1,2 +1,2 @@
-pub mod Accepting
-pub mod LineSteps
+pub mod Expanding
+pub mod CommandLine

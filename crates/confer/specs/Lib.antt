@@ -1,6 +1,2 @@
-pub mod Refusals
-pub mod Answers
-pub mod Lines
-pub mod Accepted
-pub mod Progress
-pub mod Words
+pub mod Expand
+pub mod Cli

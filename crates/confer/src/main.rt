@@ -1,26 +1,22 @@
 //! `confer`: causal broadcast at the command line.
 //!
-//! `confer expand` reads cast frames in hexadecimal, a frame a line, and prints the vector time of each. It stands on
-//! `cb_frames` and `cb_diffs`; the words are read by `clap`.
+//! `cli` reads the words, by `clap`, and runs what they order. Each subcommand has a module of its own: `expand` stands on
+//! `cb_frames` and `cb_diffs`.
 #![tactic(auto)]
 
-mod answer;
-mod fault;
-mod lines;
-mod refusal;
+mod cli;
+mod expand;
 #[cfg(test)]
-mod tests;
-mod words;
+mod fakes;
 
-use crate::fault::{Fault, LinesFault};
-use crate::words::{report, run_words};
+use crate::cli::{Fault, report, run_words};
 use std::env;
 use std::io::ErrorKind;
 use std::process::ExitCode;
 
 fn words_of(rt: &HostRuntime) -> Result<Vec<String>, Fault> {
     let words = env::args(rt).map_err(|fault| match fault.kind() {
-        ErrorKind::OutOfMemory => Fault::Lines(LinesFault::NoMemory),
+        ErrorKind::OutOfMemory => Fault::NoMemory,
         _ => Fault::NotText,
     })?;
     Ok(words.collect(rt.alloc())?)

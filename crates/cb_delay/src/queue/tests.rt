@@ -4,8 +4,8 @@ ghost use Rattle.cb_delay.specs.Message.{IsOfGroup};
 ghost use Rattle.cb_delay.specs.Queue.{IsHeld};
 
 use super::*;
-use crate::message::Name;
 use bytes::Bytes;
+use cb_times::Name;
 use std::test::Fail;
 
 const QUESTION: Name = Name {
@@ -48,7 +48,8 @@ fn queue_with(alloc: Global, message: Message) -> Result<DelayQueue, NoMemory>
     requires { IsOfGroup 3 message }
     ensures size { IfOk result (λ queue. queue.size ≡ 3) }
     ensures window { IfOk result (λ queue. queue.window ≡ 4) }
-    ensures only { IfOk result (λ queue. (held : Message) → IsHeld queue held → held.name ≡ message.name) }
+    ensures only { IfOk result (λ queue. (held : Message)
+        → IsHeld queue held → held.name ≡ message.name) }
 {
     let mut queue = DelayQueue::new(alloc, 3, 4)?;
     let _none = queue.len();
@@ -115,6 +116,21 @@ fn a_later_message_may_be_the_ready_one(rt: HostRuntime) -> Result<(), Fail> {
     );
     assert_eq!(rt; queue.release(2).map(|message| message.name), None);
     assert_eq!(rt; queue.release(64).map(|message| message.name), None);
+    Ok(())
+}
+
+#[test]
+fn a_message_waits_for_the_one_before_it_of_its_sender(rt: HostRuntime) -> Result<(), Fail> {
+    let second = Name {
+        sender: 2,
+        number: 2,
+    };
+    let mut queue = queue_with(rt.alloc(), message_of(rt.alloc(), second, 0)?)?;
+    assert_eq!(rt; queue.next_ready(&time_of(rt.alloc(), &[0, 0, 0])?), None);
+    assert_eq!(rt;
+        queue.next_ready(&time_of(rt.alloc(), &[0, 0, 1])?),
+        Some(2)
+    );
     Ok(())
 }
 

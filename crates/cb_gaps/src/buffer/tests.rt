@@ -1,5 +1,6 @@
 //! Worked examples of one sender's casts: what is kept, what comes out, what is missing.
-ghost use Rattle.std.specs.Prelude.{◌≡◌, ◌≤◌, IfOk};
+ghost use Rattle.std.specs.Prelude.{◌≡◌, IfOk};
+ghost use Rattle.cb_times.specs.Group.{IsWindow};
 
 use super::*;
 use bytes::Bytes;
@@ -20,8 +21,7 @@ fn cast(alloc: Global, number: u32) -> Cast
 
 // A buffer of which this many casts were taken and none is kept.
 fn after(alloc: Global, window: u32, taken: u32) -> Result<Reorder, NoMemory>
-    requires one_or_more { 1 ≤ window }
-    requires at_most { window ≤ 256 }
+    requires { IsWindow window }
     ensures { IfOk result (λ reorder. reorder.taken ≡ taken) }
 {
     let kept = VecDeque::with_capacity(alloc, window as usize)?;
@@ -33,7 +33,7 @@ fn after(alloc: Global, window: u32, taken: u32) -> Result<Reorder, NoMemory>
 }
 
 // Keeps it where as many are delivered as were taken.
-fn keep(reorder: &mut Reorder, alloc: Global, number: u32) -> Keeping {
+fn keep(reorder: &mut Reorder, alloc: Global, number: u32) -> Admission {
     let delivered = reorder.taken();
     reorder.keep(delivered, cast(alloc, number))
 }
@@ -46,13 +46,13 @@ fn number_taken(reorder: &mut Reorder) -> Option<u32> {
 fn a_later_cast_waits_and_the_number_between_is_missing(rt: HostRuntime) -> Result<(), Fail> {
     let mut reorder = Reorder::new(rt.alloc(), 4)?;
     assert_eq!(rt; reorder.taken(), 0);
-    assert_eq!(rt; keep(&mut reorder, rt.alloc(), 1), Keeping::Kept);
+    assert_eq!(rt; keep(&mut reorder, rt.alloc(), 1), Admission::Kept);
     assert_eq!(rt; number_taken(&mut reorder), Some(1));
     assert_eq!(rt; reorder.taken(), 1);
-    assert_eq!(rt; keep(&mut reorder, rt.alloc(), 4), Keeping::Kept);
-    assert_eq!(rt; keep(&mut reorder, rt.alloc(), 4), Keeping::Repeat);
-    assert_eq!(rt; keep(&mut reorder, rt.alloc(), 1), Keeping::Repeat);
-    assert_eq!(rt; keep(&mut reorder, rt.alloc(), 6), Keeping::TooFar);
+    assert_eq!(rt; keep(&mut reorder, rt.alloc(), 4), Admission::Kept);
+    assert_eq!(rt; keep(&mut reorder, rt.alloc(), 4), Admission::Repeat);
+    assert_eq!(rt; keep(&mut reorder, rt.alloc(), 1), Admission::Repeat);
+    assert_eq!(rt; keep(&mut reorder, rt.alloc(), 6), Admission::TooFar);
     assert_eq!(rt;
         reorder.missing(1, 4)?.as_slice(),
         [Range { first: 2, last: 3 }].as_slice()
@@ -67,7 +67,7 @@ fn casts_in_any_order_come_out_in_the_order_of_their_numbers(rt: HostRuntime) ->
     for number in [3, 1, 4, 2] {
         assert_eq!(rt;
             keep(&mut reorder, rt.alloc(), number),
-            Keeping::Kept,
+            Admission::Kept,
             "at {number}"
         );
     }
@@ -84,22 +84,27 @@ fn a_cast_comes_out_as_it_was_kept(rt: HostRuntime) -> Result<(), Fail> {
     let mut sent = cast(rt.alloc(), 1);
     sent.payload = Bytes::from_static(b"yo");
     let mut reorder = Reorder::new(rt.alloc(), 4)?;
-    assert_eq!(rt; reorder.keep(0, sent), Keeping::Kept);
-    let taken = reorder.take_next().map(|cast| cast.payload);
-    assert_eq!(rt; taken, Some(Bytes::from_static(b"yo")));
+    assert_eq!(rt; reorder.keep(0, sent), Admission::Kept);
+    let Some(taken) = reorder.take_next() else {
+        return Err(Fail::new("it does not come out"));
+    };
+    assert_eq!(rt; taken.group, 7);
+    assert_eq!(rt; taken.sender, 0);
+    assert_eq!(rt; taken.payload, Bytes::from_static(b"yo"));
     Ok(())
 }
 
 #[test]
 fn number_0_is_a_repeat_and_a_repeat_comes_before_too_far(rt: HostRuntime) -> Result<(), Fail> {
     let mut reorder = Reorder::new(rt.alloc(), 4)?;
-    assert_eq!(rt; keep(&mut reorder, rt.alloc(), 0), Keeping::Repeat);
-    assert_eq!(rt; keep(&mut reorder, rt.alloc(), 1), Keeping::Kept);
+    assert_eq!(rt; keep(&mut reorder, rt.alloc(), 0), Admission::Repeat);
+    assert_eq!(rt; keep(&mut reorder, rt.alloc(), 1), Admission::Kept);
     assert_eq!(rt; number_taken(&mut reorder), Some(1));
-    assert_eq!(rt; keep(&mut reorder, rt.alloc(), 5), Keeping::Kept);
     // Where none is delivered the window ends at 4.
-    assert_eq!(rt; reorder.keep(0, cast(rt.alloc(), 5)), Keeping::Repeat);
-    assert_eq!(rt; reorder.keep(0, cast(rt.alloc(), 6)), Keeping::TooFar);
+    assert_eq!(rt; reorder.keep(0, cast(rt.alloc(), 5)), Admission::TooFar);
+    assert_eq!(rt; keep(&mut reorder, rt.alloc(), 5), Admission::Kept);
+    assert_eq!(rt; reorder.keep(0, cast(rt.alloc(), 5)), Admission::Repeat);
+    assert_eq!(rt; reorder.keep(0, cast(rt.alloc(), 6)), Admission::TooFar);
     Ok(())
 }
 
@@ -109,7 +114,7 @@ fn each_gap_is_a_range(rt: HostRuntime) -> Result<(), Fail> {
     for number in [9, 4, 5, 2] {
         assert_eq!(rt;
             keep(&mut reorder, rt.alloc(), number),
-            Keeping::Kept,
+            Admission::Kept,
             "at {number}"
         );
     }
@@ -149,7 +154,8 @@ fn each_gap_is_a_range(rt: HostRuntime) -> Result<(), Fail> {
 fn none_is_missing_where_all_that_was_heard_of_came(rt: HostRuntime) -> Result<(), Fail> {
     let mut reorder = Reorder::new(rt.alloc(), 4)?;
     assert!(rt; reorder.missing(0, 0)?.is_empty());
-    assert_eq!(rt; keep(&mut reorder, rt.alloc(), 1), Keeping::Kept);
+    assert!(rt; reorder.missing(2, 0)?.is_empty());
+    assert_eq!(rt; keep(&mut reorder, rt.alloc(), 1), Admission::Kept);
     assert!(rt; reorder.missing(0, 1)?.is_empty());
     assert_eq!(rt; number_taken(&mut reorder), Some(1));
     assert!(rt; reorder.missing(1, 1)?.is_empty());
@@ -168,7 +174,7 @@ fn the_window_ends_at_the_greatest_number(rt: HostRuntime) -> Result<(), Fail> {
         }]
         .as_slice()
     );
-    assert_eq!(rt; keep(&mut reorder, rt.alloc(), LAST), Keeping::TooFar);
+    assert_eq!(rt; keep(&mut reorder, rt.alloc(), LAST), Admission::TooFar);
     Ok(())
 }
 
@@ -183,15 +189,15 @@ fn none_follows_the_greatest_number(rt: HostRuntime) -> Result<(), Fail> {
         }]
         .as_slice()
     );
-    assert_eq!(rt; keep(&mut reorder, rt.alloc(), 1), Keeping::Repeat);
-    assert_eq!(rt; keep(&mut reorder, rt.alloc(), LAST), Keeping::Kept);
+    assert_eq!(rt; keep(&mut reorder, rt.alloc(), 1), Admission::Repeat);
+    assert_eq!(rt; keep(&mut reorder, rt.alloc(), LAST), Admission::Kept);
     assert_eq!(rt; number_taken(&mut reorder), None);
-    assert_eq!(rt; keep(&mut reorder, rt.alloc(), LAST - 1), Keeping::Kept);
+    assert_eq!(rt; keep(&mut reorder, rt.alloc(), LAST - 1), Admission::Kept);
     assert_eq!(rt; number_taken(&mut reorder), Some(LAST - 1));
     assert_eq!(rt; number_taken(&mut reorder), Some(LAST));
     assert_eq!(rt; number_taken(&mut reorder), None);
     assert_eq!(rt; reorder.taken(), LAST);
-    assert_eq!(rt; keep(&mut reorder, rt.alloc(), 0), Keeping::Repeat);
+    assert_eq!(rt; keep(&mut reorder, rt.alloc(), 0), Admission::Repeat);
     assert!(rt; reorder.missing(LAST, LAST)?.is_empty());
     Ok(())
 }

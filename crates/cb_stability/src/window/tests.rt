@@ -1,5 +1,6 @@
 //! Worked examples: what a window keeps, and what it gives when asked.
 ghost use Rattle.std.specs.Prelude.{◌≡◌, ◌<◌, ◌≤◌, IfOk};
+ghost use Rattle.cb_times.specs.Group.{IsWindow};
 
 use super::*;
 use std::process::Abort;
@@ -16,8 +17,7 @@ fn window_with(
     window: u32,
     count: u32,
 ) -> Result<SentWindow, NoMemory>
-    requires window_one_or_more { 1 ≤ window }
-    requires window_at_most { window ≤ 256 }
+    requires { IsWindow window }
 {
     let mut sent = SentWindow::new(alloc, window)?;
     for number in 1..=count {

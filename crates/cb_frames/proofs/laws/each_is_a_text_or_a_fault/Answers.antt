@@ -1,5 +1,6 @@
 use Rattle.cb_frames.proofs.Unique.{text_has_no_fault, one_first_fault}
 use Rattle.cb_frames.proofs.Decoding.{each_is, reading_is_exact}
+use Rattle.cb_frames.proofs.NeverMemory.{reading_takes_no_memory}
 use Rattle.cb_frames.proofs.laws.each_is_a_text_or_a_fault.Goals as goal
 
 pub returns-clause-each : goal.returns-clause-each
@@ -13,3 +14,6 @@ returns-clause-one c = one_first_fault
 
 pub returns-clause-reading : goal.returns-clause-reading
 returns-clause-reading c = reading_is_exact
+
+pub returns-clause-memory : goal.returns-clause-memory
+returns-clause-memory c = reading_takes_no_memory

@@ -1,15 +1,16 @@
-use Rattle.std.proofs.Common.{arith}
+use Rattle.std.proofs.Common.{sym, subst, arith}
+use Rattle.cb_times.specs.Group.{IsGroupSize}
 use Rattle.cb_delay.proofs.Deques.{new_keeps, new_gives}
 use Rattle.cb_delay.proofs.queue.DelayQueue.new.Goals as goal
 
 pub invariant_of-result : goal.invariant_of-result
 invariant_of-result c =
     new_keeps c.args.window c.loop.lists.items c.loop.invariant.fresh
-    (omega arith) (omega arith) c.requires.window_one_or_more c.requires.window_at_most
+    (subst IsGroupSize (omega arith) c.requires.group) c.requires.window
 
 pub returns : goal.returns
 returns c =
     new_gives c.args.window c.loop.lists.items c.loop.invariant.fresh
     (new_keeps c.args.window c.loop.lists.items c.loop.invariant.fresh
-    (omega arith) (omega arith) c.requires.window_one_or_more c.requires.window_at_most).0
+    (subst IsGroupSize (omega arith) c.requires.group) c.requires.window).0
     c.args.size (omega arith)

@@ -1,5 +1,5 @@
 use Rattle.std.proofs.Common.{◌+◌, ◌≤◌, arith, ap}
-use Rattle.cb_delay.specs.declared.message.Name.{Name}
+use Rattle.cb_times.specs.declared.name.Name.{Name}
 use Rattle.cb_delay.specs.Queue.{count_of}
 use Rattle.cb_delay.proofs.Room.{count_is_within}
 use Rattle.cb_delay.proofs.queue.tests.hold_second.Goals as goal

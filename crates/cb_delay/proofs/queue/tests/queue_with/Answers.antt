@@ -1,5 +1,5 @@
-use Rattle.std.proofs.Common.{◌≡◌, arith, ap}
-use Rattle.cb_delay.specs.Queue.{Queue, count_of}
+use Rattle.std.proofs.Common.{◌≡◌, arith}
+use Rattle.cb_delay.specs.Queue.{count_of}
 use Rattle.cb_delay.proofs.Room.{count_of-none, none_is_held, only_is_held}
 use Rattle.cb_delay.proofs.queue.tests.queue_with.Goals as goal
 
@@ -18,4 +18,4 @@ hold-requires-clause-next c last is =
 pub returns-clause-only : goal.returns-clause-only
 returns-clause-only c =
     only_is_held c.in_ok-queue.queue c.hold.new.self c.args.message
-    c.in_ok-queue.ensures.empty (ap (λ (q : Queue). q.held) c.hold.ensures)
+    c.in_ok-queue.ensures.empty c.hold.ensures.now_held

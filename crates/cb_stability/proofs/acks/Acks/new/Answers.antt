@@ -4,7 +4,7 @@ use Rattle.cb_stability.proofs.acks.Acks.new.Goals as goal
 
 pub invariant_of-result : goal.invariant_of-result
 invariant_of-result c =
-    rows_made c.args.size c.loop.rows.items (omega arith) c.requires.two_or_more c.requires.at_most_sixty_four c.loop.invariant.zero
+    rows_made c.args.size c.loop.rows.items (omega arith) c.requires c.loop.invariant.zero
 
 pub returns : goal.returns
 returns c = unknown_made c.args.size c.loop.rows.items (omega arith) c.loop.invariant.zero

@@ -1,0 +1,48 @@
+#!/usr/bin/env bash
+# Runs the built program and compares its exit statuses 0, 1, 2 and 3 with what it writes and says: what the words, the reads
+# and the writes of the real program do, which no test in the crate reaches.
+# It wants the proved program: `rt run` in crates/confer leaves it in crates/confer/out.
+set -eu
+here=$(cd "$(dirname "$0")" && pwd)
+confer=$here/../crates/confer/out/confer
+[ -x "$confer" ] || (cd "$here/../crates/confer" && rt run -- expand --group 7 --size 3 < stdin > /dev/null)
+work=$(mktemp -d)
+trap 'rm -rf "$work"' EXIT
+printf '%s\n' 1107000100026869 1107010101000102796f > "$work/accepted"
+printf '%s\n' 1107000100026869 12070200 > "$work/refused"
+printf '0.1 [1,0,0] "hi"\n1.1 [1,1,0] "yo"\n' > "$work/times"
+printf '0.1 [1,0,0] "hi"\nrefused NotACast\n' > "$work/refusal"
+: > "$work/nothing"
+
+# ends STATUS OUTPUT SAID COMMAND..: the command ends so, writes this file, and says a line with these words on standard error
+ends() {
+    local status=$1 output=$2 said=$3 found=0
+    shift 3
+    "$@" > "$work/written" 2> "$work/said" || found=$?
+    [ "$found" = "$status" ] || { echo "status $found and not $status: $*"; exit 1; }
+    cmp "$output" "$work/written"
+    if [ -z "$said" ]; then
+        [ ! -s "$work/said" ] || { echo "it says something: $*"; exit 1; }
+    else
+        grep -qF -- "$said" "$work/said" || { echo "it does not say '$said': $*"; exit 1; }
+    fi
+}
+expand=("$confer" expand --group 7 --size 3)
+ends 0 "$work/nothing" '' "${expand[@]}" < /dev/null
+ends 0 "$work/times" '' "${expand[@]}" < "$work/accepted"
+ends 1 "$work/refusal" '' "${expand[@]}" < "$work/refused"
+ends 2 "$work/nothing" 'Usage:' "$confer" < "$work/accepted"
+ends 2 "$work/nothing" '--group <G>' "$confer" expand --help < "$work/accepted"
+ends 2 "$work/nothing" "'play'" "$confer" play < "$work/accepted"
+ends 2 "$work/nothing" "'65'" "$confer" expand --group 7 --size 65 < "$work/accepted"
+ends 2 "$work/nothing" 'confer: a word of the command line is not UTF-8' "${expand[@]}" $'\xff' < "$work/accepted"
+# a folder can be opened and not read, and the full device takes no byte
+ends 3 "$work/nothing" 'confer: read fault' "${expand[@]}" < "$work"
+found=0
+"${expand[@]}" < "$work/accepted" > /dev/full 2> "$work/said" || found=$?
+[ "$found" = 3 ] && [ "$(cat "$work/said")" = 'confer: write fault' ] || { echo "a full device: status $found"; exit 1; }
+# a line that ends within the limit is answered, the one that goes past it is not
+{ echo 1107000100026869; head -c 67108864 /dev/zero | tr '\0' 'g'; } > "$work/long"
+head -n 1 "$work/times" > "$work/first"
+ends 3 "$work/first" 'confer: input too long' "${expand[@]}" < "$work/long"
+echo 'statuses 0, 1, 2 and 3, with their outputs'

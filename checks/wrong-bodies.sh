@@ -1,0 +1,94 @@
+#!/usr/bin/env bash
+# Runs the tests of a crate on each of its wrong bodies: the edits of crates/CRATE/must-fail and of checks/wrong-bodies/CRATE, each in
+# a scratch copy of the repository and without its proof. A line for each, `CRATE EDIT refused-by-test TESTS` or `CRATE EDIT passes-tests`.
+# It ends with 1 where an edit does not fit the code, or where the wrong body does not compile or does not run.
+# No part of the gate, where the prover refuses the edits of must-fail. Some 20 seconds an edit; JOBS=2 tries two at a time.
+#   checks/wrong-bodies.sh [CRATE..]      those crates, or all that have such edits
+#   EDITS='NAME ..' checks/wrong-bodies.sh CRATE      those edits alone
+set -u
+top=$(cd "$(dirname "$0")/.." && pwd)
+work=$(mktemp -d)
+trap 'rm -rf "$work"' EXIT
+
+# puts the edit $2 into the copy of the crate in the folder $1
+apply() {
+    perl -e '
+        my ($crate, $edit) = @ARGV;
+        my (%text, $file, $old);
+        open my $in, "<", $edit or die "$edit: $!\n";
+        while (my $line = <$in>) {
+            chomp $line;
+            if ($line =~ /^file: (.*)$/) {
+                $file = $1;
+                next if exists $text{$file};
+                open my $from, "<", "$crate/$file" or die "$file: $!\n";
+                local $/;
+                $text{$file} = <$from>;
+            } elsif ($line =~ /^old: (.*)$/) {
+                $old = $1;
+            } elsif ($line =~ /^new: ?(.*)$/) {
+                my $new = $1;
+                my $count = () = $text{$file} =~ /\Q$old\E/g;
+                die "\"$old\" stands $count times in $file\n" if $count != 1;
+                $text{$file} =~ s/\Q$old\E/$new/;
+            } elsif ($line ne "") {
+                die "no line of an edit: $line\n";
+            }
+        }
+        for (keys %text) {
+            open my $to, ">", "$crate/$_" or die "$_: $!\n";
+            print $to $text{$_};
+        }
+    ' "$1" "$2"
+}
+
+# tries one edit, $2 of the crate $1, in a copy of its own
+try() {
+    local crate=$1 edit=$2 name copy shown refusing
+    name=$(basename "$edit" .edit)
+    copy=$(mktemp -d "$work/copy.XXXXXX")
+    cp -r "$work/whole/." "$copy"
+    if ! shown=$(apply "$copy/crates/$crate" "$edit" 2>&1); then
+        echo "$crate $name does-not-fit: $shown"
+        rm -rf "$copy"
+        return 1
+    fi
+    shown=$(cd "$copy/crates/$crate" && rt try --test 2>&1)
+    rm -rf "$copy"
+    refusing=$(grep -E '^test .* \.\.\. ' <<< "$shown" | grep -vE '\.\.\. (ok|ignored)$' | awk '{ n = split($2, path, "::"); print path[n] }')
+    if [ -n "$refusing" ]; then
+        echo "$crate $name refused-by-test" $refusing
+    elif grep -q '^test result: ok\.' <<< "$shown"; then
+        echo "$crate $name passes-tests"
+    else
+        echo "$crate $name does-not-run: $(grep -m1 -E 'error|fault' <<< "$shown")"
+        return 1
+    fi
+}
+
+mkdir "$work/whole"
+(cd "$top" && tar -c --exclude=out --exclude=.git .) | tar -x -C "$work/whole"
+shopt -s nullglob
+status=0
+running=0
+for crate in "${@:-}"; do
+    for folder in "$top"/crates/${crate:-*}/must-fail "$top"/checks/wrong-bodies/${crate:-*}; do
+        of=${folder#"$top"/crates/}
+        of=${of%/must-fail}
+        of=$(basename "$of")
+        for edit in "$folder"/*.edit; do
+            [ -z "${EDITS:-}" ] || [[ " $EDITS " == *" $(basename "$edit" .edit) "* ]] || continue
+            if [ "$running" -ge "${JOBS:-1}" ]; then
+                wait -n || status=1
+                running=$((running - 1))
+            fi
+            try "$of" "$edit" &
+            running=$((running + 1))
+        done
+    done
+done
+while [ "$running" -gt 0 ]; do
+    wait -n || status=1
+    running=$((running - 1))
+done
+exit "$status"

@@ -1,0 +1,9 @@
+pub mod Events
+pub mod HappenedBefore
+pub mod CausalMachine
+pub mod StampedMachine
+pub mod Laws
+pub mod Lists
+pub mod CausalGroup
+pub mod StampedGroup
+pub mod FaultText

@@ -1,0 +1,39 @@
+//! What is proved of every run, of any length and for every size of the group.
+//!
+//! Each law is a function that does nothing: its contract is the law.
+
+ghost use Rattle.cb_causality.specs.CausalMachine.{Run};
+ghost use Rattle.cb_causality.specs.Laws.{EachRun, EachStep, EachStampedRun, IsAcyclic, IsIrreflexive, IsTransitive, KeepsPaths, TimesTellOrder, TimesCountThePast, TimesHaveSize, IsInOrder, IsErasure, DelayRuleIsExact};
+ghost use Rattle.cb_causality.specs.StampedMachine.{erased};
+
+/// Happened-before is a strict order on the messages of every run of the causal machine (Lamport 1978, "The partial
+/// ordering").
+pub fn happened_before_is_strict_order()
+    ensures irreflexive { EachRun (λ size lists. IsIrreflexive lists) }
+    ensures transitive { EachRun (λ size lists. IsTransitive lists) }
+    ensures acyclic { EachRun (λ size lists. IsAcyclic lists) }
+{}
+
+/// What happens later adds no path between older places, and takes none away.
+pub fn steps_keep_the_past()
+    ensures { EachStep KeepsPaths }
+{}
+
+/// Vector times and the delay rule give causal broadcast (Birman, Schiper and Stephenson 1991, section 5).
+///
+/// The lists of every run of the stamped machine, without their times, are those of a run of the causal machine. The
+/// times of any two messages compare exactly as happened-before does, and a time counts the past of its message.
+pub fn stamped_broadcast_is_causal()
+    ensures causal { EachStampedRun (λ size lists. Run size (erased lists)) }
+    ensures order { EachStampedRun (λ size lists. TimesTellOrder lists) }
+    ensures past { EachStampedRun (λ size lists. TimesCountThePast lists) }
+    ensures fields { EachStampedRun TimesHaveSize }
+    ensures in_order { EachStampedRun (λ size lists. IsInOrder (erased lists)) }
+{}
+
+/// The stamped machine is no smaller thing: the delay rule holds nothing back longer than causality asks, and every run
+/// of the causal machine is one of the stamped machine without its times.
+pub fn causal_broadcast_can_be_stamped()
+    ensures exact { EachStampedRun (λ size lists. DelayRuleIsExact lists) }
+    ensures erasure { EachRun IsErasure }
+{}

@@ -1,0 +1,85 @@
+-- What a call adds with any limit, it adds with the greatest.
+use Rattle.std.proofs.Common.{◌≡◌, ℕ, ◌≤◌, Bool, true, false, cond, not, ◌&&◌, eqb, ltb, List, [], ◌∷◌, length, Option, Some, None, Result, Ok, Err, refl, arith}
+use Rattle.std.proofs.lemmas.Bool.{leb-false, lt-leb}
+use Rattle.cb_frames.specs.declared.frame.TheConstants.{LONGEST_PAYLOAD}
+use Rattle.cb_frames.specs.declared.fault.FrameFault.{FrameFault}
+use Rattle.cb_frames.specs.Fields.{CastFields, FrameFields, StatusFrame}
+use Rattle.cb_frames.specs.Text.{text_of}
+use Rattle.cb_frames.specs.Reading.{frame_at}
+use Rattle.cb_history.specs.declared.answer.CastRefusal.{CastRefusal}
+use Rattle.cb_history.specs.declared.answer.CastRefusal.TheVariants as casts
+use Rattle.cb_history.specs.declared.answer.ArriveRefusal.{ArriveRefusal}
+use Rattle.cb_history.specs.declared.answer.ArriveRefusal.TheVariants as arrivals
+use Rattle.cb_history.specs.declared.answer.TickRefusal.{TickRefusal}
+use Rattle.cb_history.specs.declared.answer.TickRefusal.TheVariants as ticks
+use Rattle.cb_history.specs.declared.answer.Outgoing.{Outgoing}
+use Rattle.cb_history.specs.Group.{Seat}
+use Rattle.cb_history.specs.Facts.{EntryFields, facts_of}
+use Rattle.cb_history.specs.Answers.{is_full, is_window_full, next_cast, cast_answer, group_of, are_members, is_impossible, is_repeat, is_too_far, is_change, deliveries, sent_in_answer, ArrivalSays, Accepted, Repeat, answer_to, arrive_answer, status_of, is_new_status, requests, tick_answer}
+use Rattle.cb_history.specs.Legal.{longest_history, Call, ToCast, ToTake, ToTick, OfBytes, cast_entry, arrive_entry, tick_entry, entry_of, and_entry, OneMore, IsLegal}
+use Rattle.cb_history.specs.HistoryLaws.{CallsKeepLegal}
+
+room_at_most : (limit : ℕ) (entries : List EntryFields) → limit ≤ longest_history → is_full limit entries ≡ false → is_full longest_history entries ≡ false
+room_at_most limit entries most room = let left = leb-false limit (length entries) room in lt-leb longest_history (length entries) (omega (arith, most, left))
+
+-- the tests of an answer, of which the last is whether an entry is left
+abbrev a_cast : Bool → Bool → Bool → CastFields → Result CastFields CastRefusal
+a_cast long full none c = cond long (Err casts.PayloadTooLong) (cond full (Err casts.WindowFull) (cond none (Err casts.HistoryFull) (Ok c)))
+
+same_cast : (long full none least : Bool) (c : CastFields) (e : EntryFields) → (none ≡ false → least ≡ false) → cast_entry (a_cast long full none c) ≡ Some e → cast_entry (a_cast long full least c) ≡ Some e
+same_cast true full none least c e room h = h
+same_cast false true none least c e room h = h
+same_cast false false true least c e room h = absurd cc
+same_cast false false false least c e room h = rw (room refl) h
+
+abbrev an_arrival : Bool → Bool → Bool → Bool → Bool → Bool → Bool → ArrivalSays → ArrivalSays → Result ArrivalSays ArriveRefusal
+an_arrival group members impossible repeat far change none changed unchanged =
+    cond (not group) (Err arrivals.OtherGroup) (cond (not members) (Err arrivals.BadMember) (cond impossible (Err arrivals.Impossible) (cond repeat (Ok Repeat) (cond far (Err arrivals.TooFar)
+    (cond (change && none) (Err arrivals.HistoryFull) (cond change (Ok changed) (Ok unchanged)))))))
+
+same_arrival : (group members impossible repeat far change none least : Bool) (changed unchanged : ArrivalSays) (bytes : List ℕ) (e : EntryFields) → (none ≡ false → least ≡ false)
+    → arrive_entry bytes (an_arrival group members impossible repeat far change none changed unchanged) ≡ Some e → arrive_entry bytes (an_arrival group members impossible repeat far change least changed unchanged) ≡ Some e
+same_arrival false members impossible repeat far change none least changed unchanged bytes e room h = h
+same_arrival true false impossible repeat far change none least changed unchanged bytes e room h = h
+same_arrival true true true repeat far change none least changed unchanged bytes e room h = h
+same_arrival true true false true far change none least changed unchanged bytes e room h = h
+same_arrival true true false false true change none least changed unchanged bytes e room h = h
+same_arrival true true false false false false none least changed unchanged bytes e room h = h
+same_arrival true true false false false true true least changed unchanged bytes e room h = absurd cc
+same_arrival true true false false false true false least changed unchanged bytes e room h = rw (room refl) h
+
+abbrev a_tick : Bool → Bool → List Outgoing → Result (Bool × List Outgoing) TickRefusal
+a_tick new none out = cond (new && none) (Err ticks.HistoryFull) (Ok (new, out))
+
+same_tick : (new none least : Bool) (out : List Outgoing) (status : List ℕ) (e : EntryFields) → (none ≡ false → least ≡ false) → tick_entry status (a_tick new none out) ≡ Some e → tick_entry status (a_tick new least out) ≡ Some e
+same_tick false none least out status e room h = h
+same_tick true true least out status e room h = absurd cc
+same_tick true false least out status e room h = rw (room refl) h
+
+taken_same : (seat : Seat) (limit : ℕ) (entries : List EntryFields) (bytes : List ℕ) (r : Result FrameFields FrameFault) (e : EntryFields) → (is_full limit entries ≡ false → is_full longest_history entries ≡ false)
+    → arrive_entry bytes (answer_to seat limit entries r) ≡ Some e → arrive_entry bytes (answer_to seat longest_history entries r) ≡ Some e
+taken_same seat limit entries bytes (Ok frame) e room h =
+    let facts = facts_of entries in
+    same_arrival (eqb (group_of frame) seat.group.number) (are_members seat.group.size frame) (is_impossible seat facts frame) (is_repeat facts frame) (is_too_far seat facts frame) (is_change seat facts frame)
+    (is_full limit entries) (is_full longest_history entries) (Accepted (deliveries seat facts frame) true (sent_in_answer seat facts frame)) (Accepted [] false (sent_in_answer seat facts frame)) bytes e room h
+taken_same seat limit entries bytes (Err fault) e room h = h
+
+entry_same : (seat : Seat) (limit : ℕ) (entries : List EntryFields) (call : Call) (e : EntryFields) → limit ≤ longest_history → entry_of seat limit entries call ≡ Some e → entry_of seat longest_history entries call ≡ Some e
+unfolding cast_answer arrive_answer tick_answer
+entry_same seat limit entries (ToCast payload) e most h =
+    same_cast (ltb LONGEST_PAYLOAD (length payload)) (is_window_full seat (facts_of entries)) (is_full limit entries) (is_full longest_history entries) (next_cast seat (facts_of entries) payload) e (room_at_most limit entries most) h
+entry_same seat limit entries (ToTake bytes) e most h = taken_same seat limit entries bytes (frame_at bytes) e (room_at_most limit entries most) h
+entry_same seat limit entries ToTick e most h =
+    same_tick (is_new_status seat (facts_of entries)) (is_full limit entries) (is_full longest_history entries)
+    (record { to = None; bytes = text_of (StatusFrame (status_of seat (facts_of entries))) } ∷ requests seat (facts_of entries)) (text_of (StatusFrame (status_of seat (facts_of entries)))) e (room_at_most limit entries most) h
+
+added_is_legal : (seat : Seat) (limit : ℕ) (entries : List EntryFields) (call : Call) (o : Option EntryFields) → limit ≤ longest_history → IsLegal seat entries → OfBytes call → entry_of seat limit entries call ≡ o → IsLegal seat (and_entry entries o)
+added_is_legal seat limit entries call None most legal bytes is = legal
+added_is_legal seat limit entries call (Some e) most legal bytes is = record {
+  group = legal.group;
+  member = legal.member;
+  entries_are = OneMore entries call e legal.entries_are bytes (entry_same seat limit entries call e most is);
+}
+
+pub calls_keep_legal : CallsKeepLegal
+calls_keep_legal seat limit entries call most legal bytes = added_is_legal seat limit entries call (entry_of seat limit entries call) most legal bytes refl

@@ -1,0 +1,22 @@
+mod Rows
+pub mod Views
+pub mod Lists
+pub mod Walks
+pub mod Names
+pub mod Rising
+pub mod Prefixes
+pub mod ReadBack
+pub mod Bounds
+pub mod Written
+pub mod Histories
+pub mod Calls
+pub mod Growth
+pub mod Times
+pub mod Acknowledged
+pub mod Agreement
+pub mod Requests
+pub mod InTime
+pub mod Copies
+pub mod Gaps
+pub mod GapsLater
+pub mod RisingByCasts

@@ -1,0 +1,266 @@
+-- Names and order in the views of legal facts.
+use Rattle.std.proofs.Common.{◌≡◌, ◌≢◌, ℕ, ◌+◌, ◌<◌, ◌≤◌, Bool, true, false, ◌&&◌, eqb, ltb, List, [], ◌∷◌, ◌++◌, length, Some, refl, sym, ap, subst, ◌∙◌, arith, inl, inr}
+use Rattle.std.proofs.lemmas.Bool.{eq-eqb, ltb-true, ltb-false}
+use Rattle.std.proofs.lemmas.List.{append-nil, length-append}
+use Rattle.cb_frames.specs.Fields.{CastFields, Carried, last_number}
+use Rattle.cb_history.specs.Group.{Seat}
+use Rattle.cb_history.specs.Facts.{Fact, OwnCast, CastCame, StatusCame, OwnStatus, casts_in, messages_in, is_there}
+use Rattle.cb_history.specs.View.{count, is_among, next_delivery, drain, view}
+use Rattle.cb_history.specs.Answers.{own_casts, delivered}
+use Rattle.cb_history.specs.LegalFacts.{IsCastTaken, IsStep, AreLegalFacts, NoFacts, OneFactMore}
+use Rattle.cb_history.specs.NameLaws.{InOrderAfter, NamesDiffer, NumberedFrom, CameFromOthers, NamesStandOnce, OwnCastsAreNumbered, OwnMessagesAreOwn, ViewIsInOrder, ViewHoldsTheFirst, ViewIsOfCasts, IsOneOf, ViewIsAsCast}
+use Rattle.cb_history.proofs.Views.{IsIn, next_is, next_is_the_only_candidate, ready_is_new, expanded_is_there, casts_in-append, test_true, among_more, among_itself}
+use Rattle.cb_history.proofs.Lists.{length_messages, messages_in-push, in_front, in_back, in_push, names_push, in_is_among, among_is, count_own, count_other, order_push, among_by_order, order_bound}
+use Rattle.cb_history.proofs.Walks.{drain_keeps, view_own, view_came, view_status, view_told, own_casts-own, own_casts-other}
+
+-- what is true of the casts, the view and the own casts
+pub record Stands (seat : Seat) (casts : List CastFields) (seen : List Carried) (own : List CastFields) : Type 0 where
+  pub small : (m : Carried) → IsIn m (messages_in casts) → m.sender < seat.group.size
+  pub positive : (m : Carried) → IsIn m (messages_in casts) → 1 ≤ m.number
+  pub there : (m : Carried) → IsIn m seen → IsIn m (messages_in casts)
+  pub order : InOrderAfter [] seen
+  pub own_seen : (m : Carried) → IsIn m (messages_in casts) → m.sender ≡ seat.me → is_among seen m ≡ true
+  pub names : NamesDiffer (messages_in casts)
+  pub own_count : count seen seat.me ≡ length own
+  pub own_numbers : NumberedFrom seat.me 1 own
+
+-- the message of a cast
+abbrev pub message : CastFields → Carried
+message c = record { sender = c.sender; number = c.number; payload = c.payload }
+
+in_message : (casts : List CastFields) (c : CastFields) (m : Carried) → IsIn m (messages_in (casts ++ c ∷ [])) → IsIn m (messages_in casts ++ message c ∷ [])
+in_message casts c m h = subst (IsIn m) (messages_in-push casts c) h
+
+message_in : (casts : List CastFields) (c : CastFields) (m : Carried) → IsIn m (messages_in casts ++ message c ∷ []) → IsIn m (messages_in (casts ++ c ∷ []))
+message_in casts c m h = subst (IsIn m) (sym (messages_in-push casts c)) h
+
+numbered_push : (me n at : ℕ) (own : List CastFields) (c : CastFields) → NumberedFrom me n own → c.sender ≡ me → c.number ≡ at → at ≡ n + length own → NumberedFrom me n (own ++ c ∷ [])
+numbered_push me n at [] c numbered sender number is = (sender, number ∙ omega (arith, is), tt)
+numbered_push me n at (d ∷ own) c numbered sender number is = (numbered.0, numbered.1, numbered_push me (last_number d + 1) at own c numbered.2 sender number (omega (arith, is, numbered.1)))
+
+-- ---- an own cast
+
+own_stands : (seat : Seat) (casts : List CastFields) (seen : List Carried) (own : List CastFields) (c : CastFields) → seat.me < seat.group.size → Stands seat casts seen own
+    → c.sender ≡ seat.me → c.number ≡ count seen seat.me + 1 → Stands seat (casts ++ c ∷ []) (seen ++ message c ∷ []) (own ++ c ∷ [])
+own_stands seat casts seen own c member s sender number = record {
+  small = λ m h. elim (in_push m (message c) (messages_in casts) (in_message casts c m h)) [
+    | inl old ↦ s.small m old
+    | inr new ↦ let same : m.sender ≡ c.sender = ap (λ (y : Carried). y.sender) new in omega (arith, same, sender, member)
+  ];
+  positive = λ m h. elim (in_push m (message c) (messages_in casts) (in_message casts c m h)) [
+    | inl old ↦ s.positive m old
+    | inr new ↦ let same : m.number ≡ c.number = ap (λ (y : Carried). y.number) new in omega (arith, same, number)
+  ];
+  there = λ m h. message_in casts c m (elim (in_push m (message c) seen h) [
+    | inl old ↦ in_front m (messages_in casts) (message c ∷ []) (s.there m old)
+    | inr new ↦ in_back m (messages_in casts) (message c ∷ []) (inl new)
+  ]);
+  order = order_push [] seen (message c) s.order (number ∙ ap (λ (k : ℕ). count seen k + 1) (sym sender));
+  own_seen = λ m h e. elim (in_push m (message c) (messages_in casts) (in_message casts c m h)) [
+    | inl old ↦ among_more seen (message c) m (s.own_seen m old e)
+    | inr new ↦ subst (λ (y : Carried). is_among (seen ++ message c ∷ []) y ≡ true) (sym new) (among_itself seen (message c))
+  ];
+  names = subst NamesDiffer (sym (messages_in-push casts c)) (names_push (messages_in casts) (message c) s.names (new_name seat casts seen own c s sender number));
+  own_count = count_own seen (message c) seat.me sender ∙ ap (λ (n : ℕ). n + 1) s.own_count ∙ sym (length-append own (c ∷ []));
+  own_numbers = numbered_push seat.me 1 c.number own c s.own_numbers sender refl (omega (arith, number, s.own_count));
+}
+  where
+    none_above : (seat : Seat) (casts : List CastFields) (seen : List Carried) (own : List CastFields) (c : CastFields) → Stands seat casts seen own → c.sender ≡ seat.me → c.number ≡ count seen seat.me + 1 → is_among (messages_in casts) (message c) ≡ true → ⊥
+    none_above seat casts seen own c s sender number h =
+        let found = among_is (messages_in casts) (message c) h in
+        let n : Carried = found.0 in
+        let own_one : n.sender ≡ seat.me = found.2 ∙ sender in
+        let seen_one = among_is seen n (s.own_seen n found.1 own_one) in
+        let bound = order_bound [] seen seen_one.0 s.order seen_one.1 in
+        let at : count seen seen_one.0.sender ≡ count seen seat.me = ap (count seen) (seen_one.2 ∙ own_one) in
+        let same : seen_one.0.number ≡ c.number = seen_one.3 ∙ found.3 in
+        omega (arith, bound, at, same, number)
+
+    is_false : (b : Bool) → (b ≡ true → ⊥) → b ≡ false
+    is_false true h = absurd (h refl)
+    is_false false h = refl
+
+    new_name : (seat : Seat) (casts : List CastFields) (seen : List Carried) (own : List CastFields) (c : CastFields) → Stands seat casts seen own → c.sender ≡ seat.me → c.number ≡ count seen seat.me + 1 → is_among (messages_in casts) (message c) ≡ false
+    new_name seat casts seen own c s sender number = is_false (is_among (messages_in casts) (message c)) (none_above seat casts seen own c s sender number)
+
+-- ---- a cast that came
+
+-- what deliveries keep
+pub record Goes (seat : Seat) (casts : List CastFields) (n : ℕ) (seen : List Carried) : Type 0 where
+  pub there : (m : Carried) → IsIn m seen → IsIn m (messages_in casts)
+  pub order : InOrderAfter [] seen
+  pub own_seen : (m : Carried) → IsIn m (messages_in casts) → m.sender ≡ seat.me → is_among seen m ≡ true
+  pub own_count : count seen seat.me ≡ n
+
+goes_on : (seat : Seat) (casts : List CastFields) (n : ℕ) → ((m : Carried) → IsIn m (messages_in casts) → m.sender < seat.group.size) → (seen : List Carried) (m : Carried) → Goes seat casts n seen → next_delivery seat.group.size casts seen ≡ Some m → Goes seat casts n (seen ++ m ∷ [])
+goes_on seat casts n small seen m g e =
+    let next = next_is seat.group.size casts seen m e in
+    let in_casts : IsIn m (messages_in casts) = expanded_is_there casts m next.1 in
+    let number : m.number ≡ count seen m.sender + 1 = next_is_the_only_candidate seat.group.size casts seen m (small m in_casts) next.0 in
+    let new : is_among seen m ≡ false = ready_is_new seat.group.size casts seen m next.0 in
+    let other : m.sender ≢ seat.me = λ own. let old : is_among seen m ≡ true = g.own_seen m in_casts own in cc in
+    record {
+      there = λ x h. elim (in_push x m seen h) [
+        | inl old ↦ g.there x old
+        | inr same ↦ subst (λ (y : Carried). IsIn y (messages_in casts)) (sym same) in_casts
+      ];
+      order = order_push [] seen m g.order number;
+      own_seen = λ x h own. among_more seen m x (g.own_seen x h own);
+      own_count = count_other seen m seat.me other ∙ g.own_count;
+    }
+
+came_stands : (seat : Seat) (casts : List CastFields) (seen : List Carried) (own : List CastFields) (c : CastFields) → Stands seat casts seen own
+    → c.sender < seat.group.size → 1 ≤ c.number → c.sender ≢ seat.me → is_among (messages_in casts) (message c) ≡ false → Stands seat (casts ++ c ∷ []) (drain seat.group.size (casts ++ c ∷ []) seen) own
+came_stands seat casts seen own c s member positive other new =
+    let small : (m : Carried) → IsIn m (messages_in (casts ++ c ∷ [])) → m.sender < seat.group.size = λ m h. elim (in_push m (message c) (messages_in casts) (in_message casts c m h)) [
+      | inl old ↦ s.small m old
+      | inr same ↦ subst (λ (y : Carried). y.sender < seat.group.size) (sym same) member
+    ] in
+    let g : Goes seat (casts ++ c ∷ []) (length own) (drain seat.group.size (casts ++ c ∷ []) seen) = drain_keeps seat.group.size (casts ++ c ∷ []) (Goes seat (casts ++ c ∷ []) (length own)) (goes_on seat (casts ++ c ∷ []) (length own) small) seen (record {
+      there = λ m h. message_in casts c m (in_front m (messages_in casts) (message c ∷ []) (s.there m h));
+      order = s.order;
+      own_seen = λ m h e. elim (in_push m (message c) (messages_in casts) (in_message casts c m h)) [
+        | inl old ↦ s.own_seen m old e
+        | inr same ↦ absurd (other (ap (λ (y : Carried). y.sender) (sym same) ∙ e))
+      ];
+      own_count = s.own_count;
+    }) in
+    record {
+      small = small;
+      positive = λ m h. elim (in_push m (message c) (messages_in casts) (in_message casts c m h)) [
+        | inl old ↦ s.positive m old
+        | inr same ↦ subst (λ (y : Carried). 1 ≤ y.number) (sym same) positive
+      ];
+      there = g.there;
+      order = g.order;
+      own_seen = g.own_seen;
+      names = subst NamesDiffer (sym (messages_in-push casts c)) (names_push (messages_in casts) (message c) s.names new);
+      own_count = g.own_count;
+      own_numbers = s.own_numbers;
+    }
+
+-- ---- all facts
+
+abbrev pub StandsAt : Seat → List Fact → Type 0
+StandsAt seat facts = Stands seat (casts_in facts) (view seat.group.size facts) (own_casts facts)
+
+not_there : (b : Bool) → (b && true) ≡ false → b ≡ false
+not_there true h = absurd cc
+not_there false h = refl
+
+possible_own : (a b : Bool) → (a && b) ≡ false → a ≡ true → b ≡ false
+possible_own true b h e = h
+possible_own false b h e = absurd cc
+
+-- a cast that came is of another member: one of its own would be a repeat
+pub came_is_others : (seat : Seat) (facts : List Fact) (c : CastFields) → StandsAt seat facts → IsCastTaken seat facts c → c.sender ≢ seat.me
+came_is_others seat facts c s came own =
+    let bound = ltb-false (delivered seat facts seat.me) c.number (possible_own (eqb c.sender seat.me) (ltb (delivered seat facts seat.me) c.number) came.taken.possible (eq-eqb c.sender seat.me own)) in
+    let high : c.number ≤ count (view seat.group.size facts) c.sender = subst (λ (k : ℕ). c.number ≤ count (view seat.group.size facts) k) (sym own) bound in
+    let among : is_among (view seat.group.size facts) (message c) ≡ true = among_by_order [] (view seat.group.size facts) (message c) s.order (omega (arith, came.numbered)) (omega (arith, high)) in
+    let found = among_is (view seat.group.size facts) (message c) among in
+    let there : is_among (messages_in (casts_in facts)) found.0 ≡ true = in_is_among (messages_in (casts_in facts)) found.0 (s.there found.0 found.1) in
+    let again : is_there (casts_in facts) c.sender c.number ≡ true = subst (λ (k : ℕ). is_there (casts_in facts) k c.number ≡ true) found.2 (subst (λ (n : ℕ). is_there (casts_in facts) found.0.sender n ≡ true) found.3 there) in
+    let none : is_there (casts_in facts) c.sender c.number ≡ false = not_there (is_there (casts_in facts) c.sender c.number) came.taken.new in
+    cc
+
+status_stands : (seat : Seat) (casts casts' : List CastFields) (seen seen' : List Carried) (own own' : List CastFields) → casts' ≡ casts → seen' ≡ seen → own' ≡ own → Stands seat casts seen own → Stands seat casts' seen' own'
+status_stands seat casts casts' seen seen' own own' a b d s =
+    subst (λ (x : List CastFields). Stands seat x seen' own') (sym a) (subst (λ (x : List Carried). Stands seat casts x own') (sym b) (subst (λ (x : List CastFields). Stands seat casts seen x) (sym d) s))
+
+step_stands : (seat : Seat) (facts : List Fact) (f : Fact) → seat.me < seat.group.size → IsStep seat facts f → StandsAt seat facts → StandsAt seat (facts ++ f ∷ [])
+step_stands seat facts (OwnCast c) member step s =
+    status_stands seat (casts_in facts ++ c ∷ []) _ (view seat.group.size facts ++ message c ∷ []) _ (own_casts facts ++ c ∷ []) _ (casts_in-append facts (OwnCast c)) (view_own seat.group.size facts c) (own_casts-own facts c)
+    (own_stands seat (casts_in facts) (view seat.group.size facts) (own_casts facts) c member s (ap (λ (x : CastFields). x.sender) step.next) (ap (λ (x : CastFields). x.number) step.next))
+step_stands seat facts (CastCame c) member step s =
+    status_stands seat (casts_in facts ++ c ∷ []) _ (drain seat.group.size (casts_in facts ++ c ∷ []) (view seat.group.size facts)) _ (own_casts facts) _ (casts_in-append facts (CastCame c)) (view_came seat.group.size facts c) (own_casts-other facts (CastCame c) tt)
+    (came_stands seat (casts_in facts) (view seat.group.size facts) (own_casts facts) c s
+    (ltb-true c.sender seat.group.size (test_true (ltb c.sender seat.group.size) _ step.taken.members).0) step.numbered (came_is_others seat facts c s step) (not_there (is_there (casts_in facts) c.sender c.number) step.taken.new))
+step_stands seat facts (StatusCame t) member step s =
+    status_stands seat (casts_in facts) _ (view seat.group.size facts) _ (own_casts facts) _ (casts_in-append facts (StatusCame t) ∙ append-nil (casts_in facts)) (view_status seat.group.size facts t) (own_casts-other facts (StatusCame t) tt) s
+step_stands seat facts (OwnStatus t) member step s =
+    status_stands seat (casts_in facts) _ (view seat.group.size facts) _ (own_casts facts) _ (casts_in-append facts (OwnStatus t) ∙ append-nil (casts_in facts)) (view_told seat.group.size facts t) (own_casts-other facts (OwnStatus t) tt) s
+
+none_stands : (seat : Seat) → StandsAt seat []
+unfolding view
+none_stands seat = record {
+  small = λ m h. absurd h;
+  positive = λ m h. absurd h;
+  there = λ m h. absurd h;
+  order = tt;
+  own_seen = λ m h e. absurd h;
+  names = tt;
+  own_count = refl;
+  own_numbers = tt;
+}
+
+pub all_stand : (seat : Seat) (facts : List Fact) → seat.me < seat.group.size → AreLegalFacts seat facts → StandsAt seat facts
+all_stand seat _ member NoFacts = none_stands seat
+all_stand seat _ member (OneFactMore facts f before room step) = step_stands seat facts f member step (all_stand seat facts member before)
+
+-- ---- the laws
+
+others_push : (me : ℕ) (facts : List Fact) (f : Fact) → CameFromOthers me facts → CameFromOthers me (f ∷ []) → CameFromOthers me (facts ++ f ∷ [])
+others_push me [] f others here = here
+others_push me (OwnCast c ∷ facts) f others here = others_push me facts f others here
+others_push me (CastCame c ∷ facts) f others here = (others.0, others_push me facts f others.1 here)
+others_push me (StatusCame s ∷ facts) f others here = others_push me facts f others here
+others_push me (OwnStatus s ∷ facts) f others here = others_push me facts f others here
+
+other_here : (seat : Seat) (facts : List Fact) (f : Fact) → StandsAt seat facts → IsStep seat facts f → CameFromOthers seat.me (f ∷ [])
+other_here seat facts (OwnCast c) s step = tt
+other_here seat facts (CastCame c) s step = (came_is_others seat facts c s step, tt)
+other_here seat facts (StatusCame t) s step = tt
+other_here seat facts (OwnStatus t) s step = tt
+
+all_others : (seat : Seat) (facts : List Fact) → seat.me < seat.group.size → AreLegalFacts seat facts → CameFromOthers seat.me facts
+all_others seat _ member NoFacts = tt
+all_others seat _ member (OneFactMore facts f before room step) = others_push seat.me facts f (all_others seat facts member before) (other_here seat facts f (all_stand seat facts member before) step)
+
+pub names_stand_once : NamesStandOnce
+names_stand_once seat facts are = (all_stand seat facts are.member are.facts_are).names
+
+pub own_casts_are_numbered : OwnCastsAreNumbered
+own_casts_are_numbered seat facts are = let s = all_stand seat facts are.member are.facts_are in (s.own_numbers, s.own_count ∙ sym (length_messages (own_casts facts)))
+
+pub own_messages_are_own : OwnMessagesAreOwn
+own_messages_are_own seat facts are = all_others seat facts are.member are.facts_are
+
+pub view_is_in_order : ViewIsInOrder
+view_is_in_order seat facts are = (all_stand seat facts are.member are.facts_are).order
+
+pub view_is_of_casts : ViewIsOfCasts
+view_is_of_casts seat facts m are among =
+    let s = all_stand seat facts are.member are.facts_are in
+    let found = among_is (view seat.group.size facts) m among in
+    let there : is_among (messages_in (casts_in facts)) found.0 ≡ true = in_is_among (messages_in (casts_in facts)) found.0 (s.there found.0 found.1) in
+    subst (λ (k : ℕ). is_there (casts_in facts) k m.number ≡ true) found.2 (subst (λ (n : ℕ). is_there (casts_in facts) found.0.sender n ≡ true) found.3 there)
+
+one_of_is_in : (m : Carried) (ms : List Carried) → IsOneOf m ms → IsIn m ms
+one_of_is_in m [] h = h
+one_of_is_in m (n ∷ ms) (inl same) = inl same
+one_of_is_in m (n ∷ ms) (inr later) = inr (one_of_is_in m ms later)
+
+in_is_one_of : (m : Carried) (ms : List Carried) → IsIn m ms → IsOneOf m ms
+in_is_one_of m [] h = h
+in_is_one_of m (n ∷ ms) (inl same) = inl same
+in_is_one_of m (n ∷ ms) (inr later) = inr (in_is_one_of m ms later)
+
+pub view_is_as_cast : ViewIsAsCast
+view_is_as_cast seat facts m are there =
+    in_is_one_of m (messages_in (casts_in facts)) ((all_stand seat facts are.member are.facts_are).there m (one_of_is_in m (view seat.group.size facts) there))
+
+pub view_holds_the_first : ViewHoldsTheFirst
+view_holds_the_first seat facts m are = (first_of_there, there_of_first)
+  where
+    first_of_there : is_among (view seat.group.size facts) m ≡ true → (1 ≤ m.number) × (m.number ≤ delivered seat facts m.sender)
+    first_of_there among =
+        let s = all_stand seat facts are.member are.facts_are in
+        let found = among_is (view seat.group.size facts) m among in
+        let bound = order_bound [] (view seat.group.size facts) found.0 s.order found.1 in
+        let positive = s.positive found.0 (s.there found.0 found.1) in
+        let at : delivered seat facts found.0.sender ≡ delivered seat facts m.sender = ap (delivered seat facts) found.2 in
+        (omega (arith, positive, found.3), omega (arith, bound, at, found.3))
+
+    there_of_first : (1 ≤ m.number) × (m.number ≤ delivered seat facts m.sender) → is_among (view seat.group.size facts) m ≡ true
+    there_of_first h = among_by_order [] (view seat.group.size facts) m (all_stand seat facts are.member are.facts_are).order (omega (arith, h.0)) (omega (arith, h.1))

@@ -1,0 +1,305 @@
+-- The worked examples of one member.
+use Rattle.std.proofs.Common.{◌≡◌, ℕ, true, false, List, [], ◌∷◌, map, replicate, Option, Some, None, Result, Ok, Err, refl, arith}
+use Rattle.cb_varint.specs.Reading.{number_at, spelling}
+use Rattle.cb_frames.specs.declared.fault.FrameFault.TheVariants as faults
+use Rattle.cb_frames.specs.Fields.{CastFields, CastFrame}
+use Rattle.cb_frames.specs.Text.{text_of}
+use Rattle.cb_frames.specs.Reading.{frame_at, cast_at, status_at, request_at, pairs_at, pair_at}
+use Rattle.cb_delay.specs.declared.message.Message.{Message}
+use Rattle.cb_history.specs.declared.answer.CastRefusal.{CastRefusal}
+use Rattle.cb_history.specs.declared.answer.CastRefusal.TheVariants as casts
+use Rattle.cb_history.specs.declared.answer.ArriveRefusal.TheVariants as arrivals
+use Rattle.cb_history.specs.declared.answer.TickRefusal.TheVariants as ticks
+use Rattle.cb_history.specs.Group.{Seat, AreParameters}
+use Rattle.cb_history.specs.Facts.{EntryFields, facts_of, casts_in}
+use Rattle.cb_history.specs.View.{view, drained, time_of, expanded_in, message_in}
+use Rattle.cb_history.specs.Known.{missing, ranges_of, acknowledged, stable}
+use Rattle.cb_history.specs.Answers.{cast_answer, arrive_answer, tick_answer, window, Accepted, Repeat}
+use Rattle.cb_history.specs.Legal.{Call, ToCast, ToTake, ToTick, history_after}
+
+-- member `me` of group 7 with three members and a window of 4
+abbrev at : ℕ → Seat
+at me = record { group = record { number = 7; size = 3; window = 4 }; me = me }
+
+-- the history after some calls, with room for 100 entries
+abbrev after_from : Seat → List EntryFields → List Call → List EntryFields
+after_from seat entries [] = entries
+after_from seat entries (call ∷ calls) = after_from seat (history_after seat 100 entries call) calls
+
+abbrev after : Seat → List Call → List EntryFields
+after seat calls = after_from seat [] calls
+
+abbrev bytes_of : Result CastFields CastRefusal → Option (List ℕ)
+bytes_of (Ok c) = Some (text_of (CastFrame c))
+bytes_of (Err refusal) = None
+
+abbrev message : ℕ → ℕ → List ℕ → List ℕ → Message
+message sender number time payload = record { name = record { sender = sender; number = number }; time = time; payload = payload }
+
+-- the frames of "hi" by member 0, of "yo" by member 1 that had delivered it, and of "ok" by member 1 at once
+abbrev hi : List ℕ
+hi = 17 ∷ 7 ∷ 0 ∷ 1 ∷ 0 ∷ 2 ∷ 104 ∷ 105 ∷ []
+
+abbrev yo : List ℕ
+yo = 17 ∷ 7 ∷ 1 ∷ 1 ∷ 1 ∷ 0 ∷ 1 ∷ 2 ∷ 121 ∷ 111 ∷ []
+
+abbrev ok : List ℕ
+ok = 17 ∷ 7 ∷ 1 ∷ 2 ∷ 0 ∷ 2 ∷ 111 ∷ 107 ∷ []
+
+abbrev the_hi : Message
+the_hi = message 0 1 (1 ∷ 0 ∷ 0 ∷ []) (0x68 ∷ 0x69 ∷ [])
+
+abbrev the_yo : Message
+the_yo = message 1 1 (1 ∷ 1 ∷ 0 ∷ []) (0x79 ∷ 0x6f ∷ [])
+
+abbrev the_ok : Message
+the_ok = message 1 2 (1 ∷ 2 ∷ 0 ∷ []) (0x6f ∷ 0x6b ∷ [])
+
+first_cast : bytes_of (cast_answer (at 0) 100 [] (0x68 ∷ 0x69 ∷ [])) ≡ Some hi
+unfolding cast_answer arrive_answer tick_answer view drained frame_at cast_at status_at request_at pairs_at pair_at number_at text_of spelling
+first_cast = refl
+
+hi_is_delivered : arrive_answer (at 1) 100 [] hi ≡ Ok (Accepted (the_hi ∷ []) true [])
+unfolding cast_answer arrive_answer tick_answer view drained frame_at cast_at status_at request_at pairs_at pair_at number_at text_of spelling
+hi_is_delivered = refl
+
+an_answer_says_what_it_answers : bytes_of (cast_answer (at 1) 100 (after (at 1) (ToTake hi ∷ [])) (0x79 ∷ 0x6f ∷ [])) ≡ Some yo
+unfolding cast_answer arrive_answer tick_answer view drained frame_at cast_at status_at request_at pairs_at pair_at number_at text_of spelling
+an_answer_says_what_it_answers = refl
+
+a_second_cast_says_what_is_new : bytes_of (cast_answer (at 1) 100 (after (at 1) (ToTake hi ∷ ToCast (0x79 ∷ 0x6f ∷ []) ∷ [])) (0x6f ∷ 0x6b ∷ [])) ≡ Some ok
+unfolding cast_answer arrive_answer tick_answer view drained frame_at cast_at status_at request_at pairs_at pair_at number_at text_of spelling
+a_second_cast_says_what_is_new = refl
+
+an_answer_that_overtakes_waits : arrive_answer (at 2) 100 [] yo ≡ Ok (Accepted [] true [])
+unfolding cast_answer arrive_answer tick_answer view drained frame_at cast_at status_at request_at pairs_at pair_at number_at text_of spelling
+an_answer_that_overtakes_waits = refl
+
+and_is_delivered_after_its_question : arrive_answer (at 2) 100 (after (at 2) (ToTake yo ∷ [])) hi ≡ Ok (Accepted (the_hi ∷ the_yo ∷ []) true [])
+unfolding cast_answer arrive_answer tick_answer view drained frame_at cast_at status_at request_at pairs_at pair_at number_at text_of spelling
+and_is_delivered_after_its_question = refl
+
+-- two casts that come in the wrong order
+a_later_cast_waits : arrive_answer (at 0) 100 (after (at 0) (ToCast (104 ∷ 105 ∷ []) ∷ [])) ok ≡ Ok (Accepted [] true [])
+unfolding cast_answer arrive_answer tick_answer view drained frame_at cast_at status_at request_at pairs_at pair_at number_at text_of spelling
+a_later_cast_waits = refl
+
+and_both_are_delivered_in_order : arrive_answer (at 0) 100 (after (at 0) (ToCast (104 ∷ 105 ∷ []) ∷ ToTake ok ∷ [])) yo ≡ Ok (Accepted (the_yo ∷ the_ok ∷ []) true [])
+unfolding cast_answer arrive_answer tick_answer view drained frame_at cast_at status_at request_at pairs_at pair_at number_at text_of spelling
+and_both_are_delivered_in_order = refl
+
+a_repeat_changes_nothing : arrive_answer (at 0) 100 (after (at 0) (ToCast (104 ∷ 105 ∷ []) ∷ ToTake ok ∷ ToTake yo ∷ [])) yo ≡ Ok Repeat
+unfolding cast_answer arrive_answer tick_answer view drained frame_at cast_at status_at request_at pairs_at pair_at number_at text_of spelling
+a_repeat_changes_nothing = refl
+
+-- member 0 where the window is 2
+abbrev narrow : Seat
+narrow = record { group = record { number = 7; size = 3; window = 2 }; me = 0 }
+
+the_window_is_full : cast_answer narrow 100 (after narrow (ToCast (97 ∷ []) ∷ ToCast (98 ∷ []) ∷ [])) (99 ∷ []) ≡ Err casts.WindowFull
+unfolding cast_answer arrive_answer tick_answer view drained frame_at cast_at status_at request_at pairs_at pair_at number_at text_of spelling
+the_window_is_full = refl
+
+one_acknowledgement_is_not_enough : cast_answer narrow 100 (after narrow (ToCast (97 ∷ []) ∷ ToCast (98 ∷ []) ∷ ToTake (18 ∷ 7 ∷ 1 ∷ 1 ∷ 0 ∷ 2 ∷ []) ∷ [])) (99 ∷ []) ≡ Err casts.WindowFull
+unfolding cast_answer arrive_answer tick_answer view drained frame_at cast_at status_at request_at pairs_at pair_at number_at text_of spelling
+one_acknowledgement_is_not_enough = refl
+
+both_make_the_casts_stable : stable narrow (facts_of (after narrow (ToCast (97 ∷ []) ∷ ToCast (98 ∷ []) ∷ ToTake (18 ∷ 7 ∷ 1 ∷ 1 ∷ 0 ∷ 2 ∷ []) ∷ ToTake (18 ∷ 7 ∷ 2 ∷ 1 ∷ 0 ∷ 2 ∷ []) ∷ []))) ≡ 2
+unfolding cast_answer arrive_answer tick_answer view drained frame_at cast_at status_at request_at pairs_at pair_at number_at text_of spelling
+both_make_the_casts_stable = refl
+
+and_their_frames_are_let_go : window narrow (facts_of (after narrow (ToCast (97 ∷ []) ∷ ToCast (98 ∷ []) ∷ ToTake (18 ∷ 7 ∷ 1 ∷ 1 ∷ 0 ∷ 2 ∷ []) ∷ ToTake (18 ∷ 7 ∷ 2 ∷ 1 ∷ 0 ∷ 2 ∷ []) ∷ []))) ≡ []
+unfolding cast_answer arrive_answer tick_answer view drained frame_at cast_at status_at request_at pairs_at pair_at number_at text_of spelling
+and_their_frames_are_let_go = refl
+
+and_there_is_room_again : bytes_of (cast_answer narrow 100 (after narrow (ToCast (97 ∷ []) ∷ ToCast (98 ∷ []) ∷ ToTake (18 ∷ 7 ∷ 1 ∷ 1 ∷ 0 ∷ 2 ∷ []) ∷ ToTake (18 ∷ 7 ∷ 2 ∷ 1 ∷ 0 ∷ 2 ∷ []) ∷ [])) (99 ∷ [])) ≡ Some (17 ∷ 7 ∷ 0 ∷ 3 ∷ 0 ∷ 1 ∷ 99 ∷ [])
+unfolding cast_answer arrive_answer tick_answer view drained frame_at cast_at status_at request_at pairs_at pair_at number_at text_of spelling
+and_there_is_room_again = refl
+
+a_first_tick_tells_a_status : tick_answer (at 2) 100 [] ≡ Ok (true, record { to = None; bytes = (18 ∷ 7 ∷ 2 ∷ 0 ∷ []) } ∷ [])
+unfolding cast_answer arrive_answer tick_answer view drained frame_at cast_at status_at request_at pairs_at pair_at number_at text_of spelling
+a_first_tick_tells_a_status = refl
+
+a_second_tick_adds_no_entry : tick_answer (at 2) 100 (after (at 2) (ToTick ∷ [])) ≡ Ok (false, record { to = None; bytes = (18 ∷ 7 ∷ 2 ∷ 0 ∷ []) } ∷ [])
+unfolding cast_answer arrive_answer tick_answer view drained frame_at cast_at status_at request_at pairs_at pair_at number_at text_of spelling
+a_second_tick_adds_no_entry = refl
+
+-- member 2 has delivered the first cast of member 0 and keeps the fourth
+two_casts_are_missing : ranges_of (missing (at 2) (facts_of (after (at 2) (ToTake (17 ∷ 7 ∷ 0 ∷ 1 ∷ 0 ∷ 1 ∷ 97 ∷ []) ∷ ToTake (17 ∷ 7 ∷ 0 ∷ 4 ∷ 0 ∷ 1 ∷ 100 ∷ []) ∷ []))) 0) ≡ record { first = 2; last = 3 } ∷ []
+unfolding cast_answer arrive_answer tick_answer view drained frame_at cast_at status_at request_at pairs_at pair_at number_at text_of spelling
+two_casts_are_missing = refl
+
+a_tick_asks_for_them : tick_answer (at 2) 100 (after (at 2) (ToTake (17 ∷ 7 ∷ 0 ∷ 1 ∷ 0 ∷ 1 ∷ 97 ∷ []) ∷ ToTake (17 ∷ 7 ∷ 0 ∷ 4 ∷ 0 ∷ 1 ∷ 100 ∷ []) ∷ [])) ≡ Ok (true, record { to = None; bytes = (18 ∷ 7 ∷ 2 ∷ 1 ∷ 0 ∷ 1 ∷ []) } ∷ record { to = Some 0; bytes = (19 ∷ 7 ∷ 2 ∷ 0 ∷ 1 ∷ 1 ∷ 1 ∷ []) } ∷ [])
+unfolding cast_answer arrive_answer tick_answer view drained frame_at cast_at status_at request_at pairs_at pair_at number_at text_of spelling
+a_tick_asks_for_them = refl
+
+the_request_is_answered : arrive_answer (at 0) 100 (after (at 0) (ToCast (97 ∷ []) ∷ ToCast (98 ∷ []) ∷ ToCast (99 ∷ []) ∷ ToCast (100 ∷ []) ∷ [])) (19 ∷ 7 ∷ 2 ∷ 0 ∷ 1 ∷ 1 ∷ 1 ∷ []) ≡ Ok (Accepted [] false (record { to = Some 2; bytes = (17 ∷ 7 ∷ 0 ∷ 2 ∷ 0 ∷ 1 ∷ 98 ∷ []) } ∷ record { to = Some 2; bytes = (17 ∷ 7 ∷ 0 ∷ 3 ∷ 0 ∷ 1 ∷ 99 ∷ []) } ∷ []))
+unfolding cast_answer arrive_answer tick_answer view drained frame_at cast_at status_at request_at pairs_at pair_at number_at text_of spelling
+the_request_is_answered = refl
+
+but_by_the_asked_member_alone : arrive_answer (at 1) 100 [] (19 ∷ 7 ∷ 2 ∷ 0 ∷ 1 ∷ 1 ∷ 1 ∷ []) ≡ Ok (Accepted [] false [])
+unfolding cast_answer arrive_answer tick_answer view drained frame_at cast_at status_at request_at pairs_at pair_at number_at text_of spelling
+but_by_the_asked_member_alone = refl
+
+beyond_the_window : arrive_answer (at 2) 100 [] (17 ∷ 7 ∷ 0 ∷ 5 ∷ 0 ∷ 0 ∷ []) ≡ Err arrivals.TooFar
+unfolding cast_answer arrive_answer tick_answer view drained frame_at cast_at status_at request_at pairs_at pair_at number_at text_of spelling
+beyond_the_window = refl
+
+the_last_of_the_window : arrive_answer (at 2) 100 [] (17 ∷ 7 ∷ 0 ∷ 4 ∷ 0 ∷ 0 ∷ []) ≡ Ok (Accepted [] true [])
+unfolding cast_answer arrive_answer tick_answer view drained frame_at cast_at status_at request_at pairs_at pair_at number_at text_of spelling
+the_last_of_the_window = refl
+
+-- a history of one entry
+a_cast_uses_the_last_entry : bytes_of (cast_answer (at 0) 1 [] (104 ∷ 105 ∷ [])) ≡ Some hi
+unfolding cast_answer arrive_answer tick_answer view drained frame_at cast_at status_at request_at pairs_at pair_at number_at text_of spelling
+a_cast_uses_the_last_entry = refl
+
+then_no_cast_is_taken : arrive_answer (at 0) 1 (after (at 0) (ToCast (104 ∷ 105 ∷ []) ∷ [])) (17 ∷ 7 ∷ 1 ∷ 1 ∷ 0 ∷ 0 ∷ []) ≡ Err arrivals.HistoryFull
+unfolding cast_answer arrive_answer tick_answer view drained frame_at cast_at status_at request_at pairs_at pair_at number_at text_of spelling
+then_no_cast_is_taken = refl
+
+but_the_own_one_is_a_repeat : arrive_answer (at 0) 1 (after (at 0) (ToCast (104 ∷ 105 ∷ []) ∷ [])) hi ≡ Ok Repeat
+unfolding cast_answer arrive_answer tick_answer view drained frame_at cast_at status_at request_at pairs_at pair_at number_at text_of spelling
+but_the_own_one_is_a_repeat = refl
+
+and_a_status_without_news_is_taken : arrive_answer (at 0) 1 (after (at 0) (ToCast (104 ∷ 105 ∷ []) ∷ [])) (18 ∷ 7 ∷ 1 ∷ 0 ∷ []) ≡ Ok (Accepted [] false [])
+unfolding cast_answer arrive_answer tick_answer view drained frame_at cast_at status_at request_at pairs_at pair_at number_at text_of spelling
+and_a_status_without_news_is_taken = refl
+
+no_status_is_told : tick_answer (at 0) 1 (after (at 0) (ToCast (104 ∷ 105 ∷ []) ∷ [])) ≡ Err ticks.HistoryFull
+unfolding cast_answer arrive_answer tick_answer view drained frame_at cast_at status_at request_at pairs_at pair_at number_at text_of spelling
+no_status_is_told = refl
+
+nothing_more_is_cast : cast_answer (at 0) 1 (after (at 0) (ToCast (104 ∷ 105 ∷ []) ∷ [])) [] ≡ Err casts.HistoryFull
+unfolding cast_answer arrive_answer tick_answer view drained frame_at cast_at status_at request_at pairs_at pair_at number_at text_of spelling
+nothing_more_is_cast = refl
+
+-- what can and what can not come to member 0 after its first cast
+the_own_cast_comes_back : arrive_answer (at 0) 100 (after (at 0) (ToCast (104 ∷ 105 ∷ []) ∷ [])) hi ≡ Ok Repeat
+unfolding cast_answer arrive_answer tick_answer view drained frame_at cast_at status_at request_at pairs_at pair_at number_at text_of spelling
+the_own_cast_comes_back = refl
+
+the_own_status_comes_back : arrive_answer (at 0) 100 (after (at 0) (ToCast (104 ∷ 105 ∷ []) ∷ [])) (18 ∷ 7 ∷ 0 ∷ 1 ∷ 0 ∷ 1 ∷ []) ≡ Ok (Accepted [] false [])
+unfolding cast_answer arrive_answer tick_answer view drained frame_at cast_at status_at request_at pairs_at pair_at number_at text_of spelling
+the_own_status_comes_back = refl
+
+a_cast_that_it_never_made : arrive_answer (at 0) 100 (after (at 0) (ToCast (104 ∷ 105 ∷ []) ∷ [])) (17 ∷ 7 ∷ 0 ∷ 9 ∷ 0 ∷ 0 ∷ []) ≡ Err arrivals.Impossible
+unfolding cast_answer arrive_answer tick_answer view drained frame_at cast_at status_at request_at pairs_at pair_at number_at text_of spelling
+a_cast_that_it_never_made = refl
+
+more_deliveries_than_casts : arrive_answer (at 0) 100 (after (at 0) (ToCast (104 ∷ 105 ∷ []) ∷ [])) (18 ∷ 7 ∷ 1 ∷ 1 ∷ 0 ∷ 2 ∷ []) ≡ Err arrivals.Impossible
+unfolding cast_answer arrive_answer tick_answer view drained frame_at cast_at status_at request_at pairs_at pair_at number_at text_of spelling
+more_deliveries_than_casts = refl
+
+a_member_that_asks_itself : arrive_answer (at 0) 100 (after (at 0) (ToCast (104 ∷ 105 ∷ []) ∷ [])) (19 ∷ 7 ∷ 0 ∷ 0 ∷ 1 ∷ 0 ∷ 0 ∷ []) ≡ Err arrivals.Impossible
+unfolding cast_answer arrive_answer tick_answer view drained frame_at cast_at status_at request_at pairs_at pair_at number_at text_of spelling
+a_member_that_asks_itself = refl
+
+a_time_that_it_never_had : arrive_answer (at 0) 100 (after (at 0) (ToCast (104 ∷ 105 ∷ []) ∷ [])) (18 ∷ 7 ∷ 0 ∷ 1 ∷ 0 ∷ 2 ∷ []) ≡ Err arrivals.Impossible
+unfolding cast_answer arrive_answer tick_answer view drained frame_at cast_at status_at request_at pairs_at pair_at number_at text_of spelling
+a_time_that_it_never_had = refl
+
+a_frame_of_another_group : arrive_answer (at 0) 100 (after (at 0) (ToCast (104 ∷ 105 ∷ []) ∷ [])) (17 ∷ 8 ∷ 1 ∷ 1 ∷ 0 ∷ 0 ∷ []) ≡ Err arrivals.OtherGroup
+unfolding cast_answer arrive_answer tick_answer view drained frame_at cast_at status_at request_at pairs_at pair_at number_at text_of spelling
+a_frame_of_another_group = refl
+
+a_member_of_no_group : arrive_answer (at 0) 100 (after (at 0) (ToCast (104 ∷ 105 ∷ []) ∷ [])) (17 ∷ 7 ∷ 3 ∷ 1 ∷ 0 ∷ 0 ∷ []) ≡ Err arrivals.BadMember
+unfolding cast_answer arrive_answer tick_answer view drained frame_at cast_at status_at request_at pairs_at pair_at number_at text_of spelling
+a_member_of_no_group = refl
+
+bytes_that_are_no_frame : arrive_answer (at 0) 100 (after (at 0) (ToCast (104 ∷ 105 ∷ []) ∷ [])) (17 ∷ 7 ∷ 64 ∷ []) ≡ Err (arrivals.Malformed faults.BadIndex)
+unfolding cast_answer arrive_answer tick_answer view drained frame_at cast_at status_at request_at pairs_at pair_at number_at text_of spelling
+bytes_that_are_no_frame = refl
+
+an_empty_payload_is_cast : bytes_of (cast_answer (at 0) 100 [] []) ≡ Some (17 ∷ 7 ∷ 0 ∷ 1 ∷ 0 ∷ 0 ∷ [])
+unfolding cast_answer arrive_answer tick_answer view drained frame_at cast_at status_at request_at pairs_at pair_at number_at text_of spelling
+an_empty_payload_is_cast = refl
+
+-- two forged casts that say more of member 0 than there can be
+a_forged_cast_is_kept : arrive_answer (at 2) 100 [] (17 ∷ 7 ∷ 1 ∷ 1 ∷ 1 ∷ 0 ∷ 255 ∷ 255 ∷ 255 ∷ 255 ∷ 15 ∷ 0 ∷ []) ≡ Ok (Accepted [] true [])
+unfolding cast_answer arrive_answer tick_answer view drained frame_at cast_at status_at request_at pairs_at pair_at number_at text_of spelling
+a_forged_cast_is_kept = refl
+
+and_so_is_the_next : arrive_answer (at 2) 100 (after (at 2) (ToTake (17 ∷ 7 ∷ 1 ∷ 1 ∷ 1 ∷ 0 ∷ 255 ∷ 255 ∷ 255 ∷ 255 ∷ 15 ∷ 0 ∷ []) ∷ [])) (17 ∷ 7 ∷ 1 ∷ 2 ∷ 1 ∷ 0 ∷ 1 ∷ 0 ∷ []) ≡ Ok (Accepted [] true [])
+unfolding cast_answer arrive_answer tick_answer view drained frame_at cast_at status_at request_at pairs_at pair_at number_at text_of spelling
+and_so_is_the_next = refl
+
+their_times_stay_at_the_greatest_number : map (message_in 3 (casts_in (facts_of (after (at 2) (ToTake (17 ∷ 7 ∷ 1 ∷ 1 ∷ 1 ∷ 0 ∷ 255 ∷ 255 ∷ 255 ∷ 255 ∷ 15 ∷ 0 ∷ []) ∷ ToTake (17 ∷ 7 ∷ 1 ∷ 2 ∷ 1 ∷ 0 ∷ 1 ∷ 0 ∷ []) ∷ []))))) (expanded_in (casts_in (facts_of (after (at 2) (ToTake (17 ∷ 7 ∷ 1 ∷ 1 ∷ 1 ∷ 0 ∷ 255 ∷ 255 ∷ 255 ∷ 255 ∷ 15 ∷ 0 ∷ []) ∷ ToTake (17 ∷ 7 ∷ 1 ∷ 2 ∷ 1 ∷ 0 ∷ 1 ∷ 0 ∷ []) ∷ []))))) ≡ message 1 1 (4294967295 ∷ 1 ∷ 0 ∷ []) [] ∷ message 1 2 (4294967295 ∷ 2 ∷ 0 ∷ []) [] ∷ []
+unfolding cast_answer arrive_answer tick_answer view drained frame_at cast_at status_at request_at pairs_at pair_at number_at text_of spelling
+their_times_stay_at_the_greatest_number = refl
+
+what_they_tell_is_asked_for : tick_answer (at 2) 100 (after (at 2) (ToTake (17 ∷ 7 ∷ 1 ∷ 1 ∷ 1 ∷ 0 ∷ 255 ∷ 255 ∷ 255 ∷ 255 ∷ 15 ∷ 0 ∷ []) ∷ ToTake (17 ∷ 7 ∷ 1 ∷ 2 ∷ 1 ∷ 0 ∷ 1 ∷ 0 ∷ []) ∷ [])) ≡ Ok (true, record { to = None; bytes = (18 ∷ 7 ∷ 2 ∷ 0 ∷ []) } ∷ record { to = Some 0; bytes = (19 ∷ 7 ∷ 2 ∷ 0 ∷ 1 ∷ 0 ∷ 3 ∷ []) } ∷ [])
+unfolding cast_answer arrive_answer tick_answer view drained frame_at cast_at status_at request_at pairs_at pair_at number_at text_of spelling
+what_they_tell_is_asked_for = refl
+
+-- member 0 learns from the time of a delivered message that its cast was delivered
+a_delivered_time_acknowledges : acknowledged (at 0) (facts_of (after (at 0) (ToCast (104 ∷ 105 ∷ []) ∷ ToTake ok ∷ ToTake yo ∷ []))) 1 ≡ 1
+unfolding cast_answer arrive_answer tick_answer view drained frame_at cast_at status_at request_at pairs_at pair_at number_at text_of spelling
+a_delivered_time_acknowledges = refl
+
+the_other_one_has_said_nothing : stable (at 0) (facts_of (after (at 0) (ToCast (104 ∷ 105 ∷ []) ∷ ToTake ok ∷ ToTake yo ∷ []))) ≡ 0
+unfolding cast_answer arrive_answer tick_answer view drained frame_at cast_at status_at request_at pairs_at pair_at number_at text_of spelling
+the_other_one_has_said_nothing = refl
+
+its_status_makes_the_cast_stable : stable (at 0) (facts_of (after (at 0) (ToCast (104 ∷ 105 ∷ []) ∷ ToTake ok ∷ ToTake yo ∷ ToTake (18 ∷ 7 ∷ 2 ∷ 1 ∷ 0 ∷ 1 ∷ []) ∷ []))) ≡ 1
+unfolding cast_answer arrive_answer tick_answer view drained frame_at cast_at status_at request_at pairs_at pair_at number_at text_of spelling
+its_status_makes_the_cast_stable = refl
+
+a_late_request_gets_nothing : arrive_answer (at 0) 100 (after (at 0) (ToCast (104 ∷ 105 ∷ []) ∷ ToTake ok ∷ ToTake yo ∷ ToTake (18 ∷ 7 ∷ 2 ∷ 1 ∷ 0 ∷ 1 ∷ []) ∷ [])) (19 ∷ 7 ∷ 2 ∷ 0 ∷ 1 ∷ 0 ∷ 0 ∷ []) ≡ Ok (Accepted [] false [])
+unfolding cast_answer arrive_answer tick_answer view drained frame_at cast_at status_at request_at pairs_at pair_at number_at text_of spelling
+a_late_request_gets_nothing = refl
+
+-- payloads of the greatest length, and of one byte more, where the window is full too
+the_longest_payload_is_cast : bytes_of (cast_answer (at 0) 100 [] (replicate 1024 120)) ≡ Some (17 ∷ 7 ∷ 0 ∷ 1 ∷ 0 ∷ 128 ∷ 8 ∷ replicate 1024 120)
+unfolding cast_answer arrive_answer tick_answer view drained frame_at cast_at status_at request_at pairs_at pair_at number_at text_of spelling
+the_longest_payload_is_cast = refl
+
+a_longer_one_is_not : cast_answer (at 0) 100 [] (replicate 1025 120) ≡ Err casts.PayloadTooLong
+unfolding cast_answer arrive_answer tick_answer view drained frame_at cast_at status_at request_at pairs_at pair_at number_at text_of spelling
+a_longer_one_is_not = refl
+
+nor_where_the_window_is_full : cast_answer narrow 100 (after narrow (ToCast (97 ∷ []) ∷ ToCast (98 ∷ []) ∷ [])) (replicate 1025 120) ≡ Err casts.PayloadTooLong
+unfolding cast_answer arrive_answer tick_answer view drained frame_at cast_at status_at request_at pairs_at pair_at number_at text_of spelling
+nor_where_the_window_is_full = refl
+
+-- member 2 of five in group 300, which has delivered three casts of member 0, one of member 1 and two of member 4
+abbrev of_five : Seat
+of_five = record { group = record { number = 300; size = 5; window = 4 }; me = 2 }
+
+abbrev six_calls : List Call
+six_calls =
+    ToTake (17 ∷ 172 ∷ 2 ∷ 0 ∷ 1 ∷ 0 ∷ 0 ∷ [])
+    ∷ ToTake (17 ∷ 172 ∷ 2 ∷ 0 ∷ 2 ∷ 0 ∷ 0 ∷ [])
+    ∷ ToTake (17 ∷ 172 ∷ 2 ∷ 0 ∷ 3 ∷ 0 ∷ 0 ∷ [])
+    ∷ ToTake (17 ∷ 172 ∷ 2 ∷ 4 ∷ 1 ∷ 0 ∷ 0 ∷ [])
+    ∷ ToTake (17 ∷ 172 ∷ 2 ∷ 4 ∷ 2 ∷ 0 ∷ 0 ∷ [])
+    ∷ ToTake (17 ∷ 172 ∷ 2 ∷ 1 ∷ 1 ∷ 0 ∷ 0 ∷ [])
+    ∷ []
+
+it_says_what_it_delivered : bytes_of (cast_answer of_five 100 (after of_five six_calls) []) ≡ Some (17 ∷ 172 ∷ 2 ∷ 2 ∷ 1 ∷ 3 ∷ 0 ∷ 3 ∷ 0 ∷ 1 ∷ 2 ∷ 2 ∷ 0 ∷ [])
+unfolding cast_answer arrive_answer tick_answer view drained frame_at cast_at status_at request_at pairs_at pair_at number_at text_of spelling
+it_says_what_it_delivered = refl
+
+its_time_counts_its_cast : time_of 5 (facts_of (after_from of_five (after of_five six_calls) (ToCast [] ∷ []))) ≡ 3 ∷ 1 ∷ 1 ∷ 0 ∷ 2 ∷ []
+unfolding cast_answer arrive_answer tick_answer view drained frame_at cast_at status_at request_at pairs_at pair_at number_at text_of spelling
+its_time_counts_its_cast = refl
+
+its_status_says_the_time : tick_answer of_five 100 (after_from of_five (after of_five six_calls) (ToCast [] ∷ [])) ≡ Ok (true, record { to = None; bytes = (18 ∷ 172 ∷ 2 ∷ 2 ∷ 4 ∷ 0 ∷ 3 ∷ 0 ∷ 1 ∷ 0 ∷ 1 ∷ 1 ∷ 2 ∷ []) } ∷ [])
+unfolding cast_answer arrive_answer tick_answer view drained frame_at cast_at status_at request_at pairs_at pair_at number_at text_of spelling
+its_status_says_the_time = refl
+
+-- groups and what is none
+a_large_group : AreParameters (record { number = 4294967295; size = 64; window = 256 })
+a_large_group = record { size = record { two_or_more = omega arith; at_most_sixty_four = omega arith }; width = record { one_or_more = omega arith; at_most_widest = omega arith }; number_fits = omega arith }
+
+no_group_of_one : ¬ AreParameters (record { number = 7; size = 1; window = 4 })
+no_group_of_one p = let no = p.size.two_or_more in omega (arith, no)
+
+no_group_of_65 : ¬ AreParameters (record { number = 7; size = 65; window = 4 })
+no_group_of_65 p = let no = p.size.at_most_sixty_four in omega (arith, no)
+
+no_window_of_none : ¬ AreParameters (record { number = 7; size = 3; window = 0 })
+no_window_of_none p = let no = p.width.one_or_more in omega (arith, no)
+
+no_window_of_257 : ¬ AreParameters (record { number = 7; size = 3; window = 257 })
+no_window_of_257 p = let no = p.width.at_most_widest in omega (arith, no)

@@ -1,0 +1,147 @@
+-- The next own cast and the own status can be written.
+use Rattle.std.proofs.Common.{◌≡◌, ◌≢◌, ℕ, zero, suc, ◌+◌, ◌-◌, ◌<◌, ◌≤◌, ◌^◌, Bool, true, not, eqb, ltb, List, [], ◌∷◌, ◌++◌, length, map, refl, arith}
+use Rattle.std.specs.List.{AllByRecursion, filter, range_with_len}
+use Rattle.std.proofs.lemmas.Bool.{cond_both, ltb-true, eqb-false}
+use Rattle.std.proofs.lemmas.List.FromFn.{length-map-range_with_len, get_or-map-range_with_len}
+use Rattle.cb_times.specs.Order.{field}
+use Rattle.cb_frames.specs.declared.frame.TheConstants.{LONGEST_PAYLOAD}
+use Rattle.cb_frames.specs.declared.frame.Change.{Change}
+use Rattle.cb_frames.specs.Fields.{CastFrame, StatusFrame}
+use Rattle.cb_frames.specs.Text.{pairs_from, RisesFrom, IsChange, IsValue, KeepsCastRules, KeepsStatusRules}
+use Rattle.cb_frames.specs.Laws.{CanBeWritten}
+use Rattle.cb_diffs.specs.Differences.{change_of, is_told, differences}
+use Rattle.cb_history.specs.Group.{Seat, AreParameters}
+use Rattle.cb_history.specs.Facts.{Fact}
+use Rattle.cb_history.specs.View.{count, view, time_of}
+use Rattle.cb_history.specs.Answers.{delivered, next_cast, status_of, upto_last_cast}
+use Rattle.cb_history.specs.Legal.{longest_history}
+use Rattle.cb_history.specs.LegalFacts.{AreLegalFacts}
+use Rattle.cb_history.proofs.Views.{test_true, not_true}
+use Rattle.cb_history.proofs.Bounds.{count_below}
+
+-- ---- lists made from the fields in their order
+
+rises_from : (p : Change → Bool) (g : ℕ → Change) → ((k : ℕ) → (g k).field ≡ k) → (a n least : ℕ) → least ≤ a → RisesFrom least (filter p (map g (range_with_len a n)))
+rises_from p g is a zero least le = tt
+rises_from p g is a (suc n) least le =
+    cond_both (p (g a)) (g a ∷ filter p (map g (range_with_len (a + 1) n))) (filter p (map g (range_with_len (a + 1) n))) (RisesFrom least)
+    (λ yes. (omega (arith, is a), rises_from p g is (a + 1) n ((g a).field + 1) (omega (arith, is a))))
+    (λ no. rises_from p g is (a + 1) n least (omega arith))
+
+each_from : (p : Change → Bool) (g : ℕ → Change) (P : Change → Type 0) (a n : ℕ) → ((k : ℕ) → k < a + n → p (g k) ≡ true → P (g k)) → AllByRecursion P (filter p (map g (range_with_len a n)))
+each_from p g P a zero holds = tt
+each_from p g P a (suc n) holds =
+    cond_both (p (g a)) (g a ∷ filter p (map g (range_with_len (a + 1) n))) (filter p (map g (range_with_len (a + 1) n))) (AllByRecursion P)
+    (λ yes. (holds a (omega arith) yes, each_from p g P (a + 1) n (λ k lt. holds k (omega arith))))
+    (λ no. each_from p g P (a + 1) n (λ k lt. holds k (omega arith)))
+
+few_from : (p : Change → Bool) (g : ℕ → Change) (a n : ℕ) → length (filter p (map g (range_with_len a n))) ≤ n
+few_from p g a zero = omega arith
+few_from p g a (suc n) =
+    let others = few_from p g (a + 1) n in
+    cond_both (p (g a)) (g a ∷ filter p (map g (range_with_len (a + 1) n))) (filter p (map g (range_with_len (a + 1) n))) (λ (ds : List Change). length ds ≤ suc n)
+    (λ yes. omega (arith, others))
+    (λ no. omega (arith, others))
+
+abbrev AreSmall : List ℕ → Type 0
+AreSmall ns = AllByRecursion (λ n. n < 2 ^ 32) ns
+
+abbrev IsSmall : Change → Type 0
+IsSmall d = (d.field < 2 ^ 32) × (d.amount < 2 ^ 32)
+
+pairs_small : (least : ℕ) (ds : List Change) → AllByRecursion IsSmall ds → AreSmall (pairs_from least ds)
+pairs_small least [] small = tt
+pairs_small least (d ∷ ds) small = (omega (arith, small.0.0), (small.0.1, pairs_small (d.field + 1) ds small.1))
+
+small_both : (ms ns : List ℕ) → AreSmall ms → AreSmall ns → AreSmall (ms ++ ns)
+small_both [] ns a b = b
+small_both (m ∷ ms) ns a b = (a.0, small_both ms ns a.1 b)
+
+-- ---- the next cast
+
+amount_below : (seat : Seat) (facts : List Fact) (previous : List ℕ) (k : ℕ) → AreLegalFacts seat facts → k < seat.group.size → field (time_of seat.group.size facts) k - field previous k ≤ length facts
+amount_below seat facts previous k legal lt =
+    let at : field (time_of seat.group.size facts) k ≡ count (view seat.group.size facts) k = get_or-map-range_with_len (count (view seat.group.size facts)) 0 seat.group.size k k 0 lt (omega arith) in
+    let bound = count_below seat.group.size facts k in
+    omega (arith, at, bound)
+
+told_says : (own : ℕ) (d : Change) → is_told own d ≡ true → (d.field ≢ own) × (1 ≤ d.amount)
+told_says own d h =
+    let both = test_true (not (eqb d.field own)) (ltb 0 d.amount) h in
+    let some = ltb-true 0 d.amount both.1 in
+    (eqb-false d.field own (not_true (eqb d.field own) both.0), omega (arith, some))
+
+pub next_keeps : (seat : Seat) (facts : List Fact) (payload : List ℕ) → seat.group.size ≤ 64 → seat.me < seat.group.size → KeepsCastRules (next_cast seat facts payload)
+next_keeps seat facts payload few_members member =
+    let previous = time_of seat.group.size (upto_last_cast facts) in
+    let now = time_of seat.group.size facts in
+    let size : length now ≡ seat.group.size = length-map-range_with_len (count (view seat.group.size facts)) 0 seat.group.size in
+    record {
+      sender = omega (arith, member, few_members);
+      number = omega arith;
+      changes = record {
+        rising = rises_from (is_told seat.me) (change_of previous now) (λ k. refl) 0 (length now) 0 (omega arith);
+        each = each_from (is_told seat.me) (change_of previous now) (IsChange seat.me) 0 (length now) (λ k lt told.
+            let says = told_says seat.me (change_of previous now k) told in
+            record { index = omega (arith, lt, size, few_members); other = says.0; grown = says.1 });
+      };
+    }
+
+pub cast_can : (seat : Seat) (facts : List Fact) (payload : List ℕ) → AreParameters seat.group → seat.me < seat.group.size → AreLegalFacts seat facts → length facts ≤ longest_history → length payload ≤ LONGEST_PAYLOAD
+    → CanBeWritten (CastFrame (next_cast seat facts payload))
+cast_can seat facts payload group member legal room short =
+    let previous = time_of seat.group.size (upto_last_cast facts) in
+    let now = time_of seat.group.size facts in
+    let size : length now ≡ seat.group.size = length-map-range_with_len (count (view seat.group.size facts)) 0 seat.group.size in
+    let few_members = group.size.at_most_sixty_four in
+    let fits = group.number_fits in
+    let number = count_below seat.group.size facts seat.me in
+    let few : length (differences previous now seat.me) ≤ length now = few_from (is_told seat.me) (change_of previous now) 0 (length now) in
+    let small : AllByRecursion IsSmall (differences previous now seat.me) = each_from (is_told seat.me) (change_of previous now) IsSmall 0 (length now) (λ k lt told.
+    let below = amount_below seat facts previous k legal (omega (arith, lt, size)) in (omega (arith, lt, size, few_members), omega (arith, below, room))) in (
+      next_keeps seat facts payload few_members member,
+      short,
+      (
+        fits,
+        (
+          omega (arith, member, few_members),
+          (
+            omega (arith, number, room),
+            (
+              omega (arith, few, size, few_members),
+              small_both (pairs_from 0 (differences previous now seat.me)) (length payload ∷ []) (pairs_small 0 (differences previous now seat.me) small) (omega (arith, short), tt),
+            ),
+          ),
+        ),
+      ),
+    )
+
+-- ---- the own status
+
+pub status_keeps : (seat : Seat) (facts : List Fact) → seat.group.size ≤ 64 → seat.me < seat.group.size → KeepsStatusRules (status_of seat facts)
+status_keeps seat facts few_members member =
+    let value : ℕ → Change = λ k. record { field = k; amount = delivered seat facts k } in
+    let some : Change → Bool = λ d. ltb 0 d.amount in
+    record {
+      sender = omega (arith, member, few_members);
+      values = record {
+        rising = rises_from some value (λ k. refl) 0 seat.group.size 0 (omega arith);
+        each = each_from some value IsValue 0 seat.group.size (λ k lt told.
+            let positive = ltb-true 0 (delivered seat facts k) told in
+            record { index = omega (arith, lt, few_members); nonzero = omega (arith, positive) });
+      };
+    }
+
+pub status_can : (seat : Seat) (facts : List Fact) → AreParameters seat.group → seat.me < seat.group.size → AreLegalFacts seat facts → length facts ≤ longest_history → CanBeWritten (StatusFrame (status_of seat facts))
+status_can seat facts group member legal room =
+    let value : ℕ → Change = λ k. record { field = k; amount = delivered seat facts k } in
+    let some : Change → Bool = λ d. ltb 0 d.amount in
+    let few_members = group.size.at_most_sixty_four in
+    let fits = group.number_fits in
+    let few : length (filter some (map value (range_with_len 0 seat.group.size))) ≤ seat.group.size = few_from some value 0 seat.group.size in
+    let small : AllByRecursion IsSmall (filter some (map value (range_with_len 0 seat.group.size))) = each_from some value IsSmall 0 seat.group.size (λ k lt told.
+    let below = count_below seat.group.size facts k in (omega (arith, lt, few_members), omega (arith, below, room))) in (
+      status_keeps seat facts few_members member,
+      omega arith,
+      (fits, (omega (arith, member, few_members), (omega (arith, few, few_members), pairs_small 0 (filter some (map value (range_with_len 0 seat.group.size))) small))),
+    )

@@ -1,0 +1,67 @@
+-- Histories that a member can have.
+use Rattle.std.specs.Prelude.{◌≡◌, ℕ, ◌<◌, Bool, List, [], ◌∷◌, ◌++◌, map, Option, Some, None, Result, Ok, Err, if◌then◌else◌}
+use Rattle.cb_frames.specs.Fields.{CastFields, StatusFrame, CastFrame}
+use Rattle.cb_frames.specs.Text.{text_of}
+use Rattle.cb_frames.specs.Laws.{IsBytes}
+use Rattle.cb_history.specs.declared.history.TheConstants.{LONGEST_HISTORY}
+use Rattle.cb_history.specs.declared.answer.CastRefusal.{CastRefusal}
+use Rattle.cb_history.specs.declared.answer.ArriveRefusal.{ArriveRefusal}
+use Rattle.cb_history.specs.declared.answer.TickRefusal.{TickRefusal}
+use Rattle.cb_history.specs.declared.answer.Outgoing.{Outgoing}
+use Rattle.cb_history.specs.Group.{Seat, AreParameters}
+use Rattle.cb_history.specs.Facts.{EntryFields, CastEntry, ArriveEntry, TickEntry, facts_of}
+use Rattle.cb_history.specs.Answers.{cast_answer, arrive_answer, tick_answer, status_of, ArrivalSays, Accepted, Repeat}
+
+-- the most entries that a history can have
+abbrev pub longest_history : ℕ
+longest_history = LONGEST_HISTORY
+
+-- what is asked of a member: to cast a payload, to take a frame that came, to tick
+pub data Call : Type 0 where
+  ToCast : List ℕ → Call
+  ToTake : List ℕ → Call
+  ToTick : Call
+
+-- what is cast and what comes are bytes
+abbrev pub OfBytes : Call → Type 0
+OfBytes (ToCast payload) = IsBytes payload
+OfBytes (ToTake bytes) = IsBytes bytes
+OfBytes ToTick = Unit {0}
+
+-- the entry that an answer adds, where it adds one
+abbrev pub cast_entry : Result CastFields CastRefusal → Option EntryFields
+cast_entry (Ok c) = Some (CastEntry (text_of (CastFrame c)))
+cast_entry (Err refusal) = None
+
+abbrev pub arrive_entry : List ℕ → Result ArrivalSays ArriveRefusal → Option EntryFields
+arrive_entry bytes (Ok (Accepted deliveries changed out)) = if changed then Some (ArriveEntry bytes (map (λ m. m.name) deliveries)) else None
+arrive_entry bytes (Ok Repeat) = None
+arrive_entry bytes (Err refusal) = None
+
+abbrev pub tick_entry : List ℕ → Result (Bool × List Outgoing) TickRefusal → Option EntryFields
+tick_entry status (Ok t) = if t.0 then Some (TickEntry status) else None
+tick_entry status (Err refusal) = None
+
+abbrev pub entry_of : Seat → ℕ → List EntryFields → Call → Option EntryFields
+entry_of seat limit entries (ToCast payload) = cast_entry (cast_answer seat limit entries payload)
+entry_of seat limit entries (ToTake bytes) = arrive_entry bytes (arrive_answer seat limit entries bytes)
+entry_of seat limit entries ToTick = tick_entry (text_of (StatusFrame (status_of seat (facts_of entries)))) (tick_answer seat limit entries)
+
+-- the history after a call
+abbrev pub and_entry : List EntryFields → Option EntryFields → List EntryFields
+and_entry entries None = entries
+and_entry entries (Some e) = entries ++ e ∷ []
+
+abbrev pub history_after : Seat → ℕ → List EntryFields → Call → List EntryFields
+history_after seat limit entries call = and_entry entries (entry_of seat limit entries call)
+
+-- Each entry is the one that some call adds to the entries before it.
+pub data AreLegal (seat : Seat) : List EntryFields → Type 0 where
+  NoEntries : AreLegal seat []
+  OneMore : (entries : List EntryFields) (call : Call) (e : EntryFields) → AreLegal seat entries → OfBytes call → entry_of seat longest_history entries call ≡ Some e → AreLegal seat (entries ++ e ∷ [])
+
+-- a history of a member of a group
+pub record IsLegal (seat : Seat) (entries : List EntryFields) : Type 0 where
+  pub group : AreParameters seat.group
+  pub member : seat.me < seat.group.size
+  pub entries_are : AreLegal seat entries

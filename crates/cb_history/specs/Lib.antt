@@ -1,0 +1,16 @@
+pub mod Group
+pub mod Facts
+pub mod View
+pub mod Known
+pub mod Answers
+pub mod Refusals
+pub mod Events
+pub mod Legal
+pub mod LegalFacts
+pub mod State
+pub mod ViewLaws
+pub mod NameLaws
+pub mod KnowledgeLaws
+pub mod TimeLaws
+pub mod GapLaws
+pub mod HistoryLaws

@@ -1,0 +1,81 @@
+//! What a member stores: all that ever changed its state.
+
+ghost use Rattle.std.specs.Prelude.{◌≡◌, IfOk, map};
+ghost use Rattle.cb_history.specs.Facts.{entry_fields};
+
+use crate::group::Group;
+use bytes::Bytes;
+use cb_times::{Name, NoMemory};
+use std::alloc::Global;
+
+/// The most entries that a history can have.
+pub const LONGEST_HISTORY: usize = 16_777_216;
+
+/// One entry of a history.
+#[derive(Debug, PartialEq, Eq, Drop)]
+pub enum Entry {
+    /// The member cast a message by this frame.
+    Cast { frame: Bytes },
+    /// This frame came and changed the member's state. These messages were delivered then, in this order.
+    Arrive { frame: Bytes, delivered: Vec<Name> },
+    /// The member told all others its time by this status.
+    Tick { status: Bytes },
+}
+
+/// All that a member did, in order. From it everything else about the member follows.
+#[derive(Debug, Drop)]
+pub struct History {
+    pub group: Group,
+    /// The number of the member, below the group's size.
+    pub me: u32,
+    /// Entry 1 is the first.
+    pub entries: Vec<Entry>,
+}
+
+impl Entry {
+    /// The same entry once more; the bytes of its frame are shared.
+    pub fn copy(&self) -> Result<Entry, NoMemory>
+        ensures { IfOk result (λ entry. entry_fields entry ≡ entry_fields self.now) }
+    {
+        Ok(match self {
+            Entry::Cast { frame } => Entry::Cast {
+                frame: frame.clone()?,
+            },
+            Entry::Arrive { frame, delivered } => Entry::Arrive {
+                frame: frame.clone()?,
+                delivered: delivered.clone()?,
+            },
+            Entry::Tick { status } => Entry::Tick {
+                status: status.clone()?,
+            },
+        })
+    }
+
+    /// The same entries once more.
+    pub fn copies(alloc: Global, entries: &[Entry]) -> Result<Vec<Entry>, NoMemory>
+        ensures { IfOk result (λ copies. map entry_fields copies.items
+            ≡ map entry_fields entries.now) }
+    {
+        let mut copies = Vec::with_capacity(alloc, entries.len())?;
+        for entry in entries {
+            copies.push(entry.copy()?)?;
+        }
+        Ok(copies)
+    }
+}
+
+impl History {
+    /// The same history once more.
+    pub fn copy(&self) -> Result<History, NoMemory>
+        ensures { IfOk result (λ history. (history.group ≡ self.now.group) × (history.me
+            ≡ self.now.me)
+            × (map entry_fields history.entries.items ≡ map entry_fields self.now.entries.items)) }
+    {
+        let entries = Entry::copies(*self.entries.allocator(), &self.entries)?;
+        Ok(History {
+            group: self.group,
+            me: self.me,
+            entries,
+        })
+    }
+}

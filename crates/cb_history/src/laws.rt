@@ -1,0 +1,15 @@
+//! What the definitions of one member imply, as contracts of functions that do nothing: a file for each subject.
+
+mod gaps;
+mod histories;
+mod knowledge;
+mod names;
+mod times;
+mod view;
+
+pub use gaps::missing_numbers;
+pub use histories::{calls_keep_histories_legal, histories_say_facts, prefixes_are_legal};
+pub use knowledge::knowledge_grows;
+pub use names::names_and_order;
+pub use times::times_of_messages;
+pub use view::view_with_one_more_fact;

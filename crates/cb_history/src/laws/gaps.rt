@@ -1,0 +1,13 @@
+//! What is missing of a sender.
+
+ghost use Rattle.cb_history.specs.GapLaws.{MissingIsExact, MissingStays, MissingComes, RangesOfMissing};
+
+/// What is missing of a sender: the numbers above what is expanded, heard of and within the window, whose casts are not there. One
+/// more fact takes none away but by its cast, and adds none but what was not heard of or beyond the window. As ranges they are the
+/// same numbers, in rising order, and neither touch nor overlap.
+pub fn missing_numbers()
+    ensures exact { MissingIsExact }
+    ensures stays { MissingStays }
+    ensures comes { MissingComes }
+    ensures ranges { RangesOfMissing }
+{}

@@ -1,0 +1,18 @@
+//! What is known, acknowledged and stable.
+
+ghost use Rattle.cb_history.specs.KnowledgeLaws.{StatusIsKnown, StatusIsAcknowledged, CastIsKnown, CastIsAcknowledged, OwnStatusTellsNothing, OwnCastTellsNothing, NothingFalls, DeliveredIsKnown, AcknowledgedIsDelivered};
+
+/// What one more fact does to what is known, acknowledged and stable: a status that came raises it to what it says, a cast that came
+/// to what it and the times say that can be told by it, an own cast or status leaves it, and none makes it smaller. What is
+/// delivered is known, and no more is acknowledged than was cast.
+pub fn knowledge_grows()
+    ensures known { StatusIsKnown }
+    ensures acknowledged { StatusIsAcknowledged }
+    ensures cast_known { CastIsKnown }
+    ensures cast_acknowledged { CastIsAcknowledged }
+    ensures own { OwnStatusTellsNothing }
+    ensures own_cast { OwnCastTellsNothing }
+    ensures grows { NothingFalls }
+    ensures delivered { DeliveredIsKnown }
+    ensures bound { AcknowledgedIsDelivered }
+{}

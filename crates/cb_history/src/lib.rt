@@ -1,0 +1,30 @@
+//! One member of a group as a function of its history.
+//!
+//! A member is a machine without clock, link or thread: what it answers to a cast, an arrival or a tick depends on its history
+//! and on nothing else. This crate says in `specs/` what that answer is, in the terms of the protocol and from the entries' bytes, and
+//! which histories are legal; its laws say what one more entry does to each quantity. `GroupMember` is what every member does.
+//!
+//! Stands on `cb_frames` for the bytes, on `cb_times` and `cb_diffs` for the times, and on `cb_delay` for messages and events.
+#![tactic(auto)]
+
+mod answer;
+mod group;
+mod history;
+mod laws;
+mod member;
+
+pub use answer::{
+    Arrival, ArriveRefusal, CastDone, CastRefusal, MissingFault, NewFault, Outgoing, TickRefusal,
+    Ticked,
+};
+pub use cb_delay::{Event, Message, Name};
+pub use group::{BadGroup, Group, Seat};
+pub use history::{Entry, History, LONGEST_HISTORY};
+pub use laws::{
+    calls_keep_histories_legal, histories_say_facts, knowledge_grows, missing_numbers,
+    names_and_order, prefixes_are_legal, times_of_messages, view_with_one_more_fact,
+};
+pub use member::GroupMember;
+
+#[cfg(test)]
+mod tests;

@@ -1,8 +1,0 @@
-use Rattle.std.proofs.Common.{◌≡◌, ◌++◌, drop}
-use Rattle.cb_member.specs.Known.{ranges_of}
-use Rattle.cb_member.proofs.PlainTicking.{opened}
-use Rattle.cb_member.proofs.plain.ticking.ranges_of.Given as goal
-
--- the closed ranges, and then the open one with those of the other numbers
-abbrev pub invariant-loop-n : goal.invariant-loop-n
-invariant-loop-n l = l.ranges.items ++ opened l.open (ranges_of (drop l.n-index l.others)) ≡ ranges_of l.numbers

@@ -1,0 +1,9 @@
+pub mod Walks
+pub mod Messages
+pub mod Numbers
+pub mod Bounds
+pub mod Casting
+pub mod Calls
+pub mod Answering
+pub mod Ticking
+pub mod Arriving

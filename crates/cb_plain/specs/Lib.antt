@@ -1,0 +1,5 @@
+pub mod Facts
+pub mod Messages
+pub mod Past
+pub mod Requests
+pub mod Arrivals

@@ -1,0 +1,250 @@
+//! Calls of a member, whichever it is, and what they did as texts.
+
+use crate::facts::{casts_in, facts_of};
+use crate::member::PlainMember;
+use crate::view::expanded_field;
+use bytes::Bytes;
+use cb_frames::Range;
+use cb_history::{
+    Arrival, ArriveRefusal, CastDone, CastRefusal, Entry, Event, Group, GroupMember, Message, Name,
+    Outgoing, TickRefusal, Ticked,
+};
+use std::alloc::Global;
+use std::process::Abort;
+use std::test::Fail;
+
+/// A member that the examples can make.
+pub trait Made: GroupMember + Drop {
+    /// A member without entries.
+    fn made(alloc: Global, group: Group, me: u32, limit: usize) -> Result<Self, Fail>;
+}
+
+impl Made for PlainMember {
+    fn made(alloc: Global, group: Group, me: u32, limit: usize) -> Result<Self, Fail> {
+        let made = PlainMember::new(alloc, group, me, limit);
+        Ok(made.ok().ok_or("a member")?)
+    }
+}
+
+/// What is asked of a member.
+#[derive(Clone, Copy)]
+pub enum Call<'a> {
+    /// To cast this payload.
+    Cast(&'a [u8]),
+    /// To take these bytes, which came.
+    Take(&'a [u8]),
+    /// To tell the others what it has.
+    Tick,
+    /// Its time, events, entries, how many own casts are stable, and what is missing of a member.
+    Time,
+    Events,
+    Entries,
+    Stable,
+    Missing(u32),
+    /// The time of a message that came, delivered or not, as its sender's casts in the history add up.
+    TimeOf(Name),
+}
+
+/// Calls of one member, from its first one on, each with its answer.
+pub struct Script<'a> {
+    pub number: u32,
+    pub size: u32,
+    pub window: u32,
+    pub me: u32,
+    pub limit: usize,
+    pub calls: &'a [(Call<'a>, &'a str)],
+}
+
+pub fn group_of(number: u32, size: u32, window: u32) -> Result<Group, Fail> {
+    Ok(Group::new(number, size, window).ok().ok_or("a group")?)
+}
+
+fn hexadecimal(alloc: Global, bytes: &[u8]) -> Result<String, Fail> {
+    let mut text = String::new(alloc);
+    for byte in bytes {
+        let digits = format!(in alloc; "{byte:02x}")?;
+        text.push_str(digits.as_str())?;
+    }
+    Ok(text)
+}
+
+/// Each message with its name, its time and its payload.
+fn messages(alloc: Global, deliveries: &[Message]) -> Result<String, Fail> {
+    let mut text = String::new(alloc);
+    for message in deliveries {
+        let Message {
+            name,
+            time,
+            payload,
+        } = message;
+        let payload = hexadecimal(alloc, payload.as_slice())?;
+        let said = format!(in alloc; ", {name} {time} ({payload})")?;
+        text.push_str(said.as_str())?;
+    }
+    Ok(text)
+}
+
+/// Each frame with whom it goes to.
+fn frames(alloc: Global, out: &[Outgoing]) -> Result<String, Fail> {
+    let mut text = String::new(alloc);
+    for Outgoing { to, bytes } in out {
+        let bytes = hexadecimal(alloc, bytes.as_slice())?;
+        let frame = match to {
+            Some(member) => format!(in alloc; ", to {member}: {bytes}")?,
+            None => format!(in alloc; ", to all: {bytes}")?,
+        };
+        text.push_str(frame.as_str())?;
+    }
+    Ok(text)
+}
+
+fn cast_text(alloc: Global, answer: &Result<CastDone, CastRefusal>) -> Result<String, Fail> {
+    match answer {
+        Ok(CastDone { name, time, out }) => {
+            let out = hexadecimal(alloc, out.as_slice())?;
+            Ok(format!(in alloc; "{name} {time} {out}")?)
+        }
+        Err(refusal) => Ok(format!(in alloc; "{refusal}")?),
+    }
+}
+
+fn arrival_text(alloc: Global, answer: &Result<Arrival, ArriveRefusal>) -> Result<String, Fail> {
+    match answer {
+        Ok(
+            Arrival::Accepted {
+                deliveries,
+                changed,
+                out,
+            },
+        ) => {
+            let deliveries = messages(alloc, deliveries)?;
+            let out = frames(alloc, out)?;
+            let state = if *changed { "changed" } else { "unchanged" };
+            Ok(format!(in alloc; "{state}{deliveries}{out}")?)
+        }
+        Ok(Arrival::Repeat) => Ok(format!(in alloc; "repeat")?),
+        Err(refusal) => Ok(format!(in alloc; "{refusal}")?),
+    }
+}
+
+fn tick_text(alloc: Global, answer: &Result<Ticked, TickRefusal>) -> Result<String, Fail> {
+    match answer {
+        Ok(Ticked { entered, out }) => {
+            let out = frames(alloc, out)?;
+            let state = if *entered { "entered" } else { "not entered" };
+            Ok(format!(in alloc; "{state}{out}")?)
+        }
+        Err(refusal) => Ok(format!(in alloc; "{refusal}")?),
+    }
+}
+
+/// What a call that changes something did: how many entries there are after it, and its answer.
+fn answer<M: Made>(alloc: Global, member: &mut M, call: Call<'_>) -> Result<String, Fail> {
+    let text = match call {
+        Call::Cast(payload) => cast_text(alloc, &member.cast(payload))?,
+        Call::Take(bytes) => {
+            let bytes = Bytes::copy_from_slice(alloc, bytes)?;
+            arrival_text(alloc, &member.arrive(&bytes))?
+        }
+        Call::Tick => tick_text(alloc, &member.tick())?,
+        _ => return reading(alloc, member, call),
+    };
+    let entries = member.entries()?.len();
+    Ok(format!(in alloc; "{entries}: {text}")?)
+}
+
+/// What a call that reads answers.
+fn reading<M: Made>(alloc: Global, member: &M, call: Call<'_>) -> Result<String, Fail> {
+    match call {
+        Call::Time => Ok(member.time()?.to_string(alloc)?),
+        Call::Events => events(alloc, &member.events()?),
+        Call::Entries => entries(alloc, &member.entries()?),
+        Call::Stable => Ok(member.stable()?.to_string(alloc)?),
+        Call::Missing(i) => ranges(alloc, &member.missing(i).ok().ok_or("another member")?),
+        Call::TimeOf(name) => time_of(alloc, &member.entries()?, name),
+        _ => Err(Fail::new("a call that changes something")),
+    }
+}
+
+/// Each call has the answer that stands beside it.
+pub fn play<M: Made, R: Abort>(
+    rt: &R,
+    alloc: Global,
+    member: &mut M,
+    calls: &[(Call<'_>, &str)],
+) -> Result<(), Fail> {
+    for (call, expected) in calls {
+        let text = answer(alloc, member, *call)?;
+        assert_eq!(rt; text.as_str(), *expected);
+    }
+    Ok(())
+}
+
+/// Plays each script with a member of its own.
+pub fn run<M: Made, R: Abort>(rt: &R, alloc: Global, scripts: &[Script<'_>]) -> Result<(), Fail> {
+    for script in scripts {
+        let group = group_of(script.number, script.size, script.window)?;
+        let mut member = M::made(alloc, group, script.me, script.limit)?;
+        play(rt, alloc, &mut member, script.calls)?;
+    }
+    Ok(())
+}
+
+/// The names of the messages that were delivered then.
+fn names(alloc: Global, delivered: &[Name]) -> Result<String, Fail> {
+    let mut text = String::new(alloc);
+    for name in delivered {
+        let name = format!(in alloc; " {name}")?;
+        text.push_str(name.as_str())?;
+    }
+    Ok(text)
+}
+
+/// The entries of the history, one after another.
+fn entries(alloc: Global, entries: &[Entry]) -> Result<String, Fail> {
+    let mut text = String::new(alloc);
+    for entry in entries {
+        let (kind, frame, delivered) = match entry {
+            Entry::Cast { frame } => ("cast", frame, String::new(alloc)),
+            Entry::Arrive { frame, delivered } => ("arrive", frame, names(alloc, delivered)?),
+            Entry::Tick { status } => ("tick", status, String::new(alloc)),
+        };
+        let frame = hexadecimal(alloc, frame.as_slice())?;
+        let entry = format!(in alloc; "{kind} {frame}{delivered};")?;
+        text.push_str(entry.as_str())?;
+    }
+    Ok(text)
+}
+
+/// The first and the last number of each range.
+fn ranges(alloc: Global, ranges: &[Range]) -> Result<String, Fail> {
+    let mut text = String::new(alloc);
+    for range in ranges {
+        let range = format!(in alloc; "{}-{};", range.first, range.last)?;
+        text.push_str(range.as_str())?;
+    }
+    Ok(text)
+}
+
+/// The events, one after another.
+fn events(alloc: Global, events: &[Event]) -> Result<String, Fail> {
+    let mut text = String::new(alloc);
+    for event in events {
+        let (kind, Message { name, time, .. }) = match event {
+            Event::Cast(message) => ("cast", message),
+            Event::Deliver(message) => ("deliver", message),
+        };
+        let event = format!(in alloc; "{kind} {name} {time};")?;
+        text.push_str(event.as_str())?;
+    }
+    Ok(text)
+}
+
+fn time_of(alloc: Global, entries: &[Entry], name: Name) -> Result<String, Fail> {
+    let facts = facts_of(alloc, entries)?;
+    let casts = casts_in(alloc, &facts)?;
+    let first = expanded_field(&casts, name.sender, name.number, 0);
+    let second = expanded_field(&casts, name.sender, name.number, 1);
+    let third = expanded_field(&casts, name.sender, name.number, 2);
+    Ok(format!(in alloc; "[{first},{second},{third}]")?)
+}

@@ -1,0 +1,39 @@
+-- What the words that `clap` took order.
+use Rattle.std.proofs.Common.{◌≡◌, ℕ, List, Option, Some, None, true, Result, Ok, refl, sym, ap₂, subst, ◌∙◌}
+use Rattle.std.specs.Prelude.{IfSome, option_map}
+use Rattle.std.specs.Str.Parse.{digits_value, without_leading_plus}
+use Rattle.clap.specs.Words.{App, Row, Text, ReadsOne, one_text, rows_of, FailsBy, fault_of, is_simple_and_free}
+use Rattle.clap.proofs.OnLiterals.{clap_on_literals}
+use Rattle.clap.specs.declared.error.Error.{Error}
+use Rattle.confer.specs.Cli.Commands.{confer_app}
+use Rattle.clap.specs.declared.parser.matches.Found.{Found}
+use Rattle.clap.proofs.WalkLemmas.{one_text-rows}
+use Rattle.confer.specs.Cli.Orders.{HasNumber}
+
+pub number_given : {E : Type 0} (G : List ℕ → Result ℕ E → Type 0) (f : Found) (id : List ℕ) (r : Option ℕ) → (one_text f id ≡ None → r ≡ None)
+    → ((t : List ℕ) → one_text f id ≡ Some t → ReadsOne G t r)
+    → ((u : List ℕ) (x : ℕ) → G u (Ok x) → x ≡ digits_value 10 (without_leading_plus u)) → IfSome r (HasNumber id (rows_of f))
+number_given {E} G f id None none some reads = tt
+number_given {E} G f id (Some n) none some reads = go (one_text f id) refl
+  where
+    go : (o : Option (List ℕ)) → one_text f id ≡ o → HasNumber id (rows_of f) n
+    go None e = let bad : Some n ≡ None = none e in cc
+    go (Some t) e = record { text = t; given = sym (one_text-rows f id) ∙ e; reads = reads t n (some t e) }
+
+-- what `clap` answers to words of `confer`
+simple_and_free : is_simple_and_free confer_app ≡ true
+unfolding clap_on_literals
+simple_and_free = refl
+
+pub fails_by : {T : Type 0} (a : App) (words : List Text) (r : Result T Error) → a ≡ confer_app
+    → (is_simple_and_free a ≡ true → FailsBy (fault_of a words) r) → FailsBy (fault_of confer_app words) r
+fails_by {T} a words r is kinds =
+    subst (λ (x : App). is_simple_and_free x ≡ true → FailsBy (fault_of x words) r) is kinds simple_and_free
+
+named_with : {X : Type 0} (f : X → Text) (g : X → List Row) (o : Option X) (n : Text) (rows : List Row) → option_map f o ≡ Some n → option_map g o ≡ Some rows
+    → option_map {U = Text × List Row} (λ b. (f b, g b)) o ≡ Some (n, rows)
+named_with f g None n rows p q = cc
+named_with f g (Some b) n rows p q =
+    let name : f b ≡ n = cc in
+    let row : g b ≡ rows = cc in
+    ap₂ (λ (x : Text) (y : List Row). Some (x, y)) name row

@@ -1,0 +1,6 @@
+-- Lemmas on `confer expand`.
+pub mod Accepting
+pub mod Putting
+pub mod Cutting
+pub mod Saying
+pub mod Running

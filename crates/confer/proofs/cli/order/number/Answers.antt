@@ -1,0 +1,9 @@
+use Rattle.std.specs.Str.Parse.{ParsesUnsigned, ExplainsUnsignedError, HasUnsignedDigitsIfOk}
+use Rattle.clap.specs.Words.{found_of}
+use Rattle.confer.proofs.CommandLine.Reading.{number_given}
+use Rattle.confer.proofs.cli.order.number.Goals as goal
+
+pub returns : goal.returns
+returns c =
+    number_given (λ bs r. ParsesUnsigned 32 10 bs r × ExplainsUnsignedError 10 bs r × HasUnsignedDigitsIfOk bs r) (found_of c.args.options.now) c.args.name.now c.get_one.result
+    c.get_one.ensures.none c.get_one.ensures.value (λ u x g. g.0.1)

@@ -1,0 +1,30 @@
+-- The subcommands and their options, as `clap` sees them.
+use Rattle.std.specs.Prelude.{ℕ, codes, Some, true, pos}
+use Rattle.clap.specs.Words.{App, Rule, Text, new_app, new_rule, with_rule, with_subcommand}
+use Rattle.clap.specs.declared.builder.ArgAction.TheVariants.{Set}
+use Rattle.clap.specs.declared.builder.value_parser.ValueParser.TheVariants as parsers
+
+-- a required option that takes a number within these bounds
+abbrev pub number_rule : Text → ℕ → ℕ → Rule
+number_rule name least most = record (new_rule name) {
+  long = Some name;
+  action = Some Set;
+  value_names = 1;
+  parser = Some (parsers.Signed (pos least) (pos most));
+  required = true;
+}
+
+abbrev pub group_rule : Rule
+group_rule = number_rule (codes "group") 0 4294967295
+
+abbrev pub size_rule : Rule
+size_rule = number_rule (codes "size") 2 64
+
+abbrev pub expand_app : App
+expand_app = with_rule (with_rule (new_app (codes "expand")) group_rule) size_rule
+
+-- one subcommand, which is required
+abbrev pub confer_app : App
+confer_app =
+    let top = new_app (codes "confer") in
+    with_subcommand (record top { top = record top.top { subcommand_required = true } }) expand_app.top

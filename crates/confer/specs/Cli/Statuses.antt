@@ -1,0 +1,44 @@
+-- The exit statuses of `confer`.
+use Rattle.std.specs.Prelude.{ℕ, List, codes, Option, Some, None}
+use Rattle.clap.specs.Words.{kind_of}
+use Rattle.clap.specs.declared.error.kind.ErrorKind.{ErrorKind}
+use Rattle.clap.specs.declared.error.kind.ErrorKind.TheVariants as kinds
+use Rattle.confer.specs.declared.expand.fault.LinesFault.{LinesFault}
+use Rattle.confer.specs.declared.expand.fault.LinesFault.TheVariants as lines
+use Rattle.confer.specs.declared.cli.fault.Fault.{Fault}
+use Rattle.confer.specs.declared.cli.fault.Fault.TheVariants as faults
+
+abbrev pub words_status : ErrorKind → ℕ
+words_status kinds.OutOfMemory = 5
+words_status kind = 2
+
+abbrev pub lines_status : LinesFault → ℕ
+lines_status lines.Read = 3
+lines_status lines.Write = 3
+lines_status lines.TooLong = 3
+lines_status lines.NoMemory = 5
+
+abbrev pub status_of : Fault → ℕ
+status_of (faults.Words error) = words_status (kind_of error)
+status_of faults.NotText = 2
+status_of faults.NoOrder = 2
+status_of faults.NoMemory = 5
+status_of (faults.Lines fault) = lines_status fault
+
+-- what is said of a fault on standard error, but for what `clap` says
+abbrev pub words_said : ErrorKind → Option (List ℕ)
+words_said kinds.OutOfMemory = Some (codes "confer: out of memory\n")
+words_said kind = None
+
+abbrev pub lines_said : LinesFault → List ℕ
+lines_said lines.Read = codes "confer: read fault\n"
+lines_said lines.Write = codes "confer: write fault\n"
+lines_said lines.TooLong = codes "confer: input too long\n"
+lines_said lines.NoMemory = codes "confer: out of memory\n"
+
+abbrev pub said_of : Fault → Option (List ℕ)
+said_of (faults.Words error) = words_said (kind_of error)
+said_of faults.NotText = Some (codes "confer: a word of the command line is not UTF-8\n")
+said_of faults.NoOrder = Some (codes "confer: the words order nothing\n")
+said_of faults.NoMemory = Some (codes "confer: out of memory\n")
+said_of (faults.Lines fault) = Some (lines_said fault)

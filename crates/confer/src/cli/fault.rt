@@ -1,0 +1,112 @@
+//! Why a run of `confer` did not end as it should, and its exit status then.
+
+ghost use Rattle.std.specs.Prelude.{◌≡◌, option_map};
+ghost use Rattle.confer.specs.Cli.Statuses.{words_status, lines_status, status_of, words_said, lines_said, said_of};
+ghost use Rattle.confer.specs.declared.cli.fault.Fault.TheVariants.{NoMemory as OutOfMemory};
+
+use crate::expand::LinesFault;
+use cb_times::NoMemory;
+use clap::error::ErrorKind;
+use thiserror::Error;
+
+/// A fault in the words, or a call for help.
+const WORDS: u8 = 2;
+
+/// A fault of the reader or the writer, or an input that is too long.
+const STREAMS: u8 = 3;
+
+/// Out of memory.
+const MEMORY: u8 = 5;
+
+/// Why a run of `confer` did not end as it should.
+#[derive(Debug, Drop, Error)]
+pub enum Fault {
+    /// A fault in the words, or a call for help. The text is `clap`'s.
+    #[error("{0}")]
+    Words(clap::Error),
+    /// A word of the command line is no text.
+    #[error("a word of the command line is not UTF-8")]
+    NotText,
+    /// The words name no subcommand, or say no numbers of a group: `clap` lets none of these through.
+    #[error("the words order nothing")]
+    NoOrder,
+    /// An allocation was refused.
+    #[error("out of memory")]
+    NoMemory,
+    /// A fault while lines were read and answered.
+    #[error("{0}")]
+    Lines(LinesFault),
+}
+
+impl From<NoMemory> for Fault {
+    ghost from_gives = { λ _ e. e ≡ OutOfMemory };
+
+    fn from(_refused: NoMemory) -> Fault {
+        Fault::NoMemory
+    }
+}
+
+impl Fault {
+    /// The exit status of a run that stops so.
+    pub fn status(&self) -> u8
+        ensures { result ≡ status_of self.now }
+    {
+        match self {
+            Fault::Words(error) => words_status(error.kind()),
+            Fault::NotText | Fault::NoOrder => WORDS,
+            Fault::NoMemory => MEMORY,
+            Fault::Lines(fault) => lines_status(fault),
+        }
+    }
+
+    /// What is said of it on standard error, but for a fault in the words: of that `clap` has the text.
+    pub fn said(&self) -> Option<&'static str>
+        ensures { option_map (λ text. text.now) result ≡ said_of self.now }
+    {
+        match self {
+            Fault::Words(error) => words_said(error.kind()),
+            Fault::NotText => Some("confer: a word of the command line is not UTF-8\n"),
+            Fault::NoOrder => Some("confer: the words order nothing\n"),
+            Fault::NoMemory => Some("confer: out of memory\n"),
+            Fault::Lines(fault) => Some(lines_said(fault)),
+        }
+    }
+}
+
+fn words_said(kind: ErrorKind) -> Option<&'static str>
+    ensures { option_map (λ text. text.now) result ≡ words_said kind }
+{
+    match kind {
+        ErrorKind::OutOfMemory => Some("confer: out of memory\n"),
+        _ => None,
+    }
+}
+
+fn lines_said(fault: &LinesFault) -> &'static str
+    ensures { result.now ≡ lines_said fault.now }
+{
+    match fault {
+        LinesFault::Read => "confer: read fault\n",
+        LinesFault::Write => "confer: write fault\n",
+        LinesFault::TooLong => "confer: input too long\n",
+        LinesFault::NoMemory => "confer: out of memory\n",
+    }
+}
+
+fn words_status(kind: ErrorKind) -> u8
+    ensures { result ≡ words_status kind }
+{
+    match kind {
+        ErrorKind::OutOfMemory => MEMORY,
+        _ => WORDS,
+    }
+}
+
+fn lines_status(fault: &LinesFault) -> u8
+    ensures { result ≡ lines_status fault.now }
+{
+    match fault {
+        LinesFault::Read | LinesFault::Write | LinesFault::TooLong => STREAMS,
+        LinesFault::NoMemory => MEMORY,
+    }
+}

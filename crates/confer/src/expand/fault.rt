@@ -1,0 +1,40 @@
+//! What ends an expansion, or the answer to a line, before its end.
+
+ghost use Rattle.std.specs.Prelude.{◌≡◌};
+ghost use Rattle.confer.specs.declared.expand.fault.LinesFault.TheVariants.{NoMemory as OutOfMemory};
+
+use crate::expand::refusal::Refusal;
+use cb_times::NoMemory;
+use thiserror::Error;
+
+/// Why `confer expand` stopped. What was read and written before stays so.
+#[derive(Clone, Copy, Debug, PartialEq, Eq, Error)]
+pub enum LinesFault {
+    /// The reader answered a fault; a read that was interrupted counts as one.
+    #[error("read fault")]
+    Read,
+    /// The writer answered a fault.
+    #[error("write fault")]
+    Write,
+    /// The input has more than 67,108,864 bytes.
+    #[error("input too long")]
+    TooLong,
+    /// An allocation was refused.
+    #[error("out of memory")]
+    NoMemory,
+}
+
+impl From<NoMemory> for LinesFault {
+    ghost from_gives = { λ _ e. e ≡ OutOfMemory };
+
+    fn from(_refused: NoMemory) -> LinesFault {
+        LinesFault::NoMemory
+    }
+}
+
+/// Why a line has no time: it is refused, or an allocation was.
+#[derive(Debug, Drop)]
+pub enum LineFault {
+    Refused(Refusal),
+    NoMemory(NoMemory),
+}

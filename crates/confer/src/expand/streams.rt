@@ -1,0 +1,176 @@
+//! From a reader to a writer.
+
+ghost use Rattle.std.specs.Prelude.{◌≡◌, ◌<◌, ◌≤◌, [], ◌++◌, Some, Ok, Err, vec_len, length, take, IfOk, IfErr, OnOk, OnErr, IfSome, MatchResult};
+ghost use Rattle.std.specs.Io.KnownBytes.{Appends, Consumes, IsAtEnd, Keeps};
+ghost use Rattle.cb_times.specs.Group.{IsGroupSize};
+ghost use Rattle.confer.specs.Expand.Lines.{ended, unended, last_line, output_of, is_refused};
+ghost use Rattle.confer.specs.Expand.Runs.{WritesPart, PutsLines, StopsIn, Stops, FailsToPut};
+
+use crate::expand::answers::Answers;
+use crate::expand::fault::LinesFault;
+use crate::expand::lines::Lines;
+use cb_times::NoMemory;
+use std::alloc::Global;
+use std::io;
+use std::io::{ErrorKind, Read, Write};
+
+/// The most bytes of an input.
+pub const LONGEST_INPUT: usize = 67_108_864;
+
+/// How many bytes are read at a time.
+const CHUNK: usize = 65_536;
+
+/// Where the bytes of one read go.
+fn room(alloc: Global) -> Result<Vec<u8>, NoMemory>
+    ensures { IfOk result (λ buffer. 0 < vec_len buffer) }
+{
+    vec![in alloc; 0; CHUNK]
+}
+
+/// A read that failed is a read fault, and nothing else is.
+fn count_of(read: io::Result<usize>) -> Result<usize, LinesFault>
+    ensures { MatchResult read (λ count. result ≡ Ok count) (λ _. result ≡ Err LinesFault.Read) }
+{
+    match read {
+        Ok(count) => Ok(count),
+        Err(_) => Err(LinesFault::Read),
+    }
+}
+
+/// The bytes of one read, at the front of the buffer: none at the end of the input alone.
+fn read<R: Read>(input: &mut R, buffer: &mut [u8]) -> Result<usize, LinesFault>
+    requires { 0 < length buffer.old }
+    ensures within { IfOk result (λ count. count ≤ length buffer.new) }
+    ensures bytes { IfOk result (λ count.
+        Consumes (R.remaining input.old) (R.remaining input.new) (take count buffer.new)) }
+    ensures end { IfOk result (λ count. count ≡ 0 → IsAtEnd (R.remaining input.new)) }
+    ensures err { OnErr result (Keeps (R.remaining input.old) (R.remaining input.new)) }
+    ensures fault { IfErr result (λ fault. fault ≡ LinesFault.Read) }
+{
+    count_of(input.read(buffer))
+}
+
+/// Writes some of the bytes, none of them only where the write was interrupted. A write that failed is a write fault, and
+/// nothing else is.
+fn write_some<W: Write>(output: &mut W, bytes: &[u8]) -> Result<usize, LinesFault>
+    ensures within { IfOk result (λ count. count ≤ length bytes.now) }
+    ensures ok { IfOk result (λ count.
+        Appends (W.contents output.old) (W.contents output.new) (take count bytes.now)) }
+    ensures err { OnErr result (Appends (W.contents output.old) (W.contents output.new) []) }
+    ensures fault { IfErr result (λ fault. fault ≡ LinesFault.Write) }
+{
+    match output.write(bytes) {
+        Ok(0) => Err(LinesFault::Write),
+        Ok(count) => Ok(count),
+        Err(fault) if fault.kind() == ErrorKind::Interrupted => Ok(0),
+        Err(_) => Err(LinesFault::Write),
+    }
+}
+
+/// Writes all of the bytes, as std's `write_all` does: a write that was interrupted is tried again.
+pub fn write_whole<W: Write>(output: &mut W, bytes: &[u8]) -> Result<(), LinesFault>
+    ensures ok { OnOk result (Appends (W.contents output.old) (W.contents output.new) bytes.now) }
+    ensures err { OnErr result (WritesPart (W.contents output.old) (W.contents output.new) bytes.now) }
+    ensures fault { IfErr result (λ fault. fault ≡ LinesFault.Write) }
+{
+    let mut rest = bytes;
+    for _ in 0..u64::MAX {
+        if rest.is_empty() {
+            return Ok(());
+        }
+        let count = write_some(output, rest)?;
+        let (_, after) = rest.split_at(count);
+        rest = after;
+    }
+    Err(LinesFault::Write)
+}
+
+/// Writes the answers that came with one read, also where memory ran out after them.
+fn put<W: Write>(
+    output: &mut W,
+    answers: &mut Answers,
+    taken: Result<(), NoMemory>,
+) -> Result<(), LinesFault>
+    ensures all { OnOk result (taken ≡ Ok tt) }
+    ensures bytes { OnOk result (Appends (W.contents output.old) (W.contents output.new) answers.old.text) }
+    ensures cleared { OnOk result (answers.new ≡ record answers.old { text = [] }) }
+    ensures fault { IfErr result (λ fault.
+        FailsToPut fault (W.contents output.old) (W.contents output.new) answers.old.text) }
+{
+    write_whole(output, answers.text())?;
+    answers.clear();
+    Ok(taken?)
+}
+
+/// Answers the lines that end in a piece of the input, and writes the answers.
+fn answer_piece<W: Write>(output: &mut W, lines: &mut Lines, piece: &[u8]) -> Result<(), LinesFault>
+    ensures ok { OnOk result (PutsLines (ended lines.old.begun.items piece.now)
+        lines.old.expansion lines.new.expansion lines.old.answers lines.new.answers
+        (W.contents output.old) (W.contents output.new)) }
+    ensures begun { OnOk result (lines.new.begun.items ≡ unended lines.old.begun.items piece.now) }
+    ensures fault { IfErr result (λ fault. StopsIn fault (ended lines.old.begun.items piece.now)
+        lines.old.expansion lines.old.answers (W.contents output.old) (W.contents output.new)) }
+{
+    let taken = lines.take(piece);
+    put(output, &mut lines.answers, taken)
+}
+
+/// Answers a last line that lacks its line feed, and writes the answer. Whether a line of the input was refused.
+fn answer_last<W: Write>(output: &mut W, lines: &mut Lines) -> Result<bool, LinesFault>
+    ensures ok { OnOk result (PutsLines (last_line lines.old.begun.items)
+        lines.old.expansion lines.new.expansion lines.old.answers lines.new.answers
+        (W.contents output.old) (W.contents output.new)) }
+    ensures refused { IfOk result (λ refused. refused ≡ lines.new.answers.refused) }
+    ensures fault { IfErr result (λ fault. StopsIn fault (last_line lines.old.begun.items)
+        lines.old.expansion lines.old.answers (W.contents output.old) (W.contents output.new)) }
+{
+    let taken = lines.end();
+    match put(output, &mut lines.answers, taken) {
+        Ok(()) => Ok(lines.answers.refused()),
+        Err(fault) => Err(fault),
+    }
+}
+
+/// Reads lines of hexadecimal to the end of the input, and writes for each the time of the cast that it is, or why it
+/// is refused. Whether a line was refused.
+///
+/// Output is written once for each read; memory does not grow with the number of lines.
+pub fn expand_lines<R: Read, W: Write>(
+    alloc: Global,
+    group: u32,
+    size: u32,
+    input: &mut R,
+    output: &mut W,
+) -> Result<bool, LinesFault>
+    requires { IsGroupSize size }
+    ensures text { IfOk result (λ _. IfSome (R.remaining input.old) (λ bytes.
+        Appends (W.contents output.old) (W.contents output.new) (output_of group size bytes))) }
+    ensures refused { IfOk result (λ refused. IfSome (R.remaining input.old) (λ bytes.
+        refused ≡ is_refused group size bytes)) }
+    ensures limit { IfOk result (λ _. IfSome (R.remaining input.old) (λ bytes.
+        length bytes ≤ LONGEST_INPUT)) }
+    ensures fault { IfErr result (λ fault. IfSome (R.remaining input.old) (λ bytes.
+        Stops group size bytes fault (R.remaining input.new)
+        (W.contents output.old) (W.contents output.new))) }
+{
+    let mut buffer = room(alloc)?;
+    let mut lines = Lines::new(alloc, group, size)?;
+    let mut left = LONGEST_INPUT;
+    'pieces: loop {
+        let count = match read(input, &mut buffer) {
+            Ok(count) => count,
+            Err(fault) => return Err(fault),
+        };
+        if count == 0 {
+            return answer_last(output, &mut lines);
+        }
+        let within = count.min(left);
+        if let Err(fault) = answer_piece(output, &mut lines, &buffer[..within]) {
+            return Err(fault);
+        }
+        if within < count {
+            return Err(LinesFault::TooLong);
+        }
+        left -= within;
+    }
+}

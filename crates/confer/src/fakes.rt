@@ -1,0 +1,68 @@
+//! Readers and writers for tests, which fail where they are told to.
+
+use std::alloc::Global;
+use std::io;
+use std::io::{ErrorKind, Read, Write};
+
+/// Gives its text `most` bytes at a time; the read after `good` of them is a fault.
+#[derive(Drop)]
+pub struct Source<'a> {
+    pub text: &'a [u8],
+    pub most: usize,
+    pub good: usize,
+    pub fault: ErrorKind,
+}
+
+impl<'a> Read for Source<'a> {
+    fn read(&mut self, buf: &mut [u8]) -> io::Result<usize> {
+        let Some(left) = self.good.checked_sub(1) else {
+            return Err(io::Error::from(self.fault));
+        };
+        self.good = left;
+        let count = self.text.len().min(buf.len()).min(self.most);
+        buf[..count].copy_from_slice(&self.text[..count]);
+        self.text = &self.text[count..];
+        Ok(count)
+    }
+}
+
+pub fn reading(text: &[u8]) -> Source<'_> {
+    Source {
+        text,
+        most: 5,
+        good: usize::MAX,
+        fault: ErrorKind::BrokenPipe,
+    }
+}
+
+/// Keeps what it is given, `most` bytes at a time; the write after `good` of them is a fault.
+#[derive(Drop)]
+pub struct Sink {
+    pub text: Vec<u8>,
+    pub most: usize,
+    pub good: usize,
+}
+
+impl Write for Sink {
+    fn write(&mut self, buf: &[u8]) -> io::Result<usize> {
+        let Some(left) = self.good.checked_sub(1) else {
+            return Err(io::Error::from(ErrorKind::BrokenPipe));
+        };
+        self.good = left;
+        let count = buf.len().min(self.most);
+        self.text.extend_from_slice(&buf[..count])?;
+        Ok(count)
+    }
+
+    fn flush(&mut self) -> io::Result<()> {
+        Ok(())
+    }
+}
+
+pub fn writing(alloc: Global) -> Sink {
+    Sink {
+        text: Vec::new(alloc),
+        most: 3,
+        good: usize::MAX,
+    }
+}
