@@ -35,16 +35,22 @@ pub fn reading(text: &[u8]) -> Source<'_> {
     }
 }
 
-/// Keeps what it is given, `most` bytes at a time; the write after `good` of them is a fault.
+/// Keeps what it is given, `most` bytes at a time. The first `interrupted` writes are interrupted, and the write after
+/// `good` others is a fault.
 #[derive(Drop)]
 pub struct Sink {
     pub text: Vec<u8>,
     pub most: usize,
+    pub interrupted: usize,
     pub good: usize,
 }
 
 impl Write for Sink {
     fn write(&mut self, buf: &[u8]) -> io::Result<usize> {
+        if let Some(left) = self.interrupted.checked_sub(1) {
+            self.interrupted = left;
+            return Err(io::Error::from(ErrorKind::Interrupted));
+        }
         let Some(left) = self.good.checked_sub(1) else {
             return Err(io::Error::from(ErrorKind::BrokenPipe));
         };
@@ -63,6 +69,7 @@ pub fn writing(alloc: Global) -> Sink {
     Sink {
         text: Vec::new(alloc),
         most: 3,
+        interrupted: 0,
         good: usize::MAX,
     }
 }

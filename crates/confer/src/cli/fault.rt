@@ -10,7 +10,7 @@ use clap::error::ErrorKind;
 use thiserror::Error;
 
 /// A fault in the words, or a call for help.
-const WORDS: u8 = 2;
+const USAGE: u8 = 2;
 
 /// A fault of the reader or the writer, or an input that is too long.
 const STREAMS: u8 = 3;
@@ -53,7 +53,7 @@ impl Fault {
     {
         match self {
             Fault::Words(error) => words_status(error.kind()),
-            Fault::NotText | Fault::NoOrder => WORDS,
+            Fault::NotText | Fault::NoOrder => USAGE,
             Fault::NoMemory => MEMORY,
             Fault::Lines(fault) => lines_status(fault),
         }
@@ -98,7 +98,7 @@ fn words_status(kind: ErrorKind) -> u8
 {
     match kind {
         ErrorKind::OutOfMemory => MEMORY,
-        _ => WORDS,
+        _ => USAGE,
     }
 }
 

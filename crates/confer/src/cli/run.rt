@@ -18,16 +18,17 @@ const DONE: u8 = 0;
 /// A line was refused.
 const REFUSED: u8 = 1;
 
-fn obey<S: AsStr, R: Read, W: Write>(
+fn carry_out<S: AsStr, R: Read, W: Write>(
     alloc: Global,
     words: &[S],
     input: &mut R,
     output: &mut W,
 ) -> Result<bool, Fault>
-    ensures ok { IfOk result (λ refused. Expanded (map S.text words.now) refused (R.remaining input.old)
+    ensures ok { IfOk result (λ refused. Expanded (map S.text words.now) refused
+        (R.remaining input.old) (W.contents output.old) (W.contents output.new)) }
+    ensures fault { IfErr result (λ fault. StoppedBy (map S.text words.now) fault
+        (R.remaining input.old) (R.remaining input.new)
         (W.contents output.old) (W.contents output.new)) }
-    ensures fault { IfErr result (λ fault. StoppedBy (map S.text words.now) fault (R.remaining input.old)
-        (R.remaining input.new) (W.contents output.old) (W.contents output.new)) }
 {
     match order_of(alloc, words) {
         Ok(options) => {
@@ -43,7 +44,8 @@ fn obey<S: AsStr, R: Read, W: Write>(
 /// Says on `errors` what ended the run, and gives its exit status.
 pub fn report<E: Write>(fault: &Fault, errors: &mut E) -> u8
     ensures status { result ≡ status_of fault.now }
-    ensures said { IfSome (said_of fault.now) (WritesPart (E.contents errors.old) (E.contents errors.new)) }
+    ensures said { IfSome (said_of fault.now)
+        (WritesPart (E.contents errors.old) (E.contents errors.new)) }
 {
     // Nobody is left to be told where even this can't be written.
     say(fault, errors);
@@ -51,7 +53,8 @@ pub fn report<E: Write>(fault: &Fault, errors: &mut E) -> u8
 }
 
 fn say<E: Write>(fault: &Fault, errors: &mut E)
-    ensures { IfSome (said_of fault.now) (WritesPart (E.contents errors.old) (E.contents errors.new)) }
+    ensures { IfSome (said_of fault.now)
+        (WritesPart (E.contents errors.old) (E.contents errors.new)) }
 {
     match fault.said() {
         Some(text) => {
@@ -72,9 +75,10 @@ pub fn run_words<S: AsStr, R: Read, W: Write, E: Write>(
     errors: &mut E,
 ) -> u8
     ensures { Ends (map S.text words.now) result (R.remaining input.old) (R.remaining input.new)
-        (W.contents output.old) (W.contents output.new) (E.contents errors.old) (E.contents errors.new) }
+        (W.contents output.old) (W.contents output.new)
+        (E.contents errors.old) (E.contents errors.new) }
 {
-    match obey(alloc, words, input, output) {
+    match carry_out(alloc, words, input, output) {
         Ok(false) => DONE,
         Ok(true) => REFUSED,
         Err(fault) => report(&fault, errors),

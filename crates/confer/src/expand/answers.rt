@@ -75,7 +75,8 @@ impl Answers {
 
     /// Answers one line. When memory runs out all is as it was: no part of an answer is ever shown.
     pub fn answer(&mut self, expansion: &mut Expansion, line: &[u8]) -> Result<(), NoMemory>
-        ensures ok { OnOk result (Says (line.now ∷ []) expansion.old expansion.new self.old self.new) }
+        ensures ok { OnOk result
+            (Says (line.now ∷ []) expansion.old expansion.new self.old self.new) }
         ensures err { OnErr result ((expansion.new ≡ expansion.old) × (self.new ≡ self.old)) }
     {
         self.text.reserve(LONGEST_ANSWER)?;

@@ -67,7 +67,8 @@ impl Expansion {
     /// The cast that the line is. Its time is then `time`.
     #[tactic(auto, unfolding(crate::specs::Expand::Answers::outcome))]
     pub fn accept(&mut self, line: &[u8]) -> Result<Cast, LineFault>
-        ensures gives { (accepted : List CastFields) → IsKept (length self.old.kept) accepted self.old.kept
+        ensures gives { (accepted : List CastFields)
+            → IsKept (length self.old.kept) accepted self.old.kept
             → GivesAccepted accepted line.now self.old self.new result }
         ensures short { IfOk result (λ cast. length cast.payload ≤ LONGEST_PAYLOAD) }
         ensures same { SameGroup self.old self.new }
@@ -82,7 +83,8 @@ impl Expansion {
     }
 
     fn expand(&mut self, cast: &Cast) -> Result<(), LineFault>
-        ensures gives { (accepted : List CastFields) → IsKept (length self.old.kept) accepted self.old.kept
+        ensures gives { (accepted : List CastFields)
+            → IsKept (length self.old.kept) accepted self.old.kept
             → GivesTime accepted (cast_fields cast.now) self.old self.new result }
         ensures same { SameGroup self.old self.new }
         ensures err { OnErr result (self.new ≡ self.old) }

@@ -40,7 +40,8 @@ impl Lines {
     pub fn take(&mut self, piece: &[u8]) -> Result<(), NoMemory>
         ensures ok { OnOk result (Says (ended self.old.begun.items piece.now)
             self.old.expansion self.new.expansion self.old.answers self.new.answers) }
-        ensures begun { OnOk result (self.new.begun.items ≡ unended self.old.begun.items piece.now) }
+        ensures begun { OnOk result
+            (self.new.begun.items ≡ unended self.old.begun.items piece.now) }
         ensures err { OnErr result (SaysFirst (ended self.old.begun.items piece.now)
             self.old.expansion self.new.expansion self.old.answers self.new.answers) }
     {
@@ -72,8 +73,8 @@ impl Lines {
 
     /// Answers a last line that lacks its line feed, where there is one.
     pub fn end(&mut self) -> Result<(), NoMemory>
-        ensures ok { OnOk result (Says (last_line self.old.begun.items) self.old.expansion self.new.expansion
-            self.old.answers self.new.answers) }
+        ensures ok { OnOk result (Says (last_line self.old.begun.items)
+            self.old.expansion self.new.expansion self.old.answers self.new.answers) }
         ensures err { OnErr result
             ((self.new.expansion ≡ self.old.expansion) × (self.new.answers ≡ self.old.answers)) }
     {

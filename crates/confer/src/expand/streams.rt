@@ -70,7 +70,8 @@ fn write_some<W: Write>(output: &mut W, bytes: &[u8]) -> Result<usize, LinesFaul
 /// Writes all of the bytes, as std's `write_all` does: a write that was interrupted is tried again.
 pub fn write_whole<W: Write>(output: &mut W, bytes: &[u8]) -> Result<(), LinesFault>
     ensures ok { OnOk result (Appends (W.contents output.old) (W.contents output.new) bytes.now) }
-    ensures err { OnErr result (WritesPart (W.contents output.old) (W.contents output.new) bytes.now) }
+    ensures err { OnErr result
+        (WritesPart (W.contents output.old) (W.contents output.new) bytes.now) }
     ensures fault { IfErr result (λ fault. fault ≡ LinesFault.Write) }
 {
     let mut rest = bytes;
@@ -92,7 +93,8 @@ fn put<W: Write>(
     taken: Result<(), NoMemory>,
 ) -> Result<(), LinesFault>
     ensures all { OnOk result (taken ≡ Ok tt) }
-    ensures bytes { OnOk result (Appends (W.contents output.old) (W.contents output.new) answers.old.text) }
+    ensures bytes { OnOk result
+        (Appends (W.contents output.old) (W.contents output.new) answers.old.text) }
     ensures cleared { OnOk result (answers.new ≡ record answers.old { text = [] }) }
     ensures fault { IfErr result (λ fault.
         FailsToPut fault (W.contents output.old) (W.contents output.new) answers.old.text) }

@@ -93,59 +93,59 @@ fn payloads_that_are_not_plain_are_in_hexadecimal(rt: HostRuntime) {
     expands(&rt, alloc, b"110700010000\n", 0, "0.1 [1,0,0] \"\"\n");
 }
 
-/// What a fault of the reader or of the writer leaves.
-fn stops(
-    rt: &impl Abort,
-    alloc: Global,
-    input: &mut Source<'_>,
-    output: &mut Sink,
-    said: &str,
-    shown: &[u8],
-) {
+/// A fault of the reader or of the writer ends the run with status 3, and is said.
+fn stops(rt: &impl Abort, alloc: Global, input: &mut Source<'_>, output: &mut Sink, said: &str) {
     let words = ["confer", "expand", "--group", "7", "--size", "3"];
     let mut errors = writing(alloc);
     assert_eq!(rt; run_words(alloc, &words, input, output, &mut errors), 3);
-    assert_eq!(rt; output.text.as_slice(), shown);
     assert_eq!(rt; errors.text.as_slice(), said.as_bytes());
 }
 
 #[test]
 fn a_failing_read_keeps_what_was_answered(rt: HostRuntime) {
+    let alloc = rt.alloc();
     for fault in [ErrorKind::BrokenPipe, ErrorKind::Interrupted] {
         let mut input = reading(b"\n00\n00\n");
         input.most = 4;
         input.good = 1;
         input.fault = fault;
-        let mut output = writing(rt.alloc());
-        let shown = b"refused Short\nrefused UnknownKind\n";
-        stops(
-            &rt,
-            rt.alloc(),
-            &mut input,
-            &mut output,
-            "confer: read fault\n",
-            shown,
+        let mut output = writing(alloc);
+        stops(&rt, alloc, &mut input, &mut output, "confer: read fault\n");
+        assert_eq!(rt;
+            output.text.as_slice(),
+            b"refused Short\nrefused UnknownKind\n".as_slice()
         );
     }
 }
 
 #[test]
 fn each_write_failing_in_turn_keeps_what_was_written(rt: HostRuntime) {
-    let shown = b"refused Short\nrefused UnknownKind\n";
+    let alloc = rt.alloc();
+    let whole = b"refused Short\nrefused UnknownKind\n";
     for good in 0..12 {
-        let mut output = writing(rt.alloc());
+        let mut output = writing(alloc);
         output.good = good;
-        let upto = good.saturating_mul(3).min(shown.len());
+        let upto = good.saturating_mul(3).min(whole.len());
         let mut input = reading(b"\n00\n");
-        stops(
-            &rt,
-            rt.alloc(),
-            &mut input,
-            &mut output,
-            "confer: write fault\n",
-            &shown[..upto],
-        );
+        stops(&rt, alloc, &mut input, &mut output, "confer: write fault\n");
+        assert_eq!(rt; output.text.as_slice(), &whole[..upto]);
     }
+}
+
+#[test]
+fn an_interrupted_write_is_tried_again(rt: HostRuntime) {
+    let alloc = rt.alloc();
+    let mut input = reading(b"\n00\n");
+    let mut output = writing(alloc);
+    output.interrupted = 2;
+    assert_eq!(rt;
+        expand_lines(alloc, 7, 3, &mut input, &mut output),
+        Ok(true)
+    );
+    assert_eq!(rt;
+        output.text.as_slice(),
+        b"refused Short\nrefused UnknownKind\n".as_slice()
+    );
 }
 
 /// Line feeds around the end of the longest input.
