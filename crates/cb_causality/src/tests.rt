@@ -115,6 +115,20 @@ fn ends_stamped(group: &StampedGroup, member: usize, is_cast: bool, expected: Ex
         && message.payload.as_slice() == expected.text
 }
 
+/// Whether it is this in both machines.
+fn end(
+    causal: &CausalGroup,
+    stamped: &StampedGroup,
+    member: usize,
+    is_cast: bool,
+    expected: Expected,
+) -> bool {
+    member < causal.size()
+        && member < stamped.size()
+        && ends_causally(causal, member, is_cast, expected)
+        && ends_stamped(stamped, member, is_cast, expected)
+}
+
 /// Makes one move in both groups.
 fn make(
     rt: &impl Abort,
@@ -128,34 +142,20 @@ fn make(
             assert!(rt; member < causal.size() && member < stamped.size());
             let got = cast(rt, causal, stamped, member, expected.text)?;
             assert_eq!(rt; got, expected.name);
-            assert!(rt; member < causal.size() && member < stamped.size());
-            assert!(rt; ends_causally(causal, member, true, *expected), "{got}");
-            assert!(rt; ends_stamped(stamped, member, true, *expected), "{got}");
+            assert!(rt; end(causal, stamped, member, true, *expected), "{got}");
         }
         Move::Deliver(receiver, expected) => {
+            assert!(rt; *receiver < causal.size() && *receiver < stamped.size());
             let name = expected.name;
-            assert!(rt; *receiver < causal.size() && *receiver < stamped.size());
-            assert!(rt;
-                deliver(rt, causal, stamped, *receiver, name)?,
-                "{name} at {receiver}"
-            );
-            assert!(rt; *receiver < causal.size() && *receiver < stamped.size());
-            assert!(rt;
-                ends_causally(causal, *receiver, false, *expected),
-                "{name} at {receiver}"
-            );
-            assert!(rt;
-                ends_stamped(stamped, *receiver, false, *expected),
-                "{name} at {receiver}"
-            );
+            let done = deliver(rt, causal, stamped, *receiver, name)?;
+            let is_it = done && end(causal, stamped, *receiver, false, *expected);
+            assert!(rt; is_it, "{name} at {receiver}");
         }
         Move::Waits(receiver, expected) => {
-            let name = expected.name;
             assert!(rt; *receiver < causal.size() && *receiver < stamped.size());
-            assert!(rt;
-                !deliver(rt, causal, stamped, *receiver, name)?,
-                "{name} at {receiver}"
-            );
+            let name = expected.name;
+            let done = deliver(rt, causal, stamped, *receiver, name)?;
+            assert!(rt; !done, "{name} at {receiver}");
         }
     }
     Ok(())

@@ -11,7 +11,7 @@ use std::alloc::{AllocError, AllocFailed};
 use std::error::Error;
 use std::fmt;
 
-/// The first fault of bytes that are no frame, from the left.
+/// Why bytes are no frame: what is wrong with them first, read from the left.
 #[derive(Clone, Copy, Debug, PartialEq, Eq, Hash)]
 pub enum FrameFault {
     /// The bytes end within a field, or where a field would have to follow.

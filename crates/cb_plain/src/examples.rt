@@ -5,10 +5,10 @@
 
 mod calls;
 
-use crate::examples::calls::{Call, Script, group_of, play};
+use crate::examples::calls::{Call, Script, group_of, hexadecimal, play};
 pub use crate::examples::calls::{Made, run};
 use bytes::Bytes;
-use cb_history::{Arrival, Name};
+use cb_history::{Arrival, Name, Outgoing};
 use std::alloc::Global;
 use std::process::Abort;
 use std::test::Fail;
@@ -24,6 +24,51 @@ const OK: &[u8] = b"\x11\x07\x01\x02\x00\x02ok";
 
 /// And `1.1`.
 const LAST_OF_GROUP_300: &[u8] = b"\x11\xac\x02\x01\x01\x00\x00";
+
+/// Nothing is missing of another member then, and of itself or of who is none nothing is told.
+pub const A_CAST_IS_A_FRAME_AND_AN_ENTRY: &[Script<'static>] = &[Script {
+    number: 7,
+    size: 3,
+    window: 4,
+    me: 0,
+    limit: 100,
+    calls: &[
+        (Call::Cast(b"hi"), "1: 0.1 [1,0,0] 1107000100026869"),
+        (Call::Cast(b""), "2: 0.2 [2,0,0] 110700020000"),
+        (Call::Entries, "cast 1107000100026869;cast 110700020000;"),
+        (Call::Time, "[2,0,0]"),
+        (Call::Stable, "0"),
+        (Call::Missing(1), ""),
+        (Call::Missing(0), "BadMember"),
+        (Call::Missing(3), "BadMember"),
+    ],
+}];
+
+/// A full window comes before a full history.
+pub const A_CAST_IS_REFUSED_BY_THE_FIRST_RULE_THAT_IT_BREAKS: &[Script<'static>] = &[
+    Script {
+        number: 7,
+        size: 3,
+        window: 1,
+        me: 1,
+        limit: 1,
+        calls: &[
+            (Call::Cast(b"x"), "1: 1.1 [0,1,0] 11070101000178"),
+            (Call::Cast(b"x"), "1: WindowFull"),
+        ],
+    },
+    Script {
+        number: 7,
+        size: 3,
+        window: 2,
+        me: 1,
+        limit: 1,
+        calls: &[
+            (Call::Cast(b"x"), "1: 1.1 [0,1,0] 11070101000178"),
+            (Call::Cast(b"x"), "1: HistoryFull"),
+        ],
+    },
+];
 
 /// `first_cast`, `hi_is_delivered`, `an_answer_says_what_it_answers` and `a_second_cast_says_what_is_new`.
 pub const A_QUESTION_AND_ITS_ANSWER: &[Script<'static>] = &[
@@ -120,8 +165,52 @@ pub const A_TICK_TELLS_A_STATUS_AND_ENTERS_A_NEW_ONE: &[Script<'static>] = &[Scr
     calls: &[
         (Call::Tick, "1: entered, to all: 12070200"),
         (Call::Tick, "1: not entered, to all: 12070200"),
+        (Call::Entries, "tick 12070200;"),
     ],
 }];
+
+/// A status that says more than the last one is new.
+pub const A_STATUS_SAYS_THE_TIME: &[Script<'static>] = &[Script {
+    number: 7,
+    size: 3,
+    window: 4,
+    me: 0,
+    limit: 100,
+    calls: &[
+        (Call::Tick, "1: entered, to all: 12070000"),
+        (Call::Cast(b"x"), "2: 0.1 [1,0,0] 11070001000178"),
+        (Call::Tick, "3: entered, to all: 120700010001"),
+        (Call::Tick, "3: not entered, to all: 120700010001"),
+    ],
+}];
+
+/// One that is not new needs no room.
+pub const A_NEW_STATUS_IS_REFUSED_WHERE_THE_HISTORY_IS_FULL: &[Script<'static>] = &[
+    Script {
+        number: 7,
+        size: 3,
+        window: 4,
+        me: 0,
+        limit: 1,
+        calls: &[
+            (Call::Cast(b"x"), "1: 0.1 [1,0,0] 11070001000178"),
+            (Call::Tick, "1: HistoryFull"),
+            (Call::Entries, "cast 11070001000178;"),
+            (Call::Time, "[1,0,0]"),
+        ],
+    },
+    Script {
+        number: 7,
+        size: 3,
+        window: 4,
+        me: 0,
+        limit: 1,
+        calls: &[
+            (Call::Tick, "1: entered, to all: 12070000"),
+            (Call::Tick, "1: not entered, to all: 12070000"),
+        ],
+    },
+];
 
 /// `two_casts_are_missing` and `a_tick_asks_for_them`; two gaps are two ranges.
 pub const A_TICK_ASKS_FOR_WHAT_IS_MISSING: &[Script<'static>] = &[
@@ -567,68 +656,95 @@ pub const A_MEMBER_OF_FIVE_ASKS_FOR_WHAT_IT_LACKS: &[Script<'static>] = &[Script
     ],
 }];
 
+/// A payload of 1,025 bytes is refused before a full window is.
+pub fn a_longer_payload_is_refused<M: Made, R: Abort>(rt: &R, alloc: Global) -> Result<(), Fail> {
+    let long = vec![in alloc; 120; 1025]?;
+    let mut member = M::made(alloc, group_of(7, 3, 1)?, 0, 1)?;
+    let calls = [
+        (Call::Cast(b"x"), "1: 0.1 [1,0,0] 11070001000178"),
+        (Call::Cast(&long), "1: PayloadTooLong"),
+        (Call::Cast(b"x"), "1: WindowFull"),
+    ];
+    play(rt, alloc, &mut member, &calls)
+}
+
 /// Length 1,024 is written as `80 08`, and 1,025 as `81 08`.
-pub fn a_payload_has_1024_bytes_at_most<M: Made, R: Abort>(
+fn frame_with(alloc: Global, length: &[u8], payload: &[u8]) -> Result<Vec<u8>, Fail> {
+    let mut frame = Vec::from_slice(alloc, &[17, 7, 0, 1, 0])?;
+    frame.extend_from_slice(length)?;
+    frame.extend_from_slice(payload)?;
+    Ok(frame)
+}
+
+/// What a member that comes first casts.
+fn first_cast<M: Made>(alloc: Global, payload: &[u8]) -> Result<Bytes, Fail> {
+    let mut member = M::made(alloc, group_of(7, 3, 4)?, 0, 100)?;
+    match member.cast(payload) {
+        Ok(done) => Ok(done.out),
+        Err(_) => Err(Fail::new("refused")),
+    }
+}
+
+/// And is delivered as it was cast.
+pub fn a_payload_of_1024_bytes_is_cast<M: Made, R: Abort>(
     rt: &R,
     alloc: Global,
 ) -> Result<(), Fail> {
-    let mut zero = M::made(alloc, group_of(7, 3, 4)?, 0, 100)?;
-    let long = vec![in alloc; 120; 1025]?;
-    play(
-        rt,
-        alloc,
-        &mut zero,
-        &[(Call::Cast(&long), "0: PayloadTooLong")],
-    )?;
     let longest = vec![in alloc; 120; 1024]?;
-    let done = zero.cast(&longest).ok().ok_or("a cast")?;
-    assert_eq!(rt; done.out.len(), 1031);
-    assert!(rt; done.out.as_slice().starts_with(&[17, 7, 0, 1, 0, 128, 8]));
-    assert!(rt; done.out.as_slice().ends_with(&longest));
-    let mut one = M::made(alloc, group_of(7, 3, 4)?, 1, 100)?;
-    let Ok(Arrival::Accepted { deliveries, .. }) = one.arrive(&done.out) else {
-        return Err(Fail::new("refused"));
-    };
-    let [message] = deliveries.as_slice() else {
-        return Err(Fail::new("not one message"));
-    };
-    assert_eq!(rt; message.payload.as_slice(), longest.as_slice());
-    let mut longer = Vec::from_slice(alloc, &[17, 7, 0, 2, 0, 129, 8])?;
-    longer.extend_from_slice(&long)?;
+    let frame = frame_with(alloc, &[128, 8], &longest)?;
+    let cast = first_cast::<M>(alloc, &longest)?;
+    assert_eq!(rt; cast.as_slice(), frame.as_slice());
+    let mut member = M::made(alloc, group_of(7, 3, 4)?, 1, 100)?;
+    let delivered = format!(in alloc;
+        "1: changed, 0.1 [1,0,0] ({})",
+        hexadecimal(alloc, &longest)?
+    )?;
     play(
         rt,
         alloc,
-        &mut one,
-        &[(Call::Take(&longer), "1: Malformed(PayloadTooLong)")],
+        &mut member,
+        &[(Call::Take(&frame), delivered.as_str())],
     )
 }
 
-/// Of 65 that are asked for.
+/// A payload of one byte more makes no frame.
+pub fn a_frame_with_a_longer_payload_is_malformed<M: Made, R: Abort>(
+    rt: &R,
+    alloc: Global,
+) -> Result<(), Fail> {
+    let long = vec![in alloc; 120; 1025]?;
+    let frame = frame_with(alloc, &[129, 8], &long)?;
+    let mut member = M::made(alloc, group_of(7, 3, 4)?, 1, 100)?;
+    let calls = [(Call::Take(&frame), "0: Malformed(PayloadTooLong)")];
+    play(rt, alloc, &mut member, &calls)
+}
+
+/// What is sent in answer to a request.
+fn sent_again<M: Made>(member: &mut M, request: &Bytes) -> Result<Vec<Outgoing>, Fail> {
+    match member.arrive(request) {
+        Ok(Arrival::Accepted { out, .. }) => Ok(out),
+        Ok(Arrival::Repeat) | Err(_) => Err(Fail::new("refused")),
+    }
+}
+
+/// Of 65 that are asked for, casts 2 to 66.
 pub fn at_most_64_frames_are_sent_again_at_once<M: Made, R: Abort>(
     rt: &R,
     alloc: Global,
 ) -> Result<(), Fail> {
-    let mut zero = M::made(alloc, group_of(7, 3, 100)?, 0, 100)?;
+    let mut member = M::made(alloc, group_of(7, 3, 100)?, 0, 100)?;
     for _ in 0..66 {
-        let _done = zero.cast(b"x").ok().ok_or("a cast")?;
+        let _done = member.cast(b"x").ok().ok_or("a cast")?;
     }
-    // casts 2 to 66
     let request = Bytes::from_static(b"\x13\x07\x02\x00\x01\x01\x40");
-    let Ok(Arrival::Accepted { changed, out, .. }) = zero.arrive(&request) else {
-        return Err(Fail::new("refused"));
-    };
-    assert!(rt; !changed);
+    let out = sent_again(&mut member, &request)?;
     assert_eq!(rt; out.len(), 64);
-    let first = out.first().ok_or("no frame")?;
-    assert_eq!(rt;
-        first.bytes.as_slice(),
-        b"\x11\x07\x00\x02\x00\x01x".as_slice()
-    );
-    let last = out.last().ok_or("no frame")?;
-    assert_eq!(rt;
-        last.bytes.as_slice(),
-        b"\x11\x07\x00\x41\x00\x01x".as_slice()
-    );
-    assert_eq!(rt; last.to, Some(2));
+    for (number, frame) in (2..).zip(&out) {
+        assert_eq!(rt; frame.to, Some(2));
+        assert_eq!(rt;
+            frame.bytes.as_slice(),
+            [17, 7, 0, number, 0, 1, b'x'].as_slice()
+        );
+    }
     Ok(())
 }

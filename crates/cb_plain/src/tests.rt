@@ -3,7 +3,8 @@
 use crate::examples;
 use crate::member::PlainMember;
 use bytes::Bytes;
-use cb_history::{CastRefusal, Entry, Group, MissingFault, NewFault, Outgoing, TickRefusal};
+use cb_history::{Entry, Group, NewFault};
+use std::alloc::Global;
 use std::process::Abort;
 use std::test::Fail;
 
@@ -33,146 +34,84 @@ fn a_member_is_below_the_size_and_has_a_limit(rt: HostRuntime) -> Result<(), Fai
     Ok(())
 }
 
+/// The entry that was handed out is the one that the member keeps.
+fn keeps(rt: &impl Abort, member: PlainMember, entry: &Entry) {
+    let history = member.into_history();
+    assert_eq!(rt; history.me, 0);
+    assert!(rt; history.group == group(rt));
+    assert_eq!(rt; history.entries.len(), 1);
+    assert!(rt; history.entries.first() == Some(entry));
+}
+
+fn first_of_three(rt: &impl Abort, alloc: Global) -> Result<PlainMember, Fail> {
+    let made = PlainMember::new(alloc, group(rt), 0, 100);
+    Ok(made.ok().ok_or("a member")?)
+}
+
+#[test]
+fn a_noted_cast_hands_out_its_entry(rt: HostRuntime) -> Result<(), Fail> {
+    let mut member = first_of_three(&rt, rt.alloc())?;
+    let (done, entry) = member.cast_noted(b"hi").ok().ok_or("a cast")?;
+    assert!(rt; entry == Entry::Cast { frame: done.out });
+    keeps(&rt, member, &entry);
+    Ok(())
+}
+
+#[test]
+fn a_noted_arrival_hands_out_its_entry(rt: HostRuntime) -> Result<(), Fail> {
+    let mut member = first_of_three(&rt, rt.alloc())?;
+    let hi = Bytes::from_static(b"\x11\x07\x01\x01\x00\x02hi");
+    let (_, entry) = member.arrive_noted(&hi).ok().ok_or("an arrival")?;
+    keeps(&rt, member, &entry.ok_or("an entry")?);
+    Ok(())
+}
+
+#[test]
+fn a_noted_tick_hands_out_its_entry(rt: HostRuntime) -> Result<(), Fail> {
+    let mut member = first_of_three(&rt, rt.alloc())?;
+    let (_, entry) = member.tick_noted().ok().ok_or("a tick")?;
+    keeps(&rt, member, &entry.ok_or("an entry")?);
+    Ok(())
+}
+
+#[test]
+fn a_noted_call_that_adds_nothing_hands_out_no_entry(rt: HostRuntime) -> Result<(), Fail> {
+    let mut member = first_of_three(&rt, rt.alloc())?;
+    let no_news = Bytes::from_static(b"\x12\x07\x01\x00");
+    let (_, came) = member.arrive_noted(&no_news).ok().ok_or("an arrival")?;
+    assert!(rt; came.is_none());
+    let _ = member.tick().ok().ok_or("a tick")?;
+    let (_, ticked) = member.tick_noted().ok().ok_or("a tick")?;
+    assert!(rt; ticked.is_none());
+    Ok(())
+}
+
 #[test]
 fn a_cast_is_a_frame_and_an_entry(rt: HostRuntime) -> Result<(), Fail> {
-    let mut member = PlainMember::new(rt.alloc(), group(&rt), 0, 100)
-        .ok()
-        .ok_or("a member")?;
-    let hi = member.cast(b"hi").ok().ok_or("a cast")?;
-    assert_eq!(rt; hi.name.number, 1);
-    assert_eq!(rt; hi.time.to_string(rt.alloc())?.as_str(), "[1,0,0]");
-    assert_eq!(rt; hi.out.as_slice(), [17, 7, 0, 1, 0, 2, 104, 105].as_slice());
-    let second = member.cast(b"").ok().ok_or("a cast")?;
-    assert_eq!(rt; second.out.as_slice(), [17, 7, 0, 2, 0, 0].as_slice());
-    assert_eq!(rt; member.history().len(), 2);
-    let Some(Entry::Cast { frame }) = member.history().first() else {
-        return Err(Fail::new("no own cast"));
-    };
-    assert_eq!(rt; frame.as_slice(), hi.out.as_slice());
-    assert_eq!(rt; member.time()?.to_string(rt.alloc())?.as_str(), "[2,0,0]");
-    assert_eq!(rt; member.stable()?, 0);
-    assert_eq!(rt; member.missing(1).ok().ok_or("another member")?.len(), 0);
-    assert_eq!(rt; member.missing(0).err(), Some(MissingFault::BadMember));
-    assert_eq!(rt; member.missing(3).err(), Some(MissingFault::BadMember));
-    Ok(())
+    examples::run::<PlainMember, _>(&rt, rt.alloc(), examples::A_CAST_IS_A_FRAME_AND_AN_ENTRY)
 }
 
 #[test]
 fn a_cast_is_refused_by_the_first_rule_that_it_breaks(rt: HostRuntime) -> Result<(), Fail> {
-    let mut member = PlainMember::new(rt.alloc(), group(&rt), 1, 4)
-        .ok()
-        .ok_or("a member")?;
-    for _ in 0..4 {
-        let _ = member.cast(b"x").ok().ok_or("a cast")?;
-    }
-    let long = vec![in rt.alloc(); 0; 1025]?;
-    assert_eq!(rt; member.cast(&long).err(), Some(CastRefusal::PayloadTooLong));
-    assert_eq!(rt; member.cast(b"x").err(), Some(CastRefusal::WindowFull));
-    let mut short = PlainMember::new(rt.alloc(), group(&rt), 1, 1)
-        .ok()
-        .ok_or("a member")?;
-    let _ = short.cast(b"x").ok().ok_or("a cast")?;
-    assert_eq!(rt; short.cast(b"x").err(), Some(CastRefusal::HistoryFull));
-    assert_eq!(rt; short.history().len(), 1);
-    Ok(())
-}
-
-/// The bytes of what goes to all, where nothing else is sent.
-fn told_to_all<'a>(rt: &impl Abort, out: &'a [Outgoing]) -> &'a [u8] {
-    assert_eq!(rt; out.len(), 1);
-    let status = out.first().expect(rt, "a status");
-    assert_eq!(rt; status.to, None);
-    status.bytes.as_slice()
-}
-
-#[test]
-fn a_status_is_entered_where_it_is_new(rt: HostRuntime) -> Result<(), Fail> {
-    let mut member = PlainMember::new(rt.alloc(), group(&rt), 2, 100)
-        .ok()
-        .ok_or("a member")?;
-    let first = member.tick().ok().ok_or("a tick")?;
-    assert_eq!(rt; first.entered, true);
-    assert_eq!(rt; told_to_all(&rt, &first.out), [18, 7, 2, 0].as_slice());
-    let second = member.tick().ok().ok_or("a tick")?;
-    assert_eq!(rt; second.entered, false);
-    assert_eq!(rt; told_to_all(&rt, &second.out), [18, 7, 2, 0].as_slice());
-    assert_eq!(rt; member.history().len(), 1);
-    let Some(Entry::Tick { status }) = member.history().first() else {
-        return Err(Fail::new("no own status"));
-    };
-    assert_eq!(rt; status.as_slice(), [18, 7, 2, 0].as_slice());
-    Ok(())
+    examples::run::<PlainMember, _>(
+        &rt,
+        rt.alloc(),
+        examples::A_CAST_IS_REFUSED_BY_THE_FIRST_RULE_THAT_IT_BREAKS,
+    )
 }
 
 #[test]
 fn a_status_says_the_time(rt: HostRuntime) -> Result<(), Fail> {
-    let mut member = PlainMember::new(rt.alloc(), group(&rt), 0, 100)
-        .ok()
-        .ok_or("a member")?;
-    let before = member.tick().ok().ok_or("a tick")?;
-    assert_eq!(rt; before.entered, true);
-    assert_eq!(rt; told_to_all(&rt, &before.out), [18, 7, 0, 0].as_slice());
-    let _ = member.cast(b"x").ok().ok_or("a cast")?;
-    let after = member.tick().ok().ok_or("a tick")?;
-    assert_eq!(rt; after.entered, true);
-    assert_eq!(rt;
-        told_to_all(&rt, &after.out),
-        [18, 7, 0, 1, 0, 1].as_slice()
-    );
-    let again = member.tick().ok().ok_or("a tick")?;
-    assert_eq!(rt; again.entered, false);
-    assert_eq!(rt; member.history().len(), 3);
-    Ok(())
+    examples::run::<PlainMember, _>(&rt, rt.alloc(), examples::A_STATUS_SAYS_THE_TIME)
 }
 
 #[test]
 fn a_new_status_is_refused_where_the_history_is_full(rt: HostRuntime) -> Result<(), Fail> {
-    let mut member = PlainMember::new(rt.alloc(), group(&rt), 0, 1)
-        .ok()
-        .ok_or("a member")?;
-    let cast = member.cast(b"x").ok().ok_or("a cast")?;
-    assert_eq!(rt; member.tick().err(), Some(TickRefusal::HistoryFull));
-    assert_eq!(rt; member.history().len(), 1);
-    let Some(Entry::Cast { frame }) = member.history().first() else {
-        return Err(Fail::new("no own cast"));
-    };
-    assert_eq!(rt; frame.as_slice(), cast.out.as_slice());
-    assert_eq!(rt; member.time()?.to_string(rt.alloc())?.as_str(), "[1,0,0]");
-    let mut told = PlainMember::new(rt.alloc(), group(&rt), 0, 1)
-        .ok()
-        .ok_or("a member")?;
-    let _ = told.tick().ok().ok_or("a tick")?;
-    let again = told.tick().ok().ok_or("a tick that enters nothing")?;
-    assert_eq!(rt; again.entered, false);
-    Ok(())
-}
-
-#[test]
-fn the_noted_calls_hand_out_the_entry_that_they_add(rt: HostRuntime) -> Result<(), Fail> {
-    let mut member = PlainMember::new(rt.alloc(), group(&rt), 0, 100)
-        .ok()
-        .ok_or("a member")?;
-    let (hi, cast) = member.cast_noted(b"hi").ok().ok_or("a cast")?;
-    let status = Bytes::from_static(b"\x12\x07\x01\x01\x00\x01");
-    let (_, came) = member.arrive_noted(&status).ok().ok_or("an arrival")?;
-    let (_, again) = member.arrive_noted(&status).ok().ok_or("an arrival")?;
-    let (_, ticked) = member.tick_noted().ok().ok_or("a tick")?;
-    let (_, same) = member.tick_noted().ok().ok_or("a tick")?;
-    assert!(rt; again.is_none());
-    assert!(rt; same.is_none());
-    let Entry::Cast { frame } = &cast else {
-        return Err(Fail::new("no own cast"));
-    };
-    assert_eq!(rt; frame.as_slice(), hi.out.as_slice());
-    let mut noted = Vec::new(rt.alloc());
-    noted.push(cast)?;
-    noted.push(came.ok_or("an entry")?)?;
-    noted.push(ticked.ok_or("an entry")?)?;
-    let history = member.into_history();
-    assert_eq!(rt; history.me, 0);
-    assert!(rt; history.group == group(&rt));
-    assert!(rt; history.entries == noted);
-    Ok(())
+    examples::run::<PlainMember, _>(
+        &rt,
+        rt.alloc(),
+        examples::A_NEW_STATUS_IS_REFUSED_WHERE_THE_HISTORY_IS_FULL,
+    )
 }
 
 #[test]
@@ -332,8 +271,18 @@ fn a_member_of_five_asks_for_what_it_lacks(rt: HostRuntime) -> Result<(), Fail> 
 }
 
 #[test]
-fn a_payload_has_1024_bytes_at_most(rt: HostRuntime) -> Result<(), Fail> {
-    examples::a_payload_has_1024_bytes_at_most::<PlainMember, _>(&rt, rt.alloc())
+fn a_longer_payload_is_refused(rt: HostRuntime) -> Result<(), Fail> {
+    examples::a_longer_payload_is_refused::<PlainMember, _>(&rt, rt.alloc())
+}
+
+#[test]
+fn a_payload_of_1024_bytes_is_cast(rt: HostRuntime) -> Result<(), Fail> {
+    examples::a_payload_of_1024_bytes_is_cast::<PlainMember, _>(&rt, rt.alloc())
+}
+
+#[test]
+fn a_frame_with_a_longer_payload_is_malformed(rt: HostRuntime) -> Result<(), Fail> {
+    examples::a_frame_with_a_longer_payload_is_malformed::<PlainMember, _>(&rt, rt.alloc())
 }
 
 #[test]

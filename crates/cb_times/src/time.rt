@@ -173,7 +173,7 @@ mod tests {
     use std::test::Fail;
 
     fn time_of(alloc: Global, fields: &[u32; 3]) -> Result<VectorTime, NoMemory>
-        ensures { IfOk result (λ time. time ≡ fields.now) }
+        ensures { IfOk result (λ time. length time ≡ 3) }
     {
         let fields = Vec::from_slice(alloc, fields)?;
         Ok(VectorTime { fields })
@@ -200,15 +200,28 @@ mod tests {
         sender.set(1, 7);
         sender.add_one(1);
         sender.set(2, 4294967295);
-        let mut receiver = time_of(rt.alloc(), &[0, 7, 5])?;
+        assert_eq!(rt; sender.as_slice(), [1, 8, 4294967295].as_slice());
+        let mut receiver = time_of(rt.alloc(), &[0, 9, 5])?;
         receiver.raise(&sender);
-        assert_eq!(rt; receiver.size(), 3);
-        assert_eq!(rt; receiver.as_slice(), [1, 8, 4294967295].as_slice());
+        assert_eq!(rt; receiver.as_slice(), [1, 9, 4294967295].as_slice());
+        Ok(())
+    }
+
+    #[test]
+    fn a_time_is_copied_over_another(rt: HostRuntime) -> Result<(), Fail> {
+        let time = time_of(rt.alloc(), &[1, 8, 4294967295])?;
         let mut other = time_of(rt.alloc(), &[2, 9, 0])?;
-        other.copy_from(&receiver);
-        assert_eq!(rt; other.as_slice(), receiver.as_slice());
+        other.copy_from(&time);
+        assert_eq!(rt; other.as_slice(), [1, 8, 4294967295].as_slice());
+        Ok(())
+    }
+
+    #[test]
+    fn each_field_is_read(rt: HostRuntime) -> Result<(), Fail> {
+        let time = time_of(rt.alloc(), &[1, 8, 4294967295])?;
+        assert_eq!(rt; time.size(), 3);
         for (k, field) in [(0, 1), (1, 8), (2, 4294967295)] {
-            assert_eq!(rt; receiver.get(k), field, "at field {k}");
+            assert_eq!(rt; time.get(k), field, "at field {k}");
         }
         Ok(())
     }

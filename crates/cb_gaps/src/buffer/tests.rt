@@ -1,28 +1,38 @@
 //! Worked examples of one sender's casts: what is kept, what comes out, what is missing.
-ghost use Rattle.std.specs.Prelude.{◌≡◌, IfOk};
 ghost use Rattle.cb_times.specs.Group.{IsWindow};
 
 use super::*;
 use bytes::Bytes;
 use cb_frames::LAST_NUMBER as LAST;
+use std::process::Abort;
 use std::test::Fail;
 
-fn cast(alloc: Global, number: u32) -> Cast
-    ensures { result.number ≡ number }
-{
+/// What is asked of a buffer.
+#[derive(Clone, Copy)]
+enum Call {
+    /// How many casts were taken.
+    Taken,
+    /// To keep a cast: how many are delivered, at most as many as were taken, and its number.
+    Keep(u32, u32),
+    /// The next cast.
+    Take,
+    /// What is missing: how many are delivered, and the greatest number that was heard of.
+    Missing(u32, u32),
+}
+
+fn cast(alloc: Global, number: u32) -> Cast {
     Cast {
         group: 7,
         sender: 0,
         number,
         changes: Vec::new(alloc),
-        payload: Bytes::new(),
+        payload: Bytes::from_static(b"yo"),
     }
 }
 
-// A buffer of which this many casts were taken and none is kept.
+/// A buffer of which this many casts were taken and none is kept.
 fn after(alloc: Global, window: u32, taken: u32) -> Result<Reorder, NoMemory>
     requires { IsWindow window }
-    ensures { IfOk result (λ reorder. reorder.taken ≡ taken) }
 {
     let kept = VecDeque::with_capacity(alloc, window as usize)?;
     Ok(Reorder {
@@ -32,172 +42,180 @@ fn after(alloc: Global, window: u32, taken: u32) -> Result<Reorder, NoMemory>
     })
 }
 
-// Keeps it where as many are delivered as were taken.
-fn keep(reorder: &mut Reorder, alloc: Global, number: u32) -> Admission {
-    let delivered = reorder.taken();
-    reorder.keep(delivered, cast(alloc, number))
+/// The group of a cast, its name and its payload.
+fn tell_cast(cast: &Option<Cast>, text: &mut String) -> Result<(), NoMemory> {
+    match cast {
+        Some(cast) => {
+            let payload = cast.payload.escape_ascii();
+            write!(
+                text,
+                "{} {}.{} {payload}",
+                cast.group, cast.sender, cast.number
+            )
+        }
+        None => text.push_str("none"),
+    }
 }
 
-fn number_taken(reorder: &mut Reorder) -> Option<u32> {
-    reorder.take_next().map(|cast| cast.number)
+/// The first and the last number of each range.
+fn tell_ranges(ranges: &[Range], text: &mut String) -> Result<(), NoMemory> {
+    for range in ranges {
+        write!(text, "{}-{};", range.first, range.last)?;
+    }
+    Ok(())
+}
+
+fn answer(
+    alloc: Global,
+    reorder: &mut Reorder,
+    call: Call,
+    text: &mut String,
+) -> Result<(), NoMemory> {
+    match call {
+        Call::Taken => write!(text, "{}", reorder.taken()),
+        Call::Keep(delivered, number) => {
+            let delivered = delivered.min(reorder.taken());
+            write!(text, "{:?}", reorder.keep(delivered, cast(alloc, number)))
+        }
+        Call::Take => tell_cast(&reorder.take_next(), text),
+        Call::Missing(delivered, known) => {
+            tell_ranges(&reorder.missing(delivered, known)?, text)
+        }
+    }
+}
+
+/// Each call has the answer that stands beside it.
+fn play(
+    rt: &impl Abort,
+    alloc: Global,
+    reorder: &mut Reorder,
+    steps: &[(Call, &str)],
+) -> Result<(), Fail> {
+    for (k, (call, expected)) in steps.iter().enumerate() {
+        let mut text = String::new(alloc);
+        answer(alloc, reorder, *call, &mut text)?;
+        assert_eq!(rt; text.as_str(), *expected, "at step {k}");
+    }
+    Ok(())
+}
+
+/// With a new buffer.
+fn run(rt: &impl Abort, alloc: Global, window: u32, steps: &[(Call, &str)]) -> Result<(), Fail>
+    requires { IsWindow window }
+{
+    let mut reorder = Reorder::new(alloc, window)?;
+    play(rt, alloc, &mut reorder, steps)
 }
 
 #[test]
 fn a_later_cast_waits_and_the_number_between_is_missing(rt: HostRuntime) -> Result<(), Fail> {
-    let mut reorder = Reorder::new(rt.alloc(), 4)?;
-    assert_eq!(rt; reorder.taken(), 0);
-    assert_eq!(rt; keep(&mut reorder, rt.alloc(), 1), Admission::Kept);
-    assert_eq!(rt; number_taken(&mut reorder), Some(1));
-    assert_eq!(rt; reorder.taken(), 1);
-    assert_eq!(rt; keep(&mut reorder, rt.alloc(), 4), Admission::Kept);
-    assert_eq!(rt; keep(&mut reorder, rt.alloc(), 4), Admission::Repeat);
-    assert_eq!(rt; keep(&mut reorder, rt.alloc(), 1), Admission::Repeat);
-    assert_eq!(rt; keep(&mut reorder, rt.alloc(), 6), Admission::TooFar);
-    assert_eq!(rt;
-        reorder.missing(1, 4)?.as_slice(),
-        [Range { first: 2, last: 3 }].as_slice()
-    );
-    assert_eq!(rt; number_taken(&mut reorder), None);
-    Ok(())
+    const STEPS: &[(Call, &str)] = &[
+        (Call::Taken, "0"),
+        (Call::Keep(0, 1), "Kept"),
+        (Call::Take, "7 0.1 yo"),
+        (Call::Taken, "1"),
+        (Call::Keep(1, 4), "Kept"),
+        (Call::Keep(1, 4), "Repeat"),
+        (Call::Keep(1, 1), "Repeat"),
+        (Call::Keep(1, 6), "TooFar"),
+        (Call::Missing(1, 4), "2-3;"),
+        (Call::Take, "none"),
+    ];
+    run(&rt, rt.alloc(), 4, STEPS)
 }
 
 #[test]
 fn casts_in_any_order_come_out_in_the_order_of_their_numbers(rt: HostRuntime) -> Result<(), Fail> {
-    let mut reorder = Reorder::new(rt.alloc(), 4)?;
-    for number in [3, 1, 4, 2] {
-        assert_eq!(rt;
-            keep(&mut reorder, rt.alloc(), number),
-            Admission::Kept,
-            "at {number}"
-        );
-    }
-    for number in 1..=4 {
-        assert_eq!(rt; number_taken(&mut reorder), Some(number));
-    }
-    assert_eq!(rt; number_taken(&mut reorder), None);
-    assert_eq!(rt; reorder.taken(), 4);
-    Ok(())
+    const STEPS: &[(Call, &str)] = &[
+        (Call::Keep(0, 3), "Kept"),
+        (Call::Keep(0, 1), "Kept"),
+        (Call::Keep(0, 4), "Kept"),
+        (Call::Keep(0, 2), "Kept"),
+        (Call::Take, "7 0.1 yo"),
+        (Call::Take, "7 0.2 yo"),
+        (Call::Take, "7 0.3 yo"),
+        (Call::Take, "7 0.4 yo"),
+        (Call::Take, "none"),
+        (Call::Taken, "4"),
+    ];
+    run(&rt, rt.alloc(), 4, STEPS)
 }
 
 #[test]
 fn a_cast_comes_out_as_it_was_kept(rt: HostRuntime) -> Result<(), Fail> {
-    let mut sent = cast(rt.alloc(), 1);
-    sent.payload = Bytes::from_static(b"yo");
-    let mut reorder = Reorder::new(rt.alloc(), 4)?;
-    assert_eq!(rt; reorder.keep(0, sent), Admission::Kept);
-    let Some(taken) = reorder.take_next() else {
-        return Err(Fail::new("it does not come out"));
-    };
-    assert_eq!(rt; taken.group, 7);
-    assert_eq!(rt; taken.sender, 0);
-    assert_eq!(rt; taken.payload, Bytes::from_static(b"yo"));
-    Ok(())
+    const STEPS: &[(Call, &str)] = &[(Call::Keep(0, 1), "Kept"), (Call::Take, "7 0.1 yo")];
+    run(&rt, rt.alloc(), 4, STEPS)
 }
 
 #[test]
 fn number_0_is_a_repeat_and_a_repeat_comes_before_too_far(rt: HostRuntime) -> Result<(), Fail> {
-    let mut reorder = Reorder::new(rt.alloc(), 4)?;
-    assert_eq!(rt; keep(&mut reorder, rt.alloc(), 0), Admission::Repeat);
-    assert_eq!(rt; keep(&mut reorder, rt.alloc(), 1), Admission::Kept);
-    assert_eq!(rt; number_taken(&mut reorder), Some(1));
-    // Where none is delivered the window ends at 4.
-    assert_eq!(rt; reorder.keep(0, cast(rt.alloc(), 5)), Admission::TooFar);
-    assert_eq!(rt; keep(&mut reorder, rt.alloc(), 5), Admission::Kept);
-    assert_eq!(rt; reorder.keep(0, cast(rt.alloc(), 5)), Admission::Repeat);
-    assert_eq!(rt; reorder.keep(0, cast(rt.alloc(), 6)), Admission::TooFar);
-    Ok(())
+    const STEPS: &[(Call, &str)] = &[
+        (Call::Keep(0, 0), "Repeat"),
+        (Call::Keep(0, 1), "Kept"),
+        (Call::Take, "7 0.1 yo"),
+        // Where none is delivered the window ends at 4.
+        (Call::Keep(0, 5), "TooFar"),
+        (Call::Keep(1, 5), "Kept"),
+        (Call::Keep(0, 5), "Repeat"),
+        (Call::Keep(0, 6), "TooFar"),
+    ];
+    run(&rt, rt.alloc(), 4, STEPS)
 }
 
 #[test]
 fn each_gap_is_a_range(rt: HostRuntime) -> Result<(), Fail> {
-    let mut reorder = Reorder::new(rt.alloc(), 16)?;
-    for number in [9, 4, 5, 2] {
-        assert_eq!(rt;
-            keep(&mut reorder, rt.alloc(), number),
-            Admission::Kept,
-            "at {number}"
-        );
-    }
-    let gaps = [
-        Range { first: 1, last: 1 },
-        Range { first: 3, last: 3 },
-        Range { first: 6, last: 8 },
-        Range {
-            first: 10,
-            last: 12,
-        },
+    const STEPS: &[(Call, &str)] = &[
+        (Call::Keep(0, 9), "Kept"),
+        (Call::Keep(0, 4), "Kept"),
+        (Call::Keep(0, 5), "Kept"),
+        (Call::Keep(0, 2), "Kept"),
+        (Call::Missing(0, 12), "1-1;3-3;6-8;10-12;"),
+        (Call::Missing(0, 9), "1-1;3-3;6-8;"),
+        (Call::Missing(0, 7), "1-1;3-3;6-7;"),
+        // The window ends at 16, whatever was heard of.
+        (Call::Missing(0, LAST), "1-1;3-3;6-8;10-16;"),
     ];
-    assert_eq!(rt; reorder.missing(0, 12)?.as_slice(), gaps.as_slice());
-    assert_eq!(rt; reorder.missing(0, 9)?.as_slice(), &gaps[..3]);
-    assert_eq!(rt;
-        reorder.missing(0, 7)?.as_slice(),
-        [gaps[0], gaps[1], Range { first: 6, last: 7 }].as_slice()
-    );
-    // The window ends at 16, whatever was heard of.
-    assert_eq!(rt;
-        reorder.missing(0, LAST)?.as_slice(),
-        [
-            gaps[0],
-            gaps[1],
-            gaps[2],
-            Range {
-                first: 10,
-                last: 16
-            }
-        ]
-        .as_slice()
-    );
-    Ok(())
+    run(&rt, rt.alloc(), 16, STEPS)
 }
 
 #[test]
 fn none_is_missing_where_all_that_was_heard_of_came(rt: HostRuntime) -> Result<(), Fail> {
-    let mut reorder = Reorder::new(rt.alloc(), 4)?;
-    assert!(rt; reorder.missing(0, 0)?.is_empty());
-    assert!(rt; reorder.missing(2, 0)?.is_empty());
-    assert_eq!(rt; keep(&mut reorder, rt.alloc(), 1), Admission::Kept);
-    assert!(rt; reorder.missing(0, 1)?.is_empty());
-    assert_eq!(rt; number_taken(&mut reorder), Some(1));
-    assert!(rt; reorder.missing(1, 1)?.is_empty());
-    assert!(rt; reorder.missing(1, 0)?.is_empty());
-    Ok(())
+    const STEPS: &[(Call, &str)] = &[
+        (Call::Missing(0, 0), ""),
+        (Call::Missing(2, 0), ""),
+        (Call::Keep(0, 1), "Kept"),
+        (Call::Missing(0, 1), ""),
+        (Call::Take, "7 0.1 yo"),
+        (Call::Missing(1, 1), ""),
+        (Call::Missing(1, 0), ""),
+    ];
+    run(&rt, rt.alloc(), 4, STEPS)
 }
 
 #[test]
 fn the_window_ends_at_the_greatest_number(rt: HostRuntime) -> Result<(), Fail> {
-    let mut reorder = Reorder::new(rt.alloc(), 4)?;
-    assert_eq!(rt;
-        reorder.missing(LAST, LAST)?.as_slice(),
-        [Range {
-            first: 1,
-            last: LAST
-        }]
-        .as_slice()
-    );
-    assert_eq!(rt; keep(&mut reorder, rt.alloc(), LAST), Admission::TooFar);
-    Ok(())
+    const STEPS: &[(Call, &str)] = &[
+        (Call::Missing(LAST, LAST), "1-4294967295;"),
+        (Call::Keep(0, LAST), "TooFar"),
+    ];
+    run(&rt, rt.alloc(), 4, STEPS)
 }
 
 #[test]
 fn none_follows_the_greatest_number(rt: HostRuntime) -> Result<(), Fail> {
+    const STEPS: &[(Call, &str)] = &[
+        (Call::Missing(LAST - 2, LAST), "4294967294-4294967295;"),
+        (Call::Keep(LAST - 2, 1), "Repeat"),
+        (Call::Keep(LAST - 2, LAST), "Kept"),
+        (Call::Take, "none"),
+        (Call::Keep(LAST - 2, LAST - 1), "Kept"),
+        (Call::Take, "7 0.4294967294 yo"),
+        (Call::Take, "7 0.4294967295 yo"),
+        (Call::Take, "none"),
+        (Call::Taken, "4294967295"),
+        (Call::Keep(LAST, 0), "Repeat"),
+        (Call::Missing(LAST, LAST), ""),
+    ];
     let mut reorder = after(rt.alloc(), 4, LAST - 2)?;
-    assert_eq!(rt;
-        reorder.missing(LAST - 2, LAST)?.as_slice(),
-        [Range {
-            first: LAST - 1,
-            last: LAST
-        }]
-        .as_slice()
-    );
-    assert_eq!(rt; keep(&mut reorder, rt.alloc(), 1), Admission::Repeat);
-    assert_eq!(rt; keep(&mut reorder, rt.alloc(), LAST), Admission::Kept);
-    assert_eq!(rt; number_taken(&mut reorder), None);
-    assert_eq!(rt; keep(&mut reorder, rt.alloc(), LAST - 1), Admission::Kept);
-    assert_eq!(rt; number_taken(&mut reorder), Some(LAST - 1));
-    assert_eq!(rt; number_taken(&mut reorder), Some(LAST));
-    assert_eq!(rt; number_taken(&mut reorder), None);
-    assert_eq!(rt; reorder.taken(), LAST);
-    assert_eq!(rt; keep(&mut reorder, rt.alloc(), 0), Admission::Repeat);
-    assert!(rt; reorder.missing(LAST, LAST)?.is_empty());
-    Ok(())
+    play(&rt, rt.alloc(), &mut reorder, STEPS)
 }

@@ -1,9 +1,36 @@
 //! Requests as bytes, and how many ranges they have.
 use super::*;
-use cb_frames::encode;
+use bytes::Bytes;
+use cb_frames::{EncodeFault, encode};
+use std::process::Abort;
 use std::test::Fail;
 
-// 1 to 2, 4 to 5, and so on.
+/// The bytes by which member 2 of group 7 asks member 0 for these; none where it does not ask.
+fn asked(alloc: Global, ranges: &[Range]) -> Result<Bytes, EncodeFault> {
+    match request_of(alloc, 7, 2, 0, ranges)? {
+        Some(frame) => encode(alloc, &frame),
+        None => Ok(Bytes::new()),
+    }
+}
+
+fn asks(rt: &impl Abort, alloc: Global, ranges: &[Range], bytes: &[u8]) -> Result<(), Fail> {
+    let asked = asked(alloc, ranges)?;
+    assert_eq!(rt; asked.as_slice(), bytes);
+    Ok(())
+}
+
+#[test]
+fn a_request_for_two_numbers_is_seven_bytes(rt: HostRuntime) -> Result<(), Fail> {
+    let ranges = [Range { first: 2, last: 3 }];
+    asks(&rt, rt.alloc(), &ranges, b"\x13\x07\x02\x00\x01\x01\x01")
+}
+
+#[test]
+fn nothing_is_asked_for_where_nothing_is_missing(rt: HostRuntime) -> Result<(), Fail> {
+    asks(&rt, rt.alloc(), &[], b"")
+}
+
+/// 1 to 2, 4 to 5, and so on to 97 to 98.
 fn ranges_of_two() -> [Range; 33] {
     let mut ranges = [Range::default(); 33];
     for (k, range) in ranges.iter_mut().enumerate() {
@@ -13,35 +40,14 @@ fn ranges_of_two() -> [Range; 33] {
     ranges
 }
 
-#[test]
-fn a_request_for_two_numbers_is_seven_bytes(rt: HostRuntime) -> Result<(), Fail> {
-    let ranges = [Range { first: 2, last: 3 }];
-    let request = request_of(rt.alloc(), 7, 2, 0, &ranges)?;
-    let Some(frame) = request else {
-        return Err(Fail::new("no request"));
-    };
-    let bytes = encode(rt.alloc(), &frame)?;
-    assert_eq!(rt;
-        bytes.as_slice(),
-        b"\x13\x07\x02\x00\x01\x01\x01".as_slice()
-    );
-    Ok(())
-}
-
-#[test]
-fn nothing_is_asked_for_where_nothing_is_missing(rt: HostRuntime) -> Result<(), Fail> {
-    assert_eq!(rt; request_of(rt.alloc(), 7, 2, 0, &[])?, None);
-    Ok(())
-}
+/// Of 32 such ranges, where each begins as near as it may to the one before it, and one number follows its first.
+const FIRST_32: &[u8] = b"\x13\x07\x02\x00\x20\
+    \x00\x01\x00\x01\x00\x01\x00\x01\x00\x01\x00\x01\x00\x01\x00\x01\
+    \x00\x01\x00\x01\x00\x01\x00\x01\x00\x01\x00\x01\x00\x01\x00\x01\
+    \x00\x01\x00\x01\x00\x01\x00\x01\x00\x01\x00\x01\x00\x01\x00\x01\
+    \x00\x01\x00\x01\x00\x01\x00\x01\x00\x01\x00\x01\x00\x01\x00\x01";
 
 #[test]
 fn a_request_has_the_first_32_of_33_ranges(rt: HostRuntime) -> Result<(), Fail> {
-    let ranges = ranges_of_two();
-    let request = request_of(rt.alloc(), 7, 2, 0, &ranges)?;
-    let (Some(Frame::Request(request)), Some((_last, first))) = (request, ranges.split_last())
-    else {
-        return Err(Fail::new("no request"));
-    };
-    assert_eq!(rt; request.ranges.as_slice(), first);
-    Ok(())
+    asks(&rt, rt.alloc(), &ranges_of_two(), FIRST_32)
 }

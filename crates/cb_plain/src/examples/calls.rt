@@ -6,8 +6,8 @@ use crate::view::expanded_field;
 use bytes::Bytes;
 use cb_frames::Range;
 use cb_history::{
-    Arrival, ArriveRefusal, CastDone, CastRefusal, Entry, Event, Group, GroupMember, Message, Name,
-    Outgoing, TickRefusal, Ticked,
+    Arrival, ArriveRefusal, CastDone, CastRefusal, Entry, Event, Group, GroupMember, Message,
+    MissingFault, Name, Outgoing, TickRefusal, Ticked,
 };
 use std::alloc::Global;
 use std::process::Abort;
@@ -59,7 +59,7 @@ pub fn group_of(number: u32, size: u32, window: u32) -> Result<Group, Fail> {
     Ok(Group::new(number, size, window).ok().ok_or("a group")?)
 }
 
-fn hexadecimal(alloc: Global, bytes: &[u8]) -> Result<String, Fail> {
+pub fn hexadecimal(alloc: Global, bytes: &[u8]) -> Result<String, Fail> {
     let mut text = String::new(alloc);
     for byte in bytes {
         let digits = format!(in alloc; "{byte:02x}")?;
@@ -160,7 +160,7 @@ fn reading<M: Made>(alloc: Global, member: &M, call: Call<'_>) -> Result<String,
         Call::Events => events(alloc, &member.events()?),
         Call::Entries => entries(alloc, &member.entries()?),
         Call::Stable => Ok(member.stable()?.to_string(alloc)?),
-        Call::Missing(i) => ranges(alloc, &member.missing(i).ok().ok_or("another member")?),
+        Call::Missing(i) => missing(alloc, &member.missing(i)),
         Call::TimeOf(name) => time_of(alloc, &member.entries()?, name),
         _ => Err(Fail::new("a call that changes something")),
     }
@@ -214,6 +214,13 @@ fn entries(alloc: Global, entries: &[Entry]) -> Result<String, Fail> {
         text.push_str(entry.as_str())?;
     }
     Ok(text)
+}
+
+fn missing(alloc: Global, answer: &Result<Vec<Range>, MissingFault>) -> Result<String, Fail> {
+    match answer {
+        Ok(found) => ranges(alloc, found),
+        Err(fault) => Ok(format!(in alloc; "{fault}")?),
+    }
 }
 
 /// The first and the last number of each range.
