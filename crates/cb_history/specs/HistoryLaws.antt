@@ -1,5 +1,5 @@
 -- Legal histories: their prefixes, what calls make of them, what their entries say, and that what is sent has a text.
-use Rattle.std.specs.Prelude.{◌≡◌, ℕ, ◌+◌, ◌<◌, ◌≤◌, List, [], ◌∷◌, ◌++◌, length, map, not, take, drop, Ok}
+use Rattle.std.specs.Prelude.{◌≡◌, ℕ, ◌<◌, ◌≤◌, List, [], ◌∷◌, ◌++◌, length, map, take, drop, Ok}
 use Rattle.std.specs.List.{AllByRecursion}
 use Rattle.cb_frames.specs.declared.frame.TheConstants.{LONGEST_PAYLOAD, MOST_RANGES}
 use Rattle.cb_frames.specs.declared.frame.Range.{Range}

@@ -1,5 +1,5 @@
 -- What one more fact does to what is known, acknowledged and stable.
-use Rattle.std.specs.Prelude.{◌≡◌, ◌≢◌, ℕ, ◌+◌, ◌<◌, ◌≤◌, List, [], ◌∷◌, ◌++◌, map, filter, not, max, ◌==◌, if◌then◌else◌}
+use Rattle.std.specs.Prelude.{◌≡◌, ◌≢◌, ℕ, ◌<◌, ◌≤◌, List, [], ◌∷◌, ◌++◌, map, filter, not, max, ◌==◌, if◌then◌else◌}
 use Rattle.cb_frames.specs.Fields.{CastFields, StatusFields, Carried, last_number}
 use Rattle.cb_diffs.specs.Expansion.{expanded_field}
 use Rattle.cb_history.specs.Group.{Seat}

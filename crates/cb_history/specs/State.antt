@@ -1,5 +1,5 @@
 -- What a member holds, and what its calls do to it.
-use Rattle.std.specs.Prelude.{◌≡◌, ◌⊎◌, ℕ, ◌≤◌, Bool, List, length, map, Option, Some, Result, Ok, Err}
+use Rattle.std.specs.Prelude.{◌≡◌, ◌⊎◌, ℕ, ◌≤◌, Bool, List, length, map, Option, Result, Ok, Err}
 use Rattle.cb_frames.specs.declared.frame.TheConstants.{LONGEST_PAYLOAD}
 use Rattle.cb_frames.specs.Fields.{CastFields, StatusFields, Carried}
 use Rattle.cb_frames.specs.Reading.{frame_at, HasValue}

@@ -1,5 +1,5 @@
 -- The times of messages, in every legal history.
-use Rattle.std.specs.Prelude.{◌≡◌, ℕ, ◌+◌, ◌<◌, ◌≤◌, true, List, [], ◌∷◌, ◌++◌, not}
+use Rattle.std.specs.Prelude.{◌≡◌, ℕ, ◌<◌, ◌≤◌, true, List, [], ◌∷◌, ◌++◌}
 use Rattle.std.specs.List.{AllByRecursion}
 use Rattle.cb_frames.specs.Fields.{first_number, CastFields, Carried}
 use Rattle.cb_diffs.specs.Expansion.{expanded_field, expanded_time}

@@ -3,7 +3,7 @@ use Rattle.std.proofs.Common.{◌≡◌, ◌<◌, true, false, List, [], length,
 use Rattle.cb_frames.specs.Fields.{FrameFields}
 use Rattle.cb_history.specs.declared.answer.ArriveRefusal.{ArriveRefusal}
 use Rattle.cb_history.specs.declared.answer.Outgoing.{Outgoing}
-use Rattle.cb_history.specs.Answers.{arrival_says, deliveries, ArrivalSays, Accepted, Repeat}
+use Rattle.cb_history.specs.Answers.{arrival_says, deliveries, ArrivalSays, Accepted}
 use Rattle.cb_history.specs.Legal.{arrive_entry}
 use Rattle.cb_history.specs.State.{MemberState, facts_in}
 use Rattle.cb_plain.specs.declared.arrival.Accepting.{Accepting}

@@ -1,15 +1,12 @@
 -- The facts up to the last own cast, and the next cast.
-use Rattle.std.proofs.Common.{◌≡◌, ℕ, ◌+◌, ◌<◌, ◌≤◌, Bool, true, false, ◌||◌, List, [], ◌∷◌, ◌++◌, length, map, Ok, refl, ap, ◌∙◌}
+use Rattle.std.proofs.Common.{◌≡◌, ℕ, ◌+◌, ◌<◌, ◌≤◌, Bool, true, false, ◌||◌, List, [], ◌∷◌, ◌++◌, length, Ok, refl, ap}
 use Rattle.std.specs.List.{list_any}
 use Rattle.std.proofs.lemmas.Bool.{le-ltb, lt-leb}
 use Rattle.cb_frames.specs.declared.frame.TheConstants.{LONGEST_PAYLOAD}
 use Rattle.cb_frames.specs.declared.frame.Change.{Change}
 use Rattle.cb_diffs.specs.Differences.{differences}
 use Rattle.cb_history.specs.Group.{Seat}
-use Rattle.cb_history.specs.Facts.{EntryFields, entry_fields, Fact, facts_of}
-use Rattle.cb_history.specs.declared.history.Entry.{Entry}
-use Rattle.cb_history.specs.State.{MemberState}
-use Rattle.std.proofs.lemmas.List.{map-append}
+use Rattle.cb_history.specs.Facts.{EntryFields, Fact, facts_of}
 use Rattle.cb_history.specs.View.{count, time_of, view}
 use Rattle.cb_history.specs.Answers.{is_own_cast, upto_last_cast, next_cast, is_window_full, cast_answer}
 

@@ -1,5 +1,5 @@
 -- What the plain member makes of a frame that came.
-use Rattle.std.specs.Prelude.{◌≡◌, ◌⊎◌, ℕ, ◌<◌, true, false, List, [], length, map, Option, Some, IsSome, option_map, Result, Ok, Err}
+use Rattle.std.specs.Prelude.{◌≡◌, ◌⊎◌, ℕ, ◌<◌, true, false, List, [], length, map, Some, IsSome, option_map, Result, Ok, Err}
 use Rattle.cb_frames.specs.declared.fault.FrameFault.{FrameFault}
 use Rattle.cb_frames.specs.Fields.{FrameFields, CastFields, StatusFields, RequestFields, CastFrame, StatusFrame, RequestFrame}
 use Rattle.cb_frames.specs.Reading.{frame_at, HasValue}

@@ -1,5 +1,5 @@
 -- What was read of a member's history.
-use Rattle.std.specs.Prelude.{◌≡◌, ℕ, ◌≤◌, List, length}
+use Rattle.std.specs.Prelude.{◌≡◌, ◌≤◌, List, length}
 use Rattle.cb_frames.specs.Fields.{CastFields, Carried}
 use Rattle.cb_history.specs.Facts.{Fact, casts_in}
 use Rattle.cb_history.specs.View.{view}

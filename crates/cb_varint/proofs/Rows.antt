@@ -1,5 +1,5 @@
 -- The worked numbers, and bytes at whose front no number stands.
-use Rattle.std.proofs.Common.{◌≡◌, ℕ, [], ◌∷◌, List, Result, Ok, Err, refl}
+use Rattle.std.proofs.Common.{◌≡◌, [], ◌∷◌, Ok, Err, refl}
 use Rattle.cb_varint.specs.declared.fault.NumberFault.TheVariants.{Short, NotMinimal, TooLarge}
 use Rattle.cb_varint.specs.Reading.{number_at, spelling}
 

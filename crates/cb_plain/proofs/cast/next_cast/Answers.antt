@@ -1,5 +1,4 @@
-use Rattle.std.proofs.Common.{◌≡◌, ◌≤◌, ◌+◌, ℕ, List, length, map, ap, ◌∙◌, arith}
-use Rattle.std.proofs.lemmas.List.{length-map}
+use Rattle.std.proofs.Common.{◌≡◌, ◌+◌, ℕ, List, length, map, ap, ◌∙◌, arith}
 use Rattle.cb_frames.specs.Fields.{Carried}
 use Rattle.cb_diffs.specs.Differences.{differences}
 use Rattle.cb_plain.specs.declared.view.Message.{Message}

@@ -1,4 +1,4 @@
-use Rattle.std.proofs.Common.{◌≡◌, ℕ, ◌∙◌, not, eqb, Some, map, arith, rules, tests}
+use Rattle.std.proofs.Common.{◌≡◌, ℕ, ◌∙◌, not, eqb, Some, arith, rules, tests}
 use Rattle.cb_history.specs.State.{MemberState, facts_in}
 use Rattle.cb_history.specs.Known.{acknowledged}
 use Rattle.cb_plain.specs.Facts.{lesser_of}

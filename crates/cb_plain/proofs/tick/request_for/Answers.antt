@@ -1,4 +1,4 @@
-use Rattle.std.proofs.Common.{◌<◌, ◌≤◌, arith, rules}
+use Rattle.std.proofs.Common.{◌<◌, ◌≤◌, arith}
 use Rattle.cb_plain.proofs.Ticking.{request_keeps}
 use Rattle.cb_plain.proofs.tick.request_for.Goals as goal
 

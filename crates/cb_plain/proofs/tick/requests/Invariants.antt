@@ -1,4 +1,4 @@
-use Rattle.std.proofs.Common.{◌≡◌, ◌-◌, ◌++◌, map}
+use Rattle.std.proofs.Common.{◌≡◌, ◌-◌, ◌++◌}
 use Rattle.std.specs.List.{range_with_len}
 use Rattle.cb_history.specs.State.{MemberState, facts_in}
 use Rattle.cb_history.specs.Answers.{requests}

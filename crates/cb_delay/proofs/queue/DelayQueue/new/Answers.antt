@@ -1,4 +1,4 @@
-use Rattle.std.proofs.Common.{sym, subst, arith}
+use Rattle.std.proofs.Common.{subst, arith}
 use Rattle.cb_times.specs.Group.{IsGroupSize}
 use Rattle.cb_delay.proofs.Deques.{new_keeps, new_gives}
 use Rattle.cb_delay.proofs.queue.DelayQueue.new.Goals as goal

@@ -1,4 +1,4 @@
-use Rattle.std.proofs.Common.{◌≡◌, ◌<◌, ◌∙◌, ◌++◌, ◌∷◌, [], true, List, Ok, length, map, ap, rules, tests}
+use Rattle.std.proofs.Common.{◌≡◌, ◌<◌, ◌∙◌, ◌++◌, ◌∷◌, [], true, List, Ok, length, map, ap, rules}
 use Rattle.std.proofs.lemmas.List.{map-append}
 use Rattle.cb_frames.specs.Fields.{cast_fields, CastFrame}
 use Rattle.cb_history.specs.Facts.{Fact, EntryFields, CastCame, facts_of}

@@ -1,8 +1,7 @@
 use Rattle.std.proofs.Common.{◌≡◌, List, IfOk, map, subst, ap, ◌∙◌, rules, tests}
-use Rattle.cb_frames.specs.Fields.{request_fields, RequestFrame}
+use Rattle.cb_frames.specs.Fields.{request_fields}
 use Rattle.cb_history.specs.declared.answer.Outgoing.{Outgoing}
 use Rattle.cb_history.specs.Facts.{EntryFields, Fact, entry_fields, facts_of}
-use Rattle.cb_history.specs.Answers.{sent_in_answer}
 use Rattle.cb_history.specs.State.{MemberState, facts_in}
 use Rattle.cb_plain.specs.Requests.{first_asked}
 use Rattle.cb_plain.proofs.Answering.{answered}

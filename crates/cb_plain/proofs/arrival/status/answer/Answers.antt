@@ -10,7 +10,7 @@ use Rattle.cb_plain.specs.declared.facts.Fact.TheVariants as plain
 use Rattle.cb_plain.specs.Facts.{fact_of}
 use Rattle.cb_plain.specs.declared.arrival.status.Judged.{Judged}
 use Rattle.cb_plain.specs.declared.arrival.status.Judged.TheVariants as news
-use Rattle.cb_plain.specs.Arrivals.{answer_to_frame, JudgesStatus, MayRefuse}
+use Rattle.cb_plain.specs.Arrivals.{answer_to_frame, JudgesStatus}
 use Rattle.cb_plain.proofs.Arriving.{taken_accepts, unchanged_accepts}
 use Rattle.cb_plain.proofs.arrival.status.answer.Goals as goal
 

@@ -1,5 +1,5 @@
 use Rattle.std.proofs.lemmas.Bool.{ne_eqb, lt-ltb}
-use Rattle.std.proofs.Common.{ℕ, ◌≢◌, ◌<◌, refl, sym, ◌&&◌, ◌∙◌, not, eqb, ltb, map, arith, rules, tests}
+use Rattle.std.proofs.Common.{ℕ, ◌≢◌, ◌<◌, refl, sym, ◌&&◌, ◌∙◌, not, eqb, ltb, arith, rules, tests}
 use Rattle.cb_history.specs.Known.{known, value_in}
 use Rattle.cb_history.specs.State.{MemberState, facts_in}
 use Rattle.cb_plain.proofs.Walks.{any_more, any_holds}

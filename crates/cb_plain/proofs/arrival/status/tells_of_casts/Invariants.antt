@@ -1,4 +1,4 @@
-use Rattle.std.proofs.Common.{◌≡◌, ℕ, ◌&&◌, ◌-◌, not, eqb, ltb, map}
+use Rattle.std.proofs.Common.{◌≡◌, ℕ, ◌&&◌, ◌-◌, not, eqb, ltb}
 use Rattle.std.specs.List.{list_any, range_with_len}
 use Rattle.cb_history.specs.Known.{known, value_in}
 use Rattle.cb_history.specs.State.{MemberState, facts_in}

@@ -1,6 +1,4 @@
-use Rattle.std.proofs.Common.{◌≡◌, map, ap, arith, rules, tests}
-use Rattle.cb_history.specs.declared.history.Entry.{Entry}
-use Rattle.cb_history.specs.Facts.{entry_fields}
+use Rattle.std.proofs.Common.{arith, rules, tests}
 use Rattle.cb_history.specs.Legal.{NoEntries}
 use Rattle.cb_plain.proofs.member.PlainMember.new.Goals as goal
 

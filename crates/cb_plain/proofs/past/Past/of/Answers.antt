@@ -1,10 +1,9 @@
-use Rattle.std.proofs.Common.{List, length, map, ap, ◌≡◌, ◌≤◌, ◌∙◌, arith}
+use Rattle.std.proofs.Common.{List, length, ap, ◌≡◌, ◌≤◌, ◌∙◌, arith}
 use Rattle.std.proofs.lemmas.List.{length-map}
-use Rattle.cb_frames.specs.Fields.{CastFields, Carried}
 use Rattle.cb_history.specs.Facts.{Fact, casts_in, facts_of}
 use Rattle.cb_history.specs.Group.{Parameters, Seat}
 use Rattle.cb_history.specs.View.{view}
-use Rattle.cb_plain.specs.Facts.{fact_of, cast_of}
+use Rattle.cb_plain.specs.Facts.{fact_of}
 use Rattle.cb_plain.specs.Messages.{carried_of}
 use Rattle.cb_plain.proofs.Bounds.{facts_at_most}
 use Rattle.cb_plain.proofs.past.Past.of.Goals as goal
