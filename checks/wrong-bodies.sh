@@ -2,9 +2,10 @@
 # Runs the tests of a crate on each of its wrong bodies: the edits of crates/CRATE/must-fail and of checks/wrong-bodies/CRATE, each in
 # a scratch copy of the repository and without its proof. A line for each, `CRATE EDIT refused-by-test TESTS` or `CRATE EDIT passes-tests`.
 # It ends with 1 where an edit does not fit the code, or where the wrong body does not compile or does not run.
-# No part of the gate, where the prover refuses the edits of must-fail. Some 20 seconds an edit; JOBS=2 tries two at a time.
+# No part of the gate, where the prover refuses the edits of must-fail. Some 10 seconds an edit; JOBS=2 tries two at a time.
 #   checks/wrong-bodies.sh [CRATE..]      those crates, or all that have such edits
 #   EDITS='NAME ..' checks/wrong-bodies.sh CRATE      those edits alone
+#   FILL=1 checks/wrong-bodies.sh ..      writes the tests that refuse each, two at most, into the last column of docs/WRONG_BODIES.md
 set -u
 top=$(cd "$(dirname "$0")/.." && pwd)
 work=$(mktemp -d)
@@ -42,6 +43,33 @@ apply() {
     ' "$1" "$2"
 }
 
+say() {
+    echo "$*"
+    echo "$*" >> "$work/results"
+}
+
+# writes the tests of the results into the page's tables
+fill() {
+    perl -e '
+        my ($results, $page) = @ARGV;
+        my (%refused, $crate);
+        open my $in, "<", $results or die "$results: $!\n";
+        while (<$in>) {
+            my ($of, $edit, $how, @tests) = split;
+            $refused{"$of $edit"} = join ", ", map { "`$_`" } grep { defined } @tests[0, 1] if $how eq "refused-by-test";
+        }
+        open my $from, "<", $page or die "$page: $!\n";
+        my @lines = <$from>;
+        for (@lines) {
+            $crate = $1 if /^## `(\w+)`/;
+            my $tests = /^\| `(\w+)` \|/ ? $refused{"$crate $1"} : undef;
+            s/[^|]*\|$/ $tests |/ if defined $tests;
+        }
+        open my $to, ">", $page or die "$page: $!\n";
+        print $to @lines;
+    ' "$work/results" "$top/docs/WRONG_BODIES.md"
+}
+
 # tries one edit, $2 of the crate $1, in a copy of its own
 try() {
     local crate=$1 edit=$2 name copy shown refusing
@@ -49,7 +77,7 @@ try() {
     copy=$(mktemp -d "$work/copy.XXXXXX")
     cp -r "$work/whole/." "$copy"
     if ! shown=$(apply "$copy/crates/$crate" "$edit" 2>&1); then
-        echo "$crate $name does-not-fit: $shown"
+        say "$crate $name does-not-fit: $shown"
         rm -rf "$copy"
         return 1
     fi
@@ -57,16 +85,17 @@ try() {
     rm -rf "$copy"
     refusing=$(grep -E '^test .* \.\.\. ' <<< "$shown" | grep -vE '\.\.\. (ok|ignored)$' | awk '{ n = split($2, path, "::"); print path[n] }')
     if [ -n "$refusing" ]; then
-        echo "$crate $name refused-by-test" $refusing
+        say "$crate $name refused-by-test" $refusing
     elif grep -q '^test result: ok\.' <<< "$shown"; then
-        echo "$crate $name passes-tests"
+        say "$crate $name passes-tests"
     else
-        echo "$crate $name does-not-run: $(grep -m1 -E 'error|fault' <<< "$shown")"
+        say "$crate $name does-not-run: $(grep -m1 -E 'error|fault' <<< "$shown")"
         return 1
     fi
 }
 
 mkdir "$work/whole"
+: > "$work/results"
 (cd "$top" && tar -c --exclude=out --exclude=.git .) | tar -x -C "$work/whole"
 shopt -s nullglob
 status=0
@@ -91,4 +120,5 @@ while [ "$running" -gt 0 ]; do
     wait -n || status=1
     running=$((running - 1))
 done
+[ -z "${FILL:-}" ] || fill
 exit "$status"
