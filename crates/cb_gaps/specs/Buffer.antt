@@ -37,11 +37,15 @@ pub record IsLacking (buffer : Buffer) (number : ℕ) : Type 0 where
 abbrev pub IsInWindow : Buffer → ℕ → ℕ → Type 0
 IsInWindow buffer delivered number = number ≤ delivered + buffer.window
 
--- the answer for a cast; exactly one of the three holds
+-- the answer for messages with the numbers first to last; exactly one of the three holds
+abbrev pub Admits : Buffer → ℕ → ℕ → ℕ → Admission → Type 0
+Admits buffer delivered first last Kept = IsLacking buffer first × IsInWindow buffer delivered last
+Admits buffer delivered first last Repeat = IsReceived buffer first
+Admits buffer delivered first last TooFar = IsLacking buffer first × (delivered + buffer.window < last)
+
+-- the answer for a cast
 abbrev pub IsAnswer : Buffer → ℕ → CastFields → Admission → Type 0
-IsAnswer buffer delivered c Kept = IsLacking buffer (first_number c) × IsInWindow buffer delivered (last_number c)
-IsAnswer buffer delivered c Repeat = IsReceived buffer (first_number c)
-IsAnswer buffer delivered c TooFar = IsLacking buffer (first_number c) × (delivered + buffer.window < last_number c)
+IsAnswer buffer delivered c answer = Admits buffer delivered (first_number c) (last_number c) answer
 
 -- what an answer does to the buffer
 abbrev pub IsAfter : Buffer → CastFields → Admission → Buffer → Type 0

@@ -4,7 +4,7 @@ ghost use Rattle.std.specs.FinMap as map;
 ghost use Rattle.std.specs.VecDeque.{deque_len, deque_capacity};
 ghost use Rattle.cb_frames.specs.Fields.{cast_fields};
 ghost use Rattle.cb_times.specs.Group.{IsWindow};
-ghost use Rattle.cb_gaps.specs.Buffer.{IsNew, IsAnswer, IsAfter, IsNext, Takes, IsMissing, IsReorderBuffer};
+ghost use Rattle.cb_gaps.specs.Buffer.{IsNew, Admits, IsAnswer, IsAfter, IsNext, Takes, IsMissing, IsReorderBuffer};
 ghost use Rattle.cb_gaps.specs.Ranges.{AreRangesOf, gap_between};
 ghost use Rattle.cb_gaps.specs.Lists.{Rise, IsGap, IsPlaceFor};
 
@@ -85,6 +85,29 @@ impl Reorder {
         ensures buffer { IsReorderBuffer self.now }
     {
         self.taken
+    }
+
+    /// How many casts are kept, at most the window.
+    pub fn len(&self) -> usize
+        ensures { result ≡ map.len self.now.kept }
+    {
+        self.kept.len()
+    }
+
+    /// What `keep` would answer to a cast of this number where so many of the sender's casts are delivered.
+    pub fn judge(&self, delivered: u32, number: u32) -> Admission
+        ensures { Admits self.now delivered number number result }
+    {
+        if number <= self.taken {
+            return Admission::Repeat;
+        }
+        let Some(_place) = place_for(&self.kept, number) else {
+            return Admission::Repeat;
+        };
+        if self.window < number.saturating_sub(delivered) {
+            return Admission::TooFar;
+        }
+        Admission::Kept
     }
 
     /// Keeps a cast that came until those before it came; `delivered` of the sender's casts are delivered, at most as many

@@ -14,6 +14,10 @@ enum Call {
     Taken,
     /// To keep a cast: how many are delivered, at most as many as were taken, and its number.
     Keep(u32, u32),
+    /// What would become of a cast: how many are delivered, and its number.
+    Judge(u32, u32),
+    /// How many casts are kept.
+    Len,
     /// The next cast.
     Take,
     /// What is missing: how many are delivered, and the greatest number that was heard of.
@@ -77,6 +81,8 @@ fn answer(
             let delivered = delivered.min(reorder.taken());
             write!(text, "{:?}", reorder.keep(delivered, cast(alloc, number)))
         }
+        Call::Judge(delivered, number) => { write!(text, "{:?}", reorder.judge(delivered, number)) }
+        Call::Len => write!(text, "{}", reorder.len()),
         Call::Take => tell_cast(&reorder.take_next(), text),
         Call::Missing(delivered, known) => {
             tell_ranges(&reorder.missing(delivered, known)?, text)
@@ -158,6 +164,30 @@ fn number_0_is_a_repeat_and_a_repeat_comes_before_too_far(rt: HostRuntime) -> Re
         (Call::Keep(1, 5), "Kept"),
         (Call::Keep(0, 5), "Repeat"),
         (Call::Keep(0, 6), "TooFar"),
+    ];
+    run(&rt, rt.alloc(), 4, STEPS)
+}
+
+#[test]
+fn a_judgement_is_what_a_cast_would_get_and_changes_nothing(rt: HostRuntime) -> Result<(), Fail> {
+    const STEPS: &[(Call, &str)] = &[
+        (Call::Judge(0, 0), "Repeat"),
+        (Call::Judge(0, 4), "Kept"),
+        (Call::Judge(0, 5), "TooFar"),
+        (Call::Len, "0"),
+        (Call::Keep(0, 1), "Kept"),
+        (Call::Len, "1"),
+        (Call::Judge(0, 1), "Repeat"),
+        (Call::Take, "7 0.1 yo"),
+        (Call::Len, "0"),
+        (Call::Keep(1, 5), "Kept"),
+        // A repeat comes before too far here too.
+        (Call::Judge(0, 5), "Repeat"),
+        (Call::Judge(0, 6), "TooFar"),
+        (Call::Judge(2, 6), "Kept"),
+        (Call::Judge(LAST, LAST), "Kept"),
+        (Call::Len, "1"),
+        (Call::Take, "none"),
     ];
     run(&rt, rt.alloc(), 4, STEPS)
 }
