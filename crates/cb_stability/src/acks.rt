@@ -1,7 +1,7 @@
 //! The plain acknowledgements: a row of counts for each member, and a look at all of them for each answer.
 ghost use Rattle.std.specs.Prelude.{◌≡◌, ◌≢◌, ◌<◌, ◌≤◌, ℕ, length, All, IfOk};
 ghost use Rattle.cb_times.specs.Group.{IsGroupSize};
-ghost use Rattle.cb_stability.specs.Known.{IsUnknown, IsKnown, Learns, IsStable, IsCountOfOther};
+ghost use Rattle.cb_stability.specs.Known.{count, IsUnknown, IsKnown, Learns, IsStable, IsCountOfOther};
 ghost use Rattle.cb_stability.specs.Rows.{AreRows, known_of};
 
 use cb_times::{NoMemory, VectorTime};
@@ -56,6 +56,15 @@ impl Acks {
         let row = &mut self.rows[member as usize];
         let count = row.get(sender);
         row.set(sender, count.max(delivered));
+    }
+
+    /// How many casts of this sender the member is known to have delivered.
+    pub fn learnt(&self, member: u32, sender: u32) -> u32
+        requires of_group { member < self.now.size }
+        requires from_group { sender < self.now.size }
+        ensures { result ≡ count self.now member sender }
+    {
+        self.rows[member as usize].get(sender)
     }
 
     /// How many casts of this sender are stable: the least of the counts for it over all other members.

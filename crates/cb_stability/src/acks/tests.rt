@@ -14,6 +14,17 @@ fn a_cast_is_stable_once_every_other_member_has_delivered_it(rt: HostRuntime) ->
 }
 
 #[test]
+fn what_was_learnt_is_of_one_member_and_one_sender(rt: HostRuntime) -> Result<(), Fail> {
+    let mut acks = Acks::new(rt.alloc(), 3)?;
+    acks.learn(1, 0, 2);
+    acks.learn(2, 1, 7);
+    for (member, sender, count) in [(1, 0, 2), (2, 1, 7), (0, 1, 0), (1, 2, 0), (2, 0, 0)] {
+        assert_eq!(rt; acks.learnt(member, sender), count, "{sender} by {member}");
+    }
+    Ok(())
+}
+
+#[test]
 fn a_late_report_and_what_the_sender_itself_says_change_nothing(
     rt: HostRuntime,
 ) -> Result<(), Fail> {
