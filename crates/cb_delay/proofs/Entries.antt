@@ -6,6 +6,7 @@ use Rattle.std.specs.FinMap.Entries.{below_all}
 use Rattle.std.proofs.lemmas.Bool.Decides.{nat_tests}
 use Rattle.std.proofs.lemmas.List.Sums.{sum_by-cons}
 use Rattle.cb_times.specs.declared.name.Name.{Name}
+use Rattle.cb_times.proofs.Entries.{both, both_hold}
 use Rattle.cb_delay.specs.declared.message.Message.{Message}
 use Rattle.cb_delay.specs.Message.{name_cmp}
 use Rattle.cb_delay.specs.Lists.{entries_of, all_entries, IsRunFrom, IsRun, list_of}
@@ -53,13 +54,6 @@ find-all_entries size base (suc i) (list ∷ lists) name runs e =
     let run = runs 0 base (omega arith) in
     find-skip list (all_entries lists) name (found-other size base run.0 list name run.1 (λ same. omega (arith, e, same)))
     ∙ find-all_entries size (suc base) i lists name (rest_of size base list lists runs) (omega (arith, e))
-
-both : (a b : Bool) → a ≡ true → T b → T (a && b)
-both a b p q = subst (λ (x : Bool). T (x && b)) (sym p) q
-
-both_hold : (a b : Bool) → T a → T b → T (a && b)
-both_hold true b p q = q
-both_hold false b p q = absurd p
 
 below_run : (size sender number : ℕ) (list : List Message) (others : List (Name × Message)) (name : Name) → IsRunFrom size sender number list
     → name.sender ≡ sender → name.number < number → T (below_all name_cmp name others)

@@ -9,6 +9,7 @@ use Rattle.std.proofs.lemmas.List.{get_or-set_same, get_or-set_other, map-append
 use Rattle.std.proofs.lemmas.Bool.Decides.{eqb_tells}
 use Rattle.cb_times.specs.Group.{IsGroupSize}
 use Rattle.cb_times.specs.declared.name.Name.{Name}
+use Rattle.cb_times.proofs.Entries.{value_of}
 use Rattle.cb_delay.specs.declared.message.Message.{Message}
 use Rattle.cb_delay.specs.Message.{name_cmp, IsOfGroup}
 use Rattle.cb_delay.specs.Queue.{HasReady, IsHeld, count_of, IsFirst, FollowsLast, AreInARow, IsDelayQueue}
@@ -21,10 +22,6 @@ use Rattle.cb_delay.proofs.Entries.{AreRunsFrom, find-all_entries, sorted-all_en
 
 pub one_name : (a b : Name) → a.sender ≡ b.sender → a.number ≡ b.number → a ≡ b
 one_name a b s n = λ i. record { sender = s i; number = n i }
-
-pub value_of : {A : Type 0} (o : Option A) → IsSome o → (x : A) × (o ≡ Some x)
-value_of None h = cc
-value_of (Some x) h = (x, refl)
 
 module _ (window : ℕ) (lists : List (List Message)) (are : AreLists window lists) where
   runs_from_0 : AreRunsFrom (length lists) 0 lists

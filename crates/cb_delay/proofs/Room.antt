@@ -9,7 +9,8 @@ use Rattle.cb_delay.specs.Laws.{CountIsWithin}
 use Rattle.std.specs.Ordering.{eq_by_cmp}
 use Rattle.cb_delay.specs.Message.{name_cmp}
 use Rattle.cb_delay.proofs.Names.{names_total, eq_by_cmp-true}
-use Rattle.cb_delay.proofs.Kept.{value_of, one_name}
+use Rattle.cb_times.proofs.Entries.{value_of}
+use Rattle.cb_delay.proofs.Kept.{one_name}
 
 pub count_is_within : CountIsWithin
 count_is_within queue sender low high legal order within =

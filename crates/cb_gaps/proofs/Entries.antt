@@ -13,35 +13,17 @@ use Rattle.std.proofs.lemmas.List.{length-take, length-drop, take-append-drop, g
 use Rattle.std.proofs.lemmas.List.Elements.{All-head, All-tail, All-cons, All-append, All-take, All-drop}
 use Rattle.cb_frames.specs.declared.frame.Cast.{Cast}
 use Rattle.cb_frames.specs.Fields.{CastFields, cast_fields}
+use Rattle.cb_times.proofs.Entries.{equal_numbers, other_numbers, numbers_equal, less_number, both, both_hold}
 use Rattle.cb_gaps.specs.Lists.{entries_of, Rise, Below, IsPlaceFor}
 
 -- what a number finds
 abbrev pub found : ℕ → List Cast → Option CastFields
 found number casts = find nat_cmp number (entries_of casts)
 
-pub tied-same : (a b : ℕ) → a ≡ b → eq_by_cmp nat_cmp a b ≡ true
-tied-same a b e = grind (arith, nat_tests)
-
-pub tied-other : (a b : ℕ) → a ≢ b → eq_by_cmp nat_cmp a b ≡ false
-tied-other a b e = grind (arith, nat_tests)
-
-pub tied-true : (a b : ℕ) → eq_by_cmp nat_cmp a b ≡ true → a ≡ b
-tied-true a b e = grind (arith, nat_tests)
-
-lt-true : (a b : ℕ) → a < b → is_lt (nat_cmp a b) ≡ true
-lt-true a b h = grind (arith, nat_tests)
-
-both : (a b : Bool) → a ≡ true → T b → T (a && b)
-both a b p q = subst (λ (x : Bool). T (x && b)) (sym p) q
-
-both_hold : (a b : Bool) → T a → T b → T (a && b)
-both_hold true b p q = q
-both_hold false b p q = absurd p
-
 below_rising : (number before : ℕ) (casts : List Cast) → Rise before casts → number ≤ before → T (below_all nat_cmp number (entries_of casts))
 below_rising number before [] rise h = tt
 below_rising number before (c ∷ casts) rise h =
-    both _ _ (lt-true number c.number (omega (arith, rise.0, h))) (below_rising number c.number casts rise.1 (omega (arith, rise.0, h)))
+    both _ _ (less_number number c.number (omega (arith, rise.0, h))) (below_rising number c.number casts rise.1 (omega (arith, rise.0, h)))
 
 pub sorted : (before : ℕ) (casts : List Cast) → Rise before casts → T (is_sorted nat_cmp (entries_of casts))
 sorted before [] rise = tt
@@ -57,7 +39,7 @@ pub found-before : (number before : ℕ) (casts : List Cast) → Rise before cas
 found-before number before [] rise h = refl
 found-before number before (c ∷ casts) rise h =
     let differs : number ≢ c.number = λ e. absurd (omega (arith, e, h, rise.0)) in
-    rw (tied-other number c.number differs) (found-before number c.number casts rise.1 (omega (arith, h, rise.0)))
+    rw (other_numbers number c.number differs) (found-before number c.number casts rise.1 (omega (arith, h, rise.0)))
 
 -- what is found is a cast of the list, of that number
 pub found_cast : (P : Cast → Type 0) (number : ℕ) (casts : List Cast) (fields : CastFields) → All P casts → found number casts ≡ Some fields
@@ -67,7 +49,7 @@ found_cast P number (c ∷ casts) fields all h =
     elim (eq_by_cmp nat_cmp number c.number)
     as (λ b. eq_by_cmp nat_cmp number c.number ≡ b → cond b (Some (cast_fields c)) (found number casts) ≡ Some fields
     → (x : Cast) × (x.number ≡ number) × (cast_fields x ≡ fields) × P x) [
-      | true ↦ λ e here. (c, sym (tied-true number c.number e), cc, All-head P c casts all)
+      | true ↦ λ e here. (c, sym (numbers_equal number c.number e), cc, All-head P c casts all)
       | false ↦ λ e later. found_cast P number casts fields (All-tail P c casts all) later
     ] refl h
 
@@ -81,7 +63,7 @@ found_after number before casts fields rise h =
 -- a cast that stands in the list is found
 pub found_at : (number : ℕ) (casts : List Cast) (k : ℕ) (d : Cast) → k < length casts → (get_or casts k d).number ≡ number → IsSome (found number casts)
 found_at number [] k d within e = absurd (omega arith)
-found_at number (c ∷ casts) zero d within e = rw (tied-same number c.number (sym e)) refl
+found_at number (c ∷ casts) zero d within e = rw (equal_numbers number c.number (sym e)) refl
 found_at number (c ∷ casts) (suc k) d within e =
     elim (eq_by_cmp nat_cmp number c.number) as (λ b. IsSome (cond b (Some (cast_fields c)) (found number casts))) [
       | true ↦ refl
@@ -112,7 +94,7 @@ pub not_found : (number : ℕ) (casts : List Cast) → All (λ c. c.number ≢ n
 not_found number [] others = refl
 not_found number (c ∷ casts) others =
     let differs : number ≢ c.number = λ e. All-head (λ x. x.number ≢ number) c casts others (sym e) in
-    rw (tied-other number c.number differs) (not_found number casts (All-tail (λ x. x.number ≢ number) c casts others))
+    rw (other_numbers number c.number differs) (not_found number casts (All-tail (λ x. x.number ≢ number) c casts others))
 
 pub not_found_place : (number place : ℕ) (casts : List Cast) → IsPlaceFor number casts place → found number casts ≡ None
 not_found_place number place casts is =
@@ -142,7 +124,7 @@ found-between : (number : ℕ) (front back : List Cast) (c : Cast) → All (λ x
 found-between number [] back c lesser = refl
 found-between number (x ∷ front) back c lesser =
     let apart : ¬ ((eq_by_cmp nat_cmp number x.number ≡ true) × (eq_by_cmp nat_cmp number c.number ≡ true)) =
-    λ e. omega (arith, tied-true number x.number e.0, tied-true number c.number e.1, All-head (λ y. y.number < c.number) x front lesser) in
+    λ e. omega (arith, numbers_equal number x.number e.0, numbers_equal number c.number e.1, All-head (λ y. y.number < c.number) x front lesser) in
     ap (cond (eq_by_cmp nat_cmp number x.number) (Some (cast_fields x)))
     (found-between number front back c (All-tail (λ y. y.number < c.number) x front lesser))
     ∙ first_of_two (eq_by_cmp nat_cmp number x.number) (eq_by_cmp nat_cmp number c.number) _ _ _ apart

@@ -8,7 +8,8 @@ use Rattle.cb_frames.specs.declared.frame.Cast.{Cast}
 use Rattle.cb_frames.specs.declared.frame.Range.{Range}
 use Rattle.cb_gaps.specs.Ranges.{IsWithin, AreRangesOf, gap_between}
 use Rattle.cb_gaps.specs.Lists.{Rise, IsGap}
-use Rattle.cb_gaps.proofs.Entries.{found, found-before, tied-other, tied-same}
+use Rattle.cb_times.proofs.Entries.{equal_numbers, other_numbers}
+use Rattle.cb_gaps.proofs.Entries.{found, found-before}
 
 -- the gaps from above `before`, up to `last`
 abbrev pub gaps_from : ℕ → ℕ → List Cast → List Range
@@ -100,7 +101,7 @@ no_gaps middle = record {
 }
 
 not_this : (n : ℕ) (c : Cast) (casts : List Cast) → found n (c ∷ casts) ≡ None → n ≢ c.number
-not_this n c casts none e = let some = rw (tied-same n c.number e) at none in cc
+not_this n c casts none e = let some = rw (equal_numbers n c.number e) at none in cc
 
 gaps : (before last : ℕ) (casts : List Cast) → Rise before casts → AreGaps (IsGap before last casts) before (gaps_from before last casts)
 gaps before last [] rise =
@@ -119,7 +120,7 @@ gaps before last (c ∷ casts) rise =
       | inr more ↦ inr (record {
         after = omega (arith, more, differs);
         upto = gap.upto;
-        not_kept = rw (tied-other n c.number differs) at gap.not_kept;
+        not_kept = rw (other_numbers n c.number differs) at gap.not_kept;
       })
     ])
     (λ n after upto. record {
@@ -130,7 +131,7 @@ gaps before last (c ∷ casts) rise =
     (λ n gap. record {
       after = omega (arith, gap.after, rise.0);
       upto = gap.upto;
-      not_kept = rw (tied-other n c.number (λ e. absurd (omega (arith, e, gap.after)))) gap.not_kept;
+      not_kept = rw (other_numbers n c.number (λ e. absurd (omega (arith, e, gap.after)))) gap.not_kept;
     })
 
 pub gaps_are : (before last : ℕ) (casts : List Cast) → Rise before casts → AreRangesOf (IsGap before last casts) (gaps_from before last casts)

@@ -15,11 +15,8 @@ use Rattle.cb_times.specs.Group.{IsWindow}
 use Rattle.cb_gaps.specs.Buffer.{IsNew, IsKept, IsReceived, IsLacking, IsNext, IsMissing, IsReorderBuffer}
 use Rattle.cb_gaps.specs.Ranges.{AreRangesOf}
 use Rattle.cb_gaps.specs.Lists.{entries_of, Rise, IsPlaceFor, IsGap, AreKept, buffer_of}
-use Rattle.cb_gaps.proofs.Entries.{found, tied-same, tied-true, sorted, found-before, found_cast, found_after, found_at, not_found_place, rise_insert, found-insert, all_insert, few}
-
-pub value_of : {A : Type 0} (o : Option A) → IsSome o → (x : A) × (o ≡ Some x)
-value_of None h = cc
-value_of (Some x) h = (x, refl)
+use Rattle.cb_times.proofs.Entries.{equal_numbers, numbers_equal, value_of}
+use Rattle.cb_gaps.proofs.Entries.{found, sorted, found-before, found_cast, found_after, found_at, not_found_place, rise_insert, found-insert, all_insert, few}
 
 length-entries_of : (casts : List Cast) → length (entries_of casts) ≡ length casts
 length-entries_of casts = length-map casts (λ (c : Cast). let e : ℕ × CastFields = (c.number, cast_fields c) in e)
@@ -116,12 +113,12 @@ module _ (window taken : ℕ) (first : Cast) (after : List Cast) (are : AreKept 
   front_is_next : IsNext (buffer_of window taken (first ∷ after)) (cast_fields first)
   front_is_next = record {
     follows = next;
-    kept = get-kept window taken (first ∷ after) are.rise first.number ∙ rw (tied-same first.number first.number refl) refl;
+    kept = get-kept window taken (first ∷ after) are.rise first.number ∙ rw (equal_numbers first.number first.number refl) refl;
   }
 
   front_removed : (b : Bool) (number : ℕ) → eq_by_cmp nat_cmp number first.number ≡ b
       → found number after ≡ cond b None (cond b (Some (cast_fields first)) (found number after))
-  front_removed true number e = found-before number first.number after are.rise.1 (omega (arith, tied-true number first.number e))
+  front_removed true number e = found-before number first.number after are.rise.1 (omega (arith, numbers_equal number first.number e))
   front_removed false number e = refl
 
   front_taken : buffer_of window first.number after

@@ -1,3 +1,4 @@
 pub mod Deciding
 mod Rows
 pub mod Text
+pub mod Entries
