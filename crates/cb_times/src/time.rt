@@ -232,4 +232,15 @@ mod tests {
         assert_eq!(rt; time.to_string(rt.alloc())?.as_str(), "[203,0,4294967295]");
         Ok(())
     }
+
+    #[test]
+    fn a_time_of_64_fields_prints_them_all(rt: HostRuntime) -> Result<(), Fail> {
+        let mut time = VectorTime::zero(rt.alloc(), 64)?;
+        time.set(63, 4294967295);
+        let text = time.to_string(rt.alloc())?;
+        assert!(rt; text.starts_with("[0,0,"));
+        assert!(rt; text.ends_with(",0,4294967295]"));
+        assert_eq!(rt; text.len(), 2 + 63 + 63 + 10);
+        Ok(())
+    }
 }
