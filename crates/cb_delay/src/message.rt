@@ -13,7 +13,7 @@ pub struct Message {
     pub name: Name,
     /// What its sender had delivered when it sent it, this message included.
     pub time: VectorTime,
-    /// What it says. A `copy` shares these bytes.
+    /// What it says. A `copy` shares these bytes, by design.
     pub payload: Bytes,
 }
 

@@ -132,7 +132,7 @@ fn request_parts(bytes: &[u8]) -> Result<RequestParts, FrameFault>
     })
 }
 
-/// Copies what was read. The payload shares the bytes that it was read from, whose end it is.
+/// Copies what was read. The payload is the end of the bytes that it was read from, and shares them by design.
 fn cast(alloc: Global, bytes: &Bytes, parts: &CastParts<'_>) -> Result<Cast, FrameFault>
     requires { (front : List ℕ) × (bytes.now ≡ front ++ parts.now.payload.now) }
     ensures { MatchResult result (λ cast. cast_fields cast ≡ part_fields parts.now)
