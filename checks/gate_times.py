@@ -119,9 +119,9 @@ def main():
         page = f"{TOP}/docs/GATE.md"
         with open(page) as it:
             text = it.read()
-        between = re.compile(r"(?<=<!-- gate times -->\n).*(?=\n<!-- end of gate times -->)", re.S)
+        between = re.compile(r"(?<=<!-- gate times -->\n).*(?=<!-- end of gate times -->)", re.S)
         with open(page, "w") as it:
-            it.write(between.sub(lambda _: told, text))
+            it.write(between.sub(lambda _: told + "\n", text))
     return 0 if re.search(r", 0 failed$", last) else 1
 
 
