@@ -11,7 +11,7 @@ use Rattle.cb_diffs.specs.Expansion.{greatest, growth_of, expanded_field, expand
 use Rattle.cb_diffs.proofs.Growing.{kept_is_given}
 use Rattle.cb_diffs.specs.Laws.{IsKept, NothingIsKept, ExpandingIsSumming, TimesAreSums}
 
-abbrev total : List CastFields → ℕ → ℕ → ℕ → ℕ
+abbrev pub total : List CastFields → ℕ → ℕ → ℕ → ℕ
 total casts sender number k = sum_by (growth_of sender number k) casts
 
 -- ---- what one frame adds

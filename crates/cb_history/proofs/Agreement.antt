@@ -10,10 +10,7 @@ use Rattle.cb_history.specs.NameLaws.{NamesDiffer}
 use Rattle.cb_history.specs.TimeLaws.{SameFrames, TimesAgree}
 use Rattle.cb_history.proofs.Views.{IsIn, all_in_range}
 use Rattle.cb_history.proofs.Names.{all_stand, message}
-use Rattle.cb_diffs.proofs.Sums.{growth_of-other, growth_of-later, growth_of-own}
-
-abbrev total : List CastFields → ℕ → ℕ → ℕ → ℕ
-total casts sender number k = sum_by (growth_of sender number k) casts
+use Rattle.cb_diffs.proofs.Sums.{total, growth_of-other, growth_of-later, growth_of-own}
 
 -- a cast of another message adds as much to the next message's time as to the one before
 same_growth : (sender n k : ℕ) (c : CastFields) → (c.sender ≡ sender → c.number ≡ n + 1 → ⊥) → growth_of sender (n + 1) k c ≡ growth_of sender n k c

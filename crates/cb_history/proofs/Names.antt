@@ -1,6 +1,6 @@
 -- Names and order in the views of legal facts.
 use Rattle.std.proofs.Common.{◌≡◌, ◌≢◌, ℕ, ◌+◌, ◌<◌, ◌≤◌, Bool, true, false, ◌&&◌, eqb, ltb, List, [], ◌∷◌, ◌++◌, length, Some, refl, sym, ap, subst, ◌∙◌, arith, inl, inr}
-use Rattle.std.proofs.lemmas.Bool.{eq-eqb, ltb-true, ltb-false}
+use Rattle.std.proofs.lemmas.Bool.{false_from_ne_true, eq-eqb, ltb-true, ltb-false}
 use Rattle.std.proofs.lemmas.List.{append-nil, length-append}
 use Rattle.cb_frames.specs.Fields.{CastFields, Carried, last_number}
 use Rattle.cb_history.specs.Group.{Seat}
@@ -76,12 +76,8 @@ own_stands seat casts seen own c member s sender number = record {
         let same : seen_one.0.number ≡ c.number = seen_one.3 ∙ found.3 in
         omega (arith, bound, at, same, number)
 
-    is_false : (b : Bool) → (b ≡ true → ⊥) → b ≡ false
-    is_false true h = absurd (h refl)
-    is_false false h = refl
-
     new_name : (seat : Seat) (casts : List CastFields) (seen : List Carried) (own : List CastFields) (c : CastFields) → Stands seat casts seen own → c.sender ≡ seat.me → c.number ≡ count seen seat.me + 1 → is_among (messages_in casts) (message c) ≡ false
-    new_name seat casts seen own c s sender number = is_false (is_among (messages_in casts) (message c)) (none_above seat casts seen own c s sender number)
+    new_name seat casts seen own c s sender number = false_from_ne_true (is_among (messages_in casts) (message c)) (none_above seat casts seen own c s sender number)
 
 -- ---- a cast that came
 
@@ -236,12 +232,12 @@ view_is_of_casts seat facts m are among =
     let there : is_among (messages_in (casts_in facts)) found.0 ≡ true = in_is_among (messages_in (casts_in facts)) found.0 (s.there found.0 found.1) in
     subst (λ (k : ℕ). is_there (casts_in facts) k m.number ≡ true) found.2 (subst (λ (n : ℕ). is_there (casts_in facts) found.0.sender n ≡ true) found.3 there)
 
-one_of_is_in : (m : Carried) (ms : List Carried) → IsOneOf m ms → IsIn m ms
+pub one_of_is_in : (m : Carried) (ms : List Carried) → IsOneOf m ms → IsIn m ms
 one_of_is_in m [] h = h
 one_of_is_in m (n ∷ ms) (inl same) = inl same
 one_of_is_in m (n ∷ ms) (inr later) = inr (one_of_is_in m ms later)
 
-in_is_one_of : (m : Carried) (ms : List Carried) → IsIn m ms → IsOneOf m ms
+pub in_is_one_of : (m : Carried) (ms : List Carried) → IsIn m ms → IsOneOf m ms
 in_is_one_of m [] h = h
 in_is_one_of m (n ∷ ms) (inl same) = inl same
 in_is_one_of m (n ∷ ms) (inr later) = inr (in_is_one_of m ms later)

@@ -13,10 +13,6 @@ use Rattle.cb_frames.specs.declared.frame.TheConstants.{MOST_FRAMES}
 use Rattle.cb_history.specs.Answers.{own_casts, is_asked_for, sent_in_answer}
 use Rattle.cb_plain.specs.Requests.{asked_texts, first_asked}
 
-pub or_nothing : (b : Bool) → b ≡ (b || false)
-or_nothing true = refl
-or_nothing false = refl
-
 -- ---- the casts of the entries, one after another
 
 abbrev pub sent_to : ℕ → List ℕ → Outgoing

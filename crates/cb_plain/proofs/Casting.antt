@@ -1,6 +1,7 @@
 -- The facts up to the last own cast, and the next cast.
 use Rattle.std.proofs.Common.{◌≡◌, ℕ, ◌+◌, ◌<◌, ◌≤◌, Bool, true, false, ◌||◌, List, [], ◌∷◌, ◌++◌, length, Ok, refl, ap}
 use Rattle.std.specs.List.{list_any}
+use Rattle.std.proofs.Math.Bool.{or-true}
 use Rattle.std.proofs.lemmas.Bool.{le-ltb, lt-leb}
 use Rattle.cb_frames.specs.declared.frame.TheConstants.{LONGEST_PAYLOAD}
 use Rattle.cb_frames.specs.declared.frame.Change.{Change}
@@ -10,13 +11,9 @@ use Rattle.cb_history.specs.Facts.{EntryFields, Fact, facts_of}
 use Rattle.cb_history.specs.View.{count, time_of, view}
 use Rattle.cb_history.specs.Answers.{is_own_cast, upto_last_cast, next_cast, is_window_full, cast_answer}
 
-or_true : (b : Bool) → (b || true) ≡ true
-or_true true = refl
-or_true false = refl
-
 any_last : (facts : List Fact) (f : Fact) → is_own_cast f ≡ true → list_any is_own_cast (facts ++ f ∷ []) ≡ true
 any_last [] f h = rw h refl
-any_last (g ∷ facts) f h = rw (any_last facts f h) (or_true (is_own_cast g))
+any_last (g ∷ facts) f h = rw (any_last facts f h) (or-true (is_own_cast g))
 
 any_other : (facts : List Fact) (f : Fact) → is_own_cast f ≡ false → list_any is_own_cast (facts ++ f ∷ []) ≡ list_any is_own_cast facts
 any_other [] f h = rw h refl
@@ -24,7 +21,7 @@ any_other (g ∷ facts) f h = ap (λ (b : Bool). is_own_cast g || b) (any_other 
 
 pub own_last : (facts : List Fact) (f : Fact) → is_own_cast f ≡ true → upto_last_cast (facts ++ f ∷ []) ≡ facts ++ f ∷ []
 own_last [] f h = rw h refl
-own_last (g ∷ facts) f h = rw (any_last facts f h, or_true (is_own_cast g)) (ap (λ (fs : List Fact). g ∷ fs) (own_last facts f h))
+own_last (g ∷ facts) f h = rw (any_last facts f h, or-true (is_own_cast g)) (ap (λ (fs : List Fact). g ∷ fs) (own_last facts f h))
 
 pub other_last : (facts : List Fact) (f : Fact) → is_own_cast f ≡ false → upto_last_cast (facts ++ f ∷ []) ≡ upto_last_cast facts
 other_last [] f h = rw h refl

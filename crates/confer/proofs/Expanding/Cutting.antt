@@ -2,7 +2,7 @@
 use Rattle.std.proofs.Common.{◌≡◌, ℕ, zero, suc, ◌+◌, Bool, true, false, ◌<◌, ◌≤◌, List, [], ◌∷◌, ◌++◌, length, take, drop, refl, sym, ap, ap₂, ◌∙◌, arith, append_assoc}
 use Rattle.std.specs.Prelude.{◌==◌, if◌then◌else◌, slice_index, Some, None}
 use Rattle.std.specs.List.{AllByRecursion}
-use Rattle.std.proofs.lemmas.Bool.{eqb-true}
+use Rattle.std.proofs.lemmas.Bool.{eqb-true, false_from_ne_true}
 use Rattle.std.proofs.lemmas.List.{append-nil, take-append-drop, drop_more, take_all}
 use Rattle.memchr.specs.Find.{IsFirstByte, is_byte}
 use Rattle.confer.specs.Expand.Lines.{line_feed, ended, unended}
@@ -53,14 +53,10 @@ no_feed_before bytes zero h le = tt
 no_feed_before [] (suc n) h le = absurd (omega arith)
 no_feed_before (x ∷ bytes) (suc n) h le = (h 0 (omega arith), no_feed_before bytes n (λ k lt. h (suc k) (omega arith)) (omega arith))
 
-is_false : (b : Bool) → (b ≡ true → ⊥) → b ≡ false
-is_false true h = absurd (h refl)
-is_false false h = refl
-
 -- no line feed is found
 pub none_found : (bytes : List ℕ) → IsFirstByte (is_byte line_feed) bytes None → HasNoFeed bytes
 none_found bytes found =
-    rw (← take_all (length bytes) bytes (omega arith)) (no_feed_before bytes (length bytes) (λ k lt. is_false (slice_index bytes k == line_feed) (found k (omega arith) lt)) (omega arith))
+    rw (← take_all (length bytes) bytes (omega arith)) (no_feed_before bytes (length bytes) (λ k lt. false_from_ne_true (slice_index bytes k == line_feed) (found k (omega arith) lt)) (omega arith))
 
 -- a line, its line feed and what follows
 cut : (bytes : List ℕ) (i : ℕ) → IsFirstByte (is_byte line_feed) bytes (Some i) → bytes ≡ take i bytes ++ (line_feed ∷ drop (i + 1) bytes)
@@ -71,7 +67,7 @@ cut bytes i found =
 no_feed_in_line : (bytes : List ℕ) (i : ℕ) → IsFirstByte (is_byte line_feed) bytes (Some i) → HasNoFeed (take i bytes)
 no_feed_in_line bytes i found =
     let lt : i < length bytes = found.0.high in
-    no_feed_before bytes i (λ k lt. is_false (slice_index bytes k == line_feed) (found.0.before k (omega arith) lt)) (omega arith)
+    no_feed_before bytes i (λ k lt. false_from_ne_true (slice_index bytes k == line_feed) (found.0.before k (omega arith) lt)) (omega arith)
 
 pub ended-line : (begun bytes : List ℕ) (i : ℕ) → IsFirstByte (is_byte line_feed) bytes (Some i)
     → ended begun bytes ≡ (begun ++ take i bytes) ∷ ended [] (drop (i + 1) bytes)

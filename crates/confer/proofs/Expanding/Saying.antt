@@ -2,6 +2,7 @@
 use Rattle.std.proofs.Common.{◌≡◌, ℕ, ◌+◌, Bool, true, false, ◌||◌, List, [], ◌∷◌, ◌++◌, length, take, drop, refl, sym, ap, subst, ◌∙◌, append_assoc, Result, Ok, Err}
 use Rattle.std.specs.Prelude.{is_err, is_ok, OnOk, if◌then◌else◌, Some, None, codes}
 use Rattle.std.specs.Fmt.{decimal}
+use Rattle.std.proofs.Math.Bool.{or-true, or-false}
 use Rattle.std.proofs.lemmas.List.{append-nil}
 use Rattle.memchr.specs.Find.{IsFirstByte, is_byte}
 use Rattle.cb_times.specs.Time.{text_of}
@@ -48,19 +49,11 @@ through-append group size accepted (line ∷ xs) ys = through-append group size 
 
 -- ---- what was said
 
-or_false : (b : Bool) → b ≡ (b || false)
-or_false true = refl
-or_false false = refl
-
-or_true : (b : Bool) → (b || true) ≡ true
-or_true true = refl
-or_true false = refl
-
 pub says_nothing : (g : Group) (s : Said) → Says [] g g s s
 says_nothing g s = record {
   number = refl;
   size = refl;
-  after = λ accepted kept. record { text = sym (append-nil s.text); refusal = or_false s.refused; kept_are = kept };
+  after = λ accepted kept. record { text = sym (append-nil s.text); refusal = sym (or-false s.refused); kept_are = kept };
 }
 
 pub after_more : (group size : ℕ) (accepted : List CastFields) (xs ys : List (List ℕ)) (a b d : Said) (kept kept' : List (List ℕ))
@@ -151,7 +144,7 @@ says_accepted line cast old new before now gives same text refused = record {
       ∙ ap (λ (t : List ℕ). decimal cast.sender ++ codes "." ++ decimal cast.number ++ codes " " ++ text_of t ++ codes " " ++ payload_text cast.payload) (sym given.1.time) in
       record {
         text = text ∙ ap (λ (t : List ℕ). before.text ++ (t ++ line_feed ∷ [])) (sym shown);
-        refusal = refused ∙ or_false before.refused ∙ ap (λ (b : Bool). before.refused || (b || false)) (sym (ap is_err is));
+        refusal = refused ∙ sym (or-false before.refused) ∙ ap (λ (b : Bool). before.refused || (b || false)) (sym (ap is_err is));
         kept_are = subst (λ (r : Result CastFields Refusal). IsKept size (accepted_after accepted r) new.kept) (sym is) given.1.kept;
       };
 }
@@ -172,7 +165,7 @@ says_refused line refusal old new before now gives same text refused = record {
             ∙ append_assoc before.text (codes "refused ") (refusal_text refusal ++ line_feed ∷ [])
             ∙ ap (λ (t : List ℕ). before.text ++ t) (sym (append_assoc (codes "refused ") (refusal_text refusal) (line_feed ∷ [])))
             ∙ ap (λ (r : Result CastFields Refusal). before.text ++ (answer_text size accepted r ++ line_feed ∷ [])) (sym is);
-        refusal = refused ∙ sym (or_true before.refused) ∙ ap (λ (r : Result CastFields Refusal). before.refused || (is_err r || false)) (sym is);
+        refusal = refused ∙ sym (or-true before.refused) ∙ ap (λ (r : Result CastFields Refusal). before.refused || (is_err r || false)) (sym is);
         kept_are = subst (λ (r : Result CastFields Refusal). IsKept size (accepted_after accepted r) new.kept) (sym is)
             (subst (λ (g : Group). IsKept size accepted g.kept) (sym same) kept);
       };
