@@ -20,3 +20,6 @@ pub mod Copies
 pub mod Gaps
 pub mod GapsLater
 pub mod RisingByCasts
+pub mod Delivering
+pub mod Happening
+pub mod Queueing

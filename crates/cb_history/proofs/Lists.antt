@@ -61,7 +61,7 @@ flipped m n = elim (cases_eq m n) [
   | inr ne ↦ ne_eqb m n ne ∙ sym (ne_eqb n m (λ e. ne (sym e)))
 ]
 
-not_among_more : (ms : List Carried) (m x : Carried) → is_among ms x ≡ false → (eqb m.sender x.sender && eqb m.number x.number) ≡ false → is_among (ms ++ m ∷ []) x ≡ false
+pub not_among_more : (ms : List Carried) (m x : Carried) → is_among ms x ≡ false → (eqb m.sender x.sender && eqb m.number x.number) ≡ false → is_among (ms ++ m ∷ []) x ≡ false
 not_among_more [] m x none new = both_false (eqb m.sender x.sender && eqb m.number x.number) false new refl
 not_among_more (y ∷ ms) m x none new =
     let both = or_false (eqb y.sender x.sender && eqb y.number x.number) (is_among ms x) none in

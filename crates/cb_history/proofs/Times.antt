@@ -28,7 +28,7 @@ use Rattle.cb_history.proofs.Growth.{same_field}
 
 -- ---- what the view holds is expanded
 
-all_from_range : (p : ℕ → Bool) (a n : ℕ) → ((k : ℕ) → a ≤ k → k < a + n → p k ≡ true) → list_all p (range_with_len a n) ≡ true
+pub all_from_range : (p : ℕ → Bool) (a n : ℕ) → ((k : ℕ) → a ≤ k → k < a + n → p k ≡ true) → list_all p (range_with_len a n) ≡ true
 all_from_range p a zero each = refl
 all_from_range p a (suc n) each = rw (each a (omega arith) (omega arith), all_from_range p (a + 1) n (λ k low high. each k (omega arith) (omega arith))) refl
 
@@ -57,7 +57,7 @@ names_last (x ∷ ms) m differ =
     last_differs [] m x h = (or_false (eqb m.sender x.sender && eqb m.number x.number) false h).0
     last_differs (y ∷ ms) m x h = last_differs ms m x (or_false (eqb y.sender x.sender && eqb y.number x.number) (is_among (ms ++ m ∷ []) x) h).1
 
-last_is_in : (ms : List Carried) (m : Carried) → IsIn m (ms ++ m ∷ [])
+pub last_is_in : (ms : List Carried) (m : Carried) → IsIn m (ms ++ m ∷ [])
 last_is_in [] m = inl refl
 last_is_in (x ∷ ms) m = inr (last_is_in ms m)
 
@@ -237,7 +237,7 @@ tells seat facts c k member legal few lt =
           rw (ne_eqb k seat.me ne) (omega (arith, sum, upto, small, few))
     ]
 
-same_over_range : (f g : ℕ → ℕ) (a n : ℕ) → ((k : ℕ) → k < a + n → f k ≡ g k) → map f (range_with_len a n) ≡ map g (range_with_len a n)
+pub same_over_range : (f g : ℕ → ℕ) (a n : ℕ) → ((k : ℕ) → k < a + n → f k ≡ g k) → map f (range_with_len a n) ≡ map g (range_with_len a n)
 same_over_range f g a zero same = refl
 same_over_range f g a (suc n) same =
     ap (λ (x : ℕ). x ∷ map f (range_with_len (a + 1) n)) (same a (omega arith)) ∙ ap (λ (xs : List ℕ). g a ∷ xs) (same_over_range f g (a + 1) n (λ k lt. same k (omega arith)))
@@ -266,11 +266,11 @@ own_casts_tell_the_view seat facts more c are =
 abbrev Reached : ℕ → List CastFields → List Carried → Type 0
 Reached size casts seen = (m : Carried) → IsIn m seen → (k : ℕ) → k < size → expanded_field casts m.sender m.number k ≤ count seen k
 
-pick_true : (b x y : Bool) → b ≡ true → cond b x y ≡ true → x ≡ true
+pub pick_true : (b x y : Bool) → b ≡ true → cond b x y ≡ true → x ≡ true
 pick_true true x y e h = h
 pick_true false x y e h = absurd cc
 
-pick_false : (b x y : Bool) → b ≡ false → cond b x y ≡ true → y ≡ true
+pub pick_false : (b x y : Bool) → b ≡ false → cond b x y ≡ true → y ≡ true
 pick_false true x y e h = absurd cc
 pick_false false x y e h = h
 

@@ -14,3 +14,6 @@ pub mod KnowledgeLaws
 pub mod TimeLaws
 pub mod GapLaws
 pub mod HistoryLaws
+pub mod DeliveryLaws
+pub mod EventLaws
+pub mod QueueLaws

@@ -1,15 +1,21 @@
 //! What the definitions of one member imply, as contracts of functions that do nothing: a file for each subject.
 
+mod deliveries;
+mod events;
 mod gaps;
 mod histories;
 mod knowledge;
 mod names;
+mod queue;
 mod times;
 mod view;
 
+pub use deliveries::{deliveries_come_one_by_one, readiness_is_the_delay_rule};
+pub use events::events_with_one_more_fact;
 pub use gaps::missing_numbers;
 pub use histories::{calls_keep_histories_legal, histories_say_facts, prefixes_are_legal};
 pub use knowledge::knowledge_grows;
 pub use names::names_and_order;
+pub use queue::queue_releases_the_next_delivery;
 pub use times::times_of_messages;
 pub use view::view_with_one_more_fact;
