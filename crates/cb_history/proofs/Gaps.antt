@@ -29,12 +29,12 @@ filtered_has p (x ∷ xs) n passes h =
     (λ yes. elim h [ inl same ↦ inl same | inr later ↦ inr (filtered_has p xs n passes later) ])
     (λ no. elim h [ inl same ↦ absurd (let q : p x ≡ true = ap p same ∙ passes in cc) | inr later ↦ filtered_has p xs n passes later ])
 
-has_range : (a len n : ℕ) → Has (range_with_len a len) n → (a ≤ n) × (n < a + len)
+pub has_range : (a len n : ℕ) → Has (range_with_len a len) n → (a ≤ n) × (n < a + len)
 has_range a zero n h = absurd h
 has_range a (suc len) n (inl same) = (omega (arith, same), omega (arith, same))
 has_range a (suc len) n (inr later) = let r = has_range (a + 1) len n later in (omega (arith, r.0), omega (arith, r.1))
 
-range_has : (a len n : ℕ) → a ≤ n → n < a + len → Has (range_with_len a len) n
+pub range_has : (a len n : ℕ) → a ≤ n → n < a + len → Has (range_with_len a len) n
 range_has a zero n low high = absurd (omega (arith, low, high))
 range_has a (suc len) n low high =
     elim (eq-or-lt_of_le low) [

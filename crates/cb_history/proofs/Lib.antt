@@ -23,3 +23,4 @@ pub mod RisingByCasts
 pub mod Delivering
 pub mod Happening
 pub mod Queueing
+pub mod Runs

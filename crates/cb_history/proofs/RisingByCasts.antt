@@ -25,7 +25,7 @@ use Rattle.cb_history.proofs.GapsLater.{there_below}
 
 -- ---- the greatest of some values
 
-one_at_most : (p : Carried → Bool) (g : Carried → ℕ) (ms : List Carried) (m : Carried) → IsIn m ms → p m ≡ true → g m ≤ greatest_of (map g (filter p ms))
+pub one_at_most : (p : Carried → Bool) (g : Carried → ℕ) (ms : List Carried) (m : Carried) → IsIn m ms → p m ≡ true → g m ≤ greatest_of (map g (filter p ms))
 one_at_most p g [] m there passes = absurd there
 one_at_most p g (x ∷ ms) m (inl same) passes =
     cond_both (p x) (x ∷ filter p ms) (filter p ms) (λ (xs : List Carried). g m ≤ greatest_of (map g xs))

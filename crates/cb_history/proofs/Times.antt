@@ -32,7 +32,7 @@ pub all_from_range : (p : ℕ → Bool) (a n : ℕ) → ((k : ℕ) → a ≤ k �
 all_from_range p a zero each = refl
 all_from_range p a (suc n) each = rw (each a (omega arith) (omega arith), all_from_range p (a + 1) n (λ k low high. each k (omega arith) (omega arith))) refl
 
-seen_is_there : (seat : Seat) (casts : List CastFields) (seen : List Carried) (own : List CastFields) (sender number : ℕ) → Stands seat casts seen own → 1 ≤ number → number ≤ count seen sender → is_there casts sender number ≡ true
+pub seen_is_there : (seat : Seat) (casts : List CastFields) (seen : List Carried) (own : List CastFields) (sender number : ℕ) → Stands seat casts seen own → 1 ≤ number → number ≤ count seen sender → is_there casts sender number ≡ true
 seen_is_there seat casts seen own sender number s low high =
     let name : Carried = record { sender = sender; number = number; payload = [] } in
     let among : is_among seen name ≡ true = among_by_order [] seen name s.order (omega (arith, low)) (omega (arith, high)) in

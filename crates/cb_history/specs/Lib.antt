@@ -17,3 +17,4 @@ pub mod HistoryLaws
 pub mod DeliveryLaws
 pub mod EventLaws
 pub mod QueueLaws
+pub mod ExpansionLaws
