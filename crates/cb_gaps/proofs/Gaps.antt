@@ -21,14 +21,14 @@ record AreGaps (numbers : ℕ → Type 0) (before : ℕ) (ranges : List Range) :
   are : AreRangesOf numbers ranges
   later : All (λ r. before < r.first) ranges
 
-any_cons : (P : Range → Type 0) (r : Range) (ranges : List Range) → Any P ranges → Any P (r ∷ ranges)
+pub any_cons : (P : Range → Type 0) (r : Range) (ranges : List Range) → Any P ranges → Any P (r ∷ ranges)
 any_cons P r ranges (k, x, below, at, holds) = (suc k, x, omega arith, at, holds)
 
-any_cases : (P : Range → Type 0) (r : Range) (ranges : List Range) → Any P (r ∷ ranges) → P r ⊎ Any P ranges
+pub any_cases : (P : Range → Type 0) (r : Range) (ranges : List Range) → Any P (r ∷ ranges) → P r ⊎ Any P ranges
 any_cases P r ranges (zero, x, below, at, holds) = inl (subst P (sym at) holds)
 any_cases P r ranges (suc k, x, below, at, holds) = inr (k, x, omega arith, at, holds)
 
-at_front : (P : Range → Type 0) (r : Range) (ranges : List Range) → P r → Any P (r ∷ ranges)
+pub at_front : (P : Range → Type 0) (r : Range) (ranges : List Range) → P r → Any P (r ∷ ranges)
 at_front P r ranges holds = (0, r, omega arith, refl, holds)
 
 ltb-less : (a b : ℕ) → ltb a b ≡ true → a < b
@@ -87,7 +87,7 @@ gap_in_front numbers rest before end middle ranges gaps order below split in_gap
           }
     ] refl
 
-none_in : (P : Range → Type 0) → Any P [] → ⊥
+pub none_in : (P : Range → Type 0) → Any P [] → ⊥
 none_in P (k, x, below, at, holds) = omega (arith, below)
 
 no_gaps : (middle : ℕ) → AreGaps (λ _. ⊥) middle []

@@ -1,5 +1,5 @@
 -- Sets of numbers as ranges.
-use Rattle.std.specs.Prelude.{ℕ, ◌+◌, ◌≤◌, ◌↔◌, nat_lt, if◌then◌else◌, List, [], ◌∷◌, Any, All, AllPairs}
+use Rattle.std.specs.Prelude.{◌≡◌, ℕ, ◌+◌, ◌≤◌, ◌↔◌, nat_lt, if◌then◌else◌, List, [], ◌∷◌, Any, All, AllPairs}
 use Rattle.cb_frames.specs.declared.frame.Range.{Range}
 
 -- the number is one of the range, both ends of which are in it
@@ -12,6 +12,14 @@ pub record AreRangesOf (numbers : ℕ → Type 0) (ranges : List Range) : Type 0
   pub exactly : (number : ℕ) → Any (IsWithin number) ranges ↔ numbers number
   pub filled : All (λ range. range.first ≤ range.last) ranges
   pub apart : AllPairs (λ earlier later. earlier.last + 2 ≤ later.first) ranges
+
+-- the number lies in one of these ranges
+abbrev pub IsInSome : List Range → ℕ → Type 0
+IsInSome ranges number = Any (IsWithin number) ranges
+
+-- One set has one list of ranges: where each of two lists is the ranges of the other's numbers, they are the same.
+abbrev pub RangesAreOneList : Type 0
+RangesAreOneList = (ranges others : List Range) → AreRangesOf (IsInSome others) ranges → AreRangesOf (IsInSome ranges) others → ranges ≡ others
 
 -- the numbers above `before`, up to `last`, as one range or none
 abbrev pub gap_between : ℕ → ℕ → List Range

@@ -6,7 +6,9 @@
 #![tactic(auto)]
 
 mod buffer;
+mod laws;
 mod request;
 
 pub use buffer::{Admission, Reorder};
+pub use laws::ranges_are_one_list;
 pub use request::request_of;
