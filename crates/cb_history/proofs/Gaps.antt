@@ -1,13 +1,17 @@
 -- What is missing, number by number and as ranges.
-use Rattle.std.proofs.Common.{◌≡◌, ◌≢◌, ℕ, zero, suc, ◌+◌, ◌-◌, ◌<◌, ◌≤◌, Bool, true, false, not, eqb, List, [], ◌∷◌, min, refl, sym, ap, ◌∙◌, arith, inl, inr}
+use Rattle.std.proofs.Common.{◌≡◌, ◌≢◌, ℕ, zero, suc, ◌+◌, ◌-◌, ◌<◌, ◌≤◌, Bool, true, false, not, eqb, List, [], ◌∷◌, min, refl, sym, ap, ◌∙◌, arith, inl, inr, ◌⊎◌, All, Any, AllPairs}
 use Rattle.std.specs.List.{filter, range_with_len}
 use Rattle.std.proofs.Math.Nat.{eq-or-lt_of_le}
 use Rattle.std.proofs.lemmas.Bool.{cond_both, eqb-true, eqb-false}
+use Rattle.std.proofs.lemmas.List.Elements.{All-nil, All-cons, All-weaker}
+use Rattle.std.proofs.lemmas.List.Kept.{AllPairs-cons}
 use Rattle.cb_frames.specs.declared.frame.Range.{Range}
 use Rattle.cb_history.specs.Facts.{casts_in, is_there, numbers_between}
 use Rattle.cb_history.specs.View.{count, view}
 use Rattle.cb_history.specs.Known.{known, expanded_count, missing, ranges_of, before_ranges}
-use Rattle.cb_history.specs.GapLaws.{Has, MissingIsExact, InSome, AreApart, RangesOfMissing}
+use Rattle.cb_gaps.specs.Ranges.{IsWithin}
+use Rattle.cb_gaps.proofs.Gaps.{any_cons, any_cases, at_front, none_in}
+use Rattle.cb_history.specs.GapLaws.{Has, MissingIsExact, RangesOfMissing}
 use Rattle.cb_history.proofs.Views.{not_true}
 
 -- ---- numbers that pass a test
@@ -90,12 +94,23 @@ rise_filter p low (n ∷ ns) r =
     (λ yes. (first, rise_filter p (n + 1) ns r.1))
     (λ no. rise_lower low (n + 1) (filter p ns) (omega (arith, first)) (rise_filter p (n + 1) ns r.1))
 
+-- a number lies in one of these ranges
+abbrev InSome : List Range → ℕ → Type 0
+InSome [] n = ⊥
+InSome (r ∷ ranges) n = IsWithin n r ⊎ InSome ranges n
+
+-- no range is empty, and between two some number is left out
+abbrev AreApart : List Range → Type 0
+AreApart [] = Unit {0}
+AreApart (r ∷ []) = r.first ≤ r.last
+AreApart (r ∷ s ∷ ranges) = (r.first ≤ r.last) × (r.last + 2 ≤ s.first) × AreApart (s ∷ ranges)
+
 abbrev FirstFrom : ℕ → List Range → Type 0
 FirstFrom low [] = Unit {0}
 FirstFrom low (r ∷ ranges) = low ≤ r.first
 
 -- what is so of the ranges of numbers that rise from `low` on
-record AreRangesOf (low : ℕ) (ns : List ℕ) (ranges : List Range) : Type 0 where
+record AreRangesFrom (low : ℕ) (ns : List ℕ) (ranges : List Range) : Type 0 where
   same : (n : ℕ) → InSome ranges n → Has ns n
   all : (n : ℕ) → Has ns n → InSome ranges n
   apart : AreApart ranges
@@ -109,7 +124,7 @@ widened : (n : ℕ) (r : Range) (ranges : List Range) → n ≤ r.first → AreA
 widened n r [] le a = omega (arith, le, a)
 widened n r (s ∷ ranges) le a = (let filled = a.0 in omega (arith, le, filled), a.1, a.2)
 
-alone : (low n : ℕ) (ns : List ℕ) → low ≤ n → AreRangesOf (n + 1) ns [] → AreRangesOf low (n ∷ ns) (record { first = n; last = n } ∷ [])
+alone : (low n : ℕ) (ns : List ℕ) → low ≤ n → AreRangesFrom (n + 1) ns [] → AreRangesFrom low (n ∷ ns) (record { first = n; last = n } ∷ [])
 alone low n ns le x = record {
   same = λ k h. elim h [ inl in_it ↦ inl (let l = in_it.0 in let u = in_it.1 in omega (arith, l, u)) | inr other ↦ absurd other ];
   all = λ k h. elim h [ inl same ↦ inl (omega (arith, same), omega (arith, same)) | inr later ↦ absurd (x.all k later) ];
@@ -117,7 +132,7 @@ alone low n ns le x = record {
   from = le;
 }
 
-joined : (low n : ℕ) (ns : List ℕ) (r : Range) (ranges : List Range) → low ≤ n → r.first ≡ n + 1 → AreRangesOf (n + 1) ns (r ∷ ranges) → AreRangesOf low (n ∷ ns) (record { first = n; last = r.last } ∷ ranges)
+joined : (low n : ℕ) (ns : List ℕ) (r : Range) (ranges : List Range) → low ≤ n → r.first ≡ n + 1 → AreRangesFrom (n + 1) ns (r ∷ ranges) → AreRangesFrom low (n ∷ ns) (record { first = n; last = r.last } ∷ ranges)
 joined low n ns r ranges le touches x =
     let filled = first_filled r ranges x.apart in
     record {
@@ -136,7 +151,7 @@ joined low n ns r ranges le touches x =
       from = le;
     }
 
-beside : (low n : ℕ) (ns : List ℕ) (r : Range) (ranges : List Range) → low ≤ n → r.first ≢ n + 1 → AreRangesOf (n + 1) ns (r ∷ ranges) → AreRangesOf low (n ∷ ns) (record { first = n; last = n } ∷ r ∷ ranges)
+beside : (low n : ℕ) (ns : List ℕ) (r : Range) (ranges : List Range) → low ≤ n → r.first ≢ n + 1 → AreRangesFrom (n + 1) ns (r ∷ ranges) → AreRangesFrom low (n ∷ ns) (record { first = n; last = n } ∷ r ∷ ranges)
 beside low n ns r ranges le apart x =
     let from = x.from in
     record {
@@ -152,16 +167,47 @@ beside low n ns r ranges le apart x =
       from = le;
     }
 
-one_before : (low n : ℕ) (ns : List ℕ) (ranges : List Range) → low ≤ n → AreRangesOf (n + 1) ns ranges → AreRangesOf low (n ∷ ns) (before_ranges n ranges)
+one_before : (low n : ℕ) (ns : List ℕ) (ranges : List Range) → low ≤ n → AreRangesFrom (n + 1) ns ranges → AreRangesFrom low (n ∷ ns) (before_ranges n ranges)
 one_before low n ns [] le x = alone low n ns le x
 one_before low n ns (r ∷ ranges) le x =
-    cond_both (eqb r.first (n + 1)) (record { first = n; last = r.last } ∷ ranges) (record { first = n; last = n } ∷ r ∷ ranges) (AreRangesOf low (n ∷ ns))
+    cond_both (eqb r.first (n + 1)) (record { first = n; last = r.last } ∷ ranges) (record { first = n; last = n } ∷ r ∷ ranges) (AreRangesFrom low (n ∷ ns))
     (λ yes. joined low n ns r ranges le (eqb-true r.first (n + 1) yes) x)
     (λ no. beside low n ns r ranges le (eqb-false r.first (n + 1) no) x)
 
-all_ranges : (low : ℕ) (ns : List ℕ) → RiseFrom low ns → AreRangesOf low ns (ranges_of ns)
+all_ranges : (low : ℕ) (ns : List ℕ) → RiseFrom low ns → AreRangesFrom low ns (ranges_of ns)
 all_ranges low [] r = record { same = λ n h. h; all = λ n h. h; apart = tt; from = tt }
 all_ranges low (n ∷ ns) r = one_before low n ns (ranges_of ns) r.0 (all_ranges (n + 1) ns r.1)
+
+-- ---- the same in the words of ranges
+
+some_any : (ranges : List Range) (n : ℕ) → InSome ranges n → Any (IsWithin n) ranges
+some_any [] n h = absurd h
+some_any (r ∷ ranges) n (inl within) = at_front (IsWithin n) r ranges within
+some_any (r ∷ ranges) n (inr later) = any_cons (IsWithin n) r ranges (some_any ranges n later)
+
+any_some : (ranges : List Range) (n : ℕ) → Any (IsWithin n) ranges → InSome ranges n
+any_some [] n h = none_in (IsWithin n) h
+any_some (r ∷ ranges) n h = elim (any_cases (IsWithin n) r ranges h) [ inl within ↦ inl within | inr later ↦ inr (any_some ranges n later) ]
+
+tail_apart : (r : Range) (ranges : List Range) → AreApart (r ∷ ranges) → AreApart ranges
+tail_apart r [] a = tt
+tail_apart r (s ∷ ranges) a = a.2
+
+all_filled : (ranges : List Range) → AreApart ranges → All (λ r. r.first ≤ r.last) ranges
+all_filled [] a = All-nil (λ (r : Range). r.first ≤ r.last)
+all_filled (r ∷ ranges) a = All-cons (λ (x : Range). x.first ≤ x.last) r ranges (first_filled r ranges a) (all_filled ranges (tail_apart r ranges a))
+
+all_beyond : (r : Range) (ranges : List Range) → AreApart (r ∷ ranges) → All (λ s. r.last + 2 ≤ s.first) ranges
+all_beyond r [] a = All-nil (λ (s : Range). r.last + 2 ≤ s.first)
+all_beyond r (s ∷ ranges) a =
+    let gap = a.1 in
+    let filled = first_filled s ranges a.2 in
+    All-cons (λ (x : Range). r.last + 2 ≤ x.first) s ranges gap
+    (All-weaker (λ (x : Range). s.last + 2 ≤ x.first) (λ (x : Range). r.last + 2 ≤ x.first) (λ x h. omega (arith, gap, filled, h)) ranges (all_beyond s ranges a.2))
+
+all_apart : (ranges : List Range) → AreApart ranges → AllPairs (λ earlier later. earlier.last + 2 ≤ later.first) ranges
+all_apart [] a = λ i j d order below. absurd (omega (arith, below))
+all_apart (r ∷ ranges) a = AllPairs-cons (λ (x y : Range). x.last + 2 ≤ y.first) r ranges (all_beyond r ranges a) (all_apart ranges (tail_apart r ranges a))
 
 pub ranges_of_missing : RangesOfMissing
 ranges_of_missing seat facts i =
@@ -169,4 +215,9 @@ ranges_of_missing seat facts i =
     let high = min (known facts i) (count (view seat.group.size facts) i + seat.group.window) in
     let rise = rise_filter (λ k. not (is_there (casts_in facts) i k)) (low + 1) (numbers_between low high) (rise_range (low + 1) (high - low)) in
     let are = all_ranges (low + 1) (missing seat facts i) rise in
-    (λ n. (are.same n, are.all n), are.apart)
+    let ranges = ranges_of (missing seat facts i) in
+    record {
+      exactly = λ n. ((λ h. (missing_is_exact seat facts i n).0 (are.same n (any_some ranges n h))), (λ h. some_any ranges n (are.all n ((missing_is_exact seat facts i n).1 h))));
+      filled = all_filled ranges are.apart;
+      apart = all_apart ranges are.apart;
+    }

@@ -1,6 +1,6 @@
 -- What is missing of a sender, and what one more fact does to it.
 use Rattle.std.specs.Prelude.{◌≡◌, ℕ, ◌+◌, ◌<◌, ◌≤◌, ◌↔◌, false, List, [], ◌∷◌, ◌++◌, ◌⊎◌}
-use Rattle.cb_frames.specs.declared.frame.Range.{Range}
+use Rattle.cb_gaps.specs.Ranges.{AreRangesOf}
 use Rattle.cb_history.specs.Group.{Seat}
 use Rattle.cb_history.specs.Facts.{Fact, casts_in, is_there}
 use Rattle.cb_history.specs.Known.{known, expanded_count, missing, ranges_of}
@@ -30,18 +30,6 @@ abbrev pub MissingComes : Type 0
 MissingComes = (seat : Seat) (facts : List Fact) (f : Fact) (i n : ℕ) → Has (missing seat (facts ++ f ∷ []) i) n
     → Has (missing seat facts i) n ⊎ (known facts i < n) ⊎ (delivered seat facts i + seat.group.window < n)
 
--- a number lies in one of these ranges
-abbrev pub InSome : List Range → ℕ → Type 0
-InSome [] n = ⊥
-InSome (r ∷ ranges) n = ((r.first ≤ n) × (n ≤ r.last)) ⊎ InSome ranges n
-
--- no range is empty, and between two some number is left out
-abbrev pub AreApart : List Range → Type 0
-AreApart [] = Unit {0}
-AreApart (r ∷ []) = r.first ≤ r.last
-AreApart (r ∷ s ∷ ranges) = (r.first ≤ r.last) × (r.last + 2 ≤ s.first) × AreApart (s ∷ ranges)
-
--- the ranges have just the missing numbers
+-- as ranges they are the ranges of these numbers
 abbrev pub RangesOfMissing : Type 0
-RangesOfMissing = (seat : Seat) (facts : List Fact) (i : ℕ)
-    → ((n : ℕ) → InSome (ranges_of (missing seat facts i)) n ↔ Has (missing seat facts i) n) × AreApart (ranges_of (missing seat facts i))
+RangesOfMissing = (seat : Seat) (facts : List Fact) (i : ℕ) → AreRangesOf (IsMissing seat facts i) (ranges_of (missing seat facts i))

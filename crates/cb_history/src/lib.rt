@@ -4,7 +4,8 @@
 //! and on nothing else. This crate says in `specs/` what that answer is, in the terms of the protocol and from the entries' bytes, and
 //! which histories are legal; its laws say what one more entry does to each quantity. `GroupMember` is what every member does.
 //!
-//! Stands on `cb_frames` for the bytes, on `cb_times` and `cb_diffs` for the times, and on `cb_delay` for messages and events.
+//! Stands on `cb_frames` for the bytes, on `cb_times` and `cb_diffs` for the times, on `cb_delay` for messages and events, and on
+//! `cb_gaps` for the words in which its laws speak of ranges and of reorder buffers.
 #![tactic(auto)]
 
 mod answer;

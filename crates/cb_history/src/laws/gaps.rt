@@ -4,7 +4,7 @@ ghost use Rattle.cb_history.specs.GapLaws.{MissingIsExact, MissingStays, Missing
 
 /// What is missing of a sender: the numbers above what is expanded, heard of and within the window, whose casts are not there. One
 /// more fact takes none away but by its cast, and adds none but what was not heard of or beyond the window. As ranges they are the
-/// same numbers, in rising order, and neither touch nor overlap.
+/// ranges of these numbers, in the words of `cb_gaps`.
 pub fn missing_numbers()
     ensures exact { MissingIsExact }
     ensures stays { MissingStays }
