@@ -106,7 +106,7 @@ rule_of_times size casts seen m member =
 
 -- ---- the next delivery
 
-filtered_in : {A : Type 0} (p : A → Bool) (xs : List A) (a : A) → p a ≡ true → IsIn a xs → IsIn a (filter p xs)
+pub filtered_in : {A : Type 0} (p : A → Bool) (xs : List A) (a : A) → p a ≡ true → IsIn a xs → IsIn a (filter p xs)
 filtered_in p [] a passes h = absurd h
 filtered_in {A} p (x ∷ xs) a passes (inl same) =
     cond_both (p x) (x ∷ filter p xs) (filter p xs) (λ (ys : List A). IsIn a ys) (λ yes. inl same) (λ no. absurd (let yes : p x ≡ true = ap p (sym same) ∙ passes in cc))

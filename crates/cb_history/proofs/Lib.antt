@@ -24,3 +24,4 @@ pub mod Delivering
 pub mod Happening
 pub mod Queueing
 pub mod Runs
+pub mod Keeping

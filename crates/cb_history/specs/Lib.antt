@@ -18,3 +18,4 @@ pub mod DeliveryLaws
 pub mod EventLaws
 pub mod QueueLaws
 pub mod ExpansionLaws
+pub mod StabilityLaws

@@ -8,6 +8,7 @@ mod histories;
 mod knowledge;
 mod names;
 mod queue;
+mod stability;
 mod times;
 mod view;
 
@@ -19,5 +20,6 @@ pub use histories::{calls_keep_histories_legal, histories_say_facts, prefixes_ar
 pub use knowledge::knowledge_grows;
 pub use names::names_and_order;
 pub use queue::queue_releases_the_next_delivery;
+pub use stability::{acknowledgements_give_what_is_stable, windows_keep_own_casts};
 pub use times::times_of_messages;
 pub use view::view_with_one_more_fact;

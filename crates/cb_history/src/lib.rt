@@ -5,7 +5,7 @@
 //! which histories are legal; its laws say what one more entry does to each quantity. `GroupMember` is what every member does.
 //!
 //! Stands on `cb_frames` for the bytes, on `cb_times` and `cb_diffs` for the times, on `cb_delay` for messages and events, and on
-//! `cb_gaps` for the words in which its laws speak of ranges and of reorder buffers.
+//! `cb_gaps` and `cb_stability` for the words in which its laws speak of ranges, reorder buffers, acknowledgements and sent windows.
 #![tactic(auto)]
 
 mod answer;
@@ -21,7 +21,13 @@ pub use answer::{
 pub use cb_delay::{Event, Message, Name};
 pub use group::{BadGroup, Group, Seat};
 pub use history::{Entry, History, LONGEST_HISTORY};
-pub use laws::{calls_keep_histories_legal, deliveries_come_one_by_one, events_with_one_more_fact, histories_say_facts, knowledge_grows, missing_numbers, names_and_order, prefixes_are_legal, queue_releases_the_next_delivery, readiness_is_the_delay_rule, times_of_messages, view_with_one_more_fact, what_is_expanded};
+pub use laws::{
+    acknowledgements_give_what_is_stable, calls_keep_histories_legal, deliveries_come_one_by_one,
+    events_with_one_more_fact, histories_say_facts, knowledge_grows, missing_numbers,
+    names_and_order, prefixes_are_legal, queue_releases_the_next_delivery,
+    readiness_is_the_delay_rule, times_of_messages, view_with_one_more_fact, what_is_expanded,
+    windows_keep_own_casts,
+};
 pub use member::GroupMember;
 
 #[cfg(test)]
