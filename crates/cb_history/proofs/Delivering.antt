@@ -1,10 +1,11 @@
 -- Readiness is the delay rule, and the deliveries one after another.
-use Rattle.std.proofs.Common.{◌≡◌, ◌≢◌, ℕ, zero, suc, ◌+◌, ◌<◌, ◌≤◌, ◌↔◌, Bool, true, false, not, ◌&&◌, cond, eqb, leb, List, [], ◌∷◌, ◌++◌, length, map, Option, Some, None, refl, sym, ap, subst, ◌∙◌, arith, inl, inr}
+use Rattle.std.proofs.Common.{◌≡◌, ◌≢◌, ℕ, zero, suc, ◌+◌, ◌<◌, ◌≤◌, ◌↔◌, Bool, true, false, not, ◌&&◌, cond, eqb, leb, List, [], ◌∷◌, ◌++◌, length, map, max, Option, Some, None, refl, sym, ap, subst, ◌∙◌, arith, inl, inr}
 use Rattle.std.specs.List.{filter, list_all, range_with_len}
 use Rattle.std.proofs.lemmas.Bool.{cases_eq, cases_lt, cond_both, eq-eqb, ne_eqb, eqb-true, leb-true, le-leb, lt-leb, false_from_ne_true}
-use Rattle.std.proofs.lemmas.List.{get_or_past}
+use Rattle.std.proofs.lemmas.List.{get_or_past, ext_get_or}
 use Rattle.std.proofs.lemmas.List.FromFn.{length-map-range_with_len, get_or-map-range_with_len}
 use Rattle.cb_times.specs.Order.{field}
+use Rattle.cb_times.specs.Time.{IsRaised}
 use Rattle.cb_frames.specs.Fields.{CastFields, Carried}
 use Rattle.cb_delay.specs.Rule.{IsReady}
 use Rattle.cb_diffs.specs.Expansion.{expanded_field, expanded_time}
@@ -14,9 +15,9 @@ use Rattle.cb_history.specs.View.{count, counts, expanded_in, is_expanded, is_am
 use Rattle.cb_history.specs.LegalFacts.{AreFactsOf}
 use Rattle.cb_history.specs.NameLaws.{NamesDiffer, InOrderAfter, IsOneOf}
 use Rattle.cb_history.specs.TimeLaws.{InTimeAfter}
-use Rattle.cb_history.specs.DeliveryLaws.{MeetsRule, ReadinessIsTheDelayRule, RuleOfTimes, NothingIsNext, IsReadyOfSmallestSender, NextIsSmallestReady, AreOfMembers, IsOnTheWay, SmallestReadyIsNext, ViewsAreOnTheWay, DeliveryLeavesOnTheWay, DrainGoesOn, DrainEnds, MeetRuleAfter, ViewMeetsTheRule, ViewIsOfMembers}
+use Rattle.cb_history.specs.DeliveryLaws.{MeetsRule, ReadinessIsTheDelayRule, RuleOfTimes, NothingIsNext, IsReadyOfSmallestSender, NextIsSmallestReady, AreOfMembers, IsOnTheWay, SmallestReadyIsNext, ViewsAreOnTheWay, DeliveryLeavesOnTheWay, RaisingCountsTheDelivery, DrainGoesOn, DrainEnds, MeetRuleAfter, ViewMeetsTheRule, ViewIsOfMembers}
 use Rattle.cb_history.proofs.Views.{IsIn, next_is, next_is_the_only_candidate, ready_is_new, expanded_is_there, test_true, all_in_range, some_same, left, left_most, left_shrinks}
-use Rattle.cb_history.proofs.Lists.{count_other, in_is_among, in_push, order_push}
+use Rattle.cb_history.proofs.Lists.{count_own, count_other, in_is_among, in_push, order_push}
 use Rattle.cb_history.proofs.Names.{all_stand, one_of_is_in, in_is_one_of, view_is_in_order}
 use Rattle.cb_history.proofs.Times.{all_from_range, pick_true, pick_false}
 use Rattle.cb_history.proofs.InTime.{view_is_in_time}
@@ -244,6 +245,29 @@ delivery_leaves_on_the_way size casts seen m way h =
         | inr same ↦ subst (λ (c : Carried). IsOneOf c (messages_in casts)) (sym same) in_casts
       ];
     }
+
+pub raising_counts_the_delivery : RaisingCountsTheDelivery
+raising_counts_the_delivery size casts seen m raised member rule is =
+    ext_get_or 0 raised (counts size (seen ++ m ∷ [])) (long ∙ sym (length-map-range_with_len (count (seen ++ m ∷ [])) 0 size)) (λ k lt.
+    let small : k < size = omega (arith, lt, long) in
+    is.each k ∙ ap (λ (n : ℕ). max n (field (expanded_time size casts m.sender m.number) k)) (in_field size (count seen) k small)
+    ∙ greater k ∙ sym (in_field size (count (seen ++ m ∷ [])) k small))
+  where
+    long : length raised ≡ size
+    long = is.size ∙ length-map-range_with_len (count seen) 0 size
+
+    greater : (k : ℕ) → max (count seen k) (field (expanded_time size casts m.sender m.number) k) ≡ count (seen ++ m ∷ []) k
+    greater k = elim (cases_eq k m.sender) [
+      | inl e ↦
+          let next : field (expanded_time size casts m.sender m.number) k ≡ count seen k + 1 =
+          subst (λ (j : ℕ). field (expanded_time size casts m.sender m.number) j ≡ count seen j + 1) (sym e) rule.next in
+          let own = count_own seen m k (sym e) in
+          omega (arith, next, own)
+      | inr ne ↦
+          let less = rule.others k ne in
+          let other = count_other seen m k (λ e. ne (sym e)) in
+          omega (arith, less, other)
+    ]
 
 -- ---- a drain, step by step
 

@@ -1,6 +1,7 @@
 -- How the walk of a view and the delay rule agree, and what one delivery after another does.
 use Rattle.std.specs.Prelude.{◌≡◌, ℕ, ◌<◌, ◌≤◌, ◌↔◌, true, false, List, [], ◌∷◌, ◌++◌, Some, None}
 use Rattle.cb_times.specs.Order.{field}
+use Rattle.cb_times.specs.Time.{IsRaised}
 use Rattle.cb_frames.specs.Fields.{CastFields, Carried}
 use Rattle.cb_delay.specs.Rule.{IsReady}
 use Rattle.cb_diffs.specs.Expansion.{expanded_time}
@@ -78,6 +79,13 @@ abbrev pub DeliveryLeavesOnTheWay : Type 0
 DeliveryLeavesOnTheWay =
     (size : ℕ) (casts : List CastFields) (seen : List Carried) (m : Carried) → IsOnTheWay size casts seen
     → next_delivery size casts seen ≡ Some m → IsOnTheWay size casts (seen ++ m ∷ [])
+
+-- raising the time of what was seen to the time of a message that meets the rule counts just that message more
+abbrev pub RaisingCountsTheDelivery : Type 0
+RaisingCountsTheDelivery =
+    (size : ℕ) (casts : List CastFields) (seen : List Carried) (m : Carried) (raised : List ℕ) → m.sender < size
+    → MeetsRule size casts seen m → IsRaised (counts size seen) (expanded_time size casts m.sender m.number) raised
+    → raised ≡ counts size (seen ++ m ∷ [])
 
 -- ---- a drain, step by step
 

@@ -1,12 +1,14 @@
 //! Deliveries: the delay rule, and one after another.
 
-ghost use Rattle.cb_history.specs.DeliveryLaws.{ReadinessIsTheDelayRule, RuleOfTimes, ViewMeetsTheRule, ViewIsOfMembers, NothingIsNext, NextIsSmallestReady, SmallestReadyIsNext, ViewsAreOnTheWay, DeliveryLeavesOnTheWay, DrainGoesOn, DrainEnds};
+ghost use Rattle.cb_history.specs.DeliveryLaws.{ReadinessIsTheDelayRule, RuleOfTimes, RaisingCountsTheDelivery, ViewMeetsTheRule, ViewIsOfMembers, NothingIsNext, NextIsSmallestReady, SmallestReadyIsNext, ViewsAreOnTheWay, DeliveryLeavesOnTheWay, DrainGoesOn, DrainEnds};
 
-/// A message is ready in the walk exactly where it is not in the view and the delay rule lets it be delivered. Each message of a view
-/// meets the rule at the place where it stands, and is of a member of the group.
+/// A message is ready in the walk exactly where it is not in the view and the delay rule lets it be delivered; raising the time to its
+/// time then counts just that message more. Each message of a view meets the rule at the place where it stands, and is of a member of
+/// the group.
 pub fn readiness_is_the_delay_rule()
     ensures rule { ReadinessIsTheDelayRule }
     ensures times { RuleOfTimes }
+    ensures raises { RaisingCountsTheDelivery }
     ensures views { ViewMeetsTheRule }
     ensures members { ViewIsOfMembers }
 {}

@@ -1,4 +1,4 @@
-use Rattle.cb_history.proofs.Delivering.{readiness_is_the_delay_rule, rule_of_times, view_meets_the_rule, view_is_of_members}
+use Rattle.cb_history.proofs.Delivering.{readiness_is_the_delay_rule, rule_of_times, raising_counts_the_delivery, view_meets_the_rule, view_is_of_members}
 use Rattle.cb_history.proofs.laws.deliveries.readiness_is_the_delay_rule.Goals as goal
 
 pub returns-clause-rule : goal.returns-clause-rule
@@ -12,3 +12,6 @@ returns-clause-views c = view_meets_the_rule
 
 pub returns-clause-members : goal.returns-clause-members
 returns-clause-members c = view_is_of_members
+
+pub returns-clause-raises : goal.returns-clause-raises
+returns-clause-raises c = raising_counts_the_delivery
