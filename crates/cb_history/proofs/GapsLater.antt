@@ -24,7 +24,7 @@ number_below casts m i n false e expanded own low lacks =
     absurd (let there = ap (λ (k : ℕ). is_there casts k n) (sym own) ∙ there_below casts m n expanded low (ltb-false m.number n e) in cc)
 
 -- what is not there is above what is expanded
-lacking_is_above : (casts : List CastFields) (i n : ℕ) → 1 ≤ n → is_there casts i n ≡ false → expanded_count casts i < n
+pub lacking_is_above : (casts : List CastFields) (i n : ℕ) → 1 ≤ n → is_there casts i n ≡ false → expanded_count casts i < n
 lacking_is_above casts i n low lacks =
     let most = all_at_most (λ m. eqb m.sender i) (λ m. m.number) (n - 1) (expanded_in casts)
     (λ m there own. let below = number_below casts m i n (ltb m.number n) refl (filter_in (is_expanded casts) (messages_in casts) m there).0 (eqb-true m.sender i own) low lacks in omega (arith, below)) in

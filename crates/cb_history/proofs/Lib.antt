@@ -25,3 +25,4 @@ pub mod Happening
 pub mod Queueing
 pub mod Runs
 pub mod Keeping
+pub mod Buffers

@@ -19,3 +19,4 @@ pub mod EventLaws
 pub mod QueueLaws
 pub mod ExpansionLaws
 pub mod StabilityLaws
+pub mod BufferLaws

@@ -2,6 +2,7 @@
 
 mod deliveries;
 mod events;
+mod buffers;
 mod expansion;
 mod gaps;
 mod histories;
@@ -14,6 +15,7 @@ mod view;
 
 pub use deliveries::{deliveries_come_one_by_one, readiness_is_the_delay_rule};
 pub use events::events_with_one_more_fact;
+pub use buffers::reorder_buffers_hold_what_waits;
 pub use expansion::what_is_expanded;
 pub use gaps::missing_numbers;
 pub use histories::{calls_keep_histories_legal, histories_say_facts, prefixes_are_legal};

@@ -1,0 +1,254 @@
+-- A reorder buffer holds what waits.
+use Rattle.std.proofs.Common.{◌≡◌, ◌≢◌, ℕ, ◌+◌, ◌≤◌, true, false, cond, ◌&&◌, eqb, List, [], ◌∷◌, ◌++◌, Some, None, refl, sym, ap, subst, ◌∙◌, arith, inl, inr, ◌⊎◌, ◌↔◌}
+use Rattle.std.specs.Prelude.{Option, IsSome, is_some}
+use Rattle.std.specs.Ordering.{nat_cmp, eq_by_cmp}
+use Rattle.std.specs.Cmp.{nat_cmp_total}
+use Rattle.std.specs.FinMap as map
+use Rattle.std.proofs.lemmas.Bool.{cases_eq, cases_lt, eq-eqb, eqb-true, or_cases, and_parts, false_from_ne_true, both_ways}
+use Rattle.cb_times.proofs.Entries.{equal_numbers, other_numbers, value_of}
+use Rattle.cb_frames.specs.Fields.{CastFields}
+use Rattle.cb_gaps.specs.Buffer.{Buffer, IsLacking, IsNext}
+use Rattle.cb_gaps.proofs.OneList.{one_list}
+use Rattle.cb_history.specs.Facts.{casts_in, is_there}
+use Rattle.cb_history.specs.Known.{expanded_count, missing, ranges_of}
+use Rattle.cb_history.specs.GapLaws.{IsMissing}
+use Rattle.cb_history.specs.BufferLaws.{IsCastOf, IsWaiting, HoldsWhatWaits, NewBufferHolds, KeptCastWaits, OthersDoNotWait, TakenCastIsThere, AllIsTaken, ReceivedIsThere, MissingIsLacked, RangesAreAskedFor}
+use Rattle.cb_history.proofs.Views.{IsIn, or_left, or_right}
+use Rattle.cb_history.proofs.Lists.{in_push, in_front, in_back}
+use Rattle.cb_history.proofs.Gaps.{ranges_of_missing}
+use Rattle.cb_history.proofs.GapsLater.{lacking_is_above}
+use Rattle.cb_history.proofs.Runs.{expanded_are_there, run_at_most, run_is_expanded, others_expand_nothing, count_rises}
+
+-- ---- casts that are there
+
+pub cast_of_is_in : (c : CastFields) (casts : List CastFields) → IsCastOf c casts → IsIn c casts
+cast_of_is_in c [] h = h
+cast_of_is_in c (d ∷ casts) (inl same) = inl same
+cast_of_is_in c (d ∷ casts) (inr later) = inr (cast_of_is_in c casts later)
+
+pub in_is_cast_of : (c : CastFields) (casts : List CastFields) → IsIn c casts → IsCastOf c casts
+in_is_cast_of c [] h = h
+in_is_cast_of c (d ∷ casts) (inl same) = inl same
+in_is_cast_of c (d ∷ casts) (inr later) = inr (in_is_cast_of c casts later)
+
+pub record HasCast (casts : List CastFields) (i n : ℕ) : Type 0 where
+  pub cast : CastFields
+  pub there : IsIn cast casts
+  pub sender_is : cast.sender ≡ i
+  pub number_is : cast.number ≡ n
+
+pub cast_there : (casts : List CastFields) (i n : ℕ) → is_there casts i n ≡ true → HasCast casts i n
+cast_there [] i n h = absurd cc
+cast_there (c ∷ casts) i n h = elim (or_cases (eqb c.sender i && eqb c.number n) (is_there casts i n) h) [
+  | inl here ↦ let both = and_parts (eqb c.sender i) (eqb c.number n) here in record { cast = c; there = inl refl; sender_is = eqb-true c.sender i both.0; number_is = eqb-true c.number n both.1 }
+  | inr later ↦ let found = cast_there casts i n later in record { cast = found.cast; there = inr found.there; sender_is = found.sender_is; number_is = found.number_is }
+]
+
+pub cast_is_there : (casts : List CastFields) (c : CastFields) (i n : ℕ) → IsIn c casts → c.sender ≡ i → c.number ≡ n → is_there casts i n ≡ true
+cast_is_there [] c i n there sender number = absurd there
+cast_is_there (d ∷ casts) c i n (inl same) sender number =
+    or_left (eqb d.sender i && eqb d.number n) (is_there casts i n)
+    (rw (eq-eqb d.sender i (ap (λ (x : CastFields). x.sender) (sym same) ∙ sender), eq-eqb d.number n (ap (λ (x : CastFields). x.number) (sym same) ∙ number)) refl)
+cast_is_there (d ∷ casts) c i n (inr later) sender number = or_right (eqb d.sender i && eqb d.number n) (is_there casts i n) (cast_is_there casts c i n later sender number)
+
+waiting_is_there : (casts : List CastFields) (i taken n : ℕ) (c : CastFields) → IsWaiting casts i taken n c → is_there casts i n ≡ true
+waiting_is_there casts i taken n c w = cast_is_there casts c i n (cast_of_is_in c casts w.there) w.sender_is w.number_is
+
+-- what waits still does with one more cast
+waits_on : (casts : List CastFields) (i taken n : ℕ) (c d : CastFields) → IsWaiting casts i taken n d → IsWaiting (casts ++ c ∷ []) i taken n d
+waits_on casts i taken n c d w = record {
+  there = in_is_cast_of d (casts ++ c ∷ []) (in_front d casts (c ∷ []) (cast_of_is_in d casts w.there));
+  sender_is = w.sender_is;
+  number_is = w.number_is;
+  not_taken = w.not_taken;
+}
+
+-- what waits with one more cast did before, or is this one
+waits_or_new : (casts : List CastFields) (i taken n : ℕ) (c d : CastFields) → IsWaiting (casts ++ c ∷ []) i taken n d → IsWaiting casts i taken n d ⊎ (d ≡ c)
+waits_or_new casts i taken n c d w = elim (in_push d c casts (cast_of_is_in d (casts ++ c ∷ []) w.there)) [
+  | inl old ↦ inl (record { there = in_is_cast_of d casts old; sender_is = w.sender_is; number_is = w.number_is; not_taken = w.not_taken })
+  | inr same ↦ inr same
+]
+
+-- ---- what it tells
+
+none_some : (o : Option CastFields) → o ≡ None → IsSome o → ⊥
+none_some o none some = both_ways (is_some o) (ap is_some none) some
+
+pub received_is_there : ReceivedIsThere
+received_is_there casts i number buffer h low = (
+  λ received. elim received [
+    | inl le ↦ let taken = h.taken in expanded_are_there casts i number low (omega (arith, le, taken))
+    | inr some ↦ let v = value_of (map.get buffer.kept number) some in waiting_is_there casts i buffer.taken number v.0 ((h.kept number v.0).0 v.1)
+  ],
+  λ there. elim (cases_lt buffer.taken number) [
+    | inr le ↦ inl le
+    | inl lt ↦
+        let c = cast_there casts i number there in
+        inr (ap is_some ((h.kept number c.cast).1 (record { there = in_is_cast_of c.cast casts c.there; sender_is = c.sender_is; number_is = c.number_is; not_taken = lt })))
+  ],
+)
+
+-- what it lacks is not there
+lacking_is_not_there : (casts : List CastFields) (i number : ℕ) (buffer : Buffer) → HoldsWhatWaits casts i buffer → IsLacking buffer number → is_there casts i number ≡ false
+lacking_is_not_there casts i number buffer h lacking = false_from_ne_true (is_there casts i number) (λ there.
+    let not_taken = lacking.not_taken in
+    elim ((received_is_there casts i number buffer h (omega (arith, not_taken))).1 there) [
+      | inl le ↦ omega (arith, le, not_taken)
+      | inr some ↦ none_some (map.get buffer.kept number) lacking.not_kept some
+    ])
+
+not_there_is_not_kept : (casts : List CastFields) (i number : ℕ) (buffer : Buffer) (o : Option CastFields) → HoldsWhatWaits casts i buffer → is_there casts i number ≡ false → map.get buffer.kept number ≡ o → o ≡ None
+not_there_is_not_kept casts i number buffer None h none is = refl
+not_there_is_not_kept casts i number buffer (Some c) h none is = absurd (both_ways (is_there casts i number) none (waiting_is_there casts i buffer.taken number c ((h.kept number c).0 is)))
+
+pub missing_is_lacked : MissingIsLacked
+missing_is_lacked seat facts i number buffer h window = (
+  λ m.
+      let not_taken = m.lacking.not_taken in
+      let in_window = m.in_window in
+      let none = lacking_is_not_there (casts_in facts) i number buffer h m.lacking in
+      record {
+        above = lacking_is_above (casts_in facts) i number (omega (arith, not_taken)) none;
+        heard_of = m.heard_of;
+        in_window = omega (arith, in_window, window);
+        not_there = none;
+      },
+  λ m.
+      let above = m.above in
+      let taken = h.taken in
+      let in_window = m.in_window in
+      record {
+        lacking = record { not_taken = omega (arith, above, taken); not_kept = not_there_is_not_kept (casts_in facts) i number buffer (map.get buffer.kept number) h m.not_there refl };
+        heard_of = m.heard_of;
+        in_window = omega (arith, in_window, window);
+      },
+)
+
+pub ranges_are_asked_for : RangesAreAskedFor
+ranges_are_asked_for seat facts i buffer ranges h window are =
+    one_list (IsMissing seat facts i) ranges (ranges_of (missing seat facts i)) (record {
+      exactly = λ n. (
+        (λ some. (missing_is_lacked seat facts i n buffer h window).0 ((are.exactly n).0 some)),
+        (λ m. (are.exactly n).1 ((missing_is_lacked seat facts i n buffer h window).1 m)),
+      );
+      filled = are.filled;
+      apart = are.apart;
+    }) (ranges_of_missing seat facts i)
+
+-- ---- what changes it
+
+pub new_buffer_holds : NewBufferHolds
+new_buffer_holds window i buffer new =
+    let none : (number : ℕ) → map.get buffer.kept number ≡ None = λ number. ap (λ (m : map.FinMap nat_cmp CastFields). map.get m number) new.none_kept ∙ map.get-empty nat_cmp number in
+    let taken = new.none_taken in
+    record {
+      taken = omega (arith, taken);
+      kept = λ number c. ((λ is. absurd (let e : None ≡ Some c = sym (none number) ∙ is in cc)), (λ w. absurd w.there));
+    }
+
+-- what the map has with one more cast, and with one taken out
+here_or_there : (a b : ℕ) (x y : Option CastFields) → a ≡ b → cond (eq_by_cmp nat_cmp a b) x y ≡ x
+here_or_there a b x y e = rw (equal_numbers a b e) refl
+
+there_or_here : (a b : ℕ) (x y : Option CastFields) → a ≢ b → cond (eq_by_cmp nat_cmp a b) x y ≡ y
+there_or_here a b x y ne = rw (other_numbers a b ne) refl
+
+some_cast : (c d : CastFields) → Some c ≡ Some d → c ≡ d
+some_cast c d e = cc
+
+module _ (casts : List CastFields) (i : ℕ) (c : CastFields) (old : Buffer) (h : HoldsWhatWaits casts i old) where
+  module _ (own : c.sender ≡ i) (lacking : IsLacking old c.number) where
+    with_cast : (number : ℕ) (d : CastFields) → (map.get (map.insert old.kept c.number c) number ≡ Some d) ↔ IsWaiting (casts ++ c ∷ []) i old.taken number d
+    with_cast number d = elim (cases_eq number c.number) [
+      | inl e ↦
+          let now : map.get (map.insert old.kept c.number c) number ≡ Some c = map.get-insert nat_cmp_total old.kept c.number c number ∙ here_or_there number c.number (Some c) (map.get old.kept number) e in (
+            λ is. subst (IsWaiting (casts ++ c ∷ []) i old.taken number) (some_cast c d (sym now ∙ is)) (record {
+              there = in_is_cast_of c (casts ++ c ∷ []) (in_back c casts (c ∷ []) (inl refl));
+              sender_is = own;
+              number_is = sym e;
+              not_taken = let above = lacking.not_taken in omega (arith, above, e);
+            }),
+            λ w. elim (waits_or_new casts i old.taken number c d w) [
+              | inl before ↦ absurd (let at : map.get old.kept c.number ≡ Some d = ap (map.get old.kept) (sym e) ∙ (h.kept number d).1 before in let none = lacking.not_kept in let both : None ≡ Some d = sym none ∙ at in cc)
+              | inr same ↦ now ∙ ap (λ (x : CastFields). Some x) (sym same)
+            ],
+          )
+      | inr ne ↦
+          let now : map.get (map.insert old.kept c.number c) number ≡ map.get old.kept number = map.get-insert nat_cmp_total old.kept c.number c number ∙ there_or_here number c.number (Some c) (map.get old.kept number) ne in (
+            λ is. waits_on casts i old.taken number c d ((h.kept number d).0 (sym now ∙ is)),
+            λ w. elim (waits_or_new casts i old.taken number c d w) [
+              | inl before ↦ now ∙ (h.kept number d).1 before
+              | inr same ↦ absurd (ne (sym w.number_is ∙ ap (λ (x : CastFields). x.number) same))
+            ],
+          )
+    ]
+
+  module _ (next : IsNext old c) where
+    is_next : IsWaiting casts i old.taken c.number c
+    is_next = (h.kept c.number c).0 next.kept
+
+    without_cast : (number : ℕ) (d : CastFields) → (map.get (map.remove old.kept c.number) number ≡ Some d) ↔ IsWaiting casts i c.number number d
+    without_cast number d =
+        let follows = next.follows in
+        elim (cases_eq number c.number) [
+          | inl e ↦
+              let now : map.get (map.remove old.kept c.number) number ≡ None = map.get-remove nat_cmp_total old.kept c.number number ∙ here_or_there number c.number None (map.get old.kept number) e in (
+                λ is. absurd (let both : None ≡ Some d = sym now ∙ is in cc),
+                λ w. absurd (let above = w.not_taken in omega (arith, above, e)),
+              )
+          | inr ne ↦
+              let now : map.get (map.remove old.kept c.number) number ≡ map.get old.kept number = map.get-remove nat_cmp_total old.kept c.number number ∙ there_or_here number c.number None (map.get old.kept number) ne in (
+                λ is.
+                    let w = (h.kept number d).0 (sym now ∙ is) in
+                    let above = w.not_taken in
+                    record { there = w.there; sender_is = w.sender_is; number_is = w.number_is; not_taken = omega (arith, above, follows, ne) },
+                λ w.
+                    let above = w.not_taken in
+                    now ∙ (h.kept number d).1 (record { there = w.there; sender_is = w.sender_is; number_is = w.number_is; not_taken = omega (arith, above, follows) }),
+              )
+        ]
+
+    one_more_taken : c.number ≤ expanded_count casts i
+    one_more_taken = run_at_most casts i c.number (λ k low high. elim (cases_lt old.taken k) [
+      | inl last ↦
+          let follows = next.follows in
+          let is : c.number ≡ k = omega (arith, last, high, follows) in
+          subst (λ (n : ℕ). is_there casts i n ≡ true) is (waiting_is_there casts i old.taken c.number c is_next)
+      | inr before ↦ let taken = h.taken in expanded_are_there casts i k low (omega (arith, before, taken))
+    ])
+
+pub kept_cast_waits : KeptCastWaits
+kept_cast_waits casts i c old new h own lacking after =
+    let taken = h.taken in
+    let rises = count_rises casts (c ∷ []) i in
+    subst (HoldsWhatWaits (casts ++ c ∷ []) i) (sym after) (record { taken = omega (arith, taken, rises); kept = with_cast casts i c old h own lacking })
+
+pub taken_cast_is_there : TakenCastIsThere
+taken_cast_is_there casts i c old new h next takes =
+    let w = is_next casts i c old h next in (
+      w.there,
+      w.sender_is,
+      subst (HoldsWhatWaits casts i) (sym takes) (record { taken = one_more_taken casts i c old h next; kept = without_cast casts i c old h next }),
+    )
+
+pub others_do_not_wait : OthersDoNotWait
+others_do_not_wait casts i c buffer h other =
+    let taken = h.taken in
+    let same = others_expand_nothing casts c i other in
+    record {
+      taken = omega (arith, taken, same);
+      kept = λ number d. (
+        (λ is. waits_on casts i buffer.taken number c d ((h.kept number d).0 is)),
+        (λ w. elim (waits_or_new casts i buffer.taken number c d w) [
+          | inl before ↦ (h.kept number d).1 before
+          | inr new ↦ absurd (other (ap (λ (x : CastFields). x.sender) (sym new) ∙ w.sender_is))
+        ]),
+      );
+    }
+
+pub all_is_taken : AllIsTaken
+all_is_taken casts i buffer h none =
+    let taken = h.taken in
+    sym (run_is_expanded casts i buffer.taken (λ k low high. expanded_are_there casts i k low (omega (arith, high, taken)))
+    (lacking_is_not_there casts i (buffer.taken + 1) buffer h (record { not_taken = omega arith; not_kept = none })))
