@@ -26,3 +26,4 @@ pub mod Queueing
 pub mod Runs
 pub mod Keeping
 pub mod Buffers
+pub mod Statuses

@@ -160,7 +160,7 @@ upto_below seat _ k (OneFactMore facts f before room step) = upto_below_step sea
 abbrev OwnSum : Seat → List Fact → ℕ → Type 0
 OwnSum seat facts k = (number : ℕ) → count (view seat.group.size facts) seat.me ≤ number → sum_by (growth_of seat.me number k) (casts_in facts) ≡ count (view seat.group.size (upto_last_cast facts)) k
 
-time_at : (size : ℕ) (facts : List Fact) (k : ℕ) → k < size → field (time_of size facts) k ≡ count (view size facts) k
+pub time_at : (size : ℕ) (facts : List Fact) (k : ℕ) → k < size → field (time_of size facts) k ≡ count (view size facts) k
 time_at size facts k lt = get_or-map-range_with_len (count (view size facts)) 0 size k k 0 lt (omega arith)
 
 -- what an own cast tells of another field

@@ -28,7 +28,7 @@ rises_from p g is a (suc n) least le =
     (λ yes. (omega (arith, is a), rises_from p g is (a + 1) n ((g a).field + 1) (omega (arith, is a))))
     (λ no. rises_from p g is (a + 1) n least (omega arith))
 
-each_from : (p : Change → Bool) (g : ℕ → Change) (P : Change → Type 0) (a n : ℕ) → ((k : ℕ) → k < a + n → p (g k) ≡ true → P (g k)) → AllByRecursion P (filter p (map g (range_with_len a n)))
+pub each_from : (p : Change → Bool) (g : ℕ → Change) (P : Change → Type 0) (a n : ℕ) → ((k : ℕ) → k < a + n → p (g k) ≡ true → P (g k)) → AllByRecursion P (filter p (map g (range_with_len a n)))
 each_from p g P a zero holds = tt
 each_from p g P a (suc n) holds =
     cond_both (p (g a)) (g a ∷ filter p (map g (range_with_len (a + 1) n))) (filter p (map g (range_with_len (a + 1) n))) (AllByRecursion P)

@@ -20,3 +20,4 @@ pub mod QueueLaws
 pub mod ExpansionLaws
 pub mod StabilityLaws
 pub mod BufferLaws
+pub mod StatusLaws

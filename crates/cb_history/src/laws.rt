@@ -10,6 +10,7 @@ mod knowledge;
 mod names;
 mod queue;
 mod stability;
+mod statuses;
 mod times;
 mod view;
 
@@ -23,5 +24,6 @@ pub use knowledge::knowledge_grows;
 pub use names::names_and_order;
 pub use queue::queue_releases_the_next_delivery;
 pub use stability::{acknowledgements_give_what_is_stable, windows_keep_own_casts};
+pub use statuses::statuses_say_the_time;
 pub use times::times_of_messages;
 pub use view::view_with_one_more_fact;
