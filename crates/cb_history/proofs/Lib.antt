@@ -27,3 +27,4 @@ pub mod Runs
 pub mod Keeping
 pub mod Buffers
 pub mod Statuses
+pub mod Windows

@@ -21,3 +21,4 @@ pub mod ExpansionLaws
 pub mod StabilityLaws
 pub mod BufferLaws
 pub mod StatusLaws
+pub mod WindowLaws

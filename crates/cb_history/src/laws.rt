@@ -13,6 +13,7 @@ mod stability;
 mod statuses;
 mod times;
 mod view;
+mod windows;
 
 pub use deliveries::{deliveries_come_one_by_one, readiness_is_the_delay_rule};
 pub use events::events_with_one_more_fact;
@@ -27,3 +28,4 @@ pub use stability::{acknowledgements_give_what_is_stable, windows_keep_own_casts
 pub use statuses::statuses_say_the_time;
 pub use times::times_of_messages;
 pub use view::view_with_one_more_fact;
+pub use windows::casts_stay_in_their_windows;
