@@ -27,4 +27,5 @@ pub mod Runs
 pub mod Keeping
 pub mod Buffers
 pub mod Statuses
+pub mod OwnFrames
 pub mod Windows

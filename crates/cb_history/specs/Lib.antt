@@ -21,4 +21,5 @@ pub mod ExpansionLaws
 pub mod StabilityLaws
 pub mod BufferLaws
 pub mod StatusLaws
+pub mod OwnFrameLaws
 pub mod WindowLaws
