@@ -11,6 +11,10 @@ use Rattle.cb_history.specs.TimeLaws.{SameFrames, TimesAgree}
 use Rattle.cb_history.proofs.Views.{IsIn, all_in_range}
 use Rattle.cb_history.proofs.Names.{all_stand, message}
 use Rattle.cb_diffs.proofs.Sums.{total, growth_of-other, growth_of-later, growth_of-own}
+use Rattle.cb_diffs.proofs.Sums.{growth_of-other, growth_of-later, growth_of-own}
+
+abbrev pub total : List CastFields → ℕ → ℕ → ℕ → ℕ
+total casts sender number k = sum_by (growth_of sender number k) casts
 
 -- a cast of another message adds as much to the next message's time as to the one before
 same_growth : (sender n k : ℕ) (c : CastFields) → (c.sender ≡ sender → c.number ≡ n + 1 → ⊥) → growth_of sender (n + 1) k c ≡ growth_of sender n k c
@@ -40,12 +44,12 @@ none_more (c ∷ casts) sender n k none =
     omega (arith, sum_by-cons (growth_of sender (n + 1) k) c casts, sum_by-cons (growth_of sender n k) c casts, same_growth sender n k c both.0, none_more casts sender n k both.1)
 
 -- the cast of the next message, and what it adds
-record Adds (casts : List CastFields) (sender n k : ℕ) : Type 0 where
-  cast : CastFields
-  there : IsIn cast casts
-  sender_is : cast.sender ≡ sender
-  number_is : cast.number ≡ n + 1
-  adds : total casts sender (n + 1) k ≡ total casts sender n k + growth_in cast.changes k
+pub record Adds (casts : List CastFields) (sender n k : ℕ) : Type 0 where
+  pub cast : CastFields
+  pub there : IsIn cast casts
+  pub sender_is : cast.sender ≡ sender
+  pub number_is : cast.number ≡ n + 1
+  pub adds : total casts sender (n + 1) k ≡ total casts sender n k + growth_in cast.changes k
 
 adds_here : (c : CastFields) (casts : List CastFields) (sender n k : ℕ) → is_there casts c.sender c.number ≡ false → c.sender ≡ sender → c.number ≡ n + 1 → Adds (c ∷ casts) sender n k
 adds_here c casts sender n k new e at =
@@ -73,7 +77,7 @@ false_or : (b r : Bool) → b ≡ false → (b || r) ≡ true → r ≡ true
 false_or true r e h = absurd cc
 false_or false r e h = h
 
-one_adds : (casts : List CastFields) (sender n k : ℕ) → NamesDiffer (messages_in casts) → is_there casts sender (n + 1) ≡ true → Adds casts sender n k
+pub one_adds : (casts : List CastFields) (sender n k : ℕ) → NamesDiffer (messages_in casts) → is_there casts sender (n + 1) ≡ true → Adds casts sender n k
 one_adds [] sender n k differ there = absurd cc
 one_adds (c ∷ casts) sender n k differ there =
     elim (cases_eq c.sender sender) [
@@ -87,7 +91,7 @@ one_adds (c ∷ casts) sender n k differ there =
     ]
 
 -- casts are numbered from 1
-nothing_at_zero : (casts : List CastFields) (sender k : ℕ) → ((m : Carried) → IsIn m (messages_in casts) → 1 ≤ m.number) → total casts sender 0 k ≡ 0
+pub nothing_at_zero : (casts : List CastFields) (sender k : ℕ) → ((m : Carried) → IsIn m (messages_in casts) → 1 ≤ m.number) → total casts sender 0 k ≡ 0
 nothing_at_zero [] sender k positive = refl
 nothing_at_zero (c ∷ casts) sender k positive =
     let here : 1 ≤ c.number = positive (message c) (inl refl) in

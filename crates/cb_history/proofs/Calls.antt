@@ -64,7 +64,7 @@ taken_same seat limit entries bytes (Ok frame) e room h =
     (is_full limit entries) (is_full longest_history entries) (Accepted (deliveries seat facts frame) true (sent_in_answer seat facts frame)) (Accepted [] false (sent_in_answer seat facts frame)) bytes e room h
 taken_same seat limit entries bytes (Err fault) e room h = h
 
-entry_same : (seat : Seat) (limit : ℕ) (entries : List EntryFields) (call : Call) (e : EntryFields) → limit ≤ longest_history → entry_of seat limit entries call ≡ Some e → entry_of seat longest_history entries call ≡ Some e
+pub entry_same : (seat : Seat) (limit : ℕ) (entries : List EntryFields) (call : Call) (e : EntryFields) → limit ≤ longest_history → entry_of seat limit entries call ≡ Some e → entry_of seat longest_history entries call ≡ Some e
 unfolding cast_answer arrive_answer tick_answer
 entry_same seat limit entries (ToCast payload) e most h =
     same_cast (ltb LONGEST_PAYLOAD (length payload)) (is_window_full seat (facts_of entries)) (is_full limit entries) (is_full longest_history entries) (next_cast seat (facts_of entries) payload) e (room_at_most limit entries most) h

@@ -220,7 +220,7 @@ names_of : (size : ℕ) (casts : List CastFields) (ms : List Carried) → map (�
 names_of size casts [] = refl
 names_of size casts (m ∷ ms) = ap (λ (ns : List Name). name_of m ∷ ns) (names_of size casts ms)
 
-said_facts : (entries : List EntryFields) (bytes : List ℕ) (names : List Name) (frame : FrameFields) → frame_at bytes ≡ Ok frame → facts_of (entries ++ ArriveEntry bytes names ∷ []) ≡ with_frame (facts_of entries) frame
+pub said_facts : (entries : List EntryFields) (bytes : List ℕ) (names : List Name) (frame : FrameFields) → frame_at bytes ≡ Ok frame → facts_of (entries ++ ArriveEntry bytes names ∷ []) ≡ with_frame (facts_of entries) frame
 said_facts entries bytes names frame read =
     flat_map-append said_by entries (ArriveEntry bytes names ∷ []) ∙ ap (λ (fs : List Fact). facts_of entries ++ fs) (append-nil (arrival_said (frame_at bytes)) ∙ ap arrival_said read) ∙ with_said (facts_of entries) frame
   where

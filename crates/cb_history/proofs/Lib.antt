@@ -29,3 +29,4 @@ pub mod Buffers
 pub mod Statuses
 pub mod OwnFrames
 pub mod Windows
+pub mod Arrivals

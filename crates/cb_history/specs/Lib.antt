@@ -23,3 +23,4 @@ pub mod BufferLaws
 pub mod StatusLaws
 pub mod OwnFrameLaws
 pub mod WindowLaws
+pub mod ArrivalLaws

@@ -2,6 +2,7 @@
 
 mod deliveries;
 mod events;
+mod arrivals;
 mod buffers;
 mod expansion;
 mod gaps;
@@ -18,6 +19,7 @@ mod windows;
 
 pub use deliveries::{deliveries_come_one_by_one, readiness_is_the_delay_rule};
 pub use events::events_with_one_more_fact;
+pub use arrivals::accepted_casts_are_there;
 pub use buffers::reorder_buffers_hold_what_waits;
 pub use expansion::what_is_expanded;
 pub use gaps::missing_numbers;

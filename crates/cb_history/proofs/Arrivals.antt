@@ -1,0 +1,108 @@
+-- Which casts are there after one came.
+use Rattle.std.proofs.Common.{◌≡◌, ℕ, ◌≤◌, true, not, ◌↔◌, eqb, ltb, List, [], ◌∷◌, ◌++◌, Result, Ok, Err, refl, sym, ap, subst, ◌∙◌, arith, inl, inr}
+use Rattle.std.specs.Prelude.{IsOk}
+use Rattle.std.proofs.lemmas.Bool.{cond_both, eq-eqb, eqb-true, ltb-true, and_parts, and_from, both_ways, not_from_true}
+use Rattle.cb_times.specs.declared.name.Name.{Name}
+use Rattle.cb_frames.specs.declared.fault.FrameFault.{FrameFault}
+use Rattle.cb_frames.specs.Fields.{CastFields, FrameFields, CastFrame}
+use Rattle.cb_frames.specs.Reading.{frame_at}
+use Rattle.cb_history.specs.declared.answer.ArriveRefusal.{ArriveRefusal}
+use Rattle.cb_history.specs.declared.answer.ArriveRefusal.TheVariants as arrivals
+use Rattle.cb_history.specs.Group.{Seat, IsSeat}
+use Rattle.cb_history.specs.Facts.{EntryFields, ArriveEntry, Fact, OwnCast, CastCame, StatusCame, OwnStatus, facts_of, casts_in, cast_in, is_there}
+use Rattle.cb_history.specs.View.{count, view}
+use Rattle.cb_history.specs.Answers.{is_full, delivered, are_members, is_impossible, is_repeat, is_too_far, ArrivalSays, frame_answer, answer_to, arrive_answer}
+use Rattle.cb_history.specs.Legal.{arrive_entry, and_entry}
+use Rattle.cb_history.specs.LegalFacts.{IsStep, AreLegalFacts, NoFacts, OneFactMore, AreFactsOf}
+use Rattle.cb_history.specs.OwnFrameLaws.{IsOfTheGroup}
+use Rattle.cb_history.specs.ArrivalLaws.{AreThere, AcceptedIsThere, ThereStays, CastsAreOfTheGroup}
+use Rattle.cb_history.proofs.Views.{IsIn, casts_in-append}
+use Rattle.cb_history.proofs.Lists.{flat_map-append, in_back, in_append, in_one, among_is, order_bound}
+use Rattle.cb_history.proofs.Rising.{there_more}
+use Rattle.cb_history.proofs.Names.{all_stand}
+use Rattle.cb_history.proofs.Histories.{said_facts}
+use Rattle.cb_history.proofs.OwnFrames.{own_casts_are_of_the_group}
+use Rattle.cb_history.proofs.Buffers.{cast_is_there, cast_of_is_in}
+use Rattle.cb_history.proofs.Runs.{message_there}
+
+pub there_stays : ThereStays
+there_stays facts more i n there =
+    subst (λ (cs : List CastFields). is_there cs i n ≡ true) (sym (flat_map-append cast_in facts more)) (there_more (casts_in facts) (casts_in more) i n there)
+
+-- an own cast that is there was delivered
+own_is_delivered : (seat : Seat) (facts : List Fact) (n : ℕ) → AreFactsOf seat facts → is_there (casts_in facts) seat.me n ≡ true → n ≤ delivered seat facts seat.me
+own_is_delivered seat facts n are there =
+    let s = all_stand seat facts are.member are.facts_are in
+    let m = message_there (casts_in facts) seat.me n there in
+    let again = among_is (view seat.group.size facts) m.found (s.own_seen m.found m.there m.sender_is) in
+    let bound = order_bound [] (view seat.group.size facts) again.0 s.order again.1 in
+    let at : count (view seat.group.size facts) again.0.sender ≡ count (view seat.group.size facts) seat.me = ap (count (view seat.group.size facts)) (again.2 ∙ m.sender_is) in
+    let number : again.0.number ≡ n = again.3 ∙ m.number_is in
+    omega (arith, bound, at, number)
+
+-- ---- one call
+
+-- after an answer the cast is there exactly where it was not refused
+abbrev IsRight : List EntryFields → List ℕ → CastFields → Result ArrivalSays ArriveRefusal → Type 0
+IsRight entries bytes c r = IsOk r ↔ AreThere (casts_in (facts_of (and_entry entries (arrive_entry bytes r)))) c
+
+refused : (entries : List EntryFields) (bytes : List ℕ) (c : CastFields) (e : ArriveRefusal) → (AreThere (casts_in (facts_of entries)) c → ⊥) → IsRight entries bytes c (Err e)
+refused entries bytes c e none = ((λ ok. absurd cc), (λ there. absurd (none there)))
+
+taken_is_there : (entries : List EntryFields) (bytes : List ℕ) (names : List Name) (c : CastFields) → frame_at bytes ≡ Ok (CastFrame c) → AreThere (casts_in (facts_of (entries ++ ArriveEntry bytes names ∷ []))) c
+taken_is_there entries bytes names c read =
+    let facts : facts_of (entries ++ ArriveEntry bytes names ∷ []) ≡ facts_of entries ++ CastCame c ∷ [] = said_facts entries bytes names (CastFrame c) read in
+    let casts : casts_in (facts_of (entries ++ ArriveEntry bytes names ∷ [])) ≡ casts_in (facts_of entries) ++ c ∷ [] = ap casts_in facts ∙ casts_in-append (facts_of entries) (CastCame c) in
+    subst (λ (cs : List CastFields). AreThere cs c) (sym casts)
+    (and_from (is_there (casts_in (facts_of entries) ++ c ∷ []) c.sender c.number) true
+    (cast_is_there (casts_in (facts_of entries) ++ c ∷ []) c c.sender c.number (in_back c (casts_in (facts_of entries)) (c ∷ []) (inl refl)) refl refl) refl)
+
+impossible_is_not_there : (seat : Seat) (facts : List Fact) (c : CastFields) → AreFactsOf seat facts → is_impossible seat facts (CastFrame c) ≡ true → AreThere (casts_in facts) c → ⊥
+impossible_is_not_there seat facts c are impossible there =
+    let both = and_parts (eqb c.sender seat.me) (ltb (delivered seat facts seat.me) c.number) impossible in
+    let above = ltb-true (delivered seat facts seat.me) c.number both.1 in
+    let here = (and_parts (is_there (casts_in facts) c.sender c.number) true there).0 in
+    let bound = own_is_delivered seat facts c.number are (subst (λ (i : ℕ). is_there (casts_in facts) i c.number ≡ true) (eqb-true c.sender seat.me both.0) here) in
+    omega (arith, above, bound)
+
+answer_is_right : (seat : Seat) (limit : ℕ) (entries : List EntryFields) (bytes : List ℕ) (c : CastFields) → AreFactsOf seat (facts_of entries) → frame_at bytes ≡ Ok (CastFrame c) → IsOfTheGroup seat.group (CastFrame c)
+    → IsRight entries bytes c (frame_answer seat limit entries (facts_of entries) (CastFrame c))
+answer_is_right seat limit entries bytes c are read of =
+    let facts = facts_of entries in
+    let P : Result ArrivalSays ArriveRefusal → Type 0 = IsRight entries bytes c in
+    cond_both (not (eqb c.group seat.group.number)) _ _ P (λ other. absurd (both_ways (not (eqb c.group seat.group.number)) (not_from_true (eqb c.group seat.group.number) (eq-eqb c.group seat.group.number of.number)) other))
+    (λ _. cond_both (not (are_members seat.group.size (CastFrame c))) _ _ P (λ other. absurd (both_ways (not (are_members seat.group.size (CastFrame c))) (not_from_true (are_members seat.group.size (CastFrame c)) of.members) other))
+    (λ _. cond_both (is_impossible seat facts (CastFrame c)) _ _ P (λ impossible. refused entries bytes c arrivals.Impossible (impossible_is_not_there seat facts c are impossible))
+    (λ _. cond_both (is_repeat facts (CastFrame c)) _ _ P (λ again. ((λ _. again), (λ _. refl)))
+    (λ new. cond_both (is_too_far seat facts (CastFrame c)) _ _ P (λ _. refused entries bytes c arrivals.TooFar (λ there. both_ways (is_repeat facts (CastFrame c)) new there))
+    (λ _. cond_both (is_full limit entries) _ _ P (λ _. refused entries bytes c arrivals.HistoryFull (λ there. both_ways (is_repeat facts (CastFrame c)) new there))
+    (λ _. ((λ _. taken_is_there entries bytes _ c read), (λ _. refl))))))))
+
+pub accepted_is_there : AcceptedIsThere
+unfolding arrive_answer
+accepted_is_there seat limit entries bytes c are read of =
+    subst (λ (r : Result FrameFields FrameFault). IsRight entries bytes c (answer_to seat limit entries r)) (sym read) (answer_is_right seat limit entries bytes c are read of)
+
+-- ---- the casts that are there
+
+abbrev AllOfTheGroup : Seat → List Fact → Type 0
+AllOfTheGroup seat facts = (c : CastFields) → IsIn c (casts_in facts) → IsOfTheGroup seat.group (CastFrame c)
+
+one_of_the_group : (seat : Seat) (facts : List Fact) (f : Fact) → IsSeat seat → IsStep seat facts f → (c : CastFields) → IsIn c (cast_in f) → IsOfTheGroup seat.group (CastFrame c)
+one_of_the_group seat facts (OwnCast d) is step c there =
+    subst (λ (x : CastFields). IsOfTheGroup seat.group (CastFrame x)) (sym (in_one c d there ∙ step.next)) (own_casts_are_of_the_group seat facts d.payload is)
+one_of_the_group seat facts (CastCame d) is step c there =
+    subst (λ (x : CastFields). IsOfTheGroup seat.group (CastFrame x)) (sym (in_one c d there)) (record { number = step.taken.group; members = step.taken.members })
+one_of_the_group seat facts (StatusCame s) is step c there = absurd there
+one_of_the_group seat facts (OwnStatus s) is step c there = absurd there
+
+all_of_the_group : (seat : Seat) (facts : List Fact) → IsSeat seat → AreLegalFacts seat facts → AllOfTheGroup seat facts
+all_of_the_group seat _ is NoFacts c there = absurd there
+all_of_the_group seat _ is (OneFactMore facts f before room step) c there =
+    elim (in_append c (casts_in facts) (cast_in f) (subst (IsIn c) (casts_in-append facts f) there)) [
+      | inl old ↦ all_of_the_group seat facts is before c old
+      | inr new ↦ one_of_the_group seat facts f is step c new
+    ]
+
+pub casts_are_of_the_group : CastsAreOfTheGroup
+casts_are_of_the_group seat facts c are there = all_of_the_group seat facts (record { group = are.group; member = are.member }) are.facts_are c (cast_of_is_in c (casts_in facts) there)
