@@ -30,3 +30,4 @@ pub mod Statuses
 pub mod OwnFrames
 pub mod Windows
 pub mod Arrivals
+pub mod Expanders

@@ -24,3 +24,4 @@ pub mod StatusLaws
 pub mod OwnFrameLaws
 pub mod WindowLaws
 pub mod ArrivalLaws
+pub mod ExpanderLaws

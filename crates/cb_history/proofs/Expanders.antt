@@ -1,0 +1,182 @@
+-- The expander's sums are those over all facts.
+use Rattle.std.proofs.Common.{◌≡◌, ◌≢◌, ℕ, zero, suc, ◌+◌, ◌<◌, ◌≤◌, true, cond, eqb, ltb, List, [], ◌∷◌, ◌++◌, length, set, min, replicate, refl, sym, ap, subst, ◌∙◌, arith, inl, inr}
+use Rattle.std.specs.List.{AllByRecursion, list_all, All}
+use Rattle.std.proofs.lemmas.Bool.{cases_eq, eq-eqb, ne_eqb, ltb-true, and_parts, both_ways}
+use Rattle.std.proofs.lemmas.List.{length-set, get_or-set_same, get_or-set_other, get_or-replicate, length-replicate, ext_get_or}
+use Rattle.std.proofs.lemmas.List.Elements.{All-nil, All-cons}
+use Rattle.std.proofs.lemmas.List.Sums.{sum_by-cons}
+use Rattle.std.proofs.lemmas.List.FromFn.{get_or-map-range_with_len, length-map-range_with_len}
+use Rattle.cb_times.specs.Order.{field}
+use Rattle.cb_frames.specs.declared.frame.Change.{Change}
+use Rattle.cb_frames.specs.Fields.{CastFields, Carried, growth_in, last_number}
+use Rattle.cb_diffs.specs.Expansion.{greatest, growth_of, expanded_field, expanded_time, AreMembers, Expands}
+use Rattle.cb_diffs.specs.Expansion as expander
+use Rattle.cb_diffs.proofs.Growing.{kept_is_given}
+use Rattle.cb_diffs.proofs.Sums.{growth_of-later, growth_of-own}
+use Rattle.cb_history.specs.Group.{Seat}
+use Rattle.cb_history.specs.Facts.{Fact, casts_in, messages_in, is_there}
+use Rattle.cb_history.specs.NameLaws.{NamesDiffer, NumberedFrom}
+use Rattle.cb_history.specs.LegalFacts.{AreFactsOf}
+use Rattle.cb_history.specs.BufferLaws.{IsCastOf}
+use Rattle.cb_history.specs.ExpanderLaws.{NewExpanderKeepsNothing, CastBehindIsNext, ExpanderTellsTheTime, OtherTimesAreKept, KeptTimesStay, OrderChangesNoTime}
+use Rattle.cb_history.proofs.Views.{IsIn}
+use Rattle.cb_history.proofs.Names.{all_stand}
+use Rattle.cb_history.proofs.Times.{same_over_range, times_stay}
+use Rattle.cb_history.proofs.Agreement.{total, one_adds, nothing_at_zero}
+use Rattle.cb_history.proofs.Runs.{expanded_up_to_the_count}
+use Rattle.cb_history.proofs.Buffers.{cast_is_there, cast_of_is_in}
+use Rattle.cb_history.proofs.Arrivals.{casts_are_of_the_group}
+
+-- ---- one cast more in the sums
+
+-- of two casts that are there and have one name both are the same
+one_of_a_name : (casts : List CastFields) (c d : CastFields) → NamesDiffer (messages_in casts) → IsIn c casts → IsIn d casts → c.sender ≡ d.sender → c.number ≡ d.number → c ≡ d
+one_of_a_name [] c d differ there there' sender number = absurd there
+one_of_a_name (x ∷ casts) c d differ (inl here) (inl here') sender number = here ∙ sym here'
+one_of_a_name (x ∷ casts) c d differ (inl here) (inr later) sender number =
+    absurd (both_ways (is_there casts x.sender x.number) differ.0
+    (cast_is_there casts d x.sender x.number later (sym sender ∙ ap (λ (y : CastFields). y.sender) here) (sym number ∙ ap (λ (y : CastFields). y.number) here)))
+one_of_a_name (x ∷ casts) c d differ (inr later) (inl here) sender number =
+    absurd (both_ways (is_there casts x.sender x.number) differ.0
+    (cast_is_there casts c x.sender x.number later (sender ∙ ap (λ (y : CastFields). y.sender) here) (number ∙ ap (λ (y : CastFields). y.number) here)))
+one_of_a_name (x ∷ casts) c d differ (inr later) (inr later') sender number = one_of_a_name casts c d differ.1 later later' sender number
+
+one_more : (casts : List CastFields) (c : CastFields) (n k : ℕ) → NamesDiffer (messages_in casts) → IsIn c casts → c.number ≡ n + 1 → total casts c.sender (n + 1) k ≡ total casts c.sender n k + growth_in c.changes k
+one_more casts c n k differ there number =
+    let a = one_adds casts c.sender n k differ (cast_is_there casts c c.sender (n + 1) there refl number) in
+    let same = one_of_a_name casts a.cast c differ a.there there a.sender_is (a.number_is ∙ sym number) in
+    let growth : growth_in a.cast.changes k ≡ growth_in c.changes k = ap (λ (x : CastFields). growth_in x.changes k) same in
+    let adds = a.adds in
+    omega (arith, adds, growth)
+
+-- ---- what the expander keeps
+
+field_at : (size : ℕ) (casts : List CastFields) (i n k : ℕ) → k < size → field (expanded_time size casts i n) k ≡ expanded_field casts i n k
+field_at size casts i n k lt = get_or-map-range_with_len (expanded_field casts i n) 0 size k k 0 lt (omega arith)
+
+length_of : (size : ℕ) (casts : List CastFields) (i n : ℕ) → length (expanded_time size casts i n) ≡ size
+length_of size casts i n = length-map-range_with_len (expanded_field casts i n) 0 size
+
+own_is_number : (size : ℕ) (casts : List CastFields) (i n : ℕ) → i < size → field (expanded_time size casts i n) i ≡ n
+own_is_number size casts i n lt = field_at size casts i n i lt ∙ rw (eq-eqb i i refl) refl
+
+pub new_expander_keeps_nothing : NewExpanderKeepsNothing
+new_expander_keeps_nothing seat facts i are member =
+    let size = seat.group.size in
+    let casts = casts_in facts in
+    let s = all_stand seat facts are.member are.facts_are in
+    let none : (k : ℕ) → k < 0 + size → 0 ≡ expanded_field casts i 0 k = λ k lt. elim (cases_eq k i) [
+      | inl e ↦ rw (eq-eqb k i e) refl
+      | inr ne ↦ let sum = nothing_at_zero casts i k s.positive in rw (ne_eqb k i ne) (omega (arith, sum))
+    ] in
+    record {
+      senders = length-replicate size (replicate size 0);
+      time = get_or-replicate size i (replicate size 0) [] member ∙ ext_get_or 0 (replicate size 0) (expanded_time size casts i 0) (length-replicate size 0 ∙ sym (length_of size casts i 0)) (λ k below.
+          let lt : k < size = omega (arith, below, length-replicate {A = ℕ} size 0) in
+          get_or-replicate size k 0 0 lt ∙ none k (omega (arith, lt)) ∙ sym (field_at size casts i 0 k lt));
+    }
+
+fields_are_members : (size : ℕ) (ds : List Change) → list_all (λ d. ltb d.field size) ds ≡ true → All (λ d. d.field < size) ds
+fields_are_members size [] all = All-nil (λ (d : Change). d.field < size)
+fields_are_members size (d ∷ ds) all =
+    let both = and_parts (ltb d.field size) (list_all (λ x. ltb x.field size) ds) all in
+    All-cons (λ (x : Change). x.field < size) d ds (ltb-true d.field size both.0) (fields_are_members size ds both.1)
+
+cast_of_members : (seat : Seat) (facts : List Fact) (c : CastFields) → AreFactsOf seat facts → IsCastOf c (casts_in facts) → AreMembers seat.group.size c
+cast_of_members seat facts c are there =
+    let both = and_parts (ltb c.sender seat.group.size) (list_all (λ d. ltb d.field seat.group.size) c.changes) (casts_are_of_the_group seat facts c are there).members in
+    record { sender = ltb-true c.sender seat.group.size both.0; changes = fields_are_members seat.group.size c.changes both.1 }
+
+pub cast_behind_is_next : CastBehindIsNext
+cast_behind_is_next seat facts c n kept are there behind keeps =
+    let members = cast_of_members seat facts c are there in
+    record {
+      members = subst (λ (size : ℕ). AreMembers size c) (sym keeps.senders) members;
+      next = behind ∙ ap (λ (m : ℕ). m + 1) (sym (ap (λ (t : List ℕ). field t c.sender) keeps.time ∙ own_is_number seat.group.size (casts_in facts) c.sender n members.sender));
+    }
+
+min_of_min : (a b : ℕ) → min greatest (min greatest a + b) ≡ min greatest (a + b)
+min_of_min a b = omega arith
+
+-- the time that is told, field by field
+told_field : (size : ℕ) (casts : List CastFields) (c : CastFields) (n k : ℕ) → NamesDiffer (messages_in casts) → IsIn c casts → c.number ≡ n + 1 → k < size → k ≢ c.sender
+    → min greatest (field (expanded_time size casts c.sender n) k + growth_in c.changes k) ≡ expanded_field casts c.sender c.number k
+told_field size casts c n k differ there behind lt ne =
+    let before : field (expanded_time size casts c.sender n) k ≡ min greatest (total casts c.sender n k) = field_at size casts c.sender n k lt ∙ rw (ne_eqb k c.sender ne) refl in
+    let after : expanded_field casts c.sender c.number k ≡ min greatest (total casts c.sender (n + 1) k) = ap (λ (m : ℕ). expanded_field casts c.sender m k) behind ∙ rw (ne_eqb k c.sender ne) refl in
+    let more = one_more casts c n k differ there behind in
+    ap (λ (v : ℕ). min greatest (v + growth_in c.changes k)) before ∙ min_of_min (total casts c.sender n k) (growth_in c.changes k) ∙ ap (min greatest) (sym more) ∙ sym after
+
+pub expander_tells_the_time : ExpanderTellsTheTime
+expander_tells_the_time seat facts c n time old new are there keeps e =
+    let size = seat.group.size in
+    let casts = casts_in facts in
+    let s = all_stand seat facts are.member are.facts_are in
+    let member : c.sender < size = (cast_of_members seat facts c are there).sender in
+    let behind : c.number ≡ n + 1 = e.next ∙ ap (λ (m : ℕ). m + 1) (ap (λ (t : List ℕ). field t c.sender) keeps.time ∙ own_is_number size casts c.sender n member) in
+    let old_size : length (expander.time_of old c.sender) ≡ size = ap length keeps.time ∙ length_of size casts c.sender n in
+    let time_size : length time ≡ size = e.grown.size ∙ old_size in
+    let told : time ≡ expanded_time size casts c.sender c.number = ext_get_or 0 time (expanded_time size casts c.sender c.number) (time_size ∙ sym (length_of size casts c.sender c.number)) (λ k below.
+    let lt : k < size = omega (arith, below, time_size) in
+    elim (cases_eq k c.sender) [
+      | inl is ↦ ap (field time) is ∙ e.grown.own ∙ sym (ap (field (expanded_time size casts c.sender c.number)) is ∙ own_is_number size casts c.sender c.number member)
+      | inr ne ↦
+          e.grown.others k (omega (arith, lt, old_size)) ne ∙ ap (λ (t : List ℕ). min greatest (field t k + growth_in c.changes k)) keeps.time
+          ∙ told_field size casts c n k s.names (cast_of_is_in c casts there) behind lt ne ∙ sym (field_at size casts c.sender c.number k lt)
+    ]) in
+    let kept : new ≡ set old c.sender time = e.kept ∙ ap (set old c.sender) (kept_is_given c time e.grown.own) in
+    let senders = keeps.senders in (
+      behind,
+      told,
+      record {
+        senders = ap length kept ∙ length-set old c.sender time ∙ senders;
+        time = ap (λ (ts : List (List ℕ)). expander.time_of ts c.sender) kept ∙ get_or-set_same old c.sender time [] (omega (arith, senders, member)) ∙ told;
+      },
+    )
+
+pub other_times_are_kept : OtherTimesAreKept
+other_times_are_kept seat facts c i n time old new other keeps e = record {
+  senders = ap length e.kept ∙ length-set old c.sender _ ∙ keeps.senders;
+  time = ap (λ (ts : List (List ℕ)). expander.time_of ts i) e.kept ∙ get_or-set_other old c.sender i _ [] (λ h. other (sym h)) ∙ keeps.time;
+}
+
+pub kept_times_stay : KeptTimesStay
+kept_times_stay seat facts more i n kept are expanded keeps =
+    let name : Carried = record { sender = i; number = n; payload = [] } in
+    let stay = same_over_range (expanded_field (casts_in (facts ++ more)) i n) (expanded_field (casts_in facts) i n) 0 seat.group.size
+    (λ k lt. times_stay seat facts more name k are ((expanded_up_to_the_count (casts_in facts) name).1 expanded)) in
+    record { senders = keeps.senders; time = keeps.time ∙ sym stay }
+
+-- ---- in the order of the numbers
+
+none_yet : (i a b k : ℕ) (taken : List CastFields) → NumberedFrom i b taken → a < b → total taken i a k ≡ 0
+none_yet i a b k [] numbered lt = refl
+none_yet i a b k (c ∷ taken) numbered lt =
+    let number = numbered.1 in
+    let later = none_yet i a (last_number c + 1) k taken numbered.2 (omega (arith, number, lt)) in
+    omega (arith, sum_by-cons (growth_of i a k) c taken, growth_of-later i a k c (omega (arith, number, lt)), later)
+
+-- what the casts of a sender behind number a add up to, up to the number m
+in_order : (casts taken : List CastFields) (i a n m k : ℕ) → NamesDiffer (messages_in casts) → NumberedFrom i (a + 1) taken → AllByRecursion (λ c. IsCastOf c casts) taken → n ≤ length taken → m ≡ a + n
+    → total casts i m k ≡ total casts i a k + total taken i m k
+in_order casts taken i a zero m k differ numbered are few is =
+    let at : m ≡ a = omega (arith, is) in
+    let none = none_yet i m (a + 1) k taken numbered (omega (arith, is)) in
+    let same : total casts i m k ≡ total casts i a k = ap (λ (j : ℕ). total casts i j k) at in
+    omega (arith, none, same)
+in_order casts [] i a (suc n) m k differ numbered are few is = absurd (omega (arith, few))
+in_order casts (c ∷ taken) i a (suc n) m k differ numbered are few is =
+    let number = numbered.1 in
+    let rest : NumberedFrom i (a + 1 + 1) taken = subst (λ (j : ℕ). NumberedFrom i (j + 1) taken) number numbered.2 in
+    let later = in_order casts taken i (a + 1) n m k differ rest are.1 (omega (arith, few)) (omega (arith, is)) in
+    let here : total casts i (a + 1) k ≡ total casts i a k + growth_in c.changes k =
+    subst (λ (j : ℕ). total casts j (a + 1) k ≡ total casts j a k + growth_in c.changes k) numbered.0 (one_more casts c a k differ (cast_of_is_in c casts are.0) number) in
+    omega (arith, later, here, sum_by-cons (growth_of i m k) c taken, growth_of-own i m k c numbered.0 (omega (arith, number, is)))
+
+pub order_changes_no_time : OrderChangesNoTime
+order_changes_no_time seat facts taken i n k are numbered all few =
+    let s = all_stand seat facts are.member are.facts_are in
+    let sums = in_order (casts_in facts) taken i 0 n n k s.names numbered all few (omega arith) in
+    let none = nothing_at_zero (casts_in facts) i k s.positive in
+    let same : total taken i n k ≡ total (casts_in facts) i n k = omega (arith, sums, none) in
+    ap (λ (t : ℕ). cond (eqb k i) n (min greatest t)) same
