@@ -31,3 +31,4 @@ pub mod OwnFrames
 pub mod Windows
 pub mod Arrivals
 pub mod Expanders
+pub mod Replays

@@ -25,3 +25,4 @@ pub mod OwnFrameLaws
 pub mod WindowLaws
 pub mod ArrivalLaws
 pub mod ExpanderLaws
+pub mod ReplayLaws

@@ -1,0 +1,41 @@
+-- The call that made an entry, read off the entry: so replaying decides whether a history is legal.
+use Rattle.std.specs.Prelude.{◌≡◌, ◌↔◌, ℕ, ◌≤◌, List, [], ◌∷◌, ◌++◌, Some, Result, Ok, Err}
+use Rattle.cb_frames.specs.declared.fault.FrameFault.{FrameFault}
+use Rattle.cb_frames.specs.Fields.{FrameFields, CastFrame, StatusFrame, RequestFrame}
+use Rattle.cb_frames.specs.Reading.{frame_at}
+use Rattle.cb_frames.specs.Laws.{IsBytes}
+use Rattle.cb_history.specs.Group.{Seat}
+use Rattle.cb_history.specs.Facts.{EntryFields, CastEntry, ArriveEntry, TickEntry}
+use Rattle.cb_history.specs.Legal.{longest_history, Call, ToCast, ToTake, ToTick, OfBytes, entry_of, IsLegal}
+
+-- the payload of a cast frame
+abbrev pub payload_said : Result FrameFields FrameFault → List ℕ
+payload_said (Ok (CastFrame c)) = c.payload
+payload_said (Ok (StatusFrame s)) = []
+payload_said (Ok (RequestFrame r)) = []
+payload_said (Err fault) = []
+
+-- the call that an entry tells: a cast of its frame's payload, an arrival of its bytes, or a tick
+abbrev pub call_of : EntryFields → Call
+call_of (CastEntry frame) = ToCast (payload_said (frame_at frame))
+call_of (ArriveEntry frame delivered) = ToTake frame
+call_of (TickEntry status) = ToTick
+
+-- the bytes that an entry holds
+abbrev pub bytes_in : EntryFields → List ℕ
+bytes_in (CastEntry frame) = frame
+bytes_in (ArriveEntry frame delivered) = frame
+bytes_in (TickEntry status) = status
+
+-- A call that adds an entry to a legal history, with any limit up to the greatest, is the one that the entry tells.
+abbrev pub EntryTellsItsCall : Type 0
+EntryTellsItsCall = (seat : Seat) (limit : ℕ) (entries : List EntryFields) (call : Call) (e : EntryFields) → limit ≤ longest_history → IsLegal seat entries → entry_of seat limit entries call ≡ Some e → call_of e ≡ call
+
+-- an entry of bytes tells a call of bytes
+abbrev pub EntriesOfBytesTellBytes : Type 0
+EntriesOfBytesTellBytes = (e : EntryFields) → IsBytes (bytes_in e) → OfBytes (call_of e)
+
+-- One more entry of bytes is legal exactly where the call that it tells adds this very entry.
+abbrev pub ReplayingDecides : Type 0
+ReplayingDecides = (seat : Seat) (entries : List EntryFields) (e : EntryFields) → IsLegal seat entries → IsBytes (bytes_in e)
+    → IsLegal seat (entries ++ e ∷ []) ↔ (entry_of seat longest_history entries (call_of e) ≡ Some e)
