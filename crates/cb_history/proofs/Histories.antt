@@ -168,7 +168,7 @@ call_added seat entries ToTick e b are h = tick_added seat entries e b h
 facts_push : (seat : Seat) (entries : List EntryFields) (e : EntryFields) (fact : Fact) → said_by e ≡ fact ∷ [] → facts_of (entries ++ e ∷ []) ≡ facts_of entries ++ fact ∷ []
 facts_push seat entries e fact said = flat_map-append said_by entries (e ∷ []) ∙ ap (λ (fs : List Fact). facts_of entries ++ fs) (append-nil (said_by e) ∙ said)
 
-all_push : (P : EntryFields → Type 0) (entries : List EntryFields) (e : EntryFields) → AllByRecursion P entries → P e → AllByRecursion P (entries ++ e ∷ [])
+pub all_push : (P : EntryFields → Type 0) (entries : List EntryFields) (e : EntryFields) → AllByRecursion P entries → P e → AllByRecursion P (entries ++ e ∷ [])
 all_push P [] e all one = (one, tt)
 all_push P (x ∷ entries) e all one = (all.0, all_push P entries e all.1 one)
 

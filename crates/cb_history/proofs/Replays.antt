@@ -1,74 +1,123 @@
 -- The call that an entry tells.
-use Rattle.std.proofs.Common.{◌≡◌, ℕ, ◌+◌, ◌<◌, Bool, true, false, ltb, List, [], ◌∷◌, ◌++◌, length, Some, Result, Ok, Err, refl, sym, ap, subst, ◌∙◌, arith}
-use Rattle.std.specs.List.{flat_map}
+use Rattle.std.proofs.Common.{◌≡◌, ℕ, zero, suc, ◌+◌, ◌<◌, ◌^◌, Bool, true, false, ltb, List, [], ◌∷◌, ◌++◌, length, Some, Result, Ok, Err, sym, ap, subst, ◌∙◌, append_assoc, refl, arith}
+use Rattle.std.specs.List.{AllByRecursion, flat_map}
 use Rattle.std.proofs.lemmas.Bool.{cond_both, ltb-false}
-use Rattle.std.proofs.lemmas.List.{get_or-append-add}
+use Rattle.std.proofs.lemmas.List.{append-nil, get_or-append-add}
+use Rattle.cb_varint.specs.Spelling.{HasTopBit}
 use Rattle.cb_varint.specs.Reading.{spelling}
+use Rattle.cb_varint.proofs.Spelled.{spelled}
 use Rattle.cb_frames.specs.declared.frame.TheConstants.{LONGEST_PAYLOAD}
 use Rattle.cb_frames.specs.declared.fault.FrameFault.{FrameFault}
-use Rattle.cb_frames.specs.Fields.{CastFields, FrameFields, CastFrame, StatusFrame, RequestFrame}
-use Rattle.cb_frames.specs.Text.{cast_kind, cast_numbers, text_of}
+use Rattle.cb_frames.specs.Fields.{CastFields, StatusFields, FrameFields, CastFrame, StatusFrame, RequestFrame}
+use Rattle.cb_frames.specs.Text.{cast_kind, status_kind, cast_numbers, status_numbers, text_of}
 use Rattle.cb_frames.specs.Reading.{frame_at}
-use Rattle.cb_frames.specs.Laws.{IsBytes}
+use Rattle.cb_frames.specs.Laws.{IsBytes, CanBeWritten}
 use Rattle.cb_frames.proofs.Decoding.{reading_is_exact}
 use Rattle.cb_frames.proofs.Unique.{one_text}
 use Rattle.cb_history.specs.declared.answer.CastRefusal.{CastRefusal}
 use Rattle.cb_history.specs.declared.answer.TickRefusal.{TickRefusal}
 use Rattle.cb_history.specs.declared.answer.Outgoing.{Outgoing}
-use Rattle.cb_history.specs.Group.{Seat}
+use Rattle.cb_history.specs.Group.{Seat, IsSeat}
 use Rattle.cb_history.specs.Facts.{EntryFields, CastEntry, ArriveEntry, TickEntry, facts_of}
 use Rattle.cb_history.specs.Answers.{is_full, is_window_full, next_cast, cast_answer, answer_to, arrive_answer, status_of, tick_answer}
-use Rattle.cb_history.specs.Legal.{longest_history, Call, ToCast, ToTake, ToTick, cast_entry, arrive_entry, tick_entry, entry_of, OneMore}
+use Rattle.cb_history.specs.Legal.{longest_history, Call, ToCast, ToTake, ToTick, OfBytes, cast_entry, arrive_entry, tick_entry, entry_of, AreLegal, NoEntries, OneMore, IsLegal}
 use Rattle.cb_history.specs.LegalFacts.{AreFactsOf}
-use Rattle.cb_history.specs.ReplayLaws.{payload_said, call_of, EntryTellsItsCall, EntriesOfBytesTellBytes, ReplayingDecides}
+use Rattle.cb_history.specs.ReplayLaws.{payload_said, call_of, bytes_in, EntryTellsItsCall, EntriesOfBytesTellBytes, LegalEntriesAreBytes, OneMoreIsDecided, AreReplayed, ReplayingDecides}
 use Rattle.cb_history.proofs.Bounds.{few_facts}
-use Rattle.cb_history.proofs.Written.{cast_can}
+use Rattle.cb_history.proofs.Written.{cast_can, status_can}
 use Rattle.cb_history.proofs.ReadBack.{cast_read}
 use Rattle.cb_history.proofs.Calls.{entry_same}
-use Rattle.cb_history.proofs.Prefixes.{last_entry}
-use Rattle.cb_history.proofs.Histories.{frame_taken, legal_histories_say_legal_facts}
+use Rattle.cb_history.proofs.Prefixes.{last_entry, prefix_is_legal}
+use Rattle.cb_history.proofs.Histories.{frame_taken, legal_histories_say_legal_facts, all_push}
+
+-- ---- what is written is bytes
+
+no_bytes : IsBytes []
+no_bytes i = omega arith
+
+one_more_byte : (b : ℕ) (bytes : List ℕ) → b < 256 → IsBytes bytes → IsBytes (b ∷ bytes)
+one_more_byte b bytes small are zero = small
+one_more_byte b bytes small are (suc i) = are i
+
+both_are_bytes : (front back : List ℕ) → IsBytes front → IsBytes back → IsBytes (front ++ back)
+both_are_bytes [] back are be = be
+both_are_bytes (b ∷ front) back are be = one_more_byte b (front ++ back) (are 0) (both_are_bytes front back (λ i. are (suc i)) be)
+
+top_bits_are_bytes : (front : List ℕ) → AllByRecursion HasTopBit front → IsBytes front
+top_bits_are_bytes [] all = no_bytes
+top_bits_are_bytes (b ∷ front) all = one_more_byte b front all.0.1 (top_bits_are_bytes front all.1)
+
+spelling_is_bytes : (n : ℕ) → n < 2 ^ 32 → IsBytes (spelling n)
+spelling_is_bytes n small =
+    let s = spelled n small in
+    let ends = s.ends in
+    subst IsBytes (sym s.parts) (both_are_bytes s.front (s.last ∷ []) (top_bits_are_bytes s.front s.more) (one_more_byte s.last [] (omega (arith, ends)) no_bytes))
+
+numbers_are_bytes : (ns : List ℕ) → AllByRecursion (λ n. n < 2 ^ 32) ns → IsBytes (flat_map spelling ns)
+numbers_are_bytes [] small = no_bytes
+numbers_are_bytes (n ∷ ns) small = both_are_bytes (spelling n) (flat_map spelling ns) (spelling_is_bytes n small.0) (numbers_are_bytes ns small.1)
+
+cast_is_bytes : (c : CastFields) → CanBeWritten (CastFrame c) → IsBytes c.payload → IsBytes (text_of (CastFrame c))
+unfolding text_of
+cast_is_bytes c can payload =
+    one_more_byte cast_kind (flat_map spelling (cast_numbers c) ++ c.payload) (omega arith) (both_are_bytes (flat_map spelling (cast_numbers c)) c.payload (numbers_are_bytes (cast_numbers c) can.2) payload)
+
+status_is_bytes : (s : StatusFields) → CanBeWritten (StatusFrame s) → IsBytes (text_of (StatusFrame s))
+unfolding text_of
+status_is_bytes s can = one_more_byte status_kind (flat_map spelling (status_numbers s)) (omega arith) (numbers_are_bytes (status_numbers s) can.2)
 
 -- ---- the call is determined
 
-cast_told : (seat : Seat) (entries : List EntryFields) (payload : List ℕ) (e : EntryFields) → AreFactsOf seat (facts_of entries) → cast_entry (cast_answer seat longest_history entries payload) ≡ Some e → call_of e ≡ ToCast payload
+-- the entry tells the call, and is of bytes where the call is
+abbrev Tells : Call → EntryFields → Type 0
+Tells call e = (call_of e ≡ call) × (OfBytes call → IsBytes (bytes_in e))
+
+cast_told : (seat : Seat) (entries : List EntryFields) (payload : List ℕ) (e : EntryFields) → AreFactsOf seat (facts_of entries) → cast_entry (cast_answer seat longest_history entries payload) ≡ Some e → Tells (ToCast payload) e
 unfolding cast_answer
 cast_told seat entries payload e are =
     let c = next_cast seat (facts_of entries) payload in
-    let P : Result CastFields CastRefusal → Type 0 = λ r. cast_entry r ≡ Some e → call_of e ≡ ToCast payload in
+    let P : Result CastFields CastRefusal → Type 0 = λ r. cast_entry r ≡ Some e → Tells (ToCast payload) e in
     cond_both (ltb LONGEST_PAYLOAD (length payload)) _ _ P (λ _ h. absurd cc)
     (λ short. cond_both (is_window_full seat (facts_of entries)) _ _ P (λ _ h. absurd cc)
     (λ _. cond_both (is_full longest_history entries) _ _ P (λ _ h. absurd cc)
     (λ _ h.
     let is : CastEntry (text_of (CastFrame c)) ≡ e = cc in
-    let can = cast_can seat (facts_of entries) payload are.group are.member are.facts_are (few_facts seat (facts_of entries) are.facts_are) (ltb-false LONGEST_PAYLOAD (length payload) short) in
-    ap call_of (sym is) ∙ ap (λ (r : Result FrameFields FrameFault). ToCast (payload_said r)) (cast_read c can))))
+    let can = cast_can seat (facts_of entries) payload are.group are.member are.facts_are (few_facts seat (facts_of entries) are.facts_are) (ltb-false LONGEST_PAYLOAD (length payload) short) in (
+      ap call_of (sym is) ∙ ap (λ (r : Result FrameFields FrameFault). ToCast (payload_said r)) (cast_read c can),
+      (λ bytes. subst (λ (x : EntryFields). IsBytes (bytes_in x)) is (cast_is_bytes c can bytes)),
+    ))))
 
-arrival_told : (seat : Seat) (entries : List EntryFields) (bytes : List ℕ) (e : EntryFields) (r : Result FrameFields FrameFault) → arrive_entry bytes (answer_to seat longest_history entries r) ≡ Some e → call_of e ≡ ToTake bytes
-arrival_told seat entries bytes e (Ok frame) h = ap call_of (sym (frame_taken seat entries bytes e frame h).is)
+arrival_told : (seat : Seat) (entries : List EntryFields) (bytes : List ℕ) (e : EntryFields) (r : Result FrameFields FrameFault) → arrive_entry bytes (answer_to seat longest_history entries r) ≡ Some e → Tells (ToTake bytes) e
+arrival_told seat entries bytes e (Ok frame) h =
+    let is = (frame_taken seat entries bytes e frame h).is in
+    (ap call_of (sym is), (λ are. subst (λ (x : EntryFields). IsBytes (bytes_in x)) is are))
 arrival_told seat entries bytes e (Err fault) h = absurd cc
 
-tick_told : (status : List ℕ) (r : Result (Bool × List Outgoing) TickRefusal) (e : EntryFields) → tick_entry status r ≡ Some e → call_of e ≡ ToTick
-tick_told status (Ok (true, out)) e h = let is : TickEntry status ≡ e = cc in ap call_of (sym is)
-tick_told status (Ok (false, out)) e h = absurd cc
-tick_told status (Err refusal) e h = absurd cc
+status_entered : (status : List ℕ) (r : Result (Bool × List Outgoing) TickRefusal) (e : EntryFields) → tick_entry status r ≡ Some e → TickEntry status ≡ e
+status_entered status (Ok (true, out)) e h = cc
+status_entered status (Ok (false, out)) e h = absurd cc
+status_entered status (Err refusal) e h = absurd cc
 
-call_told : (seat : Seat) (entries : List EntryFields) (call : Call) (e : EntryFields) → AreFactsOf seat (facts_of entries) → entry_of seat longest_history entries call ≡ Some e → call_of e ≡ call
+tick_told : (seat : Seat) (entries : List EntryFields) (e : EntryFields) → AreFactsOf seat (facts_of entries) → TickEntry (text_of (StatusFrame (status_of seat (facts_of entries)))) ≡ e → Tells ToTick e
+tick_told seat entries e are is =
+    let can = status_can seat (facts_of entries) are.group are.member are.facts_are (few_facts seat (facts_of entries) are.facts_are) in
+    (ap call_of (sym is), (λ _. subst (λ (x : EntryFields). IsBytes (bytes_in x)) is (status_is_bytes (status_of seat (facts_of entries)) can)))
+
+call_told : (seat : Seat) (entries : List EntryFields) (call : Call) (e : EntryFields) → AreFactsOf seat (facts_of entries) → entry_of seat longest_history entries call ≡ Some e → Tells call e
 unfolding arrive_answer
 call_told seat entries (ToCast payload) e are h = cast_told seat entries payload e are h
 call_told seat entries (ToTake bytes) e are h = arrival_told seat entries bytes e (frame_at bytes) h
-call_told seat entries ToTick e are h = tick_told (text_of (StatusFrame (status_of seat (facts_of entries)))) (tick_answer seat longest_history entries) e h
+call_told seat entries ToTick e are h =
+    tick_told seat entries e are (status_entered (text_of (StatusFrame (status_of seat (facts_of entries)))) (tick_answer seat longest_history entries) e h)
 
 pub entry_tells_its_call : EntryTellsItsCall
 entry_tells_its_call seat limit entries call e most legal h =
-    call_told seat entries call e (legal_histories_say_legal_facts seat entries legal) (entry_same seat limit entries call e most h)
+    (call_told seat entries call e (legal_histories_say_legal_facts seat entries legal) (entry_same seat limit entries call e most h)).0
 
--- ---- bytes
+-- ---- what is read is bytes
 
 back_is_bytes : (front back : List ℕ) → IsBytes (front ++ back) → IsBytes back
 back_is_bytes front back bytes i = subst (λ (n : ℕ). n < 256) (get_or-append-add front back i 0) (bytes (length front + i))
-
-no_bytes : IsBytes []
-no_bytes i = omega arith
 
 payload_is_bytes : (frame : List ℕ) (c : CastFields) → IsBytes frame → frame_at frame ≡ Ok (CastFrame c) → IsBytes c.payload
 unfolding text_of
@@ -89,14 +138,48 @@ entries_of_bytes_tell_bytes (TickEntry status) bytes = tt
 
 -- ---- replaying
 
-pub replaying_decides : ReplayingDecides
-replaying_decides seat entries e legal bytes = (
+all_bytes : (seat : Seat) (entries : List EntryFields) → IsSeat seat → AreLegal seat entries → AllByRecursion (λ e. IsBytes (bytes_in e)) entries
+all_bytes seat _ is NoEntries = tt
+all_bytes seat _ is (OneMore entries call e legal bytes added) =
+    let facts = legal_histories_say_legal_facts seat entries (record { group = is.group; member = is.member; entries_are = legal }) in
+    all_push (λ x. IsBytes (bytes_in x)) entries e (all_bytes seat entries is legal) ((call_told seat entries call e facts added).1 bytes)
+
+pub legal_entries_are_bytes : LegalEntriesAreBytes
+legal_entries_are_bytes seat entries legal = all_bytes seat entries (record { group = legal.group; member = legal.member }) legal.entries_are
+
+last_of_all : (P : EntryFields → Type 0) (entries : List EntryFields) (e : EntryFields) → AllByRecursion P (entries ++ e ∷ []) → P e
+last_of_all P [] e all = all.0
+last_of_all P (x ∷ entries) e all = last_of_all P entries e all.1
+
+pub one_more_is_decided : OneMoreIsDecided
+one_more_is_decided seat entries e legal = (
   (λ more.
       let last = last_entry seat entries e more.entries_are in
-      subst (λ (call : Call). entry_of seat longest_history entries call ≡ Some e) (sym (call_told seat entries last.0 e (legal_histories_say_legal_facts seat entries legal) last.1)) last.1),
-  (λ adds. record {
+      let told = (call_told seat entries last.0 e (legal_histories_say_legal_facts seat entries legal) last.1).0 in (
+        last_of_all (λ x. IsBytes (bytes_in x)) entries e (legal_entries_are_bytes seat (entries ++ e ∷ []) more),
+        subst (λ (call : Call). entry_of seat longest_history entries call ≡ Some e) (sym told) last.1,
+      )),
+  (λ added. record {
     group = legal.group;
     member = legal.member;
-    entries_are = OneMore entries (call_of e) e legal.entries_are (entries_of_bytes_tell_bytes e bytes) adds;
+    entries_are = OneMore entries (call_of e) e legal.entries_are (entries_of_bytes_tell_bytes e added.0) added.1;
   }),
+)
+
+replayed_is_legal : (seat : Seat) (before more : List EntryFields) → IsLegal seat before → AreReplayed seat before more → IsLegal seat (before ++ more)
+replayed_is_legal seat before [] legal replayed = subst (IsLegal seat) (sym (append-nil before)) legal
+replayed_is_legal seat before (e ∷ more) legal replayed =
+    subst (IsLegal seat) (append_assoc before (e ∷ []) more) (replayed_is_legal seat (before ++ e ∷ []) more ((one_more_is_decided seat before e legal).1 replayed.0) replayed.1)
+
+legal_is_replayed : (seat : Seat) (before more : List EntryFields) → IsLegal seat (before ++ more) → AreReplayed seat before more
+legal_is_replayed seat before [] legal = tt
+legal_is_replayed seat before (e ∷ more) legal =
+    let all : IsLegal seat ((before ++ e ∷ []) ++ more) = subst (IsLegal seat) (sym (append_assoc before (e ∷ []) more)) legal in
+    let one = prefix_is_legal seat (before ++ e ∷ []) more all in
+    ((one_more_is_decided seat before e (prefix_is_legal seat before (e ∷ []) one)).0 one, legal_is_replayed seat (before ++ e ∷ []) more all)
+
+pub replaying_decides : ReplayingDecides
+replaying_decides seat entries is = (
+  (λ legal. legal_is_replayed seat [] entries legal),
+  (λ replayed. replayed_is_legal seat [] entries (record { group = is.group; member = is.member; entries_are = NoEntries }) replayed),
 )

@@ -1,10 +1,11 @@
 -- The call that made an entry, read off the entry: so replaying decides whether a history is legal.
 use Rattle.std.specs.Prelude.{◌≡◌, ◌↔◌, ℕ, ◌≤◌, List, [], ◌∷◌, ◌++◌, Some, Result, Ok, Err}
+use Rattle.std.specs.List.{AllByRecursion}
 use Rattle.cb_frames.specs.declared.fault.FrameFault.{FrameFault}
 use Rattle.cb_frames.specs.Fields.{FrameFields, CastFrame, StatusFrame, RequestFrame}
 use Rattle.cb_frames.specs.Reading.{frame_at}
 use Rattle.cb_frames.specs.Laws.{IsBytes}
-use Rattle.cb_history.specs.Group.{Seat}
+use Rattle.cb_history.specs.Group.{Seat, IsSeat}
 use Rattle.cb_history.specs.Facts.{EntryFields, CastEntry, ArriveEntry, TickEntry}
 use Rattle.cb_history.specs.Legal.{longest_history, Call, ToCast, ToTake, ToTick, OfBytes, entry_of, IsLegal}
 
@@ -35,7 +36,23 @@ EntryTellsItsCall = (seat : Seat) (limit : ℕ) (entries : List EntryFields) (ca
 abbrev pub EntriesOfBytesTellBytes : Type 0
 EntriesOfBytesTellBytes = (e : EntryFields) → IsBytes (bytes_in e) → OfBytes (call_of e)
 
--- One more entry of bytes is legal exactly where the call that it tells adds this very entry.
+-- and the entries of a legal history are of bytes
+abbrev pub LegalEntriesAreBytes : Type 0
+LegalEntriesAreBytes = (seat : Seat) (entries : List EntryFields) → IsLegal seat entries → AllByRecursion (λ e. IsBytes (bytes_in e)) entries
+
+-- the entry is of bytes, and the call that it tells adds it to these entries
+abbrev pub IsAdded : Seat → List EntryFields → EntryFields → Type 0
+IsAdded seat entries e = IsBytes (bytes_in e) × (entry_of seat longest_history entries (call_of e) ≡ Some e)
+
+-- behind a legal history exactly such an entry is legal
+abbrev pub OneMoreIsDecided : Type 0
+OneMoreIsDecided = (seat : Seat) (entries : List EntryFields) (e : EntryFields) → IsLegal seat entries → IsLegal seat (entries ++ e ∷ []) ↔ IsAdded seat entries e
+
+-- behind some entries each of these is added
+abbrev pub AreReplayed : Seat → List EntryFields → List EntryFields → Type 0
+AreReplayed seat before [] = Unit {0}
+AreReplayed seat before (e ∷ entries) = IsAdded seat before e × AreReplayed seat (before ++ e ∷ []) entries
+
+-- A history of a member of a group is legal exactly where replaying it from the start gives it again.
 abbrev pub ReplayingDecides : Type 0
-ReplayingDecides = (seat : Seat) (entries : List EntryFields) (e : EntryFields) → IsLegal seat entries → IsBytes (bytes_in e)
-    → IsLegal seat (entries ++ e ∷ []) ↔ (entry_of seat longest_history entries (call_of e) ≡ Some e)
+ReplayingDecides = (seat : Seat) (entries : List EntryFields) → IsSeat seat → IsLegal seat entries ↔ AreReplayed seat [] entries

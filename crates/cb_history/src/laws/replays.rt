@@ -1,11 +1,13 @@
 //! The calls that the entries of a history tell.
 
-ghost use Rattle.cb_history.specs.ReplayLaws.{EntryTellsItsCall, EntriesOfBytesTellBytes, ReplayingDecides};
+ghost use Rattle.cb_history.specs.ReplayLaws.{EntryTellsItsCall, EntriesOfBytesTellBytes, LegalEntriesAreBytes, OneMoreIsDecided, ReplayingDecides};
 
-/// An entry tells the call that added it, and no other call adds it. So replaying decides whether a history is legal: each entry is
-/// legal exactly where the call that it tells adds it to those before it.
+/// An entry tells the call that added it, and no other call adds it. So replaying decides whether a history is legal: it is exactly
+/// where its entries are of bytes and each is added by the call that it tells to those before it.
 pub fn entries_tell_their_calls()
     ensures call { EntryTellsItsCall }
     ensures bytes { EntriesOfBytesTellBytes }
+    ensures legal { LegalEntriesAreBytes }
+    ensures one_more { OneMoreIsDecided }
     ensures decides { ReplayingDecides }
 {}
