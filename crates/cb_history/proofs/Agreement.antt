@@ -1,6 +1,6 @@
 -- Members that have the same frames of a sender tell the same times of its messages.
 use Rattle.std.proofs.Common.{◌≡◌, ◌≢◌, ℕ, zero, suc, ◌+◌, ◌-◌, ◌≤◌, Bool, true, false, ◌&&◌, ◌||◌, cond, eqb, List, [], ◌∷◌, min, refl, sym, ap, subst, ◌∙◌, arith, inl, inr}
-use Rattle.std.specs.List.{AllByRecursion, sum_by}
+use Rattle.std.specs.List.{AllByRecursion}
 use Rattle.std.proofs.lemmas.Bool.{cases_eq, cases_lt, eq-eqb, ne_eqb, and_left, and_right}
 use Rattle.std.proofs.lemmas.List.Sums.{sum_by-cons}
 use Rattle.cb_frames.specs.Fields.{CastFields, Carried, growth_in}
@@ -11,10 +11,6 @@ use Rattle.cb_history.specs.TimeLaws.{SameFrames, TimesAgree}
 use Rattle.cb_history.proofs.Views.{IsIn, all_in_range}
 use Rattle.cb_history.proofs.Names.{all_stand, message}
 use Rattle.cb_diffs.proofs.Sums.{total, growth_of-other, growth_of-later, growth_of-own}
-use Rattle.cb_diffs.proofs.Sums.{growth_of-other, growth_of-later, growth_of-own}
-
-abbrev pub total : List CastFields → ℕ → ℕ → ℕ → ℕ
-total casts sender number k = sum_by (growth_of sender number k) casts
 
 -- a cast of another message adds as much to the next message's time as to the one before
 same_growth : (sender n k : ℕ) (c : CastFields) → (c.sender ≡ sender → c.number ≡ n + 1 → ⊥) → growth_of sender (n + 1) k c ≡ growth_of sender n k c

@@ -1,21 +1,17 @@
 -- Readiness is the delay rule, and the deliveries one after another.
-use Rattle.std.proofs.Common.{◌≡◌, ◌≢◌, ℕ, zero, suc, ◌+◌, ◌<◌, ◌≤◌, ◌↔◌, Bool, true, false, not, ◌&&◌, cond, eqb, leb, List, [], ◌∷◌, ◌++◌, length, map, max, Option, Some, None, refl, sym, ap, subst, ◌∙◌, arith, inl, inr}
+use Rattle.std.proofs.Common.{◌≡◌, ◌≢◌, ℕ, zero, suc, ◌+◌, ◌<◌, ◌≤◌, Bool, true, false, not, ◌&&◌, cond, eqb, leb, List, [], ◌∷◌, ◌++◌, length, map, max, Option, Some, None, refl, sym, ap, subst, ◌∙◌, arith, inl, inr}
 use Rattle.std.specs.List.{filter, list_all, range_with_len}
 use Rattle.std.proofs.lemmas.Bool.{cases_eq, cases_lt, cond_both, eq-eqb, ne_eqb, eqb-true, leb-true, le-leb, lt-leb, false_from_ne_true}
 use Rattle.std.proofs.lemmas.List.{get_or_past, ext_get_or}
 use Rattle.std.proofs.lemmas.List.FromFn.{length-map-range_with_len, get_or-map-range_with_len}
 use Rattle.cb_times.specs.Order.{field}
-use Rattle.cb_times.specs.Time.{IsRaised}
 use Rattle.cb_frames.specs.Fields.{CastFields, Carried}
-use Rattle.cb_delay.specs.Rule.{IsReady}
 use Rattle.cb_diffs.specs.Expansion.{expanded_field, expanded_time}
-use Rattle.cb_history.specs.Group.{Seat}
-use Rattle.cb_history.specs.Facts.{Fact, casts_in, messages_in}
-use Rattle.cb_history.specs.View.{count, counts, expanded_in, is_expanded, is_among, is_in_time, is_ready, lesser_sender, of_smallest_sender, next_delivery, with_next, drained, drain, view}
-use Rattle.cb_history.specs.LegalFacts.{AreFactsOf}
+use Rattle.cb_history.specs.Facts.{casts_in, messages_in}
+use Rattle.cb_history.specs.View.{count, counts, expanded_in, is_among, is_in_time, is_ready, lesser_sender, of_smallest_sender, next_delivery, with_next, drained, view}
 use Rattle.cb_history.specs.NameLaws.{NamesDiffer, InOrderAfter, IsOneOf}
 use Rattle.cb_history.specs.TimeLaws.{InTimeAfter}
-use Rattle.cb_history.specs.DeliveryLaws.{MeetsRule, ReadinessIsTheDelayRule, RuleOfTimes, NothingIsNext, IsReadyOfSmallestSender, NextIsSmallestReady, AreOfMembers, IsOnTheWay, SmallestReadyIsNext, ViewsAreOnTheWay, DeliveryLeavesOnTheWay, RaisingCountsTheDelivery, DrainGoesOn, DrainEnds, MeetRuleAfter, ViewMeetsTheRule, ViewIsOfMembers}
+use Rattle.cb_history.specs.DeliveryLaws.{MeetsRule, ReadinessIsTheDelayRule, RuleOfTimes, NothingIsNext, NextIsSmallestReady, SmallestReadyIsNext, ViewsAreOnTheWay, DeliveryLeavesOnTheWay, RaisingCountsTheDelivery, DrainGoesOn, DrainEnds, MeetRuleAfter, ViewMeetsTheRule, ViewIsOfMembers}
 use Rattle.cb_history.proofs.Views.{IsIn, next_is, next_is_the_only_candidate, ready_is_new, expanded_is_there, test_true, all_in_range, some_same, left, left_most, left_shrinks}
 use Rattle.cb_history.proofs.Lists.{count_own, count_other, in_is_among, in_push, order_push}
 use Rattle.cb_history.proofs.Names.{all_stand, one_of_is_in, in_is_one_of, view_is_in_order}

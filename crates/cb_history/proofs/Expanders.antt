@@ -22,7 +22,8 @@ use Rattle.cb_history.specs.ExpanderLaws.{NewExpanderKeepsNothing, CastBehindIsN
 use Rattle.cb_history.proofs.Views.{IsIn}
 use Rattle.cb_history.proofs.Names.{all_stand}
 use Rattle.cb_history.proofs.Times.{same_over_range, times_stay}
-use Rattle.cb_history.proofs.Agreement.{total, one_adds, nothing_at_zero}
+use Rattle.cb_history.proofs.Agreement.{one_adds, nothing_at_zero}
+use Rattle.cb_diffs.proofs.Sums.{total}
 use Rattle.cb_history.proofs.Runs.{expanded_up_to_the_count}
 use Rattle.cb_history.proofs.Buffers.{cast_is_there, cast_of_is_in}
 use Rattle.cb_history.proofs.Arrivals.{casts_are_of_the_group}

@@ -1,6 +1,5 @@
 -- The events of a member, fact by fact.
 use Rattle.std.proofs.Common.{◌≡◌, ◌≢◌, ℕ, ◌+◌, ◌<◌, ◌≤◌, true, false, cond, eqb, List, [], ◌∷◌, ◌++◌, length, map, drop, refl, sym, ap, subst, ◌∙◌, arith, inl, inr}
-use Rattle.std.specs.List.{range_with_len}
 use Rattle.std.proofs.lemmas.Bool.{cases_lt, cases_eq, eq-eqb, ne_eqb, false_from_ne_true}
 use Rattle.std.proofs.lemmas.List.{append-nil, map-append, drop_at}
 use Rattle.cb_times.specs.Order.{field}
@@ -10,14 +9,14 @@ use Rattle.cb_delay.specs.declared.message.Event.{Event}
 use Rattle.cb_delay.specs.declared.message.Event.TheVariants.{Cast, Deliver}
 use Rattle.cb_diffs.specs.Expansion.{expanded_field, expanded_time}
 use Rattle.cb_history.specs.Group.{Seat}
-use Rattle.cb_history.specs.Facts.{Fact, OwnCast, CastCame, StatusCame, OwnStatus, cast_in, casts_in, messages_in}
+use Rattle.cb_history.specs.Facts.{Fact, OwnCast, CastCame, StatusCame, OwnStatus, casts_in, messages_in}
 use Rattle.cb_history.specs.View.{count, expanded_in, is_expanded, is_among, is_ready, view, message_in}
-use Rattle.cb_history.specs.Answers.{own_casts, deliveries, delivered}
+use Rattle.cb_history.specs.Answers.{own_casts, deliveries}
 use Rattle.cb_history.specs.Events.{event_in, events}
-use Rattle.cb_history.specs.LegalFacts.{IsStep, AreLegalFacts, NoFacts, OneFactMore, AreFactsOf}
+use Rattle.cb_history.specs.LegalFacts.{AreLegalFacts, NoFacts, OneFactMore, AreFactsOf}
 use Rattle.cb_history.specs.DeliveryLaws.{MeetsRule}
 use Rattle.cb_history.specs.EventLaws.{new_events, EventsWithOneMore, carried_in, casts_among, EventsCastTheOwn, OwnCastMakesReady}
-use Rattle.cb_history.proofs.Views.{IsIn, filter_in, casts_in-append, ready_is_new, among_more, expanded_is_there}
+use Rattle.cb_history.proofs.Views.{IsIn, filter_in, casts_in-append, among_more, expanded_is_there}
 use Rattle.cb_history.proofs.Lists.{flat_map-append, count-append, count_own, count_other}
 use Rattle.cb_history.proofs.Walks.{view_grows, view_own, view_status, view_told, own_casts-own, own_casts-other}
 use Rattle.cb_history.proofs.Names.{StandsAt, all_stand, message, one_of_is_in}

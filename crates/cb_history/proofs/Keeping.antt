@@ -1,29 +1,28 @@
 -- The least of what is known, and the frames that are kept.
-use Rattle.std.proofs.Common.{◌≡◌, ◌≢◌, ℕ, zero, suc, ◌+◌, ◌-◌, ◌<◌, ◌≤◌, ◌↔◌, Bool, true, false, not, cond, ◌&&◌, ◌||◌, eqb, leb, ltb, List, [], ◌∷◌, ◌++◌, length, map, take, drop, max, min, refl, sym, ap, subst, ◌∙◌, arith, inl, inr}
+use Rattle.std.proofs.Common.{◌≡◌, ◌≢◌, ℕ, zero, suc, ◌+◌, ◌-◌, ◌<◌, ◌≤◌, Bool, true, false, not, cond, eqb, ltb, List, [], ◌∷◌, ◌++◌, length, map, take, drop, refl, sym, ap, subst, ◌∙◌, arith, inl, inr}
 use Rattle.std.specs.FinMap as fin
 use Rattle.std.specs.Ordering.{nat_cmp}
-use Rattle.std.specs.List.{filter, list_any, enumerate_from, range_with_len}
+use Rattle.std.specs.List.{filter, enumerate_from, range_with_len}
 use Rattle.std.proofs.Math.Bool.{or-false}
-use Rattle.std.proofs.lemmas.Bool.{cases_eq, cases_lt, cond_both, eq-eqb, ne_eqb, le-leb, leb-true, lt-leb, le-ltb, lt-ltb, false_from_ne_true}
-use Rattle.std.proofs.lemmas.List.{length-map, length-append, length-drop, drop-append-le, drop-map, map-append}
+use Rattle.std.proofs.lemmas.Bool.{cases_eq, cases_lt, eq-eqb, ne_eqb, le-leb, leb-true, le-ltb, lt-ltb}
+use Rattle.std.proofs.lemmas.List.{length-map, length-drop, drop-append-le, drop-map, map-append}
 use Rattle.cb_frames.specs.declared.frame.TheConstants.{LAST_NUMBER, MOST_FRAMES}
 use Rattle.cb_frames.specs.declared.frame.Range.{Range}
-use Rattle.cb_frames.specs.Fields.{CastFields, RequestFields, CastFrame, RequestFrame, first_number, last_number}
+use Rattle.cb_frames.specs.Fields.{CastFields, CastFrame, first_number, last_number}
 use Rattle.cb_frames.specs.Text.{text_of}
-use Rattle.cb_stability.specs.Known as acks
 use Rattle.cb_stability.specs.Ranges.{is_in_some}
-use Rattle.cb_stability.specs.Sent.{Sent, Keeps, room_of, frames_in}
+use Rattle.cb_stability.specs.Sent.{Sent, room_of}
 use Rattle.cb_stability.proofs.Windows.{kept_from, entries-kept, len-kept, push_kept, trim_kept}
 use Rattle.cb_history.specs.declared.answer.Outgoing.{Outgoing}
 use Rattle.cb_history.specs.Group.{Seat}
 use Rattle.cb_history.specs.Facts.{Fact, OwnCast, CastCame, StatusCame, OwnStatus}
 use Rattle.cb_history.specs.View.{count, view}
 use Rattle.cb_history.specs.Known.{acknowledged, stable, least_of}
-use Rattle.cb_history.specs.Answers.{delivered, own_casts, window, is_own_cast, is_window_full, is_asked_for, sent_in_answer}
+use Rattle.cb_history.specs.Answers.{delivered, own_casts, window, is_own_cast, is_window_full, is_asked_for}
 use Rattle.cb_history.specs.Legal.{longest_history}
 use Rattle.cb_history.specs.LegalFacts.{AreFactsOf}
 use Rattle.cb_history.specs.NameLaws.{NumberedFrom}
-use Rattle.cb_history.specs.StabilityLaws.{KnowsAcknowledged, LeastKnownIsStable, numbered_frame, KeepsOwnCasts, NoRoomIsFull, sent_to, FramesInAreSentInAnswer, PutIsOwnCast, TrimIsStable}
+use Rattle.cb_history.specs.StabilityLaws.{LeastKnownIsStable, numbered_frame, KeepsOwnCasts, NoRoomIsFull, sent_to, FramesInAreSentInAnswer, PutIsOwnCast, TrimIsStable}
 use Rattle.cb_history.proofs.Views.{IsIn, filter_in}
 use Rattle.cb_history.proofs.Lists.{count_own}
 use Rattle.cb_history.proofs.Walks.{view_own, own_casts-own, own_casts-other, IsNotOwn}

@@ -1,5 +1,5 @@
 -- A queue that holds what is expanded and not delivered.
-use Rattle.std.proofs.Common.{◌≡◌, ◌≢◌, ℕ, ◌+◌, ◌<◌, ◌≤◌, ◌↔◌, Bool, true, false, ◌&&◌, cond, eqb, List, [], ◌∷◌, ◌++◌, Option, Some, None, refl, sym, ap, subst, ◌∙◌, arith, inl, inr}
+use Rattle.std.proofs.Common.{◌≡◌, ℕ, ◌+◌, ◌<◌, ◌≤◌, Bool, true, false, ◌&&◌, cond, eqb, List, [], ◌∷◌, ◌++◌, Some, None, refl, sym, ap, subst, ◌∙◌, arith, inl, inr}
 use Rattle.std.specs.FinMap as fin
 use Rattle.std.specs.Ordering.{eq_by_cmp}
 use Rattle.std.proofs.lemmas.Bool.{cases_lt, eqb-true, false_from_ne_true}
@@ -9,14 +9,14 @@ use Rattle.cb_frames.specs.Fields.{CastFields, Carried}
 use Rattle.cb_delay.specs.declared.message.Message.{Message}
 use Rattle.cb_delay.specs.Message.{name_cmp}
 use Rattle.cb_delay.specs.Rule.{IsReady}
-use Rattle.cb_delay.specs.Queue.{Queue, IsHeld, HasReady, IsSmallestReady, IsFirst, Releases}
+use Rattle.cb_delay.specs.Queue.{IsHeld, HasReady, IsSmallestReady}
 use Rattle.cb_delay.proofs.Names.{names_total, eq_by_cmp-same, eq_by_cmp-true}
 use Rattle.cb_history.specs.Facts.{messages_in}
-use Rattle.cb_history.specs.View.{count, counts, expanded_in, is_among, is_ready, next_delivery, message_in}
+use Rattle.cb_history.specs.View.{count, counts, expanded_in, is_among, is_ready, message_in}
 use Rattle.cb_history.specs.NameLaws.{IsOneOf}
-use Rattle.cb_history.specs.DeliveryLaws.{MeetsRule, IsOnTheWay, IsReadyOfSmallestSender}
-use Rattle.cb_history.specs.QueueLaws.{IsUndelivered, HoldsUndelivered, HasReadyOf, ReadyIsReady, NextIsOf, NextReadyIsNextDelivery, NoneReadyIsNothingNext, NextDeliveryIsFirst, ReleaseIsDelivery, FirstIsNextDelivery}
-use Rattle.cb_history.proofs.Views.{IsIn, next_is_the_only_candidate, expanded_is_there, among_more, test_true}
+use Rattle.cb_history.specs.DeliveryLaws.{IsOnTheWay}
+use Rattle.cb_history.specs.QueueLaws.{IsUndelivered, HasReadyOf, ReadyIsReady, NextIsOf, NextReadyIsNextDelivery, NoneReadyIsNothingNext, NextDeliveryIsFirst, ReleaseIsDelivery, FirstIsNextDelivery}
+use Rattle.cb_history.proofs.Views.{next_is_the_only_candidate, expanded_is_there, among_more, test_true}
 use Rattle.cb_history.proofs.Lists.{among_by_order, not_among_more}
 use Rattle.cb_history.proofs.Names.{one_of_is_in, in_is_one_of}
 use Rattle.cb_history.proofs.Delivering.{readiness_is_the_delay_rule, rule_of_times, nothing_is_next, next_is_smallest_ready, smallest_ready_is_next, one_message, named_among}

@@ -1,38 +1,38 @@
 //! What the definitions of one member imply, as contracts of functions that do nothing: a file for each subject.
 
-mod deliveries;
-mod events;
 mod arrivals;
 mod buffers;
+mod deliveries;
+mod events;
 mod expander;
 mod expansion;
 mod gaps;
 mod histories;
 mod knowledge;
 mod names;
-mod queue;
-mod stability;
 mod own_frames;
+mod queue;
 mod replays;
+mod stability;
 mod statuses;
 mod times;
 mod view;
 mod windows;
 
-pub use deliveries::{deliveries_come_one_by_one, readiness_is_the_delay_rule};
-pub use events::events_with_one_more_fact;
 pub use arrivals::accepted_casts_are_there;
 pub use buffers::reorder_buffers_hold_what_waits;
+pub use deliveries::{deliveries_come_one_by_one, readiness_is_the_delay_rule};
+pub use events::events_with_one_more_fact;
 pub use expander::the_expander_tells_the_times;
 pub use expansion::what_is_expanded;
 pub use gaps::missing_numbers;
 pub use histories::{calls_keep_histories_legal, histories_say_facts, prefixes_are_legal};
 pub use knowledge::knowledge_grows;
 pub use names::names_and_order;
-pub use queue::queue_releases_the_next_delivery;
-pub use stability::{acknowledgements_give_what_is_stable, windows_keep_own_casts};
 pub use own_frames::own_frames_are_of_the_group;
+pub use queue::queue_releases_the_next_delivery;
 pub use replays::entries_tell_their_calls;
+pub use stability::{acknowledgements_give_what_is_stable, windows_keep_own_casts};
 pub use statuses::statuses_say_the_time;
 pub use times::times_of_messages;
 pub use view::view_with_one_more_fact;
