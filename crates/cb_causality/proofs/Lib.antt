@@ -1,4 +1,5 @@
 pub mod Counting
+pub mod Agreement
 pub mod Places
 pub mod Names
 pub mod Clock

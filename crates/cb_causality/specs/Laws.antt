@@ -8,6 +8,7 @@ use Rattle.cb_causality.specs.Events.{count, numbers_of, consecutive}
 use Rattle.cb_causality.specs.HappenedBefore.{Lists, Place, IsPlace, Path, HappenedBefore}
 use Rattle.cb_causality.specs.CausalMachine.{MayDeliver, Step, Run}
 use Rattle.cb_causality.specs.StampedMachine.{StampedLists, StampedRun, erased, IsTimeOf, DelayRuleAllows}
+use Rattle.cb_causality.specs.Lists.{Agree}
 
 -- it holds of the lists of every run of the causal machine, for every size of the group
 abbrev pub EachRun : (ℕ → Lists → Type 0) → Type 0
@@ -79,3 +80,13 @@ DelayRuleIsExact lists =
 -- no path leads from a place back to it
 abbrev pub IsAcyclic : Lists → Type 0
 IsAcyclic lists = (place : Place) → ¬ Path lists place place
+
+-- it depends on each member's list alone: with some lists it holds of all that agree with them
+abbrev pub DependsOnListsAlone : {X : Type 0} → ((ℕ → List X) → Type 0) → Type 0
+DependsOnListsAlone {X} P = (lists others : ℕ → List X) → Agree lists others → P lists → P others
+
+-- the same of what relates lists before to lists after
+abbrev pub RelatesListsAlone : {X : Type 0} → ((ℕ → List X) → (ℕ → List X) → Type 0) → Type 0
+RelatesListsAlone {X} R =
+    (before after other_before other_after : ℕ → List X)
+    → Agree before other_before → Agree after other_after → R before after → R other_before other_after

@@ -3,6 +3,10 @@ use Rattle.std.specs.Prelude.{◌≡◌, ◌≢◌, ℕ, zero, suc, List, [], �
 use Rattle.std.specs.declared.vec.Vec.{Vec}
 use Rattle.std.specs.declared.alloc.Global.{Global}
 
+-- the lists agree, member by member
+abbrev pub Agree : {X : Type 0} → (ℕ → List X) → (ℕ → List X) → Type 0
+Agree lists others = (k : ℕ) → lists k ≡ others k
+
 -- Member i's list has got x at its end, and the lists of all others are as before.
 -- The lists are given as what each member's list is.
 pub record Appends {X : Type 0} (before after : ℕ → List X) (i : ℕ) (x : X) : Type 0 where

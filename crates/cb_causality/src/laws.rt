@@ -2,9 +2,14 @@
 //!
 //! Each law is a function that does nothing: its contract is the law.
 
-ghost use Rattle.cb_causality.specs.CausalMachine.{Run};
-ghost use Rattle.cb_causality.specs.Laws.{EachRun, EachStep, EachStampedRun, IsAcyclic, IsIrreflexive, IsTransitive, KeepsPaths, TimesTellOrder, TimesCountThePast, TimesHaveSize, IsInOrder, IsErasure, DelayRuleIsExact};
-ghost use Rattle.cb_causality.specs.StampedMachine.{erased};
+ghost use Rattle.std.specs.Prelude.{ℕ};
+ghost use Rattle.cb_causality.specs.CausalMachine.{Run, Step};
+ghost use Rattle.cb_causality.specs.Laws.{EachRun, EachStep, EachStampedRun, IsAcyclic, IsIrreflexive, IsTransitive, KeepsPaths, TimesTellOrder, TimesCountThePast, TimesHaveSize, IsInOrder, IsErasure, DelayRuleIsExact, DependsOnListsAlone, RelatesListsAlone};
+ghost use Rattle.cb_causality.specs.Lists.{Appends};
+ghost use Rattle.cb_causality.specs.StampedMachine.{StampedRun, StampedStep, erased};
+
+use crate::event::CausalEvent;
+use cb_delay::Event;
 
 /// Happened-before is a strict order on the messages of every run of the causal machine (Lamport 1978, "The partial
 /// ordering").
@@ -36,4 +41,20 @@ pub fn stamped_broadcast_is_causal()
 pub fn causal_broadcast_can_be_stamped()
     ensures exact { EachStampedRun (λ size lists. DelayRuleIsExact lists) }
     ensures erasure { EachRun IsErasure }
+{}
+
+/// The machines know the lists alone. Lists that agree, member by member, with those of a run are those of a run. So it is with a
+/// step, and with an event that is appended, for the lists before and after.
+///
+/// Lists may be given in any way that has the right list for each member, as by the state of a schedule, in which other things may
+/// change.
+pub fn machines_know_the_lists_alone()
+    ensures run { (size : ℕ) → DependsOnListsAlone (Run size) }
+    ensures stamped_run { (size : ℕ) → DependsOnListsAlone (StampedRun size) }
+    ensures step { (size : ℕ) → RelatesListsAlone (Step size) }
+    ensures stamped_step { (size : ℕ) → RelatesListsAlone (StampedStep size) }
+    ensures appends { (i : ℕ) (event : CausalEvent)
+        → RelatesListsAlone (λ before after. Appends before after i event) }
+    ensures stamped_appends { (i : ℕ) (event : Event)
+        → RelatesListsAlone (λ before after. Appends before after i event) }
 {}

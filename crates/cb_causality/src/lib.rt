@@ -2,7 +2,7 @@
 //!
 //! `specs/` says what happened-before is (Lamport 1978), what a group of members may do in causal broadcast, and how vector
 //! times and the delay rule do it (Birman, Schiper and Stephenson 1991). The laws, of every run of any length, are the
-//! contracts of four functions that do nothing. `CausalGroup` and `StampedGroup` are the two machines as programs.
+//! contracts of functions that do nothing. `CausalGroup` and `StampedGroup` are the two machines as programs.
 //!
 //! Stands on `cb_times` for names and times and on `cb_delay` for events and the delay rule; payloads are buffers of `bytes`.
 #![tactic(auto)]
@@ -20,8 +20,8 @@ pub use cb_times::Name;
 pub use event::CausalEvent;
 pub use fault::CastFault;
 pub use laws::{
-    causal_broadcast_can_be_stamped, happened_before_is_strict_order, stamped_broadcast_is_causal,
-    steps_keep_the_past,
+    causal_broadcast_can_be_stamped, happened_before_is_strict_order,
+    machines_know_the_lists_alone, stamped_broadcast_is_causal, steps_keep_the_past,
 };
 pub use stamped::StampedGroup;
 
