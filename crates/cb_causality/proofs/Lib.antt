@@ -7,6 +7,7 @@ pub mod Runs
 pub mod Comparing
 pub mod Stamps
 pub mod WayBack
+pub mod Extending
 pub mod GroupLists
 pub mod Deliverable
 pub mod CausalGroups

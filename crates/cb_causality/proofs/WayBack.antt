@@ -71,11 +71,11 @@ none_outside size lists run j k outside =
     ne_eqb (name_of e).sender k (λ same. let differ : ⊥ = omega arith in differ))
 
 -- lists that got x at the end of member i's
-grown : {X : Type 0} → (ℕ → List X) → ℕ → X → ℕ → List X
+pub grown : {X : Type 0} → (ℕ → List X) → ℕ → X → ℕ → List X
 grown lists i x k = cond (eqb k i) (lists k ++ x ∷ []) (lists k)
 
 -- they are the lists to which x was appended
-grown_appends : {X : Type 0} (lists : ℕ → List X) (i : ℕ) (x : X) → Appends lists (grown lists i x) i x
+pub grown_appends : {X : Type 0} (lists : ℕ → List X) (i : ℕ) (x : X) → Appends lists (grown lists i x) i x
 unfolding grown
 grown_appends lists i x = record {
   own = rw (eq-eqb i i refl);

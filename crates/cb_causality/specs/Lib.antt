@@ -2,6 +2,7 @@ pub mod Events
 pub mod HappenedBefore
 pub mod CausalMachine
 pub mod StampedMachine
+pub mod Extension
 pub mod Laws
 pub mod Lists
 pub mod CausalGroup

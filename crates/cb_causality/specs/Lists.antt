@@ -13,6 +13,11 @@ pub record Appends {X : Type 0} (before after : ℕ → List X) (i : ℕ) (x : X
   pub own : after i ≡ before i ++ x ∷ []
   pub others : (k : ℕ) → k ≢ i → after k ≡ before k
 
+-- Member i's list has got these at its end, one after the other, and the lists of all others are as before.
+pub record AppendsAll {X : Type 0} (before after : ℕ → List X) (i : ℕ) (xs : List X) : Type 0 where
+  pub own : after i ≡ before i ++ xs
+  pub others : (k : ℕ) → k ≢ i → after k ≡ before k
+
 -- what a `Vec` of `Vec`s holds
 abbrev pub contents : {X : Type 0} → List (Vec X Global) → List (List X)
 contents vecs = map (λ v. v.items) vecs

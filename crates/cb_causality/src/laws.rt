@@ -4,6 +4,7 @@
 
 ghost use Rattle.std.specs.Prelude.{ℕ};
 ghost use Rattle.cb_causality.specs.CausalMachine.{Run, Step};
+ghost use Rattle.cb_causality.specs.Extension.{DeliveriesInTurnExtend, ErasesToExtension, ExtendsRuns};
 ghost use Rattle.cb_causality.specs.Laws.{EachRun, EachStep, EachStampedRun, IsAcyclic, IsIrreflexive, IsTransitive, KeepsPaths, TimesTellOrder, TimesCountThePast, TimesHaveSize, IsInOrder, IsErasure, DelayRuleIsExact, DependsOnListsAlone, RelatesListsAlone};
 ghost use Rattle.cb_causality.specs.Lists.{Appends};
 ghost use Rattle.cb_causality.specs.StampedMachine.{StampedRun, StampedStep, erased};
@@ -57,4 +58,16 @@ pub fn machines_know_the_lists_alone()
         → RelatesListsAlone (λ before after. Appends before after i event) }
     ensures stamped_appends { (i : ℕ) (event : Event)
         → RelatesListsAlone (λ before after. Appends before after i event) }
+{}
+
+/// Several steps at once. Lists extend others where they come from them by steps, one after the other. A run that is extended is a
+/// run, each list begins with what it was, lists extend themselves, and what extends an extension extends what that one extends.
+/// What extends a stamped run, without the times, extends it by steps of the causal machine.
+///
+/// Deliveries to one member extend the lists where the delay rule allows each once those before it are delivered: a drain is such.
+pub fn runs_are_extended_by_several_steps()
+    ensures causal { (size : ℕ) → ExtendsRuns (Run size) (Step size) }
+    ensures stamped { (size : ℕ) → ExtendsRuns (StampedRun size) (StampedStep size) }
+    ensures erased { (size : ℕ) → ErasesToExtension size }
+    ensures in_turn { (size : ℕ) → DeliveriesInTurnExtend size }
 {}

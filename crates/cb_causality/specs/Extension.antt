@@ -1,0 +1,49 @@
+-- Several steps at once: lists that come from other lists by steps, one after the other.
+use Rattle.std.specs.Prelude.{◌≡◌, ℕ, ◌<◌, List, ◌∷◌, ◌++◌, map}
+use Rattle.cb_delay.specs.declared.message.Message.{Message}
+use Rattle.cb_delay.specs.declared.message.Event.TheVariants.{Deliver}
+use Rattle.cb_causality.specs.Lists.{Agree, AppendsAll}
+use Rattle.cb_causality.specs.CausalMachine.{Step}
+use Rattle.cb_causality.specs.StampedMachine.{StampedLists, StampedStep, StampedRun, DelayRuleAllows, erased}
+
+-- after comes from before by some steps or none, where Step says what one step does
+pub data Extends {X : Type 0} (Step : (ℕ → List X) → (ℕ → List X) → Type 0) (before : ℕ → List X)
+    : (ℕ → List X) → Type 0 where
+  -- by none: the lists agree, member by member
+  Still : (after : ℕ → List X) → Agree before after → Extends Step before after
+  -- by some, and one more
+  Further : (middle after : ℕ → List X) → Extends Step before middle → Step middle after → Extends Step before after
+
+-- what holds of several steps at once, where Run says what a run of the machine is and Step what one step does
+pub record ExtendsRuns {X : Type 0} (Run : (ℕ → List X) → Type 0) (Step : (ℕ → List X) → (ℕ → List X) → Type 0) : Type 0 where
+  -- a run that is extended is a run
+  pub run : (before after : ℕ → List X) → Run before → Extends Step before after → Run after
+  -- lists extend those with which they agree
+  pub reflexive : (before after : ℕ → List X) → Agree before after → Extends Step before after
+  -- one step extends
+  pub one : (before after : ℕ → List X) → Step before after → Extends Step before after
+  -- what extends an extension extends what that one extends
+  pub transitive : (before middle after : ℕ → List X) → Extends Step before middle → Extends Step middle after
+      → Extends Step before after
+  -- each member's list goes on: what it was is its beginning
+  pub beginning : (before after : ℕ → List X) → Extends Step before after
+      → (k : ℕ) → (more : List X) × (after k ≡ before k ++ more)
+
+-- what extends a stamped run, without the times, extends it by steps of the causal machine
+abbrev pub ErasesToExtension : ℕ → Type 0
+ErasesToExtension size =
+    (before after : StampedLists) → StampedRun size before → Extends (StampedStep size) before after
+    → Extends (Step size) (erased before) (erased after)
+
+-- the delay rule lets the receiver deliver these messages one after the other, each once those before it are delivered
+abbrev pub DelayRuleAllowsInTurn : StampedLists → ℕ → List Message → Type 0
+DelayRuleAllowsInTurn lists receiver messages =
+    (earlier later : List Message) (message : Message) → messages ≡ earlier ++ message ∷ later
+    → (now : StampedLists) → AppendsAll lists now receiver (map Deliver earlier) → DelayRuleAllows now receiver message
+
+-- deliveries in turn extend the lists
+abbrev pub DeliveriesInTurnExtend : ℕ → Type 0
+DeliveriesInTurnExtend size =
+    (before after : StampedLists) (receiver : ℕ) (messages : List Message) → receiver < size
+    → DelayRuleAllowsInTurn before receiver messages → AppendsAll before after receiver (map Deliver messages)
+    → Extends (StampedStep size) before after
