@@ -8,6 +8,7 @@ pub mod Comparing
 pub mod Stamps
 pub mod WayBack
 pub mod Extending
+pub mod SmallerSums
 pub mod GroupLists
 pub mod Deliverable
 pub mod CausalGroups

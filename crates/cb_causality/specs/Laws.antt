@@ -1,5 +1,5 @@
 -- What the laws of this crate say.
-use Rattle.std.specs.Prelude.{◌≡◌, ◌≢◌, ℕ, ◌≤◌, ◌⊎◌, ◌↔◌, List, length}
+use Rattle.std.specs.Prelude.{◌≡◌, ◌≢◌, ℕ, ◌<◌, ◌≤◌, ◌⊎◌, ◌↔◌, List, length, take, sum}
 use Rattle.cb_times.specs.Order.{field, Compares}
 use Rattle.cb_times.specs.declared.order.TimeOrder.{TimeOrder}
 use Rattle.cb_times.specs.declared.order.TimeOrder.TheVariants.{Before, After, Same, Concurrent}
@@ -90,3 +90,13 @@ abbrev pub RelatesListsAlone : {X : Type 0} → ((ℕ → List X) → (ℕ → L
 RelatesListsAlone {X} R =
     (before after other_before other_after : ℕ → List X)
     → Agree before other_before → Agree after other_after → R before after → R other_before other_after
+
+-- the sum of the fields 0 to size - 1 of a time
+abbrev pub sum_of_fields : ℕ → List ℕ → ℕ
+sum_of_fields size time = sum (take size time)
+
+-- what happened before a message has a time with a smaller sum of fields
+abbrev pub PastHasSmallerSum : ℕ → StampedLists → Type 0
+PastHasSmallerSum size lists =
+    (a b : Name) (time_a time_b : List ℕ) → IsTimeOf lists a time_a → IsTimeOf lists b time_b
+    → HappenedBefore (erased lists) a b → sum_of_fields size time_a < sum_of_fields size time_b

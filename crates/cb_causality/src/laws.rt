@@ -5,7 +5,7 @@
 ghost use Rattle.std.specs.Prelude.{ℕ};
 ghost use Rattle.cb_causality.specs.CausalMachine.{Run, Step};
 ghost use Rattle.cb_causality.specs.Extension.{DeliveriesInTurnExtend, ErasesToExtension, ExtendsRuns};
-ghost use Rattle.cb_causality.specs.Laws.{EachRun, EachStep, EachStampedRun, IsAcyclic, IsIrreflexive, IsTransitive, KeepsPaths, TimesTellOrder, TimesCountThePast, TimesHaveSize, IsInOrder, IsErasure, DelayRuleIsExact, DependsOnListsAlone, RelatesListsAlone};
+ghost use Rattle.cb_causality.specs.Laws.{EachRun, EachStep, EachStampedRun, IsAcyclic, IsIrreflexive, IsTransitive, KeepsPaths, TimesTellOrder, TimesCountThePast, TimesHaveSize, IsInOrder, IsErasure, DelayRuleIsExact, DependsOnListsAlone, RelatesListsAlone, PastHasSmallerSum};
 ghost use Rattle.cb_causality.specs.Lists.{Appends};
 ghost use Rattle.cb_causality.specs.StampedMachine.{StampedRun, StampedStep, erased};
 
@@ -70,4 +70,10 @@ pub fn runs_are_extended_by_several_steps()
     ensures stamped { (size : ℕ) → ExtendsRuns (StampedRun size) (StampedStep size) }
     ensures erased { (size : ℕ) → ErasesToExtension size }
     ensures in_turn { (size : ℕ) → DeliveriesInTurnExtend size }
+{}
+
+/// What happened before a message has a time with a smaller sum of fields, over the fields 0 to size - 1. So a proof of something of
+/// each message from what happened before it is an induction on this sum.
+pub fn past_has_a_smaller_sum()
+    ensures { EachStampedRun PastHasSmallerSum }
 {}
