@@ -9,6 +9,7 @@ pub mod Stamps
 pub mod WayBack
 pub mod Extending
 pub mod SmallerSums
+pub mod OneMessage
 pub mod GroupLists
 pub mod Deliverable
 pub mod CausalGroups

@@ -245,12 +245,12 @@ pub stamped_is_causal : (size : ℕ) (lists : StampedLists) → StampedRun size 
 stamped_is_causal size lists r = (run_stamped size lists r).causal
 
 -- an event has one name, with its time and without
-name_stays : (s : Event) → name_of (without_time s) ≡ (message_of s).name
+pub name_stays : (s : Event) → name_of (without_time s) ≡ (message_of s).name
 name_stays (stamped.Cast message) = refl
 name_stays (stamped.Deliver message) = refl
 
 -- the time that stands with a message is the clock of its cast
-time_is_clock : (size : ℕ) (lists : StampedLists) → StampedRun size lists → (m : Name) (time : List ℕ) → IsTimeOf lists m time → IsClockOf (erased lists) m time
+pub time_is_clock : (size : ℕ) (lists : StampedLists) → StampedRun size lists → (m : Name) (time : List ℕ) → IsTimeOf lists m time → IsClockOf (erased lists) m time
 time_is_clock size lists r m time t =
     subst (λ (x : Name). IsClockOf (erased lists) x time) (name_stays t.event ∙ t.named)
     (subst (λ (x : List ℕ). IsClockOf (erased lists) (name_of (without_time t.event)) x) t.timed

@@ -4,11 +4,13 @@ use Rattle.cb_times.specs.Order.{field, Compares}
 use Rattle.cb_times.specs.declared.order.TimeOrder.{TimeOrder}
 use Rattle.cb_times.specs.declared.order.TimeOrder.TheVariants.{Before, After, Same, Concurrent}
 use Rattle.cb_times.specs.declared.name.Name.{Name}
-use Rattle.cb_causality.specs.Events.{count, numbers_of, consecutive}
+use Rattle.cb_delay.specs.declared.message.Event.{Event}
+use Rattle.cb_causality.specs.declared.event.CausalEvent.{CausalEvent}
+use Rattle.cb_causality.specs.Events.{name_of, payload_of, count, numbers_of, consecutive}
 use Rattle.cb_causality.specs.HappenedBefore.{Lists, Place, IsPlace, Path, HappenedBefore}
 use Rattle.cb_causality.specs.CausalMachine.{MayDeliver, Step, Run}
-use Rattle.cb_causality.specs.StampedMachine.{StampedLists, StampedRun, erased, IsTimeOf, DelayRuleAllows}
-use Rattle.cb_causality.specs.Lists.{Agree}
+use Rattle.cb_causality.specs.StampedMachine.{StampedLists, StampedRun, message_of, erased, IsTimeOf, DelayRuleAllows}
+use Rattle.cb_causality.specs.Lists.{Agree, StandsIn}
 
 -- it holds of the lists of every run of the causal machine, for every size of the group
 abbrev pub EachRun : (ℕ → Lists → Type 0) → Type 0
@@ -100,3 +102,18 @@ abbrev pub PastHasSmallerSum : ℕ → StampedLists → Type 0
 PastHasSmallerSum size lists =
     (a b : Name) (time_a time_b : List ℕ) → IsTimeOf lists a time_a → IsTimeOf lists b time_b
     → HappenedBefore (erased lists) a b → sum_of_fields size time_a < sum_of_fields size time_b
+
+-- the field of a message's sender in its time is its number
+abbrev pub OwnFieldIsNumber : StampedLists → Type 0
+OwnFieldIsNumber lists = (m : Name) (time : List ℕ) → IsTimeOf lists m time → field time m.sender ≡ m.number
+
+-- events of one name have one payload
+abbrev pub OneNameOnePayload : Lists → Type 0
+OneNameOnePayload lists =
+    (e f : CausalEvent) → StandsIn lists e → StandsIn lists f → name_of e ≡ name_of f → payload_of e ≡ payload_of f
+
+-- events of one name are of one message, so that their times and their payloads are the same
+abbrev pub OneNameOneMessage : StampedLists → Type 0
+OneNameOneMessage lists =
+    (e f : Event) → StandsIn lists e → StandsIn lists f
+    → (message_of e).name ≡ (message_of f).name → message_of e ≡ message_of f

@@ -1,11 +1,15 @@
 -- A list of events for each member of a group.
-use Rattle.std.specs.Prelude.{◌≡◌, ◌≢◌, ℕ, zero, suc, List, [], ◌∷◌, ◌++◌, map}
+use Rattle.std.specs.Prelude.{◌≡◌, ◌≢◌, ℕ, zero, suc, List, [], ◌∷◌, ◌++◌, map, slice_get, Some}
 use Rattle.std.specs.declared.vec.Vec.{Vec}
 use Rattle.std.specs.declared.alloc.Global.{Global}
 
 -- the lists agree, member by member
 abbrev pub Agree : {X : Type 0} → (ℕ → List X) → (ℕ → List X) → Type 0
 Agree lists others = (k : ℕ) → lists k ≡ others k
+
+-- x stands in the list of some member
+abbrev pub StandsIn : {X : Type 0} → (ℕ → List X) → X → Type 0
+StandsIn lists x = (member : ℕ) × (index : ℕ) × (slice_get (lists member) index ≡ Some x)
 
 -- Member i's list has got x at its end, and the lists of all others are as before.
 -- The lists are given as what each member's list is.

@@ -5,7 +5,7 @@
 ghost use Rattle.std.specs.Prelude.{ℕ};
 ghost use Rattle.cb_causality.specs.CausalMachine.{Run, Step};
 ghost use Rattle.cb_causality.specs.Extension.{DeliveriesInTurnExtend, ErasesToExtension, ExtendsRuns};
-ghost use Rattle.cb_causality.specs.Laws.{EachRun, EachStep, EachStampedRun, IsAcyclic, IsIrreflexive, IsTransitive, KeepsPaths, TimesTellOrder, TimesCountThePast, TimesHaveSize, IsInOrder, IsErasure, DelayRuleIsExact, DependsOnListsAlone, RelatesListsAlone, PastHasSmallerSum};
+ghost use Rattle.cb_causality.specs.Laws.{EachRun, EachStep, EachStampedRun, IsAcyclic, IsIrreflexive, IsTransitive, KeepsPaths, TimesTellOrder, TimesCountThePast, TimesHaveSize, IsInOrder, IsErasure, DelayRuleIsExact, DependsOnListsAlone, RelatesListsAlone, PastHasSmallerSum, OwnFieldIsNumber, OneNameOnePayload, OneNameOneMessage};
 ghost use Rattle.cb_causality.specs.Lists.{Appends};
 ghost use Rattle.cb_causality.specs.StampedMachine.{StampedRun, StampedStep, erased};
 
@@ -76,4 +76,12 @@ pub fn runs_are_extended_by_several_steps()
 /// each message from what happened before it is an induction on this sum.
 pub fn past_has_a_smaller_sum()
     ensures { EachStampedRun PastHasSmallerSum }
+{}
+
+/// A name tells its message. The field of a message's sender in its time is its number. All events of one name have one payload, in
+/// every run of the causal machine; in every stamped run they have one time as well.
+pub fn a_name_tells_its_message()
+    ensures number { EachStampedRun (λ size lists. OwnFieldIsNumber lists) }
+    ensures payload { EachRun (λ size lists. OneNameOnePayload lists) }
+    ensures message { EachStampedRun (λ size lists. OneNameOneMessage lists) }
 {}
