@@ -2,3 +2,4 @@ pub mod Entries
 pub mod Kept
 pub mod Gaps
 pub mod OneList
+pub mod Rows

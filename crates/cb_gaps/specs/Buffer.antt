@@ -8,6 +8,7 @@ use Rattle.cb_frames.specs.declared.frame.Change.{Change}
 use Rattle.cb_frames.specs.Fields.{CastFields, first_number, last_number}
 use Rattle.cb_gaps.specs.declared.buffer.Admission.{Admission}
 use Rattle.cb_gaps.specs.declared.buffer.Admission.TheVariants.{Kept, Repeat, TooFar}
+use Rattle.cb_gaps.specs.Ranges.{IsRow}
 
 -- how far ahead casts are accepted, how many messages were taken, and the casts kept, each by the number of its first message
 pub record Buffer : Type 0 where
@@ -61,6 +62,18 @@ pub record IsNext (buffer : Buffer) (cast : CastFields) : Type 0 where
 -- and what taking it leaves
 abbrev pub Takes : Buffer → CastFields → Buffer → Type 0
 Takes old cast new = new ≡ record old { taken = last_number cast; kept = map.remove old.kept (first_number cast) }
+
+-- the cast of this number is kept, or it is the other one, which might be kept as well
+abbrev pub IsKeptWith : Buffer → ℕ → ℕ → Type 0
+IsKeptWith buffer other number = IsKept buffer number ⊎ (number ≡ other)
+
+-- so many casts come out one after the other: of the numbers behind what was taken so many are kept in a row, and the next one is not
+abbrev pub ComeOut : Buffer → ℕ → Type 0
+ComeOut buffer count = IsRow (IsKept buffer) buffer.taken (buffer.taken + count)
+
+-- and so many would, were a cast of this number kept as well
+abbrev pub WouldComeOut : Buffer → ℕ → ℕ → Type 0
+WouldComeOut buffer number count = IsRow (IsKeptWith buffer number) buffer.taken (buffer.taken + count)
 
 -- a number that the sender is known to have used and that has not come
 pub record IsMissing (buffer : Buffer) (delivered known number : ℕ) : Type 0 where

@@ -1,5 +1,5 @@
 -- How a buffer keeps its casts: in a list, by rising numbers.
-use Rattle.std.specs.Prelude.{◌≡◌, ℕ, ◌+◌, ◌<◌, ◌≤◌, ◌^◌, List, [], ◌∷◌, length, None, map, take, drop, All}
+use Rattle.std.specs.Prelude.{◌≡◌, ℕ, ◌+◌, ◌<◌, ◌≤◌, ◌^◌, List, [], ◌∷◌, length, None, IsSome, map, take, drop, All}
 use Rattle.std.specs.Ordering.{nat_cmp}
 use Rattle.std.specs.FinMap.{from_sorted, find}
 use Rattle.cb_times.specs.Group.{IsWindow}
@@ -34,6 +34,10 @@ pub record IsGap (before last : ℕ) (casts : List Cast) (number : ℕ) : Type 0
   pub after : before < number
   pub upto : number ≤ last
   pub not_kept : find nat_cmp number (entries_of casts) ≡ None
+
+-- a cast of the list has this number
+abbrev pub HasNumber : List Cast → ℕ → Type 0
+HasNumber casts number = IsSome (find nat_cmp number (entries_of casts))
 
 -- a cast of this number goes here, between those of lesser and those of greater numbers
 pub record IsPlaceFor (number : ℕ) (casts : List Cast) (place : ℕ) : Type 0 where

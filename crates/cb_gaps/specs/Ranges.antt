@@ -1,5 +1,5 @@
--- Sets of numbers as ranges.
-use Rattle.std.specs.Prelude.{◌≡◌, ℕ, ◌+◌, ◌≤◌, ◌↔◌, nat_lt, if◌then◌else◌, List, [], ◌∷◌, Any, All, AllPairs}
+-- Sets of numbers as ranges, and numbers of a set that stand in a row.
+use Rattle.std.specs.Prelude.{◌≡◌, ℕ, ◌+◌, ◌<◌, ◌≤◌, ◌↔◌, nat_lt, if◌then◌else◌, List, [], ◌∷◌, Any, All, AllPairs}
 use Rattle.cb_frames.specs.declared.frame.Range.{Range}
 
 -- the number is one of the range, both ends of which are in it
@@ -24,3 +24,9 @@ RangesAreOneList = (ranges others : List Range) → AreRangesOf (IsInSome others
 -- the numbers above `before`, up to `last`, as one range or none
 abbrev pub gap_between : ℕ → ℕ → List Range
 gap_between before last = if nat_lt before last then record { first = before + 1; last = last } ∷ [] else []
+
+-- the numbers of a set in a row behind this number: each up to the last one is of the set, and the one behind the last is not
+pub record IsRow (numbers : ℕ → Type 0) (behind last : ℕ) : Type 0 where
+  pub begins : behind ≤ last
+  pub each : (number : ℕ) → behind < number → number ≤ last → numbers number
+  pub ends : ¬ numbers (last + 1)

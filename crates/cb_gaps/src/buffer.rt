@@ -1,12 +1,12 @@
 //! The reorder buffer: the casts of one sender that came before those in front of them.
-ghost use Rattle.std.specs.Prelude.{◌≡◌, ◌+◌, ◌<◌, ◌≤◌, ◌++◌, None, Any, MatchOption, IfOk, IfSome, IfNone, OnOk, insert};
+ghost use Rattle.std.specs.Prelude.{◌≡◌, ◌==◌, if◌then◌else◌, ◌+◌, ◌^◌, ◌<◌, ◌≤◌, ◌++◌, None, Any, MatchOption, IfOk, IfSome, IfNone, OnOk, insert};
 ghost use Rattle.std.specs.FinMap as map;
 ghost use Rattle.std.specs.VecDeque.{deque_len, deque_capacity};
 ghost use Rattle.cb_frames.specs.Fields.{cast_fields};
 ghost use Rattle.cb_times.specs.Group.{IsWindow};
-ghost use Rattle.cb_gaps.specs.Buffer.{IsNew, Admits, IsAnswer, IsAfter, IsNext, Takes, IsMissing, IsReorderBuffer};
-ghost use Rattle.cb_gaps.specs.Ranges.{AreRangesOf, gap_between};
-ghost use Rattle.cb_gaps.specs.Lists.{Rise, IsGap, IsPlaceFor};
+ghost use Rattle.cb_gaps.specs.Buffer.{IsNew, Admits, IsAnswer, IsAfter, IsNext, Takes, IsMissing, IsReorderBuffer, WouldComeOut};
+ghost use Rattle.cb_gaps.specs.Ranges.{AreRangesOf, IsRow, gap_between};
+ghost use Rattle.cb_gaps.specs.Lists.{Rise, HasNumber, IsGap, IsPlaceFor};
 
 use cb_frames::{Cast, Range};
 use cb_times::NoMemory;
@@ -36,7 +36,7 @@ pub enum Admission {
 /// }
 /// ```
 ///
-/// `missing` names the numbers that have not come, for a request. `new` reserves all places, and `missing` takes memory for
+/// `judge` and `ready_with` tell beforehand what `keep` would answer and how many casts would then come out. `missing` names the numbers that have not come, for a request. `new` reserves all places, and `missing` takes memory for
 /// its answer.
 #[derive(Debug, Drop)]
 pub struct Reorder {
@@ -108,6 +108,20 @@ impl Reorder {
             return Admission::TooFar;
         }
         Admission::Kept
+    }
+
+    /// How many casts `take_next` would give one after the other, were a cast of this number kept as well. So a caller can reserve
+    /// what it needs before it keeps the cast.
+    ///
+    /// 0 where the number behind the last one taken is neither kept nor this one. Any number will do; one that was taken, or is kept
+    /// already, adds nothing. None follows number 4,294,967,295: with those that were taken they are never more than that.
+    pub fn ready_with(&self, number: u32) -> u32
+        ensures row { WouldComeOut self.now number result }
+        ensures greatest { self.now.taken + result < 2 ^ 32 }
+    {
+        let end = end_of_row(&self.kept, self.taken);
+        let end = end_of_row(&self.kept, with_next(end, number));
+        end - self.taken
     }
 
     /// Keeps a cast that came until those before it came; `delivered` of the sender's casts are delivered, at most as many
@@ -183,6 +197,26 @@ fn put(kept: &mut VecDeque<Cast>, place: usize, cast: Cast)
     let Ok(()) = kept.insert(place, cast) else {
         unreachable!("there is room")
     };
+}
+
+// where the row of casts behind this number ends
+fn end_of_row(kept: &VecDeque<Cast>, behind: u32) -> u32
+    requires { Rise 0 kept.now.items }
+    ensures { IsRow (HasNumber kept.now.items) behind result }
+{
+    kept.iter()
+        .fold(behind, |end, cast| with_next(end, cast.number))
+}
+
+// the end of a row where this number may be the next one
+fn with_next(end: u32, number: u32) -> u32
+    ensures { result ≡ if number == end + 1 then number else end }
+{
+    if end.checked_add(1) == Some(number) {
+        number
+    } else {
+        end
+    }
 }
 
 // the numbers above `taken`, up to `last`, that are not kept

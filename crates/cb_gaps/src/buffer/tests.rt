@@ -16,6 +16,8 @@ enum Call {
     Keep(u32, u32),
     /// What would become of a cast: how many are delivered, and its number.
     Judge(u32, u32),
+    /// How many casts would come out, were one of this number kept as well.
+    ReadyWith(u32),
     /// How many casts are kept.
     Len,
     /// The next cast.
@@ -82,6 +84,7 @@ fn answer(
             write!(text, "{:?}", reorder.keep(delivered, cast(alloc, number)))
         }
         Call::Judge(delivered, number) => { write!(text, "{:?}", reorder.judge(delivered, number)) }
+        Call::ReadyWith(number) => write!(text, "{}", reorder.ready_with(number)),
         Call::Len => write!(text, "{}", reorder.len()),
         Call::Take => tell_cast(&reorder.take_next(), text),
         Call::Missing(delivered, known) => {
@@ -193,6 +196,36 @@ fn a_judgement_is_what_a_cast_would_get_and_changes_nothing(rt: HostRuntime) -> 
 }
 
 #[test]
+fn what_would_come_out_is_told_before_it_is_kept(rt: HostRuntime) -> Result<(), Fail> {
+    const STEPS: &[(Call, &str)] = &[
+        (Call::ReadyWith(1), "1"),
+        (Call::ReadyWith(2), "0"),
+        (Call::ReadyWith(0), "0"),
+        (Call::Keep(0, 2), "Kept"),
+        (Call::Keep(0, 3), "Kept"),
+        (Call::Keep(0, 5), "Kept"),
+        (Call::ReadyWith(2), "0"),
+        (Call::ReadyWith(4), "0"),
+        (Call::ReadyWith(1), "3"),
+        (Call::Keep(0, 1), "Kept"),
+        // What is kept already comes out with any number, and with the one in the gap all does.
+        (Call::ReadyWith(0), "3"),
+        (Call::ReadyWith(1), "3"),
+        (Call::ReadyWith(6), "3"),
+        (Call::ReadyWith(4), "5"),
+        (Call::Take, "7 0.1 yo"),
+        (Call::ReadyWith(1), "2"),
+        (Call::Take, "7 0.2 yo"),
+        (Call::Take, "7 0.3 yo"),
+        (Call::Take, "none"),
+        (Call::ReadyWith(3), "0"),
+        (Call::ReadyWith(4), "2"),
+        (Call::Len, "1"),
+    ];
+    run(&rt, rt.alloc(), 8, STEPS)
+}
+
+#[test]
 fn each_gap_is_a_range(rt: HostRuntime) -> Result<(), Fail> {
     const STEPS: &[(Call, &str)] = &[
         (Call::Keep(0, 9), "Kept"),
@@ -236,12 +269,17 @@ fn none_follows_the_greatest_number(rt: HostRuntime) -> Result<(), Fail> {
     const STEPS: &[(Call, &str)] = &[
         (Call::Missing(LAST - 2, LAST), "4294967294-4294967295;"),
         (Call::Keep(LAST - 2, 1), "Repeat"),
+        (Call::ReadyWith(LAST), "0"),
         (Call::Keep(LAST - 2, LAST), "Kept"),
         (Call::Take, "none"),
+        (Call::ReadyWith(LAST - 1), "2"),
         (Call::Keep(LAST - 2, LAST - 1), "Kept"),
         (Call::Take, "7 0.4294967294 yo"),
+        (Call::ReadyWith(LAST), "1"),
         (Call::Take, "7 0.4294967295 yo"),
         (Call::Take, "none"),
+        (Call::ReadyWith(0), "0"),
+        (Call::ReadyWith(LAST), "0"),
         (Call::Taken, "4294967295"),
         (Call::Keep(LAST, 0), "Repeat"),
         (Call::Missing(LAST, LAST), ""),
