@@ -3,3 +3,4 @@ pub mod Kept
 pub mod Gaps
 pub mod OneList
 pub mod Rows
+pub mod ComingOut

@@ -2,3 +2,4 @@ pub mod Buffer
 pub mod Ranges
 pub mod Lists
 pub mod Request
+pub mod Laws

@@ -1,6 +1,14 @@
-//! The law of ranges, as the contract of a function that does nothing.
-
+//! What holds of every reorder buffer and of ranges: each law is the contract of a function that does nothing.
+ghost use Rattle.cb_gaps.specs.Laws.{KeptComeOut, NoneIsLeft, TakingLeavesOneLess};
 ghost use Rattle.cb_gaps.specs.Ranges.{RangesAreOneList};
+
+/// How many casts come out is known beforehand. Once a cast is kept, as many come out one after the other as `ready_with` told for
+/// its number. Each call of `take_next` that gives one leaves one less, and where it gives none, none is left.
+pub fn casts_come_out_as_told()
+    ensures kept { KeptComeOut }
+    ensures one_less { TakingLeavesOneLess }
+    ensures none { NoneIsLeft }
+{}
 
 /// The ranges of a set of numbers are one list: no two lists of ranges that rise, are filled and lie apart have the same numbers.
 pub fn ranges_are_one_list()

@@ -10,5 +10,5 @@ mod laws;
 mod request;
 
 pub use buffer::{Admission, Reorder};
-pub use laws::ranges_are_one_list;
+pub use laws::{casts_come_out_as_told, ranges_are_one_list};
 pub use request::request_of;
