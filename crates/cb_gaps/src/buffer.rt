@@ -36,8 +36,8 @@ pub enum Admission {
 /// }
 /// ```
 ///
-/// `judge` and `ready_with` tell beforehand what `keep` would answer and how many casts would then come out. `missing` names the numbers that have not come, for a request. `new` reserves all places, and `missing` takes memory for
-/// its answer.
+/// `judge` and `ready_with` tell beforehand what `keep` would answer and how many casts would then come out. `missing` names the
+/// numbers that have not come, for a request. `new` reserves all places, and `missing` takes memory for its answer.
 #[derive(Debug, Drop)]
 pub struct Reorder {
     /// How far above the delivered casts a number may be, 1 to 256.
