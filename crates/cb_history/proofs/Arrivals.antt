@@ -1,5 +1,5 @@
 -- Which casts are there after one came.
-use Rattle.std.proofs.Common.{◌≡◌, ℕ, ◌≤◌, true, not, ◌↔◌, eqb, ltb, List, [], ◌∷◌, ◌++◌, Result, Ok, Err, refl, sym, ap, subst, ◌∙◌, arith, inl, inr}
+use Rattle.std.proofs.Common.{◌≡◌, ℕ, true, not, ◌↔◌, eqb, ltb, List, [], ◌∷◌, ◌++◌, Result, Ok, Err, refl, sym, ap, subst, ◌∙◌, arith, inl, inr}
 use Rattle.std.specs.Prelude.{IsOk}
 use Rattle.std.proofs.lemmas.Bool.{cond_both, eq-eqb, eqb-true, ltb-true, and_parts, and_from, both_ways, not_from_true}
 use Rattle.cb_times.specs.declared.name.Name.{Name}
@@ -10,35 +10,22 @@ use Rattle.cb_history.specs.declared.answer.ArriveRefusal.{ArriveRefusal}
 use Rattle.cb_history.specs.declared.answer.ArriveRefusal.TheVariants as arrivals
 use Rattle.cb_history.specs.Group.{Seat, IsSeat}
 use Rattle.cb_history.specs.Facts.{EntryFields, ArriveEntry, Fact, OwnCast, CastCame, StatusCame, OwnStatus, facts_of, casts_in, cast_in, is_there}
-use Rattle.cb_history.specs.View.{count, view}
 use Rattle.cb_history.specs.Answers.{is_full, delivered, are_members, is_impossible, is_repeat, is_too_far, ArrivalSays, frame_answer, answer_to, arrive_answer}
 use Rattle.cb_history.specs.Legal.{arrive_entry, and_entry}
 use Rattle.cb_history.specs.LegalFacts.{IsStep, AreLegalFacts, NoFacts, OneFactMore, AreFactsOf}
 use Rattle.cb_history.specs.OwnFrameLaws.{IsOfTheGroup}
 use Rattle.cb_history.specs.ArrivalLaws.{AreThere, AcceptedIsThere, ThereStays, CastsAreOfTheGroup}
 use Rattle.cb_history.proofs.Views.{IsIn, casts_in-append}
-use Rattle.cb_history.proofs.Lists.{flat_map-append, in_back, in_append, in_one, among_is, order_bound}
+use Rattle.cb_history.proofs.Lists.{flat_map-append, in_back, in_append, in_one}
 use Rattle.cb_history.proofs.Rising.{there_more}
-use Rattle.cb_history.proofs.Names.{all_stand}
 use Rattle.cb_history.proofs.Histories.{said_facts}
 use Rattle.cb_history.proofs.OwnFrames.{own_casts_are_of_the_group}
 use Rattle.cb_history.proofs.Buffers.{cast_is_there, cast_of_is_in}
-use Rattle.cb_history.proofs.Runs.{message_there}
+use Rattle.cb_history.proofs.Runs.{own_is_delivered}
 
 pub there_stays : ThereStays
 there_stays facts more i n there =
     subst (λ (cs : List CastFields). is_there cs i n ≡ true) (sym (flat_map-append cast_in facts more)) (there_more (casts_in facts) (casts_in more) i n there)
-
--- an own cast that is there was delivered
-own_is_delivered : (seat : Seat) (facts : List Fact) (n : ℕ) → AreFactsOf seat facts → is_there (casts_in facts) seat.me n ≡ true → n ≤ delivered seat facts seat.me
-own_is_delivered seat facts n are there =
-    let s = all_stand seat facts are.member are.facts_are in
-    let m = message_there (casts_in facts) seat.me n there in
-    let again = among_is (view seat.group.size facts) m.found (s.own_seen m.found m.there m.sender_is) in
-    let bound = order_bound [] (view seat.group.size facts) again.0 s.order again.1 in
-    let at : count (view seat.group.size facts) again.0.sender ≡ count (view seat.group.size facts) seat.me = ap (count (view seat.group.size facts)) (again.2 ∙ m.sender_is) in
-    let number : again.0.number ≡ n = again.3 ∙ m.number_is in
-    omega (arith, bound, at, number)
 
 -- ---- one call
 

@@ -3,10 +3,12 @@ use Rattle.std.proofs.Common.{◌≡◌, ℕ, zero, suc, ◌+◌, ◌-◌, ◌<�
 use Rattle.std.specs.List.{filter}
 use Rattle.std.proofs.lemmas.Bool.{cond_both, cases_eq, cases_lt, eq-eqb, eqb-true, false_from_ne_true, both_ways, not-true, not_from_false}
 use Rattle.cb_frames.specs.Fields.{CastFields, Carried}
-use Rattle.cb_history.specs.Facts.{casts_in, messages_in, is_there, numbers_between}
+use Rattle.cb_history.specs.Group.{Seat}
+use Rattle.cb_history.specs.Facts.{Fact, casts_in, messages_in, is_there, numbers_between}
 use Rattle.cb_history.specs.View.{count, is_expanded, expanded_in, view}
 use Rattle.cb_history.specs.Known.{greatest_of, expanded_count}
-use Rattle.cb_history.specs.Answers.{own_casts}
+use Rattle.cb_history.specs.Answers.{own_casts, delivered}
+use Rattle.cb_history.specs.LegalFacts.{AreFactsOf}
 use Rattle.cb_history.specs.KnowledgeLaws.{newly_expanded}
 use Rattle.cb_history.specs.GapLaws.{Has}
 use Rattle.cb_history.specs.ExpansionLaws.{ExpandedAreThere, NextIsNotThere, RunIsExpanded, ExpandedUpToTheCount, DeliveredIsExpanded, OthersExpandNothing, AfterAGapNothingExpands, TheRunIsNewlyExpanded, GreatestOfTheRun}
@@ -14,7 +16,7 @@ use Rattle.cb_history.proofs.Views.{IsIn, filter_in}
 use Rattle.cb_history.proofs.Lists.{messages_in-push, in_push, in_is_among, among_is, order_bound}
 use Rattle.cb_history.proofs.Names.{message, all_stand, one_of_is_in, in_is_one_of}
 use Rattle.cb_history.proofs.Times.{all_from_range, seen_is_there}
-use Rattle.cb_history.proofs.Rising.{there_more}
+use Rattle.cb_history.proofs.Rising.{there_more, all_at_most}
 use Rattle.cb_history.proofs.RisingByCasts.{one_at_most}
 use Rattle.cb_history.proofs.Gaps.{has_range, range_has}
 use Rattle.cb_history.proofs.GapsLater.{there_below}
@@ -49,18 +51,6 @@ values_below g (n ∷ ns) most each =
     let here = each n (inl refl) in
     let others = values_below g ns most (λ m later. each m (inr later)) in
     omega (arith, here, others)
-
-messages_below : (g : Carried → ℕ) (ms : List Carried) (most : ℕ) → ((m : Carried) → IsIn m ms → g m ≤ most) → greatest_of (map g ms) ≤ most
-messages_below g [] most each = omega arith
-messages_below g (m ∷ ms) most each =
-    let here = each m (inl refl) in
-    let others = messages_below g ms most (λ x later. each x (inr later)) in
-    omega (arith, here, others)
-
-message_at_most : (g : Carried → ℕ) (ms : List Carried) (m : Carried) → IsIn m ms → g m ≤ greatest_of (map g ms)
-message_at_most g [] m h = absurd h
-message_at_most g (x ∷ ms) m (inl same) = let is = ap g same in omega (arith, is)
-message_at_most g (x ∷ ms) m (inr later) = let others = message_at_most g ms m later in omega (arith, others)
 
 -- ---- the message of a number that is there
 
@@ -140,27 +130,29 @@ expanded_up_to_the_count casts m = (
 
 -- ---- what is delivered
 
+-- an own cast that is there was delivered
+pub own_is_delivered : (seat : Seat) (facts : List Fact) (n : ℕ) → AreFactsOf seat facts → is_there (casts_in facts) seat.me n ≡ true → n ≤ delivered seat facts seat.me
+own_is_delivered seat facts n are there =
+    let s = all_stand seat facts are.member are.facts_are in
+    let m = message_there (casts_in facts) seat.me n there in
+    let again = among_is (view seat.group.size facts) m.found (s.own_seen m.found m.there m.sender_is) in
+    let bound = order_bound [] (view seat.group.size facts) again.0 s.order again.1 in
+    let at : count (view seat.group.size facts) again.0.sender ≡ count (view seat.group.size facts) seat.me = ap (count (view seat.group.size facts)) (again.2 ∙ m.sender_is) in
+    let number : again.0.number ≡ n = again.3 ∙ m.number_is in
+    omega (arith, bound, at, number)
+
+own_at_most : (seat : Seat) (facts : List Fact) (n : ℕ) → AreFactsOf seat facts → n ≡ expanded_count (casts_in facts) seat.me → n ≤ delivered seat facts seat.me
+own_at_most seat facts zero are is = omega arith
+own_at_most seat facts (suc n) are is = own_is_delivered seat facts (suc n) are (expanded_are_there (casts_in facts) seat.me (suc n) (omega arith) (omega (arith, is)))
+
 pub delivered_is_expanded : DeliveredIsExpanded
 delivered_is_expanded seat facts are =
     let s = all_stand seat facts are.member are.facts_are in
     let seen = view seat.group.size facts in
     let each : (i : ℕ) → count seen i ≤ expanded_count (casts_in facts) i = λ i.
     run_at_most (casts_in facts) i (count seen i) (λ k low high. seen_is_there seat (casts_in facts) seen (own_casts facts) i k s low high) in
-    (each, own_count (each seat.me))
-  where
-    own_count : count (view seat.group.size facts) seat.me ≤ expanded_count (casts_in facts) seat.me → expanded_count (casts_in facts) seat.me ≡ count (view seat.group.size facts) seat.me
-    own_count least = elim (cases_lt (count (view seat.group.size facts) seat.me) (expanded_count (casts_in facts) seat.me)) [
-      | inl more ↦
-          let s = all_stand seat facts are.member are.facts_are in
-          let n = expanded_count (casts_in facts) seat.me in
-          let m = message_there (casts_in facts) seat.me n (expanded_are_there (casts_in facts) seat.me n (omega (arith, more)) (omega arith)) in
-          let again = among_is (view seat.group.size facts) m.found (s.own_seen m.found m.there m.sender_is) in
-          let bound = order_bound [] (view seat.group.size facts) again.0 s.order again.1 in
-          let at : count (view seat.group.size facts) again.0.sender ≡ count (view seat.group.size facts) seat.me = ap (count (view seat.group.size facts)) (again.2 ∙ m.sender_is) in
-          let number : again.0.number ≡ n = again.3 ∙ m.number_is in
-          absurd (omega (arith, bound, at, number, more))
-      | inr most ↦ omega (arith, least, most)
-    ]
+    let most = own_at_most seat facts (expanded_count (casts_in facts) seat.me) are refl in
+    (each, (let least = each seat.me in omega (arith, most, least)))
 
 -- ---- one more cast
 
@@ -230,21 +222,24 @@ pub greatest_of_the_run : GreatestOfTheRun
 greatest_of_the_run casts c value =
     let low = expanded_count casts c.sender in
     let high = expanded_count (casts ++ c ∷ []) c.sender in
+    let new : Carried → Bool = λ m. not (is_expanded casts m) in
+    let now = expanded_in (casts ++ c ∷ []) in
     let most : greatest_of (map (λ m. value m.sender m.number) (newly_expanded casts c)) ≤ greatest_of (map (value c.sender) (numbers_between low high)) =
-    messages_below (λ m. value m.sender m.number) (newly_expanded casts c) _ (λ m h.
-    let n = newly_is casts c m h in
+    all_at_most new (λ m. value m.sender m.number) (greatest_of (map (value c.sender) (numbers_between low high))) now (λ m there is_new.
+    let n = newly_is casts c m (in_filter new now m is_new there) in
     let above = n.above in
     let upto = n.upto in
     let at : value m.sender m.number ≡ value c.sender m.number = ap (λ (i : ℕ). value i m.number) n.sender_is in
     let here = value_at_most (value c.sender) (numbers_between low high) m.number (range_has (low + 1) (high - low) m.number (omega (arith, above)) (omega (arith, above, upto))) in
     omega (arith, at, here)) in
     let least : greatest_of (map (value c.sender) (numbers_between low high)) ≤ greatest_of (map (λ m. value m.sender m.number) (newly_expanded casts c)) =
-    values_below (value c.sender) (numbers_between low high) _ (λ k h.
+    values_below (value c.sender) (numbers_between low high) (greatest_of (map (λ m. value m.sender m.number) (newly_expanded casts c))) (λ k h.
     let bounds = has_range (low + 1) (high - low) k h in
     let m = message_there (casts ++ c ∷ []) c.sender k (expanded_are_there (casts ++ c ∷ []) c.sender k (omega (arith, bounds.0)) (omega (arith, bounds.0, bounds.1))) in
     let number = m.number_is in
-    let newly = is_newly casts c m.found (record { there = m.there; sender_is = m.sender_is; above = omega (arith, bounds.0, number); upto = omega (arith, bounds.0, bounds.1, number) }) in
+    let newly = filter_in new now m.found
+    (is_newly casts c m.found (record { there = m.there; sender_is = m.sender_is; above = omega (arith, bounds.0, number); upto = omega (arith, bounds.0, bounds.1, number) })) in
     let at : value m.found.sender m.found.number ≡ value c.sender k = ap (λ (i : ℕ). value i m.found.number) m.sender_is ∙ ap (value c.sender) m.number_is in
-    let here = message_at_most (λ x. value x.sender x.number) (newly_expanded casts c) m.found newly in
+    let here = one_at_most new (λ x. value x.sender x.number) now m.found newly.1 newly.0 in
     omega (arith, at, here)) in
     omega (arith, most, least)
