@@ -25,28 +25,28 @@ goes_on before after i x app k =
     ]
 
 -- a machine of which runs go on by steps, and each step appends
-module _ {X : Type 0} (Run : (ℕ → List X) → Type 0) (Step : (ℕ → List X) → (ℕ → List X) → Type 0)
-    (longer : (before after : ℕ → List X) → Run before → Step before after → Run after)
-    (on : (before after : ℕ → List X) → Step before after → (k : ℕ) → (more : List X) × (after k ≡ before k ++ more)) where
+module _ {X : Type 0} (IsRun : (ℕ → List X) → Type 0) (IsStep : (ℕ → List X) → (ℕ → List X) → Type 0)
+    (longer : (before after : ℕ → List X) → IsRun before → IsStep before after → IsRun after)
+    (on : (before after : ℕ → List X) → IsStep before after → (k : ℕ) → (more : List X) × (after k ≡ before k ++ more)) where
   -- a run goes on to a run
-  run_on : (before after : ℕ → List X) → Run before → Extends Step before after → Run after
-  run_on before after run (Still _ agree) = depends_on_lists_alone Run before after agree run
+  run_on : (before after : ℕ → List X) → IsRun before → Extends IsStep before after → IsRun after
+  run_on before after run (Still _ agree) = depends_on_lists_alone IsRun before after agree run
   run_on before after run (Further middle _ some last) = longer middle after (run_on before middle run some) last
 
   -- extensions join
-  joined : (before middle after : ℕ → List X) → Extends Step before middle → Extends Step middle after → Extends Step before after
-  joined before middle after first (Still _ agree) = depends_on_lists_alone (Extends Step before) middle after agree first
+  joined : (before middle after : ℕ → List X) → Extends IsStep before middle → Extends IsStep middle after → Extends IsStep before after
+  joined before middle after first (Still _ agree) = depends_on_lists_alone (Extends IsStep before) middle after agree first
   joined before middle after first (Further further _ some last) = Further further after (joined before middle further first some) last
 
   -- and each list goes on
-  all_go_on : (before after : ℕ → List X) → Extends Step before after → (k : ℕ) → (more : List X) × (after k ≡ before k ++ more)
+  all_go_on : (before after : ℕ → List X) → Extends IsStep before after → (k : ℕ) → (more : List X) × (after k ≡ before k ++ more)
   all_go_on before after (Still _ agree) k = ([], sym (agree k) ∙ sym (append-nil (before k)))
   all_go_on before after (Further middle _ some last) k =
       let (more, to_middle) = all_go_on before middle some k in
       let (new, to_after) = on middle after last k in
       (more ++ new, to_after ∙ ap (λ (l : List X). l ++ new) to_middle ∙ append_assoc (before k) more new)
 
-  pub extends_runs : ExtendsRuns Run Step
+  pub extends_runs : ExtendsRuns IsRun IsStep
   extends_runs = record {
     run = run_on;
     reflexive = λ before after agree. Still after agree;

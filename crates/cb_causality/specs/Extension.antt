@@ -6,27 +6,27 @@ use Rattle.cb_causality.specs.Lists.{Agree, AppendsAll}
 use Rattle.cb_causality.specs.CausalMachine.{Step}
 use Rattle.cb_causality.specs.StampedMachine.{StampedLists, StampedStep, StampedRun, DelayRuleAllows, erased}
 
--- after comes from before by some steps or none, where Step says what one step does
-pub data Extends {X : Type 0} (Step : (ℕ → List X) → (ℕ → List X) → Type 0) (before : ℕ → List X)
+-- after comes from before by some steps or none, one after the other; IsStep is what one step of the machine is
+pub data Extends {X : Type 0} (IsStep : (ℕ → List X) → (ℕ → List X) → Type 0) (before : ℕ → List X)
     : (ℕ → List X) → Type 0 where
   -- by none: the lists agree, member by member
-  Still : (after : ℕ → List X) → Agree before after → Extends Step before after
+  Still : (after : ℕ → List X) → Agree before after → Extends IsStep before after
   -- by some, and one more
-  Further : (middle after : ℕ → List X) → Extends Step before middle → Step middle after → Extends Step before after
+  Further : (middle after : ℕ → List X) → Extends IsStep before middle → IsStep middle after → Extends IsStep before after
 
--- what holds of several steps at once, where Run says what a run of the machine is and Step what one step does
-pub record ExtendsRuns {X : Type 0} (Run : (ℕ → List X) → Type 0) (Step : (ℕ → List X) → (ℕ → List X) → Type 0) : Type 0 where
+-- what holds of several steps at once, where IsRun is what a run of the machine is and IsStep what one step is
+pub record ExtendsRuns {X : Type 0} (IsRun : (ℕ → List X) → Type 0) (IsStep : (ℕ → List X) → (ℕ → List X) → Type 0) : Type 0 where
   -- a run that is extended is a run
-  pub run : (before after : ℕ → List X) → Run before → Extends Step before after → Run after
+  pub run : (before after : ℕ → List X) → IsRun before → Extends IsStep before after → IsRun after
   -- lists extend those with which they agree
-  pub reflexive : (before after : ℕ → List X) → Agree before after → Extends Step before after
+  pub reflexive : (before after : ℕ → List X) → Agree before after → Extends IsStep before after
   -- one step extends
-  pub one : (before after : ℕ → List X) → Step before after → Extends Step before after
+  pub one : (before after : ℕ → List X) → IsStep before after → Extends IsStep before after
   -- what extends an extension extends what that one extends
-  pub transitive : (before middle after : ℕ → List X) → Extends Step before middle → Extends Step middle after
-      → Extends Step before after
+  pub transitive : (before middle after : ℕ → List X) → Extends IsStep before middle → Extends IsStep middle after
+      → Extends IsStep before after
   -- each member's list goes on: what it was is its beginning
-  pub beginning : (before after : ℕ → List X) → Extends Step before after
+  pub beginning : (before after : ℕ → List X) → Extends IsStep before after
       → (k : ℕ) → (more : List X) × (after k ≡ before k ++ more)
 
 -- what extends a stamped run, without the times, extends it by steps of the causal machine
