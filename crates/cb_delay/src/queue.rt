@@ -68,6 +68,14 @@ impl DelayQueue {
         Ok(DelayQueue { window, lists })
     }
 
+    /// How many messages of one sender the queue has room for.
+    pub fn window(&self) -> u32
+        ensures window { result ≡ self.now.window }
+        ensures queue { IsDelayQueue self.now }
+    {
+        self.window
+    }
+
     /// Keeps a message until it is released.
     ///
     /// It is of the queue's group, its number follows that of the last message held of its sender, where one is held, and

@@ -85,6 +85,7 @@ fn an_answer_waits_for_its_question(rt: HostRuntime) -> Result<(), Fail> {
         Some(1)
     );
     assert_eq!(rt; queue.len(), 1);
+    assert_eq!(rt; queue.window(), 4);
     Ok(())
 }
 
