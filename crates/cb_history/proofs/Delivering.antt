@@ -1,7 +1,7 @@
 -- Readiness is the delay rule, and the deliveries one after another.
 use Rattle.std.proofs.Common.{◌≡◌, ◌≢◌, ℕ, zero, suc, ◌+◌, ◌<◌, ◌≤◌, Bool, true, false, not, ◌&&◌, cond, eqb, leb, List, [], ◌∷◌, ◌++◌, length, map, max, Option, Some, None, refl, sym, ap, subst, ◌∙◌, arith, inl, inr}
 use Rattle.std.specs.List.{filter, list_all, range_with_len}
-use Rattle.std.proofs.lemmas.Bool.{cases_eq, cases_lt, cond_both, eq-eqb, ne_eqb, eqb-true, leb-true, le-leb, lt-leb, false_from_ne_true}
+use Rattle.std.proofs.lemmas.Bool.{cases_eq, cases_lt, eq-eqb, ne_eqb, eqb-true, leb-true, le-leb, lt-leb, false_from_ne_true}
 use Rattle.std.proofs.lemmas.List.{get_or_past, ext_get_or}
 use Rattle.std.proofs.lemmas.List.FromFn.{length-map-range_with_len, get_or-map-range_with_len}
 use Rattle.cb_times.specs.Order.{field}
@@ -12,7 +12,7 @@ use Rattle.cb_history.specs.View.{count, counts, expanded_in, is_among, is_in_ti
 use Rattle.cb_history.specs.NameLaws.{NamesDiffer, InOrderAfter, IsOneOf}
 use Rattle.cb_history.specs.TimeLaws.{InTimeAfter}
 use Rattle.cb_history.specs.DeliveryLaws.{MeetsRule, ReadinessIsTheDelayRule, RuleOfTimes, NothingIsNext, NextIsSmallestReady, SmallestReadyIsNext, ViewsAreOnTheWay, DeliveryLeavesOnTheWay, RaisingCountsTheDelivery, DrainGoesOn, DrainEnds, MeetRuleAfter, ViewMeetsTheRule, ViewIsOfMembers}
-use Rattle.cb_history.proofs.Views.{IsIn, next_is, next_is_the_only_candidate, ready_is_new, expanded_is_there, test_true, all_in_range, some_same, left, left_most, left_shrinks}
+use Rattle.cb_history.proofs.Views.{IsIn, in_filter, next_is, next_is_the_only_candidate, ready_is_new, expanded_is_there, test_true, all_in_range, some_same, left, left_most, left_shrinks}
 use Rattle.cb_history.proofs.Lists.{count_own, count_other, in_is_among, in_push, order_push}
 use Rattle.cb_history.proofs.Names.{all_stand, one_of_is_in, in_is_one_of, view_is_in_order}
 use Rattle.cb_history.proofs.Times.{all_from_range, pick_true, pick_false}
@@ -103,15 +103,8 @@ rule_of_times size casts seen m member =
 
 -- ---- the next delivery
 
-pub filtered_in : {A : Type 0} (p : A → Bool) (xs : List A) (a : A) → p a ≡ true → IsIn a xs → IsIn a (filter p xs)
-filtered_in p [] a passes h = absurd h
-filtered_in {A} p (x ∷ xs) a passes (inl same) =
-    cond_both (p x) (x ∷ filter p xs) (filter p xs) (λ (ys : List A). IsIn a ys) (λ yes. inl same) (λ no. absurd (let yes : p x ≡ true = ap p (sym same) ∙ passes in cc))
-filtered_in {A} p (x ∷ xs) a passes (inr later) =
-    cond_both (p x) (x ∷ filter p xs) (filter p xs) (λ (ys : List A). IsIn a ys) (λ yes. inr (filtered_in p xs a passes later)) (λ no. filtered_in p xs a passes later)
-
 ready_in : (size : ℕ) (casts : List CastFields) (seen : List Carried) (m : Carried) → IsIn m (expanded_in casts) → is_ready size casts seen m ≡ true → IsIn m (filter (is_ready size casts seen) (expanded_in casts))
-ready_in size casts seen m there ready = filtered_in (is_ready size casts seen) (expanded_in casts) m ready there
+ready_in size casts seen m there ready = in_filter (is_ready size casts seen) (expanded_in casts) m ready there
 
 none_of_some : (ms : List Carried) (m : Carried) → of_smallest_sender ms ≡ None → IsIn m ms → ⊥
 none_of_some [] m h there = there

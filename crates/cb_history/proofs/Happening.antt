@@ -26,7 +26,7 @@ use Rattle.cb_history.proofs.Delivering.{readiness_is_the_delay_rule, in_field, 
 
 -- ---- earlier events
 
-same_message : (size : ℕ) (casts now : List CastFields) (m : Carried) → ((k : ℕ) → expanded_field now m.sender m.number k ≡ expanded_field casts m.sender m.number k) → message_in size now m ≡ message_in size casts m
+pub same_message : (size : ℕ) (casts now : List CastFields) (m : Carried) → ((k : ℕ) → expanded_field now m.sender m.number k ≡ expanded_field casts m.sender m.number k) → message_in size now m ≡ message_in size casts m
 same_message size casts now m same =
     ap (λ (time : List ℕ). record { name = record { sender = m.sender; number = m.number }; time = time; payload = m.payload })
     (same_over_range (expanded_field now m.sender m.number) (expanded_field casts m.sender m.number) 0 size (λ k lt. same k))

@@ -23,7 +23,7 @@ use Rattle.cb_history.specs.Legal.{longest_history}
 use Rattle.cb_history.specs.LegalFacts.{AreFactsOf}
 use Rattle.cb_history.specs.NameLaws.{NumberedFrom}
 use Rattle.cb_history.specs.StabilityLaws.{LeastKnownIsStable, numbered_frame, KeepsOwnCasts, NoRoomIsFull, sent_to, FramesInAreSentInAnswer, PutIsOwnCast, TrimIsStable}
-use Rattle.cb_history.proofs.Views.{IsIn, filter_in}
+use Rattle.cb_history.proofs.Views.{IsIn, filter_in, in_filter}
 use Rattle.cb_history.proofs.Lists.{count_own}
 use Rattle.cb_history.proofs.Walks.{view_own, own_casts-own, own_casts-other, IsNotOwn}
 use Rattle.cb_history.proofs.Names.{all_stand, message}
@@ -32,7 +32,6 @@ use Rattle.cb_history.proofs.Prefixes.{prefix_of_facts_is_legal, last_fact_is_a_
 use Rattle.cb_history.proofs.Acknowledged.{acknowledged_is_delivered}
 use Rattle.cb_history.proofs.Rising.{nothing_falls}
 use Rattle.cb_history.proofs.RisingByCasts.{own_cast_tells_nothing}
-use Rattle.cb_history.proofs.Delivering.{filtered_in}
 
 -- ---- the least
 
@@ -75,7 +74,7 @@ unequal : (k me : ℕ) → not (eqb k me) ≡ true → k ≢ me
 unequal k me h e = let yes = eq-eqb k me e in let no : not true ≡ true = ap not (sym yes) ∙ h in cc
 
 other_in : (seat : Seat) (k : ℕ) → k < seat.group.size → k ≢ seat.me → IsIn k (others_of seat)
-other_in seat k lt ne = filtered_in (λ j. not (eqb j seat.me)) (range_with_len 0 seat.group.size) k (rw (ne_eqb k seat.me ne) refl) (in_range 0 seat.group.size k (omega arith) (omega (arith, lt)))
+other_in seat k lt ne = in_filter (λ j. not (eqb j seat.me)) (range_with_len 0 seat.group.size) k (rw (ne_eqb k seat.me ne) refl) (in_range 0 seat.group.size k (omega arith) (omega (arith, lt)))
 
 other_is : (seat : Seat) (k : ℕ) → IsIn k (others_of seat) → (k < seat.group.size) × (k ≢ seat.me)
 other_is seat k there =

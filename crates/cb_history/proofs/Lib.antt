@@ -32,3 +32,4 @@ pub mod Windows
 pub mod Arrivals
 pub mod Expanders
 pub mod Replays
+pub mod Taking

@@ -22,7 +22,7 @@ use Rattle.cb_history.proofs.Names.{one_of_is_in, in_is_one_of}
 use Rattle.cb_history.proofs.Delivering.{readiness_is_the_delay_rule, rule_of_times, nothing_is_next, next_is_smallest_ready, smallest_ready_is_next, one_message, named_among}
 use Rattle.cb_history.proofs.Times.{last_is_in}
 
-in_casts : (casts : List CastFields) (m : Carried) → IsOneOf m (expanded_in casts) → IsOneOf m (messages_in casts)
+pub in_casts : (casts : List CastFields) (m : Carried) → IsOneOf m (expanded_in casts) → IsOneOf m (messages_in casts)
 in_casts casts m there = in_is_one_of m (messages_in casts) (expanded_is_there casts m (one_of_is_in m (expanded_in casts) there))
 
 pub ready_is_ready : ReadyIsReady
@@ -97,7 +97,7 @@ none_ready_is_nothing_next size casts seen queue way holds = (
       absurd cc,
 )
 
-unseen_is_later : (seen : List Carried) (n : Carried) (size : ℕ) (casts : List CastFields) → IsOnTheWay size casts seen → IsOneOf n (messages_in casts) → is_among seen n ≡ false → count seen n.sender < n.number
+pub unseen_is_later : (seen : List Carried) (n : Carried) (size : ℕ) (casts : List CastFields) → IsOnTheWay size casts seen → IsOneOf n (messages_in casts) → is_among seen n ≡ false → count seen n.sender < n.number
 unseen_is_later seen n size casts way there unseen =
     elim (cases_lt (count seen n.sender) n.number) [
       | inl lt ↦ lt
@@ -137,7 +137,7 @@ first_is_next_delivery size casts seen queue way holds m first h is =
 
 -- ---- releasing
 
-same_names : (a b : Carried) → (eqb a.sender b.sender && eqb a.number b.number) ≡ true → (a.sender ≡ b.sender) × (a.number ≡ b.number)
+pub same_names : (a b : Carried) → (eqb a.sender b.sender && eqb a.number b.number) ≡ true → (a.sender ≡ b.sender) × (a.number ≡ b.number)
 same_names a b h = let both = test_true (eqb a.sender b.sender) (eqb a.number b.number) h in (eqb-true a.sender b.sender both.0, eqb-true a.number b.number both.1)
 
 taken_out : (held : fin.FinMap name_cmp Message) (name other : Name) (x : Message) → fin.get (fin.remove held name) other ≡ Some x → (eq_by_cmp name_cmp other name ≡ false) × (fin.get held other ≡ Some x)

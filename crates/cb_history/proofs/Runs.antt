@@ -1,7 +1,7 @@
 -- The casts of a sender that are there in a row from the first.
 use Rattle.std.proofs.Common.{◌≡◌, ℕ, zero, suc, ◌+◌, ◌-◌, ◌<◌, ◌≤◌, Bool, true, false, not, eqb, List, [], ◌∷◌, ◌++◌, map, refl, sym, ap, subst, ◌∙◌, arith, inl, inr, ◌⊎◌}
 use Rattle.std.specs.List.{filter}
-use Rattle.std.proofs.lemmas.Bool.{cond_both, cases_eq, cases_lt, eq-eqb, eqb-true, false_from_ne_true, both_ways, not-true, not_from_false}
+use Rattle.std.proofs.lemmas.Bool.{cases_eq, cases_lt, eq-eqb, eqb-true, false_from_ne_true, both_ways, not-true, not_from_false}
 use Rattle.cb_frames.specs.Fields.{CastFields, Carried}
 use Rattle.cb_history.specs.Group.{Seat}
 use Rattle.cb_history.specs.Facts.{Fact, casts_in, messages_in, is_there, numbers_between}
@@ -12,7 +12,7 @@ use Rattle.cb_history.specs.LegalFacts.{AreFactsOf}
 use Rattle.cb_history.specs.KnowledgeLaws.{newly_expanded}
 use Rattle.cb_history.specs.GapLaws.{Has}
 use Rattle.cb_history.specs.ExpansionLaws.{ExpandedAreThere, NextIsNotThere, RunIsExpanded, ExpandedUpToTheCount, DeliveredIsExpanded, OthersExpandNothing, AfterAGapNothingExpands, TheRunIsNewlyExpanded, GreatestOfTheRun}
-use Rattle.cb_history.proofs.Views.{IsIn, filter_in}
+use Rattle.cb_history.proofs.Views.{IsIn, filter_in, in_filter}
 use Rattle.cb_history.proofs.Lists.{messages_in-push, in_push, in_is_among, among_is, order_bound}
 use Rattle.cb_history.proofs.Names.{message, all_stand, one_of_is_in, in_is_one_of}
 use Rattle.cb_history.proofs.Times.{all_from_range, seen_is_there}
@@ -22,14 +22,6 @@ use Rattle.cb_history.proofs.Gaps.{has_range, range_has}
 use Rattle.cb_history.proofs.GapsLater.{there_below}
 
 -- ---- lists
-
-in_filter : {A : Type 0} (p : A → Bool) (xs : List A) (a : A) → p a ≡ true → IsIn a xs → IsIn a (filter p xs)
-in_filter p [] a passes h = absurd h
-in_filter {A} p (x ∷ xs) a passes (inl same) =
-    cond_both (p x) (x ∷ filter p xs) (filter p xs) (λ (ys : List A). IsIn a ys) (λ yes. inl same) (λ no. absurd (both_ways (p x) no (ap p (sym same) ∙ passes)))
-in_filter {A} p (x ∷ xs) a passes (inr later) =
-    let others = in_filter p xs a passes later in
-    cond_both (p x) (x ∷ filter p xs) (filter p xs) (λ (ys : List A). IsIn a ys) (λ yes. inr others) (λ no. others)
 
 -- some value is as great as the greatest
 reached_by : (g : Carried → ℕ) (ms : List Carried) (n : ℕ) → 1 ≤ n → n ≤ greatest_of (map g ms) → (m : Carried) × IsIn m ms × (n ≤ g m)

@@ -151,7 +151,7 @@ upto_below_step size facts (CastCame c) k below = upto_below_other size facts (C
 upto_below_step size facts (StatusCame s) k below = upto_below_other size facts (StatusCame s) k tt below
 upto_below_step size facts (OwnStatus s) k below = upto_below_other size facts (OwnStatus s) k tt below
 
-upto_below : (seat : Seat) (facts : List Fact) (k : ℕ) → AreLegalFacts seat facts → UptoBelow seat.group.size facts k
+pub upto_below : (seat : Seat) (facts : List Fact) (k : ℕ) → AreLegalFacts seat facts → UptoBelow seat.group.size facts k
 upto_below seat _ k NoFacts = omega arith
 upto_below seat _ k (OneFactMore facts f before room step) = upto_below_step seat.group.size facts f k (upto_below seat facts k before)
 

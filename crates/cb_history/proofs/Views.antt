@@ -48,6 +48,14 @@ filter_in {A} p (x ∷ xs) a h =
     ])
     (λ no there. let r = filter_in p xs a there in (r.0, inr r.1)) h
 
+-- an element that passes the test stands among those that do
+pub in_filter : {A : Type 0} (p : A → Bool) (xs : List A) (a : A) → p a ≡ true → IsIn a xs → IsIn a (filter p xs)
+in_filter p [] a passes h = absurd h
+in_filter {A} p (x ∷ xs) a passes (inl same) =
+    cond_both (p x) (x ∷ filter p xs) (filter p xs) (λ (ys : List A). IsIn a ys) (λ yes. inl same) (λ no. absurd (let yes : p x ≡ true = ap p (sym same) ∙ passes in cc))
+in_filter {A} p (x ∷ xs) a passes (inr later) =
+    cond_both (p x) (x ∷ filter p xs) (filter p xs) (λ (ys : List A). IsIn a ys) (λ yes. inr (in_filter p xs a passes later)) (λ no. in_filter p xs a passes later)
+
 -- ---- what is not among the messages seen
 
 pub not_true : (b : Bool) → not b ≡ true → b ≡ false

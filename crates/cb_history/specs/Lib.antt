@@ -26,3 +26,4 @@ pub mod WindowLaws
 pub mod ArrivalLaws
 pub mod ExpanderLaws
 pub mod ReplayLaws
+pub mod WaitingLaws

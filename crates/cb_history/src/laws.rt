@@ -17,6 +17,7 @@ mod stability;
 mod statuses;
 mod times;
 mod view;
+mod waiting;
 mod windows;
 
 pub use arrivals::accepted_casts_are_there;
@@ -36,4 +37,5 @@ pub use stability::{acknowledgements_give_what_is_stable, windows_keep_own_casts
 pub use statuses::statuses_say_the_time;
 pub use times::times_of_messages;
 pub use view::view_with_one_more_fact;
+pub use waiting::casts_wait_for_their_turn;
 pub use windows::casts_stay_in_their_windows;
