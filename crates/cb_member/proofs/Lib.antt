@@ -1,0 +1,4 @@
+pub mod Waiting
+pub mod Draining
+pub mod Starting
+pub mod Reading

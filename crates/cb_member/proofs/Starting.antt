@@ -1,0 +1,126 @@
+-- A member without entries: what is kept is what no facts say.
+use Rattle.std.proofs.Common.{◌≡◌, ℕ, zero, suc, ◌+◌, ◌<◌, ◌≤◌, List, [], ◌∷◌, length, map, replicate, get_or, Some, None, refl, sym, ap, subst, ◌∙◌, arith, All}
+use Rattle.std.specs.Prelude.{slice_get}
+use Rattle.std.specs.FinMap as fin
+use Rattle.std.specs.List.{AllByRecursion, range_with_len}
+use Rattle.std.proofs.lemmas.List.Elements.{recursion_from_All}
+use Rattle.std.proofs.lemmas.List.{get_or-replicate, length-replicate}
+use Rattle.cb_times.specs.Order.{field}
+use Rattle.cb_frames.specs.Fields.{CastFields, Carried}
+use Rattle.cb_delay.specs.declared.message.Message.{Message}
+use Rattle.cb_delay.specs.Queue.{Queue, IsNew, IsHeld}
+use Rattle.cb_gaps.specs.Buffer as buffers
+use Rattle.cb_gaps.specs.Buffer.{Buffer}
+use Rattle.cb_stability.specs.Sent.{Sent}
+use Rattle.cb_history.specs.declared.history.Entry.{Entry}
+use Rattle.cb_history.specs.Group.{Seat, IsSeat}
+use Rattle.cb_history.specs.Facts.{entry_fields, facts_of}
+use Rattle.cb_history.specs.View.{count, counts, view, time_of}
+use Rattle.cb_history.specs.Legal.{longest_history, IsLegal, NoEntries}
+use Rattle.cb_history.specs.LegalFacts.{AreFactsOf, NoFacts}
+use Rattle.cb_history.specs.QueueLaws.{HoldsUndelivered}
+use Rattle.cb_history.specs.StabilityLaws.{KnowsAcknowledged, KeepsOwnCasts}
+use Rattle.cb_stability.proofs.Windows.{none_kept, entries-kept}
+use Rattle.cb_history.proofs.Delivering.{views_are_on_the_way}
+use Rattle.cb_history.proofs.Buffers.{new_buffer_holds}
+use Rattle.cb_history.proofs.Expanders.{new_expander_keeps_nothing}
+use Rattle.cb_member.specs.declared.delivery.Delivery.{Delivery}
+use Rattle.cb_member.specs.declared.reception.Reception.{Reception}
+use Rattle.cb_member.specs.declared.knowledge.Knowledge.{Knowledge}
+use Rattle.cb_member.specs.declared.sending.Sending.{Sending}
+use Rattle.cb_member.specs.Delivery.{IsNewDelivery}
+use Rattle.cb_member.specs.Reception.{IsNewReception, HasReceivedAll}
+use Rattle.cb_member.specs.Knowledge.{IsNewKnowledge, KnowsFacts}
+use Rattle.cb_member.specs.Sending.{IsNewSending, HasSent}
+use Rattle.cb_member.specs.declared.store.Store.{Store}
+use Rattle.cb_member.specs.Store.{HasDelivered, Keeps, IsNewStore, IsKept}
+
+pub no_facts : (seat : Seat) → IsSeat seat → AreFactsOf seat []
+no_facts seat is = record { group = is.group; member = is.member; facts_are = NoFacts }
+
+none_counted : (a n : ℕ) → map (count []) (range_with_len a n) ≡ replicate n 0
+none_counted a zero = refl
+none_counted a (suc n) = ap (λ (ns : List ℕ). 0 ∷ ns) (none_counted (a + 1) n)
+
+no_time : (size : ℕ) → time_of size [] ≡ replicate size 0
+unfolding view
+no_time size = none_counted 0 size
+
+none_waits : (size window : ℕ) (queue : Queue) → IsNew size window queue → HoldsUndelivered size [] [] queue
+none_waits size window queue new = record {
+  of_size = new.of_size;
+  holds = λ message. (
+    λ h. absurd (let none : fin.get queue.held message.name ≡ None = ap (λ held. fin.get held message.name) new.empty ∙ fin.get-empty _ message.name in cc),
+    λ u. absurd u.expanded,
+  );
+}
+
+nothing_delivered : (seat : Seat) (d : Delivery) → IsSeat seat → IsNewDelivery seat.group.size seat.group.window d → HasDelivered seat [] d
+unfolding view
+nothing_delivered seat d is new = record {
+  waits = record {
+    way = views_are_on_the_way seat [] (no_facts seat is);
+    time = new.time ∙ sym (no_time seat.group.size);
+    queue = none_waits seat.group.size seat.group.window d.queue new.queue;
+    copies = none_waits seat.group.size seat.group.window d.copies new.copies;
+  };
+  events = new.events;
+}
+
+same_buffer : (x b : Buffer) → Some x ≡ Some b → x ≡ b
+same_buffer x b e = cc
+
+one_of_each : (P : Buffer → Type 0) (bs : List Buffer) (i : ℕ) (b : Buffer) → AllByRecursion P bs → slice_get bs i ≡ Some b → P b
+one_of_each P [] i b all at = absurd cc
+one_of_each P (x ∷ bs) zero b all at = subst P (same_buffer x b at) all.0
+one_of_each P (x ∷ bs) (suc i) b all at = one_of_each P bs i b all.1 at
+
+each_new : (window : ℕ) (bs : List Buffer) (i : ℕ) (b : Buffer) → All (buffers.IsNew window) bs → slice_get bs i ≡ Some b → buffers.IsNew window b
+each_new window bs i b all at = one_of_each (buffers.IsNew window) bs i b (recursion_from_All (buffers.IsNew window) bs all) at
+
+nothing_received : (seat : Seat) (r : Reception) → IsSeat seat → IsNewReception seat.group.size seat.group.window r → HasReceivedAll seat [] r
+nothing_received seat r is new = record {
+  senders = new.senders;
+  waits = λ i b at other. new_buffer_holds seat.group.window i b (each_new seat.group.window r.buffers.items i b new.buffers at);
+  taken_are = λ i b at other. (each_new seat.group.window r.buffers.items i b new.buffers at).none_taken;
+  windows = λ i b at. (each_new seat.group.window r.buffers.items i b new.buffers at).of_window;
+  times = λ i lt other. rw new.expander (new_expander_keeps_nothing seat [] i (no_facts seat is) lt);
+  spares = λ i number c other waiting. absurd waiting.there;
+}
+
+nothing_known : (seat : Seat) (k : Knowledge) → IsSeat seat → IsNewKnowledge seat.group.size k → KnowsFacts seat [] k
+unfolding view
+nothing_known seat k is new = record {
+  fields = ap length new.known ∙ length-replicate seat.group.size 0;
+  heard = λ i lt other. ap (λ (ns : List ℕ). field ns i) new.known ∙ get_or-replicate seat.group.size i 0 0 lt;
+  acknowledged = record { of_size = new.acks.of_size; learnt = λ j lt other. new.acks.none j seat.me };
+}
+
+nothing_sent : (seat : Seat) (s : Sending) → IsSeat seat → IsNewSending seat.group.size seat.group.window s → HasSent seat [] s
+unfolding view
+nothing_sent seat s is new = record {
+  window = record {
+    width = new.fresh.of_window;
+    put = new.fresh.none_put;
+    kept = ap (λ held. fin.entries held) (new.fresh.empty ∙ sym (none_kept 1 [] refl)) ∙ entries-kept 1 [];
+  };
+  last_cast = new.no_cast ∙ sym (no_time seat.group.size);
+  fields = ap length new.fields ∙ length-replicate seat.group.size 0;
+  told = rw new.not_told refl;
+}
+
+pub starts : (seat : Seat) (limit : ℕ) (store : Store) → IsSeat seat → 1 ≤ limit → limit ≤ longest_history → IsNewStore seat.group.size seat.group.window store → IsKept seat limit store
+starts seat limit store is low high new = record {
+  state = rw new.entries (record {
+    legal = record { group = is.group; member = is.member; entries_are = NoEntries };
+    one_or_more = low;
+    at_most = high;
+    room = omega arith;
+  });
+  keeps = subst (λ (es : List Entry). Keeps seat (facts_of (map entry_fields es)) store) (sym new.entries) (record {
+    delivered = nothing_delivered seat store.delivery is new.delivery;
+    received = nothing_received seat store.reception is new.reception;
+    knows = nothing_known seat store.knowledge is new.knowledge;
+    sent = nothing_sent seat store.sending is new.sending;
+  });
+}

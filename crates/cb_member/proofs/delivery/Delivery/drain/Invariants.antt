@@ -1,0 +1,17 @@
+use Rattle.std.proofs.Common.{◌+◌, ◌≤◌}
+use Rattle.std.specs.FinMap as map
+use Rattle.std.specs.Vec.{vec_capacity, vec_len}
+use Rattle.cb_member.specs.Delivery.{IsWaiting, AreDraining}
+use Rattle.cb_member.proofs.delivery.Delivery.drain.Given as goal
+
+-- it still waits on the way, and there is room for all messages that wait
+abbrev pub invariant-deliveries : goal.invariant-deliveries
+invariant-deliveries l = record {
+  waits : IsWaiting l.self;
+  way : AreDraining l.fn.self l.self l.fn.deliveries.items l.deliveries.items;
+  room : vec_len l.deliveries + map.len l.self.queue.held ≤ vec_capacity l.deliveries;
+  places : vec_len l.self.events + map.len l.self.queue.held ≤ vec_capacity l.self.events;
+}
+
+abbrev pub decreases-deliveries : goal.decreases-deliveries
+decreases-deliveries l = map.len l.self.queue.held

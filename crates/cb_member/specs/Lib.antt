@@ -1,0 +1,5 @@
+pub mod Delivery
+pub mod Reception
+pub mod Knowledge
+pub mod Sending
+pub mod Store

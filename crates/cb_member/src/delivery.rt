@@ -1,0 +1,80 @@
+//! What a member has delivered, and what waits for the delay rule.
+
+ghost use Rattle.std.specs.Prelude.{◌≡◌, ◌+◌, ◌≤◌, ◌++◌, [], ◌∷◌, IfOk, IfSome, IfNone, length};
+ghost use Rattle.std.specs.FinMap as map;
+ghost use Rattle.std.specs.Vec.{vec_capacity, vec_len};
+ghost use Rattle.cb_times.specs.Group.{IsGroupSize, IsWindow};
+ghost use Rattle.cb_member.specs.Delivery.{IsNewDelivery, IsWaiting, DeliversNext, HasNoNext, Drains};
+
+use cb_delay::{DelayQueue, Event, Message};
+use cb_times::{NoMemory, VectorTime};
+use std::alloc::Global;
+
+/// What a member has delivered, and the messages that wait.
+#[derive(Drop)]
+pub struct Delivery {
+    /// How many messages of each member are delivered, own casts included.
+    pub time: VectorTime,
+    /// The casts and deliveries so far, in order.
+    pub events: Vec<Event>,
+    /// The messages that are expanded and not delivered.
+    pub queue: DelayQueue,
+    /// The same messages once more: at a delivery one goes to the caller and one to the events, and neither takes memory then.
+    pub copies: DelayQueue,
+}
+
+impl Delivery {
+    /// Nothing is delivered and nothing waits.
+    pub fn new(alloc: Global, size: u32, window: u32) -> Result<Delivery, NoMemory>
+        requires group { IsGroupSize size }
+        requires window { IsWindow window }
+        ensures { IfOk result (IsNewDelivery size window) }
+    {
+        Ok(Delivery {
+            time: VectorTime::zero(alloc, size)?,
+            events: Vec::new(alloc),
+            queue: DelayQueue::new(alloc, size, window)?,
+            copies: DelayQueue::new(alloc, size, window)?,
+        })
+    }
+
+    /// The message that is delivered next, twice, where one is ready.
+    fn deliver_next(&mut self) -> Option<(Message, Message)>
+        requires { IsWaiting self.old }
+        ensures some { IfSome result (λ messages. DeliversNext self.old self.new messages) }
+        ensures none { IfNone result (HasNoNext self.old self.new) }
+    {
+        let sender = self.queue.next_ready(&self.time)?;
+        let message = self.queue.release(sender)?;
+        let copy = self.copies.release(sender)?;
+        self.time.raise(&message.time);
+        Some((message, copy))
+    }
+
+    /// Delivers as long as a message is ready. The deliveries and the events have room for all messages that wait.
+    pub fn drain(&mut self, deliveries: &mut Vec<Message>)
+        requires waits { IsWaiting self.old }
+        requires room { vec_len deliveries.old + map.len self.old.queue.held
+            ≤ vec_capacity deliveries.old }
+        requires events { vec_len self.old.events + map.len self.old.queue.held
+            ≤ vec_capacity self.old.events }
+        ensures { Drains self.old self.new deliveries.old.items deliveries.new.items }
+    {
+        'deliveries: while let Some((message, copy)) = self.deliver_next() {
+            push_within(deliveries, message);
+            push_within(&mut self.events, Event::Deliver(copy));
+        }
+    }
+}
+
+/// Pushes where there is room.
+fn push_within<T: Drop>(items: &mut Vec<T>, item: T)
+    requires { vec_len items.old + 1 ≤ vec_capacity items.old }
+    ensures items { items.new.items ≡ items.old.items ++ item ∷ [] }
+    ensures len { vec_len items.new ≡ vec_len items.old + 1 }
+    ensures capacity { vec_capacity items.old ≤ vec_capacity items.new }
+{
+    let Ok(()) = items.push(item) else {
+        unreachable!("there is room")
+    };
+}

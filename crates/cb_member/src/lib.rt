@@ -1,0 +1,24 @@
+//! One member of a group, quick where the slow member of `cb_plain` reads its history again.
+//!
+//! A bare machine without clock, link or thread: what it answers is a function of its history, which `cb_history` defines. What it keeps
+//! beside its history is tied to the entries by named facts: the counts of the view, the messages that are expanded and not delivered,
+//! the casts that wait for those before them, what is known of the others, the own casts above stable.
+//!
+//! So far a member starts and is read, and its delay queue is drained; casts, arrivals and ticks are not here yet. Stands on the crates
+//! below: on `cb_times`, `cb_diffs`, `cb_delay`, `cb_gaps` and `cb_stability` for the work, on `cb_history` for types and meaning.
+#![tactic(auto)]
+
+mod delivery;
+mod knowledge;
+mod member;
+mod reception;
+mod sending;
+mod store;
+
+pub use cb_frames::Range;
+pub use cb_history::{
+    BadGroup, Entry, Event, Group, History, LONGEST_HISTORY, Message, MissingFault, Name, NewFault,
+    Seat,
+};
+pub use cb_times::{NoMemory, TimeOrder, VectorTime};
+pub use member::Member;

@@ -1,0 +1,143 @@
+//! The member, and what is read of it.
+
+ghost use Rattle.std.specs.Prelude.{◌≡◌, ◌≢◌, ◌↔◌, ◌⊎◌, ◌≤◌, ◌<◌, [], IfOk, Err, map};
+ghost use Rattle.cb_history.specs.Group.{IsSeat};
+ghost use Rattle.cb_history.specs.Legal.{longest_history};
+ghost use Rattle.cb_history.specs.Facts.{entry_fields};
+ghost use Rattle.cb_history.specs.Known.{ranges_of};
+ghost use Rattle.cb_history.specs.State.{IsMemberState, state_of, time_in, events_in, stable_in, missing_in};
+
+use crate::store::Store;
+use cb_frames::Range;
+use cb_history::{Entry, Event, Group, History, LONGEST_HISTORY, MissingFault, NewFault, Seat};
+use cb_times::{NoMemory, VectorTime};
+use std::alloc::Global;
+use std::marker::Model;
+
+/// One member of a group: its history, and beside it what makes its answers quick.
+///
+/// So far it starts and is read; what changes it comes next.
+#[derive(Drop)]
+pub struct Member {
+    seat: Seat,
+    limit: usize,
+    store: Store,
+}
+
+impl Model for Member {
+    ghost use Rattle.cb_history.specs.State.{MemberState, state_of};
+    ghost use Rattle.cb_member.specs.Store.{IsKept};
+
+    ghost Value = { MemberState };
+
+    ghost view = { λ m. state_of m.seat m.limit m.store.entries.items };
+
+    ghost invariant = { λ m. IsKept m.seat m.limit m.store };
+}
+
+impl Member {
+    /// A member without entries, whose history may have 1 to 16,777,216 of them.
+    pub fn new(alloc: Global, group: Group, me: u32, history_max: usize) -> Result<Member, NewFault>
+        ensures ok { IfOk result (λ member. member
+            ≡ state_of (record { group = group; me = me }) history_max []) }
+        ensures bad_member { (result ≡ Err NewFault.BadMember) ↔ (group.size ≤ me) }
+        ensures bad_limit { (result ≡ Err NewFault.BadLimit)
+            ↔ ((me < group.size) × ¬ ((1 ≤ history_max) × (history_max ≤ longest_history))) }
+    {
+        let Some(seat) = Seat::new(group, me) else {
+            return Err(NewFault::BadMember);
+        };
+        if !(1..=LONGEST_HISTORY).contains(&history_max) {
+            return Err(NewFault::BadLimit);
+        }
+        match Member::at(alloc, seat, history_max) {
+            Ok(member) => Ok(member),
+            Err(_refused) => Err(NewFault::NoMemory),
+        }
+    }
+
+    fn at(alloc: Global, seat: Seat, limit: usize) -> Result<Member, NoMemory>
+        requires seat { IsSeat seat }
+        requires limit { (1 ≤ limit) × (limit ≤ longest_history) }
+        ensures { IfOk result (λ member. member ≡ state_of seat limit []) }
+    {
+        let (size, window) = (seat.group().size(), seat.group().window());
+        let store = Store::new(alloc, size, window)?;
+        Ok(Member { seat, limit, store })
+    }
+
+    /// The group, and which of its members this is.
+    pub fn seat(&self) -> Seat
+        ensures seat { result ≡ self.now.seat }
+        ensures member { IsMemberState self.now }
+    {
+        self.seat
+    }
+
+    /// How many messages of each member are delivered, own casts included.
+    pub fn time(&self) -> &VectorTime
+        ensures { result.now ≡ time_in self.now }
+    {
+        &self.store.delivery.time
+    }
+
+    /// All that the member did, in order. The history is legal, whatever came.
+    pub fn history(&self) -> &[Entry]
+        ensures entries { map entry_fields result.now ≡ self.now.entries }
+        ensures legal { IsMemberState self.now }
+    {
+        self.store.entries.as_slice()
+    }
+
+    /// The casts and deliveries so far, in order.
+    pub fn events(&self) -> &[Event]
+        ensures { result.now ≡ events_in self.now }
+    {
+        self.store.delivery.events.as_slice()
+    }
+
+    /// How many own casts are known to be delivered by every other member.
+    pub fn stable(&self) -> u32
+        ensures { result ≡ stable_in self.now }
+    {
+        self.store.knowledge.acks.stable(self.seat.me())
+    }
+
+    /// The casts of member i that are missing, as rising ranges that neither touch nor overlap.
+    pub fn missing(&self, i: u32) -> Result<Vec<Range>, MissingFault>
+        ensures ranges { IfOk result (λ ranges. ranges.items ≡ ranges_of (missing_in self.now i)) }
+        ensures bad_member { (result ≡ Err MissingFault.BadMember)
+            ↔ ((self.now.seat.group.size ≤ i) ⊎ (i ≡ self.now.seat.me)) }
+    {
+        if i >= self.seat.group().size() || i == self.seat.me() {
+            return Err(MissingFault::BadMember);
+        }
+        let ranges = self.missing_of(i)?;
+        Ok(ranges)
+    }
+
+    fn missing_of(&self, i: u32) -> Result<Vec<Range>, NoMemory>
+        requires of_group { i < self.now.seat.group.size }
+        requires other { i ≢ self.now.seat.me }
+        ensures { IfOk result (λ ranges. ranges.items ≡ ranges_of (missing_in self.now i)) }
+    {
+        let delivered = self.store.delivery.time.get(i);
+        let known = self.store.knowledge.known.get(i);
+        self.store.reception.buffers[i as usize].missing(delivered, known)
+    }
+
+    /// All that the member did, for good.
+    pub fn into_history(self) -> History
+        ensures seat { (result.group ≡ self.seat.group) × (result.me ≡ self.seat.me) }
+        ensures entries { map entry_fields result.entries.items ≡ self.entries }
+    {
+        History {
+            group: self.seat.group(),
+            me: self.seat.me(),
+            entries: self.store.entries,
+        }
+    }
+}
+
+#[cfg(test)]
+mod tests;
