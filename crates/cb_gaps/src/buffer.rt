@@ -98,7 +98,7 @@ impl Reorder {
     pub fn judge(&self, delivered: u32, number: u32) -> Admission
         ensures { Admits self.now delivered number number result }
     {
-        if number <= self.taken {
+        if self.taken >= number {
             return Admission::Repeat;
         }
         let Some(_place) = place_for(&self.kept, number) else {

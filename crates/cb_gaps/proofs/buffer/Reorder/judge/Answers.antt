@@ -15,7 +15,7 @@ pub returns-then-self-saturating_sub : goal.returns-then-self-saturating_sub
 returns-then-self-saturating_sub c =
     rw (← c.self.view_is) (
       is_lacking c.self.inside.window c.self.inside.taken c.self.inside.kept.items c.self.invariant.0 c.args.number c.in-Some._place
-          c.if-number-self.false c.in-Some.ensures,
+          c.if-self-number.false c.in-Some.ensures,
       omega (arith, c.if-self-saturating_sub.true, c.saturating_sub.ensures),
     )
 
@@ -23,6 +23,6 @@ pub returns : goal.returns
 returns c =
     rw (← c.self.view_is) (
       is_lacking c.self.inside.window c.self.inside.taken c.self.inside.kept.items c.self.invariant.0 c.args.number c.in-Some._place
-          c.if-number-self.false c.in-Some.ensures,
+          c.if-self-number.false c.in-Some.ensures,
       omega (arith, c.if-self-saturating_sub.false, c.saturating_sub.ensures),
     )
