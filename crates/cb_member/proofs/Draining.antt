@@ -1,5 +1,5 @@
 -- The deliveries of a drain, one after another.
-use Rattle.std.proofs.Common.{◌≡◌, ℕ, List, [], ◌∷◌, ◌++◌, map, Some, None, refl, sym, ap, subst, ◌∙◌, append_assoc}
+use Rattle.std.proofs.Common.{◌≡◌, ℕ, List, [], ◌∷◌, ◌++◌, map, sym, ap, subst, ◌∙◌, append_assoc}
 use Rattle.std.specs.declared.vec.Vec.{Vec}
 use Rattle.std.specs.declared.alloc.Global.{Global}
 use Rattle.std.proofs.lemmas.List.{append-nil, map-append}
@@ -7,10 +7,10 @@ use Rattle.cb_frames.specs.Fields.{CastFields, Carried}
 use Rattle.cb_delay.specs.declared.message.Message.{Message}
 use Rattle.cb_delay.specs.declared.message.Event.{Event}
 use Rattle.cb_delay.specs.declared.message.Event.TheVariants.{Deliver}
-use Rattle.cb_history.specs.View.{next_delivery, drain, message_in}
+use Rattle.cb_history.specs.View.{drain, message_in}
 use Rattle.cb_history.proofs.Delivering.{drain_goes_on, drain_ends}
 use Rattle.cb_member.specs.declared.delivery.Delivery.{Delivery}
-use Rattle.cb_member.specs.Delivery.{Waits, IsWaiting, DeliversNext, HasNoNext, IsDraining, AreDraining, IsDrained, Drains}
+use Rattle.cb_member.specs.Delivery.{Waits, IsWaiting, DeliversNext, HasNoNext, AreDraining, Drains}
 
 -- what waits does not depend on the events
 waits_alike : (size : ℕ) (casts : List CastFields) (seen : List Carried) (d : Delivery) (events : Vec Event Global) → Waits size casts seen d → Waits size casts seen (record d { events = events })

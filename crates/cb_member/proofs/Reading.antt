@@ -1,5 +1,5 @@
 -- What is read of a member's parts.
-use Rattle.std.proofs.Common.{◌≡◌, ◌≢◌, ℕ, ◌<◌, List, length, Some, ap, sym, subst, ◌∙◌, arith}
+use Rattle.std.proofs.Common.{◌≡◌, ◌≢◌, ℕ, ◌<◌, List, length, Some, ap, subst, ◌∙◌, arith}
 use Rattle.std.specs.Prelude.{slice_get}
 use Rattle.std.proofs.lemmas.List.FromFn.{length-map-range_with_len, get_or-map-range_with_len}
 use Rattle.cb_times.specs.Order.{field}
@@ -15,9 +15,7 @@ use Rattle.cb_history.specs.Answers.{delivered}
 use Rattle.cb_history.proofs.Buffers.{ranges_are_asked_for}
 use Rattle.cb_member.specs.declared.delivery.Delivery.{Delivery}
 use Rattle.cb_member.specs.declared.reception.Reception.{Reception}
-use Rattle.cb_member.specs.declared.knowledge.Knowledge.{Knowledge}
 use Rattle.cb_member.specs.Reception.{HasReceivedAll}
-use Rattle.cb_member.specs.Knowledge.{KnowsFacts}
 use Rattle.cb_member.specs.Store.{HasDelivered}
 
 -- the time has a field for each member, which is how many of its messages are delivered

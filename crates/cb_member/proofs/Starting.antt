@@ -1,25 +1,21 @@
 -- A member without entries: what is kept is what no facts say.
-use Rattle.std.proofs.Common.{◌≡◌, ℕ, zero, suc, ◌+◌, ◌<◌, ◌≤◌, List, [], ◌∷◌, length, map, replicate, get_or, Some, None, refl, sym, ap, subst, ◌∙◌, arith, All}
+use Rattle.std.proofs.Common.{◌≡◌, ℕ, zero, suc, ◌+◌, ◌≤◌, List, [], ◌∷◌, length, map, replicate, Some, None, refl, sym, ap, subst, ◌∙◌, arith, All}
 use Rattle.std.specs.Prelude.{slice_get}
 use Rattle.std.specs.FinMap as fin
 use Rattle.std.specs.List.{AllByRecursion, range_with_len}
 use Rattle.std.proofs.lemmas.List.Elements.{recursion_from_All}
 use Rattle.std.proofs.lemmas.List.{get_or-replicate, length-replicate}
 use Rattle.cb_times.specs.Order.{field}
-use Rattle.cb_frames.specs.Fields.{CastFields, Carried}
-use Rattle.cb_delay.specs.declared.message.Message.{Message}
-use Rattle.cb_delay.specs.Queue.{Queue, IsNew, IsHeld}
+use Rattle.cb_delay.specs.Queue.{Queue, IsNew}
 use Rattle.cb_gaps.specs.Buffer as buffers
 use Rattle.cb_gaps.specs.Buffer.{Buffer}
-use Rattle.cb_stability.specs.Sent.{Sent}
 use Rattle.cb_history.specs.declared.history.Entry.{Entry}
 use Rattle.cb_history.specs.Group.{Seat, IsSeat}
 use Rattle.cb_history.specs.Facts.{entry_fields, facts_of}
-use Rattle.cb_history.specs.View.{count, counts, view, time_of}
-use Rattle.cb_history.specs.Legal.{longest_history, IsLegal, NoEntries}
+use Rattle.cb_history.specs.View.{count, view, time_of}
+use Rattle.cb_history.specs.Legal.{longest_history, NoEntries}
 use Rattle.cb_history.specs.LegalFacts.{AreFactsOf, NoFacts}
 use Rattle.cb_history.specs.QueueLaws.{HoldsUndelivered}
-use Rattle.cb_history.specs.StabilityLaws.{KnowsAcknowledged, KeepsOwnCasts}
 use Rattle.cb_stability.proofs.Windows.{none_kept, entries-kept}
 use Rattle.cb_history.proofs.Delivering.{views_are_on_the_way}
 use Rattle.cb_history.proofs.Buffers.{new_buffer_holds}

@@ -1,5 +1,5 @@
 -- One delivery of what waits, and none.
-use Rattle.std.proofs.Common.{◌≡◌, ℕ, ◌+◌, ◌-◌, ◌<◌, Bool, true, cond, List, [], ◌∷◌, ◌++◌, length, Some, None, refl, sym, ap, subst, ◌∙◌, arith}
+use Rattle.std.proofs.Common.{◌≡◌, ℕ, ◌+◌, ◌-◌, ◌<◌, Bool, true, cond, List, [], ◌∷◌, length, Some, refl, sym, ap, subst, ◌∙◌, arith}
 use Rattle.std.specs.FinMap as fin
 use Rattle.std.specs.Prelude.{is_some}
 use Rattle.std.proofs.lemmas.List.FromFn.{length-map-range_with_len}
@@ -8,15 +8,14 @@ use Rattle.cb_times.specs.declared.name.Name.{Name}
 use Rattle.cb_frames.specs.Fields.{CastFields, Carried}
 use Rattle.cb_delay.specs.declared.message.Message.{Message}
 use Rattle.cb_delay.specs.Message.{name_cmp}
-use Rattle.cb_delay.specs.Queue.{Queue, Holds, HasReady, IsHeld, IsSmallestReady, IsFirst, Releases}
+use Rattle.cb_delay.specs.Queue.{Queue, Holds, HasReady, IsSmallestReady, IsFirst, Releases}
 use Rattle.cb_delay.proofs.Names.{names_total}
-use Rattle.cb_history.specs.View.{count, counts, next_delivery, message_in}
+use Rattle.cb_history.specs.View.{count, message_in}
 use Rattle.cb_history.specs.QueueLaws.{HoldsUndelivered}
-use Rattle.cb_history.specs.DeliveryLaws.{IsOnTheWay}
 use Rattle.cb_history.proofs.Delivering.{readiness_is_the_delay_rule, raising_counts_the_delivery, delivery_leaves_on_the_way, next_is_smallest_ready}
 use Rattle.cb_history.proofs.Queueing.{in_casts, next_ready_is_next_delivery, none_ready_is_nothing_next, first_is_next_delivery, release_is_delivery}
 use Rattle.cb_member.specs.declared.delivery.Delivery.{Delivery}
-use Rattle.cb_member.specs.Delivery.{Waits, IsWaiting, DeliversNext, HasNoNext}
+use Rattle.cb_member.specs.Delivery.{IsWaiting, DeliversNext, HasNoNext}
 
 -- a queue with the same messages holds the same
 held_alike : (size : ℕ) (casts : List CastFields) (seen : List Carried) (old new : Queue) → Holds old new old.held → HoldsUndelivered size casts seen old → HoldsUndelivered size casts seen new

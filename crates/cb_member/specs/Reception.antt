@@ -1,14 +1,11 @@
 -- What a member has received of the others' casts: what waits for those before it, and the times of what does not.
-use Rattle.std.specs.Prelude.{◌≡◌, ◌≢◌, ℕ, ◌+◌, ◌<◌, ◌==◌, Any, All, List, [], length, replicate, slice_get, Some, if◌then◌else◌}
+use Rattle.std.specs.Prelude.{◌≡◌, ◌≢◌, ℕ, ◌<◌, Any, All, List, [], length, replicate, slice_get, Some}
 use Rattle.cb_frames.specs.Fields.{CastFields, first_number}
-use Rattle.cb_delay.specs.declared.message.Message.{Message}
 use Rattle.cb_gaps.specs.Buffer.{Buffer, IsNew}
-use Rattle.cb_diffs.specs.Expansion.{expanded_time}
 use Rattle.cb_history.specs.Group.{Seat}
 use Rattle.cb_history.specs.Facts.{Fact, casts_in}
 use Rattle.cb_history.specs.Known.{expanded_count}
-use Rattle.cb_history.specs.LegalFacts.{AreFactsOf}
-use Rattle.cb_history.specs.BufferLaws.{IsCastOf, IsWaiting, HoldsWhatWaits}
+use Rattle.cb_history.specs.BufferLaws.{IsWaiting, HoldsWhatWaits}
 use Rattle.cb_history.specs.ExpanderLaws.{KeepsTimeOf}
 use Rattle.cb_member.specs.declared.reception.Spare.{Spare}
 use Rattle.cb_member.specs.declared.reception.Reception.{Reception}
