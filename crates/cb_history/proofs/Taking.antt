@@ -141,11 +141,11 @@ waits_alike size casts now seen then_seen queue a b waits =
 pub own_facts_leave_waiting : OwnFactsLeaveWaiting
 own_facts_leave_waiting seat facts queue waits = (
   (λ c are. waits_alike seat.group.size (casts_in facts ++ c ∷ []) (casts_in (facts ++ OwnCast c ∷ [])) (view seat.group.size facts ++ message c ∷ []) (view seat.group.size (facts ++ OwnCast c ∷ [])) queue
-  (casts_in-append facts (OwnCast c)) (view_own seat.group.size facts c) (own_leaves seat facts c queue are waits)),
+      (casts_in-append facts (OwnCast c)) (view_own seat.group.size facts c) (own_leaves seat facts c queue are waits)),
   (λ s. waits_alike seat.group.size (casts_in facts) (casts_in (facts ++ StatusCame s ∷ [])) (view seat.group.size facts) (view seat.group.size (facts ++ StatusCame s ∷ [])) queue
-  (no_cast facts s).0 (view_status seat.group.size facts s) waits),
+      (no_cast facts s).0 (view_status seat.group.size facts s) waits),
   (λ s. waits_alike seat.group.size (casts_in facts) (casts_in (facts ++ OwnStatus s ∷ [])) (view seat.group.size facts) (view seat.group.size (facts ++ OwnStatus s ∷ [])) queue
-  (no_cast facts s).1 (view_told seat.group.size facts s) waits),
+      (no_cast facts s).1 (view_told seat.group.size facts s) waits),
 )
 
 -- ---- a cast that came
@@ -319,13 +319,16 @@ holding_takes_one_more size window casts seen taken m old new way next holds hel
             let both = eq_by_cmp-true x.name name e in
             let same = one_message (messages_in casts) n m way.names there (one_of_is_in m (messages_in casts) next.there) (sym sender ∙ both.0) (sym number ∙ both.1) in
             ap (λ (y : Message). Some y) (sym (t.undelivered.timed ∙ ap (message_in size casts) same))
-        by_name false e = (holds.holds x).1 (record { undelivered = t.undelivered; upto = λ of.
-            let most = t.upto of in
-            let is = next.next in
-            elim (cases_eq x.name.number m.number) [
-              | inl same ↦ absurd (let yes = eq_by_cmp-same x.name name of same in cc)
-              | inr ne ↦ omega (arith, most, is, ne)
-            ] })
+        by_name false e = (holds.holds x).1 (record {
+          undelivered = t.undelivered;
+          upto = λ of.
+              let most = t.upto of in
+              let is = next.next in
+              elim (cases_eq x.name.number m.number) [
+                | inl same ↦ absurd (let yes = eq_by_cmp-same x.name name of same in cc)
+                | inr ne ↦ omega (arith, most, is, ne)
+              ];
+        })
 
 pub all_taken_is_waiting : AllTakenIsWaiting
 all_taken_is_waiting size casts seen i queue holds = record {

@@ -15,7 +15,7 @@ use Rattle.cb_history.specs.OwnFrameLaws.{IsOfTheGroup}
 abbrev pub AreThere : List CastFields → CastFields → Type 0
 AreThere casts c = list_all (λ m. is_there casts m.sender m.number) (messages_of c) ≡ true
 
--- A cast frame of the group and of its members is accepted, or is a repeat, exactly where its messages are there after the call.
+-- After a call that hands over a cast frame of the group, its messages are there if and only if the frame was not refused.
 abbrev pub AcceptedIsThere : Type 0
 AcceptedIsThere = (seat : Seat) (limit : ℕ) (entries : List EntryFields) (bytes : List ℕ) (c : CastFields) → AreFactsOf seat (facts_of entries)
     → frame_at bytes ≡ Ok (CastFrame c) → IsOfTheGroup seat.group (CastFrame c)

@@ -89,7 +89,7 @@ RaisingCountsTheDelivery =
 
 -- ---- a drain, step by step
 
--- draining is delivering the next message and draining the rest
+-- a drain is its first delivery, and then the drain of what is left
 abbrev pub DrainGoesOn : Type 0
 DrainGoesOn =
     (size : ℕ) (casts : List CastFields) (seen : List Carried) (m : Carried)
@@ -108,13 +108,13 @@ abbrev pub MeetRuleAfter : ℕ → List CastFields → List Carried → List Car
 MeetRuleAfter size casts before [] = Unit {0}
 MeetRuleAfter size casts before (m ∷ ms) = MeetsRule size casts before m × MeetRuleAfter size casts (before ++ m ∷ []) ms
 
--- each message of a view meets the rule at the place where it stands
+-- in a view the rule is met by each message, given those in front of it
 abbrev pub ViewMeetsTheRule : Type 0
 ViewMeetsTheRule =
     (seat : Seat) (facts : List Fact) → AreFactsOf seat facts
     → MeetRuleAfter seat.group.size (casts_in facts) [] (view seat.group.size facts)
 
--- a view holds messages of members of the group alone
+-- nobody outside the group has a message in a view
 abbrev pub ViewIsOfMembers : Type 0
 ViewIsOfMembers =
     (seat : Seat) (facts : List Fact) → AreFactsOf seat facts → AreOfMembers seat.group.size (view seat.group.size facts)

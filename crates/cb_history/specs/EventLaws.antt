@@ -37,12 +37,12 @@ casts_among [] = []
 casts_among (Cast message ∷ events) = carried_in message ∷ casts_among events
 casts_among (Deliver message ∷ events) = casts_among events
 
--- the casts among the events are the messages of the own casts, in order
+-- the cast events are the messages of the own casts, one after the other
 abbrev pub EventsCastTheOwn : Type 0
 EventsCastTheOwn =
     (seat : Seat) (facts : List Fact) → AreFactsOf seat facts → casts_among (events seat facts) ≡ messages_in (own_casts facts)
 
--- An own cast makes an expanded message ready only where that message's time has, at the member's own field, a number of this cast.
+-- What an own cast makes ready waited for it: its time has, at the field of the member itself, a number of that cast.
 abbrev pub OwnCastMakesReady : Type 0
 OwnCastMakesReady =
     (seat : Seat) (facts : List Fact) (c : CastFields) (m : Carried) → AreFactsOf seat (facts ++ OwnCast c ∷ [])

@@ -1,4 +1,4 @@
--- The call that made an entry, read off the entry: so replaying decides whether a history is legal.
+-- The call that made an entry, read off the entry: hence a history is checked by making its calls again.
 use Rattle.std.specs.Prelude.{◌≡◌, ◌↔◌, ℕ, ◌≤◌, List, [], ◌∷◌, ◌++◌, Some, Result, Ok, Err}
 use Rattle.std.specs.List.{AllByRecursion}
 use Rattle.cb_frames.specs.declared.fault.FrameFault.{FrameFault}

@@ -2,7 +2,7 @@
 
 ghost use Rattle.cb_history.specs.ArrivalLaws.{AcceptedIsThere, ThereStays, CastsAreOfTheGroup};
 
-/// A cast frame of the group and of its members was accepted or is a repeat exactly where its messages are there after the call, and
+/// After a call that hands over a cast frame of the group, its messages are there if and only if the frame was not refused, and
 /// what is there stays. All casts that are there are of the group and of its members.
 pub fn accepted_casts_are_there()
     ensures accepted { AcceptedIsThere }

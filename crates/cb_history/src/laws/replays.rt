@@ -2,7 +2,7 @@
 
 ghost use Rattle.cb_history.specs.ReplayLaws.{EntryTellsItsCall, EntriesOfBytesTellBytes, LegalEntriesAreBytes, OneMoreIsDecided, ReplayingDecides};
 
-/// An entry tells the call that added it, and no other call adds it. So replaying decides whether a history is legal: it is exactly
+/// An entry tells the call that added it, and no other call adds it. Hence a history is checked by making its calls again: it is legal exactly
 /// where its entries are of bytes and each is added by the call that it tells to those before it.
 pub fn entries_tell_their_calls()
     ensures call { EntryTellsItsCall }

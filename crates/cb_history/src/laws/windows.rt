@@ -2,7 +2,7 @@
 
 ghost use Rattle.cb_history.specs.WindowLaws.{CastsAreNear, OwnCastsAreNearStable};
 
-/// The bounds of the windows: a cast that is there is at most a window above what is delivered of its sender, and a member's own
+/// Nobody runs ahead of a window: a cast that is there is at most a window above what is delivered of its sender, and a member's own
 /// casts are at most a window above what is stable.
 pub fn casts_stay_in_their_windows()
     ensures there { CastsAreNear }
