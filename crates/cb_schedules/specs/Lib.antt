@@ -1,0 +1,4 @@
+pub mod Schedule
+pub mod RunLaws
+pub mod Messages
+pub mod Headline

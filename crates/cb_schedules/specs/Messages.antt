@@ -1,0 +1,103 @@
+-- What the state of a group says of messages: what was cast, what arrived, what is delivered, and the times in the bytes.
+use Rattle.std.specs.Prelude.{◌≡◌, ℕ, Bool, true, ◌&&◌, ◌==◌, List, [], ◌∷◌, Result, Ok, Err, if◌then◌else◌}
+use Rattle.std.specs.List.{flat_map, list_any}
+use Rattle.cb_times.specs.declared.name.Name.{Name}
+use Rattle.cb_frames.specs.declared.fault.FrameFault.{FrameFault}
+use Rattle.cb_frames.specs.Fields.{CastFields, FrameFields, CastFrame, StatusFrame, RequestFrame, Carried, messages_of}
+use Rattle.cb_frames.specs.Reading.{frame_at}
+use Rattle.cb_diffs.specs.Sent.{sent_time}
+use Rattle.cb_causality.specs.Events.{Has}
+use Rattle.cb_causality.specs.HappenedBefore.{Lists, Place, IsCastAt, HappenedBefore}
+use Rattle.cb_causality.specs.StampedMachine.{StampedLists, erased}
+use Rattle.cb_history.specs.Facts.{Fact, facts_of}
+use Rattle.cb_history.specs.Events.{events}
+use Rattle.cb_history.specs.Legal.{ToCast, ToTake, ToTick}
+use Rattle.cb_schedules.specs.Schedule.{Setting, seat_at, Asked, Calls, OfNoMember, OfNoFrame, OfNoBytes, Answer, CastAnswer, ArrivalAnswer, TickAnswer, NoSuchMember, NoSuchFrame, NoBytes, GroupState}
+
+-- ---- events
+
+-- what the history of member k says
+abbrev pub facts_at : GroupState → ℕ → List Fact
+facts_at s k = facts_of (s.histories k)
+
+-- the members' casts and deliveries, each with its time: the lists of the stamped machine
+abbrev pub stamped_lists : Setting → GroupState → StampedLists
+stamped_lists setting s k = events (seat_at setting k) (facts_at s k)
+
+-- the same without times: the lists of the causal machine
+abbrev pub causal_lists : Setting → GroupState → Lists
+causal_lists setting s = erased (stamped_lists setting s)
+
+-- the message was cast
+abbrev pub WasCast : Setting → GroupState → Name → Type 0
+WasCast setting s m = (place : Place) × IsCastAt (causal_lists setting s) place m
+
+-- the member has delivered the message: it stands in its events, own casts included
+abbrev pub HasDelivered : Setting → GroupState → ℕ → Name → Type 0
+HasDelivered setting s j m = Has (causal_lists setting s j) m
+
+-- ---- arrivals
+
+-- the messages that bytes carry
+abbrev pub messages_read : Result FrameFields FrameFault → List Carried
+messages_read (Ok (CastFrame c)) = messages_of c
+messages_read (Ok (StatusFrame s)) = []
+messages_read (Ok (RequestFrame r)) = []
+messages_read (Err fault) = []
+
+-- what came to member j by a call of member i: its own cast, or a cast frame that was accepted or was a repeat
+abbrev pub came_by_cast : ℕ → ℕ → Answer → List Carried
+came_by_cast j i (CastAnswer (Ok c)) = if i == j then messages_of c else []
+came_by_cast j i (CastAnswer (Err refusal)) = []
+came_by_cast j i (ArrivalAnswer r) = []
+came_by_cast j i (TickAnswer r) = []
+came_by_cast j i NoSuchMember = []
+came_by_cast j i NoSuchFrame = []
+came_by_cast j i NoBytes = []
+
+abbrev pub came_by_frame : ℕ → ℕ → List ℕ → Answer → List Carried
+came_by_frame j i bytes (ArrivalAnswer (Ok says)) = if i == j then messages_read (frame_at bytes) else []
+came_by_frame j i bytes (ArrivalAnswer (Err refusal)) = []
+came_by_frame j i bytes (CastAnswer r) = []
+came_by_frame j i bytes (TickAnswer r) = []
+came_by_frame j i bytes NoSuchMember = []
+came_by_frame j i bytes NoSuchFrame = []
+came_by_frame j i bytes NoBytes = []
+
+abbrev pub came_by : ℕ → Asked → Answer → List Carried
+came_by j (Calls i (ToCast payload)) answer = came_by_cast j i answer
+came_by j (Calls i (ToTake bytes)) answer = came_by_frame j i bytes answer
+came_by j (Calls i ToTick) answer = []
+came_by j OfNoMember answer = []
+came_by j OfNoFrame answer = []
+came_by j OfNoBytes answer = []
+
+-- the messages that have arrived at member j, by the outcomes alone; one that came again stands here again
+abbrev pub arrived_at : GroupState → ℕ → List Carried
+arrived_at s j = flat_map (λ outcome. came_by j outcome.asked outcome.answer) s.outcomes
+
+-- the message has arrived
+abbrev pub has_arrived : GroupState → ℕ → Name → Bool
+has_arrived s j m = list_any (λ x. x.sender == m.sender && x.number == m.number) (arrived_at s j)
+
+-- A closed arrival at member j: it and everything that happened before it have arrived there.
+pub record IsClosedArrival (setting : Setting) (s : GroupState) (j : ℕ) (m : Name) : Type 0 where
+  pub arrived : has_arrived s j m ≡ true
+  pub past : (earlier : Name) → HappenedBefore (causal_lists setting s) earlier m → has_arrived s j earlier ≡ true
+
+-- ---- times
+
+-- the cast frame that bytes are
+abbrev pub cast_read : Result FrameFields FrameFault → List CastFields
+cast_read (Ok (CastFrame c)) = c ∷ []
+cast_read (Ok (StatusFrame s)) = []
+cast_read (Ok (RequestFrame r)) = []
+cast_read (Err fault) = []
+
+-- the cast frames among all frames that were sent, read from their bytes; one that was sent again stands here again
+abbrev pub sent_casts : GroupState → List CastFields
+sent_casts s = flat_map (λ frame. cast_read (frame_at frame.bytes)) s.sent
+
+-- the vector time of a message, from the bytes of the sent cast frames and from nothing else
+abbrev pub time_from_bytes : Setting → GroupState → Name → List ℕ
+time_from_bytes setting s m = sent_time setting.group.size (sent_casts s) m.sender m.number
