@@ -1,2 +1,5 @@
 mod Rows
 pub mod GoingOn
+pub mod Members
+pub mod Growing
+pub mod Stamping

@@ -1,4 +1,5 @@
 pub mod Schedule
 pub mod RunLaws
 pub mod Messages
+pub mod Honest
 pub mod Headline
