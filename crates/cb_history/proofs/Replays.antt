@@ -35,7 +35,7 @@ use Rattle.cb_history.proofs.Histories.{frame_taken, legal_histories_say_legal_f
 no_bytes : IsBytes []
 no_bytes i = omega arith
 
-one_more_byte : (b : ℕ) (bytes : List ℕ) → b < 256 → IsBytes bytes → IsBytes (b ∷ bytes)
+pub one_more_byte : (b : ℕ) (bytes : List ℕ) → b < 256 → IsBytes bytes → IsBytes (b ∷ bytes)
 one_more_byte b bytes small are zero = small
 one_more_byte b bytes small are (suc i) = are i
 
@@ -53,16 +53,16 @@ spelling_is_bytes n small =
     let ends = s.ends in
     subst IsBytes (sym s.parts) (both_are_bytes s.front (s.last ∷ []) (top_bits_are_bytes s.front s.more) (one_more_byte s.last [] (omega (arith, ends)) no_bytes))
 
-numbers_are_bytes : (ns : List ℕ) → AllByRecursion (λ n. n < 2 ^ 32) ns → IsBytes (flat_map spelling ns)
+pub numbers_are_bytes : (ns : List ℕ) → AllByRecursion (λ n. n < 2 ^ 32) ns → IsBytes (flat_map spelling ns)
 numbers_are_bytes [] small = no_bytes
 numbers_are_bytes (n ∷ ns) small = both_are_bytes (spelling n) (flat_map spelling ns) (spelling_is_bytes n small.0) (numbers_are_bytes ns small.1)
 
-cast_is_bytes : (c : CastFields) → CanBeWritten (CastFrame c) → IsBytes c.payload → IsBytes (text_of (CastFrame c))
+pub cast_is_bytes : (c : CastFields) → CanBeWritten (CastFrame c) → IsBytes c.payload → IsBytes (text_of (CastFrame c))
 unfolding text_of
 cast_is_bytes c can payload =
     one_more_byte cast_kind (flat_map spelling (cast_numbers c) ++ c.payload) (omega arith) (both_are_bytes (flat_map spelling (cast_numbers c)) c.payload (numbers_are_bytes (cast_numbers c) can.2) payload)
 
-status_is_bytes : (s : StatusFields) → CanBeWritten (StatusFrame s) → IsBytes (text_of (StatusFrame s))
+pub status_is_bytes : (s : StatusFields) → CanBeWritten (StatusFrame s) → IsBytes (text_of (StatusFrame s))
 unfolding text_of
 status_is_bytes s can = one_more_byte status_kind (flat_map spelling (status_numbers s)) (omega arith) (numbers_are_bytes (status_numbers s) can.2)
 
