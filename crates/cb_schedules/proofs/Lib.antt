@@ -3,3 +3,7 @@ pub mod GoingOn
 pub mod Members
 pub mod Growing
 pub mod Stamping
+pub mod Sending
+pub mod Calling
+pub mod Answering
+pub mod Courses

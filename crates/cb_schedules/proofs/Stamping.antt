@@ -143,6 +143,9 @@ module _ (group : Parameters) (facts after : ℕ → List Fact) (h : AreTogether
 
 -- ---- deliveries
 
+behind_it : {A : Type 0} (x : A) (xs ys : List A) → xs ≡ ys → x ∷ xs ≡ x ∷ ys
+behind_it {A} x xs ys e = ap (λ (zs : List A). x ∷ zs) e
+
 -- where a list of images is cut, the list is cut
 map_cut : {A B : Type 0} (g : A → B) (xs : List A) (earlier later : List B) (b : B) → map g xs ≡ earlier ++ b ∷ later
     → (before : List A) × (x : A) × (behind : List A) × (xs ≡ before ++ x ∷ behind) × (map g before ≡ earlier) × (g x ≡ b)
@@ -152,7 +155,7 @@ map_cut g (x ∷ xs) [] later b e = ([], x, xs, refl, refl, cc)
 map_cut {A} {B} g (x ∷ xs) (y ∷ earlier) later b e =
     let tail : map g xs ≡ earlier ++ b ∷ later = cc in
     let (before, z, behind, is, same, image) = map_cut g xs earlier later b tail in
-    (x ∷ before, z, behind, ap (λ (ys : List A). x ∷ ys) is, cc, image)
+    (x ∷ before, z, behind, behind_it x xs (before ++ z ∷ behind) is, cc, image)
 
 -- a message of a list meets the rule behind those before it
 meets_at : (size : ℕ) (casts : List CastFields) (before xs ys : List Carried) (m : Carried) → MeetRuleAfter size casts before (xs ++ m ∷ ys) → MeetsRule size casts (before ++ xs) m

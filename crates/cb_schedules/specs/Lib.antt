@@ -2,4 +2,5 @@ pub mod Schedule
 pub mod RunLaws
 pub mod Messages
 pub mod Honest
+pub mod Consistent
 pub mod Headline

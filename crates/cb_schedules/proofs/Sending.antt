@@ -1,0 +1,162 @@
+-- What a member sends is a frame of the group that says what is so.
+use Rattle.std.proofs.Common.{◌≡◌, ◌≢◌, ℕ, zero, suc, ◌+◌, ◌<◌, ◌≤◌, Bool, true, false, not, eqb, ltb, List, [], ◌∷◌, ◌++◌, map, length, take, Some, None, Result, Ok, Err, refl, sym, ap, subst, ◌∙◌, arith, inl, inr, ◌⊎◌}
+use Rattle.std.specs.List.{AllByRecursion, flat_map, filter, range_with_len}
+use Rattle.std.proofs.lemmas.Bool.{cond_both, eqb-false}
+use Rattle.cb_varint.specs.Reading.{spelling}
+use Rattle.cb_frames.specs.declared.frame.TheConstants.{LONGEST_PAYLOAD, MOST_RANGES, MOST_FRAMES}
+use Rattle.cb_frames.specs.declared.frame.Change.{Change}
+use Rattle.cb_frames.specs.declared.frame.Range.{Range}
+use Rattle.cb_frames.specs.declared.fault.FrameFault.{FrameFault}
+use Rattle.cb_frames.specs.Fields.{CastFields, StatusFields, RequestFields, FrameFields, CastFrame, StatusFrame, RequestFrame, messages_of}
+use Rattle.cb_frames.specs.Text.{text_of, request_kind, request_numbers}
+use Rattle.cb_frames.specs.Reading.{frame_at}
+use Rattle.cb_frames.specs.Laws.{IsBytes, CanBeWritten}
+use Rattle.cb_frames.proofs.Decoding.{reading_is_exact, text_is_read}
+use Rattle.cb_frames.proofs.Unique.{one_text, some_text}
+use Rattle.cb_history.specs.declared.answer.Outgoing.{Outgoing}
+use Rattle.cb_history.specs.Group.{Parameters, Seat, IsSeat}
+use Rattle.cb_history.specs.Facts.{Fact}
+use Rattle.cb_history.specs.Known.{missing, ranges_of, stable}
+use Rattle.cb_history.specs.Answers.{delivered, next_cast, status_of, own_casts, window, is_asked_for, sent_in_answer, request_to, requests}
+use Rattle.cb_history.specs.LegalFacts.{AreFactsOf}
+use Rattle.cb_history.specs.BufferLaws.{IsCastOf}
+use Rattle.cb_history.proofs.Views.{IsIn, filter_in, not_true}
+use Rattle.cb_history.proofs.Lists.{in_append, in_one, in_front, in_back, flat_map-append}
+use Rattle.cb_history.proofs.ReadBack.{cast_read as cast_reads, status_read}
+use Rattle.cb_history.proofs.Written.{each_from}
+use Rattle.cb_history.proofs.Requests.{own_frames_have_texts}
+use Rattle.cb_history.proofs.OwnFrames.{own_casts_are_of_the_group, own_statuses_are_of_the_group, own_requests_are_of_the_group}
+use Rattle.cb_history.proofs.Replays.{one_more_byte, numbers_are_bytes, cast_is_bytes, status_is_bytes}
+use Rattle.cb_schedules.specs.Schedule.{SentFrame}
+use Rattle.cb_schedules.specs.Messages.{cast_read}
+use Rattle.cb_schedules.specs.Honest.{member_of, IsTold, IsHonest}
+use Rattle.cb_schedules.proofs.Members.{all_from, all_at}
+
+-- ---- lists
+
+all_flat : {A B : Type 0} (P : B → Type 0) (g : A → List B) (xs : List A) → ((a : A) → IsIn a xs → AllByRecursion P (g a)) → AllByRecursion P (flat_map g xs)
+all_flat P g [] each = tt
+all_flat P g (x ∷ xs) each = both P (g x) (flat_map g xs) (each x (inl refl)) (all_flat P g xs (λ a later. each a (inr later)))
+  where
+    both : {B : Type 0} (P : B → Type 0) (ys zs : List B) → AllByRecursion P ys → AllByRecursion P zs → AllByRecursion P (ys ++ zs)
+    both P [] zs first rest = rest
+    both P (y ∷ ys) zs first rest = (first.0, both P ys zs first.1 rest)
+
+in_range : (a n k : ℕ) → IsIn k (range_with_len a n) → k < a + n
+in_range a zero k there = absurd there
+in_range a (suc n) k (inl same) = omega (arith, same)
+in_range a (suc n) k (inr later) = let lt = in_range (a + 1) n k later in omega (arith, lt)
+
+in_take : {A : Type 0} (n : ℕ) (xs : List A) (a : A) → IsIn a (take n xs) → IsIn a xs
+in_take zero xs a there = absurd there
+in_take (suc n) [] a there = absurd there
+in_take (suc n) (x ∷ xs) a (inl same) = inl same
+in_take (suc n) (x ∷ xs) a (inr later) = inr (in_take n xs a later)
+
+all_map : {A B : Type 0} (P : B → Type 0) (g : A → B) (xs : List A) → ((a : A) → IsIn a xs → P (g a)) → AllByRecursion P (map g xs)
+all_map P g [] each = tt
+all_map P g (x ∷ xs) each = (each x (inl refl), all_map P g xs (λ a later. each a (inr later)))
+
+-- ---- own frames
+
+module _ (group : Parameters) (facts : ℕ → List Fact) (i : ℕ) (are : AreFactsOf (member_of group i) (facts i)) where
+  is_seat : IsSeat (member_of group i)
+  is_seat = record { group = are.group; member = are.member }
+
+  -- the next cast, once it is an own cast
+  pub cast_is_honest : (after : ℕ → List Fact) (payload : List ℕ) → IsBytes payload → length payload ≤ LONGEST_PAYLOAD
+      → IsCastOf (next_cast (member_of group i) (facts i) payload) (own_casts (after i)) → IsHonest group after (text_of (CastFrame (next_cast (member_of group i) (facts i) payload)))
+  cast_is_honest after payload bytes short own =
+      let can = (own_frames_have_texts (member_of group i) (facts i) are).0 payload short in
+      record {
+        are_bytes = cast_is_bytes (next_cast (member_of group i) (facts i) payload) can bytes;
+        frame = CastFrame (next_cast (member_of group i) (facts i) payload);
+        read = cast_reads (next_cast (member_of group i) (facts i) payload) can;
+        of_group = own_casts_are_of_the_group (member_of group i) (facts i) payload is_seat;
+        so = own;
+      }
+
+  -- the status
+  pub status_is_honest : IsHonest group facts (text_of (StatusFrame (status_of (member_of group i) (facts i))))
+  status_is_honest =
+      let can = (own_frames_have_texts (member_of group i) (facts i) are).1 in
+      record {
+        are_bytes = status_is_bytes (status_of (member_of group i) (facts i)) can;
+        frame = StatusFrame (status_of (member_of group i) (facts i));
+        read = status_read (status_of (member_of group i) (facts i)) can;
+        of_group = own_statuses_are_of_the_group (member_of group i) (facts i) is_seat;
+        so = record {
+          member = are.member;
+          reached = each_from (λ d. ltb 0 d.amount) (λ k. record { field = k; amount = delivered (member_of group i) (facts i) k })
+              (λ d. d.amount ≤ delivered (member_of group i) (facts i) d.field) 0 group.size (λ k lt told. omega arith);
+        };
+      }
+
+  -- a request
+  request_is_honest : (k : ℕ) (r : Range) (ranges : List Range) → k < group.size → k ≢ i → ranges_of (missing (member_of group i) (facts i) k) ≡ r ∷ ranges
+      → IsHonest group facts (text_of (RequestFrame (record { group = group.number; requester = i; asked = k; ranges = take MOST_RANGES (r ∷ ranges) })))
+  unfolding text_of
+  request_is_honest k r ranges lt ne is =
+      let can = (own_frames_have_texts (member_of group i) (facts i) are).2 k r ranges lt is in
+      let fields : RequestFields = record { group = group.number; requester = i; asked = k; ranges = take MOST_RANGES (r ∷ ranges) } in
+      let bytes : IsBytes (text_of (RequestFrame (record { group = group.number; requester = i; asked = k; ranges = take MOST_RANGES (r ∷ ranges) }))) =
+      one_more_byte request_kind (flat_map spelling (request_numbers fields)) (omega arith) (numbers_are_bytes (request_numbers fields) can.2) in
+      record {
+        are_bytes = bytes;
+        frame = RequestFrame fields;
+        read = text_is_read (text_of (RequestFrame fields)) (RequestFrame fields) bytes ((some_text (RequestFrame fields)).1 can);
+        of_group = (own_requests_are_of_the_group (member_of group i) k (take MOST_RANGES (r ∷ ranges)) is_seat lt ne).0;
+        so = λ e. ne (sym e);
+      }
+
+  abbrev GoesOut : Outgoing → Type 0
+  GoesOut out = IsHonest group facts out.bytes
+
+  request_goes_out : (k : ℕ) (ranges : List Range) → k < group.size → k ≢ i → ranges_of (missing (member_of group i) (facts i) k) ≡ ranges → AllByRecursion GoesOut (request_to (member_of group i) k ranges)
+  request_goes_out k [] lt ne is = tt
+  request_goes_out k (r ∷ ranges) lt ne is = (request_is_honest k r ranges lt ne is, tt)
+
+  pub requests_are_honest : AllByRecursion GoesOut (requests (member_of group i) (facts i))
+  requests_are_honest =
+      all_flat GoesOut (λ k. request_to (member_of group i) k (ranges_of (missing (member_of group i) (facts i) k))) (filter (λ k. not (eqb k i)) (range_with_len 0 group.size)) (λ k there.
+      let parts = filter_in (λ k. not (eqb k i)) (range_with_len 0 group.size) k there in
+      let lt = in_range 0 group.size k parts.1 in
+      request_goes_out k (ranges_of (missing (member_of group i) (facts i) k)) (omega (arith, lt)) (eqb-false k i (not_true (eqb k i) parts.0)) refl)
+
+  -- own casts that are sent again, where each own cast is honest
+  pub resent_are_honest : ((c : CastFields) → IsIn c (own_casts (facts i)) → IsHonest group facts (text_of (CastFrame c))) → (frame : FrameFields) → AllByRecursion GoesOut (sent_in_answer (member_of group i) (facts i) frame)
+  resent_are_honest each (CastFrame c) = tt
+  resent_are_honest each (StatusFrame s) = tt
+  resent_are_honest each (RequestFrame r) =
+      cond_both (eqb r.asked i) _ _ (AllByRecursion GoesOut)
+      (λ _. all_map GoesOut (λ c. record { to = Some r.requester; bytes = text_of (CastFrame c) }) (take MOST_FRAMES (filter (is_asked_for r.ranges) (window (member_of group i) (facts i)))) (λ c there.
+      let asked = filter_in (is_asked_for r.ranges) (window (member_of group i) (facts i)) c (in_take MOST_FRAMES (filter (is_asked_for r.ranges) (window (member_of group i) (facts i))) c there) in
+      each c (filter_in (λ c. ltb (stable (member_of group i) (facts i)) c.number) (own_casts (facts i)) c asked.1).1))
+      (λ _. tt)
+
+-- ---- frames that were sent
+
+read_as : (r : Result FrameFields FrameFault) (c : CastFields) → IsIn c (cast_read r) → r ≡ Ok (CastFrame c)
+read_as (Ok (CastFrame d)) c there = ap (λ (x : CastFields). Ok (CastFrame x)) (sym (in_one c d there))
+read_as (Ok (StatusFrame s)) c there = absurd there
+read_as (Ok (RequestFrame r)) c there = absurd there
+read_as (Err fault) c there = absurd there
+
+-- a cast among sent frames is the reading of one of them
+pub sent_frame : (frames : List SentFrame) (c : CastFields) → IsIn c (flat_map (λ frame. cast_read (frame_at frame.bytes)) frames) → (frame : SentFrame) × IsIn frame frames × (frame_at frame.bytes ≡ Ok (CastFrame c))
+sent_frame [] c there = absurd there
+sent_frame (frame ∷ frames) c there = elim (in_append c (cast_read (frame_at frame.bytes)) (flat_map (λ frame. cast_read (frame_at frame.bytes)) frames) there) [
+  | inl here ↦ (frame, inl refl, read_as (frame_at frame.bytes) c here)
+  | inr later ↦ let (found, at, read) = sent_frame frames c later in (found, inr at, read)
+]
+
+-- honest bytes that are read as a cast are its text
+pub honest_text : (group : Parameters) (facts : ℕ → List Fact) (bytes : List ℕ) (f : FrameFields) → IsHonest group facts bytes → frame_at bytes ≡ Ok f → bytes ≡ text_of f
+honest_text group facts bytes f honest read = one_text f bytes ((reading_is_exact.text bytes f honest.are_bytes).0 read)
+
+pub sent_is_honest : (group : Parameters) (facts : ℕ → List Fact) (frames : List SentFrame) (c : CastFields) → AllByRecursion (λ frame. IsHonest group facts frame.bytes) frames
+    → IsIn c (flat_map (λ frame. cast_read (frame_at frame.bytes)) frames) → IsHonest group facts (text_of (CastFrame c))
+sent_is_honest group facts frames c all there =
+    let (frame, at, read) = sent_frame frames c there in
+    let honest = all_at (λ (frame : SentFrame). IsHonest group facts frame.bytes) frames frame all at in
+    subst (IsHonest group facts) (honest_text group facts frame.bytes (CastFrame c) honest read) honest
