@@ -1,12 +1,12 @@
 -- The three kinds of calls, answer by answer.
-use Rattle.std.proofs.Common.{◌≡◌, ℕ, ◌<◌, ◌≤◌, Bool, true, false, not, cond, ◌&&◌, ◌||◌, eqb, ltb, List, [], ◌∷◌, ◌++◌, length, map, Option, Some, None, Result, Ok, Err, refl, sym, ap, subst, ◌∙◌, inl, inr}
+use Rattle.std.proofs.Common.{◌≡◌, ℕ, ◌<◌, ◌≤◌, Bool, true, false, not, ◌&&◌, ◌||◌, eqb, ltb, List, [], ◌∷◌, ◌++◌, length, map, Option, Some, None, Result, Ok, Err, refl, sym, ap, subst, ◌∙◌, inl, inr}
 use Rattle.std.specs.List.{AllByRecursion, list_any}
 use Rattle.std.proofs.lemmas.Bool.{cond_both, eq-eqb, eqb-true, ltb-false, and_parts}
 use Rattle.std.proofs.lemmas.List.{append-nil}
 use Rattle.cb_times.specs.declared.name.Name.{Name}
 use Rattle.cb_frames.specs.declared.frame.TheConstants.{LONGEST_PAYLOAD}
 use Rattle.cb_frames.specs.declared.fault.FrameFault.{FrameFault}
-use Rattle.cb_frames.specs.Fields.{CastFields, StatusFields, RequestFields, FrameFields, CastFrame, StatusFrame, RequestFrame, Carried, messages_of}
+use Rattle.cb_frames.specs.Fields.{CastFields, StatusFields, FrameFields, CastFrame, StatusFrame, RequestFrame, Carried, messages_of}
 use Rattle.cb_frames.specs.Text.{text_of}
 use Rattle.cb_frames.specs.Reading.{frame_at}
 use Rattle.cb_frames.specs.Laws.{IsBytes}
@@ -19,11 +19,10 @@ use Rattle.cb_history.specs.declared.answer.TickRefusal.{TickRefusal}
 use Rattle.cb_history.specs.declared.answer.TickRefusal.TheVariants as ticks
 use Rattle.cb_history.specs.declared.answer.Outgoing.{Outgoing}
 use Rattle.cb_history.specs.Group.{Seat}
-use Rattle.cb_history.specs.Facts.{EntryFields, CastEntry, ArriveEntry, TickEntry, Fact, OwnCast, CastCame, StatusCame, OwnStatus, cast_said, status_said, facts_of, casts_in, cast_in, messages_in, is_there}
-use Rattle.cb_history.specs.Answers.{is_full, is_window_full, next_cast, cast_answer, group_of, are_members, is_impossible, is_repeat, is_too_far, is_change, is_news, with_frame, deliveries, sent_in_answer, own_casts, ArrivalSays, Accepted, Repeat, frame_answer, answer_to, arrive_answer, status_of, is_new_status, requests, tick_answer}
+use Rattle.cb_history.specs.Facts.{EntryFields, CastEntry, ArriveEntry, TickEntry, Fact, OwnCast, CastCame, StatusCame, OwnStatus, cast_said, status_said, facts_of, casts_in, messages_in, is_there}
+use Rattle.cb_history.specs.Answers.{is_full, is_window_full, next_cast, cast_answer, group_of, are_members, is_impossible, is_repeat, is_too_far, is_change, deliveries, sent_in_answer, own_casts, ArrivalSays, Accepted, Repeat, frame_answer, answer_to, arrive_answer, status_of, is_new_status, requests, tick_answer}
 use Rattle.cb_history.specs.Legal.{Call, ToCast, ToTake, ToTick, cast_entry, arrive_entry, tick_entry, and_entry, history_after, IsLegal}
 use Rattle.cb_history.specs.LegalFacts.{AreFactsOf}
-use Rattle.cb_history.specs.BufferLaws.{IsCastOf}
 use Rattle.cb_history.proofs.Views.{IsIn, casts_in-append}
 use Rattle.cb_history.proofs.Lists.{in_back, in_push, messages_in-push}
 use Rattle.cb_history.proofs.Walks.{own_casts-own, own_casts-other}
@@ -33,12 +32,12 @@ use Rattle.cb_history.proofs.Calls.{calls_keep_legal}
 use Rattle.cb_history.proofs.Buffers.{cast_of_is_in, in_is_cast_of}
 use Rattle.cb_history.proofs.ReadBack.{cast_read as cast_reads, status_read}
 use Rattle.cb_history.proofs.Requests.{own_frames_have_texts}
-use Rattle.cb_schedules.specs.Schedule.{Setting, IsSetting, seat_at, Asked, Calls, Answer, CastAnswer, ArrivalAnswer, TickAnswer, put_out, answer_of, GroupState, with_history, and_answer}
+use Rattle.cb_schedules.specs.Schedule.{Setting, IsSetting, seat_at, Calls, Answer, CastAnswer, ArrivalAnswer, TickAnswer, put_out, answer_of, GroupState}
 use Rattle.cb_schedules.specs.Messages.{facts_at, messages_read, came_by, has_arrived, cast_read, sent_casts}
 use Rattle.cb_schedules.specs.Honest.{SaysWhatIsSo, IsHonest}
 use Rattle.cb_schedules.specs.Consistent.{IsConsistent}
 use Rattle.cb_schedules.proofs.Sending.{cast_is_honest, status_is_honest, requests_are_honest, resent_are_honest, sent_is_honest}
-use Rattle.cb_schedules.proofs.Calling.{any-append, or_none, all_weaken, is_named, casts_out, facts_push, entries, facts, seat, after, own_now, IsGood, good, still_honest}
+use Rattle.cb_schedules.proofs.Calling.{any-append, or_none, all_weaken, is_named, facts_push, after, own_now, IsGood, good, still_honest}
 
 -- with one more cast a message is there where it was, or is one of the cast's
 there_push_is : (cs : List CastFields) (c : CastFields) (m : Name) → is_there (cs ++ c ∷ []) m.sender m.number ≡ (is_there cs m.sender m.number || list_any (is_named m) (messages_of c))

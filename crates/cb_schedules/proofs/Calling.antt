@@ -1,50 +1,31 @@
 -- One call of one member keeps the invariant of a run.
-use Rattle.std.proofs.Common.{◌≡◌, ◌≢◌, ℕ, zero, suc, ◌+◌, ◌<◌, ◌≤◌, Bool, true, false, not, cond, ◌&&◌, ◌||◌, eqb, ltb, List, [], ◌∷◌, ◌++◌, map, length, Option, Some, None, Result, Ok, Err, refl, sym, ap, subst, ◌∙◌, arith, inl, inr, ◌⊎◌}
+use Rattle.std.proofs.Common.{◌≡◌, ◌≢◌, ℕ, ◌<◌, ◌≤◌, Bool, true, false, ◌&&◌, ◌||◌, eqb, List, [], ◌∷◌, ◌++◌, map, length, Ok, Err, refl, sym, ap, subst, ◌∙◌, arith, inl, inr, ◌⊎◌}
 use Rattle.std.specs.List.{AllByRecursion, flat_map, list_any}
-use Rattle.std.proofs.lemmas.Bool.{cond_both, cases_eq, eq-eqb, ne_eqb, ltb-false}
+use Rattle.std.proofs.lemmas.Bool.{cases_eq, eq-eqb, ne_eqb}
 use Rattle.std.proofs.lemmas.List.{append-nil}
 use mathlib.Core.Path.{fun_ext}
 use Rattle.cb_times.specs.declared.name.Name.{Name}
-use Rattle.cb_frames.specs.declared.frame.TheConstants.{LONGEST_PAYLOAD}
-use Rattle.cb_frames.specs.declared.fault.FrameFault.{FrameFault}
-use Rattle.cb_frames.specs.Fields.{CastFields, StatusFields, FrameFields, CastFrame, StatusFrame, RequestFrame, Carried, messages_of}
-use Rattle.cb_frames.specs.Text.{text_of}
+use Rattle.cb_frames.specs.Fields.{CastFields, Carried}
 use Rattle.cb_frames.specs.Reading.{frame_at}
-use Rattle.cb_frames.specs.Laws.{IsBytes}
-use Rattle.cb_delay.specs.declared.message.Message.{Message}
 use Rattle.cb_causality.specs.Lists.{Appends}
 use Rattle.cb_causality.specs.StampedMachine.{StampedStep}
 use Rattle.cb_causality.specs.Extension.{Extends, Still}
-use Rattle.cb_history.specs.declared.answer.CastRefusal.{CastRefusal}
-use Rattle.cb_history.specs.declared.answer.CastRefusal.TheVariants as casts
-use Rattle.cb_history.specs.declared.answer.ArriveRefusal.{ArriveRefusal}
-use Rattle.cb_history.specs.declared.answer.ArriveRefusal.TheVariants as arrivals
-use Rattle.cb_history.specs.declared.answer.TickRefusal.{TickRefusal}
-use Rattle.cb_history.specs.declared.answer.TickRefusal.TheVariants as ticks
 use Rattle.cb_history.specs.declared.answer.Outgoing.{Outgoing}
-use Rattle.cb_history.specs.Group.{Parameters, Seat}
-use Rattle.cb_history.specs.Facts.{EntryFields, CastEntry, ArriveEntry, TickEntry, Fact, OwnCast, CastCame, StatusCame, OwnStatus, said_by, cast_said, status_said, facts_of, casts_in, cast_in, messages_in, is_there}
-use Rattle.cb_history.specs.Answers.{is_full, is_window_full, next_cast, cast_answer, group_of, are_members, is_impossible, is_repeat, is_too_far, is_change, with_frame, deliveries, sent_in_answer, own_casts, ArrivalSays, Accepted, Repeat, frame_answer, answer_to, arrive_answer, status_of, is_new_status, requests, tick_answer}
-use Rattle.cb_history.specs.Legal.{longest_history, Call, ToCast, ToTake, ToTick, OfBytes, cast_entry, arrive_entry, tick_entry, and_entry, history_after, IsLegal}
+use Rattle.cb_history.specs.Group.{Seat}
+use Rattle.cb_history.specs.Facts.{EntryFields, Fact, said_by, facts_of, casts_in, is_there}
+use Rattle.cb_history.specs.Answers.{own_casts}
+use Rattle.cb_history.specs.Legal.{Call, ToCast, ToTake, ToTick, IsLegal}
 use Rattle.cb_history.specs.LegalFacts.{AreFactsOf}
-use Rattle.cb_history.specs.BufferLaws.{IsCastOf}
-use Rattle.cb_history.proofs.Views.{IsIn, casts_in-append}
-use Rattle.cb_history.proofs.Lists.{flat_map-append, in_append, in_front, in_back, in_push, in_one, messages_in-push}
-use Rattle.cb_history.proofs.Walks.{own_casts-own, own_casts-other}
-use Rattle.cb_history.proofs.Names.{message}
-use Rattle.cb_history.proofs.Histories.{legal_histories_say_legal_facts, said_facts}
-use Rattle.cb_history.proofs.Calls.{calls_keep_legal}
+use Rattle.cb_history.proofs.Views.{IsIn}
+use Rattle.cb_history.proofs.Lists.{flat_map-append, in_front, in_back}
+use Rattle.cb_history.proofs.Histories.{legal_histories_say_legal_facts}
 use Rattle.cb_history.proofs.Buffers.{cast_of_is_in, in_is_cast_of}
-use Rattle.cb_history.proofs.ReadBack.{cast_read as cast_reads, status_read}
-use Rattle.cb_history.proofs.Requests.{own_frames_have_texts}
-use Rattle.cb_schedules.specs.Schedule.{Setting, IsSetting, seat_at, SentFrame, Asked, Calls, Answer, CastAnswer, ArrivalAnswer, TickAnswer, NoSuchMember, NoSuchFrame, NoBytes, put_out, answer_of, sent_by, Outcome, GroupState, with_history, and_answer}
-use Rattle.cb_schedules.specs.Messages.{facts_at, stamped_lists, messages_read, came_by_cast, came_by_frame, came_by, arrived_at, has_arrived, cast_read, sent_casts}
-use Rattle.cb_schedules.specs.Honest.{member_of, IsSo, IsHonest, events_of, AreTogether}
+use Rattle.cb_schedules.specs.Schedule.{Setting, IsSetting, seat_at, SentFrame, Calls, Answer, CastAnswer, ArrivalAnswer, TickAnswer, NoSuchMember, NoSuchFrame, NoBytes, put_out, sent_by, GroupState, with_history}
+use Rattle.cb_schedules.specs.Messages.{facts_at, stamped_lists, came_by, arrived_at, has_arrived, cast_read, sent_casts}
+use Rattle.cb_schedules.specs.Honest.{member_of, IsHonest, events_of, AreTogether}
 use Rattle.cb_schedules.specs.Consistent.{IsConsistent}
-use Rattle.cb_schedules.proofs.Members.{all_from, all_at}
 use Rattle.cb_schedules.proofs.Growing.{honest_stays}
 use Rattle.cb_schedules.proofs.Stamping.{IsSoBefore, extends_by, together_after}
-use Rattle.cb_schedules.proofs.Sending.{cast_is_honest, status_is_honest, requests_are_honest, resent_are_honest, sent_is_honest}
 
 -- ---- lists
 
@@ -60,7 +41,7 @@ pub or_none : (b : Bool) → (b || false) ≡ b
 or_none true = refl
 or_none false = refl
 
-all_both : {A : Type 0} (P : A → Type 0) (xs ys : List A) → AllByRecursion P xs → AllByRecursion P ys → AllByRecursion P (xs ++ ys)
+pub all_both : {A : Type 0} (P : A → Type 0) (xs ys : List A) → AllByRecursion P xs → AllByRecursion P ys → AllByRecursion P (xs ++ ys)
 all_both P [] ys first rest = rest
 all_both P (x ∷ xs) ys first rest = (first.0, all_both P xs ys first.1 rest)
 

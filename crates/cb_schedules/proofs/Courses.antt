@@ -1,5 +1,5 @@
 -- The invariant holds along every run.
-use Rattle.std.proofs.Common.{◌≡◌, ℕ, zero, suc, ◌<◌, ◌≤◌, Bool, true, false, cond, ltb, List, [], ◌∷◌, ◌++◌, length, Option, Some, None, refl, sym, ap, subst, ◌∙◌, arith, inl, inr}
+use Rattle.std.proofs.Common.{◌≡◌, ℕ, zero, suc, ◌<◌, true, ltb, List, [], ◌∷◌, ◌++◌, length, Option, Some, None, refl, ap, subst, ◌∙◌, arith}
 use Rattle.std.specs.Prelude.{slice_get}
 use Rattle.std.specs.List.{AllByRecursion, list_any}
 use Rattle.std.proofs.lemmas.Bool.{cond_both, ltb-true, and_parts}
@@ -10,16 +10,15 @@ use Rattle.cb_frames.specs.Laws.{IsBytes}
 use Rattle.cb_causality.specs.StampedMachine.{StampedStep, StampedRun}
 use Rattle.cb_causality.specs.Extension.{Extends, Still}
 use Rattle.cb_history.specs.Group.{Parameters}
-use Rattle.cb_history.specs.Facts.{Fact}
 use Rattle.cb_history.specs.View.{view, next_delivery}
 use Rattle.cb_history.specs.Legal.{Call, ToCast, ToTake, ToTick, NoEntries}
 use Rattle.cb_history.proofs.Lists.{flat_map-append}
 use Rattle.cb_history.proofs.Histories.{legal_histories_say_legal_facts}
 use Rattle.cb_schedules.specs.Schedule.{Setting, IsSetting, Step, CastStep, ArriveStep, TickStep, Schedule, SentFrame, Asked, Calls, OfNoMember, OfNoFrame, OfNoBytes, Answer, NoSuchMember, NoSuchFrame, NoBytes, GroupState, seat_at, are_bytes, handed_over, asked_by, and_nothing, after_asked, step_after, nothing_yet, run_from, run}
 use Rattle.cb_schedules.specs.Messages.{facts_at, stamped_lists, arrived_at, has_arrived, came_by}
-use Rattle.cb_schedules.specs.Honest.{member_of, IsHonest, events_of, AreTogether}
+use Rattle.cb_schedules.specs.Honest.{IsHonest, events_of}
 use Rattle.cb_schedules.specs.Consistent.{IsConsistent}
-use Rattle.cb_schedules.proofs.Calling.{any-append, or_none, is_named}
+use Rattle.cb_schedules.proofs.Calling.{is_named}
 use Rattle.cb_schedules.proofs.Answering.{cast_is_good, tick_is_good, arrival_is_good}
 
 -- ---- the start
@@ -55,7 +54,7 @@ bytes_are [] all i = omega arith
 bytes_are (b ∷ payload) all zero = ltb-true b 256 (and_parts (ltb b 256) (are_bytes payload) all).0
 bytes_are (b ∷ payload) all (suc i) = bytes_are payload (and_parts (ltb b 256) (are_bytes payload) all).1 i
 
-all_at_index : {A : Type 0} (P : A → Type 0) (xs : List A) (n : ℕ) (x : A) → AllByRecursion P xs → slice_get xs n ≡ Some x → P x
+pub all_at_index : {A : Type 0} (P : A → Type 0) (xs : List A) (n : ℕ) (x : A) → AllByRecursion P xs → slice_get xs n ≡ Some x → P x
 all_at_index P [] n x all e = absurd cc
 all_at_index {A} P (y ∷ xs) zero x all e = let same : y ≡ x = cc in subst P same all.0
 all_at_index P (y ∷ xs) (suc n) x all e = all_at_index P xs n x all.1 e

@@ -1,23 +1,22 @@
 -- One member's history gets one fact more: what the others rely on stays so.
-use Rattle.std.proofs.Common.{◌≡◌, ◌≢◌, ℕ, ◌+◌, ◌<◌, ◌≤◌, Bool, true, false, cond, eqb, List, [], ◌∷◌, ◌++◌, Some, None, refl, sym, ap, subst, ◌∙◌, arith, inl, inr, ◌⊎◌}
+use Rattle.std.proofs.Common.{◌≡◌, ◌≢◌, ℕ, ◌+◌, ◌<◌, ◌≤◌, true, List, [], ◌∷◌, ◌++◌, None, refl, sym, ap, subst, ◌∙◌, arith, inl, inr}
 use Rattle.std.specs.List.{AllByRecursion}
-use Rattle.std.proofs.lemmas.Bool.{cases_eq, false_from_ne_true, eqb-true}
+use Rattle.std.proofs.lemmas.Bool.{cases_eq, false_from_ne_true}
 use Rattle.std.proofs.lemmas.List.{append-nil}
 use Rattle.cb_frames.specs.declared.frame.Change.{Change}
 use Rattle.cb_frames.specs.Fields.{CastFields, StatusFields, FrameFields, CastFrame, StatusFrame, RequestFrame, Carried}
 use Rattle.cb_diffs.specs.Expansion.{expanded_field}
 use Rattle.cb_causality.specs.Lists.{Appends}
-use Rattle.cb_history.specs.Group.{Parameters, Seat}
+use Rattle.cb_history.specs.Group.{Parameters}
 use Rattle.cb_history.specs.Facts.{Fact, OwnCast, CastCame, StatusCame, OwnStatus, casts_in, cast_in, messages_in}
-use Rattle.cb_history.specs.View.{count, view, drain, is_among, is_expanded, expanded_in, is_ready, next_delivery}
+use Rattle.cb_history.specs.View.{view, drain, is_expanded, expanded_in, is_ready, next_delivery}
 use Rattle.cb_history.specs.Known.{expanded_count}
 use Rattle.cb_history.specs.Answers.{delivered, own_casts}
 use Rattle.cb_history.specs.LegalFacts.{AreFactsOf}
-use Rattle.cb_history.specs.NameLaws.{IsOneOf}
 use Rattle.cb_history.specs.BufferLaws.{IsCastOf}
 use Rattle.cb_history.proofs.Views.{IsIn, filter_in, casts_in-append, nothing_ready_is_left, ready_is_new}
 use Rattle.cb_history.proofs.Lists.{in_front, in_back, in_push, messages_in-push}
-use Rattle.cb_history.proofs.Walks.{view_own, view_came, view_status, view_told, own_casts-own, own_casts-other}
+use Rattle.cb_history.proofs.Walks.{view_came, view_status, view_told, own_casts-own, own_casts-other}
 use Rattle.cb_history.proofs.Names.{all_stand, message, one_of_is_in, in_is_one_of}
 use Rattle.cb_history.proofs.Times.{count_grows}
 use Rattle.cb_history.proofs.Prefixes.{last_fact_is_a_step}
@@ -26,7 +25,7 @@ use Rattle.cb_history.proofs.Happening.{own_cast_makes_ready}
 use Rattle.cb_history.proofs.Runs.{expanded_up_to_the_count, others_expand_nothing}
 use Rattle.cb_history.proofs.Buffers.{cast_of_is_in, in_is_cast_of}
 use Rattle.cb_schedules.specs.Honest.{member_of, IsTold, SaysWhatIsSo, IsSo, IsHonest, AreTogether}
-use Rattle.cb_schedules.proofs.Members.{cast_of_message, message_of_cast, told_at_most}
+use Rattle.cb_schedules.proofs.Members.{cast_of_message, told_at_most}
 
 -- ---- one fact more
 

@@ -7,3 +7,8 @@ pub mod Sending
 pub mod Calling
 pub mod Answering
 pub mod Courses
+pub mod Moments
+pub mod Closing
+pub mod FromBytes
+pub mod Knowing
+pub mod Headlines

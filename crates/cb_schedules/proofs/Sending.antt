@@ -1,27 +1,26 @@
 -- What a member sends is a frame of the group that says what is so.
-use Rattle.std.proofs.Common.{◌≡◌, ◌≢◌, ℕ, zero, suc, ◌+◌, ◌<◌, ◌≤◌, Bool, true, false, not, eqb, ltb, List, [], ◌∷◌, ◌++◌, map, length, take, Some, None, Result, Ok, Err, refl, sym, ap, subst, ◌∙◌, arith, inl, inr, ◌⊎◌}
+use Rattle.std.proofs.Common.{◌≡◌, ◌≢◌, ℕ, zero, suc, ◌+◌, ◌<◌, ◌≤◌, not, eqb, ltb, List, [], ◌∷◌, ◌++◌, map, length, take, Some, Result, Ok, Err, refl, sym, ap, subst, arith, inl, inr}
 use Rattle.std.specs.List.{AllByRecursion, flat_map, filter, range_with_len}
 use Rattle.std.proofs.lemmas.Bool.{cond_both, eqb-false}
 use Rattle.cb_varint.specs.Reading.{spelling}
 use Rattle.cb_frames.specs.declared.frame.TheConstants.{LONGEST_PAYLOAD, MOST_RANGES, MOST_FRAMES}
-use Rattle.cb_frames.specs.declared.frame.Change.{Change}
 use Rattle.cb_frames.specs.declared.frame.Range.{Range}
 use Rattle.cb_frames.specs.declared.fault.FrameFault.{FrameFault}
-use Rattle.cb_frames.specs.Fields.{CastFields, StatusFields, RequestFields, FrameFields, CastFrame, StatusFrame, RequestFrame, messages_of}
+use Rattle.cb_frames.specs.Fields.{CastFields, RequestFields, FrameFields, CastFrame, StatusFrame, RequestFrame}
 use Rattle.cb_frames.specs.Text.{text_of, request_kind, request_numbers}
 use Rattle.cb_frames.specs.Reading.{frame_at}
-use Rattle.cb_frames.specs.Laws.{IsBytes, CanBeWritten}
+use Rattle.cb_frames.specs.Laws.{IsBytes}
 use Rattle.cb_frames.proofs.Decoding.{reading_is_exact, text_is_read}
 use Rattle.cb_frames.proofs.Unique.{one_text, some_text}
 use Rattle.cb_history.specs.declared.answer.Outgoing.{Outgoing}
-use Rattle.cb_history.specs.Group.{Parameters, Seat, IsSeat}
+use Rattle.cb_history.specs.Group.{Parameters, IsSeat}
 use Rattle.cb_history.specs.Facts.{Fact}
 use Rattle.cb_history.specs.Known.{missing, ranges_of, stable}
 use Rattle.cb_history.specs.Answers.{delivered, next_cast, status_of, own_casts, window, is_asked_for, sent_in_answer, request_to, requests}
 use Rattle.cb_history.specs.LegalFacts.{AreFactsOf}
 use Rattle.cb_history.specs.BufferLaws.{IsCastOf}
 use Rattle.cb_history.proofs.Views.{IsIn, filter_in, not_true}
-use Rattle.cb_history.proofs.Lists.{in_append, in_one, in_front, in_back, flat_map-append}
+use Rattle.cb_history.proofs.Lists.{in_append, in_one}
 use Rattle.cb_history.proofs.ReadBack.{cast_read as cast_reads, status_read}
 use Rattle.cb_history.proofs.Written.{each_from}
 use Rattle.cb_history.proofs.Requests.{own_frames_have_texts}
@@ -29,8 +28,8 @@ use Rattle.cb_history.proofs.OwnFrames.{own_casts_are_of_the_group, own_statuses
 use Rattle.cb_history.proofs.Replays.{one_more_byte, numbers_are_bytes, cast_is_bytes, status_is_bytes}
 use Rattle.cb_schedules.specs.Schedule.{SentFrame}
 use Rattle.cb_schedules.specs.Messages.{cast_read}
-use Rattle.cb_schedules.specs.Honest.{member_of, IsTold, IsHonest}
-use Rattle.cb_schedules.proofs.Members.{all_from, all_at}
+use Rattle.cb_schedules.specs.Honest.{member_of, IsHonest}
+use Rattle.cb_schedules.proofs.Members.{all_at}
 
 -- ---- lists
 

@@ -1,9 +1,9 @@
 -- One fact more extends the members' events by steps of the stamped machine.
 use Rattle.std.proofs.Common.{◌≡◌, ◌≢◌, ℕ, ◌+◌, ◌<◌, ◌≤◌, Bool, true, false, cond, eqb, List, [], ◌∷◌, ◌++◌, map, length, drop, Some, None, refl, sym, ap, subst, ◌∙◌, arith, inl, inr, append_assoc}
 use Rattle.std.specs.Prelude.{slice_get}
-use Rattle.std.specs.List.{count_by, range_with_len}
+use Rattle.std.specs.List.{count_by}
 use Rattle.std.proofs.lemmas.Bool.{cases_eq, cases_lt, eq-eqb, ne_eqb}
-use Rattle.std.proofs.lemmas.List.{append-nil, map-append, drop_at, length-append}
+use Rattle.std.proofs.lemmas.List.{append-nil, map-append, drop_at}
 use Rattle.std.proofs.lemmas.List.Sums.{sum_by-cons, sum_by-append}
 use Rattle.std.proofs.lemmas.List.FromFn.{length-map-range_with_len}
 use Rattle.cb_times.specs.Order.{field}
@@ -13,7 +13,7 @@ use Rattle.cb_delay.specs.declared.message.Event.{Event}
 use Rattle.cb_delay.specs.declared.message.Event.TheVariants.{Cast, Deliver}
 use Rattle.cb_diffs.specs.Expansion.{expanded_field, expanded_time}
 use Rattle.cb_causality.specs.Events.{is_of, is_cast, casts_of}
-use Rattle.cb_causality.specs.Lists.{Agree, Appends, AppendsAll}
+use Rattle.cb_causality.specs.Lists.{Appends, AppendsAll}
 use Rattle.cb_causality.specs.StampedMachine.{StampedLists, StampedStep, Casts, CastsStamped, IsTimeOfList, DelayRuleAllows, without_time, without_times, counts_of, next_message}
 use Rattle.cb_causality.specs.Extension.{Extends, Still, DelayRuleAllowsInTurn}
 use Rattle.cb_causality.proofs.Extending.{stamped_extends_runs, deliveries_extend}
@@ -27,9 +27,9 @@ use Rattle.cb_history.specs.NameLaws.{IsOneOf}
 use Rattle.cb_history.specs.DeliveryLaws.{MeetsRule, MeetRuleAfter}
 use Rattle.cb_history.specs.EventLaws.{casts_among, new_events}
 use Rattle.cb_history.proofs.Views.{IsIn, casts_in-append}
-use Rattle.cb_history.proofs.Lists.{count-append, in_append, in_back, in_push}
+use Rattle.cb_history.proofs.Lists.{count-append, in_back, in_push}
 use Rattle.cb_history.proofs.Walks.{view_grows}
-use Rattle.cb_history.proofs.Names.{Stands, all_stand, message, own_casts_are_numbered, came_is_others, in_is_one_of, one_of_is_in}
+use Rattle.cb_history.proofs.Names.{Stands, all_stand, message, own_casts_are_numbered, came_is_others}
 use Rattle.cb_history.proofs.Times.{seen_is_expanded, own_casts_tell_the_view, same_over_range, time_at}
 use Rattle.cb_history.proofs.Prefixes.{prefix_of_facts_is_legal, last_fact_is_a_step}
 use Rattle.cb_history.proofs.Happening.{events_with_one_more, events_cast_the_own}
@@ -37,7 +37,7 @@ use Rattle.cb_history.proofs.Delivering.{in_field, past_fields, view_meets_the_r
 use Rattle.cb_history.proofs.Runs.{own_is_delivered}
 use Rattle.cb_history.proofs.Buffers.{cast_of_is_in, cast_is_there}
 use Rattle.cb_schedules.specs.Honest.{member_of, IsSo, events_of, AreTogether}
-use Rattle.cb_schedules.proofs.Members.{stands_at, is_own, own_event, time_is_senders, cast_of_message}
+use Rattle.cb_schedules.proofs.Members.{is_own, own_event, time_is_senders, cast_of_message}
 use Rattle.cb_schedules.proofs.Growing.{by_member, own_is_so, so_stays, all_so, all_legal, still_nobody, settled_by}
 
 -- ---- counting events

@@ -1,5 +1,5 @@
 -- The invariant of a run: how the histories, the frames that were sent and the outcomes of a state belong together.
-use Rattle.std.specs.Prelude.{◌≡◌, ℕ, ◌<◌, ◌≤◌, List, []}
+use Rattle.std.specs.Prelude.{◌≡◌, ℕ, ◌<◌, ◌≤◌, []}
 use Rattle.std.specs.List.{AllByRecursion}
 use Rattle.cb_times.specs.declared.name.Name.{Name}
 use Rattle.cb_frames.specs.Fields.{CastFields}

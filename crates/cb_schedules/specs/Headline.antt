@@ -4,6 +4,7 @@ use Rattle.cb_times.specs.Order.{field, Compares}
 use Rattle.cb_times.specs.declared.name.Name.{Name}
 use Rattle.cb_times.specs.declared.order.TimeOrder.{TimeOrder}
 use Rattle.cb_causality.specs.CausalMachine.{Run}
+use Rattle.cb_causality.specs.CausalMachine as causal
 use Rattle.cb_causality.specs.StampedMachine.{StampedStep}
 use Rattle.cb_causality.specs.Extension.{Extends}
 use Rattle.cb_causality.specs.Laws.{Related}
@@ -28,7 +29,7 @@ TimesTellHappenedBefore setting s =
     (a b : Name) → WasCast setting s a → WasCast setting s b → (order : TimeOrder)
     → Compares (field (time_from_bytes setting s a)) (field (time_from_bytes setting s b)) order ↔ Related (causal_lists setting s) a b order
 
--- The headline.
+-- The headline: these three, after every schedule.
 pub record Headline (setting : Setting) (s : GroupState) : Type 0 where
   pub causal : IsCausalBroadcast setting s
   pub delivered : DeliversClosedArrivals setting s
@@ -41,3 +42,9 @@ abbrev pub StepsExtendTheStamped : Type 0
 StepsExtendTheStamped =
     (setting : Setting) (steps : Schedule) (step : Step) → IsSetting setting
     → Extends (StampedStep setting.group.size) (stamped_lists setting (run setting steps)) (stamped_lists setting (step_after setting (run setting steps) step))
+
+-- and without their times by steps of the causal machine
+abbrev pub StepsExtendTheCausal : Type 0
+StepsExtendTheCausal =
+    (setting : Setting) (steps : Schedule) (step : Step) → IsSetting setting
+    → Extends (causal.Step setting.group.size) (causal_lists setting (run setting steps)) (causal_lists setting (step_after setting (run setting steps) step))

@@ -3,4 +3,5 @@ pub mod RunLaws
 pub mod Messages
 pub mod Honest
 pub mod Consistent
+pub mod SentLaws
 pub mod Headline

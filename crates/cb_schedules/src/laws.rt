@@ -1,5 +1,15 @@
-//! What is proved of every schedule, as contracts of functions that do nothing.
+//! What is proved of every schedule, as contracts of functions that do nothing: a file for each subject.
 
+mod frames;
+mod headline;
+mod invariant;
+mod knowledge;
 mod runs;
 
+pub use frames::sent_frames_say_what_is_so;
+pub use headline::causal_broadcast_over_lossy_links;
+pub use invariant::{runs_are_consistent, steps_extend_the_machines};
+pub use knowledge::{
+    arrivals_are_welcome, what_is_heard_of_is_cast, what_is_stable_is_delivered_everywhere,
+};
 pub use runs::runs_go_on_step_by_step;

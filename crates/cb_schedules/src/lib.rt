@@ -10,4 +10,8 @@
 
 mod laws;
 
-pub use laws::runs_go_on_step_by_step;
+pub use laws::{
+    arrivals_are_welcome, causal_broadcast_over_lossy_links, runs_are_consistent,
+    runs_go_on_step_by_step, sent_frames_say_what_is_so, steps_extend_the_machines,
+    what_is_heard_of_is_cast, what_is_stable_is_delivered_everywhere,
+};

@@ -1,0 +1,225 @@
+-- What members know of each other is so: what is stable, everybody has delivered, and no arrival is refused but by a full history.
+use Rattle.std.proofs.Common.{◌≡◌, ◌≢◌, ℕ, zero, suc, ◌+◌, ◌<◌, ◌≤◌, Bool, true, false, not, cond, ◌&&◌, ◌||◌, eqb, ltb, List, [], ◌∷◌, ◌++◌, map, refl, sym, ap, subst, ◌∙◌, arith, inl, inr}
+use Rattle.std.specs.List.{AllByRecursion, flat_map, filter, list_any, range_with_len}
+use Rattle.std.proofs.lemmas.Bool.{cond_both, cases_eq, eqb-true, ltb-true, eq-eqb, ne_eqb, and_parts}
+use Rattle.cb_frames.specs.declared.frame.Change.{Change}
+use Rattle.cb_frames.specs.Fields.{CastFields, FrameFields, CastFrame, StatusFrame, RequestFrame, Carried}
+use Rattle.cb_diffs.specs.Expansion.{expanded_field}
+use Rattle.cb_history.specs.Group.{Parameters, Seat}
+use Rattle.cb_history.specs.Facts.{EntryFields, Fact, OwnCast, CastCame, StatusCame, OwnStatus, casts_in, messages_in}
+use Rattle.cb_history.specs.View.{view, is_expanded, expanded_in}
+use Rattle.cb_history.specs.Known.{greatest_of, value_in, told_of, counted_in_times, known, told_by, counted_by, acknowledged, least_of, stable}
+use Rattle.cb_history.specs.Answers.{delivered, own_casts, is_full, group_of, are_members, is_impossible, is_repeat, is_too_far, is_change, frame_answer}
+use Rattle.cb_history.specs.OwnFrameLaws.{IsOfTheGroup}
+use Rattle.cb_history.proofs.Views.{IsIn, filter_in}
+use Rattle.cb_history.proofs.Lists.{in_is_among}
+use Rattle.cb_history.proofs.Names.{message}
+use Rattle.cb_history.proofs.Times.{seen_is_expanded, times_are_reached}
+use Rattle.cb_history.proofs.Rising.{greatest_append, all_at_most}
+use Rattle.cb_history.proofs.Delivering.{filtered_in}
+use Rattle.cb_history.proofs.Windows.{own_casts_are_near_stable}
+use Rattle.cb_history.proofs.Runs.{own_is_delivered}
+use Rattle.cb_history.proofs.Buffers.{cast_of_is_in, cast_is_there}
+use Rattle.cb_schedules.specs.Honest.{member_of, SaysWhatIsSo, IsSo, AreTogether}
+use Rattle.cb_schedules.specs.SentLaws.{IsNoRefusal}
+use Rattle.cb_schedules.proofs.Members.{stands_at, inside, is_own, own_is_there, own_in_view, cast_of_message, time_is_senders, delivered_at_most}
+
+-- ---- lists
+
+value_below : (f : ℕ → ℕ) (values : List Change) (k : ℕ) → AllByRecursion (λ d. d.amount ≤ f d.field) values → value_in values k ≤ f k
+value_below f [] k all = omega arith
+value_below f (d ∷ values) k all =
+    cond_both (eqb d.field k) d.amount (value_in values k) (λ (n : ℕ). n ≤ f k) (λ same. subst (λ (j : ℕ). d.amount ≤ f j) (eqb-true d.field k same) all.0) (λ other. value_below f values k all.1)
+
+in_some_range : (a n k : ℕ) → a ≤ k → k < a + n → IsIn k (range_with_len a n)
+in_some_range a zero k low high = absurd (omega (arith, low, high))
+in_some_range a (suc n) k low high = elim (cases_eq k a) [
+  | inl same ↦ inl same
+  | inr other ↦ inr (in_some_range (a + 1) n k (omega (arith, low, other)) (omega (arith, high)))
+]
+
+in_map : {A B : Type 0} (g : A → B) (xs : List A) (x : A) → IsIn x xs → IsIn (g x) (map g xs)
+in_map g [] x there = absurd there
+in_map g (y ∷ xs) x (inl same) = inl (ap g same)
+in_map g (y ∷ xs) x (inr later) = inr (in_map g xs x later)
+
+each_below : (g : Carried → ℕ) (most : ℕ) (ms : List Carried) → ((m : Carried) → IsIn m ms → g m ≤ most) → greatest_of (map g ms) ≤ most
+each_below g most [] each = omega arith
+each_below g most (m ∷ ms) each =
+    let here = each m (inl refl) in
+    let others = each_below g most ms (λ n later. each n (inr later)) in
+    omega (arith, here, others)
+
+least_below : (ns : List ℕ) (n : ℕ) → IsIn n ns → least_of ns ≤ n
+least_below [] n there = absurd there
+least_below (m ∷ []) n (inl same) = omega (arith, same)
+least_below (m ∷ []) n (inr later) = absurd later
+least_below (m ∷ l ∷ ns) n (inl same) = omega (arith, same)
+least_below (m ∷ l ∷ ns) n (inr later) = let others = least_below (l ∷ ns) n later in omega (arith, others)
+
+-- ---- what a member knows
+
+module _ (group : Parameters) (facts : ℕ → List Fact) (h : AreTogether group facts) where
+  abbrev has_delivered : ℕ → ℕ → ℕ
+  has_delivered k i = delivered (member_of group k) (facts k) i
+
+  -- from statuses
+  told_below : (i k : ℕ) (fs : List Fact) → AllByRecursion (IsSo group facts) fs → greatest_of (flat_map (told_by k i) fs) ≤ has_delivered k i
+  told_below i k [] all = omega arith
+  told_below i k (OwnCast c ∷ fs) all = told_below i k fs all.1
+  told_below i k (CastCame c ∷ fs) all = told_below i k fs all.1
+  told_below i k (OwnStatus s ∷ fs) all = told_below i k fs all.1
+  told_below i k (StatusCame s ∷ fs) all =
+      let others = told_below i k fs all.1 in
+      cond_both (eqb s.sender k) (value_in s.values i ∷ []) [] (λ (ns : List ℕ). greatest_of (ns ++ flat_map (told_by k i) fs) ≤ has_delivered k i)
+      (λ same.
+      let value = value_below (has_delivered s.sender) s.values i all.0.reached in
+      let here : value_in s.values i ≤ has_delivered k i = subst (λ (j : ℕ). value_in s.values i ≤ has_delivered j i) (eqb-true s.sender k same) value in
+      omega (arith, here, others))
+      (λ other. others)
+
+  -- from the times of delivered messages
+  counted_below : (i k : ℕ) → i < group.size → greatest_of (counted_by (casts_in (facts i)) (view group.size (facts i)) k i) ≤ has_delivered k i
+  counted_below i k lt =
+      all_at_most (λ m. eqb m.sender k) (λ m. expanded_field (casts_in (facts i)) m.sender m.number i) (has_delivered k i) (view group.size (facts i)) (λ m there of_k.
+      let stands = stands_at group facts h i lt in
+      let (c, c_there, is_c) = cast_of_message (casts_in (facts i)) m (stands.there m there) in
+      let expanded : is_expanded (casts_in (facts i)) (message c) ≡ true =
+      subst (λ (x : Carried). is_expanded (casts_in (facts i)) x ≡ true) is_c (seen_is_expanded (member_of group i) (casts_in (facts i)) (view group.size (facts i)) (own_casts (facts i)) m stands there) in
+      let own = is_own group facts h i c c_there in
+      let same = time_is_senders group facts h i (facts i) c i (h.legal i lt) (is_own group facts h i) c_there expanded in
+      let seen = in_is_among (view group.size (facts c.sender)) (message c) (own_in_view group facts h c.sender c own) in
+      let reached = times_are_reached (member_of group c.sender) (facts c.sender) (message c) i (h.legal c.sender (inside group facts h c.sender c (own_is_there (facts c.sender) c own))) seen lt in
+      let sender : c.sender ≡ k = ap (λ (x : Carried). x.sender) (sym is_c) ∙ eqb-true m.sender k of_k in
+      let at_c : expanded_field (casts_in (facts i)) c.sender c.number i ≤ has_delivered k i = subst (λ (j : ℕ). expanded_field (casts_in (facts i)) c.sender c.number i ≤ has_delivered j i) sender (omega (arith, same, reached)) in
+      subst (λ (x : Carried). expanded_field (casts_in (facts i)) x.sender x.number i ≤ has_delivered k i) (sym is_c) at_c)
+
+  -- so what is acknowledged is delivered
+  pub acknowledged_is_so : (i k : ℕ) → i < group.size → acknowledged (member_of group i) (facts i) k ≤ has_delivered k i
+  acknowledged_is_so i k lt =
+      let parts = greatest_append (flat_map (told_by k i) (facts i)) (counted_by (casts_in (facts i)) (view group.size (facts i)) k i) in
+      omega (arith, parts, told_below i k (facts i) (h.so i), counted_below i k lt)
+
+  -- and what is stable, every other member has delivered
+  pub stable_is_so : (i j : ℕ) → i < group.size → j < group.size → j ≢ i → stable (member_of group i) (facts i) ≤ has_delivered j i
+  stable_is_so i j lt lt_j ne =
+      let other : not (eqb j i) ≡ true = rw (ne_eqb j i ne) refl in
+      let one = in_map (acknowledged (member_of group i) (facts i)) (filter (λ k. not (eqb k i)) (range_with_len 0 group.size)) j
+      (filtered_in (λ k. not (eqb k i)) (range_with_len 0 group.size) j other (in_some_range 0 group.size j (omega arith) (omega (arith, lt_j)))) in
+      let least = least_below (map (acknowledged (member_of group i) (facts i)) (filter (λ k. not (eqb k i)) (range_with_len 0 group.size))) (acknowledged (member_of group i) (facts i) j) one in
+      omega (arith, least, acknowledged_is_so i j lt)
+
+  -- ---- what a member has heard of
+
+  own_number : (c : CastFields) → IsIn c (own_casts (facts c.sender)) → c.number ≤ has_delivered c.sender c.sender
+  own_number c own =
+      let there = own_is_there (facts c.sender) c own in
+      own_is_delivered (member_of group c.sender) (facts c.sender) c.number (h.legal c.sender (inside group facts h c.sender c there)) (cast_is_there (casts_in (facts c.sender)) c c.sender c.number there refl refl)
+
+  -- from what came
+  heard_below : (i : ℕ) (fs : List Fact) → i < group.size → AllByRecursion (IsSo group facts) fs → greatest_of (flat_map (told_of i) fs) ≤ has_delivered i i
+  heard_below i [] lt all = omega arith
+  heard_below i (OwnCast c ∷ fs) lt all = heard_below i fs lt all.1
+  heard_below i (OwnStatus s ∷ fs) lt all = heard_below i fs lt all.1
+  heard_below i (StatusCame s ∷ fs) lt all =
+      let others = heard_below i fs lt all.1 in
+      let value = value_below (has_delivered s.sender) s.values i all.0.reached in
+      let most = delivered_at_most group facts h s.sender i all.0.member lt in
+      omega (arith, value, most, others)
+  heard_below i (CastCame c ∷ fs) lt all =
+      let others = heard_below i fs lt all.1 in
+      cond_both (eqb c.sender i) (c.number ∷ []) [] (λ (ns : List ℕ). greatest_of (ns ++ flat_map (told_of i) fs) ≤ has_delivered i i)
+      (λ same.
+      let number = own_number c (cast_of_is_in c (own_casts (facts c.sender)) all.0) in
+      let here : c.number ≤ has_delivered i i = subst (λ (k : ℕ). c.number ≤ has_delivered k k) (eqb-true c.sender i same) number in
+      omega (arith, here, others))
+      (λ other. others)
+
+  -- from the times that it can tell
+  times_below : (j i : ℕ) → j < group.size → i < group.size → greatest_of (counted_in_times (casts_in (facts j)) i) ≤ has_delivered i i
+  times_below j i lt lt_i =
+      each_below (λ m. expanded_field (casts_in (facts j)) m.sender m.number i) (has_delivered i i) (expanded_in (casts_in (facts j))) (λ m there.
+      let parts = filter_in (is_expanded (casts_in (facts j))) (messages_in (casts_in (facts j))) m there in
+      let (c, c_there, is_c) = cast_of_message (casts_in (facts j)) m parts.1 in
+      let expanded : is_expanded (casts_in (facts j)) (message c) ≡ true = subst (λ (x : Carried). is_expanded (casts_in (facts j)) x ≡ true) is_c parts.0 in
+      let own = is_own group facts h j c c_there in
+      let lt_c = inside group facts h c.sender c (own_is_there (facts c.sender) c own) in
+      let same = time_is_senders group facts h j (facts j) c i (h.legal j lt) (is_own group facts h j) c_there expanded in
+      let seen = in_is_among (view group.size (facts c.sender)) (message c) (own_in_view group facts h c.sender c own) in
+      let reached = times_are_reached (member_of group c.sender) (facts c.sender) (message c) i (h.legal c.sender lt_c) seen lt_i in
+      let most = delivered_at_most group facts h c.sender i lt_c lt_i in
+      let at_c : expanded_field (casts_in (facts j)) c.sender c.number i ≤ has_delivered i i = omega (arith, same, reached, most) in
+      subst (λ (x : Carried). expanded_field (casts_in (facts j)) x.sender x.number i ≤ has_delivered i i) (sym is_c) at_c)
+
+  -- so it has cast what others have heard of
+  pub heard_is_so : (j i : ℕ) → j < group.size → i < group.size → known (facts j) i ≤ has_delivered i i
+  heard_is_so j i lt lt_i =
+      let parts = greatest_append (flat_map (told_of i) (facts j)) (counted_in_times (casts_in (facts j)) i) in
+      omega (arith, parts, heard_below i (facts j) lt_i (h.so j), times_below j i lt lt_i)
+
+  -- ---- arrivals
+
+  module _ (j : ℕ) (lt : j < group.size) where
+    abbrev me : Seat
+    me = member_of group j
+
+    any_false : (f : ℕ → ℕ) (values : List Change) → AllByRecursion (λ d. d.amount ≤ f d.field) values → list_any (λ d. ltb (f d.field) d.amount) values ≡ true → ⊥
+    any_false f [] all some = absurd cc
+    any_false f (d ∷ values) all some =
+        cond_both (ltb (f d.field) d.amount) true (list_any (λ d. ltb (f d.field) d.amount) values) (λ (b : Bool). b ≡ true → ⊥)
+        (λ less _. let lt = ltb-true (f d.field) d.amount less in let le = all.0 in omega (arith, lt, le)) (λ _. any_false f values all.1) (is_or (ltb (f d.field) d.amount) (list_any (λ d. ltb (f d.field) d.amount) values) some)
+      where
+        is_or : (a b : Bool) → (a || b) ≡ true → cond a true b ≡ true
+        is_or true b e = refl
+        is_or false b e = e
+
+    -- a frame that says what is so asks nothing impossible
+    pub is_possible : (frame : FrameFields) → SaysWhatIsSo group facts frame → is_impossible me (facts j) frame ≡ true → ⊥
+    is_possible (CastFrame c) so impossible =
+        let both = and_parts (eqb c.sender j) (ltb (has_delivered j j) c.number) impossible in
+        let number = own_number c (cast_of_is_in c (own_casts (facts c.sender)) so) in
+        let mine : c.number ≤ has_delivered j j = subst (λ (i : ℕ). c.number ≤ has_delivered i i) (eqb-true c.sender j both.0) number in
+        let above = ltb-true (has_delivered j j) c.number both.1 in
+        omega (arith, mine, above)
+    is_possible (StatusFrame s) so impossible =
+        cond_both (eqb s.sender j) (list_any (λ d. ltb (has_delivered j d.field) d.amount) s.values) (ltb (has_delivered j j) (value_in s.values j)) (λ (b : Bool). b ≡ true → ⊥)
+        (λ same. any_false (has_delivered j) s.values (subst (λ (i : ℕ). AllByRecursion (λ (d : Change). d.amount ≤ has_delivered i d.field) s.values) (eqb-true s.sender j same) so.reached))
+        (λ other above.
+        let value = value_below (has_delivered s.sender) s.values j so.reached in
+        let most = delivered_at_most group facts h s.sender j so.member lt in
+        let less = ltb-true (has_delivered j j) (value_in s.values j) above in
+        omega (arith, value, most, less)) impossible
+    is_possible (RequestFrame r) so itself = so (eqb-true r.requester r.asked itself)
+
+    -- nor is it too far
+    pub is_near : (frame : FrameFields) → SaysWhatIsSo group facts frame → is_too_far me (facts j) frame ≡ true → ⊥
+    is_near (CastFrame c) so far =
+        let own = cast_of_is_in c (own_casts (facts c.sender)) so in
+        let number = own_number c own in
+        let lt_i = inside group facts h c.sender c (own_is_there (facts c.sender) c own) in
+        let beyond = ltb-true (has_delivered j c.sender + group.window) c.number far in
+        elim (cases_eq j c.sender) [
+          | inl mine ↦
+              let here : has_delivered j c.sender ≡ has_delivered c.sender c.sender = ap (λ (k : ℕ). has_delivered k c.sender) mine in
+              omega (arith, number, beyond, here)
+          | inr other ↦
+              let window = own_casts_are_near_stable (member_of group c.sender) (facts c.sender) (h.legal c.sender lt_i) in
+              let known = stable_is_so c.sender j lt_i lt other in
+              omega (arith, number, beyond, window, known)
+        ]
+    is_near (StatusFrame s) so far = let none : false ≡ true = far in absurd cc
+    is_near (RequestFrame r) so far = let none : false ≡ true = far in absurd cc
+
+    not_false : (b : Bool) → not b ≡ true → b ≡ true → ⊥
+    not_false true turned e = absurd cc
+    not_false false turned e = absurd cc
+
+    pub is_welcome : (limit : ℕ) (entries : List EntryFields) (frame : FrameFields) → IsOfTheGroup group frame → SaysWhatIsSo group facts frame → IsNoRefusal (frame_answer me limit entries (facts j) frame)
+    is_welcome limit entries frame of so =
+        cond_both (not (eqb (group_of frame) group.number)) _ _ IsNoRefusal (λ other. absurd (not_false (eqb (group_of frame) group.number) other (eq-eqb (group_of frame) group.number of.number)))
+        (λ _. cond_both (not (are_members group.size frame)) _ _ IsNoRefusal (λ other. absurd (not_false (are_members group.size frame) other of.members))
+        (λ _. cond_both (is_impossible me (facts j) frame) _ _ IsNoRefusal (λ yes. absurd (is_possible frame so yes))
+        (λ _. cond_both (is_repeat (facts j) frame) _ _ IsNoRefusal (λ _. tt)
+        (λ _. cond_both (is_too_far me (facts j) frame) _ _ IsNoRefusal (λ yes. absurd (is_near frame so yes))
+        (λ _. cond_both (is_change me (facts j) frame && is_full limit entries) _ _ IsNoRefusal (λ _. refl)
+        (λ _. cond_both (is_change me (facts j) frame) _ _ IsNoRefusal (λ _. tt) (λ _. tt)))))))

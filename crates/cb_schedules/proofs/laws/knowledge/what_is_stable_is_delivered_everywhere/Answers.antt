@@ -1,0 +1,9 @@
+use Rattle.cb_schedules.specs.SentLaws.{AcknowledgedIsDeliveredThere, StableIsDeliveredEverywhere}
+use Rattle.cb_schedules.proofs.Headlines.{each_schedule, acknowledged_is_delivered_there, stable_is_delivered_everywhere}
+use Rattle.cb_schedules.proofs.laws.knowledge.what_is_stable_is_delivered_everywhere.Goals as goal
+
+pub returns-clause-acknowledged : goal.returns-clause-acknowledged
+returns-clause-acknowledged c = each_schedule AcknowledgedIsDeliveredThere acknowledged_is_delivered_there
+
+pub returns-clause-stable : goal.returns-clause-stable
+returns-clause-stable c = each_schedule StableIsDeliveredEverywhere stable_is_delivered_everywhere

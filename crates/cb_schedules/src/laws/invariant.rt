@@ -1,0 +1,22 @@
+//! The invariant of a run.
+
+ghost use Rattle.cb_schedules.specs.Consistent.{IsConsistent};
+ghost use Rattle.cb_schedules.specs.Headline.{EachSchedule, StepsExtendTheCausal, StepsExtendTheStamped};
+ghost use Rattle.cb_schedules.specs.SentLaws.{CastsThereAreOwn, EventsHaveTimesFromBytes, NothingReadyIsLeftAnywhere};
+
+/// After every schedule the histories, the frames that were sent and the outcomes belong together: each history is legal, every frame says
+/// what is so, and what arrived is there. So every cast that is there with a member is an own cast of its sender, the time of each event is
+/// the time from the bytes, and no member has a ready message left, whatever came last.
+pub fn runs_are_consistent()
+    ensures invariant { EachSchedule IsConsistent }
+    ensures casts { EachSchedule CastsThereAreOwn }
+    ensures times { EachSchedule EventsHaveTimesFromBytes }
+    ensures ready { EachSchedule NothingReadyIsLeftAnywhere }
+{}
+
+/// Each step of a schedule extends the members' events, with their times, by steps of the stamped machine, and without their times by steps of
+/// the causal machine: a cast by one, an arrival by as many as it delivers.
+pub fn steps_extend_the_machines()
+    ensures stamped { StepsExtendTheStamped }
+    ensures causal { StepsExtendTheCausal }
+{}

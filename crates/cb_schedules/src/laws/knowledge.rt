@@ -1,0 +1,23 @@
+//! What members know of each other, and what they answer, after every schedule.
+
+ghost use Rattle.cb_schedules.specs.Headline.{EachSchedule};
+ghost use Rattle.cb_schedules.specs.SentLaws.{AcknowledgedIsDeliveredThere, ArrivalsAreWelcome, DeliveredIsCast, HeardOfIsCast, StableIsDeliveredEverywhere};
+
+/// Nobody has delivered, or heard of, more of a member's messages than it has cast: so nothing is asked for that is not.
+pub fn what_is_heard_of_is_cast()
+    ensures delivered { EachSchedule DeliveredIsCast }
+    ensures heard_of { EachSchedule HeardOfIsCast }
+{}
+
+/// What a member knows of another's deliveries is so. What a sender knows to be stable, every other member has delivered: nobody misses
+/// what is trimmed.
+pub fn what_is_stable_is_delivered_everywhere()
+    ensures acknowledged { EachSchedule AcknowledgedIsDeliveredThere }
+    ensures stable { EachSchedule StableIsDeliveredEverywhere }
+{}
+
+/// No arrival of a schedule is answered Malformed, OtherGroup, BadMember, Impossible or TooFar. The one refusal that there is says that the
+/// history is full.
+pub fn arrivals_are_welcome()
+    ensures { EachSchedule ArrivalsAreWelcome }
+{}
