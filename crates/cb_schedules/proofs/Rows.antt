@@ -1,5 +1,5 @@
 -- Worked schedules of three members.
-use Rattle.std.proofs.Common.{◌≡◌, ℕ, true, false, List, [], ◌∷◌, map, Some, None, refl}
+use Rattle.std.proofs.Common.{◌≡◌, ℕ, true, false, List, [], ◌∷◌, map, drop, Some, None, Err, refl, arith}
 use Rattle.cb_varint.specs.Reading.{number_at, spelling}
 use Rattle.cb_times.specs.declared.name.Name.{Name}
 use Rattle.cb_frames.specs.Text.{text_of}
@@ -7,10 +7,14 @@ use Rattle.cb_frames.specs.Reading.{frame_at, cast_at, status_at, request_at, pa
 use Rattle.cb_delay.specs.declared.message.Message.{Message}
 use Rattle.cb_delay.specs.declared.message.Event.TheVariants.{Deliver}
 use Rattle.cb_causality.specs.declared.event.CausalEvent.TheVariants as causal
+use Rattle.cb_history.specs.declared.answer.ArriveRefusal.TheVariants as arrivals
 use Rattle.cb_history.specs.View.{view, drained}
-use Rattle.cb_history.specs.Answers.{cast_answer, arrive_answer, tick_answer}
-use Rattle.cb_schedules.specs.Schedule.{Setting, CastStep, ArriveStep, TickStep, Schedule, Answer, NoSuchMember, NoSuchFrame, NoBytes, GroupState, step_after, run_from, run}
-use Rattle.cb_schedules.specs.Messages.{stamped_lists, causal_lists, arrived_at, has_arrived, time_from_bytes}
+use Rattle.cb_history.specs.Known.{stable}
+use Rattle.cb_history.specs.Answers.{delivered, cast_answer, arrive_answer, tick_answer}
+use Rattle.cb_schedules.specs.Schedule.{Setting, IsSetting, seat_at, CastStep, ArriveStep, TickStep, Schedule, Answer, ArrivalAnswer, NoSuchMember, NoSuchFrame, NoBytes, GroupState, step_after, run_from, run}
+use Rattle.cb_schedules.specs.Messages.{facts_at, stamped_lists, causal_lists, arrived_at, has_arrived, IsClosedArrival, time_from_bytes}
+use Rattle.cb_schedules.specs.Headline.{Headline}
+use Rattle.cb_schedules.proofs.Headlines.{each_schedule, headline_holds}
 
 -- group 7 of three members with a window of 4, and room for 100 entries in each history
 abbrev three : Setting
@@ -116,3 +120,70 @@ they_send_nothing = refl
 they_change_nothing : (run three naming_nothing).histories 0 ≡ []
 unfolding step_after run_from cast_answer arrive_answer tick_answer view drained frame_at cast_at status_at request_at pairs_at pair_at number_at text_of spelling
 they_change_nothing = refl
+
+-- ---- the laws speak of these schedules: the setting is one
+
+the_setting : IsSetting three
+the_setting = record {
+  group = record {
+    size = record { two_or_more = omega arith; at_most_sixty_four = omega arith };
+    width = record { one_or_more = omega arith; at_most_widest = omega arith };
+    number_fits = omega arith;
+  };
+  one_or_more = omega arith;
+  at_most = omega arith;
+}
+
+-- so after each of them the headline holds
+the_headline : Headline three (run three in_the_end)
+the_headline = each_schedule Headline headline_holds three in_the_end the_setting
+
+-- member 2 has delivered "yo" in the end, and so, by the headline, it is a closed arrival
+yo_is_closed : IsClosedArrival three (run three in_the_end) 2 (name 1 1)
+unfolding step_after run_from cast_answer arrive_answer tick_answer view drained frame_at cast_at status_at request_at pairs_at pair_at number_at text_of spelling
+yo_is_closed = (the_headline.delivered 2 (name 1 1)).0 (record { index = 1; event = causal.Deliver (name 1 1) (121 ∷ 111 ∷ []); stands = refl; named = refl })
+
+-- two members cast at once: neither time is at most the other
+abbrev at_once : Schedule
+at_once = CastStep 0 (97 ∷ []) ∷ CastStep 1 (98 ∷ []) ∷ ArriveStep 0 1 ∷ ArriveStep 1 0 ∷ []
+
+one_of_them : time_from_bytes three (run three at_once) (name 0 1) ≡ 1 ∷ 0 ∷ 0 ∷ []
+unfolding step_after run_from cast_answer arrive_answer tick_answer view drained frame_at cast_at status_at request_at pairs_at pair_at number_at text_of spelling
+one_of_them = refl
+
+the_other : time_from_bytes three (run three at_once) (name 1 1) ≡ 0 ∷ 1 ∷ 0 ∷ []
+unfolding step_after run_from cast_answer arrive_answer tick_answer view drained frame_at cast_at status_at request_at pairs_at pair_at number_at text_of spelling
+the_other = refl
+
+-- ---- what is stable: both others tell their statuses
+
+abbrev told_back : Schedule
+told_back = CastStep 0 (97 ∷ []) ∷ ArriveStep 1 0 ∷ ArriveStep 2 0 ∷ TickStep 1 ∷ TickStep 2 ∷ ArriveStep 0 1 ∷ ArriveStep 0 2 ∷ []
+
+the_cast_is_stable : stable (seat_at three 0) (facts_at (run three told_back) 0) ≡ 1
+unfolding step_after run_from cast_answer arrive_answer tick_answer view drained frame_at cast_at status_at request_at pairs_at pair_at number_at text_of spelling
+the_cast_is_stable = refl
+
+and_delivered_by_the_first : delivered (seat_at three 1) (facts_at (run three told_back) 1) 0 ≡ 1
+unfolding step_after run_from cast_answer arrive_answer tick_answer view drained frame_at cast_at status_at request_at pairs_at pair_at number_at text_of spelling
+and_delivered_by_the_first = refl
+
+and_by_the_second : delivered (seat_at three 2) (facts_at (run three told_back) 2) 0 ≡ 1
+unfolding step_after run_from cast_answer arrive_answer tick_answer view drained frame_at cast_at status_at request_at pairs_at pair_at number_at text_of spelling
+and_by_the_second = refl
+
+-- ---- the one refusal of an arrival: no entry is left, and then nothing has arrived
+
+abbrev short : Setting
+short = record { group = record { number = 7; size = 3; window = 4 }; limit = 1 }
+
+abbrev filling : Schedule
+filling = CastStep 0 (97 ∷ []) ∷ CastStep 1 (98 ∷ []) ∷ ArriveStep 1 0 ∷ []
+
+the_history_is_full : map (λ o. o.answer) (drop 2 (run short filling).outcomes) ≡ ArrivalAnswer (Err arrivals.HistoryFull) ∷ []
+unfolding step_after run_from cast_answer arrive_answer tick_answer view drained frame_at cast_at status_at request_at pairs_at pair_at number_at text_of spelling
+the_history_is_full = refl
+
+it_has_not_arrived : has_arrived (run short filling) 1 (name 0 1) ≡ false
+unfolding step_after run_from cast_answer arrive_answer tick_answer view drained frame_at cast_at status_at request_at pairs_at pair_at number_at text_of spelling
+it_has_not_arrived = refl
