@@ -17,7 +17,8 @@ use Rattle.cb_history.specs.Answers.{delivered, own_casts}
 use Rattle.cb_history.specs.DeliveryLaws.{MeetsRule}
 use Rattle.cb_history.proofs.Names.{message, view_holds_the_first}
 use Rattle.cb_history.proofs.Times.{all_from_range, seen_is_there, times_are_reached}
-use Rattle.cb_history.proofs.Delivering.{in_field, past_fields, nothing_above, filtered_in, nothing_is_next, readiness_is_the_delay_rule}
+use Rattle.cb_history.proofs.Delivering.{in_field, past_fields, nothing_above, nothing_is_next, readiness_is_the_delay_rule}
+use Rattle.cb_history.proofs.Views.{in_filter}
 use Rattle.cb_history.proofs.Names.{in_is_one_of}
 use Rattle.cb_history.proofs.Buffers.{cast_is_there}
 use Rattle.cb_schedules.specs.Honest.{member_of, events_of, AreTogether}
@@ -160,7 +161,7 @@ module _ (group : Parameters) (facts : ℕ → List Fact) (h : AreTogether group
     never_next : m.number ≡ delivered (member_of group j) (facts j) m.sender + 1 → ⊥
     never_next next =
         let expanded = expands m c (all_there next) in
-        let one = in_is_one_of (message c.cast) (expanded_in (casts_in (facts j))) (filtered_in (is_expanded (casts_in (facts j))) (messages_in (casts_in (facts j))) (message c.cast) expanded (message_of_cast (casts_in (facts j)) c.cast c.there)) in
+        let one = in_is_one_of (message c.cast) (expanded_in (casts_in (facts j))) (in_filter (is_expanded (casts_in (facts j))) (messages_in (casts_in (facts j))) (message c.cast) expanded (message_of_cast (casts_in (facts j)) c.cast c.there)) in
         let not_ready = (nothing_is_next group.size (casts_in (facts j)) (view group.size (facts j))).0 (h.settled j) (message c.cast) one in
         let new : is_among (view group.size (facts j)) (called m) ≡ false = false_from_ne_true (is_among (view group.size (facts j)) (called m)) (λ seen.
         let number = seen_number m c.member seen in omega (arith, number.1, next)) in

@@ -14,13 +14,13 @@ use Rattle.cb_history.specs.Known.{expanded_count}
 use Rattle.cb_history.specs.Answers.{delivered, own_casts}
 use Rattle.cb_history.specs.LegalFacts.{AreFactsOf}
 use Rattle.cb_history.specs.BufferLaws.{IsCastOf}
-use Rattle.cb_history.proofs.Views.{IsIn, filter_in, casts_in-append, nothing_ready_is_left, ready_is_new}
+use Rattle.cb_history.proofs.Views.{IsIn, filter_in, casts_in-append, nothing_ready_is_left, ready_is_new, in_filter}
 use Rattle.cb_history.proofs.Lists.{in_front, in_back, in_push, messages_in-push}
 use Rattle.cb_history.proofs.Walks.{view_came, view_status, view_told, own_casts-own, own_casts-other}
 use Rattle.cb_history.proofs.Names.{all_stand, message, one_of_is_in, in_is_one_of}
 use Rattle.cb_history.proofs.Times.{count_grows}
 use Rattle.cb_history.proofs.Prefixes.{last_fact_is_a_step}
-use Rattle.cb_history.proofs.Delivering.{nothing_is_next, filtered_in}
+use Rattle.cb_history.proofs.Delivering.{nothing_is_next}
 use Rattle.cb_history.proofs.Happening.{own_cast_makes_ready}
 use Rattle.cb_history.proofs.Runs.{expanded_up_to_the_count, others_expand_nothing}
 use Rattle.cb_history.proofs.Buffers.{cast_of_is_in, in_is_cast_of}
@@ -154,7 +154,7 @@ module _ (group : Parameters) (facts : ℕ → List Fact) (h : AreTogether group
         | inr other ↦
             let expanded = expanded_before m other parts.0 in
             let old = there_before m other parts.1 in
-            let in_old = filtered_in (is_expanded (casts_in (facts j))) (messages_in (casts_in (facts j))) m expanded old in
+            let in_old = in_filter (is_expanded (casts_in (facts j))) (messages_in (casts_in (facts j))) m expanded old in
             let one = in_is_one_of m (expanded_in (casts_in (facts j))) in_old in
             let not_ready = (nothing_is_next group.size (casts_in (facts j)) (view group.size (facts j))).0 (h.settled j) m one in
             let told = own_cast_makes_ready (member_of group j) (facts j) c m are one not_ready ready in

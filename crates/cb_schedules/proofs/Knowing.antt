@@ -11,12 +11,11 @@ use Rattle.cb_history.specs.View.{view, is_expanded, expanded_in}
 use Rattle.cb_history.specs.Known.{greatest_of, value_in, told_of, counted_in_times, known, told_by, counted_by, acknowledged, least_of, stable}
 use Rattle.cb_history.specs.Answers.{delivered, own_casts, is_full, group_of, are_members, is_impossible, is_repeat, is_too_far, is_change, frame_answer}
 use Rattle.cb_history.specs.OwnFrameLaws.{IsOfTheGroup}
-use Rattle.cb_history.proofs.Views.{IsIn, filter_in}
+use Rattle.cb_history.proofs.Views.{IsIn, filter_in, in_filter}
 use Rattle.cb_history.proofs.Lists.{in_is_among}
 use Rattle.cb_history.proofs.Names.{message}
 use Rattle.cb_history.proofs.Times.{seen_is_expanded, times_are_reached}
 use Rattle.cb_history.proofs.Rising.{greatest_append, all_at_most}
-use Rattle.cb_history.proofs.Delivering.{filtered_in}
 use Rattle.cb_history.proofs.Windows.{own_casts_are_near_stable}
 use Rattle.cb_history.proofs.Runs.{own_is_delivered}
 use Rattle.cb_history.proofs.Buffers.{cast_of_is_in, cast_is_there}
@@ -105,7 +104,7 @@ module _ (group : Parameters) (facts : ℕ → List Fact) (h : AreTogether group
   stable_is_so i j lt lt_j ne =
       let other : not (eqb j i) ≡ true = rw (ne_eqb j i ne) refl in
       let one = in_map (acknowledged (member_of group i) (facts i)) (filter (λ k. not (eqb k i)) (range_with_len 0 group.size)) j
-      (filtered_in (λ k. not (eqb k i)) (range_with_len 0 group.size) j other (in_some_range 0 group.size j (omega arith) (omega (arith, lt_j)))) in
+      (in_filter (λ k. not (eqb k i)) (range_with_len 0 group.size) j other (in_some_range 0 group.size j (omega arith) (omega (arith, lt_j)))) in
       let least = least_below (map (acknowledged (member_of group i) (facts i)) (filter (λ k. not (eqb k i)) (range_with_len 0 group.size))) (acknowledged (member_of group i) (facts i) j) one in
       omega (arith, least, acknowledged_is_so i j lt)
 
