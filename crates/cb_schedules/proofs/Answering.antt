@@ -37,7 +37,8 @@ use Rattle.cb_schedules.specs.Messages.{facts_at, messages_read, came_by, has_ar
 use Rattle.cb_schedules.specs.Honest.{SaysWhatIsSo, IsHonest}
 use Rattle.cb_schedules.specs.Consistent.{IsConsistent}
 use Rattle.cb_schedules.proofs.Sending.{cast_is_honest, status_is_honest, requests_are_honest, resent_are_honest, sent_is_honest}
-use Rattle.cb_schedules.proofs.Calling.{any-append, or_none, all_weaken, is_named, facts_push, after, own_now, IsGood, good, still_honest}
+use Rattle.cb_schedules.proofs.Calling.{any-append, or_none, is_named, facts_push, after, own_now, IsGood, good, still_honest}
+use Rattle.cb_schedules.proofs.Lists.{all_weaken}
 
 -- with one more cast a message is there where it was, or is one of the cast's
 there_push_is : (cs : List CastFields) (c : CastFields) (m : Name) → is_there (cs ++ c ∷ []) m.sender m.number ≡ (is_there cs m.sender m.number || list_any (is_named m) (messages_of c))

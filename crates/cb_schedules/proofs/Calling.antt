@@ -26,6 +26,7 @@ use Rattle.cb_schedules.specs.Honest.{member_of, IsHonest, events_of, AreTogethe
 use Rattle.cb_schedules.specs.Consistent.{IsConsistent}
 use Rattle.cb_schedules.proofs.Growing.{honest_stays}
 use Rattle.cb_schedules.proofs.Stamping.{IsSoBefore, extends_by, together_after}
+use Rattle.cb_schedules.proofs.Lists.{all_weaken, all_both}
 
 -- ---- lists
 
@@ -40,14 +41,6 @@ any-append p (x ∷ xs) ys = ap (λ (b : Bool). p x || b) (any-append p xs ys) �
 pub or_none : (b : Bool) → (b || false) ≡ b
 or_none true = refl
 or_none false = refl
-
-pub all_both : {A : Type 0} (P : A → Type 0) (xs ys : List A) → AllByRecursion P xs → AllByRecursion P ys → AllByRecursion P (xs ++ ys)
-all_both P [] ys first rest = rest
-all_both P (x ∷ xs) ys first rest = (first.0, all_both P xs ys first.1 rest)
-
-pub all_weaken : {A : Type 0} (P Q : A → Type 0) (xs : List A) → ((a : A) → P a → Q a) → AllByRecursion P xs → AllByRecursion Q xs
-all_weaken P Q [] weaker all = tt
-all_weaken P Q (x ∷ xs) weaker all = (weaker x all.0, all_weaken P Q xs weaker all.1)
 
 -- the message of this name
 abbrev pub is_named : Name → Carried → Bool

@@ -1,5 +1,5 @@
 -- The invariant holds along every run.
-use Rattle.std.proofs.Common.{◌≡◌, ℕ, zero, suc, ◌<◌, true, ltb, List, [], ◌∷◌, ◌++◌, length, Option, Some, None, refl, ap, subst, ◌∙◌, arith}
+use Rattle.std.proofs.Common.{◌≡◌, ℕ, zero, suc, ◌<◌, true, ltb, List, [], ◌∷◌, ◌++◌, length, Option, Some, None, refl, ap, ◌∙◌, arith}
 use Rattle.std.specs.Prelude.{slice_get}
 use Rattle.std.specs.List.{AllByRecursion, list_any}
 use Rattle.std.proofs.lemmas.Bool.{cond_both, ltb-true, and_parts}
@@ -20,6 +20,7 @@ use Rattle.cb_schedules.specs.Honest.{IsHonest, events_of}
 use Rattle.cb_schedules.specs.Consistent.{IsConsistent}
 use Rattle.cb_schedules.proofs.Calling.{is_named}
 use Rattle.cb_schedules.proofs.Answering.{cast_is_good, tick_is_good, arrival_is_good}
+use Rattle.cb_schedules.proofs.Lists.{all_at_index}
 
 -- ---- the start
 
@@ -53,11 +54,6 @@ bytes_are : (payload : List ℕ) → are_bytes payload ≡ true → IsBytes payl
 bytes_are [] all i = omega arith
 bytes_are (b ∷ payload) all zero = ltb-true b 256 (and_parts (ltb b 256) (are_bytes payload) all).0
 bytes_are (b ∷ payload) all (suc i) = bytes_are payload (and_parts (ltb b 256) (are_bytes payload) all).1 i
-
-pub all_at_index : {A : Type 0} (P : A → Type 0) (xs : List A) (n : ℕ) (x : A) → AllByRecursion P xs → slice_get xs n ≡ Some x → P x
-all_at_index P [] n x all e = absurd cc
-all_at_index {A} P (y ∷ xs) zero x all e = let same : y ≡ x = cc in subst P same all.0
-all_at_index P (y ∷ xs) (suc n) x all e = all_at_index P xs n x all.1 e
 
 -- a call that a step can ask for
 abbrev pub IsFair : Setting → GroupState → Call → Type 0

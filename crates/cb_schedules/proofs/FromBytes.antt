@@ -19,9 +19,10 @@ use Rattle.cb_schedules.specs.Schedule.{Setting, seat_at, SentFrame, GroupState}
 use Rattle.cb_schedules.specs.Messages.{facts_at, sent_casts, time_from_bytes}
 use Rattle.cb_schedules.specs.Honest.{SaysWhatIsSo, IsHonest}
 use Rattle.cb_schedules.specs.Consistent.{IsConsistent}
-use Rattle.cb_schedules.proofs.Members.{all_at, one_cast, own_is_there, stands_at, is_own}
+use Rattle.cb_schedules.proofs.Members.{one_cast, own_is_there, stands_at, is_own}
 use Rattle.cb_schedules.proofs.Moments.{clock}
 use Rattle.cb_schedules.proofs.Sending.{sent_frame}
+use Rattle.cb_schedules.proofs.Lists.{all_at}
 
 -- ---- lists
 

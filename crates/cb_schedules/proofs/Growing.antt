@@ -26,6 +26,7 @@ use Rattle.cb_history.proofs.Runs.{expanded_up_to_the_count, others_expand_nothi
 use Rattle.cb_history.proofs.Buffers.{cast_of_is_in, in_is_cast_of}
 use Rattle.cb_schedules.specs.Honest.{member_of, IsTold, SaysWhatIsSo, IsSo, IsHonest, AreTogether}
 use Rattle.cb_schedules.proofs.Members.{cast_of_message, told_at_most}
+use Rattle.cb_schedules.proofs.Lists.{all_weaken, all_one_more}
 
 -- ---- one fact more
 
@@ -34,14 +35,6 @@ own_more facts (OwnCast d) c there = subst (IsIn c) (sym (own_casts-own facts d)
 own_more facts (CastCame d) c there = subst (IsIn c) (sym (own_casts-other facts (CastCame d) tt)) there
 own_more facts (StatusCame s) c there = subst (IsIn c) (sym (own_casts-other facts (StatusCame s) tt)) there
 own_more facts (OwnStatus s) c there = subst (IsIn c) (sym (own_casts-other facts (OwnStatus s) tt)) there
-
-all_weaken : {A : Type 0} (P Q : A → Type 0) (xs : List A) → ((a : A) → P a → Q a) → AllByRecursion P xs → AllByRecursion Q xs
-all_weaken P Q [] weaker all = tt
-all_weaken P Q (x ∷ xs) weaker all = (weaker x all.0, all_weaken P Q xs weaker all.1)
-
-all_one_more : {A : Type 0} (P : A → Type 0) (xs : List A) (x : A) → AllByRecursion P xs → P x → AllByRecursion P (xs ++ x ∷ [])
-all_one_more P [] x all one = (one, tt)
-all_one_more P (y ∷ xs) x all one = (all.0, all_one_more P xs x all.1 one)
 
 module _ (group : Parameters) (facts after : ℕ → List Fact) (j : ℕ) (f : Fact) (app : Appends facts after j f) where
   -- what is so of member j with the fact, and of each other as it was, is so of each member after it

@@ -28,12 +28,12 @@ use Rattle.cb_schedules.specs.SentLaws.{WasSent, SentCastsAreOwn, OneNameSameByt
 use Rattle.cb_schedules.specs.Headline.{IsCausalBroadcast, DeliversClosedArrivals, TimesTellHappenedBefore, Headline, EachSchedule, StepsExtendTheStamped, StepsExtendTheCausal}
 use Rattle.cb_schedules.proofs.Members.{is_own, own_is_there, delivered_at_most, inside, stands_at, one_cast}
 use Rattle.cb_schedules.proofs.Sending.{honest_text}
-use Rattle.cb_schedules.proofs.Calling.{all_both}
-use Rattle.cb_schedules.proofs.Courses.{all_at_index, IsFair, asked_is, step_goes_on, runs_are_consistent, starts}
+use Rattle.cb_schedules.proofs.Courses.{IsFair, asked_is, step_goes_on, runs_are_consistent, starts}
 use Rattle.cb_schedules.proofs.Moments.{called, has_seen, seen_has, own_cast_of, has_clock, has_there}
 use Rattle.cb_schedules.proofs.Closing.{seen_number, seen_is_closed, closed_is_seen}
 use Rattle.cb_schedules.proofs.FromBytes.{time_is_clock}
 use Rattle.cb_schedules.proofs.Knowing.{acknowledged_is_so, heard_is_so, stable_is_so, is_welcome}
+use Rattle.cb_schedules.proofs.Lists.{all_both, all_at_index}
 
 none_seen : (size : ℕ) (m : Carried) → is_among (view size []) m ≡ true → ⊥
 unfolding view

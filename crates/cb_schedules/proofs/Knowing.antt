@@ -1,5 +1,5 @@
 -- What members know of each other is so: what is stable, everybody has delivered, and no arrival is refused but by a full history.
-use Rattle.std.proofs.Common.{◌≡◌, ◌≢◌, ℕ, zero, suc, ◌+◌, ◌<◌, ◌≤◌, Bool, true, false, not, cond, ◌&&◌, ◌||◌, eqb, ltb, List, [], ◌∷◌, ◌++◌, map, refl, sym, ap, subst, ◌∙◌, arith, inl, inr}
+use Rattle.std.proofs.Common.{◌≡◌, ◌≢◌, ℕ, ◌+◌, ◌<◌, ◌≤◌, Bool, true, false, not, cond, ◌&&◌, ◌||◌, eqb, ltb, List, [], ◌∷◌, ◌++◌, map, refl, sym, ap, subst, ◌∙◌, arith, inl, inr}
 use Rattle.std.specs.List.{AllByRecursion, flat_map, filter, list_any, range_with_len}
 use Rattle.std.proofs.lemmas.Bool.{cond_both, cases_eq, eqb-true, ltb-true, eq-eqb, ne_eqb, and_parts}
 use Rattle.cb_frames.specs.declared.frame.Change.{Change}
@@ -22,6 +22,7 @@ use Rattle.cb_history.proofs.Buffers.{cast_of_is_in, cast_is_there}
 use Rattle.cb_schedules.specs.Honest.{member_of, SaysWhatIsSo, IsSo, AreTogether}
 use Rattle.cb_schedules.specs.SentLaws.{IsNoRefusal}
 use Rattle.cb_schedules.proofs.Members.{stands_at, inside, is_own, own_is_there, own_in_view, cast_of_message, time_is_senders, delivered_at_most}
+use Rattle.cb_schedules.proofs.Lists.{in_some_range, in_map}
 
 -- ---- lists
 
@@ -29,18 +30,6 @@ value_below : (f : ℕ → ℕ) (values : List Change) (k : ℕ) → AllByRecurs
 value_below f [] k all = omega arith
 value_below f (d ∷ values) k all =
     cond_both (eqb d.field k) d.amount (value_in values k) (λ (n : ℕ). n ≤ f k) (λ same. subst (λ (j : ℕ). d.amount ≤ f j) (eqb-true d.field k same) all.0) (λ other. value_below f values k all.1)
-
-in_some_range : (a n k : ℕ) → a ≤ k → k < a + n → IsIn k (range_with_len a n)
-in_some_range a zero k low high = absurd (omega (arith, low, high))
-in_some_range a (suc n) k low high = elim (cases_eq k a) [
-  | inl same ↦ inl same
-  | inr other ↦ inr (in_some_range (a + 1) n k (omega (arith, low, other)) (omega (arith, high)))
-]
-
-in_map : {A B : Type 0} (g : A → B) (xs : List A) (x : A) → IsIn x xs → IsIn (g x) (map g xs)
-in_map g [] x there = absurd there
-in_map g (y ∷ xs) x (inl same) = inl (ap g same)
-in_map g (y ∷ xs) x (inr later) = inr (in_map g xs x later)
 
 each_below : (g : Carried → ℕ) (most : ℕ) (ms : List Carried) → ((m : Carried) → IsIn m ms → g m ≤ most) → greatest_of (map g ms) ≤ most
 each_below g most [] each = omega arith

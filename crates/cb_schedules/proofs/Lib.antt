@@ -1,5 +1,6 @@
 mod Rows
 pub mod GoingOn
+pub mod Lists
 pub mod Members
 pub mod Growing
 pub mod Stamping

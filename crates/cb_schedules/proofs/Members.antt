@@ -1,5 +1,5 @@
 -- What the members of a group have to do with each other, at one moment.
-use Rattle.std.proofs.Common.{◌≡◌, ℕ, suc, ◌+◌, ◌<◌, ◌≤◌, true, List, [], ◌∷◌, Some, refl, sym, ap, subst, ◌∙◌, arith, inl, inr}
+use Rattle.std.proofs.Common.{◌≡◌, ℕ, ◌+◌, ◌<◌, ◌≤◌, true, List, [], ◌∷◌, Some, refl, sym, ap, subst, ◌∙◌, arith, inl, inr}
 use Rattle.std.specs.Prelude.{slice_get}
 use Rattle.std.specs.List.{AllByRecursion}
 use Rattle.std.proofs.lemmas.Bool.{cases_lt, eq-eqb}
@@ -24,22 +24,7 @@ use Rattle.cb_history.proofs.Delivering.{one_message}
 use Rattle.cb_history.proofs.Buffers.{cast_of_is_in, cast_is_there}
 use Rattle.cb_history.proofs.Runs.{own_is_delivered}
 use Rattle.cb_schedules.specs.Honest.{member_of, IsSo, events_of, AreTogether}
-
--- ---- lists
-
-pub all_at : {A : Type 0} (P : A → Type 0) (xs : List A) (a : A) → AllByRecursion P xs → IsIn a xs → P a
-all_at P [] a all there = absurd there
-all_at P (x ∷ xs) a all (inl same) = subst P (sym same) all.0
-all_at P (x ∷ xs) a all (inr later) = all_at P xs a all.1 later
-
-pub all_from : {A : Type 0} (P : A → Type 0) (xs : List A) → ((a : A) → IsIn a xs → P a) → AllByRecursion P xs
-all_from P [] each = tt
-all_from P (x ∷ xs) each = (each x (inl refl), all_from P xs (λ a later. each a (inr later)))
-
-pub index_of : {A : Type 0} (xs : List A) (a : A) → IsIn a xs → (n : ℕ) × (slice_get xs n ≡ Some a)
-index_of [] a there = absurd there
-index_of (x ∷ xs) a (inl same) = (0, ap Some (sym same))
-index_of (x ∷ xs) a (inr later) = let (n, e) = index_of xs a later in (suc n, e)
+use Rattle.cb_schedules.proofs.Lists.{all_from, index_of}
 
 -- ---- casts and messages
 

@@ -1,6 +1,5 @@
 -- A message at one moment of a run: where it stands, and its time.
-use Rattle.std.proofs.Common.{◌≡◌, ℕ, zero, suc, ◌<◌, Bool, true, false, cond, eqb, List, [], ◌∷◌, Some, refl, sym, ap, subst, ◌∙◌, inl, inr}
-use Rattle.std.specs.Prelude.{slice_get}
+use Rattle.std.proofs.Common.{◌≡◌, ℕ, ◌<◌, Bool, true, false, cond, eqb, List, [], refl, sym, ap, subst, ◌∙◌}
 use Rattle.cb_times.specs.declared.name.Name.{Name}
 use Rattle.cb_frames.specs.Fields.{CastFields, Carried}
 use Rattle.cb_delay.specs.declared.message.Message.{Message}
@@ -19,16 +18,12 @@ use Rattle.cb_history.proofs.Lists.{among_is, in_is_among}
 use Rattle.cb_history.proofs.Names.{message, view_is_of_casts}
 use Rattle.cb_history.proofs.Buffers.{cast_there}
 use Rattle.cb_schedules.specs.Honest.{member_of, events_of, AreTogether}
-use Rattle.cb_schedules.proofs.Members.{index_of, inside, is_own, own_event, own_is_there}
+use Rattle.cb_schedules.proofs.Members.{inside, is_own, own_event, own_is_there}
+use Rattle.cb_schedules.proofs.Lists.{index_of, in_by_index}
 
 -- a message of this name
 abbrev pub called : Name → Carried
 called m = record { sender = m.sender; number = m.number; payload = [] }
-
-pub in_by_index : {A : Type 0} (xs : List A) (n : ℕ) (x : A) → slice_get xs n ≡ Some x → IsIn x xs
-in_by_index [] n x e = absurd cc
-in_by_index (y ∷ xs) zero x e = inl cc
-in_by_index (y ∷ xs) (suc n) x e = inr (in_by_index xs n x e)
 
 event_name : (b : Bool) (message : Message) → name_of (without_time (cond b (Cast message) (Deliver message))) ≡ message.name
 event_name true message = refl

@@ -1,5 +1,5 @@
 -- What a member sends is a frame of the group that says what is so.
-use Rattle.std.proofs.Common.{◌≡◌, ◌≢◌, ℕ, zero, suc, ◌+◌, ◌<◌, ◌≤◌, not, eqb, ltb, List, [], ◌∷◌, ◌++◌, map, length, take, Some, Result, Ok, Err, refl, sym, ap, subst, arith, inl, inr}
+use Rattle.std.proofs.Common.{◌≡◌, ◌≢◌, ℕ, ◌<◌, ◌≤◌, not, eqb, ltb, List, [], ◌∷◌, length, take, Some, Result, Ok, Err, refl, sym, ap, subst, arith, inl, inr}
 use Rattle.std.specs.List.{AllByRecursion, flat_map, filter, range_with_len}
 use Rattle.std.proofs.lemmas.Bool.{cond_both, eqb-false}
 use Rattle.cb_varint.specs.Reading.{spelling}
@@ -29,32 +29,7 @@ use Rattle.cb_history.proofs.Replays.{one_more_byte, numbers_are_bytes, cast_is_
 use Rattle.cb_schedules.specs.Schedule.{SentFrame}
 use Rattle.cb_schedules.specs.Messages.{cast_read}
 use Rattle.cb_schedules.specs.Honest.{member_of, IsHonest}
-use Rattle.cb_schedules.proofs.Members.{all_at}
-
--- ---- lists
-
-all_flat : {A B : Type 0} (P : B → Type 0) (g : A → List B) (xs : List A) → ((a : A) → IsIn a xs → AllByRecursion P (g a)) → AllByRecursion P (flat_map g xs)
-all_flat P g [] each = tt
-all_flat P g (x ∷ xs) each = both P (g x) (flat_map g xs) (each x (inl refl)) (all_flat P g xs (λ a later. each a (inr later)))
-  where
-    both : {B : Type 0} (P : B → Type 0) (ys zs : List B) → AllByRecursion P ys → AllByRecursion P zs → AllByRecursion P (ys ++ zs)
-    both P [] zs first rest = rest
-    both P (y ∷ ys) zs first rest = (first.0, both P ys zs first.1 rest)
-
-in_range : (a n k : ℕ) → IsIn k (range_with_len a n) → k < a + n
-in_range a zero k there = absurd there
-in_range a (suc n) k (inl same) = omega (arith, same)
-in_range a (suc n) k (inr later) = let lt = in_range (a + 1) n k later in omega (arith, lt)
-
-in_take : {A : Type 0} (n : ℕ) (xs : List A) (a : A) → IsIn a (take n xs) → IsIn a xs
-in_take zero xs a there = absurd there
-in_take (suc n) [] a there = absurd there
-in_take (suc n) (x ∷ xs) a (inl same) = inl same
-in_take (suc n) (x ∷ xs) a (inr later) = inr (in_take n xs a later)
-
-all_map : {A B : Type 0} (P : B → Type 0) (g : A → B) (xs : List A) → ((a : A) → IsIn a xs → P (g a)) → AllByRecursion P (map g xs)
-all_map P g [] each = tt
-all_map P g (x ∷ xs) each = (each x (inl refl), all_map P g xs (λ a later. each a (inr later)))
+use Rattle.cb_schedules.proofs.Lists.{all_at, all_flat, all_map, in_range, in_take}
 
 -- ---- own frames
 

@@ -1,0 +1,77 @@
+-- Elements of lists, and what is so of all of them.
+use Rattle.std.proofs.Common.{◌≡◌, ℕ, zero, suc, ◌+◌, ◌<◌, ◌≤◌, List, [], ◌∷◌, ◌++◌, map, take, Some, refl, sym, ap, subst, arith, inl, inr}
+use Rattle.std.specs.Prelude.{slice_get}
+use Rattle.std.specs.List.{AllByRecursion, flat_map, range_with_len}
+use Rattle.std.proofs.lemmas.Bool.{cases_eq}
+use Rattle.cb_history.proofs.Views.{IsIn}
+
+-- ---- all
+
+pub all_at : {A : Type 0} (P : A → Type 0) (xs : List A) (a : A) → AllByRecursion P xs → IsIn a xs → P a
+all_at P [] a all there = absurd there
+all_at P (x ∷ xs) a all (inl same) = subst P (sym same) all.0
+all_at P (x ∷ xs) a all (inr later) = all_at P xs a all.1 later
+
+pub all_from : {A : Type 0} (P : A → Type 0) (xs : List A) → ((a : A) → IsIn a xs → P a) → AllByRecursion P xs
+all_from P [] each = tt
+all_from P (x ∷ xs) each = (each x (inl refl), all_from P xs (λ a later. each a (inr later)))
+
+pub all_weaken : {A : Type 0} (P Q : A → Type 0) (xs : List A) → ((a : A) → P a → Q a) → AllByRecursion P xs → AllByRecursion Q xs
+all_weaken P Q [] weaker all = tt
+all_weaken P Q (x ∷ xs) weaker all = (weaker x all.0, all_weaken P Q xs weaker all.1)
+
+pub all_one_more : {A : Type 0} (P : A → Type 0) (xs : List A) (x : A) → AllByRecursion P xs → P x → AllByRecursion P (xs ++ x ∷ [])
+all_one_more P [] x all one = (one, tt)
+all_one_more P (y ∷ xs) x all one = (all.0, all_one_more P xs x all.1 one)
+
+pub all_both : {A : Type 0} (P : A → Type 0) (xs ys : List A) → AllByRecursion P xs → AllByRecursion P ys → AllByRecursion P (xs ++ ys)
+all_both P [] ys first rest = rest
+all_both P (x ∷ xs) ys first rest = (first.0, all_both P xs ys first.1 rest)
+
+pub all_map : {A B : Type 0} (P : B → Type 0) (g : A → B) (xs : List A) → ((a : A) → IsIn a xs → P (g a)) → AllByRecursion P (map g xs)
+all_map P g [] each = tt
+all_map P g (x ∷ xs) each = (each x (inl refl), all_map P g xs (λ a later. each a (inr later)))
+
+pub all_flat : {A B : Type 0} (P : B → Type 0) (g : A → List B) (xs : List A) → ((a : A) → IsIn a xs → AllByRecursion P (g a)) → AllByRecursion P (flat_map g xs)
+all_flat P g [] each = tt
+all_flat P g (x ∷ xs) each = all_both P (g x) (flat_map g xs) (each x (inl refl)) (all_flat P g xs (λ a later. each a (inr later)))
+
+pub all_at_index : {A : Type 0} (P : A → Type 0) (xs : List A) (n : ℕ) (x : A) → AllByRecursion P xs → slice_get xs n ≡ Some x → P x
+all_at_index P [] n x all e = absurd cc
+all_at_index {A} P (y ∷ xs) zero x all e = let same : y ≡ x = cc in subst P same all.0
+all_at_index P (y ∷ xs) (suc n) x all e = all_at_index P xs n x all.1 e
+
+-- ---- elements
+
+pub index_of : {A : Type 0} (xs : List A) (a : A) → IsIn a xs → (n : ℕ) × (slice_get xs n ≡ Some a)
+index_of [] a there = absurd there
+index_of (x ∷ xs) a (inl same) = (0, ap Some (sym same))
+index_of (x ∷ xs) a (inr later) = let (n, e) = index_of xs a later in (suc n, e)
+
+pub in_range : (a n k : ℕ) → IsIn k (range_with_len a n) → k < a + n
+in_range a zero k there = absurd there
+in_range a (suc n) k (inl same) = omega (arith, same)
+in_range a (suc n) k (inr later) = let lt = in_range (a + 1) n k later in omega (arith, lt)
+
+pub in_take : {A : Type 0} (n : ℕ) (xs : List A) (a : A) → IsIn a (take n xs) → IsIn a xs
+in_take zero xs a there = absurd there
+in_take (suc n) [] a there = absurd there
+in_take (suc n) (x ∷ xs) a (inl same) = inl same
+in_take (suc n) (x ∷ xs) a (inr later) = inr (in_take n xs a later)
+
+pub in_by_index : {A : Type 0} (xs : List A) (n : ℕ) (x : A) → slice_get xs n ≡ Some x → IsIn x xs
+in_by_index [] n x e = absurd cc
+in_by_index (y ∷ xs) zero x e = inl cc
+in_by_index (y ∷ xs) (suc n) x e = inr (in_by_index xs n x e)
+
+pub in_some_range : (a n k : ℕ) → a ≤ k → k < a + n → IsIn k (range_with_len a n)
+in_some_range a zero k low high = absurd (omega (arith, low, high))
+in_some_range a (suc n) k low high = elim (cases_eq k a) [
+  | inl same ↦ inl same
+  | inr other ↦ inr (in_some_range (a + 1) n k (omega (arith, low, other)) (omega (arith, high)))
+]
+
+pub in_map : {A B : Type 0} (g : A → B) (xs : List A) (x : A) → IsIn x xs → IsIn (g x) (map g xs)
+in_map g [] x there = absurd there
+in_map g (y ∷ xs) x (inl same) = inl (ap g same)
+in_map g (y ∷ xs) x (inr later) = inr (in_map g xs x later)
