@@ -6,27 +6,29 @@ use Rattle.cb_frames.specs.declared.fault.FrameFault.{FrameFault}
 use Rattle.cb_frames.specs.Fields.{CastFields, FrameFields, CastFrame, StatusFrame, RequestFrame, Carried}
 use Rattle.cb_frames.specs.Text.{text_of}
 use Rattle.cb_frames.specs.Reading.{frame_at}
+use Rattle.cb_diffs.specs.Expansion.{expanded_field}
 use Rattle.cb_causality.specs.declared.event.CausalEvent.TheVariants as causal
 use Rattle.cb_causality.specs.StampedMachine.{without_time, message_of, IsTimeOf}
 use Rattle.cb_causality.proofs.Counting.{get_map}
 use Rattle.cb_causality.proofs.Stamps.{stamped_is_causal, times_tell_order, name_stays}
 use Rattle.cb_causality.proofs.Extending.{extension_erases}
 use Rattle.cb_causality.proofs.OneMessage.{one_name_one_message}
-use Rattle.cb_history.specs.Facts.{casts_in}
-use Rattle.cb_history.specs.View.{view, is_among}
-use Rattle.cb_history.specs.Answers.{own_casts, answer_to, arrive_answer}
+use Rattle.cb_history.specs.Facts.{casts_in, messages_in}
+use Rattle.cb_history.specs.View.{view, is_among, is_expanded, expanded_in}
+use Rattle.cb_history.specs.Answers.{delivered, own_casts, answer_to, arrive_answer}
 use Rattle.cb_history.specs.Legal.{Call, ToCast, ToTake, ToTick}
 use Rattle.cb_history.specs.OwnFrameLaws.{IsOfTheGroup}
-use Rattle.cb_history.proofs.Views.{IsIn}
+use Rattle.cb_history.proofs.Views.{IsIn, filter_in}
+use Rattle.cb_history.proofs.Names.{one_of_is_in}
 use Rattle.cb_history.proofs.Runs.{own_is_delivered}
 use Rattle.cb_history.proofs.Buffers.{cast_of_is_in, in_is_cast_of, cast_is_there}
 use Rattle.cb_schedules.specs.Schedule.{Setting, IsSetting, seat_at, Step, Schedule, SentFrame, Asked, answer_of, GroupState, after_asked, step_after, nothing_yet, run_from, run}
 use Rattle.cb_schedules.specs.Messages.{facts_at, stamped_lists, WasCast, HasDelivered, time_from_bytes}
 use Rattle.cb_schedules.specs.Honest.{member_of, SaysWhatIsSo, IsHonest}
 use Rattle.cb_schedules.specs.Consistent.{IsConsistent}
-use Rattle.cb_schedules.specs.SentLaws.{WasSent, SentCastsAreOwn, OneNameSameBytes, SentStatusesAreSo, NobodyAsksItself, CastsThereAreOwn, EventsHaveTimesFromBytes, HeardOfIsCast, DeliveredIsCast, AcknowledgedIsDeliveredThere, StableIsDeliveredEverywhere, IsNoRefusal, IsRefusedByFullHistoryAlone, ArrivalsAreWelcome}
+use Rattle.cb_schedules.specs.SentLaws.{WasSent, SentCastsAreOwn, OneNameSameBytes, SentStatusesAreSo, NobodyAsksItself, CastsThereAreOwn, EventsHaveTimesFromBytes, HeardOfIsCast, DeliveredIsCast, TimesTellOwnCasts, AcknowledgedIsDeliveredThere, StableIsDeliveredEverywhere, IsNoRefusal, IsRefusedByFullHistoryAlone, ArrivalsAreWelcome}
 use Rattle.cb_schedules.specs.Headline.{IsCausalBroadcast, DeliversClosedArrivals, TimesTellHappenedBefore, Headline, EachSchedule, StepsExtendTheStamped, StepsExtendTheCausal}
-use Rattle.cb_schedules.proofs.Members.{is_own, own_is_there, delivered_at_most, inside, stands_at, one_cast}
+use Rattle.cb_schedules.proofs.Members.{cast_of_message, told_at_most, is_own, own_is_there, delivered_at_most, inside, stands_at, one_cast}
 use Rattle.cb_schedules.proofs.Sending.{honest_text}
 use Rattle.cb_schedules.proofs.Courses.{IsFair, asked_is, step_goes_on, runs_are_consistent, starts}
 use Rattle.cb_schedules.proofs.Moments.{called, has_seen, seen_has, own_cast_of, has_clock, has_there}
@@ -148,6 +150,13 @@ module _ (setting : Setting) (s : GroupState) (inv : IsConsistent setting s) whe
 
   pub delivered_is_cast : DeliveredIsCast setting s
   delivered_is_cast j i lt lt_i = delivered_at_most setting.group (facts_at s) inv.together j i lt lt_i
+
+  pub times_tell_own_casts : TimesTellOwnCasts setting s
+  times_tell_own_casts j m one =
+      let parts = filter_in (is_expanded (casts_in (facts_at s j))) (messages_in (casts_in (facts_at s j))) m (one_of_is_in m (expanded_in (casts_in (facts_at s j))) one) in
+      let (c, there, is) = cast_of_message (casts_in (facts_at s j)) m parts.1 in
+      subst (λ (x : Carried). expanded_field (casts_in (facts_at s j)) x.sender x.number j ≤ delivered (seat_at setting j) (facts_at s j) j) (sym is)
+      (told_at_most setting.group (facts_at s) inv.together j c there (subst (λ (x : Carried). is_expanded (casts_in (facts_at s j)) x ≡ true) is parts.0))
 
 -- ---- along runs
 

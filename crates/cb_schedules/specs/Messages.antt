@@ -1,9 +1,9 @@
 -- What the state of a group says of messages: what was cast, what arrived, what is delivered, and the times in the bytes.
-use Rattle.std.specs.Prelude.{◌≡◌, ℕ, Bool, true, ◌&&◌, ◌==◌, List, [], ◌∷◌, Result, Ok, Err, if◌then◌else◌}
+use Rattle.std.specs.Prelude.{◌≡◌, ℕ, Bool, true, ◌&&◌, ◌==◌, List, [], ◌∷◌, Result, Ok, if◌then◌else◌}
 use Rattle.std.specs.List.{flat_map, list_any}
 use Rattle.cb_times.specs.declared.name.Name.{Name}
 use Rattle.cb_frames.specs.declared.fault.FrameFault.{FrameFault}
-use Rattle.cb_frames.specs.Fields.{CastFields, FrameFields, CastFrame, StatusFrame, RequestFrame, Carried, messages_of}
+use Rattle.cb_frames.specs.Fields.{CastFields, FrameFields, CastFrame, Carried, messages_of}
 use Rattle.cb_frames.specs.Reading.{frame_at}
 use Rattle.cb_diffs.specs.Sent.{sent_time}
 use Rattle.cb_causality.specs.Events.{Has}
@@ -11,8 +11,8 @@ use Rattle.cb_causality.specs.HappenedBefore.{Lists, Place, IsCastAt, HappenedBe
 use Rattle.cb_causality.specs.StampedMachine.{StampedLists, erased}
 use Rattle.cb_history.specs.Facts.{Fact, facts_of}
 use Rattle.cb_history.specs.Events.{events}
-use Rattle.cb_history.specs.Legal.{ToCast, ToTake, ToTick}
-use Rattle.cb_schedules.specs.Schedule.{Setting, seat_at, Asked, Calls, OfNoMember, OfNoFrame, OfNoBytes, Answer, CastAnswer, ArrivalAnswer, TickAnswer, NoSuchMember, NoSuchFrame, NoBytes, GroupState}
+use Rattle.cb_history.specs.Legal.{ToCast, ToTake}
+use Rattle.cb_schedules.specs.Schedule.{Setting, seat_at, Asked, Calls, Answer, CastAnswer, ArrivalAnswer, GroupState}
 
 -- ---- events
 
@@ -41,36 +41,13 @@ HasDelivered setting s j m = Has (causal_lists setting s j) m
 -- the messages that bytes carry
 abbrev pub messages_read : Result FrameFields FrameFault → List Carried
 messages_read (Ok (CastFrame c)) = messages_of c
-messages_read (Ok (StatusFrame s)) = []
-messages_read (Ok (RequestFrame r)) = []
-messages_read (Err fault) = []
+messages_read other = []
 
 -- what came to member j by a call of member i: its own cast, or a cast frame that was accepted or was a repeat
-abbrev pub came_by_cast : ℕ → ℕ → Answer → List Carried
-came_by_cast j i (CastAnswer (Ok c)) = if i == j then messages_of c else []
-came_by_cast j i (CastAnswer (Err refusal)) = []
-came_by_cast j i (ArrivalAnswer r) = []
-came_by_cast j i (TickAnswer r) = []
-came_by_cast j i NoSuchMember = []
-came_by_cast j i NoSuchFrame = []
-came_by_cast j i NoBytes = []
-
-abbrev pub came_by_frame : ℕ → ℕ → List ℕ → Answer → List Carried
-came_by_frame j i bytes (ArrivalAnswer (Ok says)) = if i == j then messages_read (frame_at bytes) else []
-came_by_frame j i bytes (ArrivalAnswer (Err refusal)) = []
-came_by_frame j i bytes (CastAnswer r) = []
-came_by_frame j i bytes (TickAnswer r) = []
-came_by_frame j i bytes NoSuchMember = []
-came_by_frame j i bytes NoSuchFrame = []
-came_by_frame j i bytes NoBytes = []
-
 abbrev pub came_by : ℕ → Asked → Answer → List Carried
-came_by j (Calls i (ToCast payload)) answer = came_by_cast j i answer
-came_by j (Calls i (ToTake bytes)) answer = came_by_frame j i bytes answer
-came_by j (Calls i ToTick) answer = []
-came_by j OfNoMember answer = []
-came_by j OfNoFrame answer = []
-came_by j OfNoBytes answer = []
+came_by j (Calls i (ToCast payload)) (CastAnswer (Ok c)) = if i == j then messages_of c else []
+came_by j (Calls i (ToTake bytes)) (ArrivalAnswer (Ok says)) = if i == j then messages_read (frame_at bytes) else []
+came_by j asked answer = []
 
 -- the messages that have arrived at member j, by the outcomes alone; one that came again stands here again
 abbrev pub arrived_at : GroupState → ℕ → List Carried
@@ -90,9 +67,7 @@ pub record IsClosedArrival (setting : Setting) (s : GroupState) (j : ℕ) (m : N
 -- the cast frame that bytes are
 abbrev pub cast_read : Result FrameFields FrameFault → List CastFields
 cast_read (Ok (CastFrame c)) = c ∷ []
-cast_read (Ok (StatusFrame s)) = []
-cast_read (Ok (RequestFrame r)) = []
-cast_read (Err fault) = []
+cast_read other = []
 
 -- the cast frames among all frames that were sent, read from their bytes; one that was sent again stands here again
 abbrev pub sent_casts : GroupState → List CastFields

@@ -1,5 +1,5 @@
 -- What may happen in a group of members, and what its run leaves behind.
-use Rattle.std.specs.Prelude.{ℕ, ◌≤◌, Bool, nat_lt, ◌==◌, List, [], ◌∷◌, ◌++◌, length, map, Option, Some, None, Result, Ok, Err, slice_get, if◌then◌else◌}
+use Rattle.std.specs.Prelude.{ℕ, ◌≤◌, Bool, nat_lt, ◌==◌, List, [], ◌∷◌, ◌++◌, length, map, Option, Some, None, Result, Ok, slice_get, if◌then◌else◌}
 use Rattle.std.specs.List.{list_all}
 use Rattle.cb_frames.specs.Fields.{CastFields, CastFrame}
 use Rattle.cb_frames.specs.Text.{text_of}
@@ -9,7 +9,7 @@ use Rattle.cb_history.specs.declared.answer.TickRefusal.{TickRefusal}
 use Rattle.cb_history.specs.declared.answer.Outgoing.{Outgoing}
 use Rattle.cb_history.specs.Group.{Parameters, AreParameters, Seat}
 use Rattle.cb_history.specs.Facts.{EntryFields}
-use Rattle.cb_history.specs.Answers.{cast_answer, arrive_answer, tick_answer, ArrivalSays, Accepted, Repeat}
+use Rattle.cb_history.specs.Answers.{cast_answer, arrive_answer, tick_answer, ArrivalSays, Accepted}
 use Rattle.cb_history.specs.Legal.{longest_history, Call, ToCast, ToTake, ToTick, history_after}
 
 -- a group, and how many entries the history of each member may have
@@ -89,15 +89,9 @@ answer_of seat limit entries ToTick = TickAnswer (tick_answer seat limit entries
 -- the frames that an answer puts out: a cast's to all others, those in answer to a request, a status and requests
 abbrev pub put_out : Answer → List Outgoing
 put_out (CastAnswer (Ok c)) = record { to = None; bytes = text_of (CastFrame c) } ∷ []
-put_out (CastAnswer (Err refusal)) = []
 put_out (ArrivalAnswer (Ok (Accepted deliveries changed out))) = out
-put_out (ArrivalAnswer (Ok Repeat)) = []
-put_out (ArrivalAnswer (Err refusal)) = []
 put_out (TickAnswer (Ok t)) = t.1
-put_out (TickAnswer (Err refusal)) = []
-put_out NoSuchMember = []
-put_out NoSuchFrame = []
-put_out NoBytes = []
+put_out other = []
 
 abbrev pub sent_by : ℕ → Outgoing → SentFrame
 sent_by i out = record { from = i; to = out.to; bytes = out.bytes }

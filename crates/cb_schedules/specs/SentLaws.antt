@@ -1,7 +1,7 @@
 -- What is true of the frames that were sent, of the answers, and of what members know of each other, after every schedule.
 use Rattle.std.specs.Prelude.{◌≡◌, ◌≢◌, ℕ, ◌<◌, ◌≤◌, Some, None, Result, Ok, Err, slice_get}
 use Rattle.std.specs.List.{AllByRecursion}
-use Rattle.cb_frames.specs.Fields.{CastFields, StatusFields, RequestFields, CastFrame, StatusFrame, RequestFrame, first_number}
+use Rattle.cb_frames.specs.Fields.{CastFields, StatusFields, RequestFields, CastFrame, StatusFrame, RequestFrame, Carried, first_number}
 use Rattle.cb_frames.specs.Text.{text_of}
 use Rattle.cb_frames.specs.Reading.{frame_at}
 use Rattle.cb_delay.specs.declared.message.Event.{Event}
@@ -9,11 +9,13 @@ use Rattle.cb_causality.specs.StampedMachine.{message_of}
 use Rattle.cb_history.specs.declared.answer.ArriveRefusal.{ArriveRefusal}
 use Rattle.cb_history.specs.declared.answer.ArriveRefusal.TheVariants.{HistoryFull}
 use Rattle.cb_history.specs.Facts.{casts_in}
-use Rattle.cb_history.specs.View.{view, next_delivery}
+use Rattle.cb_history.specs.View.{expanded_in, view, next_delivery}
+use Rattle.cb_history.specs.NameLaws.{IsOneOf}
+use Rattle.cb_diffs.specs.Expansion.{expanded_field}
 use Rattle.cb_history.specs.Answers.{delivered, own_casts, ArrivalSays}
 use Rattle.cb_history.specs.Known.{known, acknowledged, stable}
 use Rattle.cb_history.specs.BufferLaws.{IsCastOf}
-use Rattle.cb_schedules.specs.Schedule.{Setting, seat_at, SentFrame, Answer, CastAnswer, ArrivalAnswer, TickAnswer, NoSuchMember, NoSuchFrame, NoBytes, GroupState}
+use Rattle.cb_schedules.specs.Schedule.{Setting, seat_at, SentFrame, Answer, ArrivalAnswer, GroupState}
 use Rattle.cb_schedules.specs.Messages.{facts_at, stamped_lists, time_from_bytes}
 use Rattle.cb_schedules.specs.Honest.{IsTold}
 
@@ -83,6 +85,12 @@ DeliveredIsCast setting s =
     (j i : ℕ) → j < setting.group.size → i < setting.group.size
     → delivered (seat_at setting j) (facts_at s j) i ≤ delivered (seat_at setting i) (facts_at s i) i
 
+-- no time that a member can tell says more of its own casts than it made
+abbrev pub TimesTellOwnCasts : Setting → GroupState → Type 0
+TimesTellOwnCasts setting s =
+    (j : ℕ) (m : Carried) → IsOneOf m (expanded_in (casts_in (facts_at s j)))
+    → expanded_field (casts_in (facts_at s j)) m.sender m.number j ≤ delivered (seat_at setting j) (facts_at s j) j
+
 -- ---- answers
 
 -- no refusal of an arrival but that the history is full
@@ -92,11 +100,7 @@ IsNoRefusal (Err refusal) = refusal ≡ HistoryFull
 
 abbrev pub IsRefusedByFullHistoryAlone : Answer → Type 0
 IsRefusedByFullHistoryAlone (ArrivalAnswer r) = IsNoRefusal r
-IsRefusedByFullHistoryAlone (CastAnswer r) = Unit {0}
-IsRefusedByFullHistoryAlone (TickAnswer r) = Unit {0}
-IsRefusedByFullHistoryAlone NoSuchMember = Unit {0}
-IsRefusedByFullHistoryAlone NoSuchFrame = Unit {0}
-IsRefusedByFullHistoryAlone NoBytes = Unit {0}
+IsRefusedByFullHistoryAlone other = Unit {0}
 
 -- No arrival is answered Malformed, OtherGroup, BadMember, Impossible or TooFar: the one refusal that there is says that the history is
 -- full.

@@ -1,12 +1,14 @@
 //! What members know of each other, and what they answer, after every schedule.
 
 ghost use Rattle.cb_schedules.specs.Headline.{EachSchedule};
-ghost use Rattle.cb_schedules.specs.SentLaws.{AcknowledgedIsDeliveredThere, ArrivalsAreWelcome, DeliveredIsCast, HeardOfIsCast, StableIsDeliveredEverywhere};
+ghost use Rattle.cb_schedules.specs.SentLaws.{AcknowledgedIsDeliveredThere, ArrivalsAreWelcome, DeliveredIsCast, HeardOfIsCast, StableIsDeliveredEverywhere, TimesTellOwnCasts};
 
-/// Nobody has delivered, or heard of, more of a member's messages than it has cast: so nothing is asked for that is not.
+/// Nobody has delivered, or heard of, more of a member's messages than it has cast: so nothing is asked for that is not. No time that a
+/// member can tell says more of its own casts than it made.
 pub fn what_is_heard_of_is_cast()
     ensures delivered { EachSchedule DeliveredIsCast }
     ensures heard_of { EachSchedule HeardOfIsCast }
+    ensures times { EachSchedule TimesTellOwnCasts }
 {}
 
 /// What a member knows of another's deliveries is so. What a sender knows to be stable, every other member has delivered: nobody misses
