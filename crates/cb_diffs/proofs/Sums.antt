@@ -84,7 +84,7 @@ sum_up_to : (size : ℕ) (casts : List CastFields) (c : CastFields) (number k : 
 sum_up_to size casts c number k le lle =
     omega (arith, sum_by_push (growth_of c.sender number k) casts c, growth_of-own c.sender number k c refl le, total_past casts c.sender number (last_in casts c.sender) k lle (omega arith))
 
-min_of_min : (a b : ℕ) → min greatest (min greatest a + b) ≡ min greatest (a + b)
+pub min_of_min : (a b : ℕ) → min greatest (min greatest a + b) ≡ min greatest (a + b)
 min_of_min a b = omega arith
 
 pub expanding_is_summing : ExpandingIsSumming

@@ -93,7 +93,7 @@ nothing_at_zero (c ∷ casts) sender k positive =
     let here : 1 ≤ c.number = positive (message c) (inl refl) in
     omega (arith, sum_by-cons (growth_of sender 0 k) c casts, growth_of-later sender 0 k c (omega (arith, here)), nothing_at_zero casts sender k (λ m there. positive m (inr there)))
 
-all_at : {A : Type 0} (P : A → Type 0) (xs : List A) (a : A) → AllByRecursion P xs → IsIn a xs → P a
+pub all_at : {A : Type 0} (P : A → Type 0) (xs : List A) (a : A) → AllByRecursion P xs → IsIn a xs → P a
 all_at P [] a all there = absurd there
 all_at P (x ∷ xs) a all (inl same) = subst P (sym same) all.0
 all_at P (x ∷ xs) a all (inr later) = all_at P xs a all.1 later

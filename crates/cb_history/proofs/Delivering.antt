@@ -260,7 +260,7 @@ raising_counts_the_delivery size casts seen m raised member rule is =
 
 -- ---- a drain, step by step
 
-ends_at : (size : ℕ) (casts : List CastFields) (budget : ℕ) (seen : List Carried) → next_delivery size casts seen ≡ None → drained size casts budget seen ≡ seen
+pub ends_at : (size : ℕ) (casts : List CastFields) (budget : ℕ) (seen : List Carried) → next_delivery size casts seen ≡ None → drained size casts budget seen ≡ seen
 unfolding drained
 ends_at size casts zero seen h = refl
 ends_at size casts (suc budget) seen h = ap (λ (o : Option Carried). with_next o seen (λ m. drained size casts budget (seen ++ m ∷ []))) h

@@ -12,7 +12,7 @@ use Rattle.cb_frames.specs.Fields.{CastFields, Carried, growth_in, last_number}
 use Rattle.cb_diffs.specs.Expansion.{greatest, growth_of, expanded_field, expanded_time, AreMembers, Expands}
 use Rattle.cb_diffs.specs.Expansion as expander
 use Rattle.cb_diffs.proofs.Growing.{kept_is_given}
-use Rattle.cb_diffs.proofs.Sums.{growth_of-later, growth_of-own}
+use Rattle.cb_diffs.proofs.Sums.{growth_of-later, growth_of-own, min_of_min}
 use Rattle.cb_history.specs.Group.{Seat}
 use Rattle.cb_history.specs.Facts.{Fact, casts_in, messages_in, is_there}
 use Rattle.cb_history.specs.NameLaws.{NamesDiffer, NumberedFrom}
@@ -31,7 +31,7 @@ use Rattle.cb_history.proofs.Arrivals.{casts_are_of_the_group}
 -- ---- one cast more in the sums
 
 -- of two casts that are there and have one name both are the same
-one_of_a_name : (casts : List CastFields) (c d : CastFields) → NamesDiffer (messages_in casts) → IsIn c casts → IsIn d casts → c.sender ≡ d.sender → c.number ≡ d.number → c ≡ d
+pub one_of_a_name : (casts : List CastFields) (c d : CastFields) → NamesDiffer (messages_in casts) → IsIn c casts → IsIn d casts → c.sender ≡ d.sender → c.number ≡ d.number → c ≡ d
 one_of_a_name [] c d differ there there' sender number = absurd there
 one_of_a_name (x ∷ casts) c d differ (inl here) (inl here') sender number = here ∙ sym here'
 one_of_a_name (x ∷ casts) c d differ (inl here) (inr later) sender number =
@@ -95,9 +95,6 @@ cast_behind_is_next seat facts c n kept are there behind keeps =
       members = subst (λ (size : ℕ). AreMembers size c) (sym keeps.senders) members;
       next = behind ∙ ap (λ (m : ℕ). m + 1) (sym (ap (λ (t : List ℕ). field t c.sender) keeps.time ∙ own_is_number seat.group.size (casts_in facts) c.sender n members.sender));
     }
-
-min_of_min : (a b : ℕ) → min greatest (min greatest a + b) ≡ min greatest (a + b)
-min_of_min a b = omega arith
 
 -- the time that is told, field by field
 told_field : (size : ℕ) (casts : List CastFields) (c : CastFields) (n k : ℕ) → NamesDiffer (messages_in casts) → IsIn c casts → c.number ≡ n + 1 → k < size → k ≢ c.sender

@@ -57,7 +57,7 @@ at_most_least g (j ∷ i ∷ ks) n k there each =
 abbrev others_of : Seat → List ℕ
 others_of seat = filter (λ k. not (eqb k seat.me)) (range_with_len 0 seat.group.size)
 
-in_range : (a n k : ℕ) → a ≤ k → k < a + n → IsIn k (range_with_len a n)
+pub in_range : (a n k : ℕ) → a ≤ k → k < a + n → IsIn k (range_with_len a n)
 in_range a zero k low high = absurd (omega (arith, low, high))
 in_range a (suc n) k low high =
     elim (cases_eq k a) [
@@ -65,7 +65,7 @@ in_range a (suc n) k low high =
       | inr ne ↦ inr (in_range (a + 1) n k (omega (arith, low, ne)) (omega (arith, high)))
     ]
 
-range_in : (a n k : ℕ) → IsIn k (range_with_len a n) → k < a + n
+pub range_in : (a n k : ℕ) → IsIn k (range_with_len a n) → k < a + n
 range_in a zero k there = absurd there
 range_in a (suc n) k (inl same) = omega (arith, same)
 range_in a (suc n) k (inr later) = let rest = range_in (a + 1) n k later in omega (arith, rest)

@@ -1,5 +1,5 @@
 -- Steps of the plain program's loops, over plain variables.
-use Rattle.std.proofs.Common.{◌≡◌, ℕ, zero, suc, ◌+◌, ◌-◌, ◌<◌, ◌≤◌, Bool, true, false, not, ◌&&◌, List, [], ◌∷◌, ◌++◌, Option, Some, None, refl, arith}
+use Rattle.std.proofs.Common.{◌≡◌, ℕ, suc, ◌+◌, ◌-◌, ◌<◌, ◌≤◌, Bool, true, false, not, ◌&&◌, List, [], ◌∷◌, ◌++◌, Option, Some, None, refl, arith}
 use Rattle.std.specs.List.{list_all, list_any, range_with_len}
 use Rattle.cb_frames.specs.Fields.{CastFields, Carried}
 use Rattle.cb_history.specs.View.{lesser_sender, next_delivery, drained}
@@ -41,11 +41,6 @@ joined None o = o
 joined (Some b) o = Some (lesser_sender b o)
 
 -- ---- a drain
-
-pub drained_stops : (size : ℕ) (casts : List CastFields) (budget : ℕ) (seen : List Carried) → next_delivery size casts seen ≡ None → drained size casts budget seen ≡ seen
-unfolding drained
-drained_stops size casts zero seen e = refl
-drained_stops size casts (suc budget) seen e = rw e refl
 
 pub drained_more : (size : ℕ) (casts : List CastFields) (budget i : ℕ) (seen : List Carried) (m : Carried) → next_delivery size casts seen ≡ Some m → i < budget
     → drained size casts (budget - i) seen ≡ drained size casts (budget - (i + 1)) (seen ++ m ∷ [])

@@ -13,16 +13,16 @@ use Rattle.cb_history.specs.View.{view}
 use Rattle.cb_history.specs.Answers.{delivered, own_casts}
 use Rattle.cb_history.proofs.Views.{IsIn}
 use Rattle.cb_history.proofs.Times.{seen_is_there, same_over_range}
-use Rattle.cb_history.proofs.Agreement.{one_adds, nothing_at_zero}
+use Rattle.cb_history.proofs.Agreement.{one_adds, nothing_at_zero, all_at}
 use Rattle.cb_history.proofs.Buffers.{cast_of_is_in, in_is_cast_of}
 use Rattle.cb_schedules.specs.Schedule.{Setting, seat_at, SentFrame, GroupState}
 use Rattle.cb_schedules.specs.Messages.{facts_at, sent_casts, time_from_bytes}
 use Rattle.cb_schedules.specs.Honest.{SaysWhatIsSo, IsHonest}
 use Rattle.cb_schedules.specs.Consistent.{IsConsistent}
-use Rattle.cb_schedules.proofs.Members.{one_cast, own_is_there, stands_at, is_own}
+use Rattle.cb_schedules.proofs.Members.{own_is_there, stands_at, is_own}
 use Rattle.cb_schedules.proofs.Moments.{clock}
 use Rattle.cb_schedules.proofs.Sending.{sent_frame}
-use Rattle.cb_schedules.proofs.Lists.{all_at}
+use Rattle.cb_history.proofs.Expanders.{one_of_a_name}
 
 -- ---- lists
 
@@ -71,7 +71,7 @@ module _ (setting : Setting) (s : GroupState) (inv : IsConsistent setting s) whe
         found (sent_casts s) c i c.number sender refl
         (λ d d_there d_sender d_number.
         let d_own : IsIn d casts = own_is_there (facts_at s i) d (subst (λ (k : ℕ). IsIn d (own_casts (facts_at s k))) d_sender (sent_is_own d d_there)) in
-        one_cast casts d c (stands_at setting.group (facts_at s) inv.together i lt).names d_own there (d_sender ∙ sym sender) d_number)
+        one_of_a_name casts d c (stands_at setting.group (facts_at s) inv.together i lt).names d_own there (d_sender ∙ sym sender) d_number)
         (cast_of_is_in c (sent_casts s) (inv.sent i c (in_is_cast_of c (own_casts (facts_at s i)) own)))
 
     -- so the sums over the numbers are the sums over its casts

@@ -28,7 +28,7 @@ use Rattle.cb_schedules.specs.Honest.{member_of, SaysWhatIsSo, IsHonest}
 use Rattle.cb_schedules.specs.Consistent.{IsConsistent}
 use Rattle.cb_schedules.specs.SentLaws.{WasSent, SentCastsAreOwn, OneNameSameBytes, SentStatusesAreSo, NobodyAsksItself, CastsThereAreOwn, EventsHaveTimesFromBytes, HeardOfIsCast, DeliveredIsCast, TimesTellOwnCasts, AcknowledgedIsDeliveredThere, StableIsDeliveredEverywhere, IsNoRefusal, IsRefusedByFullHistoryAlone, ArrivalsAreWelcome}
 use Rattle.cb_schedules.specs.Headline.{IsCausalBroadcast, DeliversClosedArrivals, TimesTellHappenedBefore, Headline, EachSchedule, StepsExtendTheStamped, StepsExtendTheCausal}
-use Rattle.cb_schedules.proofs.Members.{cast_of_message, told_at_most, is_own, own_is_there, delivered_at_most, inside, stands_at, one_cast}
+use Rattle.cb_schedules.proofs.Members.{cast_of_message, told_at_most, is_own, own_is_there, delivered_at_most, inside, stands_at}
 use Rattle.cb_schedules.proofs.Sending.{honest_text}
 use Rattle.cb_schedules.proofs.Courses.{IsFair, asked_is, step_goes_on, runs_are_consistent, starts}
 use Rattle.cb_schedules.proofs.Moments.{called, has_seen, seen_has, own_cast_of, has_clock, has_there}
@@ -36,6 +36,7 @@ use Rattle.cb_schedules.proofs.Closing.{seen_number, seen_is_closed, closed_is_s
 use Rattle.cb_schedules.proofs.FromBytes.{time_is_clock}
 use Rattle.cb_schedules.proofs.Knowing.{acknowledged_is_so, heard_is_so, stable_is_so, is_welcome}
 use Rattle.cb_schedules.proofs.Lists.{all_both, all_at_index}
+use Rattle.cb_history.proofs.Expanders.{one_of_a_name}
 
 none_seen : (size : ℕ) (m : Carried) → is_among (view size []) m ≡ true → ⊥
 unfolding view
@@ -124,7 +125,7 @@ module _ (setting : Setting) (s : GroupState) (inv : IsConsistent setting s) whe
       let here = own_is_there (facts_at s c.sender) c own in
       let other_own : IsIn d (own_casts (facts_at s c.sender)) = subst (λ (i : ℕ). IsIn d (own_casts (facts_at s i))) (sym sender) (cast_of_is_in d (own_casts (facts_at s d.sender)) b.0) in
       let lt = inside setting.group (facts_at s) inv.together c.sender c here in
-      let same : c ≡ d = one_cast (casts_in (facts_at s c.sender)) c d (stands_at setting.group (facts_at s) inv.together c.sender lt).names here (own_is_there (facts_at s c.sender) d other_own) sender number in
+      let same : c ≡ d = one_of_a_name (casts_in (facts_at s c.sender)) c d (stands_at setting.group (facts_at s) inv.together c.sender lt).names here (own_is_there (facts_at s c.sender) d other_own) sender number in
       a.2 ∙ ap (λ (x : CastFields). text_of (CastFrame x)) same ∙ sym b.2
 
   pub sent_statuses_are_so : SentStatusesAreSo setting s

@@ -22,7 +22,8 @@ use Rattle.cb_history.proofs.Buffers.{cast_of_is_in, cast_is_there}
 use Rattle.cb_schedules.specs.Honest.{member_of, SaysWhatIsSo, IsSo, AreTogether}
 use Rattle.cb_schedules.specs.SentLaws.{IsNoRefusal}
 use Rattle.cb_schedules.proofs.Members.{stands_at, inside, is_own, own_is_there, own_in_view, cast_of_message, time_is_senders, delivered_at_most}
-use Rattle.cb_schedules.proofs.Lists.{in_some_range, in_map}
+use Rattle.cb_schedules.proofs.Lists.{in_map}
+use Rattle.cb_history.proofs.Keeping.{in_range}
 
 -- ---- lists
 
@@ -93,7 +94,7 @@ module _ (group : Parameters) (facts : ℕ → List Fact) (h : AreTogether group
   stable_is_so i j lt lt_j ne =
       let other : not (eqb j i) ≡ true = rw (ne_eqb j i ne) refl in
       let one = in_map (acknowledged (member_of group i) (facts i)) (filter (λ k. not (eqb k i)) (range_with_len 0 group.size)) j
-      (in_filter (λ k. not (eqb k i)) (range_with_len 0 group.size) j other (in_some_range 0 group.size j (omega arith) (omega (arith, lt_j)))) in
+      (in_filter (λ k. not (eqb k i)) (range_with_len 0 group.size) j other (in_range 0 group.size j (omega arith) (omega (arith, lt_j)))) in
       let least = least_below (map (acknowledged (member_of group i) (facts i)) (filter (λ k. not (eqb k i)) (range_with_len 0 group.size))) (acknowledged (member_of group i) (facts i) j) one in
       omega (arith, least, acknowledged_is_so i j lt)
 

@@ -1,16 +1,10 @@
 -- Elements of lists, and what is so of all of them.
-use Rattle.std.proofs.Common.{◌≡◌, ℕ, zero, suc, ◌+◌, ◌<◌, ◌≤◌, List, [], ◌∷◌, ◌++◌, map, take, Some, refl, sym, ap, subst, arith, inl, inr}
+use Rattle.std.proofs.Common.{◌≡◌, ℕ, zero, suc, List, [], ◌∷◌, ◌++◌, map, take, Some, refl, sym, ap, subst, inl, inr}
 use Rattle.std.specs.Prelude.{slice_get}
-use Rattle.std.specs.List.{AllByRecursion, flat_map, range_with_len}
-use Rattle.std.proofs.lemmas.Bool.{cases_eq}
+use Rattle.std.specs.List.{AllByRecursion, flat_map}
 use Rattle.cb_history.proofs.Views.{IsIn}
 
 -- ---- all
-
-pub all_at : {A : Type 0} (P : A → Type 0) (xs : List A) (a : A) → AllByRecursion P xs → IsIn a xs → P a
-all_at P [] a all there = absurd there
-all_at P (x ∷ xs) a all (inl same) = subst P (sym same) all.0
-all_at P (x ∷ xs) a all (inr later) = all_at P xs a all.1 later
 
 pub all_from : {A : Type 0} (P : A → Type 0) (xs : List A) → ((a : A) → IsIn a xs → P a) → AllByRecursion P xs
 all_from P [] each = tt
@@ -48,11 +42,6 @@ index_of [] a there = absurd there
 index_of (x ∷ xs) a (inl same) = (0, ap Some (sym same))
 index_of (x ∷ xs) a (inr later) = let (n, e) = index_of xs a later in (suc n, e)
 
-pub in_range : (a n k : ℕ) → IsIn k (range_with_len a n) → k < a + n
-in_range a zero k there = absurd there
-in_range a (suc n) k (inl same) = omega (arith, same)
-in_range a (suc n) k (inr later) = let lt = in_range (a + 1) n k later in omega (arith, lt)
-
 pub in_take : {A : Type 0} (n : ℕ) (xs : List A) (a : A) → IsIn a (take n xs) → IsIn a xs
 in_take zero xs a there = absurd there
 in_take (suc n) [] a there = absurd there
@@ -63,13 +52,6 @@ pub in_by_index : {A : Type 0} (xs : List A) (n : ℕ) (x : A) → slice_get xs 
 in_by_index [] n x e = absurd cc
 in_by_index (y ∷ xs) zero x e = inl cc
 in_by_index (y ∷ xs) (suc n) x e = inr (in_by_index xs n x e)
-
-pub in_some_range : (a n k : ℕ) → a ≤ k → k < a + n → IsIn k (range_with_len a n)
-in_some_range a zero k low high = absurd (omega (arith, low, high))
-in_some_range a (suc n) k low high = elim (cases_eq k a) [
-  | inl same ↦ inl same
-  | inr other ↦ inr (in_some_range (a + 1) n k (omega (arith, low, other)) (omega (arith, high)))
-]
 
 pub in_map : {A B : Type 0} (g : A → B) (xs : List A) (x : A) → IsIn x xs → IsIn (g x) (map g xs)
 in_map g [] x there = absurd there

@@ -8,12 +8,12 @@ use Rattle.cb_delay.specs.declared.message.Event.TheVariants.{Cast}
 use Rattle.cb_diffs.specs.Expansion.{expanded_field}
 use Rattle.cb_causality.proofs.Counting.{get_map}
 use Rattle.cb_history.specs.Group.{Parameters}
-use Rattle.cb_history.specs.Facts.{Fact, OwnCast, CastCame, StatusCame, OwnStatus, casts_in, messages_in, is_there}
+use Rattle.cb_history.specs.Facts.{Fact, OwnCast, CastCame, StatusCame, OwnStatus, casts_in, messages_in}
 use Rattle.cb_history.specs.View.{view, is_expanded, message_in}
 use Rattle.cb_history.specs.Answers.{delivered, own_casts}
 use Rattle.cb_history.specs.Events.{event_in}
 use Rattle.cb_history.specs.LegalFacts.{AreFactsOf}
-use Rattle.cb_history.specs.NameLaws.{NamesDiffer, NumberedFrom}
+use Rattle.cb_history.specs.NameLaws.{NumberedFrom}
 use Rattle.cb_history.specs.TimeLaws.{SameFrames}
 use Rattle.cb_history.proofs.Views.{IsIn}
 use Rattle.cb_history.proofs.Lists.{among_is, in_is_among}
@@ -25,6 +25,7 @@ use Rattle.cb_history.proofs.Buffers.{cast_of_is_in, cast_is_there}
 use Rattle.cb_history.proofs.Runs.{own_is_delivered}
 use Rattle.cb_schedules.specs.Honest.{member_of, IsSo, events_of, AreTogether}
 use Rattle.cb_schedules.proofs.Lists.{all_from, index_of}
+use Rattle.cb_history.proofs.Expanders.{one_of_a_name}
 
 -- ---- casts and messages
 
@@ -39,19 +40,6 @@ cast_of_message (d ∷ casts) m (inl same) = (d, inl refl, same)
 cast_of_message (d ∷ casts) m (inr later) = let (c, there, is) = cast_of_message casts m later in (c, inr there, is)
 
 -- casts of one name are one cast
-pub one_cast : (casts : List CastFields) (c d : CastFields) → NamesDiffer (messages_in casts) → IsIn c casts → IsIn d casts → c.sender ≡ d.sender → c.number ≡ d.number → c ≡ d
-one_cast [] c d differ there there' s n = absurd there
-one_cast (x ∷ casts) c d differ (inl same) (inl same') s n = same ∙ sym same'
-one_cast (x ∷ casts) c d differ (inl same) (inr later) s n =
-    let yes : is_there casts x.sender x.number ≡ true = cast_is_there casts d x.sender x.number later (sym s ∙ ap (λ (y : CastFields). y.sender) same) (sym n ∙ ap (λ (y : CastFields). y.number) same) in
-    let none = differ.0 in
-    absurd cc
-one_cast (x ∷ casts) c d differ (inr later) (inl same) s n =
-    let yes : is_there casts x.sender x.number ≡ true = cast_is_there casts c x.sender x.number later (s ∙ ap (λ (y : CastFields). y.sender) same) (n ∙ ap (λ (y : CastFields). y.number) same) in
-    let none = differ.0 in
-    absurd cc
-one_cast (x ∷ casts) c d differ (inr later) (inr later') s n = one_cast casts c d differ.1 later later' s n
-
 -- own casts are casts that are there
 pub own_is_there : (facts : List Fact) (c : CastFields) → IsIn c (own_casts facts) → IsIn c (casts_in facts)
 own_is_there [] c there = absurd there
@@ -118,7 +106,7 @@ module _ (group : Parameters) (facts : ℕ → List Fact) (h : AreTogether group
       all_from (λ (c : CastFields). AllByRecursion (λ (d : CastFields). c.sender ≡ i → d.sender ≡ i → c.number ≡ d.number → c.changes ≡ d.changes) (casts_in (facts i))) casts (λ c there.
       all_from (λ (d : CastFields). c.sender ≡ i → d.sender ≡ i → c.number ≡ d.number → c.changes ≡ d.changes) (casts_in (facts i)) (λ d there' e f at.
       let own : IsIn c (casts_in (facts i)) = own_is_there (facts i) c (subst (λ (k : ℕ). IsIn c (own_casts (facts k))) e (are_own c there)) in
-      ap (λ (x : CastFields). x.changes) (one_cast (casts_in (facts i)) c d (stands_at i lt).names own there' (e ∙ sym f) at)))
+      ap (λ (x : CastFields). x.changes) (one_of_a_name (casts_in (facts i)) c d (stands_at i lt).names own there' (e ∙ sym f) at)))
 
   -- and where it can tell the time of a message, it tells its sender's
   pub time_is_senders : (j : ℕ) (now : List Fact) (c : CastFields) (k : ℕ) → AreFactsOf (member_of group j) now → ((d : CastFields) → IsIn d (casts_in now) → IsIn d (own_casts (facts d.sender)))

@@ -29,7 +29,9 @@ use Rattle.cb_history.proofs.Replays.{one_more_byte, numbers_are_bytes, cast_is_
 use Rattle.cb_schedules.specs.Schedule.{SentFrame}
 use Rattle.cb_schedules.specs.Messages.{cast_read}
 use Rattle.cb_schedules.specs.Honest.{member_of, IsHonest}
-use Rattle.cb_schedules.proofs.Lists.{all_at, all_flat, all_map, in_range, in_take}
+use Rattle.cb_schedules.proofs.Lists.{all_flat, all_map, in_take}
+use Rattle.cb_history.proofs.Agreement.{all_at}
+use Rattle.cb_history.proofs.Keeping.{range_in}
 
 -- ---- own frames
 
@@ -94,7 +96,7 @@ module _ (group : Parameters) (facts : ℕ → List Fact) (i : ℕ) (are : AreFa
   requests_are_honest =
       all_flat GoesOut (λ k. request_to (member_of group i) k (ranges_of (missing (member_of group i) (facts i) k))) (filter (λ k. not (eqb k i)) (range_with_len 0 group.size)) (λ k there.
       let parts = filter_in (λ k. not (eqb k i)) (range_with_len 0 group.size) k there in
-      let lt = in_range 0 group.size k parts.1 in
+      let lt = range_in 0 group.size k parts.1 in
       request_goes_out k (ranges_of (missing (member_of group i) (facts i) k)) (omega (arith, lt)) (eqb-false k i (not_true (eqb k i) parts.0)) refl)
 
   -- own casts that are sent again, where each own cast is honest

@@ -6,8 +6,9 @@ use Rattle.cb_plain.specs.Facts.{cast_of}
 use Rattle.cb_plain.specs.declared.view.Message.{Message}
 use Rattle.cb_plain.specs.Messages.{carried_of}
 use Rattle.cb_history.proofs.Lists.{length_messages}
-use Rattle.cb_plain.proofs.Walks.{drained_more, drained_stops, drained_end}
+use Rattle.cb_plain.proofs.Walks.{drained_more, drained_end}
 use Rattle.cb_plain.proofs.view.drain.Goals as goal
+use Rattle.cb_history.proofs.Delivering.{ends_at}
 
 pub loop-delivered-init : goal.loop-delivered-init
 loop-delivered-init c =
@@ -20,7 +21,7 @@ returns-in_default c =
     let casts = map cast_of c.args.casts.now in
     let seen = map carried_of c.loop-delivered.seen.items in
     let e : next_delivery c.args.size casts seen ≡ None = rw (← c.deref.ensures.value) (search rules) in
-    sym (drained_stops c.args.size casts (length c.args.casts.now - c.loop-delivered._delivered) seen e) ∙ c.loop-delivered.invariant
+    sym (ends_at c.args.size casts (length c.args.casts.now - c.loop-delivered._delivered) seen e) ∙ c.loop-delivered.invariant
 
 pub loop-delivered-preserved : goal.loop-delivered-preserved
 loop-delivered-preserved c =
