@@ -1,5 +1,5 @@
 -- Worked schedules of three members.
-use Rattle.std.proofs.Common.{◌≡◌, ℕ, true, false, List, [], ◌∷◌, map, drop, Some, None, Err, refl, arith}
+use Rattle.std.proofs.Common.{◌≡◌, ℕ, true, false, List, [], ◌∷◌, length, map, drop, Some, None, Err, refl, arith}
 use Rattle.cb_varint.specs.Reading.{number_at, spelling}
 use Rattle.cb_times.specs.declared.name.Name.{Name}
 use Rattle.cb_frames.specs.Text.{text_of}
@@ -72,6 +72,25 @@ the_question_is_before = refl
 its_answer : time_from_bytes three (run three in_the_end) (name 1 1) ≡ 1 ∷ 1 ∷ 0 ∷ []
 unfolding step_after run_from cast_answer arrive_answer tick_answer view drained frame_at cast_at status_at request_at pairs_at pair_at number_at text_of spelling
 its_answer = refl
+
+the_frames_that_were_sent : map (λ f. f.bytes) (run three in_the_end).sent
+    ≡ (17 ∷ 7 ∷ 0 ∷ 1 ∷ 0 ∷ 2 ∷ 104 ∷ 105 ∷ []) ∷ (17 ∷ 7 ∷ 1 ∷ 1 ∷ 1 ∷ 0 ∷ 1 ∷ 2 ∷ 121 ∷ 111 ∷ []) ∷ []
+unfolding step_after run_from cast_answer arrive_answer tick_answer view drained frame_at cast_at status_at request_at pairs_at pair_at number_at text_of spelling
+the_frames_that_were_sent = refl
+
+-- the number of the first frame that each step put out, and how many these were
+and_by_which_steps : map (λ o. o.first ∷ o.count ∷ []) (run three in_the_end).outcomes
+    ≡ (0 ∷ 1 ∷ []) ∷ (1 ∷ 0 ∷ []) ∷ (1 ∷ 1 ∷ []) ∷ (2 ∷ 0 ∷ []) ∷ (2 ∷ 0 ∷ []) ∷ []
+unfolding step_after run_from cast_answer arrive_answer tick_answer view drained frame_at cast_at status_at request_at pairs_at pair_at number_at text_of spelling
+and_by_which_steps = refl
+
+how_long_the_histories_are : map (λ k. length ((run three in_the_end).histories k)) (0 ∷ 1 ∷ 2 ∷ []) ≡ 1 ∷ 2 ∷ 2 ∷ []
+unfolding step_after run_from cast_answer arrive_answer tick_answer view drained frame_at cast_at status_at request_at pairs_at pair_at number_at text_of spelling
+how_long_the_histories_are = refl
+
+nothing_is_stable_yet : map (λ k. stable (seat_at three k) (facts_at (run three in_the_end) k)) (0 ∷ 1 ∷ 2 ∷ []) ≡ 0 ∷ 0 ∷ 0 ∷ []
+unfolding step_after run_from cast_answer arrive_answer tick_answer view drained frame_at cast_at status_at request_at pairs_at pair_at number_at text_of spelling
+nothing_is_stable_yet = refl
 
 -- ---- a loss, a request that is answered, and a repeat
 
