@@ -1,5 +1,6 @@
 -- Worked schedules of three members.
-use Rattle.std.proofs.Common.{◌≡◌, ℕ, true, false, List, [], ◌∷◌, length, map, drop, Some, None, Err, refl, arith}
+use Rattle.std.proofs.Common.{◌≡◌, ℕ, true, false, List, [], ◌∷◌, length, map, drop, option_map, Some, None, Err, refl, arith}
+use Rattle.std.specs.Prelude.{slice_get}
 use Rattle.cb_varint.specs.Reading.{number_at, spelling}
 use Rattle.cb_times.specs.declared.name.Name.{Name}
 use Rattle.cb_frames.specs.Text.{text_of}
@@ -9,9 +10,10 @@ use Rattle.cb_delay.specs.declared.message.Event.TheVariants.{Deliver}
 use Rattle.cb_causality.specs.declared.event.CausalEvent.TheVariants as causal
 use Rattle.cb_history.specs.declared.answer.ArriveRefusal.TheVariants as arrivals
 use Rattle.cb_history.specs.View.{view, drained}
-use Rattle.cb_history.specs.Known.{stable}
+use Rattle.cb_history.specs.Known.{known, stable}
 use Rattle.cb_history.specs.Answers.{delivered, cast_answer, arrive_answer, tick_answer}
-use Rattle.cb_schedules.specs.Schedule.{Setting, IsSetting, seat_at, CastStep, ArriveStep, TickStep, Schedule, Answer, ArrivalAnswer, NoSuchMember, NoSuchFrame, NoBytes, GroupState, step_after, run_from, run}
+use Rattle.cb_schedules.specs.Schedule.{Setting, IsSetting, seat_at, CastStep, ArriveStep, TickStep, Schedule, Answer, ArrivalAnswer, NoSuchMember, NoSuchFrame, NoBytes, GroupState, asked_by, step_after, run_from, run}
+use Rattle.cb_schedules.specs.RunLaws.{AsksForNothing}
 use Rattle.cb_schedules.specs.Messages.{facts_at, stamped_lists, causal_lists, arrived_at, has_arrived, IsClosedArrival, time_from_bytes}
 use Rattle.cb_schedules.specs.Headline.{Headline}
 use Rattle.cb_schedules.proofs.Headlines.{each_schedule, headline_holds}
@@ -123,10 +125,27 @@ the_time_of_the_second : time_from_bytes three (run three losing) (name 0 2) ≡
 unfolding step_after run_from cast_answer arrive_answer tick_answer view drained frame_at cast_at status_at request_at pairs_at pair_at number_at text_of spelling
 the_time_of_the_second = refl
 
+-- the frame that was sent again has the bytes that were sent first
+sent_again_byte_for_byte : option_map (λ f. f.bytes) (slice_get (run three losing).sent 4) ≡ option_map (λ f. f.bytes) (slice_get (run three losing).sent 0)
+unfolding step_after run_from cast_answer arrive_answer tick_answer view drained frame_at cast_at status_at request_at pairs_at pair_at number_at text_of spelling
+sent_again_byte_for_byte = refl
+
+-- member 1 has heard of both casts, of which member 0 made two
+what_is_heard_of : known (facts_at (run three losing) 1) 0 ≡ 2
+unfolding step_after run_from cast_answer arrive_answer tick_answer view drained frame_at cast_at status_at request_at pairs_at pair_at number_at text_of spelling
+what_is_heard_of = refl
+
+what_was_cast : delivered (seat_at three 0) (facts_at (run three losing) 0) 0 ≡ 2
+unfolding step_after run_from cast_answer arrive_answer tick_answer view drained frame_at cast_at status_at request_at pairs_at pair_at number_at text_of spelling
+what_was_cast = refl
+
 -- ---- steps that name nothing
 
 abbrev naming_nothing : Schedule
 naming_nothing = CastStep 3 [] ∷ ArriveStep 1 0 ∷ ArriveStep 3 0 ∷ TickStep 9 ∷ CastStep 0 (256 ∷ []) ∷ []
+
+they_ask_for_nothing : AsksForNothing (asked_by three [] (CastStep 3 [])) × AsksForNothing (asked_by three [] (ArriveStep 1 0)) × AsksForNothing (asked_by three [] (CastStep 0 (256 ∷ [])))
+they_ask_for_nothing = (tt, tt, tt)
 
 they_say_so : answers (run three naming_nothing) ≡ NoSuchMember ∷ NoSuchFrame ∷ NoSuchMember ∷ NoSuchMember ∷ NoBytes ∷ []
 unfolding step_after run_from cast_answer arrive_answer tick_answer view drained frame_at cast_at status_at request_at pairs_at pair_at number_at text_of spelling
