@@ -26,7 +26,7 @@ use Rattle.cb_schedules.specs.Schedule.{Setting, IsSetting, seat_at, Step, Sched
 use Rattle.cb_schedules.specs.Messages.{facts_at, stamped_lists, WasCast, HasDelivered, time_from_bytes}
 use Rattle.cb_schedules.specs.Honest.{member_of, SaysWhatIsSo, IsHonest}
 use Rattle.cb_schedules.specs.Consistent.{IsConsistent}
-use Rattle.cb_schedules.specs.SentLaws.{WasSent, SentCastsAreOwn, OneNameSameBytes, SentStatusesAreSo, NobodyAsksItself, CastsThereAreOwn, EventsHaveTimesFromBytes, HeardOfIsCast, DeliveredIsCast, TimesTellOwnCasts, AcknowledgedIsDeliveredThere, StableIsDeliveredEverywhere, IsNoRefusal, IsRefusedByFullHistoryAlone, ArrivalsAreWelcome}
+use Rattle.cb_schedules.specs.SentLaws.{WasSent, SentCastsAreOwn, OneNameSameBytes, SentStatusesAreSo, NobodyAsksItself, CastsThereAreOwn, EventsHaveTimesFromBytes, HeardOfIsCast, DeliveredIsCast, TimesTellOwnCasts, AcknowledgedIsDeliveredThere, StableIsDeliveredEverywhere, SendersStayNear, IsNoRefusal, IsRefusedByFullHistoryAlone, ArrivalsAreWelcome}
 use Rattle.cb_schedules.specs.Headline.{IsCausalBroadcast, DeliversClosedArrivals, TimesTellHappenedBefore, Headline, EachSchedule, StepsExtendTheStamped, StepsExtendTheCausal}
 use Rattle.cb_schedules.proofs.Members.{cast_of_message, told_at_most, is_own, own_is_there, delivered_at_most, inside, stands_at}
 use Rattle.cb_schedules.proofs.Sending.{honest_text}
@@ -34,7 +34,7 @@ use Rattle.cb_schedules.proofs.Courses.{IsFair, asked_is, step_goes_on, runs_are
 use Rattle.cb_schedules.proofs.Moments.{called, has_seen, seen_has, own_cast_of, has_clock, has_there}
 use Rattle.cb_schedules.proofs.Closing.{seen_number, seen_is_closed, closed_is_seen}
 use Rattle.cb_schedules.proofs.FromBytes.{time_is_clock}
-use Rattle.cb_schedules.proofs.Knowing.{acknowledged_is_so, heard_is_so, stable_is_so, is_welcome}
+use Rattle.cb_schedules.proofs.Knowing.{acknowledged_is_so, heard_is_so, stable_is_so, near_is_so, is_welcome}
 use Rattle.cb_schedules.proofs.Lists.{all_both, all_at_index}
 use Rattle.cb_history.proofs.Expanders.{one_of_a_name}
 
@@ -145,6 +145,9 @@ module _ (setting : Setting) (s : GroupState) (inv : IsConsistent setting s) whe
 
   pub stable_is_delivered_everywhere : StableIsDeliveredEverywhere setting s
   stable_is_delivered_everywhere i j lt lt_j ne = stable_is_so setting.group (facts_at s) inv.together i j lt lt_j ne
+
+  pub senders_stay_near : SendersStayNear setting s
+  senders_stay_near i j lt lt_j = near_is_so setting.group (facts_at s) inv.together i j lt lt_j
 
   pub heard_of_is_cast : HeardOfIsCast setting s
   heard_of_is_cast j i lt lt_i = heard_is_so setting.group (facts_at s) inv.together j i lt lt_i

@@ -98,6 +98,13 @@ module _ (group : Parameters) (facts : ℕ → List Fact) (h : AreTogether group
       let least = least_below (map (acknowledged (member_of group i) (facts i)) (filter (λ k. not (eqb k i)) (range_with_len 0 group.size))) (acknowledged (member_of group i) (facts i) j) one in
       omega (arith, least, acknowledged_is_so i j lt)
 
+  -- so it has cast at most a window more
+  pub near_is_so : (i j : ℕ) → i < group.size → j < group.size → has_delivered i i ≤ has_delivered j i + group.window
+  near_is_so i j lt lt_j = elim (cases_eq j i) [
+    | inl same ↦ let here : has_delivered j i ≡ has_delivered i i = ap (λ (k : ℕ). has_delivered k i) same in omega (arith, here)
+    | inr other ↦ omega (arith, own_casts_are_near_stable (member_of group i) (facts i) (h.legal i lt), stable_is_so i j lt lt_j other)
+  ]
+
   -- ---- what a member has heard of
 
   own_number : (c : CastFields) → IsIn c (own_casts (facts c.sender)) → c.number ≤ has_delivered c.sender c.sender
@@ -187,15 +194,8 @@ module _ (group : Parameters) (facts : ℕ → List Fact) (h : AreTogether group
         let number = own_number c own in
         let lt_i = inside group facts h c.sender c (own_is_there (facts c.sender) c own) in
         let beyond = ltb-true (has_delivered j c.sender + group.window) c.number far in
-        elim (cases_eq j c.sender) [
-          | inl mine ↦
-              let here : has_delivered j c.sender ≡ has_delivered c.sender c.sender = ap (λ (k : ℕ). has_delivered k c.sender) mine in
-              omega (arith, number, beyond, here)
-          | inr other ↦
-              let window = own_casts_are_near_stable (member_of group c.sender) (facts c.sender) (h.legal c.sender lt_i) in
-              let known = stable_is_so c.sender j lt_i lt other in
-              omega (arith, number, beyond, window, known)
-        ]
+        let near = near_is_so c.sender j lt_i lt in
+        omega (arith, number, beyond, near)
     is_near (StatusFrame s) so far = let none : false ≡ true = far in absurd cc
     is_near (RequestFrame r) so far = let none : false ≡ true = far in absurd cc
 

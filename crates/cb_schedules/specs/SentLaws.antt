@@ -1,5 +1,5 @@
 -- What is true of the frames that were sent, of the answers, and of what members know of each other, after every schedule.
-use Rattle.std.specs.Prelude.{◌≡◌, ◌≢◌, ℕ, ◌<◌, ◌≤◌, Some, None, Result, Ok, Err, slice_get}
+use Rattle.std.specs.Prelude.{◌≡◌, ◌≢◌, ℕ, ◌+◌, ◌<◌, ◌≤◌, Some, None, Result, Ok, Err, slice_get}
 use Rattle.std.specs.List.{AllByRecursion}
 use Rattle.cb_frames.specs.Fields.{CastFields, StatusFields, RequestFields, CastFrame, StatusFrame, RequestFrame, Carried, first_number}
 use Rattle.cb_frames.specs.Text.{text_of}
@@ -73,6 +73,12 @@ AcknowledgedIsDeliveredThere setting s =
 abbrev pub StableIsDeliveredEverywhere : Setting → GroupState → Type 0
 StableIsDeliveredEverywhere setting s =
     (i j : ℕ) → i < setting.group.size → j < setting.group.size → j ≢ i → stable (seat_at setting i) (facts_at s i) ≤ delivered (seat_at setting j) (facts_at s j) i
+
+-- so a sender has cast at most a window more than each other member has delivered of it
+abbrev pub SendersStayNear : Setting → GroupState → Type 0
+SendersStayNear setting s =
+    (i j : ℕ) → i < setting.group.size → j < setting.group.size
+    → delivered (seat_at setting i) (facts_at s i) i ≤ delivered (seat_at setting j) (facts_at s j) i + setting.group.window
 
 -- what a member has heard of another's casts, that one has cast: nothing is asked for that is not
 abbrev pub HeardOfIsCast : Setting → GroupState → Type 0
