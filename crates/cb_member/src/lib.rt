@@ -14,6 +14,7 @@ mod member;
 mod reception;
 mod sending;
 mod store;
+mod text;
 
 pub use cb_frames::Range;
 pub use cb_history::{
