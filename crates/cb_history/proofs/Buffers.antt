@@ -64,7 +64,7 @@ waits_on casts i taken n c d w = record {
 }
 
 -- what waits with one more cast did before, or is this one
-waits_or_new : (casts : List CastFields) (i taken n : ℕ) (c d : CastFields) → IsWaiting (casts ++ c ∷ []) i taken n d → IsWaiting casts i taken n d ⊎ (d ≡ c)
+pub waits_or_new : (casts : List CastFields) (i taken n : ℕ) (c d : CastFields) → IsWaiting (casts ++ c ∷ []) i taken n d → IsWaiting casts i taken n d ⊎ (d ≡ c)
 waits_or_new casts i taken n c d w = elim (in_push d c casts (cast_of_is_in d (casts ++ c ∷ []) w.there)) [
   | inl old ↦ inl (record { there = in_is_cast_of d casts old; sender_is = w.sender_is; number_is = w.number_is; not_taken = w.not_taken })
   | inr same ↦ inr same

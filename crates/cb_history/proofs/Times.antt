@@ -107,7 +107,7 @@ any_own : (facts : List Fact) (c : CastFields) → list_any is_own_cast (facts +
 any_own [] c = refl
 any_own (f ∷ facts) c = or_right (is_own_cast f) (list_any is_own_cast (facts ++ OwnCast c ∷ [])) (any_own facts c)
 
-upto_own : (facts : List Fact) (c : CastFields) → upto_last_cast (facts ++ OwnCast c ∷ []) ≡ facts ++ OwnCast c ∷ []
+pub upto_own : (facts : List Fact) (c : CastFields) → upto_last_cast (facts ++ OwnCast c ∷ []) ≡ facts ++ OwnCast c ∷ []
 upto_own [] c = refl
 upto_own (f ∷ facts) c =
     ap (λ (b : Bool). cond b (f ∷ upto_last_cast (facts ++ OwnCast c ∷ [])) []) (any_own (f ∷ facts) c) ∙ ap (λ (fs : List Fact). f ∷ fs) (upto_own facts c)
@@ -122,7 +122,7 @@ any_other : (facts : List Fact) (f : Fact) → IsNotOwn f → list_any is_own_ca
 any_other [] f h = rw (not_own f h) refl
 any_other (g ∷ facts) f h = ap (λ (b : Bool). is_own_cast g || b) (any_other facts f h)
 
-upto_other : (facts : List Fact) (f : Fact) → IsNotOwn f → upto_last_cast (facts ++ f ∷ []) ≡ upto_last_cast facts
+pub upto_other : (facts : List Fact) (f : Fact) → IsNotOwn f → upto_last_cast (facts ++ f ∷ []) ≡ upto_last_cast facts
 upto_other [] f h = rw (not_own f h) refl
 upto_other (g ∷ facts) f h =
     ap (λ (b : Bool). cond b (g ∷ upto_last_cast (facts ++ f ∷ [])) []) (any_other (g ∷ facts) f h)

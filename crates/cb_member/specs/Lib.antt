@@ -3,3 +3,4 @@ pub mod Reception
 pub mod Knowledge
 pub mod Sending
 pub mod Store
+pub mod Casting

@@ -68,7 +68,7 @@ impl Delivery {
 }
 
 /// Pushes where there is room.
-fn push_within<T: Drop>(items: &mut Vec<T>, item: T)
+pub fn push_within<T: Drop>(items: &mut Vec<T>, item: T)
     requires { vec_len items.old + 1 ≤ vec_capacity items.old }
     ensures items { items.new.items ≡ items.old.items ++ item ∷ [] }
     ensures len { vec_len items.new ≡ vec_len items.old + 1 }

@@ -4,10 +4,11 @@
 //! beside its history is tied to the entries by named facts: the counts of the view, the messages that are expanded and not delivered,
 //! the casts that wait for those before them, what is known of the others, the own casts above stable.
 //!
-//! So far a member starts and is read, and its delay queue is drained; casts, arrivals and ticks are not here yet. Stands on the crates
+//! So far a member starts, is read and casts, and its delay queue is drained; arrivals and ticks are not here yet. Stands on the crates
 //! below: on `cb_times`, `cb_diffs`, `cb_delay`, `cb_gaps` and `cb_stability` for the work, on `cb_history` for types and meaning.
 #![tactic(auto)]
 
+mod cast;
 mod delivery;
 mod knowledge;
 mod member;
@@ -18,8 +19,8 @@ mod text;
 
 pub use cb_frames::Range;
 pub use cb_history::{
-    BadGroup, Entry, Event, Group, History, LONGEST_HISTORY, Message, MissingFault, Name, NewFault,
-    Seat,
+    BadGroup, CastDone, CastRefusal, Entry, Event, Group, History, LONGEST_HISTORY, Message,
+    MissingFault, Name, NewFault, Seat,
 };
 pub use cb_times::{NoMemory, TimeOrder, VectorTime};
 pub use member::Member;

@@ -1,15 +1,20 @@
 //! The member, and what is read of it.
 
-ghost use Rattle.std.specs.Prelude.{◌≡◌, ◌≢◌, ◌↔◌, ◌⊎◌, ◌≤◌, ◌<◌, [], IfOk, Err, map};
+ghost use Rattle.std.specs.Prelude.{◌≡◌, ◌≢◌, ◌↔◌, ◌⊎◌, ◌≤◌, ◌<◌, [], IfOk, IfErr, OnErr, Some, Err, map};
 ghost use Rattle.cb_history.specs.Group.{IsSeat};
-ghost use Rattle.cb_history.specs.Legal.{longest_history};
+ghost use Rattle.cb_history.specs.Legal.{longest_history, ToCast};
 ghost use Rattle.cb_history.specs.Facts.{entry_fields};
 ghost use Rattle.cb_history.specs.Known.{ranges_of};
-ghost use Rattle.cb_history.specs.State.{IsMemberState, state_of, time_in, events_in, stable_in, missing_in};
+ghost use Rattle.cb_history.specs.State.{IsMemberState, state_of, time_in, events_in, stable_in, missing_in, entry_by, HasCast};
+ghost use Rattle.cb_member.specs.Casting.{RefusesExactly};
 
+use crate::cast;
 use crate::store::Store;
 use cb_frames::Range;
-use cb_history::{Entry, Event, Group, History, LONGEST_HISTORY, MissingFault, NewFault, Seat};
+use cb_history::{
+    CastDone, CastRefusal, Entry, Event, Group, History, LONGEST_HISTORY, MissingFault, NewFault,
+    Seat,
+};
 use cb_times::{NoMemory, VectorTime};
 use std::alloc::Global;
 use std::marker::Model;
@@ -124,6 +129,30 @@ impl Member {
         let delivered = self.store.delivery.time.get(i);
         let known = self.store.knowledge.known.get(i);
         self.store.reception.buffers[i as usize].missing(delivered, known)
+    }
+
+    /// Casts a message of this payload, of up to 1,024 bytes, and tells its name, its time and the frame that goes to all others.
+    ///
+    /// A refusal is that of the definition, in the order of `CastRefusal`; `NoMemory` stands only in place of a cast. After a refusal
+    /// the member is as it was.
+    pub fn cast(&mut self, payload: &[u8]) -> Result<CastDone, CastRefusal>
+        ensures done { IfOk result (HasCast self.old self.new payload.now) }
+        ensures refused { IfErr result (RefusesExactly self.old payload.now) }
+        ensures same { OnErr result (self.new ≡ self.old) }
+    {
+        let (done, _noted) = self.cast_noted(payload)?;
+        Ok(done)
+    }
+
+    /// The same, with a copy of the entry that was added.
+    pub fn cast_noted(&mut self, payload: &[u8]) -> Result<(CastDone, Entry), CastRefusal>
+        ensures done { IfOk result (λ noted. HasCast self.old self.new payload.now noted.0) }
+        ensures entry { IfOk result (λ noted. entry_by self.old (ToCast payload.now)
+            ≡ Some (entry_fields noted.1)) }
+        ensures refused { IfErr result (RefusesExactly self.old payload.now) }
+        ensures same { OnErr result (self.new ≡ self.old) }
+    {
+        cast::answer(self.seat, self.limit, &mut self.store, payload)
     }
 
     /// All that the member did, for good.

@@ -1,0 +1,100 @@
+-- The next cast, made from what is kept.
+use Rattle.std.proofs.Common.{◌≡◌, ℕ, ◌+◌, ◌<◌, ◌≤◌, inl, inr, List, [], ◌∷◌, ◌++◌, length, set, map, refl, sym, ap, subst, ◌∙◌, arith}
+use Rattle.std.proofs.lemmas.Bool.{cases_eq, cases_lt}
+use Rattle.std.proofs.lemmas.List.{length-set, get_or-set_same, get_or-set_other, get_or_past, ext_get_or}
+use Rattle.std.proofs.lemmas.List.FromFn.{length-map-range_with_len}
+use Rattle.cb_times.specs.Order.{field, AtMost}
+use Rattle.cb_frames.specs.declared.frame.Change.{Change}
+use Rattle.cb_frames.specs.Fields.{Carried}
+use Rattle.cb_diffs.specs.Differences.{differences}
+use Rattle.cb_history.specs.Group.{Seat}
+use Rattle.cb_history.specs.Facts.{entry_fields}
+use Rattle.cb_history.specs.View.{count, counts, view, time_of}
+use Rattle.cb_history.specs.Answers.{delivered, upto_last_cast, next_cast}
+use Rattle.cb_history.specs.Legal.{longest_history}
+use Rattle.cb_history.specs.LegalFacts.{AreFactsOf}
+use Rattle.cb_history.proofs.Lists.{count_own, count_other}
+use Rattle.cb_history.proofs.Delivering.{in_field}
+use Rattle.cb_history.proofs.Times.{upto_below}
+use Rattle.cb_history.proofs.Bounds.{few_facts, count_below}
+use Rattle.cb_history.proofs.Histories.{legal_histories_say_legal_facts}
+use Rattle.cb_member.specs.declared.store.Store.{Store}
+use Rattle.cb_member.specs.Store.{IsKept, facts_held}
+use Rattle.cb_member.specs.Casting.{next_time}
+
+pub facts_kept : (seat : Seat) (limit : ℕ) (store : Store) → IsKept seat limit store → AreFactsOf seat (facts_held store)
+facts_kept seat limit store k = legal_histories_say_legal_facts seat (map entry_fields store.entries.items) k.state.legal
+
+counts_long : (size : ℕ) (seen : List Carried) → length (counts size seen) ≡ size
+counts_long size seen = length-map-range_with_len (count seen) 0 size
+
+pub time_is_long : (seat : Seat) (limit : ℕ) (store : Store) → IsKept seat limit store → length store.delivery.time ≡ seat.group.size
+time_is_long seat limit store k = ap length k.keeps.delivered.waits.time ∙ counts_long seat.group.size (view seat.group.size (facts_held store))
+
+pub last_is_long : (seat : Seat) (limit : ℕ) (store : Store) → IsKept seat limit store → length store.sending.last_cast ≡ seat.group.size
+last_is_long seat limit store k = ap length k.keeps.sent.last_cast ∙ counts_long seat.group.size (view seat.group.size (upto_last_cast (facts_held store)))
+
+pub time_has_me : (seat : Seat) (limit : ℕ) (store : Store) → IsKept seat limit store → seat.me < length store.delivery.time
+time_has_me seat limit store k = omega (arith, time_is_long seat limit store k, (facts_kept seat limit store k).member)
+
+pub own_delivered : (seat : Seat) (limit : ℕ) (store : Store) → IsKept seat limit store → field store.delivery.time seat.me ≡ delivered seat (facts_held store) seat.me
+own_delivered seat limit store k =
+    ap (λ (time : List ℕ). field time seat.me) k.keeps.delivered.waits.time ∙ in_field seat.group.size (count (view seat.group.size (facts_held store))) seat.me (facts_kept seat limit store k).member
+
+-- no member has more casts than a history has entries
+pub own_few : (seat : Seat) (limit : ℕ) (store : Store) → IsKept seat limit store → field store.delivery.time seat.me ≤ longest_history
+own_few seat limit store k =
+    let are = facts_kept seat limit store k in
+    omega (arith, own_delivered seat limit store k, count_below seat.group.size (facts_held store) seat.me, few_facts seat (facts_held store) are.facts_are)
+
+-- the time has only grown since the last cast
+pub has_grown : (seat : Seat) (limit : ℕ) (store : Store) → IsKept seat limit store → AtMost (field store.sending.last_cast) (field store.delivery.time)
+has_grown seat limit store kept k = elim (cases_lt k seat.group.size) [
+  | inl lt ↦
+      let before : field store.sending.last_cast k ≡ count (view seat.group.size (upto_last_cast (facts_held store))) k =
+      ap (λ (time : List ℕ). field time k) kept.keeps.sent.last_cast ∙ in_field seat.group.size (count (view seat.group.size (upto_last_cast (facts_held store)))) k lt in
+      let now : field store.delivery.time k ≡ count (view seat.group.size (facts_held store)) k =
+      ap (λ (time : List ℕ). field time k) kept.keeps.delivered.waits.time ∙ in_field seat.group.size (count (view seat.group.size (facts_held store))) k lt in
+      omega (arith, before, now, upto_below seat (facts_held store) k (facts_kept seat limit store kept).facts_are)
+  | inr ge ↦
+      let none : field store.sending.last_cast k ≡ 0 = get_or_past store.sending.last_cast k 0 (omega (arith, ge, last_is_long seat limit store kept)) in
+      omega (arith, none)
+]
+
+-- one message more counts at its sender's field
+counts_one_more : (size : ℕ) (seen : List Carried) (m : Carried) → m.sender < size → set (counts size seen) m.sender (field (counts size seen) m.sender + 1) ≡ counts size (seen ++ m ∷ [])
+counts_one_more size seen m lt =
+    let long : length (set (counts size seen) m.sender (field (counts size seen) m.sender + 1)) ≡ size = length-set (counts size seen) m.sender (field (counts size seen) m.sender + 1) ∙ counts_long size seen in
+    ext_get_or 0 (set (counts size seen) m.sender (field (counts size seen) m.sender + 1)) (counts size (seen ++ m ∷ [])) (long ∙ sym (counts_long size (seen ++ m ∷ []))) (λ k within.
+    let small : k < size = omega (arith, within, long) in
+    elim (cases_eq k m.sender) [
+      | inl e ↦
+          let at : field (set (counts size seen) m.sender (field (counts size seen) m.sender + 1)) m.sender ≡ field (counts size seen) m.sender + 1 =
+          get_or-set_same (counts size seen) m.sender (field (counts size seen) m.sender + 1) 0 (omega (arith, lt, counts_long size seen)) in
+          let now : field (counts size (seen ++ m ∷ [])) m.sender ≡ count seen m.sender + 1 = in_field size (count (seen ++ m ∷ [])) m.sender lt ∙ count_own seen m m.sender refl in
+          let before : field (counts size seen) m.sender ≡ count seen m.sender = in_field size (count seen) m.sender lt in
+          subst (λ (j : ℕ). field (set (counts size seen) m.sender (field (counts size seen) m.sender + 1)) j ≡ field (counts size (seen ++ m ∷ [])) j) (sym e)
+          (at ∙ ap (λ (n : ℕ). n + 1) before ∙ sym now)
+      | inr ne ↦
+          get_or-set_other (counts size seen) m.sender k (field (counts size seen) m.sender + 1) 0 ne ∙ in_field size (count seen) k small
+          ∙ sym (count_other seen m k (λ e. ne (sym e))) ∙ sym (in_field size (count (seen ++ m ∷ [])) k small)
+    ])
+
+pub counts_own : (seat : Seat) (limit : ℕ) (store : Store) (payload time : List ℕ) → IsKept seat limit store → time ≡ store.delivery.time
+    → set time seat.me (field time seat.me + 1) ≡ next_time seat (facts_held store) payload
+counts_own seat limit store payload time k same =
+    ap (λ (ns : List ℕ). set ns seat.me (field ns seat.me + 1)) (same ∙ k.keeps.delivered.waits.time)
+    ∙ counts_one_more seat.group.size (view seat.group.size (facts_held store)) (record { sender = seat.me; number = delivered seat (facts_held store) seat.me + 1; payload = payload }) (facts_kept seat limit store k).member
+
+pub next_is_made : (seat : Seat) (limit : ℕ) (store : Store) (payload bytes : List ℕ) (group sender own : ℕ) (changes : List Change) → IsKept seat limit store
+    → group ≡ seat.group.number → sender ≡ seat.me → own ≡ field store.delivery.time seat.me → changes ≡ differences store.sending.last_cast store.delivery.time seat.me → bytes ≡ payload
+    → record { group = group; sender = sender; number = own + 1; changes = changes; payload = bytes } ≡ next_cast seat (facts_held store) payload
+next_is_made seat limit store payload bytes group sender own changes k eg es en ec et =
+    rw (
+      eg,
+      es,
+      en ∙ own_delivered seat limit store k,
+      ec ∙ ap (λ (ns : List ℕ). differences ns store.delivery.time seat.me) k.keeps.sent.last_cast
+          ∙ ap (λ (ns : List ℕ). differences (time_of seat.group.size (upto_last_cast (facts_held store))) ns seat.me) k.keeps.delivered.waits.time,
+      et,
+    ) refl

@@ -1,0 +1,28 @@
+use Rattle.std.proofs.Common.{◌≡◌, ◌∙◌, ℕ, ap, arith}
+use Rattle.cb_times.specs.Order.{field}
+use Rattle.cb_diffs.specs.Differences.{differences}
+use Rattle.cb_history.specs.Group.{Parameters}
+use Rattle.cb_member.proofs.Casting.{time_has_me, has_grown, own_few, next_is_made}
+use Rattle.cb_member.proofs.cast.cast_of.Goals as goal
+
+pub difference-requires-clause-member : goal.difference-requires-clause-member
+difference-requires-clause-member c = omega (arith, time_has_me c.args.seat c.args.limit c.args.store.now c.requires, c.me-me.ensures.me)
+
+pub difference-requires-clause-grown : goal.difference-requires-clause-grown
+difference-requires-clause-grown c = has_grown c.args.seat c.args.limit c.args.store.now c.requires
+
+pub get-requires : goal.get-requires
+get-requires c = omega (arith, time_has_me c.args.seat c.args.limit c.args.store.now c.requires, c.me-me.ensures.me)
+
+pub overflow_add-result : goal.overflow_add-result
+overflow_add-result c =
+    let at : c.get.result ≡ field c.args.store.now.delivery.time c.args.seat.me = c.get.ensures.field ∙ ap (field c.args.store.now.delivery.time) c.me-me.ensures.me in
+    omega (arith, own_few c.args.seat c.args.limit c.args.store.now c.requires, at)
+
+pub returns : goal.returns
+returns c = next_is_made c.args.seat c.args.limit c.args.store.now c.args.payload.now c.in_ok-copy_from_slice.field-0 c.number.result c.me-me.result c.get.result c.in_ok-changes.changes.items c.requires
+    (c.number.ensures ∙ ap (λ (g : Parameters). g.number) c.group.ensures.group)
+    c.me-me.ensures.me
+    (c.get.ensures.field ∙ ap (field c.args.store.now.delivery.time) c.me-me.ensures.me)
+    (c.in_ok-changes.ensures ∙ ap (λ (me : ℕ). differences c.args.store.now.sending.last_cast c.args.store.now.delivery.time me) c.me-me.ensures.me)
+    c.in_ok-copy_from_slice.ensures

@@ -1,0 +1,194 @@
+//! Casting: what a cast is made of before anything changes, and how it enters.
+
+ghost use Rattle.std.specs.Prelude.{◌≡◌, ◌≤◌, ℕ, List, IfOk, IfErr, OnErr, Some, length};
+ghost use Rattle.cb_frames.specs.declared.frame.TheConstants.{LONGEST_PAYLOAD};
+ghost use Rattle.cb_frames.specs.Fields.{cast_fields, CastFrame};
+ghost use Rattle.cb_frames.specs.Text.{KeepsCastRules, text_of};
+ghost use Rattle.cb_history.specs.Facts.{entry_fields, CastEntry};
+ghost use Rattle.cb_history.specs.Answers.{next_cast};
+ghost use Rattle.cb_history.specs.Legal.{ToCast};
+ghost use Rattle.cb_history.specs.State.{entry_by, HasCast};
+ghost use Rattle.cb_member.specs.Store.{IsKept, held_by, facts_held};
+ghost use Rattle.cb_member.specs.Casting.{next_time, next_message, MakesCasting, CanCast, IsJudged, CanEnter, HasEntered, RefusesExactly};
+
+use crate::delivery::push_within;
+use crate::store::Store;
+use crate::text::{another, frame_text};
+use bytes::Bytes;
+use cb_delay::{Event, Message};
+use cb_diffs::difference;
+use cb_frames::{Cast, Frame, LONGEST_PAYLOAD};
+use cb_history::{CastDone, CastRefusal, Entry, Seat};
+use cb_times::{Name, NoMemory, VectorTime};
+use std::alloc::Global;
+
+/// A cast that can enter without memory.
+#[derive(Drop)]
+pub struct Casting {
+    pub done: CastDone,
+    /// The message as its sender's events have it.
+    pub message: Message,
+    pub entry: Entry,
+    /// A copy of the entry, for the caller.
+    pub noted: Entry,
+    /// The frame once more, which may have to be sent again.
+    pub sent: Bytes,
+}
+
+/// Casts a message of this payload. A copy of the entry that it adds comes with the answer.
+pub fn answer(
+    seat: Seat,
+    limit: usize,
+    store: &mut Store,
+    payload: &[u8],
+) -> Result<(CastDone, Entry), CastRefusal>
+    requires { IsKept seat limit store.old }
+    ensures kept { IsKept seat limit store.new }
+    ensures done { IfOk result (λ noted. HasCast (held_by seat limit store.old)
+        (held_by seat limit store.new) payload.now noted.0) }
+    ensures entry { IfOk result (λ noted. entry_by (held_by seat limit store.old)
+        (ToCast payload.now) ≡ Some (entry_fields noted.1)) }
+    ensures refused { IfErr result (RefusesExactly (held_by seat limit store.old) payload.now) }
+    ensures same { OnErr result (held_by seat limit store.new ≡ held_by seat limit store.old) }
+{
+    judge(seat, limit, store, payload)?;
+    let casting = make(seat, limit, store, payload)?;
+    store.reserve(1)?;
+    Ok(enter(store, casting))
+}
+
+/// Whether the payload may be cast. This takes no memory.
+fn judge(seat: Seat, limit: usize, store: &Store, payload: &[u8]) -> Result<(), CastRefusal>
+    requires { IsKept seat limit store.now }
+    ensures { IsJudged seat limit store.now payload.now result }
+{
+    if payload.len() > LONGEST_PAYLOAD {
+        return Err(CastRefusal::PayloadTooLong);
+    }
+    if store.sending.window.room() == 0 {
+        return Err(CastRefusal::WindowFull);
+    }
+    if store.entries.len() >= limit {
+        return Err(CastRefusal::HistoryFull);
+    }
+    Ok(())
+}
+
+/// Makes the cast, and every handle and copy that its entering needs.
+fn make(seat: Seat, limit: usize, store: &Store, payload: &[u8]) -> Result<Casting, NoMemory>
+    requires kept { IsKept seat limit store.now }
+    requires payload { length payload.now ≤ LONGEST_PAYLOAD }
+    ensures { IfOk result (MakesCasting seat (facts_held store.now) payload.now) }
+{
+    let cast = cast_of(seat, limit, store, payload)?;
+    let message = message_of(seat, limit, store, &cast)?;
+    let time = message.time.copy()?;
+    let out = text_of(*store.entries.allocator(), cast)?;
+    casting_of(message, time, out)
+}
+
+/// The next own cast.
+fn cast_of(seat: Seat, limit: usize, store: &Store, payload: &[u8]) -> Result<Cast, NoMemory>
+    requires { IsKept seat limit store.now }
+    ensures { IfOk result (λ cast. cast_fields cast
+        ≡ next_cast seat (facts_held store.now) payload.now) }
+{
+    let alloc = *store.entries.allocator();
+    let (me, now) = (seat.me(), &store.delivery.time);
+    let changes = difference(alloc, &store.sending.last_cast, now, me)?;
+    Ok(Cast {
+        group: seat.group().number(),
+        sender: me,
+        number: now.get(me) + 1,
+        changes,
+        payload: Bytes::copy_from_slice(alloc, payload)?,
+    })
+}
+
+/// The message of the cast, with the member's time and one cast more.
+fn message_of(seat: Seat, limit: usize, store: &Store, cast: &Cast) -> Result<Message, NoMemory>
+    requires kept { IsKept seat limit store.now }
+    requires next { cast_fields cast.now
+        ≡ next_cast seat (facts_held store.now) cast.now.payload }
+    ensures { IfOk result (λ message. message
+        ≡ next_message seat (facts_held store.now) cast.now.payload) }
+{
+    Ok(Message {
+        name: Name {
+            sender: cast.sender,
+            number: cast.number,
+        },
+        time: counted(seat, limit, store)?,
+        payload: another(&cast.payload)?,
+    })
+}
+
+/// The member's time with one cast more.
+fn counted(seat: Seat, limit: usize, store: &Store) -> Result<VectorTime, NoMemory>
+    requires { IsKept seat limit store.now }
+    ensures { IfOk result (λ time. (payload : List ℕ)
+        → time ≡ next_time seat (facts_held store.now) payload) }
+{
+    let mut time = store.delivery.time.copy()?;
+    time.add_one(seat.me());
+    Ok(time)
+}
+
+fn text_of(alloc: Global, cast: Cast) -> Result<Bytes, NoMemory>
+    requires rules { KeepsCastRules (cast_fields cast) }
+    requires payload { length cast.payload ≤ LONGEST_PAYLOAD }
+    ensures { IfOk result (λ bytes. bytes ≡ text_of (CastFrame (cast_fields cast))) }
+{
+    let frame = Frame::Cast(cast);
+    frame_text(alloc, &frame)
+}
+
+/// The cast with all handles of its frame.
+fn casting_of(message: Message, time: VectorTime, out: Bytes) -> Result<Casting, NoMemory>
+    ensures { IfOk result (λ casting. (casting.done ≡ record {
+      name = message.name;
+      time = time;
+      out = out;
+    }) × (casting.message ≡ message) × (entry_fields casting.entry ≡ CastEntry out)
+        × (entry_fields casting.noted ≡ CastEntry out) × (casting.sent ≡ out)) }
+{
+    let entry = Entry::Cast {
+        frame: another(&out)?,
+    };
+    let noted = Entry::Cast {
+        frame: another(&out)?,
+    };
+    let sent = another(&out)?;
+    Ok(Casting {
+        done: CastDone {
+            name: message.name,
+            time,
+            out,
+        },
+        message,
+        entry,
+        noted,
+        sent,
+    })
+}
+
+/// Enters what was made, where there is room for it.
+fn enter(store: &mut Store, casting: Casting) -> (CastDone, Entry)
+    requires { CanEnter casting store.old }
+    ensures entered { HasEntered casting store.old store.new }
+    ensures answer { (result.0 ≡ casting.done) × (result.1 ≡ casting.noted) }
+{
+    let Casting {
+        done,
+        message,
+        entry,
+        noted,
+        sent,
+    } = casting;
+    store.delivery.time.copy_from(&message.time);
+    store.sending.last_cast.copy_from(&message.time);
+    store.sending.window.put(sent);
+    push_within(&mut store.delivery.events, Event::Cast(message));
+    push_within(&mut store.entries, entry);
+    (done, noted)
+}
