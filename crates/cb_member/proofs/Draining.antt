@@ -1,5 +1,5 @@
 -- The deliveries of a drain, one after another.
-use Rattle.std.proofs.Common.{◌≡◌, ℕ, List, [], ◌∷◌, ◌++◌, map, sym, ap, subst, ◌∙◌, append_assoc}
+use Rattle.std.proofs.Common.{◌≡◌, ℕ, List, [], ◌∷◌, ◌++◌, map, refl, sym, ap, subst, ◌∙◌, append_assoc}
 use Rattle.std.specs.declared.vec.Vec.{Vec}
 use Rattle.std.specs.declared.alloc.Global.{Global}
 use Rattle.std.proofs.lemmas.List.{append-nil, map-append}
@@ -28,6 +28,7 @@ none_so_far old before size casts seen w = record {
   waits = subst (λ (ms : List Carried). Waits size casts ms old) (sym (append-nil seen)) w;
   deliveries = sym (append-nil before);
   events = sym (append-nil old.events.items);
+  windows = record { queue = refl; copies = refl };
 }
 
 pub goes_on : (old mid next : Delivery) (messages : Message × Message) (events : Vec Event Global) (before now after : List Message)
@@ -50,6 +51,7 @@ goes_on old mid next messages events before now after way d pushed entered size 
           ∙ append_assoc old.events.items (map (λ n. Deliver (message_in size casts n)) so_far.more) (Deliver messages.1 ∷ [])
           ∙ ap (λ (x : Message). old.events.items ++ (map (λ n. Deliver (message_in size casts n)) so_far.more ++ Deliver x ∷ [])) found.3
           ∙ ap (λ (es : List Event). old.events.items ++ es) (sym (map-append (λ n. Deliver (message_in size casts n)) so_far.more (m ∷ [])));
+      windows = record { queue = d.windows.queue ∙ so_far.windows.queue; copies = d.windows.copies ∙ so_far.windows.copies };
     }
 
 pub is_drained : (old mid new : Delivery) (before now : List Message) → AreDraining old mid before now → HasNoNext mid new → Drains old new before now
@@ -62,4 +64,5 @@ is_drained old mid new before now way none size casts seen w =
       waits = last.1;
       deliveries = so_far.deliveries;
       events = ap (λ (v : Vec Event Global). v.items) none.events ∙ so_far.events;
+      windows = record { queue = none.windows.queue ∙ so_far.windows.queue; copies = none.windows.copies ∙ so_far.windows.copies };
     }

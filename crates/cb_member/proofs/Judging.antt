@@ -1,18 +1,20 @@
 -- Whether a payload can be cast.
-use Rattle.std.proofs.Common.{◌≡◌, ◌≢◌, ℕ, ◌<◌, ◌≤◌, inl, inr, true, false, List, length, map, Ok, Err, refl, arith}
-use Rattle.std.proofs.lemmas.Bool.{le-ltb, lt-leb, le-leb, lt-ltb, cases_Bool}
+use Rattle.std.proofs.Common.{◌≡◌, ◌≢◌, ℕ, ◌<◌, ◌≤◌, inl, inr, true, false, List, length, map, Ok, Err, refl, ap, arith}
+use Rattle.std.specs.Prelude.{IsOk, is_ok}
+use Rattle.std.proofs.lemmas.Bool.{both_ways, cases_lt, le-ltb, lt-leb, le-leb, lt-ltb, cases_Bool}
 use Rattle.std.proofs.lemmas.List.{length-map}
 use Rattle.cb_frames.specs.declared.frame.TheConstants.{LONGEST_PAYLOAD}
 use Rattle.cb_stability.specs.Sent.{room_of}
+use Rattle.cb_history.specs.declared.answer.CastRefusal.{CastRefusal}
 use Rattle.cb_history.specs.declared.answer.CastRefusal.TheVariants as casts
 use Rattle.cb_history.specs.Group.{Seat}
 use Rattle.cb_history.specs.Facts.{EntryFields, entry_fields, facts_of}
 use Rattle.cb_history.specs.Answers.{is_window_full, next_cast, cast_answer}
-use Rattle.cb_history.specs.State.{answer_to_cast}
+use Rattle.cb_history.specs.State.{MemberState, RefusesCast, answer_to_cast}
 use Rattle.cb_history.proofs.Keeping.{no_room_is_full}
 use Rattle.cb_member.specs.declared.store.Store.{Store}
 use Rattle.cb_member.specs.Store.{IsKept, held_by, facts_held}
-use Rattle.cb_member.specs.Casting.{CanCast}
+use Rattle.cb_member.specs.Casting.{CanCast, RefusesExactly}
 use Rattle.cb_member.proofs.Casting.{facts_kept}
 
 too_long : (seat : Seat) (limit : ℕ) (entries : List EntryFields) (payload : List ℕ) → LONGEST_PAYLOAD < length payload → cast_answer seat limit entries payload ≡ Err casts.PayloadTooLong
@@ -61,3 +63,15 @@ can_cast seat limit store payload k short some room = record {
   entries = room;
   answer = is_cast seat limit (map entry_fields store.entries.items) payload short (is_free seat limit store k some) (omega (arith, room, length-map store.entries.items entry_fields));
 }
+
+-- a payload that may be cast is not too long
+is_short : (seat : Seat) (limit : ℕ) (entries : List EntryFields) (payload : List ℕ) → IsOk (cast_answer seat limit entries payload) → length payload ≤ LONGEST_PAYLOAD
+is_short seat limit entries payload ok = elim (cases_lt LONGEST_PAYLOAD (length payload)) [
+  | inl long ↦ absurd (both_ways (is_ok (cast_answer seat limit entries payload)) (ap is_ok (too_long seat limit entries payload long)) ok)
+  | inr short ↦ short
+]
+
+-- an exact refusal is one that any member may give
+pub may_refuse : (m : MemberState) (payload : List ℕ) (refusal : CastRefusal) → RefusesExactly m payload refusal → RefusesCast m payload refusal
+may_refuse m payload refusal (inl says) = inl says
+may_refuse m payload refusal (inr memory) = inr (memory.0, is_short m.seat m.limit m.entries payload memory.1)

@@ -4,5 +4,16 @@ pub mod Starting
 pub mod Reading
 pub mod Casting
 pub mod Judging
-pub mod Calls
+pub mod OwnCasts
+pub mod Receiving
+pub mod TakingIn
+pub mod Telling
+pub mod Staying
 pub mod Entering
+pub mod Ticks
+pub mod Acknowledging
+pub mod Arriving
+pub mod JudgingCasts
+pub mod Accepting
+pub mod Answering
+pub mod Hearing

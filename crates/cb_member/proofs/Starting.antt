@@ -3,7 +3,7 @@ use Rattle.std.proofs.Common.{◌≡◌, ℕ, zero, suc, ◌+◌, ◌≤◌, Lis
 use Rattle.std.specs.Prelude.{slice_get}
 use Rattle.std.specs.FinMap as fin
 use Rattle.std.specs.List.{AllByRecursion, range_with_len}
-use Rattle.std.proofs.lemmas.List.Elements.{recursion_from_All}
+use Rattle.std.proofs.lemmas.List.Elements.{recursion_from_All, All-nil}
 use Rattle.std.proofs.lemmas.List.{get_or-replicate, length-replicate}
 use Rattle.cb_times.specs.Order.{field}
 use Rattle.cb_delay.specs.Queue.{Queue, IsNew}
@@ -25,11 +25,12 @@ use Rattle.cb_member.specs.declared.reception.Reception.{Reception}
 use Rattle.cb_member.specs.declared.knowledge.Knowledge.{Knowledge}
 use Rattle.cb_member.specs.declared.sending.Sending.{Sending}
 use Rattle.cb_member.specs.Delivery.{IsNewDelivery}
-use Rattle.cb_member.specs.Reception.{IsNewReception, HasReceivedAll}
+use Rattle.cb_member.specs.Reception.{IsSpareOfSome, IsNewReception, HasReceivedAll}
 use Rattle.cb_member.specs.Knowledge.{IsNewKnowledge, KnowsFacts}
 use Rattle.cb_member.specs.Sending.{IsNewSending, HasSent}
 use Rattle.cb_member.specs.declared.store.Store.{Store}
 use Rattle.cb_member.specs.Store.{HasDelivered, Keeps, IsNewStore, IsKept}
+use Rattle.cb_member.proofs.Receiving.{one_buffer}
 
 pub no_facts : (seat : Seat) → IsSeat seat → AreFactsOf seat []
 no_facts seat is = record { group = is.group; member = is.member; facts_are = NoFacts }
@@ -60,15 +61,13 @@ nothing_delivered seat d is new = record {
     queue = none_waits seat.group.size seat.group.window d.queue new.queue;
     copies = none_waits seat.group.size seat.group.window d.copies new.copies;
   };
+  windows = record { queue = new.queue.of_window; copies = new.copies.of_window };
   events = new.events;
 }
 
-same_buffer : (x b : Buffer) → Some x ≡ Some b → x ≡ b
-same_buffer x b e = cc
-
 one_of_each : (P : Buffer → Type 0) (bs : List Buffer) (i : ℕ) (b : Buffer) → AllByRecursion P bs → slice_get bs i ≡ Some b → P b
 one_of_each P [] i b all at = absurd cc
-one_of_each P (x ∷ bs) zero b all at = subst P (same_buffer x b at) all.0
+one_of_each P (x ∷ bs) zero b all at = subst P (one_buffer x b at) all.0
 one_of_each P (x ∷ bs) (suc i) b all at = one_of_each P bs i b all.1 at
 
 each_new : (window : ℕ) (bs : List Buffer) (i : ℕ) (b : Buffer) → All (buffers.IsNew window) bs → slice_get bs i ≡ Some b → buffers.IsNew window b
@@ -82,6 +81,7 @@ nothing_received seat r is new = record {
   windows = λ i b at. (each_new seat.group.window r.buffers.items i b new.buffers at).of_window;
   times = λ i lt other. rw new.expander (new_expander_keeps_nothing seat [] i (no_facts seat is) lt);
   spares = λ i number c other waiting. absurd waiting.there;
+  each_for = rw new.spares (All-nil (IsSpareOfSome seat.group.size []));
 }
 
 nothing_known : (seat : Seat) (k : Knowledge) → IsSeat seat → IsNewKnowledge seat.group.size k → KnowsFacts seat [] k

@@ -38,6 +38,7 @@ none_next d queue same none = record {
     record { way = w.way; time = w.time; queue = held_alike size casts seen d.queue queue same w.queue; copies = w.copies },
   );
   events = refl;
+  windows = record { queue = same.window; copies = refl };
 }
 
 some_entry : (es : List (Name × Message)) (name : Name) (message : Message) → fin.find name_cmp name es ≡ Some message → 0 < length es
@@ -94,6 +95,7 @@ takes_next d sender message copy new t = record {
         },
       );
   events = t.events;
+  windows = record { queue = t.taken.window ∙ t.same.window; copies = t.taken_copy.window };
   one_less = one_out;
 }
   where

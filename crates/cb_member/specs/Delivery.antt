@@ -17,6 +17,16 @@ pub record IsNewDelivery (size window : ℕ) (d : Delivery) : Type 0 where
   pub queue : IsNew size window d.queue
   pub copies : IsNew size window d.copies
 
+-- both queues have room for so many messages of one sender
+pub record HasWindow (window : ℕ) (d : Delivery) : Type 0 where
+  pub queue : d.queue.window ≡ window
+  pub copies : d.copies.window ≡ window
+
+-- they have it for as many as they had
+pub record KeepsWindow (old new : Delivery) : Type 0 where
+  pub queue : new.queue.window ≡ old.queue.window
+  pub copies : new.copies.window ≡ old.copies.window
+
 -- these messages are delivered of these casts, and both queues hold the others that are expanded
 pub record Waits (size : ℕ) (casts : List CastFields) (seen : List Carried) (d : Delivery) : Type 0 where
   pub way : IsOnTheWay size casts seen
@@ -37,6 +47,7 @@ pub record DeliversNext (old new : Delivery) (messages : Message × Message) : T
       → (m : Carried) × (next_delivery size casts seen ≡ Some m) × (messages.0 ≡ message_in size casts m)
       × (messages.1 ≡ message_in size casts m) × Waits size casts (seen ++ m ∷ []) new
   pub events : new.events ≡ old.events
+  pub windows : KeepsWindow old new
   pub one_less : fin.len new.queue.held + 1 ≡ fin.len old.queue.held
 
 -- there is no next delivery on any way on which it waits, and nothing has changed
@@ -44,6 +55,7 @@ pub record HasNoNext (old new : Delivery) : Type 0 where
   pub none : (size : ℕ) (casts : List CastFields) (seen : List Carried) → Waits size casts seen old
       → (next_delivery size casts seen ≡ None) × Waits size casts seen new
   pub events : new.events ≡ old.events
+  pub windows : KeepsWindow old new
 
 -- on the way from `old` these messages were delivered so far, each of them is an event, and the drain goes on to its end
 pub record IsDraining (size : ℕ) (casts : List CastFields) (seen : List Carried) (old new : Delivery) (before after : List Message) : Type 0 where
@@ -52,6 +64,7 @@ pub record IsDraining (size : ℕ) (casts : List CastFields) (seen : List Carrie
   pub waits : Waits size casts (seen ++ more) new
   pub deliveries : after ≡ before ++ map (message_in size casts) more
   pub events : new.events.items ≡ old.events.items ++ map (λ m. Deliver (message_in size casts m)) more
+  pub windows : KeepsWindow old new
 
 abbrev pub AreDraining : Delivery → Delivery → List Message → List Message → Type 0
 AreDraining old new before after =
@@ -65,6 +78,7 @@ pub record IsDrained (size : ℕ) (casts : List CastFields) (seen : List Carried
   pub waits : Waits size casts (seen ++ more) new
   pub deliveries : after ≡ before ++ map (message_in size casts) more
   pub events : new.events.items ≡ old.events.items ++ map (λ m. Deliver (message_in size casts m)) more
+  pub windows : KeepsWindow old new
 
 abbrev pub Drains : Delivery → Delivery → List Message → List Message → Type 0
 Drains old new before after =

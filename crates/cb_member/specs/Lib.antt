@@ -4,3 +4,8 @@ pub mod Knowledge
 pub mod Sending
 pub mod Store
 pub mod Casting
+pub mod Taking
+pub mod Arriving
+pub mod Telling
+pub mod Answering
+pub mod Hearing

@@ -5,7 +5,7 @@ use Rattle.cb_gaps.specs.Buffer.{Buffer, IsNew}
 use Rattle.cb_history.specs.Group.{Seat}
 use Rattle.cb_history.specs.Facts.{Fact, casts_in}
 use Rattle.cb_history.specs.Known.{expanded_count}
-use Rattle.cb_history.specs.BufferLaws.{IsWaiting, HoldsWhatWaits}
+use Rattle.cb_history.specs.BufferLaws.{IsCastOf, IsWaiting, HoldsWhatWaits}
 use Rattle.cb_history.specs.ExpanderLaws.{KeepsTimeOf}
 use Rattle.cb_member.specs.declared.reception.Spare.{Spare}
 use Rattle.cb_member.specs.declared.reception.Reception.{Reception}
@@ -21,6 +21,10 @@ pub record IsSpareFor (size : ℕ) (c : CastFields) (spare : Spare) : Type 0 whe
 abbrev pub HasSpare : ℕ → List Spare → CastFields → Type 0
 HasSpare size spares c = Any (IsSpareFor size c) spares
 
+-- the spare is for one of these casts
+abbrev pub IsSpareOfSome : ℕ → List CastFields → Spare → Type 0
+IsSpareOfSome size casts spare = (c : CastFields) × IsCastOf c casts × IsSpareFor size c spare
+
 -- nothing came: a buffer for each member, from which nothing was taken and in which nothing waits
 pub record IsNewReception (size window : ℕ) (r : Reception) : Type 0 where
   pub senders : length r.buffers.items ≡ size
@@ -29,7 +33,7 @@ pub record IsNewReception (size window : ℕ) (r : Reception) : Type 0 where
   pub spares : r.spares.items ≡ []
 
 -- Of each other member's casts so many were taken, one after the other: what was is expanded, the others that are there wait in its
--- buffer, the expander keeps the time of the last one taken, and for each that waits there is a spare.
+-- buffer, the expander keeps the time of the last one taken, for each that waits there is a spare, and each spare is for one that is there.
 pub record HasReceived (seat : Seat) (facts : List Fact) (taken : ℕ → ℕ) (r : Reception) : Type 0 where
   pub senders : length r.buffers.items ≡ seat.group.size
   pub waits : (i : ℕ) (b : Buffer) → slice_get r.buffers.items i ≡ Some b → i ≢ seat.me → HoldsWhatWaits (casts_in facts) i b
@@ -38,6 +42,7 @@ pub record HasReceived (seat : Seat) (facts : List Fact) (taken : ℕ → ℕ) (
   pub times : (i : ℕ) → i < seat.group.size → i ≢ seat.me → KeepsTimeOf seat facts i (taken i) r.expander
   pub spares : (i number : ℕ) (c : CastFields) → i ≢ seat.me → IsWaiting (casts_in facts) i (taken i) number c
       → HasSpare seat.group.size r.spares.items c
+  pub each_for : All (IsSpareOfSome seat.group.size (casts_in facts)) r.spares.items
 
 -- all that is expanded was taken
 abbrev pub HasReceivedAll : Seat → List Fact → Reception → Type 0

@@ -1,11 +1,13 @@
 -- What a member sent.
-use Rattle.std.specs.Prelude.{◌≡◌, ℕ, Bool, true, false, List, length, replicate, Some, None}
-use Rattle.cb_stability.specs.Sent.{IsFresh}
+use Rattle.std.specs.Prelude.{◌≡◌, ℕ, Bool, true, false, List, [], ◌∷◌, ◌++◌, length, replicate, Some, None}
+use Rattle.cb_stability.specs.Known.{Known}
+use Rattle.cb_stability.specs.Sent.{Sent, IsFresh}
 use Rattle.cb_history.specs.Group.{Seat}
 use Rattle.cb_history.specs.Facts.{Fact}
 use Rattle.cb_history.specs.View.{time_of}
-use Rattle.cb_history.specs.Answers.{upto_last_cast, status_of, last_status}
-use Rattle.cb_history.specs.StabilityLaws.{KeepsOwnCasts}
+use Rattle.cb_history.specs.Answers.{is_own_cast, upto_last_cast, status_of, last_status}
+use Rattle.cb_history.specs.LegalFacts.{AreFactsOf}
+use Rattle.cb_history.specs.StabilityLaws.{KeepsOwnCasts, KnowsAcknowledged}
 use Rattle.cb_member.specs.declared.sending.Sending.{Sending}
 
 -- an empty window, and no cast or status
@@ -32,3 +34,9 @@ pub record HasSent (seat : Seat) (facts : List Fact) (s : Sending) : Type 0 wher
   pub last_cast : s.last_cast ≡ time_of seat.group.size (upto_last_cast facts)
   pub fields : length s.last_told ≡ seat.group.size
   pub told : TellsLast seat facts s.has_told s.last_told
+
+-- after another fact, whose acknowledgements are known, the window keeps the own casts above what is stable now
+abbrev pub TrimsToStable : ℕ → Known → Sent → Sent → Type 0
+TrimsToStable me known old new =
+    (seat : Seat) (facts : List Fact) (f : Fact) → seat.me ≡ me → AreFactsOf seat (facts ++ f ∷ []) → is_own_cast f ≡ false
+    → KnowsAcknowledged seat (facts ++ f ∷ []) known → KeepsOwnCasts seat facts old → KeepsOwnCasts seat (facts ++ f ∷ []) new

@@ -9,7 +9,7 @@ use Rattle.cb_history.specs.Legal.{IsLegal}
 use Rattle.cb_history.specs.State.{MemberState, IsMemberState, state_of}
 use Rattle.cb_member.specs.declared.delivery.Delivery.{Delivery}
 use Rattle.cb_member.specs.declared.store.Store.{Store}
-use Rattle.cb_member.specs.Delivery.{IsNewDelivery, Waits}
+use Rattle.cb_member.specs.Delivery.{IsNewDelivery, HasWindow, Waits}
 use Rattle.cb_member.specs.Reception.{IsNewReception, HasReceivedAll}
 use Rattle.cb_member.specs.Knowledge.{IsNewKnowledge, KnowsFacts}
 use Rattle.cb_member.specs.Sending.{IsNewSending, HasSent}
@@ -17,6 +17,7 @@ use Rattle.cb_member.specs.Sending.{IsNewSending, HasSent}
 -- the view is delivered, what else is expanded waits, and the events are those of the facts
 pub record HasDelivered (seat : Seat) (facts : List Fact) (d : Delivery) : Type 0 where
   pub waits : Waits seat.group.size (casts_in facts) (view seat.group.size facts) d
+  pub windows : HasWindow seat.group.window d
   pub events : d.events.items ≡ events seat facts
 
 -- all that is kept beside the entries is what these facts say
@@ -47,10 +48,26 @@ pub record IsAlike (old new : Store) : Type 0 where
   pub knowledge : new.knowledge ≡ old.knowledge
   pub sending : new.sending ≡ old.sending
 
+-- the same, where there may be more room for what casts need to be expanded as well
+pub record IsSameWithRoom (old new : Store) : Type 0 where
+  pub entries : new.entries.items ≡ old.entries.items
+  pub events : new.delivery.events.items ≡ old.delivery.events.items
+  pub delivery : new.delivery ≡ record old.delivery { events = new.delivery.events }
+  pub spares : new.reception.spares.items ≡ old.reception.spares.items
+  pub reception : new.reception ≡ record old.reception { spares = new.reception.spares }
+  pub knowledge : new.knowledge ≡ old.knowledge
+  pub sending : new.sending ≡ old.sending
+
 -- there is room for one more entry, and for so many events
 pub record HasRoom (events : ℕ) (store : Store) : Type 0 where
   pub entries : vec_len store.entries < vec_capacity store.entries
   pub events_fit : vec_len store.delivery.events + events ≤ vec_capacity store.delivery.events
+
+-- and for what one more cast needs
+pub record HasRoomFor (events : ℕ) (store : Store) : Type 0 where
+  pub entries : vec_len store.entries + 1 ≤ vec_capacity store.entries
+  pub events_fit : vec_len store.delivery.events + events ≤ vec_capacity store.delivery.events
+  pub spares : vec_len store.reception.spares + 1 ≤ vec_capacity store.reception.spares
 
 -- a member's state is that of its entries, and the rest is what they say
 pub record IsKept (seat : Seat) (limit : ℕ) (store : Store) : Type 0 where

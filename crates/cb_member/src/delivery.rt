@@ -58,7 +58,8 @@ impl Delivery {
             ≤ vec_capacity deliveries.old }
         requires events { vec_len self.old.events + map.len self.old.queue.held
             ≤ vec_capacity self.old.events }
-        ensures { Drains self.old self.new deliveries.old.items deliveries.new.items }
+        ensures drained { Drains self.old self.new deliveries.old.items deliveries.new.items }
+        ensures few { vec_len deliveries.new ≤ vec_len deliveries.old + map.len self.old.queue.held }
     {
         'deliveries: while let Some((message, copy)) = self.deliver_next() {
             push_within(deliveries, message);

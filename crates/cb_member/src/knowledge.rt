@@ -1,9 +1,15 @@
 //! What a member knows of the others.
 
-ghost use Rattle.std.specs.Prelude.{IfOk};
+ghost use Rattle.std.specs.Prelude.{◌≡◌, ◌<◌, IfOk, length};
+ghost use Rattle.std.specs.List.{All};
 ghost use Rattle.cb_times.specs.Group.{IsGroupSize};
-ghost use Rattle.cb_member.specs.Knowledge.{IsNewKnowledge};
+ghost use Rattle.cb_frames.specs.Fields.{status_fields};
+ghost use Rattle.cb_history.specs.Known.{value_in};
+ghost use Rattle.cb_member.specs.Knowledge.{IsNewKnowledge, IsRaisedBy, HasTimeOf, LearnsAll, HearsStatus};
+ghost use Rattle.cb_member.specs.Taking.{Hears};
 
+use cb_delay::Message;
+use cb_frames::{Change, Status};
 use cb_stability::Acks;
 use cb_times::{NoMemory, VectorTime};
 use std::alloc::Global;
@@ -27,5 +33,60 @@ impl Knowledge {
             known: VectorTime::zero(alloc, size)?,
             acks: Acks::new(alloc, size)?,
         })
+    }
+
+    /// This member has cast as far as this.
+    pub fn hear(&mut self, sender: u32, number: u32)
+        requires { sender < length self.old.known }
+        ensures { Hears sender number self.old self.new }
+    {
+        let heard = self.known.get(sender);
+        self.known.set(sender, heard.max(number));
+    }
+
+    /// These messages are delivered: their senders had delivered as many casts of member me as the messages' times say.
+    pub fn acknowledge(&mut self, me: u32, deliveries: &[Message])
+        requires me { me < self.old.acks.size }
+        requires senders { All (HasTimeOf self.old.acks.size) deliveries.now }
+        ensures acks { LearnsAll me deliveries.now self.old.acks self.new.acks }
+        ensures known { self.new.known ≡ self.old.known }
+    {
+        for message in deliveries {
+            let count = message.time.get(me);
+            self.acks.learn(message.name.sender, me, count);
+        }
+    }
+
+    /// Another member said by a status how far each sender has cast, and how many of this member's casts it delivered.
+    pub fn hear_status(&mut self, me: u32, status: &Status)
+        requires me { me < self.old.acks.size }
+        requires sender { status.now.sender < self.old.acks.size }
+        ensures { HearsStatus me (status_fields status.now) self.old self.new }
+    {
+        raise_by(&mut self.known, &status.values);
+        self.acks
+            .learn(status.sender, me, value_in(&status.values, me));
+    }
+}
+
+/// The value of a field in a status, 0 where it says none.
+pub fn value_in(values: &[Change], k: u32) -> u32
+    ensures { result ≡ value_in values.now k }
+{
+    for value in values {
+        if value.field == k {
+            return value.amount;
+        }
+    }
+    0
+}
+
+/// Each field becomes the greater of what it was and the value.
+fn raise_by(known: &mut VectorTime, values: &[Change])
+    ensures { IsRaisedBy values.now known.old known.new }
+{
+    for k in 0..known.size() {
+        let heard = value_in(values, k);
+        known.set(k, known.get(k).max(heard));
     }
 }

@@ -4,10 +4,11 @@
 //! beside its history is tied to the entries by named facts: the counts of the view, the messages that are expanded and not delivered,
 //! the casts that wait for those before them, what is known of the others, the own casts above stable.
 //!
-//! So far a member starts, is read and casts, and its delay queue is drained; arrivals and ticks are not here yet. Stands on the crates
-//! below: on `cb_times`, `cb_diffs`, `cb_delay`, `cb_gaps` and `cb_stability` for the work, on `cb_history` for types and meaning.
+//! Stands on the crates below: on `cb_times`, `cb_frames`, `cb_diffs`, `cb_delay`, `cb_gaps` and `cb_stability` for the work, on
+//! `cb_history` for types and meaning.
 #![tactic(auto)]
 
+mod arrival;
 mod cast;
 mod delivery;
 mod knowledge;
@@ -15,12 +16,15 @@ mod member;
 mod reception;
 mod sending;
 mod store;
+mod taking;
 mod text;
+mod tick;
 
-pub use cb_frames::Range;
+pub use cb_frames::{FrameFault, Range};
 pub use cb_history::{
-    BadGroup, CastDone, CastRefusal, Entry, Event, Group, History, LONGEST_HISTORY, Message,
-    MissingFault, Name, NewFault, Seat,
+    Arrival, ArriveRefusal, BadGroup, CastDone, CastRefusal, Entry, Event, Group, GroupMember,
+    History, LONGEST_HISTORY, Message, MissingFault, Name, NewFault, Outgoing, Seat, TickRefusal,
+    Ticked,
 };
 pub use cb_times::{NoMemory, TimeOrder, VectorTime};
 pub use member::Member;

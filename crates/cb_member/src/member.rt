@@ -1,19 +1,20 @@
 //! The member, and what is read of it.
 
-ghost use Rattle.std.specs.Prelude.{◌≡◌, ◌≢◌, ◌↔◌, ◌⊎◌, ◌≤◌, ◌<◌, [], IfOk, IfErr, OnErr, Some, Err, map};
+ghost use Rattle.std.specs.Prelude.{◌≡◌, ◌≢◌, ◌↔◌, ◌⊎◌, ◌≤◌, ◌<◌, [], IfOk, IfErr, OnErr, Some, Err, map, option_map};
 ghost use Rattle.cb_history.specs.Group.{IsSeat};
-ghost use Rattle.cb_history.specs.Legal.{longest_history, ToCast};
+ghost use Rattle.cb_history.specs.Legal.{longest_history, ToCast, ToTake, ToTick};
 ghost use Rattle.cb_history.specs.Facts.{entry_fields};
 ghost use Rattle.cb_history.specs.Known.{ranges_of};
-ghost use Rattle.cb_history.specs.State.{IsMemberState, state_of, time_in, events_in, stable_in, missing_in, entry_by, HasCast};
+ghost use Rattle.cb_history.specs.State.{IsMemberState, state_of, time_in, events_in, stable_in, missing_in, entry_by, HasCast, HasTaken, RefusesArrival, HasTicked, RefusesTick};
 ghost use Rattle.cb_member.specs.Casting.{RefusesExactly};
 
-use crate::cast;
 use crate::store::Store;
+use crate::{arrival, cast, tick};
+use bytes::Bytes;
 use cb_frames::Range;
 use cb_history::{
-    CastDone, CastRefusal, Entry, Event, Group, History, LONGEST_HISTORY, MissingFault, NewFault,
-    Seat,
+    Arrival, ArriveRefusal, CastDone, CastRefusal, Entry, Event, Group, GroupMember, History,
+    LONGEST_HISTORY, MissingFault, NewFault, Seat, TickRefusal, Ticked,
 };
 use cb_times::{NoMemory, VectorTime};
 use std::alloc::Global;
@@ -21,7 +22,8 @@ use std::marker::Model;
 
 /// One member of a group: its history, and beside it what makes its answers quick.
 ///
-/// So far it starts and is read; what changes it comes next.
+/// Each call answers what its definition in `cb_history` says of the history so far, which is legal whatever came. After want of memory,
+/// as after any refusal, the member is as it was.
 #[derive(Drop)]
 pub struct Member {
     seat: Seat,
@@ -126,9 +128,7 @@ impl Member {
         requires other { i ≢ self.now.seat.me }
         ensures { IfOk result (λ ranges. ranges.items ≡ ranges_of (missing_in self.now i)) }
     {
-        let delivered = self.store.delivery.time.get(i);
-        let known = self.store.knowledge.known.get(i);
-        self.store.reception.buffers[i as usize].missing(delivered, known)
+        self.store.missing(self.seat, i)
     }
 
     /// Casts a message of this payload, of up to 1,024 bytes, and tells its name, its time and the frame that goes to all others.
@@ -155,6 +155,55 @@ impl Member {
         cast::answer(self.seat, self.limit, &mut self.store, payload)
     }
 
+    /// Takes bytes that came: delivers what they make ready, or answers a request.
+    ///
+    /// A refusal is that of the definition, in the order of `ArriveRefusal`; a repeat is told before a cast that is too far ahead.
+    /// `NoMemory` may stand in place of any answer for bytes that are a frame; what is no frame is refused without memory. After a
+    /// refusal the member is as it was.
+    pub fn arrive(&mut self, bytes: &Bytes) -> Result<Arrival, ArriveRefusal>
+        ensures taken { IfOk result (HasTaken self.old self.new bytes.now) }
+        ensures refused { IfErr result (RefusesArrival self.old bytes.now) }
+        ensures same { OnErr result (self.new ≡ self.old) }
+    {
+        let (arrival, _noted) = self.arrive_noted(bytes)?;
+        Ok(arrival)
+    }
+
+    /// The same, with a copy of the entry that was added, where one was.
+    pub fn arrive_noted(&mut self, bytes: &Bytes) -> Result<(Arrival, Option<Entry>), ArriveRefusal>
+        ensures taken { IfOk result (λ noted. HasTaken self.old self.new bytes.now noted.0) }
+        ensures entry { IfOk result (λ noted. entry_by self.old (ToTake bytes.now)
+            ≡ option_map entry_fields noted.1) }
+        ensures refused { IfErr result (RefusesArrival self.old bytes.now) }
+        ensures same { OnErr result (self.new ≡ self.old) }
+    {
+        arrival::answer(self.seat, self.limit, &mut self.store, bytes)
+    }
+
+    /// Tells the status to all others, and asks each for what is missing of it.
+    ///
+    /// The status is an entry only where it differs from the last one. `NoMemory` may stand in place of any answer. After a refusal
+    /// the member is as it was.
+    pub fn tick(&mut self) -> Result<Ticked, TickRefusal>
+        ensures done { IfOk result (HasTicked self.old self.new) }
+        ensures refused { IfErr result (RefusesTick self.old) }
+        ensures same { OnErr result (self.new ≡ self.old) }
+    {
+        let (done, _noted) = self.tick_noted()?;
+        Ok(done)
+    }
+
+    /// The same, with a copy of the entry that was added, where one was.
+    pub fn tick_noted(&mut self) -> Result<(Ticked, Option<Entry>), TickRefusal>
+        ensures done { IfOk result (λ noted. HasTicked self.old self.new noted.0) }
+        ensures entry { IfOk result (λ noted. entry_by self.old ToTick
+            ≡ option_map entry_fields noted.1) }
+        ensures refused { IfErr result (RefusesTick self.old) }
+        ensures same { OnErr result (self.new ≡ self.old) }
+    {
+        tick::answer(self.seat, self.limit, &mut self.store)
+    }
+
     /// All that the member did, for good.
     pub fn into_history(self) -> History
         ensures seat { (result.group ≡ self.seat.group) × (result.me ≡ self.seat.me) }
@@ -166,6 +215,62 @@ impl Member {
             entries: self.store.entries,
         }
     }
+}
+
+impl GroupMember for Member {
+    ghost state = { λ member. member };
+
+    fn cast(&mut self, payload: &[u8]) -> Result<CastDone, CastRefusal> {
+        Member::cast(self, payload)
+    }
+
+    fn arrive(&mut self, bytes: &Bytes) -> Result<Arrival, ArriveRefusal> {
+        Member::arrive(self, bytes)
+    }
+
+    fn tick(&mut self) -> Result<Ticked, TickRefusal> {
+        Member::tick(self)
+    }
+
+    fn time(&self) -> Result<VectorTime, NoMemory> {
+        Member::time(self).copy()
+    }
+
+    fn events(&self) -> Result<Vec<Event>, NoMemory> {
+        copies_of(*self.store.entries.allocator(), Member::events(self))
+    }
+
+    fn missing(&self, i: u32) -> Result<Vec<Range>, MissingFault> {
+        Member::missing(self, i)
+    }
+
+    fn stable(&self) -> Result<u32, NoMemory> {
+        Ok(Member::stable(self))
+    }
+
+    fn entries(&self) -> Result<Vec<Entry>, NoMemory> {
+        Entry::copies(*self.store.entries.allocator(), self.history())
+    }
+}
+
+/// The same events once more.
+fn copies_of(alloc: Global, events: &[Event]) -> Result<Vec<Event>, NoMemory>
+    ensures { IfOk result (λ copies. copies.items ≡ events.now) }
+{
+    let mut copies = Vec::with_capacity(alloc, events.len())?;
+    for event in events {
+        copies.push(copy_of(event)?)?;
+    }
+    Ok(copies)
+}
+
+fn copy_of(event: &Event) -> Result<Event, NoMemory>
+    ensures { IfOk result (λ copy. copy ≡ event.now) }
+{
+    Ok(match event {
+        Event::Cast(message) => Event::Cast(message.copy()?),
+        Event::Deliver(message) => Event::Deliver(message.copy()?),
+    })
 }
 
 #[cfg(test)]

@@ -1,11 +1,17 @@
 //! The casts of others that came, until the delay queue has them.
 
-ghost use Rattle.std.specs.Prelude.{◌≡◌, IfOk};
+ghost use Rattle.std.specs.Prelude.{◌≡◌, ◌+◌, ◌≤◌, ◌<◌, ◌∷◌, Any, IfOk, IfSome, IfNone, OnSome, length};
+ghost use Rattle.std.specs.List.Sorted.{IsPermutation};
+ghost use Rattle.std.specs.Vec.{vec_capacity, vec_len};
 ghost use Rattle.cb_times.specs.Group.{IsGroupSize, IsWindow};
+ghost use Rattle.cb_diffs.specs.Expansion.{IsNext};
 ghost use Rattle.cb_frames.specs.Fields.{cast_fields};
 ghost use Rattle.cb_member.specs.Reception.{IsSpareFor, IsNewReception};
+ghost use Rattle.cb_member.specs.Taking.{WouldExpand, CanKeep, KeepsCast, IsReceiving, ExpandsNext, HasNoNextOf, TellsTwice};
 
+use crate::delivery::push_within;
 use bytes::Bytes;
+use cb_delay::Message;
 use cb_diffs::Expander;
 use cb_frames::Cast;
 use cb_gaps::Reorder;
@@ -64,6 +70,75 @@ impl Reception {
             spares: Vec::new(alloc),
         })
     }
+
+    /// How many more messages of the sender could be expanded, were its cast of this number there as well.
+    pub fn would_expand(&self, sender: u32, number: u32) -> u32
+        requires { sender < length self.now.buffers.items }
+        ensures { WouldExpand sender number self.now result }
+    {
+        self.buffers[sender as usize].ready_with(number)
+    }
+
+    /// Keeps a cast of another member until those before it came, and what is made for it.
+    pub fn keep(&mut self, delivered: u32, cast: Cast, spare: Spare)
+        requires can_keep { CanKeep delivered (cast_fields cast) self.old }
+        requires room { vec_len self.old.spares + 1 ≤ vec_capacity self.old.spares }
+        ensures { KeepsCast (cast_fields cast) spare self.old self.new }
+    {
+        push_within(&mut self.spares, spare);
+        let sender = cast.sender as usize;
+        let _kept = self.buffers[sender].keep(delivered, cast);
+    }
+
+    /// The sender's next message, twice, where its cast is there and none is missing before it.
+    pub fn expand_next(&mut self, sender: u32) -> Option<(Message, Message)>
+        requires { IsReceiving sender self.old }
+        ensures some { IfSome result (λ messages. ExpandsNext sender self.old self.new messages) }
+        ensures none { IfNone result (HasNoNextOf sender self.old self.new) }
+        ensures fewer { OnSome result (vec_len self.new.spares + 1 ≡ vec_len self.old.spares) }
+    {
+        let cast = self.buffers[sender as usize].take_next()?;
+        let spare = take_spare(&mut self.spares, name_of(&cast));
+        Some(tell_twice(&mut self.expander, cast, spare))
+    }
+}
+
+/// The message of the sender's next cast, and a copy of it made of its spare.
+fn tell_twice(expander: &mut Expander, cast: Cast, mut spare: Spare) -> (Message, Message)
+    requires next { IsNext expander.old (cast_fields cast) }
+    requires time { length spare.time ≡ length expander.old }
+    requires copy { length spare.copy ≡ length expander.old }
+    ensures { TellsTwice (cast_fields cast) spare.payload expander.old expander.new result }
+{
+    let name = name_of(&cast);
+    let Ok(()) = expander.expand_into(&cast, &mut spare.time) else {
+        unreachable!("it is the next one")
+    };
+    spare.copy.copy_from(&spare.time);
+    let message = Message {
+        name,
+        time: spare.time,
+        payload: cast.payload,
+    };
+    let copy = Message {
+        name,
+        time: spare.copy,
+        payload: spare.payload,
+    };
+    (message, copy)
+}
+
+/// Takes out the spare of this name.
+fn take_spare(spares: &mut Vec<Spare>, name: Name) -> Spare
+    requires { Any (λ spare. spare.name ≡ name) spares.old.items }
+    ensures name { result.name ≡ name }
+    ensures others { IsPermutation spares.old.items (result ∷ spares.new.items) }
+    ensures len { vec_len spares.new + 1 ≡ vec_len spares.old }
+{
+    let Some(place) = spares.iter().position(|spare| spare.name == name) else {
+        unreachable!("there is one")
+    };
+    spares.swap_remove(place)
 }
 
 fn name_of(cast: &Cast) -> Name

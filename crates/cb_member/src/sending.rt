@@ -1,10 +1,10 @@
 //! What a member sent.
 
-ghost use Rattle.std.specs.Prelude.{IfOk};
+ghost use Rattle.std.specs.Prelude.{◌≡◌, ◌↔◌, ◌<◌, IfOk, true, false, length};
 ghost use Rattle.cb_times.specs.Group.{IsGroupSize, IsWindow};
-ghost use Rattle.cb_member.specs.Sending.{IsNewSending};
+ghost use Rattle.cb_member.specs.Sending.{IsNewSending, TrimsToStable};
 
-use cb_stability::SentWindow;
+use cb_stability::{Acks, SentWindow};
 use cb_times::{NoMemory, VectorTime};
 use std::alloc::Global;
 
@@ -34,5 +34,22 @@ impl Sending {
             has_told: false,
             last_told: VectorTime::zero(alloc, size)?,
         })
+    }
+
+    /// Lets go of the own casts that are stable. For after a fact that is no own cast, once what it acknowledges is learnt.
+    pub fn trim(&mut self, me: u32, acks: &Acks)
+        requires { me < acks.now.size }
+        ensures window { TrimsToStable me acks.now self.old.window self.new.window }
+        ensures rest { self.new ≡ record self.old { window = self.new.window } }
+    {
+        self.window.trim(acks.stable(me));
+    }
+
+    /// No status was told yet, or the last one said another time.
+    pub fn is_news(&self, time: &VectorTime) -> bool
+        requires { length time.now ≡ length self.now.last_told }
+        ensures { (result ≡ false) ↔ ((self.now.has_told ≡ true) × (self.now.last_told ≡ time.now)) }
+    {
+        !self.has_told || self.last_told.as_slice() != time.as_slice()
     }
 }

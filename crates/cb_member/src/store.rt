@@ -1,14 +1,20 @@
 //! Everything that a member keeps.
 
-ghost use Rattle.std.specs.Prelude.{IfOk, OnOk};
+ghost use Rattle.std.specs.Prelude.{◌≡◌, ◌≢◌, ◌<◌, IfOk, OnOk, length};
+ghost use Rattle.std.specs.Vec.{vec_capacity, vec_len};
 ghost use Rattle.cb_times.specs.Group.{IsGroupSize, IsWindow};
-ghost use Rattle.cb_member.specs.Store.{IsNewStore, IsAlike, HasRoom};
+ghost use Rattle.cb_frames.specs.Fields.{status_fields};
+ghost use Rattle.cb_history.specs.Known.{missing, ranges_of};
+ghost use Rattle.cb_member.specs.Store.{IsNewStore, IsAlike, HasRoom, IsSameWithRoom, HasRoomFor, Stands, facts_held};
+ghost use Rattle.cb_member.specs.Telling.{HasTold};
+ghost use Rattle.cb_member.specs.Hearing.{HasHeard};
 
-use crate::delivery::Delivery;
+use crate::delivery::{Delivery, push_within};
 use crate::knowledge::Knowledge;
 use crate::reception::Reception;
 use crate::sending::Sending;
-use cb_history::Entry;
+use cb_frames::{Range, Status};
+use cb_history::{Entry, Seat};
 use cb_times::NoMemory;
 use std::alloc::Global;
 
@@ -46,5 +52,50 @@ impl Store {
         self.entries.reserve(1)?;
         self.delivery.events.reserve(events)?;
         Ok(())
+    }
+
+    /// The same, and room for what one more cast needs to be expanded.
+    pub fn reserve_for_cast(&mut self, events: usize) -> Result<(), NoMemory>
+        ensures same { IsSameWithRoom self.old self.new }
+        ensures room { OnOk result (HasRoomFor events self.new) }
+    {
+        self.reserve(events)?;
+        self.reception.spares.reserve(1)
+    }
+
+    /// The casts of member i that are missing.
+    pub fn missing(&self, seat: Seat, i: u32) -> Result<Vec<Range>, NoMemory>
+        requires store { Stands seat self.now }
+        requires of_group { i < seat.group.size }
+        requires other { i ≢ seat.me }
+        ensures { IfOk result (λ ranges. ranges.items
+            ≡ ranges_of (missing seat (facts_held self.now) i)) }
+    {
+        let delivered = self.delivery.time.get(i);
+        let known = self.knowledge.known.get(i);
+        self.reception.buffers[i as usize].missing(delivered, known)
+    }
+
+    /// Enters the status that says the time.
+    pub fn enter_status(&mut self, entry: Entry)
+        requires room { vec_len self.old.entries < vec_capacity self.old.entries }
+        requires fields { length self.old.sending.last_told ≡ length self.old.delivery.time }
+        ensures { HasTold entry self.old self.new }
+    {
+        push_within(&mut self.entries, entry);
+        self.sending.has_told = true;
+        self.sending.last_told.copy_from(&self.delivery.time);
+    }
+
+    /// Enters a status that came, and keeps what it says.
+    pub fn enter_heard(&mut self, me: u32, status: &Status, entry: Entry)
+        requires room { vec_len self.old.entries < vec_capacity self.old.entries }
+        requires me { me < self.old.knowledge.acks.size }
+        requires sender { status.now.sender < self.old.knowledge.acks.size }
+        ensures { HasHeard me (status_fields status.now) entry self.old self.new }
+    {
+        push_within(&mut self.entries, entry);
+        self.knowledge.hear_status(me, status);
+        self.sending.trim(me, &self.knowledge.acks);
     }
 }

@@ -1,5 +1,5 @@
 use Rattle.std.proofs.Common.{arith}
-use Rattle.cb_member.proofs.Entering.{cast_keeps}
+use Rattle.cb_member.proofs.OwnCasts.{cast_keeps}
 use Rattle.cb_member.proofs.cast.answer.Goals as goal
 
 pub returns-clause-kept : goal.returns-clause-kept

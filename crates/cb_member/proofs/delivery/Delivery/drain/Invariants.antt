@@ -9,6 +9,7 @@ abbrev pub invariant-deliveries : goal.invariant-deliveries
 invariant-deliveries l = record {
   waits : IsWaiting l.self;
   way : AreDraining l.fn.self l.self l.fn.deliveries.items l.deliveries.items;
+  few : vec_len l.deliveries + map.len l.self.queue.held ≤ vec_len l.fn.deliveries + map.len l.fn.self.queue.held;
   room : vec_len l.deliveries + map.len l.self.queue.held ≤ vec_capacity l.deliveries;
   places : vec_len l.self.events + map.len l.self.queue.held ≤ vec_capacity l.self.events;
 }

@@ -1,0 +1,184 @@
+-- A status that came: what the rules say of it, and what is kept of it.
+use Rattle.std.proofs.Common.{◌≡◌, ◌≢◌, ℕ, zero, suc, ◌+◌, ◌-◌, ◌<◌, max, Bool, true, false, not, cond, eqb, ltb, ◌&&◌, ◌||◌, List, [], ◌∷◌, ◌++◌, length, map, drop, Option, Some, None, Result, Ok, refl, sym, ap, subst, ◌∙◌, arith, inl, inr}
+use Rattle.std.specs.Prelude.{option_map}
+use Rattle.std.specs.List.{list_all, list_any, range_with_len}
+use Rattle.std.proofs.lemmas.Bool.{cases_eq, eq-eqb, ne_eqb, ltb-true}
+use Rattle.std.proofs.lemmas.List.{append-nil, drop_all}
+use Rattle.cb_times.specs.Order.{field}
+use Rattle.cb_frames.specs.declared.frame.Change.{Change}
+use Rattle.cb_frames.specs.Fields.{StatusFields, StatusFrame}
+use Rattle.cb_frames.specs.Laws.{IsBytes}
+use Rattle.cb_frames.specs.Reading.{frame_at}
+use Rattle.cb_delay.specs.declared.message.Message.{Message}
+use Rattle.cb_stability.specs.Known.{count}
+use Rattle.cb_history.specs.declared.answer.Arrival.{Arrival}
+use Rattle.cb_history.specs.declared.answer.ArriveRefusal.{ArriveRefusal}
+use Rattle.cb_history.specs.declared.history.Entry.{Entry}
+use Rattle.cb_history.specs.Group.{Seat}
+use Rattle.cb_history.specs.Facts.{EntryFields, ArriveEntry, Fact, StatusCame, arrival_said, casts_in, entry_fields, said_by}
+use Rattle.cb_history.specs.View.{message_in, time_of, view}
+use Rattle.cb_history.specs.Known.{acknowledged, known, value_in}
+use Rattle.cb_history.specs.Answers.{ArrivalSays, Accepted, arrival_says, deliveries, delivered, is_news}
+use Rattle.cb_history.specs.Legal.{ToTake, arrive_entry}
+use Rattle.cb_history.specs.LegalFacts.{AreFactsOf}
+use Rattle.cb_history.specs.State.{HasTaken, answer_to_arrival, entry_by}
+use Rattle.cb_history.proofs.Histories.{legal_histories_say_legal_facts}
+use Rattle.cb_history.proofs.Rising.{status_is_acknowledged, status_is_known}
+use Rattle.cb_history.proofs.Statuses.{last_status_with_one_more}
+use Rattle.cb_history.proofs.Views.{casts_in-append}
+use Rattle.cb_history.proofs.Walks.{view_status}
+use Rattle.cb_member.specs.declared.delivery.Delivery.{Delivery}
+use Rattle.cb_member.specs.declared.knowledge.Knowledge.{Knowledge}
+use Rattle.cb_member.specs.declared.store.Store.{Store}
+use Rattle.cb_member.specs.Hearing.{HasHeard, TakesStatus, answer_to_status}
+use Rattle.cb_member.specs.Knowledge.{HearsStatus, KnowsFacts}
+use Rattle.cb_member.specs.Reception.{HasReceivedAll}
+use Rattle.cb_member.specs.Sending.{HasSent, TellsLast}
+use Rattle.cb_member.specs.Store.{HasDelivered, IsKept, Keeps, facts_held, held_by}
+use Rattle.cb_member.proofs.Entering.{after_entry, facts_with_entry, state_with_entry}
+use Rattle.cb_member.proofs.Reading.{time_at}
+use Rattle.cb_member.proofs.Staying.{delivered_stays, keeps_alike, received_stays}
+use Rattle.cb_history.proofs.Times.{upto_other}
+use Rattle.cb_member.proofs.Answering.{answered}
+use Rattle.cb_member.proofs.Telling.{row_more}
+
+pub both_true : (a b : Bool) → (a && b) ≡ true → (a ≡ true) × (b ≡ true)
+both_true true b h = (refl, h)
+both_true false b h = absurd cc
+
+-- ---- searches over a row of members
+
+pub any_more : (p : ℕ → Bool) (n i : ℕ) → i < n → p i ≡ false → list_any p (range_with_len (i + 1) (n - (i + 1))) ≡ list_any p (range_with_len i (n - i))
+any_more p n i lt fails = rw (row_more n i lt, fails) refl
+
+pub any_holds : (p : ℕ → Bool) (n i : ℕ) → i < n → p i ≡ true → list_any p (range_with_len i (n - i)) ≡ true
+any_holds p n i lt holds = rw (row_more n i lt, holds) refl
+
+any_over : (p q : ℕ → Bool) (a n : ℕ) → ((k : ℕ) → k < a + n → p k ≡ q k) → list_any p (range_with_len a n) ≡ list_any q (range_with_len a n)
+any_over p q a zero same = refl
+any_over p q a (suc n) same =
+    ap (λ (b : Bool). b || list_any p (range_with_len (a + 1) n)) (same a (omega arith))
+    ∙ ap (λ (b : Bool). q a || b) (any_over p q (a + 1) n (λ k lt. same k (omega (arith, lt))))
+
+any_among : (p q r : Change → Bool) (ds : List Change) → list_all r ds ≡ true → ((d : Change) → r d ≡ true → p d ≡ q d) → list_any p ds ≡ list_any q ds
+any_among p q r [] all same = refl
+any_among p q r (d ∷ ds) all same =
+    let parts = both_true (r d) (list_all r ds) all in
+    ap (λ (b : Bool). b || list_any p ds) (same d parts.0) ∙ ap (λ (b : Bool). q d || b) (any_among p q r ds parts.1 same)
+
+-- ---- what the rules say
+
+-- of the members of the group the time counts what is delivered
+pub ahead_is : (seat : Seat) (facts : List Fact) (d : Delivery) (values : List Change) → HasDelivered seat facts d → list_all (λ v. ltb v.field seat.group.size) values ≡ true
+    → list_any (λ v. ltb (field d.time v.field) v.amount) values ≡ list_any (λ v. ltb (delivered seat facts v.field) v.amount) values
+ahead_is seat facts d values has all =
+    any_among (λ v. ltb (field d.time v.field) v.amount) (λ v. ltb (delivered seat facts v.field) v.amount) (λ v. ltb v.field seat.group.size) values all
+    (λ v small. ap (λ (n : ℕ). ltb n v.amount) (time_at seat facts d v.field has (ltb-true v.field seat.group.size small)))
+
+abbrev pub tells_more : Seat → List ℕ → List Change → ℕ → Bool
+tells_more seat heard values k = not (eqb k seat.me) && ltb (field heard k) (value_in values k)
+
+tells_is : (seat : Seat) (facts : List Fact) (k : Knowledge) (values : List Change) → KnowsFacts seat facts k
+    → list_any (tells_more seat k.known values) (range_with_len 0 seat.group.size) ≡ list_any (λ i. not (eqb i seat.me) && ltb (known facts i) (value_in values i)) (range_with_len 0 seat.group.size)
+tells_is seat facts k values knows =
+    any_over (tells_more seat k.known values) (λ i. not (eqb i seat.me) && ltb (known facts i) (value_in values i)) 0 seat.group.size (λ i lt. elim (cases_eq i seat.me) [
+      | inl own ↦ rw (eq-eqb i seat.me own) refl
+      | inr other ↦ ap (λ (n : ℕ). not (eqb i seat.me) && ltb n (value_in values i)) (knows.heard i (omega (arith, lt)) other)
+    ])
+
+-- a status of another is news where it tells more of casts, or of this member's that its sender delivered
+pub news_is : (seat : Seat) (facts : List Fact) (k : Knowledge) (s : StatusFields) → KnowsFacts seat facts k → s.sender ≢ seat.me → s.sender < seat.group.size
+    → is_news seat facts s ≡ (list_any (tells_more seat k.known s.values) (range_with_len 0 seat.group.size) || ltb (count k.acks s.sender seat.me) (value_in s.values seat.me))
+news_is seat facts k s knows other small =
+    rw (ne_eqb s.sender seat.me other)
+    (ap (λ (b : Bool). b || ltb (acknowledged seat facts s.sender) (value_in s.values seat.me)) (sym (tells_is seat facts k s.values knows))
+    ∙ ap (λ (n : ℕ). list_any (tells_more seat k.known s.values) (range_with_len 0 seat.group.size) || ltb n (value_in s.values seat.me)) (sym (knows.acknowledged.learnt s.sender small other)))
+
+-- ---- what is kept with one more status that came
+
+no_cast_heard : (facts : List Fact) (s : StatusFields) → casts_in (facts ++ StatusCame s ∷ []) ≡ casts_in facts
+no_cast_heard facts s = casts_in-append facts (StatusCame s) ∙ append-nil (casts_in facts)
+
+knows_more : (seat : Seat) (facts : List Fact) (s : StatusFields) (old new : Knowledge) → HearsStatus seat.me s old new → KnowsFacts seat facts old → KnowsFacts seat (facts ++ StatusCame s ∷ []) new
+knows_more seat facts s old new hears knows = record {
+  fields = hears.known.fields ∙ knows.fields;
+  heard = λ i lt other.
+      hears.known.raised i (omega (arith, lt, knows.fields)) ∙ ap (λ (n : ℕ). max n (value_in s.values i)) (knows.heard i lt other) ∙ sym (status_is_known facts s i);
+  acknowledged = record {
+    of_size = hears.acks.size ∙ knows.acknowledged.of_size;
+    learnt = λ k lt other. by_sender k (knows.acknowledged.learnt k lt other) ∙ sym (status_is_acknowledged seat facts s k);
+  };
+}
+  where
+    by_sender : (k : ℕ) → count old.acks k seat.me ≡ acknowledged seat facts k
+        → count new.acks k seat.me ≡ cond (eqb s.sender k) (max (acknowledged seat facts k) (value_in s.values seat.me)) (acknowledged seat facts k)
+    by_sender k was = elim (cases_eq s.sender k) [
+      | inl own ↦
+          rw (eq-eqb s.sender k own)
+          (ap (λ (m : ℕ). count new.acks m seat.me) (sym own) ∙ hears.acks.learned
+          ∙ ap (λ (n : ℕ). max n (value_in s.values seat.me)) (ap (λ (m : ℕ). count old.acks m seat.me) own ∙ was))
+      | inr other ↦ rw (ne_eqb s.sender k other) (hears.acks.members k seat.me (λ e. other (sym e)) ∙ was)
+    ]
+
+told_stays : (seat : Seat) (facts : List Fact) (s : StatusFields) (told : Bool) (time : List ℕ) → TellsLast seat facts told time → TellsLast seat (facts ++ StatusCame s ∷ []) told time
+told_stays seat facts s true time tells = record { before = tells.before; last = last_status_with_one_more facts (StatusCame s) None ∙ tells.last; said = tells.said }
+told_stays seat facts s false time tells = last_status_with_one_more facts (StatusCame s) None ∙ tells
+
+pub heard_keeps : (seat : Seat) (facts : List Fact) (s : StatusFields) (entry : Entry) (old new : Store) → AreFactsOf seat (facts ++ StatusCame s ∷ []) → HasHeard seat.me s entry old new → Keeps seat facts old
+    → Keeps seat (facts ++ StatusCame s ∷ []) new
+heard_keeps seat facts s entry old new are heard keeps =
+    let now = facts ++ StatusCame s ∷ [] in
+    let knows = knows_more seat facts s old.knowledge new.knowledge heard.knowledge keeps.knows in
+    let sent : HasSent seat now (record old.sending { window = new.sending.window }) = record {
+      window = heard.window seat facts (StatusCame s) refl are refl knows.acknowledged keeps.sent.window;
+      last_cast = keeps.sent.last_cast ∙ ap (time_of seat.group.size) (sym (upto_other facts (StatusCame s) tt));
+      fields = keeps.sent.fields;
+      told = told_stays seat facts s old.sending.has_told old.sending.last_told keeps.sent.told;
+    } in
+    record {
+      delivered = subst (HasDelivered seat now) (sym heard.delivery) (delivered_stays seat facts now old.delivery (no_cast_heard facts s) (view_status seat.group.size facts s) keeps.delivered);
+      received = subst (HasReceivedAll seat now) (sym heard.reception) (received_stays seat facts now old.reception (no_cast_heard facts s) keeps.received);
+      knows = knows;
+      sent = subst (HasSent seat now) (sym heard.sending) sent;
+    }
+
+-- ---- the answer
+
+-- what the arrival did is what it was to do
+pub record IsHeard (seat : Seat) (limit : ℕ) (old new : Store) (bytes : List ℕ) (noted : Arrival × Option Entry) : Type 0 where
+  pub kept : IsKept seat limit new
+  pub taken : HasTaken (held_by seat limit old) (held_by seat limit new) bytes noted.0
+  pub entry : entry_by (held_by seat limit old) (ToTake bytes) ≡ option_map entry_fields noted.1
+
+-- a status delivers nothing
+none_delivered : (seat : Seat) (facts : List Fact) (s : StatusFields) → deliveries seat facts (StatusFrame s) ≡ []
+none_delivered seat facts s =
+    ap (map (message_in seat.group.size (casts_in (facts ++ StatusCame s ∷ []))))
+    (ap (drop (length (view seat.group.size facts))) (view_status seat.group.size facts s) ∙ drop_all (length (view seat.group.size facts)) (view seat.group.size facts) (omega arith))
+
+pub heard_well : (seat : Seat) (limit : ℕ) (old new : Store) (s : StatusFields) (bytes : List ℕ) (arrival : Arrival) (copy : Entry) → IsKept seat limit old → frame_at bytes ≡ Ok (StatusFrame s) → IsBytes bytes
+    → answer_to_status seat limit old s ≡ Ok (Accepted (deliveries seat (facts_held old) (StatusFrame s)) true []) → length old.entries.items < limit
+    → TakesStatus seat.me s bytes old new copy → arrival_says arrival ≡ Accepted [] true [] → IsHeard seat limit old new bytes (arrival, Some copy)
+heard_well seat limit old new s bytes arrival copy kept read are is room takes says =
+    let facts = facts_held old in
+    let answer : answer_to_arrival (held_by seat limit old) bytes ≡ Ok (Accepted [] true []) =
+    answered seat limit old bytes (StatusFrame s) read ∙ is
+    ∙ ap (λ (ms : List Message). let r : Result ArrivalSays ArriveRefusal = Ok (Accepted ms true []) in r) (none_delivered seat facts s) in
+    let some : entry_by (held_by seat limit old) (ToTake bytes) ≡ Some (ArriveEntry bytes []) = ap (arrive_entry bytes) answer in
+    let adds : entry_by (held_by seat limit old) (ToTake bytes) ≡ Some (entry_fields takes.entry) = some ∙ ap (λ (e : EntryFields). Some e) (sym takes.says) in
+    let joined : new.entries.items ≡ old.entries.items ++ takes.entry ∷ [] = takes.heard.entries ∙ ap (λ (es : List Entry). es ++ takes.entry ∷ []) takes.alike.entries in
+    let said : said_by (entry_fields takes.entry) ≡ StatusCame s ∷ [] = ap said_by takes.says ∙ ap arrival_said read in
+    let now = facts_with_entry old new takes.entry (StatusCame s) joined said in
+    let state = state_with_entry seat limit old new (ToTake bytes) takes.entry kept.state are room adds joined in
+    let legal : AreFactsOf seat (facts ++ StatusCame s ∷ []) = subst (AreFactsOf seat) now (legal_histories_say_legal_facts seat (map entry_fields new.entries.items) state.legal) in
+    record {
+      kept = record {
+        state = state;
+        keeps = subst (λ (fs : List Fact). Keeps seat fs new) (sym now) (heard_keeps seat facts s takes.entry takes.between new legal takes.heard (keeps_alike seat facts old takes.between takes.alike kept.keeps));
+      };
+      taken = record {
+        answer = answer ∙ ap (λ (x : ArrivalSays). let r : Result ArrivalSays ArriveRefusal = Ok x in r) (sym says);
+        after = after_entry seat limit old new (ToTake bytes) takes.entry adds joined;
+      };
+      entry = some ∙ ap (λ (e : EntryFields). Some e) (sym takes.again);
+    }

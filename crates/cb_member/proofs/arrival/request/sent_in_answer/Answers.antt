@@ -1,0 +1,16 @@
+use Rattle.std.proofs.Common.{◌≡◌, ◌∙◌, map, ap, sym, rules, tests}
+use Rattle.std.proofs.lemmas.Result.{IfOk-weaker}
+use Rattle.cb_frames.specs.Fields.{request_fields}
+use Rattle.cb_history.specs.StabilityLaws.{sent_to}
+use Rattle.cb_history.proofs.Keeping.{frames_in_are_sent_in_answer}
+use Rattle.cb_stability.specs.Sent.{frames_in}
+use Rattle.cb_member.specs.Store.{facts_held}
+use Rattle.cb_member.proofs.arrival.request.sent_in_answer.Goals as goal
+
+pub returns : goal.returns
+returns c =
+    let store = c.args.store.now in
+    let request = request_fields c.args.request.now in
+    let law = frames_in_are_sent_in_answer c.args.seat (facts_held store) store.sending.window request c.requires.keeps.sent.window (search (rules, tests)) in
+    let frames : c.in_ok-frames.frames.items ≡ frames_in request.ranges store.sending.window = c.in_ok-frames.ensures ∙ ap (λ ranges. frames_in ranges store.sending.window) c.deref.ensures.value in
+    IfOk-weaker c.sent_to.result _ _ (λ out is. is ∙ ap (map (sent_to request.requester)) frames ∙ sym law) c.sent_to.ensures

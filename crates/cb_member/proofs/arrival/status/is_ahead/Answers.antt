@@ -1,0 +1,11 @@
+use Rattle.std.proofs.Common.{ltb, rules, tests}
+use Rattle.std.proofs.lemmas.Iterator.{YieldsList-from_slice}
+use Rattle.std.proofs.lemmas.Iterator.Search.{any_from_yields_List}
+use Rattle.cb_times.specs.Order.{field}
+use Rattle.cb_frames.specs.declared.frame.Change.{Change}
+use Rattle.cb_member.proofs.arrival.status.is_ahead.Goals as goal
+
+pub returns : goal.returns
+returns c =
+    any_from_yields_List (λ (d : Change). ltb (field c.args.time.now d.field) d.amount) _ _ c.any.result c.any.ensures.ran
+    (YieldsList-from_slice c.args.values.now cc) (λ x b q k. search (rules, tests))

@@ -1,0 +1,53 @@
+//! A cast of another member, up to what waits for the delay rule.
+
+ghost use Rattle.std.specs.Prelude.{◌+◌, ◌≤◌};
+ghost use Rattle.std.specs.FinMap as map;
+ghost use Rattle.std.specs.Vec.{vec_capacity, vec_len};
+ghost use Rattle.cb_frames.specs.Fields.{cast_fields};
+ghost use Rattle.cb_delay.specs.Queue.{Holds, IsDelayQueue};
+ghost use Rattle.cb_member.specs.Taking.{CanTakeIn, TakesInCast, IsTakingIn, OnlyTakesIn, TakesAll, HasTurn};
+
+use crate::reception::Spare;
+use crate::store::Store;
+use cb_delay::{DelayQueue, Message};
+use cb_frames::Cast;
+
+impl Store {
+    /// Keeps a cast of another member, and lets wait for the delay rule what can be expanded by it. It takes no memory.
+    pub fn take_in(&mut self, delivered: u32, cast: Cast, spare: Spare)
+        requires can_take { CanTakeIn delivered (cast_fields cast) spare self.old }
+        requires room { vec_len self.old.reception.spares + 1
+            ≤ vec_capacity self.old.reception.spares }
+        ensures { TakesInCast (cast_fields cast) self.old self.new }
+    {
+        let (sender, number) = (cast.sender, cast.number);
+        self.reception.keep(delivered, cast, spare);
+        self.knowledge.hear(sender, number);
+        self.take_all(sender);
+    }
+
+    /// Expands the sender's casts as long as the next one is there, and holds them twice.
+    fn take_all(&mut self, sender: u32)
+        requires { IsTakingIn sender self.old }
+        ensures takes { TakesAll sender self.old self.new }
+        ensures only { OnlyTakesIn self.old self.new }
+    {
+        'messages: while let Some((message, copy)) = self.reception.expand_next(sender) {
+            self.knowledge.known.raise(&message.time);
+            hold_next(&mut self.delivery.queue, message);
+            hold_next(&mut self.delivery.copies, copy);
+        }
+    }
+}
+
+/// Holds a message that has its turn.
+fn hold_next(queue: &mut DelayQueue, message: Message)
+    requires { HasTurn queue.old message }
+    ensures held { Holds queue.old queue.new
+        (map.insert queue.old.held message.name message) }
+    ensures queue { IsDelayQueue queue.old }
+{
+    // asked for what is true of every queue
+    let _window = queue.window();
+    queue.hold(message);
+}
