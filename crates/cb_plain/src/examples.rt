@@ -3,10 +3,10 @@
 //! They are tables, and run over any member. What a call did is compared as one text: how many entries the history has then, and the
 //! answer; what is read, by itself. Bytes are in hexadecimal.
 
-mod calls;
+pub mod calls;
 
 use crate::examples::calls::{Call, Script, group_of, hexadecimal, play};
-pub use crate::examples::calls::{Made, run};
+pub use crate::examples::calls::{Made, run_both};
 use bytes::Bytes;
 use cb_history::{Arrival, Name, Outgoing};
 use std::alloc::Global;
@@ -307,6 +307,7 @@ pub const A_HISTORY_OF_ONE_ENTRY_IS_SOON_FULL: &[Script<'static>] = &[Script {
         (Call::Take(b"\x11\x07\x01\x01\x00\x00"), "1: HistoryFull"),
         (Call::Take(HI), "1: repeat"),
         (Call::Take(b"\x12\x07\x01\x00"), "1: unchanged"),
+        (Call::Take(b"\x12\x07\x01\x01\x02\x05"), "1: HistoryFull"),
         (Call::Tick, "1: HistoryFull"),
         (Call::Cast(b""), "1: HistoryFull"),
     ],
@@ -503,28 +504,46 @@ pub const A_GAP_IS_ASKED_FOR_UNTIL_IT_IS_FILLED: &[Script<'static>] = &[Script {
 }];
 
 /// The protocol's table of what a sender keeps.
-pub const A_SENDER_SENDS_AGAIN_WHAT_IS_NOT_STABLE: &[Script<'static>] = &[Script {
-    number: 7,
-    size: 3,
-    window: 2,
-    me: 0,
-    limit: 100,
-    calls: &[
-        (Call::Cast(b"a"), "1: 0.1 [1,0,0] 11070001000161"),
-        (Call::Cast(b"b"), "2: 0.2 [2,0,0] 11070002000162"),
-        (Call::Take(b"\x12\x07\x01\x01\x00\x02"), "3: changed"),
-        (Call::Stable, "0"),
-        (Call::Take(b"\x12\x07\x02\x01\x00\x01"), "4: changed"),
-        (
-            Call::Take(b"\x13\x07\x02\x00\x01\x00\x01"),
-            "4: unchanged, to 2: 11070002000162",
-        ),
-        (Call::Stable, "1"),
-        (Call::Take(b"\x12\x07\x02\x01\x00\x02"), "5: changed"),
-        (Call::Take(b"\x12\x07\x02\x01\x00\x01"), "5: unchanged"),
-        (Call::Stable, "2"),
-    ],
-}];
+pub const A_SENDER_SENDS_AGAIN_WHAT_IS_NOT_STABLE: &[Script<'static>] = &[
+    Script {
+        number: 7,
+        size: 3,
+        window: 2,
+        me: 0,
+        limit: 100,
+        calls: &[
+            (Call::Cast(b"a"), "1: 0.1 [1,0,0] 11070001000161"),
+            (Call::Cast(b"b"), "2: 0.2 [2,0,0] 11070002000162"),
+            (Call::Take(b"\x12\x07\x01\x01\x00\x02"), "3: changed"),
+            (Call::Stable, "0"),
+            (Call::Take(b"\x12\x07\x02\x01\x00\x01"), "4: changed"),
+            (
+                Call::Take(b"\x13\x07\x02\x00\x01\x00\x01"),
+                "4: unchanged, to 2: 11070002000162",
+            ),
+            (Call::Stable, "1"),
+            (Call::Take(b"\x12\x07\x02\x01\x00\x02"), "5: changed"),
+            (Call::Take(b"\x12\x07\x02\x01\x00\x01"), "5: unchanged"),
+            (Call::Stable, "2"),
+        ],
+    },
+    // as it was sent, whatever is delivered since
+    Script {
+        number: 7,
+        size: 3,
+        window: 4,
+        me: 0,
+        limit: 100,
+        calls: &[
+            (Call::Cast(b"hi"), "1: 0.1 [1,0,0] 1107000100026869"),
+            (Call::Take(YO), "2: changed, 1.1 [1,1,0] (796f)"),
+            (
+                Call::Take(b"\x13\x07\x02\x00\x01\x00\x00"),
+                "2: unchanged, to 2: 1107000100026869",
+            ),
+        ],
+    },
+];
 
 /// A cast five ahead is refused until the window moves; nothing is delivered twice.
 pub const A_FILLED_WINDOW_MOVES_WITH_THE_DELIVERIES: &[Script<'static>] = &[Script {

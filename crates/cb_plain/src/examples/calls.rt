@@ -9,6 +9,7 @@ use cb_history::{
     Arrival, ArriveRefusal, CastDone, CastRefusal, Entry, Event, Group, GroupMember, Message,
     MissingFault, Name, Outgoing, TickRefusal, Ticked,
 };
+use cb_member::Member;
 use std::alloc::Global;
 use std::process::Abort;
 use std::test::Fail;
@@ -22,6 +23,13 @@ pub trait Made: GroupMember + Drop {
 impl Made for PlainMember {
     fn made(alloc: Global, group: Group, me: u32, limit: usize) -> Result<Self, Fail> {
         let made = PlainMember::new(alloc, group, me, limit);
+        Ok(made.ok().ok_or("a member")?)
+    }
+}
+
+impl Made for Member {
+    fn made(alloc: Global, group: Group, me: u32, limit: usize) -> Result<Self, Fail> {
+        let made = Member::new(alloc, group, me, limit);
         Ok(made.ok().ok_or("a member")?)
     }
 }
@@ -188,6 +196,12 @@ pub fn run<M: Made, R: Abort>(rt: &R, alloc: Global, scripts: &[Script<'_>]) -> 
         play(rt, alloc, &mut member, script.calls)?;
     }
     Ok(())
+}
+
+/// The same by the plain member, and then by the quick one.
+pub fn run_both<R: Abort>(rt: &R, alloc: Global, scripts: &[Script<'_>]) -> Result<(), Fail> {
+    run::<PlainMember, R>(rt, alloc, scripts)?;
+    run::<Member, R>(rt, alloc, scripts)
 }
 
 /// The names of the messages that were delivered then.
