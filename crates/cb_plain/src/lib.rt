@@ -18,6 +18,8 @@ mod view;
 pub use member::PlainMember;
 
 #[cfg(test)]
+mod agreement;
+#[cfg(test)]
 mod examples;
 #[cfg(test)]
 mod tests;

@@ -147,7 +147,7 @@ fn tick_text(alloc: Global, answer: &Result<Ticked, TickRefusal>) -> Result<Stri
 }
 
 /// What a call that changes something did: how many entries there are after it, and its answer.
-fn answer<M: Made>(alloc: Global, member: &mut M, call: Call<'_>) -> Result<String, Fail> {
+pub fn answer<M: Made>(alloc: Global, member: &mut M, call: Call<'_>) -> Result<String, Fail> {
     let text = match call {
         Call::Cast(payload) => cast_text(alloc, &member.cast(payload))?,
         Call::Take(bytes) => {

@@ -1,0 +1,166 @@
+//! Frames that no member of the group sent, and frames that were damaged on their way.
+
+use crate::agreement::dice::Dice;
+use bytes::Bytes;
+use cb_frames::{Cast, Change, Frame, LAST_MEMBER, Range, Request, Status, encode};
+use cb_history::Group;
+use std::alloc::Global;
+use std::test::Fail;
+
+/// What a forger knows: the group, and the time of the member that it deceives.
+#[derive(Clone, Copy, Drop)]
+pub struct Target<'a> {
+    pub group: Group,
+    pub me: u32,
+    pub time: &'a [u32],
+}
+
+impl Target<'_> {
+    /// Now and then another group.
+    fn number(&self, dice: &mut Dice) -> u32 {
+        if dice.one_in(30) {
+            dice.near(self.group.number())
+        } else {
+            self.group.number()
+        }
+    }
+
+    /// A member, the one that is deceived now and then, and one that the group does not have.
+    fn member(&self, dice: &mut Dice) -> u32 {
+        match dice.below(20) {
+            0 => dice.below(LAST_MEMBER),
+            1 | 2 => self.me,
+            _ => dice.below(self.group.size()),
+        }
+    }
+
+    /// How much of a member is delivered.
+    fn delivered(&self, member: u32) -> u32 {
+        self.time.get(member as usize).copied().unwrap_or(0)
+    }
+}
+
+/// The bytes of the frame, and none where it breaks a rule of the format.
+fn text(alloc: Global, frame: &Frame) -> Bytes {
+    encode(alloc, frame).unwrap_or(Bytes::new())
+}
+
+/// By how much some fields have grown, mostly by one.
+fn changes(
+    alloc: Global,
+    target: &Target<'_>,
+    dice: &mut Dice,
+    own: u32,
+) -> Result<Vec<Change>, Fail> {
+    let mut changes = Vec::new(alloc);
+    for field in 0..target.group.size() {
+        if field != own && dice.one_in(6) {
+            let amount = dice.near(0).max(1);
+            changes.push(Change { field, amount })?;
+        }
+    }
+    Ok(changes)
+}
+
+/// Some fields, with values near the time.
+fn values(alloc: Global, target: &Target<'_>, dice: &mut Dice) -> Result<Vec<Change>, Fail> {
+    let mut values = Vec::new(alloc);
+    let rarity = dice.below(4);
+    for field in 0..target.group.size() {
+        if dice.one_in(rarity) {
+            let delivered = target.delivered(field);
+            let amount = if dice.one_in(4) {
+                dice.near(delivered)
+            } else {
+                delivered
+            }
+            .max(1);
+            values.push(Change { field, amount })?;
+        }
+    }
+    Ok(values)
+}
+
+/// Up to four ranges, with gaps between them.
+fn ranges(alloc: Global, dice: &mut Dice, delivered: u32) -> Result<Vec<Range>, Fail> {
+    let mut ranges = Vec::new(alloc);
+    let mut next = Some(dice.near(delivered.saturating_sub(4)).max(1));
+    for _ in 0..4 {
+        let Some(first) = next else {
+            break;
+        };
+        let last = first.saturating_add(dice.below(4));
+        ranges.push(Range { first, last })?;
+        next = last.checked_add(2);
+        if dice.one_in(2) {
+            break;
+        }
+    }
+    Ok(ranges)
+}
+
+fn cast(alloc: Global, target: &Target<'_>, dice: &mut Dice) -> Result<Bytes, Fail> {
+    let sender = target.member(dice);
+    let cast = Cast {
+        group: target.number(dice),
+        sender,
+        number: dice.near(target.delivered(sender)).max(1),
+        changes: changes(alloc, target, dice, sender)?,
+        payload: Bytes::copy_from_slice(alloc, &[dice.byte()])?,
+    };
+    Ok(text(alloc, &Frame::Cast(cast)))
+}
+
+fn status(alloc: Global, target: &Target<'_>, dice: &mut Dice) -> Result<Bytes, Fail> {
+    let status = Status {
+        group: target.number(dice),
+        sender: target.member(dice),
+        values: values(alloc, target, dice)?,
+    };
+    Ok(text(alloc, &Frame::Status(status)))
+}
+
+fn request(alloc: Global, target: &Target<'_>, dice: &mut Dice) -> Result<Bytes, Fail> {
+    let asked = if dice.one_in(4) {
+        target.member(dice)
+    } else {
+        target.me
+    };
+    let request = Request {
+        group: target.number(dice),
+        requester: target.member(dice),
+        asked,
+        ranges: ranges(alloc, dice, target.delivered(asked))?,
+    };
+    Ok(text(alloc, &Frame::Request(request)))
+}
+
+/// A frame of any kind with fields near those that could be true.
+pub fn forged(alloc: Global, target: &Target<'_>, dice: &mut Dice) -> Result<Bytes, Fail> {
+    match dice.below(5) {
+        0 => request(alloc, target, dice),
+        1 | 2 => status(alloc, target, dice),
+        _ => cast(alloc, target, dice),
+    }
+}
+
+/// The frame with a byte changed, cut or prolonged.
+pub fn damaged(alloc: Global, frame: &[u8], dice: &mut Dice) -> Result<Bytes, Fail> {
+    let mut bytes = Vec::from_slice(alloc, frame)?;
+    let place = dice.place(bytes.len());
+    let old = bytes.get(place).copied().unwrap_or(0);
+    match dice.below(5) {
+        0 => bytes.truncate(place),
+        1 => bytes.push(dice.byte())?,
+        2 => set(&mut bytes, place, dice.byte()),
+        3 => set(&mut bytes, place, old.wrapping_sub(1)),
+        _ => set(&mut bytes, place, old.wrapping_add(1)),
+    }
+    Ok(Bytes::copy_from_slice(alloc, &bytes)?)
+}
+
+fn set(bytes: &mut [u8], place: usize, to: u8) {
+    if let Some(byte) = bytes.get_mut(place) {
+        *byte = to;
+    }
+}
