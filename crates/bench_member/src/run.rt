@@ -1,0 +1,137 @@
+//! The members, and what they do in their turns.
+
+use crate::network::Network;
+use crate::plan::Plan;
+use crate::tally::Tally;
+use bytes::Bytes;
+use cb_history::{Arrival, ArriveRefusal, CastRefusal, Group, LONGEST_HISTORY, TickRefusal};
+use cb_member::Member;
+use cb_times::NoMemory;
+use std::alloc::{AllocError, Global};
+
+/// A run ends after so many rounds, whatever is delivered.
+const MOST_ROUNDS: u64 = 1_000_000_000;
+
+#[derive(Drop)]
+pub struct Run {
+    plan: Plan,
+    members: Vec<Member>,
+    network: Network,
+    tally: Tally,
+    payload: Vec<u8>,
+    inbox: Vec<Bytes>,
+    /// How many casts were made.
+    made: u64,
+}
+
+fn members_of(alloc: Global, group: Group) -> Result<Vec<Member>, NoMemory> {
+    let mut members = Vec::with_capacity(alloc, group.size() as usize)?;
+    for me in 0..group.size() {
+        // member and limit are in range, so that only memory can be wanting
+        let Ok(member) = Member::new(alloc, group, me, LONGEST_HISTORY) else {
+            return Err(AllocError);
+        };
+        members.push(member)?;
+    }
+    Ok(members)
+}
+
+impl Run {
+    pub fn new(alloc: Global, plan: Plan) -> Result<Run, NoMemory> {
+        Ok(Run {
+            plan,
+            members: members_of(alloc, plan.group)?,
+            network: Network::new(alloc, plan.group.size(), plan.lost, plan.exchanged)?,
+            tally: Tally::new(),
+            payload: vec![in alloc; b'a'; plan.payload]?,
+            inbox: Vec::new(alloc),
+            made: 0,
+        })
+    }
+
+    pub fn tally(&self) -> Tally {
+        self.tally
+    }
+
+    /// In each round each member in its turn takes all and casts, and then all tick, until everything is delivered.
+    pub fn go(&mut self) -> Result<(), NoMemory> {
+        let size = self.plan.group.size();
+        let all = self
+            .plan
+            .casts
+            .saturating_mul(u64::from(size).saturating_sub(1));
+        for _ in 0..MOST_ROUNDS {
+            if self.tally.deliveries >= all {
+                return Ok(());
+            }
+            for me in 0..size {
+                self.take(me)?;
+                self.cast_some(me)?;
+            }
+            self.ticks()?;
+        }
+        Ok(())
+    }
+
+    /// The member takes all that is on its way to it.
+    fn take(&mut self, me: u32) -> Result<(), NoMemory> {
+        self.network.swap(me, &mut self.inbox);
+        let Some(member) = self.members.get_mut(me as usize) else {
+            return Ok(());
+        };
+        for bytes in self.inbox.iter() {
+            match member.arrive(bytes) {
+                Ok(
+                    Arrival::Accepted {
+                        deliveries,
+                        out,
+                        ..
+                    },
+                ) => {
+                    for message in deliveries.iter() {
+                        self.tally.add(me, message);
+                    }
+                    self.network.send_all(me, out)?;
+                }
+                Ok(Arrival::Repeat) => {}
+                Err(ArriveRefusal::NoMemory) => return Err(AllocError),
+                Err(_) => {}
+            }
+        }
+        self.inbox.clear();
+        Ok(())
+    }
+
+    /// The member casts as often as a fourth of the window, as long as it may.
+    fn cast_some(&mut self, me: u32) -> Result<(), NoMemory> {
+        let Some(member) = self.members.get_mut(me as usize) else {
+            return Ok(());
+        };
+        for _ in 0..(self.plan.group.window() / 4).max(1) {
+            if self.made >= self.plan.casts {
+                return Ok(());
+            }
+            match member.cast(&self.payload) {
+                Ok(done) => self.network.send_to_others(me, &done.out)?,
+                Err(CastRefusal::NoMemory) => return Err(AllocError),
+                Err(_) => return Ok(()),
+            }
+            self.made = self.made.saturating_add(1);
+        }
+        Ok(())
+    }
+
+    fn ticks(&mut self) -> Result<(), NoMemory> {
+        for me in 0..self.plan.group.size() {
+            let Some(member) = self.members.get_mut(me as usize) else {
+                return Ok(());
+            };
+            match member.tick() {
+                Ok(ticked) => self.network.send_all(me, ticked.out)?,
+                Err(TickRefusal::NoMemory) => return Err(AllocError),
+                Err(TickRefusal::HistoryFull) => {}
+            }
+        }
+        Ok(())
+    }
+}

@@ -1,0 +1,43 @@
+//! What was delivered, in short.
+
+use cb_history::Message;
+
+/// What the digest begins with and is multiplied by: those of the hash of Fowler, Noll and Vo.
+const START: u64 = 0xcbf2_9ce4_8422_2325;
+
+const PRIME: u64 = 0x100_0000_01b3;
+
+/// How many messages were delivered, and a digest of who delivered them, their names and their times, in order.
+#[derive(Clone, Copy, Drop)]
+pub struct Tally {
+    pub deliveries: u64,
+    pub digest: u64,
+}
+
+impl Tally {
+    pub fn new() -> Tally {
+        Tally {
+            deliveries: 0,
+            digest: START,
+        }
+    }
+
+    /// Member `me` delivered the message.
+    pub fn add(&mut self, me: u32, message: &Message) {
+        self.deliveries = self.deliveries.wrapping_add(1);
+        self.mix(me, message.name.sender);
+        self.mix(message.name.number, 0);
+        let (pairs, last) = message.time.as_slice().as_chunks::<2>();
+        for [low, high] in pairs {
+            self.mix(*low, *high);
+        }
+        for field in last {
+            self.mix(*field, 0);
+        }
+    }
+
+    fn mix(&mut self, low: u32, high: u32) {
+        let word = u64::from(low) | u64::from(high) << 32;
+        self.digest = (self.digest ^ word).wrapping_mul(PRIME);
+    }
+}
