@@ -1,0 +1,15 @@
+//! A whole group of members in one thread, for schedules: a program of the definitions in `cb_schedules`.
+//!
+//! A step says what happens: a member casts, a frame that was sent arrives somewhere, a member ticks. Which frames are lost, come again
+//! or come late is the schedule's choice. So far a group starts and is read; it takes no steps yet.
+//!
+//! Stands on `cb_member` for the members, and on `cb_schedules` for what is true after every schedule.
+#![tactic(auto)]
+
+mod outcome;
+mod step;
+mod world;
+
+pub use outcome::{Answer, Outcome, Sent};
+pub use step::Step;
+pub use world::{PlayFault, World};

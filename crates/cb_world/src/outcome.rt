@@ -1,0 +1,47 @@
+//! What comes of a step.
+
+use bytes::Bytes;
+use cb_member::{ArriveRefusal, CastRefusal, Message, Name, TickRefusal, VectorTime};
+
+/// A frame that was sent.
+#[derive(Debug, Drop)]
+pub struct Sent {
+    pub from: u32,
+    /// `None` for all others.
+    pub to: Option<u32>,
+    pub bytes: Bytes,
+}
+
+/// What a step was answered, without the frames that it put out.
+#[derive(Debug, Drop)]
+pub enum Answer {
+    Cast {
+        name: Name,
+        time: VectorTime,
+    },
+    CastRefused(CastRefusal),
+    /// The messages that the frame delivered, and whether the member's state changed.
+    Accepted {
+        deliveries: Vec<Message>,
+        changed: bool,
+    },
+    Repeat,
+    ArrivalRefused(ArriveRefusal),
+    Ticked {
+        entered: bool,
+    },
+    TickRefused(TickRefusal),
+    /// The group has no member of this number.
+    NoSuchMember,
+    /// No frame of this number was sent so far.
+    NoSuchFrame,
+}
+
+/// What came of a step.
+#[derive(Debug, Drop)]
+pub struct Outcome {
+    pub answer: Answer,
+    /// How many frames were sent before the step, so the number of its first one.
+    pub first_frame: usize,
+    pub frame_count: usize,
+}

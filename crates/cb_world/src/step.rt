@@ -1,0 +1,34 @@
+//! What happens in a group.
+
+ghost use Rattle.std.specs.Prelude.{◌≡◌, IfOk};
+ghost use Rattle.cb_world.specs.Steps.{step_fields};
+
+use bytes::Bytes;
+use cb_member::NoMemory;
+
+/// One thing that happens.
+#[derive(Debug, Drop)]
+pub enum Step {
+    /// The member casts this payload.
+    Cast(u32, Bytes),
+    /// The frame of this number arrives at the member. Frames are numbered from 0, in the order in which they were sent.
+    Arrive(u32, usize),
+    /// The member ticks.
+    Tick(u32),
+}
+
+impl Step {
+    /// The same once more; a payload is shared.
+    pub fn copy(&self) -> Result<Step, NoMemory>
+        ensures { IfOk result (λ step. step_fields step ≡ step_fields self.now) }
+    {
+        Ok(match self {
+            Step::Cast(i, payload) => Step::Cast(*i, payload.clone()?),
+            Step::Arrive(j, number) => Step::Arrive(*j, *number),
+            Step::Tick(i) => Step::Tick(*i),
+        })
+    }
+}
+
+#[cfg(test)]
+mod tests;

@@ -1,0 +1,158 @@
+//! The group.
+
+ghost use Rattle.std.specs.Prelude.{◌≡◌, ◌↔◌, ◌≤◌, [], IfOk, Err, MatchOption, map};
+ghost use Rattle.cb_history.specs.Facts.{entry_fields};
+ghost use Rattle.cb_history.specs.Legal.{longest_history};
+ghost use Rattle.cb_schedules.specs.Headline.{Headline};
+ghost use Rattle.cb_schedules.specs.Messages.{stamped_lists};
+ghost use Rattle.cb_world.specs.Outcomes.{sent_fields, AreOutcomes};
+ghost use Rattle.cb_world.specs.World.{AreNewMembers, member_in, run_in};
+
+use crate::outcome::{Outcome, Sent};
+use crate::step::Step;
+use cb_member::{Entry, Event, Group, LONGEST_HISTORY, Member, NewFault, NoMemory};
+use std::alloc::{AllocError, Global};
+use std::marker::Model;
+
+/// Why no group was made.
+#[derive(Clone, Copy, Debug, PartialEq, Eq)]
+pub enum PlayFault {
+    /// The limit of the histories is not 1 to 16,777,216.
+    BadLimit,
+    /// Out of memory.
+    NoMemory,
+}
+
+/// A group of members, all frames that they sent, and what came of each step so far.
+#[derive(Drop)]
+pub struct World {
+    group: Group,
+    limit: usize,
+    members: Vec<Member>,
+    sent: Vec<Sent>,
+    outcomes: Vec<Outcome>,
+    steps: Vec<Step>,
+}
+
+impl Model for World {
+    ghost use Rattle.std.specs.Prelude.{map};
+    ghost use Rattle.cb_world.specs.Steps.{step_fields};
+    ghost use Rattle.cb_world.specs.World.{WorldState, IsWorld};
+
+    ghost Value = { WorldState };
+
+    ghost view = { λ w. record {
+      setting = record { group = w.group; limit = w.limit };
+      steps = map step_fields w.steps.items;
+    } };
+
+    ghost invariant = { λ w. IsWorld (record {
+      setting = record {
+        group = w.group;
+        limit = w.limit;
+      };
+      steps = map step_fields w.steps.items;
+    })
+        w.members.items w.sent.items w.outcomes.items };
+}
+
+impl World {
+    /// A group in which nothing has happened, and whose members' histories may have 1 to 16,777,216 entries.
+    pub fn new(alloc: Global, group: Group, history_max: usize) -> Result<World, PlayFault>
+        ensures ok { IfOk result (λ world. world ≡ record {
+          setting = record {
+            group = group;
+            limit = history_max;
+          };
+          steps = [];
+        }) }
+        ensures bad_limit { (result ≡ Err PlayFault.BadLimit)
+            ↔ ¬ ((1 ≤ history_max) × (history_max ≤ longest_history)) }
+    {
+        if !(1..=LONGEST_HISTORY).contains(&history_max) {
+            return Err(PlayFault::BadLimit);
+        }
+        match World::at(alloc, group, history_max) {
+            Ok(world) => Ok(world),
+            Err(_refused) => Err(PlayFault::NoMemory),
+        }
+    }
+
+    fn at(alloc: Global, group: Group, limit: usize) -> Result<World, NoMemory>
+        requires { (1 ≤ limit) × (limit ≤ longest_history) }
+        ensures { IfOk result (λ world. world ≡ record {
+          setting = record {
+            group = group;
+            limit = limit;
+          };
+          steps = [];
+        }) }
+    {
+        Ok(World {
+            group,
+            limit,
+            members: members_of(alloc, group, limit)?,
+            sent: Vec::new(alloc),
+            outcomes: Vec::new(alloc),
+            steps: Vec::new(alloc),
+        })
+    }
+
+    /// Member j, where the group has it.
+    pub fn member(&self, j: u32) -> Option<&Member>
+        ensures member { MatchOption result (self.now.setting.group.size ≤ j) (λ member. member.now
+            ≡ member_in self.now j) }
+        ensures headline { Headline self.now.setting (run_in self.now) }
+    {
+        self.members.get(j as usize)
+    }
+
+    /// The casts and deliveries of member j, in order.
+    pub fn events(&self, j: u32) -> Option<&[Event]>
+        ensures { MatchOption result (self.now.setting.group.size ≤ j) (λ events. events.now
+            ≡ stamped_lists self.now.setting (run_in self.now) j) }
+    {
+        Some(self.member(j)?.events())
+    }
+
+    /// All that member j did, in order.
+    pub fn history(&self, j: u32) -> Option<&[Entry]>
+        ensures { MatchOption result (self.now.setting.group.size ≤ j) (λ entries.
+            map entry_fields entries.now ≡ (run_in self.now).histories j) }
+    {
+        Some(self.member(j)?.history())
+    }
+
+    /// All frames that were sent, by their numbers.
+    pub fn frames(&self) -> &[Sent]
+        ensures { map sent_fields result.now ≡ (run_in self.now).sent }
+    {
+        self.sent.as_slice()
+    }
+
+    /// What came of each step.
+    pub fn outcomes(&self) -> &[Outcome]
+        ensures { AreOutcomes self.now.setting self.now.steps result.now }
+    {
+        self.outcomes.as_slice()
+    }
+}
+
+fn members_of(alloc: Global, group: Group, limit: usize) -> Result<Vec<Member>, NoMemory>
+    requires { (1 ≤ limit) × (limit ≤ longest_history) }
+    ensures { IfOk result (λ members. AreNewMembers (record { group = group; limit = limit })
+        members.items) }
+{
+    let mut members = Vec::with_capacity(alloc, group.size() as usize)?;
+    for me in 0..group.size() {
+        match Member::new(alloc, group, me, limit) {
+            Ok(member) => members.push(member)?,
+            Err(NewFault::NoMemory) => return Err(AllocError),
+            Err(_fault) => unreachable!("it is a member of the group"),
+        }
+    }
+    Ok(members)
+}
+
+#[cfg(test)]
+mod tests;
