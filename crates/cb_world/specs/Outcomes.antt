@@ -50,7 +50,7 @@ answer_to setting s OfNoMember = NoSuchMember
 answer_to setting s OfNoFrame = NoSuchFrame
 answer_to setting s OfNoBytes = NoBytes
 
--- and what is told of it; of a cast its name and its time
+-- And what is told of it: of a cast its name and its time. What asks for no call has no answer of a cast; the second line is there for the sake of a whole definition.
 abbrev pub told_of : Setting → GroupState → Asked → schedules.Answer → Told
 told_of setting s (Calls i call) (CastAnswer (Ok c)) =
     CastTold (cast_done (seat_at setting i) (facts_at s i) c).name (cast_done (seat_at setting i) (facts_at s i) c).time
