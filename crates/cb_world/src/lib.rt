@@ -7,9 +7,12 @@
 #![tactic(auto)]
 
 mod outcome;
+mod run;
 mod step;
+mod taking;
 mod world;
 
 pub use outcome::{Answer, Outcome, Sent};
+pub use run::{Run, play};
 pub use step::Step;
 pub use world::{PlayFault, World};

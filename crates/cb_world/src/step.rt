@@ -1,7 +1,7 @@
 //! What happens in a group.
 
 ghost use Rattle.std.specs.Prelude.{◌≡◌, IfOk};
-ghost use Rattle.cb_world.specs.Steps.{step_fields};
+ghost use Rattle.cb_world.specs.Steps.{member_of, step_fields};
 
 use bytes::Bytes;
 use cb_member::NoMemory;
@@ -18,6 +18,17 @@ pub enum Step {
 }
 
 impl Step {
+    /// The member that does something.
+    pub fn member(&self) -> u32
+        ensures { result ≡ member_of (step_fields self.now) }
+    {
+        match self {
+            Step::Cast(i, _payload) => *i,
+            Step::Arrive(j, _number) => *j,
+            Step::Tick(i) => *i,
+        }
+    }
+
     /// The same once more; a payload is shared.
     pub fn copy(&self) -> Result<Step, NoMemory>
         ensures { IfOk result (λ step. step_fields step ≡ step_fields self.now) }

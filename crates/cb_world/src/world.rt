@@ -9,7 +9,10 @@ ghost use Rattle.cb_world.specs.Outcomes.{sent_fields, AreOutcomes};
 ghost use Rattle.cb_world.specs.World.{AreNewMembers, member_in, run_in};
 
 use crate::outcome::{Outcome, Sent};
+use crate::run::Run;
 use crate::step::Step;
+use crate::taking::{push_within, take};
+use cb_frames::MOST_FRAMES;
 use cb_member::{Entry, Event, Group, LONGEST_HISTORY, Member, NewFault, NoMemory};
 use std::alloc::{AllocError, Global};
 use std::marker::Model;
@@ -96,6 +99,41 @@ impl World {
             outcomes: Vec::new(alloc),
             steps: Vec::new(alloc),
         })
+    }
+
+    /// One thing more happens. Out of memory, the group is as it was.
+    ///
+    /// The step is answered just as the run of the schedule is: by its member's answer to the history so far, or by NoSuchMember or
+    /// NoSuchFrame where it names none.
+    pub fn step(&mut self, step: &Step) -> Result<(), NoMemory> {
+        let taken = step.copy()?;
+        self.reserve()?;
+        let first_frame = self.sent.len();
+        let answer = take(&mut self.members, step, &mut self.sent)?;
+        let frame_count = self.sent.len() - first_frame;
+        push_within(
+            &mut self.outcomes,
+            Outcome {
+                answer,
+                first_frame,
+                frame_count,
+            },
+        );
+        push_within(&mut self.steps, taken);
+        Ok(())
+    }
+
+    /// Makes room for a step more. Nothing else changes.
+    fn reserve(&mut self) -> Result<(), NoMemory> {
+        self.steps.reserve(1)?;
+        self.outcomes.reserve(1)?;
+        self.sent.reserve(MOST_FRAMES)?;
+        Ok(())
+    }
+
+    /// The group takes no more steps.
+    pub fn finish(self) -> Run {
+        Run { world: self }
     }
 
     /// Member j, where the group has it.

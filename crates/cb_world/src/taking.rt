@@ -1,0 +1,127 @@
+//! What one step does, to the member that it names and to the frames that were sent.
+
+ghost use Rattle.std.specs.Prelude.{◌≡◌, ◌+◌, ◌≤◌, IfOk, OnErr, ◌++◌, map};
+ghost use Rattle.std.specs.Vec.{vec_capacity, vec_len};
+ghost use Rattle.cb_frames.specs.declared.frame.TheConstants.{MOST_FRAMES};
+ghost use Rattle.cb_history.specs.Legal.{ToCast, ToTake, ToTick};
+ghost use Rattle.cb_schedules.specs.Schedule.{are_bytes, sent_by};
+ghost use Rattle.cb_world.specs.Outcomes.{sent_fields};
+ghost use Rattle.cb_world.specs.Steps.{step_fields};
+
+use crate::outcome::{Answer, Sent};
+use crate::step::Step;
+use bytes::Bytes;
+use cb_member::{
+    Arrival, ArriveRefusal, CastDone, CastRefusal, Member, NoMemory, Outgoing, TickRefusal, Ticked,
+};
+use std::alloc::AllocError;
+
+/// Pushes where there is room.
+pub fn push_within<T: Drop>(items: &mut Vec<T>, item: T)
+    requires { vec_len items.old + 1 ≤ vec_capacity items.old }
+    ensures items { items.new.items ≡ items.old.items ++ item ∷ [] }
+    ensures len { vec_len items.new ≡ vec_len items.old + 1 }
+    ensures capacity { vec_capacity items.old ≤ vec_capacity items.new }
+{
+    let Ok(()) = items.push(item) else {
+        unreachable!("there is room")
+    };
+}
+
+/// The frames that a member puts out join those that were sent.
+fn send(sent: &mut Vec<Sent>, from: u32, out: Vec<Outgoing>)
+    requires { vec_len sent.old + vec_len out ≤ vec_capacity sent.old }
+    ensures { map sent_fields sent.new.items
+        ≡ map sent_fields sent.old.items ++ map (sent_by from) out.items }
+{
+    for Outgoing { to, bytes } in out {
+        push_within(sent, Sent { from, to, bytes });
+    }
+}
+
+fn cast(member: &mut Member, payload: &[u8], sent: &mut Vec<Sent>) -> Result<Answer, NoMemory>
+    requires { vec_len sent.old + MOST_FRAMES ≤ vec_capacity sent.old }
+{
+    let from = member.seat().me();
+    match member.cast(payload) {
+        Ok(CastDone { name, time, out }) => {
+            let to = None;
+            push_within(sent, Sent { from, to, bytes: out });
+            Ok(Answer::Cast { name, time })
+        }
+        Err(CastRefusal::NoMemory) => Err(AllocError),
+        Err(refusal) => Ok(Answer::CastRefused(refusal)),
+    }
+}
+
+fn arrive(member: &mut Member, bytes: &Bytes, sent: &mut Vec<Sent>) -> Result<Answer, NoMemory>
+    requires { vec_len sent.old + MOST_FRAMES ≤ vec_capacity sent.old }
+{
+    let from = member.seat().me();
+    match member.arrive(bytes) {
+        Ok(Arrival::Accepted {
+            deliveries,
+            changed,
+            out,
+        }) => {
+            send(sent, from, out);
+            Ok(Answer::Accepted {
+                deliveries,
+                changed,
+            })
+        }
+        Ok(Arrival::Repeat) => Ok(Answer::Repeat),
+        Err(ArriveRefusal::NoMemory) => Err(AllocError),
+        Err(refusal) => Ok(Answer::ArrivalRefused(refusal)),
+    }
+}
+
+/// The frame of this number arrives.
+fn hand_over(member: &mut Member, number: usize, sent: &mut Vec<Sent>) -> Result<Answer, NoMemory>
+    requires { vec_len sent.old + MOST_FRAMES ≤ vec_capacity sent.old }
+{
+    let Some(frame) = sent.get(number) else {
+        return Ok(Answer::NoSuchFrame);
+    };
+    let bytes = frame.bytes.clone()?;
+    arrive(member, &bytes, sent)
+}
+
+fn tick(member: &mut Member, sent: &mut Vec<Sent>) -> Result<Answer, NoMemory>
+    requires { vec_len sent.old + MOST_FRAMES ≤ vec_capacity sent.old }
+{
+    let from = member.seat().me();
+    match member.tick() {
+        Ok(Ticked { entered, out }) => {
+            send(sent, from, out);
+            Ok(Answer::Ticked { entered })
+        }
+        Err(TickRefusal::NoMemory) => Err(AllocError),
+        Err(refusal) => Ok(Answer::TickRefused(refusal)),
+    }
+}
+
+/// The member does what the step asks for.
+fn call(member: &mut Member, step: &Step, sent: &mut Vec<Sent>) -> Result<Answer, NoMemory>
+    requires { vec_len sent.old + MOST_FRAMES ≤ vec_capacity sent.old }
+{
+    match step {
+        Step::Cast(_, payload) => cast(member, payload.as_slice(), sent),
+        Step::Arrive(_, number) => hand_over(member, *number, sent),
+        Step::Tick(_) => tick(member, sent),
+    }
+}
+
+/// Takes the step. Out of memory nothing has changed.
+pub fn take(
+    members: &mut Vec<Member>,
+    step: &Step,
+    sent: &mut Vec<Sent>,
+) -> Result<Answer, NoMemory>
+    requires { vec_len sent.old + MOST_FRAMES ≤ vec_capacity sent.old }
+{
+    match members.get_mut(step.member() as usize) {
+        None => Ok(Answer::NoSuchMember),
+        Some(member) => call(member, step, sent),
+    }
+}
