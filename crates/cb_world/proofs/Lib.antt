@@ -1,1 +1,5 @@
+pub mod Few
+pub mod Lists
 pub mod Starting
+pub mod Stepping
+pub mod Taken

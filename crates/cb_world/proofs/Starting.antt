@@ -3,12 +3,13 @@ use Rattle.std.proofs.Common.{◌≡◌, ℕ, zero, suc, ◌≤◌, ◌⊎◌, i
 use Rattle.std.specs.Prelude.{slice_get}
 use Rattle.cb_history.specs.State.{MemberState}
 use Rattle.cb_history.specs.Legal.{longest_history}
-use Rattle.cb_schedules.specs.Schedule.{Setting, seat_at, GroupState, nothing_yet, run, run_from}
+use Rattle.cb_schedules.specs.Schedule.{Setting, GroupState, nothing_yet, run, run_from}
 use Rattle.cb_world.specs.declared.step.Step.{Step}
 use Rattle.cb_world.specs.declared.outcome.Sent.{Sent}
 use Rattle.cb_world.specs.declared.outcome.Outcome.{Outcome}
 use Rattle.cb_world.specs.Steps.{step_fields}
 use Rattle.cb_world.specs.Outcomes.{sent_fields, AreOutcomes, NoOutcomes}
+use Rattle.cb_world.specs.Taking.{member_at}
 use Rattle.cb_world.specs.World.{new_member, AreNewMembers, IsWorld}
 
 -- an element of a list with one more is one of the list, or that one
@@ -37,8 +38,10 @@ pub starts : (setting : Setting) (members : List MemberState) (sent : List Sent)
 starts setting members sent outcomes steps low high new none_sent none_told none_taken =
     subst (λ (ss : List Step). IsWorld (record { setting = setting; steps = map step_fields ss }) members sent outcomes) (sym none_taken) (record {
       setting_is = record { group = new.group; one_or_more = low; at_most = high };
-      many = new.many;
-      members_are = λ i m at. new.new i m at ∙ ap (λ (s : GroupState). let x : MemberState = record { seat = seat_at setting i; limit = setting.limit; entries = s.histories i } in x) (sym (none_run setting));
-      sent_are = ap (map sent_fields) none_sent ∙ ap (λ (s : GroupState). s.sent) (sym (none_run setting));
+      stands = record {
+        many = new.many;
+        members_are = λ i m at. new.new i m at ∙ ap (λ (s : GroupState). member_at setting s i) (sym (none_run setting));
+        sent_are = ap (map sent_fields) none_sent ∙ ap (λ (s : GroupState). s.sent) (sym (none_run setting));
+      };
       outcomes_are = subst (AreOutcomes setting []) (sym none_told) NoOutcomes;
     })

@@ -1,3 +1,4 @@
 pub mod Steps
 pub mod Outcomes
+pub mod Taking
 pub mod World

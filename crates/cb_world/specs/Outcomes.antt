@@ -5,6 +5,8 @@ use Rattle.cb_delay.specs.declared.message.Message.{Message}
 use Rattle.cb_history.specs.declared.answer.CastRefusal.{CastRefusal}
 use Rattle.cb_history.specs.declared.answer.ArriveRefusal.{ArriveRefusal}
 use Rattle.cb_history.specs.declared.answer.TickRefusal.{TickRefusal}
+use Rattle.cb_history.specs.Group.{Seat}
+use Rattle.cb_history.specs.Facts.{Fact}
 use Rattle.cb_history.specs.Answers.{Accepted, Repeat, cast_done}
 use Rattle.cb_schedules.specs.Schedule.{Setting, seat_at, Step, Schedule, SentFrame, Asked, Calls, OfNoMember, OfNoFrame, OfNoBytes, asked_by, GroupState, run, CastAnswer, ArrivalAnswer, TickAnswer, NoSuchMember, NoSuchFrame, NoBytes, answer_of, put_out}
 use Rattle.cb_schedules.specs.Schedule as schedules
@@ -50,24 +52,29 @@ answer_to setting s OfNoMember = NoSuchMember
 answer_to setting s OfNoFrame = NoSuchFrame
 answer_to setting s OfNoBytes = NoBytes
 
--- And what is told of it: of a cast its name and its time. What asks for no call has no answer of a cast; the second line is there for the sake of a whole definition.
-abbrev pub told_of : Setting → GroupState → Asked → schedules.Answer → Told
-told_of setting s (Calls i call) (CastAnswer (Ok c)) =
-    CastTold (cast_done (seat_at setting i) (facts_at s i) c).name (cast_done (seat_at setting i) (facts_at s i) c).time
-told_of setting s asked (CastAnswer (Ok c)) = NoMemberTold
-told_of setting s asked (CastAnswer (Err refusal)) = CastRefused refusal
-told_of setting s asked (ArrivalAnswer (Ok (Accepted deliveries changed out))) = AcceptedTold deliveries changed
-told_of setting s asked (ArrivalAnswer (Ok Repeat)) = RepeatTold
-told_of setting s asked (ArrivalAnswer (Err refusal)) = ArrivalRefused refusal
-told_of setting s asked (TickAnswer (Ok t)) = TickTold t.0
-told_of setting s asked (TickAnswer (Err refusal)) = TickRefused refusal
-told_of setting s asked NoSuchMember = NoMemberTold
-told_of setting s asked NoSuchFrame = NoFrameTold
-told_of setting s asked NoBytes = NoBytesTold
+-- What is told of a member's answer: of a cast its name and its time.
+abbrev pub told_by : Seat → List Fact → schedules.Answer → Told
+told_by seat facts (CastAnswer (Ok c)) = CastTold (cast_done seat facts c).name (cast_done seat facts c).time
+told_by seat facts (CastAnswer (Err refusal)) = CastRefused refusal
+told_by seat facts (ArrivalAnswer (Ok (Accepted deliveries changed out))) = AcceptedTold deliveries changed
+told_by seat facts (ArrivalAnswer (Ok Repeat)) = RepeatTold
+told_by seat facts (ArrivalAnswer (Err refusal)) = ArrivalRefused refusal
+told_by seat facts (TickAnswer (Ok t)) = TickTold t.0
+told_by seat facts (TickAnswer (Err refusal)) = TickRefused refusal
+told_by seat facts NoSuchMember = NoMemberTold
+told_by seat facts NoSuchFrame = NoFrameTold
+told_by seat facts NoBytes = NoBytesTold
+
+-- and of what a step asks for
+abbrev pub told_of : Setting → GroupState → Asked → Told
+told_of setting s (Calls i call) = told_by (seat_at setting i) (facts_at s i) (answer_of (seat_at setting i) setting.limit (s.histories i) call)
+told_of setting s OfNoMember = NoMemberTold
+told_of setting s OfNoFrame = NoFrameTold
+told_of setting s OfNoBytes = NoBytesTold
 
 -- the outcome of a step in this state: what its member answers, and which frames it puts out
 pub record IsOutcome (setting : Setting) (s : GroupState) (step : Step) (outcome : Outcome) : Type 0 where
-  pub answer : told outcome.answer ≡ told_of setting s (asked_by setting s.sent step) (answer_to setting s (asked_by setting s.sent step))
+  pub answer : told outcome.answer ≡ told_of setting s (asked_by setting s.sent step)
   pub first : outcome.first_frame ≡ length s.sent
   pub count : outcome.frame_count ≡ length (put_out (answer_to setting s (asked_by setting s.sent step)))
 

@@ -1,12 +1,21 @@
 //! The run of a whole schedule.
 
-ghost use Rattle.std.specs.Prelude.{◌≡◌, ◌↔◌, ◌≤◌, IfOk, Err, MatchOption, map};
+ghost use Rattle.std.specs.Prelude.{◌≡◌, ◌↔◌, ◌≤◌, IfOk, OnOk, Err, MatchOption, map};
+ghost use Rattle.cb_history.specs.Facts.{entry_fields};
+ghost use Rattle.cb_history.specs.Legal.{longest_history};
+ghost use Rattle.cb_schedules.specs.Headline.{DeliversClosedArrivals, IsCausalBroadcast, TimesTellHappenedBefore};
+ghost use Rattle.cb_schedules.specs.Messages.{stamped_lists};
+ghost use Rattle.cb_schedules.specs.SentLaws.{ArrivalsAreWelcome};
+ghost use Rattle.cb_world.specs.Outcomes.{sent_fields, AreOutcomes};
+ghost use Rattle.cb_world.specs.Steps.{step_fields};
+ghost use Rattle.cb_world.specs.World.{and_steps, run_in};
 
 use crate::outcome::{Outcome, Sent};
 use crate::step::Step;
 use crate::world::{PlayFault, World};
-use cb_member::{Entry, Event, Group};
+use cb_member::{Entry, Event, Group, NoMemory};
 use std::alloc::Global;
+use std::marker::Model;
 
 /// What a schedule leaves behind.
 #[derive(Drop)]
@@ -14,42 +23,89 @@ pub struct Run {
     pub(crate) world: World,
 }
 
+impl Model for Run {
+    ghost use Rattle.cb_world.specs.World.{WorldState};
+
+    ghost Value = { WorldState };
+
+    ghost view = { λ r. r.world };
+}
+
 impl Run {
-    /// What came of each step.
-    pub fn outcomes(&self) -> &[Outcome] {
+    /// What came of each step. No arrival is refused, but where the history is full.
+    pub fn outcomes(&self) -> &[Outcome]
+        ensures outcomes { AreOutcomes self.now.setting self.now.steps result.now }
+        ensures welcome { ArrivalsAreWelcome self.now.setting (run_in self.now) }
+    {
         self.world.outcomes()
     }
 
     /// The casts and deliveries of member j, in order.
-    pub fn events(&self, j: u32) -> Option<&[Event]> {
+    pub fn events(&self, j: u32) -> Option<&[Event]>
+        ensures { MatchOption result (self.now.setting.group.size ≤ j) (λ events. events.now
+            ≡ stamped_lists self.now.setting (run_in self.now) j) }
+    {
         self.world.events(j)
     }
 
     /// All that member j did, in order.
-    pub fn history(&self, j: u32) -> Option<&[Entry]> {
+    pub fn history(&self, j: u32) -> Option<&[Entry]>
+        ensures { MatchOption result (self.now.setting.group.size ≤ j) (λ entries.
+            map entry_fields entries.now ≡ (run_in self.now).histories j) }
+    {
         self.world.history(j)
     }
 
     /// All frames that were sent, by their numbers.
-    pub fn frames(&self) -> &[Sent] {
+    pub fn frames(&self) -> &[Sent]
+        ensures { map sent_fields result.now ≡ (run_in self.now).sent }
+    {
         self.world.frames()
     }
 }
 
 /// Runs the schedule in a group whose members' histories may have 1 to 16,777,216 entries.
+///
+/// For every schedule of casts, ticks and arrivals of sent frames, lost, repeated or reordered at will: the members' casts and deliveries are
+/// a run of the causal broadcast machine; a member has delivered a message exactly when it and everything that happened before it have
+/// arrived there; and the times from the frames' bytes compare, for any two messages that were cast, exactly as happened-before does.
 pub fn play(
     alloc: Global,
     group: Group,
     history_max: usize,
     steps: &[Step],
-) -> Result<Run, PlayFault> {
-    let mut world = World::new(alloc, group, history_max)?;
-    for step in steps {
-        if let Err(_refused) = world.step(step) {
-            return Err(PlayFault::NoMemory);
-        }
+) -> Result<Run, PlayFault>
+    ensures run { IfOk result (λ run. run ≡ record {
+      setting = record {
+        group = group;
+        limit = history_max;
+      };
+      steps = map step_fields steps.now;
+    }) }
+    ensures bad_limit { (result ≡ Err PlayFault.BadLimit)
+        ↔ ¬ ((1 ≤ history_max) × (history_max ≤ longest_history)) }
+    ensures causal { IfOk result (λ run. IsCausalBroadcast run.setting (run_in run)) }
+    ensures delivered { IfOk result (λ run. DeliversClosedArrivals run.setting (run_in run)) }
+    ensures times { IfOk result (λ run. TimesTellHappenedBefore run.setting (run_in run)) }
+{
+    let mut world = match World::new(alloc, group, history_max) {
+        Ok(world) => world,
+        Err(fault) => return Err(fault),
+    };
+    match run_on(&mut world, steps) {
+        Ok(()) => Ok(world.finish()),
+        Err(_refused) => Err(PlayFault::NoMemory),
     }
-    Ok(world.finish())
+}
+
+/// The group takes these steps too.
+fn run_on(world: &mut World, steps: &[Step]) -> Result<(), NoMemory>
+    ensures { OnOk result (world.new ≡ and_steps world.old (map step_fields steps.now)) }
+{
+    for step in steps {
+        world.step(step)?;
+    }
+    Ok(())
 }
 
 #[cfg(test)]

@@ -1,20 +1,25 @@
 //! What one step does, to the member that it names and to the frames that were sent.
 
-ghost use Rattle.std.specs.Prelude.{◌≡◌, ◌+◌, ◌≤◌, IfOk, OnErr, ◌++◌, map};
+ghost use Rattle.std.specs.Prelude.{◌≡◌, ℕ, ◌+◌, ◌≤◌, [], ◌∷◌, ◌++◌, true, IfOk, OnErr, map, slice_get};
 ghost use Rattle.std.specs.Vec.{vec_capacity, vec_len};
-ghost use Rattle.cb_frames.specs.declared.frame.TheConstants.{MOST_FRAMES};
 ghost use Rattle.cb_history.specs.Legal.{ToCast, ToTake, ToTick};
-ghost use Rattle.cb_schedules.specs.Schedule.{are_bytes, sent_by};
+ghost use Rattle.cb_schedules.specs.Schedule.{are_bytes, handed_over, sent_by};
+ghost use Rattle.cb_world.specs.declared.taking.TheConstants.{MOST_PUT_OUT};
 ghost use Rattle.cb_world.specs.Outcomes.{sent_fields};
 ghost use Rattle.cb_world.specs.Steps.{step_fields};
+ghost use Rattle.cb_world.specs.Taking.{asks, HasAnswered, HasDone, Takes};
 
 use crate::outcome::{Answer, Sent};
 use crate::step::Step;
 use bytes::Bytes;
+use cb_frames::MOST_FRAMES;
 use cb_member::{
     Arrival, ArriveRefusal, CastDone, CastRefusal, Member, NoMemory, Outgoing, TickRefusal, Ticked,
 };
 use std::alloc::AllocError;
+
+/// More frames than any answer puts out: the frames that were asked for, or a status to all and a request to each other member.
+pub const MOST_PUT_OUT: usize = MOST_FRAMES + 1;
 
 /// Pushes where there is room.
 pub fn push_within<T: Drop>(items: &mut Vec<T>, item: T)
@@ -39,14 +44,27 @@ fn send(sent: &mut Vec<Sent>, from: u32, out: Vec<Outgoing>)
     }
 }
 
+#[tactic(auto, using(crate::proofs::Taken::bytes_are_bytes))]
 fn cast(member: &mut Member, payload: &[u8], sent: &mut Vec<Sent>) -> Result<Answer, NoMemory>
-    requires { vec_len sent.old + MOST_FRAMES ≤ vec_capacity sent.old }
+    requires { vec_len sent.old + MOST_PUT_OUT ≤ vec_capacity sent.old }
+    ensures done { IfOk result (HasAnswered member.old member.new (ToCast payload.now)
+        (map sent_fields sent.old.items) (map sent_fields sent.new.items)) }
+    ensures bytes { are_bytes payload.now ≡ true }
+    ensures same { OnErr result (member.new ≡ member.old) }
+    ensures sent { OnErr result (sent.new.items ≡ sent.old.items) }
 {
     let from = member.seat().me();
     match member.cast(payload) {
         Ok(CastDone { name, time, out }) => {
             let to = None;
-            push_within(sent, Sent { from, to, bytes: out });
+            push_within(
+                sent,
+                Sent {
+                    from,
+                    to,
+                    bytes: out,
+                },
+            );
             Ok(Answer::Cast { name, time })
         }
         Err(CastRefusal::NoMemory) => Err(AllocError),
@@ -55,15 +73,21 @@ fn cast(member: &mut Member, payload: &[u8], sent: &mut Vec<Sent>) -> Result<Ans
 }
 
 fn arrive(member: &mut Member, bytes: &Bytes, sent: &mut Vec<Sent>) -> Result<Answer, NoMemory>
-    requires { vec_len sent.old + MOST_FRAMES ≤ vec_capacity sent.old }
+    requires { vec_len sent.old + MOST_PUT_OUT ≤ vec_capacity sent.old }
+    ensures done { IfOk result (HasAnswered member.old member.new (ToTake bytes.now)
+        (map sent_fields sent.old.items) (map sent_fields sent.new.items)) }
+    ensures same { OnErr result (member.new ≡ member.old) }
+    ensures sent { OnErr result (sent.new.items ≡ sent.old.items) }
 {
     let from = member.seat().me();
     match member.arrive(bytes) {
-        Ok(Arrival::Accepted {
-            deliveries,
-            changed,
-            out,
-        }) => {
+        Ok(
+            Arrival::Accepted {
+                deliveries,
+                changed,
+                out,
+            },
+        ) => {
             send(sent, from, out);
             Ok(Answer::Accepted {
                 deliveries,
@@ -78,7 +102,12 @@ fn arrive(member: &mut Member, bytes: &Bytes, sent: &mut Vec<Sent>) -> Result<An
 
 /// The frame of this number arrives.
 fn hand_over(member: &mut Member, number: usize, sent: &mut Vec<Sent>) -> Result<Answer, NoMemory>
-    requires { vec_len sent.old + MOST_FRAMES ≤ vec_capacity sent.old }
+    requires { vec_len sent.old + MOST_PUT_OUT ≤ vec_capacity sent.old }
+    ensures done { (j : ℕ) → IfOk result (HasDone member.old member.new
+        (handed_over j (slice_get (map sent_fields sent.old.items) number))
+        (map sent_fields sent.old.items) (map sent_fields sent.new.items)) }
+    ensures same { OnErr result (member.new ≡ member.old) }
+    ensures sent { OnErr result (sent.new.items ≡ sent.old.items) }
 {
     let Some(frame) = sent.get(number) else {
         return Ok(Answer::NoSuchFrame);
@@ -88,12 +117,16 @@ fn hand_over(member: &mut Member, number: usize, sent: &mut Vec<Sent>) -> Result
 }
 
 fn tick(member: &mut Member, sent: &mut Vec<Sent>) -> Result<Answer, NoMemory>
-    requires { vec_len sent.old + MOST_FRAMES ≤ vec_capacity sent.old }
+    requires { vec_len sent.old + MOST_PUT_OUT ≤ vec_capacity sent.old }
+    ensures done { IfOk result (HasAnswered member.old member.new ToTick
+        (map sent_fields sent.old.items) (map sent_fields sent.new.items)) }
+    ensures same { OnErr result (member.new ≡ member.old) }
+    ensures sent { OnErr result (sent.new.items ≡ sent.old.items) }
 {
     let from = member.seat().me();
     match member.tick() {
-        Ok(Ticked { entered, out }) => {
-            send(sent, from, out);
+        Ok(Ticked { entered, out: told }) => {
+            send(sent, from, told);
             Ok(Answer::Ticked { entered })
         }
         Err(TickRefusal::NoMemory) => Err(AllocError),
@@ -103,7 +136,12 @@ fn tick(member: &mut Member, sent: &mut Vec<Sent>) -> Result<Answer, NoMemory>
 
 /// The member does what the step asks for.
 fn call(member: &mut Member, step: &Step, sent: &mut Vec<Sent>) -> Result<Answer, NoMemory>
-    requires { vec_len sent.old + MOST_FRAMES ≤ vec_capacity sent.old }
+    requires { vec_len sent.old + MOST_PUT_OUT ≤ vec_capacity sent.old }
+    ensures done { IfOk result (HasDone member.old member.new
+        (asks (map sent_fields sent.old.items) (step_fields step.now))
+        (map sent_fields sent.old.items) (map sent_fields sent.new.items)) }
+    ensures same { OnErr result (member.new ≡ member.old) }
+    ensures sent { OnErr result (sent.new.items ≡ sent.old.items) }
 {
     match step {
         Step::Cast(_, payload) => cast(member, payload.as_slice(), sent),
@@ -118,7 +156,11 @@ pub fn take(
     step: &Step,
     sent: &mut Vec<Sent>,
 ) -> Result<Answer, NoMemory>
-    requires { vec_len sent.old + MOST_FRAMES ≤ vec_capacity sent.old }
+    requires { vec_len sent.old + MOST_PUT_OUT ≤ vec_capacity sent.old }
+    ensures taken { IfOk result (Takes members.old.items sent.old.items (step_fields step.now)
+        members.new.items sent.new.items) }
+    ensures same { OnErr result (members.new.items ≡ members.old.items) }
+    ensures sent { OnErr result (sent.new.items ≡ sent.old.items) }
 {
     match members.get_mut(step.member() as usize) {
         None => Ok(Answer::NoSuchMember),

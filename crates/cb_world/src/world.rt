@@ -1,18 +1,20 @@
 //! The group.
 
-ghost use Rattle.std.specs.Prelude.{◌≡◌, ◌↔◌, ◌≤◌, [], IfOk, Err, MatchOption, map};
+ghost use Rattle.std.specs.Prelude.{◌≡◌, ◌↔◌, ◌≤◌, [], IfOk, OnOk, OnErr, Err, MatchOption, map};
 ghost use Rattle.cb_history.specs.Facts.{entry_fields};
 ghost use Rattle.cb_history.specs.Legal.{longest_history};
-ghost use Rattle.cb_schedules.specs.Headline.{Headline};
+ghost use Rattle.cb_schedules.specs.Headline.{DeliversClosedArrivals, IsCausalBroadcast, TimesTellHappenedBefore};
 ghost use Rattle.cb_schedules.specs.Messages.{stamped_lists};
+ghost use Rattle.cb_schedules.specs.Schedule.{IsSetting};
+ghost use Rattle.cb_schedules.specs.SentLaws.{ArrivalsAreWelcome, StableIsDeliveredEverywhere};
 ghost use Rattle.cb_world.specs.Outcomes.{sent_fields, AreOutcomes};
-ghost use Rattle.cb_world.specs.World.{AreNewMembers, member_in, run_in};
+ghost use Rattle.cb_world.specs.Steps.{step_fields};
+ghost use Rattle.cb_world.specs.World.{AreNewMembers, HasRoom, and_step, member_in, run_in};
 
 use crate::outcome::{Outcome, Sent};
 use crate::run::Run;
 use crate::step::Step;
-use crate::taking::{push_within, take};
-use cb_frames::MOST_FRAMES;
+use crate::taking::{MOST_PUT_OUT, push_within, take};
 use cb_member::{Entry, Event, Group, LONGEST_HISTORY, Member, NewFault, NoMemory};
 use std::alloc::{AllocError, Global};
 use std::marker::Model;
@@ -101,46 +103,55 @@ impl World {
         })
     }
 
-    /// One thing more happens. Out of memory, the group is as it was.
+    /// One thing more happens: the run goes on by this step. Out of memory, the group is as it was.
     ///
-    /// The step is answered just as the run of the schedule is: by its member's answer to the history so far, or by NoSuchMember or
-    /// NoSuchFrame where it names none.
-    pub fn step(&mut self, step: &Step) -> Result<(), NoMemory> {
+    /// So after every step, whatever was lost, repeated or reordered: the members' casts and deliveries are a run of the causal broadcast
+    /// machine; a member has delivered a message exactly when it and everything that happened before it have arrived there; and the times
+    /// from the frames' bytes compare, for any two messages that were cast, exactly as happened-before does.
+    pub fn step(&mut self, step: &Step) -> Result<(), NoMemory>
+        ensures step { OnOk result (self.new ≡ and_step self.old (step_fields step.now)) }
+        ensures same { OnErr result (self.new ≡ self.old) }
+        ensures causal { IsCausalBroadcast self.new.setting (run_in self.new) }
+        ensures delivered { DeliversClosedArrivals self.new.setting (run_in self.new) }
+        ensures times { TimesTellHappenedBefore self.new.setting (run_in self.new) }
+    {
+        self.take(step)
+    }
+
+    fn take(&mut self, step: &Step) -> Result<(), NoMemory>
+        ensures step { OnOk result (self.new ≡ and_step self.old (step_fields step.now)) }
+        ensures same { OnErr result (self.new ≡ self.old) }
+        ensures setting { IsSetting self.new.setting }
+    {
+        make_room(&mut self.steps, &mut self.outcomes, &mut self.sent)?;
         let taken = step.copy()?;
-        self.reserve()?;
         let first_frame = self.sent.len();
         let answer = take(&mut self.members, step, &mut self.sent)?;
         let frame_count = self.sent.len() - first_frame;
-        push_within(
-            &mut self.outcomes,
-            Outcome {
-                answer,
-                first_frame,
-                frame_count,
-            },
-        );
+        let outcome = Outcome {
+            answer,
+            first_frame,
+            frame_count,
+        };
+        push_within(&mut self.outcomes, outcome);
         push_within(&mut self.steps, taken);
         Ok(())
     }
 
-    /// Makes room for a step more. Nothing else changes.
-    fn reserve(&mut self) -> Result<(), NoMemory> {
-        self.steps.reserve(1)?;
-        self.outcomes.reserve(1)?;
-        self.sent.reserve(MOST_FRAMES)?;
-        Ok(())
-    }
-
     /// The group takes no more steps.
-    pub fn finish(self) -> Run {
+    pub fn finish(self) -> Run
+        ensures run { result ≡ self }
+        ensures setting { IsSetting result.setting }
+    {
         Run { world: self }
     }
 
-    /// Member j, where the group has it.
+    /// Member j, where the group has it. What it knows to be stable of its own casts, every other member has delivered: nobody misses what
+    /// it trimmed.
     pub fn member(&self, j: u32) -> Option<&Member>
         ensures member { MatchOption result (self.now.setting.group.size ≤ j) (λ member. member.now
             ≡ member_in self.now j) }
-        ensures headline { Headline self.now.setting (run_in self.now) }
+        ensures stable { StableIsDeliveredEverywhere self.now.setting (run_in self.now) }
     {
         self.members.get(j as usize)
     }
@@ -168,12 +179,30 @@ impl World {
         self.sent.as_slice()
     }
 
-    /// What came of each step.
+    /// What came of each step. No arrival is refused, but where the history is full.
     pub fn outcomes(&self) -> &[Outcome]
-        ensures { AreOutcomes self.now.setting self.now.steps result.now }
+        ensures outcomes { AreOutcomes self.now.setting self.now.steps result.now }
+        ensures welcome { ArrivalsAreWelcome self.now.setting (run_in self.now) }
     {
         self.outcomes.as_slice()
     }
+}
+
+/// Makes room for a step more. Nothing else changes.
+fn make_room(
+    steps: &mut Vec<Step>,
+    outcomes: &mut Vec<Outcome>,
+    sent: &mut Vec<Sent>,
+) -> Result<(), NoMemory>
+    ensures steps { steps.new.items ≡ steps.old.items }
+    ensures outcomes { outcomes.new.items ≡ outcomes.old.items }
+    ensures sent { sent.new.items ≡ sent.old.items }
+    ensures room { OnOk result (HasRoom steps.new outcomes.new sent.new) }
+{
+    steps.reserve(1)?;
+    outcomes.reserve(1)?;
+    sent.reserve(MOST_PUT_OUT)?;
+    Ok(())
 }
 
 fn members_of(alloc: Global, group: Group, limit: usize) -> Result<Vec<Member>, NoMemory>
