@@ -5,6 +5,7 @@ ghost use Rattle.confer.specs.Cli.Statuses.{words_status, lines_status, status_o
 ghost use Rattle.confer.specs.declared.cli.fault.Fault.TheVariants.{NoMemory as OutOfMemory};
 
 use crate::expand::LinesFault;
+use crate::play::ScriptFault;
 use cb_times::NoMemory;
 use clap::error::ErrorKind;
 use thiserror::Error;
@@ -14,6 +15,9 @@ const USAGE: u8 = 2;
 
 /// A fault of the reader or the writer, or an input that is too long.
 const STREAMS: u8 = 3;
+
+/// A script has a bad step.
+const SCRIPT: u8 = 4;
 
 /// Out of memory.
 const MEMORY: u8 = 5;
@@ -36,6 +40,9 @@ pub enum Fault {
     /// A fault while lines were read and answered.
     #[error("{0}")]
     Lines(LinesFault),
+    /// A fault while a script was read or run.
+    #[error("{0}")]
+    Play(ScriptFault),
 }
 
 impl From<NoMemory> for Fault {
@@ -55,7 +62,8 @@ impl Fault {
             Fault::Words(error) => words_status(error.kind()),
             Fault::NotText | Fault::NoOrder => USAGE,
             Fault::NoMemory => MEMORY,
-            Fault::Lines(fault) => lines_status(fault),
+            Fault::Lines(fault) | Fault::Play(ScriptFault::Lines(fault)) => lines_status(fault),
+            Fault::Play(ScriptFault::BadStep { .. }) => SCRIPT,
         }
     }
 
@@ -68,7 +76,8 @@ impl Fault {
             Fault::NotText => Some("confer: a word of the command line is not UTF-8\n"),
             Fault::NoOrder => Some("confer: the words order nothing\n"),
             Fault::NoMemory => Some("confer: out of memory\n"),
-            Fault::Lines(fault) => Some(lines_said(fault)),
+            Fault::Lines(fault) | Fault::Play(ScriptFault::Lines(fault)) => Some(lines_said(fault)),
+            Fault::Play(ScriptFault::BadStep { .. }) => None,
         }
     }
 }

@@ -6,8 +6,10 @@ ghost use Rattle.confer.specs.Cli.Statuses.{status_of, said_of};
 ghost use Rattle.confer.specs.Cli.Runs.{Expanded, StoppedBy, Ends};
 
 use crate::cli::fault::Fault;
-use crate::cli::order::order_of;
-use crate::expand::{expand_lines, write_whole};
+use crate::cli::order::{Order, order_of};
+use crate::expand::{LinesFault, expand_lines, write_whole};
+use crate::play::{ScriptFault, play_script};
+use itoa::Buffer;
 use std::alloc::Global;
 use std::convert::AsStr;
 use std::io::{Read, Write};
@@ -31,12 +33,16 @@ fn carry_out<S: AsStr, R: Read, W: Write>(
         (W.contents output.old) (W.contents output.new)) }
 {
     match order_of(alloc, words) {
-        Ok(options) => {
-            match expand_lines(alloc, options.group, options.size, input, output) {
+        Ok(Order::Expand { group, size }) => {
+            match expand_lines(alloc, group, size, input, output) {
                 Ok(refused) => Ok(refused),
                 Err(fault) => Err(Fault::Lines(fault)),
             }
         }
+        Ok(Order::Play) => match play_script(alloc, input, output) {
+            Ok(()) => Ok(false),
+            Err(fault) => Err(Fault::Play(fault)),
+        },
         Err(fault) => Err(fault),
     }
 }
@@ -56,14 +62,43 @@ fn say<E: Write>(fault: &Fault, errors: &mut E)
     ensures { IfSome (said_of fault.now)
         (WritesPart (E.contents errors.old) (E.contents errors.new)) }
 {
-    match fault.said() {
-        Some(text) => {
-            let _ = write_whole(errors, text.as_bytes());
+    match fault {
+        Fault::Play(ScriptFault::BadStep { line }) => {
+            let _ = say_bad_step(*line, errors);
         }
-        None => {
-            let _ = write!(errors, "{fault}");
-        }
+        _ => match fault.said() {
+            Some(text) => {
+                let _ = write_whole(errors, text.as_bytes());
+            }
+            None => {
+                let _ = write!(errors, "{fault}");
+            }
+        },
     }
+}
+
+fn say_bad_step<E: Write>(line: usize, errors: &mut E) -> Result<(), LinesFault> {
+    let mut digits = Buffer::new();
+    write_whole(errors, b"confer: line ")?;
+    write_whole(errors, digits.format(line).as_bytes())?;
+    write_whole(errors, b": bad step\n")
+}
+
+/// Does what the words say, of which the first is the program's name, and answers the exit status.
+///
+/// `None` would be for words that order threads: no subcommand does yet.
+pub fn run_plain<S: AsStr, R: Read, W: Write, E: Write>(
+    alloc: Global,
+    words: &[S],
+    input: &mut R,
+    output: &mut W,
+    errors: &mut E,
+) -> Option<u8> {
+    Some(match carry_out(alloc, words, input, output) {
+        Ok(false) => DONE,
+        Ok(true) => REFUSED,
+        Err(fault) => report(&fault, errors),
+    })
 }
 
 /// Does what the words say, of which the first is the program's name, and answers the exit status.

@@ -72,7 +72,7 @@ fn is_plain(byte: u8) -> bool
     matches!(byte, b' '..=b'~') && byte != b'"' && byte != b'\\'
 }
 
-fn is_plain_text(payload: &[u8]) -> bool
+pub fn is_plain_text(payload: &[u8]) -> bool
     ensures { result ≡ list_all is_plain payload.now }
 {
     payload.iter().all(|byte| is_plain(*byte))
