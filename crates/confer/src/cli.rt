@@ -11,4 +11,4 @@ mod run;
 mod tests;
 
 pub use fault::Fault;
-pub use run::{report, run_words};
+pub use run::{report, run_plain, run_words};

@@ -12,4 +12,6 @@ pub use fault::ScriptFault;
 pub use running::play_script;
 
 #[cfg(test)]
+mod schedules;
+#[cfg(test)]
 mod tests;
