@@ -7,6 +7,7 @@ mod command;
 mod fault;
 mod order;
 mod run;
+mod said;
 #[cfg(test)]
 mod tests;
 

@@ -38,7 +38,7 @@ pub fn put_number(number: u32, buffer: &mut [u8], end: usize) -> usize
 }
 
 /// Bytes as they are.
-fn put_bytes(bytes: &[u8], buffer: &mut [u8], end: usize) -> usize
+pub fn put_bytes(bytes: &[u8], buffer: &mut [u8], end: usize) -> usize
     requires { HasRoom (length bytes.now) buffer.old end }
     ensures { Puts buffer.old end buffer.new result bytes.now }
 {

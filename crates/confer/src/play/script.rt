@@ -2,6 +2,10 @@
 //!
 //! The lines and their words are those of `docs/PROTOCOL.md`. This module converts, and runs nothing.
 
+ghost use Rattle.std.specs.Prelude.{◌≤◌, IfErr};
+ghost use Rattle.cb_history.specs.Legal.{longest_history};
+ghost use Rattle.confer.specs.Play.{IsNoScript};
+
 use crate::play::fault::ScriptFault;
 use bytes::Bytes;
 use cb_member::{Group, LONGEST_HISTORY};
@@ -19,6 +23,7 @@ pub struct Setting {
     pub group: Group,
     /// How many entries each member's history may have, 1 to 16,777,216.
     pub history_max: usize,
+    ghost is_limit: { (1 ≤ history_max) × (history_max ≤ longest_history) },
 }
 
 /// A script that is read whole.
@@ -36,7 +41,9 @@ enum LineFault {
 }
 
 impl LineFault {
-    fn at(self, line: usize) -> ScriptFault {
+    fn at(self, line: usize) -> ScriptFault
+        ensures { IsNoScript result }
+    {
         match self {
             LineFault::NoLine => ScriptFault::BadStep { line },
             LineFault::NoMemory(refused) => refused.into(),
@@ -51,15 +58,22 @@ impl From<NoMemory> for LineFault {
 }
 
 /// Reads the lines, up to the first one that is not what must stand there.
-pub fn script_of(alloc: Global, text: &[u8]) -> Result<Script, ScriptFault> {
+pub fn script_of(alloc: Global, text: &[u8]) -> Result<Script, ScriptFault>
+    ensures { IfErr result IsNoScript }
+{
     let ended = text.strip_suffix(b"\n").unwrap_or(text);
     let mut lines = ended.split(|byte| *byte == b'\n');
     let first = lines.next().unwrap_or(ended);
-    let setting = setting_of(alloc, first).map_err(|fault| fault.at(1))?;
+    let setting = match setting_of(alloc, first) {
+        Ok(setting) => setting,
+        Err(fault) => return Err(fault.at(1)),
+    };
     let mut steps = Vec::new(alloc);
     for (place, line) in lines.enumerate() {
-        let step = step_of(alloc, line).map_err(|fault| fault.at(place.saturating_add(2)))?;
-        steps.push(step).map_err(AllocError::from)?;
+        match step_of(alloc, line) {
+            Ok(step) => steps.push(step).map_err(AllocError::from)?,
+            Err(fault) => return Err(fault.at(place.saturating_add(2))),
+        }
     }
     Ok(Script { setting, steps })
 }
