@@ -19,11 +19,11 @@ pub fn command<'a>(alloc: Global) -> Result<Command<'a>, AllocError>
         .arg(size_option(alloc))?;
     let play = Command::new(alloc, "play")
         .about("Reads a script of steps, and prints what happens in a group that takes them");
-    Command::new(alloc, "confer")
+    let program = Command::new(alloc, "confer")
         .about("Causal broadcast in a fixed group")
         .subcommand_required(true)
-        .subcommand(expand)?
-        .subcommand(play)
+        .subcommand(expand)?;
+    program.subcommand(play)
 }
 
 fn group_option<'a>(alloc: Global) -> Arg<'a>

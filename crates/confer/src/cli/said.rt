@@ -7,10 +7,9 @@ ghost use Rattle.confer.specs.Cli.Statuses.{words_said, lines_said, bad_step_sai
 ghost use Rattle.confer.specs.declared.cli.said.TheConstants.{LONGEST_BAD_STEP};
 
 use crate::cli::fault::Fault;
-use crate::expand::{LinesFault, put_bytes, write_whole};
+use crate::expand::{LinesFault, put_bytes, put_long_number, write_whole};
 use crate::play::ScriptFault;
 use clap::error::ErrorKind;
-use itoa::write_digits;
 use std::io::Write;
 
 /// The most bytes of what is said of a bad step, whose line has at most 20 digits.
@@ -37,7 +36,13 @@ pub fn say<E: Write>(fault: &Fault, errors: &mut E)
 fn say_text<E: Write>(text: &str, errors: &mut E)
     ensures { WritesPart (E.contents errors.old) (E.contents errors.new) text.now }
 {
-    let _ = write_whole(errors, text.as_bytes());
+    say_bytes(text.as_bytes(), errors);
+}
+
+fn say_bytes<E: Write>(bytes: &[u8], errors: &mut E)
+    ensures { WritesPart (E.contents errors.old) (E.contents errors.new) bytes.now }
+{
+    let _ = write_whole(errors, bytes);
 }
 
 /// Of a fault in the words `clap` has the text.
@@ -79,7 +84,7 @@ fn say_bad_step<E: Write>(line: usize, errors: &mut E)
 {
     let mut room = [0; LONGEST_BAD_STEP];
     let start = put_bad_step(line, &mut room);
-    let _ = write_whole(errors, &room[start..]);
+    say_bytes(&room[start..], errors);
 }
 
 /// What is said of a bad step, at the end of the room. Where it starts.
@@ -88,6 +93,6 @@ fn put_bad_step(line: usize, room: &mut [u8]) -> usize
     ensures { drop result room.new ≡ bad_step_said line }
 {
     let end = put_bytes(b": bad step\n", room, room.len());
-    let end = write_digits(line as u64, room, end);
+    let end = put_long_number(line as u64, room, end);
     put_bytes(b"confer: line ", room, end)
 }
