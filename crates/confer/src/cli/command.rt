@@ -17,8 +17,9 @@ pub fn command<'a>(alloc: Global) -> Result<Command<'a>, AllocError>
         )
         .arg(group_option(alloc))?
         .arg(size_option(alloc))?;
-    let play = Command::new(alloc, "play")
-        .about("Reads a script of steps, and prints what happens in a group that takes them");
+    let play = Command::new(alloc, "play").about(
+        "Reads a script of steps, and prints what happens in a group that takes them",
+    );
     let program = Command::new(alloc, "confer")
         .about("Causal broadcast in a fixed group")
         .subcommand_required(true)

@@ -22,10 +22,7 @@ pub fn say<E: Write>(fault: &Fault, errors: &mut E)
 {
     match fault {
         Fault::Words(error) => say_words(error, errors),
-        Fault::NotText => say_text(
-            "confer: a word of the command line is not UTF-8\n",
-            errors,
-        ),
+        Fault::NotText => say_text("confer: a word of the command line is not UTF-8\n", errors),
         Fault::NoOrder => say_text("confer: the words order nothing\n", errors),
         Fault::NoMemory => say_text("confer: out of memory\n", errors),
         Fault::Lines(fault) => say_text(lines_said(fault), errors),

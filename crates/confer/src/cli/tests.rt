@@ -79,7 +79,12 @@ fn words_that_are_no_command_end_with_status_two(rt: HostRuntime) -> Result<(), 
         "cannot be used multiple times",
     )?;
     says(&rt, alloc, &["confer", "audit"], "audit")?;
-    says(&rt, alloc, &["confer", "play", "--help"], "Usage: confer play")?;
+    says(
+        &rt,
+        alloc,
+        &["confer", "play", "--help"],
+        "Usage: confer play",
+    )?;
     says(&rt, alloc, &["confer", "play", "more"], "more")?;
     says(
         &rt,

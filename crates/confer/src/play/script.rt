@@ -82,7 +82,9 @@ pub fn script_of(alloc: Global, text: &[u8]) -> Result<Script, ScriptFault>
 fn setting_of(alloc: Global, line: &[u8]) -> Result<Setting, LineFault> {
     match words_of(alloc, line)?.as_slice() {
         ["group", g, "size", n, "window", w, "history", h] => {
-            let group = Group::new(number(g)?, number(n)?, number(w)?).map_err(|_| LineFault::NoLine)?;
+            let group = Group::new(number(g)?, number(n)?, number(w)?).map_err(
+                |_| LineFault::NoLine,
+            )?;
             let history_max = number(h)? as usize;
             if !(1..=LONGEST_HISTORY).contains(&history_max) {
                 return Err(LineFault::NoLine);

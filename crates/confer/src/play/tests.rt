@@ -46,9 +46,17 @@ fn each_schedule_of_the_repository_prints_its_text(rt: HostRuntime) {
 }
 
 /// Of one step after the first line: what is printed of it.
-fn answers(rt: &impl Abort, alloc: Global, first: &str, step: &str, answer: &str) -> Result<(), Fail> {
+fn answers(
+    rt: &impl Abort,
+    alloc: Global,
+    first: &str,
+    step: &str,
+    answer: &str,
+) -> Result<(), Fail> {
     let script = format!(in alloc; "{first}\n{step}\n")?;
-    let text = format!(in alloc; "1 {answer}\nmember 0 time [0,0] stable 0 entries 0\nmember 1 time [0,0] stable 0 entries 0\n")?;
+    let text = format!(in alloc;
+        "1 {answer}\nmember 0 time [0,0] stable 0 entries 0\nmember 1 time [0,0] stable 0 entries 0\n"
+    )?;
     prints(rt, alloc, &script, &text);
     Ok(())
 }
@@ -72,7 +80,13 @@ fn every_number_of_32_bits_is_read(rt: HostRuntime) -> Result<(), Fail> {
         answers(&rt, rt.alloc(), FIRST, step, answer)?;
     }
     let greatest = "group 4294967295 size 2 window 256 history 16777216";
-    answers(&rt, rt.alloc(), greatest, "arrive 0 0", "refused NoSuchFrame")?;
+    answers(
+        &rt,
+        rt.alloc(),
+        greatest,
+        "arrive 0 0",
+        "refused NoSuchFrame",
+    )?;
     let least = "group 0 size 2 window 1 history 1";
     answers(&rt, rt.alloc(), least, "arrive 0 0", "refused NoSuchFrame")
 }
@@ -94,7 +108,9 @@ fn the_longest_payload_is_cast_and_a_longer_one_is_refused(rt: HostRuntime) -> R
     let status = run_words(alloc, &WORDS, &mut input, &mut output, &mut errors);
     assert_eq!(rt; status, 0);
     let lower = hex.to_ascii_lowercase(alloc)?;
-    let text = format!(in alloc; "1 cast 0.1 [1,0]\n > 0 all 11070001008008{lower}\n2 arrive accepted changed\n = 0.1 [1,0] x{lower}\nmember 0 time [1,0] stable 0 entries 1\nmember 1 time [1,0] stable 0 entries 1\n")?;
+    let text = format!(in alloc;
+        "1 cast 0.1 [1,0]\n > 0 all 11070001008008{lower}\n2 arrive accepted changed\n = 0.1 [1,0] x{lower}\nmember 0 time [1,0] stable 0 entries 1\nmember 1 time [1,0] stable 0 entries 1\n"
+    )?;
     assert_eq!(rt; output.text.as_slice(), text.as_bytes());
     Ok(())
 }
@@ -114,7 +130,9 @@ fn a_payload_is_printed_as_text_where_each_byte_is_plain(rt: HostRuntime) -> Res
     let alloc = rt.alloc();
     for (payload, field, printed) in ROWS {
         let script = format!(in alloc; "{FIRST}\ncast 0 {payload}\narrive 1 0")?;
-        let text = format!(in alloc; "1 cast 0.1 [1,0]\n > 0 all 1107000100{field}\n2 arrive accepted changed\n = 0.1 [1,0] {printed}\nmember 0 time [1,0] stable 0 entries 1\nmember 1 time [1,0] stable 0 entries 1\n")?;
+        let text = format!(in alloc;
+            "1 cast 0.1 [1,0]\n > 0 all 1107000100{field}\n2 arrive accepted changed\n = 0.1 [1,0] {printed}\nmember 0 time [1,0] stable 0 entries 1\nmember 1 time [1,0] stable 0 entries 1\n"
+        )?;
         prints(&rt, alloc, &script, &text);
     }
     Ok(())
@@ -124,7 +142,12 @@ fn a_payload_is_printed_as_text_where_each_byte_is_plain(rt: HostRuntime) -> Res
 fn a_script_without_steps_prints_its_members(rt: HostRuntime) {
     let text = "member 0 time [0,0] stable 0 entries 0\nmember 1 time [0,0] stable 0 entries 0\n";
     prints(&rt, rt.alloc(), FIRST, text);
-    prints(&rt, rt.alloc(), "group 7 size 2 window 4 history 100\n", text);
+    prints(
+        &rt,
+        rt.alloc(),
+        "group 7 size 2 window 4 history 100\n",
+        text,
+    );
 }
 
 /// First lines that are none.
@@ -187,7 +210,13 @@ const FIRST_LINES: &[&str] = &[
 #[test]
 fn a_first_line_that_is_none_is_a_bad_step(rt: HostRuntime) {
     for line in FIRST_LINES {
-        stops(&rt, rt.alloc(), line.as_bytes(), 4, "confer: line 1: bad step\n");
+        stops(
+            &rt,
+            rt.alloc(),
+            line.as_bytes(),
+            4,
+            "confer: line 1: bad step\n",
+        );
     }
     let bytes = b"group 7 size 2 window 4 history 100\xff\n";
     stops(&rt, rt.alloc(), bytes, 4, "confer: line 1: bad step\n");
@@ -299,9 +328,21 @@ fn a_line_that_is_no_step_is_a_bad_step(rt: HostRuntime) -> Result<(), Fail> {
     let alloc = rt.alloc();
     for line in LINES {
         let script = format!(in alloc; "{FIRST}\n{line}\n")?;
-        stops(&rt, alloc, script.as_bytes(), 4, "confer: line 2: bad step\n");
+        stops(
+            &rt,
+            alloc,
+            script.as_bytes(),
+            4,
+            "confer: line 2: bad step\n",
+        );
         let script = format!(in alloc; "{FIRST}\ncast 0 00\narrive 1 0\ntick 1\n{line}\ntick 0\n")?;
-        stops(&rt, alloc, script.as_bytes(), 4, "confer: line 5: bad step\n");
+        stops(
+            &rt,
+            alloc,
+            script.as_bytes(),
+            4,
+            "confer: line 5: bad step\n",
+        );
     }
     Ok(())
 }
@@ -310,8 +351,14 @@ fn a_line_that_is_no_step_is_a_bad_step(rt: HostRuntime) -> Result<(), Fail> {
 fn a_line_that_is_no_text_is_a_bad_step(rt: HostRuntime) {
     const ROWS: &[(&[u8], &str)] = &[
         (b"group 7 size 2 window 4 history 100\ntick \xff\n", "2"),
-        (b"group 7 size 2 window 4 history 100\ntick 0\n\xc3\n\xa9\n", "3"),
-        (b"group 7 size 2 window 4 history 100\ntick 0\ntick 1\ncast 0 \x80", "4"),
+        (
+            b"group 7 size 2 window 4 history 100\ntick 0\n\xc3\n\xa9\n",
+            "3",
+        ),
+        (
+            b"group 7 size 2 window 4 history 100\ntick 0\ntick 1\ncast 0 \x80",
+            "4",
+        ),
     ];
     let alloc = rt.alloc();
     for (script, line) in ROWS {
@@ -326,23 +373,52 @@ fn a_line_that_is_no_text_is_a_bad_step(rt: HostRuntime) {
 fn the_first_bad_step_is_named(rt: HostRuntime) -> Result<(), Fail> {
     let alloc = rt.alloc();
     let script = format!(in alloc; "{FIRST}\ntick 0\ntock 0\n\ntick 1\n")?;
-    stops(&rt, alloc, script.as_bytes(), 4, "confer: line 3: bad step\n");
+    stops(
+        &rt,
+        alloc,
+        script.as_bytes(),
+        4,
+        "confer: line 3: bad step\n",
+    );
     let script = format!(in alloc; "{FIRST}\ntick 0\n\n")?;
-    stops(&rt, alloc, script.as_bytes(), 4, "confer: line 3: bad step\n");
+    stops(
+        &rt,
+        alloc,
+        script.as_bytes(),
+        4,
+        "confer: line 3: bad step\n",
+    );
     let mut script = format!(in alloc; "{FIRST}\n")?;
     for _ in 0..1000 {
         script.push_str("tick 0\n")?;
     }
     script.push_str("tock 0")?;
-    stops(&rt, alloc, script.as_bytes(), 4, "confer: line 1002: bad step\n");
+    stops(
+        &rt,
+        alloc,
+        script.as_bytes(),
+        4,
+        "confer: line 1002: bad step\n",
+    );
     Ok(())
 }
 
 #[test]
 fn the_last_line_may_lack_its_line_feed(rt: HostRuntime) {
-    let text = "1 tick entered\n > 0 all 12070000\nmember 0 time [0,0] stable 0 entries 1\nmember 1 time [0,0] stable 0 entries 0\n";
-    prints(&rt, rt.alloc(), "group 7 size 2 window 4 history 100\ntick 0", text);
-    prints(&rt, rt.alloc(), "group 7 size 2 window 4 history 100\ntick 0\n", text);
+    let text =
+        "1 tick entered\n > 0 all 12070000\nmember 0 time [0,0] stable 0 entries 1\nmember 1 time [0,0] stable 0 entries 0\n";
+    prints(
+        &rt,
+        rt.alloc(),
+        "group 7 size 2 window 4 history 100\ntick 0",
+        text,
+    );
+    prints(
+        &rt,
+        rt.alloc(),
+        "group 7 size 2 window 4 history 100\ntick 0\n",
+        text,
+    );
 }
 
 /// A long script and what it prints.
@@ -354,7 +430,9 @@ fn many_ticks(alloc: Global) -> Result<(String, String), Fail> {
         script.push_str("tick 0\n")?;
         write!(text, "{step} tick same\n > {number} all 12070000\n")?;
     }
-    text.push_str("member 0 time [0,0] stable 0 entries 1\nmember 1 time [0,0] stable 0 entries 0\n")?;
+    text.push_str(
+        "member 0 time [0,0] stable 0 entries 1\nmember 1 time [0,0] stable 0 entries 0\n",
+    )?;
     Ok((script, text))
 }
 
@@ -390,7 +468,8 @@ fn a_failing_read_comes_before_a_bad_step(rt: HostRuntime) {
 #[test]
 fn each_write_failing_in_turn_keeps_what_was_written(rt: HostRuntime) {
     let alloc = rt.alloc();
-    let whole = "1 tick entered\n > 0 all 12070000\nmember 0 time [0,0] stable 0 entries 1\nmember 1 time [0,0] stable 0 entries 0\n".as_bytes();
+    let whole =
+        "1 tick entered\n > 0 all 12070000\nmember 0 time [0,0] stable 0 entries 1\nmember 1 time [0,0] stable 0 entries 0\n".as_bytes();
     for good in 0..37 {
         let mut output = writing(alloc);
         output.good = good;
@@ -408,7 +487,10 @@ fn an_interrupted_write_is_tried_again(rt: HostRuntime) {
     output.interrupted = 2;
     let mut errors = writing(alloc);
     let mut input = reading(b"group 7 size 2 window 4 history 100\n");
-    assert_eq!(rt; run_words(alloc, &WORDS, &mut input, &mut output, &mut errors), 0);
+    assert_eq!(rt;
+        run_words(alloc, &WORDS, &mut input, &mut output, &mut errors),
+        0
+    );
     assert_eq!(rt; output.text.len(), 78);
 }
 

@@ -106,7 +106,10 @@ impl fmt::Display for MemberText<'_> {
         let time = self.member.time();
         let stable = self.member.stable();
         let entries = self.member.history().len();
-        write!(f, "member {number} time {time} stable {stable} entries {entries}")
+        write!(
+            f,
+            "member {number} time {time} stable {stable} entries {entries}"
+        )
     }
 }
 
