@@ -2,7 +2,7 @@
 //!
 //! The lines and their words are those of `docs/PROTOCOL.md`. This module converts, and runs nothing.
 
-ghost use Rattle.std.specs.Prelude.{◌≤◌, IfErr};
+ghost use Rattle.std.specs.Prelude.{◌≡◌, ◌≤◌, ◌<◌, ◌^◌, ℕ, Ok, IfOk, IfErr, decimal};
 ghost use Rattle.cb_history.specs.Legal.{longest_history};
 ghost use Rattle.confer.specs.Play.{IsNoScript};
 
@@ -12,6 +12,7 @@ use cb_member::{Group, LONGEST_HISTORY};
 use cb_times::NoMemory;
 use cb_world::Step;
 use hex::FromHexError;
+use itoa::Buffer;
 use std::alloc::{AllocError, Global};
 
 /// The words of the longest line, which is the first.
@@ -113,13 +114,21 @@ fn words_of(alloc: Global, line: &[u8]) -> Result<Vec<&str>, LineFault> {
     Ok(text.split(' ').take(MOST_WORDS + 1).collect(alloc)?)
 }
 
-/// A number: decimal digits without a zero before them, up to 4,294,967,295.
-fn number(word: &str) -> Result<u32, LineFault> {
-    let digits = word.bytes().all(|byte| byte.is_ascii_digit());
-    if !digits || (word.starts_with('0') && word != "0") {
-        return Err(LineFault::NoLine);
+/// A number in its one spelling: decimal digits, with no sign and no zeros before them, up to 4,294,967,295.
+fn number(word: &str) -> Result<u32, LineFault>
+    ensures ok { IfOk result (λ n. word.now ≡ decimal n) }
+    ensures every { (n : ℕ) → n < 2 ^ 32 → word.now ≡ decimal n → result ≡ Ok n }
+{
+    match word.parse::<u32>() {
+        Ok(number) => {
+            if Buffer::new().format(number) == word {
+                Ok(number)
+            } else {
+                Err(LineFault::NoLine)
+            }
+        }
+        Err(_) => Err(LineFault::NoLine),
     }
-    word.parse().map_err(|_| LineFault::NoLine)
 }
 
 /// A payload: `-` for none, else two digits for each byte, in either case of letters.
