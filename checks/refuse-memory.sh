@@ -1,6 +1,6 @@
 #!/usr/bin/env bash
-# Runs `confer expand` with each growth that it asks of the operating system refused in turn. Every run must end with status 5 and `confer: out of memory`, and
-# must have written a beginning of the answers in whole lines, or go on as if nothing had been refused.
+# Runs `confer expand` and `confer play` with each growth that they ask of the operating system refused in turn. Every run must end with status 5 and
+# `confer: out of memory`, or go on as if nothing had been refused. Where it ends, `expand` must have written a beginning of the answers in whole lines, and `play` nothing.
 # It wants a C compiler and the proved program: `rt run` in crates/confer leaves it in crates/confer/out.
 set -eu
 here=$(cd "$(dirname "$0")" && pwd)
@@ -23,20 +23,46 @@ fault() {
     echo "growth $1 refused: $2"
     exit 1
 }
-ended=0
-for ((nth = 1; ; nth++)); do
+
+# refuse NTH INPUT WORD..: runs the words on the input with this growth refused
+refuse() {
+    local nth=$1 input=$2
+    shift 2
     status=0
     rm -f "$work/refused"
-    REFUSE=$nth REFUSED=$work/refused LD_PRELOAD=$work/refuse.so "$confer" expand --group 7 --size 3 \
-        < "$work/lines" > "$work/shown" 2> "$work/said" || status=$?
+    REFUSE=$nth REFUSED=$work/refused LD_PRELOAD=$work/refuse.so "$confer" "$@" \
+        < "$input" > "$work/shown" 2> "$work/said" || status=$?
+}
+# memory NTH: the run ended for want of memory, and said so
+memory() {
+    [ "$status" = 5 ] || fault "$1" "status $status"
+    [ "$(cat "$work/said")" = 'confer: out of memory' ] || fault "$1" "standard error says: $(cat "$work/said")"
+    ended=$((ended + 1))
+}
+ended=0
+for ((nth = 1; ; nth++)); do
+    refuse "$nth" "$work/lines" expand --group 7 --size 3
     cmp -s <(head -n "$(wc -l < "$work/shown")" "$work/whole") "$work/shown" || fault "$nth" 'no beginning of the answers'
     [ -e "$work/refused" ] || break
     # the kit's libraries do without some growths: then the run is the whole one
     [ "$status" = 1 ] && cmp -s "$work/whole" "$work/shown" && continue
-    [ "$status" = 5 ] || fault "$nth" "status $status"
-    [ "$(cat "$work/said")" = 'confer: out of memory' ] || fault "$nth" "standard error says: $(cat "$work/said")"
-    ended=$((ended + 1))
+    memory "$nth"
 done
 [ "$status" = 1 ]
 cmp "$work/whole" "$work/shown"
-echo "$((nth - 1)) growths, each refused in turn: $ended ended the run, $((nth - 1 - ended)) were done without"
+echo "expand: $((nth - 1)) growths, each refused in turn: $ended ended the run, $((nth - 1 - ended)) were done without"
+
+for script in "$here"/../schedules/*.script; do
+    name=$(basename "$script" .script)
+    ended=0
+    for ((nth = 1; ; nth++)); do
+        refuse "$nth" "$script" play
+        [ -e "$work/refused" ] || break
+        [ "$status" = 0 ] && cmp -s "${script%.script}.out" "$work/shown" && continue
+        memory "$nth"
+        [ ! -s "$work/shown" ] || fault "$nth" 'something is written'
+    done
+    [ "$status" = 0 ]
+    cmp "${script%.script}.out" "$work/shown"
+    echo "play of $name: $((nth - 1)) growths, each refused in turn: $ended ended the run, $((nth - 1 - ended)) were done without"
+done

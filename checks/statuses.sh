@@ -1,5 +1,5 @@
 #!/usr/bin/env bash
-# Runs the built program and compares its exit statuses 0, 1, 2 and 3 with what it writes and says: what the words, the reads
+# Runs the built program and compares its exit statuses 0, 1, 2, 3 and 4 with what it writes and says: what the words, the reads
 # and the writes of the real program do, which no test in the crate reaches.
 # It wants the proved program: `rt run` in crates/confer leaves it in crates/confer/out.
 set -eu
@@ -33,7 +33,8 @@ ends 0 "$work/times" '' "${expand[@]}" < "$work/accepted"
 ends 1 "$work/refusal" '' "${expand[@]}" < "$work/refused"
 ends 2 "$work/nothing" 'Usage:' "$confer" < "$work/accepted"
 ends 2 "$work/nothing" '--group <G>' "$confer" expand --help < "$work/accepted"
-ends 2 "$work/nothing" "'play'" "$confer" play < "$work/accepted"
+ends 2 "$work/nothing" "'audit'" "$confer" audit < "$work/accepted"
+ends 2 "$work/nothing" "'more'" "$confer" play more < "$work/accepted"
 ends 2 "$work/nothing" "'65'" "$confer" expand --group 7 --size 65 < "$work/accepted"
 ends 2 "$work/nothing" 'confer: a word of the command line is not UTF-8' "${expand[@]}" $'\xff' < "$work/accepted"
 # a folder can be opened and not read, and the full device takes no byte
@@ -45,4 +46,16 @@ found=0
 { echo 1107000100026869; head -c 67108864 /dev/zero | tr '\0' 'g'; } > "$work/long"
 head -n 1 "$work/times" > "$work/first"
 ends 3 "$work/first" 'confer: input too long' "${expand[@]}" < "$work/long"
-echo 'statuses 0, 1, 2 and 3, with their outputs'
+# every schedule, and what ends a script
+for script in "$here"/../schedules/*.script; do
+    ends 0 "${script%.script}.out" '' "$confer" play < "$script"
+done
+ends 3 "$work/nothing" 'confer: read fault' "$confer" play < "$work"
+ends 3 "$work/nothing" 'confer: input too long' "$confer" play < "$work/long"
+ends 4 "$work/nothing" 'confer: line 1: bad step' "$confer" play < /dev/null
+{ cat "$here/../schedules/a_frame_comes_again.script"; echo 'say 0 main hi'; } > "$work/bad"
+ends 4 "$work/nothing" 'confer: line 6: bad step' "$confer" play < "$work/bad"
+found=0
+"$confer" play < "$here/../schedules/a_frame_comes_again.script" > /dev/full 2> "$work/said" || found=$?
+[ "$found" = 3 ] && [ "$(cat "$work/said")" = 'confer: write fault' ] || { echo "play to a full device: status $found"; exit 1; }
+echo 'statuses 0, 1, 2, 3 and 4, with their outputs'

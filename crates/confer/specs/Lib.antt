@@ -1,2 +1,3 @@
 pub mod Expand
+pub mod Play
 pub mod Cli

@@ -7,8 +7,9 @@ mod command;
 mod fault;
 mod order;
 mod run;
+mod said;
 #[cfg(test)]
 mod tests;
 
 pub use fault::Fault;
-pub use run::{report, run_words};
+pub use run::{report, run_plain, run_words};

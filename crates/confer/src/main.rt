@@ -1,13 +1,14 @@
 //! `confer`: causal broadcast at the command line.
 //!
 //! `cli` reads the words, by `clap`, and runs what they order. Each subcommand has a module of its own: `expand` stands on
-//! `cb_frames` and `cb_diffs`.
+//! `cb_frames` and `cb_diffs`, `play` on `cb_world`.
 #![tactic(auto)]
 
 mod cli;
 mod expand;
 #[cfg(test)]
 mod fakes;
+mod play;
 
 use crate::cli::{Fault, report, run_words};
 use std::env;

@@ -23,8 +23,11 @@ size_rule = number_rule (codes "size") 2 64
 abbrev pub expand_app : App
 expand_app = with_rule (with_rule (new_app (codes "expand")) group_rule) size_rule
 
--- one subcommand, which is required
+abbrev pub play_app : App
+play_app = new_app (codes "play")
+
+-- two subcommands, one of which is required
 abbrev pub confer_app : App
 confer_app =
     let top = new_app (codes "confer") in
-    with_subcommand (record top { top = record top.top { subcommand_required = true } }) expand_app.top
+    with_subcommand (with_subcommand (record top { top = record top.top { subcommand_required = true } }) expand_app.top) play_app.top

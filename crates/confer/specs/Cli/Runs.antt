@@ -1,12 +1,13 @@
 -- What a run did, by its exit status.
-use Rattle.std.specs.Prelude.{◌≡◌, ℕ, Bool, List, ◌⊎◌, Option, IfSome, if◌then◌else◌}
+use Rattle.std.specs.Prelude.{◌≡◌, ℕ, Bool, false, List, ◌⊎◌, Option, IfSome, if◌then◌else◌}
 use Rattle.std.specs.Io.KnownBytes.{Appends}
 use Rattle.clap.specs.Words.{Text}
 use Rattle.confer.specs.declared.cli.fault.Fault.{Fault}
 use Rattle.confer.specs.declared.cli.fault.Fault.TheVariants as faults
 use Rattle.confer.specs.Expand.Lines.{output_of, is_refused}
 use Rattle.confer.specs.Expand.Runs.{WritesPart, Stops}
-use Rattle.confer.specs.Cli.Orders.{OrdersExpand, RefusesWords}
+use Rattle.confer.specs.Play.{IsWithinLimit, WritesSome, StopsPlaying}
+use Rattle.confer.specs.Cli.Orders.{OrdersExpand, OrdersPlay, RefusesWords}
 use Rattle.confer.specs.Cli.Statuses.{status_of, said_of}
 
 -- the words order an expansion, and the whole input was expanded
@@ -17,15 +18,26 @@ pub record Expanded (words : List Text) (refused : Bool) (input before now : Opt
   pub text : IfSome input (λ bytes. Appends before now (output_of group size bytes))
   pub refusal : IfSome input (λ bytes. refused ≡ is_refused group size bytes)
 
--- the words are refused, and nothing is read or written; or they order an expansion, which stops
+-- the words order a script to be run, which no run refuses; the script was within the limit, and some text was written
+pub record Played (words : List Text) (refused : Bool) (input before now : Option (List ℕ)) : Type 0 where
+  pub ordered : OrdersPlay words
+  pub refusal : refused ≡ false
+  pub limit : IsWithinLimit input
+  pub written : WritesSome before now
+
+abbrev pub Done : List Text → Bool → Option (List ℕ) → Option (List ℕ) → Option (List ℕ) → Type 0
+Done words refused input before now = Expanded words refused input before now ⊎ Played words refused input before now
+
+-- the words are refused, and nothing is read or written; or they order an expansion or a script to be run, which stops
 abbrev pub StoppedBy : List Text → Fault → Option (List ℕ) → Option (List ℕ) → Option (List ℕ) → Option (List ℕ) → Type 0
 StoppedBy words (faults.Lines fault) input left before now =
     (group size : ℕ) × OrdersExpand words group size × IfSome input (λ bytes. Stops group size bytes fault left before now)
+StoppedBy words (faults.Play fault) input left before now = OrdersPlay words × StopsPlaying fault input before now
 StoppedBy words fault input left before now = RefusesWords words fault × (left ≡ input) × (now ≡ before)
 
 -- the run ends with status 0 or 1, and says nothing, or stops by a fault, which it says
 abbrev pub Ends : List Text → ℕ → Option (List ℕ) → Option (List ℕ) → Option (List ℕ) → Option (List ℕ) → Option (List ℕ) → Option (List ℕ) → Type 0
 Ends words status input left before now silent said =
-    ((refused : Bool) × (status ≡ (if refused then 1 else 0)) × Expanded words refused input before now × (said ≡ silent))
+    ((refused : Bool) × (status ≡ (if refused then 1 else 0)) × Done words refused input before now × (said ≡ silent))
     ⊎ ((fault : Fault) × (status ≡ status_of fault) × StoppedBy words fault input left before now
     × IfSome (said_of fault) (WritesPart silent said))

@@ -1,10 +1,13 @@
 -- The exit statuses of `confer`.
-use Rattle.std.specs.Prelude.{ℕ, List, codes, Option, Some, None}
+use Rattle.std.specs.Prelude.{ℕ, List, ◌++◌, codes, Option, Some, None}
+use Rattle.std.specs.Fmt.{decimal}
 use Rattle.clap.specs.Words.{kind_of}
 use Rattle.clap.specs.declared.error.kind.ErrorKind.{ErrorKind}
 use Rattle.clap.specs.declared.error.kind.ErrorKind.TheVariants as kinds
 use Rattle.confer.specs.declared.expand.fault.LinesFault.{LinesFault}
 use Rattle.confer.specs.declared.expand.fault.LinesFault.TheVariants as lines
+use Rattle.confer.specs.declared.play.fault.ScriptFault.{ScriptFault}
+use Rattle.confer.specs.declared.play.fault.ScriptFault.TheVariants as scripts
 use Rattle.confer.specs.declared.cli.fault.Fault.{Fault}
 use Rattle.confer.specs.declared.cli.fault.Fault.TheVariants as faults
 
@@ -18,12 +21,17 @@ lines_status lines.Write = 3
 lines_status lines.TooLong = 3
 lines_status lines.NoMemory = 5
 
+abbrev pub script_status : ScriptFault → ℕ
+script_status (scripts.Lines fault) = lines_status fault
+script_status (scripts.BadStep line) = 4
+
 abbrev pub status_of : Fault → ℕ
 status_of (faults.Words error) = words_status (kind_of error)
 status_of faults.NotText = 2
 status_of faults.NoOrder = 2
 status_of faults.NoMemory = 5
 status_of (faults.Lines fault) = lines_status fault
+status_of (faults.Play fault) = script_status fault
 
 -- what is said of a fault on standard error, but for what `clap` says
 abbrev pub words_said : ErrorKind → Option (List ℕ)
@@ -36,9 +44,18 @@ lines_said lines.Write = codes "confer: write fault\n"
 lines_said lines.TooLong = codes "confer: input too long\n"
 lines_said lines.NoMemory = codes "confer: out of memory\n"
 
+-- a bad step is named by its line, from 1
+abbrev pub bad_step_said : ℕ → List ℕ
+bad_step_said line = codes "confer: line " ++ (decimal line ++ codes ": bad step\n")
+
+abbrev pub script_said : ScriptFault → List ℕ
+script_said (scripts.Lines fault) = lines_said fault
+script_said (scripts.BadStep line) = bad_step_said line
+
 abbrev pub said_of : Fault → Option (List ℕ)
 said_of (faults.Words error) = words_said (kind_of error)
 said_of faults.NotText = Some (codes "confer: a word of the command line is not UTF-8\n")
 said_of faults.NoOrder = Some (codes "confer: the words order nothing\n")
 said_of faults.NoMemory = Some (codes "confer: out of memory\n")
 said_of (faults.Lines fault) = Some (lines_said fault)
+said_of (faults.Play fault) = Some (script_said fault)

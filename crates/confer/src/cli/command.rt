@@ -17,10 +17,14 @@ pub fn command<'a>(alloc: Global) -> Result<Command<'a>, AllocError>
         )
         .arg(group_option(alloc))?
         .arg(size_option(alloc))?;
-    Command::new(alloc, "confer")
+    let play = Command::new(alloc, "play").about(
+        "Reads a script of steps, and prints what happens in a group that takes them",
+    );
+    let program = Command::new(alloc, "confer")
         .about("Causal broadcast in a fixed group")
         .subcommand_required(true)
-        .subcommand(expand)
+        .subcommand(expand)?;
+    program.subcommand(play)
 }
 
 fn group_option<'a>(alloc: Global) -> Arg<'a>

@@ -1,10 +1,11 @@
 //! Why a run of `confer` did not end as it should, and its exit status then.
 
-ghost use Rattle.std.specs.Prelude.{◌≡◌, option_map};
-ghost use Rattle.confer.specs.Cli.Statuses.{words_status, lines_status, status_of, words_said, lines_said, said_of};
+ghost use Rattle.std.specs.Prelude.{◌≡◌};
+ghost use Rattle.confer.specs.Cli.Statuses.{words_status, lines_status, script_status, status_of};
 ghost use Rattle.confer.specs.declared.cli.fault.Fault.TheVariants.{NoMemory as OutOfMemory};
 
 use crate::expand::LinesFault;
+use crate::play::ScriptFault;
 use cb_times::NoMemory;
 use clap::error::ErrorKind;
 use thiserror::Error;
@@ -14,6 +15,9 @@ const USAGE: u8 = 2;
 
 /// A fault of the reader or the writer, or an input that is too long.
 const STREAMS: u8 = 3;
+
+/// A script has a bad step.
+const SCRIPT: u8 = 4;
 
 /// Out of memory.
 const MEMORY: u8 = 5;
@@ -36,6 +40,9 @@ pub enum Fault {
     /// A fault while lines were read and answered.
     #[error("{0}")]
     Lines(LinesFault),
+    /// A fault while a script was read or run.
+    #[error("{0}")]
+    Play(ScriptFault),
 }
 
 impl From<NoMemory> for Fault {
@@ -56,40 +63,8 @@ impl Fault {
             Fault::NotText | Fault::NoOrder => USAGE,
             Fault::NoMemory => MEMORY,
             Fault::Lines(fault) => lines_status(fault),
+            Fault::Play(fault) => script_status(fault),
         }
-    }
-
-    /// What is said of it on standard error, but for a fault in the words: of that `clap` has the text.
-    pub fn said(&self) -> Option<&'static str>
-        ensures { option_map (λ text. text.now) result ≡ said_of self.now }
-    {
-        match self {
-            Fault::Words(error) => words_said(error.kind()),
-            Fault::NotText => Some("confer: a word of the command line is not UTF-8\n"),
-            Fault::NoOrder => Some("confer: the words order nothing\n"),
-            Fault::NoMemory => Some("confer: out of memory\n"),
-            Fault::Lines(fault) => Some(lines_said(fault)),
-        }
-    }
-}
-
-fn words_said(kind: ErrorKind) -> Option<&'static str>
-    ensures { option_map (λ text. text.now) result ≡ words_said kind }
-{
-    match kind {
-        ErrorKind::OutOfMemory => Some("confer: out of memory\n"),
-        _ => None,
-    }
-}
-
-fn lines_said(fault: &LinesFault) -> &'static str
-    ensures { result.now ≡ lines_said fault.now }
-{
-    match fault {
-        LinesFault::Read => "confer: read fault\n",
-        LinesFault::Write => "confer: write fault\n",
-        LinesFault::TooLong => "confer: input too long\n",
-        LinesFault::NoMemory => "confer: out of memory\n",
     }
 }
 
@@ -108,5 +83,14 @@ fn lines_status(fault: &LinesFault) -> u8
     match fault {
         LinesFault::Read | LinesFault::Write | LinesFault::TooLong => STREAMS,
         LinesFault::NoMemory => MEMORY,
+    }
+}
+
+fn script_status(fault: &ScriptFault) -> u8
+    ensures { result ≡ script_status fault.now }
+{
+    match fault {
+        ScriptFault::Lines(fault) => lines_status(fault),
+        ScriptFault::BadStep { .. } => SCRIPT,
     }
 }

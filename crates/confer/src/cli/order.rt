@@ -13,15 +13,17 @@ use clap::ArgMatches;
 use std::alloc::Global;
 use std::convert::AsStr;
 
-/// `confer expand --group GROUP --size SIZE`: the one order so far. A second one makes an enum of orders.
+/// One subcommand with its options.
 #[derive(Clone, Copy, Debug, PartialEq, Eq)]
-pub struct ExpandOptions {
-    pub group: u32,
-    pub size: u32,
+pub enum Order {
+    /// `confer expand --group GROUP --size SIZE`.
+    Expand { group: u32, size: u32 },
+    /// `confer play`.
+    Play,
 }
 
 /// What the words order, of which the first is the program's name.
-pub fn order_of<S: AsStr>(alloc: Global, words: &[S]) -> Result<ExpandOptions, Fault>
+pub fn order_of<S: AsStr>(alloc: Global, words: &[S]) -> Result<Order, Fault>
     ensures ok { IfOk result (Orders (map S.text words.now)) }
     ensures err { IfErr result (RefusesWords (map S.text words.now)) }
 {
@@ -32,6 +34,9 @@ pub fn order_of<S: AsStr>(alloc: Global, words: &[S]) -> Result<ExpandOptions, F
     let Some((name, options)) = matches.subcommand() else {
         return Err(Fault::NoOrder);
     };
+    if name == "play" {
+        return Ok(Order::Play);
+    }
     if name != "expand" {
         return Err(Fault::NoOrder);
     }
@@ -44,7 +49,7 @@ pub fn order_of<S: AsStr>(alloc: Global, words: &[S]) -> Result<ExpandOptions, F
     if size < FEWEST_MEMBERS || MOST_MEMBERS < size {
         return Err(Fault::NoOrder);
     }
-    Ok(ExpandOptions { group, size })
+    Ok(Order::Expand { group, size })
 }
 
 fn number(options: &ArgMatches<'_>, name: &str) -> Option<u32>

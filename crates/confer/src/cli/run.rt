@@ -1,13 +1,15 @@
 //! What the words order, done.
 
-ghost use Rattle.std.specs.Prelude.{◌≡◌, map, IfOk, IfErr, IfSome};
+ghost use Rattle.std.specs.Prelude.{◌≡◌, map, IfOk, IfErr, IfSome, MatchOption};
 ghost use Rattle.confer.specs.Expand.Runs.{WritesPart};
 ghost use Rattle.confer.specs.Cli.Statuses.{status_of, said_of};
-ghost use Rattle.confer.specs.Cli.Runs.{Expanded, StoppedBy, Ends};
+ghost use Rattle.confer.specs.Cli.Runs.{Done, StoppedBy, Ends};
 
 use crate::cli::fault::Fault;
-use crate::cli::order::order_of;
-use crate::expand::{expand_lines, write_whole};
+use crate::cli::order::{Order, order_of};
+use crate::cli::said::say;
+use crate::expand::expand_lines;
+use crate::play::play_script;
 use std::alloc::Global;
 use std::convert::AsStr;
 use std::io::{Read, Write};
@@ -24,19 +26,23 @@ fn carry_out<S: AsStr, R: Read, W: Write>(
     input: &mut R,
     output: &mut W,
 ) -> Result<bool, Fault>
-    ensures ok { IfOk result (λ refused. Expanded (map S.text words.now) refused
+    ensures ok { IfOk result (λ refused. Done (map S.text words.now) refused
         (R.remaining input.old) (W.contents output.old) (W.contents output.new)) }
     ensures fault { IfErr result (λ fault. StoppedBy (map S.text words.now) fault
         (R.remaining input.old) (R.remaining input.new)
         (W.contents output.old) (W.contents output.new)) }
 {
     match order_of(alloc, words) {
-        Ok(options) => {
-            match expand_lines(alloc, options.group, options.size, input, output) {
+        Ok(Order::Expand { group, size }) => {
+            match expand_lines(alloc, group, size, input, output) {
                 Ok(refused) => Ok(refused),
                 Err(fault) => Err(Fault::Lines(fault)),
             }
         }
+        Ok(Order::Play) => match play_script(alloc, input, output) {
+            Ok(()) => Ok(false),
+            Err(fault) => Err(Fault::Play(fault)),
+        },
         Err(fault) => Err(fault),
     }
 }
@@ -47,22 +53,30 @@ pub fn report<E: Write>(fault: &Fault, errors: &mut E) -> u8
     ensures said { IfSome (said_of fault.now)
         (WritesPart (E.contents errors.old) (E.contents errors.new)) }
 {
-    // Nobody is left to be told where even this can't be written.
     say(fault, errors);
     fault.status()
 }
 
-fn say<E: Write>(fault: &Fault, errors: &mut E)
-    ensures { IfSome (said_of fault.now)
-        (WritesPart (E.contents errors.old) (E.contents errors.new)) }
+/// Does what the words say, of which the first is the program's name, and answers the exit status. `None` stands for words that order a run
+/// of threads, which no subcommand does yet.
+///
+/// It returns wherever the calls of the reader and of the writers return.
+pub fn run_plain<S: AsStr, R: Read, W: Write, E: Write>(
+    alloc: Global,
+    words: &[S],
+    input: &mut R,
+    output: &mut W,
+    errors: &mut E,
+) -> Option<u8>
+    ensures { MatchOption result ⊥ (λ status. Ends (map S.text words.now) status
+        (R.remaining input.old) (R.remaining input.new)
+        (W.contents output.old) (W.contents output.new)
+        (E.contents errors.old) (E.contents errors.new)) }
 {
-    match fault.said() {
-        Some(text) => {
-            let _ = write_whole(errors, text.as_bytes());
-        }
-        None => {
-            let _ = write!(errors, "{fault}");
-        }
+    match carry_out(alloc, words, input, output) {
+        Ok(false) => Some(DONE),
+        Ok(true) => Some(REFUSED),
+        Err(fault) => Some(report(&fault, errors)),
     }
 }
 
@@ -78,9 +92,8 @@ pub fn run_words<S: AsStr, R: Read, W: Write, E: Write>(
         (W.contents output.old) (W.contents output.new)
         (E.contents errors.old) (E.contents errors.new) }
 {
-    match carry_out(alloc, words, input, output) {
-        Ok(false) => DONE,
-        Ok(true) => REFUSED,
-        Err(fault) => report(&fault, errors),
+    match run_plain(alloc, words, input, output, errors) {
+        Some(status) => status,
+        None => unreachable!("no words order threads yet"),
     }
 }

@@ -3,6 +3,7 @@
 use crate::cli::{Fault, report, run_words};
 use crate::expand::LinesFault;
 use crate::fakes::{reading, writing};
+use crate::play::ScriptFault;
 use std::alloc::{AllocError, Global};
 use std::process::Abort;
 use std::test::Fail;
@@ -78,7 +79,14 @@ fn words_that_are_no_command_end_with_status_two(rt: HostRuntime) -> Result<(), 
         ],
         "cannot be used multiple times",
     )?;
-    says(&rt, alloc, &["confer", "play"], "play")?;
+    says(&rt, alloc, &["confer", "audit"], "audit")?;
+    says(
+        &rt,
+        alloc,
+        &["confer", "play", "--help"],
+        "Usage: confer play",
+    )?;
+    says(&rt, alloc, &["confer", "play", "more"], "more")?;
     says(
         &rt,
         alloc,
@@ -155,6 +163,26 @@ fn each_fault_has_its_status_and_text(rt: HostRuntime) {
             Fault::Lines(LinesFault::NoMemory),
             5,
             "confer: out of memory\n",
+        ),
+        (
+            Fault::Play(ScriptFault::Lines(LinesFault::Read)),
+            3,
+            "confer: read fault\n",
+        ),
+        (
+            Fault::Play(ScriptFault::Lines(LinesFault::NoMemory)),
+            5,
+            "confer: out of memory\n",
+        ),
+        (
+            Fault::Play(ScriptFault::BadStep { line: 1 }),
+            4,
+            "confer: line 1: bad step\n",
+        ),
+        (
+            Fault::Play(ScriptFault::BadStep { line: usize::MAX }),
+            4,
+            "confer: line 18446744073709551615: bad step\n",
         ),
     ];
     for (fault, status, text) in faults {

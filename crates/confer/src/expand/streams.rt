@@ -21,7 +21,7 @@ pub const LONGEST_INPUT: usize = 67_108_864;
 const CHUNK: usize = 65_536;
 
 /// Where the bytes of one read go.
-fn room(alloc: Global) -> Result<Vec<u8>, NoMemory>
+pub fn room(alloc: Global) -> Result<Vec<u8>, NoMemory>
     ensures { IfOk result (λ buffer. 0 < vec_len buffer) }
 {
     vec![in alloc; 0; CHUNK]
@@ -38,7 +38,7 @@ fn count_of(read: io::Result<usize>) -> Result<usize, LinesFault>
 }
 
 /// The bytes of one read, at the front of the buffer: none at the end of the input alone.
-fn read<R: Read>(input: &mut R, buffer: &mut [u8]) -> Result<usize, LinesFault>
+pub fn read<R: Read>(input: &mut R, buffer: &mut [u8]) -> Result<usize, LinesFault>
     requires { 0 < length buffer.old }
     ensures within { IfOk result (λ count. count ≤ length buffer.new) }
     ensures bytes { IfOk result (λ count.

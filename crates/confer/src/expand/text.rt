@@ -37,8 +37,17 @@ pub fn put_number(number: u32, buffer: &mut [u8], end: usize) -> usize
     write_digits(u64::from(number), buffer, end)
 }
 
+/// A number of up to 64 bits in decimal.
+pub fn put_long_number(number: u64, buffer: &mut [u8], end: usize) -> usize
+    requires { HasRoom 20 buffer.old end }
+    ensures text { Puts buffer.old end buffer.new result (decimal number) }
+    ensures least { end ≤ result + 20 }
+{
+    write_digits(number, buffer, end)
+}
+
 /// Bytes as they are.
-fn put_bytes(bytes: &[u8], buffer: &mut [u8], end: usize) -> usize
+pub fn put_bytes(bytes: &[u8], buffer: &mut [u8], end: usize) -> usize
     requires { HasRoom (length bytes.now) buffer.old end }
     ensures { Puts buffer.old end buffer.new result bytes.now }
 {
@@ -72,7 +81,7 @@ fn is_plain(byte: u8) -> bool
     matches!(byte, b' '..=b'~') && byte != b'"' && byte != b'\\'
 }
 
-fn is_plain_text(payload: &[u8]) -> bool
+pub fn is_plain_text(payload: &[u8]) -> bool
     ensures { result ≡ list_all is_plain payload.now }
 {
     payload.iter().all(|byte| is_plain(*byte))

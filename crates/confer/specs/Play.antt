@@ -1,0 +1,42 @@
+-- What `confer play` has written where it stops. What it prints of which script is shown by tests.
+use Rattle.std.specs.Prelude.{◌≡◌, ◌<◌, ◌≤◌, ℕ, List, Option, IfSome, length}
+use Rattle.std.specs.Io.KnownBytes.{Appends}
+use Rattle.confer.specs.declared.expand.fault.LinesFault.{LinesFault}
+use Rattle.confer.specs.declared.expand.fault.LinesFault.TheVariants.{Read, Write, TooLong, NoMemory}
+use Rattle.confer.specs.declared.expand.streams.TheConstants.{LONGEST_INPUT}
+use Rattle.confer.specs.declared.play.fault.ScriptFault.{ScriptFault}
+use Rattle.confer.specs.declared.play.fault.ScriptFault.TheVariants.{Lines, BadStep}
+
+-- the input is at most as long as a script may be
+abbrev pub IsWithinLimit : Option (List ℕ) → Type 0
+IsWithinLimit input = IfSome input (λ bytes. length bytes ≤ LONGEST_INPUT)
+
+-- and it is longer
+abbrev pub IsTooLong : Option (List ℕ) → Type 0
+IsTooLong input = IfSome input (λ bytes. LONGEST_INPUT < length bytes)
+
+-- some text was appended to what was written
+abbrev pub WritesSome : Option (List ℕ) → Option (List ℕ) → Type 0
+WritesSome before now = (text : List ℕ) × Appends before now text
+
+-- why an input can't be read whole: a script that is too long is so
+abbrev pub FailsToRead : LinesFault → Option (List ℕ) → Type 0
+FailsToRead Read input = Unit {0}
+FailsToRead Write input = ⊥
+FailsToRead TooLong input = IsTooLong input
+FailsToRead NoMemory input = Unit {0}
+
+-- why the bytes are no script
+abbrev pub IsNoScript : ScriptFault → Type 0
+IsNoScript (Lines NoMemory) = Unit {0}
+IsNoScript (Lines fault) = ⊥
+IsNoScript (BadStep line) = Unit {0}
+
+-- What stands written where a run stops by this fault: nothing, unless the text of a run was being written. A script that is too long is
+-- so, and one with a bad step is within the limit.
+abbrev pub StopsPlaying : ScriptFault → Option (List ℕ) → Option (List ℕ) → Option (List ℕ) → Type 0
+StopsPlaying (Lines Read) input before now = now ≡ before
+StopsPlaying (Lines Write) input before now = WritesSome before now
+StopsPlaying (Lines TooLong) input before now = IsTooLong input × (now ≡ before)
+StopsPlaying (Lines NoMemory) input before now = now ≡ before
+StopsPlaying (BadStep line) input before now = IsWithinLimit input × (now ≡ before)

@@ -1,0 +1,17 @@
+//! `confer play`: a script of steps, run in a group of members, and what each step was answered.
+//!
+//! From the streams down: `running` reads the script whole, runs its steps in a group and writes what came of them, `script` reads the
+//! lines of the script, and `transcript` says what is printed. Stands on `cb_world` for the group.
+
+mod fault;
+mod running;
+mod script;
+mod transcript;
+
+pub use fault::ScriptFault;
+pub use running::play_script;
+
+#[cfg(test)]
+mod schedules;
+#[cfg(test)]
+mod tests;

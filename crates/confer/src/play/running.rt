@@ -1,0 +1,113 @@
+//! From a reader to a writer, by way of a group.
+
+ghost use Rattle.std.specs.Prelude.{◌≡◌, ◌<◌, ◌≤◌, vec_len, IfOk, OnOk, IfErr, IfSome};
+ghost use Rattle.confer.specs.declared.expand.streams.TheConstants.{LONGEST_INPUT};
+ghost use Rattle.confer.specs.Play.{IsWithinLimit, WritesSome, FailsToRead, IsNoScript, StopsPlaying};
+
+use crate::expand::{LONGEST_INPUT, LinesFault, read, room, write_whole};
+use crate::play::fault::ScriptFault;
+use crate::play::script::{Script, Setting, script_of};
+use crate::play::transcript::{put_member, put_step};
+use cb_times::NoMemory;
+use cb_world::{PlayFault, Step, World};
+use std::alloc::{AllocError, Global};
+use std::io::{Read, Write};
+
+/// Reads a script to the end of the input, runs it, and writes what came of each step and how each member stands at the end.
+///
+/// The text of the run is made whole before any of it is written: where the script can't be read whole, has a bad step, or memory runs
+/// out, nothing is written.
+pub fn play_script<R: Read, W: Write>(
+    alloc: Global,
+    input: &mut R,
+    output: &mut W,
+) -> Result<(), ScriptFault>
+    ensures limit { OnOk result (IsWithinLimit (R.remaining input.old)) }
+    ensures written { OnOk result (WritesSome (W.contents output.old) (W.contents output.new)) }
+    ensures fault { IfErr result (λ fault. StopsPlaying fault (R.remaining input.old)
+        (W.contents output.old) (W.contents output.new)) }
+{
+    let text = match read_whole(alloc, input) {
+        Ok(text) => text,
+        Err(fault) => return Err(ScriptFault::Lines(fault)),
+    };
+    let transcript = match transcript_of(alloc, &text) {
+        Ok(transcript) => transcript,
+        Err(fault) => return Err(fault),
+    };
+    match write_whole(output, transcript.as_bytes()) {
+        Ok(()) => Ok(()),
+        Err(fault) => Err(ScriptFault::Lines(fault)),
+    }
+}
+
+/// All that the reader has, where it is no more than a script may have.
+fn read_whole<R: Read>(alloc: Global, input: &mut R) -> Result<Vec<u8>, LinesFault>
+    ensures text { IfOk result (λ text. IfSome (R.remaining input.old) (λ bytes.
+        text.items ≡ bytes)) }
+    ensures limit { IfOk result (λ text. vec_len text ≤ LONGEST_INPUT) }
+    ensures fault { IfErr result (λ fault. FailsToRead fault (R.remaining input.old)) }
+{
+    let mut buffer = room(alloc)?;
+    let mut text = Vec::new(alloc);
+    'pieces: loop {
+        let count = match read(input, &mut buffer) {
+            Ok(count) => count,
+            Err(fault) => return Err(fault),
+        };
+        if count == 0 {
+            return Ok(text);
+        }
+        if LONGEST_INPUT - text.len() < count {
+            return Err(LinesFault::TooLong);
+        }
+        text.extend_from_slice(&buffer[..count])?;
+    }
+}
+
+/// What is printed of a script.
+fn transcript_of(alloc: Global, text: &[u8]) -> Result<String, ScriptFault>
+    ensures { IfErr result IsNoScript }
+{
+    let Script { setting, steps } = script_of(alloc, text)?;
+    Ok(run_text(alloc, setting, &steps)?)
+}
+
+/// What is printed of a run of these steps.
+fn run_text(alloc: Global, setting: Setting, steps: &[Step]) -> Result<String, NoMemory> {
+    let mut world = new_world(alloc, setting)?;
+    let mut text = String::new(alloc);
+    for (place, step) in steps.iter().enumerate() {
+        world.step(step)?;
+        put_last_step(&mut text, place.saturating_add(1), &world)?;
+    }
+    put_members(&mut text, setting.group.size(), &world)?;
+    Ok(text)
+}
+
+fn new_world(alloc: Global, setting: Setting) -> Result<World, NoMemory> {
+    match World::new(alloc, setting.group, setting.history_max) {
+        Ok(world) => Ok(world),
+        Err(PlayFault::NoMemory) => Err(AllocError),
+        Err(PlayFault::BadLimit) => unreachable!("it is the limit of a script"),
+    }
+}
+
+/// The lines of the step that was taken last, which has this number.
+fn put_last_step(text: &mut String, number: usize, world: &World) -> Result<(), NoMemory> {
+    let Some(outcome) = world.outcomes().last() else {
+        return Ok(());
+    };
+    let frames = world.frames().get(outcome.first_frame..).unwrap_or(&[]);
+    put_step(text, number, outcome, frames)
+}
+
+/// The lines of all members.
+fn put_members(text: &mut String, size: u32, world: &World) -> Result<(), NoMemory> {
+    for number in 0..size {
+        if let Some(member) = world.member(number) {
+            put_member(text, number, member)?;
+        }
+    }
+    Ok(())
+}

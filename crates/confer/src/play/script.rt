@@ -1,0 +1,147 @@
+//! The text of a script, read: a line for the group, and then a line for each step.
+//!
+//! The lines and their words are those of `docs/PROTOCOL.md`. This module converts, and runs nothing.
+
+ghost use Rattle.std.specs.Prelude.{◌≡◌, ◌≤◌, ◌<◌, ◌^◌, ℕ, Ok, IfOk, IfErr, decimal};
+ghost use Rattle.cb_history.specs.Legal.{longest_history};
+ghost use Rattle.confer.specs.Play.{IsNoScript};
+
+use crate::play::fault::ScriptFault;
+use bytes::Bytes;
+use cb_member::{Group, LONGEST_HISTORY};
+use cb_times::NoMemory;
+use cb_world::Step;
+use hex::FromHexError;
+use itoa::Buffer;
+use std::alloc::{AllocError, Global};
+
+/// The words of the longest line, which is the first.
+const MOST_WORDS: usize = 8;
+
+/// Which group a script runs in, by its first line.
+#[derive(Clone, Copy, Debug)]
+pub struct Setting {
+    pub group: Group,
+    /// How many entries each member's history may have, 1 to 16,777,216.
+    pub history_max: usize,
+    ghost is_limit: { (1 ≤ history_max) × (history_max ≤ longest_history) },
+}
+
+/// A script that is read whole.
+#[derive(Debug, Drop)]
+pub struct Script {
+    pub setting: Setting,
+    pub steps: Vec<Step>,
+}
+
+/// Why a line has no meaning: it is none of a script's, or an allocation was refused.
+#[derive(Debug, Drop)]
+enum LineFault {
+    NoLine,
+    NoMemory(NoMemory),
+}
+
+impl LineFault {
+    fn at(self, line: usize) -> ScriptFault
+        ensures { IsNoScript result }
+    {
+        match self {
+            LineFault::NoLine => ScriptFault::BadStep { line },
+            LineFault::NoMemory(refused) => refused.into(),
+        }
+    }
+}
+
+impl From<NoMemory> for LineFault {
+    fn from(refused: NoMemory) -> LineFault {
+        LineFault::NoMemory(refused)
+    }
+}
+
+/// Reads the lines, up to the first one that is not what must stand there.
+pub fn script_of(alloc: Global, text: &[u8]) -> Result<Script, ScriptFault>
+    ensures { IfErr result IsNoScript }
+{
+    let ended = text.strip_suffix(b"\n").unwrap_or(text);
+    let mut lines = ended.split(|byte| *byte == b'\n');
+    let first = lines.next().unwrap_or(ended);
+    let setting = match setting_of(alloc, first) {
+        Ok(setting) => setting,
+        Err(fault) => return Err(fault.at(1)),
+    };
+    let mut steps = Vec::new(alloc);
+    for (place, line) in lines.enumerate() {
+        match step_of(alloc, line) {
+            Ok(step) => steps.push(step).map_err(AllocError::from)?,
+            Err(fault) => return Err(fault.at(place.saturating_add(2))),
+        }
+    }
+    Ok(Script { setting, steps })
+}
+
+/// The first line, with numbers within the limits of a group.
+fn setting_of(alloc: Global, line: &[u8]) -> Result<Setting, LineFault> {
+    match words_of(alloc, line)?.as_slice() {
+        ["group", g, "size", n, "window", w, "history", h] => {
+            let group = Group::new(number(g)?, number(n)?, number(w)?).map_err(
+                |_| LineFault::NoLine,
+            )?;
+            let history_max = number(h)? as usize;
+            if !(1..=LONGEST_HISTORY).contains(&history_max) {
+                return Err(LineFault::NoLine);
+            }
+            Ok(Setting { group, history_max })
+        }
+        _ => Err(LineFault::NoLine),
+    }
+}
+
+/// A further line.
+fn step_of(alloc: Global, line: &[u8]) -> Result<Step, LineFault> {
+    match words_of(alloc, line)?.as_slice() {
+        ["cast", i, hex] => Ok(Step::Cast(number(i)?, payload(alloc, hex)?)),
+        ["arrive", j, f] => Ok(Step::Arrive(number(j)?, number(f)? as usize)),
+        ["tick", i] => Ok(Step::Tick(number(i)?)),
+        _ => Err(LineFault::NoLine),
+    }
+}
+
+/// The words of a line, with one space between them; of a line with too many, one more than any line has.
+fn words_of(alloc: Global, line: &[u8]) -> Result<Vec<&str>, LineFault> {
+    let Ok(text) = str::from_utf8(line) else {
+        return Err(LineFault::NoLine);
+    };
+    Ok(text.split(' ').take(MOST_WORDS + 1).collect(alloc)?)
+}
+
+/// A number in its one spelling: decimal digits, with no sign and no zeros before them, up to 4,294,967,295.
+fn number(word: &str) -> Result<u32, LineFault>
+    ensures ok { IfOk result (λ n. word.now ≡ decimal n) }
+    ensures every { (n : ℕ) → n < 2 ^ 32 → word.now ≡ decimal n → result ≡ Ok n }
+{
+    match word.parse::<u32>() {
+        Ok(number) => {
+            if Buffer::new().format(number) == word {
+                Ok(number)
+            } else {
+                Err(LineFault::NoLine)
+            }
+        }
+        Err(_) => Err(LineFault::NoLine),
+    }
+}
+
+/// A payload: `-` for none, else two digits for each byte, in either case of letters.
+fn payload(alloc: Global, word: &str) -> Result<Bytes, LineFault> {
+    if word == "-" {
+        return Ok(Bytes::new());
+    }
+    if word.is_empty() {
+        return Err(LineFault::NoLine);
+    }
+    match hex::decode(alloc, word) {
+        Ok(bytes) => Ok(Bytes::from_vec(bytes).map_err(AllocError::from)?),
+        Err(FromHexError::OutOfMemory) => Err(LineFault::NoMemory(AllocError)),
+        Err(_) => Err(LineFault::NoLine),
+    }
+}

@@ -1,0 +1,532 @@
+//! What is printed of which script, and what ends a run.
+
+use crate::cli::{run_plain, run_words};
+use crate::fakes::{Sink, Source, reading, writing};
+use crate::play::schedules::SCHEDULES;
+use std::alloc::Global;
+use std::io;
+use std::io::{ErrorKind, Read};
+use std::process::Abort;
+use std::test::Fail;
+
+const WORDS: [&str; 2] = ["confer", "play"];
+
+/// `confer play` prints this text of the script, and says nothing.
+fn prints(rt: &impl Abort, alloc: Global, script: &str, text: &str) {
+    let mut output = writing(alloc);
+    let mut errors = writing(alloc);
+    let mut input = reading(script.as_bytes());
+    let status = run_words(alloc, &WORDS, &mut input, &mut output, &mut errors);
+    if output.text.as_slice() != text.as_bytes() {
+        let printed = str::from_utf8(&output.text).unwrap_or("no text");
+        panic!(rt; "{printed}");
+    }
+    assert!(rt; errors.text.is_empty());
+    assert_eq!(rt; status, 0);
+}
+
+/// `confer play` prints nothing of the script, says this, and ends with this status.
+fn stops(rt: &impl Abort, alloc: Global, script: &[u8], status: u8, said: &str) {
+    let mut output = writing(alloc);
+    let mut errors = writing(alloc);
+    let mut input = reading(script);
+    assert_eq!(rt;
+        run_plain(alloc, &WORDS, &mut input, &mut output, &mut errors),
+        Some(status)
+    );
+    assert!(rt; output.text.is_empty());
+    assert_eq!(rt; errors.text.as_slice(), said.as_bytes());
+}
+
+#[test]
+fn each_schedule_of_the_repository_prints_its_text(rt: HostRuntime) {
+    for schedule in SCHEDULES {
+        prints(&rt, rt.alloc(), schedule.script, schedule.text);
+    }
+}
+
+/// Of one step after the first line: what is printed of it.
+fn answers(
+    rt: &impl Abort,
+    alloc: Global,
+    first: &str,
+    step: &str,
+    answer: &str,
+) -> Result<(), Fail> {
+    let script = format!(in alloc; "{first}\n{step}\n")?;
+    let text = format!(in alloc;
+        "1 {answer}\nmember 0 time [0,0] stable 0 entries 0\nmember 1 time [0,0] stable 0 entries 0\n"
+    )?;
+    prints(rt, alloc, &script, &text);
+    Ok(())
+}
+
+/// A group of two, W = 4 and ample histories.
+const FIRST: &str = "group 7 size 2 window 4 history 100";
+
+#[test]
+fn every_number_of_32_bits_is_read(rt: HostRuntime) -> Result<(), Fail> {
+    const ROWS: &[(&str, &str)] = &[
+        ("cast 2 -", "refused NoSuchMember"),
+        ("cast 4294967295 aBcDeF", "refused NoSuchMember"),
+        ("arrive 2 0", "refused NoSuchMember"),
+        ("arrive 4294967295 4294967295", "refused NoSuchMember"),
+        ("arrive 0 0", "refused NoSuchFrame"),
+        ("arrive 1 4294967295", "refused NoSuchFrame"),
+        ("tick 2", "refused NoSuchMember"),
+        ("tick 4294967295", "refused NoSuchMember"),
+    ];
+    for (step, answer) in ROWS {
+        answers(&rt, rt.alloc(), FIRST, step, answer)?;
+    }
+    let greatest = "group 4294967295 size 2 window 256 history 16777216";
+    answers(
+        &rt,
+        rt.alloc(),
+        greatest,
+        "arrive 0 0",
+        "refused NoSuchFrame",
+    )?;
+    let least = "group 0 size 2 window 1 history 1";
+    answers(&rt, rt.alloc(), least, "arrive 0 0", "refused NoSuchFrame")
+}
+
+#[test]
+fn the_longest_payload_is_cast_and_a_longer_one_is_refused(rt: HostRuntime) -> Result<(), Fail> {
+    let alloc = rt.alloc();
+    let mut hex = String::new(alloc);
+    for _ in 0..1024 {
+        hex.push_str("0A")?;
+    }
+    let too_long = format!(in alloc; "cast 0 {hex}0a")?;
+    answers(&rt, alloc, FIRST, &too_long, "refused PayloadTooLong")?;
+    let script = format!(in alloc; "{FIRST}\ncast 0 {hex}\narrive 1 0\n")?;
+    let mut output = writing(alloc);
+    output.most = 4096;
+    let mut errors = writing(alloc);
+    let mut input = reading(script.as_bytes());
+    let status = run_words(alloc, &WORDS, &mut input, &mut output, &mut errors);
+    assert_eq!(rt; status, 0);
+    let lower = hex.to_ascii_lowercase(alloc)?;
+    let text = format!(in alloc;
+        "1 cast 0.1 [1,0]\n > 0 all 11070001008008{lower}\n2 arrive accepted changed\n = 0.1 [1,0] x{lower}\nmember 0 time [1,0] stable 0 entries 1\nmember 1 time [1,0] stable 0 entries 1\n"
+    )?;
+    assert_eq!(rt; output.text.as_slice(), text.as_bytes());
+    Ok(())
+}
+
+#[test]
+fn a_payload_is_printed_as_text_where_each_byte_is_plain(rt: HostRuntime) -> Result<(), Fail> {
+    const ROWS: &[(&str, &str, &str)] = &[
+        ("-", "00", "\"\""),
+        ("6869", "026869", "\"hi\""),
+        ("207E41", "03207e41", "\" ~A\""),
+        ("22", "0122", "x22"),
+        ("5c", "015c", "x5c"),
+        ("1F7f", "021f7f", "x1f7f"),
+        ("68c3a9", "0368c3a9", "x68c3a9"),
+        ("FF", "01ff", "xff"),
+    ];
+    let alloc = rt.alloc();
+    for (payload, field, printed) in ROWS {
+        let script = format!(in alloc; "{FIRST}\ncast 0 {payload}\narrive 1 0")?;
+        let text = format!(in alloc;
+            "1 cast 0.1 [1,0]\n > 0 all 1107000100{field}\n2 arrive accepted changed\n = 0.1 [1,0] {printed}\nmember 0 time [1,0] stable 0 entries 1\nmember 1 time [1,0] stable 0 entries 1\n"
+        )?;
+        prints(&rt, alloc, &script, &text);
+    }
+    Ok(())
+}
+
+#[test]
+fn a_script_without_steps_prints_its_members(rt: HostRuntime) {
+    let text = "member 0 time [0,0] stable 0 entries 0\nmember 1 time [0,0] stable 0 entries 0\n";
+    prints(&rt, rt.alloc(), FIRST, text);
+    prints(
+        &rt,
+        rt.alloc(),
+        "group 7 size 2 window 4 history 100\n",
+        text,
+    );
+}
+
+/// First lines that are none.
+const FIRST_LINES: &[&str] = &[
+    "",
+    "\n",
+    "\ngroup 7 size 2 window 4 history 100",
+    "group",
+    "group 7",
+    "group 7 size 2",
+    "group 7 size 2 window 4",
+    "group 7 size 2 window 4 history",
+    "group 7 size 2 window 4 history ",
+    "group 7 size 2 window 4 history 100 ",
+    "group 7 size 2 window 4 history 100 1",
+    " group 7 size 2 window 4 history 100",
+    "group  7 size 2 window 4 history 100",
+    "group 7  size 2 window 4 history 100",
+    "group\t7 size 2 window 4 history 100",
+    "group 7 size 2 window 4 history 100\r\n",
+    "Group 7 size 2 window 4 history 100",
+    "groups 7 size 2 window 4 history 100",
+    "group 7 Size 2 window 4 history 100",
+    "group 7 members 2 window 4 history 100",
+    "group 7 size 2 Window 4 history 100",
+    "group 7 window 4 size 2 history 100",
+    "group 7 size 2 window 4 limit 100",
+    "group 7 size 2 history 100 window 4",
+    "group -1 size 2 window 4 history 100",
+    "group +7 size 2 window 4 history 100",
+    "group 07 size 2 window 4 history 100",
+    "group 00 size 2 window 4 history 100",
+    "group 4294967296 size 2 window 4 history 100",
+    "group 99999999999999999999 size 2 window 4 history 100",
+    "group 0x7 size 2 window 4 history 100",
+    "group 7. size 2 window 4 history 100",
+    "group x size 2 window 4 history 100",
+    "group 7 size 0 window 4 history 100",
+    "group 7 size 1 window 4 history 100",
+    "group 7 size 65 window 4 history 100",
+    "group 7 size 02 window 4 history 100",
+    "group 7 size two window 4 history 100",
+    "group 7 size 4294967296 window 4 history 100",
+    "group 7 size 2 window 0 history 100",
+    "group 7 size 2 window 257 history 100",
+    "group 7 size 2 window 04 history 100",
+    "group 7 size 2 window w history 100",
+    "group 7 size 2 window 4294967296 history 100",
+    "group 7 size 2 window 4 history 0",
+    "group 7 size 2 window 4 history 16777217",
+    "group 7 size 2 window 4 history 0100",
+    "group 7 size 2 window 4 history h",
+    "group 7 size 2 window 4 history 4294967296",
+    "group 7 size 2 window 4 history 1\u{0660}",
+    "cast 0 00",
+    "tick 0",
+    "#",
+];
+
+#[test]
+fn a_first_line_that_is_none_is_a_bad_step(rt: HostRuntime) {
+    for line in FIRST_LINES {
+        stops(
+            &rt,
+            rt.alloc(),
+            line.as_bytes(),
+            4,
+            "confer: line 1: bad step\n",
+        );
+    }
+    let bytes = b"group 7 size 2 window 4 history 100\xff\n";
+    stops(&rt, rt.alloc(), bytes, 4, "confer: line 1: bad step\n");
+}
+
+/// Lines that are no step.
+const LINES: &[&str] = &[
+    "",
+    " ",
+    "\r",
+    "#",
+    "# cast 0 00",
+    "group 7 size 2 window 4 history 100",
+    "cast",
+    "cast ",
+    "cast 0",
+    "cast 0 ",
+    "cast 0 00 ",
+    "cast 0 00 00",
+    "cast 0 - -",
+    " cast 0 00",
+    "cast  0 00",
+    "cast 0  00",
+    "cast\t0 00",
+    "cast 0 00\r",
+    "cast 0 00\t",
+    "Cast 0 00",
+    "casts 0 00",
+    "cas 0 00",
+    "cast - 00",
+    "cast -1 00",
+    "cast +0 00",
+    "cast 00 00",
+    "cast 01 00",
+    "cast 0x0 00",
+    "cast 4294967296 00",
+    "cast 18446744073709551616 00",
+    "cast a 00",
+    "cast 0. 00",
+    "cast 00",
+    "cast 0 0",
+    "cast 0 000",
+    "cast 0 0g",
+    "cast 0 --",
+    "cast 0 -00",
+    "cast 0 00-",
+    "cast 0 0x00",
+    "cast 0 \"hi\"",
+    "cast 0 hi",
+    "cast 0 \u{00e9}",
+    "cast 0 6\u{0660}",
+    "arrive",
+    "arrive ",
+    "arrive 0",
+    "arrive 0 ",
+    "arrive 0 0 ",
+    "arrive 0 0 0",
+    " arrive 0 0",
+    "arrive  0 0",
+    "arrive 0  0",
+    "arrive\t0 0",
+    "arrive 0 0\r",
+    "Arrive 0 0",
+    "arrives 0 0",
+    "arriv 0 0",
+    "arrive -1 0",
+    "arrive +1 0",
+    "arrive 01 0",
+    "arrive 4294967296 0",
+    "arrive x 0",
+    "arrive 0 -1",
+    "arrive 0 +1",
+    "arrive 0 00",
+    "arrive 0 01",
+    "arrive 0 4294967296",
+    "arrive 0 18446744073709551616",
+    "arrive 0 x",
+    "arrive 0 -",
+    "arrive 0.1 0",
+    "tick",
+    "tick ",
+    "tick 0 ",
+    "tick 0 0",
+    " tick 0",
+    "tick  0",
+    "tick\t0",
+    "tick 0\r",
+    "Tick 0",
+    "ticks 0",
+    "tic 0",
+    "tick -1",
+    "tick +1",
+    "tick 00",
+    "tick 01",
+    "tick 4294967296",
+    "tick 18446744073709551616",
+    "tick x",
+    "tick -",
+    "tick 0\u{0000}",
+    "say 0 main hi",
+    "say 0 main ",
+    "answer 1 0.1 yes",
+    "screen 0",
+    "quit",
+];
+
+#[test]
+fn a_line_that_is_no_step_is_a_bad_step(rt: HostRuntime) -> Result<(), Fail> {
+    let alloc = rt.alloc();
+    for line in LINES {
+        let script = format!(in alloc; "{FIRST}\n{line}\n")?;
+        stops(
+            &rt,
+            alloc,
+            script.as_bytes(),
+            4,
+            "confer: line 2: bad step\n",
+        );
+        let script = format!(in alloc; "{FIRST}\ncast 0 00\narrive 1 0\ntick 1\n{line}\ntick 0\n")?;
+        stops(
+            &rt,
+            alloc,
+            script.as_bytes(),
+            4,
+            "confer: line 5: bad step\n",
+        );
+    }
+    Ok(())
+}
+
+#[test]
+fn a_line_that_is_no_text_is_a_bad_step(rt: HostRuntime) {
+    const ROWS: &[(&[u8], &str)] = &[
+        (b"group 7 size 2 window 4 history 100\ntick \xff\n", "2"),
+        (
+            b"group 7 size 2 window 4 history 100\ntick 0\n\xc3\n\xa9\n",
+            "3",
+        ),
+        (
+            b"group 7 size 2 window 4 history 100\ntick 0\ntick 1\ncast 0 \x80",
+            "4",
+        ),
+    ];
+    let alloc = rt.alloc();
+    for (script, line) in ROWS {
+        let Ok(said) = format!(in alloc; "confer: line {line}: bad step\n") else {
+            panic!(rt; "no memory");
+        };
+        stops(&rt, alloc, script, 4, &said);
+    }
+}
+
+#[test]
+fn the_first_bad_step_is_named(rt: HostRuntime) -> Result<(), Fail> {
+    let alloc = rt.alloc();
+    let script = format!(in alloc; "{FIRST}\ntick 0\ntock 0\n\ntick 1\n")?;
+    stops(
+        &rt,
+        alloc,
+        script.as_bytes(),
+        4,
+        "confer: line 3: bad step\n",
+    );
+    let script = format!(in alloc; "{FIRST}\ntick 0\n\n")?;
+    stops(
+        &rt,
+        alloc,
+        script.as_bytes(),
+        4,
+        "confer: line 3: bad step\n",
+    );
+    let mut script = format!(in alloc; "{FIRST}\n")?;
+    for _ in 0..1000 {
+        script.push_str("tick 0\n")?;
+    }
+    script.push_str("tock 0")?;
+    stops(
+        &rt,
+        alloc,
+        script.as_bytes(),
+        4,
+        "confer: line 1002: bad step\n",
+    );
+    Ok(())
+}
+
+#[test]
+fn the_last_line_may_lack_its_line_feed(rt: HostRuntime) {
+    let text =
+        "1 tick entered\n > 0 all 12070000\nmember 0 time [0,0] stable 0 entries 1\nmember 1 time [0,0] stable 0 entries 0\n";
+    prints(
+        &rt,
+        rt.alloc(),
+        "group 7 size 2 window 4 history 100\ntick 0",
+        text,
+    );
+    prints(
+        &rt,
+        rt.alloc(),
+        "group 7 size 2 window 4 history 100\ntick 0\n",
+        text,
+    );
+}
+
+/// A long script and what it prints.
+fn many_ticks(alloc: Global) -> Result<(String, String), Fail> {
+    let mut script = format!(in alloc; "{FIRST}\ntick 0\n")?;
+    let mut text = String::from_str(alloc, "1 tick entered\n > 0 all 12070000\n")?;
+    for number in 1u32..4000 {
+        let step = number.saturating_add(1);
+        script.push_str("tick 0\n")?;
+        write!(text, "{step} tick same\n > {number} all 12070000\n")?;
+    }
+    text.push_str(
+        "member 0 time [0,0] stable 0 entries 1\nmember 1 time [0,0] stable 0 entries 0\n",
+    )?;
+    Ok((script, text))
+}
+
+#[test]
+fn a_long_script_is_run_whole(rt: HostRuntime) -> Result<(), Fail> {
+    let (script, text) = many_ticks(rt.alloc())?;
+    prints(&rt, rt.alloc(), &script, &text);
+    Ok(())
+}
+
+/// A fault of the reader or of the writer ends the run with status 3, and is said.
+fn fails(rt: &impl Abort, alloc: Global, input: &mut Source<'_>, output: &mut Sink, said: &str) {
+    let mut errors = writing(alloc);
+    assert_eq!(rt; run_words(alloc, &WORDS, input, output, &mut errors), 3);
+    assert_eq!(rt; errors.text.as_slice(), said.as_bytes());
+}
+
+#[test]
+fn a_failing_read_comes_before_a_bad_step(rt: HostRuntime) {
+    let alloc = rt.alloc();
+    for fault in [ErrorKind::BrokenPipe, ErrorKind::Interrupted] {
+        for good in 0..3 {
+            let mut input = reading(b"tock\ntock\n");
+            input.good = good;
+            input.fault = fault;
+            let mut output = writing(alloc);
+            fails(&rt, alloc, &mut input, &mut output, "confer: read fault\n");
+            assert!(rt; output.text.is_empty());
+        }
+    }
+}
+
+#[test]
+fn each_write_failing_in_turn_keeps_what_was_written(rt: HostRuntime) {
+    let alloc = rt.alloc();
+    let whole =
+        "1 tick entered\n > 0 all 12070000\nmember 0 time [0,0] stable 0 entries 1\nmember 1 time [0,0] stable 0 entries 0\n".as_bytes();
+    for good in 0..37 {
+        let mut output = writing(alloc);
+        output.good = good;
+        let upto = good.saturating_mul(3).min(whole.len());
+        let mut input = reading(b"group 7 size 2 window 4 history 100\ntick 0\n");
+        fails(&rt, alloc, &mut input, &mut output, "confer: write fault\n");
+        assert_eq!(rt; output.text.as_slice(), &whole[..upto]);
+    }
+}
+
+#[test]
+fn an_interrupted_write_is_tried_again(rt: HostRuntime) {
+    let alloc = rt.alloc();
+    let mut output = writing(alloc);
+    output.interrupted = 2;
+    let mut errors = writing(alloc);
+    let mut input = reading(b"group 7 size 2 window 4 history 100\n");
+    assert_eq!(rt;
+        run_words(alloc, &WORDS, &mut input, &mut output, &mut errors),
+        0
+    );
+    assert_eq!(rt; output.text.len(), 78);
+}
+
+/// So many bytes, with a line feed at the front of each read.
+#[derive(Drop)]
+struct Bulk {
+    left: usize,
+}
+
+impl Read for Bulk {
+    fn read(&mut self, buf: &mut [u8]) -> io::Result<usize> {
+        if let Some(first) = buf.first_mut() {
+            *first = b'\n';
+        }
+        let count = self.left.min(buf.len());
+        self.left = self.left.saturating_sub(count);
+        Ok(count)
+    }
+}
+
+#[test]
+fn a_script_has_at_most_67108864_bytes(rt: HostRuntime) {
+    const ROWS: &[(usize, u8, &str)] = &[
+        (67_108_864, 4, "confer: line 1: bad step\n"),
+        (67_108_865, 3, "confer: input too long\n"),
+    ];
+    let alloc = rt.alloc();
+    for (left, status, said) in ROWS {
+        let mut input = Bulk { left: *left };
+        let mut output = writing(alloc);
+        let mut errors = writing(alloc);
+        assert_eq!(rt;
+            run_words(alloc, &WORDS, &mut input, &mut output, &mut errors),
+            *status
+        );
+        assert!(rt; output.text.is_empty());
+        assert_eq!(rt; errors.text.as_slice(), said.as_bytes());
+    }
+}

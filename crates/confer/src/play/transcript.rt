@@ -1,0 +1,155 @@
+//! What is printed of a run: the lines of each step, and at the end a line for each member.
+//!
+//! The lines are those of `docs/PROTOCOL.md`.
+
+use crate::expand::is_plain_text;
+use cb_member::{Member, Message};
+use cb_times::NoMemory;
+use cb_world::{Answer, Outcome, Sent};
+use std::fmt;
+
+/// What the member answered.
+#[derive(Clone, Copy)]
+struct AnswerText<'a>(&'a Answer);
+
+impl fmt::Display for AnswerText<'_> {
+    fn fmt<W: fmt::Write>(&self, f: &mut fmt::Formatter<W>) -> fmt::Result {
+        match self.0 {
+            Answer::Cast { name, time } => write!(f, "cast {name} {time}"),
+            Answer::Accepted { changed, .. } if *changed => f.write_str("arrive accepted changed"),
+            Answer::Accepted { .. } => f.write_str("arrive accepted same"),
+            Answer::Repeat => f.write_str("arrive repeat"),
+            Answer::Ticked { entered } if *entered => f.write_str("tick entered"),
+            Answer::Ticked { .. } => f.write_str("tick same"),
+            Answer::CastRefused(refusal) => write!(f, "refused {refusal}"),
+            Answer::ArrivalRefused(refusal) => write!(f, "refused {refusal}"),
+            Answer::TickRefused(refusal) => write!(f, "refused {refusal}"),
+            Answer::NoSuchMember => f.write_str("refused NoSuchMember"),
+            Answer::NoSuchFrame => f.write_str("refused NoSuchFrame"),
+        }
+    }
+}
+
+/// Bytes in hexadecimal, in lower case.
+#[derive(Clone, Copy)]
+struct HexText<'a>(&'a [u8]);
+
+impl fmt::Display for HexText<'_> {
+    fn fmt<W: fmt::Write>(&self, f: &mut fmt::Formatter<W>) -> fmt::Result {
+        for byte in self.0 {
+            write!(f, "{byte:02x}")?;
+        }
+        Ok(())
+    }
+}
+
+/// A payload in quotation marks where each byte is printed as itself, else in hexadecimal behind an `x`.
+#[derive(Clone, Copy)]
+struct PayloadText<'a>(&'a [u8]);
+
+impl fmt::Display for PayloadText<'_> {
+    fn fmt<W: fmt::Write>(&self, f: &mut fmt::Formatter<W>) -> fmt::Result {
+        match str::from_utf8(self.0) {
+            Ok(text) if is_plain_text(self.0) => write!(f, "\"{text}\""),
+            _ => {
+                let hex = HexText(self.0);
+                write!(f, "x{hex}")
+            }
+        }
+    }
+}
+
+/// A message that was delivered.
+#[derive(Clone, Copy)]
+struct DeliveryText<'a>(&'a Message);
+
+impl fmt::Display for DeliveryText<'_> {
+    fn fmt<W: fmt::Write>(&self, f: &mut fmt::Formatter<W>) -> fmt::Result {
+        let Message {
+            name,
+            time,
+            payload,
+        } = self.0;
+        let payload = PayloadText(payload.as_slice());
+        write!(f, "= {name} {time} {payload}")
+    }
+}
+
+/// A frame that was put out, with its number.
+#[derive(Clone, Copy)]
+struct FrameText<'a> {
+    number: usize,
+    sent: &'a Sent,
+}
+
+impl fmt::Display for FrameText<'_> {
+    fn fmt<W: fmt::Write>(&self, f: &mut fmt::Formatter<W>) -> fmt::Result {
+        let number = self.number;
+        let bytes = HexText(self.sent.bytes.as_slice());
+        match self.sent.to {
+            None => write!(f, "> {number} all {bytes}"),
+            Some(to) => write!(f, "> {number} {to} {bytes}"),
+        }
+    }
+}
+
+/// How a member stands.
+#[derive(Clone, Copy)]
+struct MemberText<'a> {
+    number: u32,
+    member: &'a Member,
+}
+
+impl fmt::Display for MemberText<'_> {
+    fn fmt<W: fmt::Write>(&self, f: &mut fmt::Formatter<W>) -> fmt::Result {
+        let number = self.number;
+        let time = self.member.time();
+        let stable = self.member.stable();
+        let entries = self.member.history().len();
+        write!(
+            f,
+            "member {number} time {time} stable {stable} entries {entries}"
+        )
+    }
+}
+
+/// The lines of step `number`, counted from 1: what was answered, what was delivered, and the frames that were put out.
+pub fn put_step(
+    text: &mut String,
+    number: usize,
+    outcome: &Outcome,
+    frames: &[Sent],
+) -> Result<(), NoMemory> {
+    let answer = AnswerText(&outcome.answer);
+    writeln!(text, "{number} {answer}")?;
+    if let Answer::Accepted { deliveries, .. } = &outcome.answer {
+        put_deliveries(text, deliveries)?;
+    }
+    put_frames(text, outcome.first_frame, frames)
+}
+
+fn put_deliveries(text: &mut String, deliveries: &[Message]) -> Result<(), NoMemory> {
+    for message in deliveries {
+        let delivery = DeliveryText(message);
+        writeln!(text, " {delivery}")?;
+    }
+    Ok(())
+}
+
+/// The frames that one step put out, the first of which has this number.
+fn put_frames(text: &mut String, first: usize, frames: &[Sent]) -> Result<(), NoMemory> {
+    for (place, sent) in frames.iter().enumerate() {
+        let frame = FrameText {
+            number: first.saturating_add(place),
+            sent,
+        };
+        writeln!(text, " {frame}")?;
+    }
+    Ok(())
+}
+
+/// The line of a member at the end.
+pub fn put_member(text: &mut String, number: u32, member: &Member) -> Result<(), NoMemory> {
+    let member = MemberText { number, member };
+    writeln!(text, "{member}")
+}
