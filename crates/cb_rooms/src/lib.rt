@@ -1,0 +1,11 @@
+//! Conference rooms over causal broadcast: lines that are said in rooms, and answers to them.
+//!
+//! A `Line` is what a message of a conference says, with its payload both ways. A `Conference` is shown the messages of one
+//! member in the order of its events, and keeps the lines of each room and the last lines for a screen. Stands on `cb_varint` for
+//! numbers in payloads, on `cb_times` for names, and on `indexmap` and `circular_buffer`.
+#![tactic(auto)]
+
+mod line;
+mod reading;
+
+pub use line::{LONGEST_PAYLOAD, LONGEST_ROOM, Line};
