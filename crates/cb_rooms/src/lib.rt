@@ -5,7 +5,18 @@
 //! numbers in payloads, on `cb_times` for names, and on `indexmap` and `circular_buffer`.
 #![tactic(auto)]
 
+mod conference;
+mod fault;
 mod line;
 mod reading;
+mod rooms;
+mod shown;
+mod writing;
 
+pub use conference::{Conference, LONGEST_SCREEN};
+pub use fault::{ComposeFault, ConferenceFault};
 pub use line::{LONGEST_PAYLOAD, LONGEST_ROOM, Line};
+pub use shown::{Shown, Showing};
+
+#[cfg(test)]
+mod tests;
