@@ -1,2 +1,6 @@
 pub mod Names
 pub mod Lengths
+pub mod Lists
+pub mod Seen
+pub mod Holding
+pub mod Readings
