@@ -11,6 +11,8 @@ use Rattle.std.proofs.lemmas.Bool.Decides.{nat_tests}
 use Rattle.std.proofs.lemmas.Option.{none-some, slice_get-map}
 use Rattle.cb_times.specs.declared.name.Name.{Name}
 use Rattle.cb_rooms.specs.declared.shown.Shown.{Shown}
+use Rattle.std.proofs.Math.Seq.{drop-nil}
+use Rattle.cb_rooms.specs.Conference.{IsScreen}
 use Rattle.cb_rooms.specs.Line.{IsName}
 use Rattle.cb_rooms.specs.View.{ViewLine, is_same, line_named, has_line, each_once, rooms_of, has_room, lines_in, line_in, line_text}
 use Rattle.cb_rooms.specs.Places.{Room, with_line_at, line_at_place, lines_of, by_room, place_of, by_name, printed, IsOwnLine, Holds}
@@ -144,6 +146,14 @@ printed_push n lines l =
 pub same_name : (a : Name) → is_same a a ≡ true
 same_name a = grind (arith, nat_tests)
 
+pub same_names : (a b : Name) → is_same a b ≡ true → a ≡ b
+same_names a b e =
+    let parts : (a.sender ≡ b.sender) × (a.number ≡ b.number) = same_parts a b e in
+    ap (λ (n : ℕ). record { sender = n; number = a.number }) parts.0 ∙ ap (λ (n : ℕ). record { sender = b.sender; number = n }) parts.1
+  where
+    same_parts : (a b : Name) → is_same a b ≡ true → (a.sender ≡ b.sender) × (a.number ≡ b.number)
+    same_parts a b e = grind (arith, nat_tests)
+
 own_push : (lines : List ViewLine) (l : ViewLine) → AllByRecursion (IsOwnLine lines) lines → IsName l.name → has_line lines l.name ≡ false
     → AllByRecursion (IsOwnLine (lines ++ l ∷ [])) (lines ++ l ∷ [])
 own_push lines l own named new =
@@ -204,3 +214,29 @@ module _ (rooms : List Room) (places : List (Name × ℕ)) (screen : List (List 
     own = own_push lines l h.own named new;
     width = h.width;
   }
+
+-- ---- none
+
+pub holds_none : (rooms : List Room) (places : List (Name × ℕ)) (screen : List (List ℕ)) (last : ℕ) → rooms ≡ [] → places ≡ [] → screen ≡ [] → IsScreen last
+    → Holds rooms places screen last (lines_of rooms places) × (lines_of rooms places ≡ [])
+holds_none rooms places screen last r p s width =
+    let none : printed last [] ≡ [] = keep_mapped line_text last [] ∙ drop-nil _ in
+    let h : Holds rooms places screen last [] = record { in_rooms = r; by_names = p; on_screen = s ∙ sym none; own = tt; width = width } in
+    (stands rooms places screen last [] h, given_back rooms places screen last [] h)
+
+-- ---- the fields, once they are as they are to be
+
+pub stands_as : (rooms : List Room) (places : List (Name × ℕ)) (screen : List (List ℕ)) (last : ℕ) (lines : List ViewLine)
+    → Holds rooms places screen last lines
+    → (rooms' : List Room) (places' : List (Name × ℕ)) (screen' : List (List ℕ)) (last' : ℕ)
+    → rooms' ≡ rooms → places' ≡ places → screen' ≡ screen → last' ≡ last
+    → Holds rooms' places' screen' last' (lines_of rooms' places') × (lines_of rooms' places' ≡ lines)
+stands_as rooms places screen last lines h rooms' places' screen' last' r p s l =
+    let there : Holds rooms' places' screen' last' lines = record {
+      in_rooms = r ∙ h.in_rooms;
+      by_names = p ∙ h.by_names;
+      on_screen = s ∙ h.on_screen ∙ ap (λ (n : ℕ). printed n lines) (sym l);
+      own = h.own;
+      width = subst IsScreen (sym l) h.width;
+    } in
+    (stands rooms' places' screen' last' lines there, given_back rooms' places' screen' last' lines there)

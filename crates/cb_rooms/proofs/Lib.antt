@@ -4,3 +4,5 @@ pub mod Lists
 pub mod Seen
 pub mod Holding
 pub mod Readings
+pub mod Rows
+pub mod Payloads

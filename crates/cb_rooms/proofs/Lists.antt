@@ -1,6 +1,6 @@
 -- Lists of any kind: first elements, what is mapped, what is kept.
 use Rattle.std.proofs.Common.{◌≡◌, ℕ, zero, suc, ◌+◌, ◌-◌, ◌<◌, ◌≤◌, Bool, true, false, cond, ◌&&◌, ◌||◌, not, List, [], ◌∷◌, ◌++◌, map, length, drop, refl, sym, ap, subst, ◌∙◌, true≢false, arith, Option, Some, None, filter, slice_get}
-use Rattle.std.specs.Prelude.{find, filter_map, option_map, is_some, flat_map, unwrap_or}
+use Rattle.std.specs.Prelude.{find, filter_map, option_map, is_some, flat_map, unwrap_or, Result, Ok, Err, OnErr}
 use Rattle.std.specs.List.{AllByRecursion, cons_option, list_any}
 use Rattle.std.specs.Map.{lookup}
 use Rattle.std.proofs.lemmas.Option.{none-some}
@@ -98,3 +98,7 @@ list_any-find test (x ∷ xs) = by (test x) refl (list_any-find test xs)
 pub list_any-map : {X Y : Type 0} (test : Y → Bool) (f : X → Y) (xs : List X) → list_any test (map f xs) ≡ list_any (λ x. test (f x)) xs
 list_any-map test f [] = refl
 list_any-map test f (x ∷ xs) = ap (λ b. test (f x) || b) (list_any-map test f xs)
+
+pub on_err_of : {T E : Type 0} (r : Result T E) (X : Type 0) → X → OnErr r X
+on_err_of (Ok x) X h = tt
+on_err_of (Err e) X h = h

@@ -1,5 +1,5 @@
 -- Names of rooms are ASCII, so UTF-8, and what is not UTF-8 is no text.
-use Rattle.std.proofs.Common.{◌≡◌, ℕ, ◌<◌, Bool, true, false, List, [], ◌∷◌, length, get_or, suc, zero, refl, sym, ◌∙◌, true≢false, arith}
+use Rattle.std.proofs.Common.{◌≡◌, ℕ, ◌<◌, ◌≤◌, Bool, true, false, List, [], ◌∷◌, length, get_or, suc, zero, refl, sym, ◌∙◌, true≢false, arith}
 use Rattle.std.specs.Prelude.{Option, Some, None, if◌then◌else◌, ◌&&◌, ◌||◌, nat_le, ◌==◌, IsUtf8, IsAscii}
 use Rattle.std.specs.List.{list_all}
 use Rattle.std.specs.Str.{is_utf8}
@@ -46,3 +46,10 @@ text_of_utf8 bs u = rw (is_utf8-from_IsUtf8 bs u) refl
 pub refused : (b : Bool) (bs : List ℕ) → b ≡ false → ◌≡◌ {A = Option (List ℕ)} None (if b then Some bs else None)
 refused true bs e = absurd (true≢false e)
 refused false bs e = refl
+
+pub short_room : (bs : List ℕ) → is_room bs ≡ true → length bs ≤ 32
+unfolding is_room
+short_room bs e = le_from (length bs) 32 (and_right _ (nat_le (length bs) 32) (and_left _ (list_all is_room_byte bs) e))
+  where
+    le_from : (m n : ℕ) → nat_le m n ≡ true → m ≤ n
+    le_from m n t = grind (arith, nat_tests)

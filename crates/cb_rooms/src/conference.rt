@@ -1,6 +1,6 @@
 //! A conference: the lines that one member was shown, by room and on a screen.
 
-ghost use Rattle.std.specs.Prelude.{◌≡◌, false, ◌<◌, ◌↔◌, ◌++◌, [], ◌∷◌, length, map, get_or, option_map, option_to_list, None, Some, position, IfOk, OnOk, OnErr, bytes_eq, string_bytes};
+ghost use Rattle.std.specs.Prelude.{◌≡◌, false, true, ◌<◌, ◌↔◌, ◌++◌, [], ◌∷◌, length, map, get_or, flat_map, option_map, option_to_list, None, Some, position, IfOk, OnOk, OnErr, bytes_eq, string_bytes};
 ghost use Rattle.std.specs.List.{list_any};
 ghost use Rattle.indexmap.specs.IndexMap.{spare};
 ghost use Rattle.cb_rooms.specs.Line.{IsName, AnswerLine};
@@ -12,7 +12,7 @@ mod compose;
 
 use crate::fault::ConferenceFault;
 use crate::line::Line;
-use crate::rooms::{Rooms, open_room, push_line};
+use crate::rooms::{Rooms, names, open_room, push_line};
 use crate::shown::{Printed, Showing, Shown};
 use cb_times::{Name, NoMemory};
 use circular_buffer::HeapCircularBuffer;
@@ -64,6 +64,7 @@ impl Conference {
     }
 
     /// Shows a message, and says what became of it.
+    #[tactic(auto, unfolding(crate::specs::View::showing, crate::specs::View::lines_after, crate::specs::View::added))]
     pub fn show(&mut self, name: Name, payload: &[u8]) -> Result<Showing, NoMemory>
         requires { IsName name }
         ensures answer { IfOk result (λ showing.
@@ -83,7 +84,8 @@ impl Conference {
     }
 
     fn has_line(&self, name: Name) -> bool
-        ensures { result ≡ has_line self.now.lines name }
+        ensures exact { result ≡ has_line self.now.lines name }
+        ensures named { result ≡ true → IsName name }
     {
         self.places.contains_key(&name)
     }
@@ -152,11 +154,11 @@ impl Conference {
             OnOk result (self.new ≡ held self.old.screen (self.old.lines ++ line ∷ [])) }
         ensures err { OnErr result (self.new ≡ self.old) }
     {
-        self.places.reserve(1)?;
         let alloc = *self.places.allocator();
         let (room, _) = self.rooms.get_index(place).unwrap();
         let printed = Printed { room: room.as_str(), name, question, text }.to_string(alloc)?;
         let text = String::from_str(alloc, text)?;
+        self.places.reserve(1)?;
         push_line(&mut self.rooms, place, Shown { name, question, text })?;
         note(&mut self.places, name, place);
         self.screen.push_back(printed);
@@ -172,11 +174,11 @@ impl Conference {
             OnOk result (self.new ≡ held self.old.screen (self.old.lines ++ line ∷ [])) }
         ensures err { OnErr result (self.new ≡ self.old) }
     {
-        self.places.reserve(1)?;
         let alloc = *self.places.allocator();
         let place = self.rooms.len();
         let printed = Printed { room, name, question: None, text }.to_string(alloc)?;
         let text = String::from_str(alloc, text)?;
+        self.places.reserve(1)?;
         open_room(&mut self.rooms, room, Shown { name, question: None, text })?;
         note(&mut self.places, name, place);
         self.screen.push_back(printed);
@@ -188,8 +190,7 @@ impl Conference {
         ensures { IfOk result (λ rooms. map (λ room. room.now) rooms.items
             ≡ rooms_of self.now.lines) }
     {
-        let alloc = *self.rooms.allocator();
-        self.rooms.keys().map(|room| room.as_str()).collect(alloc)
+        names(&self.rooms)
     }
 
     /// The lines of a room in the order shown, or None where no line stands in a room of that name.
@@ -206,12 +207,20 @@ impl Conference {
         ensures { IfOk result (λ text. string_bytes text
             ≡ screen_text self.now.screen self.now.lines) }
     {
-        let mut text = String::new(*self.rooms.allocator());
-        for line in self.screen.iter() {
-            text.push_str(line)?;
-        }
-        Ok(text)
+        joined(*self.rooms.allocator(), &self.screen)
     }
+}
+
+/// The printed lines, one after another.
+fn joined(alloc: Global, lines: &HeapCircularBuffer<String>) -> Result<String, NoMemory>
+    ensures { IfOk result (λ text.
+        string_bytes text ≡ flat_map string_bytes lines.now.items) }
+{
+    let mut text = String::new(alloc);
+    for line in lines.iter() {
+        text.push_str(line)?;
+    }
+    Ok(text)
 }
 
 /// The place of the room of a name that has none yet; there is room for it.

@@ -1,8 +1,7 @@
 //! The rooms of a conference, each with its lines.
 
-ghost use Rattle.std.specs.Prelude.{◌≡◌, false, ◌<◌, ◌++◌, [], ◌∷◌, map, length, OnOk, OnErr, string_bytes};
-ghost use Rattle.std.specs.List.{list_any};
-ghost use Rattle.indexmap.specs.IndexMap.{index_map_len};
+ghost use Rattle.std.specs.Prelude.{◌≡◌, false, ◌<◌, ◌++◌, [], ◌∷◌, map, length, IfOk, OnOk, OnErr, string_bytes};
+ghost use Rattle.indexmap.specs.IndexMap.{index_map_len, keys};
 ghost use Rattle.cb_rooms.specs.View.{line_in};
 ghost use Rattle.cb_rooms.specs.Places.{rooms_seen, with_line_at, has_room_seen};
 
@@ -37,4 +36,16 @@ pub fn open_room(rooms: &mut Rooms, room: &str, shown: Shown) -> Result<(), NoMe
     lines.push(shown)?;
     rooms.insert(name, lines)?;
     Ok(())
+}
+
+/// The names of the rooms.
+pub fn names(rooms: &Rooms) -> Result<Vec<&str>, NoMemory>
+    ensures { IfOk result (λ names.
+        map (λ name. name.now) names.items ≡ map string_bytes (keys rooms.now)) }
+{
+    let mut names = Vec::with_capacity(*rooms.allocator(), rooms.len())?;
+    for room in rooms.keys() {
+        names.push(room.as_str())?;
+    }
+    Ok(names)
 }

@@ -2,7 +2,7 @@
 
 ghost use Rattle.std.specs.Prelude.{◌≡◌, None, IfOk, IfErr};
 ghost use Rattle.cb_rooms.specs.Line.{fields_of, IsPayload};
-ghost use Rattle.cb_rooms.specs.Compose.{place_fault, text_of, compose_fault, MayFail};
+ghost use Rattle.cb_rooms.specs.Compose.{HasPlace, place_fault, text_of, compose_fault, MayFail};
 
 use super::Conference;
 use crate::fault::ComposeFault;
@@ -15,6 +15,7 @@ impl Conference {
     /// Its faults, the first that holds: `BadRoom` (something is said in a room that can't have that name) or `UnknownQuestion`
     /// (the question of an answer has no line here), `BadText` (the text has a control character), `TooLong` (the payload would
     /// have more than 1,024 bytes), and out of memory.
+    #[tactic(auto, unfolding(crate::specs::Compose::compose_fault))]
     pub fn compose(&self, line: &Line<'_>) -> Result<Vec<u8>, ComposeFault>
         ensures payload { IfOk result (λ bytes. IsPayload (fields_of line.now) bytes.items) }
         ensures no_fault { IfOk result (λ _.
@@ -35,7 +36,8 @@ impl Conference {
     }
 
     fn place_fault(&self, line: &Line<'_>) -> Option<ComposeFault>
-        ensures { result ≡ place_fault self.now.lines (fields_of line.now) }
+        ensures exact { result ≡ place_fault self.now.lines (fields_of line.now) }
+        ensures placed { result ≡ None → HasPlace (fields_of line.now) }
     {
         match *line {
             Line::Say { room, .. } if !is_room(room) => Some(ComposeFault::BadRoom),
