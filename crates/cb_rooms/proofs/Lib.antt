@@ -6,3 +6,4 @@ pub mod Holding
 pub mod Readings
 pub mod Rows
 pub mod Payloads
+pub mod Closing

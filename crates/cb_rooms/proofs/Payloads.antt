@@ -3,18 +3,13 @@ use Rattle.std.proofs.Common.{◌≡◌, ℕ, ◌<◌, ◌≤◌, ◌^◌, true,
 use Rattle.cb_varint.proofs.Spelled.{spelled}
 use Rattle.cb_times.specs.declared.group.TheConstants.{MOST_MEMBERS}
 use Rattle.cb_rooms.specs.declared.line.TheConstants.{LONGEST_ROOM, LONGEST_PAYLOAD}
-use Rattle.cb_rooms.specs.Line.{LineFields, SayLine, AnswerLine, is_room, is_text, IsName, KeepsRules, Says, IsPayload, payload_of}
+use Rattle.cb_rooms.specs.Line.{LineFields, SayLine, AnswerLine, is_room, is_text, IsName, KeepsRules, HasNumbers, Says, IsPayload, payload_of}
 use Rattle.cb_rooms.specs.Compose.{HasPlace, text_of}
 use Rattle.cb_rooms.proofs.Names.{short_room}
 
 pub keeps : (line : LineFields) → HasPlace line → is_text (text_of line) ≡ true → KeepsRules line
 keeps (SayLine room text) placed visible = (placed, visible)
 keeps (AnswerLine question text) placed visible = (placed, visible)
-
--- the numbers in the payload are below 2 ^ 32
-abbrev HasNumbers : LineFields → Type 0
-HasNumbers (SayLine room text) = Unit {0}
-HasNumbers (AnswerLine question text) = question.number < 2 ^ 32
 
 pub says : (line : LineFields) → KeepsRules line → HasNumbers line → Says line (payload_of line)
 unfolding payload_of

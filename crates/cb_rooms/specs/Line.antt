@@ -1,5 +1,5 @@
 -- Which bytes are the payload of which line.
-use Rattle.std.specs.Prelude.{◌≡◌, ℕ, ◌≤◌, ◌<◌, Bool, ◌&&◌, ◌||◌, not, nat_le, ◌==◌, List, [], ◌∷◌, ◌++◌, length, IsTrue}
+use Rattle.std.specs.Prelude.{◌≡◌, ℕ, ◌≤◌, ◌<◌, ◌^◌, Bool, ◌&&◌, ◌||◌, not, nat_le, ◌==◌, List, [], ◌∷◌, ◌++◌, length, IsTrue}
 use Rattle.std.specs.List.{list_all}
 use Rattle.std.specs.Str.{is_utf8}
 use Rattle.cb_varint.specs.Spelling.{Spells}
@@ -46,6 +46,11 @@ is_text text = is_utf8 text && list_all is_visible text
 pub record IsName (name : Name) : Type 0 where
   pub sender : name.sender < MOST_MEMBERS
   pub number : 1 ≤ name.number
+
+-- the number of a question fits 32 bits
+abbrev pub HasNumbers : LineFields → Type 0
+HasNumbers (SayLine room text) = Unit {0}
+HasNumbers (AnswerLine question text) = question.number < 2 ^ 32
 
 -- what the line says can be said in a payload, but for its length
 abbrev pub KeepsRules : LineFields → Type 0

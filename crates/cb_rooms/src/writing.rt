@@ -1,8 +1,8 @@
 //! Lines to payloads.
 
-ghost use Rattle.std.specs.Prelude.{◌≡◌, ◌≤◌, true, length, IfOk};
+ghost use Rattle.std.specs.Prelude.{◌≡◌, ◌≤◌, ◌<◌, ◌^◌, true, length, IfOk};
 ghost use Rattle.cb_varint.specs.Reading.{spelling};
-ghost use Rattle.cb_rooms.specs.Line.{SayLine, AnswerLine, fields_of, is_room, KeepsRules, payload_of};
+ghost use Rattle.cb_rooms.specs.Line.{SayLine, AnswerLine, fields_of, is_room, HasNumbers, KeepsRules, payload_of};
 
 use crate::line::Line;
 use crate::reading::{ANSWER, SAY};
@@ -12,7 +12,8 @@ use std::alloc::Global;
 /// How many bytes the payload has.
 pub fn payload_length(line: &Line<'_>) -> usize
     requires { KeepsRules (fields_of line.now) }
-    ensures { result ≡ length (payload_of (fields_of line.now)) }
+    ensures exact { result ≡ length (payload_of (fields_of line.now)) }
+    ensures numbers { HasNumbers (fields_of line.now) }
 {
     match *line {
         Line::Say { room, text } => say_length(room, text),
@@ -31,7 +32,8 @@ fn say_length(room: &str, text: &str) -> usize
 
 #[tactic(auto, unfolding(crate::specs::Line::payload_of))]
 fn answer_length(question: Name, text: &str) -> usize
-    ensures { result ≡ length (payload_of (AnswerLine question text.now)) }
+    ensures exact { result ≡ length (payload_of (AnswerLine question text.now)) }
+    ensures numbers { question.number < 2 ^ 32 }
 {
     let name = number_length(question.sender) + number_length(question.number);
     1 + name + text.len()

@@ -1,13 +1,11 @@
-use Rattle.std.proofs.Common.{◌≡◌, ◌∙◌, ap, sym, ℕ, List, [], ◌∷◌, ◌++◌, map, None, arith, subst}
+use Rattle.std.proofs.Common.{◌≡◌, ◌∙◌, ap, ℕ, List, [], ◌∷◌, ◌++◌, map, None}
 use Rattle.std.specs.Prelude.{string_bytes}
 use Rattle.std.specs.List.{list_any}
-use Rattle.circular_buffer.specs.Buffer.{keep_last}
 use Rattle.cb_times.specs.declared.name.Name.{Name}
-use Rattle.cb_rooms.specs.Conference.{held}
-use Rattle.cb_rooms.specs.View.{ViewLine, view_line, is_same, line_text}
-use Rattle.cb_rooms.specs.Places.{Room, rooms_seen, lines_of}
+use Rattle.cb_rooms.specs.View.{ViewLine, view_line, is_same}
+use Rattle.cb_rooms.specs.Places.{Room, rooms_seen}
 use Rattle.cb_rooms.proofs.Readings.{holds_now, room_seen, name_seen}
-use Rattle.cb_rooms.proofs.Holding.{holds_new, stands_as, keep_mapped}
+use Rattle.cb_rooms.proofs.Closing.{closes_new, screen_pushed}
 use Rattle.cb_rooms.proofs.conference.Conference.open.Goals as goal
 
 pub open_room-requires : goal.open_room-requires
@@ -23,11 +21,28 @@ note-requires-clause-new c =
 
 pub invariant_of-self-2 : goal.invariant_of-self-2
 invariant_of-self-2 c =
-    let now = holds_now c.self.inside c.args.self.now c.self.view_is c.self.invariant in
-    let a = c.in_ok-open_room.ensures.opened in
-    let b = c.note.ensures in
-    let d = c.in_ok-printed.ensures.ok in
-    let e = c.in_ok-text.ensures.ok in
-    let f = c.push_back.ensures.items in
-    let g = c.len.ensures.len in
-    ?
+    let old = c.self.inside in
+    let name = c.args.name in
+    let room = c.args.room.now in
+    let place = c.len-place.result in
+    (closes_new old (record { rooms = c.open_room.new.rooms; places = c.note.new.places; screen = c.push_back.new.self }) c.args.self.now c.self.view_is c.self.invariant
+    (view_line name room None c.args.text.now) c.requires.name c.requires.new place
+    (c.note.ensures ∙ ap (λ (es : List (Name × ℕ)). es ++ (name, place) ∷ []) c.in_ok-reserve.ensures.entries)
+    (ap (λ b. map string_bytes b.items) c.push_back.ensures.items ∙ screen_pushed old.screen.items c.in_ok-printed.printed old.screen.capacity _ c.in_ok-printed.ensures.ok)
+    (ap (λ b. b.capacity) c.push_back.ensures.items)
+    c.requires.room c.len-place.ensures.len
+    (c.in_ok-open_room.ensures.opened ∙ ap (λ (t : List ℕ). rooms_seen old.rooms ++ (room, view_line name room None t ∷ []) ∷ []) c.in_ok-text.ensures.ok)).0
+
+pub returns-clause-lines : goal.returns-clause-lines
+returns-clause-lines c =
+    let old = c.self.inside in
+    let name = c.args.name in
+    let room = c.args.room.now in
+    let place = c.len-place.result in
+    (closes_new old (record { rooms = c.open_room.new.rooms; places = c.note.new.places; screen = c.push_back.new.self }) c.args.self.now c.self.view_is c.self.invariant
+    (view_line name room None c.args.text.now) c.requires.name c.requires.new place
+    (c.note.ensures ∙ ap (λ (es : List (Name × ℕ)). es ++ (name, place) ∷ []) c.in_ok-reserve.ensures.entries)
+    (ap (λ b. map string_bytes b.items) c.push_back.ensures.items ∙ screen_pushed old.screen.items c.in_ok-printed.printed old.screen.capacity _ c.in_ok-printed.ensures.ok)
+    (ap (λ b. b.capacity) c.push_back.ensures.items)
+    c.requires.room c.len-place.ensures.len
+    (c.in_ok-open_room.ensures.opened ∙ ap (λ (t : List ℕ). rooms_seen old.rooms ++ (room, view_line name room None t ∷ []) ∷ []) c.in_ok-text.ensures.ok)).1
