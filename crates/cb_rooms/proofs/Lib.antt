@@ -7,3 +7,4 @@ pub mod Readings
 pub mod Rows
 pub mod Payloads
 pub mod Closing
+pub mod Decoding

@@ -7,3 +7,4 @@ pub mod Conference
 pub mod Places
 pub mod Fields
 pub mod Compose
+pub mod Laws

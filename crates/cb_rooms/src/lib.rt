@@ -7,6 +7,7 @@
 
 mod conference;
 mod fault;
+pub mod laws;
 mod line;
 mod reading;
 mod rooms;
