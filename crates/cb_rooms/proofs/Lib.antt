@@ -8,3 +8,4 @@ pub mod Rows
 pub mod Payloads
 pub mod Closing
 pub mod Decoding
+pub mod Views

@@ -8,3 +8,15 @@ pub fn one_payload()
     ensures line { OneLine }
     ensures reading { ReadingIsExact }
 {}
+
+/// The view grows by what a message adds, which is a line where it is answered `Shown` and else nothing.
+pub fn a_view_grows_by_what_is_shown()
+    ensures goes_on { ViewGoesOn }
+    ensures shown { OnlyShownAdds }
+{}
+
+/// In every view each name has one line, and an answer stands behind the line of its question, in the same room.
+pub fn no_answer_stands_before_its_question()
+    ensures once { OneLineForEachName }
+    ensures behind { AnswersStandBehindQuestions }
+{}

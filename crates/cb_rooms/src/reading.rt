@@ -1,7 +1,7 @@
 //! Payloads to lines. Nothing is copied, so it takes no memory.
 
-ghost use Rattle.std.specs.Prelude.{◌≡◌, ◌++◌, option_map, ℕ, List};
-ghost use Rattle.cb_rooms.specs.Line.{fields_of};
+ghost use Rattle.std.specs.Prelude.{◌≡◌, option_map, IfSome, Some};
+ghost use Rattle.cb_rooms.specs.Line.{LineFields, fields_of, IsPayload};
 ghost use Rattle.cb_rooms.specs.Reading.{number_at, parts_at, room_at, text_at, name_at, say_at, answer_at, line_at};
 
 use crate::line::{LONGEST_PAYLOAD, Line, is_room, is_text};
@@ -82,18 +82,27 @@ fn answer(bytes: &[u8]) -> Option<Line<'_>>
 }
 
 impl Line<'_> {
-    /// The line whose payload these bytes are, the whole of them; None where they are no line's.
-    #[tactic(auto, unfolding(crate::specs::Reading::line_at))]
+    /// The line whose payload these bytes are, the whole of them; None where they are no line's. It takes no memory.
     pub fn read(payload: &[u8]) -> Option<Line<'_>>
-        ensures { option_map fields_of result ≡ line_at payload.now }
+        ensures payload { IfSome result (λ line. IsPayload (fields_of line) payload.now) }
+        ensures found { (line : LineFields) → IsPayload line payload.now
+            → option_map fields_of result ≡ Some line }
+        ensures exact { option_map fields_of result ≡ line_at payload.now }
     {
-        if payload.len() > LONGEST_PAYLOAD {
-            return None;
-        }
-        match payload.split_first() {
-            Some((&SAY, fields)) => say(fields),
-            Some((&ANSWER, fields)) => answer(fields),
-            _ => None,
-        }
+        line(payload)
+    }
+}
+
+#[tactic(auto, unfolding(crate::specs::Reading::line_at))]
+fn line(payload: &[u8]) -> Option<Line<'_>>
+    ensures { option_map fields_of result ≡ line_at payload.now }
+{
+    if payload.len() > LONGEST_PAYLOAD {
+        return None;
+    }
+    match payload.split_first() {
+        Some((&SAY, fields)) => say(fields),
+        Some((&ANSWER, fields)) => answer(fields),
+        _ => None,
     }
 }
