@@ -9,3 +9,4 @@ pub mod Payloads
 pub mod Closing
 pub mod Decoding
 pub mod Views
+mod Worked

@@ -12,7 +12,7 @@ use Rattle.cb_rooms.specs.declared.shown.Showing.{Showing}
 use Rattle.cb_rooms.specs.declared.shown.Showing.TheVariants as showings
 use Rattle.cb_rooms.specs.Line.{LineFields, SayLine, AnswerLine}
 use Rattle.cb_rooms.specs.Reading.{line_at}
-use Rattle.cb_rooms.specs.View.{ViewLine, view_line, is_same, line_named, has_line, line_said, line_showing, added, lines_after, view, showing}
+use Rattle.cb_rooms.specs.View.{ViewLine, view_line, is_same, line_named, has_line, line_said, line_showing, added, lines_after, conference_view, showing}
 use Rattle.cb_rooms.specs.Laws.{StandsBefore}
 use Rattle.cb_rooms.proofs.Lists.{Some-injective, all_so, all_push, is_none}
 use Rattle.cb_rooms.proofs.Holding.{same_name, same_names}
@@ -20,8 +20,8 @@ use Rattle.cb_rooms.proofs.Holding.{same_name, same_names}
 abbrev Messages : Type 0
 Messages = List (Name × List ℕ)
 
-pub goes_on : (messages : Messages) (message : Name × List ℕ) → view (messages ++ message ∷ []) ≡ lines_after (view messages) message.0 message.1
-unfolding view
+pub goes_on : (messages : Messages) (message : Name × List ℕ) → conference_view (messages ++ message ∷ []) ≡ lines_after (conference_view messages) message.0 message.1
+unfolding conference_view
 goes_on messages message = fold-append (λ (lines : List ViewLine) (m : Name × List ℕ). lines_after lines m.0 m.1) [] messages (message ∷ [])
 
 -- ---- what is added
@@ -76,8 +76,8 @@ is_added lines name payload l e = by (has_line lines name) refl
 
 -- what holds of no line, and of one line more, holds of each view
 grows : (P : List ViewLine → Type 0) → P [] → ((lines : List ViewLine) (l : ViewLine) (name : Name) → P lines → has_line lines name ≡ false → IsAdded lines name l → P (lines ++ l ∷ []))
-    → (messages : Messages) → P (view messages)
-unfolding view lines_after
+    → (messages : Messages) → P (conference_view messages)
+unfolding conference_view lines_after
 grows P none more messages = from messages [] none
   where
     step : (lines : List ViewLine) (name : Name) (payload : List ℕ) → P lines → (o : Option ViewLine) → added lines name payload ≡ o → P (lines ++ option_to_list o)
@@ -104,7 +104,7 @@ own_more lines l name own new is =
     (all_so (IsOwn lines) (IsOwn (lines ++ l ∷ [])) (λ m o. find-append (test m) lines (l ∷ []) ∙ ap (λ (x : Option ViewLine). option_or x (find (test m) (l ∷ []))) o) lines own)
     (find-append (test l) lines (l ∷ []) ∙ ap (λ (x : Option ViewLine). option_or x (find (test l) (l ∷ []))) none ∙ last)
 
-pub one_for_each : (messages : Messages) → AllByRecursion (λ l. line_named (view messages) l.name ≡ Some l) (view messages)
+pub one_for_each : (messages : Messages) → AllByRecursion (λ l. line_named (conference_view messages) l.name ≡ Some l) (conference_view messages)
 one_for_each messages = grows (λ lines. AllByRecursion (IsOwn lines) lines) tt own_more messages
 
 -- ---- no answer before its question
@@ -150,5 +150,5 @@ behind_more lines l name behind new is k x q at asks =
           (j, m, omega (arith, before, last.0), get_left lines (l ∷ []) j m here, finds_name lines q m asked.1, asked.2 ∙ ap (λ (y : ViewLine). y.room) last.1)
     ]
 
-pub behind_questions : (messages : Messages) → Behind (view messages)
+pub behind_questions : (messages : Messages) → Behind (conference_view messages)
 behind_questions messages = grows Behind (λ k l q at asks. absurd (none-some l at)) behind_more messages

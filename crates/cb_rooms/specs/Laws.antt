@@ -5,7 +5,7 @@ use Rattle.cb_times.specs.declared.name.Name.{Name}
 use Rattle.cb_rooms.specs.declared.shown.Showing.TheVariants as showings
 use Rattle.cb_rooms.specs.Line.{LineFields, IsPayload, payload_of}
 use Rattle.cb_rooms.specs.Reading.{line_at}
-use Rattle.cb_rooms.specs.View.{ViewLine, line_named, view, added, lines_after, showing}
+use Rattle.cb_rooms.specs.View.{ViewLine, line_named, conference_view, added, lines_after, showing}
 
 -- a line has one payload at most, which `payload_of` names
 abbrev pub OnePayload : Type 0
@@ -25,7 +25,7 @@ ReadingIsExact = (bytes : List ℕ) (line : LineFields) → IsBytes bytes → (l
 -- the view of one more message is what the view adds to it
 abbrev pub ViewGoesOn : Type 0
 ViewGoesOn = (messages : List (Name × List ℕ)) (message : Name × List ℕ)
-    → view (messages ++ message ∷ []) ≡ lines_after (view messages) message.0 message.1
+    → conference_view (messages ++ message ∷ []) ≡ lines_after (conference_view messages) message.0 message.1
 
 -- a line is added exactly where a message is answered Shown
 abbrev pub OnlyShownAdds : Type 0
@@ -35,7 +35,7 @@ OnlyShownAdds = (lines : List ViewLine) (name : Name) (payload : List ℕ)
 -- each line of a view is the one of its name
 abbrev pub OneLineForEachName : Type 0
 OneLineForEachName = (messages : List (Name × List ℕ))
-    → AllByRecursion (λ l. line_named (view messages) l.name ≡ Some l) (view messages)
+    → AllByRecursion (λ l. line_named (conference_view messages) l.name ≡ Some l) (conference_view messages)
 
 -- a line before place k, of this message and in this room
 abbrev pub StandsBefore : List ViewLine → ℕ → Name → List ℕ → Type 0
@@ -45,4 +45,4 @@ StandsBefore lines k name room =
 -- no answer before its question: the line that an answer answers stands before it, in the same room
 abbrev pub AnswersStandBehindQuestions : Type 0
 AnswersStandBehindQuestions = (messages : List (Name × List ℕ)) (k : ℕ) (l : ViewLine) (question : Name)
-    → slice_get (view messages) k ≡ Some l → l.question ≡ Some question → StandsBefore (view messages) k question l.room
+    → slice_get (conference_view messages) k ≡ Some l → l.question ≡ Some question → StandsBefore (conference_view messages) k question l.room

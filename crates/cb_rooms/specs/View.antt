@@ -49,8 +49,8 @@ unfoldable pub lines_after : List ViewLine → Name → List ℕ → List ViewLi
 lines_after lines name payload = lines ++ option_to_list (added lines name payload)
 
 -- the view of messages, as their names and payloads, from the first on
-unfoldable pub view : List (Name × List ℕ) → List ViewLine
-view messages = fold (λ lines message. lines_after lines message.0 message.1) [] messages
+unfoldable pub conference_view : List (Name × List ℕ) → List ViewLine
+conference_view messages = fold (λ lines message. lines_after lines message.0 message.1) [] messages
 
 -- what became of a message that is shown where these lines are held
 abbrev pub line_showing : List ViewLine → Option LineFields → Showing

@@ -2,6 +2,7 @@
 
 ghost use Rattle.std.specs.Prelude.{◌≡◌, false, true, ◌<◌, ◌↔◌, ◌++◌, [], ◌∷◌, length, map, get_or, flat_map, option_map, option_to_list, None, Some, position, IfOk, OnOk, OnErr, bytes_eq, string_bytes};
 ghost use Rattle.std.specs.List.{list_any};
+ghost use Rattle.circular_buffer.specs.Buffer.{buffer, keep_last};
 ghost use Rattle.indexmap.specs.IndexMap.{spare};
 ghost use Rattle.cb_rooms.specs.Line.{IsName, AnswerLine};
 ghost use Rattle.cb_rooms.specs.Conference.{held, IsScreen};
@@ -23,7 +24,11 @@ use std::marker::Model;
 /// The most lines of a screen.
 pub const LONGEST_SCREEN: usize = 1000;
 
-/// The lines that one member was shown.
+/// What one member was shown: the lines of each room, and the last ones for a screen.
+///
+/// Give `show` each message of the member, its own casts among them, in the order of the member's events. `compose` makes the
+/// payload of a line, to be cast. `rooms`, `lines` and `screen` read. All but `lines` may be out of memory, and a call that
+/// answers so has changed nothing.
 #[derive(Drop)]
 pub struct Conference {
     /// Each room in the order in which they were first seen, with its lines in the order shown.
@@ -63,7 +68,11 @@ impl Conference {
         })
     }
 
-    /// Shows a message, and says what became of it.
+    /// Shows a message: adds its line, where it has one, and says what became of it.
+    ///
+    /// The first that holds: `Again` (the name has a line already, whatever the payload says now), `NotALine` (the payload is
+    /// no line), `Orphan` (an answer whose question has no line here), `Shown`. Only `Shown` changes anything. The name's
+    /// sender has to be below 64 and its number at least 1. The only error is out of memory.
     #[tactic(auto, unfolding(crate::specs::View::showing, crate::specs::View::lines_after, crate::specs::View::added))]
     pub fn show(&mut self, name: Name, payload: &[u8]) -> Result<Showing, NoMemory>
         requires { IsName name }
@@ -160,8 +169,7 @@ impl Conference {
         let text = String::from_str(alloc, text)?;
         self.places.reserve(1)?;
         push_line(&mut self.rooms, place, Shown { name, question, text })?;
-        note(&mut self.places, name, place);
-        self.screen.push_back(printed);
+        note(&mut self.places, &mut self.screen, name, place, printed);
         Ok(())
     }
 
@@ -180,8 +188,7 @@ impl Conference {
         let text = String::from_str(alloc, text)?;
         self.places.reserve(1)?;
         open_room(&mut self.rooms, room, Shown { name, question: None, text })?;
-        note(&mut self.places, name, place);
-        self.screen.push_back(printed);
+        note(&mut self.places, &mut self.screen, name, place, printed);
         Ok(())
     }
 
@@ -223,13 +230,23 @@ fn joined(alloc: Global, lines: &HeapCircularBuffer<String>) -> Result<String, N
     Ok(text)
 }
 
-/// The place of the room of a name that has none yet; there is room for it.
-fn note(places: &mut IndexMap<Name, usize>, name: Name, place: usize)
+/// Notes a line that was added: the place of the room of its name, which has no line yet, and the line as it is printed. There
+/// is room for the name.
+fn note(
+    places: &mut IndexMap<Name, usize>,
+    screen: &mut HeapCircularBuffer<String>,
+    name: Name,
+    place: usize,
+    printed: String,
+)
     requires new { list_any (λ p. is_same name p.0) places.old.entries ≡ false }
     requires room { 0 < spare places.old }
-    ensures { places.new.entries ≡ places.old.entries ++ (name, place) ∷ [] }
+    ensures places { places.new.entries ≡ places.old.entries ++ (name, place) ∷ [] }
+    ensures screen { let lines = screen.old.items ++ printed ∷ [] in
+        screen.new ≡ buffer (keep_last screen.old.capacity lines) screen.old.capacity }
 {
     let Ok(_) = places.insert(name, place) else {
         unreachable!()
     };
+    screen.push_back(printed);
 }

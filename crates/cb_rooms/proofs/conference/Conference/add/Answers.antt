@@ -27,11 +27,11 @@ invariant_of-self-2 c =
     let found = sym c.get_index.ensures.entry ∙ ap (option_map deref_pair) c.unwrap.ensures in
     let key = get_or_from_slice_get rs place (string_bytes c.unwrap.result.0.now) [] (name_at old.rooms.entries place _ rs (names_are old.rooms.entries c.args.self.now.lines now.in_rooms) found) in
     let printed = c.in_ok-printed.ensures.ok ∙ ap (λ (r : List ℕ). line_text (line r c.args.text.now)) (c.as_str.ensures.value ∙ sym key) in
-    (closes_again old (record { rooms = c.push_line.new.rooms; places = c.note.new.places; screen = c.push_back.new.self }) c.args.self.now c.self.view_is c.self.invariant
+    (closes_again old (record { rooms = c.push_line.new.rooms; places = c.note.new.places; screen = c.note.new.screen }) c.args.self.now c.self.view_is c.self.invariant
     (line room c.args.text.now) c.requires.name c.requires.new place
-    (c.note.ensures ∙ ap (λ (es : List (Name × ℕ)). es ++ (name, place) ∷ []) c.in_ok-reserve.ensures.entries)
-    (ap (λ b. map string_bytes b.items) c.push_back.ensures.items ∙ screen_pushed old.screen.items c.in_ok-printed.printed old.screen.capacity _ printed)
-    (ap (λ b. b.capacity) c.push_back.ensures.items)
+    (c.note.ensures.places ∙ ap (λ (es : List (Name × ℕ)). es ++ (name, place) ∷ []) c.in_ok-reserve.ensures.entries)
+    (ap (λ b. map string_bytes b.items) c.note.ensures.screen ∙ screen_pushed old.screen.items c.in_ok-printed.printed old.screen.capacity _ printed)
+    (ap (λ b. b.capacity) c.note.ensures.screen)
     _ (slice_get-get_or rs place [] c.requires.place)
     (ap (line room) c.in_ok-text.ensures.ok)
     c.in_ok-push_line.ensures.pushed).0
@@ -48,11 +48,11 @@ returns-clause-lines c =
     let found = sym c.get_index.ensures.entry ∙ ap (option_map deref_pair) c.unwrap.ensures in
     let key = get_or_from_slice_get rs place (string_bytes c.unwrap.result.0.now) [] (name_at old.rooms.entries place _ rs (names_are old.rooms.entries c.args.self.now.lines now.in_rooms) found) in
     let printed = c.in_ok-printed.ensures.ok ∙ ap (λ (r : List ℕ). line_text (line r c.args.text.now)) (c.as_str.ensures.value ∙ sym key) in
-    (closes_again old (record { rooms = c.push_line.new.rooms; places = c.note.new.places; screen = c.push_back.new.self }) c.args.self.now c.self.view_is c.self.invariant
+    (closes_again old (record { rooms = c.push_line.new.rooms; places = c.note.new.places; screen = c.note.new.screen }) c.args.self.now c.self.view_is c.self.invariant
     (line room c.args.text.now) c.requires.name c.requires.new place
-    (c.note.ensures ∙ ap (λ (es : List (Name × ℕ)). es ++ (name, place) ∷ []) c.in_ok-reserve.ensures.entries)
-    (ap (λ b. map string_bytes b.items) c.push_back.ensures.items ∙ screen_pushed old.screen.items c.in_ok-printed.printed old.screen.capacity _ printed)
-    (ap (λ b. b.capacity) c.push_back.ensures.items)
+    (c.note.ensures.places ∙ ap (λ (es : List (Name × ℕ)). es ++ (name, place) ∷ []) c.in_ok-reserve.ensures.entries)
+    (ap (λ b. map string_bytes b.items) c.note.ensures.screen ∙ screen_pushed old.screen.items c.in_ok-printed.printed old.screen.capacity _ printed)
+    (ap (λ b. b.capacity) c.note.ensures.screen)
     _ (slice_get-get_or rs place [] c.requires.place)
     (ap (line room) c.in_ok-text.ensures.ok)
     c.in_ok-push_line.ensures.pushed).1

@@ -25,11 +25,11 @@ invariant_of-self-2 c =
     let name = c.args.name in
     let room = c.args.room.now in
     let place = c.len-place.result in
-    (closes_new old (record { rooms = c.open_room.new.rooms; places = c.note.new.places; screen = c.push_back.new.self }) c.args.self.now c.self.view_is c.self.invariant
+    (closes_new old (record { rooms = c.open_room.new.rooms; places = c.note.new.places; screen = c.note.new.screen }) c.args.self.now c.self.view_is c.self.invariant
     (view_line name room None c.args.text.now) c.requires.name c.requires.new place
-    (c.note.ensures ∙ ap (λ (es : List (Name × ℕ)). es ++ (name, place) ∷ []) c.in_ok-reserve.ensures.entries)
-    (ap (λ b. map string_bytes b.items) c.push_back.ensures.items ∙ screen_pushed old.screen.items c.in_ok-printed.printed old.screen.capacity _ c.in_ok-printed.ensures.ok)
-    (ap (λ b. b.capacity) c.push_back.ensures.items)
+    (c.note.ensures.places ∙ ap (λ (es : List (Name × ℕ)). es ++ (name, place) ∷ []) c.in_ok-reserve.ensures.entries)
+    (ap (λ b. map string_bytes b.items) c.note.ensures.screen ∙ screen_pushed old.screen.items c.in_ok-printed.printed old.screen.capacity _ c.in_ok-printed.ensures.ok)
+    (ap (λ b. b.capacity) c.note.ensures.screen)
     c.requires.room c.len-place.ensures.len
     (c.in_ok-open_room.ensures.opened ∙ ap (λ (t : List ℕ). rooms_seen old.rooms ++ (room, view_line name room None t ∷ []) ∷ []) c.in_ok-text.ensures.ok)).0
 
@@ -39,10 +39,10 @@ returns-clause-lines c =
     let name = c.args.name in
     let room = c.args.room.now in
     let place = c.len-place.result in
-    (closes_new old (record { rooms = c.open_room.new.rooms; places = c.note.new.places; screen = c.push_back.new.self }) c.args.self.now c.self.view_is c.self.invariant
+    (closes_new old (record { rooms = c.open_room.new.rooms; places = c.note.new.places; screen = c.note.new.screen }) c.args.self.now c.self.view_is c.self.invariant
     (view_line name room None c.args.text.now) c.requires.name c.requires.new place
-    (c.note.ensures ∙ ap (λ (es : List (Name × ℕ)). es ++ (name, place) ∷ []) c.in_ok-reserve.ensures.entries)
-    (ap (λ b. map string_bytes b.items) c.push_back.ensures.items ∙ screen_pushed old.screen.items c.in_ok-printed.printed old.screen.capacity _ c.in_ok-printed.ensures.ok)
-    (ap (λ b. b.capacity) c.push_back.ensures.items)
+    (c.note.ensures.places ∙ ap (λ (es : List (Name × ℕ)). es ++ (name, place) ∷ []) c.in_ok-reserve.ensures.entries)
+    (ap (λ b. map string_bytes b.items) c.note.ensures.screen ∙ screen_pushed old.screen.items c.in_ok-printed.printed old.screen.capacity _ c.in_ok-printed.ensures.ok)
+    (ap (λ b. b.capacity) c.note.ensures.screen)
     c.requires.room c.len-place.ensures.len
     (c.in_ok-open_room.ensures.opened ∙ ap (λ (t : List ℕ). rooms_seen old.rooms ++ (room, view_line name room None t ∷ []) ∷ []) c.in_ok-text.ensures.ok)).1
