@@ -1,6 +1,8 @@
 -- The worked conference: a question, its answer, and what adds nothing.
 use Rattle.std.specs.Prelude.{◌≡◌, ℕ, List, [], ◌∷◌, ◌++◌, Option, Some, None, codes, refl, true, false}
 use Rattle.std.specs.Str.{is_utf8, chars}
+use Rattle.std.specs.Fmt.{digits}
+use lib.Utf8.{encode}
 use Rattle.cb_varint.specs.Reading.{number_at, spelling}
 use Rattle.cb_times.specs.declared.name.Name.{Name}
 use Rattle.cb_rooms.specs.declared.shown.Showing.TheVariants as showings
@@ -41,11 +43,11 @@ unfolding is_room
 capitals_are_not = refl
 
 question_is_read : line_at question_bytes ≡ Some question
-unfolding line_at say_at number_at is_room is_text is_utf8 chars
+unfolding line_at say_at number_at is_room is_text is_utf8 chars encode
 question_is_read = refl
 
 answer_is_read : line_at answer_bytes ≡ Some answer
-unfolding line_at answer_at number_at is_text is_utf8 chars
+unfolding line_at answer_at number_at is_text is_utf8 chars encode
 answer_is_read = refl
 
 no_line_is_read : line_at (0x03 ∷ []) ≡ None
@@ -58,12 +60,12 @@ lines = view_line (name 0 1) (codes "plan") None (codes "when?")
     ∷ view_line (name 1 1) (codes "plan") (Some (name 0 1)) (codes "noon") ∷ []
 
 both_are_shown : conference_view ((name 0 1, question_bytes) ∷ (name 1 1, answer_bytes) ∷ []) ≡ lines
-unfolding conference_view lines_after added line_at say_at answer_at number_at is_room is_text is_utf8 chars
+unfolding conference_view lines_after added line_at say_at answer_at number_at is_room is_text is_utf8 chars encode
 both_are_shown = refl
 
 -- again, no line, and an answer to a message without a line
 three_add_nothing : conference_view ((name 0 1, question_bytes) ∷ (name 1 1, answer_bytes) ∷ (name 0 1, answer_bytes) ∷ (name 1 3, 0x03 ∷ []) ∷ (name 1 2, 0x02 ∷ 0x02 ∷ 0x01 ∷ []) ∷ []) ≡ lines
-unfolding conference_view lines_after added line_at say_at answer_at number_at is_room is_text is_utf8 chars
+unfolding conference_view lines_after added line_at say_at answer_at number_at is_room is_text is_utf8 chars encode
 three_add_nothing = refl
 
 is_again : showing lines (name 0 1) answer_bytes ≡ showings.Again
@@ -71,12 +73,12 @@ unfolding showing
 is_again = refl
 
 is_an_orphan : showing lines (name 1 2) (0x02 ∷ 0x02 ∷ 0x01 ∷ []) ≡ showings.Orphan
-unfolding showing line_at answer_at number_at is_text is_utf8 chars
+unfolding showing line_at answer_at number_at is_text is_utf8 chars encode
 is_an_orphan = refl
 
 -- an answer that comes first is none of the view's lines, whatever comes later
 an_answer_first : conference_view ((name 1 1, answer_bytes) ∷ (name 0 1, question_bytes) ∷ []) ≡ view_line (name 0 1) (codes "plan") None (codes "when?") ∷ []
-unfolding conference_view lines_after added line_at say_at answer_at number_at is_room is_text is_utf8 chars
+unfolding conference_view lines_after added line_at say_at answer_at number_at is_room is_text is_utf8 chars encode
 an_answer_first = refl
 
 one_room : rooms_of lines ≡ codes "plan" ∷ []
@@ -91,9 +93,9 @@ unfolding lines_of_room
 no_lines = refl
 
 the_screen : screen_text 20 lines ≡ codes "[plan] 0.1 when?\n[plan] 1.1 re 0.1 noon\n"
-unfolding screen_text line_text
+unfolding screen_text line_text digits
 the_screen = refl
 
 a_screen_of_one : screen_text 1 lines ≡ codes "[plan] 1.1 re 0.1 noon\n"
-unfolding screen_text line_text
+unfolding screen_text line_text digits
 a_screen_of_one = refl

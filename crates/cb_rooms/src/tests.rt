@@ -2,7 +2,8 @@
 ghost use Rattle.std.specs.Prelude.{◌≡◌};
 
 use super::*;
-use cb_times::Name;
+use cb_times::{MOST_MEMBERS, Name, NoMemory};
+use std::alloc::Global;
 use std::test::Fail;
 
 const fn name(sender: u32, number: u32) -> Name
@@ -28,115 +29,215 @@ const WHEN: [u8; 11] = [
 /// What the answer "noon" to 0.1 is on the wire.
 const NOON: [u8; 7] = [0x02, 0x00, 0x01, 0x6e, 0x6f, 0x6f, 0x6e];
 
+/// "hi" in the room other, an answer to the unknown 2.1, and no line.
+const HI: &[u8] = b"\x01\x05otherhi";
+const LOST: &[u8] = b"\x02\x02\x01";
+const NO_LINE: &[u8] = b"\x03";
+
+fn is_shown(
+    conference: &mut Conference,
+    name: Name,
+    payload: &[u8],
+    showing: Showing,
+) -> Result<bool, NoMemory> {
+    let can_be = name.sender < MOST_MEMBERS && name.number > 0;
+    Ok(can_be && conference.show(name, payload)? == showing)
+}
+
+/// A conference that was shown these messages, each of which has to be answered so.
+fn shown(
+    alloc: Global,
+    last: usize,
+    messages: &[(Name, &[u8], Showing)],
+) -> Result<Conference, Fail> {
+    let mut conference = Conference::new(alloc, last)?;
+    for (name, payload, showing) in messages {
+        if !is_shown(&mut conference, *name, payload, *showing)? {
+            return Err(Fail::new("it is answered otherwise"));
+        }
+    }
+    Ok(conference)
+}
+
+fn has_screen(conference: &Conference, text: &str) -> bool {
+    match conference.screen() {
+        Ok(screen) => screen.as_str() == text,
+        Err(_) => false,
+    }
+}
+
+fn has_rooms(conference: &Conference, names: &[&str]) -> bool {
+    match conference.rooms() {
+        Ok(rooms) => rooms.as_slice() == names,
+        Err(_) => false,
+    }
+}
+
+fn count(conference: &Conference, room: &str) -> Option<usize> {
+    Some(conference.lines(room)?.len())
+}
+
+fn composes(conference: &Conference, line: &Line<'_>, bytes: &[u8]) -> bool {
+    match conference.compose(line) {
+        Ok(payload) => payload.as_slice() == bytes,
+        Err(_) => false,
+    }
+}
+
+/// How many bytes the payload has, where it is read as this line again.
+fn length_composed(conference: &Conference, line: &Line<'_>) -> Option<usize> {
+    let payload = conference.compose(line).ok()?;
+    if Line::read(&payload) == Some(*line) {
+        Some(payload.len())
+    } else {
+        None
+    }
+}
+
+fn fault(conference: &Conference, line: &Line<'_>) -> Option<ComposeFault> {
+    match conference.compose(line) {
+        Ok(_) => None,
+        Err(fault) => Some(fault),
+    }
+}
+
 #[test]
 fn a_say_and_its_answer_are_their_bytes(rt: HostRuntime) -> Result<(), Fail> {
-    let mut conference = Conference::new(rt.alloc(), 20)?;
-    let when = conference.compose(&say("plan", "when?"))?;
-    assert_eq!(rt; when.as_slice(), WHEN.as_slice());
-    assert_eq!(rt; conference.show(name(0, 1), &when)?, Showing::Shown);
-    let noon = conference.compose(&answer(name(0, 1), "noon"))?;
-    assert_eq!(rt; noon.as_slice(), NOON.as_slice());
+    let conference = shown(rt.alloc(), 20, &[(name(0, 1), &WHEN, Showing::Shown)])?;
+    assert!(rt; composes(&conference, &say("plan", "when?"), &WHEN));
+    assert!(rt; composes(&conference, &answer(name(0, 1), "noon"), &NOON));
     Ok(())
 }
 
 #[test]
 fn an_answer_stands_under_its_question(rt: HostRuntime) -> Result<(), Fail> {
-    let mut two = Conference::new(rt.alloc(), 20)?;
-    assert_eq!(rt; two.screen()?.as_str(), "");
-    assert_eq!(rt; two.show(name(0, 1), &WHEN)?, Showing::Shown);
-    assert_eq!(rt; two.show(name(1, 1), &NOON)?, Showing::Shown);
-    assert_eq!(rt; two.screen()?.as_str(), "[plan] 0.1 when?\n[plan] 1.1 re 0.1 noon\n");
-    assert_eq!(rt; two.rooms()?.as_slice(), ["plan"].as_slice());
-    assert_eq!(rt; two.compose(&answer(name(2, 1), "x")).err(), Some(ComposeFault::UnknownQuestion));
-    assert_eq!(rt; two.compose(&say("Plan", "x")).err(), Some(ComposeFault::BadRoom));
-    assert_eq!(rt; two.show(name(0, 1), &WHEN)?, Showing::Again);
-    assert_eq!(rt; two.show(name(1, 3), &[0x03])?, Showing::NotALine);
-    assert_eq!(rt; two.show(name(1, 2), &[0x02, 0x02, 0x01])?, Showing::Orphan);
-    assert_eq!(rt; two.screen()?.as_str(), "[plan] 0.1 when?\n[plan] 1.1 re 0.1 noon\n");
+    let messages = [
+        (name(0, 1), WHEN.as_slice(), Showing::Shown),
+        (name(1, 1), NOON.as_slice(), Showing::Shown),
+        (name(0, 1), WHEN.as_slice(), Showing::Again),
+        (name(1, 3), NO_LINE, Showing::NotALine),
+        (name(1, 2), LOST, Showing::Orphan),
+    ];
+    let conference = shown(rt.alloc(), 20, &messages)?;
+    assert!(rt; has_screen(&conference, "[plan] 0.1 when?\n[plan] 1.1 re 0.1 noon\n"));
+    assert!(rt; has_rooms(&conference, &["plan"]));
+    Ok(())
+}
+
+#[test]
+fn an_answer_goes_to_a_question_with_a_line_alone(rt: HostRuntime) -> Result<(), Fail> {
+    let messages = [
+        (name(0, 1), WHEN.as_slice(), Showing::Shown),
+        (name(1, 2), LOST, Showing::Orphan),
+    ];
+    let conference = shown(rt.alloc(), 20, &messages)?;
+    let unknown = Some(ComposeFault::UnknownQuestion);
+    assert_eq!(rt; fault(&conference, &answer(name(2, 1), "\u{7}")), unknown);
+    assert_eq!(rt; fault(&conference, &answer(name(1, 2), "x")), unknown);
+    assert_eq!(rt; fault(&conference, &answer(name(64, 0), "x")), unknown);
+    assert_eq!(rt; fault(&conference, &answer(name(0, 1), "x")), None);
     Ok(())
 }
 
 #[test]
 fn an_orphan_is_shown_once_its_question_is(rt: HostRuntime) -> Result<(), Fail> {
-    let mut conference = Conference::new(rt.alloc(), 20)?;
-    assert_eq!(rt; conference.show(name(1, 1), &NOON)?, Showing::Orphan);
-    assert_eq!(rt; conference.rooms()?.len(), 0);
-    assert_eq!(rt; conference.show(name(0, 1), &WHEN)?, Showing::Shown);
-    assert_eq!(rt; conference.show(name(1, 1), &NOON)?, Showing::Shown);
+    let first = [(name(1, 1), NOON.as_slice(), Showing::Orphan)];
+    assert!(rt; has_rooms(&shown(rt.alloc(), 20, &first)?, &[]));
+    let messages = [
+        (name(1, 1), NOON.as_slice(), Showing::Orphan),
+        (name(0, 1), WHEN.as_slice(), Showing::Shown),
+        (name(1, 1), NOON.as_slice(), Showing::Shown),
+    ];
+    let conference = shown(rt.alloc(), 20, &messages)?;
+    assert_eq!(rt; count(&conference, "plan"), Some(2));
     Ok(())
 }
 
 #[test]
 fn a_name_is_shown_once_whatever_it_carries(rt: HostRuntime) -> Result<(), Fail> {
-    let mut conference = Conference::new(rt.alloc(), 20)?;
-    assert_eq!(rt; conference.show(name(0, 1), &WHEN)?, Showing::Shown);
-    let other = conference.compose(&say("other", "hi"))?;
-    assert_eq!(rt; conference.show(name(0, 1), &other)?, Showing::Again);
-    assert_eq!(rt; conference.show(name(0, 1), &[0x03])?, Showing::Again);
-    assert_eq!(rt; conference.show(name(0, 1), &[0x02, 0x02, 0x01])?, Showing::Again);
-    assert_eq!(rt; conference.rooms()?.as_slice(), ["plan"].as_slice());
+    let messages = [
+        (name(0, 1), WHEN.as_slice(), Showing::Shown),
+        (name(0, 1), HI, Showing::Again),
+        (name(0, 1), NO_LINE, Showing::Again),
+        (name(0, 1), LOST, Showing::Again),
+    ];
+    let conference = shown(rt.alloc(), 20, &messages)?;
+    assert!(rt; has_rooms(&conference, &["plan"]));
+    assert_eq!(rt; count(&conference, "plan"), Some(1));
+    assert_eq!(rt; count(&conference, "other"), None);
     Ok(())
 }
 
 #[test]
 fn two_rooms_keep_their_lines_and_the_order_of_their_first(rt: HostRuntime) -> Result<(), Fail> {
-    let mut conference = Conference::new(rt.alloc(), 3)?;
-    let first = conference.compose(&say("plan", "when?"))?;
-    conference.show(name(0, 1), &first)?;
-    let second = conference.compose(&say("a-2", ""))?;
-    conference.show(name(1, 1), &second)?;
-    let third = conference.compose(&answer(name(0, 1), "noon"))?;
-    conference.show(name(1, 2), &third)?;
-    let fourth = conference.compose(&say("plan", "fine"))?;
-    conference.show(name(63, 4_294_967_295), &fourth)?;
-    assert_eq!(rt; conference.rooms()?.as_slice(), ["plan", "a-2"].as_slice());
-    assert_eq!(rt; conference.screen()?.as_str(),
-        "[a-2] 1.1 \n[plan] 1.2 re 0.1 noon\n[plan] 63.4294967295 fine\n");
+    let messages = [
+        (name(0, 1), WHEN.as_slice(), Showing::Shown),
+        (name(1, 1), b"\x01\x05other", Showing::Shown),
+        (name(1, 2), NOON.as_slice(), Showing::Shown),
+        (name(63, 4_294_967_295), b"\x01\x04planfine", Showing::Shown),
+    ];
+    let conference = shown(rt.alloc(), 3, &messages)?;
+    assert!(rt; has_rooms(&conference, &["plan", "other"]));
+    let screen = "[other] 1.1 \n[plan] 1.2 re 0.1 noon\n[plan] 63.4294967295 fine\n";
+    assert!(rt; has_screen(&conference, screen));
+    assert_eq!(rt; count(&conference, "plan"), Some(3));
+    assert_eq!(rt; count(&conference, "other"), Some(1));
     let lines = conference.lines("plan").unwrap_or(&[]);
-    assert_eq!(rt; lines.len(), 3);
     assert_eq!(rt; lines.get(1).map(|line| line.name), Some(name(1, 2)));
     assert_eq!(rt; lines.get(1).and_then(|line| line.question), Some(name(0, 1)));
     assert_eq!(rt; lines.get(1).map(|line| line.text.as_str()), Some("noon"));
-    assert_eq!(rt; lines.get(2).and_then(|line| line.question), None);
-    assert_eq!(rt; conference.lines("a-2").map(|lines| lines.len()), Some(1));
-    assert!(rt; conference.lines("other").is_none());
+    Ok(())
+}
+
+/// A conference with a screen of so many lines, which was shown `count` lines.
+fn full(alloc: Global, last: usize, count: u32) -> Result<Conference, Fail> {
+    let mut conference = Conference::new(alloc, last)?;
+    for number in 1..=count {
+        conference.show(name(5, number), b"\x01\x04mainx")?;
+    }
+    Ok(conference)
+}
+
+#[test]
+fn a_screen_of_one_line_has_the_last(rt: HostRuntime) -> Result<(), Fail> {
+    let conference = full(rt.alloc(), 1, 3)?;
+    assert!(rt; has_screen(&conference, "[main] 5.3 x\n"));
+    assert_eq!(rt; count(&conference, "main"), Some(3));
     Ok(())
 }
 
 #[test]
-fn a_screen_has_1_to_1000_lines(rt: HostRuntime) -> Result<(), Fail> {
-    assert_eq!(rt; Conference::new(rt.alloc(), 0).err(), Some(ConferenceFault::BadScreen));
-    assert_eq!(rt; Conference::new(rt.alloc(), 1001).err(), Some(ConferenceFault::BadScreen));
-    let mut smallest = Conference::new(rt.alloc(), 1)?;
-    let mut largest = Conference::new(rt.alloc(), 1000)?;
-    let payload = smallest.compose(&say("main", "x"))?;
-    for number in 1..=1002 {
-        smallest.show(name(5, number), &payload)?;
-        largest.show(name(5, number), &payload)?;
-    }
-    assert_eq!(rt; smallest.screen()?.as_str(), "[main] 5.1002 x\n");
-    let screen = largest.screen()?;
-    assert_eq!(rt; screen.as_str().lines().count(), 1000);
-    assert_eq!(rt; screen.as_str().lines().next(), Some("[main] 5.3 x"));
-    assert_eq!(rt; largest.lines("main").map(|lines| lines.len()), Some(1002));
+fn a_screen_of_1000_lines_has_the_last_1000(rt: HostRuntime) -> Result<(), Fail> {
+    let conference = full(rt.alloc(), 1000, 1002)?;
+    let screen = conference.screen()?;
+    let text = screen.as_str();
+    assert_eq!(rt; text.lines().count(), 1000);
+    assert_eq!(rt; text.lines().next(), Some("[main] 5.3 x"));
     Ok(())
+}
+
+#[test]
+fn a_screen_has_1_to_1000_lines(rt: HostRuntime) {
+    for last in [0, 1001, 18_446_744_073_709_551_615] {
+        let refused = Conference::new(rt.alloc(), last).err();
+        assert_eq!(rt; refused, Some(ConferenceFault::BadScreen), "at {last}");
+    }
 }
 
 #[test]
 fn names_of_rooms_that_cannot_be(rt: HostRuntime) -> Result<(), Fail> {
-    const BAD: [&str; 10] = [
-        "", "Plan", "a b", "a_b", "a/b", "a:b", "`", "{", "\u{e9}", "123456789012345678901234567890123",
+    const BAD: [&str; 9] = [
+        "", "Plan", "a b", "a_b", "a/b", "a:b", "`", "{", "123456789012345678901234567890123",
     ];
     const GOOD: [&str; 4] = ["a", "-", "09az-", "12345678901234567890123456789012"];
     let conference = Conference::new(rt.alloc(), 1)?;
     for room in BAD {
-        let fault = conference.compose(&say(room, "\u{7}")).err();
-        assert_eq!(rt; fault, Some(ComposeFault::BadRoom), "at {room}");
+        let refused = fault(&conference, &say(room, "\u{7}"));
+        assert_eq!(rt; refused, Some(ComposeFault::BadRoom), "at {room}");
     }
     for room in GOOD {
-        let payload = conference.compose(&say(room, ""))?;
-        assert_eq!(rt; payload.len(), 2 + room.len(), "at {room}");
-        assert_eq!(rt; Line::read(&payload), Some(say(room, "")), "at {room}");
+        let length = length_composed(&conference, &say(room, "x"));
+        assert_eq!(rt; length, Some(3 + room.len()), "at {room}");
     }
     Ok(())
 }
@@ -147,36 +248,52 @@ fn texts_that_cannot_be(rt: HostRuntime) -> Result<(), Fail> {
     const GOOD: [&str; 5] = ["", " ", "~ !", "na\u{ef}ve \u{20ac}", "\u{80}\u{10ffff}"];
     let conference = Conference::new(rt.alloc(), 1)?;
     for text in BAD {
-        let fault = conference.compose(&say("a", text)).err();
-        assert_eq!(rt; fault, Some(ComposeFault::BadText), "at {text:?}");
+        let refused = fault(&conference, &say("a", text));
+        assert_eq!(rt; refused, Some(ComposeFault::BadText), "at {text:?}");
     }
     for text in GOOD {
-        let payload = conference.compose(&say("a", text))?;
-        assert_eq!(rt; Line::read(&payload), Some(say("a", text)), "at {text:?}");
+        let length = length_composed(&conference, &say("a", text));
+        assert_eq!(rt; length, Some(3 + text.len()), "at {text:?}");
     }
     Ok(())
 }
 
-#[test]
-fn a_payload_has_at_most_1024_bytes(rt: HostRuntime) -> Result<(), Fail> {
-    let mut conference = Conference::new(rt.alloc(), 1)?;
-    let mut text = String::new(rt.alloc());
-    for _ in 0..1021 {
+/// So many times `x`.
+fn long_text(alloc: Global, length: usize) -> Result<String, Fail> {
+    let mut text = String::new(alloc);
+    for _ in 0..length {
         text.push('x')?;
     }
-    let longest = conference.compose(&say("a", text.as_str()))?;
-    assert_eq!(rt; longest.len(), 1024);
-    assert_eq!(rt; conference.show(name(0, 1), &longest)?, Showing::Shown);
-    let answered = conference.compose(&answer(name(0, 1), text.as_str()))?;
-    assert_eq!(rt; answered.len(), 1024);
-    text.push('x')?;
-    assert_eq!(rt; conference.compose(&say("a", text.as_str())).err(), Some(ComposeFault::TooLong));
-    let question = answer(name(0, 1), text.as_str());
-    assert_eq!(rt; conference.compose(&question).err(), Some(ComposeFault::TooLong));
-    let mut longer = longest;
-    longer.push(b'x')?;
+    Ok(text)
+}
+
+#[test]
+fn a_payload_has_at_most_1024_bytes(rt: HostRuntime) -> Result<(), Fail> {
+    let conference = shown(rt.alloc(), 20, &[(name(0, 1), &WHEN, Showing::Shown)])?;
+    let longest = long_text(rt.alloc(), 1021)?;
+    let text = longest.as_str();
+    assert_eq!(rt; length_composed(&conference, &say("a", text)), Some(1024));
+    assert_eq!(rt; length_composed(&conference, &answer(name(0, 1), text)), Some(1024));
+    let longer = long_text(rt.alloc(), 1022)?;
+    let text = longer.as_str();
+    assert_eq!(rt; fault(&conference, &say("a", text)), Some(ComposeFault::TooLong));
+    assert_eq!(rt; fault(&conference, &answer(name(0, 1), text)), Some(ComposeFault::TooLong));
+    Ok(())
+}
+
+/// Something said in the room a, in so many bytes.
+fn long_payload(alloc: Global, length: usize) -> Result<Vec<u8>, Fail> {
+    let mut payload = b"\x01\x01a".to_vec(alloc)?;
+    payload.resize(length, b'x')?;
+    Ok(payload)
+}
+
+#[test]
+fn a_payload_of_1025_bytes_is_no_line(rt: HostRuntime) -> Result<(), Fail> {
+    let longest = long_payload(rt.alloc(), 1024)?;
+    assert!(rt; Line::read(&longest).is_some());
+    let longer = long_payload(rt.alloc(), 1025)?;
     assert_eq!(rt; Line::read(&longer), None);
-    assert_eq!(rt; conference.show(name(0, 2), &longer)?, Showing::NotALine);
     Ok(())
 }
 
