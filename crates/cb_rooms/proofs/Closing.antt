@@ -1,15 +1,14 @@
 -- The fields of a conference after one more line.
-use Rattle.std.proofs.Common.{◌≡◌, ℕ, ◌<◌, Bool, true, false, List, [], ◌∷◌, ◌++◌, map, length, refl, sym, ap, subst, ◌∙◌, Option, Some, None, slice_get}
+use Rattle.std.proofs.Common.{◌≡◌, ℕ, false, List, [], ◌∷◌, ◌++◌, map, length, sym, ap, subst, ◌∙◌, Some, slice_get}
 use Rattle.std.specs.Prelude.{string_bytes, String, Vec}
 use Rattle.circular_buffer.specs.Buffer.{keep_last}
 use Rattle.std.proofs.lemmas.List.{map-append, length-map}
-use Rattle.cb_times.specs.declared.name.Name.{Name}
 use Rattle.cb_rooms.specs.declared.shown.Shown.{Shown}
 use Rattle.cb_rooms.specs.declared.conference.Conference.TheInside.{Inside}
 use Rattle.cb_rooms.specs.Line.{IsName}
 use Rattle.cb_rooms.specs.Conference.{Held, held}
 use Rattle.cb_rooms.specs.View.{ViewLine, has_line, has_room, rooms_of, lines_in, line_in, line_text}
-use Rattle.cb_rooms.specs.Places.{Room, room_of_entry, rooms_seen, with_line_at, lines_of, by_room, Holds}
+use Rattle.cb_rooms.specs.Places.{room_of_entry, rooms_seen, with_line_at, lines_of, by_room, Holds}
 use Rattle.cb_rooms.specs.Fields.{held_in, HoldsLines}
 use Rattle.cb_rooms.proofs.Holding.{holds_again, holds_new, stands_as, keep_mapped}
 

@@ -1,6 +1,6 @@
 -- What reading finds is there, and what is there is found.
-use Rattle.std.proofs.Common.{◌≡◌, ℕ, zero, suc, ◌+◌, ◌<◌, ◌≤◌, Bool, true, false, cond, List, [], ◌∷◌, ◌++◌, length, take, drop, get_or, Option, Some, None, Result, Ok, Err, refl, sym, ap, subst, ◌∙◌, append_assoc, arith, true≢false, length-append}
-use Rattle.std.specs.Prelude.{nat_lt, ◌==◌, ◌&&◌, if◌then◌else◌}
+use Rattle.std.proofs.Common.{◌≡◌, ℕ, suc, ◌+◌, Bool, true, false, List, [], ◌∷◌, ◌++◌, length, take, drop, Option, Some, None, Result, Ok, Err, refl, sym, ap, subst, ◌∙◌, append_assoc, arith, length-append}
+use Rattle.std.specs.Prelude.{nat_lt, ◌==◌, if◌then◌else◌}
 use Rattle.std.proofs.Math.Seq.{drop-append_seam, take-append_seam}
 use Rattle.std.proofs.lemmas.List.{take-append-drop, get_or-drop, length-take}
 use Rattle.std.proofs.lemmas.Option.{none-some}
@@ -166,9 +166,11 @@ read_is_payload bytes line fits e = by (nat_lt LONGEST_PAYLOAD (length bytes)) r
             let is : k ≡ answer_kind = grind (arith, nat_tests) in
             subst (λ (n : ℕ). IsSaid line (n ∷ rest)) (sym is) (answer_there rest line (λ i. fits (suc i)) (rw (t, u) at e))
         of false t false u = absurd (none-some line (rw (t, u) at e))
+
     said : (bs : List ℕ) → IsBytes bs → kind_at bs ≡ Some line → IsSaid line bs
     said [] fits e = absurd (none-some line e)
     said (k ∷ rest) fits e = kinds k rest fits e
+
     by : (b : Bool) → nat_lt LONGEST_PAYLOAD (length bytes) ≡ b → IsPayload line bytes
     by true t = absurd (none-some line (rw t at e))
     by false t =

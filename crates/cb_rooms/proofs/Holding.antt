@@ -1,6 +1,6 @@
 -- One more line: what it does to the rooms, the names and the screen.
-use Rattle.std.proofs.Common.{◌≡◌, ℕ, zero, suc, ◌+◌, ◌-◌, ◌<◌, ◌≤◌, Bool, true, false, cond, ◌&&◌, ◌||◌, not, List, [], ◌∷◌, ◌++◌, map, length, drop, refl, sym, ap, subst, ◌∙◌, true≢false, arith, Option, Some, None, filter, slice_get, length-append}
-use Rattle.std.specs.Prelude.{find, bytes_eq, if◌then◌else◌, is_some, option_map, option_and_then, filter_map, flat_map}
+use Rattle.std.proofs.Common.{◌≡◌, ℕ, zero, suc, ◌+◌, ◌-◌, Bool, true, false, cond, List, [], ◌∷◌, ◌++◌, map, length, drop, refl, sym, ap, subst, ◌∙◌, arith, Option, Some, slice_get, length-append}
+use Rattle.std.specs.Prelude.{find, bytes_eq, option_map, option_and_then}
 use Rattle.std.specs.List.{AllByRecursion, list_any, position_or_len}
 use Rattle.std.specs.Option.{option_or}
 use Rattle.circular_buffer.specs.Buffer.{keep_last}
@@ -17,7 +17,7 @@ use Rattle.cb_rooms.specs.Line.{IsName}
 use Rattle.cb_rooms.specs.View.{ViewLine, is_same, line_named, has_line, each_once, rooms_of, has_room, lines_in, line_in, line_text}
 use Rattle.cb_rooms.specs.Places.{Room, with_line_at, line_at_place, lines_of, by_room, place_of, by_name, printed, IsOwnLine, Holds}
 use Rattle.cb_rooms.proofs.Lists.{Some-injective, or_left, or_right, or_first, or_second, find-filter, filter_map-map, filter_map_all, map_alike, all_also, all_so, all_push, is_none}
-use Rattle.cb_rooms.proofs.Seen.{same, itself, turned, any_once, once_again, once_new, Once, once_once, found_at, any_at, apart_all, place_is, place_stays, place_of_new, apart_at}
+use Rattle.cb_rooms.proofs.Seen.{itself, any_once, once_again, once_new, Once, once_once, found_at, any_at, apart_all, place_is, place_stays, place_of_new, apart_at}
 
 -- ---- rooms
 
@@ -175,9 +175,9 @@ unfolding lines_of
 rebuilt lines own =
     let f : List ℕ → Room = λ q. (q, lines_in q lines) in
     let here : (l : ViewLine) → IsOwnLine lines l → list_any (bytes_eq l.room) (rooms_of lines) ≡ true → line_at_place (by_room lines) (l.name, place_of lines l.room) ≡ Some l
-        = λ l o m.
-        ap (option_and_then (λ (room : Room). line_named room.1 l.name)) (slice_get-map f (rooms_of lines) (place_of lines l.room) ∙ ap (option_map f) (found_at l.room (rooms_of lines) m))
-        ∙ find-filter (λ (x : ViewLine). is_same l.name x.name) (λ (x : ViewLine). bytes_eq l.room x.room) lines l o.found (itself l.room) in
+    = λ l o m.
+    ap (option_and_then (λ (room : Room). line_named room.1 l.name)) (slice_get-map f (rooms_of lines) (place_of lines l.room) ∙ ap (option_map f) (found_at l.room (rooms_of lines) m))
+    ∙ find-filter (λ (x : ViewLine). is_same l.name x.name) (λ (x : ViewLine). bytes_eq l.room x.room) lines l o.found (itself l.room) in
     filter_map-map (line_at_place (by_room lines)) (λ (l : ViewLine). (l.name, place_of lines l.room)) lines
     ∙ filter_map_all (λ (l : ViewLine). line_at_place (by_room lines) (l.name, place_of lines l.room)) lines
     (all_also (IsOwnLine lines) (λ (l : ViewLine). list_any (bytes_eq l.room) (rooms_of lines) ≡ true) (λ (l : ViewLine). line_at_place (by_room lines) (l.name, place_of lines l.room) ≡ Some l) here lines own (members lines))

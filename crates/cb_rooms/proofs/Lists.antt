@@ -1,9 +1,8 @@
 -- Lists of any kind: first elements, what is mapped, what is kept.
-use Rattle.std.proofs.Common.{◌≡◌, ℕ, zero, suc, ◌+◌, ◌-◌, ◌<◌, ◌≤◌, Bool, true, false, cond, ◌&&◌, ◌||◌, not, List, [], ◌∷◌, ◌++◌, map, length, drop, refl, sym, ap, subst, ◌∙◌, true≢false, arith, Option, Some, None, filter, slice_get}
-use Rattle.std.specs.Prelude.{find, filter_map, option_map, is_some, flat_map, unwrap_or, Result, Ok, Err, OnErr}
+use Rattle.std.proofs.Common.{◌≡◌, Bool, true, false, ◌||◌, List, [], ◌∷◌, ◌++◌, map, refl, sym, ap, ◌∙◌, true≢false, Option, Some, None, filter}
+use Rattle.std.specs.Prelude.{find, filter_map, option_map, is_some, unwrap_or, Result, Ok, Err, OnErr}
 use Rattle.std.specs.List.{AllByRecursion, cons_option, list_any}
 use Rattle.std.specs.Map.{lookup}
-use Rattle.std.proofs.lemmas.Option.{none-some}
 
 pub Some-injective : {A : Type 0} (a b : A) → ◌≡◌ {A = Option A} (Some a) (Some b) → a ≡ b
 Some-injective a b e = ap (λ o. unwrap_or o a) e

@@ -1,9 +1,7 @@
 -- A line that keeps the rules has a payload.
-use Rattle.std.proofs.Common.{◌≡◌, ℕ, ◌<◌, ◌≤◌, ◌^◌, true, List, length, refl, arith}
+use Rattle.std.proofs.Common.{◌≡◌, true, length, refl, arith}
 use Rattle.cb_varint.proofs.Spelled.{spelled}
-use Rattle.cb_times.specs.declared.group.TheConstants.{MOST_MEMBERS}
-use Rattle.cb_rooms.specs.declared.line.TheConstants.{LONGEST_ROOM, LONGEST_PAYLOAD}
-use Rattle.cb_rooms.specs.Line.{LineFields, SayLine, AnswerLine, is_room, is_text, IsName, KeepsRules, HasNumbers, Says, IsPayload, payload_of}
+use Rattle.cb_rooms.specs.Line.{LineFields, SayLine, AnswerLine, is_text, KeepsRules, HasNumbers, Says, payload_of}
 use Rattle.cb_rooms.specs.Compose.{HasPlace, text_of}
 use Rattle.cb_rooms.proofs.Names.{short_room}
 

@@ -1,5 +1,5 @@
 -- What is read of the fields, as what is read of the lines.
-use Rattle.std.proofs.Common.{◌≡◌, ℕ, zero, suc, ◌+◌, ◌-◌, ◌<◌, ◌≤◌, Bool, true, false, cond, not, List, [], ◌∷◌, ◌++◌, map, length, refl, sym, ap, subst, ◌∙◌, true≢false, arith, Option, Some, None, get_or, slice_get}
+use Rattle.std.proofs.Common.{◌≡◌, ℕ, ◌+◌, ◌<◌, Bool, true, false, cond, not, List, [], ◌∷◌, map, length, refl, sym, ap, subst, ◌∙◌, true≢false, Option, Some, None, get_or, slice_get}
 use Rattle.std.specs.Prelude.{find, bytes_eq, if◌then◌else◌, is_some, nat_lt, option_map, position, flat_map, string_bytes, String, Vec}
 use Rattle.std.specs.List.{AllByRecursion, list_any, position_or_len}
 use Rattle.std.specs.Map.{lookup, keys_of}

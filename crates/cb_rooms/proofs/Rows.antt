@@ -1,10 +1,9 @@
 -- One more line among the entries of the rooms.
-use Rattle.std.proofs.Common.{◌≡◌, ℕ, zero, suc, ◌+◌, ◌<◌, Bool, true, false, cond, ◌||◌, List, [], ◌∷◌, ◌++◌, map, length, refl, sym, ap, subst, ◌∙◌, true≢false, Option, Some, None, slice_get}
+use Rattle.std.proofs.Common.{◌≡◌, ℕ, zero, suc, Bool, false, List, [], ◌∷◌, ◌++◌, map, refl, sym, ap, ◌∙◌, Some, None, slice_get}
 use Rattle.std.specs.Prelude.{bytes_eq, string_bytes, String, Vec}
 use Rattle.std.specs.List.{list_any}
 use Rattle.std.specs.Map.{lookup, values_of}
 use Rattle.std.proofs.lemmas.List.{map-append}
-use Rattle.std.proofs.lemmas.Option.{none-some}
 use Rattle.indexmap.specs.Layout.{set_value_at}
 use Rattle.cb_rooms.specs.declared.shown.Shown.{Shown}
 use Rattle.cb_rooms.specs.View.{ViewLine, line_in}

@@ -1,15 +1,12 @@
 -- Rooms in the order in which they were first seen.
-use Rattle.std.proofs.Common.{◌≡◌, ℕ, zero, suc, ◌+◌, ◌-◌, ◌<◌, ◌≤◌, Bool, true, false, cond, ◌&&◌, ◌||◌, not, List, [], ◌∷◌, ◌++◌, map, length, drop, refl, sym, ap, subst, ◌∙◌, true≢false, arith, Option, Some, None, filter, slice_get}
-use Rattle.std.specs.Prelude.{find, bytes_eq, if◌then◌else◌, is_some, option_map}
+use Rattle.std.proofs.Common.{◌≡◌, ℕ, zero, suc, ◌+◌, Bool, true, false, cond, ◌||◌, not, List, [], ◌∷◌, ◌++◌, length, refl, sym, ap, subst, ◌∙◌, true≢false, arith, Some, filter, slice_get}
+use Rattle.std.specs.Prelude.{find, bytes_eq}
 use Rattle.std.specs.List.{AllByRecursion, list_any, position_or_len}
-use Rattle.std.specs.Map.{lookup}
 use Rattle.std.specs.Cmp.Lexicographic.{bytes_decides}
-use Rattle.std.proofs.lemmas.List.Folds.{find_at, list_any-append, position_or_len_push}
-use Rattle.std.proofs.lemmas.List.{map-append, append-nil}
-use Rattle.std.proofs.lemmas.Option.{none-some, slice_get_within}
-use Rattle.cb_rooms.specs.declared.shown.Shown.{Shown}
-use Rattle.cb_rooms.specs.View.{ViewLine, each_once, rooms_of, lines_in, line_in, lines_of_room, has_room}
-use Rattle.cb_rooms.specs.Places.{Room, with_line_at, by_room, place_of}
+use Rattle.std.proofs.lemmas.List.Folds.{find_at}
+use Rattle.std.proofs.lemmas.List.{append-nil}
+use Rattle.std.proofs.lemmas.Option.{none-some}
+use Rattle.cb_rooms.specs.View.{each_once}
 use Rattle.cb_rooms.proofs.Lists.{Some-injective, or_left, or_right, or_neither, or_first, or_second, or_only}
 
 -- ---- the test of two names of rooms

@@ -1,5 +1,5 @@
 -- Views of one message more, and what stands in a view.
-use Rattle.std.proofs.Common.{◌≡◌, ℕ, zero, suc, ◌+◌, ◌<◌, Bool, true, false, List, [], ◌∷◌, ◌++◌, map, length, Option, Some, None, refl, sym, ap, subst, ◌∙◌, arith, true≢false, slice_get, ◌⊎◌, inl, inr}
+use Rattle.std.proofs.Common.{◌≡◌, ℕ, zero, suc, ◌<◌, Bool, true, false, List, [], ◌∷◌, ◌++◌, length, Option, Some, None, refl, sym, ap, subst, ◌∙◌, arith, slice_get, ◌⊎◌, inl, inr}
 use Rattle.std.specs.Prelude.{find, fold, is_some, IsSome, ◌↔◌, if◌then◌else◌, option_map, option_to_list}
 use Rattle.std.specs.List.{AllByRecursion, position_or_len}
 use Rattle.std.specs.Option.{option_or}
@@ -8,7 +8,6 @@ use Rattle.std.proofs.lemmas.List.Sums.{fold-append}
 use Rattle.std.proofs.lemmas.List.Folds.{find-append, find_at}
 use Rattle.std.proofs.lemmas.Option.{none-some, slice_get_within}
 use Rattle.cb_times.specs.declared.name.Name.{Name}
-use Rattle.cb_rooms.specs.declared.shown.Showing.{Showing}
 use Rattle.cb_rooms.specs.declared.shown.Showing.TheVariants as showings
 use Rattle.cb_rooms.specs.Line.{LineFields, SayLine, AnswerLine}
 use Rattle.cb_rooms.specs.Reading.{line_at}
@@ -85,6 +84,7 @@ grows P none more messages = from messages [] none
     step lines name payload p (Some l) e =
         let is = is_added lines name payload l e in
         more lines l name p is.0 is.1
+
     from : (messages : Messages) (lines : List ViewLine) → P lines → P (fold (λ (ls : List ViewLine) (m : Name × List ℕ). ls ++ option_to_list (added ls m.0 m.1)) lines messages)
     from [] lines p = p
     from (m ∷ ms) lines p = from ms (lines ++ option_to_list (added lines m.0 m.1)) (step lines m.0 m.1 p (added lines m.0 m.1) refl)

@@ -1,5 +1,5 @@
 -- The worked conference: a question, its answer, and what adds nothing.
-use Rattle.std.specs.Prelude.{◌≡◌, ℕ, List, [], ◌∷◌, ◌++◌, Option, Some, None, codes, refl, true, false}
+use Rattle.std.specs.Prelude.{◌≡◌, ℕ, List, [], ◌∷◌, Some, None, codes, refl, true, false}
 use Rattle.std.specs.Str.{is_utf8, chars}
 use Rattle.std.specs.Fmt.{digits}
 use lib.Utf8.{encode}
@@ -8,7 +8,7 @@ use Rattle.cb_times.specs.declared.name.Name.{Name}
 use Rattle.cb_rooms.specs.declared.shown.Showing.TheVariants as showings
 use Rattle.cb_rooms.specs.Line.{LineFields, SayLine, AnswerLine, is_room, is_text, payload_of}
 use Rattle.cb_rooms.specs.Reading.{say_at, answer_at, line_at}
-use Rattle.cb_rooms.specs.View.{ViewLine, view_line, added, lines_after, conference_view, showing, rooms_of, lines_in, lines_of_room, line_text, screen_text}
+use Rattle.cb_rooms.specs.View.{ViewLine, view_line, added, lines_after, conference_view, showing, rooms_of, lines_of_room, line_text, screen_text}
 
 abbrev name : ℕ → ℕ → Name
 name i s = record { sender = i; number = s }

@@ -1,6 +1,5 @@
 -- What a conference is to its callers: how many lines its screen has, and the lines that it holds.
-use Rattle.std.specs.Prelude.{ℕ, List, [], ◌≤◌, refl}
-use Rattle.std.specs.Coded.{Coded}
+use Rattle.std.specs.Prelude.{ℕ, List, ◌≤◌}
 use Rattle.cb_rooms.specs.declared.conference.TheConstants.{LONGEST_SCREEN}
 use Rattle.cb_rooms.specs.View.{ViewLine}
 

@@ -1,5 +1,5 @@
 -- The laws of payloads, and of the view.
-use Rattle.std.specs.Prelude.{◌≡◌, ℕ, ◌<◌, List, [], ◌∷◌, ◌++◌, ◌↔◌, Option, Some, slice_get, slice_index, IsSome}
+use Rattle.std.specs.Prelude.{◌≡◌, ℕ, ◌<◌, List, [], ◌∷◌, ◌++◌, ◌↔◌, Some, slice_get, slice_index, IsSome}
 use Rattle.std.specs.List.{AllByRecursion}
 use Rattle.cb_times.specs.declared.name.Name.{Name}
 use Rattle.cb_rooms.specs.declared.shown.Showing.TheVariants as showings

@@ -2,13 +2,13 @@
 -- as they are printed.
 use Rattle.std.specs.Prelude.{◌≡◌, ℕ, zero, suc, Bool, List, [], ◌∷◌, ◌++◌, map, filter_map, slice_get, Option, Some, option_and_then, string_bytes, String, Vec, bytes_eq}
 use Rattle.std.specs.List.{AllByRecursion, list_any, position_or_len}
-use Rattle.circular_buffer.specs.Buffer.{Buffer, keep_last}
+use Rattle.circular_buffer.specs.Buffer.{keep_last}
 use Rattle.indexmap.specs.IndexMap.{IndexMap}
 use Rattle.cb_times.specs.declared.name.Name.{Name}
 use Rattle.cb_rooms.specs.declared.shown.Shown.{Shown}
 use Rattle.cb_rooms.specs.Line.{IsName}
 use Rattle.cb_rooms.specs.View.{ViewLine, line_named, line_text, line_in, rooms_of, lines_in}
-use Rattle.cb_rooms.specs.Conference.{Held, held, IsScreen}
+use Rattle.cb_rooms.specs.Conference.{IsScreen}
 
 -- a room with its lines
 abbrev pub Room : Type 0

@@ -1,5 +1,5 @@
 -- The line of a payload as a function, for the definitions that speak of what payloads say. The laws tie it to `IsPayload`.
-use Rattle.std.specs.Prelude.{ℕ, ◌<◌, Bool, ◌&&◌, nat_lt, nat_le, ◌==◌, if◌then◌else◌, List, [], ◌∷◌, length, take, drop, Option, Some, None, Result, Ok, Err}
+use Rattle.std.specs.Prelude.{ℕ, ◌&&◌, nat_lt, ◌==◌, if◌then◌else◌, List, [], ◌∷◌, length, take, drop, Option, Some, None, Result, Ok, Err}
 use Rattle.cb_varint.specs.declared.fault.NumberFault.{NumberFault}
 use Rattle.cb_varint.specs.Reading.{number_at as number_and_length}
 use Rattle.cb_times.specs.declared.group.TheConstants.{MOST_MEMBERS}

@@ -1,5 +1,5 @@
 -- The view of a conference: which lines a member has been shown, and what follows from them.
-use Rattle.std.specs.Prelude.{◌≡◌, ℕ, Bool, ◌&&◌, not, ◌==◌, if◌then◌else◌, List, [], ◌∷◌, ◌++◌, map, filter, fold, find, flat_map, Option, Some, None, is_some, option_map, option_to_list, bytes_eq, string_bytes, codes}
+use Rattle.std.specs.Prelude.{ℕ, Bool, ◌&&◌, not, ◌==◌, if◌then◌else◌, List, [], ◌∷◌, ◌++◌, map, filter, fold, find, flat_map, Option, Some, None, is_some, option_map, option_to_list, bytes_eq, string_bytes, codes}
 use Rattle.std.specs.List.{list_any}
 use Rattle.circular_buffer.specs.Buffer.{keep_last}
 use Rattle.cb_times.specs.declared.name.Name.{Name}

@@ -137,7 +137,7 @@ impl Conference {
             showing ≡ line_showing self.old.lines (Some (AnswerLine question text.now))) }
         ensures lines { let line = line_of self.old.lines name (AnswerLine question text.now) in
             OnOk result (self.new
-                ≡ held self.old.screen (self.old.lines ++ option_to_list line)) }
+            ≡ held self.old.screen (self.old.lines ++ option_to_list line)) }
         ensures err { OnErr result (self.new ≡ self.old) }
     {
         let Some(place) = self.place_of(question) else {
@@ -165,10 +165,24 @@ impl Conference {
     {
         let alloc = *self.places.allocator();
         let (room, _) = self.rooms.get_index(place).unwrap();
-        let printed = Printed { room: room.as_str(), name, question, text }.to_string(alloc)?;
+        let printed = Printed {
+            room: room.as_str(),
+            name,
+            question,
+            text,
+        }
+        .to_string(alloc)?;
         let text = String::from_str(alloc, text)?;
         self.places.reserve(1)?;
-        push_line(&mut self.rooms, place, Shown { name, question, text })?;
+        push_line(
+            &mut self.rooms,
+            place,
+            Shown {
+                name,
+                question,
+                text,
+            },
+        )?;
         note(&mut self.places, &mut self.screen, name, place, printed);
         Ok(())
     }
@@ -184,10 +198,24 @@ impl Conference {
     {
         let alloc = *self.places.allocator();
         let place = self.rooms.len();
-        let printed = Printed { room, name, question: None, text }.to_string(alloc)?;
+        let printed = Printed {
+            room,
+            name,
+            question: None,
+            text,
+        }
+        .to_string(alloc)?;
         let text = String::from_str(alloc, text)?;
         self.places.reserve(1)?;
-        open_room(&mut self.rooms, room, Shown { name, question: None, text })?;
+        open_room(
+            &mut self.rooms,
+            room,
+            Shown {
+                name,
+                question: None,
+                text,
+            },
+        )?;
         note(&mut self.places, &mut self.screen, name, place, printed);
         Ok(())
     }

@@ -17,7 +17,7 @@ mod writing;
 pub use conference::{Conference, LONGEST_SCREEN};
 pub use fault::{ComposeFault, ConferenceFault};
 pub use line::{LONGEST_PAYLOAD, LONGEST_ROOM, Line};
-pub use shown::{Shown, Showing};
+pub use shown::{Showing, Shown};
 
 #[cfg(test)]
 mod tests;

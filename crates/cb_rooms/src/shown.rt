@@ -44,7 +44,12 @@ impl fmt::Display for Printed<'_> {
 
     #[tactic(auto, unfolding(crate::specs::View::line_text))]
     fn fmt<W: fmt::Write>(&self, f: &mut fmt::Formatter<W>) -> fmt::Result {
-        let Printed { room, name, text, .. } = self;
+        let Printed {
+            room,
+            name,
+            text,
+            ..
+        } = self;
         match self.question {
             None => writeln!(f, "[{room}] {name} {text}"),
             Some(question) => writeln!(f, "[{room}] {name} re {question} {text}"),

@@ -31,7 +31,9 @@ const NOON: [u8; 7] = [0x02, 0x00, 0x01, 0x6e, 0x6f, 0x6f, 0x6e];
 
 /// "hi" in the room other, an answer to the unknown 2.1, and no line.
 const HI: &[u8] = b"\x01\x05otherhi";
+
 const LOST: &[u8] = b"\x02\x02\x01";
+
 const NO_LINE: &[u8] = b"\x03";
 
 fn is_shown(
@@ -184,7 +186,10 @@ fn two_rooms_keep_their_lines_and_the_order_of_their_first(rt: HostRuntime) -> R
     assert_eq!(rt; count(&conference, "other"), Some(1));
     let lines = conference.lines("plan").unwrap_or(&[]);
     assert_eq!(rt; lines.get(1).map(|line| line.name), Some(name(1, 2)));
-    assert_eq!(rt; lines.get(1).and_then(|line| line.question), Some(name(0, 1)));
+    assert_eq!(rt;
+        lines.get(1).and_then(|line| line.question),
+        Some(name(0, 1))
+    );
     assert_eq!(rt; lines.get(1).map(|line| line.text.as_str()), Some("noon"));
     Ok(())
 }
@@ -227,7 +232,15 @@ fn a_screen_has_1_to_1000_lines(rt: HostRuntime) {
 #[test]
 fn names_of_rooms_that_cannot_be(rt: HostRuntime) -> Result<(), Fail> {
     const BAD: [&str; 9] = [
-        "", "Plan", "a b", "a_b", "a/b", "a:b", "`", "{", "123456789012345678901234567890123",
+        "",
+        "Plan",
+        "a b",
+        "a_b",
+        "a/b",
+        "a:b",
+        "`",
+        "{",
+        "123456789012345678901234567890123",
     ];
     const GOOD: [&str; 4] = ["a", "-", "09az-", "12345678901234567890123456789012"];
     let conference = Conference::new(rt.alloc(), 1)?;
@@ -273,11 +286,20 @@ fn a_payload_has_at_most_1024_bytes(rt: HostRuntime) -> Result<(), Fail> {
     let longest = long_text(rt.alloc(), 1021)?;
     let text = longest.as_str();
     assert_eq!(rt; length_composed(&conference, &say("a", text)), Some(1024));
-    assert_eq!(rt; length_composed(&conference, &answer(name(0, 1), text)), Some(1024));
+    assert_eq!(rt;
+        length_composed(&conference, &answer(name(0, 1), text)),
+        Some(1024)
+    );
     let longer = long_text(rt.alloc(), 1022)?;
     let text = longer.as_str();
-    assert_eq!(rt; fault(&conference, &say("a", text)), Some(ComposeFault::TooLong));
-    assert_eq!(rt; fault(&conference, &answer(name(0, 1), text)), Some(ComposeFault::TooLong));
+    assert_eq!(rt;
+        fault(&conference, &say("a", text)),
+        Some(ComposeFault::TooLong)
+    );
+    assert_eq!(rt;
+        fault(&conference, &answer(name(0, 1), text)),
+        Some(ComposeFault::TooLong)
+    );
     Ok(())
 }
 
@@ -327,9 +349,14 @@ fn payloads_that_are_no_line(rt: HostRuntime) {
         assert_eq!(rt; Line::read(payload), None, "at {payload:?}");
     }
     assert_eq!(rt; Line::read(&[0x01, 0x01, b'a']), Some(say("a", "")));
-    assert_eq!(rt; Line::read(&[0x02, 0x3f, 0x01]), Some(answer(name(63, 1), "")));
-    assert_eq!(rt; Line::read(&[0x02, 0x00, 0xff, 0xff, 0xff, 0xff, 0x0f, b'y']),
-        Some(answer(name(0, 4_294_967_295), "y")));
+    assert_eq!(rt;
+        Line::read(&[0x02, 0x3f, 0x01]),
+        Some(answer(name(63, 1), ""))
+    );
+    assert_eq!(rt;
+        Line::read(&[0x02, 0x00, 0xff, 0xff, 0xff, 0xff, 0x0f, b'y']),
+        Some(answer(name(0, 4_294_967_295), "y"))
+    );
 }
 
 #[test]
@@ -344,7 +371,13 @@ fn a_fault_prints_its_name(rt: HostRuntime) -> Result<(), Fail> {
     for (fault, name) in COMPOSE {
         assert_eq!(rt; fault.to_string(rt.alloc())?.as_str(), name);
     }
-    assert_eq!(rt; ConferenceFault::BadScreen.to_string(rt.alloc())?.as_str(), "BadScreen");
-    assert_eq!(rt; ConferenceFault::NoMemory.to_string(rt.alloc())?.as_str(), "NoMemory");
+    assert_eq!(rt;
+        ConferenceFault::BadScreen.to_string(rt.alloc())?.as_str(),
+        "BadScreen"
+    );
+    assert_eq!(rt;
+        ConferenceFault::NoMemory.to_string(rt.alloc())?.as_str(),
+        "NoMemory"
+    );
     Ok(())
 }

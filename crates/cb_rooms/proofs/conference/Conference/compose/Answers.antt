@@ -1,6 +1,5 @@
-use Rattle.std.proofs.Common.{◌≡◌, ◌≤◌, ◌∙◌, true, length, ap, sym, subst, arith, List, ℕ}
+use Rattle.std.proofs.Common.{◌≡◌, true, length, ap, sym, subst, arith}
 use Rattle.std.proofs.lemmas.Grind.{common_steps}
-use Rattle.cb_rooms.specs.declared.line.TheConstants.{LONGEST_PAYLOAD}
 use Rattle.cb_rooms.specs.Line.{fields_of, is_text, Says, payload_of}
 use Rattle.cb_rooms.specs.Compose.{text_of}
 use Rattle.cb_rooms.proofs.Payloads.{keeps, says}

@@ -1,8 +1,7 @@
-use Rattle.std.proofs.Common.{◌∙◌, ap, ◌≡◌, ℕ, ◌≤◌, arith, map, sym, List}
+use Rattle.std.proofs.Common.{◌∙◌, ap, ◌≡◌, ℕ, arith, map}
 use Rattle.std.specs.Prelude.{string_bytes}
-use Rattle.cb_rooms.specs.Conference.{IsScreen, held}
+use Rattle.cb_rooms.specs.Conference.{held}
 use Rattle.cb_rooms.specs.Places.{rooms_seen, room_of_entry, lines_of}
-use Rattle.cb_rooms.specs.View.{ViewLine}
 use Rattle.cb_rooms.proofs.Holding.{holds_none}
 use Rattle.cb_rooms.proofs.conference.Conference.new.Goals as goal
 

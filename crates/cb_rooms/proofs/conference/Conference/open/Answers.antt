@@ -1,9 +1,9 @@
-use Rattle.std.proofs.Common.{◌≡◌, ◌∙◌, ap, ℕ, List, [], ◌∷◌, ◌++◌, map, None}
+use Rattle.std.proofs.Common.{◌∙◌, ap, ℕ, List, [], ◌∷◌, ◌++◌, map, None}
 use Rattle.std.specs.Prelude.{string_bytes}
 use Rattle.std.specs.List.{list_any}
 use Rattle.cb_times.specs.declared.name.Name.{Name}
-use Rattle.cb_rooms.specs.View.{ViewLine, view_line, is_same}
-use Rattle.cb_rooms.specs.Places.{Room, rooms_seen}
+use Rattle.cb_rooms.specs.View.{view_line, is_same}
+use Rattle.cb_rooms.specs.Places.{rooms_seen}
 use Rattle.cb_rooms.proofs.Readings.{holds_now, room_seen, name_seen}
 use Rattle.cb_rooms.proofs.Closing.{closes_new, screen_pushed}
 use Rattle.cb_rooms.proofs.conference.Conference.open.Goals as goal
