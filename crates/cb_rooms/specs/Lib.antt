@@ -1,0 +1,10 @@
+pub mod Line
+pub mod Reading
+pub mod View
+pub mod Printed
+pub mod FaultText
+pub mod Conference
+pub mod Places
+pub mod Fields
+pub mod Compose
+pub mod Laws
