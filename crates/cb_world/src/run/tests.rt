@@ -175,3 +175,29 @@ fn a_run_wants_a_limit(rt: HostRuntime) {
     let run = play(rt.alloc(), group, 16_777_216, &[]).expect(&rt, "a run");
     assert!(rt; run.outcomes().is_empty());
 }
+
+#[test]
+fn a_delivered_message_is_copied(rt: HostRuntime) {
+    let steps = [
+        cast(0, b"hi"),
+        Step::Arrive(1, 0),
+        cast(1, b"yo"),
+        Step::Arrive(2, 1),
+        Step::Arrive(2, 0),
+    ];
+    let run = run_of(&rt, rt.alloc(), &steps);
+    let events = run.events(2).expect(&rt, "a member");
+    let Some(Event::Deliver(message)) = events.last() else {
+        panic!(&rt; "a delivery is the last event");
+    };
+    let copy = message.copy().expect(&rt, "a copy");
+    assert_eq!(rt;
+        copy.name,
+        Name {
+            sender: 1,
+            number: 1
+        }
+    );
+    assert_eq!(rt; copy.time.as_slice(), [1, 1, 0].as_slice());
+    assert_eq!(rt; copy.payload.as_slice(), b"yo".as_slice());
+}
