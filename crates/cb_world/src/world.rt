@@ -114,6 +114,7 @@ impl World {
         ensures causal { IsCausalBroadcast self.new.setting (run_in self.new) }
         ensures delivered { DeliversClosedArrivals self.new.setting (run_in self.new) }
         ensures times { TimesTellHappenedBefore self.new.setting (run_in self.new) }
+        ensures setting { IsSetting self.new.setting }
     {
         self.take(step)
     }

@@ -14,3 +14,6 @@ returns-clause-delivered c = (headline_of c).delivered
 
 pub returns-clause-times : goal.returns-clause-times
 returns-clause-times c = (headline_of c).times
+
+pub returns-clause-setting : goal.returns-clause-setting
+returns-clause-setting c = c.take.ensures.setting
