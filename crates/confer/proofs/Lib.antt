@@ -1,2 +1,6 @@
 pub mod Expanding
 pub mod CommandLine
+pub mod Views
+pub mod Asking
+pub mod Arriving
+pub mod Naming

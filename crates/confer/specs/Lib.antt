@@ -1,3 +1,4 @@
 pub mod Expand
 pub mod Play
 pub mod Cli
+pub mod Rooms

@@ -8,6 +8,7 @@ mod cli;
 mod expand;
 #[cfg(test)]
 mod fakes;
+pub mod laws;
 mod play;
 
 use crate::cli::{Fault, report, run_words};
