@@ -6,11 +6,12 @@ ghost use Rattle.confer.specs.Play.{IsWithinLimit, WritesSome, FailsToRead, IsNo
 
 use crate::expand::{LONGEST_INPUT, LinesFault, read, room, write_whole};
 use crate::play::fault::ScriptFault;
-use crate::play::script::{Script, Setting, script_of};
-use crate::play::transcript::{put_member, put_step};
+use crate::play::rooms::{Composed, Rooms};
+use crate::play::script::{Script, ScriptStep, Setting, script_of};
+use crate::play::transcript::{put_member, put_no_member, put_not_composed, put_screen, put_step};
 use cb_times::NoMemory;
-use cb_world::{PlayFault, Step, World};
-use std::alloc::{AllocError, Global};
+use cb_world::World;
+use std::alloc::Global;
 use std::io::{Read, Write};
 
 /// Reads a script to the end of the input, runs it, and writes what came of each step and how each member stands at the end.
@@ -74,22 +75,37 @@ fn transcript_of(alloc: Global, text: &[u8]) -> Result<String, ScriptFault>
 }
 
 /// What is printed of a run of these steps.
-fn run_text(alloc: Global, setting: Setting, steps: &[Step]) -> Result<String, NoMemory> {
-    let mut world = new_world(alloc, setting)?;
+fn run_text(alloc: Global, setting: Setting, steps: &[ScriptStep<'_>]) -> Result<String, NoMemory> {
+    let mut rooms = Rooms::new(alloc, setting)?;
     let mut text = String::new(alloc);
     for (place, step) in steps.iter().enumerate() {
-        world.step(step)?;
-        put_last_step(&mut text, place.saturating_add(1), &world)?;
+        put_step_of(&mut text, place.saturating_add(1), step, &mut rooms)?;
     }
-    put_members(&mut text, setting.group.size(), &world)?;
+    put_members(&mut text, setting.group.size(), rooms.world())?;
     Ok(text)
 }
 
-fn new_world(alloc: Global, setting: Setting) -> Result<World, NoMemory> {
-    match World::new(alloc, setting.group, setting.history_max) {
-        Ok(world) => Ok(world),
-        Err(PlayFault::NoMemory) => Err(AllocError),
-        Err(PlayFault::BadLimit) => unreachable!("it is the limit of a script"),
+/// Takes a step and puts its lines, under this number.
+fn put_step_of(
+    text: &mut String,
+    number: usize,
+    step: &ScriptStep<'_>,
+    rooms: &mut Rooms,
+) -> Result<(), NoMemory> {
+    match step {
+        ScriptStep::Take(step) => {
+            rooms.step(step)?;
+            put_last_step(text, number, rooms.world())
+        }
+        ScriptStep::Compose { member, line } => match rooms.compose(*member, line)? {
+            Composed::Cast => put_last_step(text, number, rooms.world()),
+            Composed::NoSuchMember => put_no_member(text, number),
+            Composed::Refused(fault) => put_not_composed(text, number, fault),
+        },
+        ScriptStep::Screen { member } => match rooms.screen(*member)? {
+            Some(screen) => put_screen(text, number, *member, &screen),
+            None => put_no_member(text, number),
+        },
     }
 }
 

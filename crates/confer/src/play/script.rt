@@ -9,14 +9,15 @@ ghost use Rattle.confer.specs.Play.{IsNoScript};
 use crate::play::fault::ScriptFault;
 use bytes::Bytes;
 use cb_member::{Group, LONGEST_HISTORY};
-use cb_times::NoMemory;
+use cb_rooms::Line;
+use cb_times::{Name, NoMemory};
 use cb_world::Step;
 use hex::FromHexError;
 use itoa::Buffer;
 use std::alloc::{AllocError, Global};
 
-/// The words of the longest line, which is the first.
-const MOST_WORDS: usize = 8;
+/// The words of the first line.
+const FIRST_WORDS: usize = 8;
 
 /// Which group a script runs in, by its first line.
 #[derive(Clone, Copy, Debug)]
@@ -27,11 +28,22 @@ pub struct Setting {
     ghost is_limit: { (1 ≤ history_max) × (history_max ≤ longest_history) },
 }
 
-/// A script that is read whole.
+/// What a further line orders.
 #[derive(Debug, Drop)]
-pub struct Script {
+pub enum ScriptStep<'a> {
+    /// A step of the group.
+    Take(Step),
+    /// A line, composed in the member's conference and cast.
+    Compose { member: u32, line: Line<'a> },
+    /// The screen of the member's conference.
+    Screen { member: u32 },
+}
+
+/// A script that is read whole. What its lines say lies in its text.
+#[derive(Debug, Drop)]
+pub struct Script<'a> {
     pub setting: Setting,
-    pub steps: Vec<Step>,
+    pub steps: Vec<ScriptStep<'a>>,
 }
 
 /// Why a line has no meaning: it is none of a script's, or an allocation was refused.
@@ -59,7 +71,7 @@ impl From<NoMemory> for LineFault {
 }
 
 /// Reads the lines, up to the first one that is not what must stand there.
-pub fn script_of(alloc: Global, text: &[u8]) -> Result<Script, ScriptFault>
+pub fn script_of(alloc: Global, text: &[u8]) -> Result<Script<'_>, ScriptFault>
     ensures { IfErr result IsNoScript }
 {
     let ended = text.strip_suffix(b"\n").unwrap_or(text);
@@ -97,21 +109,84 @@ fn setting_of(alloc: Global, line: &[u8]) -> Result<Setting, LineFault> {
 }
 
 /// A further line.
-fn step_of(alloc: Global, line: &[u8]) -> Result<Step, LineFault> {
-    match words_of(alloc, line)?.as_slice() {
-        ["cast", i, hex] => Ok(Step::Cast(number(i)?, payload(alloc, hex)?)),
-        ["arrive", j, f] => Ok(Step::Arrive(number(j)?, number(f)? as usize)),
-        ["tick", i] => Ok(Step::Tick(number(i)?)),
+fn step_of(alloc: Global, line: &[u8]) -> Result<ScriptStep<'_>, LineFault> {
+    let Ok(text) = str::from_utf8(line) else {
+        return Err(LineFault::NoLine);
+    };
+    let (verb, rest) = split(text)?;
+    match verb {
+        "cast" => cast_of(alloc, rest),
+        "arrive" => arrive_of(rest),
+        "tick" => Ok(ScriptStep::Take(Step::Tick(number(rest)?))),
+        "say" => say_of(rest),
+        "answer" => answer_of(rest),
+        "screen" => Ok(ScriptStep::Screen {
+            member: number(rest)?,
+        }),
         _ => Err(LineFault::NoLine),
     }
 }
 
-/// The words of a line, with one space between them; of a line with too many, one more than any line has.
+/// `I HEX`, behind `cast`.
+fn cast_of<'a>(alloc: Global, words: &'a str) -> Result<ScriptStep<'a>, LineFault> {
+    let (i, hex) = split(words)?;
+    Ok(ScriptStep::Take(Step::Cast(number(i)?, payload(alloc, hex)?)))
+}
+
+/// `J F`, behind `arrive`.
+fn arrive_of(words: &str) -> Result<ScriptStep<'_>, LineFault> {
+    let (j, f) = split(words)?;
+    Ok(ScriptStep::Take(Step::Arrive(number(j)?, number(f)? as usize)))
+}
+
+/// `I ROOM TEXT`, behind `say`. The text may be empty, the room may not.
+fn say_of(words: &str) -> Result<ScriptStep<'_>, LineFault> {
+    let (i, words) = split(words)?;
+    let (room, text) = split(words)?;
+    if room.is_empty() {
+        return Err(LineFault::NoLine);
+    }
+    Ok(ScriptStep::Compose {
+        member: number(i)?,
+        line: Line::Say { room, text },
+    })
+}
+
+/// `I k.t TEXT`, behind `answer`. The text may be empty.
+fn answer_of(words: &str) -> Result<ScriptStep<'_>, LineFault> {
+    let (i, words) = split(words)?;
+    let (question, text) = split(words)?;
+    Ok(ScriptStep::Compose {
+        member: number(i)?,
+        line: Line::Answer {
+            question: name(question)?,
+            text,
+        },
+    })
+}
+
+/// The first word, and what stands behind the space after it.
+fn split(text: &str) -> Result<(&str, &str), LineFault> {
+    text.split_once(' ').ok_or(LineFault::NoLine)
+}
+
+/// The words of a line, with one space between them; of a line with more than the first one has, one more.
 fn words_of(alloc: Global, line: &[u8]) -> Result<Vec<&str>, LineFault> {
     let Ok(text) = str::from_utf8(line) else {
         return Err(LineFault::NoLine);
     };
-    Ok(text.split(' ').take(MOST_WORDS + 1).collect(alloc)?)
+    Ok(text.split(' ').take(FIRST_WORDS + 1).collect(alloc)?)
+}
+
+/// The name of a message, `k.t`. Whether there is such a message is not asked here.
+fn name(word: &str) -> Result<Name, LineFault> {
+    let Some((sender, place)) = word.split_once('.') else {
+        return Err(LineFault::NoLine);
+    };
+    Ok(Name {
+        sender: number(sender)?,
+        number: number(place)?,
+    })
 }
 
 /// A number in its one spelling: decimal digits, with no sign and no zeros before them, up to 4,294,967,295.

@@ -4,6 +4,7 @@
 
 use crate::expand::is_plain_text;
 use cb_member::{Member, Message};
+use cb_rooms::ComposeFault;
 use cb_times::NoMemory;
 use cb_world::{Answer, Outcome, Sent};
 use std::fmt;
@@ -144,6 +145,35 @@ fn put_frames(text: &mut String, first: usize, frames: &[Sent]) -> Result<(), No
             sent,
         };
         writeln!(text, " {frame}")?;
+    }
+    Ok(())
+}
+
+/// The line of a step that named no member.
+pub fn put_no_member(text: &mut String, number: usize) -> Result<(), NoMemory> {
+    let answer = AnswerText(&Answer::NoSuchMember);
+    writeln!(text, "{number} {answer}")
+}
+
+/// The line of a step whose line could not be composed.
+pub fn put_not_composed(
+    text: &mut String,
+    number: usize,
+    fault: ComposeFault,
+) -> Result<(), NoMemory> {
+    writeln!(text, "{number} refused {fault}")
+}
+
+/// The lines of a step that asked for the screen of a member.
+pub fn put_screen(
+    text: &mut String,
+    number: usize,
+    member: u32,
+    screen: &str,
+) -> Result<(), NoMemory> {
+    writeln!(text, "{number} screen {member}")?;
+    for line in screen.lines() {
+        writeln!(text, " | {line}")?;
     }
     Ok(())
 }

@@ -1,0 +1,153 @@
+//! Lines that are said and answered, and screens.
+
+use super::{FIRST, answers, prints};
+use std::alloc::Global;
+use std::process::Abort;
+use std::test::Fail;
+
+/// Steps of a group in which nothing was said, and what each is answered. Of several faults the first in order is named: the member, then
+/// the place of the line, then its text.
+const REFUSED: &[(&str, &str)] = &[
+    ("say 2 main hi", "refused NoSuchMember"),
+    ("say 4294967295 Main \u{7}", "refused NoSuchMember"),
+    ("answer 2 0.1 hi", "refused NoSuchMember"),
+    ("answer 4294967295 64.0 \u{7}", "refused NoSuchMember"),
+    ("screen 2", "refused NoSuchMember"),
+    ("screen 4294967295", "refused NoSuchMember"),
+    ("say 0 Main hi", "refused BadRoom"),
+    ("say 0 main! hi", "refused BadRoom"),
+    ("say 0 a_b hi", "refused BadRoom"),
+    ("say 0 ma\u{e9}n hi", "refused BadRoom"),
+    ("say 0 main\thi \u{7}", "refused BadRoom"),
+    (
+        "say 0 a-room-of-33-letters-and-digits-00 hi",
+        "refused BadRoom",
+    ),
+    ("say 0 Main \u{7}", "refused BadRoom"),
+    ("answer 0 0.1 hi", "refused UnknownQuestion"),
+    ("answer 0 1.1 hi", "refused UnknownQuestion"),
+    ("answer 0 0.0 hi", "refused UnknownQuestion"),
+    ("answer 0 64.1 hi", "refused UnknownQuestion"),
+    (
+        "answer 0 4294967295.4294967295 hi",
+        "refused UnknownQuestion",
+    ),
+    ("answer 0 0.1 \u{7}", "refused UnknownQuestion"),
+    ("say 0 main \u{7}", "refused BadText"),
+    ("say 0 main a\tb", "refused BadText"),
+    ("say 0 main hi\r", "refused BadText"),
+    ("say 0 main \u{7f}", "refused BadText"),
+    ("say 0 main \u{0}", "refused BadText"),
+    ("screen 0", "screen 0"),
+    ("screen 1", "screen 1"),
+];
+
+#[test]
+fn a_line_without_a_place_or_a_text_is_refused_by_name(rt: HostRuntime) -> Result<(), Fail> {
+    for (step, answer) in REFUSED {
+        answers(&rt, rt.alloc(), FIRST, step, answer)?;
+    }
+    Ok(())
+}
+
+/// Behind `say 0 main hi`, which member 1 has delivered: a step, and all that is printed of it.
+const SAID: &[(&str, &str)] = &[
+    (
+        "say 1 main ",
+        "cast 1.1 [1,1]\n > 1 all 110701010100010601046d61696e",
+    ),
+    (
+        "say 1 a ",
+        "cast 1.1 [1,1]\n > 1 all 1107010101000103010161",
+    ),
+    (
+        "say 1 z-0  two  spaces ",
+        "cast 1.1 [1,1]\n > 1 all 110701010100011201037a2d302074776f202073706163657320",
+    ),
+    (
+        "say 1 main caf\u{e9}",
+        "cast 1.1 [1,1]\n > 1 all 110701010100010b01046d61696e636166c3a9",
+    ),
+    (
+        "answer 1 0.1 ",
+        "cast 1.1 [1,1]\n > 1 all 1107010101000103020001",
+    ),
+    (
+        "answer 1 0.1  0.1 hi",
+        "cast 1.1 [1,1]\n > 1 all 110701010100010a02000120302e31206869",
+    ),
+    ("answer 1 0.2 hi", "refused UnknownQuestion"),
+    ("answer 1 1.1 hi", "refused UnknownQuestion"),
+    ("answer 1 0.1 \u{7}", "refused BadText"),
+    ("screen 1", "screen 1\n | [main] 0.1 hi"),
+];
+
+#[test]
+fn a_line_is_composed_in_the_conference_of_its_member(rt: HostRuntime) -> Result<(), Fail> {
+    let alloc = rt.alloc();
+    let before =
+        "1 cast 0.1 [1,0]\n > 0 all 11070001000801046d61696e6869\n2 arrive accepted changed\n = 0.1 [1,0] x01046d61696e6869";
+    for (step, lines) in SAID {
+        let script = format!(in alloc; "{FIRST}\nsay 0 main hi\narrive 1 0\n{step}")?;
+        let cast = lines.starts_with("cast");
+        let (time, entries) = if cast { ("[1,1]", 2) } else { ("[1,0]", 1) };
+        let text = format!(in alloc;
+            "{before}\n3 {lines}\nmember 0 time [1,0] stable 0 entries 1\nmember 1 time {time} stable 0 entries {entries}\n"
+        )?;
+        prints(&rt, alloc, &script, &text);
+    }
+    Ok(())
+}
+
+/// The text of a `say` in room `main` whose payload has so many bytes, 6 or more.
+fn text_of(alloc: Global, payload: usize) -> Result<String, Fail> {
+    let mut text = String::new(alloc);
+    for _ in 6..payload {
+        text.push('x')?;
+    }
+    Ok(text)
+}
+
+#[test]
+fn a_payload_has_at_most_1024_bytes(rt: HostRuntime) -> Result<(), Fail> {
+    let alloc = rt.alloc();
+    let too_long = format!(in alloc; "say 0 main {}", text_of(alloc, 1025)?)?;
+    answers(&rt, alloc, FIRST, &too_long, "refused TooLong")?;
+    let bad_and_too_long = format!(in alloc; "say 0 main {}\u{7}", text_of(alloc, 1025)?)?;
+    answers(&rt, alloc, FIRST, &bad_and_too_long, "refused BadText")?;
+    let text = text_of(alloc, 1024)?;
+    let script = format!(in alloc; "{FIRST}\nsay 0 main {text}\nscreen 0\n")?;
+    let mut hex = String::new(alloc);
+    for _ in 6..1024 {
+        hex.push_str("78")?;
+    }
+    let printed = format!(in alloc;
+        "1 cast 0.1 [1,0]\n > 0 all 1107000100800801046d61696e{hex}\n2 screen 0\n | [main] 0.1 {text}\nmember 0 time [1,0] stable 0 entries 1\nmember 1 time [0,0] stable 0 entries 0\n"
+    )?;
+    prints(&rt, alloc, &script, &printed);
+    Ok(())
+}
+
+/// A composed line is cast like any payload: where the window or the history is full it is refused, and shown to nobody.
+#[test]
+fn a_line_whose_cast_is_refused_is_not_shown(rt: HostRuntime) {
+    let window =
+        "group 7 size 2 window 1 history 100\nsay 0 main one\nsay 0 main two\nanswer 0 0.1 three\nscreen 0\n";
+    let text =
+        "1 cast 0.1 [1,0]\n > 0 all 11070001000901046d61696e6f6e65\n2 refused WindowFull\n3 refused WindowFull\n4 screen 0\n | [main] 0.1 one\nmember 0 time [1,0] stable 0 entries 1\nmember 1 time [0,0] stable 0 entries 0\n";
+    prints(&rt, rt.alloc(), window, text);
+    let history = "group 7 size 2 window 4 history 1\nsay 0 main one\nsay 0 main two\nscreen 0\n";
+    let text =
+        "1 cast 0.1 [1,0]\n > 0 all 11070001000901046d61696e6f6e65\n2 refused HistoryFull\n3 screen 0\n | [main] 0.1 one\nmember 0 time [1,0] stable 0 entries 1\nmember 1 time [0,0] stable 0 entries 0\n";
+    prints(&rt, rt.alloc(), history, text);
+}
+
+/// A payload that was cast as it is, without a conference: a line is shown, another payload is not, and an answer to nothing is an orphan.
+#[test]
+fn what_a_cast_says_is_shown_where_it_is_a_line(rt: HostRuntime) {
+    let script =
+        "group 7 size 2 window 4 history 100\ncast 0 03\ncast 0 02010178\ncast 0 01016178\nscreen 0\narrive 1 0\narrive 1 1\narrive 1 2\nscreen 1\n";
+    let text =
+        "1 cast 0.1 [1,0]\n > 0 all 11070001000103\n2 cast 0.2 [2,0]\n > 1 all 11070002000402010178\n3 cast 0.3 [3,0]\n > 2 all 11070003000401016178\n4 screen 0\n | [a] 0.3 x\n5 arrive accepted changed\n = 0.1 [1,0] x03\n6 arrive accepted changed\n = 0.2 [2,0] x02010178\n7 arrive accepted changed\n = 0.3 [3,0] x01016178\n8 screen 1\n | [a] 0.3 x\nmember 0 time [3,0] stable 0 entries 3\nmember 1 time [3,0] stable 0 entries 3\n";
+    prints(&rt, rt.alloc(), script, text);
+}
