@@ -1,0 +1,5 @@
+pub mod FaultText
+pub mod Text
+pub mod Bounds
+pub mod Finding
+pub mod Reading
