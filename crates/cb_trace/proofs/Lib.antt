@@ -7,3 +7,5 @@ pub mod Putting
 pub mod Going
 pub mod Reaching
 pub mod OneReading
+pub mod OneBadLine
+mod Rows

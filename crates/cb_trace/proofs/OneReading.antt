@@ -17,7 +17,7 @@ use Rattle.cb_trace.specs.declared.fault.TraceFault.{TraceFault}
 use Rattle.cb_trace.specs.declared.fault.TraceFault.TheVariants.{BadLine, NoMemory}
 use Rattle.cb_trace.specs.Text.{HistoryFields, history_fields, member_words, member_line, group_words, group_line, entry_words, entry_line, last_line, history_lines}
 use Rattle.cb_trace.specs.Bounds.{IsFrame, IsName, IsEntry, IsMember, IsHistory, IsTrace}
-use Rattle.cb_trace.specs.Reading.{Reads, Finds}
+use Rattle.cb_trace.specs.Reading.{Reads, Gives}
 use Rattle.cb_trace.proofs.Digits.{Above, above_less, above_append, not_among, decimal_is_above, one_number}
 use Rattle.cb_trace.proofs.Cut.{group_line_is_cut, member_line_is_cut, entry_line_is_cut, same_parameters}
 use Rattle.cb_trace.proofs.Lists.{same_back}
@@ -161,7 +161,7 @@ one_reading text a b s t =
     let group = one_group s.0 t.0 s.1.parameters t.1.parameters (cc lines) in
     same_histories t.0 a b (subst (λ (g : Parameters). AllByRecursion (IsHistory g) a) group s.1.each) t.1.each (cc lines)
 
-pub only_reading : (text : List ℕ) (r : Result (Vec History Global) TraceFault) (histories : List HistoryFields) → IsTrace histories text → Reads text r → Finds histories r
+pub only_reading : (text : List ℕ) (r : Result (Vec History Global) TraceFault) (histories : List HistoryFields) → IsTrace histories text → Reads text r → Gives histories r
 only_reading text (Ok v) histories t read = one_reading text (map history_fields v.items) histories read t
 only_reading text (Err (BadLine line)) histories t bad = bad.no_trace histories t
 only_reading text (Err NoMemory) histories t read = tt

@@ -108,10 +108,10 @@ histories_are_free : (g : Parameters) (hs : List HistoryFields) → AllByRecursi
 histories_are_free g [] each = tt
 histories_are_free g (h ∷ hs) each = (member_is_free h.me (length h.entries) each.0.member, all_append Free (map entry_line h.entries) (flat_map history_lines hs) (entries_are_free h.entries each.0.each) (histories_are_free g hs each.1))
 
-trace_is_free : (g : Parameters) (hs : List HistoryFields) → AreHistories g hs → AllByRecursion Free (trace_lines g hs)
+pub trace_is_free : (g : Parameters) (hs : List HistoryFields) → AreHistories g hs → AllByRecursion Free (trace_lines g hs)
 trace_is_free g hs are = (group_is_free g are.parameters, all_append Free (flat_map history_lines hs) (last_line ∷ []) (histories_are_free g hs are.each) ((refl, (refl, (refl, tt))), tt))
 
-all_front : {A : Type 0} (P : A → Type 0) (a b : List A) → AllByRecursion P (a ++ b) → AllByRecursion P a
+pub all_front : {A : Type 0} (P : A → Type 0) (a b : List A) → AllByRecursion P (a ++ b) → AllByRecursion P a
 all_front P [] b each = tt
 all_front P (x ∷ a) b each = (each.0, all_front P a b each.1)
 

@@ -3,3 +3,4 @@ pub mod Text
 pub mod Bounds
 pub mod Finding
 pub mod Reading
+pub mod Laws

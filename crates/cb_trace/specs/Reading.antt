@@ -96,7 +96,7 @@ Reads text (Err (BadLine line)) = IsFirstBadLine text line
 Reads text (Err NoMemory) = Unit {0}
 
 -- these histories are answered, unless memory ran out
-abbrev pub Finds : List HistoryFields → Result (Vec History Global) TraceFault → Type 0
-Finds these (Ok histories) = map history_fields histories.items ≡ these
-Finds these (Err (BadLine line)) = ⊥
-Finds these (Err NoMemory) = Unit {0}
+abbrev pub Gives : List HistoryFields → Result (Vec History Global) TraceFault → Type 0
+Gives these (Ok histories) = map history_fields histories.items ≡ these
+Gives these (Err (BadLine line)) = ⊥
+Gives these (Err NoMemory) = Unit {0}

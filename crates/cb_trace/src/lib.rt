@@ -7,12 +7,14 @@
 #![tactic(auto)]
 
 mod fault;
+mod laws;
 mod reading;
 mod spelling;
 mod words;
 mod writing;
 
 pub use fault::{TraceFault, WriteFault};
+pub use laws::a_text_is_read_in_one_way;
 pub use reading::read_trace;
 pub use writing::write_trace;
 

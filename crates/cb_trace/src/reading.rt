@@ -8,7 +8,7 @@ ghost use Rattle.cb_history.specs.Facts.{EntryFields, entry_fields};
 ghost use Rattle.cb_trace.specs.declared.fault.LineFault.TheVariants.{NoLine, NoMemory};
 ghost use Rattle.cb_trace.specs.Text.{HistoryFields, history_fields, entry_line, last_line, line_feed};
 ghost use Rattle.cb_trace.specs.Bounds.{IsTrace, IsEntry};
-ghost use Rattle.cb_trace.specs.Reading.{progress_of, AtMember, AtEntry, IsAtEnd, AreWhole, IsBegun, KeepsBounds, CanFollow, GoesOn, Stays, IsCut, ReadTo, Reads, Finds};
+ghost use Rattle.cb_trace.specs.Reading.{progress_of, AtMember, AtEntry, IsAtEnd, AreWhole, IsBegun, KeepsBounds, CanFollow, GoesOn, Stays, IsCut, ReadTo, Reads, Gives};
 
 use crate::fault::{LineFault, TraceFault};
 use crate::spelling::{entry_of, group_of, member_of};
@@ -162,7 +162,7 @@ pub fn read_trace(alloc: Global, text: &[u8]) -> Result<Vec<History>, TraceFault
     // The answer is the histories whose trace the text is, or the first bad line.
     ensures exact { Reads text.now result }
     // A trace is read, unless memory runs out, as the histories that it is of.
-    ensures found { (histories : List HistoryFields) → IsTrace histories text.now → Finds histories result }
+    ensures found { (histories : List HistoryFields) → IsTrace histories text.now → Gives histories result }
 {
     read(alloc, text)
 }
