@@ -1,5 +1,5 @@
 -- A text has one first bad line.
-use Rattle.std.proofs.Common.{◌≡◌, ℕ, ◌+◌, ◌<◌, List, [], ◌∷◌, ◌++◌, length, refl, sym, ap, subst, ◌∙◌, arith, append_assoc}
+use Rattle.std.proofs.Common.{◌≡◌, ℕ, ◌<◌, List, [], ◌∷◌, ◌++◌, length, refl, sym, ap, subst, ◌∙◌, arith, append_assoc}
 use Rattle.std.specs.List.{AllByRecursion}
 use Rattle.cb_trace.specs.Text.{trace_lines, text_of_lines, with_line_feed}
 use Rattle.cb_trace.specs.Bounds.{Begins, IsFirstBadLine}

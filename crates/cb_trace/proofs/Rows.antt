@@ -1,11 +1,11 @@
 -- The worked trace, by the definitions.
-use Rattle.std.proofs.Common.{◌≡◌, ℕ, List, [], ◌∷◌, ◌++◌, refl}
+use Rattle.std.proofs.Common.{◌≡◌, ℕ, List, [], ◌∷◌, refl}
 use Rattle.std.specs.Prelude.{codes}
 use Rattle.std.specs.Fmt.{digits}
 use Rattle.hex.proofs.OnLiterals.{hex_on_literals}
 use Rattle.cb_times.specs.declared.name.Name.{Name}
 use Rattle.cb_history.specs.Group.{Parameters}
-use Rattle.cb_history.specs.Facts.{EntryFields, CastEntry, ArriveEntry, TickEntry}
+use Rattle.cb_history.specs.Facts.{CastEntry, ArriveEntry, TickEntry}
 use Rattle.cb_trace.specs.Text.{HistoryFields, line_of, group_line, member_line, entry_line, trace_lines, text_of_lines}
 
 abbrev group : Parameters
