@@ -9,8 +9,8 @@ use Rattle.cb_times.specs.declared.name.Name.{Name}
 use Rattle.cb_history.specs.declared.history.History.{History}
 use Rattle.cb_history.specs.Group.{Parameters}
 use Rattle.cb_history.specs.Facts.{CastEntry, ArriveEntry, TickEntry}
-use Rattle.cb_trace.specs.Text.{HistoryFields, history_fields, line_of, space, group_line, entry_line, delivered_words}
-use Rattle.cb_trace.specs.Bounds.{ShareGroup}
+use Rattle.cb_trace.specs.Text.{HistoryFields, history_fields, line_of, space, group_line, entry_line, delivered_words, trace_lines, text_of_lines}
+use Rattle.cb_trace.specs.Bounds.{ShareGroup, AreHistories, IsTrace}
 
 pub put_group_line : (old : List ℕ) (g : Parameters)
     → old ++ codes "cbcast 1 group " ++ decimal g.number ++ codes " size " ++ decimal g.size ++ codes " window " ++ decimal g.window ≡ old ++ group_line g
@@ -59,3 +59,10 @@ share_first g (h ∷ hs) first e s =
 pub share_it : (hs : List History) (first : Bor History) → Some first.now ≡ slice_get hs 0 → AllByRecursion (λ h. h.group ≡ first.now.group) (map history_fields hs) → ShareGroup first.now.group (map history_fields hs)
 share_it [] first e each = absurd (cc e)
 share_it (h ∷ hs) first e each = record { some = omega arith; each = each }
+
+-- the text of histories within the bounds is their trace
+pub written_is_trace : (g k : Parameters) (hs : List HistoryFields) (text : List ℕ) → AreHistories g hs → ShareGroup k hs → text ≡ text_of_lines (trace_lines k hs) → IsTrace hs text
+written_is_trace g k [] text are s e = absurd (omega (arith, are.some))
+written_is_trace g k (h ∷ hs) text are s e =
+    let same : k ≡ g = sym s.each.0 ∙ are.each.0.group_is in
+    (g, are, e ∙ ap (λ (x : Parameters). text_of_lines (trace_lines x (h ∷ hs))) same)

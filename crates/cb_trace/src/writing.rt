@@ -6,10 +6,11 @@ ghost use Rattle.std.specs.Bool.{Decides};
 ghost use Rattle.std.specs.Fmt.{decimal};
 ghost use Rattle.hex.specs.Hex.{encode_lower};
 ghost use Rattle.cb_times.specs.Name.{name_text};
+ghost use Rattle.cb_history.specs.Group.{Parameters};
 ghost use Rattle.cb_history.specs.Facts.{entry_fields};
 ghost use Rattle.cb_trace.specs.declared.fault.WriteFault.TheVariants.{MixedGroups};
 ghost use Rattle.cb_trace.specs.Text.{space, history_fields, delivered_words, group_line, member_line, entry_line, history_lines, trace_lines, text_of_lines};
-ghost use Rattle.cb_trace.specs.Bounds.{IsTextOf, AreMixed};
+ghost use Rattle.cb_trace.specs.Bounds.{AreHistories, IsTrace, IsTextOf, AreMixed};
 
 use crate::fault::WriteFault;
 use bytes::Bytes;
@@ -20,10 +21,13 @@ use std::alloc::Global;
 
 /// The trace of these histories, in their order: the bytes that `read_trace` reads as the same histories.
 ///
-/// `MixedGroups` is answered exactly where there is no history or where two groups differ. Beyond the limits of a trace (more than 64 histories, say) the
-/// text is made in the same way, and is not read again.
+/// `MixedGroups` is answered exactly where there is no history or where two groups differ. Beyond the limits of a trace (more than 64
+/// histories, say) the text is made in the same way, but `read_trace` may not read it.
 pub fn write_trace(alloc: Global, histories: &[History]) -> Result<Vec<u8>, WriteFault>
     ensures text { IfOk result (λ text. IsTextOf (map history_fields histories.now) text.items) }
+    // Within the limits of a trace it is one.
+    ensures trace { (group : Parameters) → AreHistories group (map history_fields histories.now)
+        → IfOk result (λ text. IsTrace (map history_fields histories.now) text.items) }
     ensures mixed { (result ≡ Err MixedGroups) ↔ AreMixed (map history_fields histories.now) }
 {
     let Some(first) = histories.first() else {
