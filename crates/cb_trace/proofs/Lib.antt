@@ -1,0 +1,11 @@
+pub mod Digits
+pub mod Cut
+pub mod Found
+pub mod Lists
+pub mod Following
+pub mod Putting
+pub mod Going
+pub mod Reaching
+pub mod OneReading
+pub mod OneBadLine
+mod Rows

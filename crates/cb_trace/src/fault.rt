@@ -1,0 +1,107 @@
+//! Why a text is no trace, or histories have no text.
+
+ghost use Rattle.std.specs.Prelude.{◌≡◌, Some};
+ghost use Rattle.cb_trace.specs.declared.fault.TraceFault.TheVariants.{NoMemory};
+ghost use Rattle.cb_trace.specs.declared.fault.WriteFault.TheVariants.{NoMemory as WriteNoMemory};
+ghost use Rattle.cb_trace.specs.declared.fault.LineFault.TheVariants.{NoMemory as LineNoMemory};
+ghost use Rattle.cb_trace.specs.FaultText.{fault_at, trace_fault_text, write_fault_text};
+
+use std::alloc::{AllocError, AllocFailed};
+use std::error::Error;
+use std::fmt;
+
+/// Why no histories were read.
+#[derive(Clone, Copy, Debug, PartialEq, Eq, Hash)]
+pub enum TraceFault {
+    /// This line, counted from 1, is the first that is not what must stand there. A line that is missing has the number that it would
+    /// have, and text behind the last line is the line after it.
+    BadLine { line: u64 },
+    /// Out of memory.
+    NoMemory,
+}
+
+/// Why no text was written. Where both hold, the first of this list is answered.
+#[derive(Clone, Copy, Debug, PartialEq, Eq, Hash)]
+pub enum WriteFault {
+    /// There is no history, or there are two of different groups.
+    MixedGroups,
+    /// Out of memory.
+    NoMemory,
+}
+
+/// Why a line or a word of it was not read: it is not what must stand there, or an allocation was refused.
+#[derive(Clone, Copy, Debug, PartialEq, Eq)]
+pub(crate) enum LineFault {
+    NoLine,
+    NoMemory,
+}
+
+impl LineFault {
+    /// The fault of a text in which this line has it.
+    pub(crate) fn at(self, line: u64) -> TraceFault
+        ensures { result ≡ fault_at self line }
+    {
+        match self {
+            LineFault::NoLine => TraceFault::BadLine { line },
+            LineFault::NoMemory => TraceFault::NoMemory,
+        }
+    }
+}
+
+impl From<AllocError> for TraceFault {
+    ghost from_gives = { λ _ e. e ≡ NoMemory };
+
+    fn from(_refused: AllocError) -> TraceFault {
+        TraceFault::NoMemory
+    }
+}
+
+impl From<AllocError> for WriteFault {
+    ghost from_gives = { λ _ e. e ≡ WriteNoMemory };
+
+    fn from(_refused: AllocError) -> WriteFault {
+        WriteFault::NoMemory
+    }
+}
+
+impl From<AllocError> for LineFault {
+    ghost from_gives = { λ _ e. e ≡ LineNoMemory };
+
+    fn from(_refused: AllocError) -> LineFault {
+        LineFault::NoMemory
+    }
+}
+
+impl<T: Drop> From<AllocFailed<T>> for LineFault {
+    ghost from_gives = { λ _ e. e ≡ LineNoMemory };
+
+    fn from(_refused: AllocFailed<T>) -> LineFault {
+        LineFault::NoMemory
+    }
+}
+
+impl fmt::Display for TraceFault {
+    ghost output = { λ fault. Some (trace_fault_text fault) };
+
+    fn fmt<W: fmt::Write>(&self, f: &mut fmt::Formatter<W>) -> fmt::Result {
+        match self {
+            TraceFault::BadLine { line } => write!(f, "BadLine {line}"),
+            TraceFault::NoMemory => f.write_str("NoMemory"),
+        }
+    }
+}
+
+impl Error for TraceFault {}
+
+impl fmt::Display for WriteFault {
+    ghost output = { λ fault. Some (write_fault_text fault) };
+
+    fn fmt<W: fmt::Write>(&self, f: &mut fmt::Formatter<W>) -> fmt::Result {
+        f.write_str(match self {
+            WriteFault::MixedGroups => "MixedGroups",
+            WriteFault::NoMemory => "NoMemory",
+        })
+    }
+}
+
+impl Error for WriteFault {}

@@ -1,0 +1,9 @@
+//! The laws of traces, as contracts of functions that do nothing.
+
+ghost use Rattle.cb_trace.specs.Laws.{OneReading, OneBadLine};
+
+/// No text is the trace of two lists of histories, and no text has two first bad lines. A trace has none.
+pub fn a_text_is_read_in_one_way()
+    ensures histories { OneReading }
+    ensures line { OneBadLine }
+{}
