@@ -1,0 +1,27 @@
+//! Members under locks: beside members without one, and over real threads.
+
+mod closing;
+mod crowd;
+mod locked;
+mod said;
+mod two;
+
+use crate::Receipt;
+use cb_member::{Entry, Group, Member};
+use std::alloc::Global;
+use std::process::Abort;
+
+/// Member `me` of group 7 of this size and window.
+fn member(rt: &impl Abort, alloc: Global, sizes: (u32, u32), me: u32, limit: usize) -> Member {
+    let group = Group::new(7, sizes.0, sizes.1).expect(rt, "a group");
+    Member::new(alloc, group, me, limit).expect(rt, "a member")
+}
+
+/// These receipts of one seat are those of the whole history.
+fn claims_all(rt: &impl Abort, entries: &[Entry], receipts: &[Receipt]) {
+    assert_eq!(rt; receipts.len(), entries.len());
+    for (index, receipt) in receipts.iter().enumerate() {
+        assert_eq!(rt; receipt.place, index + 1);
+        assert!(rt; entries.get(index) == Some(&receipt.entry));
+    }
+}
