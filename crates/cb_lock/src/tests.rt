@@ -6,10 +6,11 @@ mod locked;
 mod said;
 mod two;
 
-use crate::Receipt;
+use crate::{Closed, Receipt, Seat, SharedMember};
 use cb_member::{Entry, Group, Member};
 use std::alloc::Global;
 use std::process::Abort;
+use std::sync::ledger::Ledger;
 
 /// Member `me` of group 7 of this size and window.
 fn member(rt: &impl Abort, alloc: Global, sizes: (u32, u32), me: u32, limit: usize) -> Member {
@@ -23,5 +24,28 @@ fn claims_all(rt: &impl Abort, entries: &[Entry], receipts: &[Receipt]) {
     for (index, receipt) in receipts.iter().enumerate() {
         assert_eq!(rt; receipt.place, index + 1);
         assert!(rt; entries.get(index) == Some(&receipt.entry));
+    }
+}
+
+/// One seat or two, to close with.
+fn seats<L: Ledger>(
+    rt: &impl Abort,
+    alloc: Global,
+    seat: Seat<L>,
+    beside: Option<Seat<L>>,
+) -> Vec<Seat<L>> {
+    let mut seats = Vec::new(alloc);
+    seats.push(seat).expect(rt, "memory");
+    if let Some(beside) = beside {
+        seats.push(beside).expect(rt, "memory");
+    }
+    seats
+}
+
+/// The member of a sharing that closes well.
+fn closed<L: Ledger>(rt: &impl Abort, shared: SharedMember<L>, seats: Vec<Seat<L>>) -> Member {
+    match shared.close(seats) {
+        Ok(Closed { member }) => member,
+        Err(refusal) => panic!(rt; "{:?}", refusal.fault),
     }
 }

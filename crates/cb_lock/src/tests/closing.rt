@@ -2,9 +2,9 @@
 
 ghost use Rattle.std.specs.Prelude.{◌≡◌};
 
-use super::member;
+use super::{member, seats};
 use crate::closing::{fault_of, none_seen, wrong_in_seat};
-use crate::{CloseFault, Held, Receipt};
+use crate::{CloseFault, Held, Receipt, Seat};
 use cb_member::Member;
 use std::alloc::Global;
 use std::marker::Brand;
@@ -36,66 +36,61 @@ const ROWS: &[(Claims, Claims, Option<usize>)] = &[
 ];
 
 #[test]
-fn a_receipt_is_the_entry_at_its_place_and_the_only_one_of_it(rt: HostRuntime) -> Result<(), Fail> {
+fn a_receipt_is_the_entry_at_its_place_and_the_only_one_of_it(rt: HostRuntime) {
     let member = with_three_entries(&rt, rt.alloc());
     for (first, second, wrong) in ROWS {
-        let mut seen = none_seen(rt.alloc(), 3)?;
-        let found = match found_in(rt.alloc(), &member, &mut seen, first)? {
+        let mut seen = none_seen(rt.alloc(), 3).expect(&rt, "memory");
+        let found = match found_in(&rt, rt.alloc(), &member, &mut seen, first) {
             Some(place) => Some(place),
-            None => found_in(rt.alloc(), &member, &mut seen, second)?,
+            None => found_in(&rt, rt.alloc(), &member, &mut seen, second),
         };
         assert_eq!(rt; found, *wrong);
     }
-    Ok(())
 }
 
 fn found_in(
+    rt: &impl Abort,
     alloc: Global,
     member: &Member,
     seen: &mut [bool],
     claims: Claims,
-) -> Result<Option<usize>, Fail> {
+) -> Option<usize> {
     let mut receipts = Vec::new(alloc);
     for (place, number) in claims {
         let entry = member
             .history()
             .get(number.saturating_sub(1))
-            .ok_or("an entry")?;
-        let entry = entry.copy()?;
-        receipts.push(Receipt {
-            place: *place,
-            entry,
-        })?;
+            .expect(rt, "an entry");
+        let entry = entry.copy().expect(rt, "memory");
+        receipts
+            .push(Receipt {
+                place: *place,
+                entry,
+            })
+            .expect(rt, "memory");
     }
-    Ok(wrong_in_seat(member.history(), seen, &receipts))
+    wrong_in_seat(member.history(), seen, &receipts)
 }
 
 #[test]
-fn a_seat_that_is_missing_comes_before_another_member(rt: HostRuntime) -> Result<(), Fail> {
-    finds::<Brand, _>(&rt, rt.alloc(), Blank::new(1))
+fn a_seat_that_is_missing_comes_before_another_member(rt: HostRuntime) {
+    finds::<Brand, _>(&rt, rt.alloc(), Blank::new(1));
 }
 
-fn finds<L: Ledger, R: Abort>(rt: &R, alloc: Global, blank: Blank) -> Result<(), Fail>
+fn finds<L: Ledger, R: Abort>(rt: &R, alloc: Global, blank: Blank)
     requires { (blank.name ≡ L.name) × (blank.parts ≡ L.parts) × (blank.parts ≡ 1) }
 {
     let (mut held, mut seat) = Held::<L>::new(alloc, blank, member(rt, alloc, (3, 4), 0, 100));
     let _ = held.cast(&mut seat, b"a").expect(rt, "a cast");
-    let mut seats = Vec::new(alloc);
     let identity = member(rt, alloc, (3, 4), 1, 100).seat();
-    let Held { member, book: _ } = held;
-    let fault = fault_of(identity, &member, &seats);
-    assert_eq!(rt;
-        fault,
-        Some(CloseFault::SeatsMissing {
-            claimed: 0,
-            entries: 1
-        })
-    );
-    seats.push(seat)?;
-    assert_eq!(rt;
-        fault_of(identity, &member, &seats),
-        Some(CloseFault::OtherMember)
-    );
-    assert_eq!(rt; fault_of(member.seat(), &member, &seats), None);
-    Ok(())
+    let no_seats: Vec<Seat<L>> = Vec::new(alloc);
+    let missing = CloseFault::SeatsMissing {
+        claimed: 0,
+        entries: 1,
+    };
+    assert_eq!(rt; fault_of(identity, held.member(), &no_seats), Some(missing));
+    let all = seats(rt, alloc, seat, None);
+    let other = Some(CloseFault::OtherMember);
+    assert_eq!(rt; fault_of(identity, held.member(), &all), other);
+    assert_eq!(rt; fault_of(held.member().seat(), held.member(), &all), None);
 }

@@ -2,8 +2,8 @@
 
 ghost use Rattle.std.specs.Prelude.{◌≡◌};
 
-use super::member;
-use crate::{Closed, Seat, SharedMember};
+use super::{closed, member};
+use crate::{Seat, SharedMember};
 use bytes::Bytes;
 use std::alloc::{AllocError, Global};
 use std::marker::Brand;
@@ -24,56 +24,57 @@ struct Mail {
 }
 
 #[test]
-fn eight_threads_have_a_receipt_of_every_entry(rt: HostRuntime) -> Result<(), Fail> {
-    share::<Brand, _>(&rt, rt.alloc(), Blank::new(8))
+fn eight_threads_have_a_receipt_of_every_entry(rt: HostRuntime) {
+    share::<Brand, _>(&rt, rt.alloc(), Blank::new(8));
 }
 
 fn share<L: Ledger + Send + Sync, R: Threads + Wait + Abort + Sync>(
     rt: &R,
     alloc: Global,
     blank: Blank,
-) -> Result<(), Fail>
+)
     requires { (blank.name ≡ L.name) × (blank.parts ≡ L.parts) × (blank.parts ≡ 8) }
 {
-    let casts = casts_of_the_other(rt, alloc)?;
-    let mail = Mail {
-        alloc,
-        frames: casts,
-    };
     let member = member(rt, alloc, (2, 256), 0, 10_000);
     let (shared, seat) = SharedMember::<L>::new(alloc, blank, member);
-    let seats = all_call(rt, &shared, &mail, seats_of(alloc, seat)?)?;
-    let claimed = seats.iter().fold(
-        0,
-        |sum: usize, seat| sum.saturating_add(seat.receipts().len()),
-    );
-    let Closed { member } = shared.close(seats).ok().ok_or("each entry has a receipt")?;
+    let seats = eight_seats(rt, alloc, seat);
+    let seats = all_call(rt, &shared, &mail_of_the_other(rt, alloc), seats).expect(rt, "memory");
+    let claimed = receipts_in(&seats);
+    let member = closed(rt, shared, seats);
     assert_eq!(rt; member.history().len(), claimed);
     assert!(rt; claimed > 4 * 256);
-    Ok(())
 }
 
 /// As many casts of member 1 as it may make before others have delivered some.
-fn casts_of_the_other(rt: &impl Abort, alloc: Global) -> Result<Vec<Bytes>, Fail> {
+fn mail_of_the_other(rt: &impl Abort, alloc: Global) -> Mail {
     let mut other = member(rt, alloc, (2, 256), 1, 1000);
     let mut frames = Vec::new(alloc);
     for _ in 0..256u32 {
-        frames.push(other.cast(b"yo").expect(rt, "a cast").out)?;
+        let done = other.cast(b"yo").expect(rt, "a cast");
+        frames.push(done.out).expect(rt, "memory");
     }
-    Ok(frames)
+    Mail { alloc, frames }
 }
 
 /// Eight seats of one part each.
-fn seats_of<L: Ledger>(alloc: Global, seat: Seat<L>) -> Result<Vec<Seat<L>>, AllocError>
+fn eight_seats<L: Ledger>(rt: &impl Abort, alloc: Global, seat: Seat<L>) -> Vec<Seat<L>>
     requires { seat.parts ≡ 8 }
 {
     let mut seats = Vec::new(alloc);
     let mut seat = seat;
     for _ in 1..8u32 {
-        seats.push(seat.split())?;
+        seats.push(seat.split()).expect(rt, "memory");
     }
-    seats.push(seat)?;
-    Ok(seats)
+    seats.push(seat).expect(rt, "memory");
+    seats
+}
+
+fn receipts_in<L: Ledger>(seats: &[Seat<L>]) -> usize {
+    let mut count: usize = 0;
+    for seat in seats {
+        count = count.saturating_add(seat.receipts().len());
+    }
+    count
 }
 
 fn all_call<L: Ledger + Send + Sync, R: Threads + Wait + Sync>(

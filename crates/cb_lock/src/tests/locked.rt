@@ -2,7 +2,7 @@
 
 ghost use Rattle.std.specs.Prelude.{◌≡◌, ◌≤◌};
 
-use super::{claims_all, member, said};
+use super::{claims_all, closed, member, said, seats};
 use crate::{Seat, SharedMember};
 use bytes::Bytes;
 use cb_member::Member;
@@ -20,12 +20,15 @@ enum Call {
     Tick,
 }
 
-/// A member of group 7 with three members, its calls, and what each answers.
+/// Calls, and what each answers.
+type Calls = &'static [(Call, &'static str)];
+
+/// A member of group 7 with three members, and what is asked of it.
 struct Script {
     me: u32,
     window: u32,
     limit: usize,
-    calls: &'static [(Call, &'static str)],
+    calls: Calls,
 }
 
 const HI: &[u8] = b"\x11\x07\x00\x01\x00\x02hi";
@@ -150,61 +153,56 @@ const SCRIPTS: &[Script] = &[
 ];
 
 #[test]
-fn locked_as_plain(rt: HostRuntime) -> Result<(), Fail> {
+fn locked_as_plain(rt: HostRuntime) {
     for script in SCRIPTS {
-        run_script::<Brand, _>(&rt, rt.alloc(), Blank::new(1), script)?;
+        run_script::<Brand, _>(&rt, rt.alloc(), Blank::new(1), script);
     }
-    Ok(())
 }
 
 /// Both members get the same calls, give the same answers, and have the same history in the end, which is that of the receipts.
-fn run_script<L: Ledger, R: Wait + Abort>(
-    rt: &R,
-    alloc: Global,
-    blank: Blank,
-    script: &Script,
-) -> Result<(), Fail>
+fn run_script<L: Ledger, R: Wait + Abort>(rt: &R, alloc: Global, blank: Blank, script: &Script)
     requires name { blank.name ≡ L.name }
     requires parts { (blank.parts ≡ L.parts) × (1 ≤ blank.parts) }
 {
-    let mut plain = member(rt, alloc, (3, script.window), script.me, script.limit);
-    let locked = member(rt, alloc, (3, script.window), script.me, script.limit);
+    let sizes = (3, script.window);
+    let mut plain = member(rt, alloc, sizes, script.me, script.limit);
+    run_plain(rt, alloc, &mut plain, script.calls);
+    let locked = member(rt, alloc, sizes, script.me, script.limit);
     let (shared, mut seat) = SharedMember::<L>::new(alloc, blank, locked);
-    for (call, answer) in script.calls {
-        assert_eq!(rt; by_plain(alloc, &mut plain, call)?.as_str(), *answer);
-        assert_eq!(rt;
-            under_lock(rt, alloc, &shared, &mut seat, call)?.as_str(),
-            *answer
-        );
-    }
+    run_locked(rt, alloc, &shared, &mut seat, script.calls);
     claims_all(rt, plain.history(), seat.receipts());
-    let mut seats = Vec::new(alloc);
-    seats.push(seat)?;
-    let closed = shared.close(seats).ok().ok_or("the seat has all receipts")?;
-    assert!(rt; closed.member.history() == plain.history());
-    Ok(())
+    let member = closed(rt, shared, seats(rt, alloc, seat, None));
+    assert!(rt; member.history() == plain.history());
 }
 
-fn by_plain(alloc: Global, member: &mut Member, call: &Call) -> Result<String, Fail> {
-    match call {
-        Call::Cast(payload) => said::by_cast(alloc, &member.cast(payload)),
-        Call::Take(bytes) => said::by_arrival(alloc, &member.arrive(&Bytes::from_static(bytes))),
-        Call::Tick => said::by_tick(alloc, &member.tick()),
+fn run_plain(rt: &impl Abort, alloc: Global, member: &mut Member, calls: Calls) {
+    for (call, answer) in calls {
+        let said = match call {
+            Call::Cast(payload) => said::by_cast(alloc, &member.cast(payload)),
+            Call::Take(bytes) => {
+                said::by_arrival(alloc, &member.arrive(&Bytes::from_static(bytes)))
+            }
+            Call::Tick => said::by_tick(alloc, &member.tick()),
+        };
+        assert_eq!(rt; said.expect(rt, "memory").as_str(), *answer);
     }
 }
 
-fn under_lock<L: Ledger>(
-    rt: &impl Wait,
+fn run_locked<L: Ledger>(
+    rt: &(impl Wait + Abort),
     alloc: Global,
     shared: &SharedMember<L>,
     seat: &mut Seat<L>,
-    call: &Call,
-) -> Result<String, Fail> {
-    match call {
-        Call::Cast(payload) => said::by_cast(alloc, &shared.cast(rt, seat, payload)),
-        Call::Take(bytes) => {
-            said::by_arrival(alloc, &shared.arrive(rt, seat, &Bytes::from_static(bytes)))
-        }
-        Call::Tick => said::by_tick(alloc, &shared.tick(rt, seat)),
+    calls: Calls,
+) {
+    for (call, answer) in calls {
+        let said = match call {
+            Call::Cast(payload) => said::by_cast(alloc, &shared.cast(rt, seat, payload)),
+            Call::Take(bytes) => {
+                said::by_arrival(alloc, &shared.arrive(rt, seat, &Bytes::from_static(bytes)))
+            }
+            Call::Tick => said::by_tick(alloc, &shared.tick(rt, seat)),
+        };
+        assert_eq!(rt; said.expect(rt, "memory").as_str(), *answer);
     }
 }

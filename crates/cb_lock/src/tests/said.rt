@@ -4,28 +4,25 @@ use bytes::Bytes;
 use cb_member::{
     Arrival, ArriveRefusal, CastDone, CastRefusal, Message, Outgoing, TickRefusal, Ticked,
 };
-use std::alloc::Global;
-use std::test::Fail;
+use std::alloc::{AllocError, Global};
 
-fn hexadecimal(alloc: Global, bytes: &Bytes) -> Result<String, Fail> {
+fn hexadecimal(alloc: Global, bytes: &Bytes) -> Result<String, AllocError> {
     let mut text = String::new(alloc);
     for byte in bytes.as_slice() {
-        let digits = format!(in alloc; "{byte:02x}")?;
-        text.push_str(digits.as_str())?;
+        text.push_str(format!(in alloc; "{byte:02x}")?.as_str())?;
     }
     Ok(text)
 }
 
-fn names(alloc: Global, deliveries: &[Message]) -> Result<String, Fail> {
+fn names(alloc: Global, deliveries: &[Message]) -> Result<String, AllocError> {
     let mut text = String::new(alloc);
     for message in deliveries {
-        let said = format!(in alloc; " {}", message.name)?;
-        text.push_str(said.as_str())?;
+        text.push_str(format!(in alloc; " {}", message.name)?.as_str())?;
     }
     Ok(text)
 }
 
-fn frames(alloc: Global, out: &[Outgoing]) -> Result<String, Fail> {
+fn frames(alloc: Global, out: &[Outgoing]) -> Result<String, AllocError> {
     let mut text = String::new(alloc);
     for Outgoing { to, bytes } in out {
         let bytes = hexadecimal(alloc, bytes)?;
@@ -38,17 +35,23 @@ fn frames(alloc: Global, out: &[Outgoing]) -> Result<String, Fail> {
     Ok(text)
 }
 
-pub fn by_cast(alloc: Global, answer: &Result<CastDone, CastRefusal>) -> Result<String, Fail> {
+pub fn by_cast(
+    alloc: Global,
+    answer: &Result<CastDone, CastRefusal>,
+) -> Result<String, AllocError> {
     match answer {
         Ok(CastDone { name, time, out }) => {
             let out = hexadecimal(alloc, out)?;
-            Ok(format!(in alloc; "{name} {time} {out}")?)
+            format!(in alloc; "{name} {time} {out}")
         }
-        Err(refusal) => Ok(format!(in alloc; "{refusal}")?),
+        Err(refusal) => format!(in alloc; "{refusal}"),
     }
 }
 
-pub fn by_arrival(alloc: Global, answer: &Result<Arrival, ArriveRefusal>) -> Result<String, Fail> {
+pub fn by_arrival(
+    alloc: Global,
+    answer: &Result<Arrival, ArriveRefusal>,
+) -> Result<String, AllocError> {
     match answer {
         Ok(
             Arrival::Accepted {
@@ -57,23 +60,23 @@ pub fn by_arrival(alloc: Global, answer: &Result<Arrival, ArriveRefusal>) -> Res
                 out,
             },
         ) => {
+            let state = if *changed { "changed" } else { "unchanged" };
             let names = names(alloc, deliveries)?;
             let out = frames(alloc, out)?;
-            let state = if *changed { "changed" } else { "unchanged" };
-            Ok(format!(in alloc; "{state}{names}{out}")?)
+            format!(in alloc; "{state}{names}{out}")
         }
-        Ok(Arrival::Repeat) => Ok(format!(in alloc; "repeat")?),
-        Err(refusal) => Ok(format!(in alloc; "{refusal}")?),
+        Ok(Arrival::Repeat) => format!(in alloc; "repeat"),
+        Err(refusal) => format!(in alloc; "{refusal}"),
     }
 }
 
-pub fn by_tick(alloc: Global, answer: &Result<Ticked, TickRefusal>) -> Result<String, Fail> {
+pub fn by_tick(alloc: Global, answer: &Result<Ticked, TickRefusal>) -> Result<String, AllocError> {
     match answer {
         Ok(Ticked { entered, out }) => {
-            let out = frames(alloc, out)?;
             let state = if *entered { "entered" } else { "not entered" };
-            Ok(format!(in alloc; "{state}{out}")?)
+            let out = frames(alloc, out)?;
+            format!(in alloc; "{state}{out}")
         }
-        Err(refusal) => Ok(format!(in alloc; "{refusal}")?),
+        Err(refusal) => format!(in alloc; "{refusal}"),
     }
 }

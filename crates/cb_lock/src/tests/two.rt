@@ -2,8 +2,8 @@
 
 ghost use Rattle.std.specs.Prelude.{◌≡◌};
 
-use super::member;
-use crate::{CloseFault, CloseRefusal, Closed, Seat, SharedMember};
+use super::{closed, member, seats};
+use crate::{CloseFault, CloseRefusal, Seat, SharedMember};
 use bytes::Bytes;
 use cb_member::{Entry, Member};
 use std::alloc::Global;
@@ -16,8 +16,8 @@ use std::test::*;
 use std::thread::{Threads, join, yield_now};
 
 #[test]
-fn two_members_two_locks(rt: HostRuntime) -> Result<(), Fail> {
-    share_both::<Brand, Brand, _>(&rt, rt.alloc(), Blank::new(2), Blank::new(2))
+fn two_members_two_locks(rt: HostRuntime) {
+    share_both::<Brand, Brand, _>(&rt, rt.alloc(), Blank::new(2), Blank::new(2));
 }
 
 /// Of the first member both seats come back at the end, of the second only the one that cast.
@@ -26,35 +26,61 @@ fn share_both<A: Ledger + Send + Sync, B: Ledger + Send + Sync, R: Threads + Wai
     alloc: Global,
     first: Blank,
     second: Blank,
-) -> Result<(), Fail>
+)
     requires first { (first.name ≡ A.name) × (first.parts ≡ A.parts) × (first.parts ≡ 2) }
     requires second { (second.name ≡ B.name) × (second.parts ≡ B.parts) × (second.parts ≡ 2) }
 {
     let (one, mut seat) = SharedMember::<A>::new(alloc, first, member(rt, alloc, (3, 4), 0, 100));
     let (two, mut other) = SharedMember::<B>::new(alloc, second, member(rt, alloc, (3, 4), 1, 100));
-    let (beside, lost) = (seat.split(), other.split());
+    let beside = seat.split();
+    let lost = other.split();
     cast_while_the_first_is_locked(rt, &one, &mut seat, &two, &mut other);
-    let out = one.cast(rt, &mut seat, b"hi").ok().ok_or("a cast")?.out;
-    assert!(rt; one.with_state(rt, &mut seat, |member| ends_with_cast(member, &out)));
-    let beside = ticked(rt, &one, beside);
-    let _ = ticked(rt, &two, lost);
-    let mut seats = Vec::new(alloc);
-    seats.push(seat)?;
-    let mut others = Vec::new(alloc);
-    others.push(other)?;
-    seats.push(beside)?;
-    let Closed { member } = one.close(seats).ok().ok_or("both seats are there")?;
+    closes_with_both(rt, alloc, one, seat, beside);
+    closes_with_one(rt, alloc, two, other, lost);
+}
+
+fn closes_with_both<L: Ledger, R: Wait + Abort>(
+    rt: &R,
+    alloc: Global,
+    shared: SharedMember<L>,
+    seat: Seat<L>,
+    beside: Seat<L>,
+) {
+    let seat = cast(rt, &shared, seat);
+    let beside = ticked(rt, &shared, beside);
+    let member = closed(rt, shared, seats(rt, alloc, seat, Some(beside)));
     assert_eq!(rt; member.history().len(), 2);
-    let CloseRefusal { fault, member } = two.close(others).err().ok_or("a seat is missing")?;
-    assert_eq!(rt;
-        fault,
-        CloseFault::SeatsMissing {
-            claimed: 1,
-            entries: 2
+}
+
+fn closes_with_one<L: Ledger, R: Wait + Abort>(
+    rt: &R,
+    alloc: Global,
+    shared: SharedMember<L>,
+    seat: Seat<L>,
+    lost: Seat<L>,
+) {
+    let _lost = ticked(rt, &shared, lost);
+    match shared.close(seats(rt, alloc, seat, None)) {
+        Ok(_closed) => panic!(rt; "a seat is missing"),
+        Err(CloseRefusal { fault, member }) => {
+            assert_eq!(rt;
+                fault,
+                CloseFault::SeatsMissing {
+                    claimed: 1,
+                    entries: 2
+                }
+            );
+            assert_eq!(rt; member.history().len(), 2);
         }
-    );
-    assert_eq!(rt; member.history().len(), 2);
-    Ok(())
+    }
+}
+
+/// The seat with the receipt of a cast, which it then sees at the end of the history.
+fn cast<L: Ledger>(rt: &(impl Wait + Abort), shared: &SharedMember<L>, seat: Seat<L>) -> Seat<L> {
+    let mut seat = seat;
+    let out = shared.cast(rt, &mut seat, b"hi").expect(rt, "a cast").out;
+    assert!(rt; shared.with_state(rt, &mut seat, |member| ends_with_cast(member, &out)));
+    seat
 }
 
 /// A closure under the lock of the first member sees that a cast on the second was answered meanwhile.
