@@ -1,5 +1,7 @@
 //! Members under locks: beside members without one, and over real threads.
 
+ghost use Rattle.std.specs.Prelude.{◌≡◌, []};
+
 mod closing;
 mod crowd;
 mod locked;
@@ -13,7 +15,9 @@ use std::process::Abort;
 use std::sync::ledger::Ledger;
 
 /// Member `me` of group 7 of this size and window.
-fn member(rt: &impl Abort, alloc: Global, sizes: (u32, u32), me: u32, limit: usize) -> Member {
+fn member(rt: &impl Abort, alloc: Global, sizes: (u32, u32), me: u32, limit: usize) -> Member
+    ensures { result.entries ≡ [] }
+{
     let group = Group::new(7, sizes.0, sizes.1).expect(rt, "a group");
     Member::new(alloc, group, me, limit).expect(rt, "a member")
 }

@@ -62,7 +62,7 @@ fn eight_seats<L: Ledger>(rt: &impl Abort, alloc: Global, seat: Seat<L>) -> Vec<
 {
     let mut seats = Vec::new(alloc);
     let mut seat = seat;
-    for _ in 1..8u32 {
+    for _part in 1..8u32 {
         seats.push(seat.split()).expect(rt, "memory");
     }
     seats.push(seat).expect(rt, "memory");
