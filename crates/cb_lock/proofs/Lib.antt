@@ -1,0 +1,6 @@
+mod Ticking
+mod Marking
+mod Checking
+mod Claimed
+mod Names
+mod Entering

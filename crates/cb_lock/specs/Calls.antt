@@ -1,0 +1,83 @@
+-- What the calls of a member under a lock answer and leave.
+use Rattle.std.specs.Prelude.{◌≡◌, ◌⊎◌, ℕ, ◌+◌, ◌≤◌, List, [], ◌∷◌, length, map, Option, Some, None, Result, Err, IfOk, IfErr, OnErr, if◌then◌else◌}
+use Rattle.cb_history.specs.declared.answer.CastDone.{CastDone}
+use Rattle.cb_history.specs.declared.answer.CastRefusal.{CastRefusal}
+use Rattle.cb_history.specs.declared.answer.CastRefusal.TheVariants as casts
+use Rattle.cb_history.specs.declared.answer.Arrival.{Arrival}
+use Rattle.cb_history.specs.declared.answer.Arrival.TheVariants as told
+use Rattle.cb_history.specs.declared.answer.ArriveRefusal.{ArriveRefusal}
+use Rattle.cb_history.specs.declared.answer.ArriveRefusal.TheVariants as arrivals
+use Rattle.cb_history.specs.declared.answer.Outgoing.{Outgoing}
+use Rattle.cb_history.specs.declared.answer.Ticked.{Ticked}
+use Rattle.cb_history.specs.declared.answer.TickRefusal.{TickRefusal}
+use Rattle.cb_history.specs.Facts.{EntryFields, CastEntry, ArriveEntry, TickEntry}
+use Rattle.cb_history.specs.Legal.{ToCast, ToTake, ToTick}
+use Rattle.cb_history.specs.State.{MemberState, IsMemberState, HasCast, HasTaken, HasTicked, RefusesTick, answer_to_cast, answer_to_arrival, entry_by, state_after}
+use Rattle.cb_lock.specs.Receipts.{SeatState, and_claim}
+
+-- ---- the entry that an answer tells of, where it tells of one
+
+abbrev pub told_by_cast : CastDone → Option EntryFields
+told_by_cast done = Some (CastEntry done.out)
+
+abbrev pub told_by_arrival : List ℕ → Arrival → Option EntryFields
+told_by_arrival bytes (told.Accepted deliveries changed out) = if changed then Some (ArriveEntry bytes (map (λ m. m.name) deliveries.items)) else None
+told_by_arrival bytes told.Repeat = None
+
+-- the first frame that is put out, the status to all
+abbrev pub first_bytes : List Outgoing → List ℕ
+first_bytes [] = []
+first_bytes (o ∷ os) = o.bytes
+
+abbrev pub told_by_tick : Ticked → Option EntryFields
+told_by_tick ticked = if ticked.entered then Some (TickEntry (first_bytes ticked.out.items)) else None
+
+-- ---- the seat
+
+-- the seat with a receipt more, where an entry was added to this member's history; its place is behind all others
+abbrev pub and_receipt : SeatState → MemberState → Option EntryFields → SeatState
+and_receipt seat m e = record { parts = seat.parts; receipts = and_claim seat.receipts (length m.entries + 1) e }
+
+-- ---- refusals: that of the definition; and since room for the receipt is made first, memory may be out in place of any
+
+abbrev pub MayRefuseCast : MemberState → List ℕ → CastRefusal → Type 0
+MayRefuseCast m payload refusal = (answer_to_cast m payload ≡ Err refusal) ⊎ (refusal ≡ casts.NoMemory)
+
+abbrev pub MayRefuseArrival : MemberState → List ℕ → ArriveRefusal → Type 0
+MayRefuseArrival m bytes refusal = (answer_to_arrival m bytes ≡ Err refusal) ⊎ (refusal ≡ arrivals.NoMemory)
+
+abbrev pub MayRefuseTick : MemberState → TickRefusal → Type 0
+MayRefuseTick m refusal = RefusesTick m refusal
+
+-- ---- a call under a lock
+
+-- A member that a lock may keep while a seat with these receipts is held: it is legal, and its history has at least as many entries.
+pub record CoversReceipts (seat : SeatState) (m : MemberState) : Type 0 where
+  pub legal : IsMemberState m
+  pub covered : length seat.receipts ≤ length m.entries
+
+-- On this member the answer is the defined one, and the seat has a receipt of what the answer tells.
+pub record CastsOn (m : MemberState) (old new : SeatState) (payload : List ℕ) (result : Result CastDone CastRefusal) : Type 0 where
+  pub done : IfOk result (HasCast m (state_after m (ToCast payload)) payload)
+  pub refused : IfErr result (MayRefuseCast m payload)
+  pub receipt : IfOk result (λ done. new ≡ and_receipt old m (told_by_cast done))
+  pub entry : IfOk result (λ done. entry_by m (ToCast payload) ≡ told_by_cast done)
+  pub none : OnErr result (new ≡ old)
+
+pub record ArrivesOn (m : MemberState) (old new : SeatState) (bytes : List ℕ) (result : Result Arrival ArriveRefusal) : Type 0 where
+  pub taken : IfOk result (HasTaken m (state_after m (ToTake bytes)) bytes)
+  pub refused : IfErr result (MayRefuseArrival m bytes)
+  pub receipt : IfOk result (λ arrival. new ≡ and_receipt old m (told_by_arrival bytes arrival))
+  pub entry : IfOk result (λ arrival. entry_by m (ToTake bytes) ≡ told_by_arrival bytes arrival)
+  pub none : OnErr result (new ≡ old)
+
+pub record TicksOn (m : MemberState) (old new : SeatState) (result : Result Ticked TickRefusal) : Type 0 where
+  pub done : IfOk result (HasTicked m (state_after m ToTick))
+  pub refused : IfErr result (MayRefuseTick m)
+  pub receipt : IfOk result (λ ticked. new ≡ and_receipt old m (told_by_tick ticked))
+  pub entry : IfOk result (λ ticked. entry_by m ToTick ≡ told_by_tick ticked)
+  pub none : OnErr result (new ≡ old)
+
+-- Some legal member, whose history covers the seat's receipts, answered so.
+abbrev pub OnSome : SeatState → (MemberState → Type 0) → Type 0
+OnSome seat P = (m : MemberState) × CoversReceipts seat m × P m

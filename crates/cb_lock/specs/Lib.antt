@@ -1,0 +1,6 @@
+pub mod Receipts
+pub mod Held
+pub mod Calls
+pub mod Claims
+pub mod Closing
+pub mod Seen

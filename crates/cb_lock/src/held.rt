@@ -1,0 +1,176 @@
+//! What the lock of a shared member keeps.
+
+ghost use Rattle.std.specs.Prelude.{◌≡◌, ◌+◌, ◌≤◌, ◌<◌, [], IfOk, IfErr, OnErr, length, map, option_map};
+ghost use Rattle.std.specs.Vec.{vec_capacity, vec_len};
+ghost use Rattle.cb_history.specs.Legal.{ToCast, ToTake, ToTick};
+ghost use Rattle.cb_history.specs.State.{IsMemberState, HasCast, HasTaken, HasTicked, entry_by};
+ghost use Rattle.cb_history.specs.Facts.{entry_fields};
+ghost use Rattle.cb_lock.specs.Receipts.{receipt_fields, and_claim, entered};
+ghost use Rattle.cb_lock.specs.Calls.{MayRefuseCast, MayRefuseArrival, MayRefuseTick, and_receipt, told_by_cast, told_by_arrival, told_by_tick};
+
+use crate::seat::{Receipt, Seat};
+use bytes::Bytes;
+use cb_member::{
+    Arrival, ArriveRefusal, CastDone, CastRefusal, Entry, Member, TickRefusal, Ticked,
+};
+use std::alloc::Global;
+use std::marker::Model;
+use std::sync::ledger::{Blank, Book, Ledger, Share};
+
+/// A member with the book of its ledger: the value in the lock of a shared member.
+///
+/// The history is legal, and the book's account is its length. Contracts see it as the member.
+#[derive(Drop)]
+pub struct Held<L: Ledger> {
+    pub(crate) member: Member,
+    pub(crate) book: Book<L>,
+}
+
+impl<L: Ledger> Model for Held<L> {
+    ghost use Rattle.cb_history.specs.State.{MemberState};
+    ghost use Rattle.cb_lock.specs.Held.{IsHeld};
+
+    ghost Value = { MemberState };
+
+    ghost view = { λ held. held.member };
+
+    ghost invariant = { λ held. IsHeld held.member held.book.total };
+}
+
+impl<L: Ledger> Held<L> {
+    /// A member without entries, with the first seat, which has every part of the ledger.
+    pub fn new(alloc: Global, blank: Blank, member: Member) -> (Held<L>, Seat<L>)
+        requires name { blank.name ≡ L.name }
+        requires parts { blank.parts ≡ L.parts }
+        requires some { 1 ≤ blank.parts }
+        requires fresh { member.entries ≡ [] }
+        ensures member { result.0 ≡ member }
+        ensures seat { result.1 ≡ record { parts = L.parts; receipts = [] } }
+    {
+        let (book, share) = blank.open::<L>();
+        let _seat = member.seat();
+        (Held { member, book }, Seat::new(alloc, share))
+    }
+
+    /// Casts a message of this payload, as the member does, and appends a receipt of it to the seat.
+    ///
+    /// `NoMemory` may stand in place of any refusal. After a refusal the member and the seat are as they were.
+    pub fn cast(&mut self, seat: &mut Seat<L>, payload: &[u8]) -> Result<CastDone, CastRefusal>
+        ensures done { IfOk result (HasCast self.old self.new payload.now) }
+        ensures refused { IfErr result (MayRefuseCast self.old payload.now) }
+        ensures same { OnErr result (self.new ≡ self.old) }
+        ensures receipt { IfOk result (λ done. seat.new
+            ≡ and_receipt seat.old self.old (told_by_cast done)) }
+        ensures entry { IfOk result (λ done. entry_by self.old (ToCast payload.now)
+            ≡ told_by_cast done) }
+        ensures none { OnErr result (seat.new ≡ seat.old) }
+        ensures parts { seat.new.parts ≡ seat.old.parts }
+        ensures covered { length seat.old.receipts ≤ length self.old.entries }
+        ensures legal { IsMemberState self.old }
+    {
+        let Held { member, book } = self;
+        let Seat { receipts, share } = seat;
+        book.audit(share);
+        receipts.reserve(1)?;
+        let (done, entry) = member.cast_noted(payload)?;
+        enter(member, book, receipts, share, Some(entry));
+        Ok(done)
+    }
+
+    /// Takes bytes that came, as the member does, and appends a receipt to the seat where an entry was added.
+    ///
+    /// `NoMemory` may stand in place of any refusal. After a refusal the member and the seat are as they were.
+    pub fn arrive(&mut self, seat: &mut Seat<L>, bytes: &Bytes) -> Result<Arrival, ArriveRefusal>
+        ensures taken { IfOk result (HasTaken self.old self.new bytes.now) }
+        ensures refused { IfErr result (MayRefuseArrival self.old bytes.now) }
+        ensures same { OnErr result (self.new ≡ self.old) }
+        ensures receipt { IfOk result (λ arrival. seat.new
+            ≡ and_receipt seat.old self.old (told_by_arrival bytes.now arrival)) }
+        ensures entry { IfOk result (λ arrival. entry_by self.old (ToTake bytes.now)
+            ≡ told_by_arrival bytes.now arrival) }
+        ensures none { OnErr result (seat.new ≡ seat.old) }
+        ensures parts { seat.new.parts ≡ seat.old.parts }
+        ensures covered { length seat.old.receipts ≤ length self.old.entries }
+        ensures legal { IsMemberState self.old }
+    {
+        let Held { member, book } = self;
+        let Seat { receipts, share } = seat;
+        book.audit(share);
+        receipts.reserve(1)?;
+        let (arrival, noted) = member.arrive_noted(bytes)?;
+        enter(member, book, receipts, share, noted);
+        Ok(arrival)
+    }
+
+    /// Tells the status, as the member does, and appends a receipt to the seat where the status is an entry.
+    ///
+    /// `NoMemory` may stand in place of any refusal. After a refusal the member and the seat are as they were.
+    #[tactic(auto, using(crate::proofs::Ticking::told_tick))]
+    pub fn tick(&mut self, seat: &mut Seat<L>) -> Result<Ticked, TickRefusal>
+        ensures done { IfOk result (HasTicked self.old self.new) }
+        ensures refused { IfErr result (MayRefuseTick self.old) }
+        ensures same { OnErr result (self.new ≡ self.old) }
+        ensures receipt { IfOk result (λ ticked. seat.new
+            ≡ and_receipt seat.old self.old (told_by_tick ticked)) }
+        ensures entry { IfOk result (λ ticked. entry_by self.old ToTick ≡ told_by_tick ticked) }
+        ensures none { OnErr result (seat.new ≡ seat.old) }
+        ensures parts { seat.new.parts ≡ seat.old.parts }
+        ensures covered { length seat.old.receipts ≤ length self.old.entries }
+        ensures legal { IsMemberState self.old }
+    {
+        let Held { member, book } = self;
+        let Seat { receipts, share } = seat;
+        book.audit(share);
+        receipts.reserve(1)?;
+        let (ticked, noted) = member.tick_noted()?;
+        enter(member, book, receipts, share, noted);
+        Ok(ticked)
+    }
+
+    /// The member.
+    pub fn member(&self) -> &Member
+        ensures member { result.now ≡ self.now }
+        ensures legal { IsMemberState self.now }
+    {
+        let _seat = self.member.seat();
+        &self.member
+    }
+
+    /// Changes nothing. What the seat has receipts of, the history has.
+    pub fn audit(&mut self, seat: &mut Seat<L>)
+        ensures same { self.new ≡ self.old }
+        ensures seat { seat.new ≡ seat.old }
+        ensures covered { length seat.old.receipts ≤ length self.old.entries }
+    {
+        self.book.audit(&mut seat.share);
+    }
+}
+
+/// Records the entry that the member added, where it did: a receipt more, and one more in the share and in the book.
+fn enter<L: Ledger>(
+    member: &Member,
+    book: &mut Book<L>,
+    receipts: &mut Vec<Receipt>,
+    share: &mut Share<L>,
+    noted: Option<Entry>,
+)
+    requires room { vec_len receipts.old < vec_capacity receipts.old }
+    requires part { 1 ≤ share.old.parts }
+    ensures receipts { map receipt_fields receipts.new.items
+        ≡ and_claim (map receipt_fields receipts.old.items) (length member.now.entries)
+        (option_map entry_fields noted) }
+    ensures amount { share.new.amount ≡ share.old.amount + entered (option_map entry_fields noted) }
+    ensures count { vec_len receipts.new
+        ≡ vec_len receipts.old + entered (option_map entry_fields noted) }
+    ensures parts { share.new.parts ≡ share.old.parts }
+    ensures total { book.new.total ≡ book.old.total + entered (option_map entry_fields noted) }
+    ensures legal { IsMemberState member.now }
+{
+    let place = member.history().len();
+    if let Some(entry) = noted {
+        book.add(share, 1);
+        let Ok(()) = receipts.push(Receipt { place, entry }) else {
+            unreachable!("there is room")
+        };
+    }
+}

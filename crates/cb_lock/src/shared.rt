@@ -1,0 +1,114 @@
+//! The member behind its lock.
+
+ghost use Rattle.std.specs.Prelude.{◌≡◌, ◌+◌, ◌<◌, ◌≤◌, ◌↔◌, [], IfOk, IfErr, length};
+ghost use Rattle.std.specs.Fn.{FnOnceTakesAt, FnOnceReturnsAt};
+ghost use Rattle.cb_lock.specs.Calls.{CoversReceipts, OnSome, CastsOn, ArrivesOn, TicksOn};
+ghost use Rattle.cb_lock.specs.Closing.{IsFault, IsClosed};
+
+use crate::closing::{CloseFault, CloseRefusal, Closed, fault_of};
+use crate::held::Held;
+use crate::seat::Seat;
+use bytes::Bytes;
+use cb_member::{
+    Arrival, ArriveRefusal, CastDone, CastRefusal, Member, Seat as Identity, TickRefusal, Ticked,
+};
+use std::alloc::Global;
+use std::sync::ledger::{Blank, Ledger};
+use std::sync::{Mutex, Wait};
+
+/// One member that several threads share.
+///
+/// `L` names the ledger that counts the receipts; a seat fits the shared member whose ledger it names. A call takes the lock, makes one
+/// call of `Held`, and lets the lock go; no lock covers two members.
+#[derive(Drop)]
+pub struct SharedMember<L: Ledger> {
+    /// The group and the number of the member that `new` was given.
+    identity: Identity,
+    held: Mutex<Held<L>>,
+}
+
+impl<L: Ledger> SharedMember<L> {
+    /// A member without entries behind a lock of its own, with the first seat, which has every part of the ledger.
+    pub fn new(alloc: Global, blank: Blank, member: Member) -> (SharedMember<L>, Seat<L>)
+        requires name { blank.name ≡ L.name }
+        requires parts { blank.parts ≡ L.parts }
+        requires some { 1 ≤ blank.parts }
+        requires fresh { member.entries ≡ [] }
+        ensures identity { result.0.identity ≡ member.seat }
+        ensures seat { result.1 ≡ record { parts = L.parts; receipts = [] } }
+    {
+        let identity = member.seat();
+        let (held, seat) = Held::new(alloc, blank, member);
+        let held = Mutex::new(held);
+        (SharedMember { identity, held }, seat)
+    }
+
+    /// Casts a message of this payload, as the member does, and appends a receipt of it to the seat.
+    pub fn cast(
+        &self,
+        rt: &impl Wait,
+        seat: &mut Seat<L>,
+        payload: &[u8],
+    ) -> Result<CastDone, CastRefusal>
+        ensures answer { OnSome seat.old (λ m. CastsOn m seat.old seat.new payload.now result) }
+        ensures parts { seat.new.parts ≡ seat.old.parts }
+    {
+        self.held.lock(rt).cast(seat, payload)
+    }
+
+    /// Takes bytes that came, as the member does, and appends a receipt to the seat where an entry was added.
+    pub fn arrive(
+        &self,
+        rt: &impl Wait,
+        seat: &mut Seat<L>,
+        bytes: &Bytes,
+    ) -> Result<Arrival, ArriveRefusal>
+        ensures answer { OnSome seat.old (λ m. ArrivesOn m seat.old seat.new bytes.now result) }
+        ensures parts { seat.new.parts ≡ seat.old.parts }
+    {
+        self.held.lock(rt).arrive(seat, bytes)
+    }
+
+    /// Tells the status, as the member does, and appends a receipt to the seat where the status is an entry.
+    pub fn tick(&self, rt: &impl Wait, seat: &mut Seat<L>) -> Result<Ticked, TickRefusal>
+        ensures answer { OnSome seat.old (λ m. TicksOn m seat.old seat.new result) }
+        ensures parts { seat.new.parts ≡ seat.old.parts }
+    {
+        self.held.lock(rt).tick(seat)
+    }
+
+    /// Shows the member to `f` under the lock, and answers what `f` answers.
+    ///
+    /// What the seat has receipts of, the member's history has. The seat stays as it is.
+    pub fn with_state<R, F: FnOnce(&Member) -> R>(
+        &self,
+        rt: &impl Wait,
+        seat: &mut Seat<L>,
+        f: F,
+    ) -> R
+        requires { (m : _) → CoversReceipts seat.old m → FnOnceTakesAt F.FnOnce f m }
+        ensures answer { OnSome seat.old (λ m. FnOnceReturnsAt F.FnOnce f m result) }
+        ensures seat { seat.new ≡ seat.old }
+    {
+        let mut held = self.held.lock(rt);
+        held.audit(seat);
+        f(held.member())
+    }
+
+    /// Ends the sharing, and hands the member out: with Ok only where the receipts of the seats claim its history, each entry by exactly one.
+    ///
+    /// A refusal hands the member back too, with the first of the faults that `CloseFault` names in its order; `NoMemory` stands only in
+    /// place of `ReceiptMismatch` or of Ok.
+    pub fn close(self, seats: Vec<Seat<L>>) -> Result<Closed, CloseRefusal>
+        ensures closed { IfOk result (λ closed. IsClosed self.identity closed.member seats.items) }
+        ensures refused { IfErr result (λ refusal. IsFault self.identity refusal.member seats.items
+            refusal.fault) }
+    {
+        let SharedMember { identity, held } = self;
+        let Held { member, book: _ } = held.into_inner();
+        match fault_of(identity, &member, &seats) {
+            None => Ok(Closed { member }),
+            Some(fault) => Err(CloseRefusal { fault, member }),
+        }
+    }
+}

@@ -1,0 +1,96 @@
+//! What closing finds wrong.
+
+ghost use Rattle.std.specs.Prelude.{◌≡◌};
+
+use super::{member, seats};
+use crate::closing::{fault_of, none_seen, wrong_in_seat};
+use crate::{CloseFault, Held, Receipt, Seat};
+use cb_member::Member;
+use std::alloc::Global;
+use std::marker::Brand;
+use std::process::Abort;
+use std::sync::ledger::{Blank, Ledger};
+use std::test::*;
+
+/// A member that cast, ticked and cast.
+fn with_three_entries(rt: &impl Abort, alloc: Global) -> Member {
+    let mut member = member(rt, alloc, (3, 4), 0, 100);
+    let _ = member.cast(b"a").expect(rt, "a cast");
+    let _ = member.tick().expect(rt, "a tick");
+    let _ = member.cast(b"b").expect(rt, "a cast");
+    member
+}
+
+/// Receipts of one seat, each with a place and the number of the entry that it shows.
+type Claims = &'static [(usize, usize)];
+
+/// The receipts of two seats, and the place of the first that is wrong.
+const ROWS: &[(Claims, Claims, Option<usize>)] = &[
+    (&[(1, 1), (3, 3)], &[(2, 2)], None),
+    (&[(3, 3), (1, 1)], &[(2, 2)], Some(1)),
+    (&[(1, 1), (3, 3)], &[(1, 1)], Some(1)),
+    (&[(1, 1), (3, 3)], &[(2, 3)], Some(2)),
+    (&[(1, 1), (3, 1)], &[(2, 2)], Some(3)),
+    (&[(1, 1), (3, 3)], &[(0, 1)], Some(0)),
+    (&[(1, 1), (3, 3)], &[(4, 1)], Some(4)),
+];
+
+#[test]
+fn a_receipt_is_the_entry_at_its_place_and_the_only_one_of_it(rt: HostRuntime) {
+    let member = with_three_entries(&rt, rt.alloc());
+    for (first, second, wrong) in ROWS {
+        let mut seen = none_seen(rt.alloc(), 3).expect(&rt, "memory");
+        let found = match found_in(&rt, rt.alloc(), &member, &mut seen, first) {
+            Some(place) => Some(place),
+            None => found_in(&rt, rt.alloc(), &member, &mut seen, second),
+        };
+        assert_eq!(rt; found, *wrong);
+    }
+}
+
+fn found_in(
+    rt: &impl Abort,
+    alloc: Global,
+    member: &Member,
+    seen: &mut [bool],
+    claims: Claims,
+) -> Option<usize> {
+    let mut receipts = Vec::new(alloc);
+    for (place, number) in claims {
+        let entry = member
+            .history()
+            .get(number.saturating_sub(1))
+            .expect(rt, "an entry");
+        let entry = entry.copy().expect(rt, "memory");
+        receipts
+            .push(Receipt {
+                place: *place,
+                entry,
+            })
+            .expect(rt, "memory");
+    }
+    wrong_in_seat(member.history(), seen, &receipts)
+}
+
+#[test]
+fn a_seat_that_is_missing_comes_before_another_member(rt: HostRuntime) {
+    finds::<Brand, _>(&rt, rt.alloc(), Blank::new(1));
+}
+
+fn finds<L: Ledger, R: Abort>(rt: &R, alloc: Global, blank: Blank)
+    requires { (blank.name ≡ L.name) × (blank.parts ≡ L.parts) × (blank.parts ≡ 1) }
+{
+    let (mut held, mut seat) = Held::<L>::new(alloc, blank, member(rt, alloc, (3, 4), 0, 100));
+    let _ = held.cast(&mut seat, b"a").expect(rt, "a cast");
+    let identity = member(rt, alloc, (3, 4), 1, 100).seat();
+    let no_seats: Vec<Seat<L>> = Vec::new(alloc);
+    let missing = CloseFault::SeatsMissing {
+        claimed: 0,
+        entries: 1,
+    };
+    assert_eq!(rt; fault_of(identity, held.member(), &no_seats), Some(missing));
+    let all = seats(rt, alloc, seat, None);
+    let other = Some(CloseFault::OtherMember);
+    assert_eq!(rt; fault_of(identity, held.member(), &all), other);
+    assert_eq!(rt; fault_of(held.member().seat(), held.member(), &all), None);
+}

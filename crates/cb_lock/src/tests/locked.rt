@@ -1,0 +1,208 @@
+//! A locked member answers as one without a lock.
+
+ghost use Rattle.std.specs.Prelude.{◌≡◌, ◌≤◌};
+
+use super::{claims_all, closed, member, said, seats};
+use crate::{Seat, SharedMember};
+use bytes::Bytes;
+use cb_member::Member;
+use std::alloc::Global;
+use std::marker::Brand;
+use std::process::Abort;
+use std::sync::Wait;
+use std::sync::ledger::{Blank, Ledger};
+use std::test::*;
+
+/// What is asked of a member.
+enum Call {
+    Cast(&'static [u8]),
+    Take(&'static [u8]),
+    Tick,
+}
+
+/// Calls, and what each answers.
+type Calls = &'static [(Call, &'static str)];
+
+/// A member of group 7 with three members, and what is asked of it.
+struct Script {
+    me: u32,
+    window: u32,
+    limit: usize,
+    calls: Calls,
+}
+
+const HI: &[u8] = b"\x11\x07\x00\x01\x00\x02hi";
+
+const YO: &[u8] = b"\x11\x07\x01\x01\x01\x00\x01\x02yo";
+
+const OK: &[u8] = b"\x11\x07\x01\x02\x00\x02ok";
+
+/// Member 2 lacks the casts 2 and 3 of member 0.
+const ASKS: &[u8] = b"\x13\x07\x02\x00\x01\x01\x01";
+
+const SCRIPTS: &[Script] = &[
+    // an answer overtakes its question
+    Script {
+        me: 2,
+        window: 4,
+        limit: 100,
+        calls: &[
+            (Call::Take(YO), "changed"),
+            (Call::Take(HI), "changed 0.1 1.1"),
+        ],
+    },
+    // a cast comes before the one in front of it, and one comes again
+    Script {
+        me: 0,
+        window: 4,
+        limit: 100,
+        calls: &[
+            (Call::Cast(b"hi"), "0.1 [1,0,0] 1107000100026869"),
+            (Call::Take(OK), "changed"),
+            (Call::Take(YO), "changed 1.1 1.2"),
+            (Call::Take(YO), "repeat"),
+        ],
+    },
+    // the window is full until the slowest has delivered
+    Script {
+        me: 0,
+        window: 2,
+        limit: 100,
+        calls: &[
+            (Call::Cast(b"a"), "0.1 [1,0,0] 11070001000161"),
+            (Call::Cast(b"b"), "0.2 [2,0,0] 11070002000162"),
+            (Call::Cast(b"c"), "WindowFull"),
+            (Call::Take(b"\x12\x07\x01\x01\x00\x02"), "changed"),
+            (Call::Cast(b"c"), "WindowFull"),
+            (Call::Take(b"\x12\x07\x02\x01\x00\x02"), "changed"),
+            (Call::Cast(b"c"), "0.3 [3,0,0] 11070003000163"),
+        ],
+    },
+    // what is missing is asked for, and a status that says nothing new is no entry
+    Script {
+        me: 2,
+        window: 4,
+        limit: 100,
+        calls: &[
+            (Call::Take(b"\x11\x07\x00\x01\x00\x01a"), "changed 0.1"),
+            (Call::Take(b"\x11\x07\x00\x04\x00\x01d"), "changed"),
+            (
+                Call::Tick,
+                "entered, to all: 120702010001, to 0: 13070200010101",
+            ),
+            (
+                Call::Tick,
+                "not entered, to all: 120702010001, to 0: 13070200010101",
+            ),
+        ],
+    },
+    // what is asked for is sent again
+    Script {
+        me: 0,
+        window: 4,
+        limit: 100,
+        calls: &[
+            (Call::Cast(b"a"), "0.1 [1,0,0] 11070001000161"),
+            (Call::Cast(b"b"), "0.2 [2,0,0] 11070002000162"),
+            (Call::Cast(b"c"), "0.3 [3,0,0] 11070003000163"),
+            (Call::Cast(b"d"), "0.4 [4,0,0] 11070004000164"),
+            (
+                Call::Take(ASKS),
+                "unchanged, to 2: 11070002000162, to 2: 11070003000163",
+            ),
+        ],
+    },
+    // and by nobody else
+    Script {
+        me: 1,
+        window: 4,
+        limit: 100,
+        calls: &[(Call::Take(ASKS), "unchanged")],
+    },
+    // the history is full
+    Script {
+        me: 0,
+        window: 4,
+        limit: 1,
+        calls: &[
+            (Call::Cast(b"hi"), "0.1 [1,0,0] 1107000100026869"),
+            (Call::Take(b"\x11\x07\x01\x01\x00\x00"), "HistoryFull"),
+            (Call::Take(HI), "repeat"),
+            (Call::Take(b"\x12\x07\x01\x00"), "unchanged"),
+            (Call::Tick, "HistoryFull"),
+            (Call::Cast(b"x"), "HistoryFull"),
+        ],
+    },
+    // what can't be is refused
+    Script {
+        me: 0,
+        window: 4,
+        limit: 100,
+        calls: &[
+            (Call::Cast(b"hi"), "0.1 [1,0,0] 1107000100026869"),
+            (Call::Take(HI), "repeat"),
+            (Call::Take(b"\x12\x07\x00\x01\x00\x01"), "unchanged"),
+            (Call::Take(b"\x11\x07\x00\x09\x00\x00"), "Impossible"),
+            (Call::Take(b"\x12\x07\x01\x01\x00\x02"), "Impossible"),
+            (Call::Take(b"\x13\x07\x00\x00\x01\x00\x00"), "Impossible"),
+            (Call::Take(b"\x11\x08\x01\x01\x00\x00"), "OtherGroup"),
+            (Call::Take(b"\x11\x07\x03\x01\x00\x00"), "BadMember"),
+            (Call::Take(b"\x11\x07\x40"), "Malformed(BadIndex)"),
+        ],
+    },
+];
+
+#[test]
+fn locked_as_plain(rt: HostRuntime) {
+    for script in SCRIPTS {
+        run_script::<Brand, _>(&rt, rt.alloc(), Blank::new(1), script);
+    }
+}
+
+/// Both members get the same calls, give the same answers, and have the same history in the end, which is that of the receipts.
+fn run_script<L: Ledger, R: Wait + Abort>(rt: &R, alloc: Global, blank: Blank, script: &Script)
+    requires name { blank.name ≡ L.name }
+    requires parts { (blank.parts ≡ L.parts) × (1 ≤ blank.parts) }
+{
+    let sizes = (3, script.window);
+    let mut plain = member(rt, alloc, sizes, script.me, script.limit);
+    run_plain(rt, alloc, &mut plain, script.calls);
+    let locked = member(rt, alloc, sizes, script.me, script.limit);
+    let (shared, mut seat) = SharedMember::<L>::new(alloc, blank, locked);
+    run_locked(rt, alloc, &shared, &mut seat, script.calls);
+    claims_all(rt, plain.history(), seat.receipts());
+    let member = closed(rt, shared, seats(rt, alloc, seat, None));
+    assert!(rt; member.history() == plain.history());
+}
+
+fn run_plain(rt: &impl Abort, alloc: Global, member: &mut Member, calls: Calls) {
+    for (call, answer) in calls {
+        let said = match call {
+            Call::Cast(payload) => said::by_cast(alloc, &member.cast(payload)),
+            Call::Take(bytes) => {
+                said::by_arrival(alloc, &member.arrive(&Bytes::from_static(bytes)))
+            }
+            Call::Tick => said::by_tick(alloc, &member.tick()),
+        };
+        assert_eq!(rt; said.expect(rt, "memory").as_str(), *answer);
+    }
+}
+
+fn run_locked<L: Ledger>(
+    rt: &(impl Wait + Abort),
+    alloc: Global,
+    shared: &SharedMember<L>,
+    seat: &mut Seat<L>,
+    calls: Calls,
+) {
+    for (call, answer) in calls {
+        let said = match call {
+            Call::Cast(payload) => said::by_cast(alloc, &shared.cast(rt, seat, payload)),
+            Call::Take(bytes) => {
+                said::by_arrival(alloc, &shared.arrive(rt, seat, &Bytes::from_static(bytes)))
+            }
+            Call::Tick => said::by_tick(alloc, &shared.tick(rt, seat)),
+        };
+        assert_eq!(rt; said.expect(rt, "memory").as_str(), *answer);
+    }
+}

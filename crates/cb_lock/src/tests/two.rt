@@ -1,0 +1,124 @@
+//! Two members have two locks.
+
+ghost use Rattle.std.specs.Prelude.{◌≡◌};
+
+use super::{closed, member, seats};
+use crate::{CloseFault, CloseRefusal, Seat, SharedMember};
+use bytes::Bytes;
+use cb_member::{Entry, Member};
+use std::alloc::Global;
+use std::marker::Brand;
+use std::process::Abort;
+use std::sync::Wait;
+use std::sync::atomic::{AtomicBool, Ordering};
+use std::sync::ledger::{Blank, Ledger};
+use std::test::*;
+use std::thread::{Threads, join, yield_now};
+
+#[test]
+fn two_members_two_locks(rt: HostRuntime) {
+    share_both::<Brand, Brand, _>(&rt, rt.alloc(), Blank::new(2), Blank::new(2));
+}
+
+/// Of the first member both seats come back at the end, of the second only the one that cast.
+fn share_both<A: Ledger + Send + Sync, B: Ledger + Send + Sync, R: Threads + Wait + Abort + Sync>(
+    rt: &R,
+    alloc: Global,
+    first: Blank,
+    second: Blank,
+)
+    requires first { (first.name ≡ A.name) × (first.parts ≡ A.parts) × (first.parts ≡ 2) }
+    requires second { (second.name ≡ B.name) × (second.parts ≡ B.parts) × (second.parts ≡ 2) }
+{
+    let (one, mut seat) = SharedMember::<A>::new(alloc, first, member(rt, alloc, (3, 4), 0, 100));
+    let (two, mut other) = SharedMember::<B>::new(alloc, second, member(rt, alloc, (3, 4), 1, 100));
+    let beside = seat.split();
+    let lost = other.split();
+    cast_while_the_first_is_locked(rt, &one, &mut seat, &two, &mut other);
+    closes_with_both(rt, alloc, one, seat, beside);
+    closes_with_one(rt, alloc, two, other, lost);
+}
+
+fn closes_with_both<L: Ledger, R: Wait + Abort>(
+    rt: &R,
+    alloc: Global,
+    shared: SharedMember<L>,
+    seat: Seat<L>,
+    beside: Seat<L>,
+) {
+    let seat = cast(rt, &shared, seat);
+    let beside = ticked(rt, &shared, beside);
+    let member = closed(rt, shared, seats(rt, alloc, seat, Some(beside)));
+    assert_eq!(rt; member.history().len(), 2);
+}
+
+fn closes_with_one<L: Ledger, R: Wait + Abort>(
+    rt: &R,
+    alloc: Global,
+    shared: SharedMember<L>,
+    seat: Seat<L>,
+    lost: Seat<L>,
+) {
+    let _lost = ticked(rt, &shared, lost);
+    match shared.close(seats(rt, alloc, seat, None)) {
+        Ok(_closed) => panic!(rt; "a seat is missing"),
+        Err(CloseRefusal { fault, member }) => {
+            assert_eq!(rt;
+                fault,
+                CloseFault::SeatsMissing {
+                    claimed: 1,
+                    entries: 2
+                }
+            );
+            assert_eq!(rt; member.history().len(), 2);
+        }
+    }
+}
+
+/// The seat with the receipt of a cast, which it then sees at the end of the history.
+fn cast<L: Ledger>(rt: &(impl Wait + Abort), shared: &SharedMember<L>, seat: Seat<L>) -> Seat<L> {
+    let mut seat = seat;
+    let out = shared.cast(rt, &mut seat, b"hi").expect(rt, "a cast").out;
+    assert!(rt; shared.with_state(rt, &mut seat, |member| ends_with_cast(member, &out)));
+    seat
+}
+
+/// A closure under the lock of the first member sees that a cast on the second was answered meanwhile.
+fn cast_while_the_first_is_locked<
+    A: Ledger + Send + Sync,
+    B: Ledger + Send + Sync,
+    R: Threads + Wait + Abort + Sync,
+>(rt: &R, one: &SharedMember<A>, seat: &mut Seat<A>, two: &SharedMember<B>, other: &mut Seat<B>) {
+    let answered = AtomicBool::new(false);
+    let flag = &answered;
+    let (seen, ()) = join(
+        rt,
+        || one.with_state(rt, seat, |_member| is_set(flag)),
+        || flag.store(two.cast(rt, other, b"hi").is_ok(), Ordering::SeqCst),
+    );
+    assert!(rt; seen);
+}
+
+/// Whether the flag is set within ten million turns.
+fn is_set(flag: &AtomicBool) -> bool {
+    for _ in 0..10_000_000u32 {
+        if flag.load(Ordering::SeqCst) {
+            return true;
+        }
+        yield_now();
+    }
+    false
+}
+
+fn ends_with_cast(member: &Member, out: &Bytes) -> bool {
+    matches!(member.history().last(), Some(Entry::Cast { frame }) if frame == out)
+}
+
+/// The seat with the receipt of a tick.
+fn ticked<L: Ledger>(rt: &(impl Wait + Abort), shared: &SharedMember<L>, seat: Seat<L>) -> Seat<L> {
+    let mut seat = seat;
+    let ticked = shared.tick(rt, &mut seat).expect(rt, "a tick");
+    assert!(rt; ticked.entered);
+    assert!(rt; matches!(seat.receipts().last(), Some(receipt) if receipt.place == 2));
+    seat
+}
