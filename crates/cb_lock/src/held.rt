@@ -48,6 +48,7 @@ impl<L: Ledger> Held<L> {
         ensures seat { result.1 ≡ record { parts = L.parts; receipts = [] } }
     {
         let (book, share) = blank.open::<L>();
+        // The reading tells the prover that the member is legal.
         let _seat = member.seat();
         (Held { member, book }, Seat::new(alloc, share))
     }
@@ -132,6 +133,7 @@ impl<L: Ledger> Held<L> {
         ensures member { result.now ≡ self.now }
         ensures legal { IsMemberState self.now }
     {
+        // The reading tells the prover that the member is legal.
         let _seat = self.member.seat();
         &self.member
     }
