@@ -53,7 +53,7 @@ done
 ends 3 "$work/nothing" 'confer: read fault' "$confer" play < "$work"
 ends 3 "$work/nothing" 'confer: input too long' "$confer" play < "$work/long"
 ends 4 "$work/nothing" 'confer: line 1: bad step' "$confer" play < /dev/null
-{ cat "$here/../schedules/a_frame_comes_again.script"; echo 'say 0 main hi'; } > "$work/bad"
+{ cat "$here/../schedules/a_frame_comes_again.script"; echo 'say 0 main'; } > "$work/bad"
 ends 4 "$work/nothing" 'confer: line 6: bad step' "$confer" play < "$work/bad"
 found=0
 "$confer" play < "$here/../schedules/a_frame_comes_again.script" > /dev/full 2> "$work/said" || found=$?
