@@ -1,4 +1,5 @@
 mod Rows
+mod RoundRows
 pub mod GoingOn
 pub mod Lists
 pub mod Members

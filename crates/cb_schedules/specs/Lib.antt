@@ -5,3 +5,4 @@ pub mod Honest
 pub mod Consistent
 pub mod SentLaws
 pub mod Headline
+pub mod Rounds
