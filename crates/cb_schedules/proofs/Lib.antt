@@ -14,3 +14,6 @@ pub mod Closing
 pub mod FromBytes
 pub mod Knowing
 pub mod Headlines
+pub mod Later
+pub mod Happening
+pub mod Covering
