@@ -17,3 +17,5 @@ pub mod Headlines
 pub mod Later
 pub mod Happening
 pub mod Covering
+pub mod Hearing
+pub mod Waves

@@ -43,8 +43,8 @@ asked_round setting s = run_from setting (ticked setting s) (arrivals_since sett
 unfoldable pub round_steps : Setting → GroupState → Schedule
 round_steps setting s =
     tick_steps setting
-    ++ arrivals_since setting (length s.sent) (ticked setting s)
-    ++ arrivals_since setting (length (ticked setting s).sent) (asked_round setting s)
+    ++ (arrivals_since setting (length s.sent) (ticked setting s)
+    ++ arrivals_since setting (length (ticked setting s).sent) (asked_round setting s))
 
 -- so many rounds, one after another, and the state behind them
 unfoldable pub steps_of_rounds : Setting → ℕ → GroupState → Schedule
