@@ -19,3 +19,4 @@ pub mod Happening
 pub mod Covering
 pub mod Hearing
 pub mod Waves
+pub mod Asking

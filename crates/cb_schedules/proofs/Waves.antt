@@ -22,7 +22,7 @@ use Rattle.cb_schedules.proofs.Courses.{consistent_from}
 use Rattle.cb_schedules.proofs.Headlines.{call_is_welcome}
 use Rattle.cb_schedules.proofs.Lists.{in_map, all_at_index}
 use Rattle.cb_schedules.proofs.Hearing.{tick_puts_out}
-use Rattle.cb_schedules.proofs.Later.{IsLater, run_is_later}
+use Rattle.cb_schedules.proofs.Later.{IsLater, later_joins, step_is_later, run_is_later}
 use Rattle.cb_schedules.proofs.Happening.{answer_to_asked, FindNoneFullFrom, Happens, happens, IsSentSince, put_out_is_sent, sent_arrives, still_sent, tick_asks, arrival_asks, ticks_cast_nothing, arrivals_cast_nothing}
 
 -- the history of the member that a step calls
@@ -40,6 +40,7 @@ pub record Ticks (setting : Setting) (s t : GroupState) (j : ℕ) : Type 0 where
   pub consistent : IsConsistent setting now
   pub before : IsLater s now
   pub after : IsLater next t
+  pub rest : IsLater now t
   pub history : next.histories j ≡ history_after (seat_at setting j) setting.limit (now.histories j) ToTick
   pub room : IsNotFull (TickAnswer (tick_answer (seat_at setting j) setting.limit (now.histories j)))
   pub sends : (out : Outgoing) → IsIn out (record { to = None; bytes = text_of (StatusFrame (status_of (seat_at setting j) (facts_at now j))) } ∷ requests (seat_at setting j) (facts_at now j)) → IsSentSince s t (sent_by j out)
@@ -57,6 +58,7 @@ each_ticks setting is s inv none j lt =
       consistent = h.consistent;
       before = h.before;
       after = h.after;
+      rest = later_joins h.now (step_after setting h.now (TickStep j)) (run_from setting s (tick_steps setting)) (step_is_later setting h.now (TickStep j) tt) h.after;
       history = own_history_after setting h.now (TickStep j) j ToTick asks;
       room = room;
       sends = λ out there. put_out_is_sent setting s (run_from setting s (tick_steps setting)) (TickStep j) j ToTick h out asks
@@ -72,6 +74,7 @@ pub record Takes (setting : Setting) (s t : GroupState) (frame : SentFrame) (j :
   pub consistent : IsConsistent setting now
   pub before : IsLater s now
   pub after : IsLater next t
+  pub rest : IsLater now t
   pub honest : IsHonest setting.group (facts_at now) frame.bytes
   pub history : next.histories j ≡ history_after (seat_at setting j) setting.limit (now.histories j) (ToTake frame.bytes)
   pub welcome : IsNoRefusal (arrive_answer (seat_at setting j) setting.limit (now.histories j) frame.bytes)
@@ -95,6 +98,7 @@ each_takes setting is first s inv later none frame j since to lt =
       consistent = h.consistent;
       before = h.before;
       after = h.after;
+      rest = later_joins h.now (step_after setting h.now (ArriveStep j a.number)) (run_from setting s wave) (step_is_later setting h.now (ArriveStep j a.number) tt) h.after;
       honest = honest;
       history = own_history_after setting h.now (ArriveStep j a.number) j (ToTake frame.bytes) asks;
       welcome = call_is_welcome setting h.now h.consistent j (ToTake frame.bytes) lt honest;
