@@ -12,10 +12,10 @@ use Rattle.cb_history.proofs.Lists.{in_front, in_back}
 use Rattle.cb_history.proofs.Keeping.{in_range}
 use Rattle.cb_schedules.specs.Schedule.{Setting, IsSetting, seat_at, Step, ArriveStep, TickStep, Schedule, SentFrame, Asked, Calls, OfNoMember, OfNoFrame, OfNoBytes, Answer, NoSuchMember, NoSuchFrame, NoBytes, put_out, sent_by, answer_of, Outcome, GroupState, asked_by, after_asked, step_after, run_from}
 use Rattle.cb_schedules.specs.Consistent.{IsConsistent}
-use Rattle.cb_schedules.specs.Rounds.{receivers, arrivals_from, IsNotFull, outcomes_of, FindNoneFull}
+use Rattle.cb_schedules.specs.Rounds.{receivers, arrivals_from, IsNotFull, IsNoCastStep, outcomes_of, FindNoneFull}
 use Rattle.cb_schedules.proofs.Courses.{step_goes_on}
 use Rattle.cb_schedules.proofs.Lists.{in_map, all_both}
-use Rattle.cb_schedules.proofs.Later.{IsLater, later_itself, later_joins, CastsNothing, step_is_later, run_is_later}
+use Rattle.cb_schedules.proofs.Later.{IsLater, later_itself, later_joins, step_is_later, run_is_later}
 
 -- ---- what a step is answered
 
@@ -74,7 +74,7 @@ pub record Happens (setting : Setting) (s t : GroupState) (step : Step) : Type 0
   pub after : IsLater (step_after setting now step) t
   pub not_full : IsNotFull (answer_to_step setting now step)
 
-pub happens : (setting : Setting) → IsSetting setting → (s : GroupState) → IsConsistent setting s → (steps : Schedule) → AllByRecursion CastsNothing steps → FindNoneFullFrom setting s steps
+pub happens : (setting : Setting) → IsSetting setting → (s : GroupState) → IsConsistent setting s → (steps : Schedule) → AllByRecursion IsNoCastStep steps → FindNoneFullFrom setting s steps
     → (step : Step) → IsIn step steps → Happens setting s (run_from setting s steps) step
 unfolding run_from
 happens setting is s inv [] none not_full step there = absurd there
@@ -182,17 +182,17 @@ arrival_asks setting sent j number frame lt at = rw (lt-ltb j setting.group.size
 
 -- ---- lists of steps that cast nothing
 
-map_casts_nothing : (step : ℕ → Step) → ((k : ℕ) → CastsNothing (step k)) → (ks : List ℕ) → AllByRecursion CastsNothing (map step ks)
+map_casts_nothing : (step : ℕ → Step) → ((k : ℕ) → IsNoCastStep (step k)) → (ks : List ℕ) → AllByRecursion IsNoCastStep (map step ks)
 map_casts_nothing step each [] = tt
 map_casts_nothing step each (k ∷ ks) = (each k, map_casts_nothing step each ks)
 
-pub ticks_cast_nothing : (ks : List ℕ) → AllByRecursion CastsNothing (map TickStep ks)
+pub ticks_cast_nothing : (ks : List ℕ) → AllByRecursion IsNoCastStep (map TickStep ks)
 ticks_cast_nothing ks = map_casts_nothing TickStep (λ k. tt) ks
 
-pub arrivals_cast_nothing : (setting : Setting) (number : ℕ) (frames : List SentFrame) → AllByRecursion CastsNothing (arrivals_from setting number frames)
+pub arrivals_cast_nothing : (setting : Setting) (number : ℕ) (frames : List SentFrame) → AllByRecursion IsNoCastStep (arrivals_from setting number frames)
 arrivals_cast_nothing setting number [] = tt
 arrivals_cast_nothing setting number (frame ∷ frames) =
-    all_both CastsNothing (map (λ j. ArriveStep j number) (receivers setting.group.size frame.from frame.to)) (arrivals_from setting (number + 1) frames)
+    all_both IsNoCastStep (map (λ j. ArriveStep j number) (receivers setting.group.size frame.from frame.to)) (arrivals_from setting (number + 1) frames)
     (map_casts_nothing (λ j. ArriveStep j number) (λ k. tt) (receivers setting.group.size frame.from frame.to)) (arrivals_cast_nothing setting (number + 1) frames)
 
 -- another member is among the receivers of what goes to all others

@@ -27,7 +27,7 @@ use Rattle.cb_history.proofs.Keeping.{in_range}
 
 -- ---- lists
 
-value_below : (f : ℕ → ℕ) (values : List Change) (k : ℕ) → AllByRecursion (λ d. d.amount ≤ f d.field) values → value_in values k ≤ f k
+pub value_below : (f : ℕ → ℕ) (values : List Change) (k : ℕ) → AllByRecursion (λ d. d.amount ≤ f d.field) values → value_in values k ≤ f k
 value_below f [] k all = omega arith
 value_below f (d ∷ values) k all =
     cond_both (eqb d.field k) d.amount (value_in values k) (λ (n : ℕ). n ≤ f k) (λ same. subst (λ (j : ℕ). d.amount ≤ f j) (eqb-true d.field k same) all.0) (λ other. value_below f values k all.1)

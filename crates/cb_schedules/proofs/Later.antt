@@ -24,6 +24,7 @@ use Rattle.cb_schedules.specs.Schedule.{Setting, seat_at, Step, CastStep, Arrive
 use Rattle.cb_schedules.specs.Messages.{facts_at}
 use Rattle.cb_schedules.specs.Honest.{member_of, AreTogether}
 use Rattle.cb_schedules.specs.Consistent.{IsConsistent}
+use Rattle.cb_schedules.specs.Rounds.{IsNoCastStep}
 use Rattle.cb_schedules.proofs.Members.{stands_at}
 
 own_casts-append : (facts more : List Fact) → own_casts (facts ++ more) ≡ own_casts facts ++ own_casts more
@@ -68,11 +69,6 @@ later_joins s t u first second = record {
 }
 
 -- ---- a step
-
-abbrev pub CastsNothing : Step → Type 0
-CastsNothing (CastStep i payload) = ⊥
-CastsNothing (ArriveStep j number) = Unit {0}
-CastsNothing (TickStep i) = Unit {0}
 
 abbrev IsNoCast : Call → Type 0
 IsNoCast (ToCast payload) = ⊥
@@ -136,7 +132,7 @@ asked_is_later setting s OfNoMember none = nothing_is_later s OfNoMember NoSuchM
 asked_is_later setting s OfNoFrame none = nothing_is_later s OfNoFrame NoSuchFrame
 asked_is_later setting s OfNoBytes none = nothing_is_later s OfNoBytes NoBytes
 
-no_cast : (setting : Setting) (sent : List SentFrame) (step : Step) → CastsNothing step → (i : ℕ) (payload : List ℕ) → asked_by setting sent step ≡ Calls i (ToCast payload) → ⊥
+pub no_cast : (setting : Setting) (sent : List SentFrame) (step : Step) → IsNoCastStep step → (i : ℕ) (payload : List ℕ) → asked_by setting sent step ≡ Calls i (ToCast payload) → ⊥
 no_cast setting sent (CastStep i payload) none j other = absurd none
 no_cast setting sent (TickStep i) none j other =
     cond_both (ltb i setting.group.size) (Calls i ToTick) OfNoMember (λ (asked : Asked). asked ≡ Calls j (ToCast other) → ⊥) (λ _ e. cc) (λ _ e. cc)
@@ -148,11 +144,11 @@ no_cast setting sent (ArriveStep i number) none j other =
     handed None e = cc
     handed (Some frame) e = cc
 
-pub step_is_later : (setting : Setting) (s : GroupState) (step : Step) → CastsNothing step → IsLater s (step_after setting s step)
+pub step_is_later : (setting : Setting) (s : GroupState) (step : Step) → IsNoCastStep step → IsLater s (step_after setting s step)
 unfolding step_after
 step_is_later setting s step none = asked_is_later setting s (asked_by setting s.sent step) (no_cast setting s.sent step none)
 
-pub run_is_later : (setting : Setting) (s : GroupState) (steps : Schedule) → AllByRecursion CastsNothing steps → IsLater s (run_from setting s steps)
+pub run_is_later : (setting : Setting) (s : GroupState) (steps : Schedule) → AllByRecursion IsNoCastStep steps → IsLater s (run_from setting s steps)
 unfolding run_from
 run_is_later setting s [] all = later_itself s
 run_is_later setting s (step ∷ steps) all =
@@ -161,7 +157,7 @@ run_is_later setting s (step ∷ steps) all =
 -- ---- what rises with a history
 
 -- what one more fact never lowers, more facts don't
-grows : (amount : List Fact → ℕ) → ((facts : List Fact) (f : Fact) → amount facts ≤ amount (facts ++ f ∷ [])) → (facts more : List Fact) → amount facts ≤ amount (facts ++ more)
+pub grows : (amount : List Fact → ℕ) → ((facts : List Fact) (f : Fact) → amount facts ≤ amount (facts ++ f ∷ [])) → (facts more : List Fact) → amount facts ≤ amount (facts ++ more)
 grows amount one facts [] = subst (λ (fs : List Fact). amount facts ≤ amount fs) (sym (append-nil facts)) (omega arith)
 grows amount one facts (f ∷ more) =
     let here = one facts f in

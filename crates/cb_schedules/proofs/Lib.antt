@@ -20,3 +20,4 @@ pub mod Covering
 pub mod Hearing
 pub mod Waves
 pub mod Asking
+pub mod Repairing

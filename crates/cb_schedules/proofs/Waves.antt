@@ -108,7 +108,7 @@ each_takes setting is first s inv later none frame j since to lt =
 
 -- ---- a round
 
-none_full_splits : (setting : Setting) (s : GroupState) (steps more : Schedule) → FindNoneFullFrom setting s (steps ++ more) → FindNoneFullFrom setting s steps × FindNoneFullFrom setting (run_from setting s steps) more
+pub none_full_splits : (setting : Setting) (s : GroupState) (steps more : Schedule) → FindNoneFullFrom setting s (steps ++ more) → FindNoneFullFrom setting s steps × FindNoneFullFrom setting (run_from setting s steps) more
 unfolding run_from
 none_full_splits setting s [] more none = (tt, none)
 none_full_splits setting s (step ∷ steps) more none =

@@ -1,5 +1,5 @@
 -- Rounds: every member ticks, and then all that was put out arrives. A few of them repair whatever was lost.
-use Rattle.std.specs.Prelude.{◌≡◌, ◌≢◌, ℕ, zero, suc, ◌+◌, ◌<◌, not, ◌==◌, List, [], ◌∷◌, ◌++◌, length, drop, map, filter, Option, Some, None, Err}
+use Rattle.std.specs.Prelude.{◌≡◌, ◌≢◌, ◌↔◌, ℕ, zero, suc, ◌+◌, ◌<◌, ◌≤◌, min, true, not, ◌==◌, List, [], ◌∷◌, ◌++◌, length, drop, map, filter, Option, Some, None, Err}
 use Rattle.std.specs.List.{AllByRecursion, range_with_len}
 use Rattle.std.specs.Int.{div_ceil}
 use Rattle.cb_times.specs.declared.name.Name.{Name}
@@ -7,7 +7,11 @@ use Rattle.cb_frames.specs.declared.frame.TheConstants.{MOST_FRAMES}
 use Rattle.cb_history.specs.declared.answer.CastRefusal.TheVariants as casts
 use Rattle.cb_history.specs.declared.answer.ArriveRefusal.TheVariants as arrivals
 use Rattle.cb_history.specs.declared.answer.TickRefusal.TheVariants as ticks
-use Rattle.cb_schedules.specs.Schedule.{Setting, TickStep, ArriveStep, Schedule, SentFrame, Answer, CastAnswer, ArrivalAnswer, TickAnswer, GroupState, Outcome, run_from}
+use Rattle.cb_history.specs.Facts.{casts_in}
+use Rattle.cb_history.specs.Known.{known, expanded_count, stable}
+use Rattle.cb_history.specs.Answers.{delivered, own_casts, window}
+use Rattle.cb_schedules.specs.Schedule.{Setting, IsSetting, seat_at, Step, CastStep, ArriveStep, TickStep, Schedule, SentFrame, Answer, CastAnswer, ArrivalAnswer, TickAnswer, GroupState, Outcome, run_from, run}
+use Rattle.cb_schedules.specs.Messages.{facts_at, has_arrived, WasCast, HasDelivered}
 
 -- ---- the steps of a round
 
@@ -71,3 +75,93 @@ outcomes_of setting s steps = drop (length s.outcomes) (run_from setting s steps
 -- none of these steps finds a history full
 abbrev pub FindNoneFull : Setting → GroupState → Schedule → Type 0
 FindNoneFull setting s steps = AllByRecursion (λ outcome. IsNotFull outcome.answer) (outcomes_of setting s steps)
+
+-- ---- what rounds do
+
+-- every member has delivered every message that was cast
+abbrev pub EverybodyHasEverything : Setting → GroupState → Type 0
+EverybodyHasEverything setting s =
+    (j : ℕ) (m : Name) → j < setting.group.size → WasCast setting s m → HasDelivered setting s j m
+
+-- so no two members differ in what they have
+abbrev pub EverybodyHasTheSame : Setting → GroupState → Type 0
+EverybodyHasTheSame setting s =
+    (j k : ℕ) (m : Name) → j < setting.group.size → k < setting.group.size
+    → HasDelivered setting s j m ↔ HasDelivered setting s k m
+
+-- every member knows that all its casts are delivered everywhere, and keeps none of their frames
+abbrev pub EverythingIsStable : Setting → GroupState → Type 0
+EverythingIsStable setting s =
+    (i : ℕ) → i < setting.group.size
+    → (stable (seat_at setting i) (facts_at s i) ≡ delivered (seat_at setting i) (facts_at s i) i)
+    × (window (seat_at setting i) (facts_at s i) ≡ [])
+
+-- a step that is a tick or an arrival
+abbrev pub IsNoCastStep : Step → Type 0
+IsNoCastStep (CastStep i payload) = ⊥
+IsNoCastStep (ArriveStep j number) = Unit {0}
+IsNoCastStep (TickStep i) = Unit {0}
+
+-- whatever ticks and whatever arrives from now on, of all frames that were ever sent, no history changes
+abbrev pub NothingChangesAnyMore : Setting → GroupState → Type 0
+NothingChangesAnyMore setting s =
+    (steps : Schedule) (k : ℕ) → AllByRecursion IsNoCastStep steps
+    → (run_from setting s steps).histories k ≡ s.histories k
+
+-- Behind so many rounds it holds, from every state that any schedule reaches, where no answer in these rounds is that a history
+-- is full. Nothing is asked of what came before: all frames may have been lost.
+abbrev pub BehindRounds : (Setting → ℕ) → (Setting → GroupState → Type 0) → Type 0
+BehindRounds rounds P =
+    (setting : Setting) (steps : Schedule) → IsSetting setting
+    → FindNoneFull setting (run setting steps) (steps_of_rounds setting (rounds setting) (run setting steps))
+    → P setting (after_rounds setting (rounds setting) (run setting steps))
+
+-- one round, and as many more as it takes to ask for a whole window
+abbrev pub rounds_to_deliver : Setting → ℕ
+rounds_to_deliver setting = 1 + div_ceil setting.group.window MOST_FRAMES
+
+abbrev pub rounds_to_be_stable : Setting → ℕ
+rounds_to_be_stable setting = rounds_to_deliver setting + 1
+
+-- every further round leaves each history as it is
+abbrev pub FurtherRoundsAreQuiet : Type 0
+FurtherRoundsAreQuiet =
+    (setting : Setting) (steps : Schedule) (more k : ℕ) → IsSetting setting
+    → FindNoneFull setting (run setting steps) (steps_of_rounds setting (rounds_to_be_stable setting) (run setting steps))
+    → (after_rounds setting (rounds_to_be_stable setting + more) (run setting steps)).histories k
+    ≡ (after_rounds setting (rounds_to_be_stable setting) (run setting steps)).histories k
+
+-- ---- what one round does
+
+-- nobody casts in a round
+abbrev pub RoundsCastNothing : Type 0
+RoundsCastNothing =
+    (setting : Setting) (s : GroupState) (n i : ℕ) → own_casts (facts_at (after_rounds setting n s) i) ≡ own_casts (facts_at s i)
+
+-- what is put out in answer arrives without putting anything out, so all that a round puts out arrives in it
+abbrev pub AnswersPutNothingOut : Type 0
+AnswersPutNothingOut =
+    (setting : Setting) (steps : Schedule) → IsSetting setting
+    → (run_from setting (run setting steps) (round_steps setting (run setting steps))).sent ≡ (asked_round setting (run setting steps)).sent
+
+-- everybody has heard of every cast of each other member
+abbrev pub EverybodyHasHeard : Setting → GroupState → Type 0
+EverybodyHasHeard setting s =
+    (j i : ℕ) → j < setting.group.size → i < setting.group.size → j ≢ i
+    → known (facts_at s j) i ≡ delivered (seat_at setting i) (facts_at s i) i
+
+-- Where everybody has heard of every cast, a round expands with each member, of each other, as many more casts as an answer has frames;
+-- or all that there are.
+abbrev pub RoundsExpand : Type 0
+RoundsExpand =
+    (setting : Setting) (steps : Schedule) (j i : ℕ) → IsSetting setting → EverybodyHasHeard setting (run setting steps)
+    → FindNoneFull setting (run setting steps) (round_steps setting (run setting steps))
+    → j < setting.group.size → i < setting.group.size → j ≢ i
+    → min (delivered (seat_at setting i) (facts_at (run setting steps) i) i) (expanded_count (casts_in (facts_at (run setting steps) j)) i + MOST_FRAMES)
+    ≤ expanded_count (casts_in (facts_at (run_from setting (run setting steps) (round_steps setting (run setting steps))) j)) i
+
+-- where everything that was cast has arrived everywhere, everything is delivered everywhere
+abbrev pub ArrivedEverywhereIsDelivered : Setting → GroupState → Type 0
+ArrivedEverywhereIsDelivered setting s =
+    ((j : ℕ) (m : Name) → j < setting.group.size → WasCast setting s m → has_arrived s j m ≡ true)
+    → EverybodyHasEverything setting s
