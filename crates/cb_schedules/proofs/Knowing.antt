@@ -107,7 +107,7 @@ module _ (group : Parameters) (facts : ℕ → List Fact) (h : AreTogether group
 
   -- ---- what a member has heard of
 
-  own_number : (c : CastFields) → IsIn c (own_casts (facts c.sender)) → c.number ≤ has_delivered c.sender c.sender
+  pub own_number : (c : CastFields) → IsIn c (own_casts (facts c.sender)) → c.number ≤ has_delivered c.sender c.sender
   own_number c own =
       let there = own_is_there (facts c.sender) c own in
       own_is_delivered (member_of group c.sender) (facts c.sender) c.number (h.legal c.sender (inside group facts h c.sender c there)) (cast_is_there (casts_in (facts c.sender)) c c.sender c.number there refl refl)

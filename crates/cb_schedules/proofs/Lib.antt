@@ -21,3 +21,4 @@ pub mod Hearing
 pub mod Waves
 pub mod Asking
 pub mod Repairing
+pub mod Quieting

@@ -39,6 +39,7 @@ pub record Ticks (setting : Setting) (s t : GroupState) (j : ℕ) : Type 0 where
   pub next : GroupState
   pub consistent : IsConsistent setting now
   pub before : IsLater s now
+  pub step : IsLater now next
   pub after : IsLater next t
   pub rest : IsLater now t
   pub history : next.histories j ≡ history_after (seat_at setting j) setting.limit (now.histories j) ToTick
@@ -57,6 +58,7 @@ each_ticks setting is s inv none j lt =
       next = step_after setting h.now (TickStep j);
       consistent = h.consistent;
       before = h.before;
+      step = step_is_later setting h.now (TickStep j) tt;
       after = h.after;
       rest = later_joins h.now (step_after setting h.now (TickStep j)) (run_from setting s (tick_steps setting)) (step_is_later setting h.now (TickStep j) tt) h.after;
       history = own_history_after setting h.now (TickStep j) j ToTick asks;
