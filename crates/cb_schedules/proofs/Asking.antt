@@ -56,7 +56,7 @@ abbrev pub expanded_at : GroupState → ℕ → ℕ → ℕ
 expanded_at s j i = expanded_count (casts_in (facts_at s j)) i
 
 -- an own cast is read from its text
-own_cast_read : (setting : Setting) (s : GroupState) → IsConsistent setting s → (i : ℕ) (c : CastFields) → IsIn c (own_casts (facts_at s i)) → frame_at (text_of (CastFrame c)) ≡ Ok (CastFrame c)
+pub own_cast_read : (setting : Setting) (s : GroupState) → IsConsistent setting s → (i : ℕ) (c : CastFields) → IsIn c (own_casts (facts_at s i)) → frame_at (text_of (CastFrame c)) ≡ Ok (CastFrame c)
 own_cast_read setting s inv i c own =
     let (frame, at, read) = sent_frame s.sent c (cast_of_is_in c (sent_casts s) (inv.sent i c (in_is_cast_of c (own_casts (facts_at s i)) own))) in
     let honest = all_at (λ (frame : SentFrame). IsHonest setting.group (facts_at s) frame.bytes) s.sent frame inv.honest at in

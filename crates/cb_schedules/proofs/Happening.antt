@@ -142,7 +142,7 @@ frame_arrives setting number (first ∷ frames) frame j (inr later) to =
           (in_back (ArriveStep j (number + 1 + k)) (map (λ j. ArriveStep j number) (receivers setting.group.size first.from first.to)) (arrivals_from setting (number + 1) frames) step),
     )
 
-get_behind : {A : Type 0} (xs ys : List A) (k : ℕ) → slice_get (xs ++ ys) (length xs + k) ≡ slice_get ys k
+pub get_behind : {A : Type 0} (xs ys : List A) (k : ℕ) → slice_get (xs ++ ys) (length xs + k) ≡ slice_get ys k
 get_behind [] ys k = let e : 0 + k ≡ k = omega arith in ap (slice_get ys) e
 get_behind (x ∷ xs) ys k = let e : length (x ∷ xs) + k ≡ suc (length xs + k) = omega arith in ap (slice_get (x ∷ xs ++ ys)) e ∙ get_behind xs ys k
 

@@ -22,3 +22,4 @@ pub mod Waves
 pub mod Asking
 pub mod Repairing
 pub mod Quieting
+pub mod Ending

@@ -133,6 +133,15 @@ FurtherRoundsAreQuiet =
 
 -- ---- what one round does
 
+abbrev pub one_round : Setting → ℕ
+one_round setting = 1
+
+-- rounds are steps of a schedule like any others
+abbrev pub RoundsAreSteps : Type 0
+RoundsAreSteps =
+    (setting : Setting) (steps : Schedule) (n : ℕ)
+    → after_rounds setting n (run setting steps) ≡ run setting (steps ++ steps_of_rounds setting n (run setting steps))
+
 -- nobody casts in a round
 abbrev pub RoundsCastNothing : Type 0
 RoundsCastNothing =
