@@ -23,3 +23,4 @@ pub mod Asking
 pub mod Repairing
 pub mod Quieting
 pub mod Ending
+pub mod RoundLaws

@@ -55,7 +55,7 @@ next_round setting n s = runs_join_from setting s (steps_of_rounds setting n s) 
 pub rounds_are_later : (setting : Setting) (n : ℕ) (s : GroupState) → IsLater s (after_rounds setting n s)
 rounds_are_later setting n s = run_is_later setting s (steps_of_rounds setting n s) (rounds_cast_nothing setting n s)
 
-none_full_before : (setting : Setting) (n : ℕ) (s : GroupState) → FindNoneFullFrom setting s (steps_of_rounds setting (suc n) s)
+pub none_full_before : (setting : Setting) (n : ℕ) (s : GroupState) → FindNoneFullFrom setting s (steps_of_rounds setting (suc n) s)
     → FindNoneFullFrom setting s (steps_of_rounds setting n s) × FindNoneFullFrom setting (after_rounds setting n s) (round_steps setting (after_rounds setting n s))
 unfolding steps_of_rounds
 none_full_before setting n s none = none_full_splits setting s (steps_of_rounds setting n s) (round_steps setting (after_rounds setting n s)) none
