@@ -20,7 +20,7 @@ use Rattle.cb_history.proofs.Views.{IsIn, filter_in}
 use Rattle.cb_schedules.specs.Schedule.{Setting, IsSetting, seat_at, Step, CastStep, ArriveStep, TickStep, Schedule, SentFrame, Asked, Calls, OfNoMember, ArrivalAnswer, put_out, sent_by, answer_of, GroupState, handed_over, asked_by, and_answer, after_asked, step_after, run_from}
 use Rattle.cb_schedules.specs.Messages.{facts_at}
 use Rattle.cb_schedules.specs.Consistent.{IsConsistent}
-use Rattle.cb_schedules.specs.Rounds.{tick_steps, receivers, arrivals_from, arrivals_since, ticked, asked_round, round_steps}
+use Rattle.cb_schedules.specs.Rounds.{tick_steps, receivers, arrivals_from, arrivals_since, ticked, answered, round_steps}
 use Rattle.cb_schedules.proofs.Lists.{all_map, all_both, all_weaken, in_take}
 use Rattle.cb_schedules.proofs.Courses.{step_goes_on, consistent_from}
 use Rattle.cb_schedules.proofs.Happening.{get_behind}
@@ -170,11 +170,11 @@ arrivals_bring_casts setting sent number (frame ∷ frames) casts at =
 
 -- ---- a round
 
-pub round_ends_there : (setting : Setting) → IsSetting setting → (s : GroupState) → IsConsistent setting s → (run_from setting s (round_steps setting s)).sent ≡ (asked_round setting s).sent
-unfolding ticked asked_round
+pub round_ends_there : (setting : Setting) → IsSetting setting → (s : GroupState) → IsConsistent setting s → (run_from setting s (round_steps setting s)).sent ≡ (answered setting s).sent
+unfolding ticked answered
 round_ends_there setting is s inv =
     let a = ticked setting s in
-    let b = asked_round setting s in
+    let b = answered setting s in
     let inv_a = consistent_from setting is s inv (tick_steps setting) in
     let (new, is_new, casts) = arrivals_send_casts setting is a inv_a (arrivals_since setting (length s.sent) a) (arrivals_are setting (length s.sent) (drop (length s.sent) a.sent)) in
     let behind : drop (length a.sent) b.sent ≡ new = ap (drop (length a.sent)) is_new ∙ drop-append_seam a.sent new in

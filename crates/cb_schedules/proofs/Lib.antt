@@ -24,3 +24,4 @@ pub mod Repairing
 pub mod Quieting
 pub mod Ending
 pub mod RoundLaws
+pub mod Once

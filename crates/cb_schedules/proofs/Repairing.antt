@@ -16,7 +16,7 @@ use Rattle.cb_schedules.specs.Schedule.{Setting, IsSetting, seat_at, Schedule, G
 use Rattle.cb_schedules.specs.Messages.{facts_at, has_arrived, WasCast, HasDelivered}
 use Rattle.cb_schedules.specs.Honest.{member_of}
 use Rattle.cb_schedules.specs.Consistent.{IsConsistent}
-use Rattle.cb_schedules.specs.Rounds.{tick_steps, arrivals_since, ticked, asked_round, round_steps, steps_of_rounds, after_rounds, IsNoCastStep, EverybodyHasEverything, EverybodyHasTheSame, EverybodyHasHeard, ArrivedEverywhereIsDelivered}
+use Rattle.cb_schedules.specs.Rounds.{tick_steps, arrivals_since, ticked, answered, round_steps, steps_of_rounds, after_rounds, IsNoCastStep, EverybodyHasEverything, EverybodyHasTheSame, EverybodyHasHeard, ArrivedEverywhereIsDelivered}
 use Rattle.cb_schedules.proofs.GoingOn.{runs_join_from}
 use Rattle.cb_schedules.proofs.Courses.{consistent_from}
 use Rattle.cb_schedules.proofs.Lists.{all_both}
@@ -35,11 +35,11 @@ use Rattle.cb_schedules.proofs.Asking.{cast_count, expanded_at, status_comes, ca
 pub round_casts_nothing : (setting : Setting) (s : GroupState) → AllByRecursion IsNoCastStep (round_steps setting s)
 unfolding round_steps
 round_casts_nothing setting s =
-    all_both IsNoCastStep (tick_steps setting) (arrivals_since setting (length s.sent) (ticked setting s) ++ arrivals_since setting (length (ticked setting s).sent) (asked_round setting s))
+    all_both IsNoCastStep (tick_steps setting) (arrivals_since setting (length s.sent) (ticked setting s) ++ arrivals_since setting (length (ticked setting s).sent) (answered setting s))
     (ticks_cast_nothing (range_with_len 0 setting.group.size))
-    (all_both IsNoCastStep (arrivals_since setting (length s.sent) (ticked setting s)) (arrivals_since setting (length (ticked setting s).sent) (asked_round setting s))
+    (all_both IsNoCastStep (arrivals_since setting (length s.sent) (ticked setting s)) (arrivals_since setting (length (ticked setting s).sent) (answered setting s))
     (arrivals_cast_nothing setting (length s.sent) (drop (length s.sent) (ticked setting s).sent))
-    (arrivals_cast_nothing setting (length (ticked setting s).sent) (drop (length (ticked setting s).sent) (asked_round setting s).sent)))
+    (arrivals_cast_nothing setting (length (ticked setting s).sent) (drop (length (ticked setting s).sent) (answered setting s).sent)))
 
 pub rounds_cast_nothing : (setting : Setting) (n : ℕ) (s : GroupState) → AllByRecursion IsNoCastStep (steps_of_rounds setting n s)
 unfolding steps_of_rounds

@@ -16,7 +16,7 @@ use Rattle.cb_schedules.specs.Messages.{facts_at}
 use Rattle.cb_schedules.specs.Honest.{IsHonest}
 use Rattle.cb_schedules.specs.Consistent.{IsConsistent}
 use Rattle.cb_schedules.specs.SentLaws.{IsNoRefusal}
-use Rattle.cb_schedules.specs.Rounds.{tick_steps, receivers, arrivals_from, arrivals_since, ticked, asked_round, round_steps, IsNotFull}
+use Rattle.cb_schedules.specs.Rounds.{tick_steps, receivers, arrivals_from, arrivals_since, ticked, answered, round_steps, IsNotFull}
 use Rattle.cb_schedules.proofs.GoingOn.{runs_join_from}
 use Rattle.cb_schedules.proofs.Courses.{consistent_from}
 use Rattle.cb_schedules.proofs.Headlines.{call_is_welcome}
@@ -131,17 +131,17 @@ pub record Waves (setting : Setting) (s t : GroupState) : Type 0 where
 
 -- where the round ends
 pub round_ends : (setting : Setting) (s : GroupState)
-    → run_from setting s (round_steps setting s) ≡ run_from setting (asked_round setting s) (arrivals_since setting (length (ticked setting s).sent) (asked_round setting s))
-unfolding ticked asked_round round_steps
+    → run_from setting s (round_steps setting s) ≡ run_from setting (answered setting s) (arrivals_since setting (length (ticked setting s).sent) (answered setting s))
+unfolding ticked answered round_steps
 round_ends setting s =
-    runs_join_from setting s (tick_steps setting) (arrivals_since setting (length s.sent) (ticked setting s) ++ arrivals_since setting (length (ticked setting s).sent) (asked_round setting s))
-    ∙ runs_join_from setting (ticked setting s) (arrivals_since setting (length s.sent) (ticked setting s)) (arrivals_since setting (length (ticked setting s).sent) (asked_round setting s))
+    runs_join_from setting s (tick_steps setting) (arrivals_since setting (length s.sent) (ticked setting s) ++ arrivals_since setting (length (ticked setting s).sent) (answered setting s))
+    ∙ runs_join_from setting (ticked setting s) (arrivals_since setting (length s.sent) (ticked setting s)) (arrivals_since setting (length (ticked setting s).sent) (answered setting s))
 
 pub waves_of : (setting : Setting) → IsSetting setting → (s : GroupState) → IsConsistent setting s → FindNoneFullFrom setting s (round_steps setting s) → Waves setting s (run_from setting s (round_steps setting s))
-unfolding ticked asked_round round_steps
+unfolding ticked answered round_steps
 waves_of setting is s inv none =
     let first = arrivals_since setting (length s.sent) (ticked setting s) in
-    let second = arrivals_since setting (length (ticked setting s).sent) (asked_round setting s) in
+    let second = arrivals_since setting (length (ticked setting s).sent) (answered setting s) in
     let cut = none_full_splits setting s (tick_steps setting) (first ++ second) none in
     let cut_again = none_full_splits setting (ticked setting s) first second cut.1 in
     let inv_ticked = consistent_from setting is s inv (tick_steps setting) in
@@ -150,12 +150,12 @@ waves_of setting is s inv none =
     let later_asked = run_is_later setting (ticked setting s) first (arrivals_cast_nothing setting (length s.sent) (drop (length s.sent) (ticked setting s).sent)) in
     subst (Waves setting s) (sym (round_ends setting s)) (record {
       asking = ticked setting s;
-      answered = asked_round setting s;
+      answered = answered setting s;
       ticks = each_ticks setting is s inv cut.0;
       asked = each_takes setting is s (ticked setting s) inv_ticked later_ticked cut_again.0;
-      taken = each_takes setting is (ticked setting s) (asked_round setting s) inv_asked later_asked cut_again.1;
+      taken = each_takes setting is (ticked setting s) (answered setting s) inv_asked later_asked cut_again.1;
       to_asking = later_ticked;
       to_answered = later_asked;
-      to_end = run_is_later setting (asked_round setting s) second (arrivals_cast_nothing setting (length (ticked setting s).sent) (drop (length (ticked setting s).sent) (asked_round setting s).sent));
-      end_consistent = consistent_from setting is (asked_round setting s) inv_asked second;
+      to_end = run_is_later setting (answered setting s) second (arrivals_cast_nothing setting (length (ticked setting s).sent) (drop (length (ticked setting s).sent) (answered setting s).sent));
+      end_consistent = consistent_from setting is (answered setting s) inv_asked second;
     })

@@ -1,5 +1,5 @@
 -- Rounds: every member ticks, and then all that was put out arrives. A few of them repair whatever was lost.
-use Rattle.std.specs.Prelude.{◌≡◌, ◌≢◌, ◌↔◌, ℕ, zero, suc, ◌+◌, ◌<◌, ◌≤◌, min, true, not, ◌==◌, List, [], ◌∷◌, ◌++◌, length, drop, map, filter, Option, Some, None, Err}
+use Rattle.std.specs.Prelude.{◌≡◌, ◌≢◌, ◌↔◌, ℕ, zero, suc, ◌+◌, ◌<◌, ◌≤◌, min, Bool, true, not, ◌&&◌, ◌==◌, nat_lt, if◌then◌else◌, slice_get, List, [], ◌∷◌, ◌++◌, length, drop, map, filter, Option, Some, None, Err}
 use Rattle.std.specs.List.{AllByRecursion, range_with_len}
 use Rattle.std.specs.Int.{div_ceil}
 use Rattle.cb_times.specs.declared.name.Name.{Name}
@@ -40,15 +40,15 @@ unfoldable pub ticked : Setting → GroupState → GroupState
 ticked setting s = run_from setting s (tick_steps setting)
 
 -- and behind the arrivals of what they put out: the statuses and the requests
-unfoldable pub asked_round : Setting → GroupState → GroupState
-asked_round setting s = run_from setting (ticked setting s) (arrivals_since setting (length s.sent) (ticked setting s))
+unfoldable pub answered : Setting → GroupState → GroupState
+answered setting s = run_from setting (ticked setting s) (arrivals_since setting (length s.sent) (ticked setting s))
 
 -- A round: the ticks, the arrivals of what they put out, and the arrivals of what was put out in answer.
 unfoldable pub round_steps : Setting → GroupState → Schedule
 round_steps setting s =
     tick_steps setting
     ++ (arrivals_since setting (length s.sent) (ticked setting s)
-    ++ arrivals_since setting (length (ticked setting s).sent) (asked_round setting s))
+    ++ arrivals_since setting (length (ticked setting s).sent) (answered setting s))
 
 -- so many rounds, one after another, and the state behind them
 unfoldable pub steps_of_rounds : Setting → ℕ → GroupState → Schedule
@@ -151,7 +151,54 @@ RoundsCastNothing =
 abbrev pub AnswersPutNothingOut : Type 0
 AnswersPutNothingOut =
     (setting : Setting) (steps : Schedule) → IsSetting setting
-    → (run_from setting (run setting steps) (round_steps setting (run setting steps))).sent ≡ (asked_round setting (run setting steps)).sent
+    → (run_from setting (run setting steps) (round_steps setting (run setting steps))).sent ≡ (answered setting (run setting steps)).sent
+
+-- how many of these steps are ticks of member i
+abbrev pub ticks_of : ℕ → Schedule → ℕ
+ticks_of i [] = 0
+ticks_of i (CastStep j payload ∷ steps) = ticks_of i steps
+ticks_of i (ArriveStep j number ∷ steps) = ticks_of i steps
+ticks_of i (TickStep j ∷ steps) = (if j == i then 1 else 0) + ticks_of i steps
+
+-- how many are arrivals of the frame with this number at member j
+abbrev pub arrivals_at : ℕ → ℕ → Schedule → ℕ
+arrivals_at j number [] = 0
+arrivals_at j number (CastStep i payload ∷ steps) = arrivals_at j number steps
+arrivals_at j number (ArriveStep i n ∷ steps) = (if i == j && n == number then 1 else 0) + arrivals_at j number steps
+arrivals_at j number (TickStep i ∷ steps) = arrivals_at j number steps
+
+-- whether a frame was sent to member j: it names j, or nobody and j is another member than its sender
+abbrev pub names_receiver : ℕ → ℕ → Option ℕ → ℕ → Bool
+names_receiver size from None j = nat_lt j size && not (j == from)
+names_receiver size from (Some k) j = k == j
+
+abbrev pub is_sent_to : ℕ → SentFrame → ℕ → Bool
+is_sent_to size frame j = names_receiver size frame.from frame.to j
+
+-- every member ticks once in a round, and nobody else does
+abbrev pub EachTicksOnce : Type 0
+EachTicksOnce =
+    (setting : Setting) (s : GroupState) (i : ℕ)
+    → ticks_of i (round_steps setting s) ≡ (if nat_lt i setting.group.size then 1 else 0)
+
+-- each frame that was sent in a round arrives in it once at everyone it was sent to, and at nobody else
+abbrev pub EachArrivesOnce : Type 0
+EachArrivesOnce =
+    (setting : Setting) (steps : Schedule) (number j : ℕ) (frame : SentFrame) → IsSetting setting
+    → length (run setting steps).sent ≤ number
+    → slice_get (run_from setting (run setting steps) (round_steps setting (run setting steps))).sent number ≡ Some frame
+    → arrivals_at j number (round_steps setting (run setting steps)) ≡ (if is_sent_to setting.group.size frame j then 1 else 0)
+
+-- and no frame that was sent before
+abbrev pub NothingOldArrives : Type 0
+NothingOldArrives =
+    (setting : Setting) (s : GroupState) (number j : ℕ) → number < length s.sent → arrivals_at j number (round_steps setting s) ≡ 0
+
+-- there is room enough where each history has an entry left for each step
+abbrev pub RoomForEachStepIsEnough : Type 0
+RoomForEachStepIsEnough =
+    (setting : Setting) (s : GroupState) (steps : Schedule) → ((k : ℕ) → length (s.histories k) + length steps ≤ setting.limit)
+    → FindNoneFull setting s steps
 
 -- everybody has heard of every cast of each other member
 abbrev pub EverybodyHasHeard : Setting → GroupState → Type 0
