@@ -1,20 +1,19 @@
 -- What a round brings: everybody hears of every cast, and gets what it lacks of the first casts above those that it has expanded.
-use Rattle.std.proofs.Common.{◌≡◌, ◌≢◌, ℕ, ◌+◌, ◌<◌, ◌≤◌, Bool, true, false, not, eqb, ltb, List, [], ◌∷◌, ◌++◌, map, take, Some, None, Result, Ok, refl, sym, ap, subst, ◌∙◌, arith, inl, inr}
+use Rattle.std.proofs.Common.{◌≡◌, ◌≢◌, ℕ, ◌+◌, ◌<◌, ◌≤◌, Bool, true, false, not, eqb, ltb, List, [], ◌∷◌, map, take, Some, None, Ok, refl, sym, subst, ◌∙◌, arith, inl, inr}
 use Rattle.std.specs.List.{flat_map, filter, range_with_len}
 use Rattle.std.proofs.lemmas.Bool.{cases_lt, eq-eqb, ne_eqb, lt-ltb, and_parts}
 use Rattle.cb_frames.specs.declared.frame.TheConstants.{MOST_RANGES, MOST_FRAMES}
 use Rattle.cb_frames.specs.declared.frame.Range.{Range}
-use Rattle.cb_frames.specs.Fields.{CastFields, StatusFields, RequestFields, FrameFields, CastFrame, StatusFrame, RequestFrame}
+use Rattle.cb_frames.specs.Fields.{CastFields, StatusFields, RequestFields, CastFrame, StatusFrame, RequestFrame}
 use Rattle.cb_frames.specs.Text.{text_of, AreRanges}
 use Rattle.cb_frames.specs.Reading.{frame_at}
 use Rattle.cb_frames.proofs.Decoding.{text_is_read}
 use Rattle.cb_frames.proofs.Unique.{some_text}
 use Rattle.cb_history.specs.declared.answer.Outgoing.{Outgoing}
-use Rattle.cb_history.specs.Facts.{EntryFields, Fact, facts_of, casts_in, is_there}
+use Rattle.cb_history.specs.Facts.{EntryFields, facts_of, casts_in, is_there}
 use Rattle.cb_history.specs.View.{view}
-use Rattle.cb_history.specs.Known.{value_in, known, expanded_count, missing, ranges_of, acknowledged, stable}
-use Rattle.cb_history.specs.Answers.{delivered, own_casts, window, is_asked_for, sent_in_answer, arrive_answer, status_of, request_to, requests}
-use Rattle.cb_history.specs.Legal.{ToTake, history_after}
+use Rattle.cb_history.specs.Known.{known, expanded_count, missing, ranges_of, acknowledged, stable}
+use Rattle.cb_history.specs.Answers.{delivered, own_casts, window, is_asked_for, sent_in_answer, status_of, request_to}
 use Rattle.cb_history.specs.ArrivalLaws.{AreThere}
 use Rattle.cb_history.specs.GapLaws.{IsMissing}
 use Rattle.cb_history.proofs.Views.{IsIn, filter_in, in_filter}
@@ -25,10 +24,10 @@ use Rattle.cb_history.proofs.Statuses.{status_says_the_time}
 use Rattle.cb_history.proofs.ReadBack.{status_read}
 use Rattle.cb_history.proofs.Requests.{own_frames_have_texts}
 use Rattle.cb_history.proofs.GapsLater.{lacking_is_above}
-use Rattle.cb_history.proofs.Buffers.{cast_of_is_in, in_is_cast_of, HasCast, cast_there}
+use Rattle.cb_history.proofs.Buffers.{cast_of_is_in, in_is_cast_of, cast_there}
 use Rattle.cb_history.proofs.Agreement.{all_at}
 use Rattle.cb_history.proofs.Arrivals.{casts_are_of_the_group}
-use Rattle.cb_schedules.specs.Schedule.{Setting, seat_at, SentFrame, ArrivalAnswer, put_out, sent_by, GroupState}
+use Rattle.cb_schedules.specs.Schedule.{Setting, seat_at, SentFrame, sent_by, GroupState}
 use Rattle.cb_schedules.specs.Messages.{facts_at, sent_casts}
 use Rattle.cb_schedules.specs.Honest.{IsHonest}
 use Rattle.cb_schedules.specs.Consistent.{IsConsistent}

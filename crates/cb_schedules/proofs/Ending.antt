@@ -1,5 +1,5 @@
 -- What is put out in answer is casts alone, and a cast that arrives puts nothing out: so a round has no third wave.
-use Rattle.std.proofs.Common.{◌≡◌, ℕ, zero, suc, ◌+◌, ◌<◌, Bool, not, ◌&&◌, eqb, ltb, List, [], ◌∷◌, ◌++◌, length, drop, map, take, Option, Some, None, Result, Ok, Err, refl, sym, ap, subst, ◌∙◌, append_assoc, arith, inl, inr}
+use Rattle.std.proofs.Common.{◌≡◌, ℕ, suc, ◌+◌, not, ◌&&◌, eqb, ltb, List, [], ◌∷◌, ◌++◌, length, drop, map, take, Option, Some, None, Result, Ok, Err, refl, sym, ap, subst, ◌∙◌, append_assoc, arith}
 use Rattle.std.specs.Prelude.{slice_get}
 use Rattle.std.specs.List.{AllByRecursion, filter}
 use Rattle.std.proofs.lemmas.Bool.{cond_both}
@@ -12,16 +12,15 @@ use Rattle.cb_frames.specs.Text.{text_of}
 use Rattle.cb_frames.specs.Reading.{frame_at}
 use Rattle.cb_history.specs.declared.answer.ArriveRefusal.{ArriveRefusal}
 use Rattle.cb_history.specs.declared.answer.Outgoing.{Outgoing}
-use Rattle.cb_history.specs.Facts.{Fact, facts_of}
 use Rattle.cb_history.specs.Known.{stable}
 use Rattle.cb_history.specs.Answers.{own_casts, window, is_full, group_of, are_members, is_impossible, is_repeat, is_too_far, is_change, is_asked_for, sent_in_answer, ArrivalSays, frame_answer, answer_to, arrive_answer}
 use Rattle.cb_history.specs.Legal.{ToTake}
-use Rattle.cb_history.proofs.Views.{IsIn, filter_in}
-use Rattle.cb_schedules.specs.Schedule.{Setting, IsSetting, seat_at, Step, CastStep, ArriveStep, TickStep, Schedule, SentFrame, Asked, Calls, OfNoMember, ArrivalAnswer, put_out, sent_by, answer_of, GroupState, handed_over, asked_by, and_answer, after_asked, step_after, run_from}
+use Rattle.cb_history.proofs.Views.{filter_in}
+use Rattle.cb_schedules.specs.Schedule.{Setting, IsSetting, seat_at, Step, CastStep, ArriveStep, TickStep, Schedule, SentFrame, Asked, OfNoMember, ArrivalAnswer, put_out, sent_by, answer_of, GroupState, handed_over, after_asked, step_after, run_from}
 use Rattle.cb_schedules.specs.Messages.{facts_at}
 use Rattle.cb_schedules.specs.Consistent.{IsConsistent}
 use Rattle.cb_schedules.specs.Rounds.{tick_steps, receivers, arrivals_from, arrivals_since, ticked, answered, round_steps}
-use Rattle.cb_schedules.proofs.Lists.{all_map, all_both, all_weaken, in_take}
+use Rattle.cb_schedules.proofs.Lists.{all_map, all_both, in_take}
 use Rattle.cb_schedules.proofs.Courses.{step_goes_on, consistent_from}
 use Rattle.cb_schedules.proofs.Happening.{get_behind}
 use Rattle.cb_schedules.proofs.Asking.{own_cast_read}

@@ -1,7 +1,7 @@
 -- Each step of a schedule happens at some moment of its run, and what it puts out is among the frames that were sent.
-use Rattle.std.proofs.Common.{◌≡◌, ℕ, zero, suc, ◌+◌, ◌<◌, true, cond, not, eqb, ltb, List, [], ◌∷◌, ◌++◌, length, drop, map, Option, Some, None, refl, sym, ap, subst, ◌∙◌, append_assoc, arith, inl, inr}
+use Rattle.std.proofs.Common.{◌≡◌, ◌↔◌, ℕ, zero, suc, ◌+◌, ◌<◌, not, eqb, List, [], ◌∷◌, ◌++◌, length, drop, map, Some, None, refl, sym, ap, subst, ◌∙◌, append_assoc, arith, inl, inr}
 use Rattle.std.specs.Prelude.{slice_get}
-use Rattle.std.specs.List.{AllByRecursion, filter, range_with_len}
+use Rattle.std.specs.List.{AllByRecursion, range_with_len}
 use Rattle.std.proofs.lemmas.Bool.{lt-ltb, ne_eqb}
 use Rattle.std.proofs.lemmas.List.{append-nil}
 use Rattle.std.proofs.Math.Seq.{drop-append_seam}
@@ -12,7 +12,7 @@ use Rattle.cb_history.proofs.Lists.{in_front, in_back}
 use Rattle.cb_history.proofs.Keeping.{in_range}
 use Rattle.cb_schedules.specs.Schedule.{Setting, IsSetting, seat_at, Step, ArriveStep, TickStep, Schedule, SentFrame, Asked, Calls, OfNoMember, OfNoFrame, OfNoBytes, Answer, NoSuchMember, NoSuchFrame, NoBytes, put_out, sent_by, answer_of, Outcome, GroupState, asked_by, after_asked, step_after, run_from}
 use Rattle.cb_schedules.specs.Consistent.{IsConsistent}
-use Rattle.cb_schedules.specs.Rounds.{receivers, arrivals_from, IsNotFull, IsNoCastStep, outcomes_of, FindNoneFull}
+use Rattle.cb_schedules.specs.Rounds.{receivers, arrivals_from, IsNotFull, IsNoCastStep, FindNoneFull}
 use Rattle.cb_schedules.proofs.Courses.{step_goes_on}
 use Rattle.cb_schedules.proofs.Lists.{in_map, all_both}
 use Rattle.cb_schedules.proofs.Later.{IsLater, later_itself, later_joins, step_is_later, run_is_later}
@@ -48,21 +48,26 @@ step_outcome setting s step = new_outcome setting s (asked_by setting s.sent ste
 
 -- the outcomes of a run are those before it and one more for each step
 run_outcomes : (setting : Setting) (s : GroupState) (steps : Schedule) → (more : List Outcome) × ((run_from setting s steps).outcomes ≡ s.outcomes ++ more)
-    × (AllByRecursion (λ o. IsNotFull o.answer) more → FindNoneFullFrom setting s steps)
+    × (AllByRecursion (λ o. IsNotFull o.answer) more ↔ FindNoneFullFrom setting s steps)
 unfolding run_from
-run_outcomes setting s [] = ([], sym (append-nil s.outcomes), (λ _. tt))
+run_outcomes setting s [] = ([], sym (append-nil s.outcomes), ((λ _. tt), (λ _. tt)))
 run_outcomes setting s (step ∷ steps) =
     let (o, is_o, answer) = step_outcome setting s step in
     let (more, is_more, each) = run_outcomes setting (step_after setting s step) steps in (
       o ∷ more,
       is_more ∙ ap (λ (os : List Outcome). os ++ more) is_o ∙ append_assoc s.outcomes (o ∷ []) more,
-      (λ all. (subst IsNotFull answer all.0, each all.1)),
+      ((λ all. (subst IsNotFull answer all.0, each.0 all.1)), (λ all. (subst IsNotFull (sym answer) all.0, each.1 all.1))),
     )
 
 pub none_full_from : (setting : Setting) (s : GroupState) (steps : Schedule) → FindNoneFull setting s steps → FindNoneFullFrom setting s steps
 none_full_from setting s steps none =
     let (more, is, each) = run_outcomes setting s steps in
-    each (subst (AllByRecursion (λ o. IsNotFull o.answer)) (ap (drop (length s.outcomes)) is ∙ drop-append_seam s.outcomes more) none)
+    each.0 (subst (AllByRecursion (λ o. IsNotFull o.answer)) (ap (drop (length s.outcomes)) is ∙ drop-append_seam s.outcomes more) none)
+
+pub from_none_full : (setting : Setting) (s : GroupState) (steps : Schedule) → FindNoneFullFrom setting s steps → FindNoneFull setting s steps
+from_none_full setting s steps none =
+    let (more, is, each) = run_outcomes setting s steps in
+    subst (AllByRecursion (λ o. IsNotFull o.answer)) (sym (ap (drop (length s.outcomes)) is ∙ drop-append_seam s.outcomes more)) (each.1 none)
 
 -- ---- the moment of a step
 

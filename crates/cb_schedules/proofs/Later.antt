@@ -1,5 +1,5 @@
 -- Steps that cast nothing: each history goes on, and nobody casts.
-use Rattle.std.proofs.Common.{◌≡◌, ℕ, zero, suc, ◌+◌, ◌<◌, ◌≤◌, Bool, true, false, cond, eqb, ltb, List, [], ◌∷◌, ◌++◌, length, map, Option, Some, None, Result, Ok, Err, refl, sym, ap, subst, ◌∙◌, append_assoc, arith, inl, inr}
+use Rattle.std.proofs.Common.{◌≡◌, ℕ, ◌<◌, ◌≤◌, Bool, true, eqb, ltb, List, [], ◌∷◌, ◌++◌, length, map, Option, Some, None, Result, Ok, Err, refl, sym, ap, subst, ◌∙◌, append_assoc, arith}
 use Rattle.std.specs.Prelude.{slice_get}
 use Rattle.std.specs.List.{AllByRecursion}
 use Rattle.std.proofs.lemmas.Bool.{cond_both, eqb-true}
@@ -11,10 +11,10 @@ use Rattle.cb_history.specs.declared.answer.ArriveRefusal.{ArriveRefusal}
 use Rattle.cb_history.specs.declared.answer.TickRefusal.{TickRefusal}
 use Rattle.cb_history.specs.declared.answer.Outgoing.{Outgoing}
 use Rattle.cb_history.specs.Group.{Seat}
-use Rattle.cb_history.specs.Facts.{EntryFields, CastEntry, ArriveEntry, TickEntry, Fact, OwnCast, CastCame, StatusCame, OwnStatus, arrival_said, status_said, said_by, facts_of, casts_in, cast_in, is_there}
+use Rattle.cb_history.specs.Facts.{EntryFields, ArriveEntry, TickEntry, Fact, OwnCast, CastCame, StatusCame, OwnStatus, arrival_said, status_said, said_by, facts_of, casts_in, cast_in, is_there}
 use Rattle.cb_history.specs.Known.{known, expanded_count, acknowledged}
-use Rattle.cb_history.specs.Answers.{delivered, own_casts, ArrivalSays, Accepted, Repeat, arrive_answer, tick_answer, status_of}
-use Rattle.cb_history.specs.Legal.{Call, ToCast, ToTake, ToTick, arrive_entry, tick_entry, and_entry, entry_of, history_after}
+use Rattle.cb_history.specs.Answers.{delivered, own_casts, ArrivalSays, Accepted, Repeat, arrive_answer, tick_answer}
+use Rattle.cb_history.specs.Legal.{Call, ToCast, ToTake, ToTick, arrive_entry, tick_entry, and_entry, history_after}
 use Rattle.cb_history.proofs.Lists.{flat_map-append}
 use Rattle.cb_history.proofs.Rising.{known_rises, nothing_falls}
 use Rattle.cb_history.proofs.Times.{count_grows}
@@ -22,7 +22,6 @@ use Rattle.cb_history.proofs.Runs.{count_rises}
 use Rattle.cb_history.proofs.Arrivals.{there_stays}
 use Rattle.cb_schedules.specs.Schedule.{Setting, seat_at, Step, CastStep, ArriveStep, TickStep, Schedule, SentFrame, Asked, Calls, OfNoMember, OfNoFrame, OfNoBytes, Answer, NoSuchMember, NoSuchFrame, NoBytes, put_out, sent_by, answer_of, GroupState, handed_over, asked_by, and_nothing, and_answer, after_asked, step_after, run_from}
 use Rattle.cb_schedules.specs.Messages.{facts_at}
-use Rattle.cb_schedules.specs.Honest.{member_of, AreTogether}
 use Rattle.cb_schedules.specs.Consistent.{IsConsistent}
 use Rattle.cb_schedules.specs.Rounds.{IsNoCastStep}
 use Rattle.cb_schedules.proofs.Members.{stands_at}
@@ -121,6 +120,7 @@ call_is_later setting s i call answer none = record {
   new = map (sent_by i) (put_out answer);
   sent = refl;
 }
+
 nothing_is_later : (s : GroupState) (asked : Asked) (answer : Answer) → IsLater s (and_nothing s asked answer)
 nothing_is_later s asked answer = record { facts = λ k. same_facts (facts_at s k) (facts_at s k) refl; new = []; sent = sym (append-nil s.sent) }
 

@@ -25,3 +25,4 @@ pub mod Quieting
 pub mod Ending
 pub mod RoundLaws
 pub mod Once
+pub mod Room

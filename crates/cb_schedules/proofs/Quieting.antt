@@ -1,22 +1,20 @@
 -- When everything is delivered, one round more makes it stable, and then nothing changes any more.
-use Rattle.std.proofs.Common.{◌≡◌, ◌≢◌, ℕ, zero, suc, ◌+◌, ◌<◌, ◌≤◌, Bool, true, false, not, cond, ◌&&◌, ◌||◌, eqb, ltb, List, [], ◌∷◌, ◌++◌, map, min, Option, Some, None, Result, Ok, Err, refl, sym, ap, subst, ◌∙◌, append_assoc, arith, inl, inr}
-use Rattle.std.specs.List.{AllByRecursion, filter, list_any, list_all, range_with_len}
+use Rattle.std.proofs.Common.{◌≡◌, ◌≢◌, ℕ, zero, suc, ◌<◌, ◌≤◌, Bool, true, false, not, ◌&&◌, eqb, ltb, List, [], ◌∷◌, ◌++◌, map, Option, Some, None, Result, refl, sym, ap, subst, ◌∙◌, append_assoc, arith, inl, inr}
+use Rattle.std.specs.List.{filter, list_any, range_with_len}
 use Rattle.std.proofs.lemmas.Bool.{cond_both, cases_eq, eq-eqb, eqb-true, ne_eqb, le-ltb, and_from, both_ways}
 use Rattle.std.proofs.lemmas.List.{append-nil}
 use mathlib.Core.Path.{fun_ext}
-use Rattle.cb_frames.specs.declared.frame.Change.{Change}
 use Rattle.cb_frames.specs.declared.fault.FrameFault.{FrameFault}
 use Rattle.cb_frames.specs.Fields.{CastFields, StatusFields, FrameFields, CastFrame, StatusFrame, RequestFrame}
 use Rattle.cb_frames.specs.Text.{text_of}
-use Rattle.cb_frames.specs.Reading.{frame_at}
 use Rattle.cb_history.specs.declared.answer.ArriveRefusal.{ArriveRefusal}
 use Rattle.cb_history.specs.declared.answer.TickRefusal.{TickRefusal}
 use Rattle.cb_history.specs.declared.answer.Outgoing.{Outgoing}
 use Rattle.cb_history.specs.Group.{Seat}
 use Rattle.cb_history.specs.Facts.{EntryFields, TickEntry, Fact, OwnCast, CastCame, StatusCame, OwnStatus, status_said, facts_of, casts_in, is_there}
-use Rattle.cb_history.specs.View.{view, time_of, counts}
+use Rattle.cb_history.specs.View.{view, counts}
 use Rattle.cb_history.specs.Known.{value_in, known, acknowledged, least_of, stable}
-use Rattle.cb_history.specs.Answers.{delivered, own_casts, window, is_full, group_of, are_members, is_impossible, is_repeat, is_too_far, is_change, is_news, ArrivalSays, frame_answer, answer_to, arrive_answer, status_of, last_status, says_the_time, is_new_status, requests, tick_answer}
+use Rattle.cb_history.specs.Answers.{delivered, own_casts, is_full, are_members, is_impossible, is_repeat, is_news, ArrivalSays, frame_answer, answer_to, arrive_answer, status_of, last_status, says_the_time, is_new_status, tick_answer}
 use Rattle.cb_history.specs.Legal.{Call, ToCast, ToTake, ToTick, arrive_entry, tick_entry, and_entry, history_after}
 use Rattle.cb_history.specs.LegalFacts.{AreFactsOf}
 use Rattle.cb_history.proofs.Views.{IsIn, all_in_range}
@@ -33,9 +31,9 @@ use Rattle.cb_history.proofs.Buffers.{cast_of_is_in}
 use Rattle.cb_history.proofs.Keeping.{in_range, range_in}
 use Rattle.cb_history.proofs.Views.{filter_in, in_filter, not_true}
 use Rattle.cb_history.proofs.Names.{message}
-use Rattle.cb_schedules.specs.Schedule.{Setting, IsSetting, seat_at, Step, Schedule, Asked, Calls, OfNoMember, OfNoFrame, OfNoBytes, TickAnswer, GroupState, with_history, asked_by, after_asked, step_after, run_from}
+use Rattle.cb_schedules.specs.Schedule.{Setting, IsSetting, seat_at, Step, Asked, Calls, TickAnswer, GroupState, with_history, after_asked, step_after, run_from}
 use Rattle.cb_schedules.specs.Messages.{facts_at}
-use Rattle.cb_schedules.specs.Honest.{member_of, SaysWhatIsSo, IsHonest}
+use Rattle.cb_schedules.specs.Honest.{SaysWhatIsSo, IsHonest}
 use Rattle.cb_schedules.specs.Consistent.{IsConsistent}
 use Rattle.cb_schedules.specs.Rounds.{IsNotFull, IsNoCastStep, EverythingIsStable, NothingChangesAnyMore}
 use Rattle.cb_schedules.proofs.Calling.{facts_push}
@@ -43,7 +41,7 @@ use Rattle.cb_schedules.proofs.Courses.{IsFair, asked_is, step_goes_on}
 use Rattle.cb_schedules.proofs.Members.{own_is_there, own_sender, message_of_cast, delivered_at_most, stands_at, inside}
 use Rattle.cb_schedules.proofs.Knowing.{value_below, own_number}
 use Rattle.cb_schedules.proofs.Later.{IsLater, grows, no_cast, delivered_later, cast_count_later, later_joins}
-use Rattle.cb_schedules.proofs.Waves.{Ticks, Waves}
+use Rattle.cb_schedules.proofs.Waves.{Waves}
 use Rattle.cb_schedules.proofs.Asking.{cast_count, status_comes}
 
 -- ---- a status that says the time

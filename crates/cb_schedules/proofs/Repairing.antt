@@ -1,19 +1,17 @@
 -- Round after round: everything that was cast comes to everybody, and is delivered.
-use Rattle.std.proofs.Common.{◌≡◌, ◌≢◌, ◌↔◌, ℕ, zero, suc, ◌+◌, ◌-◌, ◌*◌, ◌<◌, ◌≤◌, Bool, true, List, [], ◌∷◌, ◌++◌, length, drop, min, refl, sym, ap, subst, ◌∙◌, arith, inl, inr}
+use Rattle.std.proofs.Common.{◌≡◌, ◌≢◌, ℕ, zero, suc, ◌+◌, ◌-◌, ◌*◌, ◌<◌, ◌≤◌, true, ◌++◌, length, drop, sym, subst, ◌∙◌, arith, inl, inr}
 use Rattle.std.specs.List.{AllByRecursion, range_with_len}
 use Rattle.std.proofs.lemmas.Bool.{cases_lt, cases_eq}
 use Rattle.cb_times.specs.declared.name.Name.{Name}
 use Rattle.cb_frames.specs.declared.frame.TheConstants.{MOST_FRAMES}
-use Rattle.cb_causality.specs.HappenedBefore.{HappenedBefore}
 use Rattle.cb_history.specs.Facts.{casts_in, is_there}
 use Rattle.cb_history.specs.View.{view}
-use Rattle.cb_history.specs.Known.{known, expanded_count, acknowledged}
 use Rattle.cb_history.specs.Answers.{delivered, own_casts}
 use Rattle.cb_history.proofs.Runs.{run_at_most, expanded_are_there, delivered_is_expanded, own_is_delivered}
 use Rattle.cb_history.proofs.Times.{seen_is_there}
 use Rattle.cb_history.proofs.Buffers.{cast_is_there}
-use Rattle.cb_schedules.specs.Schedule.{Setting, IsSetting, seat_at, Schedule, GroupState, run_from}
-use Rattle.cb_schedules.specs.Messages.{facts_at, has_arrived, WasCast, HasDelivered}
+use Rattle.cb_schedules.specs.Schedule.{Setting, IsSetting, seat_at, GroupState, run_from}
+use Rattle.cb_schedules.specs.Messages.{facts_at, HasDelivered}
 use Rattle.cb_schedules.specs.Honest.{member_of}
 use Rattle.cb_schedules.specs.Consistent.{IsConsistent}
 use Rattle.cb_schedules.specs.Rounds.{tick_steps, arrivals_since, ticked, answered, round_steps, steps_of_rounds, after_rounds, IsNoCastStep, EverybodyHasEverything, EverybodyHasTheSame, EverybodyHasHeard, ArrivedEverywhereIsDelivered}
@@ -21,11 +19,11 @@ use Rattle.cb_schedules.proofs.GoingOn.{runs_join_from}
 use Rattle.cb_schedules.proofs.Courses.{consistent_from}
 use Rattle.cb_schedules.proofs.Lists.{all_both}
 use Rattle.cb_schedules.proofs.Members.{own_is_there, delivered_at_most, stands_at}
-use Rattle.cb_schedules.proofs.Moments.{has_there, own_cast_of, has_seen, seen_has}
+use Rattle.cb_schedules.proofs.Moments.{has_there, own_cast_of, seen_has}
 use Rattle.cb_schedules.proofs.Closing.{IsClosed, seen_number, closed_is_seen}
 use Rattle.cb_schedules.proofs.Knowing.{near_is_so, heard_is_so}
 use Rattle.cb_schedules.proofs.Headlines.{member_has, cast_stands, numbered}
-use Rattle.cb_schedules.proofs.Later.{IsLater, run_is_later, own_casts_later, known_later, cast_count_later, there_later}
+use Rattle.cb_schedules.proofs.Later.{IsLater, run_is_later, cast_count_later}
 use Rattle.cb_schedules.proofs.Happening.{FindNoneFullFrom, ticks_cast_nothing, arrivals_cast_nothing}
 use Rattle.cb_schedules.proofs.Waves.{Waves, waves_of, none_full_splits}
 use Rattle.cb_schedules.proofs.Asking.{cast_count, expanded_at, status_comes, cast_comes}

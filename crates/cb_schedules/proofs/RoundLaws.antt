@@ -1,5 +1,5 @@
 -- Rounds behind any schedule.
-use Rattle.std.proofs.Common.{◌≡◌, ◌≢◌, ℕ, zero, suc, ◌+◌, ◌*◌, ◌/◌, ◌%◌, ◌<◌, ◌≤◌, List, [], ◌∷◌, ◌++◌, min, refl, sym, ap, subst, ◌∙◌, arith, inl, inr}
+use Rattle.std.proofs.Common.{◌≡◌, ℕ, zero, suc, ◌+◌, ◌*◌, ◌≤◌, min, sym, ap, subst, ◌∙◌, arith}
 use Rattle.std.specs.Int.{div_ceil}
 use Rattle.std.proofs.lemmas.Grind.{div_ceil_times}
 use Rattle.cb_frames.specs.declared.frame.TheConstants.{MOST_FRAMES}
@@ -11,17 +11,18 @@ use Rattle.cb_schedules.specs.Schedule.{Setting, IsSetting, seat_at, Schedule, G
 use Rattle.cb_schedules.specs.Messages.{facts_at}
 use Rattle.cb_schedules.specs.Consistent.{IsConsistent}
 use Rattle.cb_schedules.specs.Headline.{IsCausalBroadcast, EachSchedule}
-use Rattle.cb_schedules.specs.Rounds.{round_steps, steps_of_rounds, after_rounds, FindNoneFull, EverybodyHasEverything, EverybodyHasTheSame, EverythingIsStable, NothingChangesAnyMore, BehindRounds, rounds_to_deliver, rounds_to_be_stable, FurtherRoundsAreQuiet, one_round, RoundsAreSteps, RoundsCastNothing, AnswersPutNothingOut, EverybodyHasHeard, RoundsExpand, ArrivedEverywhereIsDelivered}
+use Rattle.cb_schedules.specs.Rounds.{round_steps, steps_of_rounds, after_rounds, FindNoneFull, EverybodyHasEverything, EverybodyHasTheSame, EverythingIsStable, NothingChangesAnyMore, BehindRounds, rounds_to_deliver, rounds_to_be_stable, FurtherRoundsAreQuiet, one_round, RoundsAreSteps, RoundsCastNothing, AnswersPutNothingOut, EachArrivesOnce, EverybodyHasHeard, RoundsExpand, ArrivedEverywhereIsDelivered}
 use Rattle.cb_schedules.proofs.GoingOn.{runs_join}
 use Rattle.cb_schedules.proofs.Courses.{runs_are_consistent}
 use Rattle.cb_schedules.proofs.Headlines.{each_schedule, headline_holds}
 use Rattle.cb_schedules.proofs.Later.{own_casts_later}
 use Rattle.cb_schedules.proofs.Happening.{FindNoneFullFrom, none_full_from}
-use Rattle.cb_schedules.proofs.Waves.{Waves, waves_of}
+use Rattle.cb_schedules.proofs.Waves.{waves_of}
 use Rattle.cb_schedules.proofs.Asking.{cast_comes}
 use Rattle.cb_schedules.proofs.Repairing.{rounds_cast_nothing, next_round, rounds_are_later, consistent_behind, last_round, none_full_before, heard_behind, HasAll, all_behind, has_everything, has_the_same, all_delivered, arrived_is_delivered}
 use Rattle.cb_schedules.proofs.Quieting.{IsQuiet, round_makes_quiet, everything_is_stable, quiet_stays}
 use Rattle.cb_schedules.proofs.Ending.{round_ends_there}
+use Rattle.cb_schedules.proofs.Once.{arrives_once}
 
 -- ---- rounds
 
@@ -134,3 +135,6 @@ further_rounds_are_quiet setting steps more k is none =
 
 pub arrived_everywhere_is_delivered : EachSchedule ArrivedEverywhereIsDelivered
 arrived_everywhere_is_delivered = each_schedule ArrivedEverywhereIsDelivered arrived_is_delivered
+
+pub each_arrives_once : EachArrivesOnce
+each_arrives_once setting steps number j frame is new at = arrives_once setting is (run setting steps) (runs_are_consistent setting steps is) number j frame new at

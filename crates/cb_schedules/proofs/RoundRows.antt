@@ -1,5 +1,5 @@
 -- Worked rounds: casts that are all lost, and what a few rounds make of it.
-use Rattle.std.proofs.Common.{◌≡◌, ℕ, List, [], ◌∷◌, ◌++◌, length, map, Some, None, refl}
+use Rattle.std.proofs.Common.{◌≡◌, ℕ, List, [], ◌∷◌, ◌++◌, length, map, Some, None, refl, arith}
 use Rattle.std.specs.List.{range_with_len}
 use Rattle.cb_varint.specs.Reading.{number_at, spelling}
 use Rattle.cb_frames.specs.Text.{text_of}
@@ -7,9 +7,13 @@ use Rattle.cb_frames.specs.Reading.{frame_at, cast_at, status_at, request_at, pa
 use Rattle.cb_history.specs.View.{view, drained}
 use Rattle.cb_history.specs.Known.{known, stable}
 use Rattle.cb_history.specs.Answers.{delivered, cast_answer, arrive_answer, tick_answer}
-use Rattle.cb_schedules.specs.Schedule.{Setting, seat_at, CastStep, ArriveStep, TickStep, Schedule, SentFrame, GroupState, step_after, run_from, run}
+use Rattle.cb_schedules.specs.Schedule.{Setting, IsSetting, nothing_yet, seat_at, CastStep, ArriveStep, TickStep, Schedule, GroupState, step_after, run_from, run}
 use Rattle.cb_schedules.specs.Messages.{facts_at}
-use Rattle.cb_schedules.specs.Rounds.{tick_steps, receivers, arrivals_from, ticked, answered, round_steps, steps_of_rounds, after_rounds, outcomes_of}
+use Rattle.cb_schedules.specs.Rounds.{tick_steps, receivers, arrivals_from, ticked, answered, round_steps, steps_of_rounds, after_rounds, outcomes_of, FindNoneFull, EverythingIsStable, NothingChangesAnyMore, rounds_to_deliver, rounds_to_be_stable}
+use Rattle.cb_schedules.proofs.Happening.{none_full_from, from_none_full}
+use Rattle.cb_schedules.proofs.Waves.{none_full_splits}
+use Rattle.cb_schedules.proofs.Room.{room_enough}
+use Rattle.cb_schedules.proofs.RoundLaws.{rounds_make_stable, then_nothing_changes}
 
 -- group 7 of three members with a window of 8, and room for 100 entries in each history
 abbrev three : Setting
@@ -99,3 +103,41 @@ all_lost = map (λ k. CastStep 0 []) (range_with_len 0 65)
 two_are_too_few : map (λ n. delivered (seat_at wide 1) (facts_at (after_rounds wide n (run wide all_lost)) 1) 0) (1 ∷ 2 ∷ 3 ∷ []) ≡ 0 ∷ 64 ∷ 65 ∷ []
 unfolding steps_of_rounds round_steps ticked answered step_after run_from cast_answer arrive_answer tick_answer view drained frame_at cast_at status_at request_at pairs_at pair_at number_at text_of spelling
 two_are_too_few = refl
+
+-- ---- how many rounds
+
+-- two for a window of up to 64, five for the widest
+how_many_rounds : map (λ w. rounds_to_deliver (record { group = record { number = 7; size = 2; window = w }; limit = 1 })) (1 ∷ 64 ∷ 65 ∷ 128 ∷ 129 ∷ 256 ∷ []) ≡ 2 ∷ 2 ∷ 3 ∷ 3 ∷ 4 ∷ 5 ∷ []
+how_many_rounds = refl
+
+-- ---- the laws speak of this example
+
+the_setting : IsSetting three
+the_setting = record {
+  group = record {
+    size = record { two_or_more = omega arith; at_most_sixty_four = omega arith };
+    width = record { one_or_more = omega arith; at_most_widest = omega arith };
+    number_fits = omega arith;
+  };
+  one_or_more = omega arith;
+  at_most = omega arith;
+}
+
+-- the casts and three rounds are 40 steps, so histories of 100 entries are never full
+all_steps : length (lost ++ steps_of_rounds three 3 (run three lost)) ≡ 40
+unfolding steps_of_rounds round_steps ticked answered step_after run_from cast_answer arrive_answer tick_answer view drained frame_at cast_at status_at request_at pairs_at pair_at number_at text_of spelling
+all_steps = refl
+
+there_is_room : FindNoneFull three (run three lost) (steps_of_rounds three (rounds_to_be_stable three) (run three lost))
+there_is_room =
+    let rounds = steps_of_rounds three 3 (run three lost) in
+    let steps = all_steps in
+    from_none_full three (run three lost) rounds
+    (none_full_splits three nothing_yet lost rounds (none_full_from three nothing_yet (lost ++ rounds) (room_enough three nothing_yet (lost ++ rounds) (λ k. omega (arith, steps))))).1
+
+-- so by the laws everything is stable behind them, and no history changes any more
+the_example_is_stable : EverythingIsStable three (after_rounds three (rounds_to_be_stable three) (run three lost))
+the_example_is_stable = rounds_make_stable three lost the_setting there_is_room
+
+and_stays_so : NothingChangesAnyMore three (after_rounds three (rounds_to_be_stable three) (run three lost))
+and_stays_so = then_nothing_changes three lost the_setting there_is_room

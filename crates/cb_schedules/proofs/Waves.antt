@@ -1,29 +1,27 @@
 -- A round as its waves: the ticks, the arrivals of what they put out, and the arrivals of what was put out in answer.
-use Rattle.std.proofs.Common.{◌≡◌, ℕ, ◌<◌, eqb, List, [], ◌∷◌, ◌++◌, length, drop, None, Result, Ok, refl, sym, ap, subst, ◌∙◌, arith, inl, inr}
-use Rattle.std.specs.Prelude.{slice_get}
-use Rattle.std.specs.List.{AllByRecursion, range_with_len}
+use Rattle.std.proofs.Common.{◌≡◌, ℕ, ◌<◌, [], ◌∷◌, ◌++◌, length, drop, None, refl, sym, ap, subst, ◌∙◌, arith}
+use Rattle.std.specs.List.{range_with_len}
 use Rattle.std.proofs.lemmas.Bool.{eq-eqb}
-use Rattle.cb_frames.specs.Fields.{StatusFields, FrameFields, StatusFrame}
+use Rattle.cb_frames.specs.Fields.{StatusFrame}
 use Rattle.cb_frames.specs.Text.{text_of}
 use Rattle.cb_history.specs.declared.answer.Outgoing.{Outgoing}
-use Rattle.cb_history.specs.Facts.{facts_of}
 use Rattle.cb_history.specs.Answers.{arrive_answer, status_of, requests, tick_answer}
 use Rattle.cb_history.specs.Legal.{Call, ToTake, ToTick, history_after}
 use Rattle.cb_history.proofs.Views.{IsIn}
 use Rattle.cb_history.proofs.Keeping.{in_range}
-use Rattle.cb_schedules.specs.Schedule.{Setting, IsSetting, seat_at, Step, ArriveStep, TickStep, Schedule, SentFrame, Asked, Calls, Answer, ArrivalAnswer, TickAnswer, put_out, sent_by, answer_of, GroupState, asked_by, after_asked, step_after, run_from}
+use Rattle.cb_schedules.specs.Schedule.{Setting, IsSetting, seat_at, Step, ArriveStep, TickStep, Schedule, SentFrame, Asked, Calls, ArrivalAnswer, TickAnswer, put_out, sent_by, GroupState, asked_by, after_asked, step_after, run_from}
 use Rattle.cb_schedules.specs.Messages.{facts_at}
 use Rattle.cb_schedules.specs.Honest.{IsHonest}
 use Rattle.cb_schedules.specs.Consistent.{IsConsistent}
 use Rattle.cb_schedules.specs.SentLaws.{IsNoRefusal}
-use Rattle.cb_schedules.specs.Rounds.{tick_steps, receivers, arrivals_from, arrivals_since, ticked, answered, round_steps, IsNotFull}
+use Rattle.cb_schedules.specs.Rounds.{tick_steps, receivers, arrivals_since, ticked, answered, round_steps, IsNotFull}
 use Rattle.cb_schedules.proofs.GoingOn.{runs_join_from}
 use Rattle.cb_schedules.proofs.Courses.{consistent_from}
 use Rattle.cb_schedules.proofs.Headlines.{call_is_welcome}
 use Rattle.cb_schedules.proofs.Lists.{in_map, all_at_index}
 use Rattle.cb_schedules.proofs.Hearing.{tick_puts_out}
 use Rattle.cb_schedules.proofs.Later.{IsLater, later_joins, step_is_later, run_is_later}
-use Rattle.cb_schedules.proofs.Happening.{answer_to_asked, FindNoneFullFrom, Happens, happens, IsSentSince, put_out_is_sent, sent_arrives, still_sent, tick_asks, arrival_asks, ticks_cast_nothing, arrivals_cast_nothing}
+use Rattle.cb_schedules.proofs.Happening.{answer_to_asked, FindNoneFullFrom, happens, IsSentSince, put_out_is_sent, sent_arrives, still_sent, tick_asks, arrival_asks, ticks_cast_nothing, arrivals_cast_nothing}
 
 -- the history of the member that a step calls
 own_history_after : (setting : Setting) (s : GroupState) (step : Step) (i : ℕ) (call : Call) → asked_by setting s.sent step ≡ Calls i call

@@ -1,14 +1,26 @@
 //! Rounds: every member ticks, and then all that was put out arrives. A few of them repair whatever was lost.
 
 ghost use Rattle.cb_schedules.specs.Headline.{EachSchedule, IsCausalBroadcast};
-ghost use Rattle.cb_schedules.specs.Rounds.{AnswersPutNothingOut, ArrivedEverywhereIsDelivered, BehindRounds, EverybodyHasEverything, EverybodyHasHeard, EverybodyHasTheSame, EverythingIsStable, FurtherRoundsAreQuiet, NothingChangesAnyMore, RoundsAreSteps, RoundsCastNothing, RoundsExpand, one_round, rounds_to_be_stable, rounds_to_deliver};
+ghost use Rattle.cb_schedules.specs.Rounds.{AnswersPutNothingOut, ArrivedEverywhereIsDelivered, BehindRounds, EachArrivesOnce, EachTicksOnce, EverybodyHasEverything, EverybodyHasHeard, EverybodyHasTheSame, EverythingIsStable, FurtherRoundsAreQuiet, NothingChangesAnyMore, NothingOldArrives, RoomForEachStepIsEnough, RoundsAreSteps, RoundsCastNothing, RoundsExpand, one_round, rounds_to_be_stable, rounds_to_deliver};
 
-/// Rounds are steps of a schedule like any others, and nobody casts in them. What is put out in answer arrives without putting anything
-/// out: so all that a round puts out arrives in it.
+/// In a round every member ticks once, and each frame that is sent in it arrives once at everyone it was sent to; no frame that was sent
+/// before arrives. What is put out in answer arrives without putting anything out, and that is where a round ends.
+pub fn a_round_is_a_tick_of_each_and_its_arrivals()
+    ensures ticks { EachTicksOnce }
+    ensures arrives { EachArrivesOnce }
+    ensures old { NothingOldArrives }
+    ensures ends { AnswersPutNothingOut }
+{}
+
+/// Rounds are steps of a schedule like any others, and nobody casts in them.
 pub fn rounds_are_steps_of_a_schedule()
     ensures steps { RoundsAreSteps }
     ensures casts { RoundsCastNothing }
-    ensures ends { AnswersPutNothingOut }
+{}
+
+/// No step finds a history full where each history has an entry left for each step.
+pub fn room_for_each_step_is_enough()
+    ensures { RoomForEachStepIsEnough }
 {}
 
 /// Behind one round everybody has heard of every cast. From then on each round expands with each member, of each other, 64 casts more, or
