@@ -12,7 +12,7 @@ use Rattle.cb_frames.proofs.Unique.{some_text}
 use Rattle.cb_history.specs.declared.answer.Outgoing.{Outgoing}
 use Rattle.cb_history.specs.Facts.{EntryFields, facts_of, casts_in, is_there}
 use Rattle.cb_history.specs.View.{view}
-use Rattle.cb_history.specs.Known.{known, expanded_count, missing, ranges_of, acknowledged, stable}
+use Rattle.cb_history.specs.Known.{known, missing, ranges_of, acknowledged, stable}
 use Rattle.cb_history.specs.Answers.{delivered, own_casts, window, is_asked_for, sent_in_answer, status_of, request_to}
 use Rattle.cb_history.specs.ArrivalLaws.{AreThere}
 use Rattle.cb_history.specs.GapLaws.{IsMissing}
@@ -31,6 +31,7 @@ use Rattle.cb_schedules.specs.Schedule.{Setting, seat_at, SentFrame, sent_by, Gr
 use Rattle.cb_schedules.specs.Messages.{facts_at, sent_casts}
 use Rattle.cb_schedules.specs.Honest.{IsHonest}
 use Rattle.cb_schedules.specs.Consistent.{IsConsistent}
+use Rattle.cb_schedules.specs.RoundLaws.{cast_count, expanded_at}
 use Rattle.cb_schedules.proofs.Members.{stands_at, is_own, own_is_there}
 use Rattle.cb_schedules.proofs.Sending.{sent_frame, honest_text}
 use Rattle.cb_schedules.proofs.Knowing.{stable_is_so, near_is_so}
@@ -45,14 +46,6 @@ in_flat : {A B : Type 0} (g : A → List B) (xs : List A) (x : A) (b : B) → Is
 in_flat g [] x b there here = absurd there
 in_flat g (y ∷ xs) x b (inl same) here = in_front b (g y) (flat_map g xs) (subst (λ z. IsIn b (g z)) same here)
 in_flat g (y ∷ xs) x b (inr later) here = in_back b (g y) (flat_map g xs) (in_flat g xs x b later here)
-
--- how many casts member i made
-abbrev pub cast_count : Setting → GroupState → ℕ → ℕ
-cast_count setting s i = delivered (seat_at setting i) (facts_at s i) i
-
--- how many of them are expanded at member j
-abbrev pub expanded_at : GroupState → ℕ → ℕ → ℕ
-expanded_at s j i = expanded_count (casts_in (facts_at s j)) i
 
 -- an own cast is read from its text
 pub own_cast_read : (setting : Setting) (s : GroupState) → IsConsistent setting s → (i : ℕ) (c : CastFields) → IsIn c (own_casts (facts_at s i)) → frame_at (text_of (CastFrame c)) ≡ Ok (CastFrame c)

@@ -12,7 +12,8 @@ use Rattle.cb_history.proofs.Lists.{in_front, in_back}
 use Rattle.cb_history.proofs.Keeping.{in_range}
 use Rattle.cb_schedules.specs.Schedule.{Setting, IsSetting, seat_at, Step, ArriveStep, TickStep, Schedule, SentFrame, Asked, Calls, OfNoMember, OfNoFrame, OfNoBytes, Answer, NoSuchMember, NoSuchFrame, NoBytes, put_out, sent_by, answer_of, Outcome, GroupState, asked_by, after_asked, step_after, run_from}
 use Rattle.cb_schedules.specs.Consistent.{IsConsistent}
-use Rattle.cb_schedules.specs.Rounds.{receivers, arrivals_from, IsNotFull, IsNoCastStep, FindNoneFull}
+use Rattle.cb_schedules.specs.Rounds.{receivers, arrivals_from, IsNotFull, FindNoneFull}
+use Rattle.cb_schedules.specs.RoundLaws.{IsNoCastStep}
 use Rattle.cb_schedules.proofs.Courses.{step_goes_on}
 use Rattle.cb_schedules.proofs.Lists.{in_map, all_both}
 use Rattle.cb_schedules.proofs.Later.{IsLater, later_itself, later_joins, step_is_later, run_is_later}

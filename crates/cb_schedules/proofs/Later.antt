@@ -23,7 +23,7 @@ use Rattle.cb_history.proofs.Arrivals.{there_stays}
 use Rattle.cb_schedules.specs.Schedule.{Setting, seat_at, Step, CastStep, ArriveStep, TickStep, Schedule, SentFrame, Asked, Calls, OfNoMember, OfNoFrame, OfNoBytes, Answer, NoSuchMember, NoSuchFrame, NoBytes, put_out, sent_by, answer_of, GroupState, handed_over, asked_by, and_nothing, and_answer, after_asked, step_after, run_from}
 use Rattle.cb_schedules.specs.Messages.{facts_at}
 use Rattle.cb_schedules.specs.Consistent.{IsConsistent}
-use Rattle.cb_schedules.specs.Rounds.{IsNoCastStep}
+use Rattle.cb_schedules.specs.RoundLaws.{IsNoCastStep}
 use Rattle.cb_schedules.proofs.Members.{stands_at}
 
 own_casts-append : (facts more : List Fact) → own_casts (facts ++ more) ≡ own_casts facts ++ own_casts more

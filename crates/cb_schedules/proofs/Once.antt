@@ -6,7 +6,8 @@ use Rattle.std.proofs.lemmas.Bool.{cond_both, cases_lt, cases_eq, eq-eqb, ne_eqb
 use Rattle.std.proofs.Math.Seq.{drop-append_seam}
 use Rattle.cb_schedules.specs.Schedule.{Setting, IsSetting, CastStep, ArriveStep, TickStep, Schedule, SentFrame, GroupState, run_from}
 use Rattle.cb_schedules.specs.Consistent.{IsConsistent}
-use Rattle.cb_schedules.specs.Rounds.{tick_steps, receivers, arrivals_from, arrivals_since, ticked, answered, round_steps, ticks_of, arrivals_at, names_receiver, is_sent_to, EachTicksOnce, NothingOldArrives}
+use Rattle.cb_schedules.specs.Rounds.{tick_steps, receivers, arrivals_from, arrivals_since, ticked, answered, round_steps}
+use Rattle.cb_schedules.specs.RoundLaws.{ticks_of, arrivals_at, names_receiver, is_sent_to, EachTicksOnce, NothingOldArrives}
 use Rattle.cb_schedules.proofs.Later.{run_is_later}
 use Rattle.cb_schedules.proofs.Happening.{get_behind, ticks_cast_nothing, arrivals_cast_nothing}
 use Rattle.cb_schedules.proofs.Ending.{round_ends_there}

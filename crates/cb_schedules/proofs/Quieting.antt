@@ -35,14 +35,15 @@ use Rattle.cb_schedules.specs.Schedule.{Setting, IsSetting, seat_at, Step, Asked
 use Rattle.cb_schedules.specs.Messages.{facts_at}
 use Rattle.cb_schedules.specs.Honest.{SaysWhatIsSo, IsHonest}
 use Rattle.cb_schedules.specs.Consistent.{IsConsistent}
-use Rattle.cb_schedules.specs.Rounds.{IsNotFull, IsNoCastStep, EverythingIsStable, NothingChangesAnyMore}
+use Rattle.cb_schedules.specs.Rounds.{IsNotFull}
+use Rattle.cb_schedules.specs.RoundLaws.{IsNoCastStep, EverythingIsStable, NothingChangesAnyMore, cast_count}
 use Rattle.cb_schedules.proofs.Calling.{facts_push}
 use Rattle.cb_schedules.proofs.Courses.{IsFair, asked_is, step_goes_on}
 use Rattle.cb_schedules.proofs.Members.{own_is_there, own_sender, message_of_cast, delivered_at_most, stands_at, inside}
 use Rattle.cb_schedules.proofs.Knowing.{value_below, own_number}
 use Rattle.cb_schedules.proofs.Later.{IsLater, grows, no_cast, delivered_later, cast_count_later, later_joins}
 use Rattle.cb_schedules.proofs.Waves.{Waves}
-use Rattle.cb_schedules.proofs.Asking.{cast_count, status_comes}
+use Rattle.cb_schedules.proofs.Asking.{status_comes}
 
 -- ---- a status that says the time
 

@@ -1,10 +1,11 @@
 -- Round after round: everything that was cast comes to everybody, and is delivered.
-use Rattle.std.proofs.Common.{◌≡◌, ◌≢◌, ℕ, zero, suc, ◌+◌, ◌-◌, ◌*◌, ◌<◌, ◌≤◌, true, ◌++◌, length, drop, sym, subst, ◌∙◌, arith, inl, inr}
-use Rattle.std.specs.List.{AllByRecursion, range_with_len}
+use Rattle.std.proofs.Common.{◌≡◌, ◌≢◌, ℕ, zero, suc, ◌+◌, ◌-◌, ◌*◌, ◌<◌, ◌≤◌, true, not, ◌++◌, length, drop, min, sym, ap, subst, ◌∙◌, arith, inl, inr}
+use Rattle.std.specs.List.{AllByRecursion, filter, range_with_len}
 use Rattle.std.proofs.lemmas.Bool.{cases_lt, cases_eq}
 use Rattle.cb_times.specs.declared.name.Name.{Name}
 use Rattle.cb_frames.specs.declared.frame.TheConstants.{MOST_FRAMES}
 use Rattle.cb_history.specs.Facts.{casts_in, is_there}
+use Rattle.cb_history.specs.Known.{known}
 use Rattle.cb_history.specs.View.{view}
 use Rattle.cb_history.specs.Answers.{delivered, own_casts}
 use Rattle.cb_history.proofs.Runs.{run_at_most, expanded_are_there, delivered_is_expanded, own_is_delivered}
@@ -14,7 +15,8 @@ use Rattle.cb_schedules.specs.Schedule.{Setting, IsSetting, seat_at, GroupState,
 use Rattle.cb_schedules.specs.Messages.{facts_at, HasDelivered}
 use Rattle.cb_schedules.specs.Honest.{member_of}
 use Rattle.cb_schedules.specs.Consistent.{IsConsistent}
-use Rattle.cb_schedules.specs.Rounds.{tick_steps, arrivals_since, ticked, answered, round_steps, steps_of_rounds, after_rounds, IsNoCastStep, EverybodyHasEverything, EverybodyHasTheSame, EverybodyHasHeard, ArrivedEverywhereIsDelivered}
+use Rattle.cb_schedules.specs.Rounds.{tick_steps, arrivals_since, ticked, answered, round_steps, steps_of_rounds, after_rounds}
+use Rattle.cb_schedules.specs.RoundLaws.{IsNoCastStep, EverybodyHasEverything, EverybodyHasTheSame, NothingIsMissing, EverybodyHasHeard, ArrivedEverywhereIsDelivered, cast_count, expanded_at}
 use Rattle.cb_schedules.proofs.GoingOn.{runs_join_from}
 use Rattle.cb_schedules.proofs.Courses.{consistent_from}
 use Rattle.cb_schedules.proofs.Lists.{all_both}
@@ -26,7 +28,7 @@ use Rattle.cb_schedules.proofs.Headlines.{member_has, cast_stands, numbered}
 use Rattle.cb_schedules.proofs.Later.{IsLater, run_is_later, cast_count_later}
 use Rattle.cb_schedules.proofs.Happening.{FindNoneFullFrom, ticks_cast_nothing, arrivals_cast_nothing}
 use Rattle.cb_schedules.proofs.Waves.{Waves, waves_of, none_full_splits}
-use Rattle.cb_schedules.proofs.Asking.{cast_count, expanded_at, status_comes, cast_comes}
+use Rattle.cb_schedules.proofs.Asking.{status_comes, cast_comes}
 
 -- ---- rounds
 
@@ -177,6 +179,15 @@ module _ (setting : Setting) (s : GroupState) (inv : IsConsistent setting s) whe
               let number = seen_number setting.group (facts_at s) inv.together j m lt_j (closed_is_seen setting.group (facts_at s) inv.together j m (closed j m lt_j lt_i (omega (arith, some)) (omega arith))) in
               omega (arith, number.1, most)
         ]
+
+    -- and nothing is missing
+    pub none_missing : NothingIsMissing setting s
+    none_missing j i lt_j lt_i =
+        let most = heard_is_so setting.group (facts_at s) inv.together j i lt_j lt_i in
+        let low = (delivered_is_expanded (seat_at setting j) (facts_at s j) (inv.together.legal j lt_j)).0 i in
+        let high = min (known (facts_at s j) i) (delivered (seat_at setting j) (facts_at s j) i + setting.group.window) in
+        let none : high - expanded_at s j i ≡ 0 = omega (arith, most, low, all_delivered j i lt_j lt_i) in
+        ap (λ (n : ℕ). filter (λ k. not (is_there (casts_in (facts_at s j)) i k)) (range_with_len (expanded_at s j i + 1) n)) none
 
   -- what the headline makes of it
   pub arrived_is_delivered : ArrivedEverywhereIsDelivered setting s

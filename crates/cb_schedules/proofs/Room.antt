@@ -14,7 +14,8 @@ use Rattle.cb_history.specs.Facts.{EntryFields, facts_of}
 use Rattle.cb_history.specs.Answers.{is_full, is_window_full, cast_answer, group_of, are_members, is_impossible, is_repeat, is_too_far, is_change, ArrivalSays, frame_answer, answer_to, arrive_answer, is_new_status, tick_answer}
 use Rattle.cb_history.specs.Legal.{Call, ToCast, ToTake, ToTick, entry_of, and_entry, history_after}
 use Rattle.cb_schedules.specs.Schedule.{Setting, seat_at, Step, Schedule, Asked, Calls, OfNoMember, OfNoFrame, OfNoBytes, CastAnswer, ArrivalAnswer, TickAnswer, answer_of, GroupState, asked_by, after_asked, step_after}
-use Rattle.cb_schedules.specs.Rounds.{IsNotFull, RoomForEachStepIsEnough}
+use Rattle.cb_schedules.specs.Rounds.{IsNotFull}
+use Rattle.cb_schedules.specs.RoundLaws.{RoomForEachStepIsEnough}
 use Rattle.cb_schedules.proofs.Happening.{answer_to_asked, FindNoneFullFrom, from_none_full}
 
 -- with an entry left no answer is that the history is full

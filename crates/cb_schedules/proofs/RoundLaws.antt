@@ -11,7 +11,8 @@ use Rattle.cb_schedules.specs.Schedule.{Setting, IsSetting, seat_at, Schedule, G
 use Rattle.cb_schedules.specs.Messages.{facts_at}
 use Rattle.cb_schedules.specs.Consistent.{IsConsistent}
 use Rattle.cb_schedules.specs.Headline.{IsCausalBroadcast, EachSchedule}
-use Rattle.cb_schedules.specs.Rounds.{round_steps, steps_of_rounds, after_rounds, FindNoneFull, EverybodyHasEverything, EverybodyHasTheSame, EverythingIsStable, NothingChangesAnyMore, BehindRounds, rounds_to_deliver, rounds_to_be_stable, FurtherRoundsAreQuiet, one_round, RoundsAreSteps, RoundsCastNothing, AnswersPutNothingOut, EachArrivesOnce, EverybodyHasHeard, RoundsExpand, ArrivedEverywhereIsDelivered}
+use Rattle.cb_schedules.specs.Rounds.{round_steps, steps_of_rounds, after_rounds, FindNoneFull}
+use Rattle.cb_schedules.specs.RoundLaws.{EverybodyHasEverything, EverybodyHasTheSame, NothingIsMissing, EverythingIsStable, NothingChangesAnyMore, BehindRounds, rounds_to_deliver, rounds_to_be_stable, FurtherRoundsAreQuiet, one_round, RoundsAreSteps, RoundsCastNothing, AnswersPutNothingOut, EachArrivesOnce, EverybodyHasHeard, RoundsExpand, ArrivedEverywhereIsDelivered}
 use Rattle.cb_schedules.proofs.GoingOn.{runs_join}
 use Rattle.cb_schedules.proofs.Courses.{runs_are_consistent}
 use Rattle.cb_schedules.proofs.Headlines.{each_schedule, headline_holds}
@@ -19,7 +20,7 @@ use Rattle.cb_schedules.proofs.Later.{own_casts_later}
 use Rattle.cb_schedules.proofs.Happening.{FindNoneFullFrom, none_full_from}
 use Rattle.cb_schedules.proofs.Waves.{waves_of}
 use Rattle.cb_schedules.proofs.Asking.{cast_comes}
-use Rattle.cb_schedules.proofs.Repairing.{rounds_cast_nothing, next_round, rounds_are_later, consistent_behind, last_round, none_full_before, heard_behind, HasAll, all_behind, has_everything, has_the_same, all_delivered, arrived_is_delivered}
+use Rattle.cb_schedules.proofs.Repairing.{rounds_cast_nothing, next_round, rounds_are_later, consistent_behind, last_round, none_full_before, heard_behind, HasAll, all_behind, has_everything, has_the_same, none_missing, all_delivered, arrived_is_delivered}
 use Rattle.cb_schedules.proofs.Quieting.{IsQuiet, round_makes_quiet, everything_is_stable, quiet_stays}
 use Rattle.cb_schedules.proofs.Ending.{round_ends_there}
 use Rattle.cb_schedules.proofs.Once.{arrives_once}
@@ -117,6 +118,9 @@ rounds_deliver setting steps is none = has_everything setting (after_rounds sett
 
 pub then_all_have_the_same : BehindRounds rounds_to_deliver EverybodyHasTheSame
 then_all_have_the_same setting steps is none = has_the_same setting (after_rounds setting (rounds_to_deliver setting) (run setting steps)) (consistent_then setting steps is (rounds_to_deliver setting)) (has_all setting steps is none)
+
+pub then_nothing_is_missing : BehindRounds rounds_to_deliver NothingIsMissing
+then_nothing_is_missing setting steps is none = none_missing setting (after_rounds setting (rounds_to_deliver setting) (run setting steps)) (consistent_then setting steps is (rounds_to_deliver setting)) (has_all setting steps is none)
 
 pub still_causal : BehindRounds rounds_to_deliver IsCausalBroadcast
 still_causal = behind_rounds rounds_to_deliver IsCausalBroadcast (λ setting s inv. (headline_holds setting s inv).causal)

@@ -9,7 +9,8 @@ use Rattle.cb_history.specs.Known.{known, stable}
 use Rattle.cb_history.specs.Answers.{delivered, cast_answer, arrive_answer, tick_answer}
 use Rattle.cb_schedules.specs.Schedule.{Setting, IsSetting, nothing_yet, seat_at, CastStep, ArriveStep, TickStep, Schedule, GroupState, step_after, run_from, run}
 use Rattle.cb_schedules.specs.Messages.{facts_at}
-use Rattle.cb_schedules.specs.Rounds.{tick_steps, receivers, arrivals_from, ticked, answered, round_steps, steps_of_rounds, after_rounds, outcomes_of, FindNoneFull, EverythingIsStable, NothingChangesAnyMore, rounds_to_deliver, rounds_to_be_stable}
+use Rattle.cb_schedules.specs.Rounds.{tick_steps, receivers, arrivals_from, ticked, answered, round_steps, steps_of_rounds, after_rounds, outcomes_of, FindNoneFull}
+use Rattle.cb_schedules.specs.RoundLaws.{EverythingIsStable, NothingChangesAnyMore, rounds_to_deliver, rounds_to_be_stable}
 use Rattle.cb_schedules.proofs.Happening.{none_full_from, from_none_full}
 use Rattle.cb_schedules.proofs.Waves.{none_full_splits}
 use Rattle.cb_schedules.proofs.Room.{room_enough}

@@ -6,3 +6,4 @@ pub mod Consistent
 pub mod SentLaws
 pub mod Headline
 pub mod Rounds
+pub mod RoundLaws

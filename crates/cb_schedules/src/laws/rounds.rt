@@ -1,7 +1,15 @@
 //! Rounds: every member ticks, and then all that was put out arrives. A few of them repair whatever was lost.
 
 ghost use Rattle.cb_schedules.specs.Headline.{EachSchedule, IsCausalBroadcast};
-ghost use Rattle.cb_schedules.specs.Rounds.{AnswersPutNothingOut, ArrivedEverywhereIsDelivered, BehindRounds, EachArrivesOnce, EachTicksOnce, EverybodyHasEverything, EverybodyHasHeard, EverybodyHasTheSame, EverythingIsStable, FurtherRoundsAreQuiet, NothingChangesAnyMore, NothingOldArrives, RoomForEachStepIsEnough, RoundsAreSteps, RoundsCastNothing, RoundsExpand, one_round, rounds_to_be_stable, rounds_to_deliver};
+ghost use Rattle.cb_schedules.specs.RoundLaws.{AnswersPutNothingOut, ArrivedEverywhereIsDelivered};
+ghost use Rattle.cb_schedules.specs.RoundLaws.{BehindRounds, EachArrivesOnce, EachTicksOnce};
+ghost use Rattle.cb_schedules.specs.RoundLaws.{EverybodyHasEverything, EverybodyHasHeard};
+ghost use Rattle.cb_schedules.specs.RoundLaws.{EverybodyHasTheSame, EverythingIsStable};
+ghost use Rattle.cb_schedules.specs.RoundLaws.{FurtherRoundsAreQuiet, NothingChangesAnyMore};
+ghost use Rattle.cb_schedules.specs.RoundLaws.{NothingIsMissing, NothingOldArrives};
+ghost use Rattle.cb_schedules.specs.RoundLaws.{RoomForEachStepIsEnough, RoundsAreSteps};
+ghost use Rattle.cb_schedules.specs.RoundLaws.{RoundsCastNothing, RoundsExpand};
+ghost use Rattle.cb_schedules.specs.RoundLaws.{one_round, rounds_to_be_stable, rounds_to_deliver};
 
 /// In a round every member ticks once, and each frame that is sent in it arrives once at everyone it was sent to; no frame that was sent
 /// before arrives. What is put out in answer arrives without putting anything out, and that is where a round ends.
@@ -23,8 +31,8 @@ pub fn room_for_each_step_is_enough()
     ensures { RoomForEachStepIsEnough }
 {}
 
-/// Behind one round everybody has heard of every cast. From then on each round expands with each member, of each other, 64 casts more, or
-/// all that there are.
+/// After one round everybody has heard of every cast. From then on each round expands with each member, of each other, 64 casts more,
+/// or all that there are.
 pub fn rounds_tell_and_bring()
     ensures heard { BehindRounds one_round EverybodyHasHeard }
     ensures expands { RoundsExpand }
@@ -35,17 +43,19 @@ pub fn what_has_arrived_everywhere_is_delivered()
     ensures { EachSchedule ArrivedEverywhereIsDelivered }
 {}
 
-/// From every state that any schedule reaches, whatever was lost before: behind 1 + W / 64 rounds, rounded up, in which no history is found
-/// full, every member has delivered every message that was cast. So all have the same messages, each in an order that causality allows.
+/// From every state that any schedule reaches, whatever was lost before: after one round and W / 64 more, rounded up, where W is the
+/// window and no history is found full in them, every member has delivered every message that was cast. So all have the same messages,
+/// each in an order that causality allows, and nobody lacks anything that it has heard of.
 ///
-/// W is the window: with one of up to 64 two rounds do, with one of 256 five.
+/// With a window of up to 64 these are two rounds, with one of 256 five.
 pub fn a_few_rounds_repair_whatever_was_lost()
     ensures delivered { BehindRounds rounds_to_deliver EverybodyHasEverything }
     ensures same { BehindRounds rounds_to_deliver EverybodyHasTheSame }
+    ensures missing { BehindRounds rounds_to_deliver NothingIsMissing }
     ensures causal { BehindRounds rounds_to_deliver IsCausalBroadcast }
 {}
 
-/// Behind one round more every member knows that all its casts are delivered everywhere, and keeps none of their frames.
+/// After one round more every member knows that all its casts are delivered everywhere, and keeps none of their frames.
 pub fn one_round_more_makes_everything_stable()
     ensures { BehindRounds rounds_to_be_stable EverythingIsStable }
 {}

@@ -1,4 +1,4 @@
-use Rattle.cb_schedules.proofs.RoundLaws.{rounds_deliver, then_all_have_the_same, still_causal}
+use Rattle.cb_schedules.proofs.RoundLaws.{rounds_deliver, then_all_have_the_same, then_nothing_is_missing, still_causal}
 use Rattle.cb_schedules.proofs.laws.rounds.a_few_rounds_repair_whatever_was_lost.Goals as goal
 
 pub returns-clause-delivered : goal.returns-clause-delivered
@@ -9,3 +9,6 @@ returns-clause-same c = then_all_have_the_same
 
 pub returns-clause-causal : goal.returns-clause-causal
 returns-clause-causal c = still_causal
+
+pub returns-clause-missing : goal.returns-clause-missing
+returns-clause-missing c = then_nothing_is_missing
