@@ -149,8 +149,8 @@ module _ (setting : Setting) (s t : GroupState) (inv : IsConsistent setting s) (
           → Takes setting w.asking w.answered (sent_by j (record { to = Some i; bytes = text_of (RequestFrame asked_fields) })) i → Comes
       request_brings read a = elim (cases_lt (stable (seat_at setting i) (facts_at a.now i)) n) [
         | inr below ↦
-            let deliveredby = stable_is_so setting.group (facts_at a.now) a.consistent.together i j lt_i lt_j ne in
-            delivered_comes a.now a.consistent (answered_to_end a.now a.rest) (omega (arith, below, deliveredby))
+            let at_asker = stable_is_so setting.group (facts_at a.now) a.consistent.together i j lt_i lt_j ne in
+            delivered_comes a.now a.consistent (answered_to_end a.now a.rest) (omega (arith, below, at_asker))
         | inl above ↦
             let (c, own, sender, number) = own_cast a.now a.consistent (s_to_answered a.now a.before) in
             let out : Outgoing = record { to = Some j; bytes = text_of (CastFrame c) } in

@@ -112,7 +112,7 @@ filtered_rises p low (c ∷ casts) rise =
     (λ _. (rise.0, filtered_rises p (c.number + 1) casts rise.1))
     (λ _. let first = rise.0 in rising_from (c.number + 1) low (filter p casts) (omega (arith, first)) (filtered_rises p (c.number + 1) casts rise.1))
 
--- from where the first one is
+-- from any number on that none is below
 pub rises_from_first : (low high : ℕ) (casts : List CastFields) → Rising low casts → ((c : CastFields) → IsIn c casts → high ≤ c.number) → Rising high casts
 rises_from_first low high [] rise each = tt
 rises_from_first low high (c ∷ casts) rise each = (each c (inl refl), rise.1)

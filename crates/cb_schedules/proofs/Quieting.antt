@@ -229,9 +229,6 @@ module _ (setting : Setting) (s : GroupState) (inv : IsConsistent setting s) (qu
           (omega (arith, said, most_of t.sender i so.member lt, quiet.known_there i t.sender lt so.member (λ e. other (sym e))))))
     ]
 
-    abbrev entries : List EntryFields
-    entries = s.histories i
-
     abbrev Unchanged : List ℕ → Result ArrivalSays ArriveRefusal → Type 0
     Unchanged bytes r = and_entry (s.histories i) (arrive_entry bytes r) ≡ s.histories i
 

@@ -156,7 +156,7 @@ module _ (setting : Setting) (s : GroupState) (inv : IsConsistent setting s) whe
           all j earlier.sender earlier.number lt one.0 one.1 one.2;
     }
 
-    -- so who is delivered anywhere is delivered everywhere
+    -- so what is delivered anywhere is delivered everywhere
     pub delivered_everywhere : (j k : ℕ) (m : Name) → j < setting.group.size → HasDelivered setting s k m → HasDelivered setting s j m
     delivered_everywhere j k m lt has =
         let one = is_one_of_the_casts k m has in

@@ -12,7 +12,7 @@ use Rattle.cb_schedules.specs.Messages.{facts_at}
 use Rattle.cb_schedules.specs.Consistent.{IsConsistent}
 use Rattle.cb_schedules.specs.Headline.{IsCausalBroadcast, EachSchedule}
 use Rattle.cb_schedules.specs.Rounds.{round_steps, steps_of_rounds, after_rounds, FindNoneFull}
-use Rattle.cb_schedules.specs.RoundLaws.{EverybodyHasEverything, EverybodyHasTheSame, NothingIsMissing, EverythingIsStable, NothingChangesAnyMore, BehindRounds, rounds_to_deliver, rounds_to_be_stable, FurtherRoundsAreQuiet, one_round, RoundsAreSteps, RoundsCastNothing, AnswersPutNothingOut, EachArrivesOnce, EverybodyHasHeard, RoundsExpand, ArrivedEverywhereIsDelivered}
+use Rattle.cb_schedules.specs.RoundLaws.{EverybodyHasEverything, EverybodyHasTheSame, NothingIsMissing, EverythingIsStable, NothingChangesAnyMore, BehindRounds, rounds_to_deliver, rounds_to_be_stable, FurtherRoundsAreQuiet, one_round, RoundsAreSteps, RoundsCastNothing, AnswersPutNothingOut, EachArrivesOnce, EverybodyHasHeard, RoundsExpand, ArrivedEverywhereIsDelivered, TheseAreFew}
 use Rattle.cb_schedules.proofs.GoingOn.{runs_join}
 use Rattle.cb_schedules.proofs.Courses.{runs_are_consistent}
 use Rattle.cb_schedules.proofs.Headlines.{each_schedule, headline_holds}
@@ -70,6 +70,13 @@ rounds_expand setting steps j i is heard none lt_j lt_i ne =
     cast_comes setting s t inv w i j k lt_i lt_j ne low (omega (arith, high)) (omega (arith, known_all)) (omega (arith, high)))
 
 -- ---- enough rounds
+
+pub these_are_few : TheseAreFew
+these_are_few setting is =
+    let bounds = div_ceil_times setting.group.window MOST_FRAMES (omega arith) in
+    let one = is.group.width.one_or_more in
+    let most = is.group.width.at_most_widest in
+    ((λ narrow. omega (arith, bounds.0, bounds.1, one, narrow)), omega (arith, bounds.1, most))
 
 module _ (setting : Setting) (steps : Schedule) (is : IsSetting setting) where
   abbrev start : GroupState

@@ -119,6 +119,12 @@ RoundsExpand =
 abbrev pub rounds_to_deliver : Setting → ℕ
 rounds_to_deliver setting = 1 + div_ceil setting.group.window MOST_FRAMES
 
+-- two rounds where the window is no wider than an answer has frames, and never more than five
+abbrev pub TheseAreFew : Type 0
+TheseAreFew =
+    (setting : Setting) → IsSetting setting
+    → (setting.group.window ≤ MOST_FRAMES → rounds_to_deliver setting ≡ 2) × (rounds_to_deliver setting ≤ 5)
+
 -- every member has delivered every message that was cast
 abbrev pub EverybodyHasEverything : Setting → GroupState → Type 0
 EverybodyHasEverything setting s =

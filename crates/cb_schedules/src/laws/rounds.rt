@@ -7,7 +7,7 @@ ghost use Rattle.cb_schedules.specs.RoundLaws.{EverybodyHasEverything, Everybody
 ghost use Rattle.cb_schedules.specs.RoundLaws.{EverybodyHasTheSame, EverythingIsStable};
 ghost use Rattle.cb_schedules.specs.RoundLaws.{FurtherRoundsAreQuiet, NothingChangesAnyMore};
 ghost use Rattle.cb_schedules.specs.RoundLaws.{NothingIsMissing, NothingOldArrives};
-ghost use Rattle.cb_schedules.specs.RoundLaws.{RoomForEachStepIsEnough, RoundsAreSteps};
+ghost use Rattle.cb_schedules.specs.RoundLaws.{RoomForEachStepIsEnough, RoundsAreSteps, TheseAreFew};
 ghost use Rattle.cb_schedules.specs.RoundLaws.{RoundsCastNothing, RoundsExpand};
 ghost use Rattle.cb_schedules.specs.RoundLaws.{one_round, rounds_to_be_stable, rounds_to_deliver};
 
@@ -47,12 +47,13 @@ pub fn what_has_arrived_everywhere_is_delivered()
 /// window and no history is found full in them, every member has delivered every message that was cast. So all have the same messages,
 /// each in an order that causality allows, and nobody lacks anything that it has heard of.
 ///
-/// With a window of up to 64 these are two rounds, with one of 256 five.
+/// With a window of up to 64 these are two rounds, and with a wider one at most five.
 pub fn a_few_rounds_repair_whatever_was_lost()
     ensures delivered { BehindRounds rounds_to_deliver EverybodyHasEverything }
     ensures same { BehindRounds rounds_to_deliver EverybodyHasTheSame }
     ensures missing { BehindRounds rounds_to_deliver NothingIsMissing }
     ensures causal { BehindRounds rounds_to_deliver IsCausalBroadcast }
+    ensures few { TheseAreFew }
 {}
 
 /// After one round more every member knows that all its casts are delivered everywhere, and keeps none of their frames.
