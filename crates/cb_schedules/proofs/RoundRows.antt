@@ -77,7 +77,7 @@ unfolding steps_of_rounds round_steps ticked answered step_after run_from cast_a
 then_stable = refl
 
 -- and no round after it adds an entry
-how_long_they_are : map (λ n. entries_at (after_rounds three n (run three lost))) (3 ∷ 4 ∷ []) ≡ (8 ∷ 7 ∷ 8 ∷ []) ∷ (8 ∷ 7 ∷ 8 ∷ []) ∷ []
+how_long_they_are : map (λ n. entries_at (after_rounds three n (run three lost))) (2 ∷ 3 ∷ 4 ∷ []) ≡ (5 ∷ 6 ∷ 5 ∷ []) ∷ (8 ∷ 7 ∷ 8 ∷ []) ∷ (8 ∷ 7 ∷ 8 ∷ []) ∷ []
 unfolding steps_of_rounds round_steps ticked answered step_after run_from cast_answer arrive_answer tick_answer view drained frame_at cast_at status_at request_at pairs_at pair_at number_at text_of spelling
 how_long_they_are = refl
 
@@ -142,3 +142,15 @@ the_example_is_stable = rounds_make_stable three lost the_setting there_is_room
 
 and_stays_so : NothingChangesAnyMore three (after_rounds three (rounds_to_be_stable three) (run three lost))
 and_stays_so = then_nothing_changes three lost the_setting there_is_room
+
+-- ---- full histories
+
+-- the same group with room for two entries each
+abbrev full : Setting
+full = record { group = record { number = 7; size = 3; window = 8 }; limit = 2 }
+
+-- then member 0 can't even tell its status, the casts that come are refused, and no round repairs anything
+nothing_is_repaired : map (λ j. map (λ i. delivered (seat_at full j) (facts_at (after_rounds full 4 (run full lost)) j) i) (0 ∷ 1 ∷ 2 ∷ [])) (0 ∷ 1 ∷ 2 ∷ [])
+    ≡ (2 ∷ 0 ∷ 0 ∷ []) ∷ (0 ∷ 0 ∷ 0 ∷ []) ∷ (0 ∷ 0 ∷ 1 ∷ []) ∷ []
+unfolding steps_of_rounds round_steps ticked answered step_after run_from cast_answer arrive_answer tick_answer view drained frame_at cast_at status_at request_at pairs_at pair_at number_at text_of spelling
+nothing_is_repaired = refl
