@@ -114,7 +114,7 @@ step_goes_on setting is s inv step =
 
 -- ---- runs
 
-consistent_from : (setting : Setting) → IsSetting setting → (s : GroupState) → IsConsistent setting s → (steps : Schedule) → IsConsistent setting (run_from setting s steps)
+pub consistent_from : (setting : Setting) → IsSetting setting → (s : GroupState) → IsConsistent setting s → (steps : Schedule) → IsConsistent setting (run_from setting s steps)
 unfolding run_from
 consistent_from setting is s inv [] = inv
 consistent_from setting is s inv (step ∷ steps) = consistent_from setting is (step_after setting s step) (step_goes_on setting is s inv step).0 steps

@@ -3,7 +3,7 @@ use Rattle.std.proofs.Common.{◌≡◌, ℕ, [], ◌∷◌, ◌++◌, refl, ◌
 use Rattle.cb_schedules.specs.Schedule.{Setting, Step, Schedule, Asked, Calls, OfNoMember, OfNoFrame, OfNoBytes, GroupState, asked_by, after_asked, step_after, run_from, run, nothing_yet}
 use Rattle.cb_schedules.specs.RunLaws.{RunsGoOn, RunsJoin, AsksForNothing, NothingIsDone}
 
-runs_join_from : (setting : Setting) (s : GroupState) (steps more : Schedule) → run_from setting s (steps ++ more) ≡ run_from setting (run_from setting s steps) more
+pub runs_join_from : (setting : Setting) (s : GroupState) (steps more : Schedule) → run_from setting s (steps ++ more) ≡ run_from setting (run_from setting s steps) more
 unfolding run_from
 runs_join_from setting s [] more = refl
 runs_join_from setting s (step ∷ steps) more = runs_join_from setting (step_after setting s step) steps more

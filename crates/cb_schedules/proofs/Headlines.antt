@@ -44,7 +44,7 @@ none_seen size m seen = cc
 
 module _ (setting : Setting) (s : GroupState) (inv : IsConsistent setting s) where
   -- who has delivered something is a member
-  member_has : (j : ℕ) (m : Name) → HasDelivered setting s j m → j < setting.group.size
+  pub member_has : (j : ℕ) (m : Name) → HasDelivered setting s j m → j < setting.group.size
   member_has j m has = elim (cases_lt j setting.group.size) [
     | inl lt ↦ lt
     | inr le ↦ absurd (none_seen setting.group.size (called m)
@@ -52,10 +52,10 @@ module _ (setting : Setting) (s : GroupState) (inv : IsConsistent setting s) whe
   ]
 
   -- a cast stands in its caster's list
-  cast_stands : (m : Name) (c : WasCast setting s m) → HasDelivered setting s (c.0).member m
+  pub cast_stands : (m : Name) (c : WasCast setting s m) → HasDelivered setting s (c.0).member m
   cast_stands m c = record { index = (c.0).index; event = causal.Cast m c.1.payload; stands = c.1.stands; named = refl }
 
-  numbered : (j : ℕ) (m : Name) → HasDelivered setting s j m → 1 ≤ m.number
+  pub numbered : (j : ℕ) (m : Name) → HasDelivered setting s j m → 1 ≤ m.number
   numbered j m has = (seen_number setting.group (facts_at s) inv.together j m (member_has j m has) (has_seen (member_of setting.group j) (facts_at s j) m has)).0
 
   -- ---- the claims
@@ -164,7 +164,7 @@ module _ (setting : Setting) (s : GroupState) (inv : IsConsistent setting s) whe
 
 -- ---- along runs
 
-call_is_welcome : (setting : Setting) (s : GroupState) → IsConsistent setting s → (i : ℕ) (call : Call) → i < setting.group.size → IsFair setting s call
+pub call_is_welcome : (setting : Setting) (s : GroupState) → IsConsistent setting s → (i : ℕ) (call : Call) → i < setting.group.size → IsFair setting s call
     → IsRefusedByFullHistoryAlone (answer_of (seat_at setting i) setting.limit (s.histories i) call)
 unfolding arrive_answer
 call_is_welcome setting s inv i (ToCast payload) lt fair = tt

@@ -27,7 +27,7 @@ use Rattle.cb_history.proofs.Keeping.{in_range}
 
 -- ---- lists
 
-value_below : (f : ℕ → ℕ) (values : List Change) (k : ℕ) → AllByRecursion (λ d. d.amount ≤ f d.field) values → value_in values k ≤ f k
+pub value_below : (f : ℕ → ℕ) (values : List Change) (k : ℕ) → AllByRecursion (λ d. d.amount ≤ f d.field) values → value_in values k ≤ f k
 value_below f [] k all = omega arith
 value_below f (d ∷ values) k all =
     cond_both (eqb d.field k) d.amount (value_in values k) (λ (n : ℕ). n ≤ f k) (λ same. subst (λ (j : ℕ). d.amount ≤ f j) (eqb-true d.field k same) all.0) (λ other. value_below f values k all.1)
@@ -107,7 +107,7 @@ module _ (group : Parameters) (facts : ℕ → List Fact) (h : AreTogether group
 
   -- ---- what a member has heard of
 
-  own_number : (c : CastFields) → IsIn c (own_casts (facts c.sender)) → c.number ≤ has_delivered c.sender c.sender
+  pub own_number : (c : CastFields) → IsIn c (own_casts (facts c.sender)) → c.number ≤ has_delivered c.sender c.sender
   own_number c own =
       let there = own_is_there (facts c.sender) c own in
       own_is_delivered (member_of group c.sender) (facts c.sender) c.number (h.legal c.sender (inside group facts h c.sender c there)) (cast_is_there (casts_in (facts c.sender)) c c.sender c.number there refl refl)

@@ -1,4 +1,5 @@
 mod Rows
+mod RoundRows
 pub mod GoingOn
 pub mod Lists
 pub mod Members
@@ -13,3 +14,15 @@ pub mod Closing
 pub mod FromBytes
 pub mod Knowing
 pub mod Headlines
+pub mod Later
+pub mod Happening
+pub mod Covering
+pub mod Hearing
+pub mod Waves
+pub mod Asking
+pub mod Repairing
+pub mod Quieting
+pub mod Ending
+pub mod RoundLaws
+pub mod Once
+pub mod Room

@@ -5,3 +5,5 @@ pub mod Honest
 pub mod Consistent
 pub mod SentLaws
 pub mod Headline
+pub mod Rounds
+pub mod RoundLaws

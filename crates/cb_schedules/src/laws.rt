@@ -4,6 +4,7 @@ mod frames;
 mod headline;
 mod invariant;
 mod knowledge;
+mod rounds;
 mod runs;
 
 pub use frames::sent_frames_say_what_is_so;
@@ -11,5 +12,11 @@ pub use headline::causal_broadcast_over_lossy_links;
 pub use invariant::{runs_are_consistent, steps_extend_the_machines};
 pub use knowledge::{
     arrivals_are_welcome, what_is_heard_of_is_cast, what_is_stable_is_delivered_everywhere,
+};
+pub use rounds::{
+    a_few_rounds_repair_whatever_was_lost, a_round_is_a_tick_of_each_and_its_arrivals,
+    one_round_more_makes_everything_stable, room_for_each_step_is_enough,
+    rounds_are_steps_of_a_schedule, rounds_tell_and_bring, then_nothing_changes_any_more,
+    what_has_arrived_everywhere_is_delivered,
 };
 pub use runs::runs_go_on_step_by_step;
