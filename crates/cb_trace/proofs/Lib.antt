@@ -8,4 +8,8 @@ pub mod Going
 pub mod Reaching
 pub mod OneReading
 pub mod OneBadLine
+pub mod Ordering
+pub mod OneOrder
+pub mod Answered
+pub mod JointRuns
 mod Rows

@@ -4,3 +4,6 @@ pub mod Bounds
 pub mod Finding
 pub mod Reading
 pub mod Laws
+pub mod JointOrder
+pub mod JointRun
+pub mod AuditLaws

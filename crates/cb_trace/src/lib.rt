@@ -14,7 +14,7 @@ mod words;
 mod writing;
 
 pub use fault::{TraceFault, WriteFault};
-pub use laws::a_text_is_read_in_one_way;
+pub use laws::{a_text_is_read_in_one_way, joint_orders_are_schedules, no_joint_order_is_missed};
 pub use reading::read_trace;
 pub use writing::write_trace;
 
