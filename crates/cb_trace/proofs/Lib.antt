@@ -12,4 +12,5 @@ pub mod Ordering
 pub mod OneOrder
 pub mod Answered
 pub mod JointRuns
+pub mod Replays
 mod Rows

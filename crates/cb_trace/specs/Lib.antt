@@ -7,3 +7,5 @@ pub mod Laws
 pub mod JointOrder
 pub mod JointRun
 pub mod AuditLaws
+pub mod Auditing
+pub mod Replaying

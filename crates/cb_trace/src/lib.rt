@@ -9,6 +9,7 @@
 mod fault;
 mod laws;
 mod reading;
+mod replaying;
 mod spelling;
 mod words;
 mod writing;
