@@ -81,7 +81,7 @@ module _ (setting : Setting) (is : IsSetting setting) (histories : Histories) (a
     | inr le ↦ absurd (let none : length (histories k) ≡ 0 = ap length (are.nobody k le) in omega (arith, inside, none))
   ]
 
-  legal_before : IsLegal me before × IsLegal me (before ++ e ∷ [])
+  pub legal_before : IsLegal me before × IsLegal me (before ++ e ∷ [])
   legal_before =
       let rest = drop (suc count) (histories k) in
       let parts : histories k ≡ (before ++ e ∷ []) ++ rest = split_at (histories k) count e next ∙ sym (append_assoc before (e ∷ []) rest) in

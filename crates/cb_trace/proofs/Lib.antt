@@ -13,4 +13,7 @@ pub mod OneOrder
 pub mod Answered
 pub mod JointRuns
 pub mod Replays
+pub mod Frames
+pub mod Searching
+pub mod OneStep
 mod Rows

@@ -9,3 +9,4 @@ pub mod JointRun
 pub mod AuditLaws
 pub mod Auditing
 pub mod Replaying
+pub mod Search

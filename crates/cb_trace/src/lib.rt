@@ -7,6 +7,7 @@
 #![tactic(auto)]
 
 mod fault;
+mod joining;
 mod laws;
 mod reading;
 mod replaying;

@@ -62,7 +62,7 @@ fn gives(alloc: Global, member: &mut Member, entry: &Entry) -> Result<bool, NoMe
 }
 
 /// What a cast frame casts; no byte of a frame that is none.
-fn payload_of(alloc: Global, frame: &Bytes) -> Result<Bytes, NoMemory>
+pub fn payload_of(alloc: Global, frame: &Bytes) -> Result<Bytes, NoMemory>
     ensures { IfOk result (λ payload. payload ≡ payload_said (frame_at frame.now)) }
 {
     match decode(alloc, frame) {
