@@ -16,4 +16,5 @@ pub mod Replays
 pub mod Frames
 pub mod Searching
 pub mod OneStep
+pub mod Asked
 mod Rows

@@ -10,3 +10,4 @@ pub mod AuditLaws
 pub mod Auditing
 pub mod Replaying
 pub mod Search
+pub mod Asking

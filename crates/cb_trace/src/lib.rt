@@ -8,6 +8,7 @@
 
 mod fault;
 mod joining;
+mod joint;
 mod laws;
 mod reading;
 mod replaying;
