@@ -17,4 +17,5 @@ pub mod Frames
 pub mod Searching
 pub mod OneStep
 pub mod Asked
+pub mod Audited
 mod Rows

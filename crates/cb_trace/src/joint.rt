@@ -10,25 +10,17 @@ ghost use Rattle.cb_world.specs.Steps.{step_fields};
 ghost use Rattle.cb_world.specs.World.{run_in};
 ghost use Rattle.cb_trace.specs.Asking.{HasCastOf, HasNoCastOf, IsCastAtTime};
 
+use crate::fault::QueryFault;
 use cb_member::{Event, Name, TimeOrder, VectorTime};
 use cb_world::{Step, World};
 use std::marker::Model;
 
-/// Why it was not told which message was before which.
-#[derive(Clone, Copy, Debug, PartialEq, Eq, Hash)]
-pub enum QueryFault {
-    /// One of the messages was not cast by any of these members.
-    UnknownMessage,
-    /// Out of memory; a `Joint` needs none to answer.
-    NoMemory,
-}
-
 /// Histories of a whole group that are what its members did in a run of a schedule, and that schedule.
 #[derive(Drop)]
 pub struct Joint {
-    world: World,
-    steps: Vec<Step>,
-    history_max: usize,
+    pub(crate) world: World,
+    pub(crate) steps: Vec<Step>,
+    pub(crate) history_max: usize,
 }
 
 impl Model for Joint {

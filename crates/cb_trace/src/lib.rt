@@ -6,6 +6,7 @@
 //! Stands on `cb_history` for histories and on `cb_times` for names; frames are bytes here and are not looked into.
 #![tactic(auto)]
 
+mod auditing;
 mod fault;
 mod joining;
 mod joint;
@@ -16,7 +17,9 @@ mod spelling;
 mod words;
 mod writing;
 
-pub use fault::{TraceFault, WriteFault};
+pub use auditing::audit;
+pub use fault::{AuditFault, QueryFault, TraceFault, WriteFault};
+pub use joint::Joint;
 pub use laws::{a_text_is_read_in_one_way, joint_orders_are_schedules, no_joint_order_is_missed};
 pub use reading::read_trace;
 pub use writing::write_trace;
