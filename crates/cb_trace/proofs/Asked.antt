@@ -1,5 +1,5 @@
 -- Which message was before which: read off the times of the casts.
-use Rattle.std.proofs.Common.{◌≡◌, ◌≢◌, ◌⊎◌, ◌↔◌, ℕ, ◌<◌, ◌≤◌, Bool, true, false, eqb, List, [], ◌∷◌, length, map, Option, Some, None, refl, sym, ap, subst, ◌∙◌, arith}
+use Rattle.std.proofs.Common.{◌≡◌, ℕ, ◌<◌, ◌≤◌, Bool, true, false, eqb, List, [], length, Option, Some, None, refl, sym, ap, subst, ◌∙◌, arith}
 use Rattle.std.specs.Prelude.{slice_get, MatchOption}
 use Rattle.std.specs.Bool.{Decides}
 use Rattle.std.specs.List.{range_with_len}
@@ -15,9 +15,8 @@ use Rattle.cb_delay.specs.declared.message.Message.{Message}
 use Rattle.cb_delay.specs.declared.message.Event.{Event}
 use Rattle.cb_delay.specs.declared.message.Event.TheVariants.{Cast, Deliver}
 use Rattle.cb_diffs.specs.Sent.{sent_field}
-use Rattle.cb_causality.specs.declared.event.CausalEvent.{CausalEvent}
 use Rattle.cb_causality.specs.declared.event.CausalEvent.TheVariants as causal
-use Rattle.cb_causality.specs.HappenedBefore.{Place, HappenedBefore}
+use Rattle.cb_causality.specs.HappenedBefore.{HappenedBefore}
 use Rattle.cb_causality.specs.StampedMachine.{without_time}
 use Rattle.cb_causality.proofs.Counting.{get_map, get_map_from}
 use Rattle.cb_history.specs.Group.{Seat}
@@ -27,7 +26,6 @@ use Rattle.cb_history.specs.Events.{event_in, events}
 use Rattle.cb_schedules.specs.Schedule.{Setting, IsSetting, seat_at, GroupState}
 use Rattle.cb_schedules.specs.Messages.{facts_at, stamped_lists, causal_lists, WasCast, sent_casts, time_from_bytes}
 use Rattle.cb_schedules.specs.Consistent.{IsConsistent}
-use Rattle.cb_schedules.specs.Headline.{Headline}
 use Rattle.cb_schedules.proofs.Headlines.{headline_holds, times_from_bytes}
 use Rattle.cb_schedules.proofs.Courses.{runs_are_consistent}
 use Rattle.cb_world.specs.World.{WorldState, run_in}

@@ -1,5 +1,5 @@
 -- The audit, from the histories in memory to its answer.
-use Rattle.std.proofs.Common.{◌≡◌, ◌≢◌, ◌⊎◌, ℕ, zero, suc, ◌+◌, ◌<◌, ◌≤◌, Bool, true, false, max, List, [], ◌∷◌, ◌++◌, length, length-append, map, drop, get_or, Option, Some, None, refl, sym, ap, subst, ◌∙◌, inl, inr, arith}
+use Rattle.std.proofs.Common.{◌≡◌, ℕ, zero, suc, ◌+◌, ◌<◌, ◌≤◌, List, [], ◌∷◌, length, length-append, map, get_or, Option, Some, None, refl, sym, ap, subst, ◌∙◌, inl, inr, arith}
 use Rattle.std.specs.Prelude.{slice_get, MatchOption}
 use Rattle.std.proofs.lemmas.Bool.{cases_lt}
 use Rattle.std.specs.Prelude.{bytes_eq, replicate}
@@ -8,14 +8,13 @@ use Rattle.std.proofs.lemmas.List.{length-map, length-replicate, get_or-replicat
 use Rattle.std.proofs.lemmas.Grind.{get_or_default_zero}
 use Rattle.std.proofs.lemmas.Option.{slice_get_past, slice_get_within, slice_get_read}
 use Rattle.cb_causality.proofs.Counting.{get_map}
-use Rattle.cb_times.specs.Group.{IsGroupSize}
 use Rattle.cb_history.specs.declared.history.History.{History}
 use Rattle.cb_history.specs.Group.{Parameters, AreParameters, Seat}
 use Rattle.cb_history.specs.Facts.{EntryFields, Fact, entry_fields, facts_of}
 use Rattle.cb_history.specs.Legal.{longest_history, IsLegal}
 use Rattle.cb_history.specs.LegalFacts.{AreLegalFacts, NoFacts, OneFactMore}
 use Rattle.cb_history.proofs.Histories.{legal_histories_say_legal_facts, each_entry_says_one_fact}
-use Rattle.cb_schedules.specs.Schedule.{Setting, IsSetting, Schedule, run_from, run}
+use Rattle.cb_schedules.specs.Schedule.{Setting, IsSetting, run_from}
 use Rattle.cb_schedules.specs.Headline.{Headline}
 use Rattle.cb_schedules.proofs.Headlines.{each_schedule, headline_holds}
 use Rattle.cb_world.specs.Steps.{step_fields}
@@ -25,7 +24,7 @@ use Rattle.cb_trace.specs.declared.joining.Joining.{Joining}
 use Rattle.cb_trace.specs.Text.{HistoryFields, history_fields}
 use Rattle.cb_trace.specs.JointOrder.{gone, IsOrder, IsJointOrder, NothingTaken}
 use Rattle.cb_trace.specs.JointRun.{IsFirstFrame, AreStepsOf, NoStep, AreLegalWithin}
-use Rattle.cb_trace.specs.Auditing.{seat_of, entries_in, entries_at, longest, AreOfEachMember, AreWrongMembers, IsFirstWrong, IsWrongAnswer, AreLegalHistories, IsUnsent, HaveNoJointOrder, SaysFault, IsJoint, IsAudited, setting_of}
+use Rattle.cb_trace.specs.Auditing.{seat_of, entries_in, entries_at, longest, AreOfEachMember, AreWrongMembers, IsFirstWrong, IsWrongAnswer, AreLegalHistories, SaysFault, IsJoint, IsAudited, setting_of}
 use Rattle.cb_trace.specs.Search.{NoneHas, HasLeft, IsFirstLeft, IsJoining, IsJoined}
 use Rattle.cb_trace.proofs.Ordering.{within, greedy_orders_are_orders, joint_order_is_found}
 use Rattle.cb_trace.proofs.JointRuns.{run_has_the_histories}

@@ -1,6 +1,6 @@
 -- The numbers of first frames, as frames are sent.
 use Rattle.std.proofs.Common.{◌≡◌, ◌≢◌, ℕ, zero, suc, ◌+◌, ◌<◌, Bool, true, false, cond, List, [], ◌∷◌, ◌++◌, length, map, take, get_or, Option, Some, None, refl, sym, ap, subst, ◌∙◌, inl, inr, arith, add-one, if◌then◌else◌}
-use Rattle.std.specs.Prelude.{MatchOption, bytes_eq, is_some, slice_get}
+use Rattle.std.specs.Prelude.{MatchOption, bytes_eq, is_some}
 use Rattle.std.specs.Option.{option_or}
 use Rattle.std.proofs.lemmas.Slice.Eq.{bytes_eq-Decides}
 use Rattle.std.proofs.lemmas.Bool.{both_ways}

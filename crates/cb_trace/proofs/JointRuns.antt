@@ -1,5 +1,5 @@
 -- The run of an order's steps: each member has as many of its entries as have gone, and what was sent is what these put out, and requests.
-use Rattle.std.proofs.Common.{◌≡◌, ◌⊎◌, ℕ, zero, suc, ◌+◌, ◌<◌, ◌≤◌, Bool, true, false, eqb, ltb, List, [], ◌∷◌, ◌++◌, length, map, take, drop, Option, Some, None, refl, sym, ap, subst, ◌∙◌, inl, inr, arith, append_assoc, add-one, add-zero, if◌then◌else◌}
+use Rattle.std.proofs.Common.{◌≡◌, ◌⊎◌, ℕ, zero, suc, ◌+◌, ◌<◌, ◌≤◌, Bool, true, false, eqb, List, [], ◌∷◌, ◌++◌, length, map, take, drop, Some, refl, sym, ap, subst, ◌∙◌, inl, inr, arith, append_assoc, add-one, add-zero, if◌then◌else◌}
 use Rattle.std.specs.Prelude.{slice_get}
 use Rattle.std.specs.List.{AllByRecursion}
 use Rattle.std.proofs.lemmas.Bool.{cases_lt, eqb-true, eqb-false, ne_eqb, lt-leb, lt-ltb}
@@ -12,18 +12,18 @@ use Rattle.cb_history.specs.declared.answer.Outgoing.{Outgoing}
 use Rattle.cb_history.specs.Group.{Seat}
 use Rattle.cb_history.specs.Facts.{EntryFields, CastEntry, ArriveEntry, TickEntry}
 use Rattle.cb_history.specs.Answers.{is_full}
-use Rattle.cb_history.specs.Legal.{longest_history, Call, ToCast, ToTake, ToTick, entry_of, and_entry, history_after, IsLegal}
+use Rattle.cb_history.specs.Legal.{longest_history, ToCast, ToTake, ToTick, entry_of, and_entry, history_after, IsLegal}
 use Rattle.cb_history.specs.ReplayLaws.{payload_said, call_of, IsAdded}
 use Rattle.cb_history.proofs.Views.{IsIn}
 use Rattle.cb_history.proofs.Lists.{in_front, in_back}
 use Rattle.cb_history.proofs.Prefixes.{prefix_is_legal}
 use Rattle.cb_history.proofs.Replays.{one_more_is_decided, entries_of_bytes_tell_bytes}
-use Rattle.cb_schedules.specs.Schedule.{Setting, IsSetting, seat_at, Step, CastStep, ArriveStep, TickStep, Schedule, SentFrame, Asked, Calls, OfNoMember, OfNoBytes, are_bytes, handed_over, asked_by, answer_of, put_out, sent_by, GroupState, with_history, and_answer, after_asked, step_after, nothing_yet, run_from, run}
+use Rattle.cb_schedules.specs.Schedule.{Setting, IsSetting, seat_at, Step, Schedule, SentFrame, Asked, Calls, OfNoMember, OfNoBytes, are_bytes, handed_over, asked_by, answer_of, put_out, sent_by, GroupState, after_asked, step_after, nothing_yet, run_from, run}
 use Rattle.cb_schedules.proofs.GoingOn.{runs_go_on}
-use Rattle.cb_schedules.proofs.Lists.{all_weaken, all_both, all_map, all_at_index, index_of, in_map}
+use Rattle.cb_schedules.proofs.Lists.{all_weaken, all_both, in_map}
 use Rattle.cb_world.proofs.Taken.{bytes_are_bytes}
-use Rattle.cb_trace.specs.JointOrder.{Histories, gone, next_entry, PutsOut, ArePutOut, IsOrder, IsJointOrder}
-use Rattle.cb_trace.specs.JointRun.{IsFirstFrame, IsStepOf, AreStepsOf, NoStep, OneStepMore, AreLegalWithin}
+use Rattle.cb_trace.specs.JointOrder.{Histories, gone, next_entry, PutsOut, ArePutOut}
+use Rattle.cb_trace.specs.JointRun.{IsStepOf, AreStepsOf, NoStep, OneStepMore, AreLegalWithin}
 use Rattle.cb_trace.specs.AuditLaws.{RunHasTheHistories}
 use Rattle.cb_trace.proofs.Ordering.{gone_more, gone_own, gone_at_least, put_out_stays, one_is}
 use Rattle.cb_trace.proofs.Answered.{entry_room, IsRequest, ComesWith, comes_with}

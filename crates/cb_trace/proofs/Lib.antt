@@ -19,3 +19,4 @@ pub mod OneStep
 pub mod Asked
 pub mod Audited
 mod Rows
+mod JointRows

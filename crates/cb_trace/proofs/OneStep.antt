@@ -1,5 +1,5 @@
 -- One more step of the search.
-use Rattle.std.proofs.Common.{◌≡◌, ◌≢◌, ℕ, zero, suc, ◌+◌, ◌-◌, ◌<◌, ◌≤◌, Bool, true, false, eqb, List, [], ◌∷◌, ◌++◌, length, map, take, set, get_or, Option, Some, None, refl, sym, ap, subst, ◌∙◌, arith, inl, inr, if◌then◌else◌, length-append}
+use Rattle.std.proofs.Common.{◌≡◌, ℕ, zero, suc, ◌+◌, ◌-◌, ◌<◌, ◌≤◌, Bool, true, false, eqb, List, [], ◌∷◌, ◌++◌, length, map, take, set, get_or, Some, None, refl, sym, ap, subst, ◌∙◌, arith, inl, inr, if◌then◌else◌, length-append}
 use Rattle.std.specs.Prelude.{slice_get}
 use Rattle.std.proofs.lemmas.Bool.{cases_lt, eqb-true, eqb-false}
 use Rattle.std.proofs.lemmas.List.{map-append, append-nil, length-map, length-set, get_or-set_same, get_or-set_other, take-map}
@@ -15,7 +15,7 @@ use Rattle.cb_world.specs.Steps.{step_fields, member_of}
 use Rattle.cb_world.specs.World.{WorldState, run_in, and_step}
 use Rattle.cb_trace.specs.declared.joining.Joining.{Joining}
 use Rattle.cb_trace.specs.Text.{HistoryFields}
-use Rattle.cb_trace.specs.JointOrder.{Histories, gone, next_entry, IsStuck, SmallestTaken}
+use Rattle.cb_trace.specs.JointOrder.{gone, SmallestTaken}
 use Rattle.cb_trace.specs.JointRun.{IsStepOf, AreStepsOf, OneStepMore, AreLegalWithin}
 use Rattle.cb_trace.specs.Auditing.{entries_in, entries_at}
 use Rattle.cb_trace.specs.Search.{SaysFirstStep, AreCounts, IsJoining, IsJoined, TakesStep, next_at}

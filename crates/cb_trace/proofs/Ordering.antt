@@ -1,10 +1,10 @@
 -- Orders of entries: how many have gone, and that taking an entry early never hurts.
-use Rattle.std.proofs.Common.{◌≡◌, ◌⊎◌, ℕ, zero, suc, ◌+◌, ◌<◌, ◌≤◌, Bool, true, false, eqb, List, [], ◌∷◌, ◌++◌, length, Option, Some, None, refl, sym, ap, subst, ◌∙◌, inl, inr, arith, if◌then◌else◌}
+use Rattle.std.proofs.Common.{◌≡◌, ℕ, ◌+◌, ◌<◌, ◌≤◌, Bool, true, false, eqb, List, [], ◌∷◌, ◌++◌, length, Some, refl, ap, subst, ◌∙◌, arith, if◌then◌else◌}
 use Rattle.std.specs.Prelude.{slice_get}
-use Rattle.std.proofs.lemmas.Option.{slice_get_within, none-some}
-use Rattle.std.proofs.lemmas.Bool.{eq-eqb, eqb-true, ne_eqb}
+use Rattle.std.proofs.lemmas.Option.{slice_get_within}
+use Rattle.std.proofs.lemmas.Bool.{eq-eqb, eqb-true}
 use Rattle.cb_history.specs.Facts.{EntryFields, CastEntry, ArriveEntry, TickEntry}
-use Rattle.cb_trace.specs.JointOrder.{Histories, gone, next_entry, PutsOut, ArePutOut, MayGo, Goes, IsOrder, NothingGone, OneMoreGoes, IsJointOrder, GoesFirst, IsGreedy, NothingTaken, SmallestTaken, IsStuck}
+use Rattle.cb_trace.specs.JointOrder.{Histories, gone, ArePutOut, MayGo, IsOrder, NothingGone, OneMoreGoes, NothingTaken, SmallestTaken, IsStuck}
 use Rattle.cb_trace.specs.AuditLaws.{GreedyOrdersAreOrders, JointOrderIsFound}
 
 -- one more of member i

@@ -1,5 +1,5 @@
 -- Replaying a history: what a member that has the entries so far says of the next one.
-use Rattle.std.proofs.Common.{◌≡◌, ◌≢◌, ℕ, zero, suc, ◌+◌, ◌<◌, Bool, false, ◌==◌, ◌&&◌, List, [], ◌∷◌, ◌++◌, length, map, take, drop, get_or, Some, sym, ap, subst, ◌∙◌, arith, add-one, drop-cons}
+use Rattle.std.proofs.Common.{◌≡◌, ℕ, zero, suc, ◌+◌, ◌<◌, Bool, false, ◌==◌, ◌&&◌, List, [], ◌∷◌, ◌++◌, length, map, take, drop, get_or, sym, ap, subst, ◌∙◌, arith}
 use Rattle.std.specs.Prelude.{Decides}
 use Rattle.std.proofs.lemmas.Bool.{eqb-true, eq-eqb, and_parts, and_from}
 use Rattle.std.proofs.lemmas.List.{map-append, length-map}
@@ -9,7 +9,7 @@ use Rattle.cb_history.specs.Group.{Seat}
 use Rattle.cb_history.specs.Facts.{EntryFields, entry_fields}
 use Rattle.cb_history.specs.Legal.{longest_history, entry_of, IsLegal}
 use Rattle.cb_history.specs.ReplayLaws.{call_of}
-use Rattle.cb_history.specs.State.{MemberState, IsMemberState, entry_by}
+use Rattle.cb_history.specs.State.{MemberState, IsMemberState}
 use Rattle.cb_trace.specs.Auditing.{IsFirstWrong}
 use Rattle.cb_trace.specs.Replaying.{SaysAdded}
 

@@ -1,10 +1,8 @@
 -- The search for a joint order: a step stands for an entry that may go, and where none is found no entry may go.
-use Rattle.std.proofs.Common.{◌≡◌, ◌≢◌, ◌⊎◌, ℕ, zero, suc, ◌+◌, ◌<◌, ◌≤◌, Bool, true, false, cond, not, ◌&&◌, eqb, List, [], ◌∷◌, ◌++◌, length, map, set, get_or, Option, Some, None, Result, Ok, Err, refl, sym, ap, subst, ◌∙◌, inl, inr, arith}
+use Rattle.std.proofs.Common.{◌≡◌, ℕ, not, eqb, List, [], ◌∷◌, ◌++◌, Option, Some, None, Result, Ok, refl, sym, ap, subst, ◌∙◌, inl, inr, arith}
 use Rattle.std.specs.Prelude.{slice_get}
 use Rattle.std.specs.List.{AllByRecursion}
 use Rattle.std.proofs.lemmas.Bool.{cond_both}
-use Rattle.std.proofs.lemmas.List.{map-append, length-set}
-use Rattle.std.proofs.lemmas.Option.{slice_get_within}
 use Rattle.cb_frames.specs.declared.fault.FrameFault.{FrameFault}
 use Rattle.cb_frames.specs.Fields.{FrameFields, CastFrame, StatusFrame, RequestFrame, RequestFields}
 use Rattle.cb_frames.specs.Text.{text_of, cast_kind, status_kind, request_kind}
@@ -13,23 +11,21 @@ use Rattle.cb_times.specs.declared.name.Name.{Name}
 use Rattle.cb_history.specs.declared.answer.ArriveRefusal.{ArriveRefusal}
 use Rattle.cb_history.specs.Group.{Seat}
 use Rattle.cb_history.specs.Facts.{EntryFields, CastEntry, ArriveEntry, TickEntry, Fact, facts_of}
-use Rattle.cb_history.specs.Answers.{is_full, group_of, are_members, is_impossible, is_repeat, is_too_far, is_change, ArrivalSays, frame_answer, answer_to, arrive_answer}
+use Rattle.cb_history.specs.Answers.{group_of, are_members, is_impossible, ArrivalSays, frame_answer, answer_to, arrive_answer}
 use Rattle.cb_history.specs.Legal.{longest_history, arrive_entry, IsLegal}
 use Rattle.cb_history.specs.HistoryLaws.{SaysItsText}
 use Rattle.cb_history.specs.ReplayLaws.{IsAdded}
-use Rattle.cb_history.proofs.Views.{IsIn}
 use Rattle.cb_history.proofs.Histories.{entries_say_their_texts}
 use Rattle.cb_schedules.specs.Schedule.{Setting, IsSetting, seat_at, SentFrame, GroupState}
 use Rattle.cb_schedules.specs.Schedule as schedules
 use Rattle.cb_schedules.proofs.Lists.{all_at_index, index_of}
 use Rattle.cb_world.specs.declared.step.Step.{Step}
 use Rattle.cb_world.specs.Steps.{step_fields, member_of}
-use Rattle.cb_trace.specs.JointOrder.{Histories, gone, next_entry, ArePutOut, MayGo, Goes, GoesFirst, IsStuck}
-use Rattle.cb_trace.specs.JointRun.{IsFirstFrame, IsStepOf, AreLegalWithin}
-use Rattle.cb_trace.specs.Search.{NoneHas, Waits, SaysNextStep, next_at, SaysFirstStep, AreCounts}
-use Rattle.cb_trace.proofs.Ordering.{one_is}
+use Rattle.cb_trace.specs.JointOrder.{Histories, next_entry, ArePutOut, MayGo, Goes, GoesFirst, IsStuck}
+use Rattle.cb_trace.specs.JointRun.{IsStepOf, AreLegalWithin}
+use Rattle.cb_trace.specs.Search.{Waits, SaysNextStep, next_at, SaysFirstStep, AreCounts}
 use Rattle.cb_trace.proofs.Answered.{IsRequest}
-use Rattle.cb_trace.proofs.JointRuns.{Follows, IsPutOutOrAsks, IsSent, added, legal_before, is_member}
+use Rattle.cb_trace.proofs.JointRuns.{Follows, IsPutOutOrAsks, IsSent, added, legal_before}
 
 -- ---- no entry takes a request
 

@@ -3,7 +3,6 @@ use Rattle.std.specs.Prelude.{◌≡◌, ◌≢◌, ℕ, Bool, true, false, List
 use Rattle.cb_history.specs.Group.{Seat}
 use Rattle.cb_history.specs.Facts.{EntryFields}
 use Rattle.cb_history.specs.Legal.{Call, IsLegal}
-use Rattle.cb_history.specs.ReplayLaws.{call_of}
 use Rattle.cb_history.specs.State.{MemberState, entry_by, state_after}
 use Rattle.cb_trace.specs.Auditing.{IsFirstWrong}
 

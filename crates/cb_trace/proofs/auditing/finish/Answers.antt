@@ -1,4 +1,4 @@
-use Rattle.std.proofs.Common.{ℕ, ◌+◌, List, map, sym, ap, subst, arith}
+use Rattle.std.proofs.Common.{ℕ, ◌+◌, List, map, sym, subst, arith}
 use Rattle.cb_trace.specs.Text.{history_fields}
 use Rattle.cb_trace.specs.declared.fault.AuditFault.TheVariants.{Unsent}
 use Rattle.cb_trace.specs.Auditing.{entries_at, SaysFault}

@@ -1,4 +1,4 @@
-use Rattle.std.proofs.Common.{map, Option, Some, None, subst}
+use Rattle.std.proofs.Common.{map, subst}
 use Rattle.cb_history.specs.Facts.{entry_fields}
 use Rattle.cb_trace.specs.Auditing.{seat_of}
 use Rattle.cb_trace.specs.Replaying.{SaysFirstWrong}

@@ -1,4 +1,4 @@
-use Rattle.std.proofs.Common.{◌≡◌, ℕ, ◌≤◌, length, map, sym, ap, subst, ◌∙◌}
+use Rattle.std.proofs.Common.{ℕ, ◌≤◌, map, sym, subst}
 use Rattle.std.proofs.lemmas.List.{length-map}
 use Rattle.cb_history.specs.Legal.{longest_history}
 use Rattle.cb_schedules.specs.Schedule.{Setting}
@@ -6,7 +6,7 @@ use Rattle.cb_trace.specs.Text.{history_fields}
 use Rattle.cb_trace.specs.JointRun.{AreLegalWithin}
 use Rattle.cb_trace.specs.Auditing.{entries_at, setting_of}
 use Rattle.cb_trace.specs.Search.{IsJoining, IsJoined}
-use Rattle.cb_trace.proofs.Audited.{limit_is, is_setting, legal_within}
+use Rattle.cb_trace.proofs.Audited.{limit_is, legal_within}
 use Rattle.cb_trace.proofs.auditing.joined.Goals as goal
 
 abbrev Starts : (c : goal.After-joining-2-1) → Setting → Type 0

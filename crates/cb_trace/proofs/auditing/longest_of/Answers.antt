@@ -1,6 +1,5 @@
-use Rattle.std.proofs.Common.{◌≤◌, map, arith}
+use Rattle.std.proofs.Common.{map, arith}
 use Rattle.cb_trace.specs.Text.{history_fields}
-use Rattle.cb_trace.specs.Auditing.{longest}
 use Rattle.cb_trace.proofs.Audited.{at_least_one}
 use Rattle.cb_trace.proofs.auditing.longest_of.Goals as goal
 

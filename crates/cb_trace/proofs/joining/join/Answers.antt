@@ -1,4 +1,4 @@
-use Rattle.std.proofs.Common.{ℕ, ◌<◌, List, length, map, Option, None, Some, sym, subst}
+use Rattle.std.proofs.Common.{ℕ, ◌<◌, List, length, map, Option, Some, sym, subst}
 use Rattle.cb_world.specs.declared.step.Step.{Step}
 use Rattle.cb_world.specs.Steps.{step_fields, member_of}
 use Rattle.cb_world.specs.World.{run_in}

@@ -1,6 +1,6 @@
 use Rattle.std.proofs.Common.{sym, ◌∙◌}
 use Rattle.cb_trace.specs.Search.{found_in}
-use Rattle.cb_trace.proofs.Frames.{finds_again, finds_newly}
+use Rattle.cb_trace.proofs.Frames.{finds_again}
 use Rattle.cb_trace.proofs.joining.note_one.Goals as goal
 
 pub returns-then-contains_key : goal.returns-then-contains_key

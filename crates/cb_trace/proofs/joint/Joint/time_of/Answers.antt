@@ -1,4 +1,4 @@
-use Rattle.std.proofs.Common.{List, ℕ, subst}
+use Rattle.std.proofs.Common.{subst}
 use Rattle.std.specs.Prelude.{MatchOption}
 use Rattle.cb_schedules.specs.Messages.{WasCast}
 use Rattle.cb_world.specs.World.{WorldState, run_in}
