@@ -24,8 +24,9 @@ IsStepOf sent k (TickEntry status) step = step ≡ TickStep k
 -- the steps of an order, each in the run of those before it
 pub data AreStepsOf (setting : Setting) (histories : Histories) : List ℕ → Schedule → Type 0 where
   NoStep : AreStepsOf setting histories [] []
-  OneStepMore : (order : List ℕ) (steps : Schedule) (k : ℕ) (entry : EntryFields) (step : Step) → AreStepsOf setting histories order steps
-      → next_entry histories order k ≡ Some entry → IsStepOf (run setting steps).sent k entry step → AreStepsOf setting histories (order ++ k ∷ []) (steps ++ step ∷ [])
+  OneStepMore : (order : List ℕ) (steps : Schedule) (k : ℕ) (entry : EntryFields) (step : Step)
+      → AreStepsOf setting histories order steps → next_entry histories order k ≡ Some entry → IsStepOf (run setting steps).sent k entry step
+      → AreStepsOf setting histories (order ++ k ∷ []) (steps ++ step ∷ [])
 
 -- the histories of a group's members are legal, no one else has any, and all are within the limit
 pub record AreLegalWithin (setting : Setting) (histories : Histories) : Type 0 where

@@ -88,7 +88,9 @@ pub record IsJoined (setting : Setting) (histories : List HistoryFields) (j : Jo
 pub record TakesStep (old new : Joining) (step : Step) : Type 0 where
   pub world : new.world ≡ and_step old.world (step_fields step)
   pub steps : new.steps.items ≡ old.steps.items ++ step ∷ []
-  pub counts : new.gone.items ≡ slice_set old.gone.items (member_of (step_fields step)) (get_or old.gone.items (member_of (step_fields step)) 0 + 1)
+  pub counts :
+      let k = member_of (step_fields step) in
+      new.gone.items ≡ slice_set old.gone.items k (get_or old.gone.items k 0 + 1)
   pub frames : FindsFirstFrames (run_in new.world).sent (found_in new.first_frames)
 
 -- ---- what is left

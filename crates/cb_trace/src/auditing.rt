@@ -1,12 +1,15 @@
 //! The audit: whether histories are what the members of a group did in some run.
 
-ghost use Rattle.std.specs.Prelude.{◌≡◌, ◌↔◌, ◌<◌, ◌≤◌, ℕ, List, [], length, map, Err, IfOk, IfErr, MatchOption};
+ghost use Rattle.std.specs.Prelude.{◌≡◌, ◌↔◌, ◌<◌, ◌≤◌, ℕ, List, [], length, map, Err, IfOk, IfErr};
+ghost use Rattle.std.specs.Prelude.{MatchOption};
 ghost use Rattle.std.specs.Bool.{Decides};
 ghost use Rattle.cb_history.specs.Legal.{longest_history};
 ghost use Rattle.cb_schedules.specs.Headline.{Headline};
 ghost use Rattle.cb_world.specs.World.{run_in};
 ghost use Rattle.cb_trace.specs.Text.{HistoryFields, history_fields};
-ghost use Rattle.cb_trace.specs.Auditing.{AreOfEachMember, AreWrongMembers, AreLegalHistories, SaysWrongAnswer, SaysFault, IsJoint, IsAudited, entries_at, longest, setting_of};
+ghost use Rattle.cb_trace.specs.Auditing.{AreOfEachMember, AreWrongMembers, AreLegalHistories};
+ghost use Rattle.cb_trace.specs.Auditing.{SaysWrongAnswer, SaysFault, IsJoint, IsAudited};
+ghost use Rattle.cb_trace.specs.Auditing.{entries_at, longest, setting_of};
 ghost use Rattle.cb_trace.specs.Search.{IsJoining, IsJoined};
 
 use crate::fault::AuditFault;

@@ -5,7 +5,8 @@ ghost use Rattle.cb_trace.specs.declared.fault.TraceFault.TheVariants.{NoMemory}
 ghost use Rattle.cb_trace.specs.declared.fault.WriteFault.TheVariants.{NoMemory as WriteNoMemory};
 ghost use Rattle.cb_trace.specs.declared.fault.AuditFault.TheVariants.{NoMemory as AuditNoMemory};
 ghost use Rattle.cb_trace.specs.declared.fault.LineFault.TheVariants.{NoMemory as LineNoMemory};
-ghost use Rattle.cb_trace.specs.FaultText.{audit_fault_text, fault_at, query_fault_text, trace_fault_text, write_fault_text};
+ghost use Rattle.cb_trace.specs.FaultText.{audit_fault_text, fault_at, query_fault_text};
+ghost use Rattle.cb_trace.specs.FaultText.{trace_fault_text, write_fault_text};
 
 use std::alloc::{AllocError, AllocFailed};
 use std::error::Error;

@@ -1,6 +1,7 @@
 //! The search for the joint order: each time the smallest member whose next entry may go.
 
-ghost use Rattle.std.specs.Prelude.{◌≡◌, ◌<◌, ◌≤◌, ℕ, List, length, take, map, get_or, slice_get, IfOk, OnOk, MatchOption};
+ghost use Rattle.std.specs.Prelude.{◌≡◌, ◌<◌, ◌≤◌, ℕ, List, length, take, map, get_or, slice_get};
+ghost use Rattle.std.specs.Prelude.{IfOk, OnOk, MatchOption};
 ghost use Rattle.cb_history.specs.Facts.{entry_fields};
 ghost use Rattle.cb_history.specs.Legal.{longest_history};
 ghost use Rattle.cb_schedules.specs.Schedule.{SentFrame, IsSetting};
@@ -8,7 +9,9 @@ ghost use Rattle.cb_world.specs.Outcomes.{sent_fields};
 ghost use Rattle.cb_world.specs.Steps.{member_of, step_fields};
 ghost use Rattle.cb_world.specs.World.{run_in};
 ghost use Rattle.cb_trace.specs.Text.{history_fields};
-ghost use Rattle.cb_trace.specs.Search.{FindsFirstFrames, FindsToo, found_in, SaysStep, SaysNextStep, SaysFirstStep, TakesStep, IsJoining, IsJoined, HasLeft, IsFirstLeft};
+ghost use Rattle.cb_trace.specs.Search.{FindsFirstFrames, FindsToo, found_in, SaysStep};
+ghost use Rattle.cb_trace.specs.Search.{SaysNextStep, SaysFirstStep, TakesStep, IsJoining};
+ghost use Rattle.cb_trace.specs.Search.{IsJoined, HasLeft, IsFirstLeft};
 ghost use Rattle.cb_trace.specs.JointRun.{AreLegalWithin};
 ghost use Rattle.cb_trace.specs.Auditing.{entries_at};
 
@@ -91,7 +94,8 @@ fn first_step(
     requires counts { length joining.now.gone.items ≡ length histories.now }
     ensures { IfOk result (λ step. (sent : List SentFrame)
         → FindsFirstFrames sent (found_in joining.now.first_frames)
-        → SaysFirstStep (entries_at (map history_fields histories.now)) joining.now.gone.items sent step) }
+        → SaysFirstStep (entries_at (map history_fields histories.now))
+        joining.now.gone.items sent step) }
 {
     for k in 0..histories.len() {
         let gone = joining.gone[k];
@@ -139,7 +143,8 @@ fn note_one(
 /// Takes the step: one more entry of its member has gone.
 fn take(joining: &mut Joining, step: Step) -> Result<(), NoMemory>
     requires member { member_of (step_fields step) < length joining.old.gone.items }
-    requires few { get_or joining.old.gone.items (member_of (step_fields step)) 0 < longest_history }
+    requires few { get_or joining.old.gone.items (member_of (step_fields step)) 0
+        < longest_history }
     requires frames { FindsFirstFrames (run_in joining.old.world).sent
         (found_in joining.old.first_frames) }
     ensures { OnOk result (TakesStep joining.old joining.new step) }
@@ -173,7 +178,8 @@ pub fn join(alloc: Global, histories: &[History], joining: &mut Joining) -> Resu
 /// The smallest member with an entry that has not gone.
 pub fn first_left(histories: &[History], gone: &[usize]) -> Option<usize>
     requires { length gone.now ≡ length histories.now }
-    ensures { MatchOption result ((k : ℕ) → ¬ HasLeft (entries_at (map history_fields histories.now)) gone.now k)
+    ensures { MatchOption result ((k : ℕ)
+        → ¬ HasLeft (entries_at (map history_fields histories.now)) gone.now k)
         (IsFirstLeft (entries_at (map history_fields histories.now)) gone.now) }
 {
     for k in 0..histories.len() {

@@ -1,6 +1,7 @@
 //! Joint orders of histories, and their runs.
 
-ghost use Rattle.cb_trace.specs.AuditLaws.{GreedyOrdersAreOrders, JointOrderIsFound, OneGreedyOrder, RunHasTheHistories};
+ghost use Rattle.cb_trace.specs.AuditLaws.{GreedyOrdersAreOrders, JointOrderIsFound};
+ghost use Rattle.cb_trace.specs.AuditLaws.{OneGreedyOrder, RunHasTheHistories};
 
 /// Taking an entry early never hurts: an order that goes on as long as any entry may go ends with all entries, if there is a joint order at
 /// all. So it is with the one that takes the smallest member each time.
