@@ -8,4 +8,15 @@ pub mod Going
 pub mod Reaching
 pub mod OneReading
 pub mod OneBadLine
+pub mod Ordering
+pub mod OneOrder
+pub mod Answered
+pub mod JointRuns
+pub mod Replays
+pub mod Frames
+pub mod Searching
+pub mod OneStep
+pub mod Asked
+pub mod Audited
 mod Rows
+mod JointRows

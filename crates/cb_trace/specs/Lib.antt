@@ -4,3 +4,10 @@ pub mod Bounds
 pub mod Finding
 pub mod Reading
 pub mod Laws
+pub mod JointOrder
+pub mod JointRun
+pub mod AuditLaws
+pub mod Auditing
+pub mod Replaying
+pub mod Search
+pub mod Asking

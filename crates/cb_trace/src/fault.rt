@@ -3,8 +3,10 @@
 ghost use Rattle.std.specs.Prelude.{◌≡◌, Some};
 ghost use Rattle.cb_trace.specs.declared.fault.TraceFault.TheVariants.{NoMemory};
 ghost use Rattle.cb_trace.specs.declared.fault.WriteFault.TheVariants.{NoMemory as WriteNoMemory};
+ghost use Rattle.cb_trace.specs.declared.fault.AuditFault.TheVariants.{NoMemory as AuditNoMemory};
 ghost use Rattle.cb_trace.specs.declared.fault.LineFault.TheVariants.{NoMemory as LineNoMemory};
-ghost use Rattle.cb_trace.specs.FaultText.{fault_at, trace_fault_text, write_fault_text};
+ghost use Rattle.cb_trace.specs.FaultText.{audit_fault_text, fault_at, query_fault_text};
+ghost use Rattle.cb_trace.specs.FaultText.{trace_fault_text, write_fault_text};
 
 use std::alloc::{AllocError, AllocFailed};
 use std::error::Error;
@@ -26,6 +28,30 @@ pub enum WriteFault {
     /// There is no history, or there are two of different groups.
     MixedGroups,
     /// Out of memory.
+    NoMemory,
+}
+
+/// Why histories are not those of a run. Where several hold, the first of this list is answered; `NoMemory` may stand in place of
+/// `WrongAnswer`, of `Unsent` and of a joint order.
+#[derive(Clone, Copy, Debug, PartialEq, Eq, Hash)]
+pub enum AuditFault {
+    /// There is not just one history for each member of one group, in the order of their numbers.
+    WrongMember,
+    /// The least member, and its first entry, counted from 1, that a fresh member which makes the calls of its history again does not give.
+    WrongAnswer { member: u32, entry: usize },
+    /// No order of the entries of all members has each arrival behind what put its frame out. With the smallest member first each time, this
+    /// is the smallest member that can't go on, and its next entry, counted from 1.
+    Unsent { member: u32, entry: usize },
+    /// Out of memory.
+    NoMemory,
+}
+
+/// Why it was not told which message was before which.
+#[derive(Clone, Copy, Debug, PartialEq, Eq, Hash)]
+pub enum QueryFault {
+    /// One of the messages was not cast by any of these members.
+    UnknownMessage,
+    /// Out of memory. A `Joint` needs none to answer.
     NoMemory,
 }
 
@@ -61,6 +87,14 @@ impl From<AllocError> for WriteFault {
 
     fn from(_refused: AllocError) -> WriteFault {
         WriteFault::NoMemory
+    }
+}
+
+impl From<AllocError> for AuditFault {
+    ghost from_gives = { λ _ e. e ≡ AuditNoMemory };
+
+    fn from(_refused: AllocError) -> AuditFault {
+        AuditFault::NoMemory
     }
 }
 
@@ -105,3 +139,35 @@ impl fmt::Display for WriteFault {
 }
 
 impl Error for WriteFault {}
+
+impl fmt::Display for AuditFault {
+    ghost output = { λ fault. Some (audit_fault_text fault) };
+
+    fn fmt<W: fmt::Write>(&self, f: &mut fmt::Formatter<W>) -> fmt::Result {
+        match self {
+            AuditFault::WrongMember => f.write_str("WrongMember"),
+            AuditFault::WrongAnswer { member, entry } => {
+                write!(f, "WrongAnswer member {member} entry {entry}")
+            }
+            AuditFault::Unsent { member, entry } => {
+                write!(f, "Unsent member {member} entry {entry}")
+            }
+            AuditFault::NoMemory => f.write_str("NoMemory"),
+        }
+    }
+}
+
+impl Error for AuditFault {}
+
+impl fmt::Display for QueryFault {
+    ghost output = { λ fault. Some (query_fault_text fault) };
+
+    fn fmt<W: fmt::Write>(&self, f: &mut fmt::Formatter<W>) -> fmt::Result {
+        f.write_str(match self {
+            QueryFault::UnknownMessage => "UnknownMessage",
+            QueryFault::NoMemory => "NoMemory",
+        })
+    }
+}
+
+impl Error for QueryFault {}

@@ -5,7 +5,7 @@ use std::alloc::Global;
 use std::test::Fail;
 
 /// Member 0 casts "hi", member 1 answers "yo", and the answer comes first at member 2.
-const WORKED: &str = "cbcast 1 group 7 size 3 window 4
+pub const WORKED: &str = "cbcast 1 group 7 size 3 window 4
 member 0 entries 1
 cast 1107000100026869
 member 1 entries 2
@@ -71,7 +71,7 @@ const SPOILED: [(&str, &str, u64); 41] = [
 ];
 
 /// The text with one part in place of another, which stands in it.
-fn with(alloc: Global, text: &str, old: &str, new: &str) -> Result<String, Fail> {
+pub fn with(alloc: Global, text: &str, old: &str, new: &str) -> Result<String, Fail> {
     let Some((front, back)) = text.split_once(old) else {
         return Err(Fail::new("the part is not there"));
     };

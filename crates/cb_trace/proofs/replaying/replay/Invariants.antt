@@ -1,0 +1,12 @@
+use Rattle.std.proofs.Common.{◌≡◌, map, take}
+use Rattle.cb_history.specs.Facts.{entry_fields}
+use Rattle.cb_history.specs.Legal.{longest_history}
+use Rattle.cb_trace.proofs.replaying.replay.Given as goal
+
+-- the member has the entries so far
+abbrev pub invariant-loop-entry : goal.invariant-loop-entry
+invariant-loop-entry l = record {
+  seat : l.member.seat ≡ l.fn.member.seat;
+  limit : l.member.limit ≡ longest_history;
+  entries : l.member.entries ≡ map entry_fields (take l.entry-index l.entries);
+}

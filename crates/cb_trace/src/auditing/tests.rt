@@ -1,0 +1,320 @@
+//! Audits of traces, and what is asked of their joint orders.
+
+use super::*;
+use crate::fault::QueryFault;
+use crate::reading::read_trace;
+use crate::tests::{WORKED, with};
+use bytes::Bytes;
+use cb_member::{Entry, Name};
+use cb_world::Step;
+use hex::encode;
+use std::test::Fail;
+
+/// The worked trace, with what is put in place of a part of it, and the fault that it has then.
+const DAMAGED: [(&str, &str, AuditFault); 9] = [
+    // member 1 takes a frame that nobody sent
+    (
+        "entries 1\ncast 1107000100026869\n",
+        "entries 0\n",
+        AuditFault::Unsent {
+            member: 1,
+            entry: 1,
+        },
+    ),
+    // a stranger's frame, of the name of another one
+    (
+        "cast 1107000100026869",
+        "cast 110700010002686f",
+        AuditFault::Unsent {
+            member: 1,
+            entry: 1,
+        },
+    ),
+    // a status that member 1 never told
+    (
+        "entries 1\ncast 1107000100026869\n",
+        "entries 2\ncast 1107000100026869\narrive 120701010001 -\n",
+        AuditFault::Unsent {
+            member: 0,
+            entry: 2,
+        },
+    ),
+    // member 2's entries, exchanged
+    (
+        "arrive 1107010101000102796f -\narrive 1107000100026869 0.1 1.1\n",
+        "arrive 1107000100026869 0.1 1.1\narrive 1107010101000102796f -\n",
+        AuditFault::WrongAnswer {
+            member: 2,
+            entry: 1,
+        },
+    ),
+    // names, exchanged
+    (
+        "0.1 1.1",
+        "1.1 0.1",
+        AuditFault::WrongAnswer {
+            member: 2,
+            entry: 2,
+        },
+    ),
+    // a tick that is no status
+    (
+        "cast 1107010101000102796f",
+        "tick 00",
+        AuditFault::WrongAnswer {
+            member: 1,
+            entry: 2,
+        },
+    ),
+    // a request, which makes no entry
+    (
+        "arrive 1107010101000102796f -",
+        "arrive 13070002010000 -",
+        AuditFault::WrongAnswer {
+            member: 2,
+            entry: 1,
+        },
+    ),
+    // members 0 and 1 alone
+    (
+        "member 2 entries 2\narrive 1107010101000102796f -\narrive 1107000100026869 0.1 1.1\n",
+        "",
+        AuditFault::WrongMember,
+    ),
+    ("member 2", "member 1", AuditFault::WrongMember),
+];
+
+/// Each of two members took the other's cast before its own, in which it says so.
+const CIRCLE: &str = "cbcast 1 group 7 size 3 window 4
+member 0 entries 2
+arrive 11070101000161 1.1
+cast 110700010101010162
+member 1 entries 2
+arrive 110700010101010162 -
+cast 11070101000161
+member 2 entries 0
+end
+";
+
+/// Member 2 asks for what it lacks when it ticks, so its request is frame 3.
+const ASKED: &str = "cbcast 1 group 7 size 3 window 4
+member 0 entries 2
+cast 11070001000161
+cast 11070002000162
+member 1 entries 1
+arrive 11070201000163 2.1
+member 2 entries 3
+arrive 11070002000162 -
+tick 12070200
+cast 11070201000163
+end
+";
+
+/// Two members cast before anything arrives.
+const AT_ONCE: &str = "cbcast 1 group 7 size 3 window 4
+member 0 entries 1
+cast 11070001000161
+member 1 entries 1
+cast 11070101000162
+member 2 entries 0
+end
+";
+
+/// Nobody did anything.
+const NOTHING: &str = "cbcast 1 group 7 size 2 window 1
+member 0 entries 0
+member 1 entries 0
+end
+";
+
+/// What became of asking whether one message of the worked trace was before another.
+const ASKED_OF_IT: [((u32, u32), (u32, u32), Result<bool, QueryFault>); 7] = [
+    ((0, 1), (1, 1), Ok(true)),
+    ((1, 1), (0, 1), Ok(false)),
+    ((0, 1), (0, 1), Ok(false)),
+    ((0, 1), (2, 1), Err(QueryFault::UnknownMessage)),
+    ((2, 1), (0, 1), Err(QueryFault::UnknownMessage)),
+    ((0, 2), (0, 1), Err(QueryFault::UnknownMessage)),
+    ((0, 1), (64, 1), Err(QueryFault::UnknownMessage)),
+];
+
+fn audited(alloc: Global, text: &str) -> Result<Result<Joint, AuditFault>, Fail> {
+    Ok(audit(alloc, &read_trace(alloc, text.as_bytes())?))
+}
+
+/// The steps, a line for each.
+fn steps_of(alloc: Global, joint: &Joint) -> Result<String, Fail> {
+    let mut text = String::new(alloc);
+    for step in joint.steps() {
+        text.push_str(&line_of(alloc, step)?)?;
+    }
+    Ok(text)
+}
+
+fn line_of(alloc: Global, step: &Step) -> Result<String, Fail> {
+    Ok(match step {
+        Step::Cast(i, payload) => format!(in alloc; "cast {i} {}\n", encode(alloc, payload)?)?,
+        Step::Arrive(j, number) => format!(in alloc; "arrive {j} {number}\n")?,
+        Step::Tick(i) => format!(in alloc; "tick {i}\n")?,
+    })
+}
+
+fn name((sender, number): (u32, u32)) -> Name {
+    Name { sender, number }
+}
+
+#[test]
+fn the_worked_trace_is_a_run_of_these_steps(rt: HostRuntime) -> Result<(), Fail> {
+    let joint = audited(rt.alloc(), WORKED)??;
+    assert_eq!(rt; joint.history_max(), 2);
+    assert_eq!(rt;
+        steps_of(rt.alloc(), &joint)?.as_str(),
+        "cast 0 6869\narrive 1 0\ncast 1 796f\narrive 2 1\narrive 2 0\n"
+    );
+    Ok(())
+}
+
+#[test]
+fn requests_have_frame_numbers_too(rt: HostRuntime) -> Result<(), Fail> {
+    let joint = audited(rt.alloc(), ASKED)??;
+    assert_eq!(rt; joint.history_max(), 3);
+    assert_eq!(rt;
+        steps_of(rt.alloc(), &joint)?.as_str(),
+        "cast 0 61\ncast 0 62\narrive 2 1\ntick 2\ncast 2 63\narrive 1 4\n"
+    );
+    Ok(())
+}
+
+#[test]
+fn of_two_members_the_smaller_goes_first(rt: HostRuntime) -> Result<(), Fail> {
+    let joint = audited(rt.alloc(), AT_ONCE)??;
+    assert_eq!(rt;
+        steps_of(rt.alloc(), &joint)?.as_str(),
+        "cast 0 61\ncast 1 62\n"
+    );
+    // though the one stands first in the order, neither was before the other
+    assert_eq!(rt; joint.before(name((0, 1)), name((1, 1))), Ok(false));
+    assert_eq!(rt; joint.before(name((1, 1)), name((0, 1))), Ok(false));
+    Ok(())
+}
+
+#[test]
+fn empty_histories_are_of_the_empty_run(rt: HostRuntime) -> Result<(), Fail> {
+    let joint = audited(rt.alloc(), NOTHING)??;
+    assert_eq!(rt; joint.history_max(), 1);
+    assert!(rt; joint.steps().is_empty());
+    Ok(())
+}
+
+#[test]
+fn each_damage_has_its_fault(rt: HostRuntime) -> Result<(), Fail> {
+    for (old, new, fault) in &DAMAGED {
+        let text = with(rt.alloc(), WORKED, old, new)?;
+        assert_eq!(rt; audited(rt.alloc(), &text)?.err(), Some(*fault));
+    }
+    Ok(())
+}
+
+#[test]
+fn a_circle_has_no_order(rt: HostRuntime) -> Result<(), Fail> {
+    let unsent = AuditFault::Unsent {
+        member: 0,
+        entry: 1,
+    };
+    assert_eq!(rt; audited(rt.alloc(), CIRCLE)?.err(), Some(unsent));
+    Ok(())
+}
+
+#[test]
+fn no_histories_are_of_no_group(rt: HostRuntime) {
+    assert_eq!(rt; audit(rt.alloc(), &[]).err(), Some(AuditFault::WrongMember));
+}
+
+#[test]
+fn what_was_before_what(rt: HostRuntime) -> Result<(), Fail> {
+    let joint = audited(rt.alloc(), WORKED)??;
+    for (a, b, answer) in &ASKED_OF_IT {
+        assert_eq!(rt; joint.before(name(*a), name(*b)), *answer);
+    }
+    Ok(())
+}
+
+#[test]
+fn faults_print_what_they_name(rt: HostRuntime) -> Result<(), Fail> {
+    let unsent = AuditFault::Unsent {
+        member: 1,
+        entry: 2,
+    };
+    assert_eq!(rt;
+        unsent.to_string(rt.alloc())?.as_str(),
+        "Unsent member 1 entry 2"
+    );
+    let wrong = AuditFault::WrongAnswer {
+        member: 63,
+        entry: 16_777_216,
+    };
+    assert_eq!(rt;
+        wrong.to_string(rt.alloc())?.as_str(),
+        "WrongAnswer member 63 entry 16777216"
+    );
+    Ok(())
+}
+
+/// A number from the last one, for steps by chance.
+fn next(seed: &mut u32) -> u32 {
+    *seed = seed.wrapping_mul(1_664_525).wrapping_add(1_013_904_223);
+    *seed >> 8
+}
+
+fn random_step(seed: &mut u32, sent: usize) -> Step {
+    let member = next(seed) % 3;
+    match next(seed) % 4 {
+        0 => Step::Cast(member, Bytes::from_static(b"x")),
+        1 => Step::Tick(member),
+        _ => Step::Arrive(member, next(seed) as usize % sent.max(1)),
+    }
+}
+
+/// A world that took some steps by chance.
+fn driven(alloc: Global, group: Group, seed: u32) -> Result<World, Fail> {
+    let mut world = World::new(alloc, group, 100)?;
+    let mut seed = seed;
+    for _ in 0..40 {
+        let step = random_step(&mut seed, world.frames().len());
+        world.step(&step)?;
+    }
+    Ok(world)
+}
+
+fn history_of(alloc: Global, group: Group, world: &World, me: u32) -> Result<History, Fail> {
+    let entries = Entry::copies(alloc, world.history(me).unwrap_or(&[]))?;
+    Ok(History { group, me, entries })
+}
+
+fn histories_of(alloc: Global, group: Group, world: &World) -> Result<Vec<History>, Fail> {
+    let mut histories = Vec::new(alloc);
+    for me in 0..3 {
+        histories.push(history_of(alloc, group, world, me)?)?;
+    }
+    Ok(histories)
+}
+
+fn count_of(histories: &[History]) -> usize {
+    let mut count: usize = 0;
+    for history in histories {
+        count = count.saturating_add(history.entries.len());
+    }
+    count
+}
+
+#[test]
+fn what_a_world_did_is_a_run(rt: HostRuntime) -> Result<(), Fail> {
+    let group = Group::new(7, 3, 4)?;
+    for seed in 0..20 {
+        let world = driven(rt.alloc(), group, seed)?;
+        let histories = histories_of(rt.alloc(), group, &world)?;
+        let joint = audit(rt.alloc(), &histories)?;
+        assert_eq!(rt; joint.steps().len(), count_of(&histories));
+    }
+    Ok(())
+}

@@ -1,0 +1,140 @@
+//! A history is replayed by a fresh member, entry by entry.
+
+ghost use Rattle.std.specs.Prelude.{◌≡◌, ◌<◌, [], IfOk, Some, map, option_map};
+ghost use Rattle.std.specs.Bool.{Decides};
+ghost use Rattle.cb_frames.specs.Reading.{frame_at};
+ghost use Rattle.cb_history.specs.Facts.{entry_fields};
+ghost use Rattle.cb_history.specs.Legal.{longest_history, ToCast, ToTake, ToTick};
+ghost use Rattle.cb_history.specs.ReplayLaws.{call_of, payload_said};
+ghost use Rattle.cb_trace.specs.Auditing.{seat_of};
+ghost use Rattle.cb_trace.specs.Replaying.{SaysAdded, SaysFirstWrong};
+
+use bytes::Bytes;
+use cb_frames::{Frame, FrameFault, decode};
+use cb_member::{
+    ArriveRefusal, CastRefusal, Entry, History, LONGEST_HISTORY, Member, Name, NewFault, NoMemory,
+    TickRefusal,
+};
+use std::alloc::{AllocError, Global};
+
+/// The number of the first entry that a fresh member does not give, called as the entries tell; `None` where the history is legal.
+pub fn first_wrong(alloc: Global, history: &History) -> Result<Option<usize>, NoMemory>
+    requires { history.now.me < history.now.group.size }
+    ensures { IfOk result (SaysFirstWrong (seat_of history.now.group history.now.me)
+        (map entry_fields history.now.entries.items)) }
+{
+    match Member::new(alloc, history.group, history.me, LONGEST_HISTORY) {
+        Ok(mut member) => replay(alloc, &mut member, &history.entries),
+        Err(NewFault::NoMemory) => Err(AllocError),
+        Err(_fault) => unreachable!("it is a member of the group"),
+    }
+}
+
+/// The entries are to be those of this member, which has none yet.
+fn replay(alloc: Global, member: &mut Member, entries: &[Entry]) -> Result<Option<usize>, NoMemory>
+    requires new { member.old.entries ≡ [] }
+    requires limit { member.old.limit ≡ longest_history }
+    ensures { IfOk result (SaysFirstWrong member.old.seat (map entry_fields entries.now)) }
+{
+    for entry in entries {
+        let given = member.history().len();
+        if !gives(alloc, member, entry)? {
+            return Ok(Some(given + 1));
+        }
+    }
+    let _legal = member.history();
+    Ok(None)
+}
+
+/// Whether the call that the entry tells adds just this entry.
+fn gives(alloc: Global, member: &mut Member, entry: &Entry) -> Result<bool, NoMemory>
+    ensures { IfOk result (SaysAdded member.old member.new (call_of (entry_fields entry.now))
+        (entry_fields entry.now)) }
+{
+    match entry {
+        Entry::Cast { frame } => {
+            let payload = payload_of(alloc, frame)?;
+            casts(member, payload.as_slice(), entry)
+        }
+        Entry::Arrive { frame, .. } => takes(member, frame, entry),
+        Entry::Tick { .. } => ticks(member, entry),
+    }
+}
+
+/// What a cast frame casts; no byte of a frame that is none.
+pub fn payload_of(alloc: Global, frame: &Bytes) -> Result<Bytes, NoMemory>
+    ensures { IfOk result (λ payload. payload ≡ payload_said (frame_at frame.now)) }
+{
+    match decode(alloc, frame) {
+        Ok(Frame::Cast(cast)) => Ok(cast.payload),
+        Err(FrameFault::NoMemory) => Err(AllocError),
+        _ => Ok(Bytes::new()),
+    }
+}
+
+fn casts(member: &mut Member, payload: &[u8], entry: &Entry) -> Result<bool, NoMemory>
+    ensures { IfOk result (SaysAdded member.old member.new (ToCast payload.now)
+        (entry_fields entry.now)) }
+{
+    match member.cast_noted(payload) {
+        Ok((_done, noted)) => Ok(is_same(&noted, entry)),
+        Err(CastRefusal::NoMemory) => Err(AllocError),
+        Err(_refusal) => Ok(false),
+    }
+}
+
+fn takes(member: &mut Member, frame: &Bytes, entry: &Entry) -> Result<bool, NoMemory>
+    ensures { IfOk result (SaysAdded member.old member.new (ToTake frame.now)
+        (entry_fields entry.now)) }
+{
+    match member.arrive_noted(frame) {
+        Ok((_arrival, noted)) => Ok(is_noted(noted, entry)),
+        Err(ArriveRefusal::NoMemory) => Err(AllocError),
+        Err(_refusal) => Ok(false),
+    }
+}
+
+fn ticks(member: &mut Member, entry: &Entry) -> Result<bool, NoMemory>
+    ensures { IfOk result (SaysAdded member.old member.new ToTick (entry_fields entry.now)) }
+{
+    match member.tick_noted() {
+        Ok((_ticked, noted)) => Ok(is_noted(noted, entry)),
+        Err(TickRefusal::NoMemory) => Err(AllocError),
+        Err(_refusal) => Ok(false),
+    }
+}
+
+fn is_noted(noted: Option<Entry>, entry: &Entry) -> bool
+    ensures { Decides result (option_map entry_fields noted ≡ Some (entry_fields entry.now)) }
+{
+    match noted {
+        Some(noted) => is_same(&noted, entry),
+        None => false,
+    }
+}
+
+fn is_same(entry: &Entry, other: &Entry) -> bool
+    ensures { Decides result (entry_fields entry.now ≡ entry_fields other.now) }
+{
+    match (entry, other) {
+        (Entry::Cast { frame: a }, Entry::Cast { frame: b }) => a == b,
+        (Entry::Tick { status: a }, Entry::Tick { status: b }) => a == b,
+        (
+            Entry::Arrive {
+                frame: a,
+                delivered,
+            },
+            Entry::Arrive {
+                frame: b,
+                delivered: others,
+            },
+        ) => a == b && are_same_names(delivered, others),
+        _ => false,
+    }
+}
+
+fn are_same_names(names: &[Name], others: &[Name]) -> bool
+    ensures { Decides result (names.now ≡ others.now) }
+{
+    names == others
+}
