@@ -2,6 +2,7 @@
 use Rattle.std.specs.Prelude.{◌≡◌, ◌≢◌, ℕ, ◌+◌, ◌<◌, List, [], ◌∷◌, ◌++◌, length, map, bytes_eq, slice_get, slice_set, get_or, Option, Some, None, MatchOption, if◌then◌else◌}
 use Rattle.std.specs.Option.{option_or}
 use Rattle.indexmap.specs.IndexMap.{IndexMap, get}
+use Rattle.cb_history.specs.Group.{Parameters}
 use Rattle.cb_history.specs.Facts.{EntryFields, CastEntry, ArriveEntry, TickEntry}
 use Rattle.cb_schedules.specs.Schedule.{Setting, SentFrame}
 use Rattle.cb_world.specs.declared.step.Step.{Step}
@@ -11,7 +12,7 @@ use Rattle.cb_trace.specs.declared.joining.Joining.{Joining}
 use Rattle.cb_trace.specs.Text.{HistoryFields}
 use Rattle.cb_trace.specs.JointOrder.{Histories, gone, IsGreedy, IsStuck}
 use Rattle.cb_trace.specs.JointRun.{IsFirstFrame, IsStepOf, AreStepsOf}
-use Rattle.cb_trace.specs.Auditing.{entries_at}
+use Rattle.cb_trace.specs.Auditing.{entries_at, AreLegalHistories, setting_of}
 
 -- ---- frames
 
@@ -83,6 +84,12 @@ pub record IsJoining (setting : Setting) (histories : List HistoryFields) (j : J
 pub record IsJoined (setting : Setting) (histories : List HistoryFields) (j : Joining) : Type 0 where
   pub joining : IsJoining setting histories j
   pub stuck : IsStuck (entries_at histories) joining.order
+
+-- legal histories, whose search has ended
+pub record IsSearched (histories : List HistoryFields) (j : Joining) : Type 0 where
+  pub group : Parameters
+  pub legal : AreLegalHistories group histories
+  pub joined : IsJoined (setting_of group histories) histories j
 
 -- the step was taken, and one more entry of its member has gone
 pub record TakesStep (old new : Joining) (step : Step) : Type 0 where

@@ -9,8 +9,8 @@ ghost use Rattle.cb_world.specs.World.{run_in};
 ghost use Rattle.cb_trace.specs.Text.{HistoryFields, history_fields};
 ghost use Rattle.cb_trace.specs.Auditing.{AreOfEachMember, AreWrongMembers, AreLegalHistories};
 ghost use Rattle.cb_trace.specs.Auditing.{SaysWrongAnswer, SaysFault, IsJoint, IsAudited};
-ghost use Rattle.cb_trace.specs.Auditing.{entries_at, longest, setting_of};
-ghost use Rattle.cb_trace.specs.Search.{IsJoining, IsJoined};
+ghost use Rattle.cb_trace.specs.Auditing.{entries_at, longest};
+ghost use Rattle.cb_trace.specs.Search.{IsJoining, IsSearched};
 
 use crate::fault::AuditFault;
 use crate::joining::{Joining, first_left, join};
@@ -111,7 +111,7 @@ fn joint_of(alloc: Global, group: Group, histories: &[History]) -> Result<Joint,
 {
     let history_max = longest_of(histories);
     let joining = joined(alloc, group, histories, history_max)?;
-    finish(group, histories, joining, history_max)
+    finish(histories, joining, history_max)
 }
 
 /// All entries that may go have gone.
@@ -123,8 +123,7 @@ fn joined(
 ) -> Result<Joining, NoMemory>
     requires legal { AreLegalHistories group (map history_fields histories.now) }
     requires longest { history_max ≡ longest (map history_fields histories.now) }
-    ensures { IfOk result (IsJoined (setting_of group (map history_fields histories.now))
-        (map history_fields histories.now)) }
+    ensures { IfOk result (IsSearched (map history_fields histories.now)) }
 {
     let mut joining = start(alloc, group, histories.len(), history_max)?;
     join(alloc, histories, &mut joining)?;
@@ -132,16 +131,9 @@ fn joined(
 }
 
 /// A joint order, where no entry is left.
-fn finish(
-    group: Group,
-    histories: &[History],
-    joining: Joining,
-    history_max: usize,
-) -> Result<Joint, AuditFault>
-    requires legal { AreLegalHistories group (map history_fields histories.now) }
+fn finish(histories: &[History], joining: Joining, history_max: usize) -> Result<Joint, AuditFault>
     requires longest { history_max ≡ longest (map history_fields histories.now) }
-    requires joined { IsJoined (setting_of group (map history_fields histories.now))
-        (map history_fields histories.now) joining }
+    requires searched { IsSearched (map history_fields histories.now) joining }
     ensures audited { IfOk result (IsAudited (map history_fields histories.now)) }
     ensures fault { IfErr result (SaysFault (map history_fields histories.now)) }
 {

@@ -34,4 +34,8 @@ returns c =
     let histories = map history_fields c.args.histories.now in
     let began : IsJoining (setting_of c.args.group histories) histories c.in_ok-joining.joining =
     subst (λ (n : ℕ). IsJoining (record { group = c.args.group; limit = n }) histories c.in_ok-joining.joining) c.requires.longest (c.in_ok-joining.ensures histories (length-map c.args.histories.now history_fields)) in
-    subst (λ (setting : Setting). IsJoined setting histories c.join.new.joining) began.setting_is c.in_ok-join.ensures
+    record {
+      group = c.args.group;
+      legal = c.requires.legal;
+      joined = subst (λ (setting : Setting). IsJoined setting histories c.join.new.joining) began.setting_is c.in_ok-join.ensures;
+    }
