@@ -5,7 +5,7 @@ ghost use Rattle.std.specs.Prelude.{◌≡◌};
 use super::{member, seats};
 use crate::closing::{fault_of, none_seen, wrong_in_seat};
 use crate::{CloseFault, Held, Receipt, Seat};
-use cb_member::Member;
+use cb_member::{Member, Seat as Identity};
 use std::alloc::Global;
 use std::marker::Brand;
 use std::process::Abort;
@@ -81,16 +81,36 @@ fn finds<L: Ledger, R: Abort>(rt: &R, alloc: Global, blank: Blank)
     requires { (blank.name ≡ L.name) × (blank.parts ≡ L.parts) × (blank.parts ≡ 1) }
 {
     let (mut held, mut seat) = Held::<L>::new(alloc, blank, member(rt, alloc, (3, 4), 0, 100));
-    let _ = held.cast(&mut seat, b"a").expect(rt, "a cast");
-    let identity = member(rt, alloc, (3, 4), 1, 100).seat();
+    cast(rt, &mut held, &mut seat);
+    is_missing::<L, R>(rt, alloc, held.member());
+    is_another(rt, held.member(), &seats(rt, alloc, seat, None));
+}
+
+fn cast<L: Ledger>(rt: &impl Abort, held: &mut Held<L>, seat: &mut Seat<L>) {
+    let _ = held.cast(seat, b"a").expect(rt, "a cast");
+}
+
+/// Without the seat it is missing, also where the member is another one.
+fn is_missing<L: Ledger, R: Abort>(rt: &R, alloc: Global, member: &Member) {
     let no_seats: Vec<Seat<L>> = Vec::new(alloc);
     let missing = CloseFault::SeatsMissing {
         claimed: 0,
         entries: 1,
     };
-    assert_eq!(rt; fault_of(identity, held.member(), &no_seats), Some(missing));
-    let all = seats(rt, alloc, seat, None);
+    let found = fault_of(member_one(rt, alloc), member, &no_seats);
+    assert_eq!(rt; found, Some(missing));
+}
+
+fn member_one(rt: &impl Abort, alloc: Global) -> Identity {
+    member(rt, alloc, (3, 4), 1, 100).seat()
+}
+
+/// With the seat nothing is wrong but that the member is another one.
+fn is_another<L: Ledger>(rt: &impl Abort, member: &Member, all: &Vec<Seat<L>>) {
     let other = Some(CloseFault::OtherMember);
-    assert_eq!(rt; fault_of(identity, held.member(), &all), other);
-    assert_eq!(rt; fault_of(held.member().seat(), held.member(), &all), None);
+    assert_eq!(rt;
+        fault_of(member_one(rt, *all.allocator()), member, all),
+        other
+    );
+    assert_eq!(rt; fault_of(member.seat(), member, all), None);
 }

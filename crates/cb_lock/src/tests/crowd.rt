@@ -5,6 +5,7 @@ ghost use Rattle.std.specs.Prelude.{◌≡◌};
 use super::{closed, member};
 use crate::{Seat, SharedMember};
 use bytes::Bytes;
+use cb_member::Member;
 use std::alloc::{AllocError, Global};
 use std::marker::Brand;
 use std::process::Abort;
@@ -39,10 +40,15 @@ fn share<L: Ledger + Send + Sync, R: Threads + Wait + Abort + Sync>(
     let (shared, seat) = SharedMember::<L>::new(alloc, blank, member);
     let seats = eight_seats(rt, alloc, seat);
     let seats = all_call(rt, &shared, &mail_of_the_other(rt, alloc), seats).expect(rt, "memory");
+    claims_all_entries(rt, shared, seats);
+}
+
+/// The seats have as many receipts as the history has entries.
+fn claims_all_entries<L: Ledger>(rt: &impl Abort, shared: SharedMember<L>, seats: Vec<Seat<L>>) {
     let claimed = receipts_in(&seats);
+    assert!(rt; claimed > 4 * 256);
     let member = closed(rt, shared, seats);
     assert_eq!(rt; member.history().len(), claimed);
-    assert!(rt; claimed > 4 * 256);
 }
 
 /// As many casts of member 1 as it may make before others have delivered some.
@@ -50,10 +56,13 @@ fn mail_of_the_other(rt: &impl Abort, alloc: Global) -> Mail {
     let mut other = member(rt, alloc, (2, 256), 1, 1000);
     let mut frames = Vec::new(alloc);
     for _ in 0..256u32 {
-        let done = other.cast(b"yo").expect(rt, "a cast");
-        frames.push(done.out).expect(rt, "memory");
+        frames.push(frame_of(rt, &mut other)).expect(rt, "memory");
     }
     Mail { alloc, frames }
+}
+
+fn frame_of(rt: &impl Abort, other: &mut Member) -> Bytes {
+    other.cast(b"yo").expect(rt, "a cast").out
 }
 
 /// Eight seats of one part each.

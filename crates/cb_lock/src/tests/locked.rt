@@ -1,6 +1,6 @@
 //! A locked member answers as one without a lock.
 
-ghost use Rattle.std.specs.Prelude.{◌≡◌, ◌≤◌};
+ghost use Rattle.std.specs.Prelude.{◌≡◌, ◌≤◌, []};
 
 use super::{claims_all, closed, member, said, seats};
 use crate::{Seat, SharedMember};
@@ -164,28 +164,42 @@ fn run_script<L: Ledger, R: Wait + Abort>(rt: &R, alloc: Global, blank: Blank, s
     requires name { blank.name ≡ L.name }
     requires parts { (blank.parts ≡ L.parts) × (1 ≤ blank.parts) }
 {
-    let sizes = (3, script.window);
-    let mut plain = member(rt, alloc, sizes, script.me, script.limit);
-    run_plain(rt, alloc, &mut plain, script.calls);
-    let locked = member(rt, alloc, sizes, script.me, script.limit);
-    let (shared, mut seat) = SharedMember::<L>::new(alloc, blank, locked);
+    let (shared, mut seat) = SharedMember::<L>::new(alloc, blank, of_script(rt, alloc, script));
     run_locked(rt, alloc, &shared, &mut seat, script.calls);
+    let plain = run_plain(rt, alloc, script);
     claims_all(rt, plain.history(), seat.receipts());
     let member = closed(rt, shared, seats(rt, alloc, seat, None));
+    have_one_history(rt, &member, &plain);
+}
+
+fn of_script(rt: &impl Abort, alloc: Global, script: &Script) -> Member
+    ensures { result.entries ≡ [] }
+{
+    member(rt, alloc, (3, script.window), script.me, script.limit)
+}
+
+fn have_one_history(rt: &impl Abort, member: &Member, plain: &Member) {
     assert!(rt; member.history() == plain.history());
 }
 
-fn run_plain(rt: &impl Abort, alloc: Global, member: &mut Member, calls: Calls) {
-    for (call, answer) in calls {
-        let said = match call {
-            Call::Cast(payload) => said::by_cast(alloc, &member.cast(payload)),
-            Call::Take(bytes) => {
-                said::by_arrival(alloc, &member.arrive(&Bytes::from_static(bytes)))
-            }
-            Call::Tick => said::by_tick(alloc, &member.tick()),
-        };
-        assert_eq!(rt; said.expect(rt, "memory").as_str(), *answer);
+fn run_plain(rt: &impl Abort, alloc: Global, script: &Script) -> Member {
+    let mut member = of_script(rt, alloc, script);
+    for (call, answer) in script.calls {
+        assert_eq!(rt;
+            plain_answer(rt, alloc, &mut member, call).as_str(),
+            *answer
+        );
     }
+    member
+}
+
+fn plain_answer(rt: &impl Abort, alloc: Global, member: &mut Member, call: &Call) -> String {
+    let said = match call {
+        Call::Cast(payload) => said::by_cast(alloc, &member.cast(payload)),
+        Call::Take(bytes) => said::by_arrival(alloc, &member.arrive(&Bytes::from_static(bytes))),
+        Call::Tick => said::by_tick(alloc, &member.tick()),
+    };
+    said.expect(rt, "memory")
 }
 
 fn run_locked<L: Ledger>(
@@ -196,13 +210,26 @@ fn run_locked<L: Ledger>(
     calls: Calls,
 ) {
     for (call, answer) in calls {
-        let said = match call {
-            Call::Cast(payload) => said::by_cast(alloc, &shared.cast(rt, seat, payload)),
-            Call::Take(bytes) => {
-                said::by_arrival(alloc, &shared.arrive(rt, seat, &Bytes::from_static(bytes)))
-            }
-            Call::Tick => said::by_tick(alloc, &shared.tick(rt, seat)),
-        };
-        assert_eq!(rt; said.expect(rt, "memory").as_str(), *answer);
+        assert_eq!(rt;
+            locked_answer(rt, alloc, shared, seat, call).as_str(),
+            *answer
+        );
     }
+}
+
+fn locked_answer<L: Ledger>(
+    rt: &(impl Wait + Abort),
+    alloc: Global,
+    shared: &SharedMember<L>,
+    seat: &mut Seat<L>,
+    call: &Call,
+) -> String {
+    let said = match call {
+        Call::Cast(payload) => said::by_cast(alloc, &shared.cast(rt, seat, payload)),
+        Call::Take(bytes) => {
+            said::by_arrival(alloc, &shared.arrive(rt, seat, &Bytes::from_static(bytes)))
+        }
+        Call::Tick => said::by_tick(alloc, &shared.tick(rt, seat)),
+    };
+    said.expect(rt, "memory")
 }
