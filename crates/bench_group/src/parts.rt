@@ -1,0 +1,94 @@
+//! What the members run with.
+
+ghost use Rattle.std.specs.Prelude.{◌≡◌};
+
+use crate::plan::Plan;
+use cb_member::{Event, NoMemory};
+use cb_threads::{Inlet, LinkFault, Pace, PaceFault, Received, Talk, Talker};
+use std::alloc::Global;
+use std::sync::Wait;
+use std::thread::sleep;
+use std::time::{Clock, Duration};
+
+/// The first byte of a cast frame.
+const CAST: u8 = 0x11;
+
+/// An inlet that counts the cast frames that come.
+#[derive(Drop)]
+pub struct Counting<I> {
+    pub inner: I,
+    pub casts: u64,
+}
+
+impl<I: Inlet> Inlet for Counting<I> {
+    ghost failed = { λ c. I.failed c.inner };
+
+    fn failures(&self) -> u64 {
+        self.inner.failures()
+    }
+
+    fn receive<R: Wait + Clock>(&mut self, rt: &R) -> Result<Received, LinkFault> {
+        let received = self.inner.receive(rt);
+        if is_cast(&received) {
+            self.casts = self.casts.saturating_add(1);
+        }
+        received
+    }
+}
+
+fn is_cast(received: &Result<Received, LinkFault>) -> bool {
+    matches!(received, Ok(Received::Frame(frame)) if frame.as_slice().first() == Some(&CAST))
+}
+
+/// A millisecond between two ticks.
+#[derive(Drop)]
+pub struct Millisecond;
+
+impl Pace for Millisecond {
+    ghost failed = { λ pace. 0 };
+
+    fn failures(&self) -> u64 {
+        0
+    }
+
+    fn wait<R: Wait + Clock>(&mut self, rt: &R) -> Result<(), PaceFault> {
+        sleep(rt, Duration::from_millis(1));
+        Ok(())
+    }
+}
+
+/// Who casts so many messages, and has finished when it has seen those of all.
+#[derive(Drop)]
+pub struct Caster {
+    alloc: Global,
+    payload: usize,
+    left: u32,
+    unseen: u64,
+}
+
+impl Caster {
+    pub fn new(alloc: Global, plan: Plan) -> Caster {
+        Caster {
+            alloc,
+            payload: plan.payload,
+            left: plan.casts,
+            unseen: u64::from(plan.casts).saturating_mul(u64::from(plan.group.size())),
+        }
+    }
+}
+
+impl Talker for Caster {
+    fn next(&mut self, news: &[Event]) -> Result<Talk, NoMemory> {
+        let payload = vec![in self.alloc; b'a'; self.payload]?;
+        self.unseen = self.unseen.saturating_sub(news.len() as u64);
+        if self.left > 0 {
+            self.left -= 1;
+            return Ok(Talk::Cast(payload));
+        }
+        Ok(if self.unseen == 0 {
+            Talk::Finished
+        } else {
+            Talk::Idle
+        })
+    }
+}

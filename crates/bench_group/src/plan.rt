@@ -1,0 +1,36 @@
+//! What the words say of the run.
+
+use cb_frames::LONGEST_PAYLOAD;
+use cb_history::Group;
+
+/// The number of the group, which only the frames say.
+const NUMBER: u32 = 7;
+
+/// What is run: a group over channels or UDP, of which each member casts so many messages of so many bytes.
+#[derive(Clone, Copy, Drop)]
+pub struct Plan {
+    pub group: Group,
+    pub payload: usize,
+    pub casts: u32,
+    pub is_udp: bool,
+}
+
+/// The plan that the words say, of which the first is the program's name.
+pub fn plan_of(words: &[String]) -> Option<Plan> {
+    let (size, window) = (number(words, 1)?, number(words, 2)?);
+    let group = Group::new(NUMBER, size, window).ok()?;
+    let payload = number(words, 3)? as usize;
+    if payload > LONGEST_PAYLOAD {
+        return None;
+    }
+    Some(Plan {
+        group,
+        payload,
+        casts: number(words, 4)?,
+        is_udp: words.get(5)?.as_str() == "udp",
+    })
+}
+
+fn number(words: &[String], place: usize) -> Option<u32> {
+    words.get(place)?.as_str().parse::<u32>().ok()
+}

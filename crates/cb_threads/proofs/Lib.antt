@@ -1,0 +1,4 @@
+pub mod Rising
+pub mod Telling
+pub mod Order
+pub mod Planning

@@ -1,0 +1,55 @@
+-- Members of a group, one after another.
+use Rattle.std.proofs.Common.{◌≡◌, ℕ, suc, ◌+◌, List, [], ◌∷◌, ◌++◌, length, length-append, map, subst, sym, ap, ◌∙◌, arith}
+use Rattle.std.proofs.lemmas.List.{length-map, map-append}
+use Rattle.cb_history.specs.Group.{Parameters}
+use Rattle.cb_history.specs.declared.history.History.{History}
+use Rattle.cb_threads.specs.declared.report.Tally.{Tally}
+use Rattle.cb_threads.specs.declared.life.OfMember.{OfMember}
+use Rattle.cb_threads.specs.Groups.{IsKept, AreKept, AreMembers}
+
+pub members_more : (group : Parameters) (me : ℕ) (ps : List OfMember) (p : OfMember) → AreMembers group me ps → p.group ≡ group → p.me ≡ me + length ps → AreMembers group me (ps ++ p ∷ [])
+members_more group me [] p all g m = (g, omega (arith, m), tt)
+members_more group me (q ∷ ps) p all g m = (all.0, all.1, members_more group (suc me) ps p all.2 g (omega (arith, m)))
+
+pub kept_more : (group : Parameters) (me at : ℕ) (hs : List History) (ts : List Tally) (h : History) (t : Tally) → AreKept group me hs ts → at ≡ me + length hs → IsKept group at h t → AreKept group me (hs ++ h ∷ []) (ts ++ t ∷ [])
+kept_more group me at [] [] h t all is k = (subst (λ (n : ℕ). IsKept group n h t) (omega (arith, is)) k, tt)
+kept_more group me at [] (u ∷ ts) h t all is k = absurd all
+kept_more group me at (g ∷ hs) [] h t all is k = absurd all
+kept_more group me at (g ∷ hs) (u ∷ ts) h t all is k = (all.0, kept_more group (suc me) at hs ts h t all.1 (omega (arith, is)) k)
+
+-- one more of them has ended
+pub joins : (group : Parameters) (hs : List History) (ts : List Tally) (p : OfMember) (ps : List OfMember) (h : History) (t : Tally) → AreKept group 0 hs ts × AreMembers group (length hs) (p ∷ ps) → IsKept p.group p.me h t
+    → AreKept group 0 (hs ++ h ∷ []) (ts ++ t ∷ []) × AreMembers group (length (hs ++ h ∷ [])) ps
+joins group hs ts p ps h t (kept, (g, m, others)) k =
+    let here : IsKept group p.me h t = subst (λ (q : Parameters). IsKept q p.me h t) g k in (
+      kept_more group 0 p.me hs ts h t kept (omega (arith, m)) here,
+      subst (λ (n : ℕ). AreMembers group n ps) (omega (arith, length-append hs (h ∷ []))) others,
+    )
+
+-- so with the threads that are still to be joined
+pub goes : {H R : Type 0} (promise : H → OfMember) (tally : R → Tally) (n : ℕ) (all : List OfMember) (hs hs' : List History) (rs rs' : List R) (rest rest' : List H) (h : H) (r : R) (history : History)
+    → (length hs + length rest ≡ n) × ((group : Parameters) → AreMembers group 0 all → AreKept group 0 hs (map tally rs) × AreMembers group (length hs) (map promise rest)) → rest ≡ h ∷ rest'
+    → IsKept (promise h).group (promise h).me history (tally r) → hs' ≡ hs ++ history ∷ [] → rs' ≡ rs ++ r ∷ []
+    → (length hs' + length rest' ≡ n) × ((group : Parameters) → AreMembers group 0 all → AreKept group 0 hs' (map tally rs') × AreMembers group (length hs') (map promise rest'))
+goes {H} {R} promise tally n all hs hs' rs rs' rest rest' h r history inv e kept eh er =
+    let count : length hs' + length rest' ≡ n = omega (arith, ap length eh, length-append hs (history ∷ []), ap length e, inv.0) in
+    let tallies : map tally rs' ≡ map tally rs ++ tally r ∷ [] = ap (map tally) er ∙ map-append tally rs (r ∷ []) in (
+      count,
+      λ group members.
+          let k = inv.1 group members in
+          let others : AreMembers group (length hs) (promise h ∷ map promise rest') = subst (λ (xs : List H). AreMembers group (length hs) (map promise xs)) e k.1 in
+          let j = joins group hs (map tally rs) (promise h) (map promise rest') history (tally r) (k.0, others) kept in (
+            subst (λ (ts : List Tally). AreKept group 0 hs' ts) (sym tallies) (subst (λ (xs : List History). AreKept group 0 xs (map tally rs ++ tally r ∷ [])) (sym eh) j.0),
+            subst (λ (xs : List History). AreMembers group (length xs) (map promise rest')) (sym eh) j.1,
+          ),
+    )
+
+-- one more thread was started
+pub starts : {H P : Type 0} (promise : H → OfMember) (group : Parameters) (me size : ℕ) (hs hs' : List H) (rest rest' : List P) (h : H) (p : P) → (me ≡ length hs) × (me + length rest ≡ size) × AreMembers group 0 (map promise hs) → rest ≡ p ∷ rest' → hs' ≡ hs ++ h ∷ []
+    → (promise h).group ≡ group → (promise h).me ≡ me → (me + 1 ≡ length hs') × (me + 1 + length rest' ≡ size) × AreMembers group 0 (map promise hs')
+starts {H} promise group me size hs hs' rest rest' h p (many, all, members) e eh g m =
+    let more : AreMembers group 0 (map promise hs ++ promise h ∷ []) = members_more group 0 (map promise hs) (promise h) members g (omega (arith, m, many, length-map hs promise)) in (
+      omega (arith, many, ap length eh, length-append hs (h ∷ [])),
+      omega (arith, all, ap length e),
+      subst (AreMembers group 0) (sym (ap (map promise) eh ∙ map-append promise hs (h ∷ []))) more,
+    )

@@ -1,0 +1,56 @@
+-- What a report says of a history, or of the receipts of seats.
+use Rattle.std.specs.Prelude.{◌≡◌, ℕ, ◌+◌, List, [], ◌∷◌, length, map}
+use Rattle.cb_history.specs.Facts.{EntryFields, CastEntry, ArriveEntry, TickEntry}
+use Rattle.cb_lock.specs.Receipts.{ReceiptFields, SeatState}
+use Rattle.cb_lock.specs.Claims.{receipts_of}
+use Rattle.cb_threads.specs.declared.report.Tally.{Tally}
+use Rattle.cb_threads.specs.Counts.{held}
+
+-- the messages that an entry casts: the frame of a cast carries one
+abbrev pub cast_by : EntryFields → ℕ
+cast_by (CastEntry frame) = 1
+cast_by (ArriveEntry frame delivered) = 0
+cast_by (TickEntry status) = 0
+
+-- the messages of others that were delivered with it
+abbrev pub delivered_by : EntryFields → ℕ
+delivered_by (CastEntry frame) = 0
+delivered_by (ArriveEntry frame delivered) = length delivered
+delivered_by (TickEntry status) = 0
+
+-- of all of these entries
+abbrev pub casts_of : List EntryFields → ℕ
+casts_of [] = 0
+casts_of (e ∷ es) = cast_by e + casts_of es
+
+abbrev pub deliveries_of : List EntryFields → ℕ
+deliveries_of [] = 0
+deliveries_of (e ∷ es) = delivered_by e + deliveries_of es
+
+-- the entries that receipts tell of
+abbrev pub entries_told : List ReceiptFields → List EntryFields
+entries_told receipts = map (λ r. r.entry) receipts
+
+-- the entries of which these seats have receipts
+abbrev pub entries_in : List SeatState → List EntryFields
+entries_in seats = entries_told (receipts_of seats)
+
+-- ---- counts
+
+abbrev pub no_tally : Tally
+no_tally = record { casts = 0; deliveries = 0; entries = 0 }
+
+-- these counts and those of the entries behind them, each held at its greatest value
+pub record Adds (before : Tally) (entries : List EntryFields) (after : Tally) : Type 0 where
+  pub casts : after.casts ≡ held (before.casts + casts_of entries)
+  pub deliveries : after.deliveries ≡ held (before.deliveries + deliveries_of entries)
+  pub count : after.entries ≡ held (before.entries + length entries)
+
+-- the counts of these entries
+pub record Tells (entries : List EntryFields) (casts deliveries count : ℕ) : Type 0 where
+  pub casts_are : casts ≡ held (casts_of entries)
+  pub deliveries_are : deliveries ≡ held (deliveries_of entries)
+  pub entries_are : count ≡ held (length entries)
+
+abbrev pub IsTally : List EntryFields → Tally → Type 0
+IsTally entries tally = Tells entries tally.casts tally.deliveries tally.entries

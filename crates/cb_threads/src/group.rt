@@ -1,0 +1,147 @@
+//! A group, of which each member runs in a thread of its own.
+
+ghost use Rattle.std.specs.Prelude.{◌≡◌, ◌↔◌, Decides, IfOk, Err, length, map};
+ghost use Rattle.cb_threads.specs.Groups.{IsPlan, AreKept, tally_in};
+ghost use Rattle.cb_threads.specs.declared.group.GroupFault.TheVariants.{BadPlan};
+
+use crate::life::{LifeFault, Lives, Setting, run_lives};
+use crate::limits::{Limits, Stop};
+use crate::link::{Inlet, Outlet};
+use crate::pace::Pace;
+use crate::report::MemberReport;
+use crate::start::Parts;
+use crate::talker::Talker;
+use cb_lock::CloseFault;
+use cb_member::{Group, History, LONGEST_HISTORY};
+use std::alloc::{AllocError, Global};
+use std::fmt;
+use std::sync::Wait;
+use std::sync::atomic::AtomicU64;
+use std::thread::Threads;
+use std::time::Clock;
+
+/// Why a group did not run to its end.
+#[derive(Clone, Copy, Debug, PartialEq, Eq)]
+pub enum GroupFault {
+    /// A list has not one item for each member, or the limit of the histories is not 1 to 16,777,216.
+    BadPlan,
+    /// The thread of a member could not be started.
+    NoThread,
+    /// Out of memory.
+    NoMemory,
+    /// Closing the shared member was refused; of several members the first.
+    Close { member: u32, fault: CloseFault },
+}
+
+/// What became of each member, in the order of their numbers.
+#[derive(Drop)]
+pub struct GroupReport<I, O, P, T> {
+    pub reports: Vec<MemberReport<I, O, P, T>>,
+    pub histories: Vec<History>,
+}
+
+/// Runs a group of new members, each in a thread of its own, behind a lock and with a ledger of its own, with four workers.
+///
+/// It ends once every talker has ended, or after so many turns of each worker as the limits say. The histories are legal, one for each
+/// member in order; the counts of each report are those of its history. The histories may have `history_max` entries each.
+pub fn run_group<
+    I: Inlet + Send + Drop,
+    O: Outlet + Send + Drop,
+    P: Pace + Send + Drop,
+    T: Talker + Send + Drop,
+    R: Threads + Wait + Clock + Sync,
+>(
+    rt: &R,
+    alloc: Global,
+    group: Group,
+    history_max: usize,
+    links: Vec<(I, O)>,
+    paces: Vec<P>,
+    talkers: Vec<T>,
+    limits: Limits,
+) -> Result<GroupReport<I, O, P, T>, GroupFault>
+    ensures plan { (result ≡ Err BadPlan)
+        ↔ ¬ IsPlan group history_max (length links.items) (length paces.items)
+        (length talkers.items) }
+    ensures members { IfOk result (λ r. length r.histories.items ≡ group.size) }
+    ensures kept { IfOk result (λ r. AreKept group 0 r.histories.items
+        (map tally_in r.reports.items)) }
+{
+    let lengths = (links.len(), paces.len(), talkers.len());
+    if !is_plan(group, history_max, lengths) {
+        return Err(GroupFault::BadPlan);
+    }
+    let Ok(parts) = parts(alloc, links, paces, talkers) else {
+        return Err(GroupFault::NoMemory);
+    };
+    match run_parts(rt, alloc, (group, history_max), parts, limits) {
+        Ok(Lives { reports, histories }) => Ok(GroupReport { reports, histories }),
+        Err(LifeFault::NoThread) => Err(GroupFault::NoThread),
+        Err(LifeFault::NoMemory) => Err(GroupFault::NoMemory),
+        Err(LifeFault::Close { member, fault }) => Err(GroupFault::Close { member, fault }),
+    }
+}
+
+/// Whether there are links, paces and talkers for each member, and histories may be so long.
+fn is_plan(group: Group, history_max: usize, lengths: (usize, usize, usize)) -> bool
+    ensures { Decides result (IsPlan group history_max lengths.0 lengths.1 lengths.2) }
+{
+    let size = group.size() as usize;
+    lengths.0 == size
+        && lengths.1 == size
+        && lengths.2 == size
+        && 1 <= history_max
+        && history_max <= LONGEST_HISTORY
+}
+
+/// What each member runs with.
+fn parts<I: Drop, O: Drop, P: Drop, T: Drop>(
+    alloc: Global,
+    links: Vec<(I, O)>,
+    paces: Vec<P>,
+    talkers: Vec<T>,
+) -> Result<Vec<Parts<I, O, P, T>>, AllocError>
+    requires { (length links.items ≡ length paces.items)
+        × (length links.items ≡ length talkers.items) }
+    ensures { IfOk result (λ parts. length parts.items ≡ length links.items) }
+{
+    let mut parts = Vec::with_capacity(alloc, links.len())?;
+    let mut paces = paces.into_iter();
+    let mut talkers = talkers.into_iter();
+    for (inlet, outlet) in links {
+        let (Some(pace), Some(talker)) = (paces.next(), talkers.next()) else {
+            unreachable!("there is one for each link");
+        };
+        parts.push(Parts {
+            inlet,
+            outlet,
+            pace,
+            talker,
+        })?;
+    }
+    Ok(parts)
+}
+
+fn run_parts<
+    I: Inlet + Send + Drop,
+    O: Outlet + Send + Drop,
+    P: Pace + Send + Drop,
+    T: Talker + Send + Drop,
+    R: Threads + Wait + Clock + Sync,
+>(
+    rt: &R,
+    alloc: Global,
+    plan: (Group, usize),
+    parts: Vec<Parts<I, O, P, T>>,
+    limits: Limits,
+) -> Result<Lives<I, O, P, T>, LifeFault>
+    requires size { length parts.items ≡ plan.0.size }
+    ensures members { IfOk result (λ r. length r.histories.items ≡ plan.0.size) }
+    ensures kept { IfOk result (λ r. AreKept plan.0 0 r.histories.items
+        (map tally_in r.reports.items)) }
+{
+    let stop = Stop::new();
+    let talking = AtomicU64::new(u64::from(plan.0.size()));
+    let setting = Setting::new(alloc, plan, limits, &stop, &talking);
+    run_lives(rt, &setting, parts)
+}

@@ -1,0 +1,136 @@
+//! Links: where the frames of a member go, and where those of the others come from.
+
+ghost use Rattle.std.specs.Prelude.{◌≡◌, ℕ, ◌≤◌, IfErr};
+ghost use Rattle.cb_threads.specs.Counts.{LinkCounts};
+
+use bytes::Bytes;
+use cb_member::Outgoing;
+use std::alloc::{AllocError, AllocFailed};
+use std::fmt;
+use std::sync::Wait;
+use std::time::Clock;
+
+/// What an inlet found.
+#[derive(Debug, PartialEq, Eq, Drop)]
+pub enum Received {
+    /// The bytes of a frame.
+    Frame(Bytes),
+    /// Nothing has come within about a millisecond.
+    Nothing,
+}
+
+/// Why a link took or gave no frame.
+#[derive(Clone, Copy, Debug, PartialEq, Eq)]
+pub enum LinkFault {
+    /// What carries the frames failed.
+    Device,
+    /// Out of memory.
+    NoMemory,
+}
+
+impl fmt::Display for LinkFault {
+    fn fmt<W: fmt::Write>(&self, f: &mut fmt::Formatter<W>) -> fmt::Result {
+        f.write_str(match self {
+            LinkFault::Device => "Device",
+            LinkFault::NoMemory => "NoMemory",
+        })
+    }
+}
+
+impl From<AllocError> for LinkFault {
+    fn from(_refused: AllocError) -> LinkFault {
+        LinkFault::NoMemory
+    }
+}
+
+impl<T: Drop> From<AllocFailed<T>> for LinkFault {
+    fn from(_refused: AllocFailed<T>) -> LinkFault {
+        LinkFault::NoMemory
+    }
+}
+
+/// Where the frames of the others come from.
+pub trait Inlet {
+    ghost failed: { Self → ℕ };
+
+    /// How often `receive` has answered `Device` so far. The count never falls, and stays at its greatest value.
+    fn failures(&self) -> u64
+        ensures { result ≡ failed self.now };
+
+    /// The next frame, where one is there or comes within about a millisecond. A frame that came is handed out once, or lost with a fault.
+    fn receive<R: Wait + Clock>(&mut self, rt: &R) -> Result<Received, LinkFault>
+        ensures rises { failed self.old ≤ failed self.new }
+        ensures fault { IfErr result (λ fault. LinkCounts fault (failed self.old)
+            (failed self.new)) };
+}
+
+/// Where the frames of a member go.
+pub trait Outlet {
+    ghost failed: { Self → ℕ };
+
+    /// How many frames to one member could not be sent so far. The count never falls, and stays at its greatest value.
+    fn failures(&self) -> u64
+        ensures { result ≡ failed self.now };
+
+    /// Sends a frame to the member that it names, or to all others. One to all is offered to each of them, even where another one fails.
+    fn send<R: Wait>(&mut self, rt: &R, out: &Outgoing) -> Result<(), LinkFault>
+        ensures rises { failed self.old ≤ failed self.new }
+        ensures fault { IfErr result (λ fault. LinkCounts fault (failed self.old)
+            (failed self.new)) };
+}
+
+/// What came of offering a frame to some members.
+#[derive(Clone, Copy, Debug, PartialEq, Eq)]
+pub struct Offered {
+    /// How many of them it could not be sent to.
+    pub failures: u64,
+    /// Whether memory was refused for some.
+    refused: bool,
+}
+
+impl Offered {
+    /// It was taken, or there was nobody to offer it to.
+    pub fn taken() -> Offered {
+        Offered {
+            failures: 0,
+            refused: false,
+        }
+    }
+
+    /// It could not be sent to one member.
+    pub fn failed() -> Offered {
+        Offered {
+            failures: 1,
+            refused: false,
+        }
+    }
+
+    /// Memory was refused for one member.
+    pub fn refused() -> Offered {
+        Offered {
+            failures: 0,
+            refused: true,
+        }
+    }
+
+    /// Both.
+    pub fn and(self, other: Offered) -> Offered {
+        Offered {
+            failures: self.failures.saturating_add(other.failures),
+            refused: self.refused || other.refused,
+        }
+    }
+
+    /// A device that failed comes before memory that was refused.
+    pub fn result(self) -> Result<(), LinkFault>
+        ensures { IfErr result (λ fault. LinkCounts fault 0 self.failures) }
+    {
+        if self.failures > 0 {
+            Err(LinkFault::Device)
+        } else if self.refused {
+            Err(LinkFault::NoMemory)
+        } else {
+            Ok(())
+        }
+    }
+}

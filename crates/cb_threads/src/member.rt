@@ -1,0 +1,284 @@
+//! One member with its four workers.
+
+ghost use Rattle.std.specs.Prelude.{◌≡◌, ◌≢◌, ◌+◌, ◌<◌, ◌≤◌, MatchOption, None, Some};
+ghost use Rattle.std.specs.Vec.{vec_capacity, vec_len};
+ghost use Rattle.cb_threads.specs.Counts.{MetAtMost};
+ghost use Rattle.cb_threads.specs.Reports.{Tells, entries_in};
+
+use crate::limits::{Ending, Limits, Stop};
+use crate::link::{Inlet, Outlet};
+use crate::pace::Pace;
+use crate::report::{MemberReport, Tally, WorkerFault};
+use crate::start::{Ended, Parts, Seats, make_ends, run_workers};
+use crate::talker::Talker;
+use crate::workers::{Desk, Worked};
+use cb_lock::{Seat, SharedMember};
+use std::alloc::{AllocError, Global};
+use std::sync::Wait;
+use std::sync::ledger::Ledger;
+use std::thread::Threads;
+use std::time::Clock;
+
+/// Runs four workers at once at one member, each with a seat of its own: one that takes what comes, one that ticks, one that casts what the
+/// talker says, and one that sends what these put out.
+///
+/// The first three end after so many turns as the limits say, or once the stop is set; the talker's also once it has finished. The sender
+/// ends when they have. Link, pace and talker stand in the report, and the seats come back for `close`: all four, unless a thread could not be
+/// started or a list not be made, which the report's fault tells. The counts of the report are those of the receipts in the seats that
+/// come back.
+pub fn run_member<
+    I: Inlet + Send + Drop,
+    O: Outlet + Send + Drop,
+    P: Pace + Send + Drop,
+    T: Talker + Send + Drop,
+    L: Ledger + Send + Sync,
+    R: Threads + Wait + Clock + Sync,
+>(
+    rt: &R,
+    alloc: Global,
+    shared: &SharedMember<L>,
+    seats: (Seat<L>, Seat<L>, Seat<L>, Seat<L>),
+    link: (I, O),
+    pace: P,
+    talker: T,
+    stop: &Stop,
+    limits: Limits,
+) -> (MemberReport<I, O, P, T>, Vec<Seat<L>>)
+    ensures seats { result.0.fault ≡ None → vec_len result.1 ≡ 4 }
+    ensures counts { Tells (entries_in result.1.items) result.0.casts result.0.deliveries
+        result.0.entries }
+    ensures inlet { MatchOption result.0.inlet (result.0.receive_failures ≡ 0)
+        (λ inlet. MetAtMost result.0.receive_failures (I.failed link.0) (I.failed inlet)) }
+    ensures outlet { MatchOption result.0.outlet (result.0.send_failures ≡ 0)
+        (λ outlet. MetAtMost result.0.send_failures (O.failed link.1) (O.failed outlet)) }
+    ensures pace { MatchOption result.0.pace (result.0.pace_failures ≡ 0)
+        (λ after. MetAtMost result.0.pace_failures (P.failed pace) (P.failed after)) }
+{
+    let (receiver, timer, speaker, sender) = seats;
+    let seats = Seats {
+        receiver,
+        timer,
+        speaker,
+        sender,
+    };
+    let (inlet, outlet) = link;
+    let parts = Parts {
+        inlet,
+        outlet,
+        pace,
+        talker,
+    };
+    let ending = Ending {
+        limits,
+        stop,
+        talking: None,
+    };
+    run_shared(
+        rt,
+        Desk {
+            alloc,
+            shared,
+            ending,
+        },
+        seats,
+        parts,
+    )
+}
+
+/// Runs the workers of a member.
+#[tactic(auto, using(crate::proofs::Rising::met_none))]
+pub fn run_shared<
+    I: Inlet + Send + Drop,
+    O: Outlet + Send + Drop,
+    P: Pace + Send + Drop,
+    T: Talker + Send + Drop,
+    L: Ledger + Send + Sync,
+    R: Threads + Wait + Clock + Sync,
+>(
+    rt: &R,
+    desk: Desk<'_, L>,
+    seats: Seats<L>,
+    parts: Parts<I, O, P, T>,
+) -> (MemberReport<I, O, P, T>, Vec<Seat<L>>)
+    ensures seats { result.0.fault ≡ None → vec_len result.1 ≡ 4 }
+    ensures counts { Tells (entries_in result.1.items) result.0.casts result.0.deliveries
+        result.0.entries }
+    ensures inlet { MatchOption result.0.inlet (result.0.receive_failures ≡ 0)
+        (λ inlet. MetAtMost result.0.receive_failures (I.failed parts.inlet) (I.failed inlet)) }
+    ensures outlet { MatchOption result.0.outlet (result.0.send_failures ≡ 0)
+        (λ outlet. MetAtMost result.0.send_failures (O.failed parts.outlet) (O.failed outlet)) }
+    ensures pace { MatchOption result.0.pace (result.0.pace_failures ≡ 0)
+        (λ pace. MetAtMost result.0.pace_failures (P.failed parts.pace) (P.failed pace)) }
+{
+    let alloc = desk.alloc;
+    let ending = desk.ending;
+    let Ok(mut list) = Vec::with_capacity(alloc, 4) else {
+        return unstarted(ending, parts, Vec::new(alloc));
+    };
+    match make_ends(alloc) {
+        Ok(ends) => reported(run_workers(rt, desk, seats, parts, ends), list),
+        Err(AllocError) => {
+            list_all(seats, &mut list);
+            unstarted(ending, parts, list)
+        }
+    }
+}
+
+/// The report of a member whose workers' channel or lists could not be made.
+fn unstarted<I, O, P, T, L: Ledger>(
+    ending: Ending<'_>,
+    parts: Parts<I, O, P, T>,
+    seats: Vec<Seat<L>>,
+) -> (MemberReport<I, O, P, T>, Vec<Seat<L>>)
+    ensures seats { result.0.fault ≢ None }
+    ensures counts { Tells (entries_in result.1.items) result.0.casts result.0.deliveries
+        result.0.entries }
+    ensures inlet { (result.0.inlet ≡ Some parts.inlet) × (result.0.receive_failures ≡ 0) }
+    ensures outlet { (result.0.outlet ≡ Some parts.outlet) × (result.0.send_failures ≡ 0) }
+    ensures pace { (result.0.pace ≡ Some parts.pace) × (result.0.pace_failures ≡ 0) }
+{
+    ending.talker_ended();
+    ending.give_up();
+    let Tally {
+        casts,
+        deliveries,
+        entries,
+    } = Tally::of_seats(&seats);
+    let Parts {
+        inlet,
+        outlet,
+        pace,
+        talker,
+    } = parts;
+    let report = MemberReport {
+        casts,
+        deliveries,
+        entries,
+        lost: 0,
+        receive_failures: 0,
+        send_failures: 0,
+        pace_failures: 0,
+        inlet: Some(inlet),
+        outlet: Some(outlet),
+        pace: Some(pace),
+        talker: Some(talker),
+        fault: Some(WorkerFault::NoMemory),
+    };
+    (report, seats)
+}
+
+fn list_all<L: Ledger>(seats: Seats<L>, list: &mut Vec<Seat<L>>)
+    requires { vec_len list.old + 4 ≤ vec_capacity list.old }
+{
+    put(seats.receiver, list);
+    put(seats.timer, list);
+    put(seats.speaker, list);
+    put(seats.sender, list);
+}
+
+fn put<L: Ledger>(seat: Seat<L>, list: &mut Vec<Seat<L>>)
+    requires { vec_len list.old < vec_capacity list.old }
+    ensures room { vec_len list.new ≡ vec_len list.old + 1 }
+    ensures capacity { vec_capacity list.old ≤ vec_capacity list.new }
+{
+    let Ok(()) = list.push(seat) else {
+        unreachable!("there is room")
+    };
+}
+
+/// The report of workers that have ended, and their seats.
+fn reported<I, O, P, T, L: Ledger>(
+    ended: Ended<I, O, P, T, L>,
+    seats: Vec<Seat<L>>,
+) -> (MemberReport<I, O, P, T>, Vec<Seat<L>>)
+    requires room { 4 ≤ vec_capacity seats }
+    requires empty { vec_len seats ≡ 0 }
+    ensures seats { result.0.fault ≡ None → vec_len result.1 ≡ 4 }
+    ensures counts { Tells (entries_in result.1.items) result.0.casts result.0.deliveries
+        result.0.entries }
+    ensures inlet { MatchOption ended.received
+        ((result.0.inlet ≡ None) × (result.0.receive_failures ≡ 0))
+        (λ w. (result.0.inlet ≡ Some w.part) × (result.0.receive_failures ≡ w.failures)) }
+    ensures outlet { MatchOption ended.sent
+        ((result.0.outlet ≡ None) × (result.0.send_failures ≡ 0))
+        (λ w. (result.0.outlet ≡ Some w.part) × (result.0.send_failures ≡ w.failures)) }
+    ensures pace { MatchOption ended.timed
+        ((result.0.pace ≡ None) × (result.0.pace_failures ≡ 0))
+        (λ w. (result.0.pace ≡ Some w.part) × (result.0.pace_failures ≡ w.failures)) }
+{
+    let fault = if ended.all_ran() {
+        None
+    } else {
+        Some(WorkerFault::NoThread)
+    };
+    let mut seats = seats;
+    let Ended {
+        received,
+        timed,
+        talked,
+        sent,
+    } = ended;
+    let received = hand_back(received, &mut seats);
+    let timed = hand_back(timed, &mut seats);
+    let talked = hand_back(talked, &mut seats);
+    let sent = hand_back(sent, &mut seats);
+    let Tally {
+        casts,
+        deliveries,
+        entries,
+    } = Tally::of_seats(&seats);
+    let lost = received
+        .lost
+        .saturating_add(timed.lost)
+        .saturating_add(talked.lost)
+        .saturating_add(sent.lost);
+    let report = MemberReport {
+        casts,
+        deliveries,
+        entries,
+        lost,
+        receive_failures: received.failures,
+        send_failures: sent.failures,
+        pace_failures: timed.failures,
+        inlet: received.part,
+        outlet: sent.part,
+        pace: timed.part,
+        talker: talked.part,
+        fault,
+    };
+    (report, seats)
+}
+
+/// What came back of a worker, or nothing where its thread could not be started.
+#[derive(Drop)]
+struct HandedBack<D> {
+    part: Option<D>,
+    lost: u64,
+    failures: u64,
+}
+
+/// Puts the worker's seat to the others.
+fn hand_back<D, L: Ledger>(worked: Option<Worked<D, L>>, seats: &mut Vec<Seat<L>>) -> HandedBack<D>
+    requires { vec_len seats.old < vec_capacity seats.old }
+    ensures part { MatchOption worked ((result.part ≡ None) × (result.failures ≡ 0))
+        (λ w. (result.part ≡ Some w.part) × (result.failures ≡ w.failures)) }
+    ensures seat { MatchOption worked (vec_len seats.new ≡ vec_len seats.old)
+        (λ _. vec_len seats.new ≡ vec_len seats.old + 1) }
+    ensures capacity { vec_capacity seats.old ≤ vec_capacity seats.new }
+{
+    match worked {
+        Some(worked) => {
+            put(worked.seat, seats);
+            HandedBack {
+                part: Some(worked.part),
+                lost: worked.lost,
+                failures: worked.failures,
+            }
+        }
+        None => HandedBack {
+            part: None,
+            lost: 0,
+            failures: 0,
+        },
+    }
+}

@@ -1,0 +1,32 @@
+//! The pace at which a member ticks.
+
+ghost use Rattle.std.specs.Prelude.{◌≡◌, ℕ, ◌≤◌, OnErr};
+ghost use Rattle.cb_threads.specs.Counts.{HasCounted};
+
+use std::fmt;
+use std::sync::Wait;
+use std::time::Clock;
+
+/// The pace did not wait as it should.
+#[derive(Clone, Copy, Debug, PartialEq, Eq)]
+pub struct PaceFault;
+
+impl fmt::Display for PaceFault {
+    fn fmt<W: fmt::Write>(&self, f: &mut fmt::Formatter<W>) -> fmt::Result {
+        f.write_str("PaceFault")
+    }
+}
+
+/// What stands between two ticks of a member.
+pub trait Pace {
+    ghost failed: { Self → ℕ };
+
+    /// How often `wait` has failed so far. The count never falls, and stays at its greatest value.
+    fn failures(&self) -> u64
+        ensures { result ≡ failed self.now };
+
+    /// Waits for the next tick.
+    fn wait<R: Wait + Clock>(&mut self, rt: &R) -> Result<(), PaceFault>
+        ensures rises { failed self.old ≤ failed self.new }
+        ensures fault { OnErr result (HasCounted (failed self.old) (failed self.new)) };
+}

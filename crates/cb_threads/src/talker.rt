@@ -1,0 +1,22 @@
+//! Who decides what a member casts.
+
+use cb_member::{Event, NoMemory};
+
+/// What a talker wants next.
+#[derive(Debug, PartialEq, Eq, Drop)]
+pub enum Talk {
+    /// To cast this payload. One that finds the window or the history full, or no memory, is tried again before the talker is asked again;
+    /// one that is too long is dropped.
+    Cast(Vec<u8>),
+    /// Nothing now.
+    Idle,
+    /// Nothing any more.
+    Finished,
+}
+
+/// Who decides what a member casts. It sees what the member has cast and delivered.
+pub trait Talker {
+    /// What to do next. `news` are the member's events since the last call, in order. After a refusal the same news come again, with what
+    /// came behind them.
+    fn next(&mut self, news: &[Event]) -> Result<Talk, NoMemory>;
+}

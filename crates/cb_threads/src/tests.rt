@@ -1,0 +1,8 @@
+//! Workers and groups over real threads.
+
+ghost use Rattle.std.specs.Prelude.{◌≡◌, []};
+
+mod at_once;
+mod faults;
+mod group;
+mod parts;

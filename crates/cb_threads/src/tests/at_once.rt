@@ -1,0 +1,113 @@
+//! Workers run at once, and so do the members of a group.
+
+ghost use Rattle.std.specs.Prelude.{◌≡◌};
+
+use super::parts::{Flags, Meeting, Patient, Silent};
+use crate::{
+    ChannelInlet, ChannelLink, ChannelOutlet, GroupReport, Limits, MemberReport, Stop, run_group,
+    run_member,
+};
+use cb_lock::{Closed, Seat, SharedMember};
+use cb_member::{Group, Member};
+use std::alloc::Global;
+use std::marker::Brand;
+use std::process::Abort;
+use std::sync::Wait;
+use std::sync::ledger::{Blank, Ledger};
+use std::test::*;
+use std::thread::Threads;
+use std::time::Clock;
+
+#[test]
+fn three_workers_at_once(rt: HostRuntime) {
+    share::<Brand, _>(&rt, rt.alloc(), Blank::new(4));
+}
+
+fn share<L: Ledger + Send + Sync, R: Threads + Wait + Clock + Abort + Sync>(
+    rt: &R,
+    alloc: Global,
+    blank: Blank,
+)
+    requires { (blank.name ≡ L.name) × (blank.parts ≡ L.parts) × (blank.parts ≡ 4) }
+{
+    let group = Group::new(7, 3, 4).expect(rt, "a group");
+    let member = Member::new(alloc, group, 0, 100).expect(rt, "a member");
+    let (shared, seat) = SharedMember::<L>::new(alloc, blank, member);
+    let claimed = run_once(rt, alloc, &shared, seat);
+    let Ok(Closed { member }) = shared.close(claimed) else {
+        panic!(rt; "the receipts are those of the history");
+    };
+    assert!(rt; !member.history().is_empty());
+}
+
+/// The first send, the first receive and the first wait each wait for the two others.
+fn run_once<L: Ledger + Send + Sync, R: Threads + Wait + Clock + Abort + Sync>(
+    rt: &R,
+    alloc: Global,
+    shared: &SharedMember<L>,
+    seat: Seat<L>,
+) -> Vec<Seat<L>>
+    requires { seat.parts ≡ 4 }
+{
+    let flags = Flags::new();
+    let mut seat = seat;
+    let seats = (seat.split(), seat.split(), seat.split(), seat);
+    let (report, seats) = run_member(
+        rt,
+        alloc,
+        shared,
+        seats,
+        (Meeting::new(&flags, 0), Meeting::new(&flags, 1)),
+        Meeting::new(&flags, 2),
+        Silent,
+        &Stop::new(),
+        Limits { turns: 2 },
+    );
+    no_failures(rt, report);
+    seats
+}
+
+fn no_failures<I: Drop, O: Drop, P: Drop, T: Drop>(
+    rt: &impl Abort,
+    report: MemberReport<I, O, P, T>,
+) {
+    assert_eq!(rt; report.receive_failures, 0);
+    assert_eq!(rt; report.send_failures, 0);
+    assert_eq!(rt; report.pace_failures, 0);
+    assert!(rt; report.entries >= 1);
+    assert!(rt; report.fault.is_none());
+}
+
+#[test]
+fn members_of_a_group_run_at_once(rt: HostRuntime) {
+    let flags = Flags::new();
+    meet(&rt, rt.alloc(), &flags);
+}
+
+/// Each member's first wait waits for those of the two others.
+fn meet<R: Threads + Wait + Clock + Abort + Sync>(rt: &R, alloc: Global, flags: &Flags) {
+    let group = Group::new(7, 3, 4).expect(rt, "a group");
+    let links = ChannelLink::group(alloc, 3).expect(rt, "links");
+    let mut paces = Vec::new(alloc);
+    let mut talkers = Vec::new(alloc);
+    for member in 0..3usize {
+        paces.push(Meeting::new(flags, member)).expect(rt, "memory");
+        talkers.push(Patient { flags }).expect(rt, "memory");
+    }
+    let limits = Limits { turns: 10_000 };
+    let Ok(ran) = run_group(rt, alloc, group, 100_000, links, paces, talkers, limits) else {
+        panic!(rt; "the group ran");
+    };
+    all_met(rt, ran);
+}
+
+fn all_met<'a>(
+    rt: &impl Abort,
+    ran: GroupReport<ChannelInlet, ChannelOutlet, Meeting<'a>, Patient<'a>>,
+) {
+    assert_eq!(rt; ran.histories.len(), 3);
+    for report in ran.reports {
+        assert_eq!(rt; report.pace_failures, 0);
+        assert!(rt; report.fault.is_none());
+    }
+}

@@ -1,0 +1,157 @@
+//! Links and paces that fail, and a stop.
+
+ghost use Rattle.std.specs.Prelude.{◌≡◌};
+
+use super::parts::{Counting, Failing, Silent, Uneven};
+use crate::{
+    ChannelInlet, ChannelLink, ChannelOutlet, GroupReport, Limits, MemberReport, Stop, run_group,
+    run_member,
+};
+use cb_lock::{Seat, SharedMember};
+use cb_member::{Group, Member};
+use std::alloc::Global;
+use std::marker::Brand;
+use std::process::Abort;
+use std::sync::Wait;
+use std::sync::ledger::{Blank, Ledger};
+use std::test::*;
+use std::thread::Threads;
+use std::time::Clock;
+
+type FailingLink = (Failing<ChannelInlet>, Failing<ChannelOutlet>);
+
+/// What a group reports of which member 1's inlet and outlet fail at these calls, and every pace at each.
+type Failed = GroupReport<Failing<ChannelInlet>, Failing<ChannelOutlet>, Uneven, Counting>;
+
+fn run_failing<R: Threads + Wait + Clock + Abort + Sync>(
+    rt: &R,
+    alloc: Global,
+    inlet_at: u64,
+    outlet_at: u64,
+) -> Failed {
+    let group = Group::new(7, 3, 4).expect(rt, "a group");
+    let mut paces = Vec::new(alloc);
+    let mut talkers = Vec::new(alloc);
+    for _member in 0..3u32 {
+        paces.push(Uneven { failures: 0 }).expect(rt, "memory");
+        talkers.push(talker(alloc)).expect(rt, "memory");
+    }
+    let links = failing_links(rt, alloc, inlet_at, outlet_at);
+    let limits = Limits { turns: 100_000 };
+    match run_group(rt, alloc, group, 100_000, links, paces, talkers, limits) {
+        Ok(ran) => ran,
+        Err(fault) => panic!(rt; "{fault:?}"),
+    }
+}
+
+fn talker(alloc: Global) -> Counting {
+    Counting {
+        alloc,
+        casts: 2,
+        events: 6,
+        seen: 0,
+        refusals: 0,
+    }
+}
+
+fn failing_links(
+    rt: &impl Abort,
+    alloc: Global,
+    inlet_at: u64,
+    outlet_at: u64,
+) -> Vec<FailingLink> {
+    let mut links = Vec::new(alloc);
+    for (inlet, outlet) in ChannelLink::group(alloc, 3).expect(rt, "links") {
+        let (inlet_at, outlet_at) = if links.len() == 1 {
+            (inlet_at, outlet_at)
+        } else {
+            (0, 0)
+        };
+        let link = (
+            Failing::new(inlet, inlet_at),
+            Failing::new(outlet, outlet_at),
+        );
+        links.push(link).expect(rt, "memory");
+    }
+    links
+}
+
+/// All was delivered although a call failed, and each failure is in the report of member 1.
+fn repairs(rt: &impl Abort, ran: Failed, receive_failures: u64, send_failures: u64) {
+    for (member, report) in ran.reports.into_iter().enumerate() {
+        assert_eq!(rt; report.casts, 2);
+        assert_eq!(rt; report.deliveries, 4);
+        assert!(rt; report.pace_failures > 0);
+        let expected = if member == 1 {
+            (receive_failures, send_failures)
+        } else {
+            (0, 0)
+        };
+        assert_eq!(rt; (report.receive_failures, report.send_failures), expected);
+        assert!(rt; report.lost >= expected.1);
+    }
+}
+
+#[test]
+fn what_an_outlet_lost_is_sent_again(rt: HostRuntime) {
+    for at in 1..=4u64 {
+        let ran = run_failing(&rt, rt.alloc(), 0, at);
+        repairs(&rt, ran, 0, 1);
+    }
+}
+
+#[test]
+fn an_inlet_that_failed_is_asked_again(rt: HostRuntime) {
+    for at in 1..=4u64 {
+        let ran = run_failing(&rt, rt.alloc(), at, 0);
+        repairs(&rt, ran, 1, 0);
+    }
+}
+
+#[test]
+fn a_stop_ends_workers_before_their_first_turn(rt: HostRuntime) {
+    stop::<Brand, _>(&rt, rt.alloc(), Blank::new(4));
+}
+
+fn stop<L: Ledger + Send + Sync, R: Threads + Wait + Clock + Abort + Sync>(
+    rt: &R,
+    alloc: Global,
+    blank: Blank,
+)
+    requires { (blank.name ≡ L.name) × (blank.parts ≡ L.parts) × (blank.parts ≡ 4) }
+{
+    let group = Group::new(7, 2, 4).expect(rt, "a group");
+    let member = Member::new(alloc, group, 0, 100).expect(rt, "a member");
+    let (shared, seat) = SharedMember::<L>::new(alloc, blank, member);
+    stopped(rt, alloc, &shared, seat);
+}
+
+fn stopped<L: Ledger + Send + Sync, R: Threads + Wait + Clock + Abort + Sync>(
+    rt: &R,
+    alloc: Global,
+    shared: &SharedMember<L>,
+    seat: Seat<L>,
+)
+    requires { seat.parts ≡ 4 }
+{
+    let stop = Stop::new();
+    stop.set();
+    let mut seat = seat;
+    let seats = (seat.split(), seat.split(), seat.split(), seat);
+    let link = failing_links(rt, alloc, 1, 1).pop().expect(rt, "a link");
+    let pace = Uneven { failures: 0 };
+    let limits = Limits { turns: u64::MAX };
+    let (report, seats) = run_member(rt, alloc, shared, seats, link, pace, Silent, &stop, limits);
+    assert_eq!(rt; seats.len(), 4);
+    did_nothing(rt, report);
+}
+
+fn did_nothing<I: Drop, O: Drop, P: Drop, T: Drop>(
+    rt: &impl Abort,
+    report: MemberReport<I, O, P, T>,
+) {
+    assert_eq!(rt; (report.entries, report.lost), (0, 0));
+    assert_eq!(rt; (report.receive_failures, report.pace_failures), (0, 0));
+    assert!(rt; report.inlet.is_some() && report.outlet.is_some());
+    assert!(rt; report.pace.is_some() && report.talker.is_some());
+}

@@ -1,0 +1,297 @@
+//! Parts for tests: what waits for others, talks a little, or fails at a call.
+
+ghost use Rattle.std.specs.Prelude.{◌≡◌, ◌≤◌, IfErr, false};
+ghost use Rattle.cb_threads.specs.Counts.{HasCounted, LinkCounts};
+
+use crate::{Inlet, LinkFault, Outlet, Pace, PaceFault, Received, Talk, Talker};
+use cb_member::{Event, NoMemory, Outgoing};
+use std::alloc::{AllocError, Global};
+use std::sync::Wait;
+use std::sync::atomic::{AtomicBool, Ordering};
+use std::thread::{sleep, yield_now};
+use std::time::{Clock, Duration};
+
+/// Flags, one for each thread that is to meet the others.
+#[derive(Drop)]
+pub struct Flags {
+    pub set: [AtomicBool; 3],
+}
+
+impl Flags {
+    pub fn new() -> Flags {
+        Flags {
+            set: [
+                AtomicBool::new(false),
+                AtomicBool::new(false),
+                AtomicBool::new(false),
+            ],
+        }
+    }
+
+    pub fn all_set(&self) -> bool {
+        self.set.iter().all(|flag| flag.load(Ordering::SeqCst))
+    }
+
+    /// Sets this flag, and waits until all are set. Whether they were within ten million turns.
+    fn meet(&self, mine: usize) -> bool {
+        if let Some(flag) = self.set.get(mine) {
+            flag.store(true, Ordering::SeqCst);
+        }
+        for _ in 0..10_000_000u32 {
+            if self.all_set() {
+                return true;
+            }
+            yield_now();
+        }
+        false
+    }
+}
+
+/// What meets others at its first call; it fails where they don't come. Later calls do nothing.
+#[derive(Drop)]
+pub struct Meeting<'a> {
+    pub flags: &'a Flags,
+    pub mine: usize,
+    pub called: bool,
+    pub failures: u64,
+}
+
+impl<'a> Meeting<'a> {
+    pub fn new(flags: &'a Flags, mine: usize) -> Meeting<'a> {
+        Meeting {
+            flags,
+            mine,
+            called: false,
+            failures: 0,
+        }
+    }
+
+    fn call(&mut self) -> bool
+        ensures rises { self.old.failures ≤ self.new.failures }
+        ensures counted { result ≡ false → HasCounted self.old.failures self.new.failures }
+    {
+        if self.called {
+            return true;
+        }
+        self.called = true;
+        if self.flags.meet(self.mine) {
+            return true;
+        }
+        self.failures = self.failures.saturating_add(1);
+        false
+    }
+}
+
+impl<'a> Inlet for Meeting<'a> {
+    ghost failed = { λ m. m.failures };
+
+    fn failures(&self) -> u64 {
+        self.failures
+    }
+
+    fn receive<R: Wait + Clock>(&mut self, _rt: &R) -> Result<Received, LinkFault> {
+        if self.call() {
+            Ok(Received::Nothing)
+        } else {
+            Err(LinkFault::Device)
+        }
+    }
+}
+
+impl<'a> Outlet for Meeting<'a> {
+    ghost failed = { λ m. m.failures };
+
+    fn failures(&self) -> u64 {
+        self.failures
+    }
+
+    fn send<R: Wait>(&mut self, _rt: &R, _out: &Outgoing) -> Result<(), LinkFault> {
+        if self.call() {
+            Ok(())
+        } else {
+            Err(LinkFault::Device)
+        }
+    }
+}
+
+impl<'a> Pace for Meeting<'a> {
+    ghost failed = { λ m. m.failures };
+
+    fn failures(&self) -> u64 {
+        self.failures
+    }
+
+    fn wait<R: Wait + Clock>(&mut self, _rt: &R) -> Result<(), PaceFault> {
+        if self.call() { Ok(()) } else { Err(PaceFault) }
+    }
+}
+
+/// A millisecond between two ticks.
+#[derive(Drop)]
+pub struct Millisecond;
+
+impl Pace for Millisecond {
+    ghost failed = { λ m. 0 };
+
+    fn failures(&self) -> u64 {
+        0
+    }
+
+    fn wait<R: Wait + Clock>(&mut self, rt: &R) -> Result<(), PaceFault> {
+        sleep(rt, Duration::from_millis(1));
+        Ok(())
+    }
+}
+
+/// Who has nothing to say.
+#[derive(Drop)]
+pub struct Silent;
+
+impl Talker for Silent {
+    fn next(&mut self, _news: &[Event]) -> Result<Talk, NoMemory> {
+        Ok(Talk::Finished)
+    }
+}
+
+/// Who waits until all flags are set.
+#[derive(Drop)]
+pub struct Patient<'a> {
+    pub flags: &'a Flags,
+}
+
+impl<'a> Talker for Patient<'a> {
+    fn next(&mut self, _news: &[Event]) -> Result<Talk, NoMemory> {
+        Ok(if self.flags.all_set() {
+            Talk::Finished
+        } else {
+            Talk::Idle
+        })
+    }
+}
+
+/// Who casts so often, and has finished once it has seen so many events.
+#[derive(Drop)]
+pub struct Counting {
+    pub alloc: Global,
+    pub casts: u32,
+    pub events: usize,
+    pub seen: usize,
+    /// Out of memory so often before it says anything.
+    pub refusals: u32,
+}
+
+impl Talker for Counting {
+    fn next(&mut self, news: &[Event]) -> Result<Talk, NoMemory> {
+        if self.refusals > 0 {
+            self.refusals -= 1;
+            return Err(AllocError);
+        }
+        self.seen = self.seen.saturating_add(news.len());
+        if self.casts > 0 {
+            self.casts -= 1;
+            let mut payload = Vec::new(self.alloc);
+            payload.extend_from_slice(b"hi")?;
+            return Ok(Talk::Cast(payload));
+        }
+        Ok(if self.seen >= self.events {
+            Talk::Finished
+        } else {
+            Talk::Idle
+        })
+    }
+}
+
+/// A link of which call number `at` fails, from 1; 0 is never.
+#[derive(Drop)]
+pub struct Failing<D> {
+    pub inner: D,
+    pub at: u64,
+    pub calls: u64,
+    pub failures: u64,
+}
+
+impl<D> Failing<D> {
+    /// One that fails at this call.
+    pub fn new(inner: D, at: u64) -> Failing<D> {
+        Failing {
+            inner,
+            at,
+            calls: 0,
+            failures: 0,
+        }
+    }
+
+    /// Counts a call. Whether it is the one that fails.
+    fn fails(&mut self) -> bool
+        ensures { self.new.failures ≡ self.old.failures }
+    {
+        self.calls = self.calls.saturating_add(1);
+        self.calls == self.at
+    }
+
+    /// Counts a device that failed.
+    fn note<A>(&mut self, answer: Result<A, LinkFault>) -> Result<A, LinkFault>
+        ensures rises { self.old.failures ≤ self.new.failures }
+        ensures fault { IfErr result (λ fault. LinkCounts fault self.old.failures
+            self.new.failures) }
+    {
+        if let Err(LinkFault::Device) = &answer {
+            self.failures = self.failures.saturating_add(1);
+        }
+        answer
+    }
+}
+
+impl<I: Inlet> Inlet for Failing<I> {
+    ghost failed = { λ f. f.failures };
+
+    fn failures(&self) -> u64 {
+        self.failures
+    }
+
+    fn receive<R: Wait + Clock>(&mut self, rt: &R) -> Result<Received, LinkFault> {
+        let answer = if self.fails() {
+            Err(LinkFault::Device)
+        } else {
+            self.inner.receive(rt)
+        };
+        self.note(answer)
+    }
+}
+
+impl<O: Outlet> Outlet for Failing<O> {
+    ghost failed = { λ f. f.failures };
+
+    fn failures(&self) -> u64 {
+        self.failures
+    }
+
+    fn send<R: Wait>(&mut self, rt: &R, out: &Outgoing) -> Result<(), LinkFault> {
+        let answer = if self.fails() {
+            Err(LinkFault::Device)
+        } else {
+            self.inner.send(rt, out)
+        };
+        self.note(answer)
+    }
+}
+
+/// A pace that waits, and fails each time.
+#[derive(Drop)]
+pub struct Uneven {
+    pub failures: u64,
+}
+
+impl Pace for Uneven {
+    ghost failed = { λ p. p.failures };
+
+    fn failures(&self) -> u64 {
+        self.failures
+    }
+
+    fn wait<R: Wait + Clock>(&mut self, rt: &R) -> Result<(), PaceFault> {
+        sleep(rt, Duration::from_millis(1));
+        self.failures = self.failures.saturating_add(1);
+        Err(PaceFault)
+    }
+}

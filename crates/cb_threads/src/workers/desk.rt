@@ -1,0 +1,102 @@
+//! What every worker has: the member that it works at, and where it hands what the member puts out.
+
+ghost use Rattle.std.specs.Prelude.{◌≡◌, ℕ, ◌≤◌};
+ghost use Rattle.cb_threads.specs.Counts.{Counts, LinkCounts};
+
+use crate::limits::Ending;
+use crate::link::LinkFault;
+use cb_lock::{Seat, SharedMember};
+use cb_member::Outgoing;
+use crossbeam_channel::Sender;
+use std::alloc::Global;
+use std::sync::Wait;
+use std::sync::ledger::Ledger;
+
+/// The member that a worker works at, and what ends the worker.
+#[derive(Drop)]
+pub struct Desk<'a, L: Ledger> {
+    /// For what the worker makes.
+    pub alloc: Global,
+    pub shared: &'a SharedMember<L>,
+    pub ending: Ending<'a>,
+}
+
+impl<'a, L: Ledger> Desk<'a, L> {
+    /// The same for another worker.
+    pub fn again(&self) -> Desk<'a, L> {
+        Desk {
+            alloc: self.alloc,
+            shared: self.shared,
+            ending: self.ending,
+        }
+    }
+}
+
+/// What a worker hands back: what it worked with, its seat, and what it counted.
+#[derive(Drop)]
+pub struct Worked<D, L: Ledger> {
+    pub part: D,
+    pub seat: Seat<L>,
+    /// The frames that were lost between the workers, or that the outlet did not take.
+    pub lost: u64,
+    /// How often what it worked with failed.
+    pub failures: u64,
+}
+
+impl<D, L: Ledger> Worked<D, L> {
+    /// Before the first turn.
+    pub fn new(part: D, seat: Seat<L>) -> Worked<D, L>
+        ensures part { result.part ≡ part }
+        ensures failures { result.failures ≡ 0 }
+    {
+        Worked {
+            part,
+            seat,
+            lost: 0,
+            failures: 0,
+        }
+    }
+}
+
+/// The failures with those of a fault: only a device fails.
+pub fn and_fault(failures: u64, fault: LinkFault) -> u64
+    ensures { (old new : ℕ) → LinkCounts fault old new → old ≤ new
+        → Counts failures old result new }
+{
+    match fault {
+        LinkFault::Device => failures.saturating_add(1),
+        LinkFault::NoMemory => failures,
+    }
+}
+
+/// Where a worker hands what is to be sent. The sender ends once every worker has let its own go.
+#[derive(Drop)]
+pub struct Post {
+    out: Sender<Outgoing>,
+    lost: u64,
+}
+
+impl Post {
+    pub fn new(out: Sender<Outgoing>) -> Post {
+        Post { out, lost: 0 }
+    }
+
+    /// How many frames the channel did not take.
+    pub fn lost(&self) -> u64 {
+        self.lost
+    }
+
+    /// Hands a frame to the sender.
+    pub fn put(&mut self, rt: &impl Wait, out: Outgoing) {
+        if self.out.send(rt, out).is_err() {
+            self.lost = self.lost.saturating_add(1);
+        }
+    }
+
+    /// Hands frames to the sender, in order.
+    pub fn put_all(&mut self, rt: &impl Wait, out: Vec<Outgoing>) {
+        for frame in out {
+            self.put(rt, frame);
+        }
+    }
+}

@@ -1,0 +1,83 @@
+//! The worker that takes what comes.
+
+ghost use Rattle.std.specs.Prelude.{◌≡◌};
+ghost use Rattle.cb_threads.specs.Counts.{Counts, MetAtMost};
+
+use crate::link::{Inlet, Received};
+use crate::workers::desk::{Desk, Post, Worked, and_fault};
+use bytes::Bytes;
+use cb_lock::{Seat, SharedMember};
+use cb_member::Arrival;
+use std::sync::Wait;
+use std::sync::ledger::Ledger;
+use std::thread::Promise;
+use std::time::Clock;
+
+/// A promise: the failures that were met are those that an inlet counted since it had counted this.
+#[derive(Clone, Copy, Debug)]
+pub struct InletCounts {
+    pub before: u64,
+}
+
+impl<I: Inlet, L: Ledger> Promise<Worked<I, L>> for InletCounts {
+    ghost kept_by = { λ p r. MetAtMost r.failures p.before (I.failed r.part) };
+}
+
+/// Takes what comes, one look at the inlet in each turn.
+pub fn take_all<I: Inlet, L: Ledger, R: Wait + Clock>(
+    rt: &R,
+    desk: Desk<'_, L>,
+    post: Post,
+    inlet: I,
+    seat: Seat<L>,
+) -> Worked<I, L>
+    ensures { MetAtMost result.failures (I.failed inlet) (I.failed result.part) }
+{
+    let mut post = post;
+    let mut worked = Worked::new(inlet, seat);
+    for _turn in 0..desk.ending.limits.turns {
+        if desk.ending.has_come() {
+            break;
+        }
+        take_once(rt, &desk, &mut post, &mut worked);
+    }
+    worked.lost = post.lost();
+    worked
+}
+
+/// Looks at the inlet once.
+fn take_once<I: Inlet, L: Ledger, R: Wait + Clock>(
+    rt: &R,
+    desk: &Desk<'_, L>,
+    post: &mut Post,
+    worked: &mut Worked<I, L>,
+)
+    ensures { Counts (worked.old.failures) (I.failed worked.old.part)
+        (worked.new.failures) (I.failed worked.new.part) }
+{
+    match worked.part.receive(rt) {
+        Ok(Received::Frame(frame)) => take(rt, desk.shared, &mut worked.seat, post, &frame),
+        Ok(Received::Nothing) => {}
+        Err(fault) => worked.failures = and_fault(worked.failures, fault),
+    }
+}
+
+/// A frame arrives, and what is put out in answer goes to the sender. One that finds no memory is dropped: it was lost on the way.
+fn take<L: Ledger>(
+    rt: &impl Wait,
+    shared: &SharedMember<L>,
+    seat: &mut Seat<L>,
+    post: &mut Post,
+    frame: &Bytes,
+) {
+    match shared.arrive(rt, seat, frame) {
+        Ok(
+            Arrival::Accepted {
+                deliveries: _,
+                changed: _,
+                out,
+            },
+        ) => post.put_all(rt, out),
+        Ok(Arrival::Repeat) | Err(_) => {}
+    }
+}

@@ -1,0 +1,162 @@
+//! The worker that casts what the talker says.
+
+ghost use Rattle.std.specs.Prelude.{◌≡◌, IfOk, drop};
+ghost use Rattle.cb_history.specs.State.{events_in};
+
+use crate::talker::{Talk, Talker};
+use crate::workers::desk::{Desk, Post, Worked};
+use bytes::Bytes;
+use cb_lock::Seat;
+use cb_member::{CastRefusal, Event, Member, NoMemory, Outgoing};
+use std::alloc::Global;
+use std::sync::Wait;
+use std::sync::ledger::Ledger;
+use std::thread::sleep;
+use std::time::{Clock, Duration};
+
+/// What came of a turn.
+#[derive(Clone, Copy, PartialEq, Eq)]
+enum Turn {
+    Cast,
+    Quiet,
+    Finished,
+}
+
+/// A talker at work: what it has seen of its member's events, and what it wants to cast.
+#[derive(Drop)]
+struct Speech<'a, T, L: Ledger> {
+    desk: Desk<'a, L>,
+    post: Post,
+    seat: Seat<L>,
+    talker: T,
+    /// How many events it has seen.
+    seen: usize,
+    /// What could not be cast yet.
+    waiting: Option<Vec<u8>>,
+}
+
+/// Casts what the talker says, at most one message in each turn, until it has finished. A turn without a cast is followed by a millisecond's
+/// sleep.
+pub fn talk_all<T: Talker, L: Ledger, R: Wait + Clock>(
+    rt: &R,
+    desk: Desk<'_, L>,
+    post: Post,
+    talker: T,
+    seat: Seat<L>,
+) -> Worked<T, L> {
+    let ending = desk.ending;
+    let mut speech = Speech {
+        desk,
+        post,
+        seat,
+        talker,
+        seen: 0,
+        waiting: None,
+    };
+    for _turn in 0..ending.limits.turns {
+        if ending.has_come() {
+            break;
+        }
+        match speech.turn(rt) {
+            Turn::Cast => {}
+            Turn::Quiet => sleep(rt, Duration::from_millis(1)),
+            Turn::Finished => break,
+        }
+    }
+    ending.talker_ended();
+    speech.ended()
+}
+
+impl<'a, T: Talker, L: Ledger> Speech<'a, T, L> {
+    /// What waits is cast before the talker is asked again.
+    fn turn<R: Wait>(&mut self, rt: &R) -> Turn {
+        match self.waiting.take() {
+            Some(payload) => self.cast(rt, payload),
+            None => self.ask(rt),
+        }
+    }
+
+    /// Shows the talker the news, and does what it says. Where memory is refused it has not seen them.
+    fn ask<R: Wait>(&mut self, rt: &R) -> Turn {
+        let Ok(news) = self.news(rt) else {
+            return Turn::Quiet;
+        };
+        let Ok(talk) = self.talker.next(&news) else {
+            return Turn::Quiet;
+        };
+        self.seen = self.seen.saturating_add(news.len());
+        match talk {
+            Talk::Cast(payload) => self.cast(rt, payload),
+            Talk::Idle => Turn::Quiet,
+            Talk::Finished => Turn::Finished,
+        }
+    }
+
+    /// The events that the talker has not seen.
+    fn news<R: Wait>(&mut self, rt: &R) -> Result<Vec<Event>, NoMemory> {
+        let alloc = self.desk.alloc;
+        let seen = self.seen;
+        self.desk.shared.with_state(
+            rt,
+            &mut self.seat,
+            |member| events_behind(alloc, member, seen),
+        )
+    }
+
+    /// Casts the payload, which waits where the window or the history is full or memory is refused. One that is too long is dropped.
+    fn cast<R: Wait>(&mut self, rt: &R, payload: Vec<u8>) -> Turn {
+        match self.desk.shared.cast(rt, &mut self.seat, &payload) {
+            Ok(done) => {
+                self.post.put(rt, to_all(done.out));
+                Turn::Cast
+            }
+            Err(CastRefusal::PayloadTooLong) => Turn::Quiet,
+            Err(CastRefusal::WindowFull | CastRefusal::HistoryFull | CastRefusal::NoMemory) => {
+                self.waiting = Some(payload);
+                Turn::Quiet
+            }
+        }
+    }
+
+    fn ended(self) -> Worked<T, L> {
+        let lost = self.post.lost();
+        Worked {
+            part: self.talker,
+            seat: self.seat,
+            lost,
+            failures: 0,
+        }
+    }
+}
+
+fn to_all(bytes: Bytes) -> Outgoing {
+    Outgoing { to: None, bytes }
+}
+
+/// The member's events behind the first `seen`.
+fn events_behind(alloc: Global, member: &Member, seen: usize) -> Result<Vec<Event>, NoMemory>
+    ensures { IfOk result (λ news. news.items ≡ drop seen (events_in member.now)) }
+{
+    let events = member.events();
+    let (_, news) = events.split_at(seen.min(events.len()));
+    copies(alloc, news)
+}
+
+fn copies(alloc: Global, events: &[Event]) -> Result<Vec<Event>, NoMemory>
+    ensures { IfOk result (λ copies. copies.items ≡ events.now) }
+{
+    let mut copies = Vec::with_capacity(alloc, events.len())?;
+    for event in events {
+        copies.push(copy(event)?)?;
+    }
+    Ok(copies)
+}
+
+fn copy(event: &Event) -> Result<Event, NoMemory>
+    ensures { IfOk result (λ copy. copy ≡ event.now) }
+{
+    Ok(match event {
+        Event::Cast(message) => Event::Cast(message.copy()?),
+        Event::Deliver(message) => Event::Deliver(message.copy()?),
+    })
+}
