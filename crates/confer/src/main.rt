@@ -10,6 +10,7 @@ mod expand;
 mod fakes;
 pub mod laws;
 mod play;
+mod run;
 
 use crate::cli::{Fault, report, run_words};
 use std::env;
@@ -27,6 +28,7 @@ fn words_of(rt: &HostRuntime) -> Result<Vec<String>, Fault> {
 fn main(rt: HostRuntime) -> ExitCode {
     let status = match words_of(&rt) {
         Ok(words) => run_words(
+            &rt,
             rt.alloc(),
             &words,
             &mut rt.stdin(),

@@ -2,7 +2,7 @@
 use Rattle.std.proofs.Common.{◌≡◌, ℕ, List, Option, Some, None, true, Result, Ok, refl, sym, ap₂, subst, ◌∙◌}
 use Rattle.std.specs.Prelude.{IfSome, option_map}
 use Rattle.std.specs.Str.Parse.{digits_value, without_leading_plus}
-use Rattle.clap.specs.Words.{App, Row, Text, ReadsOne, one_text, rows_of, FailsBy, fault_of, is_simple_and_free}
+use Rattle.clap.specs.Words.{App, Row, Text, ReadsOne, one_text, rows_of, FailsBy, fault_of, is_simple_and_free, HasKind}
 use Rattle.clap.proofs.OnLiterals.{clap_on_literals}
 use Rattle.clap.specs.declared.error.Error.{Error}
 use Rattle.confer.specs.Cli.Commands.{confer_app}
@@ -29,6 +29,9 @@ pub fails_by : {T : Type 0} (a : App) (words : List Text) (r : Result T Error) �
     → (is_simple_and_free a ≡ true → FailsBy (fault_of a words) r) → FailsBy (fault_of confer_app words) r
 fails_by {T} a words r is kinds =
     subst (λ (x : App). is_simple_and_free x ≡ true → FailsBy (fault_of x words) r) is kinds simple_and_free
+
+pub fails_with : (a : App) (words : List Text) (e : Error) → a ≡ confer_app → (is_simple_and_free a ≡ true → HasKind (fault_of a words) e) → HasKind (fault_of confer_app words) e
+fails_with a words e is kinds = subst (λ (x : App). is_simple_and_free x ≡ true → HasKind (fault_of x words) e) is kinds simple_and_free
 
 named_with : {X : Type 0} (f : X → Text) (g : X → List Row) (o : Option X) (n : Text) (rows : List Row) → option_map f o ≡ Some n → option_map g o ≡ Some rows
     → option_map {U = Text × List Row} (λ b. (f b, g b)) o ≡ Some (n, rows)

@@ -1,5 +1,5 @@
 -- The subcommands and their options, as `clap` sees them.
-use Rattle.std.specs.Prelude.{ℕ, codes, Some, true, pos}
+use Rattle.std.specs.Prelude.{ℕ, codes, Some, true, false, pos}
 use Rattle.clap.specs.Words.{App, Rule, Text, new_app, new_rule, with_rule, with_subcommand}
 use Rattle.clap.specs.declared.builder.ArgAction.TheVariants.{Set}
 use Rattle.clap.specs.declared.builder.value_parser.ValueParser.TheVariants as parsers
@@ -23,11 +23,28 @@ size_rule = number_rule (codes "size") 2 64
 abbrev pub expand_app : App
 expand_app = with_rule (with_rule (new_app (codes "expand")) group_rule) size_rule
 
+-- an option that takes a number within these bounds
+abbrev pub free_rule : Text → ℕ → ℕ → Rule
+free_rule name least most = record (number_rule name least most) { required = false }
+
+-- what carries the frames: any text, for `clap`
+abbrev pub link_rule : Rule
+link_rule = record (new_rule (codes "link")) {
+  long = Some (codes "link");
+  action = Some Set;
+  value_names = 1;
+}
+
+abbrev pub run_app : App
+run_app =
+    with_rule (with_rule (with_rule (with_rule (with_rule (new_app (codes "run"))
+    (free_rule (codes "size") 2 8)) (free_rule (codes "window") 1 256)) (free_rule (codes "questions") 1 100)) (free_rule (codes "turns") 1 10000000)) link_rule
+
 abbrev pub play_app : App
 play_app = new_app (codes "play")
 
--- two subcommands, one of which is required
+-- three subcommands, one of which is required
 abbrev pub confer_app : App
 confer_app =
     let top = new_app (codes "confer") in
-    with_subcommand (with_subcommand (record top { top = record top.top { subcommand_required = true } }) expand_app.top) play_app.top
+    with_subcommand (with_subcommand (with_subcommand (record top { top = record top.top { subcommand_required = true } }) expand_app.top) play_app.top) run_app.top

@@ -4,10 +4,11 @@ use Rattle.std.specs.Io.KnownBytes.{Appends}
 use Rattle.clap.specs.Words.{Text}
 use Rattle.confer.specs.declared.cli.fault.Fault.{Fault}
 use Rattle.confer.specs.declared.cli.fault.Fault.TheVariants as faults
+use Rattle.confer.specs.declared.run.setting.RunSetting.{RunSetting}
 use Rattle.confer.specs.Expand.Lines.{output_of, is_refused}
 use Rattle.confer.specs.Expand.Runs.{WritesPart, Stops}
 use Rattle.confer.specs.Play.{IsWithinLimit, WritesSome, StopsPlaying}
-use Rattle.confer.specs.Cli.Orders.{OrdersExpand, OrdersPlay, RefusesWords}
+use Rattle.confer.specs.Cli.Orders.{OrdersExpand, OrdersPlay, OrdersRun, RefusesWords}
 use Rattle.confer.specs.Cli.Statuses.{status_of, said_of}
 
 -- the words order an expansion, and the whole input was expanded
@@ -35,9 +36,29 @@ StoppedBy words (faults.Lines fault) input left before now =
 StoppedBy words (faults.Play fault) input left before now = OrdersPlay words × StopsPlaying fault input before now
 StoppedBy words fault input left before now = RefusesWords words fault × (left ≡ input) × (now ≡ before)
 
+-- the words order a conference in threads; nothing is read, written or said
+pub record LeavesToThreads (words : List Text) (input left before now silent said : Option (List ℕ)) : Type 0 where
+  pub setting : RunSetting
+  pub ordered : OrdersRun words setting
+  pub unread : left ≡ input
+  pub unwritten : now ≡ before
+  pub unsaid : said ≡ silent
+
 -- the run ends with status 0 or 1, and says nothing, or stops by a fault, which it says
 abbrev pub Ends : List Text → ℕ → Option (List ℕ) → Option (List ℕ) → Option (List ℕ) → Option (List ℕ) → Option (List ℕ) → Option (List ℕ) → Type 0
 Ends words status input left before now silent said =
     ((refused : Bool) × (status ≡ (if refused then 1 else 0)) × Done words refused input before now × (said ≡ silent))
     ⊎ ((fault : Fault) × (status ≡ status_of fault) × StoppedBy words fault input left before now
     × IfSome (said_of fault) (WritesPart silent said))
+
+-- a conference in threads was run and printed, or stopped by a fault, which is said; the words may be refused where memory runs out
+pub record EndsRunning (words : List Text) (status : ℕ) (before now silent said : Option (List ℕ)) : Type 0 where
+  pub setting : RunSetting
+  pub ordered : OrdersRun words setting
+  pub ended : ((status ≡ 0) × WritesSome before now × (said ≡ silent))
+      ⊎ ((fault : Fault) × (status ≡ status_of fault) × IfSome (said_of fault) (WritesPart silent said))
+
+-- any run: without threads, or with
+abbrev pub EndsAny : List Text → ℕ → Option (List ℕ) → Option (List ℕ) → Option (List ℕ) → Option (List ℕ) → Option (List ℕ) → Option (List ℕ) → Type 0
+EndsAny words status input left before now silent said =
+    Ends words status input left before now silent said ⊎ (EndsRunning words status before now silent said × (left ≡ input))

@@ -8,6 +8,8 @@ use Rattle.confer.specs.declared.expand.fault.LinesFault.{LinesFault}
 use Rattle.confer.specs.declared.expand.fault.LinesFault.TheVariants as lines
 use Rattle.confer.specs.declared.play.fault.ScriptFault.{ScriptFault}
 use Rattle.confer.specs.declared.play.fault.ScriptFault.TheVariants as scripts
+use Rattle.confer.specs.declared.run.fault.RunFault.{RunFault}
+use Rattle.confer.specs.declared.run.fault.RunFault.TheVariants as runs
 use Rattle.confer.specs.declared.cli.fault.Fault.{Fault}
 use Rattle.confer.specs.declared.cli.fault.Fault.TheVariants as faults
 
@@ -25,6 +27,13 @@ abbrev pub script_status : ScriptFault → ℕ
 script_status (scripts.Lines fault) = lines_status fault
 script_status (scripts.BadStep line) = 4
 
+abbrev pub run_status : RunFault → ℕ
+run_status runs.Write = 3
+run_status runs.NoLink = 3
+run_status runs.NoThread = 3
+run_status runs.BadReceipts = 3
+run_status runs.NoMemory = 5
+
 abbrev pub status_of : Fault → ℕ
 status_of (faults.Words error) = words_status (kind_of error)
 status_of faults.NotText = 2
@@ -32,6 +41,7 @@ status_of faults.NoOrder = 2
 status_of faults.NoMemory = 5
 status_of (faults.Lines fault) = lines_status fault
 status_of (faults.Play fault) = script_status fault
+status_of (faults.Run fault) = run_status fault
 
 -- what is said of a fault on standard error, but for what `clap` says
 abbrev pub words_said : ErrorKind → Option (List ℕ)
@@ -52,6 +62,13 @@ abbrev pub script_said : ScriptFault → List ℕ
 script_said (scripts.Lines fault) = lines_said fault
 script_said (scripts.BadStep line) = bad_step_said line
 
+abbrev pub run_said : RunFault → List ℕ
+run_said runs.Write = codes "confer: write fault\n"
+run_said runs.NoLink = codes "confer: no link\n"
+run_said runs.NoThread = codes "confer: no thread\n"
+run_said runs.BadReceipts = codes "confer: bad receipts\n"
+run_said runs.NoMemory = codes "confer: out of memory\n"
+
 abbrev pub said_of : Fault → Option (List ℕ)
 said_of (faults.Words error) = words_said (kind_of error)
 said_of faults.NotText = Some (codes "confer: a word of the command line is not UTF-8\n")
@@ -59,3 +76,4 @@ said_of faults.NoOrder = Some (codes "confer: the words order nothing\n")
 said_of faults.NoMemory = Some (codes "confer: out of memory\n")
 said_of (faults.Lines fault) = Some (lines_said fault)
 said_of (faults.Play fault) = Some (script_said fault)
+said_of (faults.Run fault) = Some (run_said fault)

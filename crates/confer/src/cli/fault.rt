@@ -1,11 +1,12 @@
 //! Why a run of `confer` did not end as it should, and its exit status then.
 
 ghost use Rattle.std.specs.Prelude.{◌≡◌};
-ghost use Rattle.confer.specs.Cli.Statuses.{words_status, lines_status, script_status, status_of};
+ghost use Rattle.confer.specs.Cli.Statuses.{words_status, lines_status, script_status, run_status, status_of};
 ghost use Rattle.confer.specs.declared.cli.fault.Fault.TheVariants.{NoMemory as OutOfMemory};
 
 use crate::expand::LinesFault;
 use crate::play::ScriptFault;
+use crate::run::RunFault;
 use cb_times::NoMemory;
 use clap::error::ErrorKind;
 use thiserror::Error;
@@ -13,7 +14,7 @@ use thiserror::Error;
 /// A fault in the words, or a call for help.
 const USAGE: u8 = 2;
 
-/// A fault of the reader or the writer, or an input that is too long.
+/// A fault of the reader or the writer, an input that is too long, or a conference in threads that did not run.
 const STREAMS: u8 = 3;
 
 /// A script has a bad step.
@@ -43,6 +44,9 @@ pub enum Fault {
     /// A fault while a script was read or run.
     #[error("{0}")]
     Play(ScriptFault),
+    /// A fault of a conference in threads.
+    #[error("{0}")]
+    Run(RunFault),
 }
 
 impl From<NoMemory> for Fault {
@@ -64,6 +68,7 @@ impl Fault {
             Fault::NoMemory => MEMORY,
             Fault::Lines(fault) => lines_status(fault),
             Fault::Play(fault) => script_status(fault),
+            Fault::Run(fault) => run_status(*fault),
         }
     }
 }
@@ -83,6 +88,15 @@ fn lines_status(fault: &LinesFault) -> u8
     match fault {
         LinesFault::Read | LinesFault::Write | LinesFault::TooLong => STREAMS,
         LinesFault::NoMemory => MEMORY,
+    }
+}
+
+fn run_status(fault: RunFault) -> u8
+    ensures { result ≡ run_status fault }
+{
+    match fault {
+        RunFault::Write | RunFault::NoLink | RunFault::NoThread | RunFault::BadReceipts => STREAMS,
+        RunFault::NoMemory => MEMORY,
     }
 }
 

@@ -1,16 +1,23 @@
 //! What the words order.
 
-ghost use Rattle.std.specs.Prelude.{◌≡◌, ◌≤◌, codes, map, IfOk, IfErr, IfSome};
-ghost use Rattle.clap.specs.Words.{found_of};
+ghost use Rattle.std.specs.Prelude.{◌≡◌, ◌≢◌, ◌≤◌, List, [], Some, codes, map, IfOk, IfErr, IfSome, IfNone, MatchOption};
+ghost use Rattle.clap.specs.Words.{found_of, kind_of};
+ghost use Rattle.clap.specs.declared.error.kind.ErrorKind.TheVariants.{InvalidValue};
 ghost use Rattle.clap.specs.Walk.{rows_of};
 ghost use Rattle.cb_times.specs.Group.{IsGroupSize};
-ghost use Rattle.confer.specs.Cli.Orders.{HasNumber, Orders, RefusesWords};
+ghost use Rattle.clap.specs.Words.{Text, fault_of, subcommand_of};
+ghost use Rattle.confer.specs.Cli.Commands.{confer_app};
+ghost use Rattle.confer.specs.Cli.Orders.{HasLink, HasNumber, HasNumberOr, HasSetting, IsNamed, NoLink, Orders, RefusesWords, SaysNoLink};
 
 use crate::cli::command::command;
 use crate::cli::fault::Fault;
+use crate::run::{
+    DEFAULT_QUESTIONS, DEFAULT_SIZE, DEFAULT_TURNS, DEFAULT_WINDOW, LinkKind, RunSetting,
+};
 use cb_times::{FEWEST_MEMBERS, MOST_MEMBERS};
-use clap::ArgMatches;
-use std::alloc::Global;
+use clap::error::ErrorKind;
+use clap::{ArgMatches, Error};
+use std::alloc::{AllocError, Global};
 use std::convert::AsStr;
 
 /// One subcommand with its options.
@@ -20,6 +27,8 @@ pub enum Order {
     Expand { group: u32, size: u32 },
     /// `confer play`.
     Play,
+    /// `confer run`, with what the words don't say as it is by default.
+    Run(RunSetting),
 }
 
 /// What the words order, of which the first is the program's name.
@@ -37,6 +46,9 @@ pub fn order_of<S: AsStr>(alloc: Global, words: &[S]) -> Result<Order, Fault>
     if name == "play" {
         return Ok(Order::Play);
     }
+    if name == "run" {
+        return run_order(alloc, options);
+    }
     if name != "expand" {
         return Err(Fault::NoOrder);
     }
@@ -50,6 +62,94 @@ pub fn order_of<S: AsStr>(alloc: Global, words: &[S]) -> Result<Order, Fault>
         return Err(Fault::NoOrder);
     }
     Ok(Order::Expand { group, size })
+}
+
+/// `confer run`, within its bounds. No other link is known than channels and UDP.
+fn run_order(alloc: Global, options: &ArgMatches<'_>) -> Result<Order, Fault>
+    ensures ok { (words : List Text)
+        → subcommand_of confer_app words ≡ Some (codes "run", rows_of (found_of options.now))
+        → IfOk result (Orders words) }
+    ensures err { (words : List Text)
+        → subcommand_of confer_app words ≡ Some (codes "run", rows_of (found_of options.now))
+        → fault_of confer_app words ≡ [] → IfErr result (RefusesWords words) }
+{
+    let Some(link) = link_of(options) else {
+        return Err(no_link(alloc));
+    };
+    match setting_of(options, link) {
+        Some(setting) => Ok(Order::Run(setting)),
+        None => Err(Fault::NoOrder),
+    }
+}
+
+/// The link that is named, if there is such a one; channels where none is named.
+fn link_of(options: &ArgMatches<'_>) -> Option<LinkKind>
+    ensures link { IfSome result (HasLink (rows_of (found_of options.now))) }
+    ensures none { IfNone result (NoLink (rows_of (found_of options.now))) }
+{
+    match options.get_str("link") {
+        None => Some(LinkKind::Channel),
+        Some(name) => link_named(name),
+    }
+}
+
+fn link_named(name: &str) -> Option<LinkKind>
+    ensures { MatchOption result ((name.now ≢ codes "channel") × (name.now ≢ codes "udp"))
+        (IsNamed name.now) }
+{
+    if name == "channel" {
+        Some(LinkKind::Channel)
+    } else if name == "udp" {
+        Some(LinkKind::Udp)
+    } else {
+        None
+    }
+}
+
+fn no_link(alloc: Global) -> Fault
+    ensures { SaysNoLink result }
+{
+    match link_error(alloc) {
+        Ok(error) => Fault::Words(error),
+        Err(AllocError) => Fault::NoMemory,
+    }
+}
+
+fn link_error(alloc: Global) -> Result<Error, AllocError>
+    ensures { IfOk result (λ error. kind_of error ≡ InvalidValue) }
+{
+    let mut command = command(alloc)?;
+    command.error(
+        ErrorKind::InvalidValue,
+        "invalid value for '--link <L>': it is channel or udp",
+    )
+}
+
+/// What `confer run` is to run, where each number is one within its bounds.
+fn setting_of(options: &ArgMatches<'_>, link: LinkKind) -> Option<RunSetting>
+    ensures { IfSome result (HasSetting (rows_of (found_of options.now)) link) }
+{
+    let setting = RunSetting {
+        size: number_or(options, "size", DEFAULT_SIZE)?,
+        window: number_or(options, "window", DEFAULT_WINDOW)?,
+        questions: number_or(options, "questions", DEFAULT_QUESTIONS)?,
+        turns: number_or(options, "turns", DEFAULT_TURNS)?,
+        link,
+    };
+    if setting.is_within_bounds() {
+        Some(setting)
+    } else {
+        None
+    }
+}
+
+fn number_or(options: &ArgMatches<'_>, name: &str, default: u32) -> Option<u32>
+    ensures { IfSome result (HasNumberOr name.now (rows_of (found_of options.now)) default) }
+{
+    match options.get_str(name) {
+        None => Some(default),
+        Some(_given) => number(options, name),
+    }
 }
 
 fn number(options: &ArgMatches<'_>, name: &str) -> Option<u32>

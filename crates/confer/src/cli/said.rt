@@ -3,12 +3,13 @@
 ghost use Rattle.std.specs.Prelude.{◌≡◌, ◌++◌, IfSome, drop, length};
 ghost use Rattle.clap.specs.Words.{kind_of};
 ghost use Rattle.confer.specs.Expand.Runs.{WritesPart};
-ghost use Rattle.confer.specs.Cli.Statuses.{words_said, lines_said, bad_step_said, script_said, said_of};
+ghost use Rattle.confer.specs.Cli.Statuses.{words_said, lines_said, bad_step_said, script_said, run_said, said_of};
 ghost use Rattle.confer.specs.declared.cli.said.TheConstants.{LONGEST_BAD_STEP};
 
 use crate::cli::fault::Fault;
 use crate::expand::{LinesFault, put_bytes, put_long_number, write_whole};
 use crate::play::ScriptFault;
+use crate::run::RunFault;
 use clap::error::ErrorKind;
 use std::io::Write;
 
@@ -27,6 +28,7 @@ pub fn say<E: Write>(fault: &Fault, errors: &mut E)
         Fault::NoMemory => say_text("confer: out of memory\n", errors),
         Fault::Lines(fault) => say_text(lines_said(fault), errors),
         Fault::Play(fault) => say_script(fault, errors),
+        Fault::Run(fault) => say_text(run_said(*fault), errors),
     }
 }
 
@@ -63,6 +65,18 @@ fn lines_said(fault: &LinesFault) -> &'static str
         LinesFault::Write => "confer: write fault\n",
         LinesFault::TooLong => "confer: input too long\n",
         LinesFault::NoMemory => "confer: out of memory\n",
+    }
+}
+
+fn run_said(fault: RunFault) -> &'static str
+    ensures { result.now ≡ run_said fault }
+{
+    match fault {
+        RunFault::Write => "confer: write fault\n",
+        RunFault::NoLink => "confer: no link\n",
+        RunFault::NoThread => "confer: no thread\n",
+        RunFault::BadReceipts => "confer: bad receipts\n",
+        RunFault::NoMemory => "confer: out of memory\n",
     }
 }
 

@@ -1,9 +1,10 @@
 //! What the words order, and how a run ends.
 
-use crate::cli::{Fault, report, run_words};
+use crate::cli::{Fault, report, run_plain};
 use crate::expand::LinesFault;
 use crate::fakes::{reading, writing};
 use crate::play::ScriptFault;
+use crate::run::RunFault;
 use std::alloc::{AllocError, Global};
 use std::process::Abort;
 use std::test::Fail;
@@ -14,8 +15,8 @@ fn says(rt: &impl Abort, alloc: Global, words: &[&str], part: &str) -> Result<()
     let mut output = writing(alloc);
     let mut errors = writing(alloc);
     assert_eq!(rt;
-        run_words(alloc, words, &mut input, &mut output, &mut errors),
-        2
+        run_plain(alloc, words, &mut input, &mut output, &mut errors),
+        Some(2)
     );
     assert!(rt; output.text.is_empty());
     assert_eq!(rt; input.text.len(), 17);
@@ -80,6 +81,7 @@ fn words_that_are_no_command_end_with_status_two(rt: HostRuntime) -> Result<(), 
         "cannot be used multiple times",
     )?;
     says(&rt, alloc, &["confer", "audit"], "audit")?;
+    says_of_run(&rt, alloc)?;
     says(
         &rt,
         alloc,
@@ -96,14 +98,36 @@ fn words_that_are_no_command_end_with_status_two(rt: HostRuntime) -> Result<(), 
     Ok(())
 }
 
+/// The options of `run` that are refused.
+fn says_of_run(rt: &impl Abort, alloc: Global) -> Result<(), AllocError> {
+    let rows = [
+        ("--size=1", "'1'"),
+        ("--size=9", "'9'"),
+        ("--window=0", "'0'"),
+        ("--window=257", "'257'"),
+        ("--questions=0", "'0'"),
+        ("--questions=101", "'101'"),
+        ("--turns=0", "'0'"),
+        ("--turns=10000001", "'10000001'"),
+        ("--link=tcp", "channel or udp"),
+        ("--trace", "--trace"),
+        ("--help", "--questions <Q>"),
+        ("more", "more"),
+    ];
+    for (option, part) in rows {
+        says(rt, alloc, &["confer", "run", option], part)?;
+    }
+    Ok(())
+}
+
 /// Words that order an expansion: the frame in group 7 is accepted.
 fn takes(rt: &impl Abort, alloc: Global, words: &[&str]) {
     let mut input = reading(b"1107000100026869\n");
     let mut output = writing(alloc);
     let mut errors = writing(alloc);
     assert_eq!(rt;
-        run_words(alloc, words, &mut input, &mut output, &mut errors),
-        0
+        run_plain(alloc, words, &mut input, &mut output, &mut errors),
+        Some(0)
     );
     assert_eq!(rt; output.text.as_slice(), b"0.1 [1,0,0] \"hi\"\n".as_slice());
     assert!(rt; errors.text.is_empty());
@@ -133,8 +157,8 @@ fn the_greatest_group_and_size_are_taken(rt: HostRuntime) {
     let mut errors = writing(alloc);
     let mut input = reading(b"11ffffffff0f3f010000\n");
     assert_eq!(rt;
-        run_words(alloc, &words, &mut input, &mut output, &mut errors),
-        0
+        run_plain(alloc, &words, &mut input, &mut output, &mut errors),
+        Some(0)
     );
     assert!(rt; output.text.starts_with(b"63.1 [0,0,"));
     assert!(rt; output.text.ends_with(b",0,1] \"\"\n"));
@@ -174,6 +198,15 @@ fn each_fault_has_its_status_and_text(rt: HostRuntime) {
             5,
             "confer: out of memory\n",
         ),
+        (Fault::Run(RunFault::Write), 3, "confer: write fault\n"),
+        (Fault::Run(RunFault::NoLink), 3, "confer: no link\n"),
+        (Fault::Run(RunFault::NoThread), 3, "confer: no thread\n"),
+        (
+            Fault::Run(RunFault::BadReceipts),
+            3,
+            "confer: bad receipts\n",
+        ),
+        (Fault::Run(RunFault::NoMemory), 5, "confer: out of memory\n"),
         (
             Fault::Play(ScriptFault::BadStep { line: 1 }),
             4,

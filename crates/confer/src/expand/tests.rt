@@ -1,6 +1,6 @@
 //! What is written for which input.
 
-use crate::cli::run_words;
+use crate::cli::run_plain;
 use crate::expand::{LinesFault, expand_lines};
 use crate::fakes::{Sink, Source, reading, writing};
 use std::alloc::Global;
@@ -21,8 +21,8 @@ fn expands(rt: &impl Abort, alloc: Global, lines: &[u8], status: u8, text: &str)
     let mut output = writing(alloc);
     let mut errors = writing(alloc);
     assert_eq!(rt;
-        run_words(alloc, &words, &mut reading(lines), &mut output, &mut errors),
-        status
+        run_plain(alloc, &words, &mut reading(lines), &mut output, &mut errors),
+        Some(status)
     );
     assert_eq!(rt; output.text.as_slice(), text.as_bytes());
     assert!(rt; errors.text.is_empty());
@@ -97,7 +97,10 @@ fn payloads_that_are_not_plain_are_in_hexadecimal(rt: HostRuntime) {
 fn stops(rt: &impl Abort, alloc: Global, input: &mut Source<'_>, output: &mut Sink, said: &str) {
     let words = ["confer", "expand", "--group", "7", "--size", "3"];
     let mut errors = writing(alloc);
-    assert_eq!(rt; run_words(alloc, &words, input, output, &mut errors), 3);
+    assert_eq!(rt;
+        run_plain(alloc, &words, input, output, &mut errors),
+        Some(3)
+    );
     assert_eq!(rt; errors.text.as_slice(), said.as_bytes());
 }
 

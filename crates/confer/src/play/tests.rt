@@ -2,7 +2,7 @@
 
 mod rooms;
 
-use crate::cli::{run_plain, run_words};
+use crate::cli::run_plain;
 use crate::fakes::{Sink, Source, reading, writing};
 use crate::play::schedules::SCHEDULES;
 use std::alloc::Global;
@@ -18,13 +18,13 @@ fn prints(rt: &impl Abort, alloc: Global, script: &str, text: &str) {
     let mut output = writing(alloc);
     let mut errors = writing(alloc);
     let mut input = reading(script.as_bytes());
-    let status = run_words(alloc, &WORDS, &mut input, &mut output, &mut errors);
+    let status = run_plain(alloc, &WORDS, &mut input, &mut output, &mut errors);
     if output.text.as_slice() != text.as_bytes() {
         let printed = str::from_utf8(&output.text).unwrap_or("no text");
         panic!(rt; "{printed}");
     }
     assert!(rt; errors.text.is_empty());
-    assert_eq!(rt; status, 0);
+    assert_eq!(rt; status, Some(0));
 }
 
 /// `confer play` prints nothing of the script, says this, and ends with this status.
@@ -107,8 +107,8 @@ fn the_longest_payload_is_cast_and_a_longer_one_is_refused(rt: HostRuntime) -> R
     output.most = 4096;
     let mut errors = writing(alloc);
     let mut input = reading(script.as_bytes());
-    let status = run_words(alloc, &WORDS, &mut input, &mut output, &mut errors);
-    assert_eq!(rt; status, 0);
+    let status = run_plain(alloc, &WORDS, &mut input, &mut output, &mut errors);
+    assert_eq!(rt; status, Some(0));
     let lower = hex.to_ascii_lowercase(alloc)?;
     let text = format!(in alloc;
         "1 cast 0.1 [1,0]\n > 0 all 11070001008008{lower}\n2 arrive accepted changed\n = 0.1 [1,0] x{lower}\nmember 0 time [1,0] stable 0 entries 1\nmember 1 time [1,0] stable 0 entries 1\n"
@@ -514,7 +514,10 @@ fn a_long_script_is_run_whole(rt: HostRuntime) -> Result<(), Fail> {
 /// A fault of the reader or of the writer ends the run with status 3, and is said.
 fn fails(rt: &impl Abort, alloc: Global, input: &mut Source<'_>, output: &mut Sink, said: &str) {
     let mut errors = writing(alloc);
-    assert_eq!(rt; run_words(alloc, &WORDS, input, output, &mut errors), 3);
+    assert_eq!(rt;
+        run_plain(alloc, &WORDS, input, output, &mut errors),
+        Some(3)
+    );
     assert_eq!(rt; errors.text.as_slice(), said.as_bytes());
 }
 
@@ -556,8 +559,8 @@ fn an_interrupted_write_is_tried_again(rt: HostRuntime) {
     let mut errors = writing(alloc);
     let mut input = reading(b"group 7 size 2 window 4 history 100\n");
     assert_eq!(rt;
-        run_words(alloc, &WORDS, &mut input, &mut output, &mut errors),
-        0
+        run_plain(alloc, &WORDS, &mut input, &mut output, &mut errors),
+        Some(0)
     );
     assert_eq!(rt; output.text.len(), 78);
 }
@@ -591,8 +594,8 @@ fn a_script_has_at_most_67108864_bytes(rt: HostRuntime) {
         let mut output = writing(alloc);
         let mut errors = writing(alloc);
         assert_eq!(rt;
-            run_words(alloc, &WORDS, &mut input, &mut output, &mut errors),
-            *status
+            run_plain(alloc, &WORDS, &mut input, &mut output, &mut errors),
+            Some(*status)
         );
         assert!(rt; output.text.is_empty());
         assert_eq!(rt; errors.text.as_slice(), said.as_bytes());

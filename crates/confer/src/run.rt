@@ -1,0 +1,19 @@
+//! `confer run`: a conference whose members run in threads.
+//!
+//! `participant` is who talks for a member: it asks or answers the questions in its conference. `running` runs the group and prints what
+//! became of each member. Stands on `cb_threads` for the members, on `cb_rooms` for their conferences. Threads, waiting and sockets are
+//! here and nowhere else in `confer`.
+
+mod fault;
+mod participant;
+mod running;
+mod setting;
+#[cfg(test)]
+mod tests;
+
+pub use fault::RunFault;
+pub use running::run_conference;
+pub use setting::{
+    DEFAULT_QUESTIONS, DEFAULT_SIZE, DEFAULT_TURNS, DEFAULT_WINDOW, LinkKind, MOST_QUESTIONS,
+    MOST_TURNS, MOST_WORKING, RunSetting,
+};
