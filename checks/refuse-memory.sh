@@ -1,6 +1,7 @@
 #!/usr/bin/env bash
-# Runs `confer expand` and `confer play` with each growth that they ask of the operating system refused in turn. Every run must end with status 5 and
-# `confer: out of memory`, or go on as if nothing had been refused. Where it ends, `expand` must have written a beginning of the answers in whole lines, and `play` nothing.
+# Runs `confer expand`, `confer play`, `confer audit` and `confer run` with each growth that they ask of the operating system refused in turn. Every run must end with status 5 and
+# `confer: out of memory`, or go on as if nothing had been refused. Where it ends, `expand` must have written a beginning of the answers in whole lines, and the others nothing.
+# Members in threads go on without what one of their turns was refused: so a conference may also end as one that had all its memory, or without a thread.
 # It wants a C compiler and the proved program: `rt run` in crates/confer leaves it in crates/confer/out.
 set -eu
 here=$(cd "$(dirname "$0")" && pwd)
@@ -66,3 +67,47 @@ for script in "$here"/../schedules/*.script; do
     cmp "${script%.script}.out" "$work/shown"
     echo "play of $name: $((nth - 1)) growths, each refused in turn: $ended ended the run, $((nth - 1 - ended)) were done without"
 done
+
+cat > "$work/trace" <<'TRACE'
+cbcast 1 group 7 size 3 window 4
+member 0 entries 1
+cast 1107000100026869
+member 1 entries 2
+arrive 1107000100026869 0.1
+cast 1107010101000102796f
+member 2 entries 2
+arrive 1107010101000102796f -
+arrive 1107000100026869 0.1 1.1
+end
+TRACE
+sed -e '2s/1/0/' -e 3d "$work/trace" > "$work/unsent"
+for input in trace unsent; do
+    whole=0
+    "$confer" audit < "$work/$input" > "$work/whole" || whole=$?
+    ended=0
+    for ((nth = 1; ; nth++)); do
+        refuse "$nth" "$work/$input" audit
+        [ -e "$work/refused" ] || break
+        [ "$status" = "$whole" ] && cmp -s "$work/whole" "$work/shown" && continue
+        memory "$nth"
+        [ ! -s "$work/shown" ] || fault "$nth" 'something is written'
+    done
+    [ "$status" = "$whole" ]
+    cmp "$work/whole" "$work/shown"
+    echo "audit of $input: $((nth - 1)) growths, each refused in turn: $ended ended the run, $((nth - 1 - ended)) were done without"
+done
+
+# how many growths a conference asks for differs from run to run: the first 60 are tried
+ended=0
+for ((nth = 1; nth <= 60; nth++)); do
+    refuse "$nth" /dev/null run --questions 1 --turns 2000
+    if [ "$status" = 0 ]; then
+        [ "$(tail -n 1 "$work/shown")" = 'audit yes' ] || fault "$nth" 'the run ends without a yes'
+    elif [ "$status" = 3 ]; then
+        [ "$(cat "$work/said")" = 'confer: no thread' ] || fault "$nth" "standard error says: $(cat "$work/said")"
+    else
+        memory "$nth"
+        [ ! -s "$work/shown" ] || fault "$nth" 'something is written'
+    fi
+done
+echo "run: growths 1 to 60, each refused in turn: $ended ended the run for want of memory"

@@ -33,7 +33,8 @@ ends 0 "$work/times" '' "${expand[@]}" < "$work/accepted"
 ends 1 "$work/refusal" '' "${expand[@]}" < "$work/refused"
 ends 2 "$work/nothing" 'Usage:' "$confer" < "$work/accepted"
 ends 2 "$work/nothing" '--group <G>' "$confer" expand --help < "$work/accepted"
-ends 2 "$work/nothing" "'audit'" "$confer" audit < "$work/accepted"
+ends 2 "$work/nothing" "'more'" "$confer" audit more < "$work/accepted"
+ends 2 "$work/nothing" 'channel or udp' "$confer" run --link tcp < "$work/accepted"
 ends 2 "$work/nothing" "'more'" "$confer" play more < "$work/accepted"
 ends 2 "$work/nothing" "'65'" "$confer" expand --group 7 --size 65 < "$work/accepted"
 ends 2 "$work/nothing" 'confer: a word of the command line is not UTF-8' "${expand[@]}" $'\xff' < "$work/accepted"
@@ -58,4 +59,41 @@ ends 4 "$work/nothing" 'confer: line 6: bad step' "$confer" play < "$work/bad"
 found=0
 "$confer" play < "$here/../schedules/a_frame_comes_again.script" > /dev/full 2> "$work/said" || found=$?
 [ "$found" = 3 ] && [ "$(cat "$work/said")" = 'confer: write fault' ] || { echo "play to a full device: status $found"; exit 1; }
+# an audit: yes, no, and what ends it
+cat > "$work/trace" <<'TRACE'
+cbcast 1 group 7 size 3 window 4
+member 0 entries 1
+cast 1107000100026869
+member 1 entries 2
+arrive 1107000100026869 0.1
+cast 1107010101000102796f
+member 2 entries 2
+arrive 1107010101000102796f -
+arrive 1107000100026869 0.1 1.1
+end
+TRACE
+printf '%s\n' 'group 7 size 3 window 4 history 2' 'cast 0 6869' 'arrive 1 0' 'cast 1 796f' 'arrive 2 1' 'arrive 2 0' > "$work/script"
+sed -e '2s/1/0/' -e 3d "$work/trace" > "$work/unsent"
+echo 'no Unsent member 1 entry 1' > "$work/no"
+ends 0 "$work/script" '' "$confer" audit < "$work/trace"
+ends 1 "$work/no" '' "$confer" audit < "$work/unsent"
+ends 3 "$work/nothing" 'confer: read fault' "$confer" audit < "$work"
+ends 3 "$work/nothing" 'confer: input too long' "$confer" audit < "$work/long"
+ends 4 "$work/nothing" 'confer: line 1: bad trace' "$confer" audit < /dev/null
+ends 4 "$work/nothing" 'confer: line 11: bad trace' "$confer" audit < <(cat "$work/trace" "$work/no")
+found=0
+"$confer" audit < "$work/trace" > /dev/full 2> "$work/said" || found=$?
+[ "$found" = 3 ] && [ "$(cat "$work/said")" = 'confer: write fault' ] || { echo "an audit to a full device: status $found"; exit 1; }
+# conferences in threads: each ends with a yes, and so does the audit of its trace
+for link in channel udp; do
+    "$confer" run --size 3 --questions 2 --link $link > "$work/written"
+    [ "$(tail -n 1 "$work/written")" = 'audit yes' ] || { echo "run over $link: no yes"; exit 1; }
+    [ "$(grep -c '^member [012] casts 2 deliveries 4 entries .* orphans 0$' "$work/written")" = 3 ] || { echo "run over $link: not all was said"; exit 1; }
+    "$confer" run --size 3 --questions 2 --link $link --trace > "$work/run.trace"
+    "$confer" audit < "$work/run.trace" > "$work/run.script"
+    "$confer" play < "$work/run.script" > "$work/written"
+done
+found=0
+"$confer" run > /dev/full 2> "$work/said" || found=$?
+[ "$found" = 3 ] && [ "$(cat "$work/said")" = 'confer: write fault' ] || { echo "a run to a full device: status $found"; exit 1; }
 echo 'statuses 0, 1, 2, 3 and 4, with their outputs'

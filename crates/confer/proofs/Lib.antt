@@ -4,3 +4,4 @@ pub mod Views
 pub mod Asking
 pub mod Arriving
 pub mod Naming
+pub mod Auditing

@@ -1,30 +1,10 @@
 -- What `confer play` has written where it stops. What it prints of which script is shown by tests.
-use Rattle.std.specs.Prelude.{◌≡◌, ◌<◌, ◌≤◌, ℕ, List, Option, IfSome, length}
-use Rattle.std.specs.Io.KnownBytes.{Appends}
+use Rattle.std.specs.Prelude.{◌≡◌, ℕ, List, Option}
 use Rattle.confer.specs.declared.expand.fault.LinesFault.{LinesFault}
 use Rattle.confer.specs.declared.expand.fault.LinesFault.TheVariants.{Read, Write, TooLong, NoMemory}
-use Rattle.confer.specs.declared.expand.streams.TheConstants.{LONGEST_INPUT}
+use Rattle.confer.specs.Streams.{IsTooLong, IsWithinLimit, WritesSome}
 use Rattle.confer.specs.declared.play.fault.ScriptFault.{ScriptFault}
 use Rattle.confer.specs.declared.play.fault.ScriptFault.TheVariants.{Lines, BadStep}
-
--- the input is at most as long as a script may be
-abbrev pub IsWithinLimit : Option (List ℕ) → Type 0
-IsWithinLimit input = IfSome input (λ bytes. length bytes ≤ LONGEST_INPUT)
-
--- and it is longer
-abbrev pub IsTooLong : Option (List ℕ) → Type 0
-IsTooLong input = IfSome input (λ bytes. LONGEST_INPUT < length bytes)
-
--- some text was appended to what was written
-abbrev pub WritesSome : Option (List ℕ) → Option (List ℕ) → Type 0
-WritesSome before now = (text : List ℕ) × Appends before now text
-
--- why an input can't be read whole: a script that is too long is so
-abbrev pub FailsToRead : LinesFault → Option (List ℕ) → Type 0
-FailsToRead Read input = Unit {0}
-FailsToRead Write input = ⊥
-FailsToRead TooLong input = IsTooLong input
-FailsToRead NoMemory input = Unit {0}
 
 -- why the bytes are no script
 abbrev pub IsNoScript : ScriptFault → Type 0

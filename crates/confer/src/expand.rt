@@ -14,7 +14,7 @@ mod streams;
 mod text;
 
 pub use fault::LinesFault;
-pub use streams::{LONGEST_INPUT, expand_lines, read, room, write_whole};
+pub use streams::{expand_lines, read_whole, write_whole};
 pub use text::{is_plain_text, put_bytes, put_long_number};
 
 #[cfg(test)]

@@ -2,7 +2,9 @@
 use Rattle.std.proofs.Common.{◌≡◌, ℕ, List, Option, Some, None, true, Result, Ok, refl, sym, ap₂, subst, ◌∙◌}
 use Rattle.std.specs.Prelude.{IfSome, option_map}
 use Rattle.std.specs.Str.Parse.{digits_value, without_leading_plus}
-use Rattle.clap.specs.Words.{App, Row, Text, ReadsOne, one_text, rows_of, FailsBy, fault_of, is_simple_and_free, HasKind}
+use Rattle.clap.specs.Words.{App, Row, Text, ReadsOne, one_text, rows_of, FailsBy, fault_of, is_simple_and_free, HasKind, HasMatchesOf, is_simple, subcommand_name_of, subcommand_rows_of, subcommand_of}
+use Rattle.clap.specs.declared.parser.matches.ArgMatches.{ArgMatches}
+use Rattle.clap.specs.declared.parser.matches.ArgMatches.TheViews.{out-ArgMatches}
 use Rattle.clap.proofs.OnLiterals.{clap_on_literals}
 use Rattle.clap.specs.declared.error.Error.{Error}
 use Rattle.confer.specs.Cli.Commands.{confer_app}
@@ -33,10 +35,22 @@ fails_by {T} a words r is kinds =
 pub fails_with : (a : App) (words : List Text) (e : Error) → a ≡ confer_app → (is_simple_and_free a ≡ true → HasKind (fault_of a words) e) → HasKind (fault_of confer_app words) e
 fails_with a words e is kinds = subst (λ (x : App). is_simple_and_free x ≡ true → HasKind (fault_of x words) e) is kinds simple_and_free
 
-named_with : {X : Type 0} (f : X → Text) (g : X → List Row) (o : Option X) (n : Text) (rows : List Row) → option_map f o ≡ Some n → option_map g o ≡ Some rows
-    → option_map {U = Text × List Row} (λ b. (f b, g b)) o ≡ Some (n, rows)
-named_with f g None n rows p q = cc
-named_with f g (Some b) n rows p q =
-    let name : f b ≡ n = cc in
-    let row : g b ≡ rows = cc in
-    ap₂ (λ (x : Text) (y : List Row). Some (x, y)) name row
+module _ {X : Type 0} (name_of : X → Text) (rows_in : X → List Row) where
+  both : (o : Option X) (name : Text) (rows : List Row) → Some name ≡ option_map name_of o → Some rows ≡ option_map (λ (p : Text × List Row). p.1) (option_map {U = Text × List Row} (λ b. (name_of b, rows_in b)) o)
+      → option_map {U = Text × List Row} (λ b. (name_of b, rows_in b)) o ≡ Some (name, rows)
+  both None name rows p q = absurd (cc p)
+  both (Some b) name rows p q =
+      let first : name_of b ≡ name = cc (p, q) in
+      let second : rows_in b ≡ rows = cc (p, q) in
+      ap₂ (λ (x : Text) (y : List Row). Some (x, y)) first second
+
+simple : is_simple confer_app ≡ true
+unfolding clap_on_literals
+simple = refl
+
+-- what the parsed words name
+pub named_in : (a : App) (words : List Text) (m : ArgMatches) (name : Text) (rows : List Row) → a ≡ confer_app → HasMatchesOf a words m → Some name ≡ subcommand_name_of m
+    → Some rows ≡ option_map (λ (p : Text × List Row). p.1) (subcommand_rows_of m) → subcommand_of confer_app words ≡ Some (name, rows)
+named_in a words m name rows is matches named given =
+    let have : HasMatchesOf confer_app words m = subst (λ (x : App). HasMatchesOf x words m) is matches in
+    sym (have simple).1 ∙ both _ _ (out-ArgMatches m).subcommand name rows named given

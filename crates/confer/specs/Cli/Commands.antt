@@ -1,7 +1,7 @@
 -- The subcommands and their options, as `clap` sees them.
 use Rattle.std.specs.Prelude.{ℕ, codes, Some, true, false, pos}
 use Rattle.clap.specs.Words.{App, Rule, Text, new_app, new_rule, with_rule, with_subcommand}
-use Rattle.clap.specs.declared.builder.ArgAction.TheVariants.{Set}
+use Rattle.clap.specs.declared.builder.ArgAction.TheVariants.{Set, SetTrue}
 use Rattle.clap.specs.declared.builder.value_parser.ValueParser.TheVariants as parsers
 
 -- a required option that takes a number within these bounds
@@ -35,16 +35,26 @@ link_rule = record (new_rule (codes "link")) {
   value_names = 1;
 }
 
+-- a flag
+abbrev pub trace_rule : Rule
+trace_rule = record (new_rule (codes "trace")) {
+  long = Some (codes "trace");
+  action = Some SetTrue;
+}
+
 abbrev pub run_app : App
 run_app =
-    with_rule (with_rule (with_rule (with_rule (with_rule (new_app (codes "run"))
-    (free_rule (codes "size") 2 8)) (free_rule (codes "window") 1 256)) (free_rule (codes "questions") 1 100)) (free_rule (codes "turns") 1 10000000)) link_rule
+    with_rule (with_rule (with_rule (with_rule (with_rule (with_rule (new_app (codes "run"))
+    (free_rule (codes "size") 2 8)) (free_rule (codes "window") 1 256)) (free_rule (codes "questions") 1 100)) (free_rule (codes "turns") 1 10000000)) link_rule) trace_rule
 
 abbrev pub play_app : App
 play_app = new_app (codes "play")
 
--- three subcommands, one of which is required
+abbrev pub audit_app : App
+audit_app = new_app (codes "audit")
+
+-- four subcommands, one of which is required
 abbrev pub confer_app : App
 confer_app =
     let top = new_app (codes "confer") in
-    with_subcommand (with_subcommand (with_subcommand (record top { top = record top.top { subcommand_required = true } }) expand_app.top) play_app.top) run_app.top
+    with_subcommand (with_subcommand (with_subcommand (with_subcommand (record top { top = record top.top { subcommand_required = true } }) expand_app.top) play_app.top) run_app.top) audit_app.top

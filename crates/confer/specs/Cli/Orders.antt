@@ -1,5 +1,5 @@
 -- What the words order.
-use Rattle.std.specs.Prelude.{◌≡◌, ◌≢◌, ◌⊎◌, ℕ, ◌≤◌, List, [], codes, None, Some}
+use Rattle.std.specs.Prelude.{◌≡◌, ◌≢◌, ◌⊎◌, ℕ, ◌≤◌, Bool, true, false, List, [], codes, None, Some}
 use Rattle.std.specs.Str.Parse.{digits_value, without_leading_plus}
 use Rattle.clap.specs.Words.{Row, Text, first_of, one_of, subcommand_of, fault_of, kind_of, HasKind}
 use Rattle.clap.specs.declared.error.Error.{Error}
@@ -34,6 +34,17 @@ pub record OrdersExpand (words : List Text) (group size : ℕ) : Type 0 where
 pub record OrdersPlay (words : List Text) : Type 0 where
   pub rows : List Row
   pub named : subcommand_of confer_app words ≡ Some (codes "play", rows)
+
+-- the words name `audit`
+pub record OrdersAudit (words : List Text) : Type 0 where
+  pub rows : List Row
+  pub named : subcommand_of confer_app words ≡ Some (codes "audit", rows)
+
+-- the flag is given, or it is not
+pub record HasFlag (option : Text) (rows : List Row) (given : Bool) : Type 0 where
+  pub none : one_of option rows ≡ None → given ≡ false
+  pub set : one_of option rows ≡ Some (codes "true") → given ≡ true
+  pub unset : one_of option rows ≡ Some (codes "false") → given ≡ false
 
 -- the option has this number; one that is not given has its default
 abbrev pub HasNumberOr : Text → List Row → ℕ → ℕ → Type 0
@@ -85,6 +96,7 @@ pub record HasSetting (rows : List Row) (link : LinkKind) (setting : RunSetting)
   pub questions_are : HasNumberOr (codes "questions") rows DEFAULT_QUESTIONS setting.questions
   pub turns_are : HasNumberOr (codes "turns") rows DEFAULT_TURNS setting.turns
   pub link_is : setting.link ≡ link
+  pub trace_is : HasFlag (codes "trace") rows setting.trace
   pub is_setting : IsRunSetting setting
 
 -- the words name `run`, with these options
@@ -104,6 +116,7 @@ pub record NamesNoLink (words : List Text) (error : Error) : Type 0 where
 abbrev pub Orders : List Text → Order → Type 0
 Orders words (orders.Expand group size) = OrdersExpand words group size
 Orders words orders.Play = OrdersPlay words
+Orders words orders.Audit = OrdersAudit words
 Orders words (orders.Run setting) = OrdersRun words setting
 
 -- the words are refused for what `clap` finds in them, or say no numbers of a group, or memory ran out
@@ -113,5 +126,6 @@ RefusesWords words faults.NoOrder = fault_of confer_app words ≡ []
 RefusesWords words faults.NotText = ⊥
 RefusesWords words (faults.Lines fault) = ⊥
 RefusesWords words (faults.Play fault) = ⊥
+RefusesWords words (faults.Audit fault) = ⊥
 RefusesWords words (faults.Run fault) = ⊥
 RefusesWords words faults.NoMemory = Unit {0}

@@ -7,8 +7,11 @@ use Rattle.confer.specs.declared.cli.fault.Fault.TheVariants as faults
 use Rattle.confer.specs.declared.run.setting.RunSetting.{RunSetting}
 use Rattle.confer.specs.Expand.Lines.{output_of, is_refused}
 use Rattle.confer.specs.Expand.Runs.{WritesPart, Stops}
-use Rattle.confer.specs.Play.{IsWithinLimit, WritesSome, StopsPlaying}
-use Rattle.confer.specs.Cli.Orders.{OrdersExpand, OrdersPlay, OrdersRun, RefusesWords}
+use Rattle.confer.specs.Streams.{IsWithinLimit, WritesSome}
+use Rattle.confer.specs.Play.{StopsPlaying}
+use Rattle.confer.specs.Audit.{Answers, StopsAuditing}
+use Rattle.confer.specs.Run.{PrintsRun}
+use Rattle.confer.specs.Cli.Orders.{OrdersExpand, OrdersPlay, OrdersAudit, OrdersRun, RefusesWords}
 use Rattle.confer.specs.Cli.Statuses.{status_of, said_of}
 
 -- the words order an expansion, and the whole input was expanded
@@ -26,14 +29,21 @@ pub record Played (words : List Text) (refused : Bool) (input before now : Optio
   pub limit : IsWithinLimit input
   pub written : WritesSome before now
 
-abbrev pub Done : List Text → Bool → Option (List ℕ) → Option (List ℕ) → Option (List ℕ) → Type 0
-Done words refused input before now = Expanded words refused input before now ⊎ Played words refused input before now
+-- the words order an audit; the trace was within the limit, and the answer was written
+pub record Audited (words : List Text) (refused : Bool) (input before now : Option (List ℕ)) : Type 0 where
+  pub ordered : OrdersAudit words
+  pub answers : Answers refused input before now
 
--- the words are refused, and nothing is read or written; or they order an expansion or a script to be run, which stops
+abbrev pub Done : List Text → Bool → Option (List ℕ) → Option (List ℕ) → Option (List ℕ) → Type 0
+Done words refused input before now =
+    Expanded words refused input before now ⊎ Played words refused input before now ⊎ Audited words refused input before now
+
+-- the words are refused, and nothing is read or written; or they order an expansion, a script to be run or an audit, which stops
 abbrev pub StoppedBy : List Text → Fault → Option (List ℕ) → Option (List ℕ) → Option (List ℕ) → Option (List ℕ) → Type 0
 StoppedBy words (faults.Lines fault) input left before now =
     (group size : ℕ) × OrdersExpand words group size × IfSome input (λ bytes. Stops group size bytes fault left before now)
 StoppedBy words (faults.Play fault) input left before now = OrdersPlay words × StopsPlaying fault input before now
+StoppedBy words (faults.Audit fault) input left before now = OrdersAudit words × StopsAuditing fault input before now
 StoppedBy words fault input left before now = RefusesWords words fault × (left ≡ input) × (now ≡ before)
 
 -- the words order a conference in threads; nothing is read, written or said
@@ -51,11 +61,11 @@ Ends words status input left before now silent said =
     ⊎ ((fault : Fault) × (status ≡ status_of fault) × StoppedBy words fault input left before now
     × IfSome (said_of fault) (WritesPart silent said))
 
--- a conference in threads was run and printed, or stopped by a fault, which is said; the words may be refused where memory runs out
+-- a conference in threads was run, audited and printed, or stopped by a fault, which is said; the words may be refused where memory runs out
 pub record EndsRunning (words : List Text) (status : ℕ) (before now silent said : Option (List ℕ)) : Type 0 where
   pub setting : RunSetting
   pub ordered : OrdersRun words setting
-  pub ended : ((status ≡ 0) × WritesSome before now × (said ≡ silent))
+  pub ended : ((refused : Bool) × (status ≡ (if refused then 1 else 0)) × PrintsRun setting refused before now × (said ≡ silent))
       ⊎ ((fault : Fault) × (status ≡ status_of fault) × IfSome (said_of fault) (WritesPart silent said))
 
 -- any run: without threads, or with

@@ -8,6 +8,8 @@ use Rattle.confer.specs.declared.expand.fault.LinesFault.{LinesFault}
 use Rattle.confer.specs.declared.expand.fault.LinesFault.TheVariants as lines
 use Rattle.confer.specs.declared.play.fault.ScriptFault.{ScriptFault}
 use Rattle.confer.specs.declared.play.fault.ScriptFault.TheVariants as scripts
+use Rattle.confer.specs.declared.audit.fault.TraceInputFault.{TraceInputFault}
+use Rattle.confer.specs.declared.audit.fault.TraceInputFault.TheVariants as traces
 use Rattle.confer.specs.declared.run.fault.RunFault.{RunFault}
 use Rattle.confer.specs.declared.run.fault.RunFault.TheVariants as runs
 use Rattle.confer.specs.declared.cli.fault.Fault.{Fault}
@@ -27,6 +29,10 @@ abbrev pub script_status : ScriptFault → ℕ
 script_status (scripts.Lines fault) = lines_status fault
 script_status (scripts.BadStep line) = 4
 
+abbrev pub trace_status : TraceInputFault → ℕ
+trace_status (traces.Lines fault) = lines_status fault
+trace_status (traces.BadTrace line) = 4
+
 abbrev pub run_status : RunFault → ℕ
 run_status runs.Write = 3
 run_status runs.NoLink = 3
@@ -41,6 +47,7 @@ status_of faults.NoOrder = 2
 status_of faults.NoMemory = 5
 status_of (faults.Lines fault) = lines_status fault
 status_of (faults.Play fault) = script_status fault
+status_of (faults.Audit fault) = trace_status fault
 status_of (faults.Run fault) = run_status fault
 
 -- what is said of a fault on standard error, but for what `clap` says
@@ -54,13 +61,17 @@ lines_said lines.Write = codes "confer: write fault\n"
 lines_said lines.TooLong = codes "confer: input too long\n"
 lines_said lines.NoMemory = codes "confer: out of memory\n"
 
--- a bad step is named by its line, from 1
-abbrev pub bad_step_said : ℕ → List ℕ
-bad_step_said line = codes "confer: line " ++ (decimal line ++ codes ": bad step\n")
+-- a bad line is named by its number, from 1, and what it is said to be stands behind it
+abbrev pub bad_line_said : ℕ → List ℕ → List ℕ
+bad_line_said line said = codes "confer: line " ++ (decimal line ++ said)
 
 abbrev pub script_said : ScriptFault → List ℕ
 script_said (scripts.Lines fault) = lines_said fault
-script_said (scripts.BadStep line) = bad_step_said line
+script_said (scripts.BadStep line) = bad_line_said line (codes ": bad step\n")
+
+abbrev pub trace_said : TraceInputFault → List ℕ
+trace_said (traces.Lines fault) = lines_said fault
+trace_said (traces.BadTrace line) = bad_line_said line (codes ": bad trace\n")
 
 abbrev pub run_said : RunFault → List ℕ
 run_said runs.Write = codes "confer: write fault\n"
@@ -76,4 +87,5 @@ said_of faults.NoOrder = Some (codes "confer: the words order nothing\n")
 said_of faults.NoMemory = Some (codes "confer: out of memory\n")
 said_of (faults.Lines fault) = Some (lines_said fault)
 said_of (faults.Play fault) = Some (script_said fault)
+said_of (faults.Audit fault) = Some (trace_said fault)
 said_of (faults.Run fault) = Some (run_said fault)

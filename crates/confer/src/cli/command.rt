@@ -2,7 +2,7 @@
 
 ghost use Rattle.std.specs.Prelude.{◌≡◌, codes, false, IfOk};
 ghost use Rattle.clap.specs.Words.{app_of, rule_of};
-ghost use Rattle.confer.specs.Cli.Commands.{free_rule, group_rule, link_rule, size_rule, confer_app};
+ghost use Rattle.confer.specs.Cli.Commands.{free_rule, group_rule, link_rule, size_rule, trace_rule, confer_app};
 
 use clap::{Arg, ArgAction, Command, value_parser};
 use std::alloc::{AllocError, Global};
@@ -26,13 +26,18 @@ pub fn command<'a>(alloc: Global) -> Result<Command<'a>, AllocError>
         .arg(window_option(alloc))?
         .arg(questions_option(alloc))?
         .arg(turns_option(alloc))?
-        .arg(link_option(alloc))?;
+        .arg(link_option(alloc))?
+        .arg(trace_option(alloc))?;
+    let audit = Command::new(alloc, "audit").about(
+        "Reads a trace, and prints the script of a run that has its histories, or why there is none",
+    );
     let program = Command::new(alloc, "confer")
         .about("Causal broadcast in a fixed group")
         .subcommand_required(true)
         .subcommand(expand)?
-        .subcommand(play)?;
-    program.subcommand(run)
+        .subcommand(play)?
+        .subcommand(run)?;
+    program.subcommand(audit)
 }
 
 fn members_option<'a>(alloc: Global) -> Arg<'a>
@@ -93,6 +98,16 @@ fn link_option<'a>(alloc: Global) -> Arg<'a>
         .value_name("L")
         .action(ArgAction::Set)
         .help("What carries the frames, channel or udp, channel if not given")
+}
+
+fn trace_option<'a>(alloc: Global) -> Arg<'a>
+    ensures rule { rule_of result ≡ trace_rule }
+    ensures local { result.global ≡ false }
+{
+    Arg::new(alloc, "trace")
+        .long("trace")
+        .action(ArgAction::SetTrue)
+        .help("Prints the trace of the histories in place of all else")
 }
 
 fn group_option<'a>(alloc: Global) -> Arg<'a>

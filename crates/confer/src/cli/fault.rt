@@ -1,9 +1,10 @@
 //! Why a run of `confer` did not end as it should, and its exit status then.
 
 ghost use Rattle.std.specs.Prelude.{◌≡◌};
-ghost use Rattle.confer.specs.Cli.Statuses.{words_status, lines_status, script_status, run_status, status_of};
+ghost use Rattle.confer.specs.Cli.Statuses.{words_status, lines_status, script_status, trace_status, run_status, status_of};
 ghost use Rattle.confer.specs.declared.cli.fault.Fault.TheVariants.{NoMemory as OutOfMemory};
 
+use crate::audit::TraceInputFault;
 use crate::expand::LinesFault;
 use crate::play::ScriptFault;
 use crate::run::RunFault;
@@ -17,8 +18,8 @@ const USAGE: u8 = 2;
 /// A fault of the reader or the writer, an input that is too long, or a conference in threads that did not run.
 const STREAMS: u8 = 3;
 
-/// A script has a bad step.
-const SCRIPT: u8 = 4;
+/// A script has a bad step, or a trace a bad line.
+const TEXT: u8 = 4;
 
 /// Out of memory.
 const MEMORY: u8 = 5;
@@ -44,6 +45,9 @@ pub enum Fault {
     /// A fault while a script was read or run.
     #[error("{0}")]
     Play(ScriptFault),
+    /// A fault while a trace was read or audited.
+    #[error("{0}")]
+    Audit(TraceInputFault),
     /// A fault of a conference in threads.
     #[error("{0}")]
     Run(RunFault),
@@ -68,6 +72,7 @@ impl Fault {
             Fault::NoMemory => MEMORY,
             Fault::Lines(fault) => lines_status(fault),
             Fault::Play(fault) => script_status(fault),
+            Fault::Audit(fault) => trace_status(fault),
             Fault::Run(fault) => run_status(*fault),
         }
     }
@@ -105,6 +110,15 @@ fn script_status(fault: &ScriptFault) -> u8
 {
     match fault {
         ScriptFault::Lines(fault) => lines_status(fault),
-        ScriptFault::BadStep { .. } => SCRIPT,
+        ScriptFault::BadStep { .. } => TEXT,
+    }
+}
+
+fn trace_status(fault: &TraceInputFault) -> u8
+    ensures { result ≡ trace_status fault.now }
+{
+    match fault {
+        TraceInputFault::Lines(fault) => lines_status(fault),
+        TraceInputFault::BadTrace { .. } => TEXT,
     }
 }

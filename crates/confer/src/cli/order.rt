@@ -7,7 +7,7 @@ ghost use Rattle.clap.specs.Walk.{rows_of};
 ghost use Rattle.cb_times.specs.Group.{IsGroupSize};
 ghost use Rattle.clap.specs.Words.{Text, fault_of, subcommand_of};
 ghost use Rattle.confer.specs.Cli.Commands.{confer_app};
-ghost use Rattle.confer.specs.Cli.Orders.{HasLink, HasNumber, HasNumberOr, HasSetting, IsNamed, NoLink, Orders, RefusesWords, SaysNoLink};
+ghost use Rattle.confer.specs.Cli.Orders.{HasFlag, HasLink, HasNumber, HasNumberOr, HasSetting, IsNamed, NoLink, Orders, RefusesWords, SaysNoLink};
 
 use crate::cli::command::command;
 use crate::cli::fault::Fault;
@@ -27,6 +27,8 @@ pub enum Order {
     Expand { group: u32, size: u32 },
     /// `confer play`.
     Play,
+    /// `confer audit`.
+    Audit,
     /// `confer run`, with what the words don't say as it is by default.
     Run(RunSetting),
 }
@@ -43,15 +45,41 @@ pub fn order_of<S: AsStr>(alloc: Global, words: &[S]) -> Result<Order, Fault>
     let Some((name, options)) = matches.subcommand() else {
         return Err(Fault::NoOrder);
     };
+    named_order(alloc, name, options)
+}
+
+/// The order of the subcommand that is named.
+fn named_order(alloc: Global, name: &str, options: &ArgMatches<'_>) -> Result<Order, Fault>
+    ensures ok { (words : List Text)
+        → subcommand_of confer_app words ≡ Some (name.now, rows_of (found_of options.now))
+        → IfOk result (Orders words) }
+    ensures err { (words : List Text)
+        → subcommand_of confer_app words ≡ Some (name.now, rows_of (found_of options.now))
+        → fault_of confer_app words ≡ [] → IfErr result (RefusesWords words) }
+{
+    if name == "expand" {
+        return expand_order(options);
+    }
     if name == "play" {
         return Ok(Order::Play);
+    }
+    if name == "audit" {
+        return Ok(Order::Audit);
     }
     if name == "run" {
         return run_order(alloc, options);
     }
-    if name != "expand" {
-        return Err(Fault::NoOrder);
-    }
+    Err(Fault::NoOrder)
+}
+
+/// `confer expand`, with numbers of a group.
+fn expand_order(options: &ArgMatches<'_>) -> Result<Order, Fault>
+    ensures ok { (words : List Text)
+        → subcommand_of confer_app words ≡ Some (codes "expand", rows_of (found_of options.now))
+        → IfOk result (Orders words) }
+    ensures err { (words : List Text) → fault_of confer_app words ≡ []
+        → IfErr result (RefusesWords words) }
+{
     let Some(group) = number(options, "group") else {
         return Err(Fault::NoOrder);
     };
@@ -135,12 +163,19 @@ fn setting_of(options: &ArgMatches<'_>, link: LinkKind) -> Option<RunSetting>
         questions: number_or(options, "questions", DEFAULT_QUESTIONS)?,
         turns: number_or(options, "turns", DEFAULT_TURNS)?,
         link,
+        trace: flag(options, "trace"),
     };
     if setting.is_within_bounds() {
         Some(setting)
     } else {
         None
     }
+}
+
+fn flag(options: &ArgMatches<'_>, name: &str) -> bool
+    ensures { HasFlag name.now (rows_of (found_of options.now)) result }
+{
+    options.get_flag(name)
 }
 
 fn number_or(options: &ArgMatches<'_>, name: &str, default: u32) -> Option<u32>

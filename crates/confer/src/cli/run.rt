@@ -7,6 +7,7 @@ ghost use Rattle.confer.specs.Cli.Orders.{OrdersRun};
 ghost use Rattle.confer.specs.declared.run.setting.RunSetting.{RunSetting};
 ghost use Rattle.confer.specs.Cli.Runs.{Done, StoppedBy, Ends, EndsAny, EndsRunning, LeavesToThreads};
 
+use crate::audit::audit_trace;
 use crate::cli::fault::Fault;
 use crate::cli::order::{Order, order_of};
 use crate::cli::said::say;
@@ -24,7 +25,7 @@ use std::time::Clock;
 /// All was done.
 const DONE: u8 = 0;
 
-/// A line was refused.
+/// A line was refused, or the audit said no.
 const REFUSED: u8 = 1;
 
 /// None where the words order a run in threads, of which nothing is done.
@@ -53,6 +54,10 @@ fn carry_out<S: AsStr, R: Read, W: Write>(
         Ok(Order::Play) => match play_script(alloc, input, output) {
             Ok(()) => Ok(Some(false)),
             Err(fault) => Err(Fault::Play(fault)),
+        },
+        Ok(Order::Audit) => match audit_trace(alloc, input, output) {
+            Ok(refused) => Ok(Some(refused)),
+            Err(fault) => Err(Fault::Audit(fault)),
         },
         Ok(Order::Run(_setting)) => Ok(None),
         Err(fault) => Err(fault),
@@ -132,11 +137,12 @@ fn run_in_threads<S: AsStr, W: Write, E: Write, H: Threads + Wait + Clock + Net 
 {
     let ran = match order_of(alloc, words) {
         Ok(Order::Run(setting)) => run_conference(rt, alloc, setting, output),
-        Ok(Order::Expand { .. } | Order::Play) => unreachable!("they order a run"),
+        Ok(Order::Expand { .. } | Order::Play | Order::Audit) => unreachable!("they order a run"),
         Err(fault) => return report(&fault, errors),
     };
     match ran {
-        Ok(()) => DONE,
+        Ok(false) => DONE,
+        Ok(true) => REFUSED,
         Err(fault) => report(&Fault::Run(fault), errors),
     }
 }

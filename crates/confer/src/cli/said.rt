@@ -1,11 +1,12 @@
 //! What is said on standard error of a run that stops.
 
-ghost use Rattle.std.specs.Prelude.{◌≡◌, ◌++◌, IfSome, drop, length};
+ghost use Rattle.std.specs.Prelude.{◌≡◌, ◌≤◌, ◌++◌, IfSome, drop, length};
 ghost use Rattle.clap.specs.Words.{kind_of};
 ghost use Rattle.confer.specs.Expand.Runs.{WritesPart};
-ghost use Rattle.confer.specs.Cli.Statuses.{words_said, lines_said, bad_step_said, script_said, run_said, said_of};
-ghost use Rattle.confer.specs.declared.cli.said.TheConstants.{LONGEST_BAD_STEP};
+ghost use Rattle.confer.specs.Cli.Statuses.{words_said, lines_said, bad_line_said, script_said, trace_said, run_said, said_of};
+ghost use Rattle.confer.specs.declared.cli.said.TheConstants.{LONGEST_BAD_LINE, LONGEST_END};
 
+use crate::audit::TraceInputFault;
 use crate::cli::fault::Fault;
 use crate::expand::{LinesFault, put_bytes, put_long_number, write_whole};
 use crate::play::ScriptFault;
@@ -13,8 +14,11 @@ use crate::run::RunFault;
 use clap::error::ErrorKind;
 use std::io::Write;
 
-/// The most bytes of what is said of a bad step, whose line has at most 20 digits.
-const LONGEST_BAD_STEP: usize = 13 + 20 + 11;
+/// The most bytes behind the number of a bad line.
+const LONGEST_END: usize = 12;
+
+/// The most bytes of what is said of a bad line, whose number has at most 20 digits.
+const LONGEST_BAD_LINE: usize = 13 + 20 + LONGEST_END;
 
 /// Says what ended a run. Nobody is left to be told where even this can't be written.
 pub fn say<E: Write>(fault: &Fault, errors: &mut E)
@@ -28,6 +32,7 @@ pub fn say<E: Write>(fault: &Fault, errors: &mut E)
         Fault::NoMemory => say_text("confer: out of memory\n", errors),
         Fault::Lines(fault) => say_text(lines_said(fault), errors),
         Fault::Play(fault) => say_script(fault, errors),
+        Fault::Audit(fault) => say_trace(fault, errors),
         Fault::Run(fault) => say_text(run_said(*fault), errors),
     }
 }
@@ -86,24 +91,35 @@ fn say_script<E: Write>(fault: &ScriptFault, errors: &mut E)
 {
     match fault {
         ScriptFault::Lines(fault) => say_text(lines_said(fault), errors),
-        ScriptFault::BadStep { line } => say_bad_step(*line, errors),
+        ScriptFault::BadStep { line } => say_bad_line(*line as u64, b": bad step\n", errors),
     }
 }
 
-fn say_bad_step<E: Write>(line: usize, errors: &mut E)
-    ensures { WritesPart (E.contents errors.old) (E.contents errors.new) (bad_step_said line) }
+fn say_trace<E: Write>(fault: &TraceInputFault, errors: &mut E)
+    ensures { WritesPart (E.contents errors.old) (E.contents errors.new) (trace_said fault.now) }
 {
-    let mut room = [0; LONGEST_BAD_STEP];
-    let start = put_bad_step(line, &mut room);
+    match fault {
+        TraceInputFault::Lines(fault) => say_text(lines_said(fault), errors),
+        TraceInputFault::BadTrace { line } => say_bad_line(*line, b": bad trace\n", errors),
+    }
+}
+
+fn say_bad_line<E: Write>(line: u64, end: &[u8], errors: &mut E)
+    requires { length end.now ≤ LONGEST_END }
+    ensures { WritesPart (E.contents errors.old) (E.contents errors.new) (bad_line_said line end.now) }
+{
+    let mut room = [0; LONGEST_BAD_LINE];
+    let start = put_bad_line(line, end, &mut room);
     say_bytes(&room[start..], errors);
 }
 
-/// What is said of a bad step, at the end of the room. Where it starts.
-fn put_bad_step(line: usize, room: &mut [u8]) -> usize
-    requires { length room.old ≡ LONGEST_BAD_STEP }
-    ensures { drop result room.new ≡ bad_step_said line }
+/// What is said of a bad line, at the end of the room. Where it starts.
+fn put_bad_line(line: u64, end: &[u8], room: &mut [u8]) -> usize
+    requires short { length end.now ≤ LONGEST_END }
+    requires room { length room.old ≡ LONGEST_BAD_LINE }
+    ensures { drop result room.new ≡ bad_line_said line end.now }
 {
-    let end = put_bytes(b": bad step\n", room, room.len());
-    let end = put_long_number(line as u64, room, end);
-    put_bytes(b"confer: line ", room, end)
+    let start = put_bytes(end, room, room.len());
+    let start = put_long_number(line, room, start);
+    put_bytes(b"confer: line ", room, start)
 }

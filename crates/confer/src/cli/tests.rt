@@ -1,5 +1,6 @@
 //! What the words order, and how a run ends.
 
+use crate::audit::TraceInputFault;
 use crate::cli::{Fault, report, run_plain};
 use crate::expand::LinesFault;
 use crate::fakes::{reading, writing};
@@ -80,7 +81,13 @@ fn words_that_are_no_command_end_with_status_two(rt: HostRuntime) -> Result<(), 
         ],
         "cannot be used multiple times",
     )?;
-    says(&rt, alloc, &["confer", "audit"], "audit")?;
+    says(
+        &rt,
+        alloc,
+        &["confer", "audit", "--help"],
+        "Usage: confer audit",
+    )?;
+    says(&rt, alloc, &["confer", "audit", "more"], "more")?;
     says_of_run(&rt, alloc)?;
     says(
         &rt,
@@ -110,7 +117,7 @@ fn says_of_run(rt: &impl Abort, alloc: Global) -> Result<(), AllocError> {
         ("--turns=0", "'0'"),
         ("--turns=10000001", "'10000001'"),
         ("--link=tcp", "channel or udp"),
-        ("--trace", "--trace"),
+        ("--trace=yes", "--trace"),
         ("--help", "--questions <Q>"),
         ("more", "more"),
     ];
@@ -207,6 +214,16 @@ fn each_fault_has_its_status_and_text(rt: HostRuntime) {
             "confer: bad receipts\n",
         ),
         (Fault::Run(RunFault::NoMemory), 5, "confer: out of memory\n"),
+        (
+            Fault::Audit(TraceInputFault::Lines(LinesFault::TooLong)),
+            3,
+            "confer: input too long\n",
+        ),
+        (
+            Fault::Audit(TraceInputFault::BadTrace { line: u64::MAX }),
+            4,
+            "confer: line 18446744073709551615: bad trace\n",
+        ),
         (
             Fault::Play(ScriptFault::BadStep { line: 1 }),
             4,

@@ -4,6 +4,7 @@ ghost use Rattle.std.specs.Prelude.{◌≡◌, ◌<◌, ◌≤◌, [], ◌++◌,
 ghost use Rattle.std.specs.Io.KnownBytes.{Appends, Consumes, IsAtEnd, Keeps};
 ghost use Rattle.cb_times.specs.Group.{IsGroupSize};
 ghost use Rattle.confer.specs.Expand.Lines.{ended, unended, last_line, output_of, is_refused};
+ghost use Rattle.confer.specs.Streams.{FailsToRead};
 ghost use Rattle.confer.specs.Expand.Runs.{WritesPart, PutsLines, StopsIn, Stops, FailsToPut};
 
 use crate::expand::answers::Answers;
@@ -48,6 +49,30 @@ pub fn read<R: Read>(input: &mut R, buffer: &mut [u8]) -> Result<usize, LinesFau
     ensures fault { IfErr result (λ fault. fault ≡ LinesFault.Read) }
 {
     count_of(input.read(buffer))
+}
+
+/// All that the reader has, where it is no more than an input may have.
+pub fn read_whole<R: Read>(alloc: Global, input: &mut R) -> Result<Vec<u8>, LinesFault>
+    ensures text { IfOk result (λ text. IfSome (R.remaining input.old) (λ bytes.
+        text.items ≡ bytes)) }
+    ensures limit { IfOk result (λ text. vec_len text ≤ LONGEST_INPUT) }
+    ensures fault { IfErr result (λ fault. FailsToRead fault (R.remaining input.old)) }
+{
+    let mut buffer = room(alloc)?;
+    let mut text = Vec::new(alloc);
+    'pieces: loop {
+        let count = match read(input, &mut buffer) {
+            Ok(count) => count,
+            Err(fault) => return Err(fault),
+        };
+        if count == 0 {
+            return Ok(text);
+        }
+        if LONGEST_INPUT - text.len() < count {
+            return Err(LinesFault::TooLong);
+        }
+        text.extend_from_slice(&buffer[..count])?;
+    }
 }
 
 /// Writes some of the bytes, none of them only where the write was interrupted. A write that failed is a write fault, and

@@ -1,10 +1,10 @@
 //! From a reader to a writer, by way of a group.
 
-ghost use Rattle.std.specs.Prelude.{◌≡◌, ◌<◌, ◌≤◌, vec_len, IfOk, OnOk, IfErr, IfSome};
-ghost use Rattle.confer.specs.declared.expand.streams.TheConstants.{LONGEST_INPUT};
-ghost use Rattle.confer.specs.Play.{IsWithinLimit, WritesSome, FailsToRead, IsNoScript, StopsPlaying};
+ghost use Rattle.std.specs.Prelude.{OnOk, IfErr};
+ghost use Rattle.confer.specs.Streams.{IsWithinLimit, WritesSome};
+ghost use Rattle.confer.specs.Play.{IsNoScript, StopsPlaying};
 
-use crate::expand::{LONGEST_INPUT, LinesFault, read, room, write_whole};
+use crate::expand::{read_whole, write_whole};
 use crate::play::fault::ScriptFault;
 use crate::play::rooms::{Composed, Rooms};
 use crate::play::script::{Script, ScriptStep, Setting, script_of};
@@ -39,30 +39,6 @@ pub fn play_script<R: Read, W: Write>(
     match write_whole(output, transcript.as_bytes()) {
         Ok(()) => Ok(()),
         Err(fault) => Err(ScriptFault::Lines(fault)),
-    }
-}
-
-/// All that the reader has, where it is no more than a script may have.
-fn read_whole<R: Read>(alloc: Global, input: &mut R) -> Result<Vec<u8>, LinesFault>
-    ensures text { IfOk result (λ text. IfSome (R.remaining input.old) (λ bytes.
-        text.items ≡ bytes)) }
-    ensures limit { IfOk result (λ text. vec_len text ≤ LONGEST_INPUT) }
-    ensures fault { IfErr result (λ fault. FailsToRead fault (R.remaining input.old)) }
-{
-    let mut buffer = room(alloc)?;
-    let mut text = Vec::new(alloc);
-    'pieces: loop {
-        let count = match read(input, &mut buffer) {
-            Ok(count) => count,
-            Err(fault) => return Err(fault),
-        };
-        if count == 0 {
-            return Ok(text);
-        }
-        if LONGEST_INPUT - text.len() < count {
-            return Err(LinesFault::TooLong);
-        }
-        text.extend_from_slice(&buffer[..count])?;
     }
 }
 

@@ -1,6 +1,7 @@
 //! What is printed of which script, and what ends a run.
 
 mod rooms;
+mod traces;
 
 use crate::cli::run_plain;
 use crate::fakes::{Sink, Source, reading, writing};

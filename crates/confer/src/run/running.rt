@@ -1,18 +1,22 @@
 //! A conference in threads, from its setting to what is printed of it.
 
-ghost use Rattle.std.specs.Prelude.{◌≡◌, OnOk};
-ghost use Rattle.confer.specs.Play.{WritesSome};
+ghost use Rattle.std.specs.Prelude.{◌≡◌, ◌++◌, List, IfOk, codes, map, true, false};
+ghost use Rattle.cb_trace.specs.Text.{HistoryFields, history_fields};
+ghost use Rattle.confer.specs.Audit.{Refuses};
+ghost use Rattle.confer.specs.Run.{PrintsRun, Shows, ShowsRun};
 ghost use Rattle.confer.specs.Cli.Orders.{IsRunSetting};
 
+use crate::audit::put_refusal;
 use crate::expand::write_whole;
 use crate::run::fault::RunFault;
 use crate::run::participant::Participant;
 use crate::run::setting::{LinkKind, RunSetting};
-use cb_member::Group;
+use cb_member::{Group, History};
 use cb_threads::{
     ChannelLink, GroupFault, GroupReport, Inlet, Limits, MemberReport, Outlet, Pace, PaceFault,
     UdpLink, run_group,
 };
+use cb_trace::{AuditFault, WriteFault, audit, write_trace};
 use std::alloc::Global;
 use std::io::Write;
 use std::net::Net;
@@ -43,7 +47,15 @@ impl Pace for Millisecond {
     }
 }
 
-/// Runs a conference in threads, and writes a line for each member.
+/// What is printed of a conference, and whether its audit said no.
+#[derive(Drop)]
+struct RunText {
+    refused: bool,
+    text: Vec<u8>,
+}
+
+/// Runs a conference in threads, has the histories of its members audited, and writes a line for each member and what the audit said; or,
+/// where the setting says so, the trace of the histories in place of all this. Whether the audit said no.
 ///
 /// It ends once each participant has cast and seen all, or after the setting's turns; the lines tell which.
 pub fn run_conference<R: Threads + Wait + Clock + Net + Sync, W: Write>(
@@ -51,11 +63,12 @@ pub fn run_conference<R: Threads + Wait + Clock + Net + Sync, W: Write>(
     alloc: Global,
     setting: RunSetting,
     output: &mut W,
-) -> Result<(), RunFault>
+) -> Result<bool, RunFault>
     requires { IsRunSetting setting }
-    ensures { OnOk result (WritesSome (W.contents output.old) (W.contents output.new)) }
+    ensures { IfOk result (λ refused. PrintsRun setting refused (W.contents output.old)
+        (W.contents output.new)) }
 {
-    let text = match setting.link {
+    let told = match setting.link {
         LinkKind::Channel => {
             let links = ChannelLink::group(alloc, setting.size)?;
             run_over(rt, alloc, setting, links)?
@@ -65,8 +78,8 @@ pub fn run_conference<R: Threads + Wait + Clock + Net + Sync, W: Write>(
             run_over(rt, alloc, setting, links)?
         }
     };
-    match write_whole(output, text.as_bytes()) {
-        Ok(()) => Ok(()),
+    match write_whole(output, &told.text) {
+        Ok(()) => Ok(told.refused),
         Err(_fault) => Err(RunFault::Write),
     }
 }
@@ -77,8 +90,9 @@ fn run_over<I: Inlet + Send + Drop, O: Outlet + Send + Drop, R: Threads + Wait +
     alloc: Global,
     setting: RunSetting,
     links: Vec<(I, O)>,
-) -> Result<String, RunFault>
+) -> Result<RunText, RunFault>
     requires { IsRunSetting setting }
+    ensures { IfOk result (λ told. ShowsRun setting told.refused told.text.items) }
 {
     let Ok(group) = Group::new(GROUP, setting.size, setting.window) else {
         unreachable!("the setting is within its bounds");
@@ -89,7 +103,7 @@ fn run_over<I: Inlet + Send + Drop, O: Outlet + Send + Drop, R: Threads + Wait +
         turns: u64::from(setting.turns),
     };
     match run_group(rt, alloc, group, HISTORY_MAX, links, paces, talkers, limits) {
-        Ok(ran) => told(alloc, ran),
+        Ok(GroupReport { reports, histories }) => told(alloc, setting, &reports, &histories),
         // There is a pace and a talker for each member, so a bad plan lacks links.
         Err(GroupFault::BadPlan) => Err(RunFault::NoLink),
         Err(GroupFault::NoThread) => Err(RunFault::NoThread),
@@ -114,17 +128,87 @@ fn paces(alloc: Global, size: u32) -> Result<Vec<Millisecond>, RunFault> {
     Ok(paces)
 }
 
-/// A line for each member. A worker's fault is the fault of all.
-fn told<I: Drop, O: Drop>(
+/// What is printed of a conference that ran. A worker's fault is the fault of all, whatever is to be printed.
+fn told<I, O>(
     alloc: Global,
-    ran: GroupReport<I, O, Millisecond, Participant>,
-) -> Result<String, RunFault> {
-    let mut text = String::new(alloc);
-    for (member, report) in ran.reports.iter().enumerate() {
+    setting: RunSetting,
+    reports: &[MemberReport<I, O, Millisecond, Participant>],
+    histories: &[History],
+) -> Result<RunText, RunFault>
+    ensures { IfOk result (λ told. ShowsRun setting told.refused told.text.items) }
+{
+    let lines = lines_of(alloc, reports)?;
+    if setting.trace {
+        traced(alloc, histories)
+    } else {
+        audited(alloc, lines, histories)
+    }
+}
+
+/// A line for each member.
+fn lines_of<I, O>(
+    alloc: Global,
+    reports: &[MemberReport<I, O, Millisecond, Participant>],
+) -> Result<Vec<u8>, RunFault> {
+    let mut text = Vec::new(alloc);
+    for (member, report) in reports.iter().enumerate() {
         let line = line_of(alloc, member, report)?;
-        text.push_str(line.as_str())?;
+        text.extend_from_slice(line.as_bytes())?;
     }
     Ok(text)
+}
+
+/// The trace of these histories.
+fn traced(alloc: Global, histories: &[History]) -> Result<RunText, RunFault>
+    ensures { IfOk result (λ told. Shows true (map history_fields histories.now) told.refused
+        told.text.items) }
+{
+    match write_trace(alloc, histories) {
+        Ok(text) => Ok(RunText {
+            refused: false,
+            text,
+        }),
+        Err(WriteFault::NoMemory) => Err(RunFault::NoMemory),
+        // Each member's history is of the member's own group.
+        Err(WriteFault::MixedGroups) => Err(RunFault::BadReceipts),
+    }
+}
+
+/// These lines, and one for what the audit of these histories says.
+fn audited(alloc: Global, lines: Vec<u8>, histories: &[History]) -> Result<RunText, RunFault>
+    ensures { IfOk result (λ told. Shows false (map history_fields histories.now) told.refused
+        told.text.items) }
+{
+    match audit(alloc, histories) {
+        Ok(_joint) => accepted(lines),
+        Err(AuditFault::NoMemory) => Err(RunFault::NoMemory),
+        Err(refusal) => refused(lines, refusal),
+    }
+}
+
+fn accepted(lines: Vec<u8>) -> Result<RunText, RunFault>
+    ensures accepted { IfOk result (λ told. told.refused ≡ false) }
+    ensures text { IfOk result (λ told. told.text.items ≡ lines.items ++ codes "audit yes\n") }
+{
+    let mut text = lines;
+    text.extend_from_slice(b"audit yes\n")?;
+    Ok(RunText {
+        refused: false,
+        text,
+    })
+}
+
+fn refused(lines: Vec<u8>, refusal: AuditFault) -> Result<RunText, RunFault>
+    ensures { (histories : List HistoryFields) → Refuses histories refusal
+        → IfOk result (λ told. Shows false histories told.refused told.text.items) }
+{
+    let mut text = lines;
+    text.extend_from_slice(b"audit ")?;
+    put_refusal(&mut text, refusal)?;
+    Ok(RunText {
+        refused: true,
+        text,
+    })
 }
 
 fn line_of<I, O>(

@@ -47,6 +47,8 @@ pub struct RunSetting {
     /// How many turns each worker makes at most, 1 to 10,000,000.
     pub turns: u32,
     pub link: LinkKind,
+    /// Whether the trace of the histories is printed in place of all else.
+    pub trace: bool,
 }
 
 impl RunSetting {

@@ -29,7 +29,7 @@ fn printed<R: Threads + Wait + Clock + Net + Abort + Sync>(
     Ok(text)
 }
 
-/// Every member's line says this of its casts and deliveries, and that it saw no answer before its question.
+/// Every member's line says this of its casts and deliveries, and that it saw no answer before its question; the last line is the audit's.
 fn is_told(
     rt: &impl Abort,
     alloc: Global,
@@ -37,8 +37,9 @@ fn is_told(
     members: usize,
     part: &str,
 ) -> Result<(), AllocError> {
-    assert_eq!(rt; text.lines().count(), members);
-    for (member, line) in text.lines().enumerate() {
+    assert_eq!(rt; text.lines().count(), members.saturating_add(1));
+    assert_eq!(rt; text.lines().last(), Some("audit yes"));
+    for (member, line) in text.lines().take(members).enumerate() {
         let start = format!(in alloc; "member {member} {part} entries ")?;
         if !line.starts_with(start.as_str()) || !line.ends_with(" orphans 0") {
             panic!(rt; "{line}");

@@ -1,7 +1,7 @@
 use Rattle.std.proofs.Common.{◌<◌, ◌≤◌, ◌-◌, vec_len}
 use Rattle.std.specs.Io.KnownBytes.{Consumes}
 use Rattle.confer.specs.declared.expand.streams.TheConstants.{LONGEST_INPUT}
-use Rattle.confer.proofs.play.running.read_whole.Given as goal
+use Rattle.confer.proofs.expand.streams.read_whole.Given as goal
 
 abbrev pub invariant-pieces : goal.invariant-pieces
 invariant-pieces g l = record {
