@@ -68,18 +68,7 @@ for script in "$here"/../schedules/*.script; do
     echo "play of $name: $((nth - 1)) growths, each refused in turn: $ended ended the run, $((nth - 1 - ended)) were done without"
 done
 
-cat > "$work/trace" <<'TRACE'
-cbcast 1 group 7 size 3 window 4
-member 0 entries 1
-cast 1107000100026869
-member 1 entries 2
-arrive 1107000100026869 0.1
-cast 1107010101000102796f
-member 2 entries 2
-arrive 1107010101000102796f -
-arrive 1107000100026869 0.1 1.1
-end
-TRACE
+cp "$here/../examples/an-answer-overtakes.trace" "$work/trace"
 sed -e '2s/1/0/' -e 3d "$work/trace" > "$work/unsent"
 for input in trace unsent; do
     whole=0

@@ -60,18 +60,7 @@ found=0
 "$confer" play < "$here/../schedules/a_frame_comes_again.script" > /dev/full 2> "$work/said" || found=$?
 [ "$found" = 3 ] && [ "$(cat "$work/said")" = 'confer: write fault' ] || { echo "play to a full device: status $found"; exit 1; }
 # an audit: yes, no, and what ends it
-cat > "$work/trace" <<'TRACE'
-cbcast 1 group 7 size 3 window 4
-member 0 entries 1
-cast 1107000100026869
-member 1 entries 2
-arrive 1107000100026869 0.1
-cast 1107010101000102796f
-member 2 entries 2
-arrive 1107010101000102796f -
-arrive 1107000100026869 0.1 1.1
-end
-TRACE
+cp "$here/../examples/an-answer-overtakes.trace" "$work/trace"
 printf '%s\n' 'group 7 size 3 window 4 history 2' 'cast 0 6869' 'arrive 1 0' 'cast 1 796f' 'arrive 2 1' 'arrive 2 0' > "$work/script"
 sed -e '2s/1/0/' -e 3d "$work/trace" > "$work/unsent"
 echo 'no Unsent member 1 entry 1' > "$work/no"
