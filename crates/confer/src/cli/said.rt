@@ -106,7 +106,8 @@ fn say_trace<E: Write>(fault: &TraceInputFault, errors: &mut E)
 
 fn say_bad_line<E: Write>(line: u64, end: &[u8], errors: &mut E)
     requires { length end.now ≤ LONGEST_END }
-    ensures { WritesPart (E.contents errors.old) (E.contents errors.new) (bad_line_said line end.now) }
+    ensures { WritesPart (E.contents errors.old) (E.contents errors.new)
+        (bad_line_said line end.now) }
 {
     let mut room = [0; LONGEST_BAD_LINE];
     let start = put_bad_line(line, end, &mut room);
