@@ -1,6 +1,6 @@
 //! Workers run at once, and so do the members of a group.
 
-ghost use Rattle.std.specs.Prelude.{◌≡◌};
+ghost use Rattle.std.specs.Prelude.{◌≡◌, []};
 
 use super::parts::{Flags, Meeting, Patient, Silent};
 use crate::{
@@ -30,14 +30,23 @@ fn share<L: Ledger + Send + Sync, R: Threads + Wait + Clock + Abort + Sync>(
 )
     requires { (blank.name ≡ L.name) × (blank.parts ≡ L.parts) × (blank.parts ≡ 4) }
 {
-    let group = Group::new(7, 3, 4).expect(rt, "a group");
-    let member = Member::new(alloc, group, 0, 100).expect(rt, "a member");
-    let (shared, seat) = SharedMember::<L>::new(alloc, blank, member);
+    let (shared, seat) = SharedMember::<L>::new(alloc, blank, fresh(rt, alloc));
     let claimed = run_once(rt, alloc, &shared, seat);
-    let Ok(Closed { member }) = shared.close(claimed) else {
-        panic!(rt; "the receipts are those of the history");
-    };
-    assert!(rt; !member.history().is_empty());
+    closes(rt, shared, claimed);
+}
+
+fn fresh(rt: &impl Abort, alloc: Global) -> Member
+    ensures { result.entries ≡ [] }
+{
+    let group = Group::new(7, 3, 4).expect(rt, "a group");
+    Member::new(alloc, group, 0, 100).expect(rt, "a member")
+}
+
+fn closes<L: Ledger>(rt: &impl Abort, shared: SharedMember<L>, claimed: Vec<Seat<L>>) {
+    match shared.close(claimed) {
+        Ok(Closed { member }) => assert!(rt; !member.history().is_empty()),
+        Err(_refusal) => panic!(rt; "the receipts are those of the history"),
+    }
 }
 
 /// The first send, the first receive and the first wait each wait for the two others.

@@ -92,14 +92,16 @@ fn repairs(rt: &impl Abort, ran: Failed, receive_failures: u64, send_failures: u
     }
 }
 
+/// Two casts are sure to be sent. How many statuses are sent with them depends on time, so that a third call may not come.
 #[test]
 fn what_an_outlet_lost_is_sent_again(rt: HostRuntime) {
-    for at in 1..=4u64 {
+    for at in 1..=2u64 {
         let ran = run_failing(&rt, rt.alloc(), 0, at);
         repairs(&rt, ran, 0, 1);
     }
 }
 
+/// Four casts of others are sure to come.
 #[test]
 fn an_inlet_that_failed_is_asked_again(rt: HostRuntime) {
     for at in 1..=4u64 {
