@@ -1,8 +1,10 @@
-//! Readers and writers for tests, which fail where they are told to.
+//! Readers and writers for tests, which fail where they are told to, and runs over them.
 
+use crate::cli::run_plain;
 use std::alloc::Global;
 use std::io;
 use std::io::{ErrorKind, Read, Write};
+use std::process::Abort;
 
 /// Gives its text `most` bytes at a time; the read after `good` of them is a fault.
 #[derive(Drop)]
@@ -71,5 +73,63 @@ pub fn writing(alloc: Global) -> Sink {
         most: 3,
         interrupted: 0,
         good: usize::MAX,
+    }
+}
+
+/// So many bytes, with a line feed at the front of each read.
+#[derive(Drop)]
+pub struct Bulk {
+    pub left: usize,
+}
+
+impl Read for Bulk {
+    fn read(&mut self, buf: &mut [u8]) -> io::Result<usize> {
+        if let Some(first) = buf.first_mut() {
+            *first = b'\n';
+        }
+        let count = self.left.min(buf.len());
+        self.left = self.left.saturating_sub(count);
+        Ok(count)
+    }
+}
+
+/// What became of a run without threads.
+#[derive(Drop)]
+pub struct Outcome {
+    pub status: Option<u8>,
+    pub printed: Vec<u8>,
+    pub said: Vec<u8>,
+}
+
+impl Outcome {
+    /// The run ended with this status, printed just these bytes and said just this.
+    pub fn is(&self, rt: &impl Abort, status: u8, printed: &[u8], said: &str) {
+        if self.printed.as_slice() != printed {
+            let text = str::from_utf8(&self.printed).unwrap_or("no text");
+            panic!(rt; "{text}");
+        }
+        assert_eq!(rt; self.said.as_slice(), said.as_bytes());
+        assert_eq!(rt; self.status, Some(status));
+    }
+}
+
+/// Runs the words on this input.
+pub fn run_on<R: Read>(alloc: Global, words: &[&str], input: &mut R) -> Outcome {
+    run_into(alloc, words, input, writing(alloc))
+}
+
+/// Runs the words on this input, with what they print going to this writer.
+pub fn run_into<R: Read>(
+    alloc: Global,
+    words: &[&str],
+    input: &mut R,
+    mut output: Sink,
+) -> Outcome {
+    let mut errors = writing(alloc);
+    let status = run_plain(alloc, words, input, &mut output, &mut errors);
+    Outcome {
+        status,
+        printed: output.text,
+        said: errors.text,
     }
 }

@@ -1,6 +1,8 @@
 -- The subcommands and their options, as `clap` sees them.
-use Rattle.std.specs.Prelude.{ℕ, codes, Some, true, false, pos}
-use Rattle.clap.specs.Words.{App, Rule, Text, new_app, new_rule, with_rule, with_subcommand}
+use Rattle.std.specs.Prelude.{◌≡◌, ℕ, codes, Some, true, false, pos}
+use Rattle.clap.specs.Words.{App, Rule, Text, app_of, new_app, new_rule, with_rule, with_subcommand}
+use Rattle.clap.specs.declared.builder.command.Command.{Command}
+use Rattle.clap.specs.declared.builder.command.Command.TheViews.{out-Command}
 use Rattle.clap.specs.declared.builder.ArgAction.TheVariants.{Set, SetTrue}
 use Rattle.clap.specs.declared.builder.value_parser.ValueParser.TheVariants as parsers
 
@@ -58,3 +60,8 @@ abbrev pub confer_app : App
 confer_app =
     let top = new_app (codes "confer") in
     with_subcommand (with_subcommand (with_subcommand (with_subcommand (record top { top = record top.top { subcommand_required = true } }) expand_app.top) play_app.top) run_app.top) audit_app.top
+
+-- a command of this shape, none of whose options holds for subcommands too
+pub record IsCommand (app : App) (command : Command) : Type 0 where
+  pub shape : app_of command ≡ app
+  pub local : (out-Command command).has_globals ≡ false

@@ -1,9 +1,7 @@
 //! What is printed of which trace, and what ends an audit.
 
-use crate::cli::run_plain;
-use crate::fakes::{Sink, Source, reading, writing};
+use crate::fakes::{Bulk, reading, run_into, run_on, writing};
 use std::alloc::Global;
-use std::io;
 use std::io::{ErrorKind, Read};
 use std::process::Abort;
 
@@ -128,23 +126,20 @@ end
     ),
 ];
 
+/// A function, since a constant would be looked through in each proof that loops over it.
+fn audited() -> &'static [(&'static str, u8, &'static str)] {
+    AUDITED
+}
+
 /// The words print this text of the input, say nothing, and end with this status.
 fn prints(rt: &impl Abort, alloc: Global, words: &[&str], text: &str, wanted: (u8, &str)) {
-    let mut output = writing(alloc);
-    let mut errors = writing(alloc);
-    let mut input = reading(text.as_bytes());
-    let status = run_plain(alloc, words, &mut input, &mut output, &mut errors);
-    if output.text.as_slice() != wanted.1.as_bytes() {
-        let printed = str::from_utf8(&output.text).unwrap_or("no text");
-        panic!(rt; "{printed}");
-    }
-    assert!(rt; errors.text.is_empty());
-    assert_eq!(rt; status, Some(wanted.0));
+    let (status, printed) = wanted;
+    run_on(alloc, words, &mut reading(text.as_bytes())).is(rt, status, printed.as_bytes(), "");
 }
 
 #[test]
 fn each_trace_gets_its_script_or_its_refusal(rt: HostRuntime) {
-    for (trace, status, text) in AUDITED {
+    for (trace, status, text) in audited() {
         prints(&rt, rt.alloc(), &WORDS, trace, (*status, text));
     }
 }
@@ -184,77 +179,56 @@ const BAD_TRACES: &[(&str, &str)] = &[
     ),
 ];
 
+fn bad_traces() -> &'static [(&'static str, &'static str)] {
+    BAD_TRACES
+}
+
 /// Nothing is printed of the input, this is said, and the run ends with this status.
 fn stops<R: Read>(rt: &impl Abort, alloc: Global, input: &mut R, status: u8, said: &str) {
-    let mut output = writing(alloc);
-    let mut errors = writing(alloc);
-    assert_eq!(rt;
-        run_plain(alloc, &WORDS, input, &mut output, &mut errors),
-        Some(status)
-    );
-    assert!(rt; output.text.is_empty());
-    assert_eq!(rt; errors.text.as_slice(), said.as_bytes());
+    run_on(alloc, &WORDS, input).is(rt, status, b"", said);
 }
 
 #[test]
 fn the_first_bad_line_of_a_trace_is_named(rt: HostRuntime) {
-    for (text, said) in BAD_TRACES {
+    for (text, said) in bad_traces() {
         stops(&rt, rt.alloc(), &mut reading(text.as_bytes()), 4, said);
     }
 }
 
+/// The read after so many good ones fails.
+fn fails_to_read(rt: &impl Abort, alloc: Global, good: usize, fault: ErrorKind) {
+    let mut input = reading(b"no trace\n");
+    input.good = good;
+    input.fault = fault;
+    stops(rt, alloc, &mut input, 3, "confer: read fault\n");
+}
+
 #[test]
 fn a_failing_read_comes_before_a_bad_trace(rt: HostRuntime) {
-    for fault in [ErrorKind::BrokenPipe, ErrorKind::Interrupted] {
-        for good in 0..3 {
-            let mut input = reading(b"no trace\n");
-            input.good = good;
-            input.fault = fault;
-            stops(&rt, rt.alloc(), &mut input, 3, "confer: read fault\n");
-        }
+    for good in 0..3 {
+        fails_to_read(&rt, rt.alloc(), good, ErrorKind::BrokenPipe);
+        fails_to_read(&rt, rt.alloc(), good, ErrorKind::Interrupted);
     }
 }
 
-/// The write after `good` others fails: what was written stays.
-fn keeps(rt: &impl Abort, alloc: Global, output: &mut Sink, input: &mut Source<'_>) {
-    let mut errors = writing(alloc);
-    assert_eq!(rt;
-        run_plain(alloc, &WORDS, input, output, &mut errors),
-        Some(3)
+/// The write after so many good ones fails: what was written stays.
+fn keeps(rt: &impl Abort, alloc: Global, good: usize) {
+    let mut output = writing(alloc);
+    output.good = good;
+    let outcome = run_into(alloc, &WORDS, &mut reading(WORKED.as_bytes()), output);
+    let written = good.saturating_mul(3).min(SCRIPT.len());
+    outcome.is(
+        rt,
+        3,
+        &SCRIPT.as_bytes()[..written],
+        "confer: write fault\n",
     );
-    assert_eq!(rt; errors.text.as_slice(), b"confer: write fault\n".as_slice());
 }
 
 #[test]
 fn each_write_failing_in_turn_keeps_what_was_written(rt: HostRuntime) {
     for good in 0..30 {
-        let mut output = writing(rt.alloc());
-        output.good = good;
-        keeps(
-            &rt,
-            rt.alloc(),
-            &mut output,
-            &mut reading(WORKED.as_bytes()),
-        );
-        let upto = good.saturating_mul(3).min(SCRIPT.len());
-        assert_eq!(rt; output.text.as_slice(), &SCRIPT.as_bytes()[..upto]);
-    }
-}
-
-/// So many bytes, with a line feed at the front of each read.
-#[derive(Drop)]
-struct Bulk {
-    left: usize,
-}
-
-impl Read for Bulk {
-    fn read(&mut self, buf: &mut [u8]) -> io::Result<usize> {
-        if let Some(first) = buf.first_mut() {
-            *first = b'\n';
-        }
-        let count = self.left.min(buf.len());
-        self.left = self.left.saturating_sub(count);
-        Ok(count)
+        keeps(&rt, rt.alloc(), good);
     }
 }
 

@@ -1,8 +1,20 @@
 //! The subcommands and their options.
 
 ghost use Rattle.std.specs.Prelude.{◌≡◌, codes, false, IfOk};
-ghost use Rattle.clap.specs.Words.{app_of, rule_of};
-ghost use Rattle.confer.specs.Cli.Commands.{free_rule, group_rule, link_rule, size_rule, trace_rule, confer_app};
+ghost use Rattle.clap.specs.Words.{app_of, rule_of, with_subcommand};
+ghost use Rattle.confer.specs.Cli.Commands.{
+  audit_app,
+  confer_app,
+  expand_app,
+  free_rule,
+  group_rule,
+  IsCommand,
+  link_rule,
+  play_app,
+  run_app,
+  size_rule,
+  trace_rule,
+};
 
 use clap::{Arg, ArgAction, Command, value_parser};
 use std::alloc::{AllocError, Global};
@@ -11,33 +23,62 @@ use std::alloc::{AllocError, Global};
 pub fn command<'a>(alloc: Global) -> Result<Command<'a>, AllocError>
     ensures { IfOk result (λ command. app_of command ≡ confer_app) }
 {
-    let expand = Command::new(alloc, "expand")
+    let expanding = Command::new(alloc, "confer")
+        .about("Causal broadcast in a fixed group")
+        .subcommand_required(true)
+        .subcommand(expand_command(alloc)?)?;
+    let playing = expanding.subcommand(play_command(alloc))?;
+    with_threads(alloc, playing)
+}
+
+/// The program with the subcommands that stand on threads.
+fn with_threads<'a>(alloc: Global, program: Command<'a>) -> Result<Command<'a>, AllocError>
+    ensures { IfOk result (λ command. app_of command
+        ≡ with_subcommand (with_subcommand (app_of program.entry) run_app.top) audit_app.top) }
+{
+    let running = program.subcommand(run_command(alloc)?)?;
+    running.subcommand(audit_command(alloc))
+}
+
+fn expand_command<'a>(alloc: Global) -> Result<Command<'a>, AllocError>
+    ensures { IfOk result (IsCommand expand_app) }
+{
+    let in_group = Command::new(alloc, "expand")
         .about(
             "Reads cast frames in hexadecimal, a frame a line, and prints the vector time of each",
         )
-        .arg(group_option(alloc))?
-        .arg(size_option(alloc))?;
-    let play = Command::new(alloc, "play").about(
+        .arg(group_option(alloc))?;
+    in_group.arg(size_option(alloc))
+}
+
+fn play_command<'a>(alloc: Global) -> Command<'a>
+    ensures { IsCommand play_app result }
+{
+    Command::new(alloc, "play").about(
         "Reads a script of steps, and prints what happens in a group that takes them",
-    );
-    let run = Command::new(alloc, "run")
+    )
+}
+
+fn run_command<'a>(alloc: Global) -> Result<Command<'a>, AllocError>
+    ensures { IfOk result (IsCommand run_app) }
+{
+    let conference = Command::new(alloc, "run")
         .about("Runs a conference whose members are threads, and prints what became of each")
         .arg(members_option(alloc))?
-        .arg(window_option(alloc))?
+        .arg(window_option(alloc))?;
+    let limited = conference
         .arg(questions_option(alloc))?
-        .arg(turns_option(alloc))?
-        .arg(link_option(alloc))?
-        .arg(trace_option(alloc))?;
-    let audit = Command::new(alloc, "audit").about(
+        .arg(turns_option(alloc))?;
+    let linked = limited.arg(link_option(alloc))?;
+    linked.arg(trace_option(alloc))
+}
+
+fn audit_command<'a>(alloc: Global) -> Command<'a>
+    ensures { IsCommand audit_app result }
+{
+    Command::new(alloc, "audit").about(
         "Reads a trace, and prints the script of a run that has its histories, or why there is none",
-    );
-    let program = Command::new(alloc, "confer")
-        .about("Causal broadcast in a fixed group")
-        .subcommand_required(true)
-        .subcommand(expand)?
-        .subcommand(play)?
-        .subcommand(run)?;
-    program.subcommand(audit)
+    )
 }
 
 fn members_option<'a>(alloc: Global) -> Arg<'a>

@@ -1,143 +1,104 @@
 //! What the words order, and how a run ends.
 
 use crate::audit::TraceInputFault;
-use crate::cli::{Fault, report, run_plain};
+use crate::cli::{Fault, report};
 use crate::expand::LinesFault;
-use crate::fakes::{reading, writing};
+use crate::fakes::{reading, run_on, writing};
 use crate::play::ScriptFault;
 use crate::run::RunFault;
-use std::alloc::{AllocError, Global};
+use std::alloc::Global;
 use std::process::Abort;
-use std::test::Fail;
 
 /// What is said of words that are no command: nothing is read and nothing is printed.
-fn says(rt: &impl Abort, alloc: Global, words: &[&str], part: &str) -> Result<(), AllocError> {
+fn says(rt: &impl Abort, alloc: Global, words: &[&str], part: &str) {
     let mut input = reading(b"1107000100026869\n");
-    let mut output = writing(alloc);
-    let mut errors = writing(alloc);
-    assert_eq!(rt;
-        run_plain(alloc, words, &mut input, &mut output, &mut errors),
-        Some(2)
-    );
-    assert!(rt; output.text.is_empty());
+    let outcome = run_on(alloc, words, &mut input);
     assert_eq!(rt; input.text.len(), 17);
-    let Ok(said) = String::from_utf8(errors.text) else {
-        panic!(rt; "the text is not UTF-8");
-    };
+    let said = str::from_utf8(&outcome.said).unwrap_or("no text");
     if !said.contains(part) {
         panic!(rt; "{said}");
     }
-    Ok(())
+    outcome.is(rt, 2, b"", said);
 }
 
-#[test]
-fn words_that_are_no_command_end_with_status_two(rt: HostRuntime) -> Result<(), Fail> {
-    let alloc = rt.alloc();
-    says(&rt, alloc, &["confer"], "Usage: confer")?;
-    says(&rt, alloc, &["confer", "--help"], "Usage: confer")?;
-    says(&rt, alloc, &["confer", "expand", "--help"], "--group <G>")?;
-    says(&rt, alloc, &["confer", "juggle"], "juggle")?;
-    says(
-        &rt,
-        alloc,
-        &["confer", "expand", "--size", "3"],
-        "--group <G>",
-    )?;
-    says(
-        &rt,
-        alloc,
-        &["confer", "expand", "--group", "7"],
-        "--size <N>",
-    )?;
-    says(
-        &rt,
-        alloc,
-        &["confer", "expand", "--group", "7", "--size", "1"],
-        "'1'",
-    )?;
-    says(
-        &rt,
-        alloc,
+/// Words that are no command, and a part of what is said of them.
+const NO_COMMANDS: &[(&[&str], &str)] = &[
+    (&["confer"], "Usage: confer"),
+    (&["confer", "--help"], "Usage: confer"),
+    (&["confer", "expand", "--help"], "--group <G>"),
+    (&["confer", "juggle"], "juggle"),
+    (&["confer", "expand", "--size", "3"], "--group <G>"),
+    (&["confer", "expand", "--group", "7"], "--size <N>"),
+    (&["confer", "expand", "--group", "7", "--size", "1"], "'1'"),
+    (
         &["confer", "expand", "--group", "7", "--size", "65"],
         "'65'",
-    )?;
-    says(
-        &rt,
-        alloc,
+    ),
+    (
         &["confer", "expand", "--group", "4294967296", "--size", "3"],
         "4294967296",
-    )?;
-    says(
-        &rt,
-        alloc,
-        &["confer", "expand", "--group", "-1", "--size", "3"],
-        "-1",
-    )?;
-    says(
-        &rt,
-        alloc,
+    ),
+    (&["confer", "expand", "--group", "-1", "--size", "3"], "-1"),
+    (
         &[
             "confer", "expand", "--group", "7", "--size", "3", "--group", "7",
         ],
         "cannot be used multiple times",
-    )?;
-    says(
-        &rt,
-        alloc,
-        &["confer", "audit", "--help"],
-        "Usage: confer audit",
-    )?;
-    says(&rt, alloc, &["confer", "audit", "more"], "more")?;
-    says_of_run(&rt, alloc)?;
-    says(
-        &rt,
-        alloc,
-        &["confer", "play", "--help"],
-        "Usage: confer play",
-    )?;
-    says(&rt, alloc, &["confer", "play", "more"], "more")?;
-    says(
-        &rt,
-        alloc,
+    ),
+    (&["confer", "audit", "--help"], "Usage: confer audit"),
+    (&["confer", "audit", "more"], "more"),
+    (&["confer", "play", "--help"], "Usage: confer play"),
+    (&["confer", "play", "more"], "more"),
+    (
         &["confer", "expand", "--group", "7", "--size", "3", "more"],
         "more",
-    )?;
-    Ok(())
+    ),
+];
+
+/// A function, since a constant would be looked through in the proof of the loop.
+fn no_commands() -> &'static [(&'static [&'static str], &'static str)] {
+    NO_COMMANDS
 }
 
-/// The options of `run` that are refused.
-fn says_of_run(rt: &impl Abort, alloc: Global) -> Result<(), AllocError> {
-    let rows = [
-        ("--size=1", "'1'"),
-        ("--size=9", "'9'"),
-        ("--window=0", "'0'"),
-        ("--window=257", "'257'"),
-        ("--questions=0", "'0'"),
-        ("--questions=101", "'101'"),
-        ("--turns=0", "'0'"),
-        ("--turns=10000001", "'10000001'"),
-        ("--link=tcp", "channel or udp"),
-        ("--trace=yes", "--trace"),
-        ("--help", "--questions <Q>"),
-        ("more", "more"),
-    ];
-    for (option, part) in rows {
-        says(rt, alloc, &["confer", "run", option], part)?;
+#[test]
+fn words_that_are_no_command_end_with_status_two(rt: HostRuntime) {
+    for (words, part) in no_commands() {
+        says(&rt, rt.alloc(), words, part);
     }
-    Ok(())
+}
+
+/// Options of `run` that are refused, and a part of what is said of them.
+const RUN_OPTIONS: &[(&str, &str)] = &[
+    ("--size=1", "'1'"),
+    ("--size=9", "'9'"),
+    ("--window=0", "'0'"),
+    ("--window=257", "'257'"),
+    ("--questions=0", "'0'"),
+    ("--questions=101", "'101'"),
+    ("--turns=0", "'0'"),
+    ("--turns=10000001", "'10000001'"),
+    ("--link=tcp", "channel or udp"),
+    ("--trace=yes", "--trace"),
+    ("--help", "--questions <Q>"),
+    ("more", "more"),
+];
+
+/// A function, since a constant would be looked through in the proof of the loop.
+fn run_options() -> &'static [(&'static str, &'static str)] {
+    RUN_OPTIONS
+}
+
+#[test]
+fn options_of_run_that_are_none_end_with_status_two(rt: HostRuntime) {
+    for (option, part) in run_options() {
+        says(&rt, rt.alloc(), &["confer", "run", option], part);
+    }
 }
 
 /// Words that order an expansion: the frame in group 7 is accepted.
 fn takes(rt: &impl Abort, alloc: Global, words: &[&str]) {
     let mut input = reading(b"1107000100026869\n");
-    let mut output = writing(alloc);
-    let mut errors = writing(alloc);
-    assert_eq!(rt;
-        run_plain(alloc, words, &mut input, &mut output, &mut errors),
-        Some(0)
-    );
-    assert_eq!(rt; output.text.as_slice(), b"0.1 [1,0,0] \"hi\"\n".as_slice());
-    assert!(rt; errors.text.is_empty());
+    run_on(alloc, words, &mut input).is(rt, 0, b"0.1 [1,0,0] \"hi\"\n", "");
 }
 
 #[test]
@@ -160,22 +121,16 @@ fn a_sign_and_zeros_before_a_number_do_no_harm(rt: HostRuntime) {
 fn the_greatest_group_and_size_are_taken(rt: HostRuntime) {
     let alloc = rt.alloc();
     let words = ["confer", "expand", "--group=4294967295", "--size=64"];
-    let mut output = writing(alloc);
-    let mut errors = writing(alloc);
-    let mut input = reading(b"11ffffffff0f3f010000\n");
-    assert_eq!(rt;
-        run_plain(alloc, &words, &mut input, &mut output, &mut errors),
-        Some(0)
-    );
-    assert!(rt; output.text.starts_with(b"63.1 [0,0,"));
-    assert!(rt; output.text.ends_with(b",0,1] \"\"\n"));
-    assert!(rt; errors.text.is_empty());
+    let outcome = run_on(alloc, &words, &mut reading(b"11ffffffff0f3f010000\n"));
+    let printed = outcome.printed.as_slice();
+    assert!(rt; printed.starts_with(b"63.1 [0,0,"));
+    assert!(rt; printed.ends_with(b",0,1] \"\"\n"));
+    outcome.is(&rt, 0, printed, "");
 }
 
-#[test]
-fn each_fault_has_its_status_and_text(rt: HostRuntime) {
-    let alloc = rt.alloc();
-    let faults = [
+/// Faults with their statuses and what is said of them.
+fn faults() -> [(Fault, u8, &'static str); 18] {
+    [
         (
             Fault::NotText,
             2,
@@ -234,10 +189,19 @@ fn each_fault_has_its_status_and_text(rt: HostRuntime) {
             4,
             "confer: line 18446744073709551615: bad step\n",
         ),
-    ];
-    for (fault, status, text) in faults {
-        let mut errors = writing(alloc);
-        assert_eq!(rt; report(&fault, &mut errors), status);
-        assert_eq!(rt; errors.text.as_slice(), text.as_bytes());
+    ]
+}
+
+fn is_reported(rt: &impl Abort, alloc: Global, fault: &Fault, status: u8, said: &str) {
+    let mut errors = writing(alloc);
+    let reported = report(fault, &mut errors);
+    assert_eq!(rt; reported, status);
+    assert_eq!(rt; errors.text.as_slice(), said.as_bytes());
+}
+
+#[test]
+fn each_fault_has_its_status_and_text(rt: HostRuntime) {
+    for (fault, status, said) in &faults() {
+        is_reported(&rt, rt.alloc(), fault, *status, said);
     }
 }

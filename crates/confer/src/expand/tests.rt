@@ -1,13 +1,14 @@
 //! What is written for which input.
 
-use crate::cli::run_plain;
 use crate::expand::{LinesFault, expand_lines};
-use crate::fakes::{Sink, Source, reading, writing};
+use crate::fakes::{reading, run_into, run_on, writing};
 use std::alloc::Global;
 use std::io;
 use std::io::{ErrorKind, Read, Write};
 use std::process::Abort;
 use std::test::Fail;
+
+const WORDS: [&str; 6] = ["confer", "expand", "--group", "7", "--size", "3"];
 
 const HI: &str = "1107000100026869";
 
@@ -17,15 +18,7 @@ const OK: &str = "1107010200026f6b";
 
 /// What `confer expand --group 7 --size 3` does with the lines.
 fn expands(rt: &impl Abort, alloc: Global, lines: &[u8], status: u8, text: &str) {
-    let words = ["confer", "expand", "--group", "7", "--size", "3"];
-    let mut output = writing(alloc);
-    let mut errors = writing(alloc);
-    assert_eq!(rt;
-        run_plain(alloc, &words, &mut reading(lines), &mut output, &mut errors),
-        Some(status)
-    );
-    assert_eq!(rt; output.text.as_slice(), text.as_bytes());
-    assert!(rt; errors.text.is_empty());
+    run_on(alloc, &WORDS, &mut reading(lines)).is(rt, status, text.as_bytes(), "");
 }
 
 #[test]
@@ -44,24 +37,35 @@ fn a_cast_out_of_its_senders_order_is_refused(rt: HostRuntime) -> Result<(), Fai
     Ok(())
 }
 
+/// Lines, and what is written of each.
+const NO_FRAMES: &[(&[u8], u8, &str)] = &[
+    (b"", 0, ""),
+    (b"\n", 1, "refused Short\n"),
+    (b"1107000100026869\r\n", 1, "refused BadHex\n"),
+    (b"110700010002686\n", 1, "refused BadHex\n"),
+    (b"11 07\n", 1, "refused BadHex\n"),
+    (b"14\n", 1, "refused UnknownKind\n"),
+    (b"120702\n", 1, "refused Short\n"),
+    (b"1307020000\n", 1, "refused BadRange\n"),
+    (b"12070200\n", 1, "refused NotACast\n"),
+    (b"12080200\n", 1, "refused NotACast\n"),
+    (b"13070200010101\n", 1, "refused NotACast\n"),
+    (b"1108000100026869\n", 1, "refused OtherGroup\n"),
+    (b"1106000100026869\n", 1, "refused OtherGroup\n"),
+    (b"1107030100026869\n", 1, "refused BadMember\n"),
+    (b"11070001000268696a\n", 1, "refused Trailing\n"),
+];
+
+/// A function, since a constant would be looked through in the proof of the loop.
+fn no_frames() -> &'static [(&'static [u8], u8, &'static str)] {
+    NO_FRAMES
+}
+
 #[test]
 fn lines_that_are_no_frames_are_refused_by_name(rt: HostRuntime) {
-    let alloc = rt.alloc();
-    expands(&rt, alloc, b"", 0, "");
-    expands(&rt, alloc, b"\n", 1, "refused Short\n");
-    expands(&rt, alloc, b"1107000100026869\r\n", 1, "refused BadHex\n");
-    expands(&rt, alloc, b"110700010002686\n", 1, "refused BadHex\n");
-    expands(&rt, alloc, b"11 07\n", 1, "refused BadHex\n");
-    expands(&rt, alloc, b"14\n", 1, "refused UnknownKind\n");
-    expands(&rt, alloc, b"120702\n", 1, "refused Short\n");
-    expands(&rt, alloc, b"1307020000\n", 1, "refused BadRange\n");
-    expands(&rt, alloc, b"12070200\n", 1, "refused NotACast\n");
-    expands(&rt, alloc, b"12080200\n", 1, "refused NotACast\n");
-    expands(&rt, alloc, b"13070200010101\n", 1, "refused NotACast\n");
-    expands(&rt, alloc, b"1108000100026869\n", 1, "refused OtherGroup\n");
-    expands(&rt, alloc, b"1106000100026869\n", 1, "refused OtherGroup\n");
-    expands(&rt, alloc, b"1107030100026869\n", 1, "refused BadMember\n");
-    expands(&rt, alloc, b"11070001000268696a\n", 1, "refused Trailing\n");
+    for (line, status, text) in no_frames() {
+        expands(&rt, rt.alloc(), line, *status, text);
+    }
 }
 
 #[test]
@@ -93,62 +97,46 @@ fn payloads_that_are_not_plain_are_in_hexadecimal(rt: HostRuntime) {
     expands(&rt, alloc, b"110700010000\n", 0, "0.1 [1,0,0] \"\"\n");
 }
 
-/// A fault of the reader or of the writer ends the run with status 3, and is said.
-fn stops(rt: &impl Abort, alloc: Global, input: &mut Source<'_>, output: &mut Sink, said: &str) {
-    let words = ["confer", "expand", "--group", "7", "--size", "3"];
-    let mut errors = writing(alloc);
-    assert_eq!(rt;
-        run_plain(alloc, &words, input, output, &mut errors),
-        Some(3)
-    );
-    assert_eq!(rt; errors.text.as_slice(), said.as_bytes());
+/// What is written of an empty line and of `00`.
+const REFUSED: &[u8] = b"refused Short\nrefused UnknownKind\n";
+
+/// The second read fails.
+fn fails_to_read(rt: &impl Abort, alloc: Global, fault: ErrorKind) {
+    let mut input = reading(b"\n00\n00\n");
+    input.most = 4;
+    input.good = 1;
+    input.fault = fault;
+    run_on(alloc, &WORDS, &mut input).is(rt, 3, REFUSED, "confer: read fault\n");
 }
 
 #[test]
 fn a_failing_read_keeps_what_was_answered(rt: HostRuntime) {
-    let alloc = rt.alloc();
-    for fault in [ErrorKind::BrokenPipe, ErrorKind::Interrupted] {
-        let mut input = reading(b"\n00\n00\n");
-        input.most = 4;
-        input.good = 1;
-        input.fault = fault;
-        let mut output = writing(alloc);
-        stops(&rt, alloc, &mut input, &mut output, "confer: read fault\n");
-        assert_eq!(rt;
-            output.text.as_slice(),
-            b"refused Short\nrefused UnknownKind\n".as_slice()
-        );
-    }
+    fails_to_read(&rt, rt.alloc(), ErrorKind::BrokenPipe);
+    fails_to_read(&rt, rt.alloc(), ErrorKind::Interrupted);
+}
+
+/// The write after so many good ones fails: what was written stays.
+fn keeps(rt: &impl Abort, alloc: Global, good: usize) {
+    let mut output = writing(alloc);
+    output.good = good;
+    let outcome = run_into(alloc, &WORDS, &mut reading(b"\n00\n"), output);
+    let written = good.saturating_mul(3).min(REFUSED.len());
+    outcome.is(rt, 3, &REFUSED[..written], "confer: write fault\n");
 }
 
 #[test]
 fn each_write_failing_in_turn_keeps_what_was_written(rt: HostRuntime) {
-    let alloc = rt.alloc();
-    let whole = b"refused Short\nrefused UnknownKind\n";
     for good in 0..12 {
-        let mut output = writing(alloc);
-        output.good = good;
-        let upto = good.saturating_mul(3).min(whole.len());
-        let mut input = reading(b"\n00\n");
-        stops(&rt, alloc, &mut input, &mut output, "confer: write fault\n");
-        assert_eq!(rt; output.text.as_slice(), &whole[..upto]);
+        keeps(&rt, rt.alloc(), good);
     }
 }
 
 #[test]
 fn an_interrupted_write_is_tried_again(rt: HostRuntime) {
-    let alloc = rt.alloc();
-    let mut input = reading(b"\n00\n");
-    let mut output = writing(alloc);
+    let mut output = writing(rt.alloc());
     output.interrupted = 2;
-    assert_eq!(rt;
-        expand_lines(alloc, 7, 3, &mut input, &mut output),
-        Ok(true)
-    );
-    assert_eq!(rt;
-        output.text.as_slice(),
-        b"refused Short\nrefused UnknownKind\n".as_slice()
-    );
+    let outcome = run_into(rt.alloc(), &WORDS, &mut reading(b"\n00\n"), output);
+    outcome.is(&rt, 1, REFUSED, "");
 }
 
 /// Line feeds around the end of the longest input.

@@ -94,18 +94,26 @@ pub fn script_of(alloc: Global, text: &[u8]) -> Result<Script<'_>, ScriptFault>
 /// The first line, with numbers within the limits of a group.
 fn setting_of(alloc: Global, line: &[u8]) -> Result<Setting, LineFault> {
     match words_of(alloc, line)?.as_slice() {
-        ["group", g, "size", n, "window", w, "history", h] => {
-            let group = Group::new(number(g)?, number(n)?, number(w)?).map_err(
-                |_| LineFault::NoLine,
-            )?;
-            let history_max = number(h)? as usize;
-            if !(1..=LONGEST_HISTORY).contains(&history_max) {
-                return Err(LineFault::NoLine);
-            }
-            Ok(Setting { group, history_max })
-        }
+        ["group", g, "size", n, "window", w, "history", h] => setting_from(g, n, w, h),
         _ => Err(LineFault::NoLine),
     }
+}
+
+/// What the numbers of the first line say, where they are within the limits.
+fn setting_from(
+    group: &str,
+    size: &str,
+    window: &str,
+    history: &str,
+) -> Result<Setting, LineFault> {
+    let Ok(group) = Group::new(number(group)?, number(size)?, number(window)?) else {
+        return Err(LineFault::NoLine);
+    };
+    let history_max = number(history)? as usize;
+    if !(1..=LONGEST_HISTORY).contains(&history_max) {
+        return Err(LineFault::NoLine);
+    }
+    Ok(Setting { group, history_max })
 }
 
 /// A further line.

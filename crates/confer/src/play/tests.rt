@@ -3,12 +3,10 @@
 mod rooms;
 mod traces;
 
-use crate::cli::run_plain;
-use crate::fakes::{Sink, Source, reading, writing};
-use crate::play::schedules::SCHEDULES;
+use crate::fakes::{Bulk, reading, run_into, run_on, writing};
+use crate::play::schedules::{SCHEDULES, Schedule};
 use std::alloc::Global;
-use std::io;
-use std::io::{ErrorKind, Read};
+use std::io::ErrorKind;
 use std::process::Abort;
 use std::test::Fail;
 
@@ -16,34 +14,22 @@ const WORDS: [&str; 2] = ["confer", "play"];
 
 /// `confer play` prints this text of the script, and says nothing.
 fn prints(rt: &impl Abort, alloc: Global, script: &str, text: &str) {
-    let mut output = writing(alloc);
-    let mut errors = writing(alloc);
-    let mut input = reading(script.as_bytes());
-    let status = run_plain(alloc, &WORDS, &mut input, &mut output, &mut errors);
-    if output.text.as_slice() != text.as_bytes() {
-        let printed = str::from_utf8(&output.text).unwrap_or("no text");
-        panic!(rt; "{printed}");
-    }
-    assert!(rt; errors.text.is_empty());
-    assert_eq!(rt; status, Some(0));
+    run_on(alloc, &WORDS, &mut reading(script.as_bytes())).is(rt, 0, text.as_bytes(), "");
 }
 
 /// `confer play` prints nothing of the script, says this, and ends with this status.
 fn stops(rt: &impl Abort, alloc: Global, script: &[u8], status: u8, said: &str) {
-    let mut output = writing(alloc);
-    let mut errors = writing(alloc);
-    let mut input = reading(script);
-    assert_eq!(rt;
-        run_plain(alloc, &WORDS, &mut input, &mut output, &mut errors),
-        Some(status)
-    );
-    assert!(rt; output.text.is_empty());
-    assert_eq!(rt; errors.text.as_slice(), said.as_bytes());
+    run_on(alloc, &WORDS, &mut reading(script)).is(rt, status, b"", said);
+}
+
+/// A function, since a constant would be looked through in the proof of the loop.
+fn schedules() -> &'static [Schedule] {
+    SCHEDULES
 }
 
 #[test]
 fn each_schedule_of_the_repository_prints_its_text(rt: HostRuntime) {
-    for schedule in SCHEDULES {
+    for schedule in schedules() {
         prints(&rt, rt.alloc(), schedule.script, schedule.text);
     }
 }
@@ -103,18 +89,17 @@ fn the_longest_payload_is_cast_and_a_longer_one_is_refused(rt: HostRuntime) -> R
     }
     let too_long = format!(in alloc; "cast 0 {hex}0a")?;
     answers(&rt, alloc, FIRST, &too_long, "refused PayloadTooLong")?;
+    casts_the_longest(&rt, alloc, &hex)
+}
+
+/// These digits are cast, arrive, and are printed in lower case.
+fn casts_the_longest(rt: &impl Abort, alloc: Global, hex: &str) -> Result<(), Fail> {
     let script = format!(in alloc; "{FIRST}\ncast 0 {hex}\narrive 1 0\n")?;
-    let mut output = writing(alloc);
-    output.most = 4096;
-    let mut errors = writing(alloc);
-    let mut input = reading(script.as_bytes());
-    let status = run_plain(alloc, &WORDS, &mut input, &mut output, &mut errors);
-    assert_eq!(rt; status, Some(0));
     let lower = hex.to_ascii_lowercase(alloc)?;
     let text = format!(in alloc;
         "1 cast 0.1 [1,0]\n > 0 all 11070001008008{lower}\n2 arrive accepted changed\n = 0.1 [1,0] x{lower}\nmember 0 time [1,0] stable 0 entries 1\nmember 1 time [1,0] stable 0 entries 1\n"
     )?;
-    assert_eq!(rt; output.text.as_slice(), text.as_bytes());
+    prints(rt, alloc, &script, &text);
     Ok(())
 }
 
@@ -512,75 +497,55 @@ fn a_long_script_is_run_whole(rt: HostRuntime) -> Result<(), Fail> {
     Ok(())
 }
 
-/// A fault of the reader or of the writer ends the run with status 3, and is said.
-fn fails(rt: &impl Abort, alloc: Global, input: &mut Source<'_>, output: &mut Sink, said: &str) {
-    let mut errors = writing(alloc);
-    assert_eq!(rt;
-        run_plain(alloc, &WORDS, input, output, &mut errors),
-        Some(3)
-    );
-    assert_eq!(rt; errors.text.as_slice(), said.as_bytes());
+/// The read after so many good ones fails.
+fn fails_to_read(rt: &impl Abort, alloc: Global, good: usize, fault: ErrorKind) {
+    let mut input = reading(b"tock\ntock\n");
+    input.good = good;
+    input.fault = fault;
+    run_on(alloc, &WORDS, &mut input).is(rt, 3, b"", "confer: read fault\n");
 }
 
 #[test]
 fn a_failing_read_comes_before_a_bad_step(rt: HostRuntime) {
-    let alloc = rt.alloc();
-    for fault in [ErrorKind::BrokenPipe, ErrorKind::Interrupted] {
-        for good in 0..3 {
-            let mut input = reading(b"tock\ntock\n");
-            input.good = good;
-            input.fault = fault;
-            let mut output = writing(alloc);
-            fails(&rt, alloc, &mut input, &mut output, "confer: read fault\n");
-            assert!(rt; output.text.is_empty());
-        }
+    for good in 0..3 {
+        fails_to_read(&rt, rt.alloc(), good, ErrorKind::BrokenPipe);
+        fails_to_read(&rt, rt.alloc(), good, ErrorKind::Interrupted);
     }
+}
+
+/// What is printed of one tick.
+const TICKED: &str =
+    "1 tick entered\n > 0 all 12070000\nmember 0 time [0,0] stable 0 entries 1\nmember 1 time [0,0] stable 0 entries 0\n";
+
+/// The write after so many good ones fails: what was written stays.
+fn keeps(rt: &impl Abort, alloc: Global, good: usize) {
+    let mut output = writing(alloc);
+    output.good = good;
+    let script = b"group 7 size 2 window 4 history 100\ntick 0\n";
+    let outcome = run_into(alloc, &WORDS, &mut reading(script), output);
+    let written = good.saturating_mul(3).min(TICKED.len());
+    outcome.is(
+        rt,
+        3,
+        &TICKED.as_bytes()[..written],
+        "confer: write fault\n",
+    );
 }
 
 #[test]
 fn each_write_failing_in_turn_keeps_what_was_written(rt: HostRuntime) {
-    let alloc = rt.alloc();
-    let whole =
-        "1 tick entered\n > 0 all 12070000\nmember 0 time [0,0] stable 0 entries 1\nmember 1 time [0,0] stable 0 entries 0\n".as_bytes();
     for good in 0..37 {
-        let mut output = writing(alloc);
-        output.good = good;
-        let upto = good.saturating_mul(3).min(whole.len());
-        let mut input = reading(b"group 7 size 2 window 4 history 100\ntick 0\n");
-        fails(&rt, alloc, &mut input, &mut output, "confer: write fault\n");
-        assert_eq!(rt; output.text.as_slice(), &whole[..upto]);
+        keeps(&rt, rt.alloc(), good);
     }
 }
 
 #[test]
 fn an_interrupted_write_is_tried_again(rt: HostRuntime) {
-    let alloc = rt.alloc();
-    let mut output = writing(alloc);
+    let mut output = writing(rt.alloc());
     output.interrupted = 2;
-    let mut errors = writing(alloc);
-    let mut input = reading(b"group 7 size 2 window 4 history 100\n");
-    assert_eq!(rt;
-        run_plain(alloc, &WORDS, &mut input, &mut output, &mut errors),
-        Some(0)
-    );
-    assert_eq!(rt; output.text.len(), 78);
-}
-
-/// So many bytes, with a line feed at the front of each read.
-#[derive(Drop)]
-struct Bulk {
-    left: usize,
-}
-
-impl Read for Bulk {
-    fn read(&mut self, buf: &mut [u8]) -> io::Result<usize> {
-        if let Some(first) = buf.first_mut() {
-            *first = b'\n';
-        }
-        let count = self.left.min(buf.len());
-        self.left = self.left.saturating_sub(count);
-        Ok(count)
-    }
+    let script = b"group 7 size 2 window 4 history 100\ntick 0\n";
+    let outcome = run_into(rt.alloc(), &WORDS, &mut reading(script), output);
+    outcome.is(&rt, 0, TICKED.as_bytes(), "");
 }
 
 #[test]
@@ -589,16 +554,7 @@ fn a_script_has_at_most_67108864_bytes(rt: HostRuntime) {
         (67_108_864, 4, "confer: line 1: bad step\n"),
         (67_108_865, 3, "confer: input too long\n"),
     ];
-    let alloc = rt.alloc();
     for (left, status, said) in ROWS {
-        let mut input = Bulk { left: *left };
-        let mut output = writing(alloc);
-        let mut errors = writing(alloc);
-        assert_eq!(rt;
-            run_plain(alloc, &WORDS, &mut input, &mut output, &mut errors),
-            Some(*status)
-        );
-        assert!(rt; output.text.is_empty());
-        assert_eq!(rt; errors.text.as_slice(), said.as_bytes());
+        run_on(rt.alloc(), &WORDS, &mut Bulk { left: *left }).is(&rt, *status, b"", said);
     }
 }
