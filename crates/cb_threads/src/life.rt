@@ -13,7 +13,7 @@ use crate::start::{Parts, Seats};
 use crate::talker::Talker;
 use crate::workers::Desk;
 use cb_lock::{CloseFault, CloseRefusal, Closed, Seat, SharedMember};
-use cb_member::{Group, History, Member};
+use cb_member::{Group, History, Member, Seat as Identity};
 use std::alloc::{AllocError, AllocFailed, Global};
 use std::marker::Brand;
 use std::sync::Wait;
@@ -287,7 +287,7 @@ fn share<
     ensures { IfOk result (λ kept.
         IsKept member.seat.group member.seat.me kept.history (tally_in kept.report)) }
 {
-    let me = member.seat().me();
+    let identity = member.seat();
     let (shared, seat) = SharedMember::<L>::new(setting.alloc, blank, member);
     let desk = Desk {
         alloc: setting.alloc,
@@ -295,9 +295,25 @@ fn share<
         ending: setting.ending,
     };
     let (report, seats) = run_shared(rt, desk, four(seat), parts);
-    match shared.close(seats) {
+    ended(identity, shared.close(seats), report)
+}
+
+/// What came of closing this member.
+fn ended<I: Drop, O: Drop, P: Drop, T: Drop>(
+    identity: Identity,
+    closed: Result<Closed, CloseRefusal>,
+    report: MemberReport<I, O, P, T>,
+) -> Result<Kept<I, O, P, T>, LifeFault>
+    requires { IfOk closed (λ closed. closed.member.seat ≡ identity) }
+    ensures { IfOk result (λ kept.
+        IsKept identity.group identity.me kept.history (tally_in kept.report)) }
+{
+    match closed {
         Ok(Closed { member }) => Ok(keep(report, member)),
-        Err(CloseRefusal { fault, member: _ }) => Err(LifeFault::Close { member: me, fault }),
+        Err(CloseRefusal { fault, member: _ }) => {
+            let member = identity.me();
+            Err(LifeFault::Close { member, fault })
+        }
     }
 }
 

@@ -54,16 +54,20 @@ impl UdpLink {
         let addresses = addresses(alloc, &inlets)?;
         let mut links = Vec::new(alloc);
         for (me, inlet) in inlets.into_iter().enumerate() {
-            let outlet = UdpOutlet {
-                socket: socket(net)?,
-                to: addresses.clone()?,
-                me,
-                failures: 0,
-            };
-            links.push((inlet, outlet))?;
+            links.push((inlet, outlet(net, &addresses, me)?))?;
         }
         Ok(links)
     }
+}
+
+/// Where the frames of this member go, among members with these addresses.
+fn outlet<N: Net>(net: &N, addresses: &Vec<SocketAddr>, me: usize) -> Result<UdpOutlet, LinkFault> {
+    Ok(UdpOutlet {
+        socket: socket(net)?,
+        to: addresses.clone()?,
+        me,
+        failures: 0,
+    })
 }
 
 fn inlets<N: Net>(net: &N, alloc: Global, size: u32) -> Result<Vec<UdpInlet>, LinkFault> {

@@ -7,7 +7,7 @@ use crate::{
     ChannelInlet, ChannelLink, ChannelOutlet, GroupReport, Limits, MemberReport, Stop, run_group,
     run_member,
 };
-use cb_lock::{Closed, Seat, SharedMember};
+use cb_lock::{CloseRefusal, Closed, Seat, SharedMember};
 use cb_member::{Group, Member};
 use std::alloc::Global;
 use std::marker::Brand;
@@ -43,9 +43,14 @@ fn fresh(rt: &impl Abort, alloc: Global) -> Member
 }
 
 fn closes<L: Ledger>(rt: &impl Abort, shared: SharedMember<L>, claimed: Vec<Seat<L>>) {
-    match shared.close(claimed) {
-        Ok(Closed { member }) => assert!(rt; !member.history().is_empty()),
-        Err(_refusal) => panic!(rt; "the receipts are those of the history"),
+    let has_entries = has_entries(shared.close(claimed));
+    assert!(rt; has_entries, "the receipts are those of the history");
+}
+
+fn has_entries(closed: Result<Closed, CloseRefusal>) -> bool {
+    match closed {
+        Ok(Closed { member }) => !member.history().is_empty(),
+        Err(_refusal) => false,
     }
 }
 
@@ -115,8 +120,12 @@ fn all_met<'a>(
     ran: GroupReport<ChannelInlet, ChannelOutlet, Meeting<'a>, Patient<'a>>,
 ) {
     assert_eq!(rt; ran.histories.len(), 3);
-    for report in ran.reports {
-        assert_eq!(rt; report.pace_failures, 0);
-        assert!(rt; report.fault.is_none());
+    for report in ran.reports.iter() {
+        has_met(rt, report);
     }
+}
+
+fn has_met<I, O, P, T>(rt: &impl Abort, report: &MemberReport<I, O, P, T>) {
+    assert_eq!(rt; report.pace_failures, 0);
+    assert!(rt; report.fault.is_none());
 }

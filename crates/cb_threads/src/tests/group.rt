@@ -4,7 +4,8 @@ ghost use Rattle.std.specs.Prelude.{◌≡◌};
 
 use super::parts::{Counting, Millisecond};
 use crate::{
-    ChannelLink, GroupFault, GroupReport, Inlet, Limits, Outlet, Pace, UdpLink, run_group,
+    ChannelLink, GroupFault, GroupReport, Inlet, Limits, MemberReport, Outlet, Pace, UdpLink,
+    run_group,
 };
 use cb_member::Group;
 use std::alloc::Global;
@@ -46,12 +47,16 @@ fn counting(alloc: Global, member: u32) -> Counting {
 }
 
 fn all_delivered<I: Drop, O: Drop, P: Drop>(rt: &impl Abort, ran: GroupReport<I, O, P, Counting>) {
-    for report in ran.reports {
-        assert_eq!(rt; report.casts, 2);
-        assert_eq!(rt; report.deliveries, 4);
-        assert_eq!(rt; report.pace_failures, 0);
-        assert!(rt; report.fault.is_none());
+    for report in ran.reports.iter() {
+        has_delivered(rt, report);
     }
+}
+
+fn has_delivered<I, O, P, T>(rt: &impl Abort, report: &MemberReport<I, O, P, T>) {
+    assert_eq!(rt; report.casts, 2);
+    assert_eq!(rt; report.deliveries, 4);
+    assert_eq!(rt; report.pace_failures, 0);
+    assert!(rt; report.fault.is_none());
 }
 
 #[test]
