@@ -1,4 +1,7 @@
 //! Members under locks: beside members without one, and over real threads.
+//!
+//! What has a destructor is dropped by a call of `drop`, and before what is asserted: a test that leaves it to its end takes the
+//! prover ten times as long.
 
 ghost use Rattle.std.specs.Prelude.{◌≡◌, []};
 
@@ -27,8 +30,12 @@ fn claims_all(rt: &impl Abort, entries: &[Entry], receipts: &[Receipt]) {
     assert_eq!(rt; receipts.len(), entries.len());
     for (index, receipt) in receipts.iter().enumerate() {
         assert_eq!(rt; receipt.place, index + 1);
-        assert!(rt; entries.get(index) == Some(&receipt.entry));
+        assert!(rt; is_at(entries, index, &receipt.entry));
     }
+}
+
+fn is_at(entries: &[Entry], index: usize, entry: &Entry) -> bool {
+    entries.get(index) == Some(entry)
 }
 
 /// One seat or two, to close with.

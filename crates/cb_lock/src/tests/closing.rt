@@ -15,9 +15,9 @@ use std::test::*;
 /// A member that cast, ticked and cast.
 fn with_three_entries(rt: &impl Abort, alloc: Global) -> Member {
     let mut member = member(rt, alloc, (3, 4), 0, 100);
-    let _ = member.cast(b"a").expect(rt, "a cast");
-    let _ = member.tick().expect(rt, "a tick");
-    let _ = member.cast(b"b").expect(rt, "a cast");
+    drop(member.cast(b"a").expect(rt, "a cast"));
+    drop(member.tick().expect(rt, "a tick"));
+    drop(member.cast(b"b").expect(rt, "a cast"));
     member
 }
 
@@ -39,13 +39,28 @@ const ROWS: &[(Claims, Claims, Option<usize>)] = &[
 fn a_receipt_is_the_entry_at_its_place_and_the_only_one_of_it(rt: HostRuntime) {
     let member = with_three_entries(&rt, rt.alloc());
     for (first, second, wrong) in ROWS {
-        let mut seen = none_seen(rt.alloc(), 3).expect(&rt, "memory");
-        let found = match found_in(&rt, rt.alloc(), &member, &mut seen, first) {
-            Some(place) => Some(place),
-            None => found_in(&rt, rt.alloc(), &member, &mut seen, second),
-        };
-        assert_eq!(rt; found, *wrong);
+        assert_eq!(rt;
+            found_in_both(&rt, rt.alloc(), &member, first, second),
+            *wrong
+        );
     }
+    drop(member);
+}
+
+fn found_in_both(
+    rt: &impl Abort,
+    alloc: Global,
+    member: &Member,
+    first: Claims,
+    second: Claims,
+) -> Option<usize> {
+    let mut seen = none_seen(alloc, 3).expect(rt, "memory");
+    let found = match found_in(rt, alloc, member, &mut seen, first) {
+        Some(place) => Some(place),
+        None => found_in(rt, alloc, member, &mut seen, second),
+    };
+    drop(seen);
+    found
 }
 
 fn found_in(
@@ -83,11 +98,12 @@ fn finds<L: Ledger, R: Abort>(rt: &R, alloc: Global, blank: Blank)
     let (mut held, mut seat) = Held::<L>::new(alloc, blank, member(rt, alloc, (3, 4), 0, 100));
     cast(rt, &mut held, &mut seat);
     is_missing::<L, R>(rt, alloc, held.member());
-    is_another(rt, held.member(), &seats(rt, alloc, seat, None));
+    is_another(rt, held.member(), seats(rt, alloc, seat, None));
+    drop(held);
 }
 
 fn cast<L: Ledger>(rt: &impl Abort, held: &mut Held<L>, seat: &mut Seat<L>) {
-    let _ = held.cast(seat, b"a").expect(rt, "a cast");
+    drop(held.cast(seat, b"a").expect(rt, "a cast"));
 }
 
 /// Without the seat it is missing, also where the member is another one.
@@ -98,19 +114,22 @@ fn is_missing<L: Ledger, R: Abort>(rt: &R, alloc: Global, member: &Member) {
         entries: 1,
     };
     let found = fault_of(member_one(rt, alloc), member, &no_seats);
+    drop(no_seats);
     assert_eq!(rt; found, Some(missing));
 }
 
 fn member_one(rt: &impl Abort, alloc: Global) -> Identity {
-    member(rt, alloc, (3, 4), 1, 100).seat()
+    let member = member(rt, alloc, (3, 4), 1, 100);
+    let seat = member.seat();
+    drop(member);
+    seat
 }
 
 /// With the seat nothing is wrong but that the member is another one.
-fn is_another<L: Ledger>(rt: &impl Abort, member: &Member, all: &Vec<Seat<L>>) {
-    let other = Some(CloseFault::OtherMember);
-    assert_eq!(rt;
-        fault_of(member_one(rt, *all.allocator()), member, all),
-        other
-    );
-    assert_eq!(rt; fault_of(member.seat(), member, all), None);
+fn is_another<L: Ledger>(rt: &impl Abort, member: &Member, all: Vec<Seat<L>>) {
+    let other = fault_of(member_one(rt, *all.allocator()), member, &all);
+    let same = fault_of(member.seat(), member, &all);
+    drop(all);
+    assert_eq!(rt; other, Some(CloseFault::OtherMember));
+    assert_eq!(rt; same, None);
 }

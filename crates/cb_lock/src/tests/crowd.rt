@@ -46,9 +46,11 @@ fn share<L: Ledger + Send + Sync, R: Threads + Wait + Abort + Sync>(
 /// The seats have as many receipts as the history has entries.
 fn claims_all_entries<L: Ledger>(rt: &impl Abort, shared: SharedMember<L>, seats: Vec<Seat<L>>) {
     let claimed = receipts_in(&seats);
-    assert!(rt; claimed > 4 * 256);
     let member = closed(rt, shared, seats);
-    assert_eq!(rt; member.history().len(), claimed);
+    let entries = member.history().len();
+    drop(member);
+    assert!(rt; claimed > 4 * 256);
+    assert_eq!(rt; entries, claimed);
 }
 
 /// As many casts of member 1 as it may make before others have delivered some.
@@ -58,6 +60,7 @@ fn mail_of_the_other(rt: &impl Abort, alloc: Global) -> Mail {
     for _ in 0..256u32 {
         frames.push(frame_of(rt, &mut other)).expect(rt, "memory");
     }
+    drop(other);
     Mail { alloc, frames }
 }
 

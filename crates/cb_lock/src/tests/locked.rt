@@ -169,7 +169,7 @@ fn run_script<L: Ledger, R: Wait + Abort>(rt: &R, alloc: Global, blank: Blank, s
     let plain = run_plain(rt, alloc, script);
     claims_all(rt, plain.history(), seat.receipts());
     let member = closed(rt, shared, seats(rt, alloc, seat, None));
-    have_one_history(rt, &member, &plain);
+    have_one_history(rt, member, plain);
 }
 
 fn of_script(rt: &impl Abort, alloc: Global, script: &Script) -> Member
@@ -178,8 +178,11 @@ fn of_script(rt: &impl Abort, alloc: Global, script: &Script) -> Member
     member(rt, alloc, (3, script.window), script.me, script.limit)
 }
 
-fn have_one_history(rt: &impl Abort, member: &Member, plain: &Member) {
-    assert!(rt; member.history() == plain.history());
+fn have_one_history(rt: &impl Abort, member: Member, plain: Member) {
+    let is_one = member.history() == plain.history();
+    drop(member);
+    drop(plain);
+    assert!(rt; is_one);
 }
 
 fn run_plain(rt: &impl Abort, alloc: Global, script: &Script) -> Member {
@@ -195,9 +198,9 @@ fn run_plain(rt: &impl Abort, alloc: Global, script: &Script) -> Member {
 
 fn plain_answer(rt: &impl Abort, alloc: Global, member: &mut Member, call: &Call) -> String {
     let said = match call {
-        Call::Cast(payload) => said::by_cast(alloc, &member.cast(payload)),
-        Call::Take(bytes) => said::by_arrival(alloc, &member.arrive(&Bytes::from_static(bytes))),
-        Call::Tick => said::by_tick(alloc, &member.tick()),
+        Call::Cast(payload) => said::by_cast(alloc, member.cast(payload)),
+        Call::Take(bytes) => said::by_arrival(alloc, member.arrive(&Bytes::from_static(bytes))),
+        Call::Tick => said::by_tick(alloc, member.tick()),
     };
     said.expect(rt, "memory")
 }
@@ -225,11 +228,11 @@ fn locked_answer<L: Ledger>(
     call: &Call,
 ) -> String {
     let said = match call {
-        Call::Cast(payload) => said::by_cast(alloc, &shared.cast(rt, seat, payload)),
+        Call::Cast(payload) => said::by_cast(alloc, shared.cast(rt, seat, payload)),
         Call::Take(bytes) => {
-            said::by_arrival(alloc, &shared.arrive(rt, seat, &Bytes::from_static(bytes)))
+            said::by_arrival(alloc, shared.arrive(rt, seat, &Bytes::from_static(bytes)))
         }
-        Call::Tick => said::by_tick(alloc, &shared.tick(rt, seat)),
+        Call::Tick => said::by_tick(alloc, shared.tick(rt, seat)),
     };
     said.expect(rt, "memory")
 }

@@ -6,10 +6,16 @@ use cb_member::{
 };
 use std::alloc::{AllocError, Global};
 
+fn append(text: &mut String, more: String) -> Result<(), AllocError> {
+    let done = text.push_str(more.as_str());
+    drop(more);
+    done
+}
+
 fn hexadecimal(alloc: Global, bytes: &Bytes) -> Result<String, AllocError> {
     let mut text = String::new(alloc);
     for byte in bytes.as_slice() {
-        text.push_str(format!(in alloc; "{byte:02x}")?.as_str())?;
+        append(&mut text, format!(in alloc; "{byte:02x}")?)?;
     }
     Ok(text)
 }
@@ -17,28 +23,49 @@ fn hexadecimal(alloc: Global, bytes: &Bytes) -> Result<String, AllocError> {
 fn names(alloc: Global, deliveries: &[Message]) -> Result<String, AllocError> {
     let mut text = String::new(alloc);
     for message in deliveries {
-        text.push_str(format!(in alloc; " {}", message.name)?.as_str())?;
+        append(&mut text, format!(in alloc; " {}", message.name)?)?;
     }
     Ok(text)
 }
 
 fn frames(alloc: Global, out: &[Outgoing]) -> Result<String, AllocError> {
     let mut text = String::new(alloc);
-    for Outgoing { to, bytes } in out {
-        let bytes = hexadecimal(alloc, bytes)?;
-        let frame = match to {
-            Some(member) => format!(in alloc; ", to {member}: {bytes}")?,
-            None => format!(in alloc; ", to all: {bytes}")?,
-        };
-        text.push_str(frame.as_str())?;
+    for frame in out {
+        append(&mut text, one_frame(alloc, frame)?)?;
     }
     Ok(text)
 }
 
-pub fn by_cast(
+fn one_frame(alloc: Global, frame: &Outgoing) -> Result<String, AllocError> {
+    let bytes = hexadecimal(alloc, &frame.bytes)?;
+    match frame.to {
+        Some(member) => format!(in alloc; ", to {member}: {bytes}"),
+        None => format!(in alloc; ", to all: {bytes}"),
+    }
+}
+
+pub fn by_cast(alloc: Global, answer: Result<CastDone, CastRefusal>) -> Result<String, AllocError> {
+    let said = of_cast(alloc, &answer);
+    drop(answer);
+    said
+}
+
+pub fn by_arrival(
     alloc: Global,
-    answer: &Result<CastDone, CastRefusal>,
+    answer: Result<Arrival, ArriveRefusal>,
 ) -> Result<String, AllocError> {
+    let said = of_arrival(alloc, &answer);
+    drop(answer);
+    said
+}
+
+pub fn by_tick(alloc: Global, answer: Result<Ticked, TickRefusal>) -> Result<String, AllocError> {
+    let said = of_tick(alloc, &answer);
+    drop(answer);
+    said
+}
+
+fn of_cast(alloc: Global, answer: &Result<CastDone, CastRefusal>) -> Result<String, AllocError> {
     match answer {
         Ok(CastDone { name, time, out }) => {
             let out = hexadecimal(alloc, out)?;
@@ -48,7 +75,7 @@ pub fn by_cast(
     }
 }
 
-pub fn by_arrival(
+fn of_arrival(
     alloc: Global,
     answer: &Result<Arrival, ArriveRefusal>,
 ) -> Result<String, AllocError> {
@@ -70,7 +97,7 @@ pub fn by_arrival(
     }
 }
 
-pub fn by_tick(alloc: Global, answer: &Result<Ticked, TickRefusal>) -> Result<String, AllocError> {
+fn of_tick(alloc: Global, answer: &Result<Ticked, TickRefusal>) -> Result<String, AllocError> {
     match answer {
         Ok(Ticked { entered, out }) => {
             let state = if *entered { "entered" } else { "not entered" };

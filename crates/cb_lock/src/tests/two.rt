@@ -49,7 +49,9 @@ fn closes_with_both<L: Ledger, R: Wait + Abort>(
     let seat = cast(rt, &shared, seat);
     let beside = ticked(rt, &shared, beside);
     let member = closed(rt, shared, seats(rt, alloc, seat, Some(beside)));
-    assert_eq!(rt; member.history().len(), 2);
+    let entries = member.history().len();
+    drop(member);
+    assert_eq!(rt; entries, 2);
 }
 
 fn closes_with_one<L: Ledger, R: Wait + Abort>(
@@ -59,20 +61,23 @@ fn closes_with_one<L: Ledger, R: Wait + Abort>(
     seat: Seat<L>,
     lost: Seat<L>,
 ) {
-    let _lost = ticked(rt, &shared, lost);
+    drop(ticked(rt, &shared, lost));
     match shared.close(seats(rt, alloc, seat, None)) {
         Ok(_closed) => panic!(rt; "a seat is missing"),
-        Err(CloseRefusal { fault, member }) => {
-            assert_eq!(rt;
-                fault,
-                CloseFault::SeatsMissing {
-                    claimed: 1,
-                    entries: 2
-                }
-            );
-            assert_eq!(rt; member.history().len(), 2);
-        }
+        Err(refusal) => is_a_missing_seat(rt, refusal),
     }
+}
+
+fn is_a_missing_seat(rt: &impl Abort, refusal: CloseRefusal) {
+    let CloseRefusal { fault, member } = refusal;
+    let entries = member.history().len();
+    drop(member);
+    let missing = CloseFault::SeatsMissing {
+        claimed: 1,
+        entries: 2,
+    };
+    assert_eq!(rt; fault, missing);
+    assert_eq!(rt; entries, 2);
 }
 
 /// The seat with the receipt of a cast, which it then sees at the end of the history.
@@ -118,7 +123,9 @@ fn ends_with_cast(member: &Member, out: &Bytes) -> bool {
 fn ticked<L: Ledger>(rt: &(impl Wait + Abort), shared: &SharedMember<L>, seat: Seat<L>) -> Seat<L> {
     let mut seat = seat;
     let ticked = shared.tick(rt, &mut seat).expect(rt, "a tick");
-    assert!(rt; ticked.entered);
+    let entered = ticked.entered;
+    drop(ticked);
+    assert!(rt; entered);
     assert!(rt; matches!(seat.receipts().last(), Some(receipt) if receipt.place == 2));
     seat
 }
