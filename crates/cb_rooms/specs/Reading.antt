@@ -36,21 +36,31 @@ abbrev pub name_at : ℕ → ℕ → Option Name
 name_at sender number =
     if nat_lt sender MOST_MEMBERS && nat_lt 0 number then Some (record { sender = sender; number = number }) else None
 
+-- something said, where the one is the name of a room and the other a text
+abbrev pub said_at : List ℕ → List ℕ → Option LineFields
+said_at name rest = do
+  room ← room_at name
+  text ← text_at rest
+  Some (SayLine room text)
+
 unfoldable pub say_at : List ℕ → Option LineFields
 say_at bytes = do
   size ← number_at bytes
   parts ← parts_at size.0 size.1
-  room ← room_at parts.0
-  text ← text_at parts.1
-  Some (SayLine room text)
+  said_at parts.0 parts.1
+
+-- an answer to this message, where it can be one and the rest is a text
+abbrev pub answered_at : ℕ → ℕ → List ℕ → Option LineFields
+answered_at sender number rest = do
+  question ← name_at sender number
+  text ← text_at rest
+  Some (AnswerLine question text)
 
 unfoldable pub answer_at : List ℕ → Option LineFields
 answer_at bytes = do
   sender ← number_at bytes
   number ← number_at sender.1
-  question ← name_at sender.0 number.0
-  text ← text_at number.1
-  Some (AnswerLine question text)
+  answered_at sender.0 number.0 number.1
 
 abbrev pub kind_at : List ℕ → Option LineFields
 kind_at [] = None

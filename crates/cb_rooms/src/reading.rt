@@ -2,7 +2,7 @@
 
 ghost use Rattle.std.specs.Prelude.{◌≡◌, option_map, IfSome, Some};
 ghost use Rattle.cb_rooms.specs.Line.{LineFields, fields_of, IsPayload};
-ghost use Rattle.cb_rooms.specs.Reading.{number_at, parts_at, room_at, text_at, name_at, say_at, answer_at, line_at};
+ghost use Rattle.cb_rooms.specs.Reading.{number_at, parts_at, room_at, text_at, name_at, said_at, say_at, answered_at, answer_at, line_at};
 
 use crate::line::{LONGEST_PAYLOAD, Line, is_room, is_text};
 use cb_times::{MOST_MEMBERS, Name};
@@ -65,6 +65,13 @@ fn say(bytes: &[u8]) -> Option<Line<'_>>
 {
     let (length, rest) = number(bytes)?;
     let (name, rest) = parts(length as usize, rest)?;
+    said(name, rest)
+}
+
+/// Something said, where the one is the name of a room and the other a text.
+fn said<'a>(name: &'a [u8], rest: &'a [u8]) -> Option<Line<'a>>
+    ensures { option_map fields_of result ≡ said_at name.now rest.now }
+{
     let room = room(name)?;
     let text = text(rest)?;
     Some(Line::Say { room, text })
@@ -76,6 +83,13 @@ fn answer(bytes: &[u8]) -> Option<Line<'_>>
 {
     let (sender, rest) = number(bytes)?;
     let (message, rest) = number(rest)?;
+    answered(sender, message, rest)
+}
+
+/// An answer to this message, where it can be one and the rest is a text.
+fn answered(sender: u32, message: u32, rest: &[u8]) -> Option<Line<'_>>
+    ensures { option_map fields_of result ≡ answered_at sender message rest.now }
+{
     let question = name(sender, message)?;
     let text = text(rest)?;
     Some(Line::Answer { question, text })
