@@ -13,7 +13,7 @@ use crate::agreement::world::World;
 use crate::examples::calls::{Call, Made, answer, group_of};
 use crate::member::PlainMember;
 use bytes::Bytes;
-use cb_history::{Entry, Event, Group, GroupMember};
+use cb_history::{Entry, Event, Group, GroupMember, History};
 use cb_member::Member;
 use std::alloc::Global;
 use std::process::Abort;
@@ -64,9 +64,12 @@ impl Pair {
 
     fn has_same_events(&self) -> Result<bool, Fail> {
         let plain = GroupMember::events(&self.plain)?;
-        let quick = self.quick.events();
-        Ok(plain.len() == quick.len() && plain.iter().zip(quick).all(is_same))
+        Ok(are_same_events(&plain, self.quick.events()))
     }
+}
+
+fn are_same_events(plain: &[Event], quick: &[Event]) -> bool {
+    plain.len() == quick.len() && plain.iter().zip(quick).all(is_same)
 }
 
 /// The events are of one kind, with the same name, time and payload.
@@ -78,6 +81,21 @@ fn is_same(events: (&Event, &Event)) -> bool {
                 && one.payload == other.payload
         }
         (Event::Cast(_), Event::Deliver(_)) | (Event::Deliver(_), Event::Cast(_)) => false,
+    }
+}
+
+fn random_group(size: u32, dice: &mut Dice) -> Result<Group, Fail> {
+    let number = dice.near(299);
+    let window = dice.below(8).saturating_add(1);
+    group_of(number, size, window)
+}
+
+/// A history that is soon full, now and then.
+fn random_limit(dice: &mut Dice) -> usize {
+    if dice.one_in(4) {
+        dice.place(20).saturating_add(1)
+    } else {
+        100_000
     }
 }
 
@@ -94,22 +112,38 @@ struct Trial {
 
 impl Trial {
     fn new(alloc: Global, size: u32, dice: &mut Dice) -> Result<Trial, Fail> {
-        let number = dice.near(299);
-        let window = dice.below(8).saturating_add(1);
-        let group = group_of(number, size, window)?;
+        let group = random_group(size, dice)?;
         let me = dice.below(size);
-        let limit = if dice.one_in(4) {
-            dice.place(20).saturating_add(1)
-        } else {
-            100_000
-        };
-        Ok(Trial {
-            pair: Pair::new(alloc, group, me, limit)?,
-            world: World::new(alloc, group, me)?,
+        let limit = random_limit(dice);
+        let honesty = dice.below(10).saturating_add(1);
+        let world = World::new(alloc, group, me)?;
+        Trial::with(
+            world,
+            Pair::new(alloc, group, me, limit),
             group,
             me,
-            honesty: dice.below(10).saturating_add(1),
-        })
+            honesty,
+        )
+    }
+
+    /// Takes the pair as it was made, so that no other exit has one to let go.
+    fn with(
+        world: World,
+        pair: Result<Pair, Fail>,
+        group: Group,
+        me: u32,
+        honesty: u32,
+    ) -> Result<Trial, Fail> {
+        match pair {
+            Ok(pair) => Ok(Trial {
+                pair,
+                world,
+                group,
+                me,
+                honesty,
+            }),
+            Err(fail) => Err(fail),
+        }
     }
 
     /// A frame that was sent, a damaged one, or a forged one.
@@ -169,6 +203,20 @@ impl Trial {
         Ok(())
     }
 
+    fn calls_compared<R: Abort>(
+        &mut self,
+        rt: &R,
+        alloc: Global,
+        dice: &mut Dice,
+    ) -> Result<(), Fail> {
+        self.calls(rt, alloc, dice)?;
+        self.compare(rt, alloc)
+    }
+
+    fn into_pair(self) -> Pair {
+        self.pair
+    }
+
     /// All that is read of both is the same in the end.
     fn compare<R: Abort>(&mut self, rt: &R, alloc: Global) -> Result<(), Fail> {
         for call in [Call::Time, Call::Stable, Call::Entries] {
@@ -185,7 +233,10 @@ impl Trial {
 /// The histories that both end with.
 fn end(rt: &impl Abort, pair: Pair) {
     let Pair { plain, quick } = pair;
-    let (plain, quick) = (plain.into_history(), quick.into_history());
+    are_same_histories(rt, &quick.into_history(), &plain.into_history());
+}
+
+fn are_same_histories(rt: &impl Abort, quick: &History, plain: &History) {
     assert_eq!(rt; quick.me, plain.me);
     assert!(rt; quick.group == plain.group);
     assert!(rt; quick.entries.as_slice() == plain.entries.as_slice());
@@ -194,9 +245,8 @@ fn end(rt: &impl Abort, pair: Pair) {
 fn play<R: Abort>(rt: &R, alloc: Global, size: u32, seed: u32) -> Result<(), Fail> {
     let mut dice = Dice::new(seed);
     let mut trial = Trial::new(alloc, size, &mut dice)?;
-    trial.calls(rt, alloc, &mut dice)?;
-    trial.compare(rt, alloc)?;
-    end(rt, trial.pair);
+    trial.calls_compared(rt, alloc, &mut dice)?;
+    end(rt, trial.into_pair());
     Ok(())
 }
 

@@ -136,6 +136,29 @@ fn counts_with<'a>(
     counts(alloc, size, &all)
 }
 
+/// The cast as its frame and its entry.
+fn casting_of(alloc: Global, name: Name, time: VectorTime, cast: Cast) -> Result<Casting, NoMemory>
+    requires rules { KeepsRules (CastFrame (cast_fields cast)) }
+    requires payload { length (payload_of (CastFrame (cast_fields cast))) ≤ LONGEST_PAYLOAD }
+    ensures done { IfOk result (λ casting. casting.done ≡ record {
+      name = name;
+      time = time;
+      out = text_of (CastFrame (cast_fields cast));
+    }) }
+    ensures entry { IfOk result (λ casting.
+        entry_fields casting.entry ≡ CastEntry (text_of (CastFrame (cast_fields cast)))) }
+{
+    let frame = Frame::Cast(cast);
+    let out = frame_text(alloc, &frame)?;
+    let entry = Entry::Cast {
+        frame: out.clone()?,
+    };
+    Ok(Casting {
+        done: CastDone { name, time, out },
+        entry,
+    })
+}
+
 /// Makes the next cast.
 fn make(past: &Past<'_>, payload: &[u8]) -> Result<Casting, NoMemory>
     requires { length payload.now ≤ LONGEST_PAYLOAD }
@@ -152,15 +175,7 @@ fn make(past: &Past<'_>, payload: &[u8]) -> Result<Casting, NoMemory>
         number: cast.number,
     };
     let time = counts_with(alloc, past.size(), past.seen(), &cast)?;
-    let frame = Frame::Cast(cast);
-    let out = frame_text(alloc, &frame)?;
-    let entry = Entry::Cast {
-        frame: out.clone()?,
-    };
-    Ok(Casting {
-        done: CastDone { name, time, out },
-        entry,
-    })
+    casting_of(alloc, name, time, cast)
 }
 
 /// As many own casts as the window are not known to be delivered everywhere.
@@ -189,12 +204,29 @@ pub fn answer_cast(member: &PlainMember, payload: &[u8]) -> Result<Casting, Cast
     }
     let facts = facts_of(member.allocator(), member.history())?;
     let past = Past::of(member, &facts)?;
-    if is_window_full(&past) {
+    short_cast(&past, payload)
+}
+
+/// The answer to a cast of a payload that is not too long.
+#[tactic(auto, unfolding(cb_history::specs::Answers::cast_answer))]
+fn short_cast(past: &Past<'_>, payload: &[u8]) -> Result<Casting, CastRefusal>
+    requires { length payload.now ≤ LONGEST_PAYLOAD }
+    ensures answer { IfOk result (λ casting. answer_to_cast past.now payload.now
+        ≡ Ok (next_in past.now payload.now)) }
+    ensures done { IfOk result (λ casting. let facts = facts_in past.now in
+        casting.done ≡ cast_done past.now.seat facts (next_in past.now payload.now)) }
+    ensures entry { IfOk result (λ casting. let facts = facts_in past.now in
+        entry_fields casting.entry ≡ CastEntry (text_of (CastFrame
+        (next_cast past.now.seat facts payload.now)))) }
+    ensures room { IfOk result (λ casting. length past.now.entries < past.now.limit) }
+    ensures refused { IfErr result (RefusesCast past.now payload.now) }
+{
+    if is_window_full(past) {
         return Err(CastRefusal::WindowFull);
     }
-    if member.is_full() {
+    if past.member().is_full() {
         return Err(CastRefusal::HistoryFull);
     }
-    let casting = make(&past, payload)?;
+    let casting = make(past, payload)?;
     Ok(casting)
 }

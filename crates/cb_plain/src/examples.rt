@@ -746,24 +746,46 @@ fn sent_again<M: Made>(member: &mut M, request: &Bytes) -> Result<Vec<Outgoing>,
     }
 }
 
-/// Of 65 that are asked for, casts 2 to 66.
-pub fn at_most_64_frames_are_sent_again_at_once<M: Made, R: Abort>(
-    rt: &R,
-    alloc: Global,
-) -> Result<(), Fail> {
+fn cast_of_x<M: Made>(member: &mut M) -> Result<(), Fail> {
+    match member.cast(b"x") {
+        Ok(_) => Ok(()),
+        Err(_) => Err(Fail::new("a cast")),
+    }
+}
+
+fn after_66_casts<M: Made>(alloc: Global) -> Result<M, Fail> {
     let mut member = M::made(alloc, group_of(7, 3, 100)?, 0, 100)?;
     for _ in 0..66 {
-        let _done = member.cast(b"x").ok().ok_or("a cast")?;
+        cast_of_x(&mut member)?;
     }
+    Ok(member)
+}
+
+/// What is sent of casts 2 to 66, which are asked for.
+fn sent_of_65<M: Made>(alloc: Global) -> Result<Vec<Outgoing>, Fail> {
+    let mut member = after_66_casts::<M>(alloc)?;
     let request = Bytes::from_static(b"\x13\x07\x02\x00\x01\x01\x40");
-    let out = sent_again(&mut member, &request)?;
-    assert_eq!(rt; out.len(), 64);
-    for (number, frame) in (2..).zip(&out) {
+    sent_again(&mut member, &request)
+}
+
+/// To member 2, in the order of their numbers from 2 on.
+fn are_casts_from_2<R: Abort>(rt: &R, out: &[Outgoing]) {
+    for (number, frame) in (2..).zip(out) {
         assert_eq!(rt; frame.to, Some(2));
         assert_eq!(rt;
             frame.bytes.as_slice(),
             [17, 7, 0, number, 0, 1, b'x'].as_slice()
         );
     }
+}
+
+/// Of 65 that are asked for, casts 2 to 65.
+pub fn at_most_64_frames_are_sent_again_at_once<M: Made, R: Abort>(
+    rt: &R,
+    alloc: Global,
+) -> Result<(), Fail> {
+    let out = sent_of_65::<M>(alloc)?;
+    assert_eq!(rt; out.len(), 64);
+    are_casts_from_2(rt, &out);
     Ok(())
 }

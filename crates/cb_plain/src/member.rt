@@ -181,8 +181,7 @@ impl PlainMember {
     {
         let casting = answer_cast(self, payload)?;
         let Casting { done, entry } = casting;
-        let noted = entry.copy()?;
-        enter(&mut self.entries, Some(entry))?;
+        let noted = enter_cast(&mut self.entries, entry)?;
         Ok((done, noted))
     }
 
@@ -209,8 +208,7 @@ impl PlainMember {
     {
         let accepting = answer_arrival(self, bytes)?;
         let Accepting { arrival, entry } = accepting;
-        let noted = copy_of(&entry)?;
-        enter(&mut self.entries, entry)?;
+        let noted = enter_noted(&mut self.entries, entry)?;
         Ok((arrival, noted))
     }
 
@@ -236,8 +234,7 @@ impl PlainMember {
     {
         let ticking = answer_tick(self)?;
         let Ticking { done, entry } = ticking;
-        let noted = copy_of(&entry)?;
-        enter(&mut self.entries, entry)?;
+        let noted = enter_noted(&mut self.entries, entry)?;
         Ok((done, noted))
     }
 }
@@ -286,6 +283,35 @@ fn copy_of(entry: &Option<Entry>) -> Result<Option<Entry>, NoMemory>
         Some(entry) => Ok(Some(entry.copy()?)),
         None => Ok(None),
     }
+}
+
+/// Adds the entry, where there is one, and hands out a copy of it.
+fn enter_noted(entries: &mut Vec<Entry>, entry: Option<Entry>) -> Result<Option<Entry>, NoMemory>
+    ensures added { OnOk result (map entry_fields entries.new.items
+        ≡ and_entry (map entry_fields entries.old.items) (option_map entry_fields entry)) }
+    ensures noted { IfOk result (λ noted. option_map entry_fields noted
+        ≡ option_map entry_fields entry) }
+    ensures room { OnOk result ((limit : ℕ) → length entries.old.items ≤ limit → (IsSome entry
+        → length entries.old.items < limit) → length entries.new.items ≤ limit) }
+    ensures same { OnErr result (entries.new.items ≡ entries.old.items) }
+{
+    let noted = copy_of(&entry)?;
+    enter(entries, entry)?;
+    Ok(noted)
+}
+
+/// The same for an entry that there is.
+fn enter_cast(entries: &mut Vec<Entry>, entry: Entry) -> Result<Entry, NoMemory>
+    ensures added { OnOk result (map entry_fields entries.new.items
+        ≡ and_entry (map entry_fields entries.old.items) (Some (entry_fields entry))) }
+    ensures noted { IfOk result (λ noted. entry_fields noted ≡ entry_fields entry) }
+    ensures room { OnOk result ((limit : ℕ) → length entries.old.items < limit
+        → length entries.new.items ≤ limit) }
+    ensures same { OnErr result (entries.new.items ≡ entries.old.items) }
+{
+    let noted = entry.copy()?;
+    entries.push(entry)?;
+    Ok(noted)
 }
 
 /// Adds the entry, where there is one.

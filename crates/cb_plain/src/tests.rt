@@ -3,7 +3,7 @@
 use crate::examples;
 use crate::member::PlainMember;
 use bytes::Bytes;
-use cb_history::{Entry, Group, NewFault};
+use cb_history::{CastDone, Entry, Group, History, NewFault};
 use cb_member::Member;
 use std::alloc::Global;
 use std::process::Abort;
@@ -13,35 +13,43 @@ fn group(rt: &impl Abort) -> Group {
     Group::new(7, 3, 4).expect(rt, "the numbers are those of a group")
 }
 
+/// Of a group of three: a member, the limit of its history, and why there is no such member.
+const REFUSED: [(u32, usize, NewFault); 3] = [
+    (3, 0, NewFault::BadMember),
+    (2, 0, NewFault::BadLimit),
+    (2, 16_777_217, NewFault::BadLimit),
+];
+
+fn fault_of(alloc: Global, group: Group, me: u32, limit: usize) -> Option<NewFault> {
+    PlainMember::new(alloc, group, me, limit).err()
+}
+
+/// How many entries a new member has.
+fn entries_of(alloc: Global, group: Group, me: u32, limit: usize) -> Option<usize> {
+    let member = PlainMember::new(alloc, group, me, limit).ok()?;
+    Some(member.history().len())
+}
+
 #[test]
 fn a_member_is_below_the_size_and_has_a_limit(rt: HostRuntime) -> Result<(), Fail> {
     let group = group(&rt);
-    assert_eq!(rt;
-        PlainMember::new(rt.alloc(), group, 3, 0).err(),
-        Some(NewFault::BadMember)
-    );
-    assert_eq!(rt;
-        PlainMember::new(rt.alloc(), group, 2, 0).err(),
-        Some(NewFault::BadLimit)
-    );
-    assert_eq!(rt;
-        PlainMember::new(rt.alloc(), group, 2, 16_777_217).err(),
-        Some(NewFault::BadLimit)
-    );
-    let member = PlainMember::new(rt.alloc(), group, 2, 16_777_216)
-        .ok()
-        .ok_or("a member")?;
-    assert_eq!(rt; member.history().len(), 0);
+    for (me, limit, fault) in &REFUSED {
+        assert_eq!(rt; fault_of(rt.alloc(), group, *me, *limit), Some(*fault));
+    }
+    assert_eq!(rt; entries_of(rt.alloc(), group, 2, 16_777_216), Some(0));
     Ok(())
 }
 
 /// The entry that was handed out is the one that the member keeps.
-fn keeps(rt: &impl Abort, member: PlainMember, entry: &Entry) {
-    let history = member.into_history();
+fn keeps(rt: &impl Abort, member: PlainMember, entry: Option<Entry>) {
+    has_just(rt, &member.into_history(), entry.as_ref());
+}
+
+fn has_just(rt: &impl Abort, history: &History, entry: Option<&Entry>) {
     assert_eq!(rt; history.me, 0);
     assert!(rt; history.group == group(rt));
     assert_eq!(rt; history.entries.len(), 1);
-    assert!(rt; history.entries.first() == Some(entry));
+    assert!(rt; history.entries.first() == entry);
 }
 
 fn first_of_three(rt: &impl Abort, alloc: Global) -> Result<PlainMember, Fail> {
@@ -49,41 +57,80 @@ fn first_of_three(rt: &impl Abort, alloc: Global) -> Result<PlainMember, Fail> {
     Ok(made.ok().ok_or("a member")?)
 }
 
+/// What a cast of "hi" hands out, which has the frame that was cast.
+fn noted_cast(rt: &impl Abort, member: &mut PlainMember) -> Result<Option<Entry>, Fail> {
+    match member.cast_noted(b"hi") {
+        Ok((done, entry)) => {
+            assert!(rt; is_cast_of(&entry, &done));
+            Ok(Some(entry))
+        }
+        Err(_) => Err(Fail::new("a cast")),
+    }
+}
+
+fn is_cast_of(entry: &Entry, done: &CastDone) -> bool {
+    match entry {
+        Entry::Cast { frame } => *frame == done.out,
+        Entry::Arrive { .. } | Entry::Tick { .. } => false,
+    }
+}
+
+fn noted_arrival(member: &mut PlainMember, bytes: &'static [u8]) -> Result<Option<Entry>, Fail> {
+    match member.arrive_noted(&Bytes::from_static(bytes)) {
+        Ok((_, entry)) => Ok(entry),
+        Err(_) => Err(Fail::new("an arrival")),
+    }
+}
+
+fn noted_tick(member: &mut PlainMember) -> Result<Option<Entry>, Fail> {
+    match member.tick_noted() {
+        Ok((_, entry)) => Ok(entry),
+        Err(_) => Err(Fail::new("a tick")),
+    }
+}
+
 #[test]
 fn a_noted_cast_hands_out_its_entry(rt: HostRuntime) -> Result<(), Fail> {
     let mut member = first_of_three(&rt, rt.alloc())?;
-    let (done, entry) = member.cast_noted(b"hi").ok().ok_or("a cast")?;
-    assert!(rt; entry == Entry::Cast { frame: done.out });
-    keeps(&rt, member, &entry);
+    let entry = noted_cast(&rt, &mut member)?;
+    keeps(&rt, member, entry);
     Ok(())
 }
 
 #[test]
 fn a_noted_arrival_hands_out_its_entry(rt: HostRuntime) -> Result<(), Fail> {
     let mut member = first_of_three(&rt, rt.alloc())?;
-    let hi = Bytes::from_static(b"\x11\x07\x01\x01\x00\x02hi");
-    let (_, entry) = member.arrive_noted(&hi).ok().ok_or("an arrival")?;
-    keeps(&rt, member, &entry.ok_or("an entry")?);
+    let entry = noted_arrival(&mut member, b"\x11\x07\x01\x01\x00\x02hi")?;
+    keeps(&rt, member, entry);
     Ok(())
 }
 
 #[test]
 fn a_noted_tick_hands_out_its_entry(rt: HostRuntime) -> Result<(), Fail> {
     let mut member = first_of_three(&rt, rt.alloc())?;
-    let (_, entry) = member.tick_noted().ok().ok_or("a tick")?;
-    keeps(&rt, member, &entry.ok_or("an entry")?);
+    let entry = noted_tick(&mut member)?;
+    keeps(&rt, member, entry);
     Ok(())
+}
+
+fn adds_by_arrival(member: &mut PlainMember, bytes: &'static [u8]) -> Result<bool, Fail> {
+    Ok(noted_arrival(member, bytes)?.is_some())
+}
+
+fn adds_by_tick(member: &mut PlainMember) -> Result<bool, Fail> {
+    Ok(noted_tick(member)?.is_some())
 }
 
 #[test]
 fn a_noted_call_that_adds_nothing_hands_out_no_entry(rt: HostRuntime) -> Result<(), Fail> {
     let mut member = first_of_three(&rt, rt.alloc())?;
-    let no_news = Bytes::from_static(b"\x12\x07\x01\x00");
-    let (_, came) = member.arrive_noted(&no_news).ok().ok_or("an arrival")?;
-    assert!(rt; came.is_none());
-    let _ = member.tick().ok().ok_or("a tick")?;
-    let (_, ticked) = member.tick_noted().ok().ok_or("a tick")?;
-    assert!(rt; ticked.is_none());
+    let by_arrival = adds_by_arrival(&mut member, b"\x12\x07\x01\x00")?;
+    let by_first_tick = adds_by_tick(&mut member)?;
+    let by_second_tick = adds_by_tick(&mut member)?;
+    assert_eq!(rt;
+        (by_arrival, by_first_tick, by_second_tick),
+        (false, true, false)
+    );
     Ok(())
 }
 

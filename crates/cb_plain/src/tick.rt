@@ -168,6 +168,16 @@ fn entry_if_new(is_new: bool, status: &Bytes) -> Result<Option<Entry>, NoMemory>
     })
 }
 
+/// The status to all, and behind it the requests.
+fn told(past: &Past<'_>, bytes: Bytes) -> Result<Vec<Outgoing>, NoMemory>
+    ensures { IfOk result (λ out. out.items ≡ record { to = None; bytes = bytes }
+        ∷ requests past.now.seat (facts_in past.now)) }
+{
+    let mut out = requests(past)?;
+    out.insert(0, Outgoing { to: None, bytes })?;
+    Ok(out)
+}
+
 /// What a tick did, and the entry that it adds, where it adds one.
 #[derive(Drop)]
 pub struct Ticking {
@@ -186,8 +196,7 @@ fn tell(past: &Past<'_>, is_new: bool) -> Result<Ticking, NoMemory>
 {
     let bytes = status_text(past)?;
     let entry = entry_if_new(is_new, &bytes)?;
-    let mut out = requests(past)?;
-    out.insert(0, Outgoing { to: None, bytes })?;
+    let out = told(past, bytes)?;
     Ok(Ticking {
         done: Ticked {
             entered: is_new,
@@ -211,10 +220,25 @@ pub fn answer_tick(member: &PlainMember) -> Result<Ticking, TickRefusal>
 {
     let facts = facts_of(member.allocator(), member.history())?;
     let past = Past::of(member, &facts)?;
-    let is_new = is_new_status(&past);
-    if is_new && member.is_full() {
+    answer_of(&past)
+}
+
+/// The answer to a tick, from what was read.
+#[tactic(auto, unfolding(cb_history::specs::Answers::tick_answer))]
+fn answer_of(past: &Past<'_>) -> Result<Ticking, TickRefusal>
+    ensures done { IfOk result (λ ticking. answer_to_tick past.now
+        ≡ Ok (ticking.done.entered, ticking.done.out.items)) }
+    ensures entry { IfOk result (λ ticking. option_map entry_fields ticking.entry
+        ≡ entry_by past.now ToTick) }
+    ensures room { IfOk result (λ ticking. IsSome ticking.entry
+        → length past.now.entries < past.now.limit) }
+    ensures refused { IfErr result (λ refusal. (answer_to_tick past.now ≡ Err refusal)
+        ⊎ (refusal ≡ TickRefusal.NoMemory)) }
+{
+    let is_new = is_new_status(past);
+    if is_new && past.member().is_full() {
         return Err(TickRefusal::HistoryFull);
     }
-    let ticking = tell(&past, is_new)?;
+    let ticking = tell(past, is_new)?;
     Ok(ticking)
 }

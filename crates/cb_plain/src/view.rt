@@ -1,12 +1,12 @@
 //! What the member has delivered, by a walk over the facts.
 
-ghost use Rattle.std.specs.Prelude.{◌≡◌, ◌<◌, ◌≤◌, ◌^◌, ◌==◌, ◌&&◌, IfOk, OnOk, map, min, length};
+ghost use Rattle.std.specs.Prelude.{◌≡◌, ◌<◌, ◌≤◌, ◌^◌, ◌==◌, ◌&&◌, ◌++◌, IfOk, OnOk, map, min, length};
 ghost use Rattle.std.specs.List.{list_any};
 ghost use Rattle.cb_times.specs.Group.{IsGroupSize};
 ghost use Rattle.cb_frames.specs.Fields.{cast_fields, messages_of, growth_in};
 ghost use Rattle.cb_diffs.specs.Expansion.{growth_of, expanded_field, greatest};
-ghost use Rattle.cb_history.specs.Facts.{is_there, messages_in};
-ghost use Rattle.cb_history.specs.View.{count, is_expanded, is_among, is_in_time, is_ready, next_delivery, drain, view, counts};
+ghost use Rattle.cb_history.specs.Facts.{cast_in, is_there, messages_in};
+ghost use Rattle.cb_history.specs.View.{count, is_expanded, is_among, is_in_time, is_ready, next_delivery, drain, seen_after, view, counts};
 ghost use Rattle.cb_plain.specs.Facts.{fact_of, cast_of};
 ghost use Rattle.cb_plain.specs.Messages.{carried_of, as_carried, best_of};
 
@@ -171,6 +171,32 @@ fn drain<'a>(size: u32, casts: &[&'a Cast], seen: &mut Vec<Message<'a>>) -> Resu
     Ok(())
 }
 
+/// What one more fact makes of the casts and of the messages seen.
+fn see<'a>(
+    size: u32,
+    fact: &'a Fact,
+    casts: &mut Vec<&'a Cast>,
+    seen: &mut Vec<Message<'a>>,
+) -> Result<(), NoMemory>
+    ensures casts { OnOk result (map cast_of casts.new.items ≡ map cast_of casts.old.items
+        ++ cast_in (fact_of fact.now)) }
+    ensures seen { OnOk result (map carried_of seen.new.items ≡ seen_after size
+        (map cast_of casts.new.items) (map carried_of seen.old.items) (fact_of fact.now)) }
+{
+    match fact {
+        Fact::OwnCast(cast) => {
+            casts.push(cast)?;
+            seen.push(message_of(cast))?;
+            Ok(())
+        }
+        Fact::CastCame(cast) => {
+            casts.push(cast)?;
+            drain(size, casts, seen)
+        }
+        Fact::StatusCame(_) | Fact::OwnStatus(_) => Ok(()),
+    }
+}
+
 /// The own casts and the deliveries, in order.
 #[tactic(auto, unfolding(cb_history::specs::View::view))]
 pub fn view(alloc: Global, size: u32, facts: &[Fact]) -> Result<Vec<Message<'_>>, NoMemory>
@@ -181,17 +207,7 @@ pub fn view(alloc: Global, size: u32, facts: &[Fact]) -> Result<Vec<Message<'_>>
     let mut casts = Vec::new(alloc);
     let mut seen = Vec::new(alloc);
     for fact in facts {
-        match fact {
-            Fact::OwnCast(cast) => {
-                casts.push(cast)?;
-                seen.push(message_of(cast))?;
-            }
-            Fact::CastCame(cast) => {
-                casts.push(cast)?;
-                drain(size, &casts, &mut seen)?;
-            }
-            Fact::StatusCame(_) | Fact::OwnStatus(_) => {}
-        }
+        see(size, fact, &mut casts, &mut seen)?;
     }
     Ok(seen)
 }

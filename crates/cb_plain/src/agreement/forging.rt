@@ -41,8 +41,8 @@ impl Target<'_> {
 }
 
 /// The bytes of the frame, and none where it breaks a rule of the format.
-fn text(alloc: Global, frame: &Frame) -> Bytes {
-    encode(alloc, frame).unwrap_or(Bytes::new())
+fn text(alloc: Global, frame: Frame) -> Bytes {
+    encode(alloc, &frame).unwrap_or(Bytes::new())
 }
 
 /// By how much some fields have grown, mostly by one.
@@ -101,23 +101,34 @@ fn ranges(alloc: Global, dice: &mut Dice, delivered: u32) -> Result<Vec<Range>, 
 
 fn cast(alloc: Global, target: &Target<'_>, dice: &mut Dice) -> Result<Bytes, Fail> {
     let sender = target.member(dice);
-    let cast = Cast {
-        group: target.number(dice),
-        sender,
-        number: dice.near(target.delivered(sender)).max(1),
-        changes: changes(alloc, target, dice, sender)?,
-        payload: Bytes::copy_from_slice(alloc, &[dice.byte()])?,
-    };
-    Ok(text(alloc, &Frame::Cast(cast)))
+    let group = target.number(dice);
+    let number = dice.near(target.delivered(sender)).max(1);
+    let changes = changes(alloc, target, dice, sender)?;
+    let payload = Bytes::copy_from_slice(alloc, &[dice.byte()])?;
+    Ok(text(
+        alloc,
+        Frame::Cast(Cast {
+            group,
+            sender,
+            number,
+            changes,
+            payload,
+        }),
+    ))
 }
 
 fn status(alloc: Global, target: &Target<'_>, dice: &mut Dice) -> Result<Bytes, Fail> {
-    let status = Status {
-        group: target.number(dice),
-        sender: target.member(dice),
-        values: values(alloc, target, dice)?,
-    };
-    Ok(text(alloc, &Frame::Status(status)))
+    let group = target.number(dice);
+    let sender = target.member(dice);
+    let values = values(alloc, target, dice)?;
+    Ok(text(
+        alloc,
+        Frame::Status(Status {
+            group,
+            sender,
+            values,
+        }),
+    ))
 }
 
 fn request(alloc: Global, target: &Target<'_>, dice: &mut Dice) -> Result<Bytes, Fail> {
@@ -126,13 +137,18 @@ fn request(alloc: Global, target: &Target<'_>, dice: &mut Dice) -> Result<Bytes,
     } else {
         target.me
     };
-    let request = Request {
-        group: target.number(dice),
-        requester: target.member(dice),
-        asked,
-        ranges: ranges(alloc, dice, target.delivered(asked))?,
-    };
-    Ok(text(alloc, &Frame::Request(request)))
+    let group = target.number(dice);
+    let requester = target.member(dice);
+    let ranges = ranges(alloc, dice, target.delivered(asked))?;
+    Ok(text(
+        alloc,
+        Frame::Request(Request {
+            group,
+            requester,
+            asked,
+            ranges,
+        }),
+    ))
 }
 
 /// A frame of any kind with fields near those that could be true.

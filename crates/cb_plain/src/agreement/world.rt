@@ -1,6 +1,7 @@
 //! A group around the member under test: some other members of it, and all frames that were sent.
 
 use crate::agreement::dice::Dice;
+use crate::examples::calls::Made;
 use bytes::Bytes;
 use cb_history::{Arrival, Group, Outgoing};
 use cb_member::Member;
@@ -17,16 +18,8 @@ pub struct World {
 impl World {
     /// Up to three other members of the group.
     pub fn new(alloc: Global, group: Group, me: u32) -> Result<World, Fail> {
-        let mut others = Vec::new(alloc);
-        let first = me.saturating_sub(2);
-        for other in first..group.size().min(first.saturating_add(4)) {
-            if other != me {
-                let made = Member::new(alloc, group, other, 100_000);
-                others.push(made.ok().ok_or("a member")?)?;
-            }
-        }
         Ok(World {
-            others,
+            others: others_of(alloc, group, me)?,
             frames: Vec::new(alloc),
         })
     }
@@ -56,13 +49,35 @@ impl World {
     /// One of the others casts, tells its time, or takes a frame that was sent.
     pub fn act(&mut self, alloc: Global, dice: &mut Dice) -> Result<(), Fail> {
         let came = self.frame(dice)?;
-        let place = dice.place(self.others.len());
-        let Some(other) = self.others.get_mut(place) else {
-            return Ok(());
-        };
-        let sent = sent_by(alloc, other, &came, dice)?;
+        let sent = self.sent(alloc, dice, &came)?;
         self.keep_all(sent)
     }
+
+    /// What one of the others sends then.
+    fn sent(
+        &mut self,
+        alloc: Global,
+        dice: &mut Dice,
+        came: &Bytes,
+    ) -> Result<Vec<Outgoing>, Fail> {
+        let place = dice.place(self.others.len());
+        match self.others.get_mut(place) {
+            Some(other) => sent_by(alloc, other, came, dice),
+            None => Ok(Vec::new(alloc)),
+        }
+    }
+}
+
+/// Up to three other members of the group.
+fn others_of(alloc: Global, group: Group, me: u32) -> Result<Vec<Member>, Fail> {
+    let mut others = Vec::new(alloc);
+    let first = me.saturating_sub(2);
+    for other in first..group.size().min(first.saturating_add(4)) {
+        if other != me {
+            others.push(Member::made(alloc, group, other, 100_000)?)?;
+        }
+    }
+    Ok(others)
 }
 
 /// What the member sends, whatever it does.

@@ -53,7 +53,7 @@ fn is_too_far(past: &Past<'_>, cast: &Cast) -> bool
 }
 
 /// The first rule that the cast breaks, or what it does.
-fn judge(past: &Past<'_>, cast: &Cast) -> Result<Judged, ArriveRefusal>
+fn first_broken(past: &Past<'_>, cast: &Cast) -> Result<Judged, ArriveRefusal>
     ensures { JudgesCast past.now (cast_fields cast.now) result }
 {
     if cast.group != past.seat().group().number() {
@@ -77,6 +77,13 @@ fn judge(past: &Past<'_>, cast: &Cast) -> Result<Judged, ArriveRefusal>
     Ok(Judged::Taken)
 }
 
+/// The same, and the past is let go.
+fn judge(past: Past<'_>, cast: &Cast) -> Result<Judged, ArriveRefusal>
+    ensures { JudgesCast past.entry (cast_fields cast.now) result }
+{
+    first_broken(&past, cast)
+}
+
 /// The answer to a cast.
 pub fn answer(member: &PlainMember, cast: Cast, bytes: &Bytes) -> Result<Accepting, ArriveRefusal>
     ensures accepted { IfOk result (IsAccepting member.now bytes.now
@@ -87,8 +94,7 @@ pub fn answer(member: &PlainMember, cast: Cast, bytes: &Bytes) -> Result<Accepti
     let mut facts = facts_of(member.allocator(), member.history())?;
     let past = Past::of(member, &facts)?;
     let before = past.seen().len();
-    let judged = judge(&past, &cast)?;
-    drop(past);
+    let judged = judge(past, &cast)?;
     match judged {
         Judged::Repeat => Ok(Accepting {
             arrival: Arrival::Repeat,

@@ -89,7 +89,7 @@ pub enum Judged {
 }
 
 /// The first rule that the status breaks, or what it does.
-fn judge(past: &Past<'_>, status: &Status) -> Result<Judged, ArriveRefusal>
+fn first_broken(past: &Past<'_>, status: &Status) -> Result<Judged, ArriveRefusal>
     ensures { JudgesStatus past.now (status_fields status.now) result }
 {
     if status.group != past.seat().group().number() {
@@ -110,6 +110,13 @@ fn judge(past: &Past<'_>, status: &Status) -> Result<Judged, ArriveRefusal>
     Ok(Judged::News)
 }
 
+/// The same, and the past is let go.
+fn judge(past: Past<'_>, status: &Status) -> Result<Judged, ArriveRefusal>
+    ensures { JudgesStatus past.entry (status_fields status.now) result }
+{
+    first_broken(&past, status)
+}
+
 /// The answer to a status.
 pub fn answer(
     member: &PlainMember,
@@ -125,8 +132,7 @@ pub fn answer(
     let mut facts = facts_of(alloc, member.history())?;
     let past = Past::of(member, &facts)?;
     let before = past.seen().len();
-    let judged = judge(&past, &status)?;
-    drop(past);
+    let judged = judge(past, &status)?;
     match judged {
         Judged::NoNews => Ok(Accepting {
             arrival: Arrival::Accepted {

@@ -67,11 +67,15 @@ pub fn group_of(number: u32, size: u32, window: u32) -> Result<Group, Fail> {
     Ok(Group::new(number, size, window).ok().ok_or("a group")?)
 }
 
+/// Takes the second text by value: who calls this has but one to let go.
+fn add(text: &mut String, more: String) -> Result<(), Fail> {
+    Ok(text.push_str(more.as_str())?)
+}
+
 pub fn hexadecimal(alloc: Global, bytes: &[u8]) -> Result<String, Fail> {
     let mut text = String::new(alloc);
     for byte in bytes {
-        let digits = format!(in alloc; "{byte:02x}")?;
-        text.push_str(digits.as_str())?;
+        add(&mut text, format!(in alloc; "{byte:02x}")?)?;
     }
     Ok(text)
 }
@@ -80,30 +84,36 @@ pub fn hexadecimal(alloc: Global, bytes: &[u8]) -> Result<String, Fail> {
 fn messages(alloc: Global, deliveries: &[Message]) -> Result<String, Fail> {
     let mut text = String::new(alloc);
     for message in deliveries {
-        let Message {
-            name,
-            time,
-            payload,
-        } = message;
-        let payload = hexadecimal(alloc, payload.as_slice())?;
-        let said = format!(in alloc; ", {name} {time} ({payload})")?;
-        text.push_str(said.as_str())?;
+        add(&mut text, message_text(alloc, message)?)?;
     }
     Ok(text)
+}
+
+fn message_text(alloc: Global, message: &Message) -> Result<String, Fail> {
+    let Message {
+        name,
+        time,
+        payload,
+    } = message;
+    let payload = hexadecimal(alloc, payload.as_slice())?;
+    Ok(format!(in alloc; ", {name} {time} ({payload})")?)
 }
 
 /// Each frame with whom it goes to.
 fn frames(alloc: Global, out: &[Outgoing]) -> Result<String, Fail> {
     let mut text = String::new(alloc);
-    for Outgoing { to, bytes } in out {
-        let bytes = hexadecimal(alloc, bytes.as_slice())?;
-        let frame = match to {
-            Some(member) => format!(in alloc; ", to {member}: {bytes}")?,
-            None => format!(in alloc; ", to all: {bytes}")?,
-        };
-        text.push_str(frame.as_str())?;
+    for frame in out {
+        add(&mut text, frame_text(alloc, frame)?)?;
     }
     Ok(text)
+}
+
+fn frame_text(alloc: Global, frame: &Outgoing) -> Result<String, Fail> {
+    let bytes = hexadecimal(alloc, frame.bytes.as_slice())?;
+    match frame.to {
+        Some(member) => Ok(format!(in alloc; ", to {member}: {bytes}")?),
+        None => Ok(format!(in alloc; ", to all: {bytes}")?),
+    }
 }
 
 fn cast_text(alloc: Global, answer: &Result<CastDone, CastRefusal>) -> Result<String, Fail> {
@@ -148,17 +158,34 @@ fn tick_text(alloc: Global, answer: &Result<Ticked, TickRefusal>) -> Result<Stri
 
 /// What a call that changes something did: how many entries there are after it, and its answer.
 pub fn answer<M: Made>(alloc: Global, member: &mut M, call: Call<'_>) -> Result<String, Fail> {
-    let text = match call {
-        Call::Cast(payload) => cast_text(alloc, &member.cast(payload))?,
-        Call::Take(bytes) => {
-            let bytes = Bytes::copy_from_slice(alloc, bytes)?;
-            arrival_text(alloc, &member.arrive(&bytes))?
+    match call {
+        Call::Cast(_) | Call::Take(_) | Call::Tick => {
+            let text = changing(alloc, member, call)?;
+            counted(alloc, member, text)
         }
-        Call::Tick => tick_text(alloc, &member.tick())?,
-        _ => return reading(alloc, member, call),
-    };
+        _ => reading(alloc, member, call),
+    }
+}
+
+/// The answer, behind how many entries there are then.
+fn counted<M: Made>(alloc: Global, member: &M, text: String) -> Result<String, Fail> {
     let entries = member.entries()?.len();
     Ok(format!(in alloc; "{entries}: {text}")?)
+}
+
+/// What a call that changes something answers.
+fn changing<M: Made>(alloc: Global, member: &mut M, call: Call<'_>) -> Result<String, Fail> {
+    match call {
+        Call::Cast(payload) => cast_text(alloc, &member.cast(payload)),
+        Call::Take(bytes) => taken_text(alloc, member, bytes),
+        Call::Tick => tick_text(alloc, &member.tick()),
+        _ => Err(Fail::new("a call that reads")),
+    }
+}
+
+fn taken_text<M: Made>(alloc: Global, member: &mut M, bytes: &[u8]) -> Result<String, Fail> {
+    let bytes = Bytes::copy_from_slice(alloc, bytes)?;
+    arrival_text(alloc, &member.arrive(&bytes))
 }
 
 /// What a call that reads answers.
@@ -208,8 +235,7 @@ pub fn run_both<R: Abort>(rt: &R, alloc: Global, scripts: &[Script<'_>]) -> Resu
 fn names(alloc: Global, delivered: &[Name]) -> Result<String, Fail> {
     let mut text = String::new(alloc);
     for name in delivered {
-        let name = format!(in alloc; " {name}")?;
-        text.push_str(name.as_str())?;
+        add(&mut text, format!(in alloc; " {name}")?)?;
     }
     Ok(text)
 }
@@ -218,16 +244,23 @@ fn names(alloc: Global, delivered: &[Name]) -> Result<String, Fail> {
 fn entries(alloc: Global, entries: &[Entry]) -> Result<String, Fail> {
     let mut text = String::new(alloc);
     for entry in entries {
-        let (kind, frame, delivered) = match entry {
-            Entry::Cast { frame } => ("cast", frame, String::new(alloc)),
-            Entry::Arrive { frame, delivered } => ("arrive", frame, names(alloc, delivered)?),
-            Entry::Tick { status } => ("tick", status, String::new(alloc)),
-        };
-        let frame = hexadecimal(alloc, frame.as_slice())?;
-        let entry = format!(in alloc; "{kind} {frame}{delivered};")?;
-        text.push_str(entry.as_str())?;
+        add(&mut text, entry_text(alloc, entry)?)?;
     }
     Ok(text)
+}
+
+fn entry_text(alloc: Global, entry: &Entry) -> Result<String, Fail> {
+    match entry {
+        Entry::Cast { frame } => entry_of(alloc, "cast", frame, &[]),
+        Entry::Arrive { frame, delivered } => entry_of(alloc, "arrive", frame, delivered),
+        Entry::Tick { status } => entry_of(alloc, "tick", status, &[]),
+    }
+}
+
+fn entry_of(alloc: Global, kind: &str, frame: &Bytes, delivered: &[Name]) -> Result<String, Fail> {
+    let frame = hexadecimal(alloc, frame.as_slice())?;
+    let delivered = names(alloc, delivered)?;
+    Ok(format!(in alloc; "{kind} {frame}{delivered};")?)
 }
 
 fn missing(alloc: Global, answer: &Result<Vec<Range>, MissingFault>) -> Result<String, Fail> {
@@ -241,8 +274,10 @@ fn missing(alloc: Global, answer: &Result<Vec<Range>, MissingFault>) -> Result<S
 fn ranges(alloc: Global, ranges: &[Range]) -> Result<String, Fail> {
     let mut text = String::new(alloc);
     for range in ranges {
-        let range = format!(in alloc; "{}-{};", range.first, range.last)?;
-        text.push_str(range.as_str())?;
+        add(
+            &mut text,
+            format!(in alloc; "{}-{};", range.first, range.last)?,
+        )?;
     }
     Ok(text)
 }
@@ -251,14 +286,17 @@ fn ranges(alloc: Global, ranges: &[Range]) -> Result<String, Fail> {
 fn events(alloc: Global, events: &[Event]) -> Result<String, Fail> {
     let mut text = String::new(alloc);
     for event in events {
-        let (kind, Message { name, time, .. }) = match event {
-            Event::Cast(message) => ("cast", message),
-            Event::Deliver(message) => ("deliver", message),
-        };
-        let event = format!(in alloc; "{kind} {name} {time};")?;
-        text.push_str(event.as_str())?;
+        add(&mut text, event_text(alloc, event)?)?;
     }
     Ok(text)
+}
+
+fn event_text(alloc: Global, event: &Event) -> Result<String, Fail> {
+    let (kind, Message { name, time, .. }) = match event {
+        Event::Cast(message) => ("cast", message),
+        Event::Deliver(message) => ("deliver", message),
+    };
+    Ok(format!(in alloc; "{kind} {name} {time};")?)
 }
 
 fn time_of(alloc: Global, entries: &[Entry], name: Name) -> Result<String, Fail> {

@@ -9,6 +9,6 @@ pub invariant_of-self-2 : goal.invariant_of-self-2
 invariant_of-self-2 c =
     let s = c.self.inside in
     let m : MemberState = record { seat = s.seat; limit = s.limit; entries = map entry_fields s.entries.items } in
-    called m c.args.self.now s.entries.items c.enter.new.entries.items c.in_ok-accepting.accepting.entry (ToTake c.args.bytes.now) c.self.view_is refl c.self.invariant c.answer_arrival.ensures.bytes
+    called m c.args.self.now s.entries.items c.enter_noted.new.entries.items c.in_ok-accepting.accepting.entry (ToTake c.args.bytes.now) c.self.view_is refl c.self.invariant c.answer_arrival.ensures.bytes
     c.in_ok-accepting.ensures.accepted.adds c.in_ok-accepting.ensures.accepted.room
-    c.in_ok-enter.ensures.added (c.in_ok-enter.ensures.room s.limit)
+    c.in_ok-noted.ensures.added (c.in_ok-noted.ensures.room s.limit)
