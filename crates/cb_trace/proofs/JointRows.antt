@@ -1,21 +1,19 @@
 -- Worked orders of entries, by the definitions.
-use Rattle.std.proofs.Common.{◌≡◌, ◌≢◌, ℕ, zero, suc, ◌+◌, ◌<◌, false, eqb, List, [], ◌∷◌, length, Some, None, refl, sym, subst, arith}
+use Rattle.std.proofs.Common.{◌≡◌, ℕ, zero, suc, ◌<◌, false, eqb, List, [], ◌∷◌, length, Some, None, refl, sym, subst, arith}
 use Rattle.std.proofs.lemmas.Bool.{ne_eqb}
-use Rattle.std.specs.Prelude.{slice_get}
 use Rattle.cb_varint.specs.Reading.{number_at, spelling}
 use Rattle.cb_frames.specs.Text.{text_of}
 use Rattle.cb_frames.specs.Reading.{frame_at, cast_at, status_at, request_at, pairs_at, pair_at}
 use Rattle.cb_times.specs.declared.name.Name.{Name}
 use Rattle.cb_history.specs.Group.{Parameters}
-use Rattle.cb_history.specs.Facts.{EntryFields, CastEntry, ArriveEntry, TickEntry}
+use Rattle.cb_history.specs.Facts.{EntryFields, CastEntry, ArriveEntry}
 use Rattle.cb_history.specs.View.{view, drained}
 use Rattle.cb_history.specs.Answers.{cast_answer, arrive_answer, tick_answer}
-use Rattle.cb_history.specs.Legal.{longest_history, Call, ToCast, ToTake, entry_of, NoEntries}
+use Rattle.cb_history.specs.Legal.{longest_history, entry_of}
 use Rattle.cb_history.specs.ReplayLaws.{call_of}
-use Rattle.cb_schedules.specs.Schedule.{Setting, CastStep, ArriveStep, TickStep, Schedule, step_after, run_from, run}
+use Rattle.cb_schedules.specs.Schedule.{Setting, CastStep, ArriveStep, Schedule, step_after, run_from, run}
 use Rattle.cb_trace.specs.Text.{HistoryFields}
-use Rattle.cb_trace.specs.JointOrder.{Histories, gone, next_entry, ArePutOut, MayGo, Goes, IsOrder, NothingGone, OneMoreGoes, IsJointOrder, GoesFirst, IsGreedy, NothingTaken, SmallestTaken, IsStuck}
-use Rattle.cb_trace.specs.JointRun.{IsFirstFrame, AreStepsOf, NoStep, OneStepMore}
+use Rattle.cb_trace.specs.JointOrder.{Histories, gone, next_entry, ArePutOut, MayGo, Goes, IsOrder, NothingGone, OneMoreGoes, IsJointOrder}
 use Rattle.cb_trace.specs.Auditing.{seat_of, entries_at, longest}
 
 -- ---- the worked trace

@@ -1,7 +1,9 @@
 //! What no contract says: the worked trace byte by byte, each way to spoil a line, and that calls with ample memory answer.
 
 use super::*;
+use cb_history::History;
 use std::alloc::Global;
+use std::process::Abort;
 use std::test::Fail;
 
 /// Member 0 casts "hi", member 1 answers "yo", and the answer comes first at member 2.
@@ -85,22 +87,30 @@ fn bad_line(alloc: Global, text: &[u8]) -> Option<u64> {
     }
 }
 
+fn bad_line_with(alloc: Global, text: &str, old: &str, new: &str) -> Result<Option<u64>, Fail> {
+    let text = with(alloc, text, old, new)?;
+    Ok(bad_line(alloc, text.as_bytes()))
+}
+
+/// Whether the worked trace is what these histories are written as.
+fn have_the_worked_trace(alloc: Global, histories: &[History]) -> Result<bool, Fail> {
+    let text = write_trace(alloc, histories)?;
+    Ok(text.as_slice() == WORKED.as_bytes())
+}
+
 #[test]
 fn the_worked_trace_is_read_and_written_again(rt: HostRuntime) -> Result<(), Fail> {
     let histories = read_trace(rt.alloc(), WORKED.as_bytes())?;
     assert_eq!(rt; histories.len(), 3);
-    assert_eq!(rt;
-        write_trace(rt.alloc(), &histories)?.as_slice(),
-        WORKED.as_bytes()
-    );
+    assert!(rt; have_the_worked_trace(rt.alloc(), &histories)?);
     Ok(())
 }
 
 #[test]
 fn each_spoiled_line_is_named(rt: HostRuntime) -> Result<(), Fail> {
     for (old, new, line) in &SPOILED {
-        let text = with(rt.alloc(), WORKED, old, new)?;
-        assert_eq!(rt; bad_line(rt.alloc(), text.as_bytes()), Some(*line));
+        let bad = bad_line_with(rt.alloc(), WORKED, old, new)?;
+        assert_eq!(rt; bad, Some(*line));
     }
     Ok(())
 }
@@ -121,55 +131,81 @@ fn each_beginning_lacks_its_next_line(rt: HostRuntime) -> Result<(), Fail> {
 #[test]
 fn copies_of_histories_have_the_same_trace(rt: HostRuntime) -> Result<(), Fail> {
     let histories = read_trace(rt.alloc(), WORKED.as_bytes())?;
-    let mut copies = Vec::new(rt.alloc());
-    for history in &histories {
-        copies.push(history.copy()?)?;
-    }
-    assert_eq!(rt;
-        write_trace(rt.alloc(), &copies)?.as_slice(),
-        WORKED.as_bytes()
-    );
+    let copies = copies_of(rt.alloc(), &histories)?;
+    assert!(rt; have_the_worked_trace(rt.alloc(), &copies)?);
     Ok(())
 }
 
-#[test]
-fn a_trace_has_at_most_64_members(rt: HostRuntime) -> Result<(), Fail> {
-    let mut text = String::new(rt.alloc());
+fn copies_of(alloc: Global, histories: &[History]) -> Result<Vec<History>, Fail> {
+    let mut copies = Vec::new(alloc);
+    for history in histories {
+        copies.push(history.copy()?)?;
+    }
+    Ok(copies)
+}
+
+fn text_of_64(alloc: Global) -> Result<String, Fail> {
+    let mut text = String::new(alloc);
     text.push_str("cbcast 1 group 0 size 64 window 256\n")?;
     for _ in 0..64 {
         text.push_str("member 63 entries 0\n")?;
     }
     text.push_str("end\n")?;
-    assert_eq!(rt; read_trace(rt.alloc(), text.as_bytes())?.len(), 64);
-    let more = with(rt.alloc(), &text, "end\n", "member 63 entries 0\nend\n")?;
-    assert_eq!(rt; bad_line(rt.alloc(), more.as_bytes()), Some(66));
+    Ok(text)
+}
+
+fn members_in(alloc: Global, text: &str) -> Result<usize, Fail> {
+    let histories = read_trace(alloc, text.as_bytes())?;
+    Ok(histories.len())
+}
+
+#[test]
+fn a_trace_has_at_most_64_members(rt: HostRuntime) -> Result<(), Fail> {
+    let text = text_of_64(rt.alloc())?;
+    assert_eq!(rt; members_in(rt.alloc(), &text)?, 64);
+    let bad = bad_line_with(rt.alloc(), &text, "end\n", "member 63 entries 0\nend\n")?;
+    assert_eq!(rt; bad, Some(66));
     Ok(())
+}
+
+/// The histories of the worked trace in another group.
+fn histories_of_group_8(alloc: Global) -> Result<Vec<History>, Fail> {
+    let text = with(alloc, WORKED, "group 7", "group 8")?;
+    Ok(read_trace(alloc, text.as_bytes())?)
+}
+
+fn histories_of_two_groups(alloc: Global) -> Result<Vec<History>, Fail> {
+    let mut histories = read_trace(alloc, WORKED.as_bytes())?;
+    for history in histories_of_group_8(alloc)? {
+        histories.push(history)?;
+    }
+    Ok(histories)
+}
+
+fn are_mixed(alloc: Global, histories: &[History]) -> bool {
+    matches!(write_trace(alloc, histories), Err(WriteFault::MixedGroups))
 }
 
 #[test]
 fn histories_of_two_groups_have_no_trace(rt: HostRuntime) -> Result<(), Fail> {
-    let mut histories = read_trace(rt.alloc(), WORKED.as_bytes())?;
-    let other = with(rt.alloc(), WORKED, "group 7", "group 8")?;
-    for history in read_trace(rt.alloc(), other.as_bytes())? {
-        histories.push(history)?;
-    }
-    assert!(rt;
-        matches!(
-            write_trace(rt.alloc(), &histories),
-            Err(WriteFault::MixedGroups)
-        )
-    );
-    assert!(rt; matches!(write_trace(rt.alloc(), &[]), Err(WriteFault::MixedGroups)));
+    let histories = histories_of_two_groups(rt.alloc())?;
+    assert!(rt; are_mixed(rt.alloc(), &histories));
+    assert!(rt; are_mixed(rt.alloc(), &[]));
     Ok(())
+}
+
+fn is_text(rt: &impl Abort, text: String, expected: &str) {
+    assert_eq!(rt; text.as_str(), expected);
 }
 
 #[test]
 fn a_fault_prints_its_name(rt: HostRuntime) -> Result<(), Fail> {
     let fault = TraceFault::BadLine { line: 10 };
-    assert_eq!(rt; fault.to_string(rt.alloc())?.as_str(), "BadLine 10");
-    assert_eq!(rt;
-        WriteFault::MixedGroups.to_string(rt.alloc())?.as_str(),
-        "MixedGroups"
+    is_text(&rt, fault.to_string(rt.alloc())?, "BadLine 10");
+    is_text(
+        &rt,
+        WriteFault::MixedGroups.to_string(rt.alloc())?,
+        "MixedGroups",
     );
     Ok(())
 }

@@ -8,6 +8,7 @@ use bytes::Bytes;
 use cb_member::{Entry, Name};
 use cb_world::Step;
 use hex::encode;
+use std::process::Abort;
 use std::test::Fail;
 
 /// The worked trace, with what is put in place of a part of it, and the fault that it has then.
@@ -138,6 +139,23 @@ const ASKED_OF_IT: [((u32, u32), (u32, u32), Result<bool, QueryFault>); 7] = [
     ((0, 1), (64, 1), Err(QueryFault::UnknownMessage)),
 ];
 
+const PRINTED: [(AuditFault, &str); 2] = [
+    (
+        AuditFault::Unsent {
+            member: 1,
+            entry: 2,
+        },
+        "Unsent member 1 entry 2",
+    ),
+    (
+        AuditFault::WrongAnswer {
+            member: 63,
+            entry: 16_777_216,
+        },
+        "WrongAnswer member 63 entry 16777216",
+    ),
+];
+
 fn audited(alloc: Global, text: &str) -> Result<Result<Joint, AuditFault>, Fail> {
     Ok(audit(alloc, &read_trace(alloc, text.as_bytes())?))
 }
@@ -163,54 +181,79 @@ fn name((sender, number): (u32, u32)) -> Name {
     Name { sender, number }
 }
 
+/// The longest history of the trace, and the steps of its joint order.
+fn found(alloc: Global, text: &str) -> Result<(usize, String), Fail> {
+    let joint = audited(alloc, text)??;
+    let steps = steps_of(alloc, &joint)?;
+    Ok((joint.history_max(), steps))
+}
+
+fn is_run_of(
+    rt: &impl Abort,
+    alloc: Global,
+    text: &str,
+    history_max: usize,
+    steps: &str,
+) -> Result<(), Fail> {
+    let found = found(alloc, text)?;
+    assert_eq!(rt; (found.0, found.1.as_str()), (history_max, steps));
+    Ok(())
+}
+
 #[test]
 fn the_worked_trace_is_a_run_of_these_steps(rt: HostRuntime) -> Result<(), Fail> {
-    let joint = audited(rt.alloc(), WORKED)??;
-    assert_eq!(rt; joint.history_max(), 2);
-    assert_eq!(rt;
-        steps_of(rt.alloc(), &joint)?.as_str(),
-        "cast 0 6869\narrive 1 0\ncast 1 796f\narrive 2 1\narrive 2 0\n"
-    );
-    Ok(())
+    let steps = "cast 0 6869\narrive 1 0\ncast 1 796f\narrive 2 1\narrive 2 0\n";
+    is_run_of(&rt, rt.alloc(), WORKED, 2, steps)
 }
 
 #[test]
 fn requests_have_frame_numbers_too(rt: HostRuntime) -> Result<(), Fail> {
-    let joint = audited(rt.alloc(), ASKED)??;
-    assert_eq!(rt; joint.history_max(), 3);
-    assert_eq!(rt;
-        steps_of(rt.alloc(), &joint)?.as_str(),
-        "cast 0 61\ncast 0 62\narrive 2 1\ntick 2\ncast 2 63\narrive 1 4\n"
-    );
-    Ok(())
+    let steps = "cast 0 61\ncast 0 62\narrive 2 1\ntick 2\ncast 2 63\narrive 1 4\n";
+    is_run_of(&rt, rt.alloc(), ASKED, 3, steps)
 }
 
 #[test]
 fn of_two_members_the_smaller_goes_first(rt: HostRuntime) -> Result<(), Fail> {
-    let joint = audited(rt.alloc(), AT_ONCE)??;
-    assert_eq!(rt;
-        steps_of(rt.alloc(), &joint)?.as_str(),
-        "cast 0 61\ncast 1 62\n"
-    );
-    // though the one stands first in the order, neither was before the other
-    assert_eq!(rt; joint.before(name((0, 1)), name((1, 1))), Ok(false));
-    assert_eq!(rt; joint.before(name((1, 1)), name((0, 1))), Ok(false));
+    is_run_of(&rt, rt.alloc(), AT_ONCE, 1, "cast 0 61\ncast 1 62\n")
+}
+
+#[test]
+fn of_two_casts_at_once_neither_was_before_the_other(rt: HostRuntime) -> Result<(), Fail> {
+    // though the one stands first in the order
+    assert_eq!(rt; before(rt.alloc(), AT_ONCE, (0, 1), (1, 1))?, Ok(false));
+    assert_eq!(rt; before(rt.alloc(), AT_ONCE, (1, 1), (0, 1))?, Ok(false));
     Ok(())
+}
+
+/// Whether message `a` of the trace was before message `b`.
+fn before(
+    alloc: Global,
+    text: &str,
+    a: (u32, u32),
+    b: (u32, u32),
+) -> Result<Result<bool, QueryFault>, Fail> {
+    let joint = audited(alloc, text)??;
+    Ok(joint.before(name(a), name(b)))
 }
 
 #[test]
 fn empty_histories_are_of_the_empty_run(rt: HostRuntime) -> Result<(), Fail> {
-    let joint = audited(rt.alloc(), NOTHING)??;
-    assert_eq!(rt; joint.history_max(), 1);
-    assert!(rt; joint.steps().is_empty());
-    Ok(())
+    is_run_of(&rt, rt.alloc(), NOTHING, 1, "")
+}
+
+fn fault_of(alloc: Global, text: &str) -> Result<Option<AuditFault>, Fail> {
+    Ok(audited(alloc, text)?.err())
+}
+
+fn fault_with(alloc: Global, old: &str, new: &str) -> Result<Option<AuditFault>, Fail> {
+    let text = with(alloc, WORKED, old, new)?;
+    fault_of(alloc, &text)
 }
 
 #[test]
 fn each_damage_has_its_fault(rt: HostRuntime) -> Result<(), Fail> {
     for (old, new, fault) in &DAMAGED {
-        let text = with(rt.alloc(), WORKED, old, new)?;
-        assert_eq!(rt; audited(rt.alloc(), &text)?.err(), Some(*fault));
+        assert_eq!(rt; fault_with(rt.alloc(), old, new)?, Some(*fault));
     }
     Ok(())
 }
@@ -221,7 +264,7 @@ fn a_circle_has_no_order(rt: HostRuntime) -> Result<(), Fail> {
         member: 0,
         entry: 1,
     };
-    assert_eq!(rt; audited(rt.alloc(), CIRCLE)?.err(), Some(unsent));
+    assert_eq!(rt; fault_of(rt.alloc(), CIRCLE)?, Some(unsent));
     Ok(())
 }
 
@@ -232,31 +275,17 @@ fn no_histories_are_of_no_group(rt: HostRuntime) {
 
 #[test]
 fn what_was_before_what(rt: HostRuntime) -> Result<(), Fail> {
-    let joint = audited(rt.alloc(), WORKED)??;
     for (a, b, answer) in &ASKED_OF_IT {
-        assert_eq!(rt; joint.before(name(*a), name(*b)), *answer);
+        assert_eq!(rt; before(rt.alloc(), WORKED, *a, *b)?, *answer);
     }
     Ok(())
 }
 
 #[test]
 fn faults_print_what_they_name(rt: HostRuntime) -> Result<(), Fail> {
-    let unsent = AuditFault::Unsent {
-        member: 1,
-        entry: 2,
-    };
-    assert_eq!(rt;
-        unsent.to_string(rt.alloc())?.as_str(),
-        "Unsent member 1 entry 2"
-    );
-    let wrong = AuditFault::WrongAnswer {
-        member: 63,
-        entry: 16_777_216,
-    };
-    assert_eq!(rt;
-        wrong.to_string(rt.alloc())?.as_str(),
-        "WrongAnswer member 63 entry 16777216"
-    );
+    for (fault, printed) in &PRINTED {
+        assert_eq!(rt; fault.to_string(rt.alloc())?.as_str(), *printed);
+    }
     Ok(())
 }
 
@@ -299,6 +328,17 @@ fn histories_of(alloc: Global, group: Group, world: &World) -> Result<Vec<Histor
     Ok(histories)
 }
 
+fn random_histories(alloc: Global, group: Group, seed: u32) -> Result<Vec<History>, Fail> {
+    let world = driven(alloc, group, seed)?;
+    histories_of(alloc, group, &world)
+}
+
+/// How many steps the joint order of the histories has.
+fn steps_in(alloc: Global, histories: &[History]) -> Result<usize, Fail> {
+    let joint = audit(alloc, histories)?;
+    Ok(joint.steps().len())
+}
+
 fn count_of(histories: &[History]) -> usize {
     let mut count: usize = 0;
     for history in histories {
@@ -311,10 +351,8 @@ fn count_of(histories: &[History]) -> usize {
 fn what_a_world_did_is_a_run(rt: HostRuntime) -> Result<(), Fail> {
     let group = Group::new(7, 3, 4)?;
     for seed in 0..20 {
-        let world = driven(rt.alloc(), group, seed)?;
-        let histories = histories_of(rt.alloc(), group, &world)?;
-        let joint = audit(rt.alloc(), &histories)?;
-        assert_eq!(rt; joint.steps().len(), count_of(&histories));
+        let histories = random_histories(rt.alloc(), group, seed)?;
+        assert_eq!(rt; steps_in(rt.alloc(), &histories)?, count_of(&histories));
     }
     Ok(())
 }
