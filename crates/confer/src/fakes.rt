@@ -103,7 +103,13 @@ pub struct Outcome {
 
 impl Outcome {
     /// The run ended with this status, printed just these bytes and said just this.
-    pub fn is(&self, rt: &impl Abort, status: u8, printed: &[u8], said: &str) {
+    pub fn is(self, rt: &impl Abort, status: u8, printed: &[u8], said: &str) {
+        self.compare(rt, status, printed, said);
+        // A call of `drop` takes the prover less time than a value that is left to the end.
+        drop(self);
+    }
+
+    fn compare(&self, rt: &impl Abort, status: u8, printed: &[u8], said: &str) {
         if self.printed.as_slice() != printed {
             let text = str::from_utf8(&self.printed).unwrap_or("no text");
             panic!(rt; "{text}");
