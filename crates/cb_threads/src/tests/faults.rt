@@ -86,6 +86,7 @@ fn repairs(rt: &impl Abort, ran: Failed, receive_failures: u64, send_failures: u
         };
         tells(rt, report, expected);
     }
+    drop(ran);
 }
 
 /// All was cast and delivered, and so often receiving and sending failed.

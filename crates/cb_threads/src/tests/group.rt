@@ -50,6 +50,7 @@ fn all_delivered<I: Drop, O: Drop, P: Drop>(rt: &impl Abort, ran: GroupReport<I,
     for report in ran.reports.iter() {
         has_delivered(rt, report);
     }
+    drop(ran);
 }
 
 fn has_delivered<I, O, P, T>(rt: &impl Abort, report: &MemberReport<I, O, P, T>) {
