@@ -310,10 +310,22 @@ fn ended<I: Drop, O: Drop, P: Drop, T: Drop>(
 {
     match closed {
         Ok(Closed { member }) => Ok(keep(report, member)),
-        Err(CloseRefusal { fault, member: _ }) => {
-            let member = identity.me();
-            Err(LifeFault::Close { member, fault })
-        }
+        Err(refusal) => Err(not_closed(identity, refusal, report)),
+    }
+}
+
+/// What it left is let go by calls, which the prover takes less time for than for values that are left to the end.
+fn not_closed<I: Drop, O: Drop, P: Drop, T: Drop>(
+    identity: Identity,
+    refusal: CloseRefusal,
+    report: MemberReport<I, O, P, T>,
+) -> LifeFault {
+    let CloseRefusal { fault, member } = refusal;
+    drop(member);
+    drop(report);
+    LifeFault::Close {
+        member: identity.me(),
+        fault,
     }
 }
 
