@@ -5,10 +5,10 @@ ghost use Rattle.std.specs.Prelude.{◌≡◌};
 use crate::link::{Inlet, LinkFault, Offered, Outlet, Received};
 use bytes::Bytes;
 use cb_member::Outgoing;
-use crossbeam_channel::{Receiver, RecvTimeoutError, SendError, Sender, unbounded};
+use crossbeam_channel::{Receiver, RecvTimeoutError, SendError, Sender, TryRecvError, unbounded};
 use std::alloc::{AllocError, Global};
 use std::sync::Wait;
-use std::thread::sleep;
+use std::thread::{sleep, yield_now};
 use std::time::{Clock, Duration};
 
 /// Links over channels.
@@ -76,6 +76,9 @@ impl Inlet for ChannelInlet {
     }
 
     fn receive<R: Wait + Clock>(&mut self, rt: &R) -> Result<Received, LinkFault> {
+        if let Some(frame) = look(rt, &self.from) {
+            return Ok(Received::Frame(frame));
+        }
         match self.from.recv_timeout(rt, Duration::from_millis(1)) {
             Ok(frame) => Ok(Received::Frame(frame)),
             Err(RecvTimeoutError::Timeout) => Ok(Received::Nothing),
@@ -86,6 +89,22 @@ impl Inlet for ChannelInlet {
             }
         }
     }
+}
+
+/// How often a channel is looked at before it is waited for. Who sends to a sleeping thread has to wake it, which costs more than some
+/// looks, and while the thread has not run yet each further frame wakes it again.
+const LOOKS: u32 = 8;
+
+/// What the channel holds, or will hold once others have run.
+pub fn look<M: Drop, R: Wait>(rt: &R, from: &Receiver<M>) -> Option<M> {
+    for _look in 0..LOOKS {
+        match from.try_recv(rt) {
+            Ok(message) => return Some(message),
+            Err(TryRecvError::Empty) => yield_now(),
+            Err(TryRecvError::Disconnected) => break,
+        }
+    }
+    None
 }
 
 impl Outlet for ChannelOutlet {

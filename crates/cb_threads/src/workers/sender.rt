@@ -3,6 +3,7 @@
 ghost use Rattle.std.specs.Prelude.{◌≡◌};
 ghost use Rattle.cb_threads.specs.Counts.{Counts, MetAtMost};
 
+use crate::channel::look;
 use crate::link::Outlet;
 use crate::workers::desk::{Worked, and_fault};
 use cb_lock::Seat;
@@ -33,12 +34,20 @@ pub fn send_all<O: Outlet, L: Ledger, R: Wait>(
 {
     let mut worked = Worked::new(outlet, seat);
     for _ in rt.forever() {
-        let Ok(frame) = frames.recv(rt) else {
+        let Some(frame) = next(rt, &frames) else {
             break;
         };
         send_once(rt, &frame, &mut worked);
     }
     worked
+}
+
+/// The next frame, or none where all workers have ended.
+fn next<R: Wait>(rt: &R, frames: &Receiver<Outgoing>) -> Option<Outgoing> {
+    match look(rt, frames) {
+        Some(frame) => Some(frame),
+        None => frames.recv(rt).ok(),
+    }
 }
 
 /// Sends a frame, which is lost where the outlet does not take it.
