@@ -1,6 +1,5 @@
 -- What `confer play` has written where it stops. What it prints of which script is shown by tests.
 use Rattle.std.specs.Prelude.{◌≡◌, ℕ, List, Option}
-use Rattle.confer.specs.declared.expand.fault.LinesFault.{LinesFault}
 use Rattle.confer.specs.declared.expand.fault.LinesFault.TheVariants.{Read, Write, TooLong, NoMemory}
 use Rattle.confer.specs.Streams.{IsTooLong, IsWithinLimit, WritesSome}
 use Rattle.confer.specs.declared.play.fault.ScriptFault.{ScriptFault}

@@ -1,6 +1,6 @@
 -- How a command for `clap` is put together.
 use Rattle.std.proofs.Common.{◌≡◌, false, ap₂, ◌∙◌}
-use Rattle.clap.specs.Words.{App, Rule, app_of, rule_of, with_rule}
+use Rattle.clap.specs.Words.{App, Rule, rule_of, with_rule}
 use Rattle.clap.specs.Built.{AddsArg}
 use Rattle.clap.specs.declared.builder.arg.Arg.{Arg}
 use Rattle.clap.specs.declared.builder.command.Command.{Command}

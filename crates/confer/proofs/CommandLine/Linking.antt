@@ -1,6 +1,6 @@
 -- What the words say of the link, and of numbers that need not be given.
-use Rattle.std.proofs.Common.{◌≡◌, ◌≢◌, ◌⊎◌, ℕ, Bool, true, false, codes, Option, Some, None, refl, sym, inl, inr, ◌∙◌}
-use Rattle.std.specs.Prelude.{IfSome, IfNone, MatchOption, option_map}
+use Rattle.std.proofs.Common.{◌≡◌, ◌≢◌, ℕ, Bool, true, false, codes, Option, Some, None, refl, sym, inl, inr, ◌∙◌}
+use Rattle.std.specs.Prelude.{IfSome, IfNone, MatchOption}
 use Rattle.clap.specs.Words.{Text, first_value, one_text, rows_of}
 use Rattle.clap.specs.declared.parser.matches.Found.{Found}
 use Rattle.clap.proofs.WalkLemmas.{first_value-rows, one_text-rows}

@@ -23,20 +23,33 @@ use std::alloc::{AllocError, Global};
 pub fn command<'a>(alloc: Global) -> Result<Command<'a>, AllocError>
     ensures { IfOk result (λ command. app_of command ≡ confer_app) }
 {
+    let expand = expand_command(alloc)?;
     let expanding = Command::new(alloc, "confer")
         .about("Causal broadcast in a fixed group")
         .subcommand_required(true)
-        .subcommand(expand_command(alloc)?)?;
+        .subcommand(expand)?;
     let playing = expanding.subcommand(play_command(alloc))?;
-    with_threads(alloc, playing)
+    match run_command(alloc) {
+        Ok(run) => with_threads(alloc, playing, run),
+        Err(refused) => {
+            // A call of `drop` takes the prover less time than a value that is left to the end.
+            drop(playing);
+            Err(refused)
+        }
+    }
 }
 
-/// The program with the subcommands that stand on threads.
-fn with_threads<'a>(alloc: Global, program: Command<'a>) -> Result<Command<'a>, AllocError>
+/// The program with this subcommand `run`, and `audit`.
+fn with_threads<'a>(
+    alloc: Global,
+    program: Command<'a>,
+    run: Command<'a>,
+) -> Result<Command<'a>, AllocError>
+    requires { IsCommand run_app run }
     ensures { IfOk result (λ command. app_of command
         ≡ with_subcommand (with_subcommand (app_of program.entry) run_app.top) audit_app.top) }
 {
-    let running = program.subcommand(run_command(alloc)?)?;
+    let running = program.subcommand(run)?;
     running.subcommand(audit_command(alloc))
 }
 
