@@ -70,10 +70,11 @@ fill() {
     ' "$work/results" "$top/docs/WRONG_BODIES.md"
 }
 
-# the crates whose tests run on a wrong body of the crate: the suite over both members stands in that of the slow one
+# the crate whose tests run on a wrong body of the crate
 tests_of() {
     case $1 in
-        cb_member) echo cb_plain cb_member ;;
+        cb_member | cb_plain) echo cb_suite ;;
+        cb_causality | cb_history | cb_rooms | cb_world | cb_trace) echo cb_tests ;;
         *) echo "$1" ;;
     esac
 }

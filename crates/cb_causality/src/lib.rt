@@ -25,6 +25,3 @@ pub use laws::{
     stamped_broadcast_is_causal, steps_keep_the_past,
 };
 pub use stamped::StampedGroup;
-
-#[cfg(test)]
-mod tests;

@@ -31,6 +31,3 @@ pub use laws::{
     view_with_one_more_fact, what_is_expanded, windows_keep_own_casts,
 };
 pub use member::GroupMember;
-
-#[cfg(test)]
-mod tests;

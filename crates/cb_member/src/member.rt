@@ -272,6 +272,3 @@ fn copy_of(event: &Event) -> Result<Event, NoMemory>
         Event::Deliver(message) => Event::Deliver(message.copy()?),
     })
 }
-
-#[cfg(test)]
-mod tests;

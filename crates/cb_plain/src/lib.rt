@@ -1,7 +1,7 @@
 //! The slow member: it keeps nothing but its history, and works everything out from the entries at each call.
 //!
 //! It is the definitions of `cb_history` as a program, and there to compare a fast member with: `PlainMember` is a `GroupMember`, and
-//! the suite of worked examples runs over that trait. Stands on `cb_history`, and on `cb_frames`, `cb_times` and `cb_delay` for what
+//! the suite of worked examples in `cb_suite` runs over that trait. Stands on `cb_history`, and on `cb_frames`, `cb_times` and `cb_delay` for what
 //! its answers are made of. No other crate stands on it.
 #![tactic(auto)]
 
@@ -16,10 +16,3 @@ mod tick;
 mod view;
 
 pub use member::PlainMember;
-
-#[cfg(test)]
-mod agreement;
-#[cfg(test)]
-mod examples;
-#[cfg(test)]
-mod tests;

@@ -18,6 +18,3 @@ pub use conference::{Conference, LONGEST_SCREEN};
 pub use fault::{ComposeFault, ConferenceFault};
 pub use line::{LONGEST_PAYLOAD, LONGEST_ROOM, Line};
 pub use shown::{Showing, Shown};
-
-#[cfg(test)]
-mod tests;

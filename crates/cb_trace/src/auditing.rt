@@ -179,6 +179,3 @@ fn start(alloc: Global, group: Group, size: usize, history_max: usize) -> Result
         first_frames: IndexMap::new(alloc),
     })
 }
-
-#[cfg(test)]
-mod tests;

@@ -27,6 +27,3 @@ pub use joint::Joint;
 pub use laws::{a_text_is_read_in_one_way, joint_orders_are_schedules, no_joint_order_is_missed};
 pub use reading::read_trace;
 pub use writing::write_trace;
-
-#[cfg(test)]
-mod tests;

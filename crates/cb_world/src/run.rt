@@ -107,6 +107,3 @@ fn run_on(world: &mut World, steps: &[Step]) -> Result<(), NoMemory>
     }
     Ok(())
 }
-
-#[cfg(test)]
-mod tests;

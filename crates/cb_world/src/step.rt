@@ -40,6 +40,3 @@ impl Step {
         })
     }
 }
-
-#[cfg(test)]
-mod tests;

@@ -221,6 +221,3 @@ fn members_of(alloc: Global, group: Group, limit: usize) -> Result<Vec<Member>, 
     }
     Ok(members)
 }
-
-#[cfg(test)]
-mod tests;

@@ -1,7 +1,10 @@
 //! The limits of groups, and copies of histories.
-use super::*;
 use bytes::Bytes;
 use cb_frames::FrameFault;
+use cb_history::{
+    ArriveRefusal, BadGroup, CastRefusal, Entry, Group, History, MissingFault, Name, NewFault,
+    Seat, TickRefusal,
+};
 use std::alloc::Global;
 use std::fmt;
 use std::process::Abort;

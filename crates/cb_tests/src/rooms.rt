@@ -4,7 +4,10 @@
 
 ghost use Rattle.std.specs.Prelude.{◌≡◌};
 
-use super::*;
+use cb_rooms::{
+    ComposeFault, Conference, ConferenceFault, LONGEST_PAYLOAD, LONGEST_ROOM, LONGEST_SCREEN, Line,
+    Showing, Shown,
+};
 use cb_times::{MOST_MEMBERS, Name, NoMemory};
 use std::alloc::Global;
 use std::process::Abort;

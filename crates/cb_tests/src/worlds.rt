@@ -1,6 +1,7 @@
 //! A group in which nothing has happened.
 
-use super::*;
+use cb_member::Group;
+use cb_world::{PlayFault, World};
 use std::process::Abort;
 
 fn group(rt: &impl Abort) -> Group {

@@ -1,6 +1,7 @@
 //! Steps and their copies.
 
-use super::*;
+use bytes::Bytes;
+use cb_world::Step;
 use std::process::Abort;
 
 /// The kind, the member, the frame's number and the payload's length.

@@ -1,7 +1,7 @@
 //! What no contract says: the worked trace byte by byte, each way to spoil a line, and that calls with ample memory answer.
 
-use super::*;
 use cb_history::History;
+use cb_trace::{TraceFault, WriteFault, read_trace, write_trace};
 use std::alloc::Global;
 use std::process::Abort;
 use std::test::Fail;

@@ -1,13 +1,12 @@
 //! Audits of traces, and what is asked of their joint orders.
 
-use super::*;
-use crate::fault::QueryFault;
-use crate::reading::read_trace;
-use crate::tests::{WORKED, with};
+use crate::traces::{WORKED, with};
 use bytes::Bytes;
-use cb_member::{Entry, Name};
-use cb_world::Step;
+use cb_member::{Entry, Group, History, Name};
+use cb_trace::{AuditFault, Joint, QueryFault, audit, read_trace};
+use cb_world::{Step, World};
 use hex::encode;
+use std::alloc::Global;
 use std::process::Abort;
 use std::test::Fail;
 

@@ -3,11 +3,8 @@
 ghost use Rattle.std.specs.Prelude.{◌≡◌, ◌<◌, length};
 ghost use Rattle.cb_times.specs.Group.{IsGroupSize};
 
-use crate::causal::CausalGroup;
-use crate::event::CausalEvent;
-use crate::fault::CastFault;
-use crate::stamped::StampedGroup;
 use bytes::Bytes;
+use cb_causality::{CastFault, CausalEvent, CausalGroup, StampedGroup};
 use cb_delay::Event;
 use cb_times::{Name, NoMemory};
 use std::alloc::Global;

@@ -1,9 +1,9 @@
 //! Runs of whole schedules.
 
-use super::*;
-use crate::outcome::Answer;
 use bytes::Bytes;
-use cb_member::Name;
+use cb_member::{Event, Group, Name};
+use cb_world::{Answer, PlayFault, Run, Step, play};
+use std::alloc::Global;
 use std::process::Abort;
 
 const HI: &[u8] = &[0x11, 7, 0, 1, 0, 2, b'h', b'i'];

@@ -1,6 +1,7 @@
-//! A member that has done nothing yet.
+//! A quick member that has done nothing yet, and its first call.
 
-use super::*;
+use bytes::Bytes;
+use cb_member::{Entry, Group, Member, MissingFault, NewFault};
 use std::process::Abort;
 
 fn group(rt: &impl Abort) -> Group {

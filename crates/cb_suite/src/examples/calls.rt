@@ -1,15 +1,13 @@
 //! Calls of a member, whichever it is, and what they did as texts.
 
-use crate::facts::{casts_in, facts_of};
-use crate::member::PlainMember;
-use crate::view::expanded_field;
 use bytes::Bytes;
-use cb_frames::Range;
+use cb_frames::{Cast, Frame, Range, decode};
 use cb_history::{
     Arrival, ArriveRefusal, CastDone, CastRefusal, Entry, Event, Group, GroupMember, Message,
     MissingFault, Name, Outgoing, TickRefusal, Ticked,
 };
 use cb_member::Member;
+use cb_plain::PlainMember;
 use std::alloc::Global;
 use std::process::Abort;
 use std::test::Fail;
@@ -300,10 +298,41 @@ fn event_text(alloc: Global, event: &Event) -> Result<String, Fail> {
 }
 
 fn time_of(alloc: Global, entries: &[Entry], name: Name) -> Result<String, Fail> {
-    let facts = facts_of(alloc, entries)?;
-    let casts = casts_in(alloc, &facts)?;
-    let first = expanded_field(&casts, name.sender, name.number, 0);
-    let second = expanded_field(&casts, name.sender, name.number, 1);
-    let third = expanded_field(&casts, name.sender, name.number, 2);
+    let first = field_of(alloc, entries, name, 0);
+    let second = field_of(alloc, entries, name, 1);
+    let third = field_of(alloc, entries, name, 2);
     Ok(format!(in alloc; "[{first},{second},{third}]")?)
+}
+
+/// A field of a message's time: its number, or all by which its sender's casts up to it have raised the field.
+fn field_of(alloc: Global, entries: &[Entry], name: Name, field: u32) -> u32 {
+    if field == name.sender {
+        return name.number;
+    }
+    let mut sum: u32 = 0;
+    for entry in entries {
+        sum = sum.saturating_add(raised_by(alloc, entry, name, field));
+    }
+    sum
+}
+
+fn raised_by(alloc: Global, entry: &Entry, name: Name, field: u32) -> u32 {
+    let frame = match entry {
+        Entry::Cast { frame } | Entry::Arrive { frame, .. } => frame,
+        Entry::Tick { status } => status,
+    };
+    match decode(alloc, frame) {
+        Ok(Frame::Cast(cast)) if cast.sender == name.sender && cast.number <= name.number => {
+            amount_in(&cast, field)
+        }
+        _ => 0,
+    }
+}
+
+/// A cast tells of each field once at most.
+fn amount_in(cast: &Cast, field: u32) -> u32 {
+    match cast.changes.iter().find(|change| change.field == field) {
+        Some(change) => change.amount,
+        None => 0,
+    }
 }

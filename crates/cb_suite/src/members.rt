@@ -1,10 +1,10 @@
 //! The worked examples by the plain member and by the quick one, and a few more by the plain one.
 
 use crate::examples;
-use crate::member::PlainMember;
 use bytes::Bytes;
 use cb_history::{CastDone, Entry, Group, History, NewFault};
 use cb_member::Member;
+use cb_plain::PlainMember;
 use std::alloc::Global;
 use std::process::Abort;
 use std::test::Fail;
