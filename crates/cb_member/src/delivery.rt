@@ -59,7 +59,8 @@ impl Delivery {
         requires events { vec_len self.old.events + map.len self.old.queue.held
             ≤ vec_capacity self.old.events }
         ensures drained { Drains self.old self.new deliveries.old.items deliveries.new.items }
-        ensures few { vec_len deliveries.new ≤ vec_len deliveries.old + map.len self.old.queue.held }
+        ensures few { vec_len deliveries.new
+            ≤ vec_len deliveries.old + map.len self.old.queue.held }
     {
         'deliveries: while let Some((message, copy)) = self.deliver_next() {
             push_within(deliveries, message);

@@ -48,7 +48,8 @@ impl Sending {
     /// No status was told yet, or the last one said another time.
     pub fn is_news(&self, time: &VectorTime) -> bool
         requires { length time.now ≡ length self.now.last_told }
-        ensures { (result ≡ false) ↔ ((self.now.has_told ≡ true) × (self.now.last_told ≡ time.now)) }
+        ensures { (result ≡ false)
+            ↔ ((self.now.has_told ≡ true) × (self.now.last_told ≡ time.now)) }
     {
         !self.has_told || self.last_told.as_slice() != time.as_slice()
     }

@@ -101,7 +101,8 @@ pub struct OfMember {
 }
 
 impl<I, O, P, T> Promise<Result<Kept<I, O, P, T>, LifeFault>> for OfMember {
-    ghost kept_by = { λ p r. IfOk r (λ kept. IsKept p.group p.me kept.history (tally_in kept.report)) };
+    ghost kept_by = { λ p r. IfOk r (λ kept. IsKept p.group p.me kept.history
+        (tally_in kept.report)) };
 }
 
 /// Runs the members, one in each thread, and waits for all of them.

@@ -162,7 +162,8 @@ pub fn read_trace(alloc: Global, text: &[u8]) -> Result<Vec<History>, TraceFault
     // The answer is the histories whose trace the text is, or the first bad line.
     ensures exact { Reads text.now result }
     // A trace is read, unless memory runs out, as the histories that it is of.
-    ensures found { (histories : List HistoryFields) → IsTrace histories text.now → Gives histories result }
+    ensures found { (histories : List HistoryFields) → IsTrace histories text.now
+        → Gives histories result }
 {
     read(alloc, text)
 }

@@ -47,7 +47,8 @@ fn is_group_line(alloc: Global, line: &[u8], group: Group) -> Result<bool, NoMem
 }
 
 fn group(number: &[u8], size: &[u8], window: &[u8]) -> Result<Group, LineFault>
-    ensures { Finds AreParameters parameter_words (λ group. group) (number.now, size.now, window.now) result }
+    ensures { Finds AreParameters parameter_words (λ group. group)
+        (number.now, size.now, window.now) result }
 {
     let number = number_of(number)?;
     let size = number_of(size)?;

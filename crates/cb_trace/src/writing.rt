@@ -41,7 +41,8 @@ pub fn write_trace(alloc: Global, histories: &[History]) -> Result<Vec<u8>, Writ
 }
 
 fn share_group(histories: &[History], group: Group) -> bool
-    ensures { Decides result (AllByRecursion (λ h. h.group ≡ group) (map history_fields histories.now)) }
+    ensures { Decides result (AllByRecursion (λ h. h.group ≡ group)
+        (map history_fields histories.now)) }
 {
     for history in histories {
         if history.group != group {
