@@ -49,29 +49,36 @@ fn a_member_misses_nothing_of_itself_and_of_who_is_none(rt: HostRuntime) {
 }
 
 /// The entry that was handed out is the one that the member keeps.
-fn keeps(rt: &impl Abort, member: &Member, noted: &Entry) {
-    assert_eq!(rt; member.history().len(), 1);
-    assert!(rt; member.history().first() == Some(noted));
+fn keeps(rt: &impl Abort, member: Member, noted: Entry) {
+    let entries = member.history().len();
+    let is_first = member.history().first() == Some(&noted);
+    drop(noted);
+    drop(member);
+    assert_eq!(rt; entries, 1);
+    assert!(rt; is_first);
 }
 
 #[test]
 fn a_noted_cast_hands_out_its_entry(rt: HostRuntime) {
     let mut member = Member::new(rt.alloc(), group(&rt), 0, 100).expect(&rt, "a member");
-    let (_, noted) = member.cast_noted(b"hi").expect(&rt, "a cast");
-    keeps(&rt, &member, &noted);
+    let (done, noted) = member.cast_noted(b"hi").expect(&rt, "a cast");
+    drop(done);
+    keeps(&rt, member, noted);
 }
 
 #[test]
 fn a_noted_arrival_hands_out_its_entry(rt: HostRuntime) {
     let mut member = Member::new(rt.alloc(), group(&rt), 0, 100).expect(&rt, "a member");
     let hi = Bytes::from_static(b"\x11\x07\x01\x01\x00\x02hi");
-    let (_, noted) = member.arrive_noted(&hi).expect(&rt, "an arrival");
-    keeps(&rt, &member, &noted.expect(&rt, "an entry"));
+    let (arrival, noted) = member.arrive_noted(&hi).expect(&rt, "an arrival");
+    drop(arrival);
+    keeps(&rt, member, noted.expect(&rt, "an entry"));
 }
 
 #[test]
 fn a_noted_tick_hands_out_its_entry(rt: HostRuntime) {
     let mut member = Member::new(rt.alloc(), group(&rt), 0, 100).expect(&rt, "a member");
-    let (_, noted) = member.tick_noted().expect(&rt, "a tick");
-    keeps(&rt, &member, &noted.expect(&rt, "an entry"));
+    let (ticked, noted) = member.tick_noted().expect(&rt, "a tick");
+    drop(ticked);
+    keeps(&rt, member, noted.expect(&rt, "an entry"));
 }
