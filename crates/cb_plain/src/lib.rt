@@ -1,8 +1,8 @@
 //! The slow member: it keeps nothing but its history, and works everything out from the entries at each call.
 //!
 //! It is the definitions of `cb_history` as a program, and there to compare a fast member with: `PlainMember` is a `GroupMember`, and
-//! the suite of worked examples in `cb_suite` runs over that trait. Stands on `cb_history`, and on `cb_frames`, `cb_times` and `cb_delay` for what
-//! its answers are made of. No other crate stands on it.
+//! the suite of worked examples in `cb_suite` runs over that trait. Stands on `cb_history`, and on `cb_frames`, `cb_times` and
+//! `cb_delay` for what its answers are made of. But for tests no other crate stands on it.
 #![tactic(auto)]
 
 mod arrival;
