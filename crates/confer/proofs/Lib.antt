@@ -5,3 +5,4 @@ pub mod Asking
 pub mod Arriving
 pub mod Naming
 pub mod Auditing
+pub mod Conferring

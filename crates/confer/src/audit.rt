@@ -9,7 +9,7 @@ mod text;
 
 pub use fault::TraceInputFault;
 pub use running::audit_trace;
-pub use text::put_refusal;
+pub use text::{put_parameter, put_refusal};
 
 #[cfg(test)]
 mod tests;

@@ -40,7 +40,7 @@ fn put_first(out: &mut Vec<u8>, group: Group, history_max: usize) -> Result<(), 
 
 /// A number behind its words.
 #[tactic(auto, unfolding(crate::specs::Audit::parameter_text))]
-fn put_parameter(out: &mut Vec<u8>, words: &[u8], number: usize) -> Result<(), NoMemory>
+pub fn put_parameter(out: &mut Vec<u8>, words: &[u8], number: usize) -> Result<(), NoMemory>
     ensures { OnOk result (out.new.items ≡ out.old.items ++ parameter_text words.now number) }
 {
     out.extend_from_slice(words)?;

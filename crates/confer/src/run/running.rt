@@ -1,12 +1,14 @@
 //! A conference in threads, from its setting to what is printed of it.
 
-ghost use Rattle.std.specs.Prelude.{◌≡◌, ◌++◌, List, IfOk, codes, map, true, false};
+ghost use Rattle.std.specs.Prelude.{◌≡◌, ℕ, ◌++◌, List, IfOk, OnOk, codes, length, map, true, false};
+ghost use Rattle.cb_history.specs.Group.{AreParameters};
+ghost use Rattle.cb_threads.specs.Groups.{AreKept, tally_in};
 ghost use Rattle.cb_trace.specs.Text.{HistoryFields, history_fields};
 ghost use Rattle.confer.specs.Audit.{Refuses};
-ghost use Rattle.confer.specs.Run.{PrintsRun, Shows, ShowsRun};
+ghost use Rattle.confer.specs.Run.{AreLines, EndsWithAudit, PrintsRun, Shows, ShowsRun, done_text, group_of, member_line};
 ghost use Rattle.confer.specs.Cli.Orders.{IsRunSetting};
 
-use crate::audit::put_refusal;
+use crate::audit::{put_parameter, put_refusal};
 use crate::expand::write_whole;
 use crate::run::fault::RunFault;
 use crate::run::participant::Participant;
@@ -17,7 +19,7 @@ use cb_threads::{
     UdpLink, run_group,
 };
 use cb_trace::{AuditFault, WriteFault, audit, write_trace};
-use std::alloc::Global;
+use std::alloc::{AllocError, Global};
 use std::io::Write;
 use std::net::Net;
 use std::sync::Wait;
@@ -54,8 +56,9 @@ struct RunText {
     text: Vec<u8>,
 }
 
-/// Runs a conference in threads, has the histories of its members audited, and writes a line for each member and what the audit said; or,
-/// where the setting says so, the trace of the histories in place of all this. Whether the audit said no.
+/// Runs a conference in threads, has the histories of its members audited, and writes a line for each member, with the counts of its
+/// history, and what the audit said; or, where the setting says so, the trace of the histories in place of all this. Whether the audit
+/// said no.
 ///
 /// It ends once each participant has cast and seen all, or after the setting's turns; the lines tell which.
 pub fn run_conference<R: Threads + Wait + Clock + Net + Sync, W: Write>(
@@ -103,7 +106,9 @@ fn run_over<I: Inlet + Send + Drop, O: Outlet + Send + Drop, R: Threads + Wait +
         turns: u64::from(setting.turns),
     };
     match run_group(rt, alloc, group, HISTORY_MAX, links, paces, talkers, limits) {
-        Ok(GroupReport { reports, histories }) => told(alloc, setting, &reports, &histories),
+        Ok(GroupReport { reports, histories }) => {
+            told(alloc, setting, group, &reports, &histories)
+        }
         // There is a pace and a talker for each member, so a bad plan lacks links.
         Err(GroupFault::BadPlan) => Err(RunFault::NoLink),
         Err(GroupFault::NoThread) => Err(RunFault::NoThread),
@@ -132,9 +137,14 @@ fn paces(alloc: Global, size: u32) -> Result<Vec<Millisecond>, RunFault> {
 fn told<I, O>(
     alloc: Global,
     setting: RunSetting,
+    group: Group,
     reports: &[MemberReport<I, O, Millisecond, Participant>],
     histories: &[History],
 ) -> Result<RunText, RunFault>
+    requires group { group ≡ group_of setting }
+    requires parameters { AreParameters group }
+    requires members { length histories.now ≡ group.size }
+    requires kept { AreKept group 0 histories.now (map tally_in reports.now) }
     ensures { IfOk result (λ told. ShowsRun setting told.refused told.text.items) }
 {
     let lines = lines_of(alloc, reports)?;
@@ -149,11 +159,12 @@ fn told<I, O>(
 fn lines_of<I, O>(
     alloc: Global,
     reports: &[MemberReport<I, O, Millisecond, Participant>],
-) -> Result<Vec<u8>, RunFault> {
+) -> Result<Vec<u8>, RunFault>
+    ensures { IfOk result (λ text. AreLines 0 (map tally_in reports.now) text.items) }
+{
     let mut text = Vec::new(alloc);
     for (member, report) in reports.iter().enumerate() {
-        let line = line_of(alloc, member, report)?;
-        text.extend_from_slice(line.as_bytes())?;
+        put_line(&mut text, member, report)?;
     }
     Ok(text)
 }
@@ -176,8 +187,8 @@ fn traced(alloc: Global, histories: &[History]) -> Result<RunText, RunFault>
 
 /// These lines, and one for what the audit of these histories says.
 fn audited(alloc: Global, lines: Vec<u8>, histories: &[History]) -> Result<RunText, RunFault>
-    ensures { IfOk result (λ told. Shows false (map history_fields histories.now) told.refused
-        told.text.items) }
+    ensures { IfOk result (λ told. EndsWithAudit lines.items (map history_fields histories.now)
+        told.refused told.text.items) }
 {
     match audit(alloc, histories) {
         Ok(_joint) => accepted(lines),
@@ -200,7 +211,7 @@ fn accepted(lines: Vec<u8>) -> Result<RunText, RunFault>
 
 fn refused(lines: Vec<u8>, refusal: AuditFault) -> Result<RunText, RunFault>
     ensures { (histories : List HistoryFields) → Refuses histories refusal
-        → IfOk result (λ told. Shows false histories told.refused told.text.items) }
+        → IfOk result (λ told. EndsWithAudit lines.items histories told.refused told.text.items) }
 {
     let mut text = lines;
     text.extend_from_slice(b"audit ")?;
@@ -211,21 +222,54 @@ fn refused(lines: Vec<u8>, refusal: AuditFault) -> Result<RunText, RunFault>
     })
 }
 
-fn line_of<I, O>(
-    alloc: Global,
+/// The line of a member, unless a worker of it has not run.
+fn put_line<I, O>(
+    out: &mut Vec<u8>,
     member: usize,
     report: &MemberReport<I, O, Millisecond, Participant>,
-) -> Result<String, RunFault> {
+) -> Result<(), RunFault>
+    ensures { OnOk result ((lost : ℕ) × (orphans : ℕ) × (out.new.items ≡ out.old.items
+        ++ member_line member (tally_in report.now) lost orphans)) }
+{
     if let Some(fault) = report.fault {
         return Err(RunFault::from(fault));
     }
-    let orphans = match &report.talker {
-        Some(talker) => talker.orphans(),
-        None => return Err(RunFault::NoThread),
+    let Some(talker) = &report.talker else {
+        return Err(RunFault::NoThread);
     };
-    let (casts, deliveries, entries) = (report.casts, report.deliveries, report.entries);
-    let lost = report.lost;
-    Ok(format!(in alloc;
-        "member {member} casts {casts} deliveries {deliveries} entries {entries} lost {lost} orphans {orphans}\n"
-    )?)
+    put_counts(out, member, report, talker.orphans())?;
+    Ok(())
+}
+
+/// The line with the member's counts, what was lost, and the orphans.
+#[tactic(auto, unfolding(crate::specs::Run::member_line))]
+fn put_counts<I, O>(
+    out: &mut Vec<u8>,
+    member: usize,
+    report: &MemberReport<I, O, Millisecond, Participant>,
+    orphans: u32,
+) -> Result<(), AllocError>
+    ensures { OnOk result (out.new.items ≡ out.old.items
+        ++ member_line member (tally_in report.now) report.now.lost orphans) }
+{
+    put_done(out, member, report)?;
+    put_parameter(out, b" lost ", report.lost as usize)?;
+    put_parameter(out, b" orphans ", orphans as usize)?;
+    out.extend_from_slice(b"\n")
+}
+
+/// What the member did.
+#[tactic(auto, unfolding(crate::specs::Run::done_text))]
+fn put_done<I, O>(
+    out: &mut Vec<u8>,
+    member: usize,
+    report: &MemberReport<I, O, Millisecond, Participant>,
+) -> Result<(), AllocError>
+    ensures { OnOk result (out.new.items ≡ out.old.items
+        ++ done_text member (tally_in report.now)) }
+{
+    put_parameter(out, b"member ", member)?;
+    put_parameter(out, b" casts ", report.casts as usize)?;
+    put_parameter(out, b" deliveries ", report.deliveries as usize)?;
+    put_parameter(out, b" entries ", report.entries as usize)
 }

@@ -1,0 +1,72 @@
+-- What a group in threads hands out, and its members' lines.
+use Rattle.std.proofs.Common.{◌≡◌, ℕ, zero, suc, ◌+◌, ◌<◌, ◌≤◌, List, [], ◌∷◌, ◌++◌, Some, length, map, drop, refl, sym, ap, subst, get_or, ◌∙◌, arith}
+use Rattle.std.proofs.lemmas.List.{append_assoc, append-nil, drop_all, drop_more, length-map}
+use Rattle.std.specs.Prelude.{slice_get}
+use Rattle.cb_history.specs.Group.{Parameters, AreParameters}
+use Rattle.cb_history.specs.Legal.{IsLegal}
+use Rattle.cb_history.specs.declared.history.History.{History}
+use Rattle.cb_threads.specs.declared.report.Tally.{Tally}
+use Rattle.cb_threads.specs.Groups.{AreKept}
+use Rattle.cb_trace.specs.Text.{HistoryFields, history_fields}
+use Rattle.cb_trace.specs.Auditing.{AreLegalHistories, entries_at, seat_of}
+use Rattle.confer.specs.Run.{AreCounts, AreLines, IsLine, member_line}
+
+-- ---- the histories
+
+kept_at : (group : Parameters) (me i : ℕ) (hs : List History) (ts : List Tally) (h : HistoryFields) → AreKept group me hs ts → slice_get (map history_fields hs) i ≡ Some h → (h.group ≡ group) × (h.me ≡ me + i)
+kept_at group me i [] ts h all e = cc
+kept_at group me i (g ∷ hs) [] h all e = absurd all
+kept_at group me zero (g ∷ hs) (t ∷ ts) h all e =
+    let same : history_fields g ≡ h = cc in
+    (sym (ap (λ (x : HistoryFields). x.group) same) ∙ all.0.group_is, omega (arith, ap (λ (x : HistoryFields). x.me) same, all.0.me_is))
+kept_at group me (suc i) (g ∷ hs) (t ∷ ts) h all e =
+    let rest = kept_at group (suc me) i hs ts h all.1 e in
+    (rest.0, omega (arith, rest.1))
+
+kept_legal : (group : Parameters) (me i : ℕ) (hs : List History) (ts : List Tally) → AreKept group me hs ts → i < length hs → IsLegal (seat_of group (me + i)) (entries_at (map history_fields hs) i)
+kept_legal group me i [] ts all within = absurd (omega (arith, within))
+kept_legal group me i (g ∷ hs) [] all within = absurd all
+kept_legal group me zero (g ∷ hs) (t ∷ ts) all within = subst (λ (n : ℕ). IsLegal (seat_of group n) (history_fields g).entries) (omega arith) all.0.legal
+kept_legal group me (suc i) (g ∷ hs) (t ∷ ts) all within =
+    subst (λ (n : ℕ). IsLegal (seat_of group n) (entries_at (map history_fields hs) i)) (omega arith) (kept_legal group (suc me) i hs ts all.1 (omega (arith, within)))
+
+pub legal_histories : (group own : Parameters) (hs : List History) (ts : List Tally) → group ≡ own → AreParameters group → length hs ≡ group.size → AreKept group 0 hs ts → AreLegalHistories own (map history_fields hs)
+legal_histories group own hs ts same parameters many kept =
+    let legal : AreLegalHistories group (map history_fields hs) = record {
+      each = record {
+        parameters = parameters;
+        many = length-map hs history_fields ∙ many;
+        each = λ i h e. let at = kept_at group 0 i hs ts h kept e in (at.0, omega (arith, at.1));
+      };
+      legal = λ i within.
+          subst (λ (n : ℕ). IsLegal (seat_of group n) (entries_at (map history_fields hs) i)) (omega arith) (kept_legal group 0 i hs ts kept (omega (arith, within, many)));
+    } in
+    subst (λ (p : Parameters). AreLegalHistories p (map history_fields hs)) same legal
+
+pub counts_kept : (group : Parameters) (me : ℕ) (hs : List History) (ts : List Tally) → AreKept group me hs ts → AreCounts (map history_fields hs) ts
+counts_kept group me [] [] all = tt
+counts_kept group me [] (t ∷ ts) all = absurd all
+counts_kept group me (g ∷ hs) [] all = absurd all
+counts_kept group me (g ∷ hs) (t ∷ ts) all = (all.0.counts, counts_kept group (suc me) hs ts all.1)
+
+-- ---- the lines
+
+-- with the lines of those that are left, the text so far has all
+abbrev pub Continues : {R : Type 0} (tally : R → Tally) (reports : List R) (me : ℕ) (text : List ℕ) → Type 0
+Continues tally reports me text = (rest : List ℕ) → AreLines me (map tally (drop me reports)) rest → AreLines 0 (map tally reports) (text ++ rest)
+
+pub continues : {R : Type 0} (tally : R → Tally) (reports : List R) (me : ℕ) (r : R) (text text' : List ℕ) (lost orphans : ℕ) → me < length reports → r ≡ get_or reports me r → text' ≡ text ++ member_line me (tally r) lost orphans
+    → Continues tally reports me text → Continues tally reports (me + 1) text'
+continues {R} tally reports me r text text' lost orphans within is e before rest lines =
+    let at : drop me reports ≡ r ∷ drop (me + 1) reports = drop_more reports me r within ∙ ap (λ (x : R). x ∷ drop (me + 1) reports) (sym is) in
+    let line = member_line me (tally r) lost orphans in
+    let one : IsLine me (tally r) line = record { lost = lost; orphans = orphans; text = refl } in
+    let next : AreLines (suc me) (map tally (drop (me + 1) reports)) rest = subst (λ (n : ℕ). AreLines n (map tally (drop (me + 1) reports)) rest) (omega arith) lines in
+    let more : AreLines me (map tally (drop me reports)) (line ++ rest) =
+    subst (λ (rs : List R). AreLines me (map tally rs) (line ++ rest)) (sym at) (line, rest, refl, one, next) in
+    subst (AreLines 0 (map tally reports)) (sym (append_assoc text line rest) ∙ sym (ap (λ (t : List ℕ). t ++ rest) e)) (before (line ++ rest) more)
+
+pub all_lines : {R : Type 0} (tally : R → Tally) (reports : List R) (me : ℕ) (text : List ℕ) → length reports ≤ me → Continues tally reports me text → AreLines 0 (map tally reports) text
+all_lines {R} tally reports me text many all =
+    let none : AreLines me (map tally (drop me reports)) [] = subst (λ (rs : List R). AreLines me (map tally rs) []) (sym (drop_all me reports many)) refl in
+    subst (AreLines 0 (map tally reports)) (append-nil text) (all [] none)
