@@ -16,7 +16,7 @@ pub enum Fault {
     Stream(io::Error),
     #[error("{0}")]
     Link(LinkFault),
-    #[error("{0:?}")]
+    #[error("{0}")]
     Group(GroupFault),
 }
 

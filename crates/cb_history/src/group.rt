@@ -1,6 +1,6 @@
 //! The group, whose parameters all members share, and a member's seat in it.
 
-ghost use Rattle.std.specs.Prelude.{◌≡◌, ◌↔◌, ◌≤◌, IfOk, IsOk, MatchOption};
+ghost use Rattle.std.specs.Prelude.{◌≡◌, ◌↔◌, ◌≤◌, IfOk, IsOk, MatchOption, Some, codes};
 ghost use Rattle.cb_history.specs.Group.{Parameters, AreParameters, IsSeat};
 
 use cb_times::{FEWEST_MEMBERS, MOST_MEMBERS, WIDEST_WINDOW};
@@ -13,6 +13,8 @@ use std::marker::Model;
 pub struct BadGroup;
 
 impl fmt::Display for BadGroup {
+    ghost output = { λ _. Some (codes "BadGroup") };
+
     fn fmt<W: fmt::Write>(&self, f: &mut fmt::Formatter<W>) -> fmt::Result {
         f.write_str("BadGroup")
     }

@@ -5,11 +5,14 @@ ghost use Rattle.cb_history.specs.Facts.{entry_fields};
 ghost use Rattle.cb_lock.specs.Receipts.{receipt_fields};
 ghost use Rattle.cb_lock.specs.Claims.{IsRight, claim, receipts_of};
 ghost use Rattle.cb_lock.specs.Closing.{IsClosed, IsFault};
+ghost use Rattle.cb_lock.specs.FaultText.{close_fault_text};
 ghost use Rattle.cb_lock.specs.Seen.{Marks, Checks, ChecksSeat};
 
 use crate::seat::{Receipt, Seat};
 use cb_member::{Entry, Member, Name, NoMemory, Seat as Identity};
 use std::alloc::Global;
+use std::error::Error;
+use std::fmt;
 use std::sync::ledger::Ledger;
 
 /// The member of a shared member that was closed.
@@ -38,6 +41,23 @@ pub enum CloseFault {
     /// Out of memory.
     NoMemory,
 }
+
+impl fmt::Display for CloseFault {
+    ghost output = { λ fault. Some (close_fault_text fault) };
+
+    fn fmt<W: fmt::Write>(&self, f: &mut fmt::Formatter<W>) -> fmt::Result {
+        match self {
+            CloseFault::SeatsMissing { claimed, entries } => {
+                write!(f, "SeatsMissing claimed {claimed} entries {entries}")
+            }
+            CloseFault::OtherMember => f.write_str("OtherMember"),
+            CloseFault::ReceiptMismatch { place } => write!(f, "ReceiptMismatch place {place}"),
+            CloseFault::NoMemory => f.write_str("NoMemory"),
+        }
+    }
+}
+
+impl Error for CloseFault {}
 
 /// What is wrong with these seats, if anything.
 pub(crate) fn fault_of<L: Ledger>(

@@ -1,3 +1,4 @@
 pub mod Counts
+pub mod FaultText
 pub mod Reports
 pub mod Groups

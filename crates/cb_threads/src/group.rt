@@ -1,6 +1,7 @@
 //! A group, of which each member runs in a thread of its own.
 
-ghost use Rattle.std.specs.Prelude.{◌≡◌, ◌↔◌, Decides, IfOk, Err, length, map};
+ghost use Rattle.std.specs.Prelude.{◌≡◌, ◌↔◌, Decides, IfOk, Err, Some, length, map};
+ghost use Rattle.cb_threads.specs.FaultText.{group_fault_text};
 ghost use Rattle.cb_threads.specs.Groups.{IsPlan, AreKept, tally_in};
 ghost use Rattle.cb_threads.specs.declared.group.GroupFault.TheVariants.{BadPlan};
 
@@ -14,6 +15,7 @@ use crate::talker::Talker;
 use cb_lock::CloseFault;
 use cb_member::{Group, History, LONGEST_HISTORY};
 use std::alloc::{AllocError, Global};
+use std::error::Error;
 use std::fmt;
 use std::sync::Wait;
 use std::sync::atomic::AtomicU64;
@@ -32,6 +34,21 @@ pub enum GroupFault {
     /// Closing the shared member was refused; of several members the first.
     Close { member: u32, fault: CloseFault },
 }
+
+impl fmt::Display for GroupFault {
+    ghost output = { λ fault. Some (group_fault_text fault) };
+
+    fn fmt<W: fmt::Write>(&self, f: &mut fmt::Formatter<W>) -> fmt::Result {
+        match self {
+            GroupFault::BadPlan => f.write_str("BadPlan"),
+            GroupFault::NoThread => f.write_str("NoThread"),
+            GroupFault::NoMemory => f.write_str("NoMemory"),
+            GroupFault::Close { member, fault } => write!(f, "Close member {member}: {fault}"),
+        }
+    }
+}
+
+impl Error for GroupFault {}
 
 /// What became of each member, in the order of their numbers.
 #[derive(Drop)]

@@ -1,11 +1,13 @@
 //! Links: where the frames of a member go, and where those of the others come from.
 
-ghost use Rattle.std.specs.Prelude.{◌≡◌, ℕ, ◌≤◌, IfErr};
+ghost use Rattle.std.specs.Prelude.{◌≡◌, ℕ, ◌≤◌, IfErr, Some};
 ghost use Rattle.cb_threads.specs.Counts.{LinkCounts};
+ghost use Rattle.cb_threads.specs.FaultText.{link_fault_text};
 
 use bytes::Bytes;
 use cb_member::Outgoing;
 use std::alloc::{AllocError, AllocFailed};
+use std::error::Error;
 use std::fmt;
 use std::sync::Wait;
 use std::time::Clock;
@@ -29,6 +31,8 @@ pub enum LinkFault {
 }
 
 impl fmt::Display for LinkFault {
+    ghost output = { λ fault. Some (link_fault_text fault) };
+
     fn fmt<W: fmt::Write>(&self, f: &mut fmt::Formatter<W>) -> fmt::Result {
         f.write_str(match self {
             LinkFault::Device => "Device",
@@ -36,6 +40,8 @@ impl fmt::Display for LinkFault {
         })
     }
 }
+
+impl Error for LinkFault {}
 
 impl From<AllocError> for LinkFault {
     fn from(_refused: AllocError) -> LinkFault {

@@ -1,8 +1,9 @@
 //! The pace at which a member ticks.
 
-ghost use Rattle.std.specs.Prelude.{◌≡◌, ℕ, ◌≤◌, OnErr};
+ghost use Rattle.std.specs.Prelude.{◌≡◌, ℕ, ◌≤◌, OnErr, Some, codes};
 ghost use Rattle.cb_threads.specs.Counts.{HasCounted};
 
+use std::error::Error;
 use std::fmt;
 use std::sync::Wait;
 use std::time::Clock;
@@ -12,10 +13,14 @@ use std::time::Clock;
 pub struct PaceFault;
 
 impl fmt::Display for PaceFault {
+    ghost output = { λ _. Some (codes "PaceFault") };
+
     fn fmt<W: fmt::Write>(&self, f: &mut fmt::Formatter<W>) -> fmt::Result {
         f.write_str("PaceFault")
     }
 }
+
+impl Error for PaceFault {}
 
 /// What stands between two ticks of a member.
 pub trait Pace {

@@ -1,12 +1,14 @@
 //! What became of a member that ran.
 
-ghost use Rattle.std.specs.Prelude.{◌≡◌, [], ◌∷◌, map};
+ghost use Rattle.std.specs.Prelude.{◌≡◌, [], ◌∷◌, map, Some};
 ghost use Rattle.cb_history.specs.Facts.{entry_fields};
 ghost use Rattle.cb_lock.specs.Receipts.{receipt_fields};
+ghost use Rattle.cb_threads.specs.FaultText.{worker_fault_text};
 ghost use Rattle.cb_threads.specs.Reports.{Adds, IsTally, entries_in, entries_told, no_tally};
 
 use cb_lock::{Receipt, Seat};
 use cb_member::Entry;
+use std::error::Error;
 use std::fmt;
 use std::sync::ledger::Ledger;
 
@@ -20,6 +22,8 @@ pub enum WorkerFault {
 }
 
 impl fmt::Display for WorkerFault {
+    ghost output = { λ fault. Some (worker_fault_text fault) };
+
     fn fmt<W: fmt::Write>(&self, f: &mut fmt::Formatter<W>) -> fmt::Result {
         f.write_str(match self {
             WorkerFault::NoThread => "NoThread",
@@ -27,6 +31,8 @@ impl fmt::Display for WorkerFault {
         })
     }
 }
+
+impl Error for WorkerFault {}
 
 /// What became of a member's workers. Each count stays at its greatest value.
 #[derive(Drop)]

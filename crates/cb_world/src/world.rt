@@ -1,12 +1,13 @@
 //! The group.
 
-ghost use Rattle.std.specs.Prelude.{◌≡◌, ◌↔◌, ◌≤◌, [], IfOk, OnOk, OnErr, Err, MatchOption, map};
+ghost use Rattle.std.specs.Prelude.{◌≡◌, ◌↔◌, ◌≤◌, [], IfOk, OnOk, OnErr, Err, MatchOption, Some, map};
 ghost use Rattle.cb_history.specs.Facts.{entry_fields};
 ghost use Rattle.cb_history.specs.Legal.{longest_history};
 ghost use Rattle.cb_schedules.specs.Headline.{DeliversClosedArrivals, IsCausalBroadcast, TimesTellHappenedBefore};
 ghost use Rattle.cb_schedules.specs.Messages.{stamped_lists};
 ghost use Rattle.cb_schedules.specs.Schedule.{IsSetting};
 ghost use Rattle.cb_schedules.specs.SentLaws.{ArrivalsAreWelcome, StableIsDeliveredEverywhere};
+ghost use Rattle.cb_world.specs.FaultText.{play_fault_text};
 ghost use Rattle.cb_world.specs.Outcomes.{sent_fields, AreOutcomes};
 ghost use Rattle.cb_world.specs.Steps.{step_fields};
 ghost use Rattle.cb_world.specs.World.{AreNewMembers, HasRoom, and_step, member_in, run_in};
@@ -17,6 +18,8 @@ use crate::step::Step;
 use crate::taking::{MOST_PUT_OUT, push_within, take};
 use cb_member::{Entry, Event, Group, LONGEST_HISTORY, Member, NewFault, NoMemory};
 use std::alloc::{AllocError, Global};
+use std::error::Error;
+use std::fmt;
 use std::marker::Model;
 
 /// Why no group was made.
@@ -27,6 +30,19 @@ pub enum PlayFault {
     /// Out of memory.
     NoMemory,
 }
+
+impl fmt::Display for PlayFault {
+    ghost output = { λ fault. Some (play_fault_text fault) };
+
+    fn fmt<W: fmt::Write>(&self, f: &mut fmt::Formatter<W>) -> fmt::Result {
+        f.write_str(match self {
+            PlayFault::BadLimit => "BadLimit",
+            PlayFault::NoMemory => "NoMemory",
+        })
+    }
+}
+
+impl Error for PlayFault {}
 
 /// A group of members, all frames that they sent, and what came of each step so far.
 #[derive(Drop)]
