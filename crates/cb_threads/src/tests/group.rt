@@ -58,6 +58,8 @@ fn has_delivered<I, O, P, T>(rt: &impl Abort, report: &MemberReport<I, O, P, T>)
     assert_eq!(rt; report.deliveries, 4);
     assert_eq!(rt; report.pace_failures, 0);
     assert!(rt; report.fault.is_none());
+    assert!(rt; report.inlet.is_some() && report.outlet.is_some());
+    assert!(rt; report.pace.is_some() && report.talker.is_some());
 }
 
 #[test]
