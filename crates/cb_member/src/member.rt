@@ -209,10 +209,15 @@ impl Member {
         ensures seat { (result.group ≡ self.seat.group) × (result.me ≡ self.seat.me) }
         ensures entries { map entry_fields result.entries.items ≡ self.entries }
     {
+        let Member {
+            seat,
+            limit: _,
+            store,
+        } = self;
         History {
-            group: self.seat.group(),
-            me: self.seat.me(),
-            entries: self.store.entries,
+            group: seat.group(),
+            me: seat.me(),
+            entries: store.into_entries(),
         }
     }
 }

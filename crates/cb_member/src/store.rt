@@ -44,6 +44,24 @@ impl Store {
         })
     }
 
+    /// The history, for good.
+    pub fn into_entries(self) -> Vec<Entry>
+        ensures { result ≡ self.entries }
+    {
+        let Store {
+            entries,
+            delivery,
+            reception,
+            knowledge,
+            sending,
+        } = self;
+        drop(delivery);
+        drop(reception);
+        drop(knowledge);
+        drop(sending);
+        entries
+    }
+
     /// Makes room for one more entry and for so many events. Nothing else changes.
     pub fn reserve(&mut self, events: usize) -> Result<(), NoMemory>
         ensures alike { IsAlike self.old self.new }

@@ -1,7 +1,7 @@
 //! Vector times of a group and their order, the names of messages, and the limits of groups.
 //!
 //! A `VectorTime` counts each member's messages, and `TimeOrder` says how two compare. `NoMemory` is the one word for an
-//! allocation that was refused, here and in the crates above. Stands on nothing but std.
+//! allocation that was refused, here and in the crates above. Stands on no crate of ours, and on `smallvec` for the fields of a time.
 #![tactic(auto)]
 
 mod group;

@@ -8,6 +8,7 @@ ghost use Rattle.cb_times.specs.Order.{field, AtMost, Compares};
 ghost use Rattle.cb_times.specs.Time.{IsTime, IsRaised, text_of};
 
 use crate::order::TimeOrder;
+use smallvec::SmallVec;
 use std::alloc::{AllocError, Global};
 use std::fmt;
 use std::marker::Model;
@@ -24,11 +25,15 @@ pub type NoMemory = AllocError;
 /// other. `size`, `get` and `as_slice` read a time; `set` is for who works a stamp out from numbers, and `copy_from` for who
 /// has a time to write over.
 ///
-/// Only `zero` and `copy` take memory.
+/// Only `zero` and `copy` take memory, and that for more than eight members.
 #[derive(Debug, Drop)]
 pub struct VectorTime {
-    fields: Vec<u32>,
+    /// In the value itself for up to eight members, so that the times of a small group take no memory.
+    fields: SmallVec<u32, FEW>,
 }
+
+/// How many fields a time keeps in itself.
+const FEW: usize = 8;
 
 impl Model for VectorTime {
     ghost use Rattle.std.specs.Prelude.{List, ℕ};
@@ -47,7 +52,12 @@ impl VectorTime {
         requires { IsGroupSize size }
         ensures { IfOk result (λ time. time ≡ replicate size 0) }
     {
-        let fields = vec![in alloc; 0; size as usize]?;
+        let size = size as usize;
+        let fields = if size <= FEW {
+            SmallVec::from_buf_and_len(alloc, [0; FEW], size)
+        } else {
+            SmallVec::from_vec(vec![in alloc; 0; size]?)
+        };
         Ok(VectorTime { fields })
     }
 
@@ -65,7 +75,7 @@ impl VectorTime {
         ensures field { result ≡ field self.now k }
         ensures time { IsTime self.now }
     {
-        self.fields[k as usize]
+        self.fields.as_slice()[k as usize]
     }
 
     /// The fields, member 0's first.
@@ -82,7 +92,8 @@ impl VectorTime {
         requires room { field self.old k < u32.MAX }
         ensures { self.new ≡ slice_set self.old k (field self.old k + 1) }
     {
-        self.fields[k as usize] += 1;
+        let fields = self.fields.as_mut_slice();
+        fields[k as usize] += 1;
     }
 
     /// Makes the field of member `k` this count.
@@ -90,7 +101,8 @@ impl VectorTime {
         requires { k < length self.old }
         ensures { self.new ≡ slice_set self.old k count }
     {
-        self.fields[k as usize] = count;
+        let fields = self.fields.as_mut_slice();
+        fields[k as usize] = count;
     }
 
     /// Counts whatever the other time counts too: each field becomes the greater of the two.
@@ -98,7 +110,7 @@ impl VectorTime {
         requires { length other.now ≡ length self.old }
         ensures { IsRaised self.old other.now self.new }
     {
-        raise_fields(&mut self.fields, &other.fields);
+        raise_fields(self.fields.as_mut_slice(), other.fields.as_slice());
     }
 
     /// How this time stands to the other.
@@ -122,7 +134,8 @@ impl VectorTime {
         ensures copied { self.new ≡ other.now }
         ensures time { IsTime other.now }
     {
-        self.fields.copy_from_slice(&other.fields);
+        let fields = self.fields.as_mut_slice();
+        fields.copy_from_slice(other.fields.as_slice());
     }
 
     /// A second time with the same fields.
@@ -130,7 +143,12 @@ impl VectorTime {
         ensures equal { IfOk result (λ time. time ≡ self.now) }
         ensures time { IsTime self.now }
     {
-        let fields = self.fields.clone()?;
+        let (alloc, fields) = (*self.fields.allocator(), self.fields.as_slice());
+        let fields = if fields.len() <= FEW {
+            SmallVec::from_slice(alloc, fields)?
+        } else {
+            SmallVec::from_vec(Vec::from_slice(alloc, fields)?)
+        };
         Ok(VectorTime { fields })
     }
 }
@@ -139,7 +157,7 @@ impl fmt::Display for VectorTime {
     ghost output = { λ time. Some (text_of time) };
 
     fn fmt<W: fmt::Write>(&self, f: &mut fmt::Formatter<W>) -> fmt::Result {
-        let Some((first, others)) = self.fields.split_first() else {
+        let Some((first, others)) = self.fields.as_slice().split_first() else {
             unreachable!("a group has two members or more");
         };
         write!(f, "[{first}")?;
@@ -175,7 +193,7 @@ mod tests {
     fn time_of(alloc: Global, fields: &[u32; 3]) -> Result<VectorTime, NoMemory>
         ensures { IfOk result (λ time. length time ≡ 3) }
     {
-        let fields = Vec::from_slice(alloc, fields)?;
+        let fields = SmallVec::from_slice(alloc, fields)?;
         Ok(VectorTime { fields })
     }
 
@@ -213,6 +231,20 @@ mod tests {
         let mut other = time_of(rt.alloc(), &[2, 9, 0])?;
         other.copy_from(&time);
         assert_eq!(rt; other.as_slice(), [1, 8, 4294967295].as_slice());
+        Ok(())
+    }
+
+    #[test]
+    fn a_time_of_nine_fields_is_copied_counted_and_raised(rt: HostRuntime) -> Result<(), Fail> {
+        let mut time = VectorTime::zero(rt.alloc(), 9)?;
+        time.set(0, 5);
+        let mut other = time.copy()?;
+        other.add_one(8);
+        assert_eq!(rt; time.as_slice(), [5, 0, 0, 0, 0, 0, 0, 0, 0].as_slice());
+        assert_eq!(rt; other.as_slice(), [5, 0, 0, 0, 0, 0, 0, 0, 1].as_slice());
+        assert_eq!(rt; time.compare(&other), TimeOrder::Before);
+        time.raise(&other);
+        assert_eq!(rt; time.compare(&other), TimeOrder::Same);
         Ok(())
     }
 

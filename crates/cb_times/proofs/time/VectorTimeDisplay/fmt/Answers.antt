@@ -9,4 +9,4 @@ returns-clause-writes g c plain ok =
     let middle = c.loop-field.invariant head.plain in
     let tail = c.write-2.ensures.writes middle.plain ok in
     put_three _ _ _ _ _ _ _ _ _ head middle tail
-    (text_of-fields _ _ _ _ (rw (← c.self.view_is, ← c.deref.ensures.value) c.in-Some.ensures.cases.0) c.loop-field-test.false)
+    (text_of-fields _ _ _ _ (rw (← c.self.view_is, ← c.as_slice.ensures) c.in-Some.ensures.cases.0) c.loop-field-test.false)
