@@ -8,11 +8,11 @@ use Rattle.cb_frames.specs.Fields.{CastFields, StatusFields, RequestFields}
 use Rattle.cb_frames.specs.Text.{AreChanges, AreValues}
 use Rattle.cb_frames.specs.Fault.{Pairs, change_pairs, value_pairs}
 
-abbrev pub part_fields : CastParts → CastFields
-part_fields p = record { group = p.group; sender = p.sender; number = p.number; changes = p.changes.items; payload = p.payload.now }
+abbrev pub part_fields : List Change → CastParts → CastFields
+part_fields changes p = record { group = p.group; sender = p.sender; number = p.number; changes = changes; payload = p.payload.now }
 
-abbrev pub status_parts_fields : StatusParts → StatusFields
-status_parts_fields p = record { group = p.group; sender = p.sender; values = p.values.items }
+abbrev pub status_parts_fields : List Change → StatusParts → StatusFields
+status_parts_fields values p = record { group = p.group; sender = p.sender; values = values }
 
 abbrev pub request_parts_fields : RequestParts → RequestFields
 request_parts_fields p = record { group = p.group; requester = p.requester; asked = p.asked; ranges = p.ranges.items }

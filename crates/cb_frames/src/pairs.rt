@@ -2,7 +2,7 @@
 //!
 //! They are read into arrays of fixed size, so that a fault of the bytes is answered even out of memory.
 
-ghost use Rattle.std.specs.Prelude.{◌≡◌, ◌≤◌, ◌-◌, ◌+◌, IfOk};
+ghost use Rattle.std.specs.Prelude.{◌≡◌, ◌≤◌, ◌-◌, ◌+◌, [], IfOk};
 ghost use Rattle.cb_frames.specs.Fault.{range_pairs};
 ghost use Rattle.cb_frames.specs.Reading.{Answers, pair_at, pairs_at};
 ghost use Rattle.cb_frames.specs.Parts.{pairs_but};
@@ -37,16 +37,20 @@ fn next_change(own: Option<u32>, least: u32, bytes: &[u8]) -> Result<(Change, &[
     Ok((Change { field, amount }, rest))
 }
 
-/// So many changes, or values where no field is `own`.
-pub fn all_changes(
+/// The changes or values of a frame, before they are copied.
+pub type Changes = ArrayVec<Change, MOST_CHANGES>;
+
+/// Puts so many changes, or values where no field is `own`, into an empty list. What is behind them is answered.
+pub fn all_changes<'a>(
     own: Option<u32>,
     count: u32,
-    bytes: &[u8],
-) -> Result<(ArrayVec<Change, MOST_CHANGES>, &[u8]), FrameFault>
-    ensures { Answers (λ x. (x.0.items, x.1.now)) result
+    bytes: &'a [u8],
+    changes: &mut Changes,
+) -> Result<&'a [u8], FrameFault>
+    requires { changes.old.items ≡ [] }
+    ensures { Answers (λ rest. (changes.new.items, rest.now)) result
         (pairs_at (pairs_but own) count 0 bytes.now) }
 {
-    let mut changes = ArrayVec::new();
     let mut least = 0;
     let mut rest = bytes;
     for _ in 0..count {
@@ -55,7 +59,7 @@ pub fn all_changes(
         least = change.field + 1;
         rest = after;
     }
-    Ok((changes, rest))
+    Ok(rest)
 }
 
 /// The next range, which begins at `least` or later.

@@ -2,7 +2,7 @@
 //!
 //! All is read before memory is asked for, so a fault of the bytes is answered even out of memory.
 
-ghost use Rattle.std.specs.Prelude.{◌≡◌, ◌≤◌, ◌++◌, List, ℕ, IfErr, IfOk, MatchResult};
+ghost use Rattle.std.specs.Prelude.{◌≡◌, ◌≤◌, ◌++◌, [], List, ℕ, IfErr, IfOk, MatchResult};
 ghost use Rattle.cb_frames.specs.declared.fault.FrameFault.{FrameFault as Fault};
 ghost use Rattle.cb_frames.specs.Fields.{FrameFields, fields_of, cast_fields, status_fields, request_fields};
 ghost use Rattle.cb_frames.specs.Text.{IsText};
@@ -14,7 +14,7 @@ ghost use Rattle.cb_frames.specs.Parts.{part_fields, status_parts_fields, reques
 use crate::fault::FrameFault;
 use crate::frame::{Cast, Change, Frame, MOST_RANGES, Range, Request, Status};
 use crate::numbers::{count_of_ranges, member, message_number, number, payload_length};
-use crate::pairs::{MOST_CHANGES, all_changes, all_ranges};
+use crate::pairs::{Changes, all_changes, all_ranges};
 use arrayvec::ArrayVec;
 use bytes::Bytes;
 use std::alloc::Global;
@@ -34,7 +34,6 @@ struct CastParts<'a> {
     group: u32,
     sender: u32,
     number: u32,
-    changes: ArrayVec<Change, MOST_CHANGES>,
     payload: &'a [u8],
 }
 
@@ -43,7 +42,6 @@ struct CastParts<'a> {
 struct StatusParts {
     group: u32,
     sender: u32,
-    values: ArrayVec<Change, MOST_CHANGES>,
 }
 
 /// A request that was read.
@@ -79,39 +77,36 @@ fn end(bytes: &[u8]) -> Result<(), FrameFault>
 }
 
 #[tactic(auto, unfolding(crate::specs::Reading::cast_at))]
-fn cast_parts(bytes: &[u8]) -> Result<CastParts<'_>, FrameFault>
-    ensures { Answers part_fields result (cast_at bytes.now) }
+fn cast_parts<'a>(bytes: &'a [u8], changes: &mut Changes) -> Result<CastParts<'a>, FrameFault>
+    requires { changes.old.items ≡ [] }
+    ensures { Answers (part_fields changes.new.items) result (cast_at bytes.now) }
 {
     let (group, rest) = number(bytes)?;
     let (sender, rest) = member(rest)?;
     let (message, rest) = message_number(rest)?;
     let (count, rest) = number(rest)?;
-    let (changes, rest) = all_changes(Some(sender), count, rest)?;
+    let rest = all_changes(Some(sender), count, rest, changes)?;
     let (length, rest) = payload_length(rest)?;
     let payload = whole_payload(length, rest)?;
     Ok(CastParts {
         group,
         sender,
         number: message,
-        changes,
         payload,
     })
 }
 
 #[tactic(auto, unfolding(crate::specs::Reading::status_at))]
-fn status_parts(bytes: &[u8]) -> Result<StatusParts, FrameFault>
-    ensures { Answers status_parts_fields result (status_at bytes.now) }
+fn status_parts(bytes: &[u8], values: &mut Changes) -> Result<StatusParts, FrameFault>
+    requires { values.old.items ≡ [] }
+    ensures { Answers (status_parts_fields values.new.items) result (status_at bytes.now) }
 {
     let (group, rest) = number(bytes)?;
     let (sender, rest) = member(rest)?;
     let (count, rest) = number(rest)?;
-    let (values, rest) = all_changes(None, count, rest)?;
+    let rest = all_changes(None, count, rest, values)?;
     end(rest)?;
-    Ok(StatusParts {
-        group,
-        sender,
-        values,
-    })
+    Ok(StatusParts { group, sender })
 }
 
 #[tactic(auto, unfolding(crate::specs::Reading::request_at))]
@@ -133,12 +128,17 @@ fn request_parts(bytes: &[u8]) -> Result<RequestParts, FrameFault>
 }
 
 /// Copies what was read. The payload is the end of the bytes that it was read from, and shares them by design.
-fn cast(alloc: Global, bytes: &Bytes, parts: &CastParts<'_>) -> Result<Cast, FrameFault>
+fn cast(
+    alloc: Global,
+    bytes: &Bytes,
+    parts: &CastParts<'_>,
+    changes: &[Change],
+) -> Result<Cast, FrameFault>
     requires { (front : List ℕ) × (bytes.now ≡ front ++ parts.now.payload.now) }
-    ensures { MatchResult result (λ cast. cast_fields cast ≡ part_fields parts.now)
+    ensures { MatchResult result (λ cast. cast_fields cast ≡ part_fields changes.now parts.now)
         (λ fault. fault ≡ FrameFault.NoMemory) }
 {
-    let changes = Vec::from_slice(alloc, parts.changes.as_slice())?;
+    let changes = Vec::from_slice(alloc, changes)?;
     let payload = bytes.slice(bytes.len() - parts.payload.len()..)?;
     Ok(Cast {
         group: parts.group,
@@ -149,14 +149,15 @@ fn cast(alloc: Global, bytes: &Bytes, parts: &CastParts<'_>) -> Result<Cast, Fra
     })
 }
 
-fn status(alloc: Global, parts: &StatusParts) -> Result<Status, FrameFault>
-    ensures { MatchResult result (λ status. status_fields status ≡ status_parts_fields parts.now)
+fn status(alloc: Global, parts: &StatusParts, values: &[Change]) -> Result<Status, FrameFault>
+    ensures { MatchResult result
+        (λ status. status_fields status ≡ status_parts_fields values.now parts.now)
         (λ fault. fault ≡ FrameFault.NoMemory) }
 {
     Ok(Status {
         group: parts.group,
         sender: parts.sender,
-        values: Vec::from_slice(alloc, parts.values.as_slice())?,
+        values: Vec::from_slice(alloc, values)?,
     })
 }
 
@@ -180,15 +181,16 @@ fn frame(alloc: Global, bytes: &Bytes, text: &[u8]) -> Result<Frame, FrameFault>
     ensures exact { Gives fields_of result (frame_at bytes.now) }
     ensures bytes { IsBytes bytes.now }
 {
+    let mut changes = Changes::new();
     match text.split_first() {
         None => Err(FrameFault::Short),
         Some((&CAST, fields)) => {
-            let parts = cast_parts(fields)?;
-            Ok(Frame::Cast(cast(alloc, bytes, &parts)?))
+            let parts = cast_parts(fields, &mut changes)?;
+            Ok(Frame::Cast(cast(alloc, bytes, &parts, &changes)?))
         }
         Some((&STATUS, fields)) => {
-            let parts = status_parts(fields)?;
-            Ok(Frame::Status(status(alloc, &parts)?))
+            let parts = status_parts(fields, &mut changes)?;
+            Ok(Frame::Status(status(alloc, &parts, &changes)?))
         }
         Some((&REQUEST, fields)) => {
             let parts = request_parts(fields)?;

@@ -9,7 +9,7 @@ pub loop-init : goal.loop-init
 loop-init c = record {
   room = search rules;
   below = omega arith;
-  read = rw c.new-changes.ensures (starts (pairs_but c.args.own) c.args.count 0 c.args.bytes.now);
+  read = rw c.requires (starts (pairs_but c.args.own) c.args.count 0 c.args.bytes.now);
 }
 
 pub loop-preserved : goal.loop-preserved
