@@ -108,6 +108,10 @@ payload_of (CastFrame c) = c.payload
 payload_of (StatusFrame s) = []
 payload_of (RequestFrame r) = []
 
+-- the cast with this payload in place of its own
+abbrev pub with_payload : CastFields → List ℕ → CastFields
+with_payload c payload = record c { payload = payload }
+
 -- the payload has more bytes than a frame may carry
 abbrev pub HasLongPayload : FrameFields → Type 0
 HasLongPayload f = LONGEST_PAYLOAD < length (payload_of f)

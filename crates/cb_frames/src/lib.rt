@@ -18,7 +18,7 @@ pub use frame::{
 };
 pub use laws::{each_is_a_text_or_a_fault, one_text};
 pub use reading::decode;
-pub use writing::encode;
+pub use writing::{encode, encode_cast};
 
 #[cfg(test)]
 mod tests;

@@ -149,6 +149,24 @@ fn small_casts_are_written_and_read(rt: HostRuntime) -> Result<(), Fail> {
     are_texts(&rt, rt.alloc(), CASTS)
 }
 
+#[test]
+fn a_cast_is_written_with_a_payload_that_lies_elsewhere(rt: HostRuntime) -> Result<(), Fail> {
+    let cast = Cast {
+        group: 7,
+        sender: 1,
+        number: 2,
+        changes: Vec::new(rt.alloc()),
+        payload: Bytes::from_static(b"not looked at"),
+    };
+    match encode_cast(rt.alloc(), &cast, b"ok") {
+        Ok(bytes) => assert_eq!(&rt; bytes.as_slice(), b"\x11\x07\x01\x02\x00\x02ok".as_slice()),
+        Err(fault) => panic!(&rt; "{fault}"),
+    }
+    let long = vec![in rt.alloc(); 0; 1025]?;
+    assert!(&rt; encode_cast(rt.alloc(), &cast, &long) == Err(EncodeFault::PayloadTooLong));
+    Ok(())
+}
+
 /// A change of this amount in each field below 63.
 fn changes_of(alloc: Global, amount: u32) -> Result<Vec<Change>, AllocError> {
     let mut changes = Vec::new(alloc);

@@ -2,8 +2,8 @@
 
 ghost use Rattle.std.specs.Prelude.{◌≡◌, ◌≤◌, ◌<◌, ◌+◌, ◌++◌, ◌↔◌, ◌⊎◌, [], ◌∷◌, List, ℕ, length, Option, IsTrue, IfOk, OnOk, MatchResult};
 ghost use Rattle.cb_varint.specs.Spelling.{Spells};
-ghost use Rattle.cb_frames.specs.Fields.{FrameFields, fields_of, cast_fields, status_fields, request_fields};
-ghost use Rattle.cb_frames.specs.Text.{SpellAll, AppendsNumbers, HasLongPayload, BreaksRule, pairs_from, ranges_from, cast_numbers, status_numbers, request_numbers, AreRanges, KeepsCastRules, KeepsStatusRules, KeepsRequestRules, KeepsRules, payload_of, IsText};
+ghost use Rattle.cb_frames.specs.Fields.{FrameFields, CastFrame, StatusFrame, RequestFrame, fields_of, cast_fields, status_fields, request_fields};
+ghost use Rattle.cb_frames.specs.Text.{SpellAll, AppendsNumbers, HasLongPayload, BreaksRule, pairs_from, ranges_from, cast_numbers, status_numbers, request_numbers, AreRanges, KeepsCastRules, KeepsStatusRules, KeepsRequestRules, KeepsRules, payload_of, with_payload, IsText};
 ghost use Rattle.cb_frames.specs.Parts.{AreChangesBut};
 
 use crate::fault::EncodeFault;
@@ -102,18 +102,18 @@ fn put_ranges(out: &mut Vec<u8>, ranges: &[Range]) -> Result<(), AllocError>
     Ok(())
 }
 
-fn put_cast(out: &mut Vec<u8>, cast: &Cast) -> Result<(), AllocError>
+fn put_cast(out: &mut Vec<u8>, cast: &Cast, payload: &[u8]) -> Result<(), AllocError>
     requires rules { KeepsCastRules (cast_fields cast.now) }
-    requires payload { length cast.now.payload ≤ LONGEST_PAYLOAD }
+    requires payload { length payload.now ≤ LONGEST_PAYLOAD }
     ensures { OnOk result (AppendsNumbers out.old.items out.new.items
-        (cast_numbers (cast_fields cast.now))) }
+        (cast_numbers (with_payload (cast_fields cast.now) payload.now))) }
 {
     cb_varint::put(cast.group, out)?;
     cb_varint::put(cast.sender, out)?;
     cb_varint::put(cast.number, out)?;
     cb_varint::put(cast.changes.len() as u32, out)?;
     put_changes(out, &cast.changes)?;
-    cb_varint::put(cast.payload.len() as u32, out)
+    cb_varint::put(payload.len() as u32, out)
 }
 
 fn put_status(out: &mut Vec<u8>, status: &Status) -> Result<(), AllocError>
@@ -139,29 +139,80 @@ fn put_request(out: &mut Vec<u8>, request: &Request) -> Result<(), AllocError>
     put_ranges(out, &request.ranges)
 }
 
+/// What a text has at most beside its group, the number of a cast, its changes and its payload: the kind, numbers of members and counts.
+const SMALL_FIELDS: usize = 6;
+
+/// Room for pairs of a gap, which has one byte, and an amount.
+fn room_for_changes(changes: &[Change]) -> usize {
+    let mut room: usize = 0;
+    for change in changes {
+        room = room
+            .saturating_add(cb_varint::length(change.amount))
+            .saturating_add(1);
+    }
+    room
+}
+
+/// Room for the text of a cast, so that making it takes memory once.
+fn room_for_cast(cast: &Cast, payload: &[u8]) -> usize {
+    SMALL_FIELDS
+        .saturating_add(cb_varint::length(cast.group))
+        .saturating_add(cb_varint::length(cast.number))
+        .saturating_add(room_for_changes(&cast.changes))
+        .saturating_add(payload.len())
+}
+
+/// The text of a cast that keeps the rules, with this payload in place of its own.
+fn cast_text(alloc: Global, cast: &Cast, payload: &[u8]) -> Result<Vec<u8>, AllocError>
+    requires rules { KeepsCastRules (cast_fields cast.now) }
+    requires payload { length payload.now ≤ LONGEST_PAYLOAD }
+    ensures { IfOk result (λ bytes.
+        IsText (CastFrame (with_payload (cast_fields cast.now) payload.now)) bytes.items) }
+{
+    let mut out = Vec::with_capacity(alloc, room_for_cast(cast, payload))?;
+    out.push(CAST)?;
+    put_cast(&mut out, cast, payload)?;
+    out.extend_from_slice(payload)?;
+    Ok(out)
+}
+
+/// The text of a status that keeps the rules.
+fn status_text(alloc: Global, status: &Status) -> Result<Vec<u8>, AllocError>
+    requires { KeepsStatusRules (status_fields status.now) }
+    ensures { IfOk result (λ bytes. IsText (StatusFrame (status_fields status.now)) bytes.items) }
+{
+    let room = SMALL_FIELDS
+        .saturating_add(cb_varint::length(status.group))
+        .saturating_add(room_for_changes(&status.values));
+    let mut out = Vec::with_capacity(alloc, room)?;
+    out.push(STATUS)?;
+    put_status(&mut out, status)?;
+    Ok(out)
+}
+
+/// The text of a request that keeps the rules.
+fn request_text(alloc: Global, request: &Request) -> Result<Vec<u8>, AllocError>
+    requires { KeepsRequestRules (request_fields request.now) }
+    ensures { IfOk result (λ bytes.
+        IsText (RequestFrame (request_fields request.now)) bytes.items) }
+{
+    let mut out = Vec::new(alloc);
+    out.push(REQUEST)?;
+    put_request(&mut out, request)?;
+    Ok(out)
+}
+
 /// The text of a frame that keeps the rules, its payload's among them.
 fn text(alloc: Global, frame: &Frame) -> Result<Vec<u8>, AllocError>
     requires rules { KeepsRules (fields_of frame.now) }
     requires payload { length (payload_of (fields_of frame.now)) ≤ LONGEST_PAYLOAD }
     ensures { IfOk result (λ bytes. IsText (fields_of frame.now) bytes.items) }
 {
-    let mut out = Vec::new(alloc);
     match frame {
-        Frame::Cast(cast) => {
-            out.push(CAST)?;
-            put_cast(&mut out, cast)?;
-            out.extend_from_slice(cast.payload.as_slice())?;
-        }
-        Frame::Status(status) => {
-            out.push(STATUS)?;
-            put_status(&mut out, status)?;
-        }
-        Frame::Request(request) => {
-            out.push(REQUEST)?;
-            put_request(&mut out, request)?;
-        }
+        Frame::Cast(cast) => cast_text(alloc, cast, cast.payload.as_slice()),
+        Frame::Status(status) => status_text(alloc, status),
+        Frame::Request(request) => request_text(alloc, request),
     }
-    Ok(out)
 }
 
 /// The payload of a cast; no other frame has one.
@@ -172,6 +223,25 @@ fn has_long_payload(frame: &Frame) -> bool
         Frame::Cast(cast) => cast.payload.len() > LONGEST_PAYLOAD,
         Frame::Status(_) | Frame::Request(_) => false,
     }
+}
+
+/// The text of a cast whose payload lies elsewhere, or why it has none: what `encode` answers for the cast with this payload in place of
+/// its own, which is not looked at.
+pub fn encode_cast(alloc: Global, cast: &Cast, payload: &[u8]) -> Result<Bytes, EncodeFault>
+    ensures text { IfOk result (IsText (CastFrame
+        (with_payload (cast_fields cast.now) payload.now))) }
+    ensures too_long { (result ≡ Err EncodeFault.PayloadTooLong)
+        ↔ HasLongPayload (CastFrame (with_payload (cast_fields cast.now) payload.now)) }
+    ensures bad_field { (result ≡ Err EncodeFault.BadField)
+        ↔ BreaksRule (CastFrame (with_payload (cast_fields cast.now) payload.now)) }
+{
+    if payload.len() > LONGEST_PAYLOAD {
+        return Err(EncodeFault::PayloadTooLong);
+    }
+    if !keeps_cast_rules(cast) {
+        return Err(EncodeFault::BadField);
+    }
+    Ok(Bytes::from_vec(cast_text(alloc, cast, payload)?)?)
 }
 
 /// The text of a frame, or why it has none.
