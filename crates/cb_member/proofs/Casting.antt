@@ -1,14 +1,19 @@
 -- The next cast, made from what is kept.
-use Rattle.std.proofs.Common.{◌≡◌, ℕ, ◌+◌, ◌<◌, ◌≤◌, inl, inr, List, [], ◌∷◌, ◌++◌, length, set, map, refl, sym, ap, subst, ◌∙◌, arith}
+use Rattle.std.proofs.Common.{◌≡◌, ℕ, ◌+◌, ◌<◌, ◌≤◌, inl, inr, List, [], ◌∷◌, ◌++◌, length, set, map, refl, sym, ap, subst, ◌∙◌, arith, Result, Ok, Err}
+use Rattle.std.specs.Prelude.{IfOk}
+use Rattle.std.specs.List.{flat_map}
 use Rattle.std.proofs.lemmas.Bool.{cases_eq, cases_lt}
 use Rattle.std.proofs.lemmas.List.{length-set, get_or-set_same, get_or-set_other, get_or_past, ext_get_or}
 use Rattle.std.proofs.lemmas.List.FromFn.{length-map-range_with_len}
 use Rattle.cb_times.specs.Order.{field, AtMost}
 use Rattle.cb_frames.specs.declared.frame.Change.{Change}
-use Rattle.cb_frames.specs.Fields.{Carried}
+use Rattle.cb_varint.specs.Reading.{spelling}
+use Rattle.cb_frames.specs.Fields.{Carried, CastFields, CastFrame}
+use Rattle.cb_frames.specs.Text.{cast_kind, cast_numbers, text_of}
+use Rattle.cb_delay.specs.declared.message.Message.{Message}
 use Rattle.cb_diffs.specs.Differences.{differences}
 use Rattle.cb_history.specs.Group.{Seat}
-use Rattle.cb_history.specs.Facts.{entry_fields}
+use Rattle.cb_history.specs.Facts.{CastEntry, Fact, entry_fields}
 use Rattle.cb_history.specs.View.{count, counts, view, time_of}
 use Rattle.cb_history.specs.Answers.{delivered, upto_last_cast, next_cast}
 use Rattle.cb_history.specs.Legal.{longest_history}
@@ -20,7 +25,8 @@ use Rattle.cb_history.proofs.Bounds.{few_facts, count_below}
 use Rattle.cb_history.proofs.Histories.{legal_histories_say_legal_facts}
 use Rattle.cb_member.specs.declared.store.Store.{Store}
 use Rattle.cb_member.specs.Store.{IsKept, facts_held}
-use Rattle.cb_member.specs.Casting.{next_time}
+use Rattle.cb_member.specs.declared.cast.Casting.{Casting}
+use Rattle.cb_member.specs.Casting.{MakesCasting, next_message, next_text, next_time}
 
 pub facts_kept : (seat : Seat) (limit : ℕ) (store : Store) → IsKept seat limit store → AreFactsOf seat (facts_held store)
 facts_kept seat limit store k = legal_histories_say_legal_facts seat (map entry_fields store.entries.items) k.state.legal
@@ -98,3 +104,23 @@ next_is_made seat limit store payload bytes group sender own changes k eg es en 
           ∙ ap (λ (ns : List ℕ). differences (time_of seat.group.size (upto_last_cast (facts_held store))) ns seat.me) k.keeps.delivered.waits.time,
       et,
     ) refl
+
+-- a cast's text ends with its payload
+pub text_ends : (c : CastFields) → text_of (CastFrame c) ≡ (cast_kind ∷ flat_map spelling (cast_numbers c)) ++ c.payload
+unfolding text_of
+text_ends c = refl
+
+-- what the handles are made of is the next cast
+pub makes_casting : {E : Type 0} (seat : Seat) (facts : List Fact) (payload : List ℕ) (r : Result Casting E) (message : Message) (time out : List ℕ)
+    → message ≡ next_message seat facts payload → time ≡ message.time → out ≡ next_text seat facts payload
+    → IfOk r (λ casting. (casting.done ≡ record { name = message.name; time = time; out = out }) × (casting.message ≡ message)
+    × (entry_fields casting.entry ≡ CastEntry out) × (entry_fields casting.noted ≡ CastEntry out) × (casting.sent ≡ out))
+    → IfOk r (MakesCasting seat facts payload)
+makes_casting seat facts payload (Ok casting) message time out em et eo made = record {
+  done = made.0 ∙ rw (et, em, eo) refl;
+  message = made.1 ∙ em;
+  entry = made.2 ∙ ap CastEntry eo;
+  noted = made.3 ∙ ap CastEntry eo;
+  sent = made.4 ∙ eo;
+}
+makes_casting seat facts payload (Err e) message time out em et eo made = tt

@@ -2,8 +2,8 @@
 
 ghost use Rattle.std.specs.Prelude.{◌≡◌, ◌≤◌, ℕ, List, IfOk, IfErr, OnErr, Some, length};
 ghost use Rattle.cb_frames.specs.declared.frame.TheConstants.{LONGEST_PAYLOAD};
-ghost use Rattle.cb_frames.specs.Fields.{cast_fields, CastFrame};
-ghost use Rattle.cb_frames.specs.Text.{KeepsCastRules, text_of};
+ghost use Rattle.cb_frames.specs.Fields.{cast_fields};
+ghost use Rattle.cb_frames.specs.Text.{with_payload};
 ghost use Rattle.cb_history.specs.Facts.{entry_fields, CastEntry};
 ghost use Rattle.cb_history.specs.Answers.{next_cast};
 ghost use Rattle.cb_history.specs.Legal.{ToCast};
@@ -13,11 +13,11 @@ ghost use Rattle.cb_member.specs.Casting.{next_time, next_message, MakesCasting,
 
 use crate::delivery::push_within;
 use crate::store::Store;
-use crate::text::{another, frame_text};
+use crate::text::{another, cast_text, payload_in};
 use bytes::Bytes;
 use cb_delay::{Event, Message};
 use cb_diffs::difference;
-use cb_frames::{Cast, Frame, LONGEST_PAYLOAD};
+use cb_frames::{Cast, LONGEST_PAYLOAD};
 use cb_history::{CastDone, CastRefusal, Entry, Seat};
 use cb_times::{Name, NoMemory, VectorTime};
 use std::alloc::Global;
@@ -80,18 +80,18 @@ fn make(seat: Seat, limit: usize, store: &Store, payload: &[u8]) -> Result<Casti
     requires payload { length payload.now ≤ LONGEST_PAYLOAD }
     ensures { IfOk result (MakesCasting seat (facts_held store.now) payload.now) }
 {
-    let cast = cast_of(seat, limit, store, payload)?;
-    let message = message_of(seat, limit, store, &cast)?;
+    let cast = cast_of(seat, limit, store)?;
+    let out = cast_text(*store.entries.allocator(), &cast, payload)?;
+    let message = message_of(seat, limit, store, &cast, payload_in(&out, payload)?)?;
     let time = message.time.copy()?;
-    let out = text_of(*store.entries.allocator(), cast)?;
     casting_of(message, time, out)
 }
 
-/// The next own cast.
-fn cast_of(seat: Seat, limit: usize, store: &Store, payload: &[u8]) -> Result<Cast, NoMemory>
+/// The next own cast but for its payload, which is copied once, into the frame.
+fn cast_of(seat: Seat, limit: usize, store: &Store) -> Result<Cast, NoMemory>
     requires { IsKept seat limit store.now }
-    ensures { IfOk result (λ cast. cast_fields cast
-        ≡ next_cast seat (facts_held store.now) payload.now) }
+    ensures { IfOk result (λ cast. (payload : List ℕ) → with_payload (cast_fields cast) payload
+        ≡ next_cast seat (facts_held store.now) payload) }
 {
     let alloc = *store.entries.allocator();
     let (me, now) = (seat.me(), &store.delivery.time);
@@ -101,17 +101,23 @@ fn cast_of(seat: Seat, limit: usize, store: &Store, payload: &[u8]) -> Result<Ca
         sender: me,
         number: now.get(me) + 1,
         changes,
-        payload: Bytes::copy_from_slice(alloc, payload)?,
+        payload: Bytes::new(),
     })
 }
 
 /// The message of the cast, with the member's time and one cast more.
-fn message_of(seat: Seat, limit: usize, store: &Store, cast: &Cast) -> Result<Message, NoMemory>
+fn message_of(
+    seat: Seat,
+    limit: usize,
+    store: &Store,
+    cast: &Cast,
+    payload: Bytes,
+) -> Result<Message, NoMemory>
     requires kept { IsKept seat limit store.now }
-    requires next { cast_fields cast.now
-        ≡ next_cast seat (facts_held store.now) cast.now.payload }
+    requires next { with_payload (cast_fields cast.now) payload
+        ≡ next_cast seat (facts_held store.now) payload }
     ensures { IfOk result (λ message. message
-        ≡ next_message seat (facts_held store.now) cast.now.payload) }
+        ≡ next_message seat (facts_held store.now) payload) }
 {
     Ok(Message {
         name: Name {
@@ -119,7 +125,7 @@ fn message_of(seat: Seat, limit: usize, store: &Store, cast: &Cast) -> Result<Me
             number: cast.number,
         },
         time: counted(seat, limit, store)?,
-        payload: another(&cast.payload)?,
+        payload,
     })
 }
 
@@ -132,15 +138,6 @@ fn counted(seat: Seat, limit: usize, store: &Store) -> Result<VectorTime, NoMemo
     let mut time = store.delivery.time.copy()?;
     time.add_one(seat.me());
     Ok(time)
-}
-
-fn text_of(alloc: Global, cast: Cast) -> Result<Bytes, NoMemory>
-    requires rules { KeepsCastRules (cast_fields cast) }
-    requires payload { length cast.payload ≤ LONGEST_PAYLOAD }
-    ensures { IfOk result (λ bytes. bytes ≡ text_of (CastFrame (cast_fields cast))) }
-{
-    let frame = Frame::Cast(cast);
-    frame_text(alloc, &frame)
 }
 
 /// The cast with all handles of its frame.

@@ -1,4 +1,4 @@
-use Rattle.std.proofs.Common.{◌≡◌, ◌∙◌, ℕ, ap, arith}
+use Rattle.std.proofs.Common.{◌≡◌, ◌∙◌, ℕ, ap, arith, refl}
 use Rattle.cb_times.specs.Order.{field}
 use Rattle.cb_diffs.specs.Differences.{differences}
 use Rattle.cb_history.specs.Group.{Parameters}
@@ -20,9 +20,9 @@ overflow_add-result c =
     omega (arith, own_few c.args.seat c.args.limit c.args.store.now c.requires, at)
 
 pub returns : goal.returns
-returns c = next_is_made c.args.seat c.args.limit c.args.store.now c.args.payload.now c.in_ok-copy_from_slice.field-0 c.number.result c.me-me.result c.get.result c.in_ok-changes.changes.items c.requires
+returns c payload = next_is_made c.args.seat c.args.limit c.args.store.now payload payload c.number.result c.me-me.result c.get.result c.in_ok-changes.changes.items c.requires
     (c.number.ensures ∙ ap (λ (g : Parameters). g.number) c.group.ensures.group)
     c.me-me.ensures.me
     (c.get.ensures.field ∙ ap (field c.args.store.now.delivery.time) c.me-me.ensures.me)
     (c.in_ok-changes.ensures ∙ ap (λ (me : ℕ). differences c.args.store.now.sending.last_cast c.args.store.now.delivery.time me) c.me-me.ensures.me)
-    c.in_ok-copy_from_slice.ensures
+    refl
