@@ -155,9 +155,9 @@ fn is_ready(message: &Message, now: &VectorTime) -> bool
         ↔ IsReady message.now.name.sender (field message.now.time) (field now.now) }
 {
     let sender = message.name.sender;
+    let (stamps, counts) = (message.time.as_slice(), now.as_slice());
     for k in 0..now.size() {
-        let stamp = message.time.get(k);
-        let count = now.get(k);
+        let (stamp, count) = (stamps[k as usize], counts[k as usize]);
         let in_time = if k == sender {
             count.checked_add(1) == Some(stamp)
         } else {
