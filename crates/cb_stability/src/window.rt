@@ -116,7 +116,9 @@ fn let_go(frames: &mut VecDeque<Bytes>, count: usize)
     ensures capacity { deque_capacity frames.new ≡ deque_capacity frames.old }
 {
     let count = count.min(frames.len());
-    frames.drain(..count);
+    if count > 0 {
+        frames.drain(..count);
+    }
 }
 
 // Of the frames with the numbers after those trimmed, the first in some range.
