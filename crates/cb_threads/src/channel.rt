@@ -3,12 +3,13 @@
 ghost use Rattle.std.specs.Prelude.{◌≡◌};
 
 use crate::link::{Inlet, LinkFault, Offered, Outlet, Received};
+use crate::mailbox::{Mailbox, Slot, Taken, new_mailbox};
 use bytes::Bytes;
 use cb_member::Outgoing;
-use crossbeam_channel::{Receiver, RecvTimeoutError, SendError, Sender, TryRecvError, unbounded};
+use crossbeam_channel::SendError;
 use std::alloc::{AllocError, Global};
 use std::sync::Wait;
-use std::thread::{sleep, yield_now};
+use std::thread::sleep;
 use std::time::{Clock, Duration};
 
 /// Links over channels.
@@ -18,13 +19,13 @@ pub struct ChannelLink;
 /// Where the frames of the others come from.
 #[derive(Drop)]
 pub struct ChannelInlet {
-    from: Receiver<Bytes>,
+    from: Mailbox<Bytes>,
 }
 
 /// Where the frames of a member go: the others' channels, with none at the member's own number.
 #[derive(Drop)]
 pub struct ChannelOutlet {
-    to: Vec<Option<Sender<Bytes>>>,
+    to: Vec<Option<Slot<Bytes>>>,
     failures: u64,
 }
 
@@ -45,7 +46,7 @@ fn links(alloc: Global, size: u32) -> Result<Vec<(ChannelInlet, ChannelOutlet)>,
     let mut ends = Vec::new(alloc);
     let mut inlets = Vec::new(alloc);
     for _member in 0..size {
-        let (to, from) = unbounded(alloc)?;
+        let (to, from) = new_mailbox(alloc)?;
         ends.push(to)?;
         inlets.push(ChannelInlet { from })?;
     }
@@ -56,13 +57,13 @@ fn links(alloc: Global, size: u32) -> Result<Vec<(ChannelInlet, ChannelOutlet)>,
     Ok(links)
 }
 
-fn outlet(alloc: Global, me: usize, ends: &[Sender<Bytes>]) -> Result<ChannelOutlet, AllocError> {
+fn outlet(alloc: Global, me: usize, ends: &[Slot<Bytes>]) -> Result<ChannelOutlet, AllocError> {
     let mut to = Vec::new(alloc);
     for (number, end) in ends.iter().enumerate() {
         to.push(if number == me {
             None
         } else {
-            Some(end.clone()?)
+            Some(end.again()?)
         })?;
     }
     Ok(ChannelOutlet { to, failures: 0 })
@@ -76,35 +77,16 @@ impl Inlet for ChannelInlet {
     }
 
     fn receive<R: Wait + Clock>(&mut self, rt: &R) -> Result<Received, LinkFault> {
-        if let Some(frame) = look(rt, &self.from) {
-            return Ok(Received::Frame(frame));
-        }
-        match self.from.recv_timeout(rt, Duration::from_millis(1)) {
-            Ok(frame) => Ok(Received::Frame(frame)),
-            Err(RecvTimeoutError::Timeout) => Ok(Received::Nothing),
-            Err(RecvTimeoutError::Disconnected) => {
+        match self.from.take(rt) {
+            Taken::Message(frame) => Ok(Received::Frame(frame)),
+            Taken::Nothing => Ok(Received::Nothing),
+            Taken::Closed => {
                 // The senders are gone: nothing would wait here.
                 sleep(rt, Duration::from_millis(1));
                 Ok(Received::Nothing)
             }
         }
     }
-}
-
-/// How often a channel is looked at before it is waited for. Who sends to a sleeping thread has to wake it, which costs more than some
-/// looks, and while the thread has not run yet each further frame wakes it again.
-const LOOKS: u32 = 8;
-
-/// What the channel holds, or will hold once others have run.
-pub fn look<M: Drop, R: Wait>(rt: &R, from: &Receiver<M>) -> Option<M> {
-    for _look in 0..LOOKS {
-        match from.try_recv(rt) {
-            Ok(message) => return Some(message),
-            Err(TryRecvError::Empty) => yield_now(),
-            Err(TryRecvError::Disconnected) => break,
-        }
-    }
-    None
 }
 
 impl Outlet for ChannelOutlet {
@@ -125,7 +107,7 @@ impl Outlet for ChannelOutlet {
 }
 
 /// Offers the frame to all others.
-fn offer_to_all<R: Wait>(rt: &R, to: &[Option<Sender<Bytes>>], frame: &Bytes) -> Offered {
+fn offer_to_all<R: Wait>(rt: &R, to: &[Option<Slot<Bytes>>], frame: &Bytes) -> Offered {
     let mut offered = Offered::taken();
     for end in to {
         if end.is_some() {
@@ -136,14 +118,14 @@ fn offer_to_all<R: Wait>(rt: &R, to: &[Option<Sender<Bytes>>], frame: &Bytes) ->
 }
 
 /// Offers the frame to one member; there is none for a number that is the sender's own or no member's.
-fn offer<R: Wait>(rt: &R, to: Option<&Option<Sender<Bytes>>>, frame: &Bytes) -> Offered {
+fn offer<R: Wait>(rt: &R, to: Option<&Option<Slot<Bytes>>>, frame: &Bytes) -> Offered {
     let Some(Some(end)) = to else {
         return Offered::failed();
     };
     let Ok(frame) = frame.clone() else {
         return Offered::refused();
     };
-    match end.send(rt, frame) {
+    match end.put(rt, frame) {
         Ok(()) => Offered::taken(),
         Err(SendError::Disconnected(_frame)) => Offered::failed(),
         Err(SendError::OutOfMemory(_frame)) => Offered::refused(),

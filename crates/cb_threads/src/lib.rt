@@ -12,6 +12,7 @@ mod group;
 mod life;
 mod limits;
 mod link;
+mod mailbox;
 mod member;
 mod pace;
 mod report;

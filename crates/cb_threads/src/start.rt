@@ -4,6 +4,7 @@ ghost use Rattle.std.specs.Prelude.{◌≡◌, true, is_some, IfSome, MatchOptio
 ghost use Rattle.cb_threads.specs.Counts.{MetAtMost};
 
 use crate::link::{Inlet, Outlet};
+use crate::mailbox::{Mailbox, Slot, new_mailbox};
 use crate::pace::Pace;
 use crate::talker::Talker;
 use crate::workers::{
@@ -12,7 +13,6 @@ use crate::workers::{
 };
 use cb_lock::Seat;
 use cb_member::Outgoing;
-use crossbeam_channel::{Receiver, Sender, unbounded};
 use std::alloc::{AllocError, Global};
 use std::sync::Wait;
 use std::sync::ledger::Ledger;
@@ -41,10 +41,10 @@ pub struct Seats<L: Ledger> {
 /// The ends of the workers' channel: one to send from for each of the first three, and one to receive from.
 #[derive(Drop)]
 pub struct Ends {
-    receiver: Sender<Outgoing>,
-    timer: Sender<Outgoing>,
-    speaker: Sender<Outgoing>,
-    sender: Receiver<Outgoing>,
+    receiver: Slot<Outgoing>,
+    timer: Slot<Outgoing>,
+    speaker: Slot<Outgoing>,
+    sender: Mailbox<Outgoing>,
 }
 
 /// What the workers hand back, with None for one whose thread could not be started.
@@ -72,10 +72,10 @@ impl<I, O, P, T, L: Ledger> Ended<I, O, P, T, L> {
 
 /// A channel for the workers. The only fault is out of memory.
 pub fn make_ends(alloc: Global) -> Result<Ends, AllocError> {
-    let (to, from) = unbounded(alloc)?;
+    let (to, from) = new_mailbox(alloc)?;
     Ok(Ends {
-        receiver: to.clone()?,
-        timer: to.clone()?,
+        receiver: to.again()?,
+        timer: to.again()?,
         speaker: to,
         sender: from,
     })
@@ -256,11 +256,11 @@ fn start_sender<
     E,
     O: Outlet + Send + Drop + 's,
     L: Ledger + Send + Sync + 's,
-    R: Wait + Sync + 's,
+    R: Wait + Clock + Sync + 's,
 >(
     scope: &Scope<'s, E>,
     rt: &'s R,
-    frames: Receiver<Outgoing>,
+    frames: Mailbox<Outgoing>,
     outlet: O,
     seat: Seat<L>,
 ) -> Option<PromisedHandle<Worked<O, L>, OutletCounts>>

@@ -5,9 +5,9 @@ ghost use Rattle.cb_threads.specs.Counts.{Counts, LinkCounts};
 
 use crate::limits::Ending;
 use crate::link::LinkFault;
+use crate::mailbox::Slot;
 use cb_lock::{Seat, SharedMember};
 use cb_member::Outgoing;
-use crossbeam_channel::Sender;
 use std::alloc::Global;
 use std::sync::Wait;
 use std::sync::ledger::Ledger;
@@ -72,12 +72,12 @@ pub fn and_fault(failures: u64, fault: LinkFault) -> u64
 /// Where a worker hands what is to be sent. The sender ends once every worker has let its own go.
 #[derive(Drop)]
 pub struct Post {
-    out: Sender<Outgoing>,
+    out: Slot<Outgoing>,
     lost: u64,
 }
 
 impl Post {
-    pub fn new(out: Sender<Outgoing>) -> Post {
+    pub fn new(out: Slot<Outgoing>) -> Post {
         Post { out, lost: 0 }
     }
 
@@ -88,7 +88,7 @@ impl Post {
 
     /// Hands a frame to the sender.
     pub fn put(&mut self, rt: &impl Wait, out: Outgoing) {
-        if self.out.send(rt, out).is_err() {
+        if self.out.put(rt, out).is_err() {
             self.lost = self.lost.saturating_add(1);
         }
     }

@@ -3,15 +3,15 @@
 ghost use Rattle.std.specs.Prelude.{◌≡◌};
 ghost use Rattle.cb_threads.specs.Counts.{Counts, MetAtMost};
 
-use crate::channel::look;
 use crate::link::Outlet;
+use crate::mailbox::{Mailbox, Taken};
 use crate::workers::desk::{Worked, and_fault};
 use cb_lock::Seat;
 use cb_member::Outgoing;
-use crossbeam_channel::Receiver;
 use std::sync::Wait;
 use std::sync::ledger::Ledger;
 use std::thread::Promise;
+use std::time::Clock;
 
 /// A promise: the failures that were met are those that an outlet counted since it had counted this.
 #[derive(Clone, Copy, Debug)]
@@ -24,9 +24,9 @@ impl<O: Outlet, L: Ledger> Promise<Worked<O, L>> for OutletCounts {
 }
 
 /// Sends what the other workers hand over, until all of them have ended.
-pub fn send_all<O: Outlet, L: Ledger, R: Wait>(
+pub fn send_all<O: Outlet, L: Ledger, R: Wait + Clock>(
     rt: &R,
-    frames: Receiver<Outgoing>,
+    frames: Mailbox<Outgoing>,
     outlet: O,
     seat: Seat<L>,
 ) -> Worked<O, L>
@@ -43,11 +43,15 @@ pub fn send_all<O: Outlet, L: Ledger, R: Wait>(
 }
 
 /// The next frame, or none where all workers have ended.
-fn next<R: Wait>(rt: &R, frames: &Receiver<Outgoing>) -> Option<Outgoing> {
-    match look(rt, frames) {
-        Some(frame) => Some(frame),
-        None => frames.recv(rt).ok(),
+fn next<R: Wait + Clock>(rt: &R, frames: &Mailbox<Outgoing>) -> Option<Outgoing> {
+    for _ in rt.forever() {
+        match frames.take(rt) {
+            Taken::Message(frame) => return Some(frame),
+            Taken::Nothing => {}
+            Taken::Closed => return None,
+        }
     }
+    unreachable!("the loop has no end")
 }
 
 /// Sends a frame, which is lost where the outlet does not take it.

@@ -1,0 +1,122 @@
+//! A channel whose reader sleeps where nothing comes, and is woken once for all that has come by then.
+//!
+//! The channel alone wakes its reader at each message until the reader runs, and each time the system is called. Here a reader says that
+//! it sleeps, and `Parker` calls the system for the first message only.
+
+use crossbeam_channel::{Receiver, SendError, Sender, TryRecvError, unbounded};
+use std::alloc::{AllocError, Global};
+use std::sync::atomic::{AtomicBool, Ordering};
+use std::sync::{Arc, Wait};
+use std::thread::{Parker, sleep};
+use std::time::{Clock, Duration};
+
+/// Whether the reader sleeps, and how it is woken.
+#[derive(Drop)]
+struct Reader {
+    sleeps: AtomicBool,
+    parker: Parker,
+}
+
+/// Where messages are put.
+#[derive(Drop)]
+pub struct Slot<M> {
+    to: Sender<M>,
+    reader: Arc<Reader>,
+}
+
+/// Where they are taken out, by one thread.
+#[derive(Drop)]
+pub struct Mailbox<M> {
+    from: Receiver<M>,
+    reader: Arc<Reader>,
+}
+
+/// What was taken out.
+#[derive(Drop)]
+pub enum Taken<M> {
+    Message(M),
+    /// Nothing came for about a millisecond.
+    Nothing,
+    /// Nothing is left, and there is no slot any more.
+    Closed,
+}
+
+/// A mailbox with its first slot. The only fault is out of memory.
+pub fn new_mailbox<M: Drop>(alloc: Global) -> Result<(Slot<M>, Mailbox<M>), AllocError> {
+    let (to, from) = unbounded(alloc)?;
+    let reader = match Arc::new(alloc, Reader::awake()) {
+        Ok(reader) => reader,
+        Err(_refused) => return Err(AllocError),
+    };
+    let same = Arc::try_clone(&reader)?;
+    Ok((Slot { to, reader }, Mailbox { from, reader: same }))
+}
+
+impl Reader {
+    fn awake() -> Reader {
+        Reader {
+            sleeps: AtomicBool::new(false),
+            parker: Parker::new(),
+        }
+    }
+}
+
+impl<M: Drop> Slot<M> {
+    /// Another slot of the same mailbox.
+    pub fn again(&self) -> Result<Slot<M>, AllocError> {
+        Ok(Slot {
+            to: self.to.clone()?,
+            reader: Arc::try_clone(&self.reader)?,
+        })
+    }
+
+    /// Puts a message in, and wakes the reader where it sleeps.
+    pub fn put(&self, rt: &impl Wait, message: M) -> Result<(), SendError<M>> {
+        self.to.send(rt, message)?;
+        if self.reader.sleeps.load(Ordering::SeqCst) {
+            self.reader.parker.unpark();
+        }
+        Ok(())
+    }
+}
+
+impl<M: Drop> Mailbox<M> {
+    /// The next message, which is waited for where there is none.
+    ///
+    /// A mailbox that has become empty is left alone for a moment first, in which what is on its way gathers.
+    pub fn take<R: Wait + Clock>(&self, rt: &R) -> Taken<M> {
+        if let Ok(message) = self.from.try_recv(rt) {
+            return Taken::Message(message);
+        }
+        sleep(rt, Duration::from_micros(200));
+        match self.look(rt) {
+            Taken::Nothing => self.sleep(rt),
+            taken => taken,
+        }
+    }
+
+    fn look<R: Wait>(&self, rt: &R) -> Taken<M> {
+        match self.from.try_recv(rt) {
+            Ok(message) => Taken::Message(message),
+            Err(TryRecvError::Empty) => Taken::Nothing,
+            Err(TryRecvError::Disconnected) => Taken::Closed,
+        }
+    }
+
+    /// Sleeps until a message is put in, and at most for a millisecond. A message that is put in while the reader falls asleep either is
+    /// seen by the look or wakes it: each side tells of itself before it looks at the other.
+    fn sleep<R: Wait>(&self, rt: &R) -> Taken<M> {
+        self.reader.sleeps.store(true, Ordering::SeqCst);
+        let taken = match self.look(rt) {
+            Taken::Nothing => {
+                self.reader
+                    .parker
+                    .park_timeout(rt, Duration::from_millis(1));
+                self.look(rt)
+            }
+            taken => taken,
+        };
+        self.reader.sleeps.store(false, Ordering::SeqCst);
+        taken
+    }
+}
