@@ -8,7 +8,7 @@ use crate::workers::desk::{Desk, Post, Worked};
 use bytes::Bytes;
 use cb_lock::Seat;
 use cb_member::{CastRefusal, Event, Member, NoMemory, Outgoing};
-use std::alloc::Global;
+use std::mem;
 use std::sync::Wait;
 use std::sync::ledger::Ledger;
 use std::thread::sleep;
@@ -31,6 +31,8 @@ struct Speech<'a, T, L: Ledger> {
     talker: T,
     /// How many events it has seen.
     seen: usize,
+    /// What the news are copied into, kept from one time to the next.
+    room: Vec<Event>,
     /// What could not be cast yet.
     waiting: Option<Vec<u8>>,
 }
@@ -45,12 +47,14 @@ pub fn talk_all<T: Talker, L: Ledger, R: Wait + Clock>(
     seat: Seat<L>,
 ) -> Worked<T, L> {
     let ending = desk.ending;
+    let room = Vec::new(desk.alloc);
     let mut speech = Speech {
         desk,
         post,
         seat,
         talker,
         seen: 0,
+        room,
         waiting: None,
     };
     for _turn in 0..ending.limits.turns {
@@ -81,10 +85,20 @@ impl<'a, T: Talker, L: Ledger> Speech<'a, T, L> {
         let Ok(news) = self.news(rt) else {
             return Turn::Quiet;
         };
-        let Ok(talk) = self.talker.next(&news) else {
-            return Turn::Quiet;
-        };
-        self.seen = self.seen.saturating_add(news.len());
+        let talk = self.talker.next(&news);
+        let count = news.len();
+        self.keep_room(news);
+        match talk {
+            Ok(talk) => {
+                self.seen = self.seen.saturating_add(count);
+                self.follow(rt, talk)
+            }
+            Err(_refused) => Turn::Quiet,
+        }
+    }
+
+    /// Does what the talker says.
+    fn follow<R: Wait>(&mut self, rt: &R, talk: Talk) -> Turn {
         match talk {
             Talk::Cast(payload) => self.cast(rt, payload),
             Talk::Idle => Turn::Quiet,
@@ -94,13 +108,20 @@ impl<'a, T: Talker, L: Ledger> Speech<'a, T, L> {
 
     /// The events that the talker has not seen.
     fn news<R: Wait>(&mut self, rt: &R) -> Result<Vec<Event>, NoMemory> {
-        let alloc = self.desk.alloc;
+        let room = mem::replace(&mut self.room, Vec::new(self.desk.alloc));
         let seen = self.seen;
         self.desk.shared.with_state(
             rt,
             &mut self.seat,
-            |member| events_behind(alloc, member, seen),
+            move |member| events_behind(room, member, seen),
         )
+    }
+
+    /// Lets go of the news, and keeps the room that they took.
+    fn keep_room(&mut self, news: Vec<Event>) {
+        let mut room = news;
+        room.clear();
+        self.room = room;
     }
 
     /// Casts the payload, which waits where the window or the history is full or memory is refused. One that is too long is dropped.
@@ -133,19 +154,20 @@ fn to_all(bytes: Bytes) -> Outgoing {
     Outgoing { to: None, bytes }
 }
 
-/// The member's events behind the first `seen`.
-fn events_behind(alloc: Global, member: &Member, seen: usize) -> Result<Vec<Event>, NoMemory>
+/// The member's events behind the first `seen`, in a list whose own events are let go of.
+fn events_behind(room: Vec<Event>, member: &Member, seen: usize) -> Result<Vec<Event>, NoMemory>
     ensures { IfOk result (λ news. news.items ≡ drop seen (events_in member.now)) }
 {
     let events = member.events();
     let (_, news) = events.split_at(seen.min(events.len()));
-    copies(alloc, news)
+    copies(room, news)
 }
 
-fn copies(alloc: Global, events: &[Event]) -> Result<Vec<Event>, NoMemory>
+fn copies(room: Vec<Event>, events: &[Event]) -> Result<Vec<Event>, NoMemory>
     ensures { IfOk result (λ copies. copies.items ≡ events.now) }
 {
-    let mut copies = Vec::with_capacity(alloc, events.len())?;
+    let mut copies = room;
+    copies.clear();
     for event in events {
         copies.push(copy(event)?)?;
     }
