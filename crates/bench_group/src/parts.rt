@@ -79,12 +79,13 @@ impl Caster {
 
 impl Talker for Caster {
     fn next(&mut self, news: &[Event]) -> Result<Talk, NoMemory> {
-        let payload = vec![in self.alloc; b'a'; self.payload]?;
-        self.unseen = self.unseen.saturating_sub(news.len() as u64);
         if self.left > 0 {
+            let payload = vec![in self.alloc; b'a'; self.payload]?;
+            self.unseen = self.unseen.saturating_sub(news.len() as u64);
             self.left -= 1;
             return Ok(Talk::Cast(payload));
         }
+        self.unseen = self.unseen.saturating_sub(news.len() as u64);
         Ok(if self.unseen == 0 {
             Talk::Finished
         } else {
