@@ -6,10 +6,14 @@ ghost use Rattle.cb_history.specs.Facts.{entry_fields};
 use crate::group::Group;
 use bytes::Bytes;
 use cb_times::{Name, NoMemory};
+use smallvec::SmallVec;
 use std::alloc::Global;
 
 /// The most entries that a history can have.
 pub const LONGEST_HISTORY: usize = 16_777_216;
+
+/// The names of what an arrival delivered. Nearly every arrival delivers one or two messages: then they lie in the value itself.
+pub type Names = SmallVec<Name, 2>;
 
 /// One entry of a history.
 #[derive(Debug, PartialEq, Eq, Drop)]
@@ -17,7 +21,7 @@ pub enum Entry {
     /// The member cast a message by this frame.
     Cast { frame: Bytes },
     /// This frame came and changed the member's state. These messages were delivered then, in this order.
-    Arrive { frame: Bytes, delivered: Vec<Name> },
+    Arrive { frame: Bytes, delivered: Names },
     /// The member told all others its time by this status.
     Tick { status: Bytes },
 }
@@ -43,7 +47,7 @@ impl Entry {
             },
             Entry::Arrive { frame, delivered } => Entry::Arrive {
                 frame: frame.clone()?,
-                delivered: delivered.clone()?,
+                delivered: Names::from_slice(*delivered.allocator(), delivered)?,
             },
             Entry::Tick { status } => Entry::Tick {
                 status: status.clone()?,

@@ -20,7 +20,7 @@ pub use answer::{
 };
 pub use cb_delay::{Event, Message, Name};
 pub use group::{BadGroup, Group, Seat};
-pub use history::{Entry, History, LONGEST_HISTORY};
+pub use history::{Entry, History, LONGEST_HISTORY, Names};
 pub use laws::{
     accepted_casts_are_there, acknowledgements_give_what_is_stable, calls_keep_histories_legal,
     casts_stay_in_their_windows, casts_wait_for_their_turn, deliveries_come_one_by_one,

@@ -84,7 +84,8 @@ pub record IsEmptyFor {A : Type 0} (room : ℕ) (items : Vec A Global) : Type 0 
 -- the frame, without names, with room for so many
 pub record HasRoomForNames (bytes : List ℕ) (room : ℕ) (named : Named) : Type 0 where
   pub frame : named.frame ≡ bytes
-  pub names : IsEmptyFor room named.delivered
+  pub empty : named.delivered.items ≡ []
+  pub room_is : room ≤ named.delivered.capacity
 
 -- what one cast needs, where so many messages wait once it is taken in
 pub record IsArrivingFor (size : ℕ) (bytes : List ℕ) (c : CastFields) (room : ℕ) (arriving : Arriving) : Type 0 where

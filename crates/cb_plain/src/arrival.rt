@@ -23,8 +23,8 @@ use crate::member::PlainMember;
 use crate::view::{Message, view};
 use bytes::Bytes;
 use cb_frames::{Cast, Frame, FrameFault, decode};
-use cb_history::{Arrival, ArriveRefusal, Entry, Message as Delivery, Outgoing};
-use cb_times::{Name, NoMemory};
+use cb_history::{Arrival, ArriveRefusal, Entry, Message as Delivery, Names, Outgoing};
+use cb_times::NoMemory;
 use std::alloc::Global;
 
 /// What an arrival did, and the entry that it adds.
@@ -104,10 +104,10 @@ fn deliveries(
     messages_in(alloc, size, &casts, later(&seen, before))
 }
 
-fn names(alloc: Global, messages: &[Delivery]) -> Result<Vec<Name>, NoMemory>
+fn names(alloc: Global, messages: &[Delivery]) -> Result<Names, NoMemory>
     ensures { IfOk result (λ names. names.items ≡ map (λ m. m.name) messages.now) }
 {
-    let mut names = Vec::new(alloc);
+    let mut names = Names::new(alloc);
     for message in messages {
         names.push(message.name)?;
     }

@@ -2,8 +2,8 @@
 use bytes::Bytes;
 use cb_frames::FrameFault;
 use cb_history::{
-    ArriveRefusal, BadGroup, CastRefusal, Entry, Group, History, MissingFault, Name, NewFault,
-    Seat, TickRefusal,
+    ArriveRefusal, BadGroup, CastRefusal, Entry, Group, History, MissingFault, Name, Names,
+    NewFault, Seat, TickRefusal,
 };
 use std::alloc::Global;
 use std::fmt;
@@ -72,10 +72,13 @@ fn a_copied_history_has_the_same_entries(rt: HostRuntime) -> Result<(), Fail> {
     let mut entries = Vec::new(alloc);
     entries.push(Entry::Arrive {
         frame: Bytes::from_static(b"\x11\x07\x00\x01\x00\x02hi"),
-        delivered: vec![in alloc; Name {
-            sender: 0,
-            number: 1
-        }; 1]?,
+        delivered: Names::from_slice(
+            alloc,
+            &[Name {
+                sender: 0,
+                number: 1,
+            }],
+        )?,
     })?;
     entries.push(Entry::Cast {
         frame: Bytes::from_static(b"\x11\x07\x01\x01\x01\x00\x01\x02yo"),

@@ -6,8 +6,8 @@ use std::fmt;
 
 /// Which message it is: the message of this number by this member.
 ///
-/// Members are numbered from 0, the messages of each from 1. A name prints as in `0.1`.
-#[derive(Clone, Copy, Debug, PartialEq, Eq, PartialOrd, Ord, Hash)]
+/// Members are numbered from 0, the messages of each from 1. A name prints as in `0.1`. The default, 0.0, is no message's name.
+#[derive(Clone, Copy, Debug, Default, PartialEq, Eq, PartialOrd, Ord, Hash)]
 pub struct Name {
     /// The member that cast the message.
     pub sender: u32,

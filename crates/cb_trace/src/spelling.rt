@@ -12,8 +12,8 @@ use crate::fault::LineFault;
 use crate::words::{frame_of, is, names_of, number_of, words_of};
 use crate::writing::{put_group, put_member};
 use bytes::Bytes;
-use cb_history::{Entry, Group, LONGEST_HISTORY};
-use cb_times::{MOST_MEMBERS, Name, NoMemory};
+use cb_history::{Entry, Group, LONGEST_HISTORY, Names};
+use cb_times::{MOST_MEMBERS, NoMemory};
 use std::alloc::Global;
 
 /// How many words the line of a group has.
@@ -135,7 +135,7 @@ fn lone_frame(alloc: Global, words: &[&[u8]]) -> Result<Bytes, LineFault>
 }
 
 /// A frame and the names of what was delivered then.
-fn arrival(alloc: Global, words: &[&[u8]]) -> Result<(Bytes, Vec<Name>), LineFault>
+fn arrival(alloc: Global, words: &[&[u8]]) -> Result<(Bytes, Names), LineFault>
     ensures { Finds IsArrival arrival_words (λ a. (a.0, a.1.items))
         (map (λ word. word.now) words.now) result }
 {
@@ -144,5 +144,5 @@ fn arrival(alloc: Global, words: &[&[u8]]) -> Result<(Bytes, Vec<Name>), LineFau
     };
     let frame = frame_of(alloc, word)?;
     let delivered = names_of(alloc, words)?;
-    Ok((frame, delivered))
+    Ok((frame, Names::from_vec(delivered)))
 }

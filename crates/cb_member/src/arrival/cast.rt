@@ -22,8 +22,8 @@ use bytes::Bytes;
 use cb_delay::Message;
 use cb_frames::Cast;
 use cb_gaps::Admission;
-use cb_history::{Arrival, ArriveRefusal, Entry, Seat};
-use cb_times::{Name, NoMemory};
+use cb_history::{Arrival, ArriveRefusal, Entry, Names, Seat};
+use cb_times::NoMemory;
 use std::alloc::{AllocError, Global};
 
 /// What the rules say of a cast that is not refused.
@@ -49,7 +49,7 @@ pub struct Arriving {
 #[derive(Drop)]
 pub struct Named {
     pub frame: Bytes,
-    pub delivered: Vec<Name>,
+    pub delivered: Names,
 }
 
 /// Takes a cast that came, and delivers what it makes ready. A copy of the entry that it adds, where it adds one, comes with the answer.
@@ -231,7 +231,7 @@ fn named_for(alloc: Global, room: usize, bytes: &Bytes) -> Result<Named, NoMemor
 {
     Ok(Named {
         frame: another(bytes)?,
-        delivered: Vec::with_capacity(alloc, room)?,
+        delivered: Names::with_capacity(alloc, room)?,
     })
 }
 
@@ -288,7 +288,7 @@ fn entry_of(named: Named, deliveries: &[Message]) -> Entry
         mut delivered,
     } = named;
     for message in deliveries {
-        push_within(&mut delivered, message.name);
+        delivered.push_reserved(message.name);
     }
     Entry::Arrive { frame, delivered }
 }

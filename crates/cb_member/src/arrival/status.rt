@@ -20,7 +20,7 @@ use crate::store::Store;
 use crate::text::another;
 use bytes::Bytes;
 use cb_frames::{Change, Status};
-use cb_history::{Arrival, ArriveRefusal, Entry, Seat};
+use cb_history::{Arrival, ArriveRefusal, Entry, Names, Seat};
 use cb_times::{NoMemory, VectorTime};
 use std::alloc::Global;
 
@@ -128,7 +128,7 @@ fn entry_of(alloc: Global, bytes: &Bytes) -> Result<Entry, NoMemory>
 {
     Ok(Entry::Arrive {
         frame: another(bytes)?,
-        delivered: Vec::new(alloc),
+        delivered: Names::new(alloc),
     })
 }
 
