@@ -7,13 +7,17 @@ use crossbeam_channel::{Receiver, SendError, Sender, TryRecvError, unbounded};
 use std::alloc::{AllocError, Global};
 use std::sync::atomic::{AtomicBool, Ordering};
 use std::sync::{Arc, Wait};
-use std::thread::{Parker, sleep};
-use std::time::{Clock, Duration};
+use std::thread::Parker;
+use std::time::Duration;
 
-/// Whether the reader sleeps, and how it is woken.
+/// Where so many messages have gathered, more are not waited for.
+const MANY: usize = 16;
+
+/// Whether the reader sleeps, or lets messages gather, and how it is woken.
 #[derive(Drop)]
 struct Reader {
     sleeps: AtomicBool,
+    gathers: AtomicBool,
     parker: Parker,
 }
 
@@ -56,6 +60,7 @@ impl Reader {
     fn awake() -> Reader {
         Reader {
             sleeps: AtomicBool::new(false),
+            gathers: AtomicBool::new(false),
             parker: Parker::new(),
         }
     }
@@ -70,26 +75,31 @@ impl<M: Drop> Slot<M> {
         })
     }
 
-    /// Puts a message in, and wakes the reader where it sleeps.
+    /// Puts a message in, and wakes the reader where it sleeps or enough has gathered.
     pub fn put(&self, rt: &impl Wait, message: M) -> Result<(), SendError<M>> {
         self.to.send(rt, message)?;
-        if self.reader.sleeps.load(Ordering::SeqCst) {
+        if self.is_awaited() {
             self.reader.parker.unpark();
         }
         Ok(())
+    }
+
+    /// The reader sleeps, or waits for no more than there is.
+    fn is_awaited(&self) -> bool {
+        self.reader.sleeps.load(Ordering::SeqCst)
+            || self.reader.gathers.load(Ordering::SeqCst) && self.to.len() >= MANY
     }
 }
 
 impl<M: Drop> Mailbox<M> {
     /// The next message, which is waited for where there is none.
     ///
-    /// A mailbox that has become empty is left alone for a moment first, in which what is on its way gathers.
-    pub fn take<R: Wait + Clock>(&self, rt: &R) -> Taken<M> {
+    /// Where a mailbox has become empty, what is on its way gathers for a moment first.
+    pub fn take<R: Wait>(&self, rt: &R) -> Taken<M> {
         if let Ok(message) = self.from.try_recv(rt) {
             return Taken::Message(message);
         }
-        sleep(rt, Duration::from_micros(200));
-        match self.look(rt) {
+        match self.gather(rt) {
             Taken::Nothing => self.sleep(rt),
             taken => taken,
         }
@@ -101,6 +111,16 @@ impl<M: Drop> Mailbox<M> {
             Err(TryRecvError::Empty) => Taken::Nothing,
             Err(TryRecvError::Disconnected) => Taken::Closed,
         }
+    }
+
+    /// Lets messages gather, for less than half a millisecond, or until there are many.
+    fn gather<R: Wait>(&self, rt: &R) -> Taken<M> {
+        self.reader.gathers.store(true, Ordering::SeqCst);
+        self.reader
+            .parker
+            .park_timeout(rt, Duration::from_micros(400));
+        self.reader.gathers.store(false, Ordering::SeqCst);
+        self.look(rt)
     }
 
     /// Sleeps until a message is put in, and at most for a millisecond. A message that is put in while the reader falls asleep either is

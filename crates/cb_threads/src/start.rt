@@ -256,7 +256,7 @@ fn start_sender<
     E,
     O: Outlet + Send + Drop + 's,
     L: Ledger + Send + Sync + 's,
-    R: Wait + Clock + Sync + 's,
+    R: Wait + Sync + 's,
 >(
     scope: &Scope<'s, E>,
     rt: &'s R,

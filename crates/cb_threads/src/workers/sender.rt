@@ -11,7 +11,6 @@ use cb_member::Outgoing;
 use std::sync::Wait;
 use std::sync::ledger::Ledger;
 use std::thread::Promise;
-use std::time::Clock;
 
 /// A promise: the failures that were met are those that an outlet counted since it had counted this.
 #[derive(Clone, Copy, Debug)]
@@ -24,7 +23,7 @@ impl<O: Outlet, L: Ledger> Promise<Worked<O, L>> for OutletCounts {
 }
 
 /// Sends what the other workers hand over, until all of them have ended.
-pub fn send_all<O: Outlet, L: Ledger, R: Wait + Clock>(
+pub fn send_all<O: Outlet, L: Ledger, R: Wait>(
     rt: &R,
     frames: Mailbox<Outgoing>,
     outlet: O,
@@ -43,7 +42,7 @@ pub fn send_all<O: Outlet, L: Ledger, R: Wait + Clock>(
 }
 
 /// The next frame, or none where all workers have ended.
-fn next<R: Wait + Clock>(rt: &R, frames: &Mailbox<Outgoing>) -> Option<Outgoing> {
+fn next<R: Wait>(rt: &R, frames: &Mailbox<Outgoing>) -> Option<Outgoing> {
     for _ in rt.forever() {
         match frames.take(rt) {
             Taken::Message(frame) => return Some(frame),
