@@ -13,6 +13,9 @@ use std::time::Duration;
 /// Where so many messages have gathered, more are not waited for.
 const MANY: usize = 16;
 
+/// For so many messages that were added the reader is woken, whether or not more are to come.
+const MOST_ADDED: usize = 64;
+
 /// Whether the reader sleeps, or lets messages gather, and how it is woken.
 #[derive(Drop)]
 struct Reader {
@@ -84,6 +87,22 @@ impl<M: Drop> Slot<M> {
         Ok(())
     }
 
+    /// Puts a message in for a reader that `wake` wakes once all is added. One that is not woken finds it within about a millisecond.
+    pub fn add(&self, rt: &impl Wait, message: M) -> Result<(), SendError<M>> {
+        self.to.send(rt, message)?;
+        if self.to.len() >= MOST_ADDED {
+            self.wake();
+        }
+        Ok(())
+    }
+
+    /// Wakes the reader where it sleeps.
+    pub fn wake(&self) {
+        if self.reader.sleeps.load(Ordering::SeqCst) {
+            self.reader.parker.unpark();
+        }
+    }
+
     /// The reader sleeps, or waits for no more than there is.
     fn is_awaited(&self) -> bool {
         self.reader.sleeps.load(Ordering::SeqCst)
@@ -100,6 +119,14 @@ impl<M: Drop> Mailbox<M> {
             return Taken::Message(message);
         }
         match self.gather(rt) {
+            Taken::Nothing => self.sleep(rt),
+            taken => taken,
+        }
+    }
+
+    /// The same where messages come many at once: none is waited for where there is one.
+    pub fn take_at_once<R: Wait>(&self, rt: &R) -> Taken<M> {
+        match self.look(rt) {
             Taken::Nothing => self.sleep(rt),
             taken => taken,
         }

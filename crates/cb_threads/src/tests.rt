@@ -5,4 +5,5 @@ ghost use Rattle.std.specs.Prelude.{◌≡◌, []};
 mod at_once;
 mod faults;
 mod group;
+mod mailbox;
 mod parts;

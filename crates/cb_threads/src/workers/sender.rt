@@ -44,7 +44,7 @@ pub fn send_all<O: Outlet, L: Ledger, R: Wait>(
 /// The next frame, or none where all workers have ended.
 fn next<R: Wait>(rt: &R, frames: &Mailbox<Outgoing>) -> Option<Outgoing> {
     for _ in rt.forever() {
-        match frames.take(rt) {
+        match frames.take_at_once(rt) {
             Taken::Message(frame) => return Some(frame),
             Taken::Nothing => {}
             Taken::Closed => return None,

@@ -63,7 +63,10 @@ pub fn talk_all<T: Talker, L: Ledger, R: Wait + Clock>(
         }
         match speech.turn(rt) {
             Turn::Cast => {}
-            Turn::Quiet => sleep(rt, Duration::from_millis(1)),
+            Turn::Quiet => {
+                speech.post.wake();
+                sleep(rt, Duration::from_millis(1));
+            }
             Turn::Finished => break,
         }
     }
