@@ -270,7 +270,7 @@ fn is_end(bytes: &[u8]) -> Result<(), Fault> {
 
 // ---- a member
 
-#[derive(Clone, Copy)]
+#[derive(Clone, Copy, PartialEq, Eq)]
 pub struct Name {
     pub sender: u32,
     pub number: u32,
@@ -402,6 +402,12 @@ impl<const FIELDS: usize> Member<FIELDS> {
 
     fn is_full(&self) -> bool {
         self.entries.len() >= self.limit
+    }
+
+    /// The names in an entry.
+    #[allow(dead_code)]
+    pub fn names_in(&self, delivered: &Range<u32>) -> &[Name] {
+        &self.names[delivered.start as usize..delivered.end as usize]
     }
 
     /// How many own casts every other member is known to have delivered. Lets go of these.

@@ -1,6 +1,10 @@
 //! A group of causal broadcast members in threads, in plain Rust with std alone and no proof: what the proved group (`crates/bench_group`) is
 //! measured against. Words: SIZE WINDOW PAYLOAD CASTS LINK, CASTS of each member, LINK `channel` or `udp`.
 //!
+//! A sixth word, whatever it is, has it do what the proved group does for its callers beside the protocol: each worker keeps a receipt of every
+//! entry that it made, and at the end the receipts of all are compared with the history; a talker is shown a copy of every event of its
+//! member, outside the lock; an arrival hands its deliveries out.
+//!
 //! Each member stands behind a lock, with four threads: one takes what comes, one ticks and sleeps for a millisecond, one casts as long as it
 //! may, and one sends what the others put out. The group ends when each member has seen every message.
 
@@ -16,7 +20,7 @@ use std::time::Duration;
 
 mod member;
 
-use member::{CastRefusal, Frame, LONGEST_HISTORY, Member, Outgoing};
+use member::{Arrival, CastRefusal, Entry, Frame, LONGEST_HISTORY, Member, Name, Outgoing};
 
 const TICK: Duration = Duration::from_millis(1);
 
@@ -117,46 +121,168 @@ fn sockets(size: usize) -> std::io::Result<Vec<Link>> {
     Ok(links)
 }
 
+/// A message as it is handed out: an event, or a delivery.
+#[allow(dead_code)]
+struct Message<const FIELDS: usize> {
+    name: Name,
+    time: [u32; FIELDS],
+    frame: Frame,
+    payload: u32,
+}
+
+/// Copies of the events from this one on, behind those in the list.
+fn copy_events<const FIELDS: usize>(member: &Member<FIELDS>, from: usize, to: &mut Vec<Message<FIELDS>>) {
+    let times = member.times[from * member.size..].chunks_exact(member.size);
+    for (event, fields) in member.events[from..].iter().zip(times) {
+        let mut time = [0; FIELDS];
+        time[..member.size].copy_from_slice(fields);
+        to.push(Message { name: event.name, time, frame: event.frame.clone(), payload: event.payload });
+    }
+}
+
+/// The names of one or two deliveries lie in place.
+struct Names {
+    first: [Name; 2],
+    others: Vec<Name>,
+    count: usize,
+}
+
+impl Names {
+    fn of(names: &[Name]) -> Names {
+        let mut first = [Name { sender: 0, number: 0 }; 2];
+        for (place, name) in first.iter_mut().zip(names) {
+            *place = *name;
+        }
+        Names { first, others: names.get(2..).unwrap_or_default().to_vec(), count: names.len() }
+    }
+
+    fn are(&self, names: &[Name]) -> bool {
+        self.count == names.len() && names.iter().eq(self.first.iter().take(self.count).chain(&self.others))
+    }
+}
+
+/// An entry that a worker made, and its place in the history.
+struct Receipt {
+    place: usize,
+    frame: Frame,
+    delivered: Names,
+}
+
+/// The receipts of a worker, where it has to keep them.
+struct Seat {
+    receipts: Option<Vec<Receipt>>,
+}
+
+impl Seat {
+    fn new(group: &Group) -> Seat {
+        Seat { receipts: group.has_duties.then(Vec::new) }
+    }
+
+    /// Keeps a receipt of the last entry.
+    fn record<const FIELDS: usize>(&mut self, member: &Member<FIELDS>) {
+        let Some(receipts) = &mut self.receipts else { return };
+        let Some(entry) = member.entries.last() else { return };
+        let (frame, names) = parts_of(member, entry);
+        receipts.push(Receipt { place: member.entries.len(), frame: frame.clone(), delivered: Names::of(names) });
+    }
+}
+
+fn parts_of<'a, const FIELDS: usize>(member: &'a Member<FIELDS>, entry: &'a Entry) -> (&'a Frame, &'a [Name]) {
+    match entry {
+        Entry::Cast { frame } | Entry::Tick { status: frame } => (frame, &[]),
+        Entry::Arrive { frame, delivered } => (frame, member.names_in(delivered)),
+    }
+}
+
+/// Each entry has just one receipt, which says the same.
+fn close<const FIELDS: usize>(member: &Member<FIELDS>, seats: &[Seat]) {
+    let mut seen = vec![false; member.entries.len()];
+    for receipts in seats.iter().filter_map(|seat| seat.receipts.as_ref()) {
+        for receipt in receipts {
+            let (frame, names) = parts_of(member, &member.entries[receipt.place - 1]);
+            assert!(*frame == receipt.frame && receipt.delivered.are(names), "a receipt that is no entry");
+            assert!(!std::mem::replace(&mut seen[receipt.place - 1], true), "two receipts of one entry");
+        }
+        assert!(receipts.is_sorted_by_key(|receipt| receipt.place));
+    }
+    assert!(seen.iter().all(|seen| *seen) || seats.iter().all(|seat| seat.receipts.is_none()), "an entry without a receipt");
+}
+
 struct Group {
     casts: usize,
     all: usize,
     payload: Vec<u8>,
     talking: AtomicUsize,
     stop: AtomicBool,
+    has_duties: bool,
 }
 
-fn receive<const FIELDS: usize>(group: &Group, member: &Mutex<Member<FIELDS>>, mut inlet: Box<dyn Inlet>, out: Sender<Outgoing>) -> u64 {
+fn receive<const FIELDS: usize>(group: &Group, member: &Mutex<Member<FIELDS>>, mut inlet: Box<dyn Inlet>, out: Sender<Outgoing>) -> (u64, Seat) {
     let mut casts = 0;
+    let mut seat = Seat::new(group);
     let mut answers = Vec::new();
     while !group.stop.load(Ordering::SeqCst) {
         let Some(frame) = inlet.receive() else {
             continue;
         };
         casts += u64::from(frame[0] == 0x11);
-        let _ = member.lock().unwrap().arrive(&frame, &mut answers);
+        let mut deliveries = Vec::new();
+        {
+            let mut member = member.lock().unwrap();
+            let arrival = member.arrive(&frame, &mut answers);
+            if let (true, Ok(Arrival::Accepted(events, changed))) = (group.has_duties, arrival) {
+                copy_events(&member, events.start, &mut deliveries);
+                if changed {
+                    seat.record(&member);
+                }
+            }
+        }
+        drop(deliveries);
         for answer in answers.drain(..) {
             let _ = out.send(answer);
         }
     }
-    casts
+    (casts, seat)
 }
 
-fn tick<const FIELDS: usize>(group: &Group, member: &Mutex<Member<FIELDS>>, out: Sender<Outgoing>) {
+fn tick<const FIELDS: usize>(group: &Group, member: &Mutex<Member<FIELDS>>, out: Sender<Outgoing>) -> Seat {
+    let mut seat = Seat::new(group);
     let mut frames = Vec::new();
     while !group.stop.load(Ordering::SeqCst) {
-        let _ = member.lock().unwrap().tick(&mut frames);
+        {
+            let mut member = member.lock().unwrap();
+            if member.tick(&mut frames) == Ok(true) {
+                seat.record(&member);
+            }
+        }
         for frame in frames.drain(..) {
             let _ = out.send(frame);
         }
         thread::sleep(TICK);
     }
+    seat
 }
 
-fn speak<const FIELDS: usize>(group: &Group, member: &Mutex<Member<FIELDS>>, out: Sender<Outgoing>) {
-    let mut made = 0;
+fn speak<const FIELDS: usize>(group: &Group, member: &Mutex<Member<FIELDS>>, out: Sender<Outgoing>) -> Seat {
+    let mut seat = Seat::new(group);
+    let (mut made, mut seen, mut is_refused) = (0, 0, false);
+    let mut news = Vec::new();
     while !group.stop.load(Ordering::SeqCst) {
+        if group.has_duties && !is_refused {
+            copy_events(&member.lock().unwrap(), seen, &mut news);
+            seen += news.len();
+            news.clear();
+        }
         if made < group.casts {
-            let cast = member.lock().unwrap().cast(&group.payload);
+            let cast = {
+                let mut member = member.lock().unwrap();
+                let cast = member.cast(&group.payload);
+                if cast.is_ok() {
+                    seat.record(&member);
+                }
+                cast
+            };
+            is_refused = cast.is_err();
             match cast {
                 Ok(frame) => {
                     let _ = out.send(Outgoing { to: None, frame });
@@ -166,14 +292,18 @@ fn speak<const FIELDS: usize>(group: &Group, member: &Mutex<Member<FIELDS>>, out
                 Err(CastRefusal::WindowFull) => {}
                 Err(refusal) => panic!("{refusal:?}"),
             }
-        } else if member.lock().unwrap().events.len() == group.all {
-            break;
+        } else {
+            is_refused = false;
+            if member.lock().unwrap().events.len() == group.all {
+                break;
+            }
         }
         thread::sleep(TICK);
     }
     if group.talking.fetch_sub(1, Ordering::SeqCst) == 1 {
         group.stop.store(true, Ordering::SeqCst);
     }
+    seat
 }
 
 /// Runs the member, and answers how many cast frames came and how many messages of others were delivered.
@@ -181,7 +311,7 @@ fn run_member<const FIELDS: usize>(group: &Group, size: usize, window: u32, me: 
     let member = Mutex::new(Member::<FIELDS>::new(size, window, me, LONGEST_HISTORY));
     let (inlet, mut outlet) = link;
     let (out, frames) = channel();
-    let came = thread::scope(|scope| {
+    let (came, seats) = thread::scope(|scope| {
         scope.spawn(move || {
             for frame in frames {
                 outlet.send(&frame);
@@ -191,24 +321,28 @@ fn run_member<const FIELDS: usize>(group: &Group, size: usize, window: u32, me: 
             let (member, out) = (&member, out.clone());
             move || receive(group, member, inlet, out)
         });
-        scope.spawn({
+        let timer = scope.spawn({
             let (member, out) = (&member, out.clone());
             move || tick(group, member, out)
         });
-        speak(group, &member, out);
-        receiver.join().unwrap()
+        let speaker = speak(group, &member, out);
+        let (came, receiver) = receiver.join().unwrap();
+        (came, [receiver, timer.join().unwrap(), speaker])
     });
-    let events = member.into_inner().unwrap().events.len();
-    (came, (events - group.casts) as u64)
+    let member = member.into_inner().unwrap();
+    close(&member, &seats);
+    (came, (member.events.len() - group.casts) as u64)
 }
 
-fn run<const FIELDS: usize>(size: usize, window: u32, payload: usize, casts: usize, links: Vec<Link>) -> (u64, u64) {
+fn run<const FIELDS: usize>([size, window, payload, casts]: [usize; 4], links: Vec<Link>, has_duties: bool) -> (u64, u64) {
+    let window = window as u32;
     let group = Group {
         casts,
         all: casts * size,
         payload: vec![b'a'; payload],
         talking: AtomicUsize::new(size),
         stop: AtomicBool::new(false),
+        has_duties,
     };
     thread::scope(|scope| {
         let group = &group;
@@ -225,15 +359,15 @@ fn main() -> ExitCode {
         eprintln!("plain_group SIZE WINDOW PAYLOAD CASTS LINK");
         return ExitCode::from(2);
     };
-    let links = match words.last().map(String::as_str) {
+    let links = match words.get(4).map(String::as_str) {
         Some("udp") => sockets(size).expect("sockets"),
         _ => channels(size),
     };
-    let window = window as u32;
+    let (plan, has_duties) = ([size, window, payload, casts], words.len() > 5);
     let (came, deliveries) = match size {
-        ..=4 => run::<4>(size, window, payload, casts, links),
-        ..=16 => run::<16>(size, window, payload, casts, links),
-        _ => run::<64>(size, window, payload, casts, links),
+        ..=4 => run::<4>(plan, links, has_duties),
+        ..=16 => run::<16>(plan, links, has_duties),
+        _ => run::<64>(plan, links, has_duties),
     };
     println!("deliveries {deliveries} arrivals {came}");
     ExitCode::SUCCESS
