@@ -4,8 +4,8 @@ ghost use Rattle.std.specs.Prelude.{◌≡◌};
 
 use super::parts::{Counting, Failing, Silent, Uneven};
 use crate::{
-    ChannelInlet, ChannelLink, ChannelOutlet, GroupReport, Limits, MemberReport, Stop, run_group,
-    run_member,
+    ChannelInlet, ChannelLink, ChannelOutlet, GroupReport, Limits, MemberReport, Pace, Stop,
+    run_group, run_member,
 };
 use cb_lock::{Seat, SharedMember};
 use cb_member::{Group, Member};
@@ -90,10 +90,16 @@ fn repairs(rt: &impl Abort, ran: Failed, receive_failures: u64, send_failures: u
 }
 
 /// All was cast and delivered, and so often receiving and sending failed.
-fn tells<I, O, P, T>(rt: &impl Abort, report: &MemberReport<I, O, P, T>, expected: (u64, u64)) {
+fn tells<I, O, P: Pace, T>(
+    rt: &impl Abort,
+    report: &MemberReport<I, O, P, T>,
+    expected: (u64, u64),
+) {
     assert_eq!(rt; report.casts, 2);
     assert_eq!(rt; report.deliveries, 4);
-    assert!(rt; report.pace_failures > 0);
+    // A group may end before a timer's first turn.
+    let waits = report.pace.as_ref().map(|pace| pace.failures());
+    assert_eq!(rt; waits, Some(report.pace_failures));
     assert_eq!(rt; (report.receive_failures, report.send_failures), expected);
     assert!(rt; report.lost >= expected.1);
 }
@@ -118,40 +124,54 @@ fn an_inlet_that_failed_is_asked_again(rt: HostRuntime) {
 
 #[test]
 fn a_stop_ends_workers_before_their_first_turn(rt: HostRuntime) {
-    stop::<Brand, _>(&rt, rt.alloc(), Blank::new(4));
+    alone::<Brand, _>(&rt, rt.alloc(), Blank::new(4), true);
 }
 
-fn stop<L: Ledger + Send + Sync, R: Threads + Wait + Clock + Abort + Sync>(
+/// Nobody ends the timer before it has made its turns.
+#[test]
+fn each_wait_that_fails_is_counted(rt: HostRuntime) {
+    alone::<Brand, _>(&rt, rt.alloc(), Blank::new(4), false);
+}
+
+fn alone<L: Ledger + Send + Sync, R: Threads + Wait + Clock + Abort + Sync>(
     rt: &R,
     alloc: Global,
     blank: Blank,
+    is_stopped: bool,
 )
     requires { (blank.name ≡ L.name) × (blank.parts ≡ L.parts) × (blank.parts ≡ 4) }
 {
     let group = Group::new(7, 2, 4).expect(rt, "a group");
     let member = Member::new(alloc, group, 0, 100).expect(rt, "a member");
     let (shared, seat) = SharedMember::<L>::new(alloc, blank, member);
-    stopped(rt, alloc, &shared, seat);
+    works(rt, alloc, &shared, seat, is_stopped);
 }
 
-fn stopped<L: Ledger + Send + Sync, R: Threads + Wait + Clock + Abort + Sync>(
+fn works<L: Ledger + Send + Sync, R: Threads + Wait + Clock + Abort + Sync>(
     rt: &R,
     alloc: Global,
     shared: &SharedMember<L>,
     seat: Seat<L>,
+    is_stopped: bool,
 )
     requires { seat.parts ≡ 4 }
 {
     let stop = Stop::new();
-    stop.set();
+    if is_stopped {
+        stop.set();
+    }
     let mut seat = seat;
     let seats = (seat.split(), seat.split(), seat.split(), seat);
     let link = failing_links(rt, alloc, 1, 1).pop().expect(rt, "a link");
     let pace = Uneven { failures: 0 };
-    let limits = Limits { turns: u64::MAX };
+    let limits = Limits { turns: 3 };
     let (report, seats) = run_member(rt, alloc, shared, seats, link, pace, Silent, &stop, limits);
     assert_eq!(rt; seats.len(), 4);
-    did_nothing(rt, report);
+    if is_stopped {
+        did_nothing(rt, report);
+    } else {
+        assert_eq!(rt; report.pace_failures, 3);
+    }
 }
 
 fn did_nothing<I: Drop, O: Drop, P: Drop, T: Drop>(
