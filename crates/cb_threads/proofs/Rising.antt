@@ -1,5 +1,5 @@
 -- Counts of failures that rise.
-use Rattle.std.proofs.Common.{ℕ, ◌+◌, ◌≤◌, inl, inr, arith}
+use Rattle.std.proofs.Common.{◌≡◌, ℕ, ◌+◌, ◌≤◌, inl, inr, arith}
 use Rattle.cb_threads.specs.Counts.{held, Counts, HasCounted, MetAtMost}
 
 -- nothing was met yet
@@ -32,3 +32,14 @@ counts_none met old new rises before m = met_stays met before old new m rises
 -- one more was
 pub counts_one : (met old new : ℕ) → old ≤ new → HasCounted old new → Counts met old (held (met + 1)) new
 counts_one met old new rises counted before m = met_more met before old new m rises counted
+
+-- what was met later was counted too
+pub counts_some : (met some all old new : ℕ) → all ≡ held (met + some) → old ≤ new → MetAtMost some old new → Counts met old all new
+counts_some met some all old new sum rises later before m =
+    elim later [
+      | inl h ↦ elim m [
+        | inl k ↦ inl (omega (arith, sum, h, k))
+        | inr k ↦ inr (omega (arith, k, rises))
+      ]
+      | inr h ↦ inr h
+    ]

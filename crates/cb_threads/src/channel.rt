@@ -1,16 +1,19 @@
 //! A link over channels, for members of one process.
 
-ghost use Rattle.std.specs.Prelude.{◌≡◌};
+ghost use Rattle.std.specs.Prelude.{◌≡◌, ◌≤◌, IfErr};
+ghost use Rattle.cb_threads.specs.Counts.{LinkCounts};
 
-use crate::link::{Inlet, LinkFault, Offered, Outlet, Received};
+use crate::link::{Inlet, LinkFault, Offered, Outlet, Received, Unsent};
 use crate::mailbox::{Mailbox, Slot, Taken, new_mailbox};
 use bytes::Bytes;
 use cb_member::Outgoing;
 use crossbeam_channel::SendError;
 use std::alloc::{AllocError, Global};
+use std::slice;
 use std::sync::Wait;
 use std::thread::sleep;
 use std::time::{Clock, Duration};
+use std::vec::IntoIter;
 
 /// Links over channels.
 #[derive(Clone, Copy, Debug)]
@@ -20,13 +23,23 @@ pub struct ChannelLink;
 #[derive(Drop)]
 pub struct ChannelInlet {
     from: Mailbox<Bytes>,
+    /// What was taken out, and is not handed on yet.
+    came: IntoIter<Bytes>,
 }
 
 /// Where the frames of a member go: the others' channels, with none at the member's own number.
 #[derive(Drop)]
 pub struct ChannelOutlet {
-    to: Vec<Option<Slot<Bytes>>>,
+    to: Vec<Option<End>>,
     failures: u64,
+}
+
+/// Another member's channel.
+#[derive(Drop)]
+struct End {
+    slot: Slot<Bytes>,
+    /// What came of offering it the last frames.
+    offered: Offered,
 }
 
 impl ChannelLink {
@@ -48,7 +61,8 @@ fn links(alloc: Global, size: u32) -> Result<Vec<(ChannelInlet, ChannelOutlet)>,
     for _member in 0..size {
         let (to, from) = new_mailbox(alloc)?;
         ends.push(to)?;
-        inlets.push(ChannelInlet { from })?;
+        let came = Vec::new(alloc).into_iter();
+        inlets.push(ChannelInlet { from, came })?;
     }
     let mut links = Vec::new(alloc);
     for (me, inlet) in inlets.into_iter().enumerate() {
@@ -63,7 +77,10 @@ fn outlet(alloc: Global, me: usize, ends: &[Slot<Bytes>]) -> Result<ChannelOutle
         to.push(if number == me {
             None
         } else {
-            Some(end.again()?)
+            Some(End {
+                slot: end.again()?,
+                offered: Offered::taken(),
+            })
         })?;
     }
     Ok(ChannelOutlet { to, failures: 0 })
@@ -77,8 +94,14 @@ impl Inlet for ChannelInlet {
     }
 
     fn receive<R: Wait + Clock>(&mut self, rt: &R) -> Result<Received, LinkFault> {
+        if let Some(frame) = self.came.next() {
+            return Ok(Received::Frame(frame));
+        }
         match self.from.take(rt) {
-            Taken::Message(frame) => Ok(Received::Frame(frame)),
+            Taken::Messages(frames) => {
+                self.came = frames.into_iter();
+                Ok(first_of(&mut self.came))
+            }
             Taken::Nothing => Ok(Received::Nothing),
             Taken::Closed => {
                 // The senders are gone: nothing would wait here.
@@ -86,6 +109,13 @@ impl Inlet for ChannelInlet {
                 Ok(Received::Nothing)
             }
         }
+    }
+}
+
+fn first_of(came: &mut IntoIter<Bytes>) -> Received {
+    match came.next() {
+        Some(frame) => Received::Frame(frame),
+        None => Received::Nothing,
     }
 }
 
@@ -97,37 +127,100 @@ impl Outlet for ChannelOutlet {
     }
 
     fn send<R: Wait>(&mut self, rt: &R, out: &Outgoing) -> Result<(), LinkFault> {
+        self.offer(rt, slice::from_ref(out));
+        self.count(out)
+    }
+
+    fn send_all<R: Wait>(&mut self, rt: &R, frames: &[Outgoing]) -> Unsent {
+        self.offer(rt, frames);
+        let mut unsent = Unsent::none();
+        for frame in frames {
+            let answer = self.count(frame);
+            unsent = unsent.and(answer);
+        }
+        unsent
+    }
+}
+
+impl ChannelOutlet {
+    /// Offers each of the others those of the frames that go to it.
+    fn offer<R: Wait>(&mut self, rt: &R, frames: &[Outgoing])
+        ensures { self.new.failures ≡ self.old.failures }
+    {
+        let alloc = *self.to.allocator();
+        offer_to_all(rt, alloc, &mut self.to, frames);
+    }
+
+    /// What came of offering this frame, whose failures are counted.
+    fn count(&mut self, out: &Outgoing) -> Result<(), LinkFault>
+        ensures rises { self.old.failures ≤ self.new.failures }
+        ensures fault { IfErr result (λ fault. LinkCounts fault self.old.failures
+            self.new.failures) }
+    {
         let offered = match out.to {
-            Some(member) => offer(rt, self.to.get(member as usize), &out.bytes),
-            None => offer_to_all(rt, &self.to, &out.bytes),
+            Some(member) => offered_to(self.to.get(member as usize)),
+            None => offered_to_all(&self.to),
         };
         self.failures = self.failures.saturating_add(offered.failures);
         offered.result()
     }
 }
 
-/// Offers the frame to all others.
-fn offer_to_all<R: Wait>(rt: &R, to: &[Option<Slot<Bytes>>], frame: &Bytes) -> Offered {
+/// What came of the last frames at one member; there is none for a number that is the sender's own or no member's.
+fn offered_to(to: Option<&Option<End>>) -> Offered {
+    match to {
+        Some(Some(end)) => end.offered,
+        _ => Offered::failed(),
+    }
+}
+
+/// What came of the last frames at all others.
+fn offered_to_all(to: &[Option<End>]) -> Offered {
     let mut offered = Offered::taken();
-    for end in to {
-        if end.is_some() {
-            offered = offered.and(offer(rt, Some(end), frame));
-        }
+    for end in to.iter().flatten() {
+        offered = offered.and(end.offered);
     }
     offered
 }
 
-/// Offers the frame to one member; there is none for a number that is the sender's own or no member's.
-fn offer<R: Wait>(rt: &R, to: Option<&Option<Slot<Bytes>>>, frame: &Bytes) -> Offered {
-    let Some(Some(end)) = to else {
-        return Offered::failed();
-    };
-    let Ok(frame) = frame.clone() else {
+fn offer_to_all<R: Wait>(rt: &R, alloc: Global, to: &mut [Option<End>], frames: &[Outgoing]) {
+    for (member, end) in to.iter_mut().enumerate() {
+        if let Some(end) = end {
+            end.offered = offer(rt, &end.slot, frames_for(alloc, member, frames));
+        }
+    }
+}
+
+/// Handles of those of the frames that go to this member, in order.
+fn frames_for(
+    alloc: Global,
+    member: usize,
+    frames: &[Outgoing],
+) -> Result<Vec<Bytes>, AllocError> {
+    let mut all = Vec::with_capacity(alloc, frames.len())?;
+    for frame in frames {
+        if frame.to.is_none_or(|to| to as usize == member) {
+            all.push(frame.bytes.clone()?)?;
+        }
+    }
+    Ok(all)
+}
+
+/// Offers frames to one member, where there are some.
+fn offer<R: Wait>(
+    rt: &R,
+    slot: &Slot<Bytes>,
+    frames: Result<Vec<Bytes>, AllocError>,
+) -> Offered {
+    let Ok(frames) = frames else {
         return Offered::refused();
     };
-    match end.put(rt, frame) {
+    if frames.is_empty() {
+        return Offered::taken();
+    }
+    match slot.put(rt, frames) {
         Ok(()) => Offered::taken(),
-        Err(SendError::Disconnected(_frame)) => Offered::failed(),
-        Err(SendError::OutOfMemory(_frame)) => Offered::refused(),
+        Err(SendError::Disconnected(_frames)) => Offered::failed(),
+        Err(SendError::OutOfMemory(_frames)) => Offered::refused(),
     }
 }

@@ -24,7 +24,7 @@ mod workers;
 pub use channel::{ChannelInlet, ChannelLink, ChannelOutlet};
 pub use group::{GroupFault, GroupReport, run_group};
 pub use limits::{Limits, Stop};
-pub use link::{Inlet, LinkFault, Outlet, Received};
+pub use link::{Inlet, LinkFault, Outlet, Received, Unsent};
 pub use member::run_member;
 pub use pace::{Pace, PaceFault};
 pub use report::{MemberReport, WorkerFault};

@@ -1,7 +1,7 @@
 //! Links: where the frames of a member go, and where those of the others come from.
 
 ghost use Rattle.std.specs.Prelude.{◌≡◌, ℕ, ◌≤◌, IfErr, Some};
-ghost use Rattle.cb_threads.specs.Counts.{LinkCounts};
+ghost use Rattle.cb_threads.specs.Counts.{Counts, LinkCounts, MetAtMost};
 ghost use Rattle.cb_threads.specs.FaultText.{link_fault_text};
 
 use bytes::Bytes;
@@ -83,6 +83,66 @@ pub trait Outlet {
         ensures rises { failed self.old ≤ failed self.new }
         ensures fault { IfErr result (λ fault. LinkCounts fault (failed self.old)
             (failed self.new)) };
+
+    /// Sends frames in order, each as `send` does, and tells how many got a fault. An outlet that can take many at once has a body of
+    /// its own.
+    fn send_all<R: Wait>(&mut self, rt: &R, frames: &[Outgoing]) -> Unsent
+        ensures rises { failed self.old ≤ failed self.new }
+        ensures met { MetAtMost result.failures (failed self.old) (failed self.new) }
+    {
+        let mut unsent = Unsent::none();
+        for frame in frames {
+            let answer = self.send(rt, frame);
+            unsent = unsent.and(answer);
+        }
+        unsent
+    }
+}
+
+/// What an outlet did not take. The counts stay at their greatest value.
+#[derive(Clone, Copy, Debug, PartialEq, Eq)]
+pub struct Unsent {
+    /// To how many frames it answered a fault.
+    pub lost: u64,
+    /// At how many of these the device failed.
+    pub failures: u64,
+}
+
+impl Unsent {
+    /// Every frame was taken.
+    pub fn none() -> Unsent
+        ensures { result.failures ≡ 0 }
+    {
+        Unsent {
+            lost: 0,
+            failures: 0,
+        }
+    }
+
+    /// One more frame got this answer.
+    pub fn and(self, answer: Result<(), LinkFault>) -> Unsent
+        ensures { (old new : ℕ) → old ≤ new → IfErr answer (λ fault. LinkCounts fault old new)
+            → Counts self.failures old result.failures new }
+    {
+        match answer {
+            Ok(()) => self,
+            Err(fault) => Unsent {
+                lost: self.lost.saturating_add(1),
+                failures: and_fault(self.failures, fault),
+            },
+        }
+    }
+}
+
+/// The failures with those of a fault: only a device fails.
+pub fn and_fault(failures: u64, fault: LinkFault) -> u64
+    ensures { (old new : ℕ) → LinkCounts fault old new → old ≤ new
+        → Counts failures old result new }
+{
+    match fault {
+        LinkFault::Device => failures.saturating_add(1),
+        LinkFault::NoMemory => failures,
+    }
 }
 
 /// What came of offering a frame to some members.

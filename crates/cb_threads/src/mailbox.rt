@@ -1,7 +1,8 @@
-//! A channel whose reader sleeps where nothing comes, and is woken once for all that has come by then.
+//! A channel of lists, whose reader sleeps where nothing comes, and is woken once for all that has come by then.
 //!
-//! The channel alone wakes its reader at each message until the reader runs, and each time the system is called. Here a reader says that
-//! it sleeps, and `Parker` calls the system for the first message only.
+//! Messages go in lists, so that what a channel costs is paid once for many of them. The channel alone wakes its reader at each list until
+//! the reader runs, and each time the system is called. Here a reader says that it sleeps, and `Parker` calls the system for the first one
+//! only.
 
 use crossbeam_channel::{Receiver, SendError, Sender, TryRecvError, unbounded};
 use std::alloc::{AllocError, Global};
@@ -10,11 +11,8 @@ use std::sync::{Arc, Wait};
 use std::thread::Parker;
 use std::time::Duration;
 
-/// Where so many messages have gathered, more are not waited for.
-const MANY: usize = 16;
-
-/// For so many messages that were added the reader is woken, whether or not more are to come.
-const MOST_ADDED: usize = 64;
+/// Where so many lists have gathered, more are not waited for.
+const MANY: usize = 2;
 
 /// Whether the reader sleeps, or lets messages gather, and how it is woken.
 #[derive(Drop)]
@@ -24,24 +22,25 @@ struct Reader {
     parker: Parker,
 }
 
-/// Where messages are put.
+/// Where lists of messages are put.
 #[derive(Drop)]
 pub struct Slot<M> {
-    to: Sender<M>,
+    to: Sender<Vec<M>>,
     reader: Arc<Reader>,
 }
 
 /// Where they are taken out, by one thread.
 #[derive(Drop)]
 pub struct Mailbox<M> {
-    from: Receiver<M>,
+    from: Receiver<Vec<M>>,
     reader: Arc<Reader>,
 }
 
 /// What was taken out.
 #[derive(Drop)]
 pub enum Taken<M> {
-    Message(M),
+    /// A list, of one message or more.
+    Messages(Vec<M>),
     /// Nothing came for about a millisecond.
     Nothing,
     /// Nothing is left, and there is no slot any more.
@@ -78,29 +77,13 @@ impl<M: Drop> Slot<M> {
         })
     }
 
-    /// Puts a message in, and wakes the reader where it sleeps or enough has gathered.
-    pub fn put(&self, rt: &impl Wait, message: M) -> Result<(), SendError<M>> {
-        self.to.send(rt, message)?;
+    /// Puts a list of one message or more in, and wakes the reader where it sleeps or enough has gathered.
+    pub fn put(&self, rt: &impl Wait, messages: Vec<M>) -> Result<(), SendError<Vec<M>>> {
+        self.to.send(rt, messages)?;
         if self.is_awaited() {
             self.reader.parker.unpark();
         }
         Ok(())
-    }
-
-    /// Puts a message in for a reader that `wake` wakes once all is added. One that is not woken finds it within about a millisecond.
-    pub fn add(&self, rt: &impl Wait, message: M) -> Result<(), SendError<M>> {
-        self.to.send(rt, message)?;
-        if self.to.len() >= MOST_ADDED {
-            self.wake();
-        }
-        Ok(())
-    }
-
-    /// Wakes the reader where it sleeps.
-    pub fn wake(&self) {
-        if self.reader.sleeps.load(Ordering::SeqCst) {
-            self.reader.parker.unpark();
-        }
     }
 
     /// The reader sleeps, or waits for no more than there is.
@@ -111,12 +94,12 @@ impl<M: Drop> Slot<M> {
 }
 
 impl<M: Drop> Mailbox<M> {
-    /// The next message, which is waited for where there is none.
+    /// The next list, which is waited for where there is none.
     ///
     /// Where a mailbox has become empty, what is on its way gathers for a moment first.
     pub fn take<R: Wait>(&self, rt: &R) -> Taken<M> {
-        if let Ok(message) = self.from.try_recv(rt) {
-            return Taken::Message(message);
+        if let Ok(messages) = self.from.try_recv(rt) {
+            return Taken::Messages(messages);
         }
         match self.gather(rt) {
             Taken::Nothing => self.sleep(rt),
@@ -134,7 +117,7 @@ impl<M: Drop> Mailbox<M> {
 
     fn look<R: Wait>(&self, rt: &R) -> Taken<M> {
         match self.from.try_recv(rt) {
-            Ok(message) => Taken::Message(message),
+            Ok(messages) => Taken::Messages(messages),
             Err(TryRecvError::Empty) => Taken::Nothing,
             Err(TryRecvError::Disconnected) => Taken::Closed,
         }
@@ -150,7 +133,7 @@ impl<M: Drop> Mailbox<M> {
         self.look(rt)
     }
 
-    /// Sleeps until a message is put in, and at most for a millisecond. A message that is put in while the reader falls asleep either is
+    /// Sleeps until a list is put in, and at most for a millisecond. A list that is put in while the reader falls asleep either is
     /// seen by the look or wakes it: each side tells of itself before it looks at the other.
     fn sleep<R: Wait>(&self, rt: &R) -> Taken<M> {
         self.reader.sleeps.store(true, Ordering::SeqCst);

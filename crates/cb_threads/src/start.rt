@@ -142,26 +142,26 @@ fn run_in<
         MetAtMost w.failures (P.failed work.0.pace) (P.failed w.part)) }
 {
     let (parts, ends) = work;
-    let ending = desk.ending;
+    let (alloc, ending) = (desk.alloc, desk.ending);
     let sender = start_sender(scope, rt, ends.sender, parts.outlet, seats.sender);
     let receiver = start_receiver(
         scope,
         rt,
-        (desk.again(), Post::new(ends.receiver)),
+        (desk.again(), Post::new(alloc, ends.receiver)),
         parts.inlet,
         seats.receiver,
     );
     let timer = start_timer(
         scope,
         rt,
-        (desk.again(), Post::new(ends.timer)),
+        (desk.again(), Post::new(alloc, ends.timer)),
         parts.pace,
         seats.timer,
     );
     let speaker = start_speaker(
         scope,
         rt,
-        (desk, Post::new(ends.speaker)),
+        (desk, Post::new(alloc, ends.speaker)),
         parts.talker,
         seats.speaker,
     );

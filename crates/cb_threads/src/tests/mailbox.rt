@@ -1,31 +1,35 @@
 //! A mailbox with two slots, in one thread.
 
 use crate::mailbox::{Taken, new_mailbox};
+use std::alloc::{AllocError, Global};
 use std::process::Abort;
 use std::test::*;
 
-/// This message was taken, or none was there.
-fn gave(rt: &impl Abort, taken: Taken<u32>, expected: Option<u32>) {
+fn list_of(alloc: Global, messages: &[u32]) -> Result<Vec<u32>, AllocError> {
+    Vec::from_slice(alloc, messages)
+}
+
+/// These messages were taken, or none was there.
+fn gave(rt: &impl Abort, taken: Taken<u32>, expected: &[u32]) {
     match taken {
-        Taken::Message(message) => assert_eq!(rt; Some(message), expected),
-        Taken::Nothing => assert_eq!(rt; None, expected),
+        Taken::Messages(messages) => assert_eq!(rt; messages.as_slice(), expected),
+        Taken::Nothing => assert!(rt; expected.is_empty()),
         Taken::Closed => panic!(rt; "it has a slot"),
     }
 }
 
 #[test]
-fn messages_come_in_the_order_of_all_slots_and_then_nothing(rt: HostRuntime) {
+fn lists_come_in_the_order_of_all_slots_and_then_nothing(rt: HostRuntime) {
     let (slot, mailbox) = new_mailbox(rt.alloc()).expect(&rt, "a mailbox");
     let other = slot.again().expect(&rt, "a slot");
-    assert!(&rt; slot.add(&rt, 1).is_ok());
-    assert!(&rt; other.put(&rt, 2).is_ok());
-    assert!(&rt; slot.add(&rt, 3).is_ok());
-    slot.wake();
-    gave(&rt, mailbox.take_at_once(&rt), Some(1));
-    gave(&rt, mailbox.take(&rt), Some(2));
-    gave(&rt, mailbox.take_at_once(&rt), Some(3));
-    gave(&rt, mailbox.take_at_once(&rt), None);
-    gave(&rt, mailbox.take(&rt), None);
+    let first = list_of(rt.alloc(), &[1, 2]).expect(&rt, "a list");
+    assert!(&rt; slot.put(&rt, first).is_ok());
+    let second = list_of(rt.alloc(), &[3]).expect(&rt, "a list");
+    assert!(&rt; other.put(&rt, second).is_ok());
+    gave(&rt, mailbox.take_at_once(&rt), &[1, 2]);
+    gave(&rt, mailbox.take(&rt), &[3]);
+    gave(&rt, mailbox.take_at_once(&rt), &[]);
+    gave(&rt, mailbox.take(&rt), &[]);
     drop(slot);
     drop(other);
 }
@@ -33,8 +37,9 @@ fn messages_come_in_the_order_of_all_slots_and_then_nothing(rt: HostRuntime) {
 #[test]
 fn a_mailbox_is_closed_once_its_last_slot_is_gone_and_it_is_empty(rt: HostRuntime) {
     let (slot, mailbox) = new_mailbox(rt.alloc()).expect(&rt, "a mailbox");
-    assert!(&rt; slot.add(&rt, 1).is_ok());
+    let list = list_of(rt.alloc(), &[1]).expect(&rt, "a list");
+    assert!(&rt; slot.put(&rt, list).is_ok());
     drop(slot);
-    gave(&rt, mailbox.take_at_once(&rt), Some(1));
+    gave(&rt, mailbox.take_at_once(&rt), &[1]);
     assert!(&rt; matches!(mailbox.take_at_once(&rt), Taken::Closed));
 }

@@ -1,14 +1,13 @@
 //! What every worker has: the member that it works at, and where it hands what the member puts out.
 
-ghost use Rattle.std.specs.Prelude.{◌≡◌, ℕ, ◌≤◌};
-ghost use Rattle.cb_threads.specs.Counts.{Counts, LinkCounts};
+ghost use Rattle.std.specs.Prelude.{◌≡◌};
 
 use crate::limits::Ending;
-use crate::link::LinkFault;
 use crate::mailbox::Slot;
 use cb_lock::{Seat, SharedMember};
 use cb_member::Outgoing;
 use std::alloc::Global;
+use std::mem;
 use std::sync::Wait;
 use std::sync::ledger::Ledger;
 
@@ -58,63 +57,61 @@ impl<D, L: Ledger> Worked<D, L> {
     }
 }
 
-/// The failures with those of a fault: only a device fails.
-pub fn and_fault(failures: u64, fault: LinkFault) -> u64
-    ensures { (old new : ℕ) → LinkCounts fault old new → old ≤ new
-        → Counts failures old result new }
-{
-    match fault {
-        LinkFault::Device => failures.saturating_add(1),
-        LinkFault::NoMemory => failures,
-    }
-}
-
 /// Where a worker hands what is to be sent. The sender ends once every worker has let its own go.
 ///
-/// The sender is woken once for all that was put, by `wake`: a worker calls it before it waits.
+/// Frames are kept until there are many, or until `hand_over`, which a worker calls before it waits and when it ends.
 #[derive(Drop)]
 pub struct Post {
     out: Slot<Outgoing>,
-    /// Something was put that the sender was not woken for.
-    has_put: bool,
+    /// Fewer than `MANY`, which the sender was not handed yet.
+    kept: Vec<Outgoing>,
     lost: u64,
 }
 
+/// So many frames are handed to the sender without more waiting.
+const MANY: usize = 64;
+
 impl Post {
-    pub fn new(out: Slot<Outgoing>) -> Post {
+    pub fn new(alloc: Global, out: Slot<Outgoing>) -> Post {
         Post {
             out,
-            has_put: false,
+            kept: Vec::new(alloc),
             lost: 0,
         }
     }
 
-    /// How many frames the channel did not take.
+    /// How many frames found no memory, or the channel did not take.
     pub fn lost(&self) -> u64 {
         self.lost
     }
 
-    /// Hands a frame to the sender, which finds it within about a millisecond where it is not woken.
+    /// Keeps a frame for the sender.
     pub fn put(&mut self, rt: &impl Wait, out: Outgoing) {
-        self.has_put = true;
-        if self.out.add(rt, out).is_err() {
+        if self.kept.push(out).is_err() {
             self.lost = self.lost.saturating_add(1);
         }
-    }
-
-    /// Hands frames to the sender, in order, and wakes it.
-    pub fn put_all(&mut self, rt: &impl Wait, out: Vec<Outgoing>) {
-        for frame in out {
-            self.put(rt, frame);
+        if self.kept.len() >= MANY {
+            self.hand_over(rt);
         }
-        self.wake();
     }
 
-    /// Wakes the sender for what was put, where it sleeps.
-    pub fn wake(&mut self) {
-        if self.has_put {
-            self.has_put = false;
-            self.out.wake();
+    /// Hands frames to the sender, in order, behind those that were kept.
+    pub fn put_all(&mut self, rt: &impl Wait, out: Vec<Outgoing>) {
+        self.hand_over(rt);
+        self.send(rt, out);
+    }
+
+    /// Hands the sender what was kept for it.
+    pub fn hand_over(&mut self, rt: &impl Wait) {
+        let alloc = *self.kept.allocator();
+        let kept = mem::replace(&mut self.kept, Vec::new(alloc));
+        self.send(rt, kept);
+    }
+
+    fn send(&mut self, rt: &impl Wait, out: Vec<Outgoing>) {
+        let count = out.len();
+        if count > 0 && self.out.put(rt, out).is_err() {
+            self.lost = self.lost.saturating_add(count as u64);
         }
     }
 }

@@ -3,8 +3,8 @@
 ghost use Rattle.std.specs.Prelude.{◌≡◌};
 ghost use Rattle.cb_threads.specs.Counts.{Counts, MetAtMost};
 
-use crate::link::{Inlet, Received};
-use crate::workers::desk::{Desk, Post, Worked, and_fault};
+use crate::link::{Inlet, Received, and_fault};
+use crate::workers::desk::{Desk, Post, Worked};
 use bytes::Bytes;
 use cb_lock::{Seat, SharedMember};
 use cb_member::Arrival;

@@ -5,7 +5,7 @@ ghost use Rattle.cb_threads.specs.Counts.{Counts, MetAtMost};
 
 use crate::link::Outlet;
 use crate::mailbox::{Mailbox, Taken};
-use crate::workers::desk::{Worked, and_fault};
+use crate::workers::desk::Worked;
 use cb_lock::Seat;
 use cb_member::Outgoing;
 use std::sync::Wait;
@@ -33,19 +33,19 @@ pub fn send_all<O: Outlet, L: Ledger, R: Wait>(
 {
     let mut worked = Worked::new(outlet, seat);
     for _ in rt.forever() {
-        let Some(frame) = next(rt, &frames) else {
+        let Some(frames) = next(rt, &frames) else {
             break;
         };
-        send_once(rt, &frame, &mut worked);
+        send(rt, &frames, &mut worked);
     }
     worked
 }
 
-/// The next frame, or none where all workers have ended.
-fn next<R: Wait>(rt: &R, frames: &Mailbox<Outgoing>) -> Option<Outgoing> {
+/// The next frames, or none where all workers have ended.
+fn next<R: Wait>(rt: &R, frames: &Mailbox<Outgoing>) -> Option<Vec<Outgoing>> {
     for _ in rt.forever() {
         match frames.take_at_once(rt) {
-            Taken::Message(frame) => return Some(frame),
+            Taken::Messages(frames) => return Some(frames),
             Taken::Nothing => {}
             Taken::Closed => return None,
         }
@@ -53,13 +53,12 @@ fn next<R: Wait>(rt: &R, frames: &Mailbox<Outgoing>) -> Option<Outgoing> {
     unreachable!("the loop has no end")
 }
 
-/// Sends a frame, which is lost where the outlet does not take it.
-fn send_once<O: Outlet, L: Ledger, R: Wait>(rt: &R, frame: &Outgoing, worked: &mut Worked<O, L>)
+/// Sends frames. One that the outlet does not take is lost.
+fn send<O: Outlet, L: Ledger, R: Wait>(rt: &R, frames: &[Outgoing], worked: &mut Worked<O, L>)
     ensures { Counts (worked.old.failures) (O.failed worked.old.part)
         (worked.new.failures) (O.failed worked.new.part) }
 {
-    if let Err(fault) = worked.part.send(rt, frame) {
-        worked.lost = worked.lost.saturating_add(1);
-        worked.failures = and_fault(worked.failures, fault);
-    }
+    let unsent = worked.part.send_all(rt, frames);
+    worked.lost = worked.lost.saturating_add(unsent.lost);
+    worked.failures = worked.failures.saturating_add(unsent.failures);
 }

@@ -64,12 +64,13 @@ pub fn talk_all<T: Talker, L: Ledger, R: Wait + Clock>(
         match speech.turn(rt) {
             Turn::Cast => {}
             Turn::Quiet => {
-                speech.post.wake();
+                speech.post.hand_over(rt);
                 sleep(rt, Duration::from_millis(1));
             }
             Turn::Finished => break,
         }
     }
+    speech.post.hand_over(rt);
     ending.talker_ended();
     speech.ended()
 }
