@@ -1,7 +1,10 @@
 //! A message of the group, with the name and the time that its sender gave it, and what a member does with it.
 //!
 //! Birman, Schiper and Stephenson 1991, section 5.
-ghost use Rattle.std.specs.Prelude.{◌≡◌, IfOk};
+ghost use Rattle.std.specs.Prelude.{◌≡◌, ◌↔◌, IfOk, IsTrue, length};
+ghost use Rattle.cb_times.specs.Order.{field};
+ghost use Rattle.cb_delay.specs.Message.{IsOfGroup};
+ghost use Rattle.cb_delay.specs.Rule.{IsReady};
 
 use bytes::Bytes;
 use cb_times::{Name, NoMemory, VectorTime};
@@ -18,6 +21,29 @@ pub struct Message {
 }
 
 impl Message {
+    /// Whether the message may be delivered where so much of each member is delivered: it is its sender's next one, and its sender had
+    /// delivered nothing that is missing. Both times are of one group.
+    pub fn is_ready(&self, now: &VectorTime) -> bool
+        requires { IsOfGroup (length now.now) self.now }
+        ensures { IsTrue result
+            ↔ IsReady self.now.name.sender (field self.now.time) (field now.now) }
+    {
+        let sender = self.name.sender;
+        let (stamps, counts) = (self.time.as_slice(), now.as_slice());
+        for k in 0..now.size() {
+            let (stamp, count) = (stamps[k as usize], counts[k as usize]);
+            let in_time = if k == sender {
+                count.checked_add(1) == Some(stamp)
+            } else {
+                stamp <= count
+            };
+            if !in_time {
+                return false;
+            }
+        }
+        true
+    }
+
     /// The same message once more.
     pub fn copy(&self) -> Result<Message, NoMemory>
         ensures { IfOk result (λ message. message ≡ self.now) }

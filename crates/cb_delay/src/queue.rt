@@ -146,28 +146,7 @@ fn any_ready(list: &VecDeque<Message>, now: &VectorTime) -> bool
     requires { All (IsOfGroup (length now.now)) list.now.items }
     ensures { IsTrue result ↔ HasSomeReady now.now list.now.items }
 {
-    list.iter().any(|message| is_ready(message, now))
-}
-
-fn is_ready(message: &Message, now: &VectorTime) -> bool
-    requires { IsOfGroup (length now.now) message.now }
-    ensures { IsTrue result
-        ↔ IsReady message.now.name.sender (field message.now.time) (field now.now) }
-{
-    let sender = message.name.sender;
-    let (stamps, counts) = (message.time.as_slice(), now.as_slice());
-    for k in 0..now.size() {
-        let (stamp, count) = (stamps[k as usize], counts[k as usize]);
-        let in_time = if k == sender {
-            count.checked_add(1) == Some(stamp)
-        } else {
-            stamp <= count
-        };
-        if !in_time {
-            return false;
-        }
-    }
-    true
+    list.iter().any(|message| message.is_ready(now))
 }
 
 #[cfg(test)]

@@ -4,3 +4,4 @@ pub mod Gaps
 pub mod OneList
 pub mod Rows
 pub mod ComingOut
+pub mod Passing

@@ -63,6 +63,11 @@ pub record IsNext (buffer : Buffer) (cast : CastFields) : Type 0 where
 abbrev pub Takes : Buffer → CastFields → Buffer → Type 0
 Takes old cast new = new ≡ record old { taken = last_number cast; kept = map.remove old.kept (first_number cast) }
 
+-- the number is that of the next cast, and none is kept
+pub record Passes (buffer : Buffer) (number : ℕ) : Type 0 where
+  pub none_kept : buffer.kept ≡ map.empty
+  pub follows : number ≡ buffer.taken + 1
+
 -- the cast of this number is kept, or it is the other one, which might be kept as well
 abbrev pub IsKeptWith : Buffer → ℕ → ℕ → Type 0
 IsKeptWith buffer other number = IsKept buffer number ⊎ (number ≡ other)

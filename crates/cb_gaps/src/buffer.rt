@@ -1,10 +1,10 @@
 //! The reorder buffer: the casts of one sender that came before those in front of them.
-ghost use Rattle.std.specs.Prelude.{◌≡◌, ◌==◌, if◌then◌else◌, ◌+◌, ◌^◌, ◌<◌, ◌≤◌, ◌++◌, None, Any, MatchOption, IfOk, IfSome, IfNone, OnOk, insert};
+ghost use Rattle.std.specs.Prelude.{◌≡◌, ◌==◌, if◌then◌else◌, ◌+◌, ◌^◌, ◌<◌, ◌≤◌, ◌++◌, None, Any, MatchOption, IfOk, IfSome, IfNone, IsTrue, ◌↔◌, OnOk, insert};
 ghost use Rattle.std.specs.FinMap as map;
 ghost use Rattle.std.specs.VecDeque.{deque_len, deque_capacity};
 ghost use Rattle.cb_frames.specs.Fields.{cast_fields};
 ghost use Rattle.cb_times.specs.Group.{IsWindow};
-ghost use Rattle.cb_gaps.specs.Buffer.{IsNew, Admits, IsAnswer, IsAfter, IsNext, Takes, IsMissing, IsReorderBuffer, WouldComeOut};
+ghost use Rattle.cb_gaps.specs.Buffer.{IsNew, Admits, IsAnswer, IsAfter, IsNext, Passes, Takes, IsMissing, IsReorderBuffer, WouldComeOut};
 ghost use Rattle.cb_gaps.specs.Ranges.{AreRangesOf, IsRow, gap_between};
 ghost use Rattle.cb_gaps.specs.Lists.{Rise, HasNumber, IsGap, IsPlaceFor};
 
@@ -35,6 +35,8 @@ pub enum Admission {
 ///     // the sender's next cast, with none missing before it
 /// }
 /// ```
+///
+/// A cast that would come out alone need not be kept: where `passes` tells so of its number, `pass` takes it.
 ///
 /// `judge` and `ready_with` tell beforehand what `keep` would answer and how many casts would then come out. `missing` names the
 /// numbers that have not come, for a request. `new` reserves all places, and `missing` takes memory for its answer.
@@ -148,6 +150,22 @@ impl Reorder {
         Admission::Kept
     }
 
+    /// Whether a cast of this number would come out alone: it is the next one, and none is kept. `pass` then takes it unkept.
+    pub fn passes(&self, number: u32) -> bool
+        ensures { IsTrue result ↔ Passes self.now number }
+    {
+        self.kept.is_empty() && follows(number, self.taken)
+    }
+
+    /// Counts the next cast as taken, which the caller has in hand: as if it were kept and taken out, where none is kept.
+    pub fn pass(&mut self)
+        requires none { self.old.kept ≡ map.empty }
+        requires room { self.old.taken + 1 < 2 ^ 32 }
+        ensures { self.new ≡ record self.old { taken = self.old.taken + 1 } }
+    {
+        self.taken += 1;
+    }
+
     /// Takes out the next cast of the sender, if it waits here.
     ///
     /// `None` where it is not; the buffer is then unchanged. None follows number 4,294,967,295.
@@ -177,6 +195,12 @@ impl Reorder {
         let last = known.min(delivered.saturating_add(self.window));
         gaps(*self.kept.allocator(), &self.kept, self.taken, last)
     }
+}
+
+fn follows(number: u32, taken: u32) -> bool
+    ensures { IsTrue result ↔ (number ≡ taken + 1) }
+{
+    taken.checked_add(1) == Some(number)
 }
 
 // where a cast of this number is to stand, unless one of that number stands there

@@ -7,6 +7,8 @@ pub mod Judging
 pub mod OwnCasts
 pub mod Receiving
 pub mod TakingIn
+pub mod Passing
+pub mod Putting
 pub mod Telling
 pub mod Staying
 pub mod Entering

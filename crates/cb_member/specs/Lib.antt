@@ -5,6 +5,7 @@ pub mod Sending
 pub mod Store
 pub mod Casting
 pub mod Taking
+pub mod Passing
 pub mod Arriving
 pub mod Telling
 pub mod Answering

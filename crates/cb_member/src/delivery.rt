@@ -1,9 +1,13 @@
 //! What a member has delivered, and what waits for the delay rule.
 
-ghost use Rattle.std.specs.Prelude.{◌≡◌, ◌+◌, ◌≤◌, ◌++◌, [], ◌∷◌, IfOk, IfSome, IfNone, length};
+ghost use Rattle.std.specs.Prelude.{◌≡◌, ◌+◌, ◌≤◌, ◌++◌, [], ◌∷◌, true, IfOk, IfSome, IfNone, length};
 ghost use Rattle.std.specs.FinMap as map;
 ghost use Rattle.std.specs.Vec.{vec_capacity, vec_len};
 ghost use Rattle.cb_times.specs.Group.{IsGroupSize, IsWindow};
+ghost use Rattle.cb_delay.specs.Message.{IsOfGroup};
+ghost use Rattle.cb_delay.specs.Queue.{Holds, IsDelayQueue};
+ghost use Rattle.cb_member.specs.Passing.{HaveTurn, IsWaitingWith, IsAlone, PutsThrough};
+ghost use Rattle.cb_member.specs.Taking.{HasTurn};
 ghost use Rattle.cb_member.specs.Delivery.{IsNewDelivery, IsWaiting, DeliversNext, HasNoNext, Drains};
 
 use cb_delay::{DelayQueue, Event, Message};
@@ -51,6 +55,45 @@ impl Delivery {
         Some((message, copy))
     }
 
+    /// Delivers a message that has its turn, and what else is ready then. It is as if the message and its copy were held first, which
+    /// they are where they have to wait.
+    pub fn put_through(&mut self, message: Message, copy: Message, deliveries: &mut Vec<Message>)
+        requires turn { HaveTurn self.old message copy }
+        requires waits { IsWaitingWith self.old message copy }
+        requires room { vec_len deliveries.old + (map.len self.old.queue.held + 1)
+            ≤ vec_capacity deliveries.old }
+        requires events { vec_len self.old.events + (map.len self.old.queue.held + 1)
+            ≤ vec_capacity self.old.events }
+        ensures drained { PutsThrough message copy self.old self.new deliveries.old.items
+            deliveries.new.items }
+        ensures few { vec_len deliveries.new
+            ≤ vec_len deliveries.old + (map.len self.old.queue.held + 1) }
+    {
+        if self.is_alone(&message) {
+            self.time.raise(&message.time);
+            push_within(deliveries, message);
+            push_within(&mut self.events, Event::Deliver(copy));
+        } else {
+            hold_next(&mut self.queue, message);
+            hold_next(&mut self.copies, copy);
+            self.drain(deliveries);
+        }
+    }
+
+    /// Nothing waits, and the message may be delivered.
+    fn is_alone(&self, message: &Message) -> bool
+        requires turn { HasTurn self.now.queue message.now }
+        requires fits { length self.now.time ≡ self.now.queue.size }
+        ensures alone { result ≡ true → IsAlone message.now self.now }
+        ensures queue { IsDelayQueue self.now.queue }
+        ensures of_group { IsOfGroup (length self.now.time) message.now }
+    {
+        if self.queue.len() > 0 {
+            return false;
+        }
+        self.copies.len() == 0 && message.is_ready(&self.time)
+    }
+
     /// Delivers as long as a message is ready. The deliveries and the events have room for all messages that wait.
     pub fn drain(&mut self, deliveries: &mut Vec<Message>)
         requires waits { IsWaiting self.old }
@@ -67,6 +110,18 @@ impl Delivery {
             push_within(&mut self.events, Event::Deliver(copy));
         }
     }
+}
+
+/// Holds a message that has its turn.
+pub fn hold_next(queue: &mut DelayQueue, message: Message)
+    requires { HasTurn queue.old message }
+    ensures held { Holds queue.old queue.new
+        (map.insert queue.old.held message.name message) }
+    ensures queue { IsDelayQueue queue.old }
+{
+    // asked for what is true of every queue
+    let _window = queue.window();
+    queue.hold(message);
 }
 
 /// Pushes where there is room.

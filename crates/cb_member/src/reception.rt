@@ -1,6 +1,6 @@
 //! The casts of others that came, until the delay queue has them.
 
-ghost use Rattle.std.specs.Prelude.{◌≡◌, ◌+◌, ◌≤◌, ◌<◌, ◌∷◌, Any, IfOk, IfSome, IfNone, OnSome, length};
+ghost use Rattle.std.specs.Prelude.{◌≡◌, ◌+◌, ◌≤◌, ◌<◌, ◌∷◌, true, Any, IfOk, IfSome, IfNone, OnSome, length};
 ghost use Rattle.std.specs.List.Sorted.{IsPermutation};
 ghost use Rattle.std.specs.Vec.{vec_capacity, vec_len};
 ghost use Rattle.cb_times.specs.Group.{IsGroupSize, IsWindow};
@@ -8,6 +8,7 @@ ghost use Rattle.cb_diffs.specs.Expansion.{IsNext};
 ghost use Rattle.cb_frames.specs.Fields.{cast_fields};
 ghost use Rattle.cb_member.specs.Reception.{IsSpareFor, IsNewReception};
 ghost use Rattle.cb_member.specs.Taking.{WouldExpand, CanKeep, KeepsCast, IsReceiving, ExpandsNext, HasNoNextOf, TellsTwice};
+ghost use Rattle.cb_member.specs.Passing.{LetsPass, CanPass, PassesCast};
 
 use crate::delivery::push_within;
 use bytes::Bytes;
@@ -88,6 +89,24 @@ impl Reception {
         push_within(&mut self.spares, spare);
         let sender = cast.sender as usize;
         let _kept = self.buffers[sender].keep(delivered, cast);
+    }
+
+    /// Whether the sender's cast of this number is expanded as soon as it is there, and none of the sender's with it.
+    pub fn passes(&self, sender: u32, number: u32) -> bool
+        requires { sender < length self.now.buffers.items }
+        ensures { result ≡ true → LetsPass sender number self.now }
+    {
+        self.buffers[sender as usize].passes(number)
+    }
+
+    /// The message of a cast of another member that is expanded as soon as it is there, and a copy of it made of its spare. It is as
+    /// if the cast were kept and taken out.
+    pub fn pass(&mut self, cast: Cast, spare: Spare) -> (Message, Message)
+        requires { CanPass (cast_fields cast) spare self.old }
+        ensures { PassesCast (cast_fields cast) spare self.old self.new result }
+    {
+        self.buffers[cast.sender as usize].pass();
+        tell_twice(&mut self.expander, cast, spare)
     }
 
     /// The sender's next message, twice, where its cast is there and none is missing before it.

@@ -1,15 +1,13 @@
 //! A cast of another member, up to what waits for the delay rule.
 
 ghost use Rattle.std.specs.Prelude.{◌+◌, ◌≤◌};
-ghost use Rattle.std.specs.FinMap as map;
 ghost use Rattle.std.specs.Vec.{vec_capacity, vec_len};
 ghost use Rattle.cb_frames.specs.Fields.{cast_fields};
-ghost use Rattle.cb_delay.specs.Queue.{Holds, IsDelayQueue};
-ghost use Rattle.cb_member.specs.Taking.{CanTakeIn, TakesInCast, IsTakingIn, OnlyTakesIn, TakesAll, HasTurn};
+ghost use Rattle.cb_member.specs.Taking.{CanTakeIn, TakesInCast, IsTakingIn, OnlyTakesIn, TakesAll};
 
+use crate::delivery::hold_next;
 use crate::reception::Spare;
 use crate::store::Store;
-use cb_delay::{DelayQueue, Message};
 use cb_frames::Cast;
 
 impl Store {
@@ -38,16 +36,4 @@ impl Store {
             hold_next(&mut self.delivery.copies, copy);
         }
     }
-}
-
-/// Holds a message that has its turn.
-fn hold_next(queue: &mut DelayQueue, message: Message)
-    requires { HasTurn queue.old message }
-    ensures held { Holds queue.old queue.new
-        (map.insert queue.old.held message.name message) }
-    ensures queue { IsDelayQueue queue.old }
-{
-    // asked for what is true of every queue
-    let _window = queue.window();
-    queue.hold(message);
 }

@@ -11,6 +11,7 @@ ghost use Rattle.cb_history.specs.Answers.{are_members, deliveries as delivered_
 ghost use Rattle.cb_history.specs.Legal.{ToTake};
 ghost use Rattle.cb_history.specs.State.{entry_by, HasTaken, RefusesArrival};
 ghost use Rattle.cb_member.specs.Store.{IsKept, Keeps, HasRoomFor, IsSameWithRoom, facts_held, held_by};
+ghost use Rattle.cb_member.specs.Passing.{LetsPass, TakesAndDelivers};
 ghost use Rattle.cb_member.specs.Arriving.{own_verdict, other_verdict, JudgesCast, CanTake, CanDeliver, IsArriving, IsArrivingFor, HasRoomForNames, IsEmptyFor, EntersArrival, expanded_by, facts_with, waiting_with};
 
 use crate::arrival::are_fields;
@@ -245,12 +246,42 @@ fn deliver(seat: Seat, store: &mut Store, cast: Cast, spare: Spare, deliveries: 
         ≡ delivered_by seat (facts_held store.old) (CastFrame (cast_fields cast)) }
     ensures few { vec_len deliveries.new ≤ waiting_with store.old (cast_fields cast) }
 {
-    let delivered = store.delivery.time.get(cast.sender);
-    store.take_in(delivered, cast, spare);
-    store.delivery.drain(deliveries);
+    take(seat, store, cast, spare, deliveries);
     let me = seat.me();
     store.knowledge.acknowledge(me, deliveries);
     store.sending.trim(me, &store.knowledge.acks);
+}
+
+/// Takes the cast in, and delivers what it makes ready. Nearly always it comes in order and nothing waits: then it is not put anywhere
+/// on the way.
+fn take(seat: Seat, store: &mut Store, cast: Cast, spare: Spare, deliveries: &mut Vec<Message>)
+    requires can { CanDeliver seat (cast_fields cast) spare store.old }
+    requires empty { IsEmptyFor (waiting_with store.old (cast_fields cast)) deliveries.old }
+    ensures taken { TakesAndDelivers (cast_fields cast) store.old store.new deliveries.new.items }
+    ensures few { vec_len deliveries.new ≤ waiting_with store.old (cast_fields cast) }
+{
+    if store.reception.passes(cast.sender, cast.number) {
+        pass(seat, store, cast, spare, deliveries);
+    } else {
+        let delivered = store.delivery.time.get(cast.sender);
+        store.take_in(delivered, cast, spare);
+        store.delivery.drain(deliveries);
+    }
+}
+
+/// Takes a cast in that is expanded as soon as it is there.
+fn pass(seat: Seat, store: &mut Store, cast: Cast, spare: Spare, deliveries: &mut Vec<Message>)
+    requires can { CanDeliver seat (cast_fields cast) spare store.old }
+    requires empty { IsEmptyFor (waiting_with store.old (cast_fields cast)) deliveries.old }
+    requires passes { LetsPass cast.sender cast.number store.old.reception }
+    ensures taken { TakesAndDelivers (cast_fields cast) store.old store.new deliveries.new.items }
+    ensures few { vec_len deliveries.new ≤ waiting_with store.old (cast_fields cast) }
+{
+    let (sender, number) = (cast.sender, cast.number);
+    let (message, copy) = store.reception.pass(cast, spare);
+    store.knowledge.hear(sender, number);
+    store.knowledge.known.raise(&message.time);
+    store.delivery.put_through(message, copy, deliveries);
 }
 
 /// Enters the arrival with the names of what it delivered. There is room for them.

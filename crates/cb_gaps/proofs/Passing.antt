@@ -1,0 +1,58 @@
+-- A cast that passes does what one does that is kept and taken out at once.
+use Rattle.std.proofs.Common.{◌≡◌, ℕ, ◌+◌, ◌<◌, ◌^◌, List, [], ◌∷◌, Bool, true, false, cond, length, None, Some, refl, sym, ap, ◌∙◌, arith}
+use Rattle.std.specs.Ordering.{nat_cmp, eq_by_cmp}
+use Rattle.std.specs.Cmp.{nat_cmp_total}
+use Rattle.std.specs.FinMap as fin
+use Rattle.std.proofs.lemmas.List.Elements.{All-nil}
+use Rattle.cb_frames.specs.declared.frame.Cast.{Cast}
+use Rattle.cb_frames.specs.Fields.{CastFields, first_number}
+use Rattle.cb_times.proofs.Entries.{equal_numbers, numbers_equal}
+use Rattle.cb_gaps.specs.Buffer.{Buffer, IsNext, Passes, Takes}
+use Rattle.cb_gaps.specs.Lists.{AreKept, buffer_of}
+use Rattle.cb_gaps.proofs.Kept.{len-kept, new_gives}
+
+-- ---- none is kept
+
+pub none_kept : (window taken : ℕ) (casts : List Cast) → length casts ≡ 0 → (buffer_of window taken casts).kept ≡ fin.empty
+none_kept window taken [] none = (new_gives window).none_kept
+none_kept window taken (c ∷ casts) none = absurd (omega (arith, none))
+
+pub some_kept : (window taken : ℕ) (casts : List Cast) → AreKept window taken casts → (buffer_of window taken casts).kept ≡ fin.empty → length casts ≡ 0
+some_kept window taken casts are none = sym (len-kept window taken casts are.rise) ∙ ap (λ (m : fin.FinMap nat_cmp CastFields). fin.len m) none ∙ fin.len-empty nat_cmp CastFields
+
+pub passed_keeps : (window taken : ℕ) (casts : List Cast) → AreKept window taken casts → (buffer_of window taken casts).kept ≡ fin.empty → taken + 1 < 2 ^ 32 → AreKept window (taken + 1) casts
+passed_keeps window taken [] are none room = record { width = are.width; rise = tt; near = All-nil (λ c. c.number < taken + 1 + window + 1); in_range = All-nil (λ c. c.number < 2 ^ 32) }
+passed_keeps window taken (c ∷ casts) are none room = absurd (let some = some_kept window taken (c ∷ casts) are none in omega (arith, some))
+
+-- ---- put in and taken out again
+
+taken_out : (kept : fin.FinMap nat_cmp CastFields) (n : ℕ) (c : CastFields) (q : ℕ) (b : Bool) → fin.get kept n ≡ None → eq_by_cmp nat_cmp q n ≡ b → cond b None (cond b (Some c) (fin.get kept q)) ≡ fin.get kept q
+taken_out kept n c q true none e = sym (ap (fin.get kept) (numbers_equal q n e) ∙ none)
+taken_out kept n c q false none e = refl
+
+pub put_and_taken : (kept : fin.FinMap nat_cmp CastFields) (n : ℕ) (c : CastFields) → fin.get kept n ≡ None → fin.remove (fin.insert kept n c) n ≡ kept
+put_and_taken kept n c none = fin.same_map nat_cmp_total fin.nat_cmp-IsAntisymmetric _ _ (λ q.
+    fin.get-remove nat_cmp_total (fin.insert kept n c) n q
+    ∙ ap (cond (eq_by_cmp nat_cmp q n) None) (fin.get-insert nat_cmp_total kept n c q)
+    ∙ taken_out kept n c q (eq_by_cmp nat_cmp q n) none refl)
+
+-- the buffer with the cast
+abbrev pub with_cast : Buffer → CastFields → Buffer
+with_cast buffer c = record buffer { kept = fin.insert buffer.kept (first_number c) c }
+
+module _ (buffer : Buffer) (c : CastFields) (passes : Passes buffer (first_number c)) where
+  pub is_not_kept : (number : ℕ) → fin.get buffer.kept number ≡ None
+  is_not_kept number = ap (λ (m : fin.FinMap nat_cmp CastFields). fin.get m number) passes.none_kept ∙ fin.get-empty nat_cmp number
+
+  pub passing_is_next : IsNext (with_cast buffer c) c
+  passing_is_next = record {
+    follows = passes.follows;
+    kept = fin.get-insert nat_cmp_total buffer.kept (first_number c) c (first_number c) ∙ rw (equal_numbers (first_number c) (first_number c) refl) refl;
+  }
+
+  pub passing_takes : Takes (with_cast buffer c) c (record buffer { taken = buffer.taken + 1 })
+  passing_takes i = record {
+    window = buffer.window;
+    taken = sym passes.follows i;
+    kept = sym (put_and_taken buffer.kept (first_number c) c (is_not_kept (first_number c))) i;
+  }

@@ -1,0 +1,10 @@
+use Rattle.std.proofs.Common.{arith}
+use Rattle.cb_gaps.proofs.Passing.{some_kept, passed_keeps}
+use Rattle.cb_gaps.proofs.buffer.Reorder.pass.Goals as goal
+
+pub invariant_of-self : goal.invariant_of-self
+invariant_of-self c =
+    let requires = rw (← c.self.view_is) at c.requires in (
+      passed_keeps c.self.inside.window c.self.inside.taken c.self.inside.kept.items c.self.invariant.0 requires.none requires.room,
+      c.self.invariant.1,
+    )
