@@ -174,6 +174,15 @@ fn request(alloc: Global, parts: &RequestParts) -> Result<Request, FrameFault>
     })
 }
 
+/// The request of these fields. Out of line, so that the room for its ranges is not cleared for other frames too.
+#[inline(never)]
+fn read_request(alloc: Global, fields: &[u8]) -> Result<Request, FrameFault>
+    ensures { Gives request_fields result (request_at fields.now) }
+{
+    let parts = request_parts(fields)?;
+    request(alloc, &parts)
+}
+
 /// `text` is what `bytes` has: a slice, whose elements are known to be bytes.
 #[tactic(auto, unfolding(crate::specs::Reading::frame_at))]
 fn frame(alloc: Global, bytes: &Bytes, text: &[u8]) -> Result<Frame, FrameFault>
@@ -192,10 +201,7 @@ fn frame(alloc: Global, bytes: &Bytes, text: &[u8]) -> Result<Frame, FrameFault>
             let parts = status_parts(fields, &mut changes)?;
             Ok(Frame::Status(status(alloc, &parts, &changes)?))
         }
-        Some((&REQUEST, fields)) => {
-            let parts = request_parts(fields)?;
-            Ok(Frame::Request(request(alloc, &parts)?))
-        }
+        Some((&REQUEST, fields)) => Ok(Frame::Request(read_request(alloc, fields)?)),
         Some(_) => Err(FrameFault::UnknownKind),
     }
 }

@@ -13,6 +13,7 @@ use bytes::Bytes;
 use cb_member::{
     Arrival, ArriveRefusal, CastDone, CastRefusal, Entry, Member, TickRefusal, Ticked,
 };
+use cb_times::make_room;
 use std::alloc::Global;
 use std::marker::Model;
 use std::sync::ledger::{Blank, Book, Ledger, Share};
@@ -72,7 +73,7 @@ impl<L: Ledger> Held<L> {
         let Held { member, book } = self;
         let Seat { receipts, share } = seat;
         book.audit(share);
-        receipts.reserve(1)?;
+        make_room(receipts, 1)?;
         let (done, entry) = member.cast_noted(payload)?;
         enter(member, book, receipts, share, Some(entry));
         Ok(done)
@@ -97,7 +98,7 @@ impl<L: Ledger> Held<L> {
         let Held { member, book } = self;
         let Seat { receipts, share } = seat;
         book.audit(share);
-        receipts.reserve(1)?;
+        make_room(receipts, 1)?;
         let (arrival, noted) = member.arrive_noted(bytes)?;
         enter(member, book, receipts, share, noted);
         Ok(arrival)
@@ -122,7 +123,7 @@ impl<L: Ledger> Held<L> {
         let Held { member, book } = self;
         let Seat { receipts, share } = seat;
         book.audit(share);
-        receipts.reserve(1)?;
+        make_room(receipts, 1)?;
         let (ticked, noted) = member.tick_noted()?;
         enter(member, book, receipts, share, noted);
         Ok(ticked)

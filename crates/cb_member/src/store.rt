@@ -15,7 +15,7 @@ use crate::reception::Reception;
 use crate::sending::Sending;
 use cb_frames::{Range, Status};
 use cb_history::{Entry, Seat};
-use cb_times::NoMemory;
+use cb_times::{NoMemory, make_room};
 use std::alloc::Global;
 
 /// The history, and beside it what makes the answers quick: each part is what `specs/` says of the entries.
@@ -67,8 +67,8 @@ impl Store {
         ensures alike { IsAlike self.old self.new }
         ensures room { OnOk result (HasRoom events self.new) }
     {
-        self.entries.reserve(1)?;
-        self.delivery.events.reserve(events)?;
+        make_room(&mut self.entries, 1)?;
+        make_room(&mut self.delivery.events, events)?;
         Ok(())
     }
 

@@ -192,11 +192,7 @@ fn offer_to_all<R: Wait>(rt: &R, alloc: Global, to: &mut [Option<End>], frames: 
 }
 
 /// Handles of those of the frames that go to this member, in order.
-fn frames_for(
-    alloc: Global,
-    member: usize,
-    frames: &[Outgoing],
-) -> Result<Vec<Bytes>, AllocError> {
+fn frames_for(alloc: Global, member: usize, frames: &[Outgoing]) -> Result<Vec<Bytes>, AllocError> {
     let mut all = Vec::with_capacity(alloc, frames.len())?;
     for frame in frames {
         if frame.to.is_none_or(|to| to as usize == member) {
@@ -207,11 +203,7 @@ fn frames_for(
 }
 
 /// Offers frames to one member, where there are some.
-fn offer<R: Wait>(
-    rt: &R,
-    slot: &Slot<Bytes>,
-    frames: Result<Vec<Bytes>, AllocError>,
-) -> Offered {
+fn offer<R: Wait>(rt: &R, slot: &Slot<Bytes>, frames: Result<Vec<Bytes>, AllocError>) -> Offered {
     let Ok(frames) = frames else {
         return Offered::refused();
     };

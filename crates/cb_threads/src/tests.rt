@@ -3,7 +3,9 @@
 ghost use Rattle.std.specs.Prelude.{◌≡◌, []};
 
 mod at_once;
+mod channel;
 mod faults;
 mod group;
 mod mailbox;
 mod parts;
+mod speaker;

@@ -8,9 +8,11 @@ mod group;
 pub mod laws;
 mod name;
 mod order;
+mod room;
 mod time;
 
 pub use group::{FEWEST_MEMBERS, MOST_MEMBERS, WIDEST_WINDOW};
 pub use name::Name;
 pub use order::TimeOrder;
+pub use room::make_room;
 pub use time::{NoMemory, VectorTime};

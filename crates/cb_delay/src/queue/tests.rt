@@ -136,6 +136,23 @@ fn a_message_waits_for_the_one_before_it_of_its_sender(rt: HostRuntime) -> Resul
 }
 
 #[test]
+fn a_message_is_ready_once_all_before_it_is_delivered(rt: HostRuntime) -> Result<(), Fail> {
+    let answer = message_of(rt.alloc(), ANSWER, 1)?;
+    for (now, is_ready) in [
+        ([0, 0, 0], false),
+        ([1, 0, 0], true),
+        ([2, 0, 5], true),
+        ([1, 1, 0], false),
+        ([1, 2, 0], false),
+        ([0, 0, 1], false),
+    ] {
+        let now = time_of(rt.alloc(), &now)?;
+        assert_eq!(rt; answer.is_ready(&now), is_ready, "at {now}");
+    }
+    Ok(())
+}
+
+#[test]
 fn a_copy_has_the_same_time_and_payload(rt: HostRuntime) -> Result<(), Fail> {
     let mut message = message_of(rt.alloc(), ANSWER, 1)?;
     message.payload = Bytes::from_static(b"yo");

@@ -22,6 +22,8 @@ enum Call {
     Len,
     /// The next cast.
     Take,
+    /// To take a cast of this number without keeping it, where it passes.
+    Pass(u32),
     /// What is missing: how many are delivered, and the greatest number that was heard of.
     Missing(u32, u32),
 }
@@ -71,6 +73,15 @@ fn tell_ranges(ranges: &[Range], text: &mut String) -> Result<(), NoMemory> {
     Ok(())
 }
 
+/// Takes a cast of this number where it passes.
+fn passed(reorder: &mut Reorder, number: u32) -> bool {
+    let passes = reorder.passes(number);
+    if passes {
+        reorder.pass();
+    }
+    passes
+}
+
 fn answer(
     alloc: Global,
     reorder: &mut Reorder,
@@ -87,6 +98,11 @@ fn answer(
         Call::ReadyWith(number) => write!(text, "{}", reorder.ready_with(number)),
         Call::Len => write!(text, "{}", reorder.len()),
         Call::Take => tell_cast(&reorder.take_next(), text),
+        Call::Pass(number) => text.push_str(if passed(reorder, number) {
+            "passed"
+        } else {
+            "no"
+        }),
         Call::Missing(delivered, known) => {
             tell_ranges(&reorder.missing(delivered, known)?, text)
         }
@@ -226,6 +242,28 @@ fn what_would_come_out_is_told_before_it_is_kept(rt: HostRuntime) -> Result<(), 
 }
 
 #[test]
+fn a_cast_passes_where_it_is_the_next_one_and_none_is_kept(rt: HostRuntime) -> Result<(), Fail> {
+    const STEPS: &[(Call, &str)] = &[
+        (Call::Pass(0), "no"),
+        (Call::Pass(2), "no"),
+        (Call::Pass(1), "passed"),
+        (Call::Taken, "1"),
+        (Call::Len, "0"),
+        (Call::Pass(1), "no"),
+        (Call::Keep(1, 3), "Kept"),
+        // What is kept would come out with it.
+        (Call::Pass(2), "no"),
+        (Call::Keep(1, 2), "Kept"),
+        (Call::Take, "7 0.2 yo"),
+        (Call::Take, "7 0.3 yo"),
+        (Call::Pass(4), "passed"),
+        (Call::Missing(4, 6), "5-6;"),
+        (Call::Keep(4, 4), "Repeat"),
+    ];
+    run(&rt, rt.alloc(), 4, STEPS)
+}
+
+#[test]
 fn each_gap_is_a_range(rt: HostRuntime) -> Result<(), Fail> {
     const STEPS: &[(Call, &str)] = &[
         (Call::Keep(0, 9), "Kept"),
@@ -281,6 +319,8 @@ fn none_follows_the_greatest_number(rt: HostRuntime) -> Result<(), Fail> {
         (Call::ReadyWith(0), "0"),
         (Call::ReadyWith(LAST), "0"),
         (Call::Taken, "4294967295"),
+        (Call::Pass(0), "no"),
+        (Call::Pass(LAST), "no"),
         (Call::Keep(LAST, 0), "Repeat"),
         (Call::Missing(LAST, LAST), ""),
     ];

@@ -1,6 +1,9 @@
 //! A mailbox with two slots, in one thread.
 
 use crate::mailbox::{Taken, new_mailbox};
+use crate::workers::Post;
+use bytes::Bytes;
+use cb_member::Outgoing;
 use std::alloc::{AllocError, Global};
 use std::process::Abort;
 use std::test::*;
@@ -42,4 +45,18 @@ fn a_mailbox_is_closed_once_its_last_slot_is_gone_and_it_is_empty(rt: HostRuntim
     drop(slot);
     gave(&rt, mailbox.take_at_once(&rt), &[1]);
     assert!(&rt; matches!(mailbox.take_at_once(&rt), Taken::Closed));
+}
+
+#[test]
+fn frames_that_the_channel_does_not_take_are_lost(rt: HostRuntime) {
+    let (slot, mailbox) = new_mailbox(rt.alloc()).expect(&rt, "a mailbox");
+    drop(mailbox);
+    let mut post = Post::new(rt.alloc(), slot);
+    for _frame in 0..3u32 {
+        let bytes = Bytes::from_static(b"yo");
+        post.put(&rt, Outgoing { to: None, bytes });
+    }
+    assert_eq!(&rt; post.lost(), 0);
+    post.hand_over(&rt);
+    assert_eq!(&rt; post.lost(), 3);
 }

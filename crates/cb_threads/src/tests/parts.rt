@@ -295,3 +295,24 @@ impl Pace for Uneven {
         Err(PaceFault)
     }
 }
+
+/// What counts the casts that it is given, and sends nothing.
+#[derive(Drop)]
+pub struct Counter {
+    pub casts: u32,
+}
+
+impl Outlet for Counter {
+    ghost failed = { λ c. 0 };
+
+    fn failures(&self) -> u64 {
+        0
+    }
+
+    fn send<R: Wait>(&mut self, _rt: &R, out: &Outgoing) -> Result<(), LinkFault> {
+        if out.bytes.as_slice().first() == Some(&0x11) {
+            self.casts = self.casts.saturating_add(1);
+        }
+        Ok(())
+    }
+}

@@ -69,7 +69,7 @@ pub struct Post {
 }
 
 /// So many frames are handed to the sender without more waiting.
-const MANY: usize = 64;
+const MANY: usize = 32;
 
 impl Post {
     pub fn new(alloc: Global, out: Slot<Outgoing>) -> Post {
@@ -97,20 +97,24 @@ impl Post {
 
     /// Hands frames to the sender, in order, behind those that were kept.
     pub fn put_all(&mut self, rt: &impl Wait, out: Vec<Outgoing>) {
-        self.hand_over(rt);
-        self.send(rt, out);
+        if !out.is_empty() {
+            self.hand_over(rt);
+            self.send(rt, out);
+        }
     }
 
     /// Hands the sender what was kept for it.
     pub fn hand_over(&mut self, rt: &impl Wait) {
-        let alloc = *self.kept.allocator();
-        let kept = mem::replace(&mut self.kept, Vec::new(alloc));
-        self.send(rt, kept);
+        if !self.kept.is_empty() {
+            let alloc = *self.kept.allocator();
+            let kept = mem::replace(&mut self.kept, Vec::new(alloc));
+            self.send(rt, kept);
+        }
     }
 
     fn send(&mut self, rt: &impl Wait, out: Vec<Outgoing>) {
         let count = out.len();
-        if count > 0 && self.out.put(rt, out).is_err() {
+        if self.out.put(rt, out).is_err() {
             self.lost = self.lost.saturating_add(count as u64);
         }
     }

@@ -70,9 +70,9 @@ pub fn talk_all<T: Talker, L: Ledger, R: Wait + Clock>(
             Turn::Finished => break,
         }
     }
-    speech.post.hand_over(rt);
+    let worked = speech.ended(rt);
     ending.talker_ended();
-    speech.ended()
+    worked
 }
 
 impl<'a, T: Talker, L: Ledger> Speech<'a, T, L> {
@@ -143,12 +143,14 @@ impl<'a, T: Talker, L: Ledger> Speech<'a, T, L> {
         }
     }
 
-    fn ended(self) -> Worked<T, L> {
-        let lost = self.post.lost();
+    /// What the last turns cast is handed over too.
+    fn ended<R: Wait>(self, rt: &R) -> Worked<T, L> {
+        let mut post = self.post;
+        post.hand_over(rt);
         Worked {
             part: self.talker,
             seat: self.seat,
-            lost,
+            lost: post.lost(),
             failures: 0,
         }
     }

@@ -1,0 +1,82 @@
+//! Frames that a sender sends at once, over channels.
+
+use crate::{ChannelInlet, ChannelLink, ChannelOutlet, Inlet, Outlet, Received, Unsent};
+use bytes::Bytes;
+use cb_member::Outgoing;
+use std::alloc::Global;
+use std::process::Abort;
+use std::sync::Wait;
+use std::test::*;
+use std::time::Clock;
+
+type Link = (ChannelInlet, ChannelOutlet);
+
+/// Links of three members, in the order of their numbers.
+fn three(rt: &impl Abort, alloc: Global) -> (Link, Link, Link) {
+    let mut links = ChannelLink::group(alloc, 3).expect(rt, "links");
+    let last = links.pop().expect(rt, "a link");
+    let second = links.pop().expect(rt, "a link");
+    let first = links.pop().expect(rt, "a link");
+    (first, second, last)
+}
+
+/// A frame to all, one to each of the three, and one to nobody.
+fn frames(rt: &impl Abort, alloc: Global) -> Vec<Outgoing> {
+    let mut frames = Vec::new(alloc);
+    for (to, text) in [
+        (None, b"all"),
+        (Some(1), b"one"),
+        (Some(0), b"own"),
+        (Some(2), b"two"),
+        (Some(64), b"non"),
+    ] {
+        let bytes = Bytes::from_static(text);
+        frames.push(Outgoing { to, bytes }).expect(rt, "memory");
+    }
+    frames
+}
+
+/// These frames have come, in this order, and no other.
+fn came<R: Wait + Clock + Abort>(rt: &R, inlet: &mut ChannelInlet, expected: &[&'static str]) {
+    for text in expected {
+        assert_eq!(rt;
+            received(rt, inlet),
+            Received::Frame(Bytes::from_static(text.as_bytes()))
+        );
+    }
+    assert_eq!(rt; received(rt, inlet), Received::Nothing);
+}
+
+fn received<R: Wait + Clock + Abort>(rt: &R, inlet: &mut ChannelInlet) -> Received {
+    inlet.receive(rt).expect(rt, "channels do not fail")
+}
+
+#[test]
+fn each_frame_goes_to_whom_it_is_to(rt: HostRuntime) {
+    let (mut of_0, mut of_1, mut of_2) = three(&rt, rt.alloc());
+    let unsent = of_0.1.send_all(&rt, &frames(&rt, rt.alloc()));
+    // The sender's own number, and one that is no member's.
+    let expected = Unsent {
+        lost: 2,
+        failures: 2,
+    };
+    assert_eq!(&rt; unsent, expected);
+    assert_eq!(&rt; of_0.1.failures(), 2);
+    came(&rt, &mut of_1.0, &["all", "one"]);
+    came(&rt, &mut of_2.0, &["all", "two"]);
+    came(&rt, &mut of_0.0, &[]);
+}
+
+#[test]
+fn frames_to_a_member_that_is_gone_are_lost(rt: HostRuntime) {
+    let (mut of_0, mut of_1, of_2) = three(&rt, rt.alloc());
+    drop(of_2);
+    let unsent = of_0.1.send_all(&rt, &frames(&rt, rt.alloc()));
+    let expected = Unsent {
+        lost: 4,
+        failures: 4,
+    };
+    assert_eq!(&rt; unsent, expected);
+    assert_eq!(&rt; of_0.1.failures(), 4);
+    came(&rt, &mut of_1.0, &["all", "one"]);
+}
