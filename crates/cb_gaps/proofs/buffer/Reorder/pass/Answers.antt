@@ -1,5 +1,4 @@
-use Rattle.std.proofs.Common.{arith}
-use Rattle.cb_gaps.proofs.Passing.{some_kept, passed_keeps}
+use Rattle.cb_gaps.proofs.Passing.{passed_keeps}
 use Rattle.cb_gaps.proofs.buffer.Reorder.pass.Goals as goal
 
 pub invariant_of-self : goal.invariant_of-self
