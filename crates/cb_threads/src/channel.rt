@@ -22,7 +22,7 @@ pub struct ChannelLink;
 /// Where the frames of the others come from.
 #[derive(Drop)]
 pub struct ChannelInlet {
-    from: Mailbox<Bytes>,
+    from: Mailbox<Vec<Bytes>>,
     /// What was taken out, and is not handed on yet.
     came: IntoIter<Bytes>,
 }
@@ -37,7 +37,7 @@ pub struct ChannelOutlet {
 /// Another member's channel.
 #[derive(Drop)]
 struct End {
-    slot: Slot<Bytes>,
+    slot: Slot<Vec<Bytes>>,
     /// What came of offering it the last frames.
     offered: Offered,
 }
@@ -71,7 +71,7 @@ fn links(alloc: Global, size: u32) -> Result<Vec<(ChannelInlet, ChannelOutlet)>,
     Ok(links)
 }
 
-fn outlet(alloc: Global, me: usize, ends: &[Slot<Bytes>]) -> Result<ChannelOutlet, AllocError> {
+fn outlet(alloc: Global, me: usize, ends: &[Slot<Vec<Bytes>>]) -> Result<ChannelOutlet, AllocError> {
     let mut to = Vec::new(alloc);
     for (number, end) in ends.iter().enumerate() {
         to.push(if number == me {
@@ -98,7 +98,7 @@ impl Inlet for ChannelInlet {
             return Ok(Received::Frame(frame));
         }
         match self.from.take(rt) {
-            Taken::Messages(frames) => {
+            Taken::Message(frames) => {
                 self.came = frames.into_iter();
                 Ok(first_of(&mut self.came))
             }
@@ -203,7 +203,7 @@ fn frames_for(alloc: Global, member: usize, frames: &[Outgoing]) -> Result<Vec<B
 }
 
 /// Offers frames to one member, where there are some.
-fn offer<R: Wait>(rt: &R, slot: &Slot<Bytes>, frames: Result<Vec<Bytes>, AllocError>) -> Offered {
+fn offer<R: Wait>(rt: &R, slot: &Slot<Vec<Bytes>>, frames: Result<Vec<Bytes>, AllocError>) -> Offered {
     let Ok(frames) = frames else {
         return Offered::refused();
     };

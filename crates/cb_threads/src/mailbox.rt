@@ -1,8 +1,7 @@
-//! A channel of lists, whose reader sleeps where nothing comes, and is woken once for all that has come by then.
+//! A channel whose reader sleeps where nothing comes, and is woken once for all that has come by then.
 //!
-//! Messages go in lists, so that what a channel costs is paid once for many of them. The channel alone wakes its reader at each list until
-//! the reader runs, and each time the system is called. Here a reader says that it sleeps, and `Parker` calls the system for the first one
-//! only.
+//! The channel alone wakes its reader at each message until the reader runs, and each time the system is called. Here a reader says that
+//! it sleeps, and `Parker` calls the system for the first message only.
 
 use crossbeam_channel::{Receiver, SendError, Sender, TryRecvError, unbounded};
 use std::alloc::{AllocError, Global};
@@ -11,8 +10,11 @@ use std::sync::{Arc, Wait};
 use std::thread::Parker;
 use std::time::Duration;
 
-/// Where so many lists have gathered, more are not waited for.
+/// Where so many messages have gathered, more are not waited for. Those of links are lists of frames.
 const MANY: usize = 2;
+
+/// For so many messages that were added the reader is woken, whether or not more are to come.
+const MOST_ADDED: usize = 64;
 
 /// Whether the reader sleeps, or lets messages gather, and how it is woken.
 #[derive(Drop)]
@@ -22,25 +24,24 @@ struct Reader {
     parker: Parker,
 }
 
-/// Where lists of messages are put.
+/// Where messages are put.
 #[derive(Drop)]
 pub struct Slot<M> {
-    to: Sender<Vec<M>>,
+    to: Sender<M>,
     reader: Arc<Reader>,
 }
 
 /// Where they are taken out, by one thread.
 #[derive(Drop)]
 pub struct Mailbox<M> {
-    from: Receiver<Vec<M>>,
+    from: Receiver<M>,
     reader: Arc<Reader>,
 }
 
 /// What was taken out.
 #[derive(Drop)]
 pub enum Taken<M> {
-    /// A list, of one message or more.
-    Messages(Vec<M>),
+    Message(M),
     /// Nothing came for about a millisecond.
     Nothing,
     /// Nothing is left, and there is no slot any more.
@@ -77,13 +78,29 @@ impl<M: Drop> Slot<M> {
         })
     }
 
-    /// Puts a list of one message or more in, and wakes the reader where it sleeps or enough has gathered.
-    pub fn put(&self, rt: &impl Wait, messages: Vec<M>) -> Result<(), SendError<Vec<M>>> {
-        self.to.send(rt, messages)?;
+    /// Puts a message in, and wakes the reader where it sleeps or enough has gathered.
+    pub fn put(&self, rt: &impl Wait, message: M) -> Result<(), SendError<M>> {
+        self.to.send(rt, message)?;
         if self.is_awaited() {
             self.reader.parker.unpark();
         }
         Ok(())
+    }
+
+    /// Puts a message in for a reader that `wake` wakes once all is added. One that is not woken finds it within about a millisecond.
+    pub fn add(&self, rt: &impl Wait, message: M) -> Result<(), SendError<M>> {
+        self.to.send(rt, message)?;
+        if self.to.len() >= MOST_ADDED {
+            self.wake();
+        }
+        Ok(())
+    }
+
+    /// Wakes the reader where it sleeps.
+    pub fn wake(&self) {
+        if self.reader.sleeps.load(Ordering::SeqCst) {
+            self.reader.parker.unpark();
+        }
     }
 
     /// The reader sleeps, or waits for no more than there is.
@@ -94,12 +111,12 @@ impl<M: Drop> Slot<M> {
 }
 
 impl<M: Drop> Mailbox<M> {
-    /// The next list, which is waited for where there is none.
+    /// The next message, which is waited for where there is none.
     ///
     /// Where a mailbox has become empty, what is on its way gathers for a moment first.
     pub fn take<R: Wait>(&self, rt: &R) -> Taken<M> {
-        if let Ok(messages) = self.from.try_recv(rt) {
-            return Taken::Messages(messages);
+        if let Some(message) = self.more(rt) {
+            return Taken::Message(message);
         }
         match self.gather(rt) {
             Taken::Nothing => self.sleep(rt),
@@ -115,9 +132,14 @@ impl<M: Drop> Mailbox<M> {
         }
     }
 
+    /// A message that is there already.
+    pub fn more<R: Wait>(&self, rt: &R) -> Option<M> {
+        self.from.try_recv(rt).ok()
+    }
+
     fn look<R: Wait>(&self, rt: &R) -> Taken<M> {
         match self.from.try_recv(rt) {
-            Ok(messages) => Taken::Messages(messages),
+            Ok(message) => Taken::Message(message),
             Err(TryRecvError::Empty) => Taken::Nothing,
             Err(TryRecvError::Disconnected) => Taken::Closed,
         }
@@ -133,7 +155,7 @@ impl<M: Drop> Mailbox<M> {
         self.look(rt)
     }
 
-    /// Sleeps until a list is put in, and at most for a millisecond. A list that is put in while the reader falls asleep either is
+    /// Sleeps until a message is put in, and at most for a millisecond. A message that is put in while the reader falls asleep either is
     /// seen by the look or wakes it: each side tells of itself before it looks at the other.
     fn sleep<R: Wait>(&self, rt: &R) -> Taken<M> {
         self.reader.sleeps.store(true, Ordering::SeqCst);

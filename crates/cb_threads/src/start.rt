@@ -143,25 +143,25 @@ fn run_in<
 {
     let (parts, ends) = work;
     let (alloc, ending) = (desk.alloc, desk.ending);
-    let sender = start_sender(scope, rt, ends.sender, parts.outlet, seats.sender);
+    let sender = start_sender(scope, rt, (alloc, ends.sender), parts.outlet, seats.sender);
     let receiver = start_receiver(
         scope,
         rt,
-        (desk.again(), Post::new(alloc, ends.receiver)),
+        (desk.again(), Post::new(ends.receiver)),
         parts.inlet,
         seats.receiver,
     );
     let timer = start_timer(
         scope,
         rt,
-        (desk.again(), Post::new(alloc, ends.timer)),
+        (desk.again(), Post::new(ends.timer)),
         parts.pace,
         seats.timer,
     );
     let speaker = start_speaker(
         scope,
         rt,
-        (desk, Post::new(alloc, ends.speaker)),
+        (desk, Post::new(ends.speaker)),
         parts.talker,
         seats.speaker,
     );
@@ -260,17 +260,18 @@ fn start_sender<
 >(
     scope: &Scope<'s, E>,
     rt: &'s R,
-    frames: Mailbox<Outgoing>,
+    from: (Global, Mailbox<Outgoing>),
     outlet: O,
     seat: Seat<L>,
 ) -> Option<PromisedHandle<Worked<O, L>, OutletCounts>>
     ensures { IfSome result (λ handle. handle.promise.before ≡ O.failed outlet) }
 {
     let before = outlet.failures();
+    let (alloc, frames) = from;
     scope
         .spawn_with(
             OutletCounts { before },
-            move || send_all(rt, frames, outlet, seat),
+            move || send_all(rt, alloc, frames, outlet, seat),
         )
         .ok()
 }

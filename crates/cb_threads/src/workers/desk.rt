@@ -7,7 +7,6 @@ use crate::mailbox::Slot;
 use cb_lock::{Seat, SharedMember};
 use cb_member::Outgoing;
 use std::alloc::Global;
-use std::mem;
 use std::sync::Wait;
 use std::sync::ledger::Ledger;
 
@@ -59,63 +58,50 @@ impl<D, L: Ledger> Worked<D, L> {
 
 /// Where a worker hands what is to be sent. The sender ends once every worker has let its own go.
 ///
-/// Frames are kept until there are many, or until `hand_over`, which a worker calls before it waits and when it ends.
+/// The sender is woken once for all that was put, by `wake`: a worker calls it before it waits.
 #[derive(Drop)]
 pub struct Post {
     out: Slot<Outgoing>,
-    /// Fewer than `MANY`, which the sender was not handed yet.
-    kept: Vec<Outgoing>,
+    /// Something was put that the sender was not woken for.
+    has_put: bool,
     lost: u64,
 }
 
-/// So many frames are handed to the sender without more waiting.
-const MANY: usize = 32;
-
 impl Post {
-    pub fn new(alloc: Global, out: Slot<Outgoing>) -> Post {
+    pub fn new(out: Slot<Outgoing>) -> Post {
         Post {
             out,
-            kept: Vec::new(alloc),
+            has_put: false,
             lost: 0,
         }
     }
 
-    /// How many frames found no memory, or the channel did not take.
+    /// How many frames the channel did not take.
     pub fn lost(&self) -> u64 {
         self.lost
     }
 
-    /// Keeps a frame for the sender.
+    /// Hands a frame to the sender, which finds it within about a millisecond where it is not woken.
     pub fn put(&mut self, rt: &impl Wait, out: Outgoing) {
-        if self.kept.push(out).is_err() {
+        self.has_put = true;
+        if self.out.add(rt, out).is_err() {
             self.lost = self.lost.saturating_add(1);
         }
-        if self.kept.len() >= MANY {
-            self.hand_over(rt);
-        }
     }
 
-    /// Hands frames to the sender, in order, behind those that were kept.
+    /// Hands frames to the sender, in order, and wakes it.
     pub fn put_all(&mut self, rt: &impl Wait, out: Vec<Outgoing>) {
-        if !out.is_empty() {
-            self.hand_over(rt);
-            self.send(rt, out);
+        for frame in out {
+            self.put(rt, frame);
         }
+        self.wake();
     }
 
-    /// Hands the sender what was kept for it.
-    pub fn hand_over(&mut self, rt: &impl Wait) {
-        if !self.kept.is_empty() {
-            let alloc = *self.kept.allocator();
-            let kept = mem::replace(&mut self.kept, Vec::new(alloc));
-            self.send(rt, kept);
-        }
-    }
-
-    fn send(&mut self, rt: &impl Wait, out: Vec<Outgoing>) {
-        let count = out.len();
-        if self.out.put(rt, out).is_err() {
-            self.lost = self.lost.saturating_add(count as u64);
+    /// Wakes the sender for what was put, where it sleeps.
+    pub fn wake(&mut self) {
+        if self.has_put {
+            self.has_put = false;
+            self.out.wake();
         }
     }
 }

@@ -8,6 +8,8 @@ use crate::mailbox::{Mailbox, Taken};
 use crate::workers::desk::Worked;
 use cb_lock::Seat;
 use cb_member::Outgoing;
+use std::alloc::Global;
+use std::slice;
 use std::sync::Wait;
 use std::sync::ledger::Ledger;
 use std::thread::Promise;
@@ -22,9 +24,13 @@ impl<O: Outlet, L: Ledger> Promise<Worked<O, L>> for OutletCounts {
     ghost kept_by = { λ p r. MetAtMost r.failures p.before (O.failed r.part) };
 }
 
+/// So many frames at most are sent at once.
+const MANY: usize = 64;
+
 /// Sends what the other workers hand over, until all of them have ended.
 pub fn send_all<O: Outlet, L: Ledger, R: Wait>(
     rt: &R,
+    alloc: Global,
     frames: Mailbox<Outgoing>,
     outlet: O,
     seat: Seat<L>,
@@ -32,25 +38,62 @@ pub fn send_all<O: Outlet, L: Ledger, R: Wait>(
     ensures { MetAtMost result.failures (O.failed outlet) (O.failed result.part) }
 {
     let mut worked = Worked::new(outlet, seat);
+    let mut list = Vec::with_capacity(alloc, MANY).unwrap_or(Vec::new(alloc));
     for _ in rt.forever() {
-        let Some(frames) = next(rt, &frames) else {
+        let Some(frame) = next(rt, &frames) else {
             break;
         };
-        send(rt, &frames, &mut worked);
+        send_with_more(rt, &frames, frame, &mut list, &mut worked);
     }
     worked
 }
 
-/// The next frames, or none where all workers have ended.
-fn next<R: Wait>(rt: &R, frames: &Mailbox<Outgoing>) -> Option<Vec<Outgoing>> {
+/// The next frame, or none where all workers have ended.
+fn next<R: Wait>(rt: &R, frames: &Mailbox<Outgoing>) -> Option<Outgoing> {
     for _ in rt.forever() {
         match frames.take_at_once(rt) {
-            Taken::Messages(frames) => return Some(frames),
+            Taken::Message(frame) => return Some(frame),
             Taken::Nothing => {}
             Taken::Closed => return None,
         }
     }
     unreachable!("the loop has no end")
+}
+
+/// Sends a frame, and with it what else is there, as far as the list has room. The list is empty before and behind it.
+fn send_with_more<O: Outlet, L: Ledger, R: Wait>(
+    rt: &R,
+    frames: &Mailbox<Outgoing>,
+    frame: Outgoing,
+    list: &mut Vec<Outgoing>,
+    worked: &mut Worked<O, L>,
+)
+    ensures { Counts (worked.old.failures) (O.failed worked.old.part)
+        (worked.new.failures) (O.failed worked.new.part) }
+{
+    match list.push(frame) {
+        Ok(()) => {
+            add_more(rt, frames, list);
+            send(rt, list, worked);
+            list.clear();
+        }
+        Err(alone) => send(rt, slice::from_ref(&alone.value), worked),
+    }
+}
+
+/// Adds frames that are there already, as long as the list has room for them.
+fn add_more<R: Wait>(rt: &R, frames: &Mailbox<Outgoing>, list: &mut Vec<Outgoing>) {
+    for _ in 1..MANY {
+        if list.len() >= list.capacity() {
+            break;
+        }
+        let Some(frame) = frames.more(rt) else {
+            break;
+        };
+        let Ok(()) = list.push(frame) else {
+            unreachable!("there is room")
+        };
+    }
 }
 
 /// Sends frames. One that the outlet does not take is lost.

@@ -64,15 +64,14 @@ pub fn talk_all<T: Talker, L: Ledger, R: Wait + Clock>(
         match speech.turn(rt) {
             Turn::Cast => {}
             Turn::Quiet => {
-                speech.post.hand_over(rt);
+                speech.post.wake();
                 sleep(rt, Duration::from_millis(1));
             }
             Turn::Finished => break,
         }
     }
-    let worked = speech.ended(rt);
     ending.talker_ended();
-    worked
+    speech.ended()
 }
 
 impl<'a, T: Talker, L: Ledger> Speech<'a, T, L> {
@@ -143,14 +142,12 @@ impl<'a, T: Talker, L: Ledger> Speech<'a, T, L> {
         }
     }
 
-    /// What the last turns cast is handed over too.
-    fn ended<R: Wait>(self, rt: &R) -> Worked<T, L> {
-        let mut post = self.post;
-        post.hand_over(rt);
+    fn ended(self) -> Worked<T, L> {
+        let lost = self.post.lost();
         Worked {
             part: self.talker,
             seat: self.seat,
-            lost: post.lost(),
+            lost,
             failures: 0,
         }
     }
