@@ -71,7 +71,11 @@ fn links(alloc: Global, size: u32) -> Result<Vec<(ChannelInlet, ChannelOutlet)>,
     Ok(links)
 }
 
-fn outlet(alloc: Global, me: usize, ends: &[Slot<Vec<Bytes>>]) -> Result<ChannelOutlet, AllocError> {
+fn outlet(
+    alloc: Global,
+    me: usize,
+    ends: &[Slot<Vec<Bytes>>],
+) -> Result<ChannelOutlet, AllocError> {
     let mut to = Vec::new(alloc);
     for (number, end) in ends.iter().enumerate() {
         to.push(if number == me {
@@ -203,7 +207,11 @@ fn frames_for(alloc: Global, member: usize, frames: &[Outgoing]) -> Result<Vec<B
 }
 
 /// Offers frames to one member, where there are some.
-fn offer<R: Wait>(rt: &R, slot: &Slot<Vec<Bytes>>, frames: Result<Vec<Bytes>, AllocError>) -> Offered {
+fn offer<R: Wait>(
+    rt: &R,
+    slot: &Slot<Vec<Bytes>>,
+    frames: Result<Vec<Bytes>, AllocError>,
+) -> Offered {
     let Ok(frames) = frames else {
         return Offered::refused();
     };
