@@ -92,4 +92,8 @@ impl Talker for Caster {
             Talk::Idle
         })
     }
+
+    fn is_quick(&self) -> bool {
+        true
+    }
 }

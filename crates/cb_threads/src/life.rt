@@ -346,24 +346,16 @@ fn four<L: Ledger>(seat: Seat<L>) -> Seats<L>
     }
 }
 
-/// The history of a member that was closed, with its own counts: those of the receipts are the same now.
+/// The history of a member that was closed, and its counts in the report.
 fn keep<I: Drop, O: Drop, P: Drop, T: Drop>(
     report: MemberReport<I, O, P, T>,
     member: Member,
 ) -> Kept<I, O, P, T>
     ensures { IsKept member.seat.group member.seat.me result.history (tally_in result.report) }
 {
-    let mut report = report;
-    let Tally {
-        casts,
-        deliveries,
-        entries,
-    } = Tally::of_history(member.history());
-    report.casts = casts;
-    report.deliveries = deliveries;
-    report.entries = entries;
+    let tally = Tally::of_history(member.history());
     Kept {
-        report,
+        report: report.with(tally),
         history: member.into_history(),
     }
 }

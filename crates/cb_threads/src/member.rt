@@ -73,19 +73,17 @@ pub fn run_member<
         stop,
         talking: None,
     };
-    run_shared(
-        rt,
-        Desk {
-            alloc,
-            shared,
-            ending,
-        },
-        seats,
-        parts,
-    )
+    let desk = Desk {
+        alloc,
+        shared,
+        ending,
+    };
+    let (report, seats) = run_shared(rt, desk, seats, parts);
+    let tally = Tally::of_seats(&seats);
+    (report.with(tally), seats)
 }
 
-/// Runs the workers of a member.
+/// Runs the workers of a member. Nothing is counted yet of what it cast and delivered.
 #[tactic(auto, using(crate::proofs::Rising::met_none))]
 pub fn run_shared<
     I: Inlet + Send + Drop,
@@ -101,8 +99,6 @@ pub fn run_shared<
     parts: Parts<I, O, P, T>,
 ) -> (MemberReport<I, O, P, T>, Vec<Seat<L>>)
     ensures seats { result.0.fault ≡ None → vec_len result.1 ≡ 4 }
-    ensures counts { Tells (entries_in result.1.items) result.0.casts result.0.deliveries
-        result.0.entries }
     ensures inlet { MatchOption result.0.inlet (result.0.receive_failures ≡ 0)
         (λ inlet. MetAtMost result.0.receive_failures (I.failed parts.inlet) (I.failed inlet)) }
     ensures outlet { MatchOption result.0.outlet (result.0.send_failures ≡ 0)
@@ -131,19 +127,12 @@ fn unstarted<I, O, P, T, L: Ledger>(
     seats: Vec<Seat<L>>,
 ) -> (MemberReport<I, O, P, T>, Vec<Seat<L>>)
     ensures seats { result.0.fault ≢ None }
-    ensures counts { Tells (entries_in result.1.items) result.0.casts result.0.deliveries
-        result.0.entries }
     ensures inlet { (result.0.inlet ≡ Some parts.inlet) × (result.0.receive_failures ≡ 0) }
     ensures outlet { (result.0.outlet ≡ Some parts.outlet) × (result.0.send_failures ≡ 0) }
     ensures pace { (result.0.pace ≡ Some parts.pace) × (result.0.pace_failures ≡ 0) }
 {
     ending.talker_ended();
     ending.give_up();
-    let Tally {
-        casts,
-        deliveries,
-        entries,
-    } = Tally::of_seats(&seats);
     let Parts {
         inlet,
         outlet,
@@ -151,9 +140,9 @@ fn unstarted<I, O, P, T, L: Ledger>(
         talker,
     } = parts;
     let report = MemberReport {
-        casts,
-        deliveries,
-        entries,
+        casts: 0,
+        deliveries: 0,
+        entries: 0,
         lost: 0,
         receive_failures: 0,
         send_failures: 0,
@@ -194,8 +183,6 @@ fn reported<I, O, P, T, L: Ledger>(
     requires room { 4 ≤ vec_capacity seats }
     requires empty { vec_len seats ≡ 0 }
     ensures seats { result.0.fault ≡ None → vec_len result.1 ≡ 4 }
-    ensures counts { Tells (entries_in result.1.items) result.0.casts result.0.deliveries
-        result.0.entries }
     ensures inlet { MatchOption ended.received
         ((result.0.inlet ≡ None) × (result.0.receive_failures ≡ 0))
         (λ w. (result.0.inlet ≡ Some w.part) × (result.0.receive_failures ≡ w.failures)) }
@@ -222,20 +209,15 @@ fn reported<I, O, P, T, L: Ledger>(
     let timed = hand_back(timed, &mut seats);
     let talked = hand_back(talked, &mut seats);
     let sent = hand_back(sent, &mut seats);
-    let Tally {
-        casts,
-        deliveries,
-        entries,
-    } = Tally::of_seats(&seats);
     let lost = received
         .lost
         .saturating_add(timed.lost)
         .saturating_add(talked.lost)
         .saturating_add(sent.lost);
     let report = MemberReport {
-        casts,
-        deliveries,
-        entries,
+        casts: 0,
+        deliveries: 0,
+        entries: 0,
         lost,
         receive_failures: received.failures,
         send_failures: sent.failures,

@@ -60,6 +60,23 @@ pub struct MemberReport<I, O, P, T> {
     pub fault: Option<WorkerFault>,
 }
 
+impl<I, O, P, T> MemberReport<I, O, P, T> {
+    /// The same with these counts.
+    pub(crate) fn with(self, tally: Tally) -> MemberReport<I, O, P, T>
+        ensures { result ≡ record self {
+          casts = tally.casts;
+          deliveries = tally.deliveries;
+          entries = tally.entries;
+        } }
+    {
+        let mut report = self;
+        report.casts = tally.casts;
+        report.deliveries = tally.deliveries;
+        report.entries = tally.entries;
+        report
+    }
+}
+
 /// What entries tell of casts and deliveries.
 #[derive(Clone, Copy, Debug, PartialEq, Eq)]
 pub struct Tally {

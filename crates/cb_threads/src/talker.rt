@@ -19,4 +19,10 @@ pub trait Talker {
     /// What to do next. `news` are the member's events since the last call, in order. After a refusal the same news come again, with what
     /// came behind them.
     fn next(&mut self, news: &[Event]) -> Result<Talk, NoMemory>;
+
+    /// Whether `next` is over so soon that the member may wait for it: then the news are shown in place, and the member takes and tells
+    /// nothing meanwhile. Else they are copied, and the member works on while the talker thinks.
+    fn is_quick(&self) -> bool {
+        false
+    }
 }

@@ -51,6 +51,7 @@ fn talker(alloc: Global) -> Counting {
         events: 6,
         seen: 0,
         refusals: 0,
+        quick: false,
     }
 }
 

@@ -15,7 +15,7 @@ use std::test::*;
 use std::thread::Threads;
 use std::time::Clock;
 
-/// Each of three members casts twice, and ends once it has seen all six.
+/// Each of three members casts twice, and ends once it has seen all six, each once.
 fn all_casts<
     I: Inlet + Send + Drop,
     O: Outlet + Send + Drop,
@@ -35,20 +35,23 @@ fn all_casts<
     all_delivered(rt, ran);
 }
 
-/// Member 1 wants memory three times before it says anything.
+/// Members 1 and 2 want memory three times before they say anything; to member 2 copies are shown.
 fn counting(alloc: Global, member: u32) -> Counting {
     Counting {
         alloc,
         casts: 2,
         events: 6,
         seen: 0,
-        refusals: if member == 1 { 3 } else { 0 },
+        refusals: if member > 0 { 3 } else { 0 },
+        quick: member < 2,
     }
 }
 
 fn all_delivered<I: Drop, O: Drop, P: Drop>(rt: &impl Abort, ran: GroupReport<I, O, P, Counting>) {
     for report in ran.reports.iter() {
         has_delivered(rt, report);
+        let seen = report.talker.as_ref().map(|talker| talker.seen);
+        assert_eq!(rt; seen, Some(6));
     }
     drop(ran);
 }

@@ -178,6 +178,7 @@ pub struct Counting {
     pub seen: usize,
     /// Out of memory so often before it says anything.
     pub refusals: u32,
+    pub quick: bool,
 }
 
 impl Talker for Counting {
@@ -198,6 +199,10 @@ impl Talker for Counting {
         } else {
             Talk::Idle
         })
+    }
+
+    fn is_quick(&self) -> bool {
+        self.quick
     }
 }
 

@@ -52,6 +52,7 @@ fn sent<L: Ledger + Send + Sync, R: Threads + Wait + Clock + Abort + Sync>(
         events: 2,
         seen: 0,
         refusals: 0,
+        quick: false,
     };
     let link = (inlet(rt, alloc), Counter { casts: 0 });
     let limits = Limits { turns: 3 };

@@ -85,19 +85,36 @@ impl<'a, T: Talker, L: Ledger> Speech<'a, T, L> {
 
     /// Shows the talker the news, and does what it says. Where memory is refused it has not seen them.
     fn ask<R: Wait>(&mut self, rt: &R) -> Turn {
-        let Ok(news) = self.news(rt) else {
-            return Turn::Quiet;
+        let asked = if self.talker.is_quick() {
+            self.ask_in_place(rt)
+        } else {
+            self.ask_with_copies(rt)
         };
-        let talk = self.talker.next(&news);
-        let count = news.len();
-        self.keep_room(news);
-        match talk {
-            Ok(talk) => {
+        match asked {
+            Ok((talk, count)) => {
                 self.seen = self.seen.saturating_add(count);
                 self.follow(rt, talk)
             }
             Err(_refused) => Turn::Quiet,
         }
+    }
+
+    /// What the talker says to the news, and how many they are. The member waits for it.
+    fn ask_in_place<R: Wait>(&mut self, rt: &R) -> Result<(Talk, usize), NoMemory> {
+        let (talker, seen) = (&mut self.talker, self.seen);
+        self.desk.shared.with_state(
+            rt,
+            &mut self.seat,
+            move |member| asked(talker, news_in(member, seen)),
+        )
+    }
+
+    /// The same with copies of the news, while the member works on.
+    fn ask_with_copies<R: Wait>(&mut self, rt: &R) -> Result<(Talk, usize), NoMemory> {
+        let news = self.news(rt)?;
+        let answer = asked(&mut self.talker, &news);
+        self.keep_room(news);
+        answer
     }
 
     /// Does what the talker says.
@@ -157,13 +174,26 @@ fn to_all(bytes: Bytes) -> Outgoing {
     Outgoing { to: None, bytes }
 }
 
-/// The member's events behind the first `seen`, in a list whose own events are let go of.
-fn events_behind(room: Vec<Event>, member: &Member, seen: usize) -> Result<Vec<Event>, NoMemory>
-    ensures { IfOk result (λ news. news.items ≡ drop seen (events_in member.now)) }
+/// What the talker says to the news, and how many they are.
+fn asked<T: Talker>(talker: &mut T, news: &[Event]) -> Result<(Talk, usize), NoMemory> {
+    let talk = talker.next(news)?;
+    Ok((talk, news.len()))
+}
+
+/// The member's events behind the first `seen`.
+fn news_in(member: &Member, seen: usize) -> &[Event]
+    ensures { result.now ≡ drop seen (events_in member.now) }
 {
     let events = member.events();
     let (_, news) = events.split_at(seen.min(events.len()));
-    copies(room, news)
+    news
+}
+
+/// Copies of the same, in a list whose own events are let go of.
+fn events_behind(room: Vec<Event>, member: &Member, seen: usize) -> Result<Vec<Event>, NoMemory>
+    ensures { IfOk result (λ news. news.items ≡ drop seen (events_in member.now)) }
+{
+    copies(room, news_in(member, seen))
 }
 
 fn copies(room: Vec<Event>, events: &[Event]) -> Result<Vec<Event>, NoMemory>
