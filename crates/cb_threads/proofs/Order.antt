@@ -1,11 +1,14 @@
 -- Members of a group, one after another.
 use Rattle.std.proofs.Common.{◌≡◌, ℕ, suc, ◌+◌, List, [], ◌∷◌, ◌++◌, length, length-append, map, subst, sym, ap, ◌∙◌, arith}
 use Rattle.std.proofs.lemmas.List.{length-map, map-append}
+use Rattle.std.proofs.lemmas.List.Elements.{All-append, All-cons, All-nil}
 use Rattle.cb_history.specs.Group.{Parameters}
 use Rattle.cb_history.specs.declared.history.History.{History}
 use Rattle.cb_threads.specs.declared.report.Tally.{Tally}
 use Rattle.cb_threads.specs.declared.life.OfMember.{OfMember}
+use Rattle.cb_threads.specs.declared.report.MemberReport.{MemberReport}
 use Rattle.cb_threads.specs.Groups.{IsKept, AreKept, AreMembers}
+use Rattle.cb_threads.specs.Reports.{EachHandsBack, HandsBack}
 
 pub members_more : (group : Parameters) (me : ℕ) (ps : List OfMember) (p : OfMember) → AreMembers group me ps → p.group ≡ group → p.me ≡ me + length ps → AreMembers group me (ps ++ p ∷ [])
 members_more group me [] p all g m = (g, omega (arith, m), tt)
@@ -53,3 +56,9 @@ starts {H} promise group me size hs hs' rest rest' h p (many, all, members) e eh
       omega (arith, all, ap length e),
       subst (AreMembers group 0) (sym (ap (map promise) eh ∙ map-append promise hs (h ∷ []))) more,
     )
+
+-- one more report, which hands back what it should
+pub one_more_back : {I O P T : Type 0} (rs rs' : List (MemberReport I O P T)) (r : MemberReport I O P T) → EachHandsBack rs → HandsBack r → rs' ≡ rs ++ r ∷ [] → EachHandsBack rs'
+one_more_back {I} {O} {P} {T} rs rs' r each one is =
+    let Q : MemberReport I O P T → Type 0 = λ report. HandsBack report in
+    subst (λ (all : List (MemberReport I O P T)). EachHandsBack all) (sym is) (All-append Q rs (r ∷ []) each (All-cons Q r [] one (All-nil Q)))

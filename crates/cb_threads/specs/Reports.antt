@@ -1,8 +1,10 @@
 -- What a report says of a history, or of the receipts of seats.
-use Rattle.std.specs.Prelude.{◌≡◌, ℕ, ◌+◌, List, [], ◌∷◌, length, map}
+use Rattle.std.specs.Prelude.{◌≡◌, ℕ, ◌+◌, List, [], ◌∷◌, length, map, is_some, true, None}
+use Rattle.std.specs.List.{All}
 use Rattle.cb_history.specs.Facts.{EntryFields, CastEntry, ArriveEntry, TickEntry}
 use Rattle.cb_lock.specs.Receipts.{ReceiptFields, SeatState}
 use Rattle.cb_lock.specs.Claims.{receipts_of}
+use Rattle.cb_threads.specs.declared.report.MemberReport.{MemberReport}
 use Rattle.cb_threads.specs.declared.report.Tally.{Tally}
 use Rattle.cb_threads.specs.Counts.{held}
 
@@ -54,3 +56,19 @@ pub record Tells (entries : List EntryFields) (casts deliveries count : ℕ) : T
 
 abbrev pub IsTally : List EntryFields → Tally → Type 0
 IsTally entries tally = Tells entries tally.casts tally.deliveries tally.entries
+
+-- ---- what comes back
+
+-- the link, the pace and the talker are in the report
+pub record HandsAllBack {I O P T : Type 0} (report : MemberReport I O P T) : Type 0 where
+  pub inlet : is_some report.inlet ≡ true
+  pub outlet : is_some report.outlet ≡ true
+  pub pace : is_some report.pace ≡ true
+  pub talker : is_some report.talker ≡ true
+
+-- so where no fault is told
+abbrev pub HandsBack : {I O P T : Type 0} → MemberReport I O P T → Type 0
+HandsBack report = report.fault ≡ None → HandsAllBack report
+
+abbrev pub EachHandsBack : {I O P T : Type 0} → List (MemberReport I O P T) → Type 0
+EachHandsBack reports = All (λ r. HandsBack r) reports

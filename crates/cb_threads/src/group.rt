@@ -3,6 +3,7 @@
 ghost use Rattle.std.specs.Prelude.{◌≡◌, ◌↔◌, Decides, IfOk, Err, Some, length, map};
 ghost use Rattle.cb_threads.specs.FaultText.{group_fault_text};
 ghost use Rattle.cb_threads.specs.Groups.{IsPlan, AreKept, tally_in};
+ghost use Rattle.cb_threads.specs.Reports.{EachHandsBack};
 ghost use Rattle.cb_threads.specs.declared.group.GroupFault.TheVariants.{BadPlan};
 
 use crate::life::{LifeFault, Lives, Setting, run_lives};
@@ -83,6 +84,7 @@ pub fn run_group<
     ensures members { IfOk result (λ r. length r.histories.items ≡ group.size) }
     ensures kept { IfOk result (λ r. AreKept group 0 r.histories.items
         (map tally_in r.reports.items)) }
+    ensures parts { IfOk result (λ r. EachHandsBack r.reports.items) }
 {
     let lengths = (links.len(), paces.len(), talkers.len());
     if !is_plan(group, history_max, lengths) {
@@ -156,6 +158,7 @@ fn run_parts<
     ensures members { IfOk result (λ r. length r.histories.items ≡ plan.0.size) }
     ensures kept { IfOk result (λ r. AreKept plan.0 0 r.histories.items
         (map tally_in r.reports.items)) }
+    ensures parts { IfOk result (λ r. EachHandsBack r.reports.items) }
 {
     let stop = Stop::new();
     let talking = AtomicU64::new(u64::from(plan.0.size()));

@@ -3,6 +3,7 @@
 ghost use Rattle.std.specs.Prelude.{◌≡◌, ◌<◌, [], IfOk, IfSome, length, map};
 ghost use Rattle.cb_history.specs.Group.{Parameters};
 ghost use Rattle.cb_threads.specs.Groups.{AreKept, AreMembers, IsKept, tally_in};
+ghost use Rattle.cb_threads.specs.Reports.{EachHandsBack, HandsBack};
 
 use crate::limits::{Ending, Limits, Stop};
 use crate::link::{Inlet, Outlet};
@@ -93,7 +94,7 @@ pub struct Lives<I, O, P, T> {
     pub histories: Vec<History>,
 }
 
-/// A promise: what is kept is a legal history of this member, with its counts.
+/// A promise: what is kept is a legal history of this member, with its counts, and what its workers worked with.
 #[derive(Clone, Copy, Debug)]
 pub struct OfMember {
     pub group: Group,
@@ -102,7 +103,7 @@ pub struct OfMember {
 
 impl<I, O, P, T> Promise<Result<Kept<I, O, P, T>, LifeFault>> for OfMember {
     ghost kept_by = { λ p r. IfOk r (λ kept. IsKept p.group p.me kept.history
-        (tally_in kept.report)) };
+        (tally_in kept.report) × HandsBack kept.report) };
 }
 
 /// Runs the members, one in each thread, and waits for all of them.
@@ -121,6 +122,7 @@ pub fn run_lives<
     ensures members { IfOk result (λ r. length r.histories.items ≡ setting.now.group.size) }
     ensures kept { IfOk result (λ r. AreKept setting.now.group 0 r.histories.items
         (map tally_in r.reports.items)) }
+    ensures parts { IfOk result (λ r. EachHandsBack r.reports.items) }
 {
     thread::scope(
         thread::scope_env(),
@@ -131,6 +133,7 @@ pub fn run_lives<
                 length r.histories.items ≡ setting.entry.now.group.size) }
             ensures kept { IfOk result (λ r. AreKept setting.entry.now.group 0 r.histories.items
                 (map tally_in r.reports.items)) }
+            ensures parts { IfOk result (λ r. EachHandsBack r.reports.items) }
         { run_in(scope, rt, setting, parts) },
     )
 }
@@ -153,6 +156,7 @@ fn run_in<
     ensures members { IfOk result (λ r. length r.histories.items ≡ setting.now.group.size) }
     ensures kept { IfOk result (λ r. AreKept setting.now.group 0 r.histories.items
         (map tally_in r.reports.items)) }
+    ensures parts { IfOk result (λ r. EachHandsBack r.reports.items) }
 {
     match start_all(scope, rt, setting, parts) {
         Ok(handles) => join_all(rt, setting.alloc, handles),
@@ -232,6 +236,7 @@ fn join_all<I: Drop, O: Drop, P: Drop, T: Drop, R: Threads>(
     ensures members { IfOk result (λ r. length r.histories.items ≡ length handles.items) }
     ensures kept { (group : Parameters) → AreMembers group 0 (map (λ h. h.promise) handles.items)
         → IfOk result (λ r. AreKept group 0 r.histories.items (map tally_in r.reports.items)) }
+    ensures parts { IfOk result (λ r. EachHandsBack r.reports.items) }
 {
     let mut reports = Vec::with_capacity(alloc, handles.len())?;
     let mut histories = Vec::with_capacity(alloc, handles.len())?;
@@ -256,8 +261,9 @@ fn live<
     me: u32,
     parts: Parts<I, O, P, T>,
 ) -> Result<Kept<I, O, P, T>, LifeFault>
-    ensures { IfOk result (λ kept.
+    ensures kept { IfOk result (λ kept.
         IsKept setting.now.group me kept.history (tally_in kept.report)) }
+    ensures parts { IfOk result (λ kept. HandsBack kept.report) }
 {
     match Member::new(setting.alloc, setting.group, me, setting.history_max) {
         Ok(member) => share::<Brand, I, O, P, T, R>(rt, setting, member, parts, Blank::new(4)),
@@ -285,8 +291,9 @@ fn share<
 ) -> Result<Kept<I, O, P, T>, LifeFault>
     requires ledger { (blank.name ≡ L.name) × (blank.parts ≡ L.parts) × (blank.parts ≡ 4) }
     requires fresh { member.entries ≡ [] }
-    ensures { IfOk result (λ kept.
+    ensures kept { IfOk result (λ kept.
         IsKept member.seat.group member.seat.me kept.history (tally_in kept.report)) }
+    ensures parts { IfOk result (λ kept. HandsBack kept.report) }
 {
     let identity = member.seat();
     let (shared, seat) = SharedMember::<L>::new(setting.alloc, blank, member);
@@ -305,9 +312,11 @@ fn ended<I: Drop, O: Drop, P: Drop, T: Drop>(
     closed: Result<Closed, CloseRefusal>,
     report: MemberReport<I, O, P, T>,
 ) -> Result<Kept<I, O, P, T>, LifeFault>
-    requires { IfOk closed (λ closed. closed.member.seat ≡ identity) }
-    ensures { IfOk result (λ kept.
+    requires seat { IfOk closed (λ closed. closed.member.seat ≡ identity) }
+    requires parts { HandsBack report }
+    ensures kept { IfOk result (λ kept.
         IsKept identity.group identity.me kept.history (tally_in kept.report)) }
+    ensures parts { IfOk result (λ kept. HandsBack kept.report) }
 {
     match closed {
         Ok(Closed { member }) => Ok(keep(report, member)),
@@ -351,7 +360,9 @@ fn keep<I: Drop, O: Drop, P: Drop, T: Drop>(
     report: MemberReport<I, O, P, T>,
     member: Member,
 ) -> Kept<I, O, P, T>
-    ensures { IsKept member.seat.group member.seat.me result.history (tally_in result.report) }
+    requires { HandsBack report }
+    ensures kept { IsKept member.seat.group member.seat.me result.history (tally_in result.report) }
+    ensures parts { HandsBack result.report }
 {
     let tally = Tally::of_history(member.history());
     Kept {

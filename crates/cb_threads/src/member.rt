@@ -3,7 +3,7 @@
 ghost use Rattle.std.specs.Prelude.{◌≡◌, ◌≢◌, ◌+◌, ◌<◌, ◌≤◌, MatchOption, None, Some};
 ghost use Rattle.std.specs.Vec.{vec_capacity, vec_len};
 ghost use Rattle.cb_threads.specs.Counts.{MetAtMost};
-ghost use Rattle.cb_threads.specs.Reports.{Tells, entries_in};
+ghost use Rattle.cb_threads.specs.Reports.{HandsBack, Tells, entries_in};
 
 use crate::limits::{Ending, Limits, Stop};
 use crate::link::{Inlet, Outlet};
@@ -45,6 +45,7 @@ pub fn run_member<
     limits: Limits,
 ) -> (MemberReport<I, O, P, T>, Vec<Seat<L>>)
     ensures seats { result.0.fault ≡ None → vec_len result.1 ≡ 4 }
+    ensures parts { HandsBack result.0 }
     ensures counts { Tells (entries_in result.1.items) result.0.casts result.0.deliveries
         result.0.entries }
     ensures inlet { MatchOption result.0.inlet (result.0.receive_failures ≡ 0)
@@ -99,6 +100,7 @@ pub fn run_shared<
     parts: Parts<I, O, P, T>,
 ) -> (MemberReport<I, O, P, T>, Vec<Seat<L>>)
     ensures seats { result.0.fault ≡ None → vec_len result.1 ≡ 4 }
+    ensures parts { HandsBack result.0 }
     ensures inlet { MatchOption result.0.inlet (result.0.receive_failures ≡ 0)
         (λ inlet. MetAtMost result.0.receive_failures (I.failed parts.inlet) (I.failed inlet)) }
     ensures outlet { MatchOption result.0.outlet (result.0.send_failures ≡ 0)
@@ -183,6 +185,7 @@ fn reported<I, O, P, T, L: Ledger>(
     requires room { 4 ≤ vec_capacity seats }
     requires empty { vec_len seats ≡ 0 }
     ensures seats { result.0.fault ≡ None → vec_len result.1 ≡ 4 }
+    ensures parts { HandsBack result.0 }
     ensures inlet { MatchOption ended.received
         ((result.0.inlet ≡ None) × (result.0.receive_failures ≡ 0))
         (λ w. (result.0.inlet ≡ Some w.part) × (result.0.receive_failures ≡ w.failures)) }

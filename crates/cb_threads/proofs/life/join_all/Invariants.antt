@@ -1,11 +1,15 @@
 use Rattle.std.proofs.Common.{◌≡◌, ◌+◌, length, map}
 use Rattle.cb_history.specs.Group.{Parameters}
 use Rattle.cb_threads.specs.Groups.{AreKept, AreMembers, tally_in}
+use Rattle.cb_threads.specs.Reports.{EachHandsBack}
 use Rattle.cb_threads.proofs.life.join_all.Given as goal
 
 -- the first members' lives are kept, and the others are to come
 abbrev pub invariant-loop-handle : goal.invariant-loop-handle
 invariant-loop-handle g l =
-    (length l.histories.items + length l.handle-iterator.rest.items ≡ length l.fn.handles.items)
-    × ((group : Parameters) → AreMembers group 0 (map (λ h. h.promise) l.fn.handles.items)
-    → AreKept group 0 l.histories.items (map tally_in l.reports.items) × AreMembers group (length l.histories.items) (map (λ h. h.promise) l.handle-iterator.rest.items))
+    record {
+      kept : (length l.histories.items + length l.handle-iterator.rest.items ≡ length l.fn.handles.items)
+          × ((group : Parameters) → AreMembers group 0 (map (λ h. h.promise) l.fn.handles.items)
+          → AreKept group 0 l.histories.items (map tally_in l.reports.items) × AreMembers group (length l.histories.items) (map (λ h. h.promise) l.handle-iterator.rest.items));
+      parts : EachHandsBack l.reports.items;
+    }
