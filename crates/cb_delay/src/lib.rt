@@ -9,5 +9,5 @@ mod message;
 mod queue;
 
 pub use cb_times::Name;
-pub use message::{Event, Message};
+pub use message::{Event, Message, is_ready};
 pub use queue::DelayQueue;

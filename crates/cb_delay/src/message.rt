@@ -1,7 +1,7 @@
 //! A message of the group, with the name and the time that its sender gave it, and what a member does with it.
 //!
 //! Birman, Schiper and Stephenson 1991, section 5.
-ghost use Rattle.std.specs.Prelude.{◌≡◌, ◌↔◌, IfOk, IsTrue, length};
+ghost use Rattle.std.specs.Prelude.{◌≡◌, ◌<◌, ◌↔◌, IfOk, IsTrue, length};
 ghost use Rattle.cb_times.specs.Order.{field};
 ghost use Rattle.cb_delay.specs.Message.{IsOfGroup};
 ghost use Rattle.cb_delay.specs.Rule.{IsReady};
@@ -21,27 +21,13 @@ pub struct Message {
 }
 
 impl Message {
-    /// Whether the message may be delivered where so much of each member is delivered: it is its sender's next one, and its sender had
-    /// delivered nothing that is missing. Both times are of one group.
+    /// Whether the message may be delivered where so much of each member is delivered, as `is_ready` has it. Both times are of one group.
     pub fn is_ready(&self, now: &VectorTime) -> bool
         requires { IsOfGroup (length now.now) self.now }
         ensures { IsTrue result
             ↔ IsReady self.now.name.sender (field self.now.time) (field now.now) }
     {
-        let sender = self.name.sender;
-        let (stamps, counts) = (self.time.as_slice(), now.as_slice());
-        for k in 0..now.size() {
-            let (stamp, count) = (stamps[k as usize], counts[k as usize]);
-            let in_time = if k == sender {
-                count.checked_add(1) == Some(stamp)
-            } else {
-                stamp <= count
-            };
-            if !in_time {
-                return false;
-            }
-        }
-        true
+        is_ready(self.name.sender, &self.time, now)
     }
 
     /// The same message once more.
@@ -54,6 +40,28 @@ impl Message {
             payload: self.payload.clone()?,
         })
     }
+}
+
+/// Whether a message of this sender with this time may be delivered where so much of each member is delivered: it is its sender's next
+/// one, and its sender had delivered nothing that is missing. Both times are of one group.
+pub fn is_ready(sender: u32, time: &VectorTime, now: &VectorTime) -> bool
+    requires sender { sender < length now.now }
+    requires time { length time.now ≡ length now.now }
+    ensures { IsTrue result ↔ IsReady sender (field time.now) (field now.now) }
+{
+    let (stamps, counts) = (time.as_slice(), now.as_slice());
+    for k in 0..now.size() {
+        let (stamp, count) = (stamps[k as usize], counts[k as usize]);
+        let in_time = if k == sender {
+            count.checked_add(1) == Some(stamp)
+        } else {
+            stamp <= count
+        };
+        if !in_time {
+            return false;
+        }
+    }
+    true
 }
 
 /// What a member did with a message.

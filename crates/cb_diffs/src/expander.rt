@@ -5,7 +5,7 @@ ghost use Rattle.std.specs.List.{AllByRecursion};
 ghost use Rattle.cb_times.specs.Group.{IsGroupSize};
 ghost use Rattle.cb_times.specs.Time.{IsTime};
 ghost use Rattle.cb_frames.specs.Fields.{cast_fields};
-ghost use Rattle.cb_diffs.specs.Expansion.{AreMembers, IsGrown, IsNext, IsNotNext, IsStrange, Expands};
+ghost use Rattle.cb_diffs.specs.Expansion.{AreMembers, IsGrown, IsNext, IsNotNext, IsStrange, Expands, time_of};
 ghost use Rattle.cb_diffs.specs.FaultText.{expand_fault_text};
 ghost use Rattle.cb_diffs.specs.declared.expander.ExpandFault.TheVariants.{NoMemory as OutOfMemory};
 
@@ -148,10 +148,30 @@ impl Expander {
         ensures expands { Expands self.old (cast_fields cast.now) into.new self.new }
         ensures size { length into.new ≡ length self.new }
     {
-        let sender = cast.sender as usize;
-        into.copy_from(&self.times[sender]);
+        self.look_ahead(cast, into);
+        self.take(cast, into);
+    }
+
+    /// Makes `into` the time of the sender's next cast, which is not taken by that: `take` does it.
+    ///
+    /// A copy of any time of the group will do for `into`.
+    pub fn look_ahead(&self, cast: &Cast, into: &mut VectorTime)
+        requires next { IsNext self.now (cast_fields cast.now) }
+        requires size { length into.old ≡ length self.now }
+        ensures grown { IsGrown (time_of self.now cast.now.sender) (cast_fields cast.now) into.new }
+        ensures size { length into.new ≡ length self.now }
+    {
+        into.copy_from(&self.times[cast.sender as usize]);
         grow(into, cast);
-        self.times[sender].copy_from(into);
+    }
+
+    /// Takes the sender's next cast, whose time was looked at: it is as if it were expanded.
+    pub fn take(&mut self, cast: &Cast, time: &VectorTime)
+        requires next { IsNext self.old (cast_fields cast.now) }
+        requires grown { IsGrown (time_of self.old cast.now.sender) (cast_fields cast.now) time.now }
+        ensures { Expands self.old (cast_fields cast.now) time.now self.new }
+    {
+        self.times[cast.sender as usize].copy_from(time);
     }
 }
 

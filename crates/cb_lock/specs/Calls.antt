@@ -1,5 +1,7 @@
 -- What the calls of a member under a lock answer and leave.
-use Rattle.std.specs.Prelude.{◌≡◌, ◌⊎◌, ℕ, ◌+◌, ◌≤◌, List, [], ◌∷◌, length, map, Option, Some, None, Result, Err, IfOk, IfErr, OnErr, if◌then◌else◌}
+use Rattle.std.specs.Prelude.{◌≡◌, ◌⊎◌, ℕ, ◌+◌, ◌≤◌, List, [], ◌∷◌, length, map, Option, Some, None, Result, Err, IfOk, IfErr, OnErr, OnOk, if◌then◌else◌}
+use Rattle.std.specs.declared.vec.Vec.{Vec}
+use Rattle.std.specs.declared.alloc.Global.{Global}
 use Rattle.cb_history.specs.declared.answer.CastDone.{CastDone}
 use Rattle.cb_history.specs.declared.answer.CastRefusal.{CastRefusal}
 use Rattle.cb_history.specs.declared.answer.CastRefusal.TheVariants as casts
@@ -13,6 +15,7 @@ use Rattle.cb_history.specs.declared.answer.TickRefusal.{TickRefusal}
 use Rattle.cb_history.specs.Facts.{EntryFields, CastEntry, ArriveEntry, TickEntry}
 use Rattle.cb_history.specs.Legal.{ToCast, ToTake, ToTick}
 use Rattle.cb_history.specs.State.{MemberState, IsMemberState, HasCast, HasTaken, HasTicked, RefusesTick, answer_to_cast, answer_to_arrival, entry_by, state_after}
+use Rattle.cb_member.specs.AtOnce.{HasTakenToSend}
 use Rattle.cb_lock.specs.Receipts.{SeatState, and_claim}
 
 -- ---- the entry that an answer tells of, where it tells of one
@@ -69,6 +72,13 @@ pub record ArrivesOn (m : MemberState) (old new : SeatState) (bytes : List ℕ) 
   pub refused : IfErr result (MayRefuseArrival m bytes)
   pub receipt : IfOk result (λ arrival. new ≡ and_receipt old m (told_by_arrival bytes arrival))
   pub entry : IfOk result (λ arrival. entry_by m (ToTake bytes) ≡ told_by_arrival bytes arrival)
+  pub none : OnErr result (new ≡ old)
+
+-- The same where only what is to be sent is told: the receipt is of the entry that the definition adds.
+pub record ReceivesOn (m : MemberState) (old new : SeatState) (bytes : List ℕ) (result : Result (Vec Outgoing Global) ArriveRefusal) : Type 0 where
+  pub taken : IfOk result (λ out. HasTakenToSend m (state_after m (ToTake bytes)) bytes out.items)
+  pub refused : IfErr result (MayRefuseArrival m bytes)
+  pub receipt : OnOk result (new ≡ and_receipt old m (entry_by m (ToTake bytes)))
   pub none : OnErr result (new ≡ old)
 
 pub record TicksOn (m : MemberState) (old new : SeatState) (result : Result Ticked TickRefusal) : Type 0 where

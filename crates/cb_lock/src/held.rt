@@ -1,17 +1,18 @@
 //! What the lock of a shared member keeps.
 
-ghost use Rattle.std.specs.Prelude.{◌≡◌, ◌+◌, ◌≤◌, ◌<◌, [], IfOk, IfErr, OnErr, length, map, option_map};
+ghost use Rattle.std.specs.Prelude.{◌≡◌, ◌+◌, ◌≤◌, ◌<◌, [], IfOk, IfErr, OnErr, OnOk, length, map, option_map};
 ghost use Rattle.std.specs.Vec.{vec_capacity, vec_len};
 ghost use Rattle.cb_history.specs.Legal.{ToCast, ToTake, ToTick};
 ghost use Rattle.cb_history.specs.State.{IsMemberState, HasCast, HasTaken, HasTicked, entry_by};
 ghost use Rattle.cb_history.specs.Facts.{entry_fields};
+ghost use Rattle.cb_member.specs.AtOnce.{HasTakenToSend};
 ghost use Rattle.cb_lock.specs.Receipts.{receipt_fields, and_claim, entered};
 ghost use Rattle.cb_lock.specs.Calls.{MayRefuseCast, MayRefuseArrival, MayRefuseTick, and_receipt, told_by_cast, told_by_arrival, told_by_tick};
 
 use crate::seat::{Receipt, Seat};
 use bytes::Bytes;
 use cb_member::{
-    Arrival, ArriveRefusal, CastDone, CastRefusal, Entry, Member, TickRefusal, Ticked,
+    Arrival, ArriveRefusal, CastDone, CastRefusal, Entry, Member, Outgoing, TickRefusal, Ticked,
 };
 use cb_times::make_room;
 use std::alloc::Global;
@@ -102,6 +103,33 @@ impl<L: Ledger> Held<L> {
         let (arrival, noted) = member.arrive_noted(bytes)?;
         enter(member, book, receipts, share, noted);
         Ok(arrival)
+    }
+
+    /// Takes bytes that came as `arrive` does, and tells only what is to be sent. The deliveries stand among the member's events.
+    ///
+    /// `NoMemory` may stand in place of any refusal. After a refusal the member and the seat are as they were.
+    pub fn receive(
+        &mut self,
+        seat: &mut Seat<L>,
+        bytes: Bytes,
+    ) -> Result<Vec<Outgoing>, ArriveRefusal>
+        ensures taken { IfOk result (λ out. HasTakenToSend self.old self.new bytes out.items) }
+        ensures refused { IfErr result (MayRefuseArrival self.old bytes) }
+        ensures same { OnErr result (self.new ≡ self.old) }
+        ensures receipt { OnOk result (seat.new
+            ≡ and_receipt seat.old self.old (entry_by self.old (ToTake bytes))) }
+        ensures none { OnErr result (seat.new ≡ seat.old) }
+        ensures parts { seat.new.parts ≡ seat.old.parts }
+        ensures covered { length seat.old.receipts ≤ length self.old.entries }
+        ensures legal { IsMemberState self.old }
+    {
+        let Held { member, book } = self;
+        let Seat { receipts, share } = seat;
+        book.audit(share);
+        make_room(receipts, 1)?;
+        let (out, noted) = member.receive_noted(bytes)?;
+        enter(member, book, receipts, share, noted);
+        Ok(out)
     }
 
     /// Tells the status, as the member does, and appends a receipt to the seat where the status is an entry.

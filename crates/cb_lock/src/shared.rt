@@ -2,7 +2,7 @@
 
 ghost use Rattle.std.specs.Prelude.{◌≡◌, ◌+◌, ◌<◌, ◌≤◌, ◌↔◌, [], IfOk, IfErr, length};
 ghost use Rattle.std.specs.Fn.{FnOnceTakesAt, FnOnceReturnsAt};
-ghost use Rattle.cb_lock.specs.Calls.{CoversReceipts, OnSome, CastsOn, ArrivesOn, TicksOn};
+ghost use Rattle.cb_lock.specs.Calls.{CoversReceipts, OnSome, CastsOn, ArrivesOn, ReceivesOn, TicksOn};
 ghost use Rattle.cb_lock.specs.Closing.{IsFault, IsClosed};
 
 use crate::closing::{CloseFault, CloseRefusal, Closed, fault_of};
@@ -10,7 +10,8 @@ use crate::held::Held;
 use crate::seat::Seat;
 use bytes::Bytes;
 use cb_member::{
-    Arrival, ArriveRefusal, CastDone, CastRefusal, Member, Seat as Identity, TickRefusal, Ticked,
+    Arrival, ArriveRefusal, CastDone, CastRefusal, Member, Outgoing, Seat as Identity, TickRefusal,
+    Ticked,
 };
 use std::alloc::Global;
 use std::sync::ledger::{Blank, Ledger};
@@ -67,6 +68,20 @@ impl<L: Ledger> SharedMember<L> {
         ensures parts { seat.new.parts ≡ seat.old.parts }
     {
         self.held.lock(rt).arrive(seat, bytes)
+    }
+
+    /// Takes bytes that came as `arrive` does, and tells only what is to be sent: for a caller that reads the deliveries among the
+    /// member's events. It costs less, since no message is made twice, and the bytes go into the receipt.
+    pub fn receive(
+        &self,
+        rt: &impl Wait,
+        seat: &mut Seat<L>,
+        bytes: Bytes,
+    ) -> Result<Vec<Outgoing>, ArriveRefusal>
+        ensures answer { OnSome seat.old (λ m. ReceivesOn m seat.old seat.new bytes result) }
+        ensures parts { seat.new.parts ≡ seat.old.parts }
+    {
+        self.held.lock(rt).receive(seat, bytes)
     }
 
     /// Tells the status, as the member does, and appends a receipt to the seat where the status is an entry.

@@ -1,5 +1,5 @@
 -- A cast of another member that is accepted, and what is kept of it.
-use Rattle.std.proofs.Common.{◌≡◌, ℕ, ◌+◌, true, List, [], ◌∷◌, ◌++◌, map, Option, Some, None, Ok, refl, sym, ap, subst, ◌∙◌, arith}
+use Rattle.std.proofs.Common.{◌≡◌, ℕ, ◌+◌, ◌<◌, true, List, [], ◌∷◌, ◌++◌, length, map, Option, Some, None, Ok, refl, sym, ap, subst, ◌∙◌, arith}
 use Rattle.std.specs.Prelude.{option_map}
 use Rattle.std.specs.List.{All}
 use Rattle.std.specs.declared.vec.Vec.{Vec}
@@ -12,12 +12,13 @@ use Rattle.cb_frames.specs.Reading.{frame_at}
 use Rattle.cb_delay.specs.declared.message.Message.{Message}
 use Rattle.cb_history.specs.declared.history.Entry.{Entry}
 use Rattle.cb_history.specs.declared.answer.Arrival.{Arrival}
+use Rattle.cb_history.specs.declared.answer.Outgoing.{Outgoing}
 use Rattle.cb_history.specs.Group.{Seat}
 use Rattle.cb_history.specs.Facts.{ArriveEntry, EntryFields, Fact, CastCame, arrival_said, casts_in, entry_fields, facts_of, said_by}
 use Rattle.cb_history.specs.Answers.{ArrivalSays, Accepted, Repeat, arrival_says, deliveries}
 use Rattle.cb_history.specs.Legal.{ToTake, arrive_entry}
 use Rattle.cb_history.specs.LegalFacts.{AreFactsOf}
-use Rattle.cb_history.specs.State.{IsMemberState, HasTaken, answer_to_arrival, entry_by, state_of}
+use Rattle.cb_history.specs.State.{IsMemberState, HasTaken, answer_to_arrival, entry_by, state_after, state_of}
 use Rattle.cb_member.specs.declared.delivery.Delivery.{Delivery}
 use Rattle.cb_member.specs.declared.reception.Reception.{Reception}
 use Rattle.cb_member.specs.declared.reception.Spare.{Spare}
@@ -27,7 +28,8 @@ use Rattle.cb_member.specs.Knowledge.{KnowsFacts}
 use Rattle.cb_member.specs.Sending.{HasSent}
 use Rattle.cb_member.specs.Store.{HasDelivered, Keeps, HasRoomFor, IsKept, IsSameWithRoom, held_by, facts_held}
 use Rattle.cb_member.specs.Taking.{CanKeep}
-use Rattle.cb_member.specs.Arriving.{CanTake, CanDeliver, EntersArrival, answer_to_frame, facts_with, expanded_by, waiting_with}
+use Rattle.cb_member.specs.Arriving.{CanTake, CanDeliver, EntersNames, answer_to_frame, facts_with, expanded_by, waiting_with}
+use Rattle.cb_member.specs.AtOnce.{HasTakenToSend}
 use Rattle.cb_member.proofs.Answering.{answered}
 use Rattle.cb_member.proofs.Entering.{after_entry, after_none, state_with_entry, facts_with_entry}
 
@@ -62,6 +64,25 @@ kept_with_room seat limit old new same k = record {
   keeps = subst (λ (fs : List Fact). Keeps seat fs new) (sym (same_facts old new same)) (keeps_with_room seat (facts_held old) old new same k.keeps);
 }
 
+pub same_store : (store : Store) → IsSameWithRoom store store
+same_store store = record { entries = refl; events = refl; delivery = refl; spares = refl; reception = refl; knowledge = refl; sending = refl }
+
+can_keep_with_room : (c : CastFields) (old new : Store) → IsSameWithRoom old new → CanKeep (field old.delivery.time c.sender) c old.reception → CanKeep (field new.delivery.time c.sender) c new.reception
+can_keep_with_room c old new same can =
+    subst (λ (r : Reception). CanKeep (field new.delivery.time c.sender) c r) (sym same.reception)
+    (subst (λ (d : Delivery). CanKeep (field d.time c.sender) c (record old.reception { spares = new.reception.spares })) (sym same.delivery)
+    (record { buffer = can.buffer; at = can.at; upto_taken = can.upto_taken; is_kept = can.is_kept }))
+
+pub can_take_with_room : (seat : Seat) (limit : ℕ) (c : CastFields) (old new : Store) → IsSameWithRoom old new → CanTake seat limit old c → CanTake seat limit new c
+can_take_with_room seat limit c old new same can = record {
+  legal = subst (λ (fs : List Fact). AreFactsOf seat (fs ++ CastCame c ∷ [])) (sym (same_facts old new same)) can.legal;
+  member = can.member;
+  other = can.other;
+  can_keep = can_keep_with_room c old new same can.can_keep;
+  room = subst (λ (es : List Entry). length es < limit) (sym same.entries) can.room;
+  answer = subst (λ (es : List Entry). answer_to_frame (state_of seat limit es) (CastFrame c) ≡ Ok (Accepted (deliveries seat (facts_of (map entry_fields es)) (CastFrame c)) true [])) (sym same.entries) can.answer;
+}
+
 same_waiting : (c : CastFields) (old new : Store) → IsSameWithRoom old new → waiting_with new c ≡ waiting_with old c
 same_waiting c old new same =
     ap (λ (d : Delivery). fin.len d.queue.held + expanded_by (facts_held new) c) same.delivery
@@ -75,9 +96,7 @@ can_deliver seat limit c spare old new k can same room for =
       legal = subst (λ (fs : List Fact). AreFactsOf seat (fs ++ CastCame c ∷ [])) (sym facts) can.legal;
       keeps = (kept_with_room seat limit old new same k).keeps;
       other = can.other;
-      can_keep = subst (λ (r : Reception). CanKeep (field new.delivery.time c.sender) c r) (sym same.reception)
-          (subst (λ (d : Delivery). CanKeep (field d.time c.sender) c (record old.reception { spares = new.reception.spares })) (sym same.delivery)
-          (record { buffer = can.can_keep.buffer; at = can.can_keep.at; upto_taken = can.can_keep.upto_taken; is_kept = can.can_keep.is_kept }));
+      can_keep = can_keep_with_room c old new same can.can_keep;
       spare_for = for;
       place = room.spares;
       events = let waiting = same_waiting c old new same in omega (arith, room.events_fit, waiting);
@@ -85,7 +104,7 @@ can_deliver seat limit c spare old new k can same room for =
 
 -- ---- the entry
 
-pub record Accepts (seat : Seat) (limit : ℕ) (bytes : List ℕ) (c : CastFields) (old mid after new : Store) (messages : List Message) (noted : Arrival × Option Entry) : Type 0 where
+pub record Accepts (seat : Seat) (limit : ℕ) (bytes : List ℕ) (c : CastFields) (old mid after new : Store) (messages : List Message) : Type 0 where
   pub kept : IsKept seat limit old
   pub bytes_are : IsBytes bytes
   pub can : CanTake seat limit old c
@@ -94,9 +113,9 @@ pub record Accepts (seat : Seat) (limit : ℕ) (bytes : List ℕ) (c : CastField
   pub keeps : Keeps seat (facts_with c mid) after
   pub entries : after.entries ≡ mid.entries
   pub messages_are : messages ≡ deliveries seat (facts_held mid) (CastFrame c)
-  pub entered : EntersArrival bytes messages after new noted
+  pub entered : EntersNames bytes messages after new
 
-module _ (seat : Seat) (limit : ℕ) (bytes : List ℕ) (c : CastFields) (old mid after new : Store) (messages : List Message) (noted : Arrival × Option Entry) (a : Accepts seat limit bytes c old mid after new messages noted) where
+module _ (seat : Seat) (limit : ℕ) (bytes : List ℕ) (c : CastFields) (old mid after new : Store) (messages : List Message) (a : Accepts seat limit bytes c old mid after new messages) where
   delivered_are : messages ≡ deliveries seat (facts_held old) (CastFrame c)
   delivered_are = a.messages_are ∙ ap (λ (fs : List Fact). deliveries seat fs (CastFrame c)) (same_facts old mid a.same)
 
@@ -125,14 +144,17 @@ module _ (seat : Seat) (limit : ℕ) (bytes : List ℕ) (c : CastFields) (old mi
         (subst (Keeps seat (facts_with c mid)) (sym a.entered.rest) (record { delivered = a.keeps.delivered; received = a.keeps.received; knows = a.keeps.knows; sent = a.keeps.sent })));
   }
 
-  pub accepted_taken : HasTaken (held_by seat limit old) (held_by seat limit new) bytes noted.0
-  accepted_taken = record {
-    answer = says ∙ ap (λ (s : ArrivalSays). Ok s) (sym a.entered.says);
-    after = after_entry seat limit old new (ToTake bytes) a.entered.entry by_entry added;
-  }
+  after_it : held_by seat limit new ≡ state_after (held_by seat limit old) (ToTake bytes)
+  after_it = after_entry seat limit old new (ToTake bytes) a.entered.entry by_entry added
 
-  pub accepted_entry : entry_by (held_by seat limit old) (ToTake bytes) ≡ option_map entry_fields noted.1
-  accepted_entry = by_arrival ∙ sym a.entered.copy
+  pub accepted_taken : (arrival : Arrival) → arrival_says arrival ≡ Accepted messages true [] → HasTaken (held_by seat limit old) (held_by seat limit new) bytes arrival
+  accepted_taken arrival is = record { answer = says ∙ ap (λ (s : ArrivalSays). Ok s) (sym is); after = after_it }
+
+  pub accepted_to_send : (out : List Outgoing) → out ≡ [] → HasTakenToSend (held_by seat limit old) (held_by seat limit new) bytes out
+  accepted_to_send out none = record { says = Accepted messages true []; answer = says; sends = none; after = after_it }
+
+  pub accepted_entry : (noted : Option Entry) → option_map entry_fields noted ≡ Some (ArriveEntry bytes (map (λ m. m.name) messages)) → entry_by (held_by seat limit old) (ToTake bytes) ≡ option_map entry_fields noted
+  accepted_entry noted copy = by_arrival ∙ sym copy
 
 -- ---- a repeat
 
@@ -144,6 +166,12 @@ repeat_taken seat limit bytes c store arrival read is says =
       answer = answer ∙ ap (λ (s : ArrivalSays). Ok s) (sym says);
       after = after_none seat limit store store (ToTake bytes) (ap (arrive_entry bytes) answer) refl;
     }
+
+pub repeat_to_send : (seat : Seat) (limit : ℕ) (bytes : List ℕ) (c : CastFields) (store : Store) (out : List Outgoing) → frame_at bytes ≡ Ok (CastFrame c) → answer_to_frame (held_by seat limit store) (CastFrame c) ≡ Ok Repeat → out ≡ []
+    → HasTakenToSend (held_by seat limit store) (held_by seat limit store) bytes out
+repeat_to_send seat limit bytes c store out read is none =
+    let answer = answered seat limit store bytes (CastFrame c) read ∙ is in
+    record { says = Repeat; answer = answer; sends = none; after = after_none seat limit store store (ToTake bytes) (ap (arrive_entry bytes) answer) refl }
 
 pub repeat_entry : (seat : Seat) (limit : ℕ) (bytes : List ℕ) (c : CastFields) (store : Store) → frame_at bytes ≡ Ok (CastFrame c) → answer_to_frame (held_by seat limit store) (CastFrame c) ≡ Ok Repeat
     → entry_by (held_by seat limit store) (ToTake bytes) ≡ None

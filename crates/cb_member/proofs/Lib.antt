@@ -17,5 +17,6 @@ pub mod Acknowledging
 pub mod Arriving
 pub mod JudgingCasts
 pub mod Accepting
+pub mod AtOnce
 pub mod Answering
 pub mod Hearing

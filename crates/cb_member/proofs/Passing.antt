@@ -8,10 +8,11 @@ use Rattle.std.specs.List.Sorted.{IsPermutation}
 use Rattle.std.proofs.lemmas.Bool.{eq-eqb}
 use Rattle.std.proofs.lemmas.List.{length-set, get_or-set_same}
 use Rattle.std.proofs.lemmas.List.Sorted.{IsPermutation-append_comm}
+use Rattle.std.proofs.lemmas.List.FromFn.{length-map-range_with_len}
 use Rattle.std.proofs.lemmas.Option.{slice_get_within, slice_get-get_or}
 use Rattle.cb_frames.specs.Fields.{CastFields, first_number}
 use Rattle.cb_delay.specs.declared.message.Message.{Message}
-use Rattle.cb_diffs.specs.Expansion.{IsNext as IsNextCast}
+use Rattle.cb_diffs.specs.Expansion.{IsNext as IsNextCast, expanded_field}
 use Rattle.cb_gaps.specs.declared.buffer.Admission.TheVariants.{Kept}
 use Rattle.cb_gaps.specs.Buffer.{Buffer, Admits}
 use Rattle.cb_gaps.proofs.Passing.{with_cast, is_not_kept, passing_is_next, passing_takes}
@@ -161,6 +162,11 @@ module _ (c : CastFields) (spare : Spare) (old : Store) (known : Knowledge) (rec
     copy_has = copy_has_turn c.sender begun reception messages is_taking passes.expands;
     fits = time_fits old.delivery (record { size = seat.group.size; casts = casts_in facts; seen = view seat.group.size facts; waits = keeps.delivered.waits });
   }
+
+  pub passing_is_long : length messages.0.time ≡ seat.group.size
+  passing_is_long =
+      let told = expanded_then seat facts c (expanded_count (casts_in facts) c.sender) c.sender begun reception messages refl takes_first passes.expands in
+      ap (λ (m : Message). length m.time) told.message ∙ length-map-range_with_len (expanded_field (casts_in (facts ++ CastCame c ∷ [])) told.carried.sender told.carried.number) 0 seat.group.size
 
   -- one more of the sender's is expanded by it
   pub passing_expands_one : expanded_by facts c ≡ 1

@@ -109,11 +109,15 @@ pub record CanDeliver (seat : Seat) (c : CastFields) (spare : Spare) (store : St
   pub place : vec_len store.reception.spares + 1 ≤ vec_capacity store.reception.spares
   pub events : vec_len store.delivery.events + waiting_with store c ≤ vec_capacity store.delivery.events
 
--- the entry of the arrival, with the names of what it delivered, joined the history, and a copy of it is handed out
-pub record EntersArrival (bytes : List ℕ) (messages : List Message) (old new : Store) (noted : Arrival × Option Entry) : Type 0 where
+-- the entry of the arrival, with the names of what it delivered, joined the history
+pub record EntersNames (bytes : List ℕ) (messages : List Message) (old new : Store) : Type 0 where
   pub entry : Entry
   pub fields : entry_fields entry ≡ ArriveEntry bytes (map (λ m. m.name) messages)
   pub added : new.entries.items ≡ old.entries.items ++ entry ∷ []
   pub rest : new ≡ record old { entries = new.entries }
+
+-- so it did, and a copy of it is handed out with the answer
+pub record EntersArrival (bytes : List ℕ) (messages : List Message) (old new : Store) (noted : Arrival × Option Entry) : Type 0 where
+  pub enters : EntersNames bytes messages old new
   pub says : arrival_says noted.0 ≡ Accepted messages true []
   pub copy : option_map entry_fields noted.1 ≡ Some (ArriveEntry bytes (map (λ m. m.name) messages))

@@ -7,6 +7,7 @@ pub mod Casting
 pub mod Taking
 pub mod Passing
 pub mod Arriving
+pub mod AtOnce
 pub mod Telling
 pub mod Answering
 pub mod Hearing

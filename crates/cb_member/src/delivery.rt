@@ -6,6 +6,7 @@ ghost use Rattle.std.specs.Vec.{vec_capacity, vec_len};
 ghost use Rattle.cb_times.specs.Group.{IsGroupSize, IsWindow};
 ghost use Rattle.cb_delay.specs.Message.{IsOfGroup};
 ghost use Rattle.cb_delay.specs.Queue.{Holds, IsDelayQueue};
+ghost use Rattle.cb_member.specs.AtOnce.{NoneWaits};
 ghost use Rattle.cb_member.specs.Passing.{HaveTurn, IsWaitingWith, IsAlone, PutsThrough};
 ghost use Rattle.cb_member.specs.Taking.{HasTurn};
 ghost use Rattle.cb_member.specs.Delivery.{IsNewDelivery, IsWaiting, DeliversNext, HasNoNext, Drains};
@@ -88,10 +89,28 @@ impl Delivery {
         ensures queue { IsDelayQueue self.now.queue }
         ensures of_group { IsOfGroup (length self.now.time) message.now }
     {
-        if self.queue.len() > 0 {
-            return false;
-        }
-        self.copies.len() == 0 && message.is_ready(&self.time)
+        self.is_empty() && message.is_ready(&self.time)
+    }
+
+    /// Nothing waits.
+    pub fn is_empty(&self) -> bool
+        ensures none { result ≡ true → NoneWaits self.now }
+        ensures queue { IsDelayQueue self.now.queue }
+    {
+        self.queue.len() == 0 && self.copies.len() == 0
+    }
+
+    /// Delivers a message that may be delivered, where nothing waits. It is as if the message and a copy of it were held first.
+    pub fn deliver_at_once(&mut self, message: Message)
+        requires alone { IsAlone message self.old }
+        requires fits { length message.time ≡ length self.old.time }
+        requires room { vec_len self.old.events + 1 ≤ vec_capacity self.old.events }
+        ensures { PutsThrough message message self.old self.new [] (message ∷ []) }
+    {
+        // asked for what is true of every queue
+        let _window = self.queue.window();
+        self.time.raise(&message.time);
+        push_within(&mut self.events, Event::Deliver(message));
     }
 
     /// Delivers as long as a message is ready. The deliveries and the events have room for all messages that wait.

@@ -6,6 +6,7 @@ ghost use Rattle.cb_history.specs.Legal.{longest_history, ToCast, ToTake, ToTick
 ghost use Rattle.cb_history.specs.Facts.{entry_fields};
 ghost use Rattle.cb_history.specs.Known.{ranges_of};
 ghost use Rattle.cb_history.specs.State.{IsMemberState, state_of, time_in, events_in, stable_in, missing_in, entry_by, HasCast, HasTaken, RefusesArrival, HasTicked, RefusesTick};
+ghost use Rattle.cb_member.specs.AtOnce.{HasTakenToSend};
 ghost use Rattle.cb_member.specs.Casting.{RefusesExactly};
 
 use crate::store::Store;
@@ -14,7 +15,7 @@ use bytes::Bytes;
 use cb_frames::Range;
 use cb_history::{
     Arrival, ArriveRefusal, CastDone, CastRefusal, Entry, Event, Group, GroupMember, History,
-    LONGEST_HISTORY, MissingFault, NewFault, Seat, TickRefusal, Ticked,
+    LONGEST_HISTORY, MissingFault, NewFault, Outgoing, Seat, TickRefusal, Ticked,
 };
 use cb_times::{NoMemory, VectorTime};
 use std::alloc::Global;
@@ -178,6 +179,22 @@ impl Member {
         ensures same { OnErr result (self.new ≡ self.old) }
     {
         arrival::answer(self.seat, self.limit, &mut self.store, bytes)
+    }
+
+    /// Takes bytes that came as `arrive_noted` does, for a caller that reads the deliveries among the events: only what is to be sent
+    /// comes with the copy of the entry. It costs less, since no message is made twice and the bytes go into the copy.
+    pub fn receive_noted(
+        &mut self,
+        bytes: Bytes,
+    ) -> Result<(Vec<Outgoing>, Option<Entry>), ArriveRefusal>
+        ensures taken { IfOk result (λ noted.
+            HasTakenToSend self.old self.new bytes noted.0.items) }
+        ensures entry { IfOk result (λ noted. entry_by self.old (ToTake bytes)
+            ≡ option_map entry_fields noted.1) }
+        ensures refused { IfErr result (RefusesArrival self.old bytes) }
+        ensures same { OnErr result (self.new ≡ self.old) }
+    {
+        arrival::answer_to_send(self.seat, self.limit, &mut self.store, bytes)
     }
 
     /// Tells the status to all others, and asks each for what is missing of it.

@@ -4,8 +4,9 @@ ghost use Rattle.std.specs.Prelude.{◌≡◌, ◌+◌, ◌≤◌, ◌<◌, ◌�
 ghost use Rattle.std.specs.List.Sorted.{IsPermutation};
 ghost use Rattle.std.specs.Vec.{vec_capacity, vec_len};
 ghost use Rattle.cb_times.specs.Group.{IsGroupSize, IsWindow};
-ghost use Rattle.cb_diffs.specs.Expansion.{IsNext};
+ghost use Rattle.cb_diffs.specs.Expansion.{IsGrown, IsNext, time_of};
 ghost use Rattle.cb_frames.specs.Fields.{cast_fields};
+ghost use Rattle.cb_member.specs.AtOnce.{PassesAt, PassesOnce, message_at};
 ghost use Rattle.cb_member.specs.Reception.{IsSpareFor, IsNewReception};
 ghost use Rattle.cb_member.specs.Taking.{WouldExpand, CanKeep, KeepsCast, IsReceiving, ExpandsNext, HasNoNextOf, TellsTwice};
 ghost use Rattle.cb_member.specs.Passing.{LetsPass, CanPass, PassesCast};
@@ -107,6 +108,36 @@ impl Reception {
     {
         self.buffers[cast.sender as usize].pass();
         tell_twice(&mut self.expander, cast, spare)
+    }
+
+    /// The time of a cast that is expanded as soon as it is there, while nothing changes.
+    pub fn look_ahead(&self, alloc: Global, size: u32, cast: &Cast) -> Result<VectorTime, NoMemory>
+        requires group { IsGroupSize size }
+        requires size { length self.now.expander ≡ size }
+        requires next { IsNext self.now.expander (cast_fields cast.now) }
+        ensures time { IfOk result (λ time. IsGrown (time_of self.now.expander cast.now.sender)
+            (cast_fields cast.now) time) }
+        ensures size { IfOk result (λ time. length time ≡ size) }
+    {
+        let mut time = VectorTime::zero(alloc, size)?;
+        self.expander.look_ahead(cast, &mut time);
+        Ok(time)
+    }
+
+    /// The message of a cast of another member that is expanded as soon as it is there, once its time was looked at. It is as if the
+    /// cast were kept and taken out.
+    pub fn pass_once(&mut self, cast: Cast, time: VectorTime) -> Message
+        requires { PassesAt (cast_fields cast) time self.old }
+        ensures passes { PassesOnce (cast_fields cast) self.old self.new result }
+        ensures message { result ≡ message_at (cast_fields cast) time }
+    {
+        self.buffers[cast.sender as usize].pass();
+        self.expander.take(&cast, &time);
+        Message {
+            name: name_of(&cast),
+            time,
+            payload: cast.payload,
+        }
     }
 
     /// The sender's next message, twice, where its cast is there and none is missing before it.

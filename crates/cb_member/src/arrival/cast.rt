@@ -80,7 +80,7 @@ pub fn answer(
 }
 
 /// The first rule that the cast breaks, or what it does.
-fn judge(seat: Seat, limit: usize, store: &Store, cast: &Cast) -> Result<Judged, ArriveRefusal>
+pub fn judge(seat: Seat, limit: usize, store: &Store, cast: &Cast) -> Result<Judged, ArriveRefusal>
     requires kept { IsKept seat limit store.now }
     requires numbered { 1 ≤ cast.now.number }
     ensures { JudgesCast seat limit store.now (cast_fields cast.now) result }
@@ -130,7 +130,7 @@ fn are_members(size: u32, cast: &Cast) -> bool
 }
 
 /// Takes a cast that no rule refuses.
-fn accept(
+pub fn accept(
     seat: Seat,
     limit: usize,
     store: &mut Store,
@@ -187,7 +187,7 @@ fn prepare(
 }
 
 /// How many messages wait for the delay rule once the cast has come: those that do, and those that can be expanded with it.
-fn room_for(seat: Seat, limit: usize, store: &Store, cast: &Cast) -> Result<usize, NoMemory>
+pub fn room_for(seat: Seat, limit: usize, store: &Store, cast: &Cast) -> Result<usize, NoMemory>
     requires kept { IsKept seat limit store.now }
     requires can { CanTake seat limit store.now (cast_fields cast.now) }
     ensures { IfOk result (λ room. room ≡ waiting_with store.now (cast_fields cast.now)) }

@@ -7,7 +7,6 @@ use crate::link::{Inlet, Received, and_fault};
 use crate::workers::desk::{Desk, Post, Worked};
 use bytes::Bytes;
 use cb_lock::{Seat, SharedMember};
-use cb_member::Arrival;
 use std::sync::Wait;
 use std::sync::ledger::Ledger;
 use std::thread::Promise;
@@ -56,7 +55,7 @@ fn take_once<I: Inlet, L: Ledger, R: Wait + Clock>(
         (worked.new.failures) (I.failed worked.new.part) }
 {
     match worked.part.receive(rt) {
-        Ok(Received::Frame(frame)) => take(rt, desk.shared, &mut worked.seat, post, &frame),
+        Ok(Received::Frame(frame)) => take(rt, desk.shared, &mut worked.seat, post, frame),
         Ok(Received::Nothing) => {}
         Err(fault) => worked.failures = and_fault(worked.failures, fault),
     }
@@ -68,16 +67,9 @@ fn take<L: Ledger>(
     shared: &SharedMember<L>,
     seat: &mut Seat<L>,
     post: &mut Post,
-    frame: &Bytes,
+    frame: Bytes,
 ) {
-    match shared.arrive(rt, seat, frame) {
-        Ok(
-            Arrival::Accepted {
-                deliveries: _,
-                changed: _,
-                out,
-            },
-        ) => post.put_all(rt, out),
-        Ok(Arrival::Repeat) | Err(_) => {}
+    if let Ok(out) = shared.receive(rt, seat, frame) {
+        post.put_all(rt, out);
     }
 }

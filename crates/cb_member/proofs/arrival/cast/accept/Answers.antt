@@ -11,7 +11,10 @@ returns-in_err-spare-clause-kept c = kept_with_room c.args.seat c.args.limit c.a
 pub deliver-requires-clause-can : goal.deliver-requires-clause-can
 deliver-requires-clause-can c = can_deliver c.args.seat c.args.limit (cast_fields c.args.cast) c.in_ok-spare.field-0.spare c.args.store.now c.prepare.new.store c.requires.kept c.requires.can c.in_ok-spare.ensures.same c.in_ok-spare.ensures.room c.in_ok-spare.ensures.made.spare_for
 
-accepts : (c : After-enter) → Accepts c.args.seat c.args.limit c.args.bytes.now (cast_fields c.args.cast) c.args.store.now c.prepare.new.store c.deliver.new.store c.enter.new.store c.deliver.new.deliveries.items c.enter.result
+enters : (c : After-enter) → EntersArrival c.args.bytes.now c.deliver.new.deliveries.items c.deliver.new.store c.enter.new.store c.enter.result
+enters c = subst (λ (bytes : List ℕ). EntersArrival bytes c.deliver.new.deliveries.items c.deliver.new.store c.enter.new.store c.enter.result) c.in_ok-spare.ensures.made.entry.frame c.enter.ensures
+
+accepts : (c : After-enter) → Accepts c.args.seat c.args.limit c.args.bytes.now (cast_fields c.args.cast) c.args.store.now c.prepare.new.store c.deliver.new.store c.enter.new.store c.deliver.new.deliveries.items
 accepts c = record {
   kept = c.requires.kept;
   bytes_are = c.requires.bytes;
@@ -21,14 +24,14 @@ accepts c = record {
   keeps = c.deliver.ensures.keeps;
   entries = c.deliver.ensures.entries;
   messages_are = c.deliver.ensures.deliveries;
-  entered = subst (λ (bytes : List ℕ). EntersArrival bytes c.deliver.new.deliveries.items c.deliver.new.store c.enter.new.store c.enter.result) c.in_ok-spare.ensures.made.entry.frame c.enter.ensures;
+  entered = (enters c).enters;
 }
 
 pub returns-clause-kept : goal.returns-clause-kept
-returns-clause-kept c = accepted_keeps c.args.seat c.args.limit c.args.bytes.now (cast_fields c.args.cast) c.args.store.now c.prepare.new.store c.deliver.new.store c.enter.new.store c.deliver.new.deliveries.items c.enter.result (accepts c)
+returns-clause-kept c = accepted_keeps c.args.seat c.args.limit c.args.bytes.now (cast_fields c.args.cast) c.args.store.now c.prepare.new.store c.deliver.new.store c.enter.new.store c.deliver.new.deliveries.items (accepts c)
 
 pub returns-clause-taken : goal.returns-clause-taken
-returns-clause-taken c = accepted_taken c.args.seat c.args.limit c.args.bytes.now (cast_fields c.args.cast) c.args.store.now c.prepare.new.store c.deliver.new.store c.enter.new.store c.deliver.new.deliveries.items c.enter.result (accepts c)
+returns-clause-taken c = accepted_taken c.args.seat c.args.limit c.args.bytes.now (cast_fields c.args.cast) c.args.store.now c.prepare.new.store c.deliver.new.store c.enter.new.store c.deliver.new.deliveries.items (accepts c) c.enter.result.0 (enters c).says
 
 pub returns-clause-entry : goal.returns-clause-entry
-returns-clause-entry c = accepted_entry c.args.seat c.args.limit c.args.bytes.now (cast_fields c.args.cast) c.args.store.now c.prepare.new.store c.deliver.new.store c.enter.new.store c.deliver.new.deliveries.items c.enter.result (accepts c)
+returns-clause-entry c = accepted_entry c.args.seat c.args.limit c.args.bytes.now (cast_fields c.args.cast) c.args.store.now c.prepare.new.store c.deliver.new.store c.enter.new.store c.deliver.new.deliveries.items (accepts c) c.enter.result.1 (enters c).copy

@@ -1,12 +1,10 @@
-use Rattle.std.proofs.Common.{◌≡◌, sym, ◌∙◌, arith}
-use Rattle.std.specs.FinMap as fin
 use Rattle.cb_member.proofs.delivery.Delivery.is_alone.Goals as goal
 
-pub returns-then-len-eq0-clause-alone : goal.returns-then-len-eq0-clause-alone
-returns-then-len-eq0-clause-alone c ready =
-    let none : fin.len c.args.self.now.queue.held ≡ 0 = omega (arith, c.len.ensures.len, c.if-len-gt0.false) in
+pub returns-then-is_empty-clause-alone : goal.returns-then-is_empty-clause-alone
+returns-then-is_empty-clause-alone c ready =
+    let waits = c.is_empty.ensures.none c.if-is_empty.true in
     record {
-      none = fin.empty_of_len c.args.self.now.queue.held none;
-      no_copies = fin.empty_of_len c.args.self.now.copies.held (sym c.len-2.ensures.len ∙ c.if-len-eq0.true);
+      none = waits.none;
+      no_copies = waits.no_copies;
       ready = c.is_ready.ensures.0 ready;
     }

@@ -1,0 +1,21 @@
+use Rattle.std.proofs.Common.{Ok, subst}
+use Rattle.cb_frames.specs.Fields.{CastFrame, cast_fields}
+use Rattle.cb_history.proofs.ReadBack.{frame_numbered}
+use Rattle.cb_member.specs.declared.arrival.cast.Judged.{Judged}
+use Rattle.cb_member.specs.Arriving.{JudgesCast}
+use Rattle.cb_member.proofs.Accepting.{repeat_to_send, repeat_entry}
+use Rattle.cb_member.proofs.Answering.{refused}
+use Rattle.cb_member.proofs.arrival.at_once.answer.Goals as goal
+
+pub judge-requires-clause-numbered : goal.judge-requires-clause-numbered
+judge-requires-clause-numbered c = frame_numbered c.args.bytes (cast_fields c.args.cast) c.requires.read
+
+pub returns-in-Ok-Repeat-clause-taken : goal.returns-in-Ok-Repeat-clause-taken
+returns-in-Ok-Repeat-clause-taken c = repeat_to_send c.args.seat c.args.limit c.args.bytes (cast_fields c.args.cast) c.args.store.now c.new.result.items c.requires.read
+    (subst (λ (j : Judged). JudgesCast c.args.seat c.args.limit c.args.store.now (cast_fields c.args.cast) (Ok j)) c.in-Ok-Repeat.field-0-is c.in-Ok-Repeat.ensures) c.new.ensures.items
+
+pub returns-in-Ok-Repeat-clause-entry : goal.returns-in-Ok-Repeat-clause-entry
+returns-in-Ok-Repeat-clause-entry c = repeat_entry c.args.seat c.args.limit c.args.bytes (cast_fields c.args.cast) c.args.store.now c.requires.read (subst (λ (j : Judged). JudgesCast c.args.seat c.args.limit c.args.store.now (cast_fields c.args.cast) (Ok j)) c.in-Ok-Repeat.field-0-is c.in-Ok-Repeat.ensures)
+
+pub returns-in-Err-clause-refused : goal.returns-in-Err-clause-refused
+returns-in-Err-clause-refused c = refused c.args.seat c.args.limit c.args.store.now c.args.bytes (CastFrame (cast_fields c.args.cast)) c.in-Err.refusal c.requires.read c.in-Err.ensures
