@@ -1,5 +1,5 @@
 -- What the calls of a member under a lock answer and leave.
-use Rattle.std.specs.Prelude.{◌≡◌, ◌⊎◌, ℕ, ◌+◌, ◌≤◌, List, [], ◌∷◌, length, map, Option, Some, None, Result, Err, IfOk, IfErr, OnErr, OnOk, if◌then◌else◌}
+use Rattle.std.specs.Prelude.{◌≡◌, ◌⊎◌, ℕ, ◌+◌, ◌≤◌, List, [], ◌∷◌, length, map, Option, Some, None, option_map, Result, Err, IfOk, IfErr, OnErr, OnOk, if◌then◌else◌}
 use Rattle.std.specs.declared.vec.Vec.{Vec}
 use Rattle.std.specs.declared.alloc.Global.{Global}
 use Rattle.cb_history.specs.declared.answer.CastDone.{CastDone}
@@ -66,6 +66,15 @@ pub record CastsOn (m : MemberState) (old new : SeatState) (payload : List ℕ) 
   pub receipt : IfOk result (λ done. new ≡ and_receipt old m (told_by_cast done))
   pub entry : IfOk result (λ done. entry_by m (ToCast payload) ≡ told_by_cast done)
   pub none : OnErr result (new ≡ old)
+
+-- A payload that was given was cast, or refused; without one the seat stays.
+abbrev pub CastsIfGiven : MemberState → SeatState → SeatState → Option (Vec ℕ Global × Result CastDone CastRefusal) → Type 0
+CastsIfGiven m old new (Some (payload, result)) = CastsOn m old new payload.items result
+CastsIfGiven m old new None = new ≡ old
+
+-- the payload that is handed back, where one was given
+abbrev pub given : Option (Vec ℕ Global × Result CastDone CastRefusal) → Option (Vec ℕ Global)
+given cast = option_map (λ c. c.0) cast
 
 pub record ArrivesOn (m : MemberState) (old new : SeatState) (bytes : List ℕ) (result : Result Arrival ArriveRefusal) : Type 0 where
   pub taken : IfOk result (HasTaken m (state_after m (ToTake bytes)) bytes)

@@ -2,7 +2,7 @@
 
 ghost use Rattle.std.specs.Prelude.{◌≡◌, ◌+◌, ◌<◌, ◌≤◌, ◌↔◌, [], IfOk, IfErr, length};
 ghost use Rattle.std.specs.Fn.{FnOnceTakesAt, FnOnceReturnsAt};
-ghost use Rattle.cb_lock.specs.Calls.{CoversReceipts, OnSome, CastsOn, ArrivesOn, ReceivesOn, TicksOn};
+ghost use Rattle.cb_lock.specs.Calls.{CoversReceipts, OnSome, CastsIfGiven, CastsOn, ArrivesOn, ReceivesOn, TicksOn, given};
 ghost use Rattle.cb_lock.specs.Closing.{IsFault, IsClosed};
 
 use crate::closing::{CloseFault, CloseRefusal, Closed, fault_of};
@@ -108,6 +108,32 @@ impl<L: Ledger> SharedMember<L> {
         let mut held = self.held.lock(rt);
         held.audit(seat);
         f(held.member())
+    }
+
+    /// Shows the member to `f` under the lock, and casts the payload that `f` answers, where it answers one: nothing comes between.
+    ///
+    /// The payload is handed back with what came of it. It is as if `with_state` and `cast` were called, but the lock is taken once.
+    pub fn cast_with<R, F: FnOnce(&Member) -> (R, Option<Vec<u8>>)>(
+        &self,
+        rt: &impl Wait,
+        seat: &mut Seat<L>,
+        f: F,
+    ) -> (R, Option<(Vec<u8>, Result<CastDone, CastRefusal>)>)
+        requires { (m : _) → CoversReceipts seat.old m → FnOnceTakesAt F.FnOnce f m }
+        ensures answer { OnSome seat.old (λ m.
+            FnOnceReturnsAt F.FnOnce f m (result.0, given result.1)
+            × CastsIfGiven m seat.old seat.new result.1) }
+        ensures parts { seat.new.parts ≡ seat.old.parts }
+    {
+        let mut held = self.held.lock(rt);
+        held.audit(seat);
+        match f(held.member()) {
+            (said, None) => (said, None),
+            (said, Some(payload)) => {
+                let cast = held.cast(seat, &payload);
+                (said, Some((payload, cast)))
+            }
+        }
     }
 
     /// Ends the sharing, and hands the member out: with Ok only where the receipts of the seats claim its history, each entry by exactly one.

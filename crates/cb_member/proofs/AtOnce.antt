@@ -1,12 +1,20 @@
 -- A cast that is delivered as soon as it is there, its message made once: what that does is what taking it in and delivering it does.
-use Rattle.std.proofs.Common.{◌≡◌, ℕ, ◌+◌, ◌≤◌, List, [], ◌∷◌, length, refl, sym, ap, ◌∙◌, arith}
+use Rattle.std.proofs.Common.{inl, inr, ◌≡◌, ℕ, ◌+◌, ◌<◌, ◌≤◌, List, [], ◌∷◌, length, refl, sym, ap, subst, true≢false, ◌∙◌, arith}
+use Rattle.std.specs.Prelude.{IsSome, Option}
+use Rattle.std.specs.FinMap as fin
+use Rattle.std.specs.Ordering.{nat_cmp}
 use Rattle.std.specs.Vec.{vec_capacity, vec_len}
 use Rattle.std.specs.List.{All}
 use Rattle.std.proofs.lemmas.List.{length-replicate}
 use Rattle.std.proofs.lemmas.List.Elements.{All-cons, All-nil}
+use Rattle.cb_times.specs.Order.{field}
 use Rattle.cb_times.specs.Time.{IsRaised}
+use Rattle.cb_delay.specs.Rule.{IsReady}
+use Rattle.cb_diffs.specs.Expansion.{IsGrown, time_of}
 use Rattle.cb_frames.specs.Fields.{CastFields, CastFrame, first_number}
 use Rattle.cb_delay.specs.declared.message.Message.{Message}
+use Rattle.cb_delay.specs.Message.{name_cmp}
+use Rattle.cb_gaps.specs.Buffer.{Buffer, IsKeptWith, Passes, WouldComeOut}
 use Rattle.cb_stability.specs.Known.{Known}
 use Rattle.cb_history.specs.Answers.{deliveries}
 use Rattle.cb_history.specs.Facts.{Fact}
@@ -17,23 +25,62 @@ use Rattle.cb_member.specs.declared.reception.Reception.{Reception}
 use Rattle.cb_member.specs.declared.reception.Spare.{Spare}
 use Rattle.cb_member.specs.declared.store.Store.{Store}
 use Rattle.cb_member.specs.Arriving.{CanDeliver, CanTake, facts_with, waiting_with}
-use Rattle.cb_member.specs.AtOnce.{IsAtOnce, PassesOnce, message_at, spare_of}
+use Rattle.cb_member.specs.AtOnce.{ComesAlone, NoneWaits, IsAtOnce, PassesOnce, message_at, spare_of}
 use Rattle.cb_member.specs.Knowledge.{HasTimeOf, LearnsAll}
 use Rattle.cb_member.specs.Passing.{CanPass, LetsPass, PassesCast, PutsThrough}
 use Rattle.cb_member.specs.Reception.{IsSpareFor}
 use Rattle.cb_member.specs.Sending.{TrimsToStable}
-use Rattle.cb_member.specs.Store.{HasRoomFor, IsKept, Keeps, facts_held}
+use Rattle.cb_member.specs.Store.{HasRoomFor, IsKept, IsSameWithRoom, Keeps, facts_held}
 use Rattle.cb_member.specs.Taking.{Hears, TakesInCast}
 use Rattle.cb_member.proofs.Accepting.{can_deliver, same_store}
 use Rattle.cb_member.proofs.Arriving.{IsDelivered, is_delivered, are_deliveries, all_kept}
 use Rattle.cb_member.proofs.Passing.{passing_size, passing_fits_known, passing_is_long, passing_expands_one, passing_takes_in, passing_only}
 use Rattle.cb_member.proofs.Reading.{time_long}
-use Rattle.cb_member.proofs.TakingIn.{of_member, same_spare}
+use Rattle.cb_member.proofs.TakingIn.{of_member, same_spare, would_expand}
 
-pub can_at_once : (seat : Seat) (limit : ℕ) (c : CastFields) (store : Store) → IsKept seat limit store → CanTake seat limit store c → HasRoomFor (waiting_with store c) store → CanDeliver seat c (spare_of seat.group.size c) store
-can_at_once seat limit c store kept can room =
+-- ---- one message waits then
+
+kept_with : (b : Buffer) (number n : ℕ) → Passes b number → b.taken < n → n ≤ b.taken + 1 → IsKeptWith b number n
+kept_with b number n passes behind upto = let follows = passes.follows in inr (omega (arith, behind, upto, follows))
+
+none_behind : (b : Buffer) (number : ℕ) → Passes b number → ¬ IsKeptWith b number (b.taken + 1 + 1)
+none_behind b number passes (inl some) =
+    let none = ap (λ (m : fin.FinMap nat_cmp CastFields). fin.get m (b.taken + 1 + 1)) passes.none_kept ∙ fin.get-empty nat_cmp (b.taken + 1 + 1) in
+    absurd (true≢false (sym (subst (λ (o : Option CastFields). IsSome o) none some)))
+none_behind b number passes (inr e) = let follows = passes.follows in absurd (omega (arith, e, follows))
+
+comes_out_alone : (b : Buffer) (number : ℕ) → Passes b number → WouldComeOut b number 1
+comes_out_alone b number passes = record { begins = omega arith; each = λ n behind upto. kept_with b number n passes behind upto; ends = none_behind b number passes }
+
+pub waits_alone : (seat : Seat) (limit : ℕ) (c : CastFields) (store : Store) → IsKept seat limit store → CanTake seat limit store c → ComesAlone c store → waiting_with store c ≡ 1
+waits_alone seat limit c store kept can alone =
+    let lets = alone.lets_pass in
+    let one = would_expand c.sender (first_number c) store.reception lets.buffer 1 lets.at (comes_out_alone lets.buffer (first_number c) lets.passes) seat (facts_held store) c can.legal refl refl kept.keeps.received in
+    let none : fin.len store.delivery.queue.held ≡ 0 = ap (λ (m : fin.FinMap name_cmp Message). fin.len m) alone.none_waits.none ∙ fin.len-empty name_cmp Message in
+    omega (arith, one, none)
+
+pub alone_with_room : (c : CastFields) (old new : Store) → IsSameWithRoom old new → ComesAlone c old → ComesAlone c new
+alone_with_room c old new same alone = record {
+  lets_pass = subst (λ (r : Reception). LetsPass c.sender (first_number c) r) (sym same.reception)
+      (record { buffer = alone.lets_pass.buffer; at = alone.lets_pass.at; passes = alone.lets_pass.passes });
+  none_waits = subst NoneWaits (sym same.delivery) (record { none = alone.none_waits.none; no_copies = alone.none_waits.no_copies });
+}
+
+-- ---- it can be delivered at once
+
+pub can_at_once : (seat : Seat) (limit : ℕ) (c : CastFields) (store : Store) → IsKept seat limit store → CanTake seat limit store c → ComesAlone c store → HasRoomFor 1 store → CanDeliver seat c (spare_of seat.group.size c) store
+can_at_once seat limit c store kept can alone room =
     let for : IsSpareFor seat.group.size c (spare_of seat.group.size c) = record { name = refl; payload = refl; time = length-replicate seat.group.size 0; copy = length-replicate seat.group.size 0 } in
-    can_deliver seat limit c (spare_of seat.group.size c) store store kept can (same_store store) room for
+    can_deliver seat limit c (spare_of seat.group.size c) store store kept can (same_store store) (subst (λ (n : ℕ). HasRoomFor n store) (sym (waits_alone seat limit c store kept can alone)) room) for
+
+pub is_at_once : (seat : Seat) (limit : ℕ) (c : CastFields) (store : Store) → IsKept seat limit store → CanTake seat limit store c → ComesAlone c store → HasRoomFor 1 store
+    → (time : List ℕ) → IsGrown (time_of store.reception.expander c.sender) c time → IsReady c.sender (field time) (field store.delivery.time) → IsAtOnce seat c time store
+is_at_once seat limit c store kept can alone room time grown ready = record {
+  can = can_at_once seat limit c store kept can alone room;
+  lets_pass = alone.lets_pass;
+  grown = grown;
+  alone = record { none = alone.none_waits.none; no_copies = alone.none_waits.no_copies; ready = ready };
+}
 
 pub can_pass : (seat : Seat) (c : CastFields) (spare : Spare) (store : Store) → CanDeliver seat c spare store → LetsPass c.sender (first_number c) store.reception → CanPass c spare store.reception
 can_pass seat c spare store can lets = record {

@@ -54,6 +54,11 @@ pub record NoneWaits (d : Delivery) : Type 0 where
   pub none : d.queue.held ≡ fin.empty
   pub no_copies : d.copies.held ≡ fin.empty
 
+-- it passes, and nothing waits
+pub record ComesAlone (c : CastFields) (store : Store) : Type 0 where
+  pub lets_pass : LetsPass c.sender (first_number c) store.reception
+  pub none_waits : NoneWaits store.delivery
+
 -- it passes, and this is its time
 pub record PassesAt (c : CastFields) (time : List ℕ) (r : Reception) : Type 0 where
   pub spare : Spare

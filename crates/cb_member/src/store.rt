@@ -1,10 +1,11 @@
 //! Everything that a member keeps.
 
-ghost use Rattle.std.specs.Prelude.{◌≡◌, ◌≢◌, ◌<◌, IfOk, OnOk, length};
+ghost use Rattle.std.specs.Prelude.{◌≡◌, ◌≢◌, ◌<◌, true, IfOk, OnOk, length};
 ghost use Rattle.std.specs.Vec.{vec_capacity, vec_len};
 ghost use Rattle.cb_times.specs.Group.{IsGroupSize, IsWindow};
-ghost use Rattle.cb_frames.specs.Fields.{status_fields};
+ghost use Rattle.cb_frames.specs.Fields.{cast_fields, status_fields};
 ghost use Rattle.cb_history.specs.Known.{missing, ranges_of};
+ghost use Rattle.cb_member.specs.AtOnce.{ComesAlone};
 ghost use Rattle.cb_member.specs.Store.{IsNewStore, IsAlike, HasRoom, IsSameWithRoom, HasRoomFor, Stands, facts_held};
 ghost use Rattle.cb_member.specs.Telling.{HasTold};
 ghost use Rattle.cb_member.specs.Hearing.{HasHeard};
@@ -13,7 +14,7 @@ use crate::delivery::{Delivery, push_within};
 use crate::knowledge::Knowledge;
 use crate::reception::Reception;
 use crate::sending::Sending;
-use cb_frames::{Range, Status};
+use cb_frames::{Cast, Range, Status};
 use cb_history::{Entry, Seat};
 use cb_times::{NoMemory, make_room};
 use std::alloc::Global;
@@ -79,6 +80,14 @@ impl Store {
     {
         self.reserve(events)?;
         self.reception.spares.reserve(1)
+    }
+
+    /// Whether the cast is expanded as soon as it is there, where nothing waits for the delay rule.
+    pub fn comes_alone(&self, cast: &Cast) -> bool
+        requires { cast.now.sender < length self.now.reception.buffers.items }
+        ensures { result ≡ true → ComesAlone (cast_fields cast.now) self.now }
+    {
+        self.reception.passes(cast.sender, cast.number) && self.delivery.is_empty()
     }
 
     /// The casts of member i that are missing.

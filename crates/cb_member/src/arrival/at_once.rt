@@ -2,7 +2,6 @@
 //! once, for the events.
 
 ghost use Rattle.std.specs.Prelude.{◌≡◌, ◌∷◌, [], IfOk, IfErr, IfSome, OnErr, Ok, option_map};
-ghost use Rattle.std.specs.Vec.{vec_capacity, vec_len};
 ghost use Rattle.cb_frames.specs.Fields.{cast_fields, CastFrame};
 ghost use Rattle.cb_frames.specs.Laws.{IsBytes};
 ghost use Rattle.cb_frames.specs.Reading.{frame_at};
@@ -10,11 +9,11 @@ ghost use Rattle.cb_history.specs.Facts.{ArriveEntry, entry_fields};
 ghost use Rattle.cb_history.specs.Answers.{arrival_says, deliveries as delivered_by};
 ghost use Rattle.cb_history.specs.Legal.{ToTake};
 ghost use Rattle.cb_history.specs.State.{entry_by, RefusesArrival};
-ghost use Rattle.cb_member.specs.Arriving.{CanDeliver, CanTake, facts_with, waiting_with};
-ghost use Rattle.cb_member.specs.AtOnce.{HasTakenToSend, IsAtOnce, IsTwice, message_at, spare_of};
+ghost use Rattle.cb_member.specs.Arriving.{CanTake, facts_with};
+ghost use Rattle.cb_member.specs.AtOnce.{ComesAlone, HasTakenToSend, IsAtOnce, IsTwice, message_at};
 ghost use Rattle.cb_member.specs.Store.{HasRoomFor, IsKept, Keeps, facts_held, held_by};
 
-use crate::arrival::cast::{Judged, room_for};
+use crate::arrival::cast::Judged;
 use crate::arrival::{cast, to_send};
 use crate::delivery::push_within;
 use crate::store::Store;
@@ -60,7 +59,7 @@ pub fn answer(
     }
 }
 
-/// Takes a cast that no rule refuses, with room for what it needs.
+/// Takes a cast that no rule refuses.
 fn accept(
     seat: Seat,
     limit: usize,
@@ -80,13 +79,42 @@ fn accept(
     ensures refused { IfErr result (RefusesArrival (held_by seat limit store.old) bytes) }
     ensures same { OnErr result (held_by seat limit store.new ≡ held_by seat limit store.old) }
 {
-    let room = room_for(seat, limit, store, &cast)?;
-    store.reserve_for_cast(room)?;
-    accept_with_room(seat, limit, store, bytes, cast)
+    if !store.comes_alone(&cast) {
+        return accept_with_others(seat, limit, store, &bytes, cast);
+    }
+    store.reserve_for_cast(1)?;
+    accept_alone(seat, limit, store, bytes, cast)
 }
 
-/// The same, where there is room in the store. Where it is delivered as soon as it is there, the bytes go into the copy of its entry.
-fn accept_with_room(
+/// The same for one that may wait, or that others wait for.
+fn accept_with_others(
+    seat: Seat,
+    limit: usize,
+    store: &mut Store,
+    bytes: &Bytes,
+    cast: Cast,
+) -> Result<(Vec<Outgoing>, Option<Entry>), ArriveRefusal>
+    requires kept { IsKept seat limit store.old }
+    requires can { CanTake seat limit store.old (cast_fields cast) }
+    requires bytes { IsBytes bytes.now }
+    requires read { frame_at bytes.now ≡ Ok (CastFrame (cast_fields cast)) }
+    ensures kept { IsKept seat limit store.new }
+    ensures taken { IfOk result (λ noted. HasTakenToSend (held_by seat limit store.old)
+        (held_by seat limit store.new) bytes.now noted.0.items) }
+    ensures entry { IfOk result (λ noted. entry_by (held_by seat limit store.old)
+        (ToTake bytes.now) ≡ option_map entry_fields noted.1) }
+    ensures refused { IfErr result (RefusesArrival (held_by seat limit store.old) bytes.now) }
+    ensures same { OnErr result (held_by seat limit store.new ≡ held_by seat limit store.old) }
+{
+    match cast::accept(seat, limit, store, bytes, cast) {
+        Ok((arrival, noted)) => Ok((to_send(*store.entries.allocator(), arrival), noted)),
+        Err(refusal) => Err(refusal),
+    }
+}
+
+/// The same for one that comes alone, with room for it. Where it is delivered as soon as it is there, the bytes go into the copy of its
+/// entry.
+fn accept_alone(
     seat: Seat,
     limit: usize,
     store: &mut Store,
@@ -95,7 +123,8 @@ fn accept_with_room(
 ) -> Result<(Vec<Outgoing>, Option<Entry>), ArriveRefusal>
     requires kept { IsKept seat limit store.old }
     requires can { CanTake seat limit store.old (cast_fields cast) }
-    requires room { HasRoomFor (waiting_with store.old (cast_fields cast)) store.old }
+    requires alone { ComesAlone (cast_fields cast) store.old }
+    requires room { HasRoomFor 1 store.old }
     requires bytes { IsBytes bytes }
     requires read { frame_at bytes ≡ Ok (CastFrame (cast_fields cast)) }
     ensures kept { IsKept seat limit store.new }
@@ -114,14 +143,11 @@ fn accept_with_room(
             push_within(&mut store.entries, entry);
             Ok((Vec::new(alloc), Some(noted)))
         }
-        None => match cast::accept(seat, limit, store, &bytes, cast) {
-            Ok((arrival, noted)) => Ok((to_send(alloc, arrival), noted)),
-            Err(refusal) => Err(refusal),
-        },
+        None => accept_with_others(seat, limit, store, &bytes, cast),
     }
 }
 
-/// The time of the cast, where it is delivered as soon as it is there: it is expanded then, nothing waits, and the delay rule lets it.
+/// The time of a cast that comes alone, where the delay rule lets it be delivered as soon as it is there.
 fn time_at_once(
     alloc: Global,
     seat: Seat,
@@ -131,24 +157,18 @@ fn time_at_once(
 ) -> Result<Option<VectorTime>, NoMemory>
     requires kept { IsKept seat limit store.now }
     requires can { CanTake seat limit store.now (cast_fields cast.now) }
-    requires room { HasRoomFor (waiting_with store.now (cast_fields cast.now)) store.now }
+    requires alone { ComesAlone (cast_fields cast.now) store.now }
+    requires room { HasRoomFor 1 store.now }
     ensures { IfOk result (λ found. IfSome found (λ time.
         IsAtOnce seat (cast_fields cast.now) time store.now)) }
 {
-    if !store.reception.passes(cast.sender, cast.number) {
-        return Ok(None);
-    }
-    if !store.delivery.is_empty() {
-        return Ok(None);
-    }
     let time = store
         .reception
         .look_ahead(alloc, seat.group().size(), cast)?;
-    Ok(if is_ready(cast.sender, &time, &store.delivery.time) {
-        Some(time)
-    } else {
-        None
-    })
+    if !is_ready(cast.sender, &time, &store.delivery.time) {
+        return Ok(None);
+    }
+    Ok(Some(time))
 }
 
 /// The entry of a cast that is delivered alone, and a copy of it.

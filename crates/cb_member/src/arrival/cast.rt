@@ -187,7 +187,7 @@ fn prepare(
 }
 
 /// How many messages wait for the delay rule once the cast has come: those that do, and those that can be expanded with it.
-pub fn room_for(seat: Seat, limit: usize, store: &Store, cast: &Cast) -> Result<usize, NoMemory>
+fn room_for(seat: Seat, limit: usize, store: &Store, cast: &Cast) -> Result<usize, NoMemory>
     requires kept { IsKept seat limit store.now }
     requires can { CanTake seat limit store.now (cast_fields cast.now) }
     ensures { IfOk result (λ room. room ≡ waiting_with store.now (cast_fields cast.now)) }

@@ -69,7 +69,9 @@ fn take<L: Ledger>(
     post: &mut Post,
     frame: Bytes,
 ) {
-    if let Ok(out) = shared.receive(rt, seat, frame) {
+    if let Ok(out) = shared.receive(rt, seat, frame)
+        && !out.is_empty()
+    {
         post.put_all(rt, out);
     }
 }

@@ -7,7 +7,7 @@ use crate::talker::{Talk, Talker};
 use crate::workers::desk::{Desk, Post, Worked};
 use bytes::Bytes;
 use cb_lock::Seat;
-use cb_member::{CastRefusal, Event, Member, NoMemory, Outgoing};
+use cb_member::{CastDone, CastRefusal, Event, Member, NoMemory, Outgoing};
 use std::mem;
 use std::sync::Wait;
 use std::sync::ledger::Ledger;
@@ -20,6 +20,20 @@ enum Turn {
     Cast,
     Quiet,
     Finished,
+}
+
+/// What a talker that is quick said.
+#[derive(Clone, Copy)]
+struct Said {
+    turn: Turn,
+    /// How many news it saw.
+    count: usize,
+}
+
+impl Said {
+    fn seen(turn: Turn, count: usize) -> Said {
+        Said { turn, count }
+    }
 }
 
 /// A talker at work: what it has seen of its member's events, and what it wants to cast.
@@ -85,12 +99,10 @@ impl<'a, T: Talker, L: Ledger> Speech<'a, T, L> {
 
     /// Shows the talker the news, and does what it says. Where memory is refused it has not seen them.
     fn ask<R: Wait>(&mut self, rt: &R) -> Turn {
-        let asked = if self.talker.is_quick() {
-            self.ask_in_place(rt)
-        } else {
-            self.ask_with_copies(rt)
-        };
-        match asked {
+        if self.talker.is_quick() {
+            return self.ask_in_place(rt);
+        }
+        match self.ask_with_copies(rt) {
             Ok((talk, count)) => {
                 self.seen = self.seen.saturating_add(count);
                 self.follow(rt, talk)
@@ -99,17 +111,22 @@ impl<'a, T: Talker, L: Ledger> Speech<'a, T, L> {
         }
     }
 
-    /// What the talker says to the news, and how many they are. The member waits for it.
-    fn ask_in_place<R: Wait>(&mut self, rt: &R) -> Result<(Talk, usize), NoMemory> {
+    /// The same while the member waits for it: what the talker says is cast before the lock is let go of.
+    fn ask_in_place<R: Wait>(&mut self, rt: &R) -> Turn {
         let (talker, seen) = (&mut self.talker, self.seen);
-        self.desk.shared.with_state(
+        let (said, cast) = self.desk.shared.cast_with(
             rt,
             &mut self.seat,
-            move |member| asked(talker, news_in(member, seen)),
-        )
+            move |member| parted(asked(talker, news_in(member, seen))),
+        );
+        self.seen = self.seen.saturating_add(said.count);
+        match cast {
+            Some((payload, cast)) => self.hand_on(rt, payload, cast),
+            None => said.turn,
+        }
     }
 
-    /// The same with copies of the news, while the member works on.
+    /// What the talker says to copies of the news, and how many they are, while the member works on.
     fn ask_with_copies<R: Wait>(&mut self, rt: &R) -> Result<(Talk, usize), NoMemory> {
         let news = self.news(rt)?;
         let answer = asked(&mut self.talker, &news);
@@ -144,9 +161,19 @@ impl<'a, T: Talker, L: Ledger> Speech<'a, T, L> {
         self.room = room;
     }
 
-    /// Casts the payload, which waits where the window or the history is full or memory is refused. One that is too long is dropped.
     fn cast<R: Wait>(&mut self, rt: &R, payload: Vec<u8>) -> Turn {
-        match self.desk.shared.cast(rt, &mut self.seat, &payload) {
+        let cast = self.desk.shared.cast(rt, &mut self.seat, &payload);
+        self.hand_on(rt, payload, cast)
+    }
+
+    /// Hands a cast to the sender. A payload that the window, the history or memory has no room for waits; one that is too long is dropped.
+    fn hand_on<R: Wait>(
+        &mut self,
+        rt: &R,
+        payload: Vec<u8>,
+        cast: Result<CastDone, CastRefusal>,
+    ) -> Turn {
+        match cast {
             Ok(done) => {
                 self.post.put(rt, to_all(done.out));
                 Turn::Cast
@@ -167,6 +194,22 @@ impl<'a, T: Talker, L: Ledger> Speech<'a, T, L> {
             lost,
             failures: 0,
         }
+    }
+}
+
+/// What becomes of the turn where nothing is cast, how many news the talker saw, and what it wants to cast.
+fn parted(answer: Result<(Talk, usize), NoMemory>) -> (Said, Option<Vec<u8>>) {
+    match answer {
+        Ok((talk, count)) => wanted(talk, count),
+        Err(_refused) => (Said::seen(Turn::Quiet, 0), None),
+    }
+}
+
+fn wanted(talk: Talk, count: usize) -> (Said, Option<Vec<u8>>) {
+    match talk {
+        Talk::Cast(payload) => (Said::seen(Turn::Cast, count), Some(payload)),
+        Talk::Idle => (Said::seen(Turn::Quiet, count), None),
+        Talk::Finished => (Said::seen(Turn::Finished, count), None),
     }
 }
 
