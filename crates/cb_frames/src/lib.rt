@@ -3,6 +3,7 @@
 //! Stands on `cb_varint`, whose numbers are the fields, and on `bytes`. Version 1 has three kinds of frames: a cast, a status and a request.
 #![tactic(auto)]
 
+mod block;
 mod fault;
 mod frame;
 mod laws;
@@ -11,6 +12,7 @@ mod pairs;
 mod reading;
 mod writing;
 
+pub use block::FrameBlock;
 pub use fault::{EncodeFault, FrameFault};
 pub use frame::{
     Cast, Change, Frame, LAST_MEMBER, LAST_NUMBER, LONGEST_PAYLOAD, MOST_FRAMES, MOST_RANGES,
@@ -18,7 +20,7 @@ pub use frame::{
 };
 pub use laws::{each_is_a_text_or_a_fault, one_text};
 pub use reading::decode;
-pub use writing::{encode, encode_cast};
+pub use writing::encode;
 
 #[cfg(test)]
 mod tests;

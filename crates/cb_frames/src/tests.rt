@@ -158,12 +158,15 @@ fn a_cast_is_written_with_a_payload_that_lies_elsewhere(rt: HostRuntime) -> Resu
         changes: Vec::new(rt.alloc()),
         payload: Bytes::from_static(b"not looked at"),
     };
-    match encode_cast(rt.alloc(), &cast, b"ok") {
-        Ok(bytes) => assert_eq!(&rt; bytes.as_slice(), b"\x11\x07\x01\x02\x00\x02ok".as_slice()),
-        Err(fault) => panic!(&rt; "{fault}"),
+    let mut block = FrameBlock::new(rt.alloc());
+    for _ in 0..2 {
+        match block.encode_cast(&cast, b"ok") {
+            Ok(bytes) => assert_eq!(&rt; bytes.as_slice(), b"\x11\x07\x01\x02\x00\x02ok".as_slice()),
+            Err(fault) => panic!(&rt; "{fault}"),
+        }
     }
     let long = vec![in rt.alloc(); 0; 1025]?;
-    assert!(&rt; encode_cast(rt.alloc(), &cast, &long) == Err(EncodeFault::PayloadTooLong));
+    assert!(&rt; block.encode_cast(&cast, &long) == Err(EncodeFault::PayloadTooLong));
     Ok(())
 }
 

@@ -170,10 +170,21 @@ fn cast_text(alloc: Global, cast: &Cast, payload: &[u8]) -> Result<Vec<u8>, Allo
         IsText (CastFrame (with_payload (cast_fields cast.now) payload.now)) bytes.items) }
 {
     let mut out = Vec::with_capacity(alloc, room_for_cast(cast, payload))?;
-    out.push(CAST)?;
-    put_cast(&mut out, cast, payload)?;
-    out.extend_from_slice(payload)?;
+    put_cast_text(&mut out, cast, payload)?;
     Ok(out)
+}
+
+/// Puts the text of a cast that keeps the rules, with this payload in place of its own, into an empty list.
+fn put_cast_text(out: &mut Vec<u8>, cast: &Cast, payload: &[u8]) -> Result<(), AllocError>
+    requires empty { out.old.items ≡ [] }
+    requires rules { KeepsCastRules (cast_fields cast.now) }
+    requires payload { length payload.now ≤ LONGEST_PAYLOAD }
+    ensures { OnOk result (IsText
+        (CastFrame (with_payload (cast_fields cast.now) payload.now)) out.new.items) }
+{
+    out.push(CAST)?;
+    put_cast(out, cast, payload)?;
+    out.extend_from_slice(payload)
 }
 
 /// The text of a status that keeps the rules.
@@ -225,11 +236,12 @@ fn has_long_payload(frame: &Frame) -> bool
     }
 }
 
-/// The text of a cast whose payload lies elsewhere, or why it has none: what `encode` answers for the cast with this payload in place of
-/// its own, which is not looked at.
-pub fn encode_cast(alloc: Global, cast: &Cast, payload: &[u8]) -> Result<Bytes, EncodeFault>
-    ensures text { IfOk result (IsText (CastFrame
-        (with_payload (cast_fields cast.now) payload.now))) }
+/// Puts the text of a cast whose payload lies elsewhere into an empty list, or says why it has none: what `encode` answers for the cast
+/// with this payload in place of its own, which is not looked at.
+pub fn encode_cast_into(out: &mut Vec<u8>, cast: &Cast, payload: &[u8]) -> Result<(), EncodeFault>
+    requires { out.old.items ≡ [] }
+    ensures text { OnOk result (IsText (CastFrame
+        (with_payload (cast_fields cast.now) payload.now)) out.new.items) }
     ensures too_long { (result ≡ Err EncodeFault.PayloadTooLong)
         ↔ HasLongPayload (CastFrame (with_payload (cast_fields cast.now) payload.now)) }
     ensures bad_field { (result ≡ Err EncodeFault.BadField)
@@ -241,7 +253,8 @@ pub fn encode_cast(alloc: Global, cast: &Cast, payload: &[u8]) -> Result<Bytes, 
     if !keeps_cast_rules(cast) {
         return Err(EncodeFault::BadField);
     }
-    Ok(Bytes::from_vec(cast_text(alloc, cast, payload)?)?)
+    put_cast_text(out, cast, payload)?;
+    Ok(())
 }
 
 /// The text of a frame, or why it has none.

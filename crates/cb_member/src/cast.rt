@@ -17,7 +17,7 @@ use crate::text::{another, cast_text, payload_in};
 use bytes::Bytes;
 use cb_delay::{Event, Message};
 use cb_diffs::difference;
-use cb_frames::{Cast, LONGEST_PAYLOAD};
+use cb_frames::{Cast, FrameBlock, LONGEST_PAYLOAD};
 use cb_history::{CastDone, CastRefusal, Entry, Seat};
 use cb_times::{Name, NoMemory, VectorTime};
 use std::alloc::Global;
@@ -40,6 +40,7 @@ pub fn answer(
     seat: Seat,
     limit: usize,
     store: &mut Store,
+    block: &mut FrameBlock,
     payload: &[u8],
 ) -> Result<(CastDone, Entry), CastRefusal>
     requires { IsKept seat limit store.old }
@@ -52,7 +53,7 @@ pub fn answer(
     ensures same { OnErr result (held_by seat limit store.new ≡ held_by seat limit store.old) }
 {
     judge(seat, limit, store, payload)?;
-    let casting = make(seat, limit, store, payload)?;
+    let casting = make(seat, limit, store, block, payload)?;
     store.reserve(1)?;
     Ok(enter(store, casting))
 }
@@ -75,13 +76,19 @@ fn judge(seat: Seat, limit: usize, store: &Store, payload: &[u8]) -> Result<(), 
 }
 
 /// Makes the cast, and every handle and copy that its entering needs.
-fn make(seat: Seat, limit: usize, store: &Store, payload: &[u8]) -> Result<Casting, NoMemory>
+fn make(
+    seat: Seat,
+    limit: usize,
+    store: &Store,
+    block: &mut FrameBlock,
+    payload: &[u8],
+) -> Result<Casting, NoMemory>
     requires kept { IsKept seat limit store.now }
     requires payload { length payload.now ≤ LONGEST_PAYLOAD }
     ensures { IfOk result (MakesCasting seat (facts_held store.now) payload.now) }
 {
     let cast = cast_of(seat, limit, store)?;
-    let out = cast_text(*store.entries.allocator(), &cast, payload)?;
+    let out = cast_text(block, &cast, payload)?;
     let message = message_of(seat, limit, store, &cast, payload_in(&out, payload)?)?;
     let time = message.time.copy()?;
     casting_of(message, time, out)

@@ -12,7 +12,7 @@ ghost use Rattle.cb_member.specs.Casting.{RefusesExactly};
 use crate::store::Store;
 use crate::{arrival, cast, tick};
 use bytes::Bytes;
-use cb_frames::Range;
+use cb_frames::{FrameBlock, Range};
 use cb_history::{
     Arrival, ArriveRefusal, CastDone, CastRefusal, Entry, Event, Group, GroupMember, History,
     LONGEST_HISTORY, MissingFault, NewFault, Outgoing, Seat, TickRefusal, Ticked,
@@ -30,6 +30,8 @@ pub struct Member {
     seat: Seat,
     limit: usize,
     store: Store,
+    /// Where the frames of its casts are made.
+    block: FrameBlock,
 }
 
 impl Model for Member {
@@ -71,7 +73,13 @@ impl Member {
     {
         let (size, window) = (seat.group().size(), seat.group().window());
         let store = Store::new(alloc, size, window)?;
-        Ok(Member { seat, limit, store })
+        let block = FrameBlock::new(alloc);
+        Ok(Member {
+            seat,
+            limit,
+            store,
+            block,
+        })
     }
 
     /// The group, and which of its members this is.
@@ -153,7 +161,8 @@ impl Member {
         ensures refused { IfErr result (RefusesExactly self.old payload.now) }
         ensures same { OnErr result (self.new ≡ self.old) }
     {
-        cast::answer(self.seat, self.limit, &mut self.store, payload)
+        let (store, block) = (&mut self.store, &mut self.block);
+        cast::answer(self.seat, self.limit, store, block, payload)
     }
 
     /// Takes bytes that came: delivers what they make ready, or answers a request.
@@ -230,7 +239,9 @@ impl Member {
             seat,
             limit: _,
             store,
+            block,
         } = self;
+        drop(block);
         History {
             group: seat.group(),
             me: seat.me(),

@@ -6,7 +6,7 @@ ghost use Rattle.cb_frames.specs.Fields.{CastFrame, cast_fields, fields_of};
 ghost use Rattle.cb_frames.specs.Text.{KeepsCastRules, KeepsRules, payload_of, text_of, with_payload};
 
 use bytes::Bytes;
-use cb_frames::{Cast, EncodeFault, Frame, encode, encode_cast, one_text};
+use cb_frames::{Cast, EncodeFault, Frame, FrameBlock, encode, one_text};
 use cb_times::NoMemory;
 use std::alloc::{AllocError, Global};
 
@@ -25,15 +25,15 @@ pub fn frame_text(alloc: Global, frame: &Frame) -> Result<Bytes, NoMemory>
     }
 }
 
-/// The text of a cast frame that keeps the rules, with this payload in place of its own.
-pub fn cast_text(alloc: Global, cast: &Cast, payload: &[u8]) -> Result<Bytes, NoMemory>
+/// The text of a cast frame that keeps the rules, with this payload in place of its own. It lies in the block.
+pub fn cast_text(block: &mut FrameBlock, cast: &Cast, payload: &[u8]) -> Result<Bytes, NoMemory>
     requires rules { KeepsCastRules (cast_fields cast.now) }
     requires payload { length payload.now ≤ LONGEST_PAYLOAD }
     ensures { IfOk result (λ bytes. bytes
         ≡ text_of (CastFrame (with_payload (cast_fields cast.now) payload.now))) }
 {
     one_text();
-    match encode_cast(alloc, cast, payload) {
+    match block.encode_cast(cast, payload) {
         Ok(bytes) => Ok(bytes),
         Err(EncodeFault::NoMemory) => Err(AllocError),
         Err(EncodeFault::PayloadTooLong) => unreachable!("the payload is not too long"),

@@ -1,0 +1,63 @@
+//! Frames that lie in memory one behind the other, so that memory is taken once for many of them.
+
+ghost use Rattle.std.specs.Prelude.{◌≡◌, ◌↔◌, IfOk};
+ghost use Rattle.cb_frames.specs.Fields.{CastFrame, cast_fields};
+ghost use Rattle.cb_frames.specs.Text.{BreaksRule, HasLongPayload, IsText, with_payload};
+
+use crate::fault::EncodeFault;
+use crate::frame::Cast;
+use crate::writing::encode_cast_into;
+use bytes::{Bytes, BytesMut};
+use std::alloc::{AllocError, Global};
+
+/// So many bytes are taken at once, where no frame is longer.
+const BLOCK: usize = 4096;
+
+/// A block of memory into which the frames of a member's casts go, one behind the other.
+///
+/// The frames share the block's bytes: it is given back once all of them are let go of. Where one does not fit any more, the next block
+/// is taken.
+#[derive(Drop)]
+pub struct FrameBlock {
+    /// Where a text is made; its room is kept from one to the next.
+    text: Vec<u8>,
+    /// What is left of the block.
+    rest: BytesMut,
+}
+
+impl FrameBlock {
+    /// No block is taken yet.
+    pub fn new(alloc: Global) -> FrameBlock {
+        FrameBlock {
+            text: Vec::new(alloc),
+            rest: BytesMut::new(alloc),
+        }
+    }
+
+    /// The text of a cast whose payload lies elsewhere, or why it has none: what `encode` answers for the cast with this payload in place
+    /// of its own, which is not looked at.
+    pub fn encode_cast(&mut self, cast: &Cast, payload: &[u8]) -> Result<Bytes, EncodeFault>
+        ensures text { IfOk result (IsText (CastFrame
+            (with_payload (cast_fields cast.now) payload.now))) }
+        ensures too_long { (result ≡ Err EncodeFault.PayloadTooLong)
+            ↔ HasLongPayload (CastFrame (with_payload (cast_fields cast.now) payload.now)) }
+        ensures bad_field { (result ≡ Err EncodeFault.BadField)
+            ↔ BreaksRule (CastFrame (with_payload (cast_fields cast.now) payload.now)) }
+    {
+        self.text.clear();
+        encode_cast_into(&mut self.text, cast, payload)?;
+        Ok(lodged(&self.text, &mut self.rest)?)
+    }
+}
+
+/// A handle of these bytes behind the others in the block, or in a new one where they do not fit.
+fn lodged(text: &[u8], rest: &mut BytesMut) -> Result<Bytes, AllocError>
+    ensures { IfOk result (λ bytes. bytes ≡ text.now) }
+{
+    rest.clear();
+    if rest.capacity() < text.len() {
+        *rest = BytesMut::with_capacity(*rest.allocator(), BLOCK.max(text.len()))?;
+    }
+    rest.extend_from_slice(text)?;
+    rest.freeze_to(text.len())
+}
