@@ -161,13 +161,59 @@ fn a_cast_is_written_with_a_payload_that_lies_elsewhere(rt: HostRuntime) -> Resu
     let mut block = FrameBlock::new(rt.alloc());
     for _ in 0..2 {
         match block.encode_cast(&cast, b"ok") {
-            Ok(bytes) => assert_eq!(&rt; bytes.as_slice(), b"\x11\x07\x01\x02\x00\x02ok".as_slice()),
+            Ok(bytes) => assert_eq!(&rt;
+                bytes.as_slice(),
+                b"\x11\x07\x01\x02\x00\x02ok".as_slice()
+            ),
             Err(fault) => panic!(&rt; "{fault}"),
         }
     }
     let long = vec![in rt.alloc(); 0; 1025]?;
     assert!(&rt; block.encode_cast(&cast, &long) == Err(EncodeFault::PayloadTooLong));
     Ok(())
+}
+
+/// More than go into one block, each of which stays as it was made.
+#[test]
+fn frames_in_one_block_and_in_the_next_stay_as_they_are(rt: HostRuntime) -> Result<(), Fail> {
+    let mut block = FrameBlock::new(rt.alloc());
+    let mut frames = Vec::new(rt.alloc());
+    for number in 1..=9 {
+        frames.push(numbered(&rt, rt.alloc(), &mut block, number)?)?;
+    }
+    for (place, frame) in frames.iter().enumerate() {
+        assert_eq!(&rt; frame.len(), 1_006);
+        assert_eq!(&rt;
+            frame.as_slice().get(3).map(|byte| *byte as usize),
+            Some(place + 1)
+        );
+        assert_eq!(&rt;
+            frame.as_slice().last().map(|byte| *byte as usize),
+            Some(place + 1)
+        );
+    }
+    Ok(())
+}
+
+/// A cast of this number, whose payload is made of it.
+fn numbered(
+    rt: &impl Abort,
+    alloc: Global,
+    block: &mut FrameBlock,
+    number: u8,
+) -> Result<Bytes, Fail> {
+    let cast = Cast {
+        group: 7,
+        sender: 1,
+        number: u32::from(number),
+        changes: Vec::new(alloc),
+        payload: Bytes::new(),
+    };
+    let payload = vec![in alloc; number; 999]?;
+    match block.encode_cast(&cast, &payload) {
+        Ok(frame) => Ok(frame),
+        Err(fault) => panic!(rt; "{fault}"),
+    }
 }
 
 /// A change of this amount in each field below 63.

@@ -1,7 +1,8 @@
 //! A quick member that has done nothing yet, and its first call.
 
 use bytes::Bytes;
-use cb_member::{Entry, Group, Member, MissingFault, NewFault};
+use cb_member::{Arrival, ArriveRefusal, Entry, Group, Member, MissingFault, NewFault};
+use std::alloc::Global;
 use std::process::Abort;
 
 fn group(rt: &impl Abort) -> Group {
@@ -81,4 +82,88 @@ fn a_noted_tick_hands_out_its_entry(rt: HostRuntime) {
     let (ticked, noted) = member.tick_noted().expect(&rt, "a tick");
     drop(ticked);
     keeps(&rt, member, noted.expect(&rt, "an entry"));
+}
+
+const HI: &[u8] = b"\x11\x07\x01\x01\x00\x02hi";
+
+/// Member 2 answered "hi".
+const YO: &[u8] = b"\x11\x07\x02\x01\x01\x01\x01\x02yo";
+
+/// Member 1 says its time, in which it delivered the first cast of member 0.
+const TOLD: &[u8] = b"\x12\x07\x01\x02\x00\x01\x00\x01";
+
+/// Member 2 asks member 0 for its first cast.
+const ASKED: &[u8] = b"\x13\x07\x02\x00\x01\x00\x00";
+
+/// No frame.
+const CUT: &[u8] = b"\x11\x07\x01";
+
+/// Member 0, which has cast "no".
+fn speaker(rt: &impl Abort, alloc: Global) -> Member {
+    let mut member = Member::new(alloc, group(rt), 0, 100).expect(rt, "a member");
+    drop(member.cast(b"no").expect(rt, "a cast"));
+    member
+}
+
+/// What a member that receives sends, and whether it has an entry more, or why the bytes were refused.
+fn received(
+    rt: &impl Abort,
+    member: &mut Member,
+    bytes: &'static [u8],
+) -> Result<(usize, bool), ArriveRefusal> {
+    let (out, noted) = member.receive_noted(Bytes::from_static(bytes))?;
+    let sent = (out.len(), noted.is_some());
+    let is_last = noted.is_none() || noted.as_ref() == member.history().last();
+    drop(out);
+    drop(noted);
+    assert!(rt; is_last);
+    Ok(sent)
+}
+
+/// In each order: a cast that waits for nothing, one that comes before its question, one that comes again, a status, a request.
+#[test]
+fn a_member_that_receives_does_what_one_does_at_which_frames_arrive(rt: HostRuntime) {
+    const ORDERS: &[&[&[u8]]] = &[
+        &[HI, YO, TOLD, ASKED, HI, CUT],
+        &[YO, HI, ASKED, TOLD, YO, TOLD],
+        &[TOLD, ASKED, YO, YO, HI, HI],
+    ];
+    for order in ORDERS {
+        let (mut one, mut other) = (speaker(&rt, rt.alloc()), speaker(&rt, rt.alloc()));
+        let mut sent: usize = 0;
+        for bytes in *order {
+            let told = arrived(&mut one, bytes);
+            assert_eq!(rt; received(&rt, &mut other, bytes), told);
+            sent = sent.saturating_add(told.map_or(0, |told| told.0));
+        }
+        assert_eq!(rt; sent, 1);
+        are_same(&rt, one, other);
+    }
+}
+
+/// The same of a member at which frames arrive.
+fn arrived(member: &mut Member, bytes: &'static [u8]) -> Result<(usize, bool), ArriveRefusal> {
+    let arrival = member.arrive(&Bytes::from_static(bytes))?;
+    let told = match &arrival {
+        Arrival::Accepted {
+            deliveries: _,
+            changed,
+            out,
+        } => (out.len(), *changed),
+        Arrival::Repeat => (0, false),
+    };
+    drop(arrival);
+    Ok(told)
+}
+
+/// Both have the same history, and what is read of them is the same.
+fn are_same(rt: &impl Abort, one: Member, other: Member) {
+    assert_eq!(rt; one.time().as_slice(), other.time().as_slice());
+    assert_eq!(rt; one.stable(), other.stable());
+    assert_eq!(rt; one.events().len(), other.events().len());
+    let (one, other) = (one.into_history(), other.into_history());
+    let are_same = one.entries.as_slice() == other.entries.as_slice();
+    drop(one);
+    drop(other);
+    assert!(rt; are_same);
 }

@@ -236,3 +236,57 @@ fn locked_answer<L: Ledger>(
     };
     said.expect(rt, "memory")
 }
+
+/// The same calls where what comes is received, and what is cast is said under the lock: the receipts and the history are the same.
+#[test]
+fn received_as_plain(rt: HostRuntime) {
+    for script in SCRIPTS {
+        receive_script::<Brand, _>(&rt, rt.alloc(), Blank::new(1), script);
+    }
+}
+
+fn receive_script<L: Ledger, R: Wait + Abort>(rt: &R, alloc: Global, blank: Blank, script: &Script)
+    requires name { blank.name ≡ L.name }
+    requires parts { (blank.parts ≡ L.parts) × (1 ≤ blank.parts) }
+{
+    let (shared, mut seat) = SharedMember::<L>::new(alloc, blank, of_script(rt, alloc, script));
+    for (call, _answer) in script.calls {
+        receive_call(rt, alloc, &shared, &mut seat, call);
+    }
+    let plain = run_plain(rt, alloc, script);
+    claims_all(rt, plain.history(), seat.receipts());
+    let member = closed(rt, shared, seats(rt, alloc, seat, None));
+    have_one_history(rt, member, plain);
+}
+
+fn receive_call<L: Ledger>(
+    rt: &(impl Wait + Abort),
+    alloc: Global,
+    shared: &SharedMember<L>,
+    seat: &mut Seat<L>,
+    call: &Call,
+) {
+    match call {
+        Call::Cast(payload) => say(rt, alloc, shared, seat, payload),
+        Call::Take(bytes) => drop(shared.receive(rt, seat, Bytes::from_static(bytes))),
+        Call::Tick => drop(shared.tick(rt, seat)),
+    }
+}
+
+/// The payload is handed back, whether or not it is cast.
+fn say<L: Ledger>(
+    rt: &(impl Wait + Abort),
+    alloc: Global,
+    shared: &SharedMember<L>,
+    seat: &mut Seat<L>,
+    payload: &[u8],
+) {
+    let given = Vec::from_slice(alloc, payload).ok();
+    let (seen, cast) = shared.cast_with(rt, seat, move |member| (member.events().len(), given));
+    let is_back = cast
+        .as_ref()
+        .is_some_and(|(back, _cast)| back.as_slice() == payload);
+    drop(cast);
+    assert!(rt; is_back);
+    assert!(rt; seen <= 16);
+}
