@@ -92,6 +92,11 @@ const YO: &[u8] = b"\x11\x07\x02\x01\x01\x01\x01\x02yo";
 /// Member 1 says its time, in which it delivered the first cast of member 0.
 const TOLD: &[u8] = b"\x12\x07\x01\x02\x00\x01\x00\x01";
 
+/// The next casts of members 1 and 2, which have delivered the first cast of member 0.
+const OK: &[u8] = b"\x11\x07\x01\x02\x01\x00\x01\x02ok";
+
+const SO: &[u8] = b"\x11\x07\x02\x02\x01\x00\x01\x02so";
+
 /// Member 2 asks member 0 for its first cast.
 const ASKED: &[u8] = b"\x13\x07\x02\x00\x01\x00\x00";
 
@@ -127,6 +132,7 @@ fn a_member_that_receives_does_what_one_does_at_which_frames_arrive(rt: HostRunt
         &[HI, YO, TOLD, ASKED, HI, CUT],
         &[YO, HI, ASKED, TOLD, YO, TOLD],
         &[TOLD, ASKED, YO, YO, HI, HI],
+        &[ASKED, HI, OK, YO, SO, OK],
     ];
     for order in ORDERS {
         let (mut one, mut other) = (speaker(&rt, rt.alloc()), speaker(&rt, rt.alloc()));
