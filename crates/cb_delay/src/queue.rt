@@ -148,6 +148,3 @@ fn any_ready(list: &VecDeque<Message>, now: &VectorTime) -> bool
 {
     list.iter().any(|message| message.is_ready(now))
 }
-
-#[cfg(test)]
-mod tests;

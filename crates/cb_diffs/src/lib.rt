@@ -10,6 +10,3 @@ mod laws;
 pub use differences::difference;
 pub use expander::{ExpandFault, Expander};
 pub use laws::{differences_expand_back, expanding_is_summing, repeats_count_once};
-
-#[cfg(test)]
-mod tests;

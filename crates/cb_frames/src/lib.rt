@@ -21,6 +21,3 @@ pub use frame::{
 pub use laws::{each_is_a_text_or_a_fault, one_text};
 pub use reading::decode;
 pub use writing::encode;
-
-#[cfg(test)]
-mod tests;

@@ -22,19 +22,3 @@ impl fmt::Display for Name {
         write!(f, "{}.{}", self.sender, self.number)
     }
 }
-
-#[cfg(test)]
-mod tests {
-    use super::*;
-    use std::test::Fail;
-
-    #[test]
-    fn a_name_prints_its_sender_and_its_number(rt: HostRuntime) -> Result<(), Fail> {
-        let name = Name {
-            sender: 63,
-            number: 4294967295,
-        };
-        assert_eq!(rt; name.to_string(rt.alloc())?.as_str(), "63.4294967295");
-        Ok(())
-    }
-}

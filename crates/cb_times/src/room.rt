@@ -29,23 +29,3 @@ fn has_room<T>(list: &Vec<T>, more: usize) -> bool
 {
     list.capacity() - list.len() >= more
 }
-
-#[cfg(test)]
-mod tests {
-    use super::*;
-    use std::test::Fail;
-
-    #[test]
-    fn a_full_list_grows_to_four_times_its_length(rt: HostRuntime) -> Result<(), Fail> {
-        let mut list = Vec::from_slice(rt.alloc(), &[1, 2, 3, 4, 5, 6, 7, 8])?;
-        make_room(&mut list, 1)?;
-        assert!(rt; list.capacity() >= 32);
-        assert_eq!(rt; list.as_slice(), [1, 2, 3, 4, 5, 6, 7, 8].as_slice());
-        let before = list.capacity();
-        make_room(&mut list, 24)?;
-        assert_eq!(rt; list.capacity(), before);
-        make_room(&mut list, 100)?;
-        assert!(rt; list.capacity() >= 108);
-        Ok(())
-    }
-}

@@ -10,6 +10,3 @@ mod number;
 pub use fault::NumberFault;
 pub use laws::one_spelling;
 pub use number::{length, put, take};
-
-#[cfg(test)]
-mod tests;

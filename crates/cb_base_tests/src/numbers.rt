@@ -1,4 +1,6 @@
-use super::*;
+//! Numbers on the wire.
+
+use cb_varint::{NumberFault, length, put, take};
 use std::test::Fail;
 
 const TABLE: [(u32, &[u8]); 9] = [

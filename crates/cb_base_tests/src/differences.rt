@@ -1,5 +1,7 @@
-use super::*;
+//! Times that casts expand to, and differences of times.
+
 use bytes::Bytes;
+use cb_diffs::{ExpandFault, Expander, difference};
 use cb_frames::{Cast, Change};
 use cb_times::{FEWEST_MEMBERS, MOST_MEMBERS, NoMemory, TimeOrder, VectorTime};
 use std::alloc::Global;

@@ -1,5 +1,10 @@
-use super::*;
+//! Frames as values and as bytes, and blocks that frames lie in.
+
 use bytes::Bytes;
+use cb_frames::{
+    Cast, Change, EncodeFault, Frame, FrameBlock, FrameFault, LAST_NUMBER, Range, Request, Status,
+    decode, encode,
+};
 use std::alloc::{AllocError, Global};
 use std::process::Abort;
 use std::test::Fail;

@@ -2,7 +2,7 @@ use Rattle.std.proofs.Common.{◌+◌, ◌≤◌, arith, ap}
 use Rattle.cb_times.specs.declared.name.Name.{Name}
 use Rattle.cb_delay.specs.Queue.{count_of}
 use Rattle.cb_delay.proofs.Room.{count_is_within}
-use Rattle.cb_delay.proofs.queue.tests.hold_second.Goals as goal
+use Rattle.cb_base_tests.proofs.queues.hold_second.Goals as goal
 
 pub hold-requires-clause-room : goal.hold-requires-clause-room
 hold-requires-clause-room c =

@@ -3,9 +3,10 @@ ghost use Rattle.std.specs.Prelude.{◌≡◌, ◌+◌, ◌<◌, length, IfOk};
 ghost use Rattle.cb_delay.specs.Message.{IsOfGroup};
 ghost use Rattle.cb_delay.specs.Queue.{IsHeld};
 
-use super::*;
 use bytes::Bytes;
-use cb_times::Name;
+use cb_delay::{DelayQueue, Message};
+use cb_times::{Name, NoMemory, VectorTime};
+use std::alloc::Global;
 use std::test::Fail;
 
 const QUESTION: Name = Name {

@@ -1,7 +1,7 @@
 use Rattle.std.proofs.Common.{◌≡◌, arith}
 use Rattle.cb_delay.specs.Queue.{count_of}
 use Rattle.cb_delay.proofs.Room.{count_of-none, none_is_held, only_is_held}
-use Rattle.cb_delay.proofs.queue.tests.queue_with.Goals as goal
+use Rattle.cb_base_tests.proofs.queues.queue_with.Goals as goal
 
 pub hold-requires-clause-room : goal.hold-requires-clause-room
 hold-requires-clause-room c =

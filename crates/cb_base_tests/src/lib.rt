@@ -1,0 +1,16 @@
+//! Tests of what the base crates offer to everybody: numbers, frames, vector times, their differences, and delay queues.
+//!
+//! They stand in a crate of their own, so that a crate is not proved once more for its tests. It has no program, and nothing stands
+//! on it.
+#![tactic(auto)]
+
+#[cfg(test)]
+mod differences;
+#[cfg(test)]
+mod frames;
+#[cfg(test)]
+mod numbers;
+#[cfg(test)]
+mod queues;
+#[cfg(test)]
+mod times;
