@@ -1,5 +1,6 @@
 //! Times that casts expand to, and differences of times.
 
+use crate::asserts::{holds_at, says};
 use bytes::Bytes;
 use cb_diffs::{ExpandFault, Expander, difference};
 use cb_frames::{Cast, Change};
@@ -7,7 +8,7 @@ use cb_times::{FEWEST_MEMBERS, MOST_MEMBERS, NoMemory, TimeOrder, VectorTime};
 use std::alloc::Global;
 use std::marker::Model;
 use std::process::Abort;
-use std::test::Fail;
+use std::test::*;
 
 /// A cast of group 7, and its time or the fault that it is refused for.
 #[derive(Drop)]
@@ -18,21 +19,22 @@ struct Step<'a> {
     gives: &'a str,
 }
 
-fn cast(alloc: Global, step: &Step<'_>) -> Result<Cast, NoMemory> {
+fn cast(rt: &impl Abort, alloc: Global, step: &Step<'_>) -> Cast {
     let mut changes = Vec::new(alloc);
     for (field, amount) in step.changes {
-        changes.push(Change {
+        let change = Change {
             field: *field,
             amount: *amount,
-        })?;
+        };
+        changes.push(change).expect(rt, "memory");
     }
-    Ok(Cast {
+    Cast {
         group: 7,
         sender: step.sender,
         number: step.number,
         changes,
         payload: Bytes::new(),
-    })
+    }
 }
 
 /// An expander and the time that it fills.
@@ -84,11 +86,14 @@ fn filled(
     filling: &mut Filling,
     cast: &Cast,
 ) -> Result<String, NoMemory> {
-    let before = filling.into.copy()?;
-    match filling.fill(cast) {
+    let before = filling.into.copy().expect(rt, "memory");
+    let answer = filling.fill(cast);
+    let is_as_before = filling.into.as_slice() == before.as_slice();
+    drop(before);
+    match answer {
         Ok(()) => filling.into.to_string(alloc),
         Err(fault) => {
-            assert_eq!(rt; filling.into.as_slice(), before.as_slice());
+            holds_at(rt, is_as_before, &fault);
             fault.to_string(alloc)
         }
     }
@@ -97,23 +102,33 @@ fn filled(
 ghost use Rattle.cb_times.specs.Group.{IsGroupSize};
 
 /// Each cast has the answer that stands beside it, by both calls.
-fn expand_all(rt: &impl Abort, alloc: Global, size: u32, steps: &[Step<'_>]) -> Result<(), Fail>
+fn expand_all(rt: &impl Abort, alloc: Global, size: u32, steps: &[Step<'_>])
     requires { IsGroupSize size }
 {
-    let mut expander = Expander::new(alloc, size)?;
-    let mut filling = Filling::new(alloc, size)?;
+    let mut expander = Expander::new(alloc, size).expect(rt, "memory");
+    let mut filling = Filling::new(alloc, size).expect(rt, "memory");
     for step in steps {
-        let cast = cast(alloc, step)?;
-        let time = expanded(alloc, &mut expander, &cast)?;
-        assert_eq!(rt; time.as_str(), step.gives);
-        let time = filled(rt, alloc, &mut filling, &cast)?;
-        assert_eq!(rt; time.as_str(), step.gives);
+        expand_one(rt, alloc, (&mut expander, &mut filling), step);
     }
-    Ok(())
+    drop(expander);
+    drop(filling);
+}
+
+fn expand_one(
+    rt: &impl Abort,
+    alloc: Global,
+    by_both: (&mut Expander, &mut Filling),
+    step: &Step<'_>,
+) {
+    let (expander, filling) = by_both;
+    let cast = cast(rt, alloc, step);
+    says(rt, expanded(alloc, expander, &cast), step.gives);
+    says(rt, filled(rt, alloc, filling, &cast), step.gives);
+    drop(cast);
 }
 
 #[test]
-fn increments_count_from_the_senders_own_last_cast(rt: HostRuntime) -> Result<(), Fail> {
+fn increments_count_from_the_senders_own_last_cast(rt: HostRuntime) {
     let steps = [
         Step {
             sender: 2,
@@ -134,7 +149,7 @@ fn increments_count_from_the_senders_own_last_cast(rt: HostRuntime) -> Result<()
             gives: "[203,1,2,0,2]",
         },
     ];
-    expand_all(&rt, rt.alloc(), 5, &steps)
+    expand_all(&rt, rt.alloc(), 5, &steps);
 }
 
 const FAULTS: &[Step<'static>] = &[
@@ -189,12 +204,12 @@ const FAULTS: &[Step<'static>] = &[
 ];
 
 #[test]
-fn faults_come_in_their_order_and_change_nothing(rt: HostRuntime) -> Result<(), Fail> {
-    expand_all(&rt, rt.alloc(), 3, FAULTS)
+fn faults_come_in_their_order_and_change_nothing(rt: HostRuntime) {
+    expand_all(&rt, rt.alloc(), 3, FAULTS);
 }
 
 #[test]
-fn a_field_stays_at_the_greatest_number(rt: HostRuntime) -> Result<(), Fail> {
+fn a_field_stays_at_the_greatest_number(rt: HostRuntime) {
     let steps = [
         Step {
             sender: 1,
@@ -209,21 +224,24 @@ fn a_field_stays_at_the_greatest_number(rt: HostRuntime) -> Result<(), Fail> {
             gives: "[4294967295,2,0]",
         },
     ];
-    expand_all(&rt, rt.alloc(), 3, &steps)
+    expand_all(&rt, rt.alloc(), 3, &steps);
 }
 
-fn time_of(alloc: Global, fields: &[u32]) -> Result<VectorTime, Fail> {
-    let size = fields.len();
-    if size < FEWEST_MEMBERS as usize || size > MOST_MEMBERS as usize {
-        return Err(Fail::new("no time of a group"));
-    }
-    let mut time = VectorTime::zero(alloc, size as u32)?;
+fn time_of(rt: &impl Abort, alloc: Global, fields: &[u32]) -> VectorTime {
+    let mut time = zero(rt, alloc, fields.len());
     for (k, count) in (0..time.size()).zip(fields) {
         if k < time.size() {
             time.set(k, *count);
         }
     }
-    Ok(time)
+    time
+}
+
+fn zero(rt: &impl Abort, alloc: Global, size: usize) -> VectorTime {
+    if size < FEWEST_MEMBERS as usize || size > MOST_MEMBERS as usize {
+        panic!(rt; "no time of a group");
+    }
+    VectorTime::zero(alloc, size as u32).expect(rt, "memory")
 }
 
 /// Two times of a sender, and by how much the other fields grew between them.
@@ -235,26 +253,44 @@ struct Growth<'a> {
     changes: &'a [(u32, u32)],
 }
 
-fn differ(rt: &impl Abort, alloc: Global, growth: &Growth<'_>) -> Result<(), Fail> {
-    let previous = time_of(alloc, growth.previous)?;
-    let now = time_of(alloc, growth.now)?;
-    if previous.size() != now.size() || growth.own >= now.size() {
+fn differ(rt: &impl Abort, alloc: Global, growth: &Growth<'_>) {
+    let previous = time_of(rt, alloc, growth.previous);
+    let now = time_of(rt, alloc, growth.now);
+    let changes = difference_of(rt, alloc, &previous, &now, growth.own);
+    drop(previous);
+    drop(now);
+    are_changes(rt, &changes, growth.changes);
+    drop(changes);
+}
+
+fn difference_of(
+    rt: &impl Abort,
+    alloc: Global,
+    previous: &VectorTime,
+    now: &VectorTime,
+    own: u32,
+) -> Vec<Change> {
+    if previous.size() != now.size() || own >= now.size() {
         panic!(rt; "the times and their sender are of one group");
     }
-    let TimeOrder::Before = previous.compare(&now) else {
+    let TimeOrder::Before = previous.compare(now) else {
         panic!(rt; "the times are in their order");
     };
-    let changes = difference(alloc, &previous, &now, growth.own)?;
-    assert_eq!(rt; changes.len(), growth.changes.len());
-    for (change, (field, amount)) in changes.iter().zip(growth.changes) {
-        assert_eq!(rt; change.field, *field);
-        assert_eq!(rt; change.amount, *amount);
-    }
-    Ok(())
+    difference(alloc, previous, now, own).expect(rt, "memory")
+}
+
+fn are_changes(rt: &impl Abort, changes: &[Change], expected: &[(u32, u32)]) {
+    let is_each = changes.iter().zip(expected).all(is_change);
+    holds_at(rt, is_each && changes.len() == expected.len(), &changes);
+}
+
+fn is_change(pair: (&Change, &(u32, u32))) -> bool {
+    let (change, (field, amount)) = pair;
+    change.field == *field && change.amount == *amount
 }
 
 #[test]
-fn differences_are_of_the_other_fields_that_grew(rt: HostRuntime) -> Result<(), Fail> {
+fn differences_are_of_the_other_fields_that_grew(rt: HostRuntime) {
     let rows = [
         Growth {
             previous: &[0, 0, 0],
@@ -282,13 +318,12 @@ fn differences_are_of_the_other_fields_that_grew(rt: HostRuntime) -> Result<(), 
         },
     ];
     for row in &rows {
-        differ(&rt, rt.alloc(), row)?;
+        differ(&rt, rt.alloc(), row);
     }
-    Ok(())
 }
 
 #[test]
-fn a_fault_prints_its_name_and_its_numbers(rt: HostRuntime) -> Result<(), Fail> {
+fn a_fault_prints_its_name_and_its_numbers(rt: HostRuntime) {
     let last = ExpandFault::NotNext {
         expected: 3,
         found: 4_294_967_295,
@@ -299,7 +334,6 @@ fn a_fault_prints_its_name_and_its_numbers(rt: HostRuntime) -> Result<(), Fail> 
         (ExpandFault::NoMemory, "NoMemory"),
     ];
     for (fault, text) in texts {
-        assert_eq!(rt; fault.to_string(rt.alloc())?.as_str(), text);
+        says(&rt, fault.to_string(rt.alloc()), text);
     }
-    Ok(())
 }

@@ -1,13 +1,14 @@
 //! Frames as values and as bytes, and blocks that frames lie in.
 
+use crate::asserts::{holds_at, same, says};
 use bytes::Bytes;
 use cb_frames::{
     Cast, Change, EncodeFault, Frame, FrameBlock, FrameFault, LAST_NUMBER, Range, Request, Status,
     decode, encode,
 };
-use std::alloc::{AllocError, Global};
+use std::alloc::Global;
 use std::process::Abort;
-use std::test::Fail;
+use std::test::*;
 
 /// What a frame is made of; a request is of group 7.
 #[derive(Clone, Copy, Debug, Drop)]
@@ -30,61 +31,76 @@ enum Parts<'a> {
     },
 }
 
-fn frame(alloc: Global, parts: &Parts<'_>) -> Result<Frame, AllocError> {
+fn frame(rt: &impl Abort, alloc: Global, parts: &Parts<'_>) -> Frame {
     match *parts {
         Parts::Cast {
             name,
             changes,
             payload,
-        } => {
-            let [group, sender, number] = name;
-            Ok(Frame::Cast(Cast {
-                group,
-                sender,
-                number,
-                changes: Vec::from_slice(alloc, changes)?,
-                payload: Bytes::copy_from_slice(alloc, payload)?,
-            }))
-        }
+        } => Frame::Cast(cast(rt, alloc, name, changes, payload)),
         Parts::Status {
             group,
             sender,
             values,
-        } => Ok(Frame::Status(Status {
+        } => Frame::Status(Status {
             group,
             sender,
-            values: Vec::from_slice(alloc, values)?,
-        })),
+            values: Vec::from_slice(alloc, values).expect(rt, "memory"),
+        }),
         Parts::Request {
             requester,
             asked,
             ranges,
-        } => Ok(Frame::Request(Request {
+        } => Frame::Request(Request {
             group: 7,
             requester,
             asked,
-            ranges: Vec::from_slice(alloc, ranges)?,
-        })),
+            ranges: Vec::from_slice(alloc, ranges).expect(rt, "memory"),
+        }),
+    }
+}
+
+fn cast(
+    rt: &impl Abort,
+    alloc: Global,
+    name: [u32; 3],
+    changes: &[Change],
+    payload: &[u8],
+) -> Cast {
+    let [group, sender, number] = name;
+    let changes = Vec::from_slice(alloc, changes).expect(rt, "memory");
+    let payload = Bytes::copy_from_slice(alloc, payload).expect(rt, "memory");
+    Cast {
+        group,
+        sender,
+        number,
+        changes,
+        payload,
     }
 }
 
 /// The frame is written so, and read again from there.
-fn is_text(rt: &impl Abort, alloc: Global, frame: &Frame, text: &[u8]) {
-    let Ok(bytes) = encode(alloc, frame) else {
-        panic!(rt; "{frame:?} has no text");
-    };
-    assert_eq!(rt; bytes.as_slice(), text);
-    match decode(alloc, &bytes) {
-        Ok(found) => assert!(rt; found == *frame),
-        Err(fault) => panic!(rt; "{fault}"),
-    }
+fn is_text(rt: &impl Abort, alloc: Global, parts: &Parts<'_>, text: &[u8]) {
+    let frame = frame(rt, alloc, parts);
+    let bytes = encode(alloc, &frame).expect(rt, "a text");
+    same(rt, bytes.as_slice(), text);
+    let is_read = is_read_as(rt, alloc, &bytes, &frame);
+    drop(bytes);
+    drop(frame);
+    holds_at(rt, is_read, parts);
 }
 
-fn are_texts(rt: &impl Abort, alloc: Global, rows: &[(Parts<'_>, &[u8])]) -> Result<(), Fail> {
+fn is_read_as(rt: &impl Abort, alloc: Global, bytes: &Bytes, frame: &Frame) -> bool {
+    let found = decode(alloc, bytes).expect(rt, "a frame");
+    let is_same = found == *frame;
+    drop(found);
+    is_same
+}
+
+fn are_texts(rt: &impl Abort, alloc: Global, rows: &[(Parts<'_>, &[u8])]) {
     for (parts, text) in rows {
-        is_text(rt, alloc, &frame(alloc, parts)?, text);
+        is_text(rt, alloc, parts, text);
     }
-    Ok(())
 }
 
 const CASTS: &[(Parts<'static>, &[u8])] = &[
@@ -150,126 +166,138 @@ const CASTS: &[(Parts<'static>, &[u8])] = &[
 ];
 
 #[test]
-fn small_casts_are_written_and_read(rt: HostRuntime) -> Result<(), Fail> {
-    are_texts(&rt, rt.alloc(), CASTS)
+fn small_casts_are_written_and_read(rt: HostRuntime) {
+    are_texts(&rt, rt.alloc(), CASTS);
+}
+
+/// The cast's own payload is not looked at.
+fn is_written(rt: &impl Abort, block: &mut FrameBlock, cast: &Cast, payload: &[u8], text: &[u8]) {
+    let bytes = block.encode_cast(cast, payload).expect(rt, "a text");
+    same(rt, bytes.as_slice(), text);
+    drop(bytes);
 }
 
 #[test]
-fn a_cast_is_written_with_a_payload_that_lies_elsewhere(rt: HostRuntime) -> Result<(), Fail> {
-    let cast = Cast {
-        group: 7,
-        sender: 1,
-        number: 2,
-        changes: Vec::new(rt.alloc()),
-        payload: Bytes::from_static(b"not looked at"),
-    };
+fn a_cast_is_written_with_a_payload_that_lies_elsewhere(rt: HostRuntime) {
+    let text = b"\x11\x07\x01\x02\x00\x02ok";
+    let cast = cast(&rt, rt.alloc(), [7, 1, 2], &[], b"not looked at");
     let mut block = FrameBlock::new(rt.alloc());
-    for _ in 0..2 {
-        match block.encode_cast(&cast, b"ok") {
-            Ok(bytes) => assert_eq!(&rt;
-                bytes.as_slice(),
-                b"\x11\x07\x01\x02\x00\x02ok".as_slice()
-            ),
-            Err(fault) => panic!(&rt; "{fault}"),
-        }
-    }
-    let long = vec![in rt.alloc(); 0; 1025]?;
-    assert!(&rt; block.encode_cast(&cast, &long) == Err(EncodeFault::PayloadTooLong));
-    Ok(())
+    is_written(&rt, &mut block, &cast, b"ok", text);
+    is_written(&rt, &mut block, &cast, b"ok", text);
+    is_too_long(&rt, &mut block, &cast, many(&rt, rt.alloc(), 0, 1_025));
+    drop(block);
+    drop(cast);
+}
+
+fn is_too_long(rt: &impl Abort, block: &mut FrameBlock, cast: &Cast, payload: Vec<u8>) {
+    let refusal = block.encode_cast(cast, &payload).err();
+    drop(payload);
+    same(rt, refusal, Some(EncodeFault::PayloadTooLong));
+}
+
+/// So many times this byte.
+fn many(rt: &impl Abort, alloc: Global, byte: u8, count: usize) -> Vec<u8> {
+    vec![in alloc; byte; count].expect(rt, "memory")
 }
 
 /// More than go into one block, each of which stays as it was made.
 #[test]
-fn frames_in_one_block_and_in_the_next_stay_as_they_are(rt: HostRuntime) -> Result<(), Fail> {
+fn frames_in_one_block_and_in_the_next_stay_as_they_are(rt: HostRuntime) {
     let mut block = FrameBlock::new(rt.alloc());
     let mut frames = Vec::new(rt.alloc());
     for number in 1..=9 {
-        frames.push(numbered(&rt, rt.alloc(), &mut block, number)?)?;
+        let frame = numbered(&rt, rt.alloc(), &mut block, number);
+        frames.push(frame).expect(&rt, "memory");
     }
     for (place, frame) in frames.iter().enumerate() {
-        assert_eq!(&rt; frame.len(), 1_006);
-        assert_eq!(&rt;
-            frame.as_slice().get(3).map(|byte| *byte as usize),
-            Some(place + 1)
-        );
-        assert_eq!(&rt;
-            frame.as_slice().last().map(|byte| *byte as usize),
-            Some(place + 1)
-        );
+        holds_at(&rt, is_numbered(frame.as_slice(), place + 1), &place);
     }
-    Ok(())
+    drop(frames);
+    drop(block);
+}
+
+fn is_numbered(frame: &[u8], number: usize) -> bool {
+    frame.len() == 1_006 && is_at(frame.get(3), number) && is_at(frame.last(), number)
+}
+
+fn is_at(byte: Option<&u8>, number: usize) -> bool {
+    byte.is_some_and(|byte| *byte as usize == number)
 }
 
 /// A cast of this number, whose payload is made of it.
-fn numbered(
-    rt: &impl Abort,
-    alloc: Global,
-    block: &mut FrameBlock,
-    number: u8,
-) -> Result<Bytes, Fail> {
-    let cast = Cast {
-        group: 7,
-        sender: 1,
-        number: u32::from(number),
-        changes: Vec::new(alloc),
-        payload: Bytes::new(),
-    };
-    let payload = vec![in alloc; number; 999]?;
-    match block.encode_cast(&cast, &payload) {
-        Ok(frame) => Ok(frame),
-        Err(fault) => panic!(rt; "{fault}"),
-    }
+fn numbered(rt: &impl Abort, alloc: Global, block: &mut FrameBlock, number: u8) -> Bytes {
+    let cast = cast(rt, alloc, [7, 1, u32::from(number)], &[], b"");
+    let payload = many(rt, alloc, number, 999);
+    let frame = block.encode_cast(&cast, &payload);
+    drop(cast);
+    drop(payload);
+    frame.expect(rt, "a text")
 }
 
 /// A change of this amount in each field below 63.
-fn changes_of(alloc: Global, amount: u32) -> Result<Vec<Change>, AllocError> {
+fn changes_of(rt: &impl Abort, alloc: Global, amount: u32) -> Vec<Change> {
     let mut changes = Vec::new(alloc);
     for field in 0..63 {
-        changes.push(Change { field, amount })?;
+        changes.push(Change { field, amount }).expect(rt, "memory");
     }
-    Ok(changes)
+    changes
 }
 
-/// The beginning, 63 times the middle, and the end.
-fn text_of(alloc: Global, parts: [&[u8]; 3]) -> Result<Vec<u8>, AllocError> {
+/// The beginning, so many times the middle, and the end.
+fn text_of(rt: &impl Abort, alloc: Global, parts: [&[u8]; 3], count: u32) -> Vec<u8> {
     let [begin, middle, end] = parts;
-    let mut text = begin.to_vec(alloc)?;
-    for _ in 0..63 {
-        text.extend_from_slice(middle)?;
+    let mut text = begin.to_vec(alloc).expect(rt, "memory");
+    for _ in 0..count {
+        text.extend_from_slice(middle).expect(rt, "memory");
     }
-    text.extend_from_slice(end)?;
-    Ok(text)
+    text.extend_from_slice(end).expect(rt, "memory");
+    text
+}
+
+/// This is the text, of so many bytes.
+fn is_long_text(rt: &impl Abort, alloc: Global, parts: &Parts<'_>, text: &[u8], length: usize) {
+    same(rt, text.len(), length);
+    is_text(rt, alloc, parts, text);
 }
 
 #[test]
-fn a_cast_after_one_of_each_other_has_132_bytes(rt: HostRuntime) -> Result<(), Fail> {
-    let changes = changes_of(rt.alloc(), 1)?;
-    let text = text_of(rt.alloc(), [b"\x11\x07\x3f\x01\x3f", b"\x00\x01", b"\x00"])?;
-    assert_eq!(rt; text.len(), 132);
+fn a_cast_after_one_of_each_other_has_132_bytes(rt: HostRuntime) {
+    let changes = changes_of(&rt, rt.alloc(), 1);
+    let parts = [b"\x11\x07\x3f\x01\x3f".as_slice(), b"\x00\x01", b"\x00"];
+    let text = text_of(&rt, rt.alloc(), parts, 63);
     let parts = Parts::Cast {
         name: [7, 63, 1],
         changes: &changes,
         payload: b"",
     };
-    are_texts(&rt, rt.alloc(), &[(parts, &text)])
+    is_long_text(&rt, rt.alloc(), &parts, &text, 132);
+    drop(text);
+    drop(changes);
 }
 
 #[test]
-fn the_longest_cast_has_1417_bytes(rt: HostRuntime) -> Result<(), Fail> {
+fn the_longest_cast_has_1417_bytes(rt: HostRuntime) {
     const MAX: u32 = 4_294_967_295;
-    let changes = changes_of(rt.alloc(), MAX)?;
-    let payload = vec![in rt.alloc(); 0x61; 1024]?;
-    let begin = b"\x11\xff\xff\xff\xff\x0f\x3f\xff\xff\xff\xff\x0f\x3f";
-    let middle = b"\x00\xff\xff\xff\xff\x0f";
-    let mut text = text_of(rt.alloc(), [begin, middle, b"\x80\x08"])?;
-    text.extend_from_slice(&payload)?;
-    assert_eq!(rt; text.len(), 1417);
+    let changes = changes_of(&rt, rt.alloc(), MAX);
+    let payload = many(&rt, rt.alloc(), 0x61, 1_024);
+    let text = longest_text(&rt, rt.alloc(), &payload);
     let parts = Parts::Cast {
         name: [MAX, 63, MAX],
         changes: &changes,
         payload: &payload,
     };
-    are_texts(&rt, rt.alloc(), &[(parts, &text)])
+    is_long_text(&rt, rt.alloc(), &parts, &text, 1_417);
+    drop(text);
+    drop(payload);
+    drop(changes);
+}
+
+fn longest_text(rt: &impl Abort, alloc: Global, payload: &[u8]) -> Vec<u8> {
+    let begin = b"\x11\xff\xff\xff\xff\x0f\x3f\xff\xff\xff\xff\x0f\x3f".as_slice();
+    let middle = b"\x00\xff\xff\xff\xff\x0f";
+    let mut text = text_of(rt, alloc, [begin, middle, b"\x80\x08"], 63);
+    text.extend_from_slice(payload).expect(rt, "memory");
+    text
 }
 
 const STATUSES: &[(Parts<'static>, &[u8])] = &[
@@ -320,8 +348,8 @@ const STATUSES: &[(Parts<'static>, &[u8])] = &[
 ];
 
 #[test]
-fn a_status_says_each_field_that_is_not_zero(rt: HostRuntime) -> Result<(), Fail> {
-    are_texts(&rt, rt.alloc(), STATUSES)
+fn a_status_says_each_field_that_is_not_zero(rt: HostRuntime) {
+    are_texts(&rt, rt.alloc(), STATUSES);
 }
 
 const REQUESTS: &[(Parts<'static>, &[u8])] = &[
@@ -348,8 +376,8 @@ const REQUESTS: &[(Parts<'static>, &[u8])] = &[
 ];
 
 #[test]
-fn a_request_says_its_ranges_by_their_distances(rt: HostRuntime) -> Result<(), Fail> {
-    are_texts(&rt, rt.alloc(), REQUESTS)
+fn a_request_says_its_ranges_by_their_distances(rt: HostRuntime) {
+    are_texts(&rt, rt.alloc(), REQUESTS);
 }
 
 const UP_TO_THE_LAST: &[(Parts<'static>, &[u8])] = &[(
@@ -368,46 +396,48 @@ const UP_TO_THE_LAST: &[(Parts<'static>, &[u8])] = &[(
 )];
 
 #[test]
-fn a_request_may_ask_up_to_the_last_number(rt: HostRuntime) -> Result<(), Fail> {
-    are_texts(&rt, rt.alloc(), UP_TO_THE_LAST)
+fn a_request_may_ask_up_to_the_last_number(rt: HostRuntime) {
+    are_texts(&rt, rt.alloc(), UP_TO_THE_LAST);
 }
 
 /// Ranges of one number each, with one number between two.
-fn ranges_of(alloc: Global, count: u32) -> Result<Vec<Range>, AllocError> {
+fn ranges_of(rt: &impl Abort, alloc: Global, count: u32) -> Vec<Range> {
     let mut ranges = Vec::new(alloc);
     for number in (1..).step_by(2).take(count as usize) {
-        ranges.push(Range {
+        let range = Range {
             first: number,
             last: number,
-        })?;
+        };
+        ranges.push(range).expect(rt, "memory");
     }
-    Ok(ranges)
+    ranges
 }
 
 #[test]
-fn a_request_has_at_most_32_ranges(rt: HostRuntime) -> Result<(), Fail> {
-    let ranges = ranges_of(rt.alloc(), 32)?;
-    let mut text = b"\x13\x07\x02\x00\x20".to_vec(rt.alloc())?;
-    for _ in 0..32 {
-        text.extend_from_slice(b"\x00\x00")?;
-    }
+fn a_request_has_at_most_32_ranges(rt: HostRuntime) {
+    let ranges = ranges_of(&rt, rt.alloc(), 32);
+    let parts = [b"\x13\x07\x02\x00\x20".as_slice(), b"\x00\x00", b""];
+    let text = text_of(&rt, rt.alloc(), parts, 32);
     let parts = Parts::Request {
         requester: 2,
         asked: 0,
         ranges: &ranges,
     };
-    are_texts(&rt, rt.alloc(), &[(parts, &text)])
+    is_text(&rt, rt.alloc(), &parts, &text);
+    drop(text);
+    drop(ranges);
 }
 
 #[test]
-fn a_33rd_range_has_no_text(rt: HostRuntime) -> Result<(), Fail> {
-    let ranges = ranges_of(rt.alloc(), 33)?;
+fn a_33rd_range_has_no_text(rt: HostRuntime) {
+    let ranges = ranges_of(&rt, rt.alloc(), 33);
     let parts = Parts::Request {
         requester: 2,
         asked: 0,
         ranges: &ranges,
     };
-    have_no_text(&rt, rt.alloc(), &[(parts, EncodeFault::BadField)])
+    has_no_text(&rt, rt.alloc(), &parts, EncodeFault::BadField);
+    drop(ranges);
 }
 
 const FAULTS: &[(&[u8], FrameFault)] = &[
@@ -467,231 +497,178 @@ const FAULTS: &[(&[u8], FrameFault)] = &[
 ];
 
 #[test]
-fn bytes_that_are_no_frame_have_their_first_fault(rt: HostRuntime) -> Result<(), Fail> {
+fn bytes_that_are_no_frame_have_their_first_fault(rt: HostRuntime) {
     for (bytes, fault) in FAULTS {
-        let bytes = Bytes::copy_from_slice(rt.alloc(), bytes)?;
-        assert_eq!(rt;
-            decode(rt.alloc(), &bytes).err(),
-            Some(*fault),
-            "at {bytes:?}"
-        );
+        has_fault(&rt, rt.alloc(), bytes, *fault);
     }
-    Ok(())
 }
 
-fn have_no_text(
-    rt: &impl Abort,
-    alloc: Global,
-    rows: &[(Parts<'_>, EncodeFault)],
-) -> Result<(), Fail> {
-    for (parts, fault) in rows {
-        let frame = frame(alloc, parts)?;
-        assert!(rt; encode(alloc, &frame) == Err(*fault), "at {frame:?}");
-    }
-    Ok(())
+fn has_fault(rt: &impl Abort, alloc: Global, text: &[u8], fault: FrameFault) {
+    let bytes = Bytes::copy_from_slice(alloc, text).expect(rt, "memory");
+    let found = decode(alloc, &bytes).err();
+    drop(bytes);
+    same(rt, (text, found), (text, Some(fault)));
+}
+
+fn has_no_text(rt: &impl Abort, alloc: Global, parts: &Parts<'_>, fault: EncodeFault) {
+    let frame = frame(rt, alloc, parts);
+    let refusal = encode(alloc, &frame).err();
+    drop(frame);
+    holds_at(rt, refusal == Some(fault), parts);
 }
 
 #[test]
-fn a_payload_that_is_too_long_comes_before_a_broken_rule(rt: HostRuntime) -> Result<(), Fail> {
-    let long = vec![in rt.alloc(); 0; 1025]?;
+fn a_payload_that_is_too_long_comes_before_a_broken_rule(rt: HostRuntime) {
+    let long = many(&rt, rt.alloc(), 0, 1_025);
     let parts = Parts::Cast {
         name: [7, 64, 0],
         changes: &[],
         payload: &long,
     };
-    have_no_text(&rt, rt.alloc(), &[(parts, EncodeFault::PayloadTooLong)])
+    has_no_text(&rt, rt.alloc(), &parts, EncodeFault::PayloadTooLong);
+    drop(long);
 }
 
-const BROKEN_CASTS: &[(Parts<'static>, EncodeFault)] = &[
-    (
-        Parts::Cast {
-            name: [7, 64, 1],
-            changes: &[],
-            payload: b"",
-        },
-        EncodeFault::BadField,
-    ),
-    (
-        Parts::Cast {
-            name: [7, 0, 0],
-            changes: &[],
-            payload: b"",
-        },
-        EncodeFault::BadField,
-    ),
-    (
-        Parts::Cast {
-            name: [7, 0, 1],
-            changes: &[Change {
-                field: 0,
+const BROKEN_CASTS: &[Parts<'static>] = &[
+    Parts::Cast {
+        name: [7, 64, 1],
+        changes: &[],
+        payload: b"",
+    },
+    Parts::Cast {
+        name: [7, 0, 0],
+        changes: &[],
+        payload: b"",
+    },
+    Parts::Cast {
+        name: [7, 0, 1],
+        changes: &[Change {
+            field: 0,
+            amount: 1,
+        }],
+        payload: b"",
+    },
+    Parts::Cast {
+        name: [7, 0, 1],
+        changes: &[Change {
+            field: 1,
+            amount: 0,
+        }],
+        payload: b"",
+    },
+    Parts::Cast {
+        name: [7, 0, 1],
+        changes: &[Change {
+            field: 64,
+            amount: 1,
+        }],
+        payload: b"",
+    },
+    Parts::Cast {
+        name: [7, 0, 1],
+        changes: &[
+            Change {
+                field: 2,
                 amount: 1,
-            }],
-            payload: b"",
-        },
-        EncodeFault::BadField,
-    ),
-    (
-        Parts::Cast {
-            name: [7, 0, 1],
-            changes: &[Change {
-                field: 1,
-                amount: 0,
-            }],
-            payload: b"",
-        },
-        EncodeFault::BadField,
-    ),
-    (
-        Parts::Cast {
-            name: [7, 0, 1],
-            changes: &[Change {
-                field: 64,
+            },
+            Change {
+                field: 2,
                 amount: 1,
-            }],
-            payload: b"",
-        },
-        EncodeFault::BadField,
-    ),
-    (
-        Parts::Cast {
-            name: [7, 0, 1],
-            changes: &[
-                Change {
-                    field: 2,
-                    amount: 1,
-                },
-                Change {
-                    field: 2,
-                    amount: 1,
-                },
-            ],
-            payload: b"",
-        },
-        EncodeFault::BadField,
-    ),
+            },
+        ],
+        payload: b"",
+    },
 ];
 
-const BROKEN_STATUSES: &[(Parts<'static>, EncodeFault)] = &[
-    (
-        Parts::Status {
-            group: 7,
-            sender: 64,
-            values: &[],
-        },
-        EncodeFault::BadField,
-    ),
-    (
-        Parts::Status {
-            group: 7,
-            sender: 0,
-            values: &[Change {
-                field: 64,
+const BROKEN_STATUSES: &[Parts<'static>] = &[
+    Parts::Status {
+        group: 7,
+        sender: 64,
+        values: &[],
+    },
+    Parts::Status {
+        group: 7,
+        sender: 0,
+        values: &[Change {
+            field: 64,
+            amount: 1,
+        }],
+    },
+    Parts::Status {
+        group: 7,
+        sender: 0,
+        values: &[Change {
+            field: 1,
+            amount: 0,
+        }],
+    },
+    Parts::Status {
+        group: 7,
+        sender: 0,
+        values: &[
+            Change {
+                field: 2,
                 amount: 1,
-            }],
-        },
-        EncodeFault::BadField,
-    ),
-    (
-        Parts::Status {
-            group: 7,
-            sender: 0,
-            values: &[Change {
+            },
+            Change {
                 field: 1,
-                amount: 0,
-            }],
-        },
-        EncodeFault::BadField,
-    ),
-    (
-        Parts::Status {
-            group: 7,
-            sender: 0,
-            values: &[
-                Change {
-                    field: 2,
-                    amount: 1,
-                },
-                Change {
-                    field: 1,
-                    amount: 1,
-                },
-            ],
-        },
-        EncodeFault::BadField,
-    ),
+                amount: 1,
+            },
+        ],
+    },
 ];
 
-const BROKEN_REQUESTS: &[(Parts<'static>, EncodeFault)] = &[
-    (
-        Parts::Request {
-            requester: 64,
-            asked: 0,
-            ranges: &[Range { first: 1, last: 1 }],
-        },
-        EncodeFault::BadField,
-    ),
-    (
-        Parts::Request {
-            requester: 0,
-            asked: 64,
-            ranges: &[Range { first: 1, last: 1 }],
-        },
-        EncodeFault::BadField,
-    ),
-    (
-        Parts::Request {
-            requester: 0,
-            asked: 1,
-            ranges: &[],
-        },
-        EncodeFault::BadField,
-    ),
-    (
-        Parts::Request {
-            requester: 0,
-            asked: 1,
-            ranges: &[Range { first: 0, last: 1 }],
-        },
-        EncodeFault::BadField,
-    ),
-    (
-        Parts::Request {
-            requester: 0,
-            asked: 1,
-            ranges: &[Range { first: 2, last: 1 }],
-        },
-        EncodeFault::BadField,
-    ),
-    (
-        Parts::Request {
-            requester: 0,
-            asked: 1,
-            ranges: &[Range { first: 1, last: 1 }, Range { first: 2, last: 2 }],
-        },
-        EncodeFault::BadField,
-    ),
-    (
-        Parts::Request {
-            requester: 0,
-            asked: 1,
-            ranges: &[
-                Range {
-                    first: 1,
-                    last: LAST_NUMBER,
-                },
-                Range { first: 1, last: 1 },
-            ],
-        },
-        EncodeFault::BadField,
-    ),
+const BROKEN_REQUESTS: &[Parts<'static>] = &[
+    Parts::Request {
+        requester: 64,
+        asked: 0,
+        ranges: &[Range { first: 1, last: 1 }],
+    },
+    Parts::Request {
+        requester: 0,
+        asked: 64,
+        ranges: &[Range { first: 1, last: 1 }],
+    },
+    Parts::Request {
+        requester: 0,
+        asked: 1,
+        ranges: &[],
+    },
+    Parts::Request {
+        requester: 0,
+        asked: 1,
+        ranges: &[Range { first: 0, last: 1 }],
+    },
+    Parts::Request {
+        requester: 0,
+        asked: 1,
+        ranges: &[Range { first: 2, last: 1 }],
+    },
+    Parts::Request {
+        requester: 0,
+        asked: 1,
+        ranges: &[Range { first: 1, last: 1 }, Range { first: 2, last: 2 }],
+    },
+    Parts::Request {
+        requester: 0,
+        asked: 1,
+        ranges: &[
+            Range {
+                first: 1,
+                last: LAST_NUMBER,
+            },
+            Range { first: 1, last: 1 },
+        ],
+    },
 ];
 
 #[test]
-fn values_that_break_a_rule_have_no_text(rt: HostRuntime) -> Result<(), Fail> {
+fn values_that_break_a_rule_have_no_text(rt: HostRuntime) {
     for rows in [BROKEN_CASTS, BROKEN_STATUSES, BROKEN_REQUESTS] {
-        have_no_text(&rt, rt.alloc(), rows)?;
+        for parts in rows {
+            has_no_text(&rt, rt.alloc(), parts, EncodeFault::BadField);
+        }
     }
-    Ok(())
 }
 
 const FRAME_FAULTS: &[(FrameFault, &str)] = &[
@@ -716,12 +693,11 @@ const ENCODE_FAULTS: &[(EncodeFault, &str)] = &[
 ];
 
 #[test]
-fn a_fault_prints_its_name(rt: HostRuntime) -> Result<(), Fail> {
+fn a_fault_prints_its_name(rt: HostRuntime) {
     for (fault, name) in FRAME_FAULTS {
-        assert_eq!(rt; fault.to_string(rt.alloc())?.as_str(), *name);
+        says(&rt, fault.to_string(rt.alloc()), name);
     }
     for (fault, name) in ENCODE_FAULTS {
-        assert_eq!(rt; fault.to_string(rt.alloc())?.as_str(), *name);
+        says(&rt, fault.to_string(rt.alloc()), name);
     }
-    Ok(())
 }

@@ -1,7 +1,10 @@
 //! Numbers on the wire.
 
+use crate::asserts::{same, says};
 use cb_varint::{NumberFault, length, put, take};
-use std::test::Fail;
+use std::alloc::Global;
+use std::process::Abort;
+use std::test::*;
 
 const TABLE: [(u32, &[u8]); 9] = [
     (0, &[0x00]),
@@ -16,17 +19,28 @@ const TABLE: [(u32, &[u8]); 9] = [
 ];
 
 #[test]
-fn each_number_of_the_table_is_written_and_read(rt: HostRuntime) -> Result<(), Fail> {
+fn each_number_of_the_table_is_written_and_read(rt: HostRuntime) {
     for (number, text) in TABLE {
-        let mut out = [1].to_vec(rt.alloc())?;
-        put(number, &mut out)?;
-        assert_eq!(rt; out.len(), text.len() + 1, "at {number}");
-        assert_eq!(rt; &out[1..], text, "at {number}");
-        assert_eq!(rt; length(number), text.len(), "at {number}");
-        out.push(0xff)?;
-        assert_eq!(rt; take(&out[1..]), Ok((number, text.len())), "at {number}");
+        is_written_and_read(&rt, rt.alloc(), number, text);
     }
-    Ok(())
+}
+
+/// The number is written behind a byte, and read in front of one.
+fn is_written_and_read(rt: &impl Abort, alloc: Global, number: u32, text: &[u8]) {
+    let mut out = [1].to_vec(alloc).expect(rt, "memory");
+    put(number, &mut out).expect(rt, "memory");
+    out.push(0xff).expect(rt, "memory");
+    stands_between(rt, &out, number, text);
+    drop(out);
+}
+
+fn stands_between(rt: &impl Abort, out: &[u8], number: u32, text: &[u8]) {
+    let (front, rest) = out.split_first().expect(rt, "a byte in front");
+    let (behind, spelled) = rest.split_last().expect(rt, "a byte behind");
+    same(rt, (*front, *behind), (1, 0xff));
+    same(rt, spelled, text);
+    same(rt, (number, length(number)), (number, text.len()));
+    same(rt, take(rest), Ok((number, text.len())));
 }
 
 #[test]
@@ -42,19 +56,18 @@ fn what_begins_with_no_number_has_its_fault(rt: HostRuntime) {
         (&[], NumberFault::Short),
     ];
     for (bytes, fault) in FAULTS {
-        assert_eq!(rt; take(bytes), Err(fault), "at {bytes:?}");
+        same(&rt, (bytes, take(bytes)), (bytes, Err(fault)));
     }
 }
 
 #[test]
-fn a_fault_prints_its_name(rt: HostRuntime) -> Result<(), Fail> {
+fn a_fault_prints_its_name(rt: HostRuntime) {
     const NAMES: [(NumberFault, &str); 3] = [
         (NumberFault::Short, "Short"),
         (NumberFault::NotMinimal, "NotMinimal"),
         (NumberFault::TooLarge, "TooLarge"),
     ];
     for (fault, name) in NAMES {
-        assert_eq!(rt; fault.to_string(rt.alloc())?.as_str(), name);
+        says(&rt, fault.to_string(rt.alloc()), name);
     }
-    Ok(())
 }
