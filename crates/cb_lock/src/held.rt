@@ -135,7 +135,6 @@ impl<L: Ledger> Held<L> {
     /// Tells the status, as the member does, and appends a receipt to the seat where the status is an entry.
     ///
     /// `NoMemory` may stand in place of any refusal. After a refusal the member and the seat are as they were.
-    #[tactic(auto, using(crate::proofs::Ticking::told_tick))]
     pub fn tick(&mut self, seat: &mut Seat<L>) -> Result<Ticked, TickRefusal>
         ensures done { IfOk result (HasTicked self.old self.new) }
         ensures refused { IfErr result (MayRefuseTick self.old) }

@@ -8,6 +8,13 @@ use Rattle.cb_lock.proofs.Entering.{seat_after}
 use Rattle.cb_lock.proofs.Ticking.{told_tick}
 use Rattle.cb_lock.proofs.held.Held.tick.Goals as goal
 
+pub returns-clause-entry : goal.returns-clause-entry
+returns-clause-entry g c =
+    let m = c.args.self.now in
+    let ticked = c.in_ok-ticked.ticked in
+    let told : HasTicked m c.tick_noted.new.self ticked = search rules in
+    told_tick m ticked told.answer
+
 pub returns-clause-receipt : goal.returns-clause-receipt
 returns-clause-receipt g c =
     let m = c.args.self.now in
