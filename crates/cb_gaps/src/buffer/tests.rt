@@ -5,7 +5,7 @@ use super::*;
 use bytes::Bytes;
 use cb_frames::LAST_NUMBER as LAST;
 use std::process::Abort;
-use std::test::Fail;
+use std::test::*;
 
 /// What is asked of a buffer.
 #[derive(Clone, Copy)]
@@ -39,15 +39,15 @@ fn cast(alloc: Global, number: u32) -> Cast {
 }
 
 /// A buffer of which this many casts were taken and none is kept.
-fn after(alloc: Global, window: u32, taken: u32) -> Result<Reorder, NoMemory>
+fn after(rt: &impl Abort, alloc: Global, window: u32, taken: u32) -> Reorder
     requires { IsWindow window }
 {
-    let kept = VecDeque::with_capacity(alloc, window as usize)?;
-    Ok(Reorder {
+    let kept = VecDeque::with_capacity(alloc, window as usize).expect(rt, "memory");
+    Reorder {
         window,
         taken,
         kept,
-    })
+    }
 }
 
 /// The group of a cast, its name and its payload.
@@ -109,31 +109,36 @@ fn answer(
     }
 }
 
+fn said(rt: &impl Abort, alloc: Global, reorder: &mut Reorder, call: Call) -> String {
+    let mut text = String::new(alloc);
+    answer(alloc, reorder, call, &mut text).expect(rt, "memory");
+    text
+}
+
 /// Each call has the answer that stands beside it.
-fn play(
-    rt: &impl Abort,
-    alloc: Global,
-    reorder: &mut Reorder,
-    steps: &[(Call, &str)],
-) -> Result<(), Fail> {
+fn play(rt: &impl Abort, alloc: Global, reorder: Reorder, steps: &[(Call, &str)]) {
+    let mut reorder = reorder;
     for (k, (call, expected)) in steps.iter().enumerate() {
-        let mut text = String::new(alloc);
-        answer(alloc, reorder, *call, &mut text)?;
-        assert_eq!(rt; text.as_str(), *expected, "at step {k}");
+        says(rt, k, said(rt, alloc, &mut reorder, *call), expected);
     }
-    Ok(())
+    drop(reorder);
+}
+
+fn says(rt: &impl Abort, step: usize, text: String, expected: &str) {
+    assert_eq!(rt; text.as_str(), expected, "at step {step}");
+    drop(text);
 }
 
 /// With a new buffer.
-fn run(rt: &impl Abort, alloc: Global, window: u32, steps: &[(Call, &str)]) -> Result<(), Fail>
+fn run(rt: &impl Abort, alloc: Global, window: u32, steps: &[(Call, &str)])
     requires { IsWindow window }
 {
-    let mut reorder = Reorder::new(alloc, window)?;
-    play(rt, alloc, &mut reorder, steps)
+    let reorder = Reorder::new(alloc, window).expect(rt, "memory");
+    play(rt, alloc, reorder, steps);
 }
 
 #[test]
-fn a_later_cast_waits_and_the_number_between_is_missing(rt: HostRuntime) -> Result<(), Fail> {
+fn a_later_cast_waits_and_the_number_between_is_missing(rt: HostRuntime) {
     const STEPS: &[(Call, &str)] = &[
         (Call::Taken, "0"),
         (Call::Keep(0, 1), "Kept"),
@@ -146,11 +151,11 @@ fn a_later_cast_waits_and_the_number_between_is_missing(rt: HostRuntime) -> Resu
         (Call::Missing(1, 4), "2-3;"),
         (Call::Take, "none"),
     ];
-    run(&rt, rt.alloc(), 4, STEPS)
+    run(&rt, rt.alloc(), 4, STEPS);
 }
 
 #[test]
-fn casts_in_any_order_come_out_in_the_order_of_their_numbers(rt: HostRuntime) -> Result<(), Fail> {
+fn casts_in_any_order_come_out_in_the_order_of_their_numbers(rt: HostRuntime) {
     const STEPS: &[(Call, &str)] = &[
         (Call::Keep(0, 3), "Kept"),
         (Call::Keep(0, 1), "Kept"),
@@ -163,17 +168,17 @@ fn casts_in_any_order_come_out_in_the_order_of_their_numbers(rt: HostRuntime) ->
         (Call::Take, "none"),
         (Call::Taken, "4"),
     ];
-    run(&rt, rt.alloc(), 4, STEPS)
+    run(&rt, rt.alloc(), 4, STEPS);
 }
 
 #[test]
-fn a_cast_comes_out_as_it_was_kept(rt: HostRuntime) -> Result<(), Fail> {
+fn a_cast_comes_out_as_it_was_kept(rt: HostRuntime) {
     const STEPS: &[(Call, &str)] = &[(Call::Keep(0, 1), "Kept"), (Call::Take, "7 0.1 yo")];
-    run(&rt, rt.alloc(), 4, STEPS)
+    run(&rt, rt.alloc(), 4, STEPS);
 }
 
 #[test]
-fn number_0_is_a_repeat_and_a_repeat_comes_before_too_far(rt: HostRuntime) -> Result<(), Fail> {
+fn number_0_is_a_repeat_and_a_repeat_comes_before_too_far(rt: HostRuntime) {
     const STEPS: &[(Call, &str)] = &[
         (Call::Keep(0, 0), "Repeat"),
         (Call::Keep(0, 1), "Kept"),
@@ -184,11 +189,11 @@ fn number_0_is_a_repeat_and_a_repeat_comes_before_too_far(rt: HostRuntime) -> Re
         (Call::Keep(0, 5), "Repeat"),
         (Call::Keep(0, 6), "TooFar"),
     ];
-    run(&rt, rt.alloc(), 4, STEPS)
+    run(&rt, rt.alloc(), 4, STEPS);
 }
 
 #[test]
-fn a_judgement_is_what_a_cast_would_get_and_changes_nothing(rt: HostRuntime) -> Result<(), Fail> {
+fn a_judgement_is_what_a_cast_would_get_and_changes_nothing(rt: HostRuntime) {
     const STEPS: &[(Call, &str)] = &[
         (Call::Judge(0, 0), "Repeat"),
         (Call::Judge(0, 4), "Kept"),
@@ -208,11 +213,11 @@ fn a_judgement_is_what_a_cast_would_get_and_changes_nothing(rt: HostRuntime) -> 
         (Call::Len, "1"),
         (Call::Take, "none"),
     ];
-    run(&rt, rt.alloc(), 4, STEPS)
+    run(&rt, rt.alloc(), 4, STEPS);
 }
 
 #[test]
-fn what_would_come_out_is_told_before_it_is_kept(rt: HostRuntime) -> Result<(), Fail> {
+fn what_would_come_out_is_told_before_it_is_kept(rt: HostRuntime) {
     const STEPS: &[(Call, &str)] = &[
         (Call::ReadyWith(1), "1"),
         (Call::ReadyWith(2), "0"),
@@ -238,11 +243,11 @@ fn what_would_come_out_is_told_before_it_is_kept(rt: HostRuntime) -> Result<(), 
         (Call::ReadyWith(4), "2"),
         (Call::Len, "1"),
     ];
-    run(&rt, rt.alloc(), 8, STEPS)
+    run(&rt, rt.alloc(), 8, STEPS);
 }
 
 #[test]
-fn a_cast_passes_where_it_is_the_next_one_and_none_is_kept(rt: HostRuntime) -> Result<(), Fail> {
+fn a_cast_passes_where_it_is_the_next_one_and_none_is_kept(rt: HostRuntime) {
     const STEPS: &[(Call, &str)] = &[
         (Call::Pass(0), "no"),
         (Call::Pass(2), "no"),
@@ -260,11 +265,11 @@ fn a_cast_passes_where_it_is_the_next_one_and_none_is_kept(rt: HostRuntime) -> R
         (Call::Missing(4, 6), "5-6;"),
         (Call::Keep(4, 4), "Repeat"),
     ];
-    run(&rt, rt.alloc(), 4, STEPS)
+    run(&rt, rt.alloc(), 4, STEPS);
 }
 
 #[test]
-fn each_gap_is_a_range(rt: HostRuntime) -> Result<(), Fail> {
+fn each_gap_is_a_range(rt: HostRuntime) {
     const STEPS: &[(Call, &str)] = &[
         (Call::Keep(0, 9), "Kept"),
         (Call::Keep(0, 4), "Kept"),
@@ -276,11 +281,11 @@ fn each_gap_is_a_range(rt: HostRuntime) -> Result<(), Fail> {
         // The window ends at 16, whatever was heard of.
         (Call::Missing(0, LAST), "1-1;3-3;6-8;10-16;"),
     ];
-    run(&rt, rt.alloc(), 16, STEPS)
+    run(&rt, rt.alloc(), 16, STEPS);
 }
 
 #[test]
-fn none_is_missing_where_all_that_was_heard_of_came(rt: HostRuntime) -> Result<(), Fail> {
+fn none_is_missing_where_all_that_was_heard_of_came(rt: HostRuntime) {
     const STEPS: &[(Call, &str)] = &[
         (Call::Missing(0, 0), ""),
         (Call::Missing(2, 0), ""),
@@ -290,20 +295,20 @@ fn none_is_missing_where_all_that_was_heard_of_came(rt: HostRuntime) -> Result<(
         (Call::Missing(1, 1), ""),
         (Call::Missing(1, 0), ""),
     ];
-    run(&rt, rt.alloc(), 4, STEPS)
+    run(&rt, rt.alloc(), 4, STEPS);
 }
 
 #[test]
-fn the_window_ends_at_the_greatest_number(rt: HostRuntime) -> Result<(), Fail> {
+fn the_window_ends_at_the_greatest_number(rt: HostRuntime) {
     const STEPS: &[(Call, &str)] = &[
         (Call::Missing(LAST, LAST), "1-4294967295;"),
         (Call::Keep(0, LAST), "TooFar"),
     ];
-    run(&rt, rt.alloc(), 4, STEPS)
+    run(&rt, rt.alloc(), 4, STEPS);
 }
 
 #[test]
-fn none_follows_the_greatest_number(rt: HostRuntime) -> Result<(), Fail> {
+fn none_follows_the_greatest_number(rt: HostRuntime) {
     const STEPS: &[(Call, &str)] = &[
         (Call::Missing(LAST - 2, LAST), "4294967294-4294967295;"),
         (Call::Keep(LAST - 2, 1), "Repeat"),
@@ -324,6 +329,5 @@ fn none_follows_the_greatest_number(rt: HostRuntime) -> Result<(), Fail> {
         (Call::Keep(LAST, 0), "Repeat"),
         (Call::Missing(LAST, LAST), ""),
     ];
-    let mut reorder = after(rt.alloc(), 4, LAST - 2)?;
-    play(&rt, rt.alloc(), &mut reorder, STEPS)
+    play(&rt, rt.alloc(), after(&rt, rt.alloc(), 4, LAST - 2), STEPS);
 }

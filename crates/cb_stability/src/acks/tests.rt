@@ -1,55 +1,67 @@
 //! Worked examples: how far the casts of a sender are stable.
+//!
+//! What is asserted is taken first: acknowledgements that live from assert to assert take the prover many times as long.
 use super::*;
-use std::test::Fail;
+use std::process::Abort;
+use std::test::*;
 
-#[test]
-fn a_cast_is_stable_once_every_other_member_has_delivered_it(rt: HostRuntime) -> Result<(), Fail> {
-    let mut acks = Acks::new(rt.alloc(), 3)?;
-    assert_eq!(rt; acks.stable(0), 0);
-    acks.learn(1, 0, 2);
-    assert_eq!(rt; acks.stable(0), 0);
-    acks.learn(2, 0, 1);
-    assert_eq!(rt; acks.stable(0), 1);
-    Ok(())
+fn are(rt: &impl Abort, found: &[u32], expected: &[u32]) {
+    assert_eq!(rt; found, expected);
 }
 
 #[test]
-fn what_was_learnt_is_of_one_member_and_one_sender(rt: HostRuntime) -> Result<(), Fail> {
-    let mut acks = Acks::new(rt.alloc(), 3)?;
+fn a_cast_is_stable_once_every_other_member_has_delivered_it(rt: HostRuntime) {
+    let mut acks = Acks::new(rt.alloc(), 3).expect(&rt, "memory");
+    let at_first = acks.stable(0);
+    acks.learn(1, 0, 2);
+    let behind_one = acks.stable(0);
+    acks.learn(2, 0, 1);
+    let behind_both = acks.stable(0);
+    drop(acks);
+    are(&rt, &[at_first, behind_one, behind_both], &[0, 0, 1]);
+}
+
+#[test]
+fn what_was_learnt_is_of_one_member_and_one_sender(rt: HostRuntime) {
+    let mut acks = Acks::new(rt.alloc(), 3).expect(&rt, "memory");
     acks.learn(1, 0, 2);
     acks.learn(2, 1, 7);
-    for (member, sender, count) in [(1, 0, 2), (2, 1, 7), (0, 1, 0), (1, 2, 0), (2, 0, 0)] {
-        assert_eq!(rt; acks.learnt(member, sender), count, "{sender} by {member}");
-    }
-    Ok(())
+    let told = [acks.learnt(1, 0), acks.learnt(2, 1)];
+    let others = [acks.learnt(0, 1), acks.learnt(1, 2), acks.learnt(2, 0)];
+    drop(acks);
+    are(&rt, &told, &[2, 7]);
+    are(&rt, &others, &[0, 0, 0]);
 }
 
 #[test]
-fn a_late_report_and_what_the_sender_itself_says_change_nothing(
-    rt: HostRuntime,
-) -> Result<(), Fail> {
-    let mut acks = Acks::new(rt.alloc(), 3)?;
+fn a_late_report_and_what_the_sender_itself_says_change_nothing(rt: HostRuntime) {
+    let mut acks = Acks::new(rt.alloc(), 3).expect(&rt, "memory");
     acks.learn(1, 0, 2);
     acks.learn(2, 0, 1);
     acks.learn(2, 0, 0);
-    assert_eq!(rt; acks.stable(0), 1);
+    let behind_a_late_report = acks.stable(0);
     acks.learn(0, 0, 9);
-    assert_eq!(rt; acks.stable(0), 1);
-    assert_eq!(rt; acks.stable(1), 0);
-    assert_eq!(rt; acks.stable(2), 0);
-    Ok(())
+    let stable = [acks.stable(0), acks.stable(1), acks.stable(2)];
+    drop(acks);
+    are(&rt, &[behind_a_late_report], &[1]);
+    are(&rt, &stable, &[1, 0, 0]);
 }
 
 #[test]
-fn in_the_largest_group_the_last_member_counts_too(rt: HostRuntime) -> Result<(), Fail> {
-    let mut acks = Acks::new(rt.alloc(), 64)?;
+fn in_the_largest_group_the_last_member_counts_too(rt: HostRuntime) {
+    let mut acks = Acks::new(rt.alloc(), 64).expect(&rt, "memory");
     for member in 0..63 {
         acks.learn(member, 5, 4294967295);
     }
-    assert_eq!(rt; acks.stable(5), 0);
+    let without_it = acks.stable(5);
     acks.learn(63, 5, 7);
-    assert_eq!(rt; acks.stable(5), 7);
+    let with_it = acks.stable(5);
     acks.learn(63, 5, 4294967295);
-    assert_eq!(rt; acks.stable(5), 4294967295);
-    Ok(())
+    let at_the_greatest = acks.stable(5);
+    drop(acks);
+    are(
+        &rt,
+        &[without_it, with_it, at_the_greatest],
+        &[0, 7, 4294967295],
+    );
 }
