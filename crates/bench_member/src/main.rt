@@ -12,20 +12,25 @@ mod run;
 mod tally;
 
 use crate::fault::Fault;
-use crate::plan::plan_of;
-use crate::run::Run;
+use crate::plan::{Plan, plan_of};
+use crate::run::tally_of;
 use std::env;
 use std::process::ExitCode;
 
+fn words_of(rt: &HostRuntime) -> Result<Vec<String>, Fault> {
+    Ok(env::args(rt)?.collect(rt.alloc())?)
+}
+
+fn plan_in_words(rt: &HostRuntime) -> Result<Plan, Fault> {
+    let words = words_of(rt)?;
+    let plan = plan_of(words.as_slice());
+    drop(words);
+    plan.ok_or(Fault::Words)
+}
+
 fn print_run(rt: &HostRuntime) -> Result<(), Fault> {
-    let alloc = rt.alloc();
-    let words: Vec<String> = env::args(rt)?.collect(alloc)?;
-    let Some(plan) = plan_of(words.as_slice()) else {
-        return Err(Fault::Words);
-    };
-    let mut run = Run::new(alloc, plan)?;
-    run.go()?;
-    let tally = run.tally();
+    let plan = plan_in_words(rt)?;
+    let tally = tally_of(rt.alloc(), plan)?;
     println!(rt;
         "deliveries {} digest {:016x}",
         tally.deliveries, tally.digest

@@ -13,7 +13,7 @@ use std::alloc::{AllocError, Global};
 const MOST_ROUNDS: u64 = 1_000_000_000;
 
 #[derive(Drop)]
-pub struct Run {
+struct Run {
     plan: Plan,
     members: Vec<Member>,
     network: Network,
@@ -36,25 +36,38 @@ fn members_of(alloc: Global, group: Group) -> Result<Vec<Member>, NoMemory> {
     Ok(members)
 }
 
+/// Runs the plan, and tells what was delivered.
+pub fn tally_of(alloc: Global, plan: Plan) -> Result<Tally, NoMemory> {
+    let mut run = Run::new(alloc, plan)?;
+    let ended = run.go();
+    let tally = run.tally;
+    drop(run);
+    ended?;
+    Ok(tally)
+}
+
 impl Run {
-    pub fn new(alloc: Global, plan: Plan) -> Result<Run, NoMemory> {
+    fn new(alloc: Global, plan: Plan) -> Result<Run, NoMemory> {
+        let payload = vec![in alloc; b'a'; plan.payload]?;
+        Run::with_payload(alloc, plan, payload)
+    }
+
+    fn with_payload(alloc: Global, plan: Plan, payload: Vec<u8>) -> Result<Run, NoMemory> {
+        let members = members_of(alloc, plan.group)?;
+        let network = Network::new(alloc, plan.group.size(), plan.lost, plan.exchanged)?;
         Ok(Run {
             plan,
-            members: members_of(alloc, plan.group)?,
-            network: Network::new(alloc, plan.group.size(), plan.lost, plan.exchanged)?,
+            members,
+            network,
             tally: Tally::new(),
-            payload: vec![in alloc; b'a'; plan.payload]?,
+            payload,
             inbox: Vec::new(alloc),
             made: 0,
         })
     }
 
-    pub fn tally(&self) -> Tally {
-        self.tally
-    }
-
     /// In each round each member in its turn takes all and casts, and then all tick, until everything is delivered.
-    pub fn go(&mut self) -> Result<(), NoMemory> {
+    fn go(&mut self) -> Result<(), NoMemory> {
         let size = self.plan.group.size();
         let all = self
             .plan
@@ -80,23 +93,8 @@ impl Run {
             return Ok(());
         };
         for bytes in self.inbox.iter() {
-            match member.arrive(bytes) {
-                Ok(
-                    Arrival::Accepted {
-                        deliveries,
-                        out,
-                        ..
-                    },
-                ) => {
-                    for message in deliveries.iter() {
-                        self.tally.add(me, message);
-                    }
-                    self.network.send_all(me, out)?;
-                }
-                Ok(Arrival::Repeat) => {}
-                Err(ArriveRefusal::NoMemory) => return Err(AllocError),
-                Err(_) => {}
-            }
+            let arrival = member.arrive(bytes);
+            took(me, arrival, &mut self.tally, &mut self.network)?;
         }
         self.inbox.clear();
         Ok(())
@@ -133,5 +131,30 @@ impl Run {
             }
         }
         Ok(())
+    }
+}
+
+/// Counts what member `me` delivered, and sends what it answered.
+fn took(
+    me: u32,
+    arrival: Result<Arrival, ArriveRefusal>,
+    tally: &mut Tally,
+    network: &mut Network,
+) -> Result<(), NoMemory> {
+    match arrival {
+        Ok(
+            Arrival::Accepted {
+                deliveries,
+                changed: _,
+                out,
+            },
+        ) => {
+            tally.add_all(me, &deliveries);
+            drop(deliveries);
+            network.send_all(me, out)
+        }
+        Ok(Arrival::Repeat) => Ok(()),
+        Err(ArriveRefusal::NoMemory) => Err(AllocError),
+        Err(_refusal) => Ok(()),
     }
 }

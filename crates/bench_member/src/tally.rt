@@ -22,8 +22,14 @@ impl Tally {
         }
     }
 
-    /// Member `me` delivered the message.
-    pub fn add(&mut self, me: u32, message: &Message) {
+    /// Member `me` delivered these messages.
+    pub fn add_all(&mut self, me: u32, messages: &[Message]) {
+        for message in messages {
+            self.add(me, message);
+        }
+    }
+
+    fn add(&mut self, me: u32, message: &Message) {
         self.deliveries = self.deliveries.wrapping_add(1);
         self.mix(me, message.name.sender);
         self.mix(message.name.number, 0);
