@@ -47,9 +47,7 @@ impl Pair {
     /// Both answer alike.
     fn call<R: Abort>(&mut self, rt: &R, alloc: Global, call: Call<'_>) -> Result<(), Fail> {
         let plain = answer(alloc, &mut self.plain, call)?;
-        let quick = answer(alloc, &mut self.quick, call)?;
-        assert_eq!(rt; quick.as_str(), plain.as_str());
-        Ok(())
+        says(rt, answer(alloc, &mut self.quick, call), plain)
     }
 
     /// The frame of the last entry, where the member sent it to all.
@@ -66,6 +64,14 @@ impl Pair {
         let plain = GroupMember::events(&self.plain)?;
         Ok(are_same_events(&plain, self.quick.events()))
     }
+}
+
+fn says(rt: &impl Abort, said: Result<String, Fail>, expected: String) -> Result<(), Fail> {
+    let said = said?;
+    assert_eq!(rt; said.as_str(), expected.as_str());
+    drop(said);
+    drop(expected);
+    Ok(())
 }
 
 fn are_same_events(plain: &[Event], quick: &[Event]) -> bool {

@@ -189,14 +189,38 @@ fn taken_text<M: Made>(alloc: Global, member: &mut M, bytes: &[u8]) -> Result<St
 /// What a call that reads answers.
 fn reading<M: Made>(alloc: Global, member: &M, call: Call<'_>) -> Result<String, Fail> {
     match call {
-        Call::Time => Ok(member.time()?.to_string(alloc)?),
-        Call::Events => events(alloc, &member.events()?),
-        Call::Entries => entries(alloc, &member.entries()?),
-        Call::Stable => Ok(member.stable()?.to_string(alloc)?),
-        Call::Missing(i) => missing(alloc, &member.missing(i)),
-        Call::TimeOf(name) => time_of(alloc, &member.entries()?, name),
+        Call::Time => time_text(alloc, member),
+        Call::Events => events_text(alloc, member),
+        Call::Entries => entries_text(alloc, member),
+        Call::Stable => stable_text(alloc, member),
+        Call::Missing(i) => missing_text(alloc, member, i),
+        Call::TimeOf(name) => time_of_text(alloc, member, name),
         _ => Err(Fail::new("a call that changes something")),
     }
+}
+
+fn time_text<M: Made>(alloc: Global, member: &M) -> Result<String, Fail> {
+    Ok(member.time()?.to_string(alloc)?)
+}
+
+fn events_text<M: Made>(alloc: Global, member: &M) -> Result<String, Fail> {
+    events(alloc, &member.events()?)
+}
+
+fn entries_text<M: Made>(alloc: Global, member: &M) -> Result<String, Fail> {
+    entries(alloc, &member.entries()?)
+}
+
+fn stable_text<M: Made>(alloc: Global, member: &M) -> Result<String, Fail> {
+    Ok(member.stable()?.to_string(alloc)?)
+}
+
+fn missing_text<M: Made>(alloc: Global, member: &M, i: u32) -> Result<String, Fail> {
+    missing(alloc, &member.missing(i))
+}
+
+fn time_of_text<M: Made>(alloc: Global, member: &M, name: Name) -> Result<String, Fail> {
+    time_of(alloc, &member.entries()?, name)
 }
 
 /// Each call has the answer that stands beside it.
