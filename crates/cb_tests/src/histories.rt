@@ -8,7 +8,7 @@ use cb_history::{
 use std::alloc::Global;
 use std::fmt;
 use std::process::Abort;
-use std::test::Fail;
+use std::test::*;
 
 #[test]
 fn a_group_has_2_to_64_members_and_a_window_of_1_to_256(rt: HostRuntime) {
@@ -20,11 +20,10 @@ fn a_group_has_2_to_64_members_and_a_window_of_1_to_256(rt: HostRuntime) {
     }
     for (number, size, window) in [(4_294_967_295, 64, 256), (0, 2, 1)] {
         match Group::new(number, size, window) {
-            Ok(group) => {
-                assert_eq!(rt; group.number(), number);
-                assert_eq!(rt; group.size(), size);
-                assert_eq!(rt; group.window(), window);
-            }
+            Ok(group) => assert_eq!(rt;
+                (group.number(), group.size(), group.window()),
+                (number, size, window)
+            ),
             Err(BadGroup) => panic!(rt; "{size} and {window} are no group"),
         }
     }
@@ -63,37 +62,52 @@ fn a_refusal_prints_its_name(rt: HostRuntime) {
     prints(&rt, alloc, &BadGroup, "BadGroup");
 }
 
-#[test]
-fn a_copied_history_has_the_same_entries(rt: HostRuntime) -> Result<(), Fail> {
-    let alloc = rt.alloc();
-    let Ok(group) = Group::new(7, 3, 4) else {
-        return Err(Fail::new("no group"));
-    };
+/// A history with an entry of each kind.
+fn history_of_three(rt: &impl Abort, alloc: Global) -> History {
     let mut entries = Vec::new(alloc);
-    entries.push(Entry::Arrive {
-        frame: Bytes::from_static(b"\x11\x07\x00\x01\x00\x02hi"),
-        delivered: Names::from_slice(
-            alloc,
-            &[Name {
-                sender: 0,
-                number: 1,
-            }],
-        )?,
-    })?;
-    entries.push(Entry::Cast {
-        frame: Bytes::from_static(b"\x11\x07\x01\x01\x01\x00\x01\x02yo"),
-    })?;
-    entries.push(Entry::Tick {
-        status: Bytes::from_static(b"\x12\x07\x01\x02\x00\x01\x00\x01"),
-    })?;
-    let history = History {
-        group,
+    for entry in [arrival(rt, alloc), cast(), tick()] {
+        entries.push(entry).expect(rt, "memory");
+    }
+    History {
+        group: Group::new(7, 3, 4).expect(rt, "a group"),
         me: 1,
         entries,
+    }
+}
+
+fn arrival(rt: &impl Abort, alloc: Global) -> Entry {
+    let hi = Name {
+        sender: 0,
+        number: 1,
     };
-    let copy = history.copy()?;
-    assert_eq!(rt; copy.me, 1);
-    assert!(rt; copy.group == group);
-    assert!(rt; copy.entries == history.entries);
-    Ok(())
+    Entry::Arrive {
+        frame: Bytes::from_static(b"\x11\x07\x00\x01\x00\x02hi"),
+        delivered: Names::from_slice(alloc, &[hi]).expect(rt, "memory"),
+    }
+}
+
+fn cast() -> Entry {
+    Entry::Cast {
+        frame: Bytes::from_static(b"\x11\x07\x01\x01\x01\x00\x01\x02yo"),
+    }
+}
+
+fn tick() -> Entry {
+    Entry::Tick {
+        status: Bytes::from_static(b"\x12\x07\x01\x02\x00\x01\x00\x01"),
+    }
+}
+
+fn are_alike(history: &History, copy: &History) -> bool {
+    copy.me == history.me && copy.group == history.group && copy.entries == history.entries
+}
+
+#[test]
+fn a_copied_history_has_the_same_entries(rt: HostRuntime) {
+    let history = history_of_three(&rt, rt.alloc());
+    let copy = history.copy().expect(&rt, "memory");
+    let (are_alike, entries) = (are_alike(&history, &copy), copy.entries.len());
+    drop(history);
+    drop(copy);
+    assert_eq!(rt; (are_alike, entries), (true, 3));
 }

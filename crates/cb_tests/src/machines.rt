@@ -44,12 +44,13 @@ fn deliver(
     ensures stamped { length stamped.new ≡ length stamped.old }
 {
     let may = causal.may_deliver(receiver, name);
-    assert_eq!(rt; stamped.may_deliver(receiver, name), may);
-    let done = causal.deliver(receiver, name)?;
-    assert_eq!(rt; done, may);
-    let same = stamped.deliver(receiver, name)?;
-    assert_eq!(rt; same, may);
-    Ok(done)
+    let same = stamped.may_deliver(receiver, name);
+    let done = (
+        causal.deliver(receiver, name)?,
+        stamped.deliver(receiver, name)?,
+    );
+    assert_eq!(rt; (same, done), (may, (may, may)));
+    Ok(may)
 }
 
 /// A message as it is expected: its name, its time and its text.
@@ -164,8 +165,7 @@ fn make_all(rt: &impl Abort, alloc: Global, size: usize, moves: &[Move]) -> Resu
 {
     let mut causal = CausalGroup::new(alloc, size)?;
     let mut stamped = StampedGroup::new(alloc, size)?;
-    assert_eq!(rt; causal.size(), size);
-    assert_eq!(rt; stamped.size(), size);
+    assert_eq!(rt; (causal.size(), stamped.size()), (size, size));
     for step in moves {
         make(rt, &mut causal, &mut stamped, step)?;
     }
@@ -234,11 +234,14 @@ fn four_members_cast_at_once(rt: HostRuntime) -> Result<(), Fail> {
 }
 
 #[test]
-fn a_fault_prints_its_name(rt: HostRuntime) -> Result<(), Fail> {
-    assert_eq!(rt; CastFault::Full.to_string(rt.alloc())?.as_str(), "Full");
-    assert_eq!(rt;
-        CastFault::NoMemory.to_string(rt.alloc())?.as_str(),
-        "NoMemory"
-    );
-    Ok(())
+fn a_fault_prints_its_name(rt: HostRuntime) {
+    prints(&rt, rt.alloc(), CastFault::Full, "Full");
+    prints(&rt, rt.alloc(), CastFault::NoMemory, "NoMemory");
+}
+
+fn prints(rt: &impl Abort, alloc: Global, fault: CastFault, name: &str) {
+    match fault.to_string(alloc) {
+        Ok(text) => assert_eq!(rt; text.as_str(), name),
+        Err(_) => panic!(rt; "out of memory"),
+    }
 }
