@@ -1,13 +1,14 @@
 -- Members of a group, one after another.
-use Rattle.std.proofs.Common.{◌≡◌, ℕ, suc, ◌+◌, List, [], ◌∷◌, ◌++◌, length, length-append, map, subst, sym, ap, ◌∙◌, arith}
+use Rattle.std.proofs.Common.{◌≡◌, ℕ, suc, ◌+◌, List, [], ◌∷◌, ◌++◌, length, length-append, map, subst, sym, ap, ◌∙◌, arith, Option, Some, None, Result, Ok, Err, IfSome, IsSomeAnd, IfOk, IsOkAnd}
 use Rattle.std.proofs.lemmas.List.{length-map, map-append}
 use Rattle.std.proofs.lemmas.List.Elements.{All-append, All-cons, All-nil}
 use Rattle.cb_history.specs.Group.{Parameters}
 use Rattle.cb_history.specs.declared.history.History.{History}
 use Rattle.cb_threads.specs.declared.report.Tally.{Tally}
+use Rattle.cb_threads.specs.declared.life.Kept.{Kept}
 use Rattle.cb_threads.specs.declared.life.OfMember.{OfMember}
 use Rattle.cb_threads.specs.declared.report.MemberReport.{MemberReport}
-use Rattle.cb_threads.specs.Groups.{IsKept, AreKept, AreMembers}
+use Rattle.cb_threads.specs.Groups.{IsKept, AreKept, AreMembers, tally_in}
 use Rattle.cb_threads.specs.Reports.{EachHandsBack, HandsBack}
 
 pub members_more : (group : Parameters) (me : ℕ) (ps : List OfMember) (p : OfMember) → AreMembers group me ps → p.group ≡ group → p.me ≡ me + length ps → AreMembers group me (ps ++ p ∷ [])
@@ -62,3 +63,18 @@ pub one_more_back : {I O P T : Type 0} (rs rs' : List (MemberReport I O P T)) (r
 one_more_back {I} {O} {P} {T} rs rs' r each one is =
     let Q : MemberReport I O P T → Type 0 = λ report. HandsBack report in
     subst (λ (all : List (MemberReport I O P T)). EachHandsBack all) (sym is) (All-append Q rs (r ∷ []) each (All-cons Q r [] one (All-nil Q)))
+
+-- so where its thread was started
+pub starts_next : {H P : Type 0} (promise : H → OfMember) (group : Parameters) (me size : ℕ) (hs hs' : List H) (rest rest' : List P) (o : Option H) (p : P) → (me ≡ length hs) × (me + length rest ≡ size) × AreMembers group 0 (map promise hs) → rest ≡ p ∷ rest'
+    → IfSome o (λ (h : H). ((promise h).group ≡ group) × ((promise h).me ≡ me)) → IsSomeAnd o (λ (h : H). hs' ≡ hs ++ h ∷ []) → (me + 1 ≡ length hs') × (me + 1 + length rest' ≡ size) × AreMembers group 0 (map promise hs')
+starts_next promise group me size hs hs' rest rest' None p inv e is added = absurd added
+starts_next promise group me size hs hs' rest rest' (Some h) p inv e is added = starts promise group me size hs hs' rest rest' h p inv e added is.0 is.1
+
+-- one more member has ended, where something is kept of it
+pub ends_next : {I O P T E H : Type 0} (promise : H → OfMember) (n : ℕ) (all : List OfMember) (hs hs' : List History) (rs rs' : List (MemberReport I O P T)) (rest rest' : List H) (h : H) (r : Result (Kept I O P T) E)
+    → (length hs + length rest ≡ n) × ((group : Parameters) → AreMembers group 0 all → AreKept group 0 hs (map tally_in rs) × AreMembers group (length hs) (map promise rest)) → EachHandsBack rs → rest ≡ h ∷ rest'
+    → IfOk r (λ (kept : Kept I O P T). IsKept (promise h).group (promise h).me kept.history (tally_in kept.report) × HandsBack kept.report) → IsOkAnd r (λ (kept : Kept I O P T). (rs' ≡ rs ++ kept.report ∷ []) × (hs' ≡ hs ++ kept.history ∷ []))
+    → ((length hs' + length rest' ≡ n) × ((group : Parameters) → AreMembers group 0 all → AreKept group 0 hs' (map tally_in rs') × AreMembers group (length hs') (map promise rest'))) × EachHandsBack rs'
+ends_next promise n all hs hs' rs rs' rest rest' h (Err e) inv back is_h is added = absurd added
+ends_next promise n all hs hs' rs rs' rest rest' h (Ok kept) inv back is_h is added =
+    (goes promise tally_in n all hs hs' rs rs' rest rest' h kept.report kept.history inv is_h is.0 added.1 added.0, one_more_back rs rs' kept.report back is.1 added.0)

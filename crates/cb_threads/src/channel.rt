@@ -48,46 +48,65 @@ impl ChannelLink {
         alloc: Global,
         size: u32,
     ) -> Result<Vec<(ChannelInlet, ChannelOutlet)>, LinkFault> {
-        match links(alloc, size) {
-            Ok(links) => Ok(links),
-            Err(AllocError) => Err(LinkFault::NoMemory),
+        let mut ends = Vec::new(alloc);
+        let mut links = Vec::new(alloc);
+        for _member in 0..size {
+            links.push(unlinked(alloc, &mut ends)?)?;
         }
+        link_all(alloc, &ends, &mut links)?;
+        Ok(links)
     }
 }
 
-fn links(alloc: Global, size: u32) -> Result<Vec<(ChannelInlet, ChannelOutlet)>, AllocError> {
-    let mut ends = Vec::new(alloc);
-    let mut inlets = Vec::new(alloc);
-    for _member in 0..size {
-        let (to, from) = new_mailbox(alloc)?;
-        ends.push(to)?;
-        let came = Vec::new(alloc).into_iter();
-        inlets.push(ChannelInlet { from, came })?;
-    }
-    let mut links = Vec::new(alloc);
-    for (me, inlet) in inlets.into_iter().enumerate() {
-        links.push((inlet, outlet(alloc, me, &ends)?))?;
-    }
-    Ok(links)
+/// A link whose outlet goes nowhere yet; where its inlet's frames are put is added to the ends.
+fn unlinked(
+    alloc: Global,
+    ends: &mut Vec<Slot<Vec<Bytes>>>,
+) -> Result<(ChannelInlet, ChannelOutlet), AllocError> {
+    let (to, from) = new_mailbox(alloc)?;
+    ends.push(to)?;
+    let came = Vec::new(alloc).into_iter();
+    let to = Vec::new(alloc);
+    Ok((
+        ChannelInlet { from, came },
+        ChannelOutlet { to, failures: 0 },
+    ))
 }
 
-fn outlet(
+fn link_all(
+    alloc: Global,
+    ends: &[Slot<Vec<Bytes>>],
+    links: &mut [(ChannelInlet, ChannelOutlet)],
+) -> Result<(), AllocError> {
+    for (me, link) in links.iter_mut().enumerate() {
+        link.1.to = others(alloc, me, ends)?;
+    }
+    Ok(())
+}
+
+/// Where the frames of this member go.
+fn others(
     alloc: Global,
     me: usize,
     ends: &[Slot<Vec<Bytes>>],
-) -> Result<ChannelOutlet, AllocError> {
-    let mut to = Vec::new(alloc);
+) -> Result<Vec<Option<End>>, AllocError> {
+    let mut others = Vec::new(alloc);
     for (number, end) in ends.iter().enumerate() {
-        to.push(if number == me {
+        let other = if number == me {
             None
         } else {
-            Some(End {
-                slot: end.again()?,
-                offered: Offered::taken(),
-            })
-        })?;
+            Some(new_end(end)?)
+        };
+        others.push(other)?;
     }
-    Ok(ChannelOutlet { to, failures: 0 })
+    Ok(others)
+}
+
+fn new_end(slot: &Slot<Vec<Bytes>>) -> Result<End, AllocError> {
+    Ok(End {
+        slot: slot.again()?,
+        offered: Offered::taken(),
+    })
 }
 
 impl Inlet for ChannelInlet {
@@ -181,10 +200,17 @@ fn offered_to(to: Option<&Option<End>>) -> Offered {
 /// What came of the last frames at all others.
 fn offered_to_all(to: &[Option<End>]) -> Offered {
     let mut offered = Offered::taken();
-    for end in to.iter().flatten() {
-        offered = offered.and(end.offered);
+    for end in to {
+        offered = offered.and(offered_last(end));
     }
     offered
+}
+
+fn offered_last(to: &Option<End>) -> Offered {
+    match to {
+        Some(end) => end.offered,
+        None => Offered::taken(),
+    }
 }
 
 fn offer_to_all<R: Wait>(rt: &R, alloc: Global, to: &mut [Option<End>], frames: &[Outgoing]) {

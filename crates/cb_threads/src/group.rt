@@ -1,6 +1,6 @@
 //! A group, of which each member runs in a thread of its own.
 
-ghost use Rattle.std.specs.Prelude.{◌≡◌, ◌↔◌, Decides, IfOk, Err, Some, length, map};
+ghost use Rattle.std.specs.Prelude.{◌≡◌, ◌≢◌, ◌↔◌, Decides, IfOk, Err, Some, length, map};
 ghost use Rattle.cb_threads.specs.FaultText.{group_fault_text};
 ghost use Rattle.cb_threads.specs.Groups.{IsPlan, AreKept, tally_in};
 ghost use Rattle.cb_threads.specs.Reports.{EachHandsBack};
@@ -90,14 +90,20 @@ pub fn run_group<
     if !is_plan(group, history_max, lengths) {
         return Err(GroupFault::BadPlan);
     }
-    let Ok(parts) = parts(alloc, links, paces, talkers) else {
-        return Err(GroupFault::NoMemory);
-    };
+    let parts = parts(alloc, links, paces, talkers);
     match run_parts(rt, alloc, (group, history_max), parts, limits) {
         Ok(Lives { reports, histories }) => Ok(GroupReport { reports, histories }),
-        Err(LifeFault::NoThread) => Err(GroupFault::NoThread),
-        Err(LifeFault::NoMemory) => Err(GroupFault::NoMemory),
-        Err(LifeFault::Close { member, fault }) => Err(GroupFault::Close { member, fault }),
+        Err(fault) => Err(group_fault(fault)),
+    }
+}
+
+fn group_fault(fault: LifeFault) -> GroupFault
+    ensures { result ≢ BadPlan }
+{
+    match fault {
+        LifeFault::NoThread => GroupFault::NoThread,
+        LifeFault::NoMemory => GroupFault::NoMemory,
+        LifeFault::Close { member, fault } => GroupFault::Close { member, fault },
     }
 }
 
@@ -124,7 +130,7 @@ fn parts<I: Drop, O: Drop, P: Drop, T: Drop>(
         × (length links.items ≡ length talkers.items) }
     ensures { IfOk result (λ parts. length parts.items ≡ length links.items) }
 {
-    let mut parts = Vec::with_capacity(alloc, links.len())?;
+    let mut parts = Vec::new(alloc);
     let mut paces = paces.into_iter();
     let mut talkers = talkers.into_iter();
     for (inlet, outlet) in links {
@@ -151,15 +157,16 @@ fn run_parts<
     rt: &R,
     alloc: Global,
     plan: (Group, usize),
-    parts: Vec<Parts<I, O, P, T>>,
+    parts: Result<Vec<Parts<I, O, P, T>>, AllocError>,
     limits: Limits,
 ) -> Result<Lives<I, O, P, T>, LifeFault>
-    requires size { length parts.items ≡ plan.0.size }
+    requires size { IfOk parts (λ parts. length parts.items ≡ plan.0.size) }
     ensures members { IfOk result (λ r. length r.histories.items ≡ plan.0.size) }
     ensures kept { IfOk result (λ r. AreKept plan.0 0 r.histories.items
         (map tally_in r.reports.items)) }
     ensures parts { IfOk result (λ r. EachHandsBack r.reports.items) }
 {
+    let parts = parts?;
     let stop = Stop::new();
     let talking = AtomicU64::new(u64::from(plan.0.size()));
     let setting = Setting::new(alloc, plan, limits, &stop, &talking);

@@ -1,6 +1,6 @@
 //! The members of a group, each from its first call to its history.
 
-ghost use Rattle.std.specs.Prelude.{◌≡◌, ◌<◌, [], IfOk, IfSome, length, map};
+ghost use Rattle.std.specs.Prelude.{◌≡◌, ◌<◌, [], ◌∷◌, ◌++◌, IfOk, IfSome, IsOkAnd, IsSomeAnd, length, map};
 ghost use Rattle.cb_history.specs.Group.{Parameters};
 ghost use Rattle.cb_threads.specs.Groups.{AreKept, AreMembers, IsKept, tally_in};
 ghost use Rattle.cb_threads.specs.Reports.{EachHandsBack, HandsBack};
@@ -25,7 +25,7 @@ use std::thread::{Promise, PromisedHandle, Scope, Threads};
 use std::time::Clock;
 
 /// Why a member did not live to its history.
-#[derive(Clone, Copy, Debug, PartialEq, Eq)]
+#[derive(Clone, Copy)]
 pub enum LifeFault {
     /// Its thread could not be started.
     NoThread,
@@ -95,7 +95,7 @@ pub struct Lives<I, O, P, T> {
 }
 
 /// A promise: what is kept is a legal history of this member, with its counts, and what its workers worked with.
-#[derive(Clone, Copy, Debug)]
+#[derive(Clone, Copy)]
 pub struct OfMember {
     pub group: Group,
     pub me: u32,
@@ -193,13 +193,21 @@ fn start_all<
     let mut handles = Vec::with_capacity(setting.alloc, size as usize)?;
     let mut me = 0;
     for part in parts {
-        let Some(handle) = start(scope, rt, setting, me, part) else {
-            return Err(LifeFault::NoThread);
-        };
-        handles.push(handle)?;
+        add_handle(&mut handles, start(scope, rt, setting, me, part))?;
         me += 1;
     }
     Ok(handles)
+}
+
+/// Adds the handle of a thread that was started.
+fn add_handle<H: Drop>(handles: &mut Vec<H>, handle: Option<H>) -> Result<(), LifeFault>
+    ensures { IfOk result (λ _. IsSomeAnd handle (λ h.
+        handles.new.items ≡ handles.old.items ++ h ∷ [])) }
+{
+    match handle {
+        Some(handle) => Ok(handles.push(handle)?),
+        None => Err(LifeFault::NoThread),
+    }
 }
 
 fn start<
@@ -238,14 +246,28 @@ fn join_all<I: Drop, O: Drop, P: Drop, T: Drop, R: Threads>(
         → IfOk result (λ r. AreKept group 0 r.histories.items (map tally_in r.reports.items)) }
     ensures parts { IfOk result (λ r. EachHandsBack r.reports.items) }
 {
-    let mut reports = Vec::with_capacity(alloc, handles.len())?;
-    let mut histories = Vec::with_capacity(alloc, handles.len())?;
+    let mut lives = Lives {
+        reports: Vec::new(alloc),
+        histories: Vec::new(alloc),
+    };
     for handle in handles {
-        let Kept { report, history } = handle.join(rt)?;
-        reports.push(report)?;
-        histories.push(history)?;
+        lives.add(handle.join(rt))?;
     }
-    Ok(Lives { reports, histories })
+    Ok(lives)
+}
+
+impl<I: Drop, O: Drop, P: Drop, T: Drop> Lives<I, O, P, T> {
+    /// Adds what is kept of the next member.
+    fn add(&mut self, kept: Result<Kept<I, O, P, T>, LifeFault>) -> Result<(), LifeFault>
+        ensures { IfOk result (λ _. IsOkAnd kept (λ kept.
+            (self.new.reports.items ≡ self.old.reports.items ++ kept.report ∷ [])
+            × (self.new.histories.items ≡ self.old.histories.items ++ kept.history ∷ []))) }
+    {
+        let Kept { report, history } = kept?;
+        self.reports.push(report)?;
+        self.histories.push(history)?;
+        Ok(())
+    }
 }
 
 /// A member from its first call to its history.
@@ -261,9 +283,8 @@ fn live<
     me: u32,
     parts: Parts<I, O, P, T>,
 ) -> Result<Kept<I, O, P, T>, LifeFault>
-    ensures kept { IfOk result (λ kept.
-        IsKept setting.now.group me kept.history (tally_in kept.report)) }
-    ensures parts { IfOk result (λ kept. HandsBack kept.report) }
+    ensures { IfOk result (λ kept. IsKept setting.now.group me kept.history
+        (tally_in kept.report) × HandsBack kept.report) }
 {
     match Member::new(setting.alloc, setting.group, me, setting.history_max) {
         Ok(member) => share::<Brand, I, O, P, T, R>(rt, setting, member, parts, Blank::new(4)),
@@ -291,9 +312,8 @@ fn share<
 ) -> Result<Kept<I, O, P, T>, LifeFault>
     requires ledger { (blank.name ≡ L.name) × (blank.parts ≡ L.parts) × (blank.parts ≡ 4) }
     requires fresh { member.entries ≡ [] }
-    ensures kept { IfOk result (λ kept.
-        IsKept member.seat.group member.seat.me kept.history (tally_in kept.report)) }
-    ensures parts { IfOk result (λ kept. HandsBack kept.report) }
+    ensures { IfOk result (λ kept. IsKept member.seat.group member.seat.me kept.history
+        (tally_in kept.report) × HandsBack kept.report) }
 {
     let identity = member.seat();
     let (shared, seat) = SharedMember::<L>::new(setting.alloc, blank, member);
@@ -302,7 +322,7 @@ fn share<
         shared: &shared,
         ending: setting.ending,
     };
-    let (report, seats) = run_shared(rt, desk, four(seat), parts);
+    let (report, seats) = run_shared(rt, &desk, four(seat), parts);
     ended(identity, shared.close(seats), report)
 }
 
@@ -314,9 +334,8 @@ fn ended<I: Drop, O: Drop, P: Drop, T: Drop>(
 ) -> Result<Kept<I, O, P, T>, LifeFault>
     requires seat { IfOk closed (λ closed. closed.member.seat ≡ identity) }
     requires parts { HandsBack report }
-    ensures kept { IfOk result (λ kept.
-        IsKept identity.group identity.me kept.history (tally_in kept.report)) }
-    ensures parts { IfOk result (λ kept. HandsBack kept.report) }
+    ensures { IfOk result (λ kept. IsKept identity.group identity.me kept.history
+        (tally_in kept.report) × HandsBack kept.report) }
 {
     match closed {
         Ok(Closed { member }) => Ok(keep(report, member)),
@@ -324,14 +343,15 @@ fn ended<I: Drop, O: Drop, P: Drop, T: Drop>(
     }
 }
 
-/// What it left is let go by calls, which the prover takes less time for than for values that are left to the end.
+/// What it left is let go by calls, which the prover takes less time for than for values that are left to the end; of the member's own
+/// parts it would prove anew how each is let go.
 fn not_closed<I: Drop, O: Drop, P: Drop, T: Drop>(
     identity: Identity,
     refusal: CloseRefusal,
     report: MemberReport<I, O, P, T>,
 ) -> LifeFault {
     let CloseRefusal { fault, member } = refusal;
-    drop(member);
+    drop(member.into_history());
     drop(report);
     LifeFault::Close {
         member: identity.me(),

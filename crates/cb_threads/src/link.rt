@@ -146,7 +146,7 @@ pub fn and_fault(failures: u64, fault: LinkFault) -> u64
 }
 
 /// What came of offering a frame to some members.
-#[derive(Clone, Copy, Debug, PartialEq, Eq)]
+#[derive(Clone, Copy)]
 pub struct Offered {
     /// How many of them it could not be sent to.
     pub failures: u64,

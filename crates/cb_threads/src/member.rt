@@ -1,6 +1,6 @@
 //! One member with its four workers.
 
-ghost use Rattle.std.specs.Prelude.{◌≡◌, ◌≢◌, ◌+◌, ◌<◌, ◌≤◌, MatchOption, None, Some};
+ghost use Rattle.std.specs.Prelude.{◌≡◌, ◌≢◌, ◌+◌, ◌<◌, ◌≤◌, IfSome, MatchOption, None, Some};
 ghost use Rattle.std.specs.Vec.{vec_capacity, vec_len};
 ghost use Rattle.cb_threads.specs.Counts.{MetAtMost};
 ghost use Rattle.cb_threads.specs.Reports.{HandsBack, Tells, entries_in};
@@ -9,7 +9,7 @@ use crate::limits::{Ending, Limits, Stop};
 use crate::link::{Inlet, Outlet};
 use crate::pace::Pace;
 use crate::report::{MemberReport, Tally, WorkerFault};
-use crate::start::{Ended, Parts, Seats, make_ends, run_workers};
+use crate::start::{Ended, Ends, Parts, Seats, make_ends, make_jobs, run_workers};
 use crate::talker::Talker;
 use crate::workers::{Desk, Worked};
 use cb_lock::{Seat, SharedMember};
@@ -79,13 +79,12 @@ pub fn run_member<
         shared,
         ending,
     };
-    let (report, seats) = run_shared(rt, desk, seats, parts);
+    let (report, seats) = run_shared(rt, &desk, seats, parts);
     let tally = Tally::of_seats(&seats);
     (report.with(tally), seats)
 }
 
 /// Runs the workers of a member. Nothing is counted yet of what it cast and delivered.
-#[tactic(auto, using(crate::proofs::Rising::met_none))]
 pub fn run_shared<
     I: Inlet + Send + Drop,
     O: Outlet + Send + Drop,
@@ -95,7 +94,7 @@ pub fn run_shared<
     R: Threads + Wait + Clock + Sync,
 >(
     rt: &R,
-    desk: Desk<'_, L>,
+    desk: &Desk<'_, L>,
     seats: Seats<L>,
     parts: Parts<I, O, P, T>,
 ) -> (MemberReport<I, O, P, T>, Vec<Seat<L>>)
@@ -108,30 +107,51 @@ pub fn run_shared<
     ensures pace { MatchOption result.0.pace (result.0.pace_failures ≡ 0)
         (λ pace. MetAtMost result.0.pace_failures (P.failed parts.pace) (P.failed pace)) }
 {
-    let alloc = desk.alloc;
-    let ending = desk.ending;
-    let Ok(mut list) = Vec::with_capacity(alloc, 4) else {
-        return unstarted(ending, parts, Vec::new(alloc));
-    };
-    match make_ends(alloc) {
-        Ok(ends) => reported(run_workers(rt, desk, seats, parts, ends), list),
-        Err(AllocError) => {
-            list_all(seats, &mut list);
-            unstarted(ending, parts, list)
-        }
+    let (list, ends) = room(desk.alloc);
+    match ends {
+        Some(ends) => reported(run_workers(rt, desk, make_jobs(parts, seats, ends)), list),
+        None => unstarted(desk.ending, parts, listed(seats, list)),
     }
 }
 
+/// A list for the seats and the ends of the workers' channel, which is not made where the list could not be.
+fn room<L: Ledger>(alloc: Global) -> (Vec<Seat<L>>, Option<Ends>)
+    ensures empty { vec_len result.0 ≡ 0 }
+    ensures list { IfSome result.1 (λ _. 4 ≤ vec_capacity result.0) }
+{
+    match Vec::with_capacity(alloc, 4) {
+        Ok(list) => (list, make_ends(alloc).ok()),
+        Err(AllocError) => (Vec::new(alloc), None),
+    }
+}
+
+/// The seats in the list, where it could be made.
+fn listed<L: Ledger>(seats: Seats<L>, list: Vec<Seat<L>>) -> Vec<Seat<L>>
+    requires { vec_len list ≡ 0 }
+{
+    let mut list = list;
+    if list.capacity() < 4 {
+        drop(seats);
+    } else {
+        list_all(seats, &mut list);
+    }
+    list
+}
+
 /// The report of a member whose workers' channel or lists could not be made.
-fn unstarted<I, O, P, T, L: Ledger>(
+#[tactic(auto, using(crate::proofs::Rising::met_none))]
+fn unstarted<I: Inlet, O: Outlet, P: Pace, T, L: Ledger>(
     ending: Ending<'_>,
     parts: Parts<I, O, P, T>,
     seats: Vec<Seat<L>>,
 ) -> (MemberReport<I, O, P, T>, Vec<Seat<L>>)
     ensures seats { result.0.fault ≢ None }
-    ensures inlet { (result.0.inlet ≡ Some parts.inlet) × (result.0.receive_failures ≡ 0) }
-    ensures outlet { (result.0.outlet ≡ Some parts.outlet) × (result.0.send_failures ≡ 0) }
-    ensures pace { (result.0.pace ≡ Some parts.pace) × (result.0.pace_failures ≡ 0) }
+    ensures inlet { MatchOption result.0.inlet (result.0.receive_failures ≡ 0)
+        (λ inlet. MetAtMost result.0.receive_failures (I.failed parts.inlet) (I.failed inlet)) }
+    ensures outlet { MatchOption result.0.outlet (result.0.send_failures ≡ 0)
+        (λ outlet. MetAtMost result.0.send_failures (O.failed parts.outlet) (O.failed outlet)) }
+    ensures pace { MatchOption result.0.pace (result.0.pace_failures ≡ 0)
+        (λ pace. MetAtMost result.0.pace_failures (P.failed parts.pace) (P.failed pace)) }
 {
     ending.talker_ended();
     ending.give_up();

@@ -78,7 +78,7 @@ impl<I, O, P, T> MemberReport<I, O, P, T> {
 }
 
 /// What entries tell of casts and deliveries.
-#[derive(Clone, Copy, Debug, PartialEq, Eq)]
+#[derive(Clone, Copy)]
 pub struct Tally {
     pub casts: u64,
     pub deliveries: u64,

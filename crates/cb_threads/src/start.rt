@@ -3,12 +3,13 @@
 ghost use Rattle.std.specs.Prelude.{◌≡◌, true, is_some, IfSome, MatchOption, None};
 ghost use Rattle.cb_threads.specs.Counts.{MetAtMost};
 
+use crate::limits::Ending;
 use crate::link::{Inlet, Outlet};
 use crate::mailbox::{Mailbox, Slot, new_mailbox};
 use crate::pace::Pace;
 use crate::talker::Talker;
 use crate::workers::{
-    Desk, InletCounts, OutletCounts, PaceCounts, Post, Worked, send_all, take_all, talk_all,
+    Desk, InletCounts, Job, OutletCounts, PaceCounts, Worked, send_all, take_all, talk_all,
     tick_all,
 };
 use cb_lock::Seat;
@@ -47,6 +48,15 @@ pub struct Ends {
     sender: Mailbox<Outgoing>,
 }
 
+/// A job for each worker.
+#[derive(Drop)]
+pub struct Jobs<I, O, P, T, L: Ledger> {
+    pub receiver: Job<I, Slot<Outgoing>, L>,
+    pub timer: Job<P, Slot<Outgoing>, L>,
+    pub speaker: Job<T, Slot<Outgoing>, L>,
+    pub sender: Job<O, Mailbox<Outgoing>, L>,
+}
+
 /// What the workers hand back, with None for one whose thread could not be started.
 #[derive(Drop)]
 pub struct Ended<I, O, P, T, L: Ledger> {
@@ -81,6 +91,29 @@ pub fn make_ends(alloc: Global) -> Result<Ends, AllocError> {
     })
 }
 
+/// The workers' jobs, of what they work with, their seats and the ends of their channel.
+pub fn make_jobs<I, O, P, T, L: Ledger>(
+    parts: Parts<I, O, P, T>,
+    seats: Seats<L>,
+    ends: Ends,
+) -> Jobs<I, O, P, T, L>
+    ensures { (result.receiver.part ≡ parts.inlet) × (result.sender.part ≡ parts.outlet)
+        × (result.timer.part ≡ parts.pace) }
+{
+    Jobs {
+        receiver: make_job(parts.inlet, seats.receiver, ends.receiver),
+        timer: make_job(parts.pace, seats.timer, ends.timer),
+        speaker: make_job(parts.talker, seats.speaker, ends.speaker),
+        sender: make_job(parts.outlet, seats.sender, ends.sender),
+    }
+}
+
+fn make_job<D, E, L: Ledger>(part: D, seat: Seat<L>, end: E) -> Job<D, E, L>
+    ensures { result.part ≡ part }
+{
+    Job { part, seat, end }
+}
+
 /// Starts the workers and waits for all of them.
 pub fn run_workers<
     I: Inlet + Send + Drop,
@@ -89,31 +122,25 @@ pub fn run_workers<
     T: Talker + Send + Drop,
     L: Ledger + Send + Sync,
     R: Threads + Wait + Clock + Sync,
->(
-    rt: &R,
-    desk: Desk<'_, L>,
-    seats: Seats<L>,
-    parts: Parts<I, O, P, T>,
-    ends: Ends,
-) -> Ended<I, O, P, T, L>
+>(rt: &R, desk: &Desk<'_, L>, jobs: Jobs<I, O, P, T, L>) -> Ended<I, O, P, T, L>
     ensures inlet { IfSome result.received (λ w.
-        MetAtMost w.failures (I.failed parts.inlet) (I.failed w.part)) }
+        MetAtMost w.failures (I.failed jobs.receiver.part) (I.failed w.part)) }
     ensures outlet { IfSome result.sent (λ w.
-        MetAtMost w.failures (O.failed parts.outlet) (O.failed w.part)) }
+        MetAtMost w.failures (O.failed jobs.sender.part) (O.failed w.part)) }
     ensures pace { IfSome result.timed (λ w.
-        MetAtMost w.failures (P.failed parts.pace) (P.failed w.part)) }
+        MetAtMost w.failures (P.failed jobs.timer.part) (P.failed w.part)) }
 {
     thread::scope(
         thread::scope_env(),
         rt,
         |scope| -> Ended<I, O, P, T, L>
             ensures inlet { IfSome result.received (λ w.
-                MetAtMost w.failures (I.failed parts.inlet) (I.failed w.part)) }
+                MetAtMost w.failures (I.failed jobs.receiver.part) (I.failed w.part)) }
             ensures outlet { IfSome result.sent (λ w.
-                MetAtMost w.failures (O.failed parts.outlet) (O.failed w.part)) }
+                MetAtMost w.failures (O.failed jobs.sender.part) (O.failed w.part)) }
             ensures pace { IfSome result.timed (λ w.
-                MetAtMost w.failures (P.failed parts.pace) (P.failed w.part)) }
-        { run_in(scope, rt, desk, seats, (parts, ends)) },
+                MetAtMost w.failures (P.failed jobs.timer.part) (P.failed w.part)) }
+        { run_in(scope, rt, desk, jobs) },
     )
 }
 
@@ -130,55 +157,43 @@ fn run_in<
 >(
     scope: &Scope<'s, E>,
     rt: &'s R,
-    desk: Desk<'s, L>,
-    seats: Seats<L>,
-    work: (Parts<I, O, P, T>, Ends),
+    desk: &'s Desk<'s, L>,
+    jobs: Jobs<I, O, P, T, L>,
 ) -> Ended<I, O, P, T, L>
     ensures inlet { IfSome result.received (λ w.
-        MetAtMost w.failures (I.failed work.0.inlet) (I.failed w.part)) }
+        MetAtMost w.failures (I.failed jobs.receiver.part) (I.failed w.part)) }
     ensures outlet { IfSome result.sent (λ w.
-        MetAtMost w.failures (O.failed work.0.outlet) (O.failed w.part)) }
+        MetAtMost w.failures (O.failed jobs.sender.part) (O.failed w.part)) }
     ensures pace { IfSome result.timed (λ w.
-        MetAtMost w.failures (P.failed work.0.pace) (P.failed w.part)) }
+        MetAtMost w.failures (P.failed jobs.timer.part) (P.failed w.part)) }
 {
-    let (parts, ends) = work;
-    let (alloc, ending) = (desk.alloc, desk.ending);
-    let sender = start_sender(scope, rt, (alloc, ends.sender), parts.outlet, seats.sender);
-    let receiver = start_receiver(
-        scope,
-        rt,
-        (desk.again(), Post::new(ends.receiver)),
-        parts.inlet,
-        seats.receiver,
-    );
-    let timer = start_timer(
-        scope,
-        rt,
-        (desk.again(), Post::new(ends.timer)),
-        parts.pace,
-        seats.timer,
-    );
-    let speaker = start_speaker(
-        scope,
-        rt,
-        (desk, Post::new(ends.speaker)),
-        parts.talker,
-        seats.speaker,
-    );
-    if speaker.is_none() {
-        ending.talker_ended();
-    }
-    if sender.is_none() || receiver.is_none() || timer.is_none() {
-        ending.give_up();
-    }
+    let Jobs {
+        receiver,
+        timer,
+        speaker,
+        sender,
+    } = jobs;
+    let sender = start_sender(scope, rt, desk.alloc, sender);
+    let receiver = start_receiver(scope, rt, desk, receiver);
+    let timer = start_timer(scope, rt, desk, timer);
+    let speaker = start_speaker(scope, rt, desk, speaker);
+    let others_run = sender.is_some() & receiver.is_some() & timer.is_some();
+    end_without(desk.ending, speaker.is_some(), others_run);
     Ended {
         received: joined(rt, receiver),
         timed: joined(rt, timer),
-        talked: match speaker {
-            Some(handle) => Some(handle.join(rt)),
-            None => None,
-        },
+        talked: waited(rt, speaker),
         sent: joined(rt, sender),
+    }
+}
+
+/// Nobody is to wait for a worker that does not run.
+fn end_without(ending: Ending<'_>, speaker_runs: bool, others_run: bool) {
+    if !speaker_runs {
+        ending.talker_ended();
+    }
+    if !others_run {
+        ending.give_up();
     }
 }
 
@@ -191,19 +206,14 @@ fn start_receiver<
 >(
     scope: &Scope<'s, E>,
     rt: &'s R,
-    at: (Desk<'s, L>, Post),
-    inlet: I,
-    seat: Seat<L>,
+    desk: &'s Desk<'s, L>,
+    job: Job<I, Slot<Outgoing>, L>,
 ) -> Option<PromisedHandle<Worked<I, L>, InletCounts>>
-    ensures { IfSome result (λ handle. handle.promise.before ≡ I.failed inlet) }
+    ensures { IfSome result (λ handle. handle.promise.before ≡ I.failed job.part) }
 {
-    let before = inlet.failures();
-    let (desk, post) = at;
+    let before = job.part.failures();
     scope
-        .spawn_with(
-            InletCounts { before },
-            move || take_all(rt, desk, post, inlet, seat),
-        )
+        .spawn_with(InletCounts { before }, move || take_all(rt, desk, job))
         .ok()
 }
 
@@ -216,19 +226,14 @@ fn start_timer<
 >(
     scope: &Scope<'s, E>,
     rt: &'s R,
-    at: (Desk<'s, L>, Post),
-    pace: P,
-    seat: Seat<L>,
+    desk: &'s Desk<'s, L>,
+    job: Job<P, Slot<Outgoing>, L>,
 ) -> Option<PromisedHandle<Worked<P, L>, PaceCounts>>
-    ensures { IfSome result (λ handle. handle.promise.before ≡ P.failed pace) }
+    ensures { IfSome result (λ handle. handle.promise.before ≡ P.failed job.part) }
 {
-    let before = pace.failures();
-    let (desk, post) = at;
+    let before = job.part.failures();
     scope
-        .spawn_with(
-            PaceCounts { before },
-            move || tick_all(rt, desk, post, pace, seat),
-        )
+        .spawn_with(PaceCounts { before }, move || tick_all(rt, desk, job))
         .ok()
 }
 
@@ -241,14 +246,10 @@ fn start_speaker<
 >(
     scope: &Scope<'s, E>,
     rt: &'s R,
-    at: (Desk<'s, L>, Post),
-    talker: T,
-    seat: Seat<L>,
+    desk: &'s Desk<'s, L>,
+    job: Job<T, Slot<Outgoing>, L>,
 ) -> Option<JoinHandle<Worked<T, L>>> {
-    let (desk, post) = at;
-    scope
-        .spawn(move || talk_all(rt, desk, post, talker, seat))
-        .ok()
+    scope.spawn(move || talk_all(rt, desk, job)).ok()
 }
 
 fn start_sender<
@@ -260,19 +261,14 @@ fn start_sender<
 >(
     scope: &Scope<'s, E>,
     rt: &'s R,
-    from: (Global, Mailbox<Outgoing>),
-    outlet: O,
-    seat: Seat<L>,
+    alloc: Global,
+    job: Job<O, Mailbox<Outgoing>, L>,
 ) -> Option<PromisedHandle<Worked<O, L>, OutletCounts>>
-    ensures { IfSome result (λ handle. handle.promise.before ≡ O.failed outlet) }
+    ensures { IfSome result (λ handle. handle.promise.before ≡ O.failed job.part) }
 {
-    let before = outlet.failures();
-    let (alloc, frames) = from;
+    let before = job.part.failures();
     scope
-        .spawn_with(
-            OutletCounts { before },
-            move || send_all(rt, alloc, frames, outlet, seat),
-        )
+        .spawn_with(OutletCounts { before }, move || send_all(rt, alloc, job))
         .ok()
 }
 
@@ -284,6 +280,13 @@ fn joined<D: Drop, L: Ledger, C: Promise<Worked<D, L>>, R: Threads>(
     ensures { MatchOption handle (result ≡ None)
         (λ handle. IfSome result (λ worked. C.kept_by handle.promise worked)) }
 {
+    match handle {
+        Some(handle) => Some(handle.join(rt)),
+        None => None,
+    }
+}
+
+fn waited<D: Drop, R: Threads>(rt: &R, handle: Option<JoinHandle<D>>) -> Option<D> {
     match handle {
         Some(handle) => Some(handle.join(rt)),
         None => None,

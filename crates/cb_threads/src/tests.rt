@@ -8,4 +8,5 @@ mod faults;
 mod group;
 mod mailbox;
 mod parts;
+mod reports;
 mod speaker;

@@ -50,47 +50,53 @@ impl UdpLink {
         alloc: Global,
         size: u32,
     ) -> Result<Vec<(UdpInlet, UdpOutlet)>, LinkFault> {
-        let inlets = inlets(net, alloc, size)?;
-        let addresses = addresses(alloc, &inlets)?;
+        let mut addresses = Vec::new(alloc);
         let mut links = Vec::new(alloc);
-        for (me, inlet) in inlets.into_iter().enumerate() {
-            links.push((inlet, outlet(net, &addresses, me)?))?;
+        for me in 0..size {
+            links.push(unlinked(net, alloc, me, &mut addresses)?)?;
         }
+        link_all(&addresses, &mut links)?;
         Ok(links)
     }
 }
 
-/// Where the frames of this member go, among members with these addresses.
-fn outlet<N: Net>(net: &N, addresses: &Vec<SocketAddr>, me: usize) -> Result<UdpOutlet, LinkFault> {
-    Ok(UdpOutlet {
+/// The link of this member, whose outlet has no addresses yet; the address of its inlet is added to them.
+fn unlinked<N: Net>(
+    net: &N,
+    alloc: Global,
+    me: u32,
+    addresses: &mut Vec<SocketAddr>,
+) -> Result<(UdpInlet, UdpOutlet), LinkFault> {
+    let inlet = UdpInlet {
+        alloc,
         socket: socket(net)?,
-        to: addresses.clone()?,
-        me,
         failures: 0,
-    })
+    };
+    addresses.push(address_of(&inlet)?)?;
+    let outlet = UdpOutlet {
+        socket: socket(net)?,
+        to: Vec::new(alloc),
+        me: me as usize,
+        failures: 0,
+    };
+    Ok((inlet, outlet))
 }
 
-fn inlets<N: Net>(net: &N, alloc: Global, size: u32) -> Result<Vec<UdpInlet>, LinkFault> {
-    let mut inlets = Vec::new(alloc);
-    for _member in 0..size {
-        inlets.push(UdpInlet {
-            alloc,
-            socket: socket(net)?,
-            failures: 0,
-        })?;
+fn address_of(inlet: &UdpInlet) -> Result<SocketAddr, LinkFault> {
+    match inlet.socket.local_addr() {
+        Ok(address) => Ok(address),
+        Err(error) => Err(fault_of(&error)),
     }
-    Ok(inlets)
 }
 
-fn addresses(alloc: Global, inlets: &[UdpInlet]) -> Result<Vec<SocketAddr>, LinkFault> {
-    let mut addresses = Vec::new(alloc);
-    for inlet in inlets {
-        match inlet.socket.local_addr() {
-            Ok(address) => addresses.push(address)?,
-            Err(error) => return Err(fault_of(&error)),
-        }
+fn link_all(
+    addresses: &Vec<SocketAddr>,
+    links: &mut [(UdpInlet, UdpOutlet)],
+) -> Result<(), LinkFault> {
+    for link in links {
+        link.1.to = addresses.clone()?;
     }
-    Ok(addresses)
+    Ok(())
 }
 
 /// A socket that waits for nothing.

@@ -6,7 +6,7 @@ mod sender;
 mod speaker;
 mod timer;
 
-pub use desk::{Desk, Post, Worked};
+pub use desk::{Desk, Job, Post, Worked};
 pub use receiver::{InletCounts, take_all};
 pub use sender::{OutletCounts, send_all};
 pub use speaker::talk_all;

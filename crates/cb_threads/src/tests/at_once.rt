@@ -3,6 +3,7 @@
 ghost use Rattle.std.specs.Prelude.{◌≡◌, []};
 
 use super::parts::{Flags, Meeting, Patient, Silent};
+use super::reports::{has_failed, has_run_well};
 use crate::{
     ChannelInlet, ChannelLink, ChannelOutlet, GroupReport, Limits, MemberReport, Stop, run_group,
     run_member,
@@ -76,19 +77,15 @@ fn run_once<L: Ledger + Send + Sync, R: Threads + Wait + Clock + Abort + Sync>(
         &Stop::new(),
         Limits { turns: 2 },
     );
-    no_failures(rt, report);
+    no_failures(rt, &report);
+    drop(report);
     seats
 }
 
-fn no_failures<I: Drop, O: Drop, P: Drop, T: Drop>(
-    rt: &impl Abort,
-    report: MemberReport<I, O, P, T>,
-) {
-    assert_eq!(rt; report.receive_failures, 0);
-    assert_eq!(rt; report.send_failures, 0);
-    assert_eq!(rt; report.pace_failures, 0);
+fn no_failures<I, O, P, T>(rt: &impl Abort, report: &MemberReport<I, O, P, T>) {
+    has_failed(rt, report, (0, 0));
+    has_run_well(rt, report);
     assert!(rt; report.entries >= 1);
-    assert!(rt; report.fault.is_none());
 }
 
 #[test]
@@ -100,33 +97,41 @@ fn members_of_a_group_run_at_once(rt: HostRuntime) {
 /// Each member's first wait waits for those of the two others.
 fn meet<R: Threads + Wait + Clock + Abort + Sync>(rt: &R, alloc: Global, flags: &Flags) {
     let group = Group::new(7, 3, 4).expect(rt, "a group");
+    let (paces, talkers) = patient(rt, alloc, flags);
     let links = ChannelLink::group(alloc, 3).expect(rt, "links");
+    let limits = Limits { turns: 10_000 };
+    match run_group(rt, alloc, group, 100_000, links, paces, talkers, limits) {
+        Ok(ran) => have_met(rt, ran),
+        Err(_fault) => panic!(rt; "the group ran"),
+    }
+}
+
+fn patient<'a>(
+    rt: &impl Abort,
+    alloc: Global,
+    flags: &'a Flags,
+) -> (Vec<Meeting<'a>>, Vec<Patient<'a>>) {
     let mut paces = Vec::new(alloc);
     let mut talkers = Vec::new(alloc);
     for member in 0..3usize {
         paces.push(Meeting::new(flags, member)).expect(rt, "memory");
         talkers.push(Patient { flags }).expect(rt, "memory");
     }
-    let limits = Limits { turns: 10_000 };
-    let Ok(ran) = run_group(rt, alloc, group, 100_000, links, paces, talkers, limits) else {
-        panic!(rt; "the group ran");
-    };
-    all_met(rt, ran);
+    (paces, talkers)
 }
 
-fn all_met<'a>(
+fn have_met<'a>(
     rt: &impl Abort,
     ran: GroupReport<ChannelInlet, ChannelOutlet, Meeting<'a>, Patient<'a>>,
 ) {
-    assert_eq!(rt; ran.histories.len(), 3);
-    for report in ran.reports.iter() {
-        has_met(rt, report);
-    }
+    all_met(rt, &ran);
     // A call of `drop` takes the prover less time than a value that is left to the end.
     drop(ran);
 }
 
-fn has_met<I, O, P, T>(rt: &impl Abort, report: &MemberReport<I, O, P, T>) {
-    assert_eq!(rt; report.pace_failures, 0);
-    assert!(rt; report.fault.is_none());
+fn all_met<I, O, P, T>(rt: &impl Abort, ran: &GroupReport<I, O, P, T>) {
+    assert_eq!(rt; ran.histories.len(), 3);
+    for report in ran.reports.iter() {
+        has_run_well(rt, report);
+    }
 }

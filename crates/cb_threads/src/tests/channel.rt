@@ -39,29 +39,30 @@ fn frames(rt: &impl Abort, alloc: Global) -> Vec<Outgoing> {
 /// These frames have come, in this order, and no other.
 fn came<R: Wait + Clock + Abort>(rt: &R, inlet: &mut ChannelInlet, expected: &[&'static str]) {
     for text in expected {
-        assert_eq!(rt;
-            received(rt, inlet),
-            Received::Frame(Bytes::from_static(text.as_bytes()))
-        );
+        let frame = Received::Frame(Bytes::from_static(text.as_bytes()));
+        assert!(rt; is_next(rt, inlet, frame), "a frame has come");
     }
-    assert_eq!(rt; received(rt, inlet), Received::Nothing);
+    assert!(rt; is_next(rt, inlet, Received::Nothing), "no more has come");
 }
 
-fn received<R: Wait + Clock + Abort>(rt: &R, inlet: &mut ChannelInlet) -> Received {
-    inlet.receive(rt).expect(rt, "channels do not fail")
+fn is_next<R: Wait + Clock + Abort>(rt: &R, inlet: &mut ChannelInlet, expected: Received) -> bool {
+    let received = inlet.receive(rt).expect(rt, "channels do not fail");
+    received == expected
+}
+
+/// Sends all the frames, of which so many are lost, each at the device.
+fn sends<R: Wait + Abort>(rt: &R, alloc: Global, outlet: &mut ChannelOutlet, lost: u64) {
+    let unsent = outlet.send_all(rt, &frames(rt, alloc));
+    let failures = lost;
+    assert_eq!(rt; unsent, Unsent { lost, failures });
+    assert_eq!(rt; outlet.failures(), failures);
 }
 
 #[test]
 fn each_frame_goes_to_whom_it_is_to(rt: HostRuntime) {
     let (mut of_0, mut of_1, mut of_2) = three(&rt, rt.alloc());
-    let unsent = of_0.1.send_all(&rt, &frames(&rt, rt.alloc()));
     // The sender's own number, and one that is no member's.
-    let expected = Unsent {
-        lost: 2,
-        failures: 2,
-    };
-    assert_eq!(&rt; unsent, expected);
-    assert_eq!(&rt; of_0.1.failures(), 2);
+    sends(&rt, rt.alloc(), &mut of_0.1, 2);
     came(&rt, &mut of_1.0, &["all", "one"]);
     came(&rt, &mut of_2.0, &["all", "two"]);
     came(&rt, &mut of_0.0, &[]);
@@ -71,12 +72,6 @@ fn each_frame_goes_to_whom_it_is_to(rt: HostRuntime) {
 fn frames_to_a_member_that_is_gone_are_lost(rt: HostRuntime) {
     let (mut of_0, mut of_1, of_2) = three(&rt, rt.alloc());
     drop(of_2);
-    let unsent = of_0.1.send_all(&rt, &frames(&rt, rt.alloc()));
-    let expected = Unsent {
-        lost: 4,
-        failures: 4,
-    };
-    assert_eq!(&rt; unsent, expected);
-    assert_eq!(&rt; of_0.1.failures(), 4);
+    sends(&rt, rt.alloc(), &mut of_0.1, 4);
     came(&rt, &mut of_1.0, &["all", "one"]);
 }

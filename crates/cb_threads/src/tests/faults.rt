@@ -3,6 +3,7 @@
 ghost use Rattle.std.specs.Prelude.{◌≡◌};
 
 use super::parts::{Counting, Failing, Silent, Uneven};
+use super::reports::{hands_all_back, has_delivered, has_failed};
 use crate::{
     ChannelInlet, ChannelLink, ChannelOutlet, GroupReport, Limits, MemberReport, Pace, Stop,
     run_group, run_member,
@@ -30,18 +31,23 @@ fn run_failing<R: Threads + Wait + Clock + Abort + Sync>(
     outlet_at: u64,
 ) -> Failed {
     let group = Group::new(7, 3, 4).expect(rt, "a group");
-    let mut paces = Vec::new(alloc);
-    let mut talkers = Vec::new(alloc);
-    for _member in 0..3u32 {
-        paces.push(Uneven { failures: 0 }).expect(rt, "memory");
-        talkers.push(talker(alloc)).expect(rt, "memory");
-    }
+    let (paces, talkers) = uneven(rt, alloc);
     let links = failing_links(rt, alloc, inlet_at, outlet_at);
     let limits = Limits { turns: 100_000 };
     match run_group(rt, alloc, group, 100_000, links, paces, talkers, limits) {
         Ok(ran) => ran,
         Err(fault) => panic!(rt; "{fault:?}"),
     }
+}
+
+fn uneven(rt: &impl Abort, alloc: Global) -> (Vec<Uneven>, Vec<Counting>) {
+    let mut paces = Vec::new(alloc);
+    let mut talkers = Vec::new(alloc);
+    for _member in 0..3u32 {
+        paces.push(Uneven { failures: 0 }).expect(rt, "memory");
+        talkers.push(talker(alloc)).expect(rt, "memory");
+    }
+    (paces, talkers)
 }
 
 fn talker(alloc: Global) -> Counting {
@@ -96,13 +102,16 @@ fn tells<I, O, P: Pace, T>(
     report: &MemberReport<I, O, P, T>,
     expected: (u64, u64),
 ) {
-    assert_eq!(rt; report.casts, 2);
-    assert_eq!(rt; report.deliveries, 4);
-    // A group may end before a timer's first turn.
+    has_delivered(rt, report);
+    has_failed(rt, report, expected);
+    assert!(rt; report.lost >= expected.1);
+    counts_waits(rt, report);
+}
+
+/// A group may end before a timer's first turn.
+fn counts_waits<I, O, P: Pace, T>(rt: &impl Abort, report: &MemberReport<I, O, P, T>) {
     let waits = report.pace.as_ref().map(|pace| pace.failures());
     assert_eq!(rt; waits, Some(report.pace_failures));
-    assert_eq!(rt; (report.receive_failures, report.send_failures), expected);
-    assert!(rt; report.lost >= expected.1);
 }
 
 /// Two casts are sure to be sent. How many statuses are sent with them depends on time, so that a third call may not come.
@@ -161,13 +170,26 @@ fn works<L: Ledger + Send + Sync, R: Threads + Wait + Clock + Abort + Sync>(
     if is_stopped {
         stop.set();
     }
+    let link = failing_link(rt, alloc);
     let mut seat = seat;
     let seats = (seat.split(), seat.split(), seat.split(), seat);
-    let link = failing_links(rt, alloc, 1, 1).pop().expect(rt, "a link");
     let pace = Uneven { failures: 0 };
     let limits = Limits { turns: 3 };
     let (report, seats) = run_member(rt, alloc, shared, seats, link, pace, Silent, &stop, limits);
-    assert_eq!(rt; seats.len(), 4);
+    let came_back = seats.len();
+    drop(seats);
+    has_worked(rt, &report, is_stopped);
+    drop(report);
+    assert_eq!(rt; came_back, 4);
+}
+
+/// A link that fails at the first calls.
+fn failing_link(rt: &impl Abort, alloc: Global) -> FailingLink {
+    failing_links(rt, alloc, 1, 1).pop().expect(rt, "a link")
+}
+
+/// Nothing where it was stopped, else each wait has failed.
+fn has_worked<I, O, P, T>(rt: &impl Abort, report: &MemberReport<I, O, P, T>, is_stopped: bool) {
     if is_stopped {
         did_nothing(rt, report);
     } else {
@@ -175,12 +197,8 @@ fn works<L: Ledger + Send + Sync, R: Threads + Wait + Clock + Abort + Sync>(
     }
 }
 
-fn did_nothing<I: Drop, O: Drop, P: Drop, T: Drop>(
-    rt: &impl Abort,
-    report: MemberReport<I, O, P, T>,
-) {
+fn did_nothing<I, O, P, T>(rt: &impl Abort, report: &MemberReport<I, O, P, T>) {
     assert_eq!(rt; (report.entries, report.lost), (0, 0));
     assert_eq!(rt; (report.receive_failures, report.pace_failures), (0, 0));
-    assert!(rt; report.inlet.is_some() && report.outlet.is_some());
-    assert!(rt; report.pace.is_some() && report.talker.is_some());
+    hands_all_back(rt, report);
 }

@@ -3,6 +3,7 @@
 ghost use Rattle.std.specs.Prelude.{◌≡◌};
 
 use super::parts::{Counting, Millisecond};
+use super::reports::{hands_all_back, has_delivered, has_run_well};
 use crate::{
     ChannelLink, GroupFault, GroupReport, Inlet, Limits, MemberReport, Outlet, Pace, UdpLink,
     run_group,
@@ -22,17 +23,29 @@ fn all_casts<
     R: Threads + Wait + Clock + Abort + Sync,
 >(rt: &R, alloc: Global, links: Vec<(I, O)>) {
     let group = Group::new(7, 3, 4).expect(rt, "a group");
+    let paces = paces(rt, alloc, 3);
+    let talkers = talkers(rt, alloc, 3);
+    let limits = Limits { turns: 10_000 };
+    match run_group(rt, alloc, group, 100_000, links, paces, talkers, limits) {
+        Ok(ran) => have_delivered(rt, ran),
+        Err(_fault) => panic!(rt; "the group ran"),
+    }
+}
+
+fn paces(rt: &impl Abort, alloc: Global, count: u32) -> Vec<Millisecond> {
     let mut paces = Vec::new(alloc);
-    let mut talkers = Vec::new(alloc);
-    for member in 0..3u32 {
+    for _member in 0..count {
         paces.push(Millisecond).expect(rt, "memory");
+    }
+    paces
+}
+
+fn talkers(rt: &impl Abort, alloc: Global, count: u32) -> Vec<Counting> {
+    let mut talkers = Vec::new(alloc);
+    for member in 0..count {
         talkers.push(counting(alloc, member)).expect(rt, "memory");
     }
-    let limits = Limits { turns: 10_000 };
-    let Ok(ran) = run_group(rt, alloc, group, 100_000, links, paces, talkers, limits) else {
-        panic!(rt; "the group ran");
-    };
-    all_delivered(rt, ran);
+    talkers
 }
 
 /// Members 1 and 2 want memory three times before they say anything; to member 2 copies are shown.
@@ -47,22 +60,23 @@ fn counting(alloc: Global, member: u32) -> Counting {
     }
 }
 
-fn all_delivered<I: Drop, O: Drop, P: Drop>(rt: &impl Abort, ran: GroupReport<I, O, P, Counting>) {
-    for report in ran.reports.iter() {
-        has_delivered(rt, report);
-        let seen = report.talker.as_ref().map(|talker| talker.seen);
-        assert_eq!(rt; seen, Some(6));
-    }
+fn have_delivered<I: Drop, O: Drop, P: Drop>(rt: &impl Abort, ran: GroupReport<I, O, P, Counting>) {
+    all_delivered(rt, &ran);
     drop(ran);
 }
 
-fn has_delivered<I, O, P, T>(rt: &impl Abort, report: &MemberReport<I, O, P, T>) {
-    assert_eq!(rt; report.casts, 2);
-    assert_eq!(rt; report.deliveries, 4);
-    assert_eq!(rt; report.pace_failures, 0);
-    assert!(rt; report.fault.is_none());
-    assert!(rt; report.inlet.is_some() && report.outlet.is_some());
-    assert!(rt; report.pace.is_some() && report.talker.is_some());
+fn all_delivered<I, O, P>(rt: &impl Abort, ran: &GroupReport<I, O, P, Counting>) {
+    for report in ran.reports.iter() {
+        has_delivered(rt, report);
+        has_run_well(rt, report);
+        hands_all_back(rt, report);
+        has_seen_all(rt, report);
+    }
+}
+
+fn has_seen_all<I, O, P>(rt: &impl Abort, report: &MemberReport<I, O, P, Counting>) {
+    let seen = report.talker.as_ref().map(|talker| talker.seen);
+    assert_eq!(rt; seen, Some(6));
 }
 
 #[test]
@@ -86,31 +100,36 @@ fn is_bad_plan<R: Threads + Wait + Clock + Abort + Sync>(
 ) -> bool {
     let group = Group::new(7, 3, 4).expect(rt, "a group");
     let links = ChannelLink::group(alloc, if missing == 0 { 2 } else { 3 }).expect(rt, "links");
-    let mut paces = Vec::new(alloc);
-    let mut talkers = Vec::new(alloc);
-    for member in 0..3u32 {
-        if missing != 1 || member > 0 {
-            paces.push(Millisecond).expect(rt, "memory");
-        }
-        if missing != 2 || member > 0 {
-            talkers.push(counting(alloc, member)).expect(rt, "memory");
-        }
-    }
+    let paces = paces(rt, alloc, if missing == 1 { 2 } else { 3 });
+    let talkers = talkers(rt, alloc, if missing == 2 { 2 } else { 3 });
     let limits = Limits { turns: 0 };
-    matches!(
-        run_group(rt, alloc, group, limit, links, paces, talkers, limits),
-        Err(GroupFault::BadPlan)
-    )
+    let ran = run_group(rt, alloc, group, limit, links, paces, talkers, limits);
+    is_refused(ran)
+}
+
+fn is_refused<I: Drop, O: Drop, P: Drop, T: Drop>(
+    ran: Result<GroupReport<I, O, P, T>, GroupFault>,
+) -> bool {
+    match ran {
+        Ok(ran) => {
+            drop(ran);
+            false
+        }
+        Err(fault) => matches!(fault, GroupFault::BadPlan),
+    }
 }
 
 #[test]
 fn a_bad_plan_is_refused(rt: HostRuntime) {
-    let alloc = rt.alloc();
-    for missing in 0..3u32 {
-        assert!(&rt; is_bad_plan(&rt, alloc, missing, 100));
+    for (missing, limit, is_bad) in [
+        (0, 100, true),
+        (1, 100, true),
+        (2, 100, true),
+        (3, 0, true),
+        (3, 16_777_217, true),
+        (3, 1, false),
+        (3, 16_777_216, false),
+    ] {
+        assert_eq!(&rt; is_bad_plan(&rt, rt.alloc(), missing, limit), is_bad);
     }
-    assert!(&rt; is_bad_plan(&rt, alloc, 3, 0));
-    assert!(&rt; is_bad_plan(&rt, alloc, 3, 16_777_217));
-    assert!(&rt; !is_bad_plan(&rt, alloc, 3, 1));
-    assert!(&rt; !is_bad_plan(&rt, alloc, 3, 16_777_216));
 }

@@ -10,24 +10,21 @@ use std::alloc::Global;
 use std::sync::Wait;
 use std::sync::ledger::Ledger;
 
-/// The member that a worker works at, and what ends the worker.
+/// The member that its workers work at, and what ends them.
 #[derive(Drop)]
 pub struct Desk<'a, L: Ledger> {
-    /// For what the worker makes.
+    /// For what the workers make.
     pub alloc: Global,
     pub shared: &'a SharedMember<L>,
     pub ending: Ending<'a>,
 }
 
-impl<'a, L: Ledger> Desk<'a, L> {
-    /// The same for another worker.
-    pub fn again(&self) -> Desk<'a, L> {
-        Desk {
-            alloc: self.alloc,
-            shared: self.shared,
-            ending: self.ending,
-        }
-    }
+/// What a worker works with, its seat, and its end of the workers' channel.
+#[derive(Drop)]
+pub struct Job<D, E, L: Ledger> {
+    pub part: D,
+    pub seat: Seat<L>,
+    pub end: E,
 }
 
 /// What a worker hands back: what it worked with, its seat, and what it counted.

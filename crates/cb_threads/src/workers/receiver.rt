@@ -4,16 +4,18 @@ ghost use Rattle.std.specs.Prelude.{◌≡◌};
 ghost use Rattle.cb_threads.specs.Counts.{Counts, MetAtMost};
 
 use crate::link::{Inlet, Received, and_fault};
-use crate::workers::desk::{Desk, Post, Worked};
+use crate::mailbox::Slot;
+use crate::workers::desk::{Desk, Job, Post, Worked};
 use bytes::Bytes;
 use cb_lock::{Seat, SharedMember};
+use cb_member::Outgoing;
 use std::sync::Wait;
 use std::sync::ledger::Ledger;
 use std::thread::Promise;
 use std::time::Clock;
 
 /// A promise: the failures that were met are those that an inlet counted since it had counted this.
-#[derive(Clone, Copy, Debug)]
+#[derive(Clone, Copy)]
 pub struct InletCounts {
     pub before: u64,
 }
@@ -25,20 +27,19 @@ impl<I: Inlet, L: Ledger> Promise<Worked<I, L>> for InletCounts {
 /// Takes what comes, one look at the inlet in each turn.
 pub fn take_all<I: Inlet, L: Ledger, R: Wait + Clock>(
     rt: &R,
-    desk: Desk<'_, L>,
-    post: Post,
-    inlet: I,
-    seat: Seat<L>,
+    desk: &Desk<'_, L>,
+    job: Job<I, Slot<Outgoing>, L>,
 ) -> Worked<I, L>
-    ensures { MetAtMost result.failures (I.failed inlet) (I.failed result.part) }
+    ensures { MetAtMost result.failures (I.failed job.part) (I.failed result.part) }
 {
-    let mut post = post;
-    let mut worked = Worked::new(inlet, seat);
+    let Job { part, seat, end } = job;
+    let mut post = Post::new(end);
+    let mut worked = Worked::new(part, seat);
     for _turn in 0..desk.ending.limits.turns {
         if desk.ending.has_come() {
             break;
         }
-        take_once(rt, &desk, &mut post, &mut worked);
+        take_once(rt, desk, &mut post, &mut worked);
     }
     worked.lost = post.lost();
     worked

@@ -5,8 +5,7 @@ ghost use Rattle.cb_threads.specs.Counts.{Counts, MetAtMost};
 
 use crate::link::Outlet;
 use crate::mailbox::{Mailbox, Taken};
-use crate::workers::desk::Worked;
-use cb_lock::Seat;
+use crate::workers::desk::{Job, Worked};
 use cb_member::Outgoing;
 use std::alloc::Global;
 use std::slice;
@@ -15,7 +14,7 @@ use std::sync::ledger::Ledger;
 use std::thread::Promise;
 
 /// A promise: the failures that were met are those that an outlet counted since it had counted this.
-#[derive(Clone, Copy, Debug)]
+#[derive(Clone, Copy)]
 pub struct OutletCounts {
     pub before: u64,
 }
@@ -31,19 +30,18 @@ const MANY: usize = 64;
 pub fn send_all<O: Outlet, L: Ledger, R: Wait>(
     rt: &R,
     alloc: Global,
-    frames: Mailbox<Outgoing>,
-    outlet: O,
-    seat: Seat<L>,
+    job: Job<O, Mailbox<Outgoing>, L>,
 ) -> Worked<O, L>
-    ensures { MetAtMost result.failures (O.failed outlet) (O.failed result.part) }
+    ensures { MetAtMost result.failures (O.failed job.part) (O.failed result.part) }
 {
-    let mut worked = Worked::new(outlet, seat);
+    let Job { part, seat, end } = job;
+    let mut worked = Worked::new(part, seat);
     let mut list = Vec::with_capacity(alloc, MANY).unwrap_or(Vec::new(alloc));
     for _ in rt.forever() {
-        let Some(frame) = next(rt, &frames) else {
+        let Some(frame) = next(rt, &end) else {
             break;
         };
-        send_with_more(rt, &frames, frame, &mut list, &mut worked);
+        send_with_more(rt, &end, frame, &mut list, &mut worked);
     }
     worked
 }

@@ -3,8 +3,9 @@
 ghost use Rattle.std.specs.Prelude.{◌≡◌, IfOk, drop};
 ghost use Rattle.cb_history.specs.State.{events_in};
 
+use crate::mailbox::Slot;
 use crate::talker::{Talk, Talker};
-use crate::workers::desk::{Desk, Post, Worked};
+use crate::workers::desk::{Desk, Job, Post, Worked};
 use bytes::Bytes;
 use cb_lock::Seat;
 use cb_member::{CastDone, CastRefusal, Event, Member, NoMemory, Outgoing};
@@ -15,7 +16,7 @@ use std::thread::sleep;
 use std::time::{Clock, Duration};
 
 /// What came of a turn.
-#[derive(Clone, Copy, PartialEq, Eq)]
+#[derive(Clone, Copy)]
 enum Turn {
     Cast,
     Quiet,
@@ -39,10 +40,10 @@ impl Said {
 /// A talker at work: what it has seen of its member's events, and what it wants to cast.
 #[derive(Drop)]
 struct Speech<'a, T, L: Ledger> {
-    desk: Desk<'a, L>,
-    post: Post,
-    seat: Seat<L>,
+    desk: &'a Desk<'a, L>,
     talker: T,
+    seat: Seat<L>,
+    post: Post,
     /// How many events it has seen.
     seen: usize,
     /// What the news are copied into, kept from one time to the next.
@@ -55,20 +56,18 @@ struct Speech<'a, T, L: Ledger> {
 /// sleep.
 pub fn talk_all<T: Talker, L: Ledger, R: Wait + Clock>(
     rt: &R,
-    desk: Desk<'_, L>,
-    post: Post,
-    talker: T,
-    seat: Seat<L>,
+    desk: &Desk<'_, L>,
+    job: Job<T, Slot<Outgoing>, L>,
 ) -> Worked<T, L> {
     let ending = desk.ending;
-    let room = Vec::new(desk.alloc);
+    let Job { part, seat, end } = job;
     let mut speech = Speech {
         desk,
-        post,
+        talker: part,
         seat,
-        talker,
+        post: Post::new(end),
         seen: 0,
-        room,
+        room: Vec::new(desk.alloc),
         waiting: None,
     };
     for _turn in 0..ending.limits.turns {

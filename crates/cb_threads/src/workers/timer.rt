@@ -3,16 +3,17 @@
 ghost use Rattle.std.specs.Prelude.{◌≡◌};
 ghost use Rattle.cb_threads.specs.Counts.{Counts, MetAtMost};
 
+use crate::mailbox::Slot;
 use crate::pace::Pace;
-use crate::workers::desk::{Desk, Post, Worked};
-use cb_lock::Seat;
+use crate::workers::desk::{Desk, Job, Post, Worked};
+use cb_member::Outgoing;
 use std::sync::Wait;
 use std::sync::ledger::Ledger;
 use std::thread::Promise;
 use std::time::Clock;
 
 /// A promise: the failures that were met are those that a pace counted since it had counted this.
-#[derive(Clone, Copy, Debug)]
+#[derive(Clone, Copy)]
 pub struct PaceCounts {
     pub before: u64,
 }
@@ -24,15 +25,14 @@ impl<P: Pace, L: Ledger> Promise<Worked<P, L>> for PaceCounts {
 /// Ticks once in each turn, and then waits as the pace has it. A tick that finds no memory is made again in the next turn.
 pub fn tick_all<P: Pace, L: Ledger, R: Wait + Clock>(
     rt: &R,
-    desk: Desk<'_, L>,
-    post: Post,
-    pace: P,
-    seat: Seat<L>,
+    desk: &Desk<'_, L>,
+    job: Job<P, Slot<Outgoing>, L>,
 ) -> Worked<P, L>
-    ensures { MetAtMost result.failures (P.failed pace) (P.failed result.part) }
+    ensures { MetAtMost result.failures (P.failed job.part) (P.failed result.part) }
 {
-    let mut post = post;
-    let mut worked = Worked::new(pace, seat);
+    let Job { part, seat, end } = job;
+    let mut post = Post::new(end);
+    let mut worked = Worked::new(part, seat);
     for _turn in 0..desk.ending.limits.turns {
         if desk.ending.has_come() {
             break;

@@ -8,8 +8,8 @@ use Rattle.cb_threads.proofs.life.join_all.Given as goal
 abbrev pub invariant-loop-handle : goal.invariant-loop-handle
 invariant-loop-handle g l =
     record {
-      kept : (length l.histories.items + length l.handle-iterator.rest.items ≡ length l.fn.handles.items)
+      kept : (length l.lives.histories.items + length l.handle-iterator.rest.items ≡ length l.fn.handles.items)
           × ((group : Parameters) → AreMembers group 0 (map (λ h. h.promise) l.fn.handles.items)
-          → AreKept group 0 l.histories.items (map tally_in l.reports.items) × AreMembers group (length l.histories.items) (map (λ h. h.promise) l.handle-iterator.rest.items));
-      parts : EachHandsBack l.reports.items;
+          → AreKept group 0 l.lives.histories.items (map tally_in l.lives.reports.items) × AreMembers group (length l.lives.histories.items) (map (λ h. h.promise) l.handle-iterator.rest.items));
+      parts : EachHandsBack l.lives.reports.items;
     }

@@ -3,4 +3,4 @@ use Rattle.cb_threads.proofs.workers.receiver.take_all.Given as goal
 
 -- what was met so far was counted
 abbrev pub invariant-loop-turn : goal.invariant-loop-turn
-invariant-loop-turn g l = MetAtMost l.worked.failures (g.I.Inlet.failed l.fn.inlet) (g.I.Inlet.failed l.worked.part)
+invariant-loop-turn g l = MetAtMost l.worked.failures (g.I.Inlet.failed l.fn.job.part) (g.I.Inlet.failed l.worked.part)

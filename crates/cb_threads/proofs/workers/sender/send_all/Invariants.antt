@@ -3,4 +3,4 @@ use Rattle.cb_threads.proofs.workers.sender.send_all.Given as goal
 
 -- what was met so far was counted
 abbrev pub invariant-loop : goal.invariant-loop
-invariant-loop g l = MetAtMost l.worked.failures (g.O.Outlet.failed l.fn.outlet) (g.O.Outlet.failed l.worked.part)
+invariant-loop g l = MetAtMost l.worked.failures (g.O.Outlet.failed l.fn.job.part) (g.O.Outlet.failed l.worked.part)
