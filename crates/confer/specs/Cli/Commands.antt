@@ -4,17 +4,25 @@ use Rattle.clap.specs.Words.{App, Rule, Text, app_of, new_app, new_rule, with_ru
 use Rattle.clap.specs.declared.builder.command.Command.{Command}
 use Rattle.clap.specs.declared.builder.command.Command.TheViews.{out-Command}
 use Rattle.clap.specs.declared.builder.ArgAction.TheVariants.{Set, SetTrue}
+use Rattle.clap.specs.declared.builder.value_parser.ValueParser.{ValueParser}
 use Rattle.clap.specs.declared.builder.value_parser.ValueParser.TheVariants as parsers
 
--- a required option that takes a number within these bounds
-abbrev pub number_rule : Text → ℕ → ℕ → Rule
-number_rule name least most = record (new_rule name) {
+-- an option that takes what this parser lets through, and need not be given
+abbrev pub parsed_rule : Text → ValueParser → Rule
+parsed_rule name parser = record (new_rule name) {
   long = Some name;
   action = Some Set;
   value_names = 1;
-  parser = Some (parsers.Signed (pos least) (pos most));
-  required = true;
+  parser = Some parser;
 }
+
+-- an option that takes a number within these bounds, and need not be given
+abbrev pub free_rule : Text → ℕ → ℕ → Rule
+free_rule name least most = parsed_rule name (parsers.Signed (pos least) (pos most))
+
+-- a required option that takes a number within these bounds
+abbrev pub number_rule : Text → ℕ → ℕ → Rule
+number_rule name least most = record (free_rule name least most) { required = true }
 
 abbrev pub group_rule : Rule
 group_rule = number_rule (codes "group") 0 4294967295
@@ -24,10 +32,6 @@ size_rule = number_rule (codes "size") 2 64
 
 abbrev pub expand_app : App
 expand_app = with_rule (with_rule (new_app (codes "expand")) group_rule) size_rule
-
--- an option that takes a number within these bounds
-abbrev pub free_rule : Text → ℕ → ℕ → Rule
-free_rule name least most = record (number_rule name least most) { required = false }
 
 -- what carries the frames: any text, for `clap`
 abbrev pub link_rule : Rule

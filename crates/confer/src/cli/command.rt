@@ -1,7 +1,7 @@
 //! The subcommands and their options.
 
 ghost use Rattle.std.specs.Prelude.{◌≡◌, codes, false, IfOk};
-ghost use Rattle.clap.specs.Words.{app_of, rule_of, with_subcommand};
+ghost use Rattle.clap.specs.Words.{App, Rule, app_of, rule_of, with_rule, with_subcommand};
 ghost use Rattle.confer.specs.Cli.Commands.{
   audit_app,
   confer_app,
@@ -10,12 +10,14 @@ ghost use Rattle.confer.specs.Cli.Commands.{
   group_rule,
   IsCommand,
   link_rule,
+  parsed_rule,
   play_app,
   run_app,
   size_rule,
   trace_rule,
 };
 
+use clap::builder::ValueParser;
 use clap::{Arg, ArgAction, Command, value_parser};
 use std::alloc::{AllocError, Global};
 
@@ -23,45 +25,78 @@ use std::alloc::{AllocError, Global};
 pub fn command<'a>(alloc: Global) -> Result<Command<'a>, AllocError>
     ensures { IfOk result (λ command. app_of command ≡ confer_app) }
 {
-    let expand = expand_command(alloc)?;
-    let expanding = Command::new(alloc, "confer")
+    let program = Command::new(alloc, "confer")
         .about("Causal broadcast in a fixed group")
-        .subcommand_required(true)
-        .subcommand(expand)?;
-    let playing = expanding.subcommand(play_command(alloc))?;
-    match run_command(alloc) {
-        Ok(run) => with_threads(alloc, playing, run),
+        .subcommand_required(true);
+    let expanding = with_if_made(Ok(program), expand_command(alloc));
+    let playing = with_command(expanding, play_command(alloc));
+    let running = with_if_made(playing, run_command(alloc));
+    with_command(running, audit_command(alloc))
+}
+
+/// The program, if it was made, with this subcommand, if that was made.
+fn with_if_made<'a>(
+    program: Result<Command<'a>, AllocError>,
+    command: Result<Command<'a>, AllocError>,
+) -> Result<Command<'a>, AllocError>
+    ensures { (all one : App) → IfOk program.entry (λ p. app_of p ≡ all)
+        → IfOk command.entry (IsCommand one)
+        → IfOk result (λ p. app_of p ≡ with_subcommand all one.top) }
+{
+    match command {
+        Ok(command) => with_command(program, command),
         Err(refused) => {
             // A call of `drop` takes the prover less time than a value that is left to the end.
-            drop(playing);
+            drop(program);
             Err(refused)
         }
     }
 }
 
-/// The program with this subcommand `run`, and `audit`.
-fn with_threads<'a>(
-    alloc: Global,
-    program: Command<'a>,
-    run: Command<'a>,
+/// The program, if it was made, with this subcommand.
+fn with_command<'a>(
+    program: Result<Command<'a>, AllocError>,
+    command: Command<'a>,
 ) -> Result<Command<'a>, AllocError>
-    requires { IsCommand run_app run }
-    ensures { IfOk result (λ command. app_of command
-        ≡ with_subcommand (with_subcommand (app_of program.entry) run_app.top) audit_app.top) }
+    ensures { (all one : App) → IfOk program.entry (λ p. app_of p ≡ all)
+        → IsCommand one command.entry
+        → IfOk result (λ p. app_of p ≡ with_subcommand all one.top) }
 {
-    let running = program.subcommand(run)?;
-    running.subcommand(audit_command(alloc))
+    match program {
+        Ok(program) => program.subcommand(command),
+        Err(refused) => {
+            drop(command);
+            Err(refused)
+        }
+    }
+}
+
+/// The command, if it was made, with this option.
+fn with_option<'a>(
+    command: Result<Command<'a>, AllocError>,
+    option: Arg<'a>,
+) -> Result<Command<'a>, AllocError>
+    ensures { (app : App) (rule : Rule) → IfOk command.entry (IsCommand app)
+        → rule_of option.entry ≡ rule → option.entry.global ≡ false
+        → IfOk result (IsCommand (with_rule app rule)) }
+{
+    match command {
+        Ok(command) => command.arg(option),
+        Err(refused) => {
+            drop(option);
+            Err(refused)
+        }
+    }
 }
 
 fn expand_command<'a>(alloc: Global) -> Result<Command<'a>, AllocError>
     ensures { IfOk result (IsCommand expand_app) }
 {
-    let in_group = Command::new(alloc, "expand")
-        .about(
-            "Reads cast frames in hexadecimal, a frame a line, and prints the vector time of each",
-        )
-        .arg(group_option(alloc))?;
-    in_group.arg(size_option(alloc))
+    let expand = Command::new(alloc, "expand").about(
+        "Reads cast frames in hexadecimal, a frame a line, and prints the vector time of each",
+    );
+    let in_group = with_option(Ok(expand), group_option(alloc));
+    with_option(in_group, size_option(alloc))
 }
 
 fn play_command<'a>(alloc: Global) -> Command<'a>
@@ -75,15 +110,15 @@ fn play_command<'a>(alloc: Global) -> Command<'a>
 fn run_command<'a>(alloc: Global) -> Result<Command<'a>, AllocError>
     ensures { IfOk result (IsCommand run_app) }
 {
-    let conference = Command::new(alloc, "run")
-        .about("Runs a conference whose members are threads, and prints what became of each")
-        .arg(members_option(alloc))?
-        .arg(window_option(alloc))?;
-    let limited = conference
-        .arg(questions_option(alloc))?
-        .arg(turns_option(alloc))?;
-    let linked = limited.arg(link_option(alloc))?;
-    linked.arg(trace_option(alloc))
+    let run = Command::new(alloc, "run").about(
+        "Runs a conference whose members are threads, and prints what became of each",
+    );
+    let sized = with_option(Ok(run), members_option(alloc));
+    let windowed = with_option(sized, window_option(alloc));
+    let asking = with_option(windowed, questions_option(alloc));
+    let limited = with_option(asking, turns_option(alloc));
+    let linked = with_option(limited, link_option(alloc));
+    with_option(linked, trace_option(alloc))
 }
 
 fn audit_command<'a>(alloc: Global) -> Command<'a>
@@ -94,52 +129,75 @@ fn audit_command<'a>(alloc: Global) -> Command<'a>
     )
 }
 
+/// An option that takes a number, and need not be given.
+fn number_option<'a>(
+    alloc: Global,
+    name: &'a str,
+    unit: &'a str,
+    numbers: ValueParser<'a>,
+    help: &'a str,
+) -> Arg<'a>
+    ensures rule { rule_of result ≡ parsed_rule name.entry.now numbers.entry }
+    ensures local { result.global ≡ false }
+{
+    Arg::new(alloc, name)
+        .long(name)
+        .value_name(unit)
+        .action(ArgAction::Set)
+        .value_parser(numbers)
+        .help(help)
+}
+
 fn members_option<'a>(alloc: Global) -> Arg<'a>
     ensures rule { rule_of result ≡ free_rule (codes "size") 2 8 }
     ensures local { result.global ≡ false }
 {
-    Arg::new(alloc, "size")
-        .long("size")
-        .value_name("N")
-        .action(ArgAction::Set)
-        .value_parser(value_parser!(u32).range(2..=8))
-        .help("How many members, 2 to 8, 3 if not given")
+    number_option(
+        alloc,
+        "size",
+        "N",
+        value_parser!(u32).range(2..=8),
+        "How many members, 2 to 8, 3 if not given",
+    )
 }
 
 fn window_option<'a>(alloc: Global) -> Arg<'a>
     ensures rule { rule_of result ≡ free_rule (codes "window") 1 256 }
     ensures local { result.global ≡ false }
 {
-    Arg::new(alloc, "window")
-        .long("window")
-        .value_name("W")
-        .action(ArgAction::Set)
-        .value_parser(value_parser!(u32).range(1..=256))
-        .help("How many casts a member may be ahead of the slowest, 1 to 256, 4 if not given")
+    number_option(
+        alloc,
+        "window",
+        "W",
+        value_parser!(u32).range(1..=256),
+        "How many casts a member may be ahead of the slowest, 1 to 256, 4 if not given",
+    )
 }
 
 fn questions_option<'a>(alloc: Global) -> Arg<'a>
     ensures rule { rule_of result ≡ free_rule (codes "questions") 1 100 }
     ensures local { result.global ≡ false }
 {
-    Arg::new(alloc, "questions")
-        .long("questions")
-        .value_name("Q")
-        .action(ArgAction::Set)
-        .value_parser(value_parser!(u32).range(1..=100))
-        .help("How many questions member 0 asks, 1 to 100, 3 if not given")
+    number_option(
+        alloc,
+        "questions",
+        "Q",
+        value_parser!(u32).range(1..=100),
+        "How many questions member 0 asks, 1 to 100, 3 if not given",
+    )
 }
 
 fn turns_option<'a>(alloc: Global) -> Arg<'a>
     ensures rule { rule_of result ≡ free_rule (codes "turns") 1 10000000 }
     ensures local { result.global ≡ false }
 {
-    Arg::new(alloc, "turns")
-        .long("turns")
-        .value_name("T")
-        .action(ArgAction::Set)
-        .value_parser(value_parser!(u32).range(1..=10_000_000))
-        .help("How many turns each worker makes at most, 1 to 10000000, 1000000 if not given")
+    number_option(
+        alloc,
+        "turns",
+        "T",
+        value_parser!(u32).range(1..=10_000_000),
+        "How many turns each worker makes at most, 1 to 10000000, 1000000 if not given",
+    )
 }
 
 /// The link is judged when the words are read: `clap` takes any text.
@@ -168,24 +226,26 @@ fn group_option<'a>(alloc: Global) -> Arg<'a>
     ensures rule { rule_of result ≡ group_rule }
     ensures local { result.global ≡ false }
 {
-    Arg::new(alloc, "group")
-        .long("group")
-        .value_name("G")
-        .required(true)
-        .action(ArgAction::Set)
-        .value_parser(value_parser!(u32))
-        .help("The number of the group, 0 to 4294967295")
+    number_option(
+        alloc,
+        "group",
+        "G",
+        value_parser!(u32),
+        "The number of the group, 0 to 4294967295",
+    )
+    .required(true)
 }
 
 fn size_option<'a>(alloc: Global) -> Arg<'a>
     ensures rule { rule_of result ≡ size_rule }
     ensures local { result.global ≡ false }
 {
-    Arg::new(alloc, "size")
-        .long("size")
-        .value_name("N")
-        .required(true)
-        .action(ArgAction::Set)
-        .value_parser(value_parser!(u32).range(2..=64))
-        .help("How many members the group has, 2 to 64")
+    number_option(
+        alloc,
+        "size",
+        "N",
+        value_parser!(u32).range(2..=64),
+        "How many members the group has, 2 to 64",
+    )
+    .required(true)
 }

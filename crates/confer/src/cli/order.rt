@@ -16,12 +16,12 @@ use crate::run::{
 };
 use cb_times::{FEWEST_MEMBERS, MOST_MEMBERS};
 use clap::error::ErrorKind;
-use clap::{ArgMatches, Error};
+use clap::{ArgMatches, Command, Error};
 use std::alloc::{AllocError, Global};
 use std::convert::AsStr;
 
 /// One subcommand with its options.
-#[derive(Clone, Copy, Debug, PartialEq, Eq)]
+#[derive(Clone, Copy)]
 pub enum Order {
     /// `confer expand --group GROUP --size SIZE`.
     Expand { group: u32, size: u32 },
@@ -146,11 +146,21 @@ fn no_link(alloc: Global) -> Fault
 fn link_error(alloc: Global) -> Result<Error, AllocError>
     ensures { IfOk result (λ error. kind_of error ≡ InvalidValue) }
 {
-    let mut command = command(alloc)?;
-    command.error(
+    let command = command(alloc)?;
+    no_such_link(command)
+}
+
+fn no_such_link(command: Command<'_>) -> Result<Error, AllocError>
+    ensures { IfOk result (λ error. kind_of error ≡ InvalidValue) }
+{
+    let mut command = command;
+    let error = command.error(
         ErrorKind::InvalidValue,
         "invalid value for '--link <L>': it is channel or udp",
-    )
+    );
+    // A call of `drop` takes the prover less time than a value that is left to the end.
+    drop(command);
+    error
 }
 
 /// What `confer run` is to run, where each number is one within its bounds.
