@@ -4,7 +4,7 @@ use crate::expand::LinesFault;
 use thiserror::Error;
 
 /// Why `confer audit` stopped. What was read and written before stays so.
-#[derive(Clone, Copy, Debug, PartialEq, Eq, Error)]
+#[derive(Clone, Copy, Debug, Error)]
 pub enum TraceInputFault {
     /// The reader or the writer answered a fault, the trace is too long, or an allocation was refused.
     #[error("{0}")]

@@ -15,7 +15,7 @@ use std::marker::Model;
 pub const LONGEST_ANSWER: usize = 24 + 705 + 2049;
 
 /// Answers to lines, one behind the other. A clause sees their text, and whether one of them is a refusal.
-#[derive(Debug, Drop)]
+#[derive(Drop)]
 pub struct Answers {
     alloc: Global,
     text: Vec<u8>,

@@ -11,7 +11,7 @@ use std::alloc::{AllocError, Global};
 use std::marker::Model;
 
 /// What one run of `expand` knows of its group. A clause sees it as its number and its times.
-#[derive(Debug, Drop)]
+#[derive(Drop)]
 pub struct Expansion {
     alloc: Global,
     /// The number of the group whose casts are accepted.

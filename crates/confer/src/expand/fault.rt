@@ -33,7 +33,7 @@ impl From<NoMemory> for LinesFault {
 }
 
 /// Why a line has no time: it is refused, or an allocation was.
-#[derive(Debug, Drop)]
+#[derive(Drop)]
 pub enum LineFault {
     Refused(Refusal),
     NoMemory(NoMemory),

@@ -13,7 +13,7 @@ use memchr::memchr;
 use std::alloc::Global;
 
 /// How far the lines of an input have been answered.
-#[derive(Debug, Drop)]
+#[derive(Drop)]
 pub struct Lines {
     pub expansion: Expansion,
     pub answers: Answers,

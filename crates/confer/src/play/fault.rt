@@ -9,7 +9,7 @@ use cb_times::NoMemory;
 use thiserror::Error;
 
 /// Why `confer play` stopped. What was read and written before stays so.
-#[derive(Clone, Copy, Debug, PartialEq, Eq, Error)]
+#[derive(Clone, Copy, Debug, Error)]
 pub enum ScriptFault {
     /// The reader or the writer answered a fault, the script is too long, or an allocation was refused.
     #[error("{0}")]

@@ -27,7 +27,7 @@ pub const MOST_TURNS: u32 = 10_000_000;
 pub const DEFAULT_TURNS: u32 = 1_000_000;
 
 /// What carries the frames.
-#[derive(Clone, Copy, Debug, PartialEq, Eq)]
+#[derive(Clone, Copy)]
 pub enum LinkKind {
     /// Channels.
     Channel,
@@ -36,7 +36,7 @@ pub enum LinkKind {
 }
 
 /// What a conference in threads is to be.
-#[derive(Clone, Copy, Debug, PartialEq, Eq)]
+#[derive(Clone, Copy)]
 pub struct RunSetting {
     /// How many members, 2 to 8.
     pub size: u32,
