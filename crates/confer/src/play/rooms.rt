@@ -19,7 +19,7 @@ use std::alloc::{AllocError, Global};
 const SCREEN: usize = 20;
 
 /// What became of a line that a member was to compose and cast.
-#[derive(Clone, Copy, Debug)]
+#[derive(Clone, Copy)]
 pub enum Composed {
     /// It was composed; what came of its cast is the last outcome of the group.
     Cast,
@@ -46,10 +46,15 @@ pub struct Rooms {
 impl Rooms {
     /// A group in which nothing has happened.
     pub fn new(alloc: Global, setting: Setting) -> Result<Rooms, NoMemory> {
-        Ok(Rooms {
-            world: new_world(alloc, setting)?,
-            attendances: new_attendances(alloc, setting.group.size())?,
-        })
+        let world = new_world(alloc, setting)?;
+        match new_attendances(alloc, setting.group.size()) {
+            Ok(attendances) => Ok(Rooms { world, attendances }),
+            Err(refused) => {
+                // A call of `drop` takes the prover less time than a value that is left to the end.
+                drop(world);
+                Err(refused)
+            }
+        }
     }
 
     /// The group.
@@ -77,13 +82,21 @@ impl Rooms {
             return Ok(Composed::NoSuchMember);
         };
         match attendance.conference.compose(line) {
-            Ok(payload) => {
-                let payload = Bytes::from_vec(payload).map_err(AllocError::from)?;
-                self.step(&Step::Cast(member, payload))?;
-                Ok(Composed::Cast)
-            }
+            Ok(payload) => self.cast(member, payload),
             Err(ComposeFault::NoMemory) => Err(AllocError),
             Err(fault) => Ok(Composed::Refused(fault)),
+        }
+    }
+
+    /// The member casts this payload.
+    fn cast(&mut self, member: u32, payload: Vec<u8>) -> Result<Composed, NoMemory> {
+        let payload = Bytes::from_vec(payload).map_err(AllocError::from)?;
+        let step = Step::Cast(member, payload);
+        let taken = self.step(&step);
+        drop(step);
+        match taken {
+            Ok(()) => Ok(Composed::Cast),
+            Err(refused) => Err(refused),
         }
     }
 
@@ -139,13 +152,21 @@ fn new_world(alloc: Global, setting: Setting) -> Result<World, NoMemory> {
 fn new_attendances(alloc: Global, size: u32) -> Result<Vec<Attendance>, NoMemory> {
     let mut attendances = Vec::with_capacity(alloc, size as usize)?;
     for _ in 0..size {
-        let attendance = Attendance {
-            conference: new_conference(alloc)?,
-            shown: 0,
-        };
-        attendances.push(attendance).map_err(AllocError::from)?;
+        if let Err(refused) = add_attendance(alloc, &mut attendances) {
+            drop(attendances);
+            return Err(refused);
+        }
     }
     Ok(attendances)
+}
+
+/// One attendance more, to which nothing was shown.
+fn add_attendance(alloc: Global, attendances: &mut Vec<Attendance>) -> Result<(), NoMemory> {
+    let attendance = Attendance {
+        conference: new_conference(alloc)?,
+        shown: 0,
+    };
+    attendances.push(attendance).map_err(AllocError::from)
 }
 
 fn new_conference(alloc: Global) -> Result<Conference, NoMemory> {

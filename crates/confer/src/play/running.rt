@@ -54,11 +54,29 @@ fn transcript_of(alloc: Global, text: &[u8]) -> Result<String, ScriptFault>
 fn run_text(alloc: Global, setting: Setting, steps: &[ScriptStep<'_>]) -> Result<String, NoMemory> {
     let mut rooms = Rooms::new(alloc, setting)?;
     let mut text = String::new(alloc);
-    for (place, step) in steps.iter().enumerate() {
-        put_step_of(&mut text, place.saturating_add(1), step, &mut rooms)?;
+    let put = put_run(&mut text, setting.group.size(), steps, &mut rooms);
+    // A call of `drop` takes the prover less time than a value that is left to the end.
+    drop(rooms);
+    match put {
+        Ok(()) => Ok(text),
+        Err(refused) => {
+            drop(text);
+            Err(refused)
+        }
     }
-    put_members(&mut text, setting.group.size(), rooms.world())?;
-    Ok(text)
+}
+
+/// The lines of these steps, and of all members behind them.
+fn put_run(
+    text: &mut String,
+    size: u32,
+    steps: &[ScriptStep<'_>],
+    rooms: &mut Rooms,
+) -> Result<(), NoMemory> {
+    for (place, step) in steps.iter().enumerate() {
+        put_step_of(text, place.saturating_add(1), step, rooms)?;
+    }
+    put_members(text, size, rooms.world())
 }
 
 /// Takes a step and puts its lines, under this number.
@@ -79,10 +97,22 @@ fn put_step_of(
             Composed::Refused(fault) => put_not_composed(text, number, fault),
         },
         ScriptStep::Screen { member } => match rooms.screen(*member)? {
-            Some(screen) => put_screen(text, number, *member, &screen),
+            Some(screen) => put_screen_of(text, number, *member, screen),
             None => put_no_member(text, number),
         },
     }
+}
+
+/// The lines of a step that asked for this screen of a member.
+fn put_screen_of(
+    text: &mut String,
+    number: usize,
+    member: u32,
+    screen: String,
+) -> Result<(), NoMemory> {
+    let put = put_screen(text, number, member, &screen);
+    drop(screen);
+    put
 }
 
 /// The lines of the step that was taken last, which has this number.

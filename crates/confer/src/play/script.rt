@@ -20,7 +20,7 @@ use std::alloc::{AllocError, Global};
 const FIRST_WORDS: usize = 8;
 
 /// Which group a script runs in, by its first line.
-#[derive(Clone, Copy, Debug)]
+#[derive(Clone, Copy)]
 pub struct Setting {
     pub group: Group,
     /// How many entries each member's history may have, 1 to 16,777,216.
@@ -29,7 +29,7 @@ pub struct Setting {
 }
 
 /// What a further line orders.
-#[derive(Debug, Drop)]
+#[derive(Drop)]
 pub enum ScriptStep<'a> {
     /// A step of the group.
     Take(Step),
@@ -40,14 +40,14 @@ pub enum ScriptStep<'a> {
 }
 
 /// A script that is read whole. What its lines say lies in its text.
-#[derive(Debug, Drop)]
+#[derive(Drop)]
 pub struct Script<'a> {
     pub setting: Setting,
     pub steps: Vec<ScriptStep<'a>>,
 }
 
 /// Why a line has no meaning: it is none of a script's, or an allocation was refused.
-#[derive(Debug, Drop)]
+#[derive(Drop)]
 enum LineFault {
     NoLine,
     NoMemory(NoMemory),
@@ -83,12 +83,27 @@ pub fn script_of(alloc: Global, text: &[u8]) -> Result<Script<'_>, ScriptFault>
     };
     let mut steps = Vec::new(alloc);
     for (place, line) in lines.enumerate() {
-        match step_of(alloc, line) {
-            Ok(step) => steps.push(step).map_err(AllocError::from)?,
-            Err(fault) => return Err(fault.at(place.saturating_add(2))),
+        if let Err(fault) = add_step(alloc, line, place.saturating_add(2), &mut steps) {
+            drop(steps);
+            return Err(fault);
         }
     }
     Ok(Script { setting, steps })
+}
+
+/// Reads a further line, of this number.
+fn add_step<'a>(
+    alloc: Global,
+    line: &'a [u8],
+    number: usize,
+    steps: &mut Vec<ScriptStep<'a>>,
+) -> Result<(), ScriptFault>
+    ensures { IfErr result IsNoScript }
+{
+    match step_of(alloc, line) {
+        Ok(step) => Ok(steps.push(step).map_err(AllocError::from)?),
+        Err(fault) => Err(fault.at(number)),
+    }
 }
 
 /// The first line, with numbers within the limits of a group.

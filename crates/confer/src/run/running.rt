@@ -7,6 +7,7 @@ ghost use Rattle.cb_trace.specs.Text.{HistoryFields, history_fields};
 ghost use Rattle.confer.specs.Audit.{Refuses};
 ghost use Rattle.confer.specs.Run.{AreLines, EndsWithAudit, PrintsRun, Shows, ShowsRun, done_text, group_of, member_line};
 ghost use Rattle.confer.specs.Cli.Orders.{IsRunSetting};
+ghost use Rattle.confer.specs.declared.run.setting.RunSetting.{RunSetting};
 
 use crate::audit::{put_parameter, put_refusal};
 use crate::expand::write_whole;
@@ -71,19 +72,44 @@ pub fn run_conference<R: Threads + Wait + Clock + Net + Sync, W: Write>(
     ensures { IfOk result (λ refused. PrintsRun setting refused (W.contents output.old)
         (W.contents output.new)) }
 {
-    let told = match setting.link {
+    let told = run_linked(rt, alloc, setting)?;
+    write_told(told, output)
+}
+
+/// Writes what is printed of a conference. Whether its audit said no.
+fn write_told<W: Write>(told: RunText, output: &mut W) -> Result<bool, RunFault>
+    ensures { (setting : RunSetting) → ShowsRun setting told.refused told.text.items
+        → IfOk result (λ refused. PrintsRun setting refused (W.contents output.old)
+        (W.contents output.new)) }
+{
+    let written = write_whole(output, &told.text);
+    let refused = told.refused;
+    // A call of `drop` takes the prover less time than a value that is left to the end.
+    drop(told);
+    match written {
+        Ok(()) => Ok(refused),
+        Err(_fault) => Err(RunFault::Write),
+    }
+}
+
+/// What is printed of a conference over the links of its setting.
+fn run_linked<R: Threads + Wait + Clock + Net + Sync>(
+    rt: &R,
+    alloc: Global,
+    setting: RunSetting,
+) -> Result<RunText, RunFault>
+    requires { IsRunSetting setting }
+    ensures { IfOk result (λ told. ShowsRun setting told.refused told.text.items) }
+{
+    match setting.link {
         LinkKind::Channel => {
             let links = ChannelLink::group(alloc, setting.size)?;
-            run_over(rt, alloc, setting, links)?
+            run_over(rt, alloc, setting, links)
         }
         LinkKind::Udp => {
             let links = UdpLink::group(rt, alloc, setting.size)?;
-            run_over(rt, alloc, setting, links)?
+            run_over(rt, alloc, setting, links)
         }
-    };
-    match write_whole(output, &told.text) {
-        Ok(()) => Ok(told.refused),
-        Err(_fault) => Err(RunFault::Write),
     }
 }
 
@@ -97,24 +123,96 @@ fn run_over<I: Inlet + Send + Drop, O: Outlet + Send + Drop, R: Threads + Wait +
     requires { IsRunSetting setting }
     ensures { IfOk result (λ told. ShowsRun setting told.refused told.text.items) }
 {
-    let Ok(group) = Group::new(GROUP, setting.size, setting.window) else {
-        unreachable!("the setting is within its bounds");
-    };
+    match gather_crew(alloc, setting) {
+        Ok(crew) => run_crew(rt, alloc, setting, links, crew),
+        Err(fault) => {
+            drop(links);
+            Err(fault)
+        }
+    }
+}
+
+/// Who works in a conference: a participant and a pace for each member.
+#[derive(Drop)]
+struct Crew {
+    talkers: Vec<Participant>,
+    paces: Vec<Millisecond>,
+}
+
+fn gather_crew(alloc: Global, setting: RunSetting) -> Result<Crew, RunFault> {
     let talkers = participants(alloc, setting)?;
-    let paces = paces(alloc, setting.size)?;
+    match paces(alloc, setting.size) {
+        Ok(paces) => Ok(Crew { talkers, paces }),
+        Err(fault) => {
+            drop(talkers);
+            Err(fault)
+        }
+    }
+}
+
+/// What is printed of a conference of this crew.
+fn run_crew<I: Inlet + Send + Drop, O: Outlet + Send + Drop, R: Threads + Wait + Clock + Sync>(
+    rt: &R,
+    alloc: Global,
+    setting: RunSetting,
+    links: Vec<(I, O)>,
+    crew: Crew,
+) -> Result<RunText, RunFault>
+    requires { IsRunSetting setting }
+    ensures { IfOk result (λ told. ShowsRun setting told.refused told.text.items) }
+{
+    let Crew { talkers, paces } = crew;
+    let group = conference_group(setting);
     let limits = Limits {
         turns: u64::from(setting.turns),
     };
     match run_group(rt, alloc, group, HISTORY_MAX, links, paces, talkers, limits) {
-        Ok(GroupReport { reports, histories }) => {
-            told(alloc, setting, group, &reports, &histories)
-        }
-        // There is a pace and a talker for each member, so a bad plan lacks links.
-        Err(GroupFault::BadPlan) => Err(RunFault::NoLink),
-        Err(GroupFault::NoThread) => Err(RunFault::NoThread),
-        Err(GroupFault::NoMemory) => Err(RunFault::NoMemory),
-        Err(GroupFault::Close { member: _, fault }) => Err(RunFault::from(fault)),
+        Ok(report) => reported(alloc, setting, group, report),
+        Err(fault) => Err(fault_of(fault)),
     }
+}
+
+/// The group of a conference.
+fn conference_group(setting: RunSetting) -> Group
+    requires { IsRunSetting setting }
+    ensures group { result ≡ group_of setting }
+    ensures parameters { AreParameters result }
+{
+    let Ok(group) = Group::new(GROUP, setting.size, setting.window) else {
+        unreachable!("the setting is within its bounds");
+    };
+    group
+}
+
+fn fault_of(fault: GroupFault) -> RunFault {
+    match fault {
+        // There is a pace and a talker for each member, so a bad plan lacks links.
+        GroupFault::BadPlan => RunFault::NoLink,
+        GroupFault::NoThread => RunFault::NoThread,
+        GroupFault::NoMemory => RunFault::NoMemory,
+        GroupFault::Close { member: _, fault } => RunFault::from(fault),
+    }
+}
+
+/// What is printed of a conference with this report.
+fn reported<I: Drop, O: Drop>(
+    alloc: Global,
+    setting: RunSetting,
+    group: Group,
+    report: GroupReport<I, O, Millisecond, Participant>,
+) -> Result<RunText, RunFault>
+    requires group { group ≡ group_of setting }
+    requires parameters { AreParameters group }
+    requires members { length report.histories.items ≡ group.size }
+    requires kept { AreKept group 0 report.histories.items
+        (map tally_in report.reports.items) }
+    ensures { IfOk result (λ told. ShowsRun setting told.refused told.text.items) }
+{
+    let GroupReport { reports, histories } = report;
+    let text = told(alloc, setting, group, &reports, &histories);
+    drop(reports);
+    drop(histories);
+    text
 }
 
 fn participants(alloc: Global, setting: RunSetting) -> Result<Vec<Participant>, RunFault> {
