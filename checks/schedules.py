@@ -8,6 +8,8 @@ import sys
 TOP = os.path.join(os.path.dirname(os.path.abspath(__file__)), "..")
 COPY = os.path.join(TOP, "crates/confer/src/play/schedules.rt")
 PROGRAM = os.path.join(TOP, "crates/confer/out/confer")
+# How many schedules a part has.
+EACH = 4
 HEAD = '''//! The texts of the folder `schedules/`, copied by `checks/schedules.py --write`. Change them there.
 
 /// A script, and what `confer play` prints of it.
@@ -25,11 +27,23 @@ def text(name):
         return it.read()
 
 
+def row(name):
+    fields = f'    name: "{name}",\n    script: r#"{text(name + ".script")}"#,\n    text: r#"{text(name + ".out")}"#,\n'
+    return f"const {name.upper()}: Schedule = Schedule {{\n{fields}}};\n"
+
+
+def names_in(names):
+    return "".join(f"    {it.upper()},\n" for it in names)
+
+
 def copy_of(names):
-    rows = "".join(
-        f'    Schedule {{\n        name: "{name}",\n        script: r#"{text(name + ".script")}"#,\n        text: r#"{text(name + ".out")}"#,\n    }},\n' for name in names
-    )
-    return f"{HEAD}pub const SCHEDULES: &[Schedule] = &[\n{rows}];\n"
+    parts = [names[at : at + EACH] for at in range(0, len(names), EACH)]
+    made = [f"/// All schedules, for `checks/refuse-play.sh`.\npub const SCHEDULES: &[Schedule] = &[\n{names_in(names)}];\n"]
+    for number, it in enumerate(parts, 1):
+        made += [f"const PART_{number}: &[Schedule] = &[\n{names_in(it)}];\n", f"fn part_{number}() -> &'static [Schedule] {{\n    PART_{number}\n}}\n"]
+    calls = ", ".join(f"part_{number}()" for number in range(1, len(parts) + 1))
+    made += [f"/// All schedules in parts: the prover takes much longer for one long list.\npub fn parts() -> [&'static [Schedule]; {len(parts)}] {{\n    [{calls}]\n}}\n"]
+    return HEAD + "\n".join([*map(row, names), *made])
 
 
 def main():

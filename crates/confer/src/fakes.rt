@@ -110,12 +110,22 @@ impl Outcome {
     }
 
     fn compare(&self, rt: &impl Abort, status: u8, printed: &[u8], said: &str) {
-        if self.printed.as_slice() != printed {
-            let text = str::from_utf8(&self.printed).unwrap_or("no text");
-            panic!(rt; "{text}");
-        }
-        assert_eq!(rt; self.said.as_slice(), said.as_bytes());
+        is_text(rt, &self.printed, printed);
+        is_text(rt, &self.said, said.as_bytes());
         assert_eq!(rt; self.status, Some(status));
+    }
+}
+
+/// These parts, one behind the other. It takes the prover less time than `format!`.
+pub fn joined(rt: &impl Abort, alloc: Global, parts: &[&str]) -> String {
+    parts.concat(alloc).expect(rt, "memory")
+}
+
+/// The bytes are the ones wanted.
+fn is_text(rt: &impl Abort, bytes: &[u8], wanted: &[u8]) {
+    if bytes != wanted {
+        let text = str::from_utf8(bytes).unwrap_or("no text");
+        panic!(rt; "{text}");
     }
 }
 

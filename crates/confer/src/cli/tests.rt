@@ -13,18 +13,27 @@ use std::process::Abort;
 fn says(rt: &impl Abort, alloc: Global, words: &[&str], part: &str) {
     let mut input = reading(b"1107000100026869\n");
     let outcome = run_on(alloc, words, &mut input);
-    assert_eq!(rt; input.text.len(), 17);
-    is_told(rt, &outcome, part);
-    drop(outcome);
+    let unread = input.text.len();
+    drop(input);
+    is_told(rt, outcome, part);
+    assert_eq!(rt; unread, 17);
 }
 
-fn is_told(rt: &impl Abort, outcome: &Outcome, part: &str) {
-    let said = str::from_utf8(&outcome.said).unwrap_or("no text");
+fn is_told(rt: &impl Abort, outcome: Outcome, part: &str) {
+    let status = outcome.status;
+    let is_printed = !outcome.printed.is_empty();
+    has_part(rt, &outcome.said, part);
+    // A call of `drop` takes the prover less time than a value that is left to the end.
+    drop(outcome);
+    assert_eq!(rt; status, Some(2));
+    assert!(rt; !is_printed);
+}
+
+fn has_part(rt: &impl Abort, bytes: &[u8], part: &str) {
+    let said = str::from_utf8(bytes).unwrap_or("no text");
     if !said.contains(part) {
         panic!(rt; "{said}");
     }
-    assert_eq!(rt; outcome.status, Some(2));
-    assert!(rt; outcome.printed.is_empty());
 }
 
 /// Words that are no command, and a part of what is said of them.
@@ -128,93 +137,103 @@ fn the_greatest_group_and_size_are_taken(rt: HostRuntime) {
     let alloc = rt.alloc();
     let words = ["confer", "expand", "--group=4294967295", "--size=64"];
     let outcome = run_on(alloc, &words, &mut reading(b"11ffffffff0f3f010000\n"));
-    begins_and_ends(&rt, &outcome, b"63.1 [0,0,", b",0,1] \"\"\n");
+    begins_and_ends(&rt, outcome, b"63.1 [0,0,", b",0,1] \"\"\n");
+}
+
+fn begins_and_ends(rt: &impl Abort, outcome: Outcome, first: &[u8], last: &[u8]) {
+    let begins = outcome.printed.starts_with(first);
+    let ends = outcome.printed.ends_with(last);
+    let is_said = !outcome.said.is_empty();
+    let status = outcome.status;
     drop(outcome);
+    assert!(rt; begins);
+    assert!(rt; ends);
+    assert!(rt; !is_said);
+    assert_eq!(rt; status, Some(0));
 }
 
-fn begins_and_ends(rt: &impl Abort, outcome: &Outcome, first: &[u8], last: &[u8]) {
-    assert!(rt; outcome.printed.starts_with(first));
-    assert!(rt; outcome.printed.ends_with(last));
-    assert!(rt; outcome.said.is_empty());
-    assert_eq!(rt; outcome.status, Some(0));
-}
-
-/// Faults with their statuses and what is said of them.
-fn faults() -> [(Fault, u8, &'static str); 18] {
-    [
-        (
-            Fault::NotText,
-            2,
-            "confer: a word of the command line is not UTF-8\n",
-        ),
-        (Fault::NoOrder, 2, "confer: the words order nothing\n"),
-        (Fault::NoMemory, 5, "confer: out of memory\n"),
-        (Fault::Lines(LinesFault::Read), 3, "confer: read fault\n"),
-        (Fault::Lines(LinesFault::Write), 3, "confer: write fault\n"),
-        (
-            Fault::Lines(LinesFault::TooLong),
-            3,
-            "confer: input too long\n",
-        ),
-        (
-            Fault::Lines(LinesFault::NoMemory),
-            5,
-            "confer: out of memory\n",
-        ),
-        (
-            Fault::Play(ScriptFault::Lines(LinesFault::Read)),
-            3,
-            "confer: read fault\n",
-        ),
-        (
-            Fault::Play(ScriptFault::Lines(LinesFault::NoMemory)),
-            5,
-            "confer: out of memory\n",
-        ),
-        (Fault::Run(RunFault::Write), 3, "confer: write fault\n"),
-        (Fault::Run(RunFault::NoLink), 3, "confer: no link\n"),
-        (Fault::Run(RunFault::NoThread), 3, "confer: no thread\n"),
-        (
-            Fault::Run(RunFault::BadReceipts),
-            3,
-            "confer: bad receipts\n",
-        ),
-        (Fault::Run(RunFault::NoMemory), 5, "confer: out of memory\n"),
-        (
-            Fault::Audit(TraceInputFault::Lines(LinesFault::TooLong)),
-            3,
-            "confer: input too long\n",
-        ),
-        (
-            Fault::Audit(TraceInputFault::BadTrace { line: u64::MAX }),
-            4,
-            "confer: line 18446744073709551615: bad trace\n",
-        ),
-        (
-            Fault::Play(ScriptFault::BadStep { line: 1 }),
-            4,
-            "confer: line 1: bad step\n",
-        ),
-        (
-            Fault::Play(ScriptFault::BadStep { line: usize::MAX }),
-            4,
-            "confer: line 18446744073709551615: bad step\n",
-        ),
-    ]
-}
-
-fn is_reported(rt: &impl Abort, alloc: Global, fault: &Fault, status: u8, said: &str) {
+/// The fault ends a run with this status, and this is said of it.
+fn reports(rt: &impl Abort, alloc: Global, fault: Fault, status: u8, said: &str) {
     let mut errors = writing(alloc);
-    let reported = report(fault, &mut errors);
-    let is_said = errors.text.as_slice() == said.as_bytes();
-    drop(errors);
-    assert_eq!(rt; reported, status);
-    assert!(rt; is_said, "{said}");
+    let reported = report(&fault, &mut errors);
+    drop(fault);
+    let outcome = Outcome {
+        status: Some(reported),
+        printed: Vec::new(alloc),
+        said: errors.text,
+    };
+    outcome.is(rt, status, b"", said);
+}
+
+fn reports_faults_of_words(rt: &impl Abort, alloc: Global) {
+    let not_text = "confer: a word of the command line is not UTF-8\n";
+    reports(rt, alloc, Fault::NotText, 2, not_text);
+    let no_order = "confer: the words order nothing\n";
+    reports(rt, alloc, Fault::NoOrder, 2, no_order);
+    reports(rt, alloc, Fault::NoMemory, 5, "confer: out of memory\n");
+}
+
+fn reports_faults_of_lines(rt: &impl Abort, alloc: Global) {
+    let read = LinesFault::Read;
+    reports(rt, alloc, Fault::Lines(read), 3, "confer: read fault\n");
+    let write = LinesFault::Write;
+    reports(rt, alloc, Fault::Lines(write), 3, "confer: write fault\n");
+    let long = LinesFault::TooLong;
+    reports(rt, alloc, Fault::Lines(long), 3, "confer: input too long\n");
+    let memory = LinesFault::NoMemory;
+    reports(
+        rt,
+        alloc,
+        Fault::Lines(memory),
+        5,
+        "confer: out of memory\n",
+    );
+}
+
+fn reports_faults_of_inputs(rt: &impl Abort, alloc: Global) {
+    let read = ScriptFault::Lines(LinesFault::Read);
+    reports(rt, alloc, Fault::Play(read), 3, "confer: read fault\n");
+    let memory = ScriptFault::Lines(LinesFault::NoMemory);
+    reports(rt, alloc, Fault::Play(memory), 5, "confer: out of memory\n");
+    let long = TraceInputFault::Lines(LinesFault::TooLong);
+    reports(rt, alloc, Fault::Audit(long), 3, "confer: input too long\n");
+}
+
+fn reports_bad_lines(rt: &impl Abort, alloc: Global) {
+    let trace = Fault::Audit(TraceInputFault::BadTrace { line: u64::MAX });
+    let said = "confer: line 18446744073709551615: bad trace\n";
+    reports(rt, alloc, trace, 4, said);
+    let first = Fault::Play(ScriptFault::BadStep { line: 1 });
+    reports(rt, alloc, first, 4, "confer: line 1: bad step\n");
+    let last = Fault::Play(ScriptFault::BadStep { line: usize::MAX });
+    let said = "confer: line 18446744073709551615: bad step\n";
+    reports(rt, alloc, last, 4, said);
+}
+
+fn reports_faults_of_runs(rt: &impl Abort, alloc: Global) {
+    let write = RunFault::Write;
+    reports(rt, alloc, Fault::Run(write), 3, "confer: write fault\n");
+    let no_link = RunFault::NoLink;
+    reports(rt, alloc, Fault::Run(no_link), 3, "confer: no link\n");
+    let no_thread = RunFault::NoThread;
+    reports(rt, alloc, Fault::Run(no_thread), 3, "confer: no thread\n");
+    let bad_receipts = RunFault::BadReceipts;
+    reports(
+        rt,
+        alloc,
+        Fault::Run(bad_receipts),
+        3,
+        "confer: bad receipts\n",
+    );
+    let memory = RunFault::NoMemory;
+    reports(rt, alloc, Fault::Run(memory), 5, "confer: out of memory\n");
 }
 
 #[test]
 fn each_fault_has_its_status_and_text(rt: HostRuntime) {
-    for (fault, status, said) in &faults() {
-        is_reported(&rt, rt.alloc(), fault, *status, said);
-    }
+    reports_faults_of_words(&rt, rt.alloc());
+    reports_faults_of_lines(&rt, rt.alloc());
+    reports_faults_of_inputs(&rt, rt.alloc());
+    reports_bad_lines(&rt, rt.alloc());
+    reports_faults_of_runs(&rt, rt.alloc());
 }

@@ -1,12 +1,11 @@
 //! What is written for which input.
 
 use crate::expand::{LinesFault, expand_lines};
-use crate::fakes::{reading, run_into, run_on, writing};
+use crate::fakes::{joined, reading, run_into, run_on, writing};
 use std::alloc::Global;
 use std::io;
 use std::io::{ErrorKind, Read, Write};
 use std::process::Abort;
-use std::test::Fail;
 
 const WORDS: [&str; 6] = ["confer", "expand", "--group", "7", "--size", "3"];
 
@@ -21,20 +20,24 @@ fn expands(rt: &impl Abort, alloc: Global, lines: &[u8], status: u8, text: &str)
     run_on(alloc, &WORDS, &mut reading(lines)).is(rt, status, text.as_bytes(), "");
 }
 
-#[test]
-fn casts_in_order_have_their_times(rt: HostRuntime) -> Result<(), Fail> {
-    let lines = format!(in rt.alloc(); "{HI}\n{YO}\n{OK}\n")?;
-    let text = "0.1 [1,0,0] \"hi\"\n1.1 [1,1,0] \"yo\"\n1.2 [1,2,0] \"ok\"\n";
-    expands(&rt, rt.alloc(), lines.as_bytes(), 0, text);
-    Ok(())
+/// The same of lines that were made. A call of `drop` takes the prover less time than a value that is left to the end.
+fn expands_made(rt: &impl Abort, alloc: Global, lines: String, status: u8, text: &str) {
+    expands(rt, alloc, lines.as_bytes(), status, text);
+    drop(lines);
 }
 
 #[test]
-fn a_cast_out_of_its_senders_order_is_refused(rt: HostRuntime) -> Result<(), Fail> {
-    let lines = format!(in rt.alloc(); "{HI}\n{OK}\n{YO}\n")?;
+fn casts_in_order_have_their_times(rt: HostRuntime) {
+    let lines = joined(&rt, rt.alloc(), &[HI, "\n", YO, "\n", OK, "\n"]);
+    let text = "0.1 [1,0,0] \"hi\"\n1.1 [1,1,0] \"yo\"\n1.2 [1,2,0] \"ok\"\n";
+    expands_made(&rt, rt.alloc(), lines, 0, text);
+}
+
+#[test]
+fn a_cast_out_of_its_senders_order_is_refused(rt: HostRuntime) {
+    let lines = joined(&rt, rt.alloc(), &[HI, "\n", OK, "\n", YO, "\n"]);
     let text = "0.1 [1,0,0] \"hi\"\nrefused NotNext expected 1 found 2\n1.1 [1,1,0] \"yo\"\n";
-    expands(&rt, rt.alloc(), lines.as_bytes(), 1, text);
-    Ok(())
+    expands_made(&rt, rt.alloc(), lines, 1, text);
 }
 
 /// Lines, and what is written of each.
@@ -189,59 +192,75 @@ impl Write for Counter {
     }
 }
 
+/// So many bytes are answered so, and each whole line within the limit is.
+fn answers_letters(rt: &impl Abort, alloc: Global, end: usize, answered: Result<bool, LinesFault>) {
+    let mut output = Counter { count: 0 };
+    let mut input = Letters { place: 0, end };
+    let answer = expand_lines(alloc, 7, 3, &mut input, &mut output);
+    let count = output.count;
+    drop(input);
+    drop(output);
+    assert_eq!(rt; answer, answered);
+    assert!(rt; count == 4_098 * 15, "of {end} bytes");
+}
+
 #[test]
 fn the_longest_input_is_read_and_of_a_longer_one_each_line_within_the_limit(rt: HostRuntime) {
-    let alloc = rt.alloc();
-    for (end, answered) in [
-        (67_108_864, Ok(true)),
-        (67_108_890, Err(LinesFault::TooLong)),
-    ] {
-        let mut output = Counter { count: 0 };
-        let mut input = Letters { place: 0, end };
-        assert_eq!(rt;
-            expand_lines(alloc, 7, 3, &mut input, &mut output),
-            answered
-        );
-        assert_eq!(rt; output.count, 4_098 * 15, "of {end} bytes");
-    }
+    answers_letters(&rt, rt.alloc(), 67_108_864, Ok(true));
+    answers_letters(&rt, rt.alloc(), 67_108_890, Err(LinesFault::TooLong));
+}
+
+fn has_text(rt: &impl Abort, alloc: Global, fault: LinesFault, text: &str) {
+    let said = fault.to_string(alloc).expect(rt, "there is memory");
+    let is_said = said.as_str() == text;
+    drop(said);
+    assert!(rt; is_said, "{text}");
 }
 
 #[test]
-fn faults_have_their_texts(rt: HostRuntime) -> Result<(), Fail> {
+fn faults_have_their_texts(rt: HostRuntime) {
     let alloc = rt.alloc();
-    let texts = [
-        (LinesFault::Read, "read fault"),
-        (LinesFault::Write, "write fault"),
-        (LinesFault::TooLong, "input too long"),
-        (LinesFault::NoMemory, "out of memory"),
-    ];
-    for (fault, text) in texts {
-        assert_eq!(rt; fault.to_string(alloc)?.as_str(), text);
-    }
-    Ok(())
+    has_text(&rt, alloc, LinesFault::Read, "read fault");
+    has_text(&rt, alloc, LinesFault::Write, "write fault");
+    has_text(&rt, alloc, LinesFault::TooLong, "input too long");
+    has_text(&rt, alloc, LinesFault::NoMemory, "out of memory");
 }
 
-#[test]
-fn the_longest_answers_are_whole(rt: HostRuntime) -> Result<(), Fail> {
-    let alloc = rt.alloc();
-    let mut frame = String::from_str(alloc, "11ffffffff0f3f013f")?;
-    for _ in 0..63 {
-        frame.push_str("00ffffffff0f")?;
-    }
-    frame.push_str("8008")?;
-    for _ in 0..1024 {
-        frame.push_str("ff")?;
-    }
-    let mut input = reading(frame.as_bytes());
-    let mut output = writing(alloc);
-    input.most = 4096;
-    assert_eq!(rt;
-        expand_lines(alloc, 4_294_967_295, 64, &mut input, &mut output),
-        Ok(false)
+/// A cast by the last of 64 members with the greatest numbers and the longest payload, which is not plain.
+fn longest_frame(rt: &impl Abort, alloc: Global) -> String {
+    let times = "00ffffffff0f".repeat(alloc, 63).expect(rt, "memory");
+    let payload = "ff".repeat(alloc, 1024).expect(rt, "memory");
+    let frame = joined(
+        rt,
+        alloc,
+        &[
+            "11ffffffff0f3f013f",
+            times.as_str(),
+            "8008",
+            payload.as_str(),
+        ],
     );
-    let text = output.text.as_slice();
+    drop(times);
+    drop(payload);
+    frame
+}
+
+#[test]
+fn the_longest_answers_are_whole(rt: HostRuntime) {
+    let frame = longest_frame(&rt, rt.alloc());
+    let mut input = reading(frame.as_bytes());
+    let mut output = writing(rt.alloc());
+    input.most = 4096;
+    let answer = expand_lines(rt.alloc(), 4_294_967_295, 64, &mut input, &mut output);
+    drop(input);
+    drop(frame);
+    is_longest_answer(&rt, &output.text);
+    drop(output);
+    assert_eq!(rt; answer, Ok(false));
+}
+
+fn is_longest_answer(rt: &impl Abort, text: &[u8]) {
     assert!(rt; text.starts_with(b"63.1 [4294967295,"));
     assert!(rt; text.ends_with(b"ff\n"));
     assert_eq!(rt; text.len(), 4 + 1 + 1 + 63 * 11 + 1 + 1 + 1 + 1 + 2048 + 1);
-    Ok(())
 }

@@ -7,16 +7,15 @@ pub struct Schedule {
     pub text: &'static str,
 }
 
-pub const SCHEDULES: &[Schedule] = &[
-    Schedule {
-        name: "a_frame_comes_again",
-        script: r#"group 7 size 2 window 4 history 100
+const A_FRAME_COMES_AGAIN: Schedule = Schedule {
+    name: "a_frame_comes_again",
+    script: r#"group 7 size 2 window 4 history 100
 cast 0 6869
 arrive 1 0
 arrive 1 0
 arrive 0 0
 "#,
-        text: r#"1 cast 0.1 [1,0]
+    text: r#"1 cast 0.1 [1,0]
  > 0 all 1107000100026869
 2 arrive accepted changed
  = 0.1 [1,0] "hi"
@@ -25,10 +24,11 @@ arrive 0 0
 member 0 time [1,0] stable 0 entries 1
 member 1 time [1,0] stable 0 entries 1
 "#,
-    },
-    Schedule {
-        name: "a_loss_and_its_repair",
-        script: r#"group 7 size 3 window 4 history 100
+};
+
+const A_LOSS_AND_ITS_REPAIR: Schedule = Schedule {
+    name: "a_loss_and_its_repair",
+    script: r#"group 7 size 3 window 4 history 100
 cast 0 61
 cast 0 62
 cast 0 63
@@ -42,7 +42,7 @@ arrive 2 7
 arrive 2 6
 tick 2
 "#,
-        text: r#"1 cast 0.1 [1,0,0]
+    text: r#"1 cast 0.1 [1,0,0]
  > 0 all 11070001000161
 2 cast 0.2 [2,0,0]
  > 1 all 11070002000162
@@ -71,10 +71,11 @@ member 0 time [4,0,0] stable 0 entries 4
 member 1 time [0,0,0] stable 0 entries 0
 member 2 time [4,0,0] stable 0 entries 6
 "#,
-    },
-    Schedule {
-        name: "a_request_comes_late",
-        script: r#"group 7 size 2 window 4 history 100
+};
+
+const A_REQUEST_COMES_LATE: Schedule = Schedule {
+    name: "a_request_comes_late",
+    script: r#"group 7 size 2 window 4 history 100
 cast 0 61
 cast 0 62
 arrive 1 1
@@ -84,7 +85,7 @@ tick 1
 arrive 0 4
 arrive 0 3
 "#,
-        text: r#"1 cast 0.1 [1,0]
+    text: r#"1 cast 0.1 [1,0]
  > 0 all 11070001000161
 2 cast 0.2 [2,0]
  > 1 all 11070002000162
@@ -102,10 +103,11 @@ arrive 0 3
 member 0 time [2,0] stable 2 entries 3
 member 1 time [2,0] stable 0 entries 4
 "#,
-    },
-    Schedule {
-        name: "a_screen_scrolls",
-        script: r#"group 7 size 2 window 64 history 100
+};
+
+const A_SCREEN_SCROLLS: Schedule = Schedule {
+    name: "a_screen_scrolls",
+    script: r#"group 7 size 2 window 64 history 100
 say 0 main one
 say 0 main two
 say 0 main three
@@ -136,7 +138,7 @@ screen 1
 arrive 1 0
 screen 1
 "#,
-        text: r#"1 cast 0.1 [1,0]
+    text: r#"1 cast 0.1 [1,0]
  > 0 all 11070001000901046d61696e6f6e65
 2 cast 0.2 [2,0]
  > 1 all 11070002000901046d61696e74776f
@@ -232,10 +234,11 @@ screen 1
 member 0 time [22,0] stable 0 entries 22
 member 1 time [1,0] stable 0 entries 2
 "#,
-    },
-    Schedule {
-        name: "all_is_lost_and_two_rounds_repair_it",
-        script: r#"group 7 size 3 window 16 history 100
+};
+
+const ALL_IS_LOST_AND_TWO_ROUNDS_REPAIR_IT: Schedule = Schedule {
+    name: "all_is_lost_and_two_rounds_repair_it",
+    script: r#"group 7 size 3 window 16 history 100
 cast 0 61
 cast 0 62
 cast 0 63
@@ -291,7 +294,7 @@ arrive 2 39
 arrive 2 40
 arrive 2 41
 "#,
-        text: r#"1 cast 0.1 [1,0,0]
+    text: r#"1 cast 0.1 [1,0,0]
  > 0 all 11070001000161
 2 cast 0.2 [2,0,0]
  > 1 all 11070002000162
@@ -411,17 +414,18 @@ member 0 time [4,3,3] stable 0 entries 13
 member 1 time [4,3,3] stable 0 entries 13
 member 2 time [4,3,3] stable 0 entries 13
 "#,
-    },
-    Schedule {
-        name: "an_answer_overtakes_its_question",
-        script: r#"group 7 size 3 window 4 history 100
+};
+
+const AN_ANSWER_OVERTAKES_ITS_QUESTION: Schedule = Schedule {
+    name: "an_answer_overtakes_its_question",
+    script: r#"group 7 size 3 window 4 history 100
 cast 0 6869
 arrive 1 0
 cast 1 796f
 arrive 2 1
 arrive 2 0
 "#,
-        text: r#"1 cast 0.1 [1,0,0]
+    text: r#"1 cast 0.1 [1,0,0]
  > 0 all 1107000100026869
 2 arrive accepted changed
  = 0.1 [1,0,0] "hi"
@@ -435,10 +439,11 @@ member 0 time [1,0,0] stable 0 entries 1
 member 1 time [1,1,0] stable 0 entries 2
 member 2 time [1,1,0] stable 0 entries 2
 "#,
-    },
-    Schedule {
-        name: "five_members_in_a_ring",
-        script: r#"group 7 size 5 window 4 history 100
+};
+
+const FIVE_MEMBERS_IN_A_RING: Schedule = Schedule {
+    name: "five_members_in_a_ring",
+    script: r#"group 7 size 5 window 4 history 100
 cast 0 61
 arrive 1 0
 cast 1 62
@@ -459,7 +464,7 @@ arrive 0 3
 arrive 0 2
 arrive 0 1
 "#,
-        text: r#"1 cast 0.1 [1,0,0,0,0]
+    text: r#"1 cast 0.1 [1,0,0,0,0]
  > 0 all 11070001000161
 2 arrive accepted changed
  = 0.1 [1,0,0,0,0] "a"
@@ -503,10 +508,11 @@ member 2 time [1,1,1,0,0] stable 0 entries 3
 member 3 time [1,1,1,1,0] stable 0 entries 4
 member 4 time [1,1,1,1,1] stable 0 entries 5
 "#,
-    },
-    Schedule {
-        name: "names_that_do_not_exist",
-        script: r#"group 7 size 3 window 4 history 100
+};
+
+const NAMES_THAT_DO_NOT_EXIST: Schedule = Schedule {
+    name: "names_that_do_not_exist",
+    script: r#"group 7 size 3 window 4 history 100
 cast 3 00
 arrive 0 9
 arrive 3 9
@@ -516,7 +522,7 @@ arrive 1 0
 arrive 1 1
 arrive 1 4294967295
 "#,
-        text: r#"1 refused NoSuchMember
+    text: r#"1 refused NoSuchMember
 2 refused NoSuchFrame
 3 refused NoSuchMember
 4 refused NoSuchMember
@@ -530,10 +536,11 @@ member 0 time [1,0,0] stable 0 entries 1
 member 1 time [1,0,0] stable 0 entries 1
 member 2 time [0,0,0] stable 0 entries 0
 "#,
-    },
-    Schedule {
-        name: "no_screen_shows_it_too_early",
-        script: r#"group 7 size 3 window 4 history 100
+};
+
+const NO_SCREEN_SHOWS_IT_TOO_EARLY: Schedule = Schedule {
+    name: "no_screen_shows_it_too_early",
+    script: r#"group 7 size 3 window 4 history 100
 say 0 plan when?
 arrive 1 0
 answer 1 0.1 noon
@@ -546,7 +553,7 @@ screen 0
 screen 1
 answer 2 2.1 x
 "#,
-        text: r#"1 cast 0.1 [1,0,0]
+    text: r#"1 cast 0.1 [1,0,0]
  > 0 all 11070001000b0104706c616e7768656e3f
 2 arrive accepted changed
  = 0.1 [1,0,0] x0104706c616e7768656e3f
@@ -573,10 +580,11 @@ member 0 time [1,1,0] stable 0 entries 2
 member 1 time [1,1,0] stable 0 entries 2
 member 2 time [1,1,0] stable 0 entries 2
 "#,
-    },
-    Schedule {
-        name: "one_member_only_listens",
-        script: r#"group 7 size 3 window 1 history 100
+};
+
+const ONE_MEMBER_ONLY_LISTENS: Schedule = Schedule {
+    name: "one_member_only_listens",
+    script: r#"group 7 size 3 window 1 history 100
 cast 0 61
 arrive 1 0
 arrive 2 0
@@ -589,7 +597,7 @@ arrive 0 2
 cast 0 63
 tick 2
 "#,
-        text: r#"1 cast 0.1 [1,0,0]
+    text: r#"1 cast 0.1 [1,0,0]
  > 0 all 11070001000161
 2 arrive accepted changed
  = 0.1 [1,0,0] "a"
@@ -613,10 +621,11 @@ member 0 time [2,1,0] stable 1 entries 4
 member 1 time [1,1,0] stable 0 entries 2
 member 2 time [1,1,0] stable 0 entries 3
 "#,
-    },
-    Schedule {
-        name: "the_history_is_full",
-        script: r#"group 7 size 3 window 4 history 1
+};
+
+const THE_HISTORY_IS_FULL: Schedule = Schedule {
+    name: "the_history_is_full",
+    script: r#"group 7 size 3 window 4 history 1
 cast 0 6869
 cast 1 796f
 cast 0 6f6b
@@ -627,7 +636,7 @@ tick 2
 arrive 0 2
 tick 2
 "#,
-        text: r#"1 cast 0.1 [1,0,0]
+    text: r#"1 cast 0.1 [1,0,0]
  > 0 all 1107000100026869
 2 cast 1.1 [0,1,0]
  > 1 all 110701010002796f
@@ -644,10 +653,11 @@ member 0 time [1,0,0] stable 0 entries 1
 member 1 time [0,1,0] stable 0 entries 1
 member 2 time [0,0,0] stable 0 entries 1
 "#,
-    },
-    Schedule {
-        name: "the_window_fills_and_opens",
-        script: r#"group 7 size 3 window 2 history 100
+};
+
+const THE_WINDOW_FILLS_AND_OPENS: Schedule = Schedule {
+    name: "the_window_fills_and_opens",
+    script: r#"group 7 size 3 window 2 history 100
 cast 0 61
 cast 0 62
 cast 0 63
@@ -662,7 +672,7 @@ cast 0 63
 arrive 0 3
 cast 0 63
 "#,
-        text: r#"1 cast 0.1 [1,0,0]
+    text: r#"1 cast 0.1 [1,0,0]
  > 0 all 11070001000161
 2 cast 0.2 [2,0,0]
  > 1 all 11070002000162
@@ -688,10 +698,11 @@ member 0 time [3,0,0] stable 2 entries 5
 member 1 time [2,0,0] stable 0 entries 3
 member 2 time [2,0,0] stable 0 entries 3
 "#,
-    },
-    Schedule {
-        name: "three_screens_agree",
-        script: r#"group 7 size 3 window 4 history 100
+};
+
+const THREE_SCREENS_AGREE: Schedule = Schedule {
+    name: "three_screens_agree",
+    script: r#"group 7 size 3 window 4 history 100
 say 0 plan when?
 arrive 1 0
 answer 1 0.1 noon
@@ -707,7 +718,7 @@ screen 0
 screen 1
 screen 2
 "#,
-        text: r#"1 cast 0.1 [1,0,0]
+    text: r#"1 cast 0.1 [1,0,0]
  > 0 all 11070001000b0104706c616e7768656e3f
 2 arrive accepted changed
  = 0.1 [1,0,0] x0104706c616e7768656e3f
@@ -744,10 +755,11 @@ member 0 time [1,1,1] stable 1 entries 3
 member 1 time [1,1,1] stable 0 entries 3
 member 2 time [1,1,1] stable 0 entries 3
 "#,
-    },
-    Schedule {
-        name: "two_answer_at_once",
-        script: r#"group 7 size 3 window 4 history 100
+};
+
+const TWO_ANSWER_AT_ONCE: Schedule = Schedule {
+    name: "two_answer_at_once",
+    script: r#"group 7 size 3 window 4 history 100
 cast 0 6869
 arrive 1 0
 arrive 2 0
@@ -758,7 +770,7 @@ arrive 0 1
 arrive 1 2
 arrive 2 1
 "#,
-        text: r#"1 cast 0.1 [1,0,0]
+    text: r#"1 cast 0.1 [1,0,0]
  > 0 all 1107000100026869
 2 arrive accepted changed
  = 0.1 [1,0,0] "hi"
@@ -780,10 +792,11 @@ member 0 time [1,1,1] stable 1 entries 3
 member 1 time [1,1,1] stable 0 entries 3
 member 2 time [1,1,1] stable 0 entries 3
 "#,
-    },
-    Schedule {
-        name: "two_casts_come_reversed",
-        script: r#"group 7 size 3 window 4 history 100
+};
+
+const TWO_CASTS_COME_REVERSED: Schedule = Schedule {
+    name: "two_casts_come_reversed",
+    script: r#"group 7 size 3 window 4 history 100
 cast 0 6869
 arrive 1 0
 cast 1 796f
@@ -791,7 +804,7 @@ cast 1 6f6b
 arrive 0 2
 arrive 0 1
 "#,
-        text: r#"1 cast 0.1 [1,0,0]
+    text: r#"1 cast 0.1 [1,0,0]
  > 0 all 1107000100026869
 2 arrive accepted changed
  = 0.1 [1,0,0] "hi"
@@ -807,10 +820,11 @@ member 0 time [1,2,0] stable 0 entries 3
 member 1 time [1,2,0] stable 0 entries 3
 member 2 time [0,0,0] stable 0 entries 0
 "#,
-    },
-    Schedule {
-        name: "two_rooms",
-        script: r#"group 7 size 3 window 4 history 100
+};
+
+const TWO_ROOMS: Schedule = Schedule {
+    name: "two_rooms",
+    script: r#"group 7 size 3 window 4 history 100
 say 0 plan when?
 say 1 lunch pizza?
 arrive 2 1
@@ -824,7 +838,7 @@ arrive 0 3
 arrive 0 2
 screen 0
 "#,
-        text: r#"1 cast 0.1 [1,0,0]
+    text: r#"1 cast 0.1 [1,0,0]
  > 0 all 11070001000b0104706c616e7768656e3f
 2 cast 1.1 [0,1,0]
  > 1 all 11070101000d01056c756e636870697a7a613f
@@ -857,5 +871,73 @@ member 0 time [1,1,2] stable 0 entries 4
 member 1 time [0,1,0] stable 0 entries 1
 member 2 time [1,1,2] stable 0 entries 4
 "#,
-    },
+};
+
+/// All schedules, for `checks/refuse-play.sh`.
+pub const SCHEDULES: &[Schedule] = &[
+    A_FRAME_COMES_AGAIN,
+    A_LOSS_AND_ITS_REPAIR,
+    A_REQUEST_COMES_LATE,
+    A_SCREEN_SCROLLS,
+    ALL_IS_LOST_AND_TWO_ROUNDS_REPAIR_IT,
+    AN_ANSWER_OVERTAKES_ITS_QUESTION,
+    FIVE_MEMBERS_IN_A_RING,
+    NAMES_THAT_DO_NOT_EXIST,
+    NO_SCREEN_SHOWS_IT_TOO_EARLY,
+    ONE_MEMBER_ONLY_LISTENS,
+    THE_HISTORY_IS_FULL,
+    THE_WINDOW_FILLS_AND_OPENS,
+    THREE_SCREENS_AGREE,
+    TWO_ANSWER_AT_ONCE,
+    TWO_CASTS_COME_REVERSED,
+    TWO_ROOMS,
 ];
+
+const PART_1: &[Schedule] = &[
+    A_FRAME_COMES_AGAIN,
+    A_LOSS_AND_ITS_REPAIR,
+    A_REQUEST_COMES_LATE,
+    A_SCREEN_SCROLLS,
+];
+
+fn part_1() -> &'static [Schedule] {
+    PART_1
+}
+
+const PART_2: &[Schedule] = &[
+    ALL_IS_LOST_AND_TWO_ROUNDS_REPAIR_IT,
+    AN_ANSWER_OVERTAKES_ITS_QUESTION,
+    FIVE_MEMBERS_IN_A_RING,
+    NAMES_THAT_DO_NOT_EXIST,
+];
+
+fn part_2() -> &'static [Schedule] {
+    PART_2
+}
+
+const PART_3: &[Schedule] = &[
+    NO_SCREEN_SHOWS_IT_TOO_EARLY,
+    ONE_MEMBER_ONLY_LISTENS,
+    THE_HISTORY_IS_FULL,
+    THE_WINDOW_FILLS_AND_OPENS,
+];
+
+fn part_3() -> &'static [Schedule] {
+    PART_3
+}
+
+const PART_4: &[Schedule] = &[
+    THREE_SCREENS_AGREE,
+    TWO_ANSWER_AT_ONCE,
+    TWO_CASTS_COME_REVERSED,
+    TWO_ROOMS,
+];
+
+fn part_4() -> &'static [Schedule] {
+    PART_4
+}
+
+/// All schedules in parts: the prover takes much longer for one long list.
+pub fn parts() -> [&'static [Schedule]; 4] {
+    [part_1(), part_2(), part_3(), part_4()]
+}

@@ -3,12 +3,11 @@
 mod rooms;
 mod traces;
 
-use crate::fakes::{Bulk, reading, run_into, run_on, writing};
-use crate::play::schedules::{SCHEDULES, Schedule};
-use std::alloc::Global;
+use crate::fakes::{Bulk, joined, reading, run_into, run_on, writing};
+use crate::play::schedules::{Schedule, parts};
+use std::alloc::{AllocError, Global};
 use std::io::ErrorKind;
 use std::process::Abort;
-use std::test::Fail;
 
 const WORDS: [&str; 2] = ["confer", "play"];
 
@@ -17,113 +16,142 @@ fn prints(rt: &impl Abort, alloc: Global, script: &str, text: &str) {
     run_on(alloc, &WORDS, &mut reading(script.as_bytes())).is(rt, 0, text.as_bytes(), "");
 }
 
+/// The same of texts that were made. A call of `drop` takes the prover less time than a value that is left to the end.
+fn prints_made(rt: &impl Abort, alloc: Global, script: String, text: String) {
+    prints(rt, alloc, &script, &text);
+    drop(script);
+    drop(text);
+}
+
 /// `confer play` prints nothing of the script, says this, and ends with this status.
 fn stops(rt: &impl Abort, alloc: Global, script: &[u8], status: u8, said: &str) {
     run_on(alloc, &WORDS, &mut reading(script)).is(rt, status, b"", said);
 }
 
-/// A function, since a constant would be looked through in the proof of the loop.
-fn schedules() -> &'static [Schedule] {
-    SCHEDULES
+/// The same of a script that was made, with a bad step in this line.
+fn stops_at(rt: &impl Abort, alloc: Global, script: String, line: &str) {
+    let said = joined(rt, alloc, &["confer: line ", line, ": bad step\n"]);
+    stops(rt, alloc, script.as_bytes(), 4, &said);
+    drop(said);
+    drop(script);
+}
+
+fn print_their_texts(rt: &impl Abort, alloc: Global, schedules: &[Schedule]) {
+    for schedule in schedules {
+        prints(rt, alloc, schedule.script, schedule.text);
+    }
 }
 
 #[test]
 fn each_schedule_of_the_repository_prints_its_text(rt: HostRuntime) {
-    for schedule in schedules() {
-        prints(&rt, rt.alloc(), schedule.script, schedule.text);
+    for part in &parts() {
+        print_their_texts(&rt, rt.alloc(), part);
     }
 }
 
 /// Of one step after the first line: what is printed of it.
-fn answers(
-    rt: &impl Abort,
-    alloc: Global,
-    first: &str,
-    step: &str,
-    answer: &str,
-) -> Result<(), Fail> {
-    let script = format!(in alloc; "{first}\n{step}\n")?;
-    let text = format!(in alloc;
-        "1 {answer}\nmember 0 time [0,0] stable 0 entries 0\nmember 1 time [0,0] stable 0 entries 0\n"
-    )?;
-    prints(rt, alloc, &script, &text);
-    Ok(())
+fn answers(rt: &impl Abort, alloc: Global, first: &str, step: &str, answer: &str) {
+    let script = joined(rt, alloc, &[first, "\n", step, "\n"]);
+    let members =
+        "\nmember 0 time [0,0] stable 0 entries 0\nmember 1 time [0,0] stable 0 entries 0\n";
+    let text = joined(rt, alloc, &["1 ", answer, members]);
+    prints_made(rt, alloc, script, text);
 }
 
 /// A group of two, W = 4 and ample histories.
 const FIRST: &str = "group 7 size 2 window 4 history 100";
 
+/// Steps of members and frames that there are not, and what each is answered.
+const NUMBERS: &[(&str, &str)] = &[
+    ("cast 2 -", "refused NoSuchMember"),
+    ("cast 4294967295 aBcDeF", "refused NoSuchMember"),
+    ("arrive 2 0", "refused NoSuchMember"),
+    ("arrive 4294967295 4294967295", "refused NoSuchMember"),
+    ("arrive 0 0", "refused NoSuchFrame"),
+    ("arrive 1 4294967295", "refused NoSuchFrame"),
+    ("tick 2", "refused NoSuchMember"),
+    ("tick 4294967295", "refused NoSuchMember"),
+];
+
+fn numbers() -> &'static [(&'static str, &'static str)] {
+    NUMBERS
+}
+
 #[test]
-fn every_number_of_32_bits_is_read(rt: HostRuntime) -> Result<(), Fail> {
-    const ROWS: &[(&str, &str)] = &[
-        ("cast 2 -", "refused NoSuchMember"),
-        ("cast 4294967295 aBcDeF", "refused NoSuchMember"),
-        ("arrive 2 0", "refused NoSuchMember"),
-        ("arrive 4294967295 4294967295", "refused NoSuchMember"),
-        ("arrive 0 0", "refused NoSuchFrame"),
-        ("arrive 1 4294967295", "refused NoSuchFrame"),
-        ("tick 2", "refused NoSuchMember"),
-        ("tick 4294967295", "refused NoSuchMember"),
-    ];
-    for (step, answer) in ROWS {
-        answers(&rt, rt.alloc(), FIRST, step, answer)?;
+fn every_number_of_32_bits_is_read(rt: HostRuntime) {
+    for (step, answer) in numbers() {
+        answers(&rt, rt.alloc(), FIRST, step, answer);
     }
     let greatest = "group 4294967295 size 2 window 256 history 16777216";
-    answers(
-        &rt,
-        rt.alloc(),
-        greatest,
-        "arrive 0 0",
-        "refused NoSuchFrame",
-    )?;
+    let refused = "refused NoSuchFrame";
+    answers(&rt, rt.alloc(), greatest, "arrive 0 0", refused);
     let least = "group 0 size 2 window 1 history 1";
-    answers(&rt, rt.alloc(), least, "arrive 0 0", "refused NoSuchFrame")
+    answers(&rt, rt.alloc(), least, "arrive 0 0", refused);
 }
 
 #[test]
-fn the_longest_payload_is_cast_and_a_longer_one_is_refused(rt: HostRuntime) -> Result<(), Fail> {
-    let alloc = rt.alloc();
-    let mut hex = String::new(alloc);
-    for _ in 0..1024 {
-        hex.push_str("0A")?;
-    }
-    let too_long = format!(in alloc; "cast 0 {hex}0a")?;
-    answers(&rt, alloc, FIRST, &too_long, "refused PayloadTooLong")?;
-    casts_the_longest(&rt, alloc, &hex)
+fn the_longest_payload_is_cast_and_a_longer_one_is_refused(rt: HostRuntime) {
+    let hex = "0A".repeat(rt.alloc(), 1024).expect(&rt, "memory");
+    refuses_a_longer_one(&rt, rt.alloc(), &hex);
+    casts_the_longest(&rt, rt.alloc(), &hex);
+    drop(hex);
 }
+
+/// These digits and two more are refused.
+fn refuses_a_longer_one(rt: &impl Abort, alloc: Global, hex: &str) {
+    let too_long = joined(rt, alloc, &["cast 0 ", hex, "0a"]);
+    answers(rt, alloc, FIRST, &too_long, "refused PayloadTooLong");
+    drop(too_long);
+}
+
+/// How the members stand once a cast has arrived.
+const MEMBERS: &str =
+    "\nmember 0 time [1,0] stable 0 entries 1\nmember 1 time [1,0] stable 0 entries 1\n";
 
 /// These digits are cast, arrive, and are printed in lower case.
-fn casts_the_longest(rt: &impl Abort, alloc: Global, hex: &str) -> Result<(), Fail> {
-    let script = format!(in alloc; "{FIRST}\ncast 0 {hex}\narrive 1 0\n")?;
-    let lower = hex.to_ascii_lowercase(alloc)?;
-    let text = format!(in alloc;
-        "1 cast 0.1 [1,0]\n > 0 all 11070001008008{lower}\n2 arrive accepted changed\n = 0.1 [1,0] x{lower}\nmember 0 time [1,0] stable 0 entries 1\nmember 1 time [1,0] stable 0 entries 1\n"
-    )?;
-    prints(rt, alloc, &script, &text);
-    Ok(())
+fn casts_the_longest(rt: &impl Abort, alloc: Global, hex: &str) {
+    let lower = hex.to_ascii_lowercase(alloc).expect(rt, "memory");
+    let frame = "1 cast 0.1 [1,0]\n > 0 all 11070001008008";
+    let arrival = "\n2 arrive accepted changed\n = 0.1 [1,0] x";
+    let text = joined(
+        rt,
+        alloc,
+        &[frame, lower.as_str(), arrival, lower.as_str(), MEMBERS],
+    );
+    drop(lower);
+    let script = joined(rt, alloc, &[FIRST, "\ncast 0 ", hex, "\narrive 1 0\n"]);
+    prints_made(rt, alloc, script, text);
+}
+
+/// Payloads in a script, as fields of frames, and as they are printed.
+const PAYLOADS: &[(&str, &str, &str)] = &[
+    ("-", "00", "\"\""),
+    ("6869", "026869", "\"hi\""),
+    ("207E41", "03207e41", "\" ~A\""),
+    ("22", "0122", "x22"),
+    ("5c", "015c", "x5c"),
+    ("1F7f", "021f7f", "x1f7f"),
+    ("68c3a9", "0368c3a9", "x68c3a9"),
+    ("FF", "01ff", "xff"),
+];
+
+fn payloads() -> &'static [(&'static str, &'static str, &'static str)] {
+    PAYLOADS
 }
 
 #[test]
-fn a_payload_is_printed_as_text_where_each_byte_is_plain(rt: HostRuntime) -> Result<(), Fail> {
-    const ROWS: &[(&str, &str, &str)] = &[
-        ("-", "00", "\"\""),
-        ("6869", "026869", "\"hi\""),
-        ("207E41", "03207e41", "\" ~A\""),
-        ("22", "0122", "x22"),
-        ("5c", "015c", "x5c"),
-        ("1F7f", "021f7f", "x1f7f"),
-        ("68c3a9", "0368c3a9", "x68c3a9"),
-        ("FF", "01ff", "xff"),
-    ];
-    let alloc = rt.alloc();
-    for (payload, field, printed) in ROWS {
-        let script = format!(in alloc; "{FIRST}\ncast 0 {payload}\narrive 1 0")?;
-        let text = format!(in alloc;
-            "1 cast 0.1 [1,0]\n > 0 all 1107000100{field}\n2 arrive accepted changed\n = 0.1 [1,0] {printed}\nmember 0 time [1,0] stable 0 entries 1\nmember 1 time [1,0] stable 0 entries 1\n"
-        )?;
-        prints(&rt, alloc, &script, &text);
+fn a_payload_is_printed_as_text_where_each_byte_is_plain(rt: HostRuntime) {
+    for (payload, field, printed) in payloads() {
+        is_printed(&rt, rt.alloc(), payload, field, printed);
     }
-    Ok(())
+}
+
+fn is_printed(rt: &impl Abort, alloc: Global, payload: &str, field: &str, printed: &str) {
+    let script = joined(rt, alloc, &[FIRST, "\ncast 0 ", payload, "\narrive 1 0"]);
+    let frame = "1 cast 0.1 [1,0]\n > 0 all 1107000100";
+    let arrival = "\n2 arrive accepted changed\n = 0.1 [1,0] ";
+    let text = joined(rt, alloc, &[frame, field, arrival, printed, MEMBERS]);
+    prints_made(rt, alloc, script, text);
 }
 
 #[test]
@@ -195,19 +223,18 @@ const FIRST_LINES: &[&str] = &[
     "#",
 ];
 
+fn first_lines() -> &'static [&'static str] {
+    FIRST_LINES
+}
+
 #[test]
 fn a_first_line_that_is_none_is_a_bad_step(rt: HostRuntime) {
-    for line in FIRST_LINES {
-        stops(
-            &rt,
-            rt.alloc(),
-            line.as_bytes(),
-            4,
-            "confer: line 1: bad step\n",
-        );
+    let said = "confer: line 1: bad step\n";
+    for line in first_lines() {
+        stops(&rt, rt.alloc(), line.as_bytes(), 4, said);
     }
     let bytes = b"group 7 size 2 window 4 history 100\xff\n";
-    stops(&rt, rt.alloc(), bytes, 4, "confer: line 1: bad step\n");
+    stops(&rt, rt.alloc(), bytes, 4, said);
 }
 
 /// Lines that are no step.
@@ -377,84 +404,47 @@ const LINES: &[&str] = &[
     "quit",
 ];
 
+fn lines() -> &'static [&'static str] {
+    LINES
+}
+
 #[test]
-fn a_line_that_is_no_step_is_a_bad_step(rt: HostRuntime) -> Result<(), Fail> {
-    let alloc = rt.alloc();
-    for line in LINES {
-        let script = format!(in alloc; "{FIRST}\n{line}\n")?;
-        stops(
-            &rt,
-            alloc,
-            script.as_bytes(),
-            4,
-            "confer: line 2: bad step\n",
-        );
-        let script = format!(in alloc; "{FIRST}\ncast 0 00\narrive 1 0\ntick 1\n{line}\ntick 0\n")?;
-        stops(
-            &rt,
-            alloc,
-            script.as_bytes(),
-            4,
-            "confer: line 5: bad step\n",
-        );
+fn a_line_that_is_no_step_is_a_bad_step(rt: HostRuntime) {
+    for line in lines() {
+        is_no_step(&rt, rt.alloc(), line);
     }
-    Ok(())
+}
+
+fn is_no_step(rt: &impl Abort, alloc: Global, line: &str) {
+    let script = joined(rt, alloc, &[FIRST, "\n", line, "\n"]);
+    stops_at(rt, alloc, script, "2");
+    let steps = "\ncast 0 00\narrive 1 0\ntick 1\n";
+    let script = joined(rt, alloc, &[FIRST, steps, line, "\ntick 0\n"]);
+    stops_at(rt, alloc, script, "5");
 }
 
 #[test]
 fn a_line_that_is_no_text_is_a_bad_step(rt: HostRuntime) {
-    const ROWS: &[(&[u8], &str)] = &[
-        (b"group 7 size 2 window 4 history 100\ntick \xff\n", "2"),
-        (
-            b"group 7 size 2 window 4 history 100\ntick 0\n\xc3\n\xa9\n",
-            "3",
-        ),
-        (
-            b"group 7 size 2 window 4 history 100\ntick 0\ntick 1\ncast 0 \x80",
-            "4",
-        ),
-    ];
     let alloc = rt.alloc();
-    for (script, line) in ROWS {
-        let Ok(said) = format!(in alloc; "confer: line {line}: bad step\n") else {
-            panic!(rt; "no memory");
-        };
-        stops(&rt, alloc, script, 4, &said);
-    }
+    let script = b"group 7 size 2 window 4 history 100\ntick \xff\n";
+    stops(&rt, alloc, script, 4, "confer: line 2: bad step\n");
+    let script = b"group 7 size 2 window 4 history 100\ntick 0\n\xc3\n\xa9\n";
+    stops(&rt, alloc, script, 4, "confer: line 3: bad step\n");
+    let script = b"group 7 size 2 window 4 history 100\ntick 0\ntick 1\ncast 0 \x80";
+    stops(&rt, alloc, script, 4, "confer: line 4: bad step\n");
 }
 
 #[test]
-fn the_first_bad_step_is_named(rt: HostRuntime) -> Result<(), Fail> {
+fn the_first_bad_step_is_named(rt: HostRuntime) {
     let alloc = rt.alloc();
-    let script = format!(in alloc; "{FIRST}\ntick 0\ntock 0\n\ntick 1\n")?;
-    stops(
-        &rt,
-        alloc,
-        script.as_bytes(),
-        4,
-        "confer: line 3: bad step\n",
-    );
-    let script = format!(in alloc; "{FIRST}\ntick 0\n\n")?;
-    stops(
-        &rt,
-        alloc,
-        script.as_bytes(),
-        4,
-        "confer: line 3: bad step\n",
-    );
-    let mut script = format!(in alloc; "{FIRST}\n")?;
-    for _ in 0..1000 {
-        script.push_str("tick 0\n")?;
-    }
-    script.push_str("tock 0")?;
-    stops(
-        &rt,
-        alloc,
-        script.as_bytes(),
-        4,
-        "confer: line 1002: bad step\n",
-    );
-    Ok(())
+    let script = b"group 7 size 2 window 4 history 100\ntick 0\ntock 0\n\ntick 1\n";
+    stops(&rt, alloc, script, 4, "confer: line 3: bad step\n");
+    let script = b"group 7 size 2 window 4 history 100\ntick 0\n\n";
+    stops(&rt, alloc, script, 4, "confer: line 3: bad step\n");
+    let ticks = "tick 0\n".repeat(alloc, 1000).expect(&rt, "memory");
+    let script = joined(&rt, alloc, &[FIRST, "\n", ticks.as_str(), "tock 0"]);
+    drop(ticks);
+    stops_at(&rt, alloc, script, "1002");
 }
 
 #[test]
@@ -475,26 +465,34 @@ fn the_last_line_may_lack_its_line_feed(rt: HostRuntime) {
     );
 }
 
-/// A long script and what it prints.
-fn many_ticks(alloc: Global) -> Result<(String, String), Fail> {
-    let mut script = format!(in alloc; "{FIRST}\ntick 0\n")?;
-    let mut text = String::from_str(alloc, "1 tick entered\n > 0 all 12070000\n")?;
-    for number in 1u32..4000 {
-        let step = number.saturating_add(1);
-        script.push_str("tick 0\n")?;
-        write!(text, "{step} tick same\n > {number} all 12070000\n")?;
+/// What is printed of so many ticks of member 0.
+fn text_of_ticks(rt: &impl Abort, alloc: Global, ticks: u32) -> String {
+    let mut text = String::from_str(alloc, "1 tick entered\n > 0 all 12070000\n").expect(
+        rt, "memory",
+    );
+    for number in 1..ticks {
+        put_tick(&mut text, number).expect(rt, "memory");
     }
     text.push_str(
         "member 0 time [0,0] stable 0 entries 1\nmember 1 time [0,0] stable 0 entries 0\n",
-    )?;
-    Ok((script, text))
+    ).expect(rt, "memory");
+    text
+}
+
+/// What is printed of a tick that is not the first one, whose frame has this number.
+fn put_tick(text: &mut String, number: u32) -> Result<(), AllocError> {
+    let step = number.saturating_add(1);
+    write!(text, "{step} tick same\n > {number} all 12070000\n")
 }
 
 #[test]
-fn a_long_script_is_run_whole(rt: HostRuntime) -> Result<(), Fail> {
-    let (script, text) = many_ticks(rt.alloc())?;
-    prints(&rt, rt.alloc(), &script, &text);
-    Ok(())
+fn a_long_script_is_run_whole(rt: HostRuntime) {
+    let alloc = rt.alloc();
+    let ticks = "tick 0\n".repeat(alloc, 4000).expect(&rt, "memory");
+    let script = joined(&rt, alloc, &[FIRST, "\n", ticks.as_str()]);
+    drop(ticks);
+    let text = text_of_ticks(&rt, alloc, 4000);
+    prints_made(&rt, alloc, script, text);
 }
 
 /// The read after so many good ones fails.
@@ -548,13 +546,15 @@ fn an_interrupted_write_is_tried_again(rt: HostRuntime) {
     outcome.is(&rt, 0, TICKED.as_bytes(), "");
 }
 
+/// So many bytes, a line feed first, end with this status, and this is said.
+fn ends(rt: &impl Abort, alloc: Global, left: usize, status: u8, said: &str) {
+    run_on(alloc, &WORDS, &mut Bulk { left }).is(rt, status, b"", said);
+}
+
 #[test]
 fn a_script_has_at_most_67108864_bytes(rt: HostRuntime) {
-    const ROWS: &[(usize, u8, &str)] = &[
-        (67_108_864, 4, "confer: line 1: bad step\n"),
-        (67_108_865, 3, "confer: input too long\n"),
-    ];
-    for (left, status, said) in ROWS {
-        run_on(rt.alloc(), &WORDS, &mut Bulk { left: *left }).is(&rt, *status, b"", said);
-    }
+    let bad = "confer: line 1: bad step\n";
+    ends(&rt, rt.alloc(), 67_108_864, 4, bad);
+    let long = "confer: input too long\n";
+    ends(&rt, rt.alloc(), 67_108_865, 3, long);
 }

@@ -1,9 +1,9 @@
 //! Lines that are said and answered, and screens.
 
-use super::{FIRST, answers, prints};
+use super::{FIRST, answers, prints, prints_made};
+use crate::fakes::joined;
 use std::alloc::Global;
 use std::process::Abort;
-use std::test::Fail;
 
 /// Steps of a group in which nothing was said, and what each is answered. Of several faults the first in order is named: the member, then
 /// the place of the line, then its text.
@@ -42,12 +42,15 @@ const REFUSED: &[(&str, &str)] = &[
     ("screen 1", "screen 1"),
 ];
 
+fn refused() -> &'static [(&'static str, &'static str)] {
+    REFUSED
+}
+
 #[test]
-fn a_line_without_a_place_or_a_text_is_refused_by_name(rt: HostRuntime) -> Result<(), Fail> {
-    for (step, answer) in REFUSED {
-        answers(&rt, rt.alloc(), FIRST, step, answer)?;
+fn a_line_without_a_place_or_a_text_is_refused_by_name(rt: HostRuntime) {
+    for (step, answer) in refused() {
+        answers(&rt, rt.alloc(), FIRST, step, answer);
     }
-    Ok(())
 }
 
 /// Behind `say 0 main hi`, which member 1 has delivered: a step, and all that is printed of it.
@@ -82,50 +85,73 @@ const SAID: &[(&str, &str)] = &[
     ("screen 1", "screen 1\n | [main] 0.1 hi"),
 ];
 
+fn said() -> &'static [(&'static str, &'static str)] {
+    SAID
+}
+
 #[test]
-fn a_line_is_composed_in_the_conference_of_its_member(rt: HostRuntime) -> Result<(), Fail> {
-    let alloc = rt.alloc();
+fn a_line_is_composed_in_the_conference_of_its_member(rt: HostRuntime) {
+    for (step, lines) in said() {
+        is_composed(&rt, rt.alloc(), step, lines);
+    }
+}
+
+fn is_composed(rt: &impl Abort, alloc: Global, step: &str, lines: &str) {
+    let script = joined(rt, alloc, &[FIRST, "\nsay 0 main hi\narrive 1 0\n", step]);
     let before =
         "1 cast 0.1 [1,0]\n > 0 all 11070001000801046d61696e6869\n2 arrive accepted changed\n = 0.1 [1,0] x01046d61696e6869";
-    for (step, lines) in SAID {
-        let script = format!(in alloc; "{FIRST}\nsay 0 main hi\narrive 1 0\n{step}")?;
-        let cast = lines.starts_with("cast");
-        let (time, entries) = if cast { ("[1,1]", 2) } else { ("[1,0]", 1) };
-        let text = format!(in alloc;
-            "{before}\n3 {lines}\nmember 0 time [1,0] stable 0 entries 1\nmember 1 time {time} stable 0 entries {entries}\n"
-        )?;
-        prints(&rt, alloc, &script, &text);
+    let (time, entries) = standing(lines);
+    let text = format!(in alloc;
+        "{before}\n3 {lines}\nmember 0 time [1,0] stable 0 entries 1\nmember 1 time {time} stable 0 entries {entries}\n"
+    ).expect(rt, "memory");
+    prints_made(rt, alloc, script, text);
+}
+
+/// How member 1 stands after this answer: its time, and how many entries its history has.
+fn standing(lines: &str) -> (&'static str, u32) {
+    if lines.starts_with("cast") {
+        ("[1,1]", 2)
+    } else {
+        ("[1,0]", 1)
     }
-    Ok(())
 }
 
 /// The text of a `say` in room `main` whose payload has so many bytes, 6 or more.
-fn text_of(alloc: Global, payload: usize) -> Result<String, Fail> {
-    let mut text = String::new(alloc);
-    for _ in 6..payload {
-        text.push('x')?;
-    }
-    Ok(text)
+fn text_of(rt: &impl Abort, alloc: Global, payload: usize) -> String {
+    "x".repeat(alloc, payload.saturating_sub(6))
+        .expect(rt, "memory")
 }
 
 #[test]
-fn a_payload_has_at_most_1024_bytes(rt: HostRuntime) -> Result<(), Fail> {
-    let alloc = rt.alloc();
-    let too_long = format!(in alloc; "say 0 main {}", text_of(alloc, 1025)?)?;
-    answers(&rt, alloc, FIRST, &too_long, "refused TooLong")?;
-    let bad_and_too_long = format!(in alloc; "say 0 main {}\u{7}", text_of(alloc, 1025)?)?;
-    answers(&rt, alloc, FIRST, &bad_and_too_long, "refused BadText")?;
-    let text = text_of(alloc, 1024)?;
-    let script = format!(in alloc; "{FIRST}\nsay 0 main {text}\nscreen 0\n")?;
-    let mut hex = String::new(alloc);
-    for _ in 6..1024 {
-        hex.push_str("78")?;
-    }
-    let printed = format!(in alloc;
-        "1 cast 0.1 [1,0]\n > 0 all 1107000100800801046d61696e{hex}\n2 screen 0\n | [main] 0.1 {text}\nmember 0 time [1,0] stable 0 entries 1\nmember 1 time [0,0] stable 0 entries 0\n"
-    )?;
-    prints(&rt, alloc, &script, &printed);
-    Ok(())
+fn a_payload_has_at_most_1024_bytes(rt: HostRuntime) {
+    let long = text_of(&rt, rt.alloc(), 1025);
+    refuses_too_long(&rt, rt.alloc(), &long);
+    drop(long);
+    let text = text_of(&rt, rt.alloc(), 1024);
+    says_the_longest(&rt, rt.alloc(), &text);
+    drop(text);
+}
+
+/// A text that is too long is refused, as a bad one if it is bad too.
+fn refuses_too_long(rt: &impl Abort, alloc: Global, text: &str) {
+    let too_long = joined(rt, alloc, &["say 0 main ", text]);
+    answers(rt, alloc, FIRST, &too_long, "refused TooLong");
+    drop(too_long);
+    let bad_and_too_long = joined(rt, alloc, &["say 0 main ", text, "\u{7}"]);
+    answers(rt, alloc, FIRST, &bad_and_too_long, "refused BadText");
+    drop(bad_and_too_long);
+}
+
+fn says_the_longest(rt: &impl Abort, alloc: Global, text: &str) {
+    let hex = "78".repeat(alloc, 1018).expect(rt, "memory");
+    let frame = "1 cast 0.1 [1,0]\n > 0 all 1107000100800801046d61696e";
+    let screen = "\n2 screen 0\n | [main] 0.1 ";
+    let members =
+        "\nmember 0 time [1,0] stable 0 entries 1\nmember 1 time [0,0] stable 0 entries 0\n";
+    let printed = joined(rt, alloc, &[frame, hex.as_str(), screen, text, members]);
+    drop(hex);
+    let script = joined(rt, alloc, &[FIRST, "\nsay 0 main ", text, "\nscreen 0\n"]);
+    prints_made(rt, alloc, script, printed);
 }
 
 /// A composed line is cast like any payload: where the window or the history is full it is refused, and shown to nobody.
