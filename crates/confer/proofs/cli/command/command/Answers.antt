@@ -1,6 +1,5 @@
 use Rattle.std.proofs.Common.{◌≡◌, true, codes, rules}
 use Rattle.clap.specs.Words.{App, app_of, new_app}
-use Rattle.confer.specs.Cli.Commands.{audit_app, expand_app, play_app, run_app}
 use Rattle.confer.proofs.cli.command.command.Goals as goal
 
 pub returns : goal.returns
