@@ -15,7 +15,7 @@ mkdir -p "$work/whole" "$work/cases"
 crate=$work/whole/crates/confer
 rm -rf "$crate/proofs" "$crate/must-fail" "$crate/src/main.rt" "$crate/src/laws.rt" "$crate"/src/*/tests.rt "$crate/src/play/tests"
 cp "$top/checks/refused_play/main.txt" "$crate/src/main.rt"
-perl -0pi -e 's/#\[cfg\(test\)\]\nmod tests;\n//; s/#\[cfg\(test\)\]\npub use tests::WORKED;\n//; s/#\[cfg\(test\)\]\nmod schedules;\n/mod schedules;\n\npub use schedules::SCHEDULES;\n/' "$crate"/src/*.rt
+perl -0pi -e 's/#\[cfg\(test\)\]\nmod tests;\n//; s/#\[cfg\(test\)\]\npub use tests::WORKED;\n//; s/#\[cfg\(test\)\]\nmod schedules;\n/mod schedules;\n\npub use schedules::parts;\n/' "$crate"/src/*.rt
 for ((bytes = 0; bytes < most; bytes += step)); do
     name=$(printf '%04d' "$bytes")
     head -c "$bytes" /dev/zero > "$work/cases/$name"

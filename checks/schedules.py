@@ -38,7 +38,7 @@ def names_in(names):
 
 def copy_of(names):
     parts = [names[at : at + EACH] for at in range(0, len(names), EACH)]
-    made = [f"/// All schedules, for `checks/refuse-play.sh`.\npub const SCHEDULES: &[Schedule] = &[\n{names_in(names)}];\n"]
+    made = []
     for number, it in enumerate(parts, 1):
         made += [f"const PART_{number}: &[Schedule] = &[\n{names_in(it)}];\n", f"fn part_{number}() -> &'static [Schedule] {{\n    PART_{number}\n}}\n"]
     calls = ", ".join(f"part_{number}()" for number in range(1, len(parts) + 1))
