@@ -7,6 +7,7 @@ pub mod Refusals
 pub mod Events
 pub mod Legal
 pub mod LegalFacts
+pub mod LegalHistory
 pub mod State
 pub mod ViewLaws
 pub mod NameLaws

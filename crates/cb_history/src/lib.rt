@@ -11,7 +11,7 @@
 mod answer;
 mod group;
 mod history;
-mod laws;
+pub mod laws;
 mod member;
 
 pub use answer::{
@@ -21,13 +21,4 @@ pub use answer::{
 pub use cb_delay::{Event, Message, Name};
 pub use group::{BadGroup, Group, Seat};
 pub use history::{Entry, History, LONGEST_HISTORY, Names};
-pub use laws::{
-    accepted_casts_are_there, acknowledgements_give_what_is_stable, calls_keep_histories_legal,
-    casts_stay_in_their_windows, casts_wait_for_their_turn, deliveries_come_one_by_one,
-    entries_tell_their_calls, events_with_one_more_fact, histories_say_facts, knowledge_grows,
-    missing_numbers, names_and_order, own_frames_are_of_the_group, prefixes_are_legal,
-    queue_releases_the_next_delivery, readiness_is_the_delay_rule, reorder_buffers_hold_what_waits,
-    statuses_say_the_time, the_expander_tells_the_times, times_of_messages,
-    view_with_one_more_fact, what_is_expanded, windows_keep_own_casts,
-};
 pub use member::GroupMember;
