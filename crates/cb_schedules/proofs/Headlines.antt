@@ -1,6 +1,6 @@
 -- The headline, and what else is true after every schedule.
-use Rattle.std.proofs.Common.{◌≡◌, ℕ, ◌<◌, ◌≤◌, true, ltb, [], ◌∷◌, Result, Ok, refl, sym, ap, subst, ◌∙◌, inl, inr}
-use Rattle.std.proofs.lemmas.Bool.{cases_lt, ltb-true, and_parts}
+use Rattle.std.proofs.Common.{◌≡◌, ◌≢◌, ℕ, zero, suc, ◌<◌, ◌≤◌, true, ltb, [], ◌∷◌, Result, Ok, refl, sym, ap, subst, ◌∙◌, inl, inr, arith}
+use Rattle.std.proofs.lemmas.Bool.{cases_eq, cases_lt, ltb-true, and_parts}
 use Rattle.cb_times.specs.declared.name.Name.{Name}
 use Rattle.cb_frames.specs.declared.fault.FrameFault.{FrameFault}
 use Rattle.cb_frames.specs.Fields.{CastFields, FrameFields, CastFrame, StatusFrame, RequestFrame, Carried}
@@ -8,13 +8,14 @@ use Rattle.cb_frames.specs.Text.{text_of}
 use Rattle.cb_frames.specs.Reading.{frame_at}
 use Rattle.cb_diffs.specs.Expansion.{expanded_field}
 use Rattle.cb_causality.specs.declared.event.CausalEvent.TheVariants as causal
-use Rattle.cb_causality.specs.StampedMachine.{without_time, message_of, IsTimeOf}
+use Rattle.cb_causality.specs.StampedMachine.{without_time, message_of, counts_of, IsTimeOf}
 use Rattle.cb_causality.proofs.Counting.{get_map}
 use Rattle.cb_causality.proofs.Stamps.{stamped_is_causal, times_tell_order, name_stays}
 use Rattle.cb_causality.proofs.Extending.{extension_erases}
 use Rattle.cb_causality.proofs.OneMessage.{one_name_one_message}
 use Rattle.cb_history.specs.Facts.{casts_in, messages_in}
 use Rattle.cb_history.specs.View.{view, is_among, is_expanded, expanded_in}
+use Rattle.cb_history.specs.Known.{stable}
 use Rattle.cb_history.specs.Answers.{delivered, own_casts, answer_to, arrive_answer}
 use Rattle.cb_history.specs.Legal.{Call, ToCast, ToTake, ToTick}
 use Rattle.cb_history.specs.OwnFrameLaws.{IsOfTheGroup}
@@ -26,8 +27,9 @@ use Rattle.cb_schedules.specs.Schedule.{Setting, IsSetting, seat_at, Step, Sched
 use Rattle.cb_schedules.specs.Messages.{facts_at, stamped_lists, WasCast, HasDelivered, time_from_bytes}
 use Rattle.cb_schedules.specs.Honest.{member_of, SaysWhatIsSo, IsHonest}
 use Rattle.cb_schedules.specs.Consistent.{IsConsistent}
-use Rattle.cb_schedules.specs.SentLaws.{WasSent, SentCastsAreOwn, OneNameSameBytes, SentStatusesAreSo, NobodyAsksItself, CastsThereAreOwn, EventsHaveTimesFromBytes, HeardOfIsCast, DeliveredIsCast, TimesTellOwnCasts, AcknowledgedIsDeliveredThere, StableIsDeliveredEverywhere, SendersStayNear, IsNoRefusal, IsRefusedByFullHistoryAlone, ArrivalsAreWelcome}
+use Rattle.cb_schedules.specs.SentLaws.{WasSent, SentCastsAreOwn, OneNameSameBytes, SentStatusesAreSo, NobodyAsksItself, CastsThereAreOwn, EventsHaveTimesFromBytes, HeardOfIsCast, DeliveredIsCast, TimesTellOwnCasts, AcknowledgedIsDeliveredThere, StableIsDeliveredEverywhere, StableStandsInEvents, SendersStayNear, IsNoRefusal, IsRefusedByFullHistoryAlone, ArrivalsAreWelcome}
 use Rattle.cb_schedules.specs.Headline.{IsCausalBroadcast, DeliversClosedArrivals, TimesTellHappenedBefore, Headline, EachSchedule, StepsExtendTheStamped, StepsExtendTheCausal}
+use Rattle.cb_schedules.proofs.Stamping.{events_count}
 use Rattle.cb_schedules.proofs.Members.{cast_of_message, told_at_most, is_own, own_is_there, delivered_at_most, inside, stands_at}
 use Rattle.cb_schedules.proofs.Sending.{honest_text}
 use Rattle.cb_schedules.proofs.Courses.{IsFair, asked_is, step_goes_on, runs_are_consistent, starts}
@@ -37,6 +39,11 @@ use Rattle.cb_schedules.proofs.FromBytes.{time_is_clock}
 use Rattle.cb_schedules.proofs.Knowing.{acknowledged_is_so, heard_is_so, stable_is_so, near_is_so, is_welcome}
 use Rattle.cb_schedules.proofs.Lists.{all_both, all_at_index}
 use Rattle.cb_history.proofs.Expanders.{one_of_a_name}
+
+-- a group has another member
+another : (i size : ℕ) → 2 ≤ size → (k : ℕ) × (k < size) × (k ≢ i)
+another zero size two = (1, omega (arith, two), λ e. absurd cc)
+another (suc i) size two = (0, omega (arith, two), λ e. absurd cc)
 
 none_seen : (size : ℕ) (m : Carried) → is_among (view size []) m ≡ true → ⊥
 unfolding view
@@ -154,6 +161,22 @@ module _ (setting : Setting) (s : GroupState) (inv : IsConsistent setting s) whe
 
   pub delivered_is_cast : DeliveredIsCast setting s
   delivered_is_cast j i lt lt_i = delivered_at_most setting.group (facts_at s) inv.together j i lt lt_i
+
+  -- the events count what is delivered
+  counted : (j i : ℕ) → counts_of (stamped_lists setting s j) i ≡ delivered (seat_at setting j) (facts_at s j) i
+  counted j i = events_count (seat_at setting j) (casts_in (facts_at s j)) (view setting.group.size (facts_at s j)) i
+
+  -- some other member has delivered what is stable, and its sender has cast that
+  stable_is_cast : (i : ℕ) → i < setting.group.size → stable (seat_at setting i) (facts_at s i) ≤ delivered (seat_at setting i) (facts_at s i) i
+  stable_is_cast i lt =
+      let other = another i setting.group.size (inv.legal i lt).group.size.two_or_more in
+      omega (arith, stable_is_delivered_everywhere i other.0 lt other.1 other.2, delivered_is_cast other.0 i other.1 lt)
+
+  pub stable_stands_in_events : StableStandsInEvents setting s
+  stable_stands_in_events i j lt lt_j = elim (cases_eq j i) [
+    | inl same ↦ subst (λ (k : ℕ). stable (seat_at setting i) (facts_at s i) ≤ counts_of (stamped_lists setting s k) i) (sym same) (omega (arith, counted i i, stable_is_cast i lt))
+    | inr other ↦ omega (arith, counted j i, stable_is_delivered_everywhere i j lt lt_j other)
+  ]
 
   pub times_tell_own_casts : TimesTellOwnCasts setting s
   times_tell_own_casts j m one =

@@ -14,6 +14,7 @@ pub mod Closing
 pub mod FromBytes
 pub mod Knowing
 pub mod Headlines
+pub mod StepByStep
 pub mod Later
 pub mod Happening
 pub mod Covering

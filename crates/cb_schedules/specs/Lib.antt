@@ -5,5 +5,6 @@ pub mod Honest
 pub mod Consistent
 pub mod SentLaws
 pub mod Headline
+pub mod StepLaws
 pub mod Rounds
 pub mod RoundLaws

@@ -5,7 +5,7 @@ use Rattle.cb_frames.specs.Fields.{CastFields, StatusFields, RequestFields, Cast
 use Rattle.cb_frames.specs.Text.{text_of}
 use Rattle.cb_frames.specs.Reading.{frame_at}
 use Rattle.cb_delay.specs.declared.message.Event.{Event}
-use Rattle.cb_causality.specs.StampedMachine.{message_of}
+use Rattle.cb_causality.specs.StampedMachine.{message_of, counts_of}
 use Rattle.cb_history.specs.declared.answer.ArriveRefusal.{ArriveRefusal}
 use Rattle.cb_history.specs.declared.answer.ArriveRefusal.TheVariants.{HistoryFull}
 use Rattle.cb_history.specs.Facts.{casts_in}
@@ -73,6 +73,11 @@ AcknowledgedIsDeliveredThere setting s =
 abbrev pub StableIsDeliveredEverywhere : Setting → GroupState → Type 0
 StableIsDeliveredEverywhere setting s =
     (i j : ℕ) → i < setting.group.size → j < setting.group.size → j ≢ i → stable (seat_at setting i) (facts_at s i) ≤ delivered (seat_at setting j) (facts_at s j) i
+
+-- so each member's list of events, its own too, has at least as many messages of the sender
+abbrev pub StableStandsInEvents : Setting → GroupState → Type 0
+StableStandsInEvents setting s =
+    (i j : ℕ) → i < setting.group.size → j < setting.group.size → stable (seat_at setting i) (facts_at s i) ≤ counts_of (stamped_lists setting s j) i
 
 -- so a sender has cast at most a window more than each other member has delivered of it
 abbrev pub SendersStayNear : Setting → GroupState → Type 0

@@ -9,7 +9,9 @@ mod runs;
 
 pub use frames::sent_frames_say_what_is_so;
 pub use headline::causal_broadcast_over_lossy_links;
-pub use invariant::{runs_are_consistent, steps_extend_the_machines};
+pub use invariant::{
+    each_step_goes_on_at_the_ends, runs_are_consistent, steps_extend_the_machines,
+};
 pub use knowledge::{
     arrivals_are_welcome, what_is_heard_of_is_cast, what_is_stable_is_delivered_everywhere,
 };

@@ -12,7 +12,7 @@ mod laws;
 
 pub use laws::{
     a_few_rounds_repair_whatever_was_lost, a_round_is_a_tick_of_each_and_its_arrivals,
-    arrivals_are_welcome, causal_broadcast_over_lossy_links,
+    arrivals_are_welcome, causal_broadcast_over_lossy_links, each_step_goes_on_at_the_ends,
     one_round_more_makes_everything_stable, room_for_each_step_is_enough,
     rounds_are_steps_of_a_schedule, rounds_tell_and_bring, runs_are_consistent,
     runs_go_on_step_by_step, sent_frames_say_what_is_so, steps_extend_the_machines,

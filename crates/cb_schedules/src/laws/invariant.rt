@@ -3,6 +3,7 @@
 ghost use Rattle.cb_schedules.specs.Consistent.{IsConsistent};
 ghost use Rattle.cb_schedules.specs.Headline.{EachSchedule, StepsExtendTheCausal, StepsExtendTheStamped};
 ghost use Rattle.cb_schedules.specs.SentLaws.{CastsThereAreOwn, EventsHaveTimesFromBytes, NothingReadyIsLeftAnywhere};
+ghost use Rattle.cb_schedules.specs.StepLaws.{EachStepGoesOn};
 
 /// After every schedule the histories, the frames that were sent and the outcomes belong together: each history is legal, every frame says
 /// what is so, and what arrived is there. So every cast that is there with a member is an own cast of its sender, the time of each event is
@@ -19,4 +20,10 @@ pub fn runs_are_consistent()
 pub fn steps_extend_the_machines()
     ensures stamped { StepsExtendTheStamped }
     ensures causal { StepsExtendTheCausal }
+{}
+
+/// By each step of a schedule all lists go on at their ends: the events as above, the frames that were sent by some or none, and the histories
+/// by at most one entry of one member.
+pub fn each_step_goes_on_at_the_ends()
+    ensures { EachStepGoesOn }
 {}

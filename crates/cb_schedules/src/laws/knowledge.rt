@@ -1,7 +1,7 @@
 //! What members know of each other, and what they answer, after every schedule.
 
 ghost use Rattle.cb_schedules.specs.Headline.{EachSchedule};
-ghost use Rattle.cb_schedules.specs.SentLaws.{AcknowledgedIsDeliveredThere, ArrivalsAreWelcome, DeliveredIsCast, HeardOfIsCast, SendersStayNear, StableIsDeliveredEverywhere, TimesTellOwnCasts};
+ghost use Rattle.cb_schedules.specs.SentLaws.{AcknowledgedIsDeliveredThere, ArrivalsAreWelcome, DeliveredIsCast, HeardOfIsCast, SendersStayNear, StableIsDeliveredEverywhere, StableStandsInEvents, TimesTellOwnCasts};
 
 /// Nobody has delivered, or heard of, more of a member's messages than it has cast: so nothing is asked for that is not. No time that a
 /// member can tell says more of its own casts than it made.
@@ -12,10 +12,12 @@ pub fn what_is_heard_of_is_cast()
 {}
 
 /// What a member knows of another's deliveries is so. What a sender knows to be stable, every other member has delivered: nobody misses
-/// what is trimmed. So a sender has cast at most a window more than each other member has delivered of it.
+/// what is trimmed, and each member's list of events has at least as many of its messages. So a sender has cast at most a window more
+/// than each other member has delivered of it.
 pub fn what_is_stable_is_delivered_everywhere()
     ensures acknowledged { EachSchedule AcknowledgedIsDeliveredThere }
     ensures stable { EachSchedule StableIsDeliveredEverywhere }
+    ensures events { EachSchedule StableStandsInEvents }
     ensures near { EachSchedule SendersStayNear }
 {}
 
