@@ -3,6 +3,7 @@
 ghost use Rattle.std.specs.Prelude.{◌≡◌, ◌≢◌, ◌↔◌, ◌⊎◌, ◌≤◌, ◌<◌, [], IfOk, IfErr, OnErr, Some, Err, map, option_map};
 ghost use Rattle.cb_history.specs.Group.{IsSeat};
 ghost use Rattle.cb_history.specs.Legal.{longest_history, ToCast, ToTake, ToTick};
+ghost use Rattle.cb_history.specs.LegalHistory.{IsLegalHistory};
 ghost use Rattle.cb_history.specs.Facts.{entry_fields};
 ghost use Rattle.cb_history.specs.Known.{ranges_of};
 ghost use Rattle.cb_history.specs.State.{IsMemberState, state_of, time_in, events_in, stable_in, missing_in, entry_by, HasCast, HasTaken, RefusesArrival, HasTicked, RefusesTick};
@@ -230,10 +231,11 @@ impl Member {
         tick::answer(self.seat, self.limit, &mut self.store)
     }
 
-    /// All that the member did, for good.
+    /// All that the member did, for good. The history is legal, whatever came.
     pub fn into_history(self) -> History
         ensures seat { (result.group ≡ self.seat.group) × (result.me ≡ self.seat.me) }
         ensures entries { map entry_fields result.entries.items ≡ self.entries }
+        ensures legal { IsLegalHistory result }
     {
         let Member {
             seat,

@@ -7,6 +7,7 @@ ghost use Rattle.cb_history.specs.View.{time_of};
 ghost use Rattle.cb_history.specs.Events.{events};
 ghost use Rattle.cb_history.specs.Known.{missing, ranges_of, stable};
 ghost use Rattle.cb_history.specs.Legal.{longest_history, ToCast, ToTake, ToTick, IsLegal, and_entry};
+ghost use Rattle.cb_history.specs.LegalHistory.{IsLegalHistory};
 ghost use Rattle.cb_history.specs.State.{state_of, events_in, missing_in, stable_in, time_in, IsMemberState, facts_in, entry_by, HasCast, RefusesCast, HasTaken, RefusesArrival, HasTicked, RefusesTick};
 
 use crate::arrival::{Accepting, answer_arrival};
@@ -92,10 +93,11 @@ impl PlainMember {
         self.entries.as_slice()
     }
 
-    /// All that the member did, for good.
+    /// All that the member did, for good. The history is legal, whatever came.
     pub fn into_history(self) -> History
         ensures seat { (result.group ≡ self.seat.group) × (result.me ≡ self.seat.me) }
         ensures entries { map entry_fields result.entries.items ≡ self.entries }
+        ensures legal { IsLegalHistory result }
     {
         History {
             group: self.seat.group(),
