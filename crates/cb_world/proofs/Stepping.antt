@@ -1,10 +1,13 @@
 -- The group takes a step more.
-use Rattle.std.proofs.Common.{◌≡◌, ◌+◌, ◌≤◌, List, [], ◌∷◌, ◌++◌, length, map, sym, ap, subst, ◌∙◌, arith}
+use Rattle.std.proofs.Common.{◌≡◌, ◌+◌, ◌≤◌, List, [], ◌∷◌, ◌++◌, length, map, Result, Ok, Err, sym, ap, subst, ◌∙◌, arith}
+use Rattle.std.specs.Prelude.{OnOk, OnErr}
 use Rattle.std.proofs.lemmas.List.{length-map, map-append}
 use Rattle.cb_history.specs.State.{MemberState}
-use Rattle.cb_schedules.specs.Schedule.{GroupState, asked_by, put_out, step_after}
+use Rattle.cb_schedules.specs.Schedule.{IsSetting, GroupState, asked_by, put_out, step_after}
 use Rattle.cb_schedules.specs.Schedule as schedules
+use Rattle.cb_schedules.specs.StepLaws.{ListsGoOn}
 use Rattle.cb_schedules.proofs.GoingOn.{runs_go_on}
+use Rattle.cb_schedules.proofs.StepByStep.{lists_go_on, lists_stay}
 use Rattle.cb_world.specs.declared.step.Step.{Step}
 use Rattle.cb_world.specs.declared.outcome.Outcome.{Outcome}
 use Rattle.cb_world.specs.declared.outcome.Sent.{Sent}
@@ -47,3 +50,10 @@ pub same_world : (w : WorldState) (members : List MemberState) (sent sent_now : 
     → IsWorld w members sent_now outcomes_now
 same_world w members sent sent_now outcomes outcomes_now world same_sent same_outcomes =
     subst (λ (ss : List Sent). IsWorld w members ss outcomes_now) (sym same_sent) (subst (IsWorld w members sent) (sym same_outcomes) world)
+
+-- the step was taken, or nothing has changed: the lists go on at their ends
+pub lists_go_on_by : {A E : Type 0} (result : Result A E) (old new : WorldState) (step : schedules.Step) → IsSetting new.setting → OnOk result (new ≡ and_step old step) → OnErr result (new ≡ old)
+    → ListsGoOn old.setting (run_in old) (run_in new)
+lists_go_on_by (Ok done) old new step is taken same =
+    subst (λ (w : WorldState). ListsGoOn old.setting (run_in old) (run_in w)) (sym taken) (lists_go_on old.setting old.steps step (subst (λ (w : WorldState). IsSetting w.setting) taken is))
+lists_go_on_by (Err refused) old new step is taken same = subst (λ (w : WorldState). ListsGoOn old.setting (run_in old) (run_in w)) (sym same) (lists_stay old.setting (run_in old))

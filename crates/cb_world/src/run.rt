@@ -1,11 +1,12 @@
 //! The run of a whole schedule.
 
-ghost use Rattle.std.specs.Prelude.{◌≡◌, ◌↔◌, ◌≤◌, IfOk, OnOk, Err, MatchOption, map};
+ghost use Rattle.std.specs.Prelude.{◌≡◌, ◌↔◌, ◌≤◌, IfOk, IfSome, OnOk, Err, MatchOption, map};
 ghost use Rattle.cb_history.specs.Facts.{entry_fields};
-ghost use Rattle.cb_history.specs.Legal.{longest_history};
+ghost use Rattle.cb_history.specs.Legal.{longest_history, IsLegal};
 ghost use Rattle.cb_schedules.specs.Headline.{DeliversClosedArrivals, IsCausalBroadcast, TimesTellHappenedBefore};
 ghost use Rattle.cb_schedules.specs.Messages.{stamped_lists};
-ghost use Rattle.cb_schedules.specs.SentLaws.{ArrivalsAreWelcome};
+ghost use Rattle.cb_schedules.specs.Schedule.{seat_at};
+ghost use Rattle.cb_schedules.specs.SentLaws.{ArrivalsAreWelcome, EventsHaveTimesFromBytes, OneNameSameBytes, StableStandsInEvents};
 ghost use Rattle.cb_world.specs.Outcomes.{sent_fields, AreOutcomes};
 ghost use Rattle.cb_world.specs.Steps.{step_fields};
 ghost use Rattle.cb_world.specs.World.{and_steps, run_in};
@@ -40,25 +41,29 @@ impl Run {
         self.world.outcomes()
     }
 
-    /// The casts and deliveries of member j, in order.
+    /// The casts and deliveries of member j, in order. The time of each is the time from the bytes of the frames that were sent.
     pub fn events(&self, j: u32) -> Option<&[Event]>
-        ensures { MatchOption result (self.now.setting.group.size ≤ j) (λ events. events.now
+        ensures events { MatchOption result (self.now.setting.group.size ≤ j) (λ events. events.now
             ≡ stamped_lists self.now.setting (run_in self.now) j) }
+        ensures times { EventsHaveTimesFromBytes self.now.setting (run_in self.now) }
     {
         self.world.events(j)
     }
 
-    /// All that member j did, in order.
+    /// All that member j did, in order. The history is legal.
     pub fn history(&self, j: u32) -> Option<&[Entry]>
-        ensures { MatchOption result (self.now.setting.group.size ≤ j) (λ entries.
+        ensures entries { MatchOption result (self.now.setting.group.size ≤ j) (λ entries.
             map entry_fields entries.now ≡ (run_in self.now).histories j) }
+        ensures legal { IfSome result (λ entries. IsLegal (seat_at self.now.setting j)
+            (map entry_fields entries.now)) }
     {
         self.world.history(j)
     }
 
-    /// All frames that were sent, by their numbers.
+    /// All frames that were sent, by their numbers. Cast frames with one name have the same bytes.
     pub fn frames(&self) -> &[Sent]
-        ensures { map sent_fields result.now ≡ (run_in self.now).sent }
+        ensures frames { map sent_fields result.now ≡ (run_in self.now).sent }
+        ensures bytes { OneNameSameBytes self.now.setting (run_in self.now) }
     {
         self.world.frames()
     }
@@ -68,7 +73,8 @@ impl Run {
 ///
 /// For every schedule of casts, ticks and arrivals of sent frames, lost, repeated or reordered at will: the members' casts and deliveries are
 /// a run of the causal broadcast machine; a member has delivered a message exactly when it and everything that happened before it have
-/// arrived there; and the times from the frames' bytes compare, for any two messages that were cast, exactly as happened-before does.
+/// arrived there; and the times from the frames' bytes compare, for any two messages that were cast, exactly as happened-before does. What a
+/// member's history says to be stable of its messages is at most the number of them in the list of events of each member.
 pub fn play(
     alloc: Global,
     group: Group,
@@ -87,6 +93,7 @@ pub fn play(
     ensures causal { IfOk result (λ run. IsCausalBroadcast run.setting (run_in run)) }
     ensures delivered { IfOk result (λ run. DeliversClosedArrivals run.setting (run_in run)) }
     ensures times { IfOk result (λ run. TimesTellHappenedBefore run.setting (run_in run)) }
+    ensures stable { IfOk result (λ run. StableStandsInEvents run.setting (run_in run)) }
 {
     let mut world = match World::new(alloc, group, history_max) {
         Ok(world) => world,

@@ -1,12 +1,13 @@
 //! The group.
 
-ghost use Rattle.std.specs.Prelude.{◌≡◌, ◌↔◌, ◌≤◌, [], IfOk, OnOk, OnErr, Err, MatchOption, Some, map};
+ghost use Rattle.std.specs.Prelude.{◌≡◌, ◌↔◌, ◌≤◌, [], IfOk, IfSome, OnOk, OnErr, Err, MatchOption, Some, map};
 ghost use Rattle.cb_history.specs.Facts.{entry_fields};
-ghost use Rattle.cb_history.specs.Legal.{longest_history};
+ghost use Rattle.cb_history.specs.Legal.{longest_history, IsLegal};
 ghost use Rattle.cb_schedules.specs.Headline.{DeliversClosedArrivals, IsCausalBroadcast, TimesTellHappenedBefore};
 ghost use Rattle.cb_schedules.specs.Messages.{stamped_lists};
-ghost use Rattle.cb_schedules.specs.Schedule.{IsSetting};
-ghost use Rattle.cb_schedules.specs.SentLaws.{ArrivalsAreWelcome, StableIsDeliveredEverywhere};
+ghost use Rattle.cb_schedules.specs.Schedule.{IsSetting, seat_at};
+ghost use Rattle.cb_schedules.specs.SentLaws.{ArrivalsAreWelcome, EventsHaveTimesFromBytes, OneNameSameBytes, StableIsDeliveredEverywhere, StableStandsInEvents};
+ghost use Rattle.cb_schedules.specs.StepLaws.{ListsGoOn};
 ghost use Rattle.cb_world.specs.FaultText.{play_fault_text};
 ghost use Rattle.cb_world.specs.Outcomes.{sent_fields, AreOutcomes};
 ghost use Rattle.cb_world.specs.Steps.{step_fields};
@@ -123,13 +124,19 @@ impl World {
     ///
     /// So after every step, whatever was lost, repeated or reordered: the members' casts and deliveries are a run of the causal broadcast
     /// machine; a member has delivered a message exactly when it and everything that happened before it have arrived there; and the times
-    /// from the frames' bytes compare, for any two messages that were cast, exactly as happened-before does.
+    /// from the frames' bytes compare, for any two messages that were cast, exactly as happened-before does. What a member's history says
+    /// to be stable of its messages is at most the number of them in the list of events of each member.
+    ///
+    /// All lists go on at their ends: the events by steps of the stamped machine, the frames that were sent by some or none, and the
+    /// histories by at most one entry of one member.
     pub fn step(&mut self, step: &Step) -> Result<(), NoMemory>
         ensures step { OnOk result (self.new ≡ and_step self.old (step_fields step.now)) }
         ensures same { OnErr result (self.new ≡ self.old) }
         ensures causal { IsCausalBroadcast self.new.setting (run_in self.new) }
         ensures delivered { DeliversClosedArrivals self.new.setting (run_in self.new) }
         ensures times { TimesTellHappenedBefore self.new.setting (run_in self.new) }
+        ensures stable { StableStandsInEvents self.new.setting (run_in self.new) }
+        ensures goes_on { ListsGoOn self.old.setting (run_in self.old) (run_in self.new) }
         ensures setting { IsSetting self.new.setting }
     {
         self.take(step)
@@ -169,29 +176,34 @@ impl World {
         ensures member { MatchOption result (self.now.setting.group.size ≤ j) (λ member. member.now
             ≡ member_in self.now j) }
         ensures stable { StableIsDeliveredEverywhere self.now.setting (run_in self.now) }
+        ensures setting { IsSetting self.now.setting }
     {
         self.members.get(j as usize)
     }
 
-    /// The casts and deliveries of member j, in order.
+    /// The casts and deliveries of member j, in order. The time of each is the time from the bytes of the frames that were sent.
     pub fn events(&self, j: u32) -> Option<&[Event]>
-        ensures { MatchOption result (self.now.setting.group.size ≤ j) (λ events. events.now
+        ensures events { MatchOption result (self.now.setting.group.size ≤ j) (λ events. events.now
             ≡ stamped_lists self.now.setting (run_in self.now) j) }
+        ensures times { EventsHaveTimesFromBytes self.now.setting (run_in self.now) }
     {
         Some(self.member(j)?.events())
     }
 
-    /// All that member j did, in order.
+    /// All that member j did, in order. The history is legal.
     pub fn history(&self, j: u32) -> Option<&[Entry]>
-        ensures { MatchOption result (self.now.setting.group.size ≤ j) (λ entries.
+        ensures entries { MatchOption result (self.now.setting.group.size ≤ j) (λ entries.
             map entry_fields entries.now ≡ (run_in self.now).histories j) }
+        ensures legal { IfSome result (λ entries. IsLegal (seat_at self.now.setting j)
+            (map entry_fields entries.now)) }
     {
         Some(self.member(j)?.history())
     }
 
-    /// All frames that were sent, by their numbers.
+    /// All frames that were sent, by their numbers. Cast frames with one name have the same bytes.
     pub fn frames(&self) -> &[Sent]
-        ensures { map sent_fields result.now ≡ (run_in self.now).sent }
+        ensures frames { map sent_fields result.now ≡ (run_in self.now).sent }
+        ensures bytes { OneNameSameBytes self.now.setting (run_in self.now) }
     {
         self.sent.as_slice()
     }

@@ -1,5 +1,6 @@
 use Rattle.cb_schedules.specs.Headline.{Headline}
-use Rattle.cb_schedules.proofs.Headlines.{each_schedule, headline_holds}
+use Rattle.cb_schedules.specs.SentLaws.{StableStandsInEvents}
+use Rattle.cb_schedules.proofs.Headlines.{each_schedule, headline_holds, stable_stands_in_events}
 use Rattle.cb_world.specs.World.{run_in}
 use Rattle.cb_world.proofs.run.play.Goals as goal
 
@@ -14,3 +15,6 @@ returns-in-Ok-run_on-clause-delivered c = (headline_of c).delivered
 
 pub returns-in-Ok-run_on-clause-times : goal.returns-in-Ok-run_on-clause-times
 returns-in-Ok-run_on-clause-times c = (headline_of c).times
+
+pub returns-in-Ok-run_on-clause-stable : goal.returns-in-Ok-run_on-clause-stable
+returns-in-Ok-run_on-clause-stable c = each_schedule StableStandsInEvents stable_stands_in_events _ _ c.finish.ensures.setting
