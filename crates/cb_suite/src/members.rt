@@ -302,11 +302,14 @@ fn a_filled_window_moves_with_the_deliveries(rt: HostRuntime) -> Result<(), Fail
 
 #[test]
 fn a_member_of_five_casts_and_tells_its_time(rt: HostRuntime) -> Result<(), Fail> {
-    examples::run_both(
-        &rt,
-        rt.alloc(),
-        examples::A_MEMBER_OF_FIVE_CASTS_AND_TELLS_ITS_TIME,
-    )
+    examples::a_member_of_five_casts_and_tells_its_time::<PlainMember, _>(&rt, rt.alloc())?;
+    examples::a_member_of_five_casts_and_tells_its_time::<Member, _>(&rt, rt.alloc())
+}
+
+/// The plain member, which works all out anew at each call, would take minutes.
+#[test]
+fn a_member_of_five_casts_behind_200_more(rt: HostRuntime) -> Result<(), Fail> {
+    examples::a_member_of_five_casts_behind_200_more::<Member, _>(&rt, rt.alloc())
 }
 
 #[test]

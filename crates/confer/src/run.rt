@@ -5,9 +5,13 @@
 //! here and nowhere else in `confer`.
 
 mod fault;
+#[cfg(test)]
+mod pacing;
 mod participant;
 mod running;
 mod setting;
+#[cfg(test)]
+mod spoken;
 #[cfg(test)]
 mod tests;
 

@@ -37,6 +37,13 @@ const YO: &[u8] = b"\x11\x07\x01\x01\x01\x00\x01\x02yo";
 
 const OK: &[u8] = b"\x11\x07\x01\x02\x00\x02ok";
 
+const A: &[u8] = b"\x11\x07\x00\x01\x00\x01a";
+
+const B: &[u8] = b"\x11\x07\x00\x02\x00\x01b";
+
+/// Member 2 asks for the casts 1 and 2 of member 0.
+const ASKS_FOR_BOTH: &[u8] = b"\x13\x07\x02\x00\x01\x00\x01";
+
 /// Member 2 lacks the casts 2 and 3 of member 0.
 const ASKS: &[u8] = b"\x13\x07\x02\x00\x01\x01\x01";
 
@@ -75,7 +82,29 @@ const SCRIPTS: &[Script] = &[
             (Call::Take(b"\x12\x07\x01\x01\x00\x02"), "changed"),
             (Call::Cast(b"c"), "WindowFull"),
             (Call::Take(b"\x12\x07\x02\x01\x00\x02"), "changed"),
+            (Call::Take(ASKS_FOR_BOTH), "unchanged"),
             (Call::Cast(b"c"), "0.3 [3,0,0] 11070003000163"),
+        ],
+    },
+    // and its two others, whose statuses it took
+    Script {
+        me: 1,
+        window: 2,
+        limit: 100,
+        calls: &[
+            (Call::Take(A), "changed 0.1"),
+            (Call::Take(B), "changed 0.2"),
+            (Call::Tick, "entered, to all: 120701010002"),
+        ],
+    },
+    Script {
+        me: 2,
+        window: 2,
+        limit: 100,
+        calls: &[
+            (Call::Take(A), "changed 0.1"),
+            (Call::Take(B), "changed 0.2"),
+            (Call::Tick, "entered, to all: 120702010002"),
         ],
     },
     // what is missing is asked for, and a status that says nothing new is no entry

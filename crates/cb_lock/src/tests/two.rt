@@ -34,7 +34,8 @@ fn share_both<A: Ledger + Send + Sync, B: Ledger + Send + Sync, R: Threads + Wai
     let (two, mut other) = SharedMember::<B>::new(alloc, second, member(rt, alloc, (3, 4), 1, 100));
     let beside = seat.split();
     let lost = other.split();
-    cast_while_the_first_is_locked(rt, &one, &mut seat, &two, &mut other);
+    let out = cast_while_the_first_is_locked(rt, &one, &mut seat, &two, &mut other);
+    ends_with(rt, &two, &mut other, out);
     closes_with_both(rt, alloc, one, seat, beside);
     closes_with_one(rt, alloc, two, other, lost);
 }
@@ -84,24 +85,69 @@ fn is_a_missing_seat(rt: &impl Abort, refusal: CloseRefusal) {
 fn cast<L: Ledger>(rt: &(impl Wait + Abort), shared: &SharedMember<L>, seat: Seat<L>) -> Seat<L> {
     let mut seat = seat;
     let out = shared.cast(rt, &mut seat, b"hi").expect(rt, "a cast").out;
-    assert!(rt; shared.with_state(rt, &mut seat, |member| ends_with_cast(member, &out)));
+    ends_with(rt, shared, &mut seat, out);
     seat
 }
 
-/// A closure under the lock of the first member sees that a cast on the second was answered meanwhile.
+/// What the seat's holder has cast is the last entry of the history.
+fn ends_with<L: Ledger>(
+    rt: &(impl Wait + Abort),
+    shared: &SharedMember<L>,
+    seat: &mut Seat<L>,
+    out: Bytes,
+) {
+    let is_last = shared.with_state(rt, seat, |member| ends_with_cast(member, &out));
+    drop(out);
+    assert!(rt; is_last);
+}
+
+/// A closure under the lock of the first member sees that a cast on the second, which was begun behind it, was answered meanwhile. The
+/// frame of that cast.
 fn cast_while_the_first_is_locked<
     A: Ledger + Send + Sync,
     B: Ledger + Send + Sync,
     R: Threads + Wait + Abort + Sync,
->(rt: &R, one: &SharedMember<A>, seat: &mut Seat<A>, two: &SharedMember<B>, other: &mut Seat<B>) {
-    let answered = AtomicBool::new(false);
-    let flag = &answered;
-    let (seen, ()) = join(
+>(
+    rt: &R,
+    one: &SharedMember<A>,
+    seat: &mut Seat<A>,
+    two: &SharedMember<B>,
+    other: &mut Seat<B>,
+) -> Bytes {
+    let (entered, answered) = (AtomicBool::new(false), AtomicBool::new(false));
+    let (begun, done) = (&entered, &answered);
+    let (seen, out) = join(
         rt,
-        || one.with_state(rt, seat, |_member| is_set(flag)),
-        || flag.store(two.cast(rt, other, b"hi").is_ok(), Ordering::SeqCst),
+        || one.with_state(rt, seat, |_member| says_and_waits(begun, done)),
+        || cast_behind(rt, two, other, begun, done),
     );
-    assert!(rt; seen);
+    assert!(rt;
+        seen,
+        "the cast was answered while the other member was locked"
+    );
+    out.expect(rt, "the closure has begun, and the cast was answered")
+}
+
+/// Sets the first flag. Whether the second is set in time.
+fn says_and_waits(begun: &AtomicBool, done: &AtomicBool) -> bool {
+    begun.store(true, Ordering::SeqCst);
+    is_set(done)
+}
+
+/// Casts once the first flag is set, and sets the second.
+fn cast_behind<L: Ledger>(
+    rt: &impl Wait,
+    shared: &SharedMember<L>,
+    seat: &mut Seat<L>,
+    begun: &AtomicBool,
+    done: &AtomicBool,
+) -> Option<Bytes> {
+    if !is_set(begun) {
+        return None;
+    }
+    let cast = shared.cast(rt, seat, b"hi");
+    done.store(cast.is_ok(), Ordering::SeqCst);
+    Some(cast.ok()?.out)
 }
 
 /// Whether the flag is set within ten million turns.

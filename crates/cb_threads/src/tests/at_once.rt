@@ -1,4 +1,4 @@
-//! Workers run at once, and so do the members of a group.
+//! The workers of a member run at once, and so do the members of a group.
 
 ghost use Rattle.std.specs.Prelude.{◌≡◌, []};
 
@@ -22,6 +22,9 @@ use std::time::Clock;
 #[test]
 fn three_workers_at_once(rt: HostRuntime) {
     share::<Brand, _>(&rt, rt.alloc(), Blank::new(4));
+    let flags = Flags::new();
+    meet(&rt, rt.alloc(), &flags);
+    assert!(&rt; flags.all_set(), "each member has waited");
 }
 
 fn share<L: Ledger + Send + Sync, R: Threads + Wait + Clock + Abort + Sync>(
@@ -86,12 +89,6 @@ fn no_failures<I, O, P, T>(rt: &impl Abort, report: &MemberReport<I, O, P, T>) {
     has_failed(rt, report, (0, 0));
     has_run_well(rt, report);
     assert!(rt; report.entries >= 1);
-}
-
-#[test]
-fn members_of_a_group_run_at_once(rt: HostRuntime) {
-    let flags = Flags::new();
-    meet(&rt, rt.alloc(), &flags);
 }
 
 /// Each member's first wait waits for those of the two others.
