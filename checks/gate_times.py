@@ -3,7 +3,7 @@
 of its check, of its tests and of its wrong bodies, their sum, and the longest chain. No part of the gate; let nothing else run beside it.
 
     checks/gate_times.py           prints the table
-    checks/gate_times.py --fill    writes it into docs/GATE.md, between the two marks
+    checks/gate_times.py --fill    writes it into docs/CONTRIBUTING.md, between the two marks
 """
 import collections
 import os
@@ -123,7 +123,7 @@ def main():
     told += table(crates, seconds, spans)
     print(told)
     if "--fill" in sys.argv[1:]:
-        page = f"{TOP}/docs/GATE.md"
+        page = f"{TOP}/docs/CONTRIBUTING.md"
         with open(page) as it:
             text = it.read()
         between = re.compile(r"(?<=<!-- gate times -->\n).*(?=<!-- end of gate times -->)", re.S)
