@@ -1,9 +1,9 @@
 #!/usr/bin/env python3
 """Runs the gate on a fresh clone of the last commit, with nothing kept, and prints what it costs: for each crate the processor seconds
-of its check, of its tests and of its wrong bodies, their sum, and the longest chain. No part of the gate; let nothing else run beside it.
+of its check, of its tests and of its mutants, their sum, and the longest chain. No part of the gate; let nothing else run beside it.
 
     checks/gate_times.py           prints the table
-    checks/gate_times.py --fill    writes it into docs/GATE.md, between the two marks
+    checks/gate_times.py --fill    writes it into docs/CONTRIBUTING.md, between the two marks
 """
 import collections
 import os
@@ -17,7 +17,7 @@ import time
 TOP = os.path.dirname(os.path.dirname(os.path.abspath(__file__)))
 MARK = f"GATE_TIMES={os.getpid()}"
 TICKS = os.sysconf("SC_CLK_TCK")
-KINDS = ("check", "tests", "wrong bodies")
+KINDS = ("check", "tests", "mutants")
 
 
 def gate_anew():
@@ -38,7 +38,7 @@ def work_of(pid):
         return None
     crate = words[words.index("--crate-name") + 1]
     if "/rt-edit-" in os.readlink(f"/proc/{pid}/cwd"):
-        return crate, "wrong bodies"
+        return crate, "mutants"
     return crate, "tests" if "--test" in words else "check"
 
 
@@ -80,7 +80,7 @@ def crates_of(clone):
 
 def longest_chain(crates, spans):
     """The crate behind which the gate waits longest, and for how many seconds: the checks of all below it, its own check or its
-    tests, and its wrong bodies."""
+    tests, and its mutants."""
 
     def span(crate, kind):
         first, last = spans.get((crate, kind), (0, 0))
@@ -92,7 +92,7 @@ def longest_chain(crates, spans):
 
     def ended(crate):
         longer = max(0, span(crate, "tests") - span(crate, "check"))
-        return checked[crate] + longer + span(crate, "wrong bodies")
+        return checked[crate] + longer + span(crate, "mutants")
 
     longest = max(crates, key=ended)
     return longest, ended(longest)
@@ -123,7 +123,7 @@ def main():
     told += table(crates, seconds, spans)
     print(told)
     if "--fill" in sys.argv[1:]:
-        page = f"{TOP}/docs/GATE.md"
+        page = f"{TOP}/docs/CONTRIBUTING.md"
         with open(page) as it:
             text = it.read()
         between = re.compile(r"(?<=<!-- gate times -->\n).*(?=<!-- end of gate times -->)", re.S)
