@@ -1,0 +1,87 @@
+#!/usr/bin/env python3
+"""Runs what docs/PROTOCOL.md and docs/PROGRAM.md show by the program, as the trial build makes it, and compares.
+
+In PROTOCOL a line '`confer expand ..`, alone:' or '.., in order:' is followed by a table: a frame, and the line printed of it.
+In PROGRAM a line '`confer ..`, status S:' is followed by two blocks: the input, and what is printed of it.
+One build for each command line, some two minutes each: checks/vectors.py [PART OF A COMMAND LINE]
+"""
+
+import pathlib
+import re
+import subprocess
+import sys
+import tempfile
+
+TOP = pathlib.Path(__file__).resolve().parent.parent
+
+
+def rows(lines):
+    """The frames and answers of the table that comes next."""
+    found = []
+    for line in lines:
+        if line.startswith("|"):
+            cells = re.findall(r"`([^`]*)`", line)
+            if cells:
+                found.append((cells[0].replace(" ", ""), cells[1]))
+        elif found:
+            break
+    return found
+
+
+def vectors(text):
+    """Command line, input, what is printed of it and the status, for each vector."""
+    lines = text.split("\n")
+    for place, line in enumerate(lines):
+        marked = re.fullmatch(r"`confer (expand [^`]*)`, (alone|in order):", line)
+        if not marked:
+            continue
+        table = rows(lines[place + 1 :])
+        assert table, line
+        runs = [table] if marked[2] == "in order" else [[row] for row in table]
+        for run in runs:
+            given = "".join(frame + "\n" for frame, _ in run)
+            printed = "".join(answer + "\n" for _, answer in run)
+            yield marked[1], given, printed, int("refused" in printed)
+
+
+def examples(text):
+    """The same for each example."""
+    form = r"^`confer ([^`]*)`, status (\d):\n\n```\n(.*?)```\n[^`]*?\n```\n(.*?)```$"
+    for found in re.finditer(form, text, re.M | re.S):
+        yield found[1], found[3], found[4], int(found[2])
+
+
+def run(command, cases):
+    """What does not come as the pages say, of these inputs to one command line."""
+    with tempfile.TemporaryDirectory() as folder:
+        for place, (given, printed, _) in enumerate(cases):
+            pathlib.Path(folder, f"{place:03}").write_text(given)
+            pathlib.Path(folder, f"{place:03}.stdout").write_text(printed)
+        call = ["rt", "try", "--cases", folder, "--", *command.split()]
+        shown = subprocess.run(call, cwd=TOP / "crates/confer", capture_output=True, text=True)
+    said = shown.stdout + shown.stderr
+    bad = []
+    for place, (given, printed, status) in enumerate(cases):
+        line = re.search(rf"^case={place:03} .*$", said, re.M)
+        wanted = f"run=ended status={status} "
+        if not line or wanted not in line[0] or "output=expected" not in line[0]:
+            bad.append(f"{command}\n{given}is to print, with status {status},\n{printed}{line and line[0]}")
+    return bad if len(bad) < len(cases) else bad + [said[-2000:]]
+
+
+def main():
+    part = sys.argv[1] if len(sys.argv) > 1 else ""
+    wanted = {}
+    for page, read in (("PROTOCOL.md", vectors), ("PROGRAM.md", examples)):
+        for command, given, printed, status in read((TOP / "docs" / page).read_text()):
+            if part in command:
+                wanted.setdefault(command, []).append((given, printed, status))
+    bad = []
+    for command, cases in wanted.items():
+        bad += run(command, cases)
+        print(f"confer {command}: {len(cases)} runs", flush=True)
+    print("\n".join(bad))
+    sys.exit(1 if bad or not wanted else 0)
+
+
+main()
