@@ -1,42 +1,28 @@
 //! Why the program stopped.
 
-use cb_member::{BadGroup, NoMemory, TickRefusal};
+use cb_frames::FrameFault;
+use cb_member::{ArriveRefusal, BadGroup, CastRefusal, NewFault, TickRefusal};
+use std::alloc::AllocError;
 use std::io;
 use thiserror::Error;
 
 /// Why the program stopped.
 #[derive(Debug, Drop, Error)]
 pub enum Fault {
-    #[error("no such group")]
-    BadGroup,
-    #[error("out of memory")]
-    NoMemory,
+    #[error("no group: {0}")]
+    Group(#[from] BadGroup),
+    #[error("no member: {0}")]
+    New(#[from] NewFault),
+    #[error("no cast: {0}")]
+    Cast(#[from] CastRefusal),
+    #[error("no arrival: {0}")]
+    Arrive(#[from] ArriveRefusal),
     #[error("no tick: {0}")]
-    Tick(TickRefusal),
+    Tick(#[from] TickRefusal),
+    #[error("no frame: {0}")]
+    Frame(#[from] FrameFault),
+    #[error("out of memory")]
+    NoMemory(#[from(alloc)] AllocError),
     #[error("{0}")]
-    Stream(io::Error),
-}
-
-impl From<BadGroup> for Fault {
-    fn from(_refused: BadGroup) -> Fault {
-        Fault::BadGroup
-    }
-}
-
-impl From<NoMemory> for Fault {
-    fn from(_refused: NoMemory) -> Fault {
-        Fault::NoMemory
-    }
-}
-
-impl From<TickRefusal> for Fault {
-    fn from(refusal: TickRefusal) -> Fault {
-        Fault::Tick(refusal)
-    }
-}
-
-impl From<io::Error> for Fault {
-    fn from(error: io::Error) -> Fault {
-        Fault::Stream(error)
-    }
+    Stream(#[from] io::Error),
 }

@@ -1,15 +1,17 @@
-//! How a program drives members: three of them in one thread, over a network that loses every fifth frame.
+//! How a program drives members: three of them in one thread, over a network that loses every fifth frame, and then a restart.
 //!
-//! The README shows the lines between the two marks.
+//! The README and the guide show the lines between the marks.
 #![tactic(auto)]
 
 mod fault;
 mod network;
+mod restart;
 
 use crate::fault::Fault;
 use crate::network::Network;
-use cb_member::{Arrival, Group, Member, Message, NoMemory, Outgoing};
-use std::alloc::{AllocError, Global};
+use crate::restart::restart;
+use cb_member::{Arrival, Group, Member, Message, Outgoing};
+use std::alloc::Global;
 use std::process::ExitCode;
 
 const SIZE: u32 = 3;
@@ -79,14 +81,10 @@ fn show(rt: &HostRuntime, me: u32, deliveries: Vec<Message>) -> Result<(), Fault
     Ok(())
 }
 
-fn members_of(alloc: Global, group: Group) -> Result<Vec<Member>, NoMemory> {
+fn members_of(alloc: Global, group: Group) -> Result<Vec<Member>, Fault> {
     let mut members = Vec::with_capacity(alloc, group.size() as usize)?;
     for me in 0..group.size() {
-        // the number and the limit are in range, so only memory can be lacking
-        let Ok(member) = Member::new(alloc, group, me, HISTORY_LIMIT) else {
-            return Err(AllocError);
-        };
-        members.push(member)?;
+        members.push(Member::new(alloc, group, me, HISTORY_LIMIT)?)?;
     }
     Ok(members)
 }
@@ -98,7 +96,7 @@ fn run(rt: &HostRuntime) -> Result<(), Fault> {
     for _ in 0..ROUNDS {
         talk(rt, &mut members, &mut network)?;
     }
-    Ok(())
+    restart(rt, &mut members)
 }
 
 fn main(rt: HostRuntime) -> ExitCode {
