@@ -1,4 +1,5 @@
-//! How a program drives members: three of them in one thread, over a network that loses every fifth frame, and then a restart.
+//! How a program drives members: three of them in one thread, over a network that loses every fifth frame; then a restart, and a
+//! silent member.
 //!
 //! The README and the guide show the lines between the marks.
 #![tactic(auto)]
@@ -6,10 +7,12 @@
 mod fault;
 mod network;
 mod restart;
+mod silent;
 
 use crate::fault::Fault;
 use crate::network::Network;
 use crate::restart::restart;
+use crate::silent::wait;
 use cb_member::{Arrival, Group, Member, Message, Outgoing};
 use std::alloc::Global;
 use std::process::ExitCode;
@@ -96,7 +99,8 @@ fn run(rt: &HostRuntime) -> Result<(), Fault> {
     for _ in 0..ROUNDS {
         talk(rt, &mut members, &mut network)?;
     }
-    restart(rt, &mut members)
+    restart(rt, &mut members)?;
+    wait(rt, &mut members)
 }
 
 fn main(rt: HostRuntime) -> ExitCode {

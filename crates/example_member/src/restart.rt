@@ -7,7 +7,7 @@ use cb_frames::{Frame, decode};
 use cb_member::{Arrival, Entry, Member, Seat};
 use std::alloc::Global;
 
-/// Member 0 begins again, once without its history and once with it, and casts each time.
+/// Member 0 begins again, once without its history and once with it, and casts each time. The second takes its place.
 pub fn restart(rt: &HostRuntime, members: &mut [Member]) -> Result<(), Fault> {
     let Some((old, others)) = members.split_first_mut() else {
         return Ok(());
@@ -16,7 +16,9 @@ pub fn restart(rt: &HostRuntime, members: &mut [Member]) -> Result<(), Fault> {
     let mut forgetful = Member::new(rt.alloc(), seat.group(), seat.me(), HISTORY_LIMIT)?;
     cast_to(rt, &mut forgetful, others, "hello again")?;
     let mut replayed = replay(rt.alloc(), seat, old.history())?;
-    cast_to(rt, &mut replayed, others, "back again")
+    cast_to(rt, &mut replayed, others, "back again")?;
+    *old = replayed;
+    Ok(())
 }
 
 /// Casts to all others, and prints what it is to them.
