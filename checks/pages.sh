@@ -6,7 +6,8 @@
 #   - an example does not run, or prints something else.
 # In the pages a block ```sh is an example, run by bash at the top of a scratch copy. It has to end with status 0, or N after `sh status=N`.
 # Where the next block is ```text, that is what it prints: `..` stands there for any text, and alone on a line for any lines. One after
-# `sh long` is not run. A block ```rust PATH#MARK shows the lines of PATH between `// MARK: begin` and `// MARK: end`.
+# `sh long` is not run. A block ```rust PATH#MARK shows the lines of PATH between `// MARK: begin` and `// MARK: end`; without a mark
+# it shows some lines of PATH.
 #   checks/pages.sh          all of it; an example takes a minute or two. JOBS=4 runs four at a time; two if not said
 #   checks/pages.sh text     all but the examples, in a second
 set -u
@@ -115,6 +116,16 @@ def look_at_names(path):
                 fault(path, number, f"{name} is not there")
 
 
+def shown_at(path, mark):
+    """What stands between the marks, as lists of lines."""
+    return [found.splitlines() for found in re.findall(rf"^// {mark}: begin\n(.*?)^// {mark}: end$", read(path), re.S | re.M)]
+
+
+def stands_in(path, body):
+    lines = read(path).splitlines()
+    return any(lines[at : at + len(body)] == body for at in range(len(lines)))
+
+
 def look_at_code(page, text):
     for number, words, body in blocks(text):
         if words[:1] != ["rust"]:
@@ -122,10 +133,8 @@ def look_at_code(page, text):
         path, _, mark = (words + [""])[1].partition("#")
         if not os.path.isfile(path):
             fault(page, number, "the code stands in no file")
-            continue
-        shown = re.search(rf"^// {mark}: begin\n(.*?)^// {mark}: end$", read(path), re.S | re.M)
-        if not shown or shown[1].splitlines() != body:
-            fault(page, number, f"the code is not that of {path} at {mark}")
+        elif not (body in shown_at(path, mark) if mark else stands_in(path, body)):
+            fault(page, number, f"the code is not that of {path}")
 
 
 def examples(page, text):

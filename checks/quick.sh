@@ -11,7 +11,7 @@ try_one() {
     local crate=$1 began=$SECONDS out=$work/$1.out err=$work/$1.err said
     cd "$top/crates/$crate" || return
     if grep -rqF '#[test]' src; then
-        rt try --test > "$out" 2> "$err"
+        rt try --test --seconds 600 > "$out" 2> "$err"
         said=$(cat "$out" "$err" | grep -h '^test result:')
         case $said in
             "test result: ok. "*" 0 failed"*) touch "$work/$crate.passed" ;;
