@@ -27,7 +27,8 @@ pub fn wait(rt: &HostRuntime, members: &mut [Member]) -> Result<(), Fault> {
 }
 
 // GUIDE: begin
-/// How many casts of this member the other one is known to have delivered: by its statuses, and by the times of its messages.
+/// How many casts of this member the other one is known to have delivered: by its statuses, and by the
+/// times of its messages.
 fn acknowledged(alloc: Global, member: &Member, other: u32) -> Result<u32, Fault> {
     let me = member.seat().me();
     let mut count = 0;
