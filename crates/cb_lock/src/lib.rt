@@ -5,7 +5,7 @@
 //! So what a caller was told is what happened, however the threads came after each other.
 //!
 //! Stands on `cb_member` for the member and its definitions, and on std's mutex and ledger. Its calls may wait for the lock; nothing
-//! says that a lock is ever got, or who came first. `docs/GUARANTEES.md` says call by call what a thread may rely on.
+//! says that a lock is ever got, or who came first. `docs/GUIDE.md` says call by call what a thread may rely on.
 #![tactic(auto)]
 
 mod closing;

@@ -4,7 +4,7 @@
 //! others put out. `run_group` runs a member in each thread, and hands out the members' histories. Links go over channels or over UDP.
 //!
 //! Stands on `cb_lock` for the shared member and on `crossbeam_channel`. Nothing says that a frame arrives or that a worker gets on;
-//! `docs/GUARANTEES.md` says what a user may rely on.
+//! `docs/GUIDE.md` says what a user may rely on.
 #![tactic(auto)]
 
 mod channel;

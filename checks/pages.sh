@@ -1,0 +1,202 @@
+#!/usr/bin/env bash
+# Looks at the pages: ends with 1, and a line for each fault, where
+#   - a line of README.md or docs/GUIDE.md has more than 120 characters, the README more than 150 lines, or a paragraph of either five lines;
+#   - a link leads nowhere, to a file or to a heading, or a comment or script names a page of docs/ that is not there;
+#   - a code block differs from the text that it shows;
+#   - an example does not run, or prints something else.
+# In the pages a block ```sh is an example, run by bash at the top of a scratch copy. It has to end with status 0, or N after `sh status=N`.
+# Where the next block is ```text, that is what it prints: `..` stands there for any text, and alone on a line for any lines. One after
+# `sh long` is not run. A block ```rust PATH#MARK shows the lines of PATH between `// MARK: begin` and `// MARK: end`; without a mark
+# it shows some lines of PATH.
+#   checks/pages.sh          all of it; an example takes a minute or two. JOBS=4 runs four at a time; two if not said
+#   checks/pages.sh text     all but the examples, in a second
+set -u
+top=$(cd "$(dirname "$0")/.." && pwd)
+cd "$top" || exit 2
+exec python3 - "$top" "${1:-all}" "${JOBS:-2}" <<'END'
+import concurrent.futures, os, re, shutil, subprocess, sys, tempfile, time
+
+top, what, jobs = sys.argv[1], sys.argv[2], int(sys.argv[3])
+NARROW = {"README.md": 150, "docs/GUIDE.md": None}
+RUN = ["README.md", "docs/GUIDE.md", "docs/PROGRAM.md"]
+MOST_CHARACTERS, MOST_PARAGRAPH_LINES, MOST_SECONDS = 120, 5, 900
+faults = []
+
+
+def fault(page, line, text):
+    faults.append(f"{page}:{line}: {text}")
+    print(faults[-1], flush=True)
+
+
+def read(path):
+    with open(path, encoding="utf-8") as file:
+        return file.read()
+
+
+def files_here():
+    listed = subprocess.run(["git", "ls-files", "-co", "--exclude-standard"], capture_output=True, text=True, check=True)
+    return [name for name in listed.stdout.splitlines() if os.path.isfile(name)]
+
+
+def with_fences(text):
+    """Each line with its number and whether it is part of a fenced block."""
+    inside = False
+    for number, line in enumerate(text.splitlines(), 1):
+        fence = line.lstrip().startswith("```")
+        yield number, line, inside or fence
+        inside ^= fence
+
+
+def blocks(text):
+    """The fenced blocks: the number of the first line, the words behind the fence, the lines."""
+    found, body = [], None
+    for number, line in enumerate(text.splitlines(), 1):
+        if not line.lstrip().startswith("```"):
+            if body is not None:
+                body.append(line)
+        elif body is None:
+            first, words, body = number, line.strip()[3:].split(), []
+        else:
+            found.append((first, words, body))
+            body = None
+    return found
+
+
+def look_at_lengths(page, text, most_lines):
+    lines = text.splitlines()
+    if most_lines and len(lines) > most_lines:
+        fault(page, len(lines), f"{len(lines)} lines, more than {most_lines}")
+    length = 0
+    for number, line, is_code in with_fences(text):
+        if len(line) > MOST_CHARACTERS:
+            fault(page, number, f"{len(line)} characters, more than {MOST_CHARACTERS}")
+        begins_anew = re.match(r"\s*([-*]|\d+\.) ", line)
+        if is_code or not line.strip() or line.startswith(("#", "|", "<!--")):
+            length = 0
+        else:
+            length = 1 if begins_anew else length + 1
+        if length == MOST_PARAGRAPH_LINES + 1:
+            fault(page, number, f"a paragraph of more than {MOST_PARAGRAPH_LINES} lines")
+
+
+def anchors(text):
+    """The names of a page's headings, as they stand in links."""
+    names, seen = set(), {}
+    for _number, line, is_code in with_fences(text):
+        heading = re.match(r"#+ (.*)", line)
+        if is_code or not heading:
+            continue
+        title = re.sub(r"\[([^\]]*)\]\([^)]*\)", r"\1", heading[1].strip())
+        name = re.sub(r"[^\w\- ]", "", title.lower()).replace(" ", "-")
+        again = seen.get(name, 0)
+        seen[name] = again + 1
+        names.add(f"{name}-{again}" if again else name)
+    return names
+
+
+def look_at_links(page, text):
+    for number, line, is_code in with_fences(text):
+        if is_code:
+            continue
+        for target in re.findall(r"\]\(([^)\s]+)\)", re.sub(r"`[^`]*`", "", line)):
+            if re.match(r"[a-z]+:", target):
+                continue
+            path, _, name = target.partition("#")
+            path = os.path.normpath(os.path.join(os.path.dirname(page), path)) if path else page
+            if not os.path.exists(path):
+                fault(page, number, f"the link {target} leads to no file")
+            elif name and path.endswith(".md") and name not in anchors(read(path)):
+                fault(page, number, f"the link {target} leads to no heading")
+
+
+def look_at_names(path):
+    for number, line in enumerate(read(path).splitlines(), 1):
+        for name in re.findall(r"docs/[A-Z][A-Za-z_]*\.md", line):
+            if not os.path.exists(name):
+                fault(path, number, f"{name} is not there")
+
+
+def shown_at(path, mark):
+    """What stands between the marks, as lists of lines."""
+    return [found.splitlines() for found in re.findall(rf"^// {mark}: begin\n(.*?)^// {mark}: end$", read(path), re.S | re.M)]
+
+
+def stands_in(path, body):
+    lines = read(path).splitlines()
+    return any(lines[at : at + len(body)] == body for at in range(len(lines)))
+
+
+def look_at_code(page, text):
+    for number, words, body in blocks(text):
+        if words[:1] != ["rust"]:
+            continue
+        path, _, mark = (words + [""])[1].partition("#")
+        if not os.path.isfile(path):
+            fault(page, number, "the code stands in no file")
+        elif not (body in shown_at(path, mark) if mark else stands_in(path, body)):
+            fault(page, number, f"the code is not that of {path}")
+
+
+def examples(page, text):
+    """The line, the commands, the status and the lines to be printed, of each example."""
+    found = blocks(text)
+    for place, (number, words, body) in enumerate(found):
+        if words[:1] != ["sh"] or "long" in words:
+            continue
+        status = next((int(word[7:]) for word in words if word.startswith("status=")), 0)
+        behind = found[place + 1] if place + 1 < len(found) else (0, [], [])
+        yield page, number, "\n".join(body), status, behind[2] if behind[1][:1] == ["text"] else None
+
+
+def pattern(lines):
+    parts = []
+    for line in lines:
+        parts.append(r"(?:.*\n)*?" if line.strip() == ".." else ".*".join(map(re.escape, line.split(".."))) + r"\n")
+    return re.compile("".join(parts))
+
+
+def run(example, copy):
+    page, number, commands, status, wanted = example
+    began = time.monotonic()
+    try:
+        ran = subprocess.run(["bash", "-euc", commands], cwd=copy, capture_output=True, text=True, timeout=MOST_SECONDS)
+    except subprocess.TimeoutExpired:
+        return [f"the example has not ended after {MOST_SECONDS} seconds"]
+    said = []
+    if ran.returncode != status:
+        said.append(f"the example ends with status {ran.returncode}, not {status}\n{ran.stdout}{ran.stderr}")
+    if wanted is not None and not pattern(wanted).fullmatch(ran.stdout):
+        said.append(f"the example prints something else:\n{ran.stdout}")
+    print(f"{page}:{number}: ran in {time.monotonic() - began:.0f} s", flush=True)
+    return said
+
+
+def run_all(todo):
+    with tempfile.TemporaryDirectory() as copy:
+        for name in files_here():
+            os.makedirs(os.path.join(copy, os.path.dirname(name)), exist_ok=True)
+            shutil.copy(name, os.path.join(copy, name))
+        with concurrent.futures.ThreadPoolExecutor(jobs) as pool:
+            for example, said in zip(todo, pool.map(lambda one: run(one, copy), todo)):
+                for text in said:
+                    fault(example[0], example[1], text)
+
+
+names = files_here()
+todo = []
+for page in (name for name in names if name.endswith(".md")):
+    text = read(page)
+    look_at_links(page, text)
+    look_at_code(page, text)
+    if page in NARROW:
+        look_at_lengths(page, text, NARROW[page])
+    if page in RUN:
+        todo.extend(examples(page, text))
+for path in names:
+    if path.endswith((".rt", ".antt", ".sh", ".py", ".md")):
+        look_at_names(path)
+if what == "all":
+    run_all(todo)
+print(f"{len(faults)} faults, {len(todo) if what == 'all' else 0} examples run")
+sys.exit(1 if faults else 0)
+END

@@ -1,0 +1,114 @@
+//! How a program drives members: three of them in one thread, over a network that loses every fifth frame; then a restart, and a
+//! silent member.
+//!
+//! The README and the guide show the lines between the marks.
+#![tactic(auto)]
+
+mod fault;
+mod network;
+mod restart;
+mod silent;
+
+use crate::fault::Fault;
+use crate::network::Network;
+use crate::restart::restart;
+use crate::silent::wait;
+use cb_member::{Arrival, Group, Member, Message, Outgoing};
+use std::alloc::Global;
+use std::process::ExitCode;
+
+const SIZE: u32 = 3;
+
+const WINDOW: u32 = 1;
+
+const HISTORY_LIMIT: usize = 1_000;
+
+const ROUNDS: u32 = 8;
+
+/// What each member casts, in this order.
+const LINES: [&str; 2] = ["hello", "bye"];
+
+// README: begin
+fn talk(rt: &HostRuntime, members: &mut [Member], network: &mut Network) -> Result<(), Fault> {
+    for member in members {
+        let me = member.seat().me();
+        for bytes in network.take(me) {
+            match member.arrive(&bytes) {
+                Ok(arrival) => {
+                    let (deliveries, out) = parts(rt.alloc(), arrival); // a repeat has neither
+                    show(rt, me, deliveries)?; // in causal order, each message once
+                    network.send(me, out)?; // what another member asked for again
+                }
+                Err(refusal) => println!(rt; "{me} drops a frame: {refusal}")?,
+            }
+        }
+        if let Some(line) = LINES.get(casts_of(member)) {
+            match member.cast(line.as_bytes()) {
+                Ok(done) => network.send_to_others(me, &done.out)?,
+                Err(refusal) => println!(rt; "{me} keeps {line:?}: {refusal}")?,
+            }
+        }
+        network.send(me, member.tick()?.out)?; // its status to all, and what it misses
+    }
+    Ok(())
+}
+// README: end
+
+/// What an arrival delivered, and what is to be sent in answer.
+fn parts(alloc: Global, arrival: Arrival) -> (Vec<Message>, Vec<Outgoing>) {
+    match arrival {
+        Arrival::Accepted {
+            deliveries,
+            out,
+            changed: _,
+        } => (deliveries, out),
+        Arrival::Repeat => (Vec::new(alloc), Vec::new(alloc)),
+    }
+}
+
+/// How many messages the member has cast: its own field of its time.
+fn casts_of(member: &Member) -> usize {
+    let me = member.seat().me() as usize;
+    match member.time().as_slice().get(me) {
+        Some(count) => *count as usize,
+        None => 0,
+    }
+}
+
+/// Prints each message that member `me` delivered.
+fn show(rt: &HostRuntime, me: u32, deliveries: Vec<Message>) -> Result<(), Fault> {
+    for message in deliveries {
+        let text = String::from_utf8_lossy(rt.alloc(), &message.payload)?;
+        println!(rt; "{me} delivers {} {:?}", message.name, text)?;
+    }
+    Ok(())
+}
+
+fn members_of(alloc: Global, group: Group) -> Result<Vec<Member>, Fault> {
+    let mut members = Vec::with_capacity(alloc, group.size() as usize)?;
+    for me in 0..group.size() {
+        members.push(Member::new(alloc, group, me, HISTORY_LIMIT)?)?;
+    }
+    Ok(members)
+}
+
+fn run(rt: &HostRuntime) -> Result<(), Fault> {
+    let group = Group::new(7, SIZE, WINDOW)?;
+    let mut members = members_of(rt.alloc(), group)?;
+    let mut network = Network::new(rt.alloc(), SIZE)?;
+    for _ in 0..ROUNDS {
+        talk(rt, &mut members, &mut network)?;
+    }
+    restart(rt, &mut members)?;
+    wait(rt, &mut members)
+}
+
+fn main(rt: HostRuntime) -> ExitCode {
+    match run(&rt) {
+        Ok(()) => ExitCode::from(0),
+        Err(fault) => {
+            let _ = eprintln!(rt; "example_member: {fault}");
+            ExitCode::from(1)
+        }
+    }
+}
