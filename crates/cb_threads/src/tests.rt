@@ -4,9 +4,13 @@ ghost use Rattle.std.specs.Prelude.{◌≡◌, []};
 
 mod at_once;
 mod channel;
+mod closing;
 mod faults;
 mod group;
+mod links;
 mod mailbox;
+mod naps;
 mod parts;
 mod reports;
+mod sender;
 mod speaker;

@@ -1,5 +1,6 @@
+use Rattle.std.proofs.Common.{refl}
 use Rattle.cb_threads.proofs.Rising.{counts_some}
 use Rattle.cb_threads.proofs.workers.sender.send.Goals as goal
 
-pub returns : goal.returns
-returns g c = counts_some _ _ _ _ _ c.saturating_add-worked-2.ensures c.send_all-unsent.ensures.rises c.send_all-unsent.ensures.met
+pub returns-clause-met : goal.returns-clause-met
+returns-clause-met g c = counts_some _ _ _ _ _ c.saturating_add-worked-2.ensures c.send_all-unsent.ensures.rises c.send_all-unsent.ensures.met
