@@ -95,9 +95,30 @@ frames_fit (CastFrame c) bytes (rules, short, text) =
     let pairs = pairs_length 0 c.changes (length c.payload ∷ []) s3.1 (λ d change. change.index) rules.changes.each s3.3 in
     let s4 = pairs.1 in
     let payload = at_most_2 s4.0 _ s4.2 (omega (arith, short)) in
-    omega (arith, few, group, sender, number, count, pairs.2, payload, short,
-      ap length s.4, length-append s.0 s.1, ap length s1.4, length-append s1.0 s1.1, ap length s2.4, length-append s2.0 s2.1, ap length s3.4, length-append s3.0 s3.1,
-      ap length s4.4, length-append s4.0 s4.1, ap length s4.3, ap length parts, length-append numbers c.payload)
+    omega (
+      arith,
+      few,
+      group,
+      sender,
+      number,
+      count,
+      pairs.2,
+      payload,
+      short,
+      ap length s.4,
+      length-append s.0 s.1,
+      ap length s1.4,
+      length-append s1.0 s1.1,
+      ap length s2.4,
+      length-append s2.0 s2.1,
+      ap length s3.4,
+      length-append s3.0 s3.1,
+      ap length s4.4,
+      length-append s4.0 s4.1,
+      ap length s4.3,
+      ap length parts,
+      length-append numbers c.payload,
+    )
 frames_fit (StatusFrame v) bytes (rules, text) =
     let s = text.1 in
     let parts = text.2 in
@@ -109,8 +130,22 @@ frames_fit (StatusFrame v) bytes (rules, text) =
     let count = at_most_5 s2.0 _ s2.2 in
     let whole : SpellAll (pairs_from 0 v.values ++ []) s2.1 = subst (λ (ns : List ℕ). SpellAll ns s2.1) (sym (append-nil (pairs_from 0 v.values))) s2.3 in
     let pairs = pairs_length 0 v.values [] s2.1 (λ d value. value.index) rules.values.each whole in
-    omega (arith, few, group, sender, count, pairs.2, ap length pairs.1,
-      ap length s.4, length-append s.0 s.1, ap length s1.4, length-append s1.0 s1.1, ap length s2.4, length-append s2.0 s2.1, ap length parts)
+    omega (
+      arith,
+      few,
+      group,
+      sender,
+      count,
+      pairs.2,
+      ap length pairs.1,
+      ap length s.4,
+      length-append s.0 s.1,
+      ap length s1.4,
+      length-append s1.0 s1.1,
+      ap length s2.4,
+      length-append s2.0 s2.1,
+      ap length parts,
+    )
 frames_fit (RequestFrame r) bytes (rules, text) =
     let s = text.1 in
     let parts = text.2 in
@@ -118,5 +153,21 @@ frames_fit (RequestFrame r) bytes (rules, text) =
     let s2 = s1.3 in
     let s3 = s2.3 in
     let ranges = ranges_length 1 r.ranges s3.1 s3.3 in
-    omega (arith, rules.few, at_most_5 s.0 _ s.2, at_most_5 s1.0 _ s1.2, at_most_5 s2.0 _ s2.2, at_most_5 s3.0 _ s3.2, ranges,
-      ap length s.4, length-append s.0 s.1, ap length s1.4, length-append s1.0 s1.1, ap length s2.4, length-append s2.0 s2.1, ap length s3.4, length-append s3.0 s3.1, ap length parts)
+    omega (
+      arith,
+      rules.few,
+      at_most_5 s.0 _ s.2,
+      at_most_5 s1.0 _ s1.2,
+      at_most_5 s2.0 _ s2.2,
+      at_most_5 s3.0 _ s3.2,
+      ranges,
+      ap length s.4,
+      length-append s.0 s.1,
+      ap length s1.4,
+      length-append s1.0 s1.1,
+      ap length s2.4,
+      length-append s2.0 s2.1,
+      ap length s3.4,
+      length-append s3.0 s3.1,
+      ap length parts,
+    )

@@ -2,15 +2,13 @@
 use Rattle.std.proofs.Common.{◌≡◌, ℕ, ◌+◌, ◌<◌, ◌≤◌, true, false, List, [], ◌∷◌, ◌++◌, drop, append_assoc, Result, Ok, Err, refl, sym, ap, subst, ◌∙◌, arith}
 use Rattle.cb_history.specs.declared.answer.Outgoing.{Outgoing}
 use Rattle.cb_threads.specs.declared.link.LinkFault.{LinkFault}
-use Rattle.cb_threads.specs.declared.link.LinkFault.TheVariants as faults
 use Rattle.cb_threads.specs.declared.link.Unsent.{Unsent}
 use Rattle.cb_threads.specs.Counts.{held}
 use Rattle.cb_threads.specs.Offers.{with_answer, lost_of, AddsUnsent, FailuresAreLost, is_for, bytes_for}
 
 one_more : (u : Unsent) (a : Result Unit LinkFault) → (with_answer u a).offered ≡ held (u.offered + 1)
 one_more u (Ok taken) = refl
-one_more u (Err faults.Device) = refl
-one_more u (Err faults.NoMemory) = refl
+one_more u (Err fault) = refl
 
 -- one more frame was offered
 pub offered_more : (u v : Unsent) (a : Result Unit LinkFault) (n : ℕ) → v ≡ with_answer u a → u.offered ≡ held n → v.offered ≡ held (n + 1)

@@ -9,11 +9,19 @@ use Rattle.cb_threads.specs.Counts.{held}
 abbrev pub nothing_offered : Unsent
 nothing_offered = record { offered = 0; failures = 0; refused = 0 }
 
+-- how often the device has failed, and how often memory was refused, with one more fault
+abbrev pub failures_with : ℕ → LinkFault → ℕ
+failures_with n faults.Device = held (n + 1)
+failures_with n faults.NoMemory = n
+
+abbrev pub refused_with : ℕ → LinkFault → ℕ
+refused_with n faults.Device = n
+refused_with n faults.NoMemory = held (n + 1)
+
 -- one more frame was offered, and got this answer
 abbrev pub with_answer : Unsent → Result Unit LinkFault → Unsent
-with_answer u (Ok taken) = record u { offered = held (u.offered + 1) }
-with_answer u (Err faults.Device) = record { offered = held (u.offered + 1); failures = held (u.failures + 1); refused = u.refused }
-with_answer u (Err faults.NoMemory) = record { offered = held (u.offered + 1); failures = u.failures; refused = held (u.refused + 1) }
+with_answer u (Ok taken) = record { offered = held (u.offered + 1); failures = u.failures; refused = u.refused }
+with_answer u (Err fault) = record { offered = held (u.offered + 1); failures = failures_with u.failures fault; refused = refused_with u.refused fault }
 
 -- Frames that were lost: at each the device failed, which was counted, or memory was refused.
 abbrev pub lost_of : Unsent → ℕ

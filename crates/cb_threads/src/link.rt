@@ -2,7 +2,7 @@
 
 ghost use Rattle.std.specs.Prelude.{◌≡◌, ℕ, ◌+◌, ◌≤◌, ◌||◌, IfErr, Some, false, length, true};
 ghost use Rattle.cb_threads.specs.Counts.{Counts, LinkCounts, MetAtMost, held};
-ghost use Rattle.cb_threads.specs.Offers.{lost_of, nothing_offered, with_answer};
+ghost use Rattle.cb_threads.specs.Offers.{failures_with, lost_of, nothing_offered, refused_with, with_answer};
 ghost use Rattle.cb_threads.specs.FaultText.{link_fault_text};
 
 use bytes::Bytes;
@@ -138,14 +138,19 @@ impl Unsent {
         ensures met { (old new : ℕ) → old ≤ new → IfErr answer (λ fault. LinkCounts fault old new)
             → Counts self.failures old result.failures new }
     {
-        let mut unsent = self;
-        unsent.offered = unsent.offered.saturating_add(1);
+        let offered = self.offered.saturating_add(1);
         match answer {
-            Ok(()) => {}
-            Err(LinkFault::Device) => unsent.failures = unsent.failures.saturating_add(1),
-            Err(LinkFault::NoMemory) => unsent.refused = unsent.refused.saturating_add(1),
+            Ok(()) => Unsent {
+                offered,
+                failures: self.failures,
+                refused: self.refused,
+            },
+            Err(fault) => Unsent {
+                offered,
+                failures: and_fault(self.failures, fault),
+                refused: and_refusal(self.refused, fault),
+            },
         }
-        unsent
     }
 
     /// To how many frames a fault was answered: at each of them the device failed, or memory was refused.
@@ -158,12 +163,23 @@ impl Unsent {
 
 /// The failures with those of a fault: only a device fails.
 pub fn and_fault(failures: u64, fault: LinkFault) -> u64
-    ensures { (old new : ℕ) → LinkCounts fault old new → old ≤ new
+    ensures exact { result ≡ failures_with failures fault }
+    ensures met { (old new : ℕ) → LinkCounts fault old new → old ≤ new
         → Counts failures old result new }
 {
     match fault {
         LinkFault::Device => failures.saturating_add(1),
         LinkFault::NoMemory => failures,
+    }
+}
+
+/// How often memory was refused, with a fault.
+fn and_refusal(refused: u64, fault: LinkFault) -> u64
+    ensures { result ≡ refused_with refused fault }
+{
+    match fault {
+        LinkFault::Device => refused,
+        LinkFault::NoMemory => refused.saturating_add(1),
     }
 }
 

@@ -31,8 +31,8 @@ fn what_is_sent_behind_the_last_turn_of_a_receiver_is_lost(rt: HostRuntime) {
     let mut links = ChannelLink::group(rt.alloc(), 2).expect(&rt, "links");
     let second = links.pop().expect(&rt, "a link");
     let first = links.pop().expect(&rt, "a link");
-    let ended = run::<Brand, _>(&rt, rt.alloc(), Blank::new(4), first, 3);
-    let sent = run::<Brand, _>(&rt, rt.alloc(), Blank::new(4), second, TICKS);
+    let ended = alone(&rt, rt.alloc(), first, 3);
+    let sent = alone(&rt, rt.alloc(), second, TICKS);
     assert!(&rt; sent.lost >= TICKS);
     assert_eq!(&rt; sent.send_failures, sent.lost);
     assert_eq!(&rt; gathered(&rt, ended), 0);
@@ -48,6 +48,16 @@ fn gathered<R: Wait + Clock + Abort>(rt: &R, report: Report) -> u64 {
         }
     }
     TICKS
+}
+
+/// What a member reports that runs by itself for so many turns.
+fn alone<R: Threads + Wait + Clock + Abort + Sync>(
+    rt: &R,
+    alloc: Global,
+    link: Link,
+    turns: u64,
+) -> Report {
+    run::<Brand, _>(rt, alloc, Blank::new(4), link, turns)
 }
 
 fn run<L: Ledger + Send + Sync, R: Threads + Wait + Clock + Abort + Sync>(

@@ -59,6 +59,7 @@ fn next<R: Wait>(rt: &R, frames: &Mailbox<Outgoing>) -> Option<Outgoing> {
 }
 
 /// Sends a frame, and with it what else is there, as far as the list has room. The list is empty before and behind it.
+#[tactic(auto, using(crate::proofs::Sending::stay_lost))]
 fn send_with_more<O: Outlet, L: Ledger, R: Wait>(
     rt: &R,
     frames: &Mailbox<Outgoing>,
