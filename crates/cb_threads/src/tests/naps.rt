@@ -77,6 +77,20 @@ fn work<L: Ledger + Send + Sync, R: Wait + Clock + Abort>(
     fail(rt, alloc, &shared, seat, worker)
 }
 
+/// Of a member whose workers make seven turns.
+fn desk<'a, L: Ledger>(alloc: Global, shared: &'a SharedMember<L>, stop: &'a Stop) -> Desk<'a, L> {
+    let ending = Ending {
+        limits: Limits { turns: 7 },
+        stop,
+        talking: None,
+    };
+    Desk {
+        alloc,
+        shared,
+        ending,
+    }
+}
+
 fn fail<L: Ledger + Send + Sync, R: Wait + Clock + Abort>(
     rt: &R,
     alloc: Global,
@@ -85,16 +99,7 @@ fn fail<L: Ledger + Send + Sync, R: Wait + Clock + Abort>(
     worker: Worker,
 ) -> (u64, u64) {
     let stop = Stop::new();
-    let ending = Ending {
-        limits: Limits { turns: 7 },
-        stop: &stop,
-        talking: None,
-    };
-    let desk = Desk {
-        alloc,
-        shared,
-        ending,
-    };
+    let desk = desk(alloc, shared, &stop);
     let (slot, mailbox) = new_mailbox(alloc).expect(rt, "a mailbox");
     let part = Broken { failures: 0 };
     let job = Job {
