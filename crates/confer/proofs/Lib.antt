@@ -6,3 +6,4 @@ pub mod Arriving
 pub mod Naming
 pub mod Auditing
 pub mod Conferring
+pub mod Seeing

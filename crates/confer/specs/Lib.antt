@@ -3,5 +3,6 @@ pub mod Streams
 pub mod Play
 pub mod Audit
 pub mod Run
+pub mod Talking
 pub mod Cli
 pub mod Rooms
