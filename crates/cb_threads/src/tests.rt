@@ -4,6 +4,7 @@ ghost use Rattle.std.specs.Prelude.{◌≡◌, []};
 
 mod at_once;
 mod channel;
+mod ending;
 mod faults;
 mod group;
 mod mailbox;
