@@ -1,6 +1,6 @@
 //! The text of a script, read: a line for the group, and then a line for each step.
 //!
-//! The lines and their words are those of `docs/PROTOCOL.md`. This module converts, and runs nothing.
+//! The lines and their words are those of `docs/PROGRAM.md`. This module converts, and runs nothing.
 
 ghost use Rattle.std.specs.Prelude.{◌≡◌, ◌≤◌, ◌<◌, ◌^◌, ℕ, Ok, IfOk, IfErr, decimal};
 ghost use Rattle.cb_history.specs.Legal.{longest_history};

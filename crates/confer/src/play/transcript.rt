@@ -1,6 +1,6 @@
 //! What is printed of a run: the lines of each step, and at the end a line for each member.
 //!
-//! The lines are those of `docs/PROTOCOL.md`.
+//! The lines are those of `docs/PROGRAM.md`.
 
 use crate::expand::is_plain_text;
 use cb_member::{Member, Message};
