@@ -4,7 +4,7 @@ use crate::fault::Fault;
 use crate::{HISTORY_LIMIT, parts, show};
 use bytes::Bytes;
 use cb_frames::{Frame, decode};
-use cb_member::{Arrival, Entry, Member, Seat};
+use cb_member::{Arrival, Entry, Group, Member};
 use std::alloc::Global;
 
 /// Member 0 begins again, once without its history and once with it, and casts each time. The second takes its place.
@@ -12,46 +12,60 @@ pub fn restart(rt: &HostRuntime, members: &mut [Member]) -> Result<(), Fault> {
     let Some((old, others)) = members.split_first_mut() else {
         return Ok(());
     };
-    let seat = old.seat();
-    let mut forgetful = Member::new(rt.alloc(), seat.group(), seat.me(), HISTORY_LIMIT)?;
-    cast_to(rt, &mut forgetful, others, "hello again")?;
-    let mut replayed = replay(rt.alloc(), seat, old.history())?;
-    cast_to(rt, &mut replayed, others, "back again")?;
-    *old = replayed;
-    Ok(())
+    let group = old.seat().group();
+    without_history(rt, group, others)?;
+    *old = replay(rt.alloc(), group, 0, old.history())?;
+    cast_to(rt, old, others, "back again")
 }
 
-/// Casts to all others, and prints what it is to them.
+fn without_history(rt: &HostRuntime, group: Group, others: &mut [Member]) -> Result<(), Fault> {
+    let mut member = Member::new(rt.alloc(), group, 0, HISTORY_LIMIT)?;
+    let cast = cast_to(rt, &mut member, others, "hello again");
+    drop(member);
+    cast
+}
+
+/// Member 0 casts to all others.
 fn cast_to(
     rt: &HostRuntime,
     member: &mut Member,
     others: &mut [Member],
     text: &str,
 ) -> Result<(), Fault> {
-    let done = member.cast(text.as_bytes())?;
-    println!(rt; "0 casts {} {text:?}", done.name)?;
+    let frame = member.cast(text.as_bytes())?.out;
+    println!(rt; "0 casts {text:?}")?;
     for other in others {
-        let me = other.seat().me();
-        match other.arrive(&done.out)? {
-            Arrival::Repeat => println!(rt; "{me} takes it for a repeat")?,
-            accepted => show(rt, me, parts(rt.alloc(), accepted).0)?,
-        }
+        take(rt, other, &frame)?;
     }
     Ok(())
 }
 
+/// Prints what the frame is to the member.
+fn take(rt: &HostRuntime, member: &mut Member, frame: &Bytes) -> Result<(), Fault> {
+    let me = member.seat().me();
+    match member.arrive(frame)? {
+        Arrival::Repeat => Ok(println!(rt; "{me} takes it for a repeat")?),
+        accepted => show(rt, me, parts(rt.alloc(), accepted).0),
+    }
+}
+
 // GUIDE: begin
 /// The member whose history has these entries: it makes their calls again.
-fn replay(alloc: Global, seat: Seat, entries: &[Entry]) -> Result<Member, Fault> {
-    let mut member = Member::new(alloc, seat.group(), seat.me(), HISTORY_LIMIT)?;
+fn replay(alloc: Global, group: Group, me: u32, entries: &[Entry]) -> Result<Member, Fault> {
+    let mut member = Member::new(alloc, group, me, HISTORY_LIMIT)?;
     for entry in entries {
-        match entry {
-            Entry::Cast { frame } => drop(member.cast(&payload_of(alloc, frame)?)?),
-            Entry::Arrive { frame, .. } => drop(member.arrive(frame)?),
-            Entry::Tick { .. } => drop(member.tick()?),
-        }
+        call_again(alloc, &mut member, entry)?;
     }
     Ok(member)
+}
+
+fn call_again(alloc: Global, member: &mut Member, entry: &Entry) -> Result<(), Fault> {
+    match entry {
+        Entry::Cast { frame } => drop(member.cast(&payload_of(alloc, frame)?)?),
+        Entry::Arrive { frame, .. } => drop(member.arrive(frame)?),
+        Entry::Tick { .. } => drop(member.tick()?),
+    }
+    Ok(())
 }
 // GUIDE: end
 

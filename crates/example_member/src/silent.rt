@@ -1,28 +1,39 @@
 //! A window that stays full, and who it waits for.
 
 use crate::fault::Fault;
+use bytes::Bytes;
 use cb_frames::{Change, Frame, decode};
 use cb_member::{Entry, Event, Member};
 use std::alloc::Global;
 
 /// Member 0 finds its window full, with a status of member 1 too: it waits for a member that says nothing.
 pub fn wait(rt: &HostRuntime, members: &mut [Member]) -> Result<(), Fault> {
-    let Some((me, others)) = members.split_first_mut() else {
+    let Some((member, others)) = members.split_first_mut() else {
         return Ok(());
     };
     if let Some(other) = others.first_mut() {
-        for status in other.tick()?.out {
-            drop(me.arrive(&status.bytes)?);
-        }
+        hear(member, other)?;
     }
-    if let Err(refusal) = me.cast(b"more") {
+    if let Err(refusal) = member.cast(b"more") {
         println!(rt; "0 keeps \"more\": {refusal}")?;
     }
     for other in others {
-        let other = other.seat().me();
-        let count = acknowledged(rt.alloc(), me, other)?;
-        println!(rt; "{other} is known to have delivered {count} casts of 0")?;
+        print(rt, member, other.seat().me())?;
     }
+    Ok(())
+}
+
+/// The other member ticks, and the member takes what it sends.
+fn hear(member: &mut Member, other: &mut Member) -> Result<(), Fault> {
+    for status in other.tick()?.out {
+        drop(member.arrive(&status.bytes)?);
+    }
+    Ok(())
+}
+
+fn print(rt: &HostRuntime, member: &Member, other: u32) -> Result<(), Fault> {
+    let count = acknowledged(rt.alloc(), member, other)?;
+    println!(rt; "{other} is known to have delivered {count} casts of 0")?;
     Ok(())
 }
 
@@ -33,27 +44,31 @@ fn acknowledged(alloc: Global, member: &Member, other: u32) -> Result<u32, Fault
     let me = member.seat().me();
     let mut count = 0;
     for entry in member.history() {
-        count = count.max(told(alloc, entry, other, me)?);
+        if let Entry::Arrive { frame, .. } = entry {
+            count = count.max(in_status(alloc, frame, other, me)?);
+        }
     }
     for event in member.events() {
-        if let Event::Deliver(message) = event {
-            if message.name.sender == other {
-                let counted = message.time.as_slice().get(me as usize);
-                count = count.max(*counted.unwrap_or(&0));
-            }
-        }
+        count = count.max(in_time(event, other, me));
     }
     Ok(count)
 }
 
-/// What the entry says of it, where it is a status of the other member.
-fn told(alloc: Global, entry: &Entry, other: u32, me: u32) -> Result<u32, Fault> {
-    let Entry::Arrive { frame, .. } = entry else {
-        return Ok(0);
-    };
+/// What the frame says of it, where it is a status of the other member.
+fn in_status(alloc: Global, frame: &Bytes, other: u32, me: u32) -> Result<u32, Fault> {
     match decode(alloc, frame)? {
         Frame::Status(status) if status.sender == other => Ok(value_at(&status.values, me)),
         _other => Ok(0),
+    }
+}
+
+/// What the time says of it, where it is that of a message of the other member.
+fn in_time(event: &Event, other: u32, me: u32) -> u32 {
+    match event {
+        Event::Deliver(message) if message.name.sender == other => {
+            *message.time.as_slice().get(me as usize).unwrap_or(&0)
+        }
+        _other => 0,
     }
 }
 // GUIDE: end
