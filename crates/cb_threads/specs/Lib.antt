@@ -4,3 +4,4 @@ pub mod FaultText
 pub mod Reports
 pub mod Groups
 pub mod Fitting
+pub mod Talking

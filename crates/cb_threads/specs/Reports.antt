@@ -1,6 +1,9 @@
 -- What a report says of a history, or of the receipts of seats.
-use Rattle.std.specs.Prelude.{◌≡◌, ℕ, ◌+◌, List, [], ◌∷◌, length, map, is_some, true, None}
+use Rattle.std.specs.Prelude.{◌≡◌, ℕ, ◌+◌, List, [], ◌∷◌, length, map, is_some, true, None, Result, Ok, Err}
 use Rattle.std.specs.List.{All}
+use Rattle.cb_frames.specs.declared.fault.FrameFault.{FrameFault}
+use Rattle.cb_frames.specs.Fields.{FrameFields, CastFrame, StatusFrame, RequestFrame, messages_of}
+use Rattle.cb_frames.specs.Reading.{frame_at}
 use Rattle.cb_history.specs.Facts.{EntryFields, CastEntry, ArriveEntry, TickEntry}
 use Rattle.cb_lock.specs.Receipts.{ReceiptFields, SeatState}
 use Rattle.cb_lock.specs.Claims.{receipts_of}
@@ -8,9 +11,16 @@ use Rattle.cb_threads.specs.declared.report.MemberReport.{MemberReport}
 use Rattle.cb_threads.specs.declared.report.Tally.{Tally}
 use Rattle.cb_threads.specs.Counts.{held}
 
--- the messages that an entry casts: the frame of a cast carries one
+-- The messages that a Cast entry's frame carries. Bytes that are no cast frame stand in no Cast entry of a history; they would count as one.
+abbrev pub messages_read : Result FrameFields FrameFault → ℕ
+messages_read (Ok (CastFrame c)) = length (messages_of c)
+messages_read (Ok (StatusFrame s)) = 1
+messages_read (Ok (RequestFrame r)) = 1
+messages_read (Err fault) = 1
+
+-- the messages that an entry casts
 abbrev pub cast_by : EntryFields → ℕ
-cast_by (CastEntry frame) = 1
+cast_by (CastEntry frame) = messages_read (frame_at frame)
 cast_by (ArriveEntry frame delivered) = 0
 cast_by (TickEntry status) = 0
 

@@ -1,5 +1,7 @@
 //! How long workers run.
 
+ghost use Rattle.std.specs.Prelude.{◌≤◌, Decides};
+
 use std::sync::atomic::{AtomicBool, AtomicU64, Ordering};
 
 /// How many turns each worker of a member makes at most, the sender apart, which ends once the others have.
@@ -51,7 +53,7 @@ impl<'a> Ending<'a> {
     /// A talker has ended. The last of a group ends the group.
     pub fn talker_ended(&self) {
         if let Some(talking) = self.talking {
-            if talking.fetch_sub(1, Ordering::SeqCst) <= 1 {
+            if was_last(talking.fetch_sub(1, Ordering::SeqCst)) {
                 self.stop.set();
             }
         }
@@ -63,4 +65,11 @@ impl<'a> Ending<'a> {
             self.stop.set();
         }
     }
+}
+
+/// Whether a talker that has ended was the last, where so many had not ended before.
+fn was_last(talking: u64) -> bool
+    ensures { Decides result (talking ≤ 1) }
+{
+    talking <= 1
 }

@@ -187,12 +187,9 @@ fn run_in<
     }
 }
 
-/// Nobody is to wait for a worker that does not run.
-fn end_without(ending: Ending<'_>, speaker_runs: bool, others_run: bool) {
-    if !speaker_runs {
-        ending.talker_ended();
-    }
-    if !others_run {
+/// In a group nobody is to wait for a worker that does not run, nor for what its talker would have said.
+pub fn end_without(ending: Ending<'_>, speaker_runs: bool, others_run: bool) {
+    if !speaker_runs || !others_run {
         ending.give_up();
     }
 }

@@ -6,6 +6,7 @@ mod addressed;
 mod at_once;
 mod channel;
 mod closing;
+mod ending;
 mod faults;
 mod group;
 mod links;

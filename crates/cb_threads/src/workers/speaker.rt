@@ -1,7 +1,11 @@
 //! The worker that casts what the talker says.
 
-ghost use Rattle.std.specs.Prelude.{◌≡◌, IfOk, drop};
+ghost use Rattle.std.specs.Prelude.{◌≡◌, ◌≢◌, ◌+◌, Decides, IfErr, IfOk, MatchResult, None, OnErr, Some, drop, false, length};
 ghost use Rattle.cb_history.specs.State.{events_in};
+ghost use Rattle.cb_history.specs.declared.answer.CastRefusal.TheVariants.{PayloadTooLong};
+ghost use Rattle.cb_threads.specs.Counts.{held};
+ghost use Rattle.cb_threads.specs.Talking.{cast_of, turn_of};
+ghost use Rattle.cb_threads.specs.declared.workers.speaker.Turn.TheVariants.{Finished, Quiet};
 
 use crate::mailbox::Slot;
 use crate::talker::{Talk, Talker};
@@ -17,13 +21,13 @@ use std::time::{Clock, Duration};
 
 /// What came of a turn.
 #[derive(Clone, Copy)]
-enum Turn {
+pub enum Turn {
     Cast,
     Quiet,
     Finished,
 }
 
-/// What a talker that is quick said.
+/// What a talker said, where it casts nothing.
 #[derive(Clone, Copy)]
 struct Said {
     turn: Turn,
@@ -32,7 +36,9 @@ struct Said {
 }
 
 impl Said {
-    fn seen(turn: Turn, count: usize) -> Said {
+    fn seen(turn: Turn, count: usize) -> Said
+        ensures { result ≡ record { turn = turn; count = count } }
+    {
         Said { turn, count }
     }
 }
@@ -70,21 +76,26 @@ pub fn talk_all<T: Talker, L: Ledger, R: Wait + Clock>(
         room: Vec::new(desk.alloc),
         waiting: None,
     };
+    let mut last = Turn::Cast;
     for _turn in 0..ending.limits.turns {
-        if ending.has_come() {
+        if !goes_on(ending.has_come(), last) {
             break;
         }
-        match speech.turn(rt) {
-            Turn::Cast => {}
-            Turn::Quiet => {
-                speech.post.wake();
-                sleep(rt, Duration::from_millis(1));
-            }
-            Turn::Finished => break,
+        last = speech.turn(rt);
+        if matches!(last, Turn::Quiet) {
+            speech.post.wake();
+            sleep(rt, Duration::from_millis(1));
         }
     }
     ending.talker_ended();
     speech.ended()
+}
+
+/// Whether another turn is begun: until the stop is set or the talker has finished, whatever waits to be cast.
+fn goes_on(is_stopped: bool, last: Turn) -> bool
+    ensures { Decides result ((is_stopped ≡ false) × (last ≢ Finished)) }
+{
+    !is_stopped && !matches!(last, Turn::Finished)
 }
 
 impl<'a, T: Talker, L: Ledger> Speech<'a, T, L> {
@@ -101,12 +112,11 @@ impl<'a, T: Talker, L: Ledger> Speech<'a, T, L> {
         if self.talker.is_quick() {
             return self.ask_in_place(rt);
         }
-        match self.ask_with_copies(rt) {
-            Ok((talk, count)) => {
-                self.seen = self.seen.saturating_add(count);
-                self.follow(rt, talk)
-            }
-            Err(_refused) => Turn::Quiet,
+        let (said, payload) = parted(self.ask_with_copies(rt));
+        self.see(said);
+        match payload {
+            Some(payload) => self.cast(rt, payload),
+            None => said.turn,
         }
     }
 
@@ -118,11 +128,18 @@ impl<'a, T: Talker, L: Ledger> Speech<'a, T, L> {
             &mut self.seat,
             move |member| parted(asked(talker, news_in(member, seen))),
         );
-        self.seen = self.seen.saturating_add(said.count);
+        self.see(said);
         match cast {
             Some((payload, cast)) => self.hand_on(rt, payload, cast),
             None => said.turn,
         }
+    }
+
+    /// It has seen so many news more.
+    fn see(&mut self, said: Said)
+        ensures { self.new.seen ≡ held (self.old.seen + said.count) }
+    {
+        self.seen = self.seen.saturating_add(said.count);
     }
 
     /// What the talker says to copies of the news, and how many they are, while the member works on.
@@ -131,15 +148,6 @@ impl<'a, T: Talker, L: Ledger> Speech<'a, T, L> {
         let answer = asked(&mut self.talker, &news);
         self.keep_room(news);
         answer
-    }
-
-    /// Does what the talker says.
-    fn follow<R: Wait>(&mut self, rt: &R, talk: Talk) -> Turn {
-        match talk {
-            Talk::Cast(payload) => self.cast(rt, payload),
-            Talk::Idle => Turn::Quiet,
-            Talk::Finished => Turn::Finished,
-        }
     }
 
     /// The events that the talker has not seen.
@@ -171,15 +179,18 @@ impl<'a, T: Talker, L: Ledger> Speech<'a, T, L> {
         rt: &R,
         payload: Vec<u8>,
         cast: Result<CastDone, CastRefusal>,
-    ) -> Turn {
+    ) -> Turn
+        ensures waits { IfErr cast (λ refusal. refusal ≢ PayloadTooLong
+            → self.new.waiting ≡ Some payload) }
+        ensures quiet { OnErr cast (result ≡ Quiet) }
+    {
         match cast {
             Ok(done) => {
                 self.post.put(rt, to_all(done.out));
                 Turn::Cast
             }
-            Err(CastRefusal::PayloadTooLong) => Turn::Quiet,
-            Err(CastRefusal::WindowFull | CastRefusal::HistoryFull | CastRefusal::NoMemory) => {
-                self.waiting = Some(payload);
+            Err(refusal) => {
+                self.waiting = left_to_cast(payload, refusal);
                 Turn::Quiet
             }
         }
@@ -196,15 +207,34 @@ impl<'a, T: Talker, L: Ledger> Speech<'a, T, L> {
     }
 }
 
-/// What becomes of the turn where nothing is cast, how many news the talker saw, and what it wants to cast.
-fn parted(answer: Result<(Talk, usize), NoMemory>) -> (Said, Option<Vec<u8>>) {
+/// What is to be cast again behind a refusal: the payload, but for one that is too long, which never can be cast.
+fn left_to_cast(payload: Vec<u8>, refusal: CastRefusal) -> Option<Vec<u8>>
+    ensures dropped { refusal ≡ PayloadTooLong → result ≡ None }
+    ensures waits { refusal ≢ PayloadTooLong → result ≡ Some payload }
+{
+    match refusal {
+        CastRefusal::PayloadTooLong => None,
+        CastRefusal::WindowFull | CastRefusal::HistoryFull | CastRefusal::NoMemory => Some(payload),
+    }
+}
+
+/// What becomes of the turn where nothing is cast, how many news the talker saw, and what it wants to cast. Out of memory it saw none, and
+/// is shown the same again.
+fn parted(answer: Result<(Talk, usize), NoMemory>) -> (Said, Option<Vec<u8>>)
+    ensures seen { MatchResult answer (λ told. result.0.count ≡ told.1) (λ _. result.0.count ≡ 0) }
+    ensures turn { IfOk answer (λ told. result.0.turn ≡ turn_of told.0) }
+    ensures cast { IfOk answer (λ told. result.1 ≡ cast_of told.0) }
+{
     match answer {
         Ok((talk, count)) => wanted(talk, count),
         Err(_refused) => (Said::seen(Turn::Quiet, 0), None),
     }
 }
 
-fn wanted(talk: Talk, count: usize) -> (Said, Option<Vec<u8>>) {
+fn wanted(talk: Talk, count: usize) -> (Said, Option<Vec<u8>>)
+    ensures said { result.0 ≡ record { turn = turn_of talk; count = count } }
+    ensures cast { result.1 ≡ cast_of talk }
+{
     match talk {
         Talk::Cast(payload) => (Said::seen(Turn::Cast, count), Some(payload)),
         Talk::Idle => (Said::seen(Turn::Quiet, count), None),
@@ -217,7 +247,9 @@ fn to_all(bytes: Bytes) -> Outgoing {
 }
 
 /// What the talker says to the news, and how many they are.
-fn asked<T: Talker>(talker: &mut T, news: &[Event]) -> Result<(Talk, usize), NoMemory> {
+fn asked<T: Talker>(talker: &mut T, news: &[Event]) -> Result<(Talk, usize), NoMemory>
+    ensures { IfOk result (λ told. told.1 ≡ length news.now) }
+{
     let talk = talker.next(news)?;
     Ok((talk, news.len()))
 }
