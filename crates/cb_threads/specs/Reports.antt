@@ -1,5 +1,5 @@
 -- What a report says of a history, or of the receipts of seats.
-use Rattle.std.specs.Prelude.{◌≡◌, ℕ, ◌+◌, List, [], ◌∷◌, length, map, is_some, true, None, Result, Ok, Err}
+use Rattle.std.specs.Prelude.{◌≡◌, ℕ, ◌+◌, List, [], ◌∷◌, length, map, is_some, true, None, Result, Ok, Err, MatchOption}
 use Rattle.std.specs.List.{All}
 use Rattle.cb_frames.specs.declared.fault.FrameFault.{FrameFault}
 use Rattle.cb_frames.specs.Fields.{FrameFields, CastFrame, StatusFrame, RequestFrame, messages_of}
@@ -9,7 +9,9 @@ use Rattle.cb_lock.specs.Receipts.{ReceiptFields, SeatState}
 use Rattle.cb_lock.specs.Claims.{receipts_of}
 use Rattle.cb_threads.specs.declared.report.MemberReport.{MemberReport}
 use Rattle.cb_threads.specs.declared.report.Tally.{Tally}
-use Rattle.cb_threads.specs.Counts.{held}
+use Rattle.cb_threads.specs.declared.report.Failures.{Failures}
+use Rattle.cb_threads.specs.declared.start.Parts.{Parts}
+use Rattle.cb_threads.specs.Counts.{held, MetAtMost}
 
 -- The messages that a Cast entry's frame carries. Bytes that are no cast frame stand in no Cast entry of a history; they would count as one.
 abbrev pub messages_read : Result FrameFields FrameFault → ℕ
@@ -30,7 +32,7 @@ delivered_by (CastEntry frame) = 0
 delivered_by (ArriveEntry frame delivered) = length delivered
 delivered_by (TickEntry status) = 0
 
--- of all of these entries
+-- those of all of these entries
 abbrev pub casts_of : List EntryFields → ℕ
 casts_of [] = 0
 casts_of (e ∷ es) = cast_by e + casts_of es
@@ -82,3 +84,29 @@ HandsBack report = report.fault ≡ None → HandsAllBack report
 
 abbrev pub EachHandsBack : {I O P T : Type 0} → List (MemberReport I O P T) → Type 0
 EachHandsBack reports = All (λ r. HandsBack r) reports
+
+-- ---- failures
+
+-- how often the inlet, the outlet and the pace of a member have failed
+abbrev pub failures_in : {I O P T : Type 0} → (I → ℕ) → (O → ℕ) → (P → ℕ) → Parts I O P T → Failures
+failures_in inlet outlet pace parts = record { inlet = inlet parts.inlet; outlet = outlet parts.outlet; pace = pace parts.pace }
+
+-- Of what is handed back a report tells of at most as many failures as were counted since it had counted these, of what is not of none.
+pub record TellsFailures {I O P T : Type 0} (inlet_failed : I → ℕ) (outlet_failed : O → ℕ) (pace_failed : P → ℕ) (before : Failures) (report : MemberReport I O P T) : Type 0 where
+  pub inlet : MatchOption report.inlet (report.receive_failures ≡ 0) (λ inlet. MetAtMost report.receive_failures before.inlet (inlet_failed inlet))
+  pub outlet : MatchOption report.outlet (report.send_failures ≡ 0) (λ outlet. MetAtMost report.send_failures before.outlet (outlet_failed outlet))
+  pub pace : MatchOption report.pace (report.pace_failures ≡ 0) (λ pace. MetAtMost report.pace_failures before.pace (pace_failed pace))
+
+-- so the reports of the first members with these failures before
+abbrev pub TellFailures : {I O P T : Type 0} → (I → ℕ) → (O → ℕ) → (P → ℕ) → List Failures → List (MemberReport I O P T) → Type 0
+TellFailures inlet outlet pace befores [] = Unit {0}
+TellFailures inlet outlet pace [] (r ∷ rs) = ⊥
+TellFailures inlet outlet pace (b ∷ bs) (r ∷ rs) = TellsFailures inlet outlet pace b r × TellFailures inlet outlet pace bs rs
+
+-- so the reports of members with these links and paces, in order
+abbrev pub EachTellsFailures : {I O P T : Type 0} → (I → ℕ) → (O → ℕ) → (P → ℕ) → List (I × O) → List P → List (MemberReport I O P T) → Type 0
+EachTellsFailures inlet outlet pace links paces [] = Unit {0}
+EachTellsFailures inlet outlet pace [] paces (r ∷ rs) = ⊥
+EachTellsFailures inlet outlet pace (l ∷ ls) [] (r ∷ rs) = ⊥
+EachTellsFailures inlet outlet pace (l ∷ ls) (p ∷ ps) (r ∷ rs) =
+    TellsFailures inlet outlet pace (record { inlet = inlet l.0; outlet = outlet l.1; pace = pace p }) r × EachTellsFailures inlet outlet pace ls ps rs

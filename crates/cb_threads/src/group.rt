@@ -1,9 +1,9 @@
 //! A group, of which each member runs in a thread of its own.
 
-ghost use Rattle.std.specs.Prelude.{◌≡◌, ◌≢◌, ◌↔◌, Decides, IfOk, Err, Some, length, map};
+ghost use Rattle.std.specs.Prelude.{◌≡◌, ◌≢◌, ◌↔◌, Decides, IfOk, IsOkAnd, Err, Some, length, map};
 ghost use Rattle.cb_threads.specs.FaultText.{group_fault_text};
 ghost use Rattle.cb_threads.specs.Groups.{IsPlan, AreKept, tally_in};
-ghost use Rattle.cb_threads.specs.Reports.{EachHandsBack};
+ghost use Rattle.cb_threads.specs.Reports.{EachHandsBack, EachTellsFailures, TellFailures, failures_in};
 ghost use Rattle.cb_threads.specs.declared.group.GroupFault.TheVariants.{BadPlan};
 
 use crate::life::{LifeFault, Lives, Setting, run_lives};
@@ -61,7 +61,8 @@ pub struct GroupReport<I, O, P, T> {
 /// Runs a group of new members, each in a thread of its own, behind a lock and with a ledger of its own, with four workers.
 ///
 /// It ends once every talker has ended, or after so many turns of each worker as the limits say. The histories are legal, one for each
-/// member in order; the counts of each report are those of its history. The histories may have `history_max` entries each.
+/// member in order; the counts of each report are those of its history. The histories may have `history_max` entries each. Of its link and
+/// its pace a report tells of no more failures than they counted.
 pub fn run_group<
     I: Inlet + Send + Drop,
     O: Outlet + Send + Drop,
@@ -85,6 +86,8 @@ pub fn run_group<
     ensures kept { IfOk result (λ r. AreKept group 0 r.histories.items
         (map tally_in r.reports.items)) }
     ensures parts { IfOk result (λ r. EachHandsBack r.reports.items) }
+    ensures failures { IfOk result (λ r. EachTellsFailures I.failed O.failed P.failed
+        links.items paces.items r.reports.items) }
 {
     let lengths = (links.len(), paces.len(), talkers.len());
     if !is_plan(group, history_max, lengths) {
@@ -128,7 +131,9 @@ fn parts<I: Drop, O: Drop, P: Drop, T: Drop>(
 ) -> Result<Vec<Parts<I, O, P, T>>, AllocError>
     requires { (length links.items ≡ length paces.items)
         × (length links.items ≡ length talkers.items) }
-    ensures { IfOk result (λ parts. length parts.items ≡ length links.items) }
+    ensures links { IfOk result (λ parts.
+        map (λ part. (part.inlet, part.outlet)) parts.items ≡ links.items) }
+    ensures paces { IfOk result (λ parts. map (λ part. part.pace) parts.items ≡ paces.items) }
 {
     let mut parts = Vec::new(alloc);
     let mut paces = paces.into_iter();
@@ -165,6 +170,9 @@ fn run_parts<
     ensures kept { IfOk result (λ r. AreKept plan.0 0 r.histories.items
         (map tally_in r.reports.items)) }
     ensures parts { IfOk result (λ r. EachHandsBack r.reports.items) }
+    ensures failures { IfOk result (λ r. IsOkAnd parts (λ parts.
+        TellFailures I.failed O.failed P.failed
+        (map (failures_in I.failed O.failed P.failed) parts.items) r.reports.items)) }
 {
     let parts = parts?;
     let stop = Stop::new();

@@ -3,13 +3,14 @@
 ghost use Rattle.std.specs.Prelude.{◌≡◌, ◌<◌, [], ◌∷◌, ◌++◌, IfOk, IfSome, IsOkAnd, IsSomeAnd, length, map};
 ghost use Rattle.cb_history.specs.Group.{Parameters};
 ghost use Rattle.cb_threads.specs.Groups.{AreKept, AreMembers, IsKept, tally_in};
-ghost use Rattle.cb_threads.specs.Reports.{EachHandsBack, HandsBack};
+ghost use Rattle.cb_threads.specs.declared.report.Failures.{Failures};
+ghost use Rattle.cb_threads.specs.Reports.{EachHandsBack, HandsBack, TellFailures, TellsFailures, failures_in};
 
 use crate::limits::{Ending, Limits, Stop};
 use crate::link::{Inlet, Outlet};
 use crate::member::run_shared;
 use crate::pace::Pace;
-use crate::report::{MemberReport, Tally};
+use crate::report::{Failures, MemberReport, Tally};
 use crate::start::{Parts, Seats};
 use crate::talker::Talker;
 use crate::workers::Desk;
@@ -94,16 +95,19 @@ pub struct Lives<I, O, P, T> {
     pub histories: Vec<History>,
 }
 
-/// A promise: what is kept is a legal history of this member, with its counts, and what its workers worked with.
+/// A promise: what is kept is a legal history of this member, with its counts, what its workers worked with, and the failures that they
+/// met since it had failed so often.
 #[derive(Clone, Copy)]
 pub struct OfMember {
     pub group: Group,
     pub me: u32,
+    pub before: Failures,
 }
 
-impl<I, O, P, T> Promise<Result<Kept<I, O, P, T>, LifeFault>> for OfMember {
+impl<I: Inlet, O: Outlet, P: Pace, T> Promise<Result<Kept<I, O, P, T>, LifeFault>> for OfMember {
     ghost kept_by = { λ p r. IfOk r (λ kept. IsKept p.group p.me kept.history
-        (tally_in kept.report) × HandsBack kept.report) };
+        (tally_in kept.report) × HandsBack kept.report
+        × TellsFailures I.failed O.failed P.failed p.before kept.report) };
 }
 
 /// Runs the members, one in each thread, and waits for all of them.
@@ -123,6 +127,8 @@ pub fn run_lives<
     ensures kept { IfOk result (λ r. AreKept setting.now.group 0 r.histories.items
         (map tally_in r.reports.items)) }
     ensures parts { IfOk result (λ r. EachHandsBack r.reports.items) }
+    ensures failures { IfOk result (λ r. TellFailures I.failed O.failed P.failed
+        (map (failures_in I.failed O.failed P.failed) parts.items) r.reports.items) }
 {
     thread::scope(
         thread::scope_env(),
@@ -134,6 +140,8 @@ pub fn run_lives<
             ensures kept { IfOk result (λ r. AreKept setting.entry.now.group 0 r.histories.items
                 (map tally_in r.reports.items)) }
             ensures parts { IfOk result (λ r. EachHandsBack r.reports.items) }
+            ensures failures { IfOk result (λ r. TellFailures I.failed O.failed P.failed
+                (map (failures_in I.failed O.failed P.failed) parts.items) r.reports.items) }
         { run_in(scope, rt, setting, parts) },
     )
 }
@@ -157,6 +165,8 @@ fn run_in<
     ensures kept { IfOk result (λ r. AreKept setting.now.group 0 r.histories.items
         (map tally_in r.reports.items)) }
     ensures parts { IfOk result (λ r. EachHandsBack r.reports.items) }
+    ensures failures { IfOk result (λ r. TellFailures I.failed O.failed P.failed
+        (map (failures_in I.failed O.failed P.failed) parts.items) r.reports.items) }
 {
     match start_all(scope, rt, setting, parts) {
         Ok(handles) => join_all(rt, setting.alloc, handles),
@@ -188,6 +198,8 @@ fn start_all<
         length handles.items ≡ setting.now.group.size) }
     ensures promises { IfOk result (λ handles.
         AreMembers setting.now.group 0 (map (λ h. h.promise) handles.items)) }
+    ensures failures { IfOk result (λ handles. map (λ h. h.promise.before) handles.items
+        ≡ map (failures_in I.failed O.failed P.failed) parts.items) }
 {
     let size = setting.group.size();
     let mut handles = Vec::with_capacity(setting.alloc, size as usize)?;
@@ -227,16 +239,21 @@ fn start<
 ) -> Option<PromisedHandle<Result<Kept<I, O, P, T>, LifeFault>, OfMember>>
     requires { me < setting.now.group.size }
     ensures { IfSome result (λ handle. (handle.promise.group ≡ setting.now.group)
-        × (handle.promise.me ≡ me)) }
+        × (handle.promise.me ≡ me)
+        × (handle.promise.before ≡ failures_in I.failed O.failed P.failed parts)) }
 {
-    let group = setting.group;
+    let promise = OfMember {
+        group: setting.group,
+        me,
+        before: parts.failures(),
+    };
     scope
-        .spawn_with(OfMember { group, me }, move || live(rt, setting, me, parts))
+        .spawn_with(promise, move || live(rt, setting, me, parts))
         .ok()
 }
 
 /// Waits for the members in order, and keeps what they leave. The first fault is answered.
-fn join_all<I: Drop, O: Drop, P: Drop, T: Drop, R: Threads>(
+fn join_all<I: Inlet + Drop, O: Outlet + Drop, P: Pace + Drop, T: Drop, R: Threads>(
     rt: &R,
     alloc: Global,
     handles: Vec<PromisedHandle<Result<Kept<I, O, P, T>, LifeFault>, OfMember>>,
@@ -245,6 +262,8 @@ fn join_all<I: Drop, O: Drop, P: Drop, T: Drop, R: Threads>(
     ensures kept { (group : Parameters) → AreMembers group 0 (map (λ h. h.promise) handles.items)
         → IfOk result (λ r. AreKept group 0 r.histories.items (map tally_in r.reports.items)) }
     ensures parts { IfOk result (λ r. EachHandsBack r.reports.items) }
+    ensures failures { IfOk result (λ r. TellFailures I.failed O.failed P.failed
+        (map (λ h. h.promise.before) handles.items) r.reports.items) }
 {
     let mut lives = Lives {
         reports: Vec::new(alloc),
@@ -284,7 +303,9 @@ fn live<
     parts: Parts<I, O, P, T>,
 ) -> Result<Kept<I, O, P, T>, LifeFault>
     ensures { IfOk result (λ kept. IsKept setting.now.group me kept.history
-        (tally_in kept.report) × HandsBack kept.report) }
+        (tally_in kept.report) × HandsBack kept.report
+        × TellsFailures I.failed O.failed P.failed (failures_in I.failed O.failed P.failed parts)
+        kept.report) }
 {
     match Member::new(setting.alloc, setting.group, me, setting.history_max) {
         Ok(member) => share::<Brand, I, O, P, T, R>(rt, setting, member, parts, Blank::new(4)),
@@ -313,7 +334,9 @@ fn share<
     requires ledger { (blank.name ≡ L.name) × (blank.parts ≡ L.parts) × (blank.parts ≡ 4) }
     requires fresh { member.entries ≡ [] }
     ensures { IfOk result (λ kept. IsKept member.seat.group member.seat.me kept.history
-        (tally_in kept.report) × HandsBack kept.report) }
+        (tally_in kept.report) × HandsBack kept.report
+        × TellsFailures I.failed O.failed P.failed (failures_in I.failed O.failed P.failed parts)
+        kept.report) }
 {
     let identity = member.seat();
     let (shared, seat) = SharedMember::<L>::new(setting.alloc, blank, member);
@@ -327,15 +350,18 @@ fn share<
 }
 
 /// What came of closing this member.
-fn ended<I: Drop, O: Drop, P: Drop, T: Drop>(
+fn ended<I: Inlet + Drop, O: Outlet + Drop, P: Pace + Drop, T: Drop>(
     identity: Identity,
     closed: Result<Closed, CloseRefusal>,
     report: MemberReport<I, O, P, T>,
 ) -> Result<Kept<I, O, P, T>, LifeFault>
     requires seat { IfOk closed (λ closed. closed.member.seat ≡ identity) }
     requires parts { HandsBack report }
-    ensures { IfOk result (λ kept. IsKept identity.group identity.me kept.history
+    ensures kept { IfOk result (λ kept. IsKept identity.group identity.me kept.history
         (tally_in kept.report) × HandsBack kept.report) }
+    ensures failures { IfOk result (λ kept. (before : Failures)
+        → TellsFailures I.failed O.failed P.failed before report
+        → TellsFailures I.failed O.failed P.failed before kept.report) }
 {
     match closed {
         Ok(Closed { member }) => Ok(keep(report, member)),
@@ -376,13 +402,16 @@ fn four<L: Ledger>(seat: Seat<L>) -> Seats<L>
 }
 
 /// The history of a member that was closed, and its counts in the report.
-fn keep<I: Drop, O: Drop, P: Drop, T: Drop>(
+fn keep<I: Inlet + Drop, O: Outlet + Drop, P: Pace + Drop, T: Drop>(
     report: MemberReport<I, O, P, T>,
     member: Member,
 ) -> Kept<I, O, P, T>
     requires { HandsBack report }
     ensures kept { IsKept member.seat.group member.seat.me result.history (tally_in result.report) }
     ensures parts { HandsBack result.report }
+    ensures failures { (before : Failures)
+        → TellsFailures I.failed O.failed P.failed before report
+        → TellsFailures I.failed O.failed P.failed before result.report }
 {
     let tally = Tally::of_history(member.history());
     Kept {

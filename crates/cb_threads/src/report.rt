@@ -77,6 +77,14 @@ impl<I, O, P, T> MemberReport<I, O, P, T> {
     }
 }
 
+/// How often the inlet, the outlet and the pace of a member have failed.
+#[derive(Clone, Copy)]
+pub struct Failures {
+    pub inlet: u64,
+    pub outlet: u64,
+    pub pace: u64,
+}
+
 /// What entries tell of casts and deliveries.
 #[derive(Clone, Copy)]
 pub struct Tally {

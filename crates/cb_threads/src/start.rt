@@ -2,11 +2,13 @@
 
 ghost use Rattle.std.specs.Prelude.{◌≡◌, true, is_some, IfSome, MatchOption, None};
 ghost use Rattle.cb_threads.specs.Counts.{MetAtMost};
+ghost use Rattle.cb_threads.specs.Reports.{failures_in};
 
 use crate::limits::Ending;
 use crate::link::{Inlet, Outlet};
 use crate::mailbox::{Mailbox, Slot, new_mailbox};
 use crate::pace::Pace;
+use crate::report::Failures;
 use crate::talker::Talker;
 use crate::workers::{
     Desk, InletCounts, Job, OutletCounts, PaceCounts, Worked, send_all, take_all, talk_all,
@@ -28,6 +30,19 @@ pub struct Parts<I, O, P, T> {
     pub outlet: O,
     pub pace: P,
     pub talker: T,
+}
+
+impl<I: Inlet, O: Outlet, P: Pace, T> Parts<I, O, P, T> {
+    /// How often they have failed so far.
+    pub fn failures(&self) -> Failures
+        ensures { result ≡ failures_in I.failed O.failed P.failed self.now }
+    {
+        Failures {
+            inlet: self.inlet.failures(),
+            outlet: self.outlet.failures(),
+            pace: self.pace.failures(),
+        }
+    }
 }
 
 /// A seat for each worker.

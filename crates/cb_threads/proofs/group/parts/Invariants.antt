@@ -1,4 +1,4 @@
-use Rattle.std.proofs.Common.{◌≡◌, ◌+◌, length}
+use Rattle.std.proofs.Common.{◌≡◌, ◌++◌, length, map}
 use Rattle.cb_threads.proofs.group.parts.Given as goal
 
 -- there are as many left of each, and with what was made they are all
@@ -6,4 +6,5 @@ abbrev pub invariant-loop-inlet : goal.invariant-loop-inlet
 invariant-loop-inlet g l =
     (length l.inlet-iterator.rest.items ≡ length l.paces.rest.items)
     × (length l.inlet-iterator.rest.items ≡ length l.talkers.rest.items)
-    × (length l.parts.items + length l.inlet-iterator.rest.items ≡ length l.fn.links.items)
+    × (map (λ p. (p.inlet, p.outlet)) l.parts.items ++ l.inlet-iterator.rest.items ≡ l.fn.links.items)
+    × (map (λ p. p.pace) l.parts.items ++ l.paces.rest.items ≡ l.fn.paces.items)

@@ -1,6 +1,7 @@
 use Rattle.std.proofs.Common.{length, refl, arith}
 use Rattle.cb_threads.specs.Groups.{IsPlan}
 use Rattle.cb_threads.proofs.Planning.{not_refused, other_fault}
+use Rattle.cb_threads.proofs.Order.{tells_all}
 use Rattle.cb_threads.proofs.group.run_group.Goals as goal
 
 pub returns-in-Ok-clause-plan : goal.returns-in-Ok-clause-plan
@@ -26,3 +27,7 @@ returns-in-Err-clause-plan g c =
       at_most = p.at_most;
     } in
     other_fault _ _ _ _ refl refl c.group_fault.ensures plan
+
+pub returns-in-Ok-clause-failures : goal.returns-in-Ok-clause-failures
+returns-in-Ok-clause-failures g c =
+    tells_all g.I.Inlet.failed g.O.Outlet.failed g.P.Pace.failed c.parts-parts.result c.args.links.items c.args.paces.items c.in-Ok.field-0.reports.items c.in-Ok.ensures.failures c.parts-parts.ensures.links c.parts-parts.ensures.paces

@@ -1,7 +1,7 @@
-use Rattle.std.proofs.Common.{◌≡◌, ◌+◌, length, map}
+use Rattle.std.proofs.Common.{◌≡◌, ◌+◌, drop, length, map}
 use Rattle.cb_history.specs.Group.{Parameters}
 use Rattle.cb_threads.specs.Groups.{AreKept, AreMembers, tally_in}
-use Rattle.cb_threads.specs.Reports.{EachHandsBack}
+use Rattle.cb_threads.specs.Reports.{EachHandsBack, TellFailures}
 use Rattle.cb_threads.proofs.life.join_all.Given as goal
 
 -- the first members' lives are kept, and the others are to come
@@ -12,4 +12,6 @@ invariant-loop-handle g l =
           × ((group : Parameters) → AreMembers group 0 (map (λ h. h.promise) l.fn.handles.items)
           → AreKept group 0 l.lives.histories.items (map tally_in l.lives.reports.items) × AreMembers group (length l.lives.histories.items) (map (λ h. h.promise) l.handle-iterator.rest.items));
       parts : EachHandsBack l.lives.reports.items;
+      failures : (drop (length l.lives.reports.items) (map (λ h. h.promise.before) l.fn.handles.items) ≡ map (λ h. h.promise.before) l.handle-iterator.rest.items)
+          × TellFailures g.I.Inlet.failed g.O.Outlet.failed g.P.Pace.failed (map (λ h. h.promise.before) l.fn.handles.items) l.lives.reports.items;
     }
