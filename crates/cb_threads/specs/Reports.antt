@@ -1,5 +1,5 @@
 -- What a report says of a history, or of the receipts of seats.
-use Rattle.std.specs.Prelude.{◌≡◌, ℕ, ◌+◌, List, [], ◌∷◌, length, map, is_some, true, None, Result, Ok, Err, MatchOption}
+use Rattle.std.specs.Prelude.{◌≡◌, ℕ, ◌+◌, List, [], ◌∷◌, length, map, is_some, true, Option, None, Some, Result, Ok, Err, MatchOption}
 use Rattle.std.specs.List.{All}
 use Rattle.cb_frames.specs.declared.fault.FrameFault.{FrameFault}
 use Rattle.cb_frames.specs.Fields.{FrameFields, CastFrame, StatusFrame, RequestFrame, messages_of}
@@ -84,6 +84,13 @@ HandsBack report = report.fault ≡ None → HandsAllBack report
 
 abbrev pub EachHandsBack : {I O P T : Type 0} → List (MemberReport I O P T) → Type 0
 EachHandsBack reports = All (λ r. HandsBack r) reports
+
+-- ---- frames that were lost
+
+-- what a worker lost: nothing, where its thread could not be started
+abbrev pub lost_in : {W : Type 0} → Option W → (W → ℕ) → ℕ
+lost_in None lost = 0
+lost_in (Some w) lost = lost w
 
 -- ---- failures
 
