@@ -12,6 +12,7 @@ use Rattle.cb_threads.specs.declared.report.Tally.{Tally}
 use Rattle.cb_threads.specs.declared.report.Failures.{Failures}
 use Rattle.cb_threads.specs.declared.start.Parts.{Parts}
 use Rattle.cb_threads.specs.Counts.{held, MetAtMost}
+use Rattle.cb_threads.specs.Offers.{FailuresAreLost}
 
 -- The messages that a Cast entry's frame carries. Bytes that are no cast frame stand in no Cast entry of a history; they would count as one.
 abbrev pub messages_read : Result FrameFields FrameFault → ℕ
@@ -99,10 +100,12 @@ abbrev pub failures_in : {I O P T : Type 0} → (I → ℕ) → (O → ℕ) → 
 failures_in inlet outlet pace parts = record { inlet = inlet parts.inlet; outlet = outlet parts.outlet; pace = pace parts.pace }
 
 -- Of what is handed back a report tells of at most as many failures as were counted since it had counted these, of what is not of none.
+-- At each failure to send a frame was lost.
 pub record TellsFailures {I O P T : Type 0} (inlet_failed : I → ℕ) (outlet_failed : O → ℕ) (pace_failed : P → ℕ) (before : Failures) (report : MemberReport I O P T) : Type 0 where
   pub inlet : MatchOption report.inlet (report.receive_failures ≡ 0) (λ inlet. MetAtMost report.receive_failures before.inlet (inlet_failed inlet))
   pub outlet : MatchOption report.outlet (report.send_failures ≡ 0) (λ outlet. MetAtMost report.send_failures before.outlet (outlet_failed outlet))
   pub pace : MatchOption report.pace (report.pace_failures ≡ 0) (λ pace. MetAtMost report.pace_failures before.pace (pace_failed pace))
+  pub lost : FailuresAreLost report.send_failures report.lost
 
 -- so the reports of the first members with these failures before
 abbrev pub TellFailures : {I O P T : Type 0} → (I → ℕ) → (O → ℕ) → (P → ℕ) → List Failures → List (MemberReport I O P T) → Type 0
