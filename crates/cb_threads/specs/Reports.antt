@@ -1,5 +1,5 @@
 -- What a report says of a history, or of the receipts of seats.
-use Rattle.std.specs.Prelude.{◌≡◌, ℕ, ◌+◌, List, [], ◌∷◌, length, map, is_some, true, None, Result, Ok, Err, MatchOption}
+use Rattle.std.specs.Prelude.{◌≡◌, ℕ, ◌+◌, List, [], ◌∷◌, length, map, is_some, true, Option, None, Some, Result, Ok, Err, MatchOption}
 use Rattle.std.specs.List.{All}
 use Rattle.cb_frames.specs.declared.fault.FrameFault.{FrameFault}
 use Rattle.cb_frames.specs.Fields.{FrameFields, CastFrame, StatusFrame, RequestFrame, messages_of}
@@ -12,6 +12,7 @@ use Rattle.cb_threads.specs.declared.report.Tally.{Tally}
 use Rattle.cb_threads.specs.declared.report.Failures.{Failures}
 use Rattle.cb_threads.specs.declared.start.Parts.{Parts}
 use Rattle.cb_threads.specs.Counts.{held, MetAtMost}
+use Rattle.cb_threads.specs.Offers.{FailuresAreLost}
 
 -- The messages that a Cast entry's frame carries. Bytes that are no cast frame stand in no Cast entry of a history; they would count as one.
 abbrev pub messages_read : Result FrameFields FrameFault → ℕ
@@ -85,6 +86,13 @@ HandsBack report = report.fault ≡ None → HandsAllBack report
 abbrev pub EachHandsBack : {I O P T : Type 0} → List (MemberReport I O P T) → Type 0
 EachHandsBack reports = All (λ r. HandsBack r) reports
 
+-- ---- frames that were lost
+
+-- what a worker lost: nothing, where its thread could not be started
+abbrev pub lost_in : {W : Type 0} → Option W → (W → ℕ) → ℕ
+lost_in None lost = 0
+lost_in (Some w) lost = lost w
+
 -- ---- failures
 
 -- how often the inlet, the outlet and the pace of a member have failed
@@ -92,10 +100,12 @@ abbrev pub failures_in : {I O P T : Type 0} → (I → ℕ) → (O → ℕ) → 
 failures_in inlet outlet pace parts = record { inlet = inlet parts.inlet; outlet = outlet parts.outlet; pace = pace parts.pace }
 
 -- Of what is handed back a report tells of at most as many failures as were counted since it had counted these, of what is not of none.
+-- At each failure to send a frame was lost.
 pub record TellsFailures {I O P T : Type 0} (inlet_failed : I → ℕ) (outlet_failed : O → ℕ) (pace_failed : P → ℕ) (before : Failures) (report : MemberReport I O P T) : Type 0 where
   pub inlet : MatchOption report.inlet (report.receive_failures ≡ 0) (λ inlet. MetAtMost report.receive_failures before.inlet (inlet_failed inlet))
   pub outlet : MatchOption report.outlet (report.send_failures ≡ 0) (λ outlet. MetAtMost report.send_failures before.outlet (outlet_failed outlet))
   pub pace : MatchOption report.pace (report.pace_failures ≡ 0) (λ pace. MetAtMost report.pace_failures before.pace (pace_failed pace))
+  pub lost : FailuresAreLost report.send_failures report.lost
 
 -- so the reports of the first members with these failures before
 abbrev pub TellFailures : {I O P T : Type 0} → (I → ℕ) → (O → ℕ) → (P → ℕ) → List Failures → List (MemberReport I O P T) → Type 0

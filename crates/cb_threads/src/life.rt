@@ -3,6 +3,7 @@
 ghost use Rattle.std.specs.Prelude.{◌≡◌, ◌<◌, [], ◌∷◌, ◌++◌, IfOk, IfSome, IsOkAnd, IsSomeAnd, length, map};
 ghost use Rattle.cb_history.specs.Group.{Parameters};
 ghost use Rattle.cb_threads.specs.Groups.{AreKept, AreMembers, IsKept, tally_in};
+ghost use Rattle.cb_threads.specs.declared.life.LifeFault.TheVariants.{Close};
 ghost use Rattle.cb_threads.specs.declared.report.Failures.{Failures};
 ghost use Rattle.cb_threads.specs.Reports.{EachHandsBack, HandsBack, TellFailures, TellsFailures, failures_in};
 
@@ -375,7 +376,9 @@ fn not_closed<I: Drop, O: Drop, P: Drop, T: Drop>(
     identity: Identity,
     refusal: CloseRefusal,
     report: MemberReport<I, O, P, T>,
-) -> LifeFault {
+) -> LifeFault
+    ensures { result ≡ Close identity.me refusal.fault }
+{
     let CloseRefusal { fault, member } = refusal;
     drop(member.into_history());
     drop(report);

@@ -2,8 +2,9 @@
 
 ghost use Rattle.std.specs.Prelude.{◌≡◌, ◌≢◌, ◌+◌, ◌<◌, ◌≤◌, IfSome, MatchOption, None, Some};
 ghost use Rattle.std.specs.Vec.{vec_capacity, vec_len};
-ghost use Rattle.cb_threads.specs.Counts.{MetAtMost};
-ghost use Rattle.cb_threads.specs.Reports.{HandsBack, Tells, entries_in};
+ghost use Rattle.cb_threads.specs.Counts.{MetAtMost, held};
+ghost use Rattle.cb_threads.specs.Offers.{FailuresAreLost};
+ghost use Rattle.cb_threads.specs.Reports.{HandsBack, Tells, entries_in, lost_in};
 
 use crate::limits::{Ending, Limits, Stop};
 use crate::link::{Inlet, Outlet};
@@ -54,6 +55,7 @@ pub fn run_member<
         (λ outlet. MetAtMost result.0.send_failures (O.failed link.1) (O.failed outlet)) }
     ensures pace { MatchOption result.0.pace (result.0.pace_failures ≡ 0)
         (λ after. MetAtMost result.0.pace_failures (P.failed pace) (P.failed after)) }
+    ensures lost { FailuresAreLost result.0.send_failures result.0.lost }
 {
     let (receiver, timer, speaker, sender) = seats;
     let seats = Seats {
@@ -106,6 +108,7 @@ pub fn run_shared<
         (λ outlet. MetAtMost result.0.send_failures (O.failed parts.outlet) (O.failed outlet)) }
     ensures pace { MatchOption result.0.pace (result.0.pace_failures ≡ 0)
         (λ pace. MetAtMost result.0.pace_failures (P.failed parts.pace) (P.failed pace)) }
+    ensures lost { FailuresAreLost result.0.send_failures result.0.lost }
 {
     let (list, ends) = room(desk.alloc);
     match ends {
@@ -152,6 +155,7 @@ fn unstarted<I: Inlet, O: Outlet, P: Pace, T, L: Ledger>(
         (λ outlet. MetAtMost result.0.send_failures (O.failed parts.outlet) (O.failed outlet)) }
     ensures pace { MatchOption result.0.pace (result.0.pace_failures ≡ 0)
         (λ pace. MetAtMost result.0.pace_failures (P.failed parts.pace) (P.failed pace)) }
+    ensures lost { FailuresAreLost result.0.send_failures result.0.lost }
 {
     ending.talker_ended();
     ending.give_up();
@@ -204,6 +208,7 @@ fn reported<I, O, P, T, L: Ledger>(
 ) -> (MemberReport<I, O, P, T>, Vec<Seat<L>>)
     requires room { 4 ≤ vec_capacity seats }
     requires empty { vec_len seats ≡ 0 }
+    requires unsent { IfSome ended.sent (λ w. FailuresAreLost w.failures w.lost) }
     ensures seats { result.0.fault ≡ None → vec_len result.1 ≡ 4 }
     ensures parts { HandsBack result.0 }
     ensures inlet { MatchOption ended.received
@@ -215,6 +220,10 @@ fn reported<I, O, P, T, L: Ledger>(
     ensures pace { MatchOption ended.timed
         ((result.0.pace ≡ None) × (result.0.pace_failures ≡ 0))
         (λ w. (result.0.pace ≡ Some w.part) × (result.0.pace_failures ≡ w.failures)) }
+    ensures lost { result.0.lost ≡ held (lost_in ended.received (λ w. w.lost)
+        + lost_in ended.timed (λ w. w.lost) + lost_in ended.talked (λ w. w.lost)
+        + lost_in ended.sent (λ w. w.lost)) }
+    ensures unsent { FailuresAreLost result.0.send_failures result.0.lost }
 {
     let fault = if ended.all_ran() {
         None
@@ -232,11 +241,7 @@ fn reported<I, O, P, T, L: Ledger>(
     let timed = hand_back(timed, &mut seats);
     let talked = hand_back(talked, &mut seats);
     let sent = hand_back(sent, &mut seats);
-    let lost = received
-        .lost
-        .saturating_add(timed.lost)
-        .saturating_add(talked.lost)
-        .saturating_add(sent.lost);
+    let lost = all_lost(received.lost, timed.lost, talked.lost, sent.lost);
     let report = MemberReport {
         casts: 0,
         deliveries: 0,
@@ -254,6 +259,17 @@ fn reported<I, O, P, T, L: Ledger>(
     (report, seats)
 }
 
+/// The frames that were lost by all of the workers.
+fn all_lost(receiver: u64, timer: u64, speaker: u64, sender: u64) -> u64
+    ensures all { result ≡ held (receiver + timer + speaker + sender) }
+    ensures some { sender ≤ result }
+{
+    receiver
+        .saturating_add(timer)
+        .saturating_add(speaker)
+        .saturating_add(sender)
+}
+
 /// What came back of a worker, or nothing where its thread could not be started.
 #[derive(Drop)]
 struct HandedBack<D> {
@@ -267,6 +283,9 @@ fn hand_back<D, L: Ledger>(worked: Option<Worked<D, L>>, seats: &mut Vec<Seat<L>
     requires { vec_len seats.old < vec_capacity seats.old }
     ensures part { MatchOption worked ((result.part ≡ None) × (result.failures ≡ 0))
         (λ w. (result.part ≡ Some w.part) × (result.failures ≡ w.failures)) }
+    ensures lost { result.lost ≡ lost_in worked (λ w. w.lost) }
+    ensures unsent { IfSome worked (λ w. FailuresAreLost w.failures w.lost)
+        → FailuresAreLost result.failures result.lost }
     ensures seat { MatchOption worked (vec_len seats.new ≡ vec_len seats.old)
         (λ _. vec_len seats.new ≡ vec_len seats.old + 1) }
     ensures capacity { vec_capacity seats.old ≤ vec_capacity seats.new }

@@ -2,6 +2,7 @@
 
 ghost use Rattle.std.specs.Prelude.{◌≡◌, true, is_some, IfSome, MatchOption, None};
 ghost use Rattle.cb_threads.specs.Counts.{MetAtMost};
+ghost use Rattle.cb_threads.specs.Offers.{FailuresAreLost};
 ghost use Rattle.cb_threads.specs.Reports.{failures_in};
 
 use crate::limits::Ending;
@@ -144,6 +145,7 @@ pub fn run_workers<
         MetAtMost w.failures (O.failed jobs.sender.part) (O.failed w.part)) }
     ensures pace { IfSome result.timed (λ w.
         MetAtMost w.failures (P.failed jobs.timer.part) (P.failed w.part)) }
+    ensures lost { IfSome result.sent (λ w. FailuresAreLost w.failures w.lost) }
 {
     thread::scope(
         thread::scope_env(),
@@ -155,6 +157,7 @@ pub fn run_workers<
                 MetAtMost w.failures (O.failed jobs.sender.part) (O.failed w.part)) }
             ensures pace { IfSome result.timed (λ w.
                 MetAtMost w.failures (P.failed jobs.timer.part) (P.failed w.part)) }
+            ensures lost { IfSome result.sent (λ w. FailuresAreLost w.failures w.lost) }
         { run_in(scope, rt, desk, jobs) },
     )
 }
@@ -181,6 +184,7 @@ fn run_in<
         MetAtMost w.failures (O.failed jobs.sender.part) (O.failed w.part)) }
     ensures pace { IfSome result.timed (λ w.
         MetAtMost w.failures (P.failed jobs.timer.part) (P.failed w.part)) }
+    ensures lost { IfSome result.sent (λ w. FailuresAreLost w.failures w.lost) }
 {
     let Jobs {
         receiver,

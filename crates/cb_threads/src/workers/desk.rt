@@ -52,6 +52,17 @@ impl<D, L: Ledger> Worked<D, L> {
             failures: 0,
         }
     }
+
+    /// Behind the last turn: what the workers' channel did not take was lost.
+    pub fn ended(self, post: &Post) -> Worked<D, L>
+        ensures part { result.part ≡ self.part }
+        ensures failures { result.failures ≡ self.failures }
+        ensures lost { result.lost ≡ post.now.lost }
+    {
+        let mut worked = self;
+        worked.lost = post.lost();
+        worked
+    }
 }
 
 /// Where a worker hands what is to be sent. The sender ends once every worker has let its own go.
@@ -75,7 +86,9 @@ impl Post {
     }
 
     /// How many frames the channel did not take.
-    pub fn lost(&self) -> u64 {
+    pub fn lost(&self) -> u64
+        ensures { result ≡ self.now.lost }
+    {
         self.lost
     }
 

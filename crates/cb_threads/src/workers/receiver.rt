@@ -48,8 +48,7 @@ pub fn take_all<I: Inlet, L: Ledger, R: Wait + Clock>(
     if !desk.ending.has_come() {
         worked.part.close();
     }
-    worked.lost = post.lost();
-    worked
+    worked.ended(&post)
 }
 
 /// Looks at the inlet once. Behind a fault it waits, so that an inlet that fails at each call keeps no processor busy.

@@ -196,7 +196,9 @@ impl<'a, T: Talker, L: Ledger> Speech<'a, T, L> {
         }
     }
 
-    fn ended(self) -> Worked<T, L> {
+    fn ended(self) -> Worked<T, L>
+        ensures { result.lost ≡ self.entry.post.lost }
+    {
         let lost = self.post.lost();
         Worked {
             part: self.talker,

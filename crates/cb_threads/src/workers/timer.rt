@@ -43,8 +43,7 @@ pub fn tick_all<P: Pace, L: Ledger, R: Wait + Clock>(
         }
         wait_once(rt, &mut worked);
     }
-    worked.lost = post.lost();
-    worked
+    worked.ended(&post)
 }
 
 /// Waits for the next tick: as the pace has it, or a millisecond where it fails.
