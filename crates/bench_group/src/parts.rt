@@ -34,6 +34,10 @@ impl<I: Inlet> Inlet for Counting<I> {
         }
         received
     }
+
+    fn close(&mut self) {
+        self.inner.close();
+    }
 }
 
 fn is_cast(received: &Result<Received, LinkFault>) -> bool {

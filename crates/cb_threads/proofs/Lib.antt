@@ -2,3 +2,5 @@ pub mod Rising
 pub mod Telling
 pub mod Order
 pub mod Planning
+pub mod Longest
+pub mod Sending

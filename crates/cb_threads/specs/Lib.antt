@@ -1,4 +1,6 @@
 pub mod Counts
+pub mod Offers
 pub mod FaultText
 pub mod Reports
 pub mod Groups
+pub mod Fitting

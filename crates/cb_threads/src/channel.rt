@@ -1,18 +1,19 @@
 //! A link over channels, for members of one process.
 
-ghost use Rattle.std.specs.Prelude.{◌≡◌, ◌≤◌, IfErr};
+ghost use Rattle.std.specs.Prelude.{◌≡◌, ◌≤◌, IfErr, IfOk, length};
 ghost use Rattle.cb_threads.specs.Counts.{LinkCounts};
+ghost use Rattle.cb_threads.specs.Offers.{bytes_for, is_for};
 
 use crate::link::{Inlet, LinkFault, Offered, Outlet, Received, Unsent};
 use crate::mailbox::{Mailbox, Slot, Taken, new_mailbox};
+use crate::waits::wait;
 use bytes::Bytes;
 use cb_member::Outgoing;
 use crossbeam_channel::SendError;
 use std::alloc::{AllocError, Global};
 use std::slice;
 use std::sync::Wait;
-use std::thread::sleep;
-use std::time::{Clock, Duration};
+use std::time::Clock;
 use std::vec::IntoIter;
 
 /// Links over channels.
@@ -22,6 +23,13 @@ pub struct ChannelLink;
 /// Where the frames of the others come from.
 #[derive(Drop)]
 pub struct ChannelInlet {
+    /// None once it was closed.
+    arrivals: Option<Arrivals>,
+}
+
+/// The frames that come to a member.
+#[derive(Drop)]
+struct Arrivals {
     from: Mailbox<Vec<Bytes>>,
     /// What was taken out, and is not handed on yet.
     came: IntoIter<Bytes>,
@@ -44,10 +52,9 @@ struct End {
 
 impl ChannelLink {
     /// A link for each member of a group of this size, in the order of their numbers. The only fault is out of memory.
-    pub fn group(
-        alloc: Global,
-        size: u32,
-    ) -> Result<Vec<(ChannelInlet, ChannelOutlet)>, LinkFault> {
+    pub fn group(alloc: Global, size: u32) -> Result<Vec<(ChannelInlet, ChannelOutlet)>, LinkFault>
+        ensures { IfOk result (λ links. length links.items ≡ size) }
+    {
         let mut ends = Vec::new(alloc);
         let mut links = Vec::new(alloc);
         for _member in 0..size {
@@ -66,11 +73,9 @@ fn unlinked(
     let (to, from) = new_mailbox(alloc)?;
     ends.push(to)?;
     let came = Vec::new(alloc).into_iter();
+    let arrivals = Some(Arrivals { from, came });
     let to = Vec::new(alloc);
-    Ok((
-        ChannelInlet { from, came },
-        ChannelOutlet { to, failures: 0 },
-    ))
+    Ok((ChannelInlet { arrivals }, ChannelOutlet { to, failures: 0 }))
 }
 
 fn link_all(
@@ -117,28 +122,48 @@ impl Inlet for ChannelInlet {
     }
 
     fn receive<R: Wait + Clock>(&mut self, rt: &R) -> Result<Received, LinkFault> {
-        if let Some(frame) = self.came.next() {
-            return Ok(Received::Frame(frame));
-        }
-        match self.from.take(rt) {
-            Taken::Message(frames) => {
-                self.came = frames.into_iter();
-                Ok(first_of(&mut self.came))
-            }
+        let taken = match &mut self.arrivals {
+            Some(arrivals) => arrivals.take(rt),
+            None => Taken::Closed,
+        };
+        match taken {
+            Taken::Message(frame) => Ok(Received::Frame(frame)),
             Taken::Nothing => Ok(Received::Nothing),
             Taken::Closed => {
-                // The senders are gone: nothing would wait here.
-                sleep(rt, Duration::from_millis(1));
+                // It was closed, or the senders are gone: nothing has waited yet.
+                wait(rt);
                 Ok(Received::Nothing)
             }
         }
     }
+
+    /// The mailbox is freed with all that it holds. Who sends to it is answered a fault.
+    fn close(&mut self) {
+        self.arrivals = None;
+    }
 }
 
-fn first_of(came: &mut IntoIter<Bytes>) -> Received {
+impl Arrivals {
+    /// The next frame, from those that were taken out or from the mailbox.
+    fn take<R: Wait>(&mut self, rt: &R) -> Taken<Bytes> {
+        if let Some(frame) = self.came.next() {
+            return Taken::Message(frame);
+        }
+        match self.from.take(rt) {
+            Taken::Message(frames) => {
+                self.came = frames.into_iter();
+                first_of(&mut self.came)
+            }
+            Taken::Nothing => Taken::Nothing,
+            Taken::Closed => Taken::Closed,
+        }
+    }
+}
+
+fn first_of(came: &mut IntoIter<Bytes>) -> Taken<Bytes> {
     match came.next() {
-        Some(frame) => Received::Frame(frame),
-        None => Received::Nothing,
+        Some(frame) => Taken::Message(frame),
+        None => Taken::Nothing,
     }
 }
 
@@ -222,14 +247,26 @@ fn offer_to_all<R: Wait>(rt: &R, alloc: Global, to: &mut [Option<End>], frames: 
 }
 
 /// Handles of those of the frames that go to this member, in order.
-fn frames_for(alloc: Global, member: usize, frames: &[Outgoing]) -> Result<Vec<Bytes>, AllocError> {
+fn frames_for(alloc: Global, member: usize, frames: &[Outgoing]) -> Result<Vec<Bytes>, AllocError>
+    ensures { IfOk result (λ all. all.items ≡ bytes_for member frames.now) }
+{
     let mut all = Vec::with_capacity(alloc, frames.len())?;
     for frame in frames {
-        if frame.to.is_none_or(|to| to as usize == member) {
+        if is_for(member, frame.to) {
             all.push(frame.bytes.clone()?)?;
         }
     }
     Ok(all)
+}
+
+/// A frame goes to this member: it is for all, or for it.
+fn is_for(member: usize, to: Option<u32>) -> bool
+    ensures { result ≡ is_for member to }
+{
+    match to {
+        Some(to) => to as usize == member,
+        None => true,
+    }
 }
 
 /// Offers frames to one member, where there are some.

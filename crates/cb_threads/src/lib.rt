@@ -9,6 +9,7 @@
 
 mod channel;
 mod group;
+mod laws;
 mod life;
 mod limits;
 mod link;
@@ -19,12 +20,14 @@ mod report;
 mod start;
 mod talker;
 mod udp;
+mod waits;
 mod workers;
 
 pub use channel::{ChannelInlet, ChannelLink, ChannelOutlet};
 pub use group::{GroupFault, GroupReport, run_group};
+pub use laws::each_frame_fits;
 pub use limits::{Limits, Stop};
-pub use link::{Inlet, LinkFault, Outlet, Received, Unsent};
+pub use link::{Inlet, LONGEST_FRAME, LinkFault, Outlet, Received, Unsent};
 pub use member::run_member;
 pub use pace::{Pace, PaceFault};
 pub use report::{MemberReport, WorkerFault};

@@ -1,7 +1,8 @@
 //! Links: where the frames of a member go, and where those of the others come from.
 
-ghost use Rattle.std.specs.Prelude.{◌≡◌, ℕ, ◌≤◌, IfErr, Some};
-ghost use Rattle.cb_threads.specs.Counts.{Counts, LinkCounts, MetAtMost};
+ghost use Rattle.std.specs.Prelude.{◌≡◌, ℕ, ◌+◌, ◌≤◌, ◌||◌, IfErr, Some, false, length, true};
+ghost use Rattle.cb_threads.specs.Counts.{Counts, LinkCounts, MetAtMost, held};
+ghost use Rattle.cb_threads.specs.Offers.{failures_with, lost_of, nothing_offered, refused_with, with_answer};
 ghost use Rattle.cb_threads.specs.FaultText.{link_fault_text};
 
 use bytes::Bytes;
@@ -11,6 +12,9 @@ use std::error::Error;
 use std::fmt;
 use std::sync::Wait;
 use std::time::Clock;
+
+/// The most bytes of a frame: what a cast has with 63 changes, its greatest numbers and 1,024 bytes of payload.
+pub const LONGEST_FRAME: usize = 1_417;
 
 /// What an inlet found.
 #[derive(Debug, PartialEq, Eq, Drop)]
@@ -68,6 +72,12 @@ pub trait Inlet {
         ensures rises { failed self.old ≤ failed self.new }
         ensures fault { IfErr result (λ fault. LinkCounts fault (failed self.old)
             (failed self.new)) };
+
+    /// Takes no more frames: those that came and were not received are dropped, and one that is sent here from now on is lost. By default
+    /// nothing is done, for an inlet in which not more than so much can gather.
+    fn close(&mut self)
+        ensures { failed self.new ≡ failed self.old }
+    {}
 }
 
 /// Where the frames of a member go.
@@ -84,10 +94,10 @@ pub trait Outlet {
         ensures fault { IfErr result (λ fault. LinkCounts fault (failed self.old)
             (failed self.new)) };
 
-    /// Sends frames in order, each as `send` does, and tells how many got a fault. An outlet that can take many at once has a body of
-    /// its own.
+    /// Sends frames in order, each as `send` does, and counts the faults. An outlet that can take many at once has a body of its own.
     fn send_all<R: Wait>(&mut self, rt: &R, frames: &[Outgoing]) -> Unsent
         ensures rises { failed self.old ≤ failed self.new }
+        ensures offered { result.offered ≡ held (length frames.now) }
         ensures met { MetAtMost result.failures (failed self.old) (failed self.new) }
     {
         let mut unsent = Unsent::none();
@@ -99,49 +109,77 @@ pub trait Outlet {
     }
 }
 
-/// What an outlet did not take. The counts stay at their greatest value.
+/// How many frames an outlet was offered, and to how many it answered a fault. The counts stay at their greatest value.
 #[derive(Clone, Copy, Debug, PartialEq, Eq)]
 pub struct Unsent {
-    /// To how many frames it answered a fault.
-    pub lost: u64,
-    /// At how many of these the device failed.
+    /// All frames, whether it took them or not.
+    pub offered: u64,
+    /// At how many of them the device failed.
     pub failures: u64,
+    /// For how many of them memory was refused.
+    pub refused: u64,
 }
 
 impl Unsent {
-    /// Every frame was taken.
+    /// Nothing was offered yet.
     pub fn none() -> Unsent
-        ensures { result.failures ≡ 0 }
+        ensures { result ≡ nothing_offered }
     {
         Unsent {
-            lost: 0,
+            offered: 0,
             failures: 0,
+            refused: 0,
         }
     }
 
     /// One more frame got this answer.
     pub fn and(self, answer: Result<(), LinkFault>) -> Unsent
-        ensures { (old new : ℕ) → old ≤ new → IfErr answer (λ fault. LinkCounts fault old new)
+        ensures answer { result ≡ with_answer self answer }
+        ensures met { (old new : ℕ) → old ≤ new → IfErr answer (λ fault. LinkCounts fault old new)
             → Counts self.failures old result.failures new }
     {
+        let offered = self.offered.saturating_add(1);
         match answer {
-            Ok(()) => self,
+            Ok(()) => Unsent {
+                offered,
+                failures: self.failures,
+                refused: self.refused,
+            },
             Err(fault) => Unsent {
-                lost: self.lost.saturating_add(1),
+                offered,
                 failures: and_fault(self.failures, fault),
+                refused: and_refusal(self.refused, fault),
             },
         }
+    }
+
+    /// To how many frames a fault was answered: at each of them the device failed, or memory was refused.
+    pub fn lost(self) -> u64
+        ensures { result ≡ lost_of self }
+    {
+        self.failures.saturating_add(self.refused)
     }
 }
 
 /// The failures with those of a fault: only a device fails.
 pub fn and_fault(failures: u64, fault: LinkFault) -> u64
-    ensures { (old new : ℕ) → LinkCounts fault old new → old ≤ new
+    ensures exact { result ≡ failures_with failures fault }
+    ensures met { (old new : ℕ) → LinkCounts fault old new → old ≤ new
         → Counts failures old result new }
 {
     match fault {
         LinkFault::Device => failures.saturating_add(1),
         LinkFault::NoMemory => failures,
+    }
+}
+
+/// How often memory was refused, with a fault.
+fn and_refusal(refused: u64, fault: LinkFault) -> u64
+    ensures { result ≡ refused_with refused fault }
+{
+    match fault {
+        LinkFault::Device => refused,
+        LinkFault::NoMemory => refused.saturating_add(1),
     }
 }
 
@@ -151,12 +189,14 @@ pub struct Offered {
     /// How many of them it could not be sent to.
     pub failures: u64,
     /// Whether memory was refused for some.
-    refused: bool,
+    pub refused: bool,
 }
 
 impl Offered {
     /// It was taken, or there was nobody to offer it to.
-    pub fn taken() -> Offered {
+    pub fn taken() -> Offered
+        ensures { (result.failures ≡ 0) × (result.refused ≡ false) }
+    {
         Offered {
             failures: 0,
             refused: false,
@@ -164,7 +204,9 @@ impl Offered {
     }
 
     /// It could not be sent to one member.
-    pub fn failed() -> Offered {
+    pub fn failed() -> Offered
+        ensures { (result.failures ≡ 1) × (result.refused ≡ false) }
+    {
         Offered {
             failures: 1,
             refused: false,
@@ -172,7 +214,9 @@ impl Offered {
     }
 
     /// Memory was refused for one member.
-    pub fn refused() -> Offered {
+    pub fn refused() -> Offered
+        ensures { (result.failures ≡ 0) × (result.refused ≡ true) }
+    {
         Offered {
             failures: 0,
             refused: true,
@@ -180,7 +224,10 @@ impl Offered {
     }
 
     /// Both.
-    pub fn and(self, other: Offered) -> Offered {
+    pub fn and(self, other: Offered) -> Offered
+        ensures failures { result.failures ≡ held (self.failures + other.failures) }
+        ensures refused { result.refused ≡ self.refused || other.refused }
+    {
         Offered {
             failures: self.failures.saturating_add(other.failures),
             refused: self.refused || other.refused,

@@ -3,6 +3,7 @@
 //! The channel alone wakes its reader at each message until the reader runs, and each time the system is called. Here a reader says that
 //! it sleeps, and `Parker` calls the system for the first message only.
 
+use crate::waits::{GATHERING, WAIT};
 use crossbeam_channel::{Receiver, SendError, Sender, TryRecvError, unbounded};
 use std::alloc::{AllocError, Global};
 use std::sync::atomic::{AtomicBool, Ordering};
@@ -11,10 +12,10 @@ use std::thread::Parker;
 use std::time::Duration;
 
 /// Where so many messages have gathered, more are not waited for. Those of links are lists of frames.
-const MANY: usize = 2;
+pub const ENOUGH_GATHERED: usize = 2;
 
-/// For so many messages that were added the reader is woken, whether or not more are to come.
-const MOST_ADDED: usize = 64;
+/// So many messages are taken at once: for so many that were added the reader is woken, whether or not more are to come.
+pub const MOST_AT_ONCE: usize = 64;
 
 /// Whether the reader sleeps, or lets messages gather, and how it is woken.
 #[derive(Drop)]
@@ -90,7 +91,7 @@ impl<M: Drop> Slot<M> {
     /// Puts a message in for a reader that `wake` wakes once all is added. One that is not woken finds it within about a millisecond.
     pub fn add(&self, rt: &impl Wait, message: M) -> Result<(), SendError<M>> {
         self.to.send(rt, message)?;
-        if self.to.len() >= MOST_ADDED {
+        if self.to.len() >= MOST_AT_ONCE {
             self.wake();
         }
         Ok(())
@@ -106,20 +107,21 @@ impl<M: Drop> Slot<M> {
     /// The reader sleeps, or waits for no more than there is.
     fn is_awaited(&self) -> bool {
         self.reader.sleeps.load(Ordering::SeqCst)
-            || self.reader.gathers.load(Ordering::SeqCst) && self.to.len() >= MANY
+            || self.reader.gathers.load(Ordering::SeqCst) && self.to.len() >= ENOUGH_GATHERED
     }
 }
 
 impl<M: Drop> Mailbox<M> {
-    /// The next message, which is waited for where there is none.
+    /// The next message, which is waited for where there is none, a millisecond in all.
     ///
-    /// Where a mailbox has become empty, what is on its way gathers for a moment first.
+    /// Where a mailbox has become empty, what is on its way gathers for a part of that time first.
     pub fn take<R: Wait>(&self, rt: &R) -> Taken<M> {
         if let Some(message) = self.more(rt) {
             return Taken::Message(message);
         }
-        match self.gather(rt) {
-            Taken::Nothing => self.sleep(rt),
+        self.gather(rt);
+        match self.look(rt) {
+            Taken::Nothing => self.sleep(rt, WAIT - GATHERING),
             taken => taken,
         }
     }
@@ -127,7 +129,7 @@ impl<M: Drop> Mailbox<M> {
     /// The same where messages come many at once: none is waited for where there is one.
     pub fn take_at_once<R: Wait>(&self, rt: &R) -> Taken<M> {
         match self.look(rt) {
-            Taken::Nothing => self.sleep(rt),
+            Taken::Nothing => self.sleep(rt, WAIT),
             taken => taken,
         }
     }
@@ -145,30 +147,34 @@ impl<M: Drop> Mailbox<M> {
         }
     }
 
-    /// Lets messages gather, for less than half a millisecond, or until there are many.
-    fn gather<R: Wait>(&self, rt: &R) -> Taken<M> {
+    /// Lets messages gather for a while, or until there are enough. Those that were put in before the reader said that it lets them gather
+    /// woke nobody, so it looks once more behind that.
+    pub fn gather<R: Wait>(&self, rt: &R) {
         self.reader.gathers.store(true, Ordering::SeqCst);
-        self.reader
-            .parker
-            .park_timeout(rt, Duration::from_micros(400));
+        if self.from.len() < ENOUGH_GATHERED {
+            self.park(rt, GATHERING);
+        }
         self.reader.gathers.store(false, Ordering::SeqCst);
-        self.look(rt)
     }
 
-    /// Sleeps until a message is put in, and at most for a millisecond. A message that is put in while the reader falls asleep either is
+    /// Sleeps until a message is put in, and at most for so long. A message that is put in while the reader falls asleep either is
     /// seen by the look or wakes it: each side tells of itself before it looks at the other.
-    fn sleep<R: Wait>(&self, rt: &R) -> Taken<M> {
+    fn sleep<R: Wait>(&self, rt: &R, micros: u64) -> Taken<M> {
         self.reader.sleeps.store(true, Ordering::SeqCst);
         let taken = match self.look(rt) {
             Taken::Nothing => {
-                self.reader
-                    .parker
-                    .park_timeout(rt, Duration::from_millis(1));
+                self.park(rt, micros);
                 self.look(rt)
             }
             taken => taken,
         };
         self.reader.sleeps.store(false, Ordering::SeqCst);
         taken
+    }
+
+    fn park<R: Wait>(&self, rt: &R, micros: u64) {
+        self.reader
+            .parker
+            .park_timeout(rt, Duration::from_micros(micros));
     }
 }

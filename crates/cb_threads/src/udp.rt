@@ -2,9 +2,10 @@
 //!
 //! Each member has a socket to receive on and one to send from, with ports that the system chose.
 
-ghost use Rattle.std.specs.Prelude.{◌≡◌};
+ghost use Rattle.std.specs.Prelude.{◌≡◌, IfOk, MatchResult, false, length};
 
-use crate::link::{Inlet, LinkFault, Offered, Outlet, Received};
+use crate::link::{Inlet, LONGEST_FRAME, LinkFault, Offered, Outlet, Received};
+use crate::waits::wait;
 use bytes::Bytes;
 use cb_member::Outgoing;
 use std::alloc::{AllocError, Global};
@@ -12,11 +13,12 @@ use std::io;
 use std::io::ErrorKind;
 use std::net::{Net, SocketAddr, UdpSocket};
 use std::sync::Wait;
-use std::thread::sleep;
-use std::time::{Clock, Duration};
+use std::time::Clock;
 
-/// One byte more than the longest frame, so that a longer datagram is seen to be no frame.
-const ROOM: usize = 1418;
+/// The room for a datagram: one byte more than the longest frame, so that a longer datagram is seen to be no frame.
+const ROOM: usize = 1_418;
+
+const _: () = prove!(ROOM == LONGEST_FRAME + 1);
 
 /// Any port of the loopback address, which the system chooses.
 const ANY_PORT: &str = "127.0.0.1:0";
@@ -49,7 +51,9 @@ impl UdpLink {
         net: &N,
         alloc: Global,
         size: u32,
-    ) -> Result<Vec<(UdpInlet, UdpOutlet)>, LinkFault> {
+    ) -> Result<Vec<(UdpInlet, UdpOutlet)>, LinkFault>
+        ensures { IfOk result (λ links. length links.items ≡ size) }
+    {
         let mut addresses = Vec::new(alloc);
         let mut links = Vec::new(alloc);
         for me in 0..size {
@@ -136,7 +140,7 @@ impl Inlet for UdpInlet {
             },
             Err(error) => match error.kind() {
                 ErrorKind::WouldBlock | ErrorKind::Interrupted => {
-                    sleep(rt, Duration::from_millis(1));
+                    wait(rt);
                     Ok(Received::Nothing)
                 }
                 _ => {
@@ -183,7 +187,15 @@ fn offer(socket: &UdpSocket, to: Option<&SocketAddr>, frame: &Bytes) -> Offered 
     let Some(address) = to else {
         return Offered::failed();
     };
-    match socket.send_to(frame.as_slice(), *address) {
+    offered(socket.send_to(frame.as_slice(), *address))
+}
+
+/// What came of sending a datagram: the system takes it whole, or refuses it.
+fn offered(sent: io::Result<usize>) -> Offered
+    ensures failures { MatchResult sent (λ _. result.failures ≡ 0) (λ _. result.failures ≡ 1) }
+    ensures refused { result.refused ≡ false }
+{
+    match sent {
         Ok(_count) => Offered::taken(),
         Err(_error) => Offered::failed(),
     }

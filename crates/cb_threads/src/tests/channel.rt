@@ -53,9 +53,13 @@ fn is_next<R: Wait + Clock + Abort>(rt: &R, inlet: &mut ChannelInlet, expected: 
 /// Sends all the frames, of which so many are lost, each at the device.
 fn sends<R: Wait + Abort>(rt: &R, alloc: Global, outlet: &mut ChannelOutlet, lost: u64) {
     let unsent = outlet.send_all(rt, &frames(rt, alloc));
-    let failures = lost;
-    assert_eq!(rt; unsent, Unsent { lost, failures });
-    assert_eq!(rt; outlet.failures(), failures);
+    let expected = Unsent {
+        offered: 5,
+        failures: lost,
+        refused: 0,
+    };
+    assert_eq!(rt; unsent, expected);
+    assert_eq!(rt; outlet.failures(), lost);
 }
 
 #[test]

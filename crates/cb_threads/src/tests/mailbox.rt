@@ -1,11 +1,13 @@
 //! A mailbox with two slots, in one thread.
 
-use crate::mailbox::{Taken, new_mailbox};
+use crate::mailbox::{ENOUGH_GATHERED, Taken, new_mailbox};
+use crate::waits::{GATHERING, WAIT};
 use crate::workers::Post;
 use bytes::Bytes;
 use cb_member::Outgoing;
 use std::process::Abort;
 use std::test::*;
+use std::time::{Clock, Duration};
 
 /// This message was taken, or none was there.
 fn gave(rt: &impl Abort, taken: Taken<u32>, expected: Option<u32>) {
@@ -41,6 +43,45 @@ fn a_mailbox_is_closed_once_its_last_slot_is_gone_and_it_is_empty(rt: HostRuntim
     drop(slot);
     gave(&rt, mailbox.take_at_once(&rt), Some(1));
     assert!(&rt; matches!(mailbox.take_at_once(&rt), Taken::Closed));
+}
+
+/// So often a reader lets messages gather of which there are enough.
+const GATHERINGS: u64 = 5_000;
+
+/// So often a reader takes from an empty mailbox. The machine may be busy: of the times that it takes the least counts.
+const LOOKS: u32 = 100;
+
+/// Nobody wakes a reader for what was put in before it said that it lets messages gather.
+#[test]
+fn a_reader_does_not_wait_for_what_is_there(rt: HostRuntime) {
+    let (slot, mailbox) = new_mailbox(rt.alloc()).expect(&rt, "a mailbox");
+    for number in 0..ENOUGH_GATHERED {
+        assert!(&rt; slot.put(&rt, number).is_ok());
+    }
+    let begun = rt.monotonic().expect(&rt, "a clock");
+    for _gathering in 0..GATHERINGS {
+        mailbox.gather(&rt);
+    }
+    let ended = rt.monotonic().expect(&rt, "a clock");
+    let all = Duration::from_micros(GATHERING * GATHERINGS);
+    assert!(&rt; ended.saturating_sub(begun) < all);
+    drop(slot);
+}
+
+/// Gathering and sleeping take a millisecond together.
+#[test]
+fn nothing_is_found_after_a_millisecond(rt: HostRuntime) {
+    let (slot, mailbox) = new_mailbox::<u32>(rt.alloc()).expect(&rt, "a mailbox");
+    let mut least = Duration::from_secs(1);
+    for _look in 0..LOOKS {
+        let begun = rt.monotonic().expect(&rt, "a clock");
+        gave(&rt, mailbox.take(&rt), None);
+        let ended = rt.monotonic().expect(&rt, "a clock");
+        least = least.min(ended.saturating_sub(begun));
+    }
+    assert!(&rt; least >= Duration::from_micros(WAIT));
+    assert!(&rt; least < Duration::from_micros(WAIT + GATHERING));
+    drop(slot);
 }
 
 #[test]

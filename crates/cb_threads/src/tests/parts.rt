@@ -262,6 +262,10 @@ impl<I: Inlet> Inlet for Failing<I> {
         };
         self.note(answer)
     }
+
+    fn close(&mut self) {
+        self.inner.close();
+    }
 }
 
 impl<O: Outlet> Outlet for Failing<O> {
@@ -298,6 +302,54 @@ impl Pace for Uneven {
         sleep(rt, Duration::from_millis(1));
         self.failures = self.failures.saturating_add(1);
         Err(PaceFault)
+    }
+}
+
+/// What fails at each call, at once.
+#[derive(Drop)]
+pub struct Broken {
+    pub failures: u64,
+}
+
+impl Inlet for Broken {
+    ghost failed = { λ b. b.failures };
+
+    fn failures(&self) -> u64 {
+        self.failures
+    }
+
+    fn receive<R: Wait + Clock>(&mut self, _rt: &R) -> Result<Received, LinkFault> {
+        self.failures = self.failures.saturating_add(1);
+        Err(LinkFault::Device)
+    }
+}
+
+impl Pace for Broken {
+    ghost failed = { λ b. b.failures };
+
+    fn failures(&self) -> u64 {
+        self.failures
+    }
+
+    fn wait<R: Wait + Clock>(&mut self, _rt: &R) -> Result<(), PaceFault> {
+        self.failures = self.failures.saturating_add(1);
+        Err(PaceFault)
+    }
+}
+
+/// What never waits.
+#[derive(Drop)]
+pub struct Hasty;
+
+impl Pace for Hasty {
+    ghost failed = { λ h. 0 };
+
+    fn failures(&self) -> u64 {
+        0
+    }
+
+    fn wait<R: Wait + Clock>(&mut self, _rt: &R) -> Result<(), PaceFault> {
+        Ok(())
     }
 }
 

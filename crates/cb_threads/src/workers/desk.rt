@@ -43,6 +43,7 @@ impl<D, L: Ledger> Worked<D, L> {
     pub fn new(part: D, seat: Seat<L>) -> Worked<D, L>
         ensures part { result.part ≡ part }
         ensures failures { result.failures ≡ 0 }
+        ensures lost { result.lost ≡ 0 }
     {
         Worked {
             part,

@@ -5,6 +5,7 @@ ghost use Rattle.cb_threads.specs.Counts.{Counts, MetAtMost};
 
 use crate::link::{Inlet, Received, and_fault};
 use crate::mailbox::Slot;
+use crate::waits::wait;
 use crate::workers::desk::{Desk, Job, Post, Worked};
 use bytes::Bytes;
 use cb_lock::{Seat, SharedMember};
@@ -25,6 +26,9 @@ impl<I: Inlet, L: Ledger> Promise<Worked<I, L>> for InletCounts {
 }
 
 /// Takes what comes, one look at the inlet in each turn.
+///
+/// Where its turns are used up it closes the inlet, since nobody takes anything from there any more: others may still send for as long as
+/// their turns last. Where the workers are to end, so are those of the others.
 pub fn take_all<I: Inlet, L: Ledger, R: Wait + Clock>(
     rt: &R,
     desk: &Desk<'_, L>,
@@ -41,11 +45,14 @@ pub fn take_all<I: Inlet, L: Ledger, R: Wait + Clock>(
         }
         take_once(rt, desk, &mut post, &mut worked);
     }
+    if !desk.ending.has_come() {
+        worked.part.close();
+    }
     worked.lost = post.lost();
     worked
 }
 
-/// Looks at the inlet once.
+/// Looks at the inlet once. Behind a fault it waits, so that an inlet that fails at each call keeps no processor busy.
 fn take_once<I: Inlet, L: Ledger, R: Wait + Clock>(
     rt: &R,
     desk: &Desk<'_, L>,
@@ -58,7 +65,10 @@ fn take_once<I: Inlet, L: Ledger, R: Wait + Clock>(
     match worked.part.receive(rt) {
         Ok(Received::Frame(frame)) => take(rt, desk.shared, &mut worked.seat, post, frame),
         Ok(Received::Nothing) => {}
-        Err(fault) => worked.failures = and_fault(worked.failures, fault),
+        Err(fault) => {
+            worked.failures = and_fault(worked.failures, fault);
+            wait(rt);
+        }
     }
 }
 

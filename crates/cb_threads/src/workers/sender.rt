@@ -1,10 +1,11 @@
 //! The worker that sends.
 
-ghost use Rattle.std.specs.Prelude.{◌≡◌};
+ghost use Rattle.std.specs.Prelude.{◌≡◌, length};
 ghost use Rattle.cb_threads.specs.Counts.{Counts, MetAtMost};
+ghost use Rattle.cb_threads.specs.Offers.{AddsUnsent, FailuresAreLost};
 
 use crate::link::Outlet;
-use crate::mailbox::{Mailbox, Taken};
+use crate::mailbox::{MOST_AT_ONCE, Mailbox, Taken};
 use crate::workers::desk::{Job, Worked};
 use cb_member::Outgoing;
 use std::alloc::Global;
@@ -13,18 +14,16 @@ use std::sync::Wait;
 use std::sync::ledger::Ledger;
 use std::thread::Promise;
 
-/// A promise: the failures that were met are those that an outlet counted since it had counted this.
+/// A promise: the failures that were met are those that an outlet counted since it had counted this, and at each a frame was lost.
 #[derive(Clone, Copy)]
 pub struct OutletCounts {
     pub before: u64,
 }
 
 impl<O: Outlet, L: Ledger> Promise<Worked<O, L>> for OutletCounts {
-    ghost kept_by = { λ p r. MetAtMost r.failures p.before (O.failed r.part) };
+    ghost kept_by = { λ p r. MetAtMost r.failures p.before (O.failed r.part)
+        × FailuresAreLost r.failures r.lost };
 }
-
-/// So many frames at most are sent at once.
-const MANY: usize = 64;
 
 /// Sends what the other workers hand over, until all of them have ended.
 pub fn send_all<O: Outlet, L: Ledger, R: Wait>(
@@ -32,11 +31,12 @@ pub fn send_all<O: Outlet, L: Ledger, R: Wait>(
     alloc: Global,
     job: Job<O, Mailbox<Outgoing>, L>,
 ) -> Worked<O, L>
-    ensures { MetAtMost result.failures (O.failed job.part) (O.failed result.part) }
+    ensures met { MetAtMost result.failures (O.failed job.part) (O.failed result.part) }
+    ensures lost { FailuresAreLost result.failures result.lost }
 {
     let Job { part, seat, end } = job;
     let mut worked = Worked::new(part, seat);
-    let mut list = Vec::with_capacity(alloc, MANY).unwrap_or(Vec::new(alloc));
+    let mut list = Vec::with_capacity(alloc, MOST_AT_ONCE).unwrap_or(Vec::new(alloc));
     for _ in rt.forever() {
         let Some(frame) = next(rt, &end) else {
             break;
@@ -59,6 +59,7 @@ fn next<R: Wait>(rt: &R, frames: &Mailbox<Outgoing>) -> Option<Outgoing> {
 }
 
 /// Sends a frame, and with it what else is there, as far as the list has room. The list is empty before and behind it.
+#[tactic(auto, using(crate::proofs::Sending::stay_lost))]
 fn send_with_more<O: Outlet, L: Ledger, R: Wait>(
     rt: &R,
     frames: &Mailbox<Outgoing>,
@@ -66,8 +67,10 @@ fn send_with_more<O: Outlet, L: Ledger, R: Wait>(
     list: &mut Vec<Outgoing>,
     worked: &mut Worked<O, L>,
 )
-    ensures { Counts (worked.old.failures) (O.failed worked.old.part)
+    ensures met { Counts (worked.old.failures) (O.failed worked.old.part)
         (worked.new.failures) (O.failed worked.new.part) }
+    ensures lost { FailuresAreLost worked.old.failures worked.old.lost
+        → FailuresAreLost worked.new.failures worked.new.lost }
 {
     match list.push(frame) {
         Ok(()) => {
@@ -81,7 +84,7 @@ fn send_with_more<O: Outlet, L: Ledger, R: Wait>(
 
 /// Adds frames that are there already, as long as the list has room for them.
 fn add_more<R: Wait>(rt: &R, frames: &Mailbox<Outgoing>, list: &mut Vec<Outgoing>) {
-    for _ in 1..MANY {
+    for _ in 1..MOST_AT_ONCE {
         if list.len() >= list.capacity() {
             break;
         }
@@ -96,10 +99,12 @@ fn add_more<R: Wait>(rt: &R, frames: &Mailbox<Outgoing>, list: &mut Vec<Outgoing
 
 /// Sends frames. One that the outlet does not take is lost.
 fn send<O: Outlet, L: Ledger, R: Wait>(rt: &R, frames: &[Outgoing], worked: &mut Worked<O, L>)
-    ensures { Counts (worked.old.failures) (O.failed worked.old.part)
+    ensures met { Counts (worked.old.failures) (O.failed worked.old.part)
         (worked.new.failures) (O.failed worked.new.part) }
+    ensures lost { AddsUnsent (length frames.now) worked.old.lost worked.old.failures
+        worked.new.lost worked.new.failures }
 {
     let unsent = worked.part.send_all(rt, frames);
-    worked.lost = worked.lost.saturating_add(unsent.lost);
+    worked.lost = worked.lost.saturating_add(unsent.lost());
     worked.failures = worked.failures.saturating_add(unsent.failures);
 }

@@ -5,6 +5,7 @@ ghost use Rattle.cb_threads.specs.Counts.{Counts, MetAtMost};
 
 use crate::mailbox::Slot;
 use crate::pace::Pace;
+use crate::waits;
 use crate::workers::desk::{Desk, Job, Post, Worked};
 use cb_member::Outgoing;
 use std::sync::Wait;
@@ -46,12 +47,13 @@ pub fn tick_all<P: Pace, L: Ledger, R: Wait + Clock>(
     worked
 }
 
-/// Waits for the next tick.
+/// Waits for the next tick: as the pace has it, or a millisecond where it fails.
 fn wait_once<P: Pace, L: Ledger, R: Wait + Clock>(rt: &R, worked: &mut Worked<P, L>)
     ensures { Counts (worked.old.failures) (P.failed worked.old.part)
         (worked.new.failures) (P.failed worked.new.part) }
 {
     if worked.part.wait(rt).is_err() {
         worked.failures = worked.failures.saturating_add(1);
+        waits::wait(rt);
     }
 }

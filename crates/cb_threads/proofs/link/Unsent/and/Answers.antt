@@ -3,5 +3,5 @@ use Rattle.cb_threads.specs.Counts.{LinkCounts}
 use Rattle.cb_threads.specs.declared.link.LinkFault.{LinkFault}
 use Rattle.cb_threads.proofs.link.Unsent.and.Goals as goal
 
-pub returns-in-Err : goal.returns-in-Err
-returns-in-Err c = λ old new rises counted. c.and_fault.ensures old new (subst (λ (r : Result Unit LinkFault). IfErr r (λ fault. LinkCounts fault old new)) c.in-Err.is counted) rises
+pub returns-in-Err-clause-met : goal.returns-in-Err-clause-met
+returns-in-Err-clause-met c = λ old new rises counted. c.and_fault.ensures.met old new (subst (λ (r : Result Unit LinkFault). IfErr r (λ fault. LinkCounts fault old new)) c.in-Err.is counted) rises
