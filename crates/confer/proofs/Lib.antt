@@ -6,3 +6,5 @@ pub mod Arriving
 pub mod Naming
 pub mod Auditing
 pub mod Conferring
+pub mod Casting
+pub mod Scripts
