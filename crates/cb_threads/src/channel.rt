@@ -1,6 +1,6 @@
 //! A link over channels, for members of one process.
 
-ghost use Rattle.std.specs.Prelude.{◌≡◌, ◌≤◌, IfErr};
+ghost use Rattle.std.specs.Prelude.{◌≡◌, ◌≤◌, IfOk, IfErr, length};
 ghost use Rattle.cb_threads.specs.Counts.{LinkCounts};
 
 use crate::link::{Inlet, LinkFault, Offered, Outlet, Received, Unsent};
@@ -44,10 +44,9 @@ struct End {
 
 impl ChannelLink {
     /// A link for each member of a group of this size, in the order of their numbers. The only fault is out of memory.
-    pub fn group(
-        alloc: Global,
-        size: u32,
-    ) -> Result<Vec<(ChannelInlet, ChannelOutlet)>, LinkFault> {
+    pub fn group(alloc: Global, size: u32) -> Result<Vec<(ChannelInlet, ChannelOutlet)>, LinkFault>
+        ensures { IfOk result (λ links. length links.items ≡ size) }
+    {
         let mut ends = Vec::new(alloc);
         let mut links = Vec::new(alloc);
         for _member in 0..size {

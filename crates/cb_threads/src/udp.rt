@@ -2,7 +2,7 @@
 //!
 //! Each member has a socket to receive on and one to send from, with ports that the system chose.
 
-ghost use Rattle.std.specs.Prelude.{◌≡◌};
+ghost use Rattle.std.specs.Prelude.{◌≡◌, IfOk, length};
 
 use crate::link::{Inlet, LinkFault, Offered, Outlet, Received};
 use bytes::Bytes;
@@ -49,7 +49,9 @@ impl UdpLink {
         net: &N,
         alloc: Global,
         size: u32,
-    ) -> Result<Vec<(UdpInlet, UdpOutlet)>, LinkFault> {
+    ) -> Result<Vec<(UdpInlet, UdpOutlet)>, LinkFault>
+        ensures { IfOk result (λ links. length links.items ≡ size) }
+    {
         let mut addresses = Vec::new(alloc);
         let mut links = Vec::new(alloc);
         for me in 0..size {
