@@ -9,7 +9,7 @@ use Rattle.cb_threads.specs.declared.report.Tally.{Tally}
 use Rattle.cb_threads.specs.Groups.{AreKept}
 use Rattle.cb_trace.specs.Text.{HistoryFields, history_fields}
 use Rattle.cb_trace.specs.Auditing.{AreLegalHistories, entries_at, seat_of}
-use Rattle.confer.specs.Run.{AreCounts, AreLines, IsLine, member_line}
+use Rattle.confer.specs.Run.{AreCounts, Report, report_line, report_lines}
 
 -- ---- the histories
 
@@ -52,21 +52,18 @@ counts_kept group me (g ∷ hs) (t ∷ ts) all = (all.0.counts, counts_kept grou
 -- ---- the lines
 
 -- with the lines of those that are left, the text so far has all
-abbrev pub Continues : {R : Type 0} (tally : R → Tally) (reports : List R) (me : ℕ) (text : List ℕ) → Type 0
-Continues tally reports me text = (rest : List ℕ) → AreLines me (map tally (drop me reports)) rest → AreLines 0 (map tally reports) (text ++ rest)
+abbrev pub Continues : {I O : Type 0} → List (Report I O) → ℕ → List ℕ → Type 0
+Continues reports me text = text ++ report_lines me (drop me reports) ≡ report_lines 0 reports
 
-pub continues : {R : Type 0} (tally : R → Tally) (reports : List R) (me : ℕ) (r : R) (text text' : List ℕ) (lost orphans : ℕ) → me < length reports → r ≡ get_or reports me r → text' ≡ text ++ member_line me (tally r) lost orphans
-    → Continues tally reports me text → Continues tally reports (me + 1) text'
-continues {R} tally reports me r text text' lost orphans within is e before rest lines =
-    let at : drop me reports ≡ r ∷ drop (me + 1) reports = drop_more reports me r within ∙ ap (λ (x : R). x ∷ drop (me + 1) reports) (sym is) in
-    let line = member_line me (tally r) lost orphans in
-    let one : IsLine me (tally r) line = record { lost = lost; orphans = orphans; text = refl } in
-    let next : AreLines (suc me) (map tally (drop (me + 1) reports)) rest = subst (λ (n : ℕ). AreLines n (map tally (drop (me + 1) reports)) rest) (omega arith) lines in
-    let more : AreLines me (map tally (drop me reports)) (line ++ rest) =
-    subst (λ (rs : List R). AreLines me (map tally rs) (line ++ rest)) (sym at) (line, rest, refl, one, next) in
-    subst (AreLines 0 (map tally reports)) (sym (append_assoc text line rest) ∙ sym (ap (λ (t : List ℕ). t ++ rest) e)) (before (line ++ rest) more)
+pub continues : {I O : Type 0} (reports : List (Report I O)) (me : ℕ) (r : Report I O) (text text' : List ℕ) → me < length reports → r ≡ get_or reports me r → text' ≡ text ++ report_line me r
+    → Continues reports me text → Continues reports (me + 1) text'
+continues {I} {O} reports me r text text' within is e before =
+    let at : drop me reports ≡ r ∷ drop (me + 1) reports = drop_more reports me r within ∙ ap (λ (x : Report I O). x ∷ drop (me + 1) reports) (sym is) in
+    let rest = report_lines (me + 1) (drop (me + 1) reports) in
+    let next : report_lines me (drop me reports) ≡ report_line me r ++ rest =
+    ap (report_lines me) at ∙ ap (λ (n : ℕ). report_line me r ++ report_lines n (drop (me + 1) reports)) (omega arith) in
+    ap (λ (t : List ℕ). t ++ rest) e ∙ append_assoc text (report_line me r) rest ∙ sym (ap (λ (t : List ℕ). text ++ t) next) ∙ before
 
-pub all_lines : {R : Type 0} (tally : R → Tally) (reports : List R) (me : ℕ) (text : List ℕ) → length reports ≤ me → Continues tally reports me text → AreLines 0 (map tally reports) text
-all_lines {R} tally reports me text many all =
-    let none : AreLines me (map tally (drop me reports)) [] = subst (λ (rs : List R). AreLines me (map tally rs) []) (sym (drop_all me reports many)) refl in
-    subst (AreLines 0 (map tally reports)) (append-nil text) (all [] none)
+pub all_lines : {I O : Type 0} (reports : List (Report I O)) (me : ℕ) (text : List ℕ) → length reports ≤ me → Continues reports me text → text ≡ report_lines 0 reports
+all_lines {I} {O} reports me text many all =
+    sym (append-nil text) ∙ ap (λ (rs : List (Report I O)). text ++ report_lines me rs) (sym (drop_all me reports many)) ∙ all

@@ -8,3 +8,4 @@ pub mod Auditing
 pub mod Conferring
 pub mod Casting
 pub mod Scripts
+pub mod Seeing

@@ -4,5 +4,6 @@ pub mod Play
 pub mod Playing
 pub mod Audit
 pub mod Run
+pub mod Talking
 pub mod Cli
 pub mod Rooms

@@ -1,20 +1,37 @@
--- What `confer run` prints of the histories of a conference in threads.
-use Rattle.std.specs.Prelude.{◌≡◌, ℕ, suc, Bool, true, false, List, [], ◌∷◌, ◌++◌, codes, Option}
+-- What `confer run` prints of the histories of a conference in threads, and where it stops.
+use Rattle.std.specs.Prelude.{◌≡◌, ℕ, suc, Bool, true, false, List, [], ◌∷◌, ◌++◌, codes, map, Option, Some, None}
 use Rattle.std.specs.Io.KnownBytes.{Appends}
 use Rattle.cb_history.specs.Group.{Parameters}
+use Rattle.cb_threads.specs.declared.report.MemberReport.{MemberReport}
 use Rattle.cb_threads.specs.declared.report.Tally.{Tally}
-use Rattle.cb_threads.specs.Reports.{IsTally}
+use Rattle.cb_threads.specs.declared.channel.ChannelInlet.{ChannelInlet}
+use Rattle.cb_threads.specs.declared.channel.ChannelOutlet.{ChannelOutlet}
+use Rattle.cb_threads.specs.declared.udp.UdpInlet.{UdpInlet}
+use Rattle.cb_threads.specs.declared.udp.UdpOutlet.{UdpOutlet}
+use Rattle.cb_threads.specs.Groups.{tally_in}
+use Rattle.cb_threads.specs.Reports.{EachHandsBack, IsTally}
 use Rattle.cb_world.specs.World.{WorldState}
 use Rattle.cb_trace.specs.declared.fault.AuditFault.{AuditFault}
 use Rattle.cb_trace.specs.Text.{HistoryFields}
 use Rattle.cb_trace.specs.Bounds.{IsTextOf}
 use Rattle.cb_trace.specs.Auditing.{IsAudited, AreLegalHistories}
+use Rattle.confer.specs.declared.run.fault.RunFault.{RunFault}
+use Rattle.confer.specs.declared.run.fault.RunFault.TheVariants as faults
+use Rattle.confer.specs.declared.run.participant.Participant.{Participant}
+use Rattle.confer.specs.declared.run.running.Millisecond.{Millisecond}
+use Rattle.confer.specs.declared.run.setting.LinkKind.{LinkKind}
+use Rattle.confer.specs.declared.run.setting.LinkKind.TheVariants as links
 use Rattle.confer.specs.declared.run.setting.RunSetting.{RunSetting}
 use Rattle.confer.specs.Audit.{Refuses, parameter_text, refusal_text}
+use Rattle.confer.specs.Expand.Runs.{WritesPart}
 
 -- the group of a conference
 abbrev pub group_of : RunSetting → Parameters
 group_of setting = record { number = 7; size = setting.size; window = setting.window }
+
+-- what became of a member of a conference, over a link with these ends
+abbrev pub Report : Type 0 → Type 0 → Type 0
+Report I O = MemberReport I O Millisecond Participant
 
 -- ---- the members' lines
 
@@ -29,17 +46,19 @@ unfoldable pub member_line : ℕ → Tally → ℕ → ℕ → List ℕ
 member_line me tally lost orphans =
     done_text me tally ++ parameter_text (codes " lost ") lost ++ parameter_text (codes " orphans ") orphans ++ codes "\n"
 
--- the line of a member with these counts
-pub record IsLine (me : ℕ) (tally : Tally) (line : List ℕ) : Type 0 where
-  pub lost : ℕ
-  pub orphans : ℕ
-  pub text : line ≡ member_line me tally lost orphans
+-- the answers that a participant was shown before their question
+abbrev pub orphans_of : Option Participant → ℕ
+orphans_of (Some participant) = participant.orphans
+orphans_of None = 0
 
--- a line for each member from this one on
-abbrev pub AreLines : ℕ → List Tally → List ℕ → Type 0
-AreLines me [] text = text ≡ []
-AreLines me (tally ∷ tallies) text =
-    (line : List ℕ) × (rest : List ℕ) × (text ≡ line ++ rest) × IsLine me tally line × AreLines (suc me) tallies rest
+-- the line of a member's report
+abbrev pub report_line : {I O : Type 0} → ℕ → Report I O → List ℕ
+report_line me report = member_line me (tally_in report) report.lost (orphans_of report.talker)
+
+-- a line for each report, of the members from this one on
+abbrev pub report_lines : {I O : Type 0} → ℕ → List (Report I O) → List ℕ
+report_lines me [] = []
+report_lines me (report ∷ reports) = report_line me report ++ report_lines (suc me) reports
 
 -- the counts of each history
 abbrev pub AreCounts : List HistoryFields → List Tally → Type 0
@@ -47,12 +66,6 @@ AreCounts [] [] = Unit {0}
 AreCounts [] (tally ∷ tallies) = ⊥
 AreCounts (h ∷ histories) [] = ⊥
 AreCounts (h ∷ histories) (tally ∷ tallies) = IsTally h.entries tally × AreCounts histories tallies
-
--- a line for each member, with the counts of its history
-pub record AreMemberLines (histories : List HistoryFields) (text : List ℕ) : Type 0 where
-  pub tallies : List Tally
-  pub counts : AreCounts histories tallies
-  pub lines : AreLines 0 tallies text
 
 -- ---- the last line
 
@@ -69,19 +82,55 @@ pub record EndsWithAudit (lines : List ℕ) (histories : List HistoryFields) (re
 
 -- ---- all of it
 
--- the trace of the histories; or, where none is asked for, the lines of the members and what the audit of the histories said
-abbrev pub Shows : Bool → List HistoryFields → Bool → List ℕ → Type 0
-Shows true histories refused text = (refused ≡ false) × IsTextOf histories text
-Shows false histories refused text = (lines : List ℕ) × AreMemberLines histories lines × EndsWithAudit lines histories refused text
+-- the trace of the histories, which nothing refuses
+abbrev pub IsTraceText : List HistoryFields → Bool → List ℕ → Type 0
+IsTraceText histories refused text = (refused ≡ false) × IsTextOf histories text
 
--- so of a legal history of each member
-pub record ShowsRun (setting : RunSetting) (refused : Bool) (text : List ℕ) : Type 0 where
+-- the trace of the histories; or, where none is asked for, these lines and what the audit of the histories said
+abbrev pub Shows : Bool → List ℕ → List HistoryFields → Bool → List ℕ → Type 0
+Shows true lines histories refused text = IsTraceText histories refused text
+Shows false lines histories refused text = EndsWithAudit lines histories refused text
+
+-- Each member has a report with the counts of its history, which is legal, and with all parts that it ran with, unless a fault is told.
+-- The lines are those of the reports.
+pub record ShowsReports {I O : Type 0} (setting : RunSetting) (reports : List (Report I O)) (refused : Bool) (text : List ℕ) : Type 0 where
   pub histories : List HistoryFields
   pub legal : AreLegalHistories (group_of setting) histories
-  pub shows : Shows setting.trace histories refused text
+  pub counts : AreCounts histories (map tally_in reports)
+  pub parts : EachHandsBack reports
+  pub shows : Shows setting.trace (report_lines 0 reports) histories refused text
+
+-- so of the members that ran over these links
+abbrev pub ShowsOver : {I O : Type 0} → List (I × O) → RunSetting → Bool → List ℕ → Type 0
+ShowsOver {I} {O} links setting refused text = (reports : List (Report I O)) × ShowsReports setting reports refused text
+
+-- and over links of this kind
+abbrev pub ShowsBy : LinkKind → RunSetting → Bool → List ℕ → Type 0
+ShowsBy links.Channel setting refused text = (reports : List (Report ChannelInlet ChannelOutlet)) × ShowsReports setting reports refused text
+ShowsBy links.Udp setting refused text = (reports : List (Report UdpInlet UdpOutlet)) × ShowsReports setting reports refused text
+
+abbrev pub ShowsRun : RunSetting → Bool → List ℕ → Type 0
+ShowsRun setting refused text = ShowsBy setting.link setting refused text
 
 -- which was written
 pub record PrintsRun (setting : RunSetting) (refused : Bool) (before now : Option (List ℕ)) : Type 0 where
   pub text : List ℕ
   pub written : Appends before now text
   pub shown : ShowsRun setting refused text
+
+-- ---- where it stops
+
+-- a beginning of such a text was written
+pub record PrintsPart (setting : RunSetting) (before now : Option (List ℕ)) : Type 0 where
+  pub refused : Bool
+  pub text : List ℕ
+  pub shown : ShowsRun setting refused text
+  pub part : WritesPart before now text
+
+-- what stands written where a conference stops by this fault: nothing, unless its text was being written
+abbrev pub StopsRun : RunSetting → RunFault → Option (List ℕ) → Option (List ℕ) → Type 0
+StopsRun setting faults.Write before now = PrintsPart setting before now
+StopsRun setting faults.NoLink before now = now ≡ before
+StopsRun setting faults.NoThread before now = now ≡ before
+StopsRun setting faults.BadReceipts before now = now ≡ before
+StopsRun setting faults.NoMemory before now = now ≡ before

@@ -17,7 +17,4 @@ mod tests;
 
 pub use fault::RunFault;
 pub use running::run_conference;
-pub use setting::{
-    DEFAULT_QUESTIONS, DEFAULT_SIZE, DEFAULT_TURNS, DEFAULT_WINDOW, LinkKind, MOST_QUESTIONS,
-    MOST_TURNS, MOST_WORKING, RunSetting,
-};
+pub use setting::{LinkKind, RunSetting};

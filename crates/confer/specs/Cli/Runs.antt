@@ -10,9 +10,12 @@ use Rattle.confer.specs.Expand.Runs.{WritesPart, Stops}
 use Rattle.confer.specs.Streams.{IsWithinLimit, WritesSome}
 use Rattle.confer.specs.Play.{StopsPlaying}
 use Rattle.confer.specs.Audit.{Answers, StopsAuditing}
-use Rattle.confer.specs.Run.{PrintsRun}
+use Rattle.confer.specs.Run.{PrintsRun, StopsRun}
+use Rattle.confer.specs.declared.run.fault.RunFault.{RunFault}
+use Rattle.confer.specs.declared.cli.run.Carried.{Carried}
+use Rattle.confer.specs.declared.cli.run.Carried.TheVariants as carried
 use Rattle.confer.specs.Cli.Orders.{OrdersExpand, OrdersPlay, OrdersAudit, OrdersRun, RefusesWords}
-use Rattle.confer.specs.Cli.Statuses.{status_of, said_of}
+use Rattle.confer.specs.Cli.Statuses.{status_of, said_of, run_status, run_said}
 
 -- the words order an expansion, and the whole input was expanded
 pub record Expanded (words : List Text) (refused : Bool) (input before now : Option (List ℕ)) : Type 0 where
@@ -46,6 +49,11 @@ StoppedBy words (faults.Play fault) input left before now = OrdersPlay words × 
 StoppedBy words (faults.Audit fault) input left before now = OrdersAudit words × StopsAuditing fault input before now
 StoppedBy words fault input left before now = RefusesWords words fault × (left ≡ input) × (now ≡ before)
 
+-- what the words order was done, or they order a conference in threads, and nothing was read or written
+abbrev pub CarriesOut : List Text → Carried → Option (List ℕ) → Option (List ℕ) → Option (List ℕ) → Option (List ℕ) → Type 0
+CarriesOut words (carried.Done refused) input left before now = Done words refused input before now
+CarriesOut words (carried.LeftToThreads setting) input left before now = OrdersRun words setting × (left ≡ input) × (now ≡ before)
+
 -- the words order a conference in threads; nothing is read, written or said
 pub record LeavesToThreads (words : List Text) (input left before now silent said : Option (List ℕ)) : Type 0 where
   pub setting : RunSetting
@@ -61,12 +69,17 @@ Ends words status input left before now silent said =
     ⊎ ((fault : Fault) × (status ≡ status_of fault) × StoppedBy words fault input left before now
     × IfSome (said_of fault) (WritesPart silent said))
 
--- a conference in threads was run, audited and printed, or stopped by a fault, which is said; the words may be refused where memory runs out
+-- A conference in threads was run, audited and printed; or it stopped by a fault of its own, which is said, with what stands written then.
+abbrev pub EndsRun : RunSetting → ℕ → Option (List ℕ) → Option (List ℕ) → Option (List ℕ) → Option (List ℕ) → Type 0
+EndsRun setting status before now silent said =
+    ((refused : Bool) × (status ≡ (if refused then 1 else 0)) × PrintsRun setting refused before now × (said ≡ silent))
+    ⊎ ((fault : RunFault) × (status ≡ run_status fault) × StopsRun setting fault before now × WritesPart silent said (run_said fault))
+
+-- the words order such a conference
 pub record EndsRunning (words : List Text) (status : ℕ) (before now silent said : Option (List ℕ)) : Type 0 where
   pub setting : RunSetting
   pub ordered : OrdersRun words setting
-  pub ended : ((refused : Bool) × (status ≡ (if refused then 1 else 0)) × PrintsRun setting refused before now × (said ≡ silent))
-      ⊎ ((fault : Fault) × (status ≡ status_of fault) × IfSome (said_of fault) (WritesPart silent said))
+  pub ended : EndsRun setting status before now silent said
 
 -- any run: without threads, or with
 abbrev pub EndsAny : List Text → ℕ → Option (List ℕ) → Option (List ℕ) → Option (List ℕ) → Option (List ℕ) → Option (List ℕ) → Option (List ℕ) → Type 0

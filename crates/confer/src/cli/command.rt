@@ -2,11 +2,12 @@
 
 ghost use Rattle.std.specs.Prelude.{◌≡◌, codes, false, IfOk};
 ghost use Rattle.clap.specs.Words.{App, Rule, app_of, rule_of, with_rule, with_subcommand};
+ghost use Rattle.clap.specs.declared.builder.value_parser.ValueParser.TheVariants.{Names};
 ghost use Rattle.confer.specs.Cli.Commands.{
   audit_app,
   confer_app,
+  default_rule,
   expand_app,
-  free_rule,
   group_rule,
   IsCommand,
   link_rule,
@@ -17,20 +18,31 @@ ghost use Rattle.confer.specs.Cli.Commands.{
   trace_rule,
 };
 
+use crate::cli::help;
 use clap::builder::ValueParser;
 use clap::{Arg, ArgAction, Command, value_parser};
 use std::alloc::{AllocError, Global};
 
-/// The words of `confer`.
-pub fn command<'a>(alloc: Global) -> Result<Command<'a>, AllocError>
-    ensures { IfOk result (λ command. app_of command ≡ confer_app) }
+/// The name of the link over channels, which is taken where none is named.
+pub const CHANNEL: &str = "channel";
+
+/// The name of the link over UDP.
+pub const UDP: &str = "udp";
+
+/// The names of the links.
+pub const LINKS: &[&str] = &[CHANNEL, UDP];
+
+/// The words of `confer`, where the links have these names.
+pub fn command<'a>(alloc: Global, links: &'a [&'a str]) -> Result<Command<'a>, AllocError>
+    ensures { IfOk result (λ command. app_of command ≡ confer_app (Names links.entry)) }
 {
     let program = Command::new(alloc, "confer")
         .about("Causal broadcast in a fixed group")
+        .long_about(help::PROGRAM)
         .subcommand_required(true);
     let expanding = with_if_made(Ok(program), expand_command(alloc));
     let playing = with_command(expanding, play_command(alloc));
-    let running = with_if_made(playing, run_command(alloc));
+    let running = with_if_made(playing, run_command(alloc, links));
     with_command(running, audit_command(alloc))
 }
 
@@ -92,9 +104,11 @@ fn with_option<'a>(
 fn expand_command<'a>(alloc: Global) -> Result<Command<'a>, AllocError>
     ensures { IfOk result (IsCommand expand_app) }
 {
-    let expand = Command::new(alloc, "expand").about(
-        "Reads cast frames in hexadecimal, a frame a line, and prints the vector time of each",
-    );
+    let expand = Command::new(alloc, "expand")
+        .about(
+            "Reads cast frames in hexadecimal, a frame a line, and prints the vector time of each",
+        )
+        .long_about(help::EXPAND);
     let in_group = with_option(Ok(expand), group_option(alloc));
     with_option(in_group, size_option(alloc))
 }
@@ -102,34 +116,36 @@ fn expand_command<'a>(alloc: Global) -> Result<Command<'a>, AllocError>
 fn play_command<'a>(alloc: Global) -> Command<'a>
     ensures { IsCommand play_app result }
 {
-    Command::new(alloc, "play").about(
-        "Reads a script of steps, and prints what happens in a group that takes them",
-    )
+    Command::new(alloc, "play")
+        .about("Reads a script of steps, and prints what happens in a group that takes them")
+        .long_about(help::PLAY)
 }
 
-fn run_command<'a>(alloc: Global) -> Result<Command<'a>, AllocError>
-    ensures { IfOk result (IsCommand run_app) }
+fn run_command<'a>(alloc: Global, links: &'a [&'a str]) -> Result<Command<'a>, AllocError>
+    ensures { IfOk result (IsCommand (run_app (Names links.entry))) }
 {
-    let run = Command::new(alloc, "run").about(
-        "Runs a conference whose members are threads, and prints what became of each",
-    );
+    let run = Command::new(alloc, "run")
+        .about("Runs a conference whose members are threads, and prints what became of each")
+        .long_about(help::RUN);
     let sized = with_option(Ok(run), members_option(alloc));
     let windowed = with_option(sized, window_option(alloc));
     let asking = with_option(windowed, questions_option(alloc));
     let limited = with_option(asking, turns_option(alloc));
-    let linked = with_option(limited, link_option(alloc));
+    let linked = with_option(limited, link_option(alloc, links));
     with_option(linked, trace_option(alloc))
 }
 
 fn audit_command<'a>(alloc: Global) -> Command<'a>
     ensures { IsCommand audit_app result }
 {
-    Command::new(alloc, "audit").about(
-        "Reads a trace, and prints the script of a run that has its histories, or why there is none",
-    )
+    Command::new(alloc, "audit")
+        .about(
+            "Reads a trace, and prints the script of a run that has its histories, or why there is none",
+        )
+        .long_about(help::AUDIT)
 }
 
-/// An option that takes a number, and need not be given.
+/// An option that takes a number.
 fn number_option<'a>(
     alloc: Global,
     name: &'a str,
@@ -149,7 +165,7 @@ fn number_option<'a>(
 }
 
 fn members_option<'a>(alloc: Global) -> Arg<'a>
-    ensures rule { rule_of result ≡ free_rule (codes "size") 2 8 }
+    ensures rule { rule_of result ≡ default_rule (codes "size") 2 8 (codes "3") }
     ensures local { result.global ≡ false }
 {
     number_option(
@@ -157,12 +173,13 @@ fn members_option<'a>(alloc: Global) -> Arg<'a>
         "size",
         "N",
         value_parser!(u32).range(2..=8),
-        "How many members, 2 to 8, 3 if not given",
+        "How many members run, 2 to 8",
     )
+    .default_value("3")
 }
 
 fn window_option<'a>(alloc: Global) -> Arg<'a>
-    ensures rule { rule_of result ≡ free_rule (codes "window") 1 256 }
+    ensures rule { rule_of result ≡ default_rule (codes "window") 1 256 (codes "4") }
     ensures local { result.global ≡ false }
 {
     number_option(
@@ -170,12 +187,13 @@ fn window_option<'a>(alloc: Global) -> Arg<'a>
         "window",
         "W",
         value_parser!(u32).range(1..=256),
-        "How many casts a member may be ahead of the slowest, 1 to 256, 4 if not given",
+        "How many casts a member may be ahead of the slowest, 1 to 256",
     )
+    .default_value("4")
 }
 
 fn questions_option<'a>(alloc: Global) -> Arg<'a>
-    ensures rule { rule_of result ≡ free_rule (codes "questions") 1 100 }
+    ensures rule { rule_of result ≡ default_rule (codes "questions") 1 100 (codes "3") }
     ensures local { result.global ≡ false }
 {
     number_option(
@@ -183,12 +201,13 @@ fn questions_option<'a>(alloc: Global) -> Arg<'a>
         "questions",
         "Q",
         value_parser!(u32).range(1..=100),
-        "How many questions member 0 asks, 1 to 100, 3 if not given",
+        "How many questions member 0 asks, 1 to 100; every other member answers each",
     )
+    .default_value("3")
 }
 
 fn turns_option<'a>(alloc: Global) -> Arg<'a>
-    ensures rule { rule_of result ≡ free_rule (codes "turns") 1 10000000 }
+    ensures rule { rule_of result ≡ default_rule (codes "turns") 1 10000000 (codes "1000000") }
     ensures local { result.global ≡ false }
 {
     number_option(
@@ -196,20 +215,22 @@ fn turns_option<'a>(alloc: Global) -> Arg<'a>
         "turns",
         "T",
         value_parser!(u32).range(1..=10_000_000),
-        "How many turns each worker makes at most, 1 to 10000000, 1000000 if not given",
+        "How many turns each worker makes at most, 1 to 10000000; an idle turn lasts a millisecond",
     )
+    .default_value("1000000")
 }
 
-/// The link is judged when the words are read: `clap` takes any text.
-fn link_option<'a>(alloc: Global) -> Arg<'a>
-    ensures rule { rule_of result ≡ link_rule }
+fn link_option<'a>(alloc: Global, links: &'a [&'a str]) -> Arg<'a>
+    ensures rule { rule_of result ≡ link_rule (Names links.entry) }
     ensures local { result.global ≡ false }
 {
     Arg::new(alloc, "link")
         .long("link")
         .value_name("L")
         .action(ArgAction::Set)
-        .help("What carries the frames, channel or udp, channel if not given")
+        .value_parser(links)
+        .default_value("channel")
+        .help("What carries the frames: channels in the process, or UDP on the loopback address")
 }
 
 fn trace_option<'a>(alloc: Global) -> Arg<'a>

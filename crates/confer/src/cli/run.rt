@@ -1,19 +1,18 @@
 //! What the words order, done.
 
-ghost use Rattle.std.specs.Prelude.{◌≡◌, map, IfOk, IfErr, IfSome, MatchOption, None};
+ghost use Rattle.std.specs.Prelude.{◌≡◌, if◌then◌else◌, map, IfOk, IfErr, IfSome, MatchOption};
 ghost use Rattle.confer.specs.Expand.Runs.{WritesPart};
 ghost use Rattle.confer.specs.Cli.Statuses.{status_of, said_of};
-ghost use Rattle.confer.specs.Cli.Orders.{OrdersRun};
-ghost use Rattle.confer.specs.declared.run.setting.RunSetting.{RunSetting};
-ghost use Rattle.confer.specs.Cli.Runs.{Done, StoppedBy, Ends, EndsAny, EndsRunning, LeavesToThreads};
+ghost use Rattle.confer.specs.Cli.Orders.{IsRunSetting};
+ghost use Rattle.confer.specs.Cli.Runs.{CarriesOut, StoppedBy, Ends, EndsAny, EndsRun, LeavesToThreads};
 
 use crate::audit::audit_trace;
 use crate::cli::fault::Fault;
-use crate::cli::order::{Order, order_of};
+use crate::cli::invocation::{Invocation, invocation_of};
 use crate::cli::said::say;
 use crate::expand::expand_lines;
 use crate::play::play_script;
-use crate::run::run_conference;
+use crate::run::{RunSetting, run_conference};
 use std::alloc::Global;
 use std::convert::AsStr;
 use std::io::{Read, Write};
@@ -28,40 +27,54 @@ const DONE: u8 = 0;
 /// A line was refused, or the audit said no.
 const REFUSED: u8 = 1;
 
-/// None where the words order a run in threads, of which nothing is done.
+/// What came of words that were not refused.
+#[derive(Clone, Copy)]
+enum Carried {
+    /// All was done; a line was refused, or the audit said no, or neither.
+    Done { refused: bool },
+    /// They order a conference in threads, of which nothing is done.
+    LeftToThreads(RunSetting),
+}
+
+/// Does what the words order, but for a conference in threads.
 fn carry_out<S: AsStr, R: Read, W: Write>(
     alloc: Global,
     words: &[S],
     input: &mut R,
     output: &mut W,
-) -> Result<Option<bool>, Fault>
-    ensures ok { IfOk result (λ done. MatchOption done
-        (LeavesToThreads (map S.text words.now) (R.remaining input.old) (R.remaining input.new)
-        (W.contents output.old) (W.contents output.new) None None)
-        (λ refused. Done (map S.text words.now) refused
-        (R.remaining input.old) (W.contents output.old) (W.contents output.new))) }
+) -> Result<Carried, Fault>
+    ensures ok { IfOk result (λ carried. CarriesOut (map S.text words.now) carried
+        (R.remaining input.old) (R.remaining input.new)
+        (W.contents output.old) (W.contents output.new)) }
     ensures fault { IfErr result (λ fault. StoppedBy (map S.text words.now) fault
         (R.remaining input.old) (R.remaining input.new)
         (W.contents output.old) (W.contents output.new)) }
 {
-    match order_of(alloc, words) {
-        Ok(Order::Expand { group, size }) => {
+    match invocation_of(alloc, words) {
+        Ok(Invocation::Expand { group, size }) => {
             match expand_lines(alloc, group, size, input, output) {
-                Ok(refused) => Ok(Some(refused)),
+                Ok(refused) => Ok(Carried::Done { refused }),
                 Err(fault) => Err(Fault::Lines(fault)),
             }
         }
-        Ok(Order::Play) => match play_script(alloc, input, output) {
-            Ok(()) => Ok(Some(false)),
+        Ok(Invocation::Play) => match play_script(alloc, input, output) {
+            Ok(()) => Ok(Carried::Done { refused: false }),
             Err(fault) => Err(Fault::Play(fault)),
         },
-        Ok(Order::Audit) => match audit_trace(alloc, input, output) {
-            Ok(refused) => Ok(Some(refused)),
+        Ok(Invocation::Audit) => match audit_trace(alloc, input, output) {
+            Ok(refused) => Ok(Carried::Done { refused }),
             Err(fault) => Err(Fault::Audit(fault)),
         },
-        Ok(Order::Run(_setting)) => Ok(None),
+        Ok(Invocation::Run(setting)) => Ok(Carried::LeftToThreads(setting)),
         Err(fault) => Err(fault),
     }
+}
+
+/// The exit status of a run that ended without a fault.
+fn status(refused: bool) -> u8
+    ensures { result ≡ (if refused then 1 else 0) }
+{
+    if refused { REFUSED } else { DONE }
 }
 
 /// Says on `errors` what ended the run, and gives its exit status.
@@ -95,9 +108,8 @@ pub fn run_plain<S: AsStr, R: Read, W: Write, E: Write>(
         (E.contents errors.old) (E.contents errors.new)) }
 {
     match carry_out(alloc, words, input, output) {
-        Ok(Some(false)) => Some(DONE),
-        Ok(Some(true)) => Some(REFUSED),
-        Ok(None) => None,
+        Ok(Carried::Done { refused }) => Some(status(refused)),
+        Ok(Carried::LeftToThreads(_setting)) => None,
         Err(fault) => Some(report(&fault, errors)),
     }
 }
@@ -116,33 +128,27 @@ pub fn run_words<S: AsStr, R: Read, W: Write, E: Write, H: Threads + Wait + Cloc
         (W.contents output.old) (W.contents output.new)
         (E.contents errors.old) (E.contents errors.new) }
 {
-    match run_plain(alloc, words, input, output, errors) {
-        Some(status) => status,
-        None => run_in_threads(rt, alloc, words, output, errors),
+    match carry_out(alloc, words, input, output) {
+        Ok(Carried::Done { refused }) => status(refused),
+        Ok(Carried::LeftToThreads(setting)) => run_in_threads(rt, alloc, setting, output, errors),
+        Err(fault) => report(&fault, errors),
     }
 }
 
-/// Runs the conference that the words order. They are read again.
-fn run_in_threads<S: AsStr, W: Write, E: Write, H: Threads + Wait + Clock + Net + Sync>(
+/// Runs a conference in threads, and answers the exit status.
+fn run_in_threads<W: Write, E: Write, H: Threads + Wait + Clock + Net + Sync>(
     rt: &H,
     alloc: Global,
-    words: &[S],
+    setting: RunSetting,
     output: &mut W,
     errors: &mut E,
 ) -> u8
-    requires { (setting : RunSetting) × OrdersRun (map S.text words.now) setting }
-    ensures { EndsRunning (map S.text words.now) result
-        (W.contents output.old) (W.contents output.new)
+    requires { IsRunSetting setting }
+    ensures { EndsRun setting result (W.contents output.old) (W.contents output.new)
         (E.contents errors.old) (E.contents errors.new) }
 {
-    let ran = match order_of(alloc, words) {
-        Ok(Order::Run(setting)) => run_conference(rt, alloc, setting, output),
-        Ok(Order::Expand { .. } | Order::Play | Order::Audit) => unreachable!("they order a run"),
-        Err(fault) => return report(&fault, errors),
-    };
-    match ran {
-        Ok(false) => DONE,
-        Ok(true) => REFUSED,
+    match run_conference(rt, alloc, setting, output) {
+        Ok(refused) => status(refused),
         Err(fault) => report(&Fault::Run(fault), errors),
     }
 }

@@ -102,7 +102,7 @@ const RUN_OPTIONS: &[(&str, &str)] = &[
     ("--questions=101", "'101'"),
     ("--turns=0", "'0'"),
     ("--turns=10000001", "'10000001'"),
-    ("--link=tcp", "channel or udp"),
+    ("--link=tcp", "[possible values: channel, udp]"),
     ("--trace=yes", "--trace"),
     ("--help", "--questions <Q>"),
     ("more", "more"),

@@ -1,9 +1,11 @@
 //! Why a conference in threads did not run, or could not be printed.
 
-ghost use Rattle.std.specs.Prelude.{◌≡◌};
+ghost use Rattle.std.specs.Prelude.{◌≡◌, List, Option, ℕ};
+ghost use Rattle.confer.specs.Run.{StopsRun};
+ghost use Rattle.confer.specs.declared.run.setting.RunSetting.{RunSetting};
 
 use cb_lock::CloseFault;
-use cb_threads::{GroupFault, LinkFault, WorkerFault};
+use cb_threads::{LinkFault, WorkerFault};
 use std::alloc::{AllocError, AllocFailed};
 use thiserror::Error;
 
@@ -27,43 +29,75 @@ pub enum RunFault {
     NoMemory,
 }
 
-impl From<AllocError> for RunFault {
-    fn from(_refused: AllocError) -> RunFault {
-        RunFault::NoMemory
-    }
+/// Why a conference in threads left nothing to print: the faults of a run before anything is written.
+#[derive(Clone, Copy, Debug, Error)]
+pub enum ThreadFault {
+    /// The links could not be made.
+    #[error("no link")]
+    NoLink,
+    /// A thread could not be started.
+    #[error("no thread")]
+    NoThread,
+    /// The receipts of a member are not those of its history.
+    #[error("bad receipts")]
+    BadReceipts,
+    /// An allocation was refused.
+    #[error("out of memory")]
+    NoMemory,
 }
 
-impl<T: Drop> From<AllocFailed<T>> for RunFault {
-    fn from(_refused: AllocFailed<T>) -> RunFault {
-        RunFault::NoMemory
-    }
-}
-
-impl From<LinkFault> for RunFault {
-    fn from(fault: LinkFault) -> RunFault {
+impl RunFault {
+    /// The fault of a run that has written nothing.
+    pub fn of_threads(fault: ThreadFault) -> RunFault
+        ensures { (setting : RunSetting) (written : Option (List ℕ))
+            → StopsRun setting result written written }
+    {
         match fault {
-            LinkFault::Device => RunFault::NoLink,
-            LinkFault::NoMemory => RunFault::NoMemory,
+            ThreadFault::NoLink => RunFault::NoLink,
+            ThreadFault::NoThread => RunFault::NoThread,
+            ThreadFault::BadReceipts => RunFault::BadReceipts,
+            ThreadFault::NoMemory => RunFault::NoMemory,
         }
     }
 }
 
-impl From<WorkerFault> for RunFault {
-    fn from(fault: WorkerFault) -> RunFault {
+impl From<AllocError> for ThreadFault {
+    fn from(_refused: AllocError) -> ThreadFault {
+        ThreadFault::NoMemory
+    }
+}
+
+impl<T: Drop> From<AllocFailed<T>> for ThreadFault {
+    fn from(_refused: AllocFailed<T>) -> ThreadFault {
+        ThreadFault::NoMemory
+    }
+}
+
+impl From<LinkFault> for ThreadFault {
+    fn from(fault: LinkFault) -> ThreadFault {
         match fault {
-            WorkerFault::NoThread => RunFault::NoThread,
-            WorkerFault::NoMemory => RunFault::NoMemory,
+            LinkFault::Device => ThreadFault::NoLink,
+            LinkFault::NoMemory => ThreadFault::NoMemory,
         }
     }
 }
 
-impl From<CloseFault> for RunFault {
-    fn from(fault: CloseFault) -> RunFault {
+impl From<WorkerFault> for ThreadFault {
+    fn from(fault: WorkerFault) -> ThreadFault {
         match fault {
-            CloseFault::NoMemory => RunFault::NoMemory,
+            WorkerFault::NoThread => ThreadFault::NoThread,
+            WorkerFault::NoMemory => ThreadFault::NoMemory,
+        }
+    }
+}
+
+impl From<CloseFault> for ThreadFault {
+    fn from(fault: CloseFault) -> ThreadFault {
+        match fault {
+            CloseFault::NoMemory => ThreadFault::NoMemory,
             CloseFault::SeatsMissing { .. }
             | CloseFault::OtherMember
-            | CloseFault::ReceiptMismatch { .. } => RunFault::BadReceipts,
+            | CloseFault::ReceiptMismatch { .. } => ThreadFault::BadReceipts,
         }
     }
 }

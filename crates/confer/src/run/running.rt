@@ -1,19 +1,21 @@
 //! A conference in threads, from its setting to what is printed of it.
 
-ghost use Rattle.std.specs.Prelude.{◌≡◌, ℕ, ◌++◌, List, IfOk, OnOk, codes, length, map, true, false};
+ghost use Rattle.std.specs.Prelude.{◌≡◌, ◌≢◌, ◌++◌, List, IfOk, IfErr, OnOk, codes, length, map, true, false};
 ghost use Rattle.cb_history.specs.Group.{AreParameters};
 ghost use Rattle.cb_threads.specs.Groups.{AreKept, tally_in};
+ghost use Rattle.cb_threads.specs.Reports.{EachHandsBack};
+ghost use Rattle.cb_threads.specs.declared.group.GroupFault.TheVariants.{BadPlan};
 ghost use Rattle.cb_trace.specs.Text.{HistoryFields, history_fields};
 ghost use Rattle.confer.specs.Audit.{Refuses};
-ghost use Rattle.confer.specs.Run.{AreLines, EndsWithAudit, PrintsRun, Shows, ShowsRun, done_text, group_of, member_line};
+ghost use Rattle.confer.specs.Run.{EndsWithAudit, PrintsRun, ShowsOver, ShowsReports, ShowsRun, StopsRun, IsTraceText, done_text, group_of, member_line, report_line, report_lines};
 ghost use Rattle.confer.specs.Cli.Orders.{IsRunSetting};
 ghost use Rattle.confer.specs.declared.run.setting.RunSetting.{RunSetting};
 
 use crate::audit::{put_parameter, put_refusal};
 use crate::expand::write_whole;
-use crate::run::fault::RunFault;
+use crate::run::fault::{RunFault, ThreadFault};
 use crate::run::participant::Participant;
-use crate::run::setting::{LinkKind, RunSetting};
+use crate::run::setting::{LinkKind, MOST_QUESTIONS, MOST_WORKING, RunSetting};
 use cb_member::{Group, History};
 use cb_threads::{
     ChannelLink, GroupFault, GroupReport, Inlet, Limits, MemberReport, Outlet, Pace, PaceFault,
@@ -32,6 +34,15 @@ const GROUP: u32 = 7;
 
 /// How many entries each history may have.
 const HISTORY_MAX: usize = 100_000;
+
+/// How many entries a member has at most for each cast of its group: the cast or its arrival, a tick that is the first to tell of it, a
+/// status that is the first to make it known, and one that is the first to acknowledge it.
+const ENTRIES_A_CAST: usize = 4;
+
+/// No conference fills a history: it would stop for ever.
+const _: () = prove!(
+    ENTRIES_A_CAST * MOST_WORKING as usize * MOST_QUESTIONS as usize <= HISTORY_MAX
+);
 
 /// A millisecond between two ticks.
 #[derive(Drop)]
@@ -61,7 +72,8 @@ struct RunText {
 /// history, and what the audit said; or, where the setting says so, the trace of the histories in place of all this. Whether the audit
 /// said no.
 ///
-/// It ends once each participant has cast and seen all, or after the setting's turns; the lines tell which.
+/// It ends once each participant has cast and seen all, or after the setting's turns; the lines tell which. Its faults are those of
+/// `RunFault`: after a write fault a beginning of the text stands written, after each other fault nothing.
 pub fn run_conference<R: Threads + Wait + Clock + Net + Sync, W: Write>(
     rt: &R,
     alloc: Global,
@@ -69,17 +81,24 @@ pub fn run_conference<R: Threads + Wait + Clock + Net + Sync, W: Write>(
     output: &mut W,
 ) -> Result<bool, RunFault>
     requires { IsRunSetting setting }
-    ensures { IfOk result (λ refused. PrintsRun setting refused (W.contents output.old)
+    ensures ok { IfOk result (λ refused. PrintsRun setting refused (W.contents output.old)
+        (W.contents output.new)) }
+    ensures fault { IfErr result (λ fault. StopsRun setting fault (W.contents output.old)
         (W.contents output.new)) }
 {
-    let told = run_linked(rt, alloc, setting)?;
-    write_told(told, output)
+    match run_linked(rt, alloc, setting) {
+        Ok(told) => write_told(told, output),
+        Err(fault) => Err(RunFault::of_threads(fault)),
+    }
 }
 
 /// Writes what is printed of a conference. Whether its audit said no.
 fn write_told<W: Write>(told: RunText, output: &mut W) -> Result<bool, RunFault>
-    ensures { (setting : RunSetting) → ShowsRun setting told.refused told.text.items
+    ensures ok { (setting : RunSetting) → ShowsRun setting told.refused told.text.items
         → IfOk result (λ refused. PrintsRun setting refused (W.contents output.old)
+        (W.contents output.new)) }
+    ensures fault { (setting : RunSetting) → ShowsRun setting told.refused told.text.items
+        → IfErr result (λ fault. StopsRun setting fault (W.contents output.old)
         (W.contents output.new)) }
 {
     let written = write_whole(output, &told.text);
@@ -97,7 +116,7 @@ fn run_linked<R: Threads + Wait + Clock + Net + Sync>(
     rt: &R,
     alloc: Global,
     setting: RunSetting,
-) -> Result<RunText, RunFault>
+) -> Result<RunText, ThreadFault>
     requires { IsRunSetting setting }
     ensures { IfOk result (λ told. ShowsRun setting told.refused told.text.items) }
 {
@@ -113,15 +132,16 @@ fn run_linked<R: Threads + Wait + Clock + Net + Sync>(
     }
 }
 
-/// What is printed of a conference over these links.
+/// What is printed of a conference over these links, of which each member has one.
 fn run_over<I: Inlet + Send + Drop, O: Outlet + Send + Drop, R: Threads + Wait + Clock + Sync>(
     rt: &R,
     alloc: Global,
     setting: RunSetting,
     links: Vec<(I, O)>,
-) -> Result<RunText, RunFault>
-    requires { IsRunSetting setting }
-    ensures { IfOk result (λ told. ShowsRun setting told.refused told.text.items) }
+) -> Result<RunText, ThreadFault>
+    requires setting { IsRunSetting setting }
+    requires links { length links.items ≡ setting.size }
+    ensures { IfOk result (λ told. ShowsOver links.items setting told.refused told.text.items) }
 {
     match gather_crew(alloc, setting) {
         Ok(crew) => run_crew(rt, alloc, setting, links, crew),
@@ -139,7 +159,10 @@ struct Crew {
     paces: Vec<Millisecond>,
 }
 
-fn gather_crew(alloc: Global, setting: RunSetting) -> Result<Crew, RunFault> {
+fn gather_crew(alloc: Global, setting: RunSetting) -> Result<Crew, ThreadFault>
+    ensures talkers { IfOk result (λ crew. length crew.talkers.items ≡ setting.size) }
+    ensures paces { IfOk result (λ crew. length crew.paces.items ≡ setting.size) }
+{
     let talkers = participants(alloc, setting)?;
     match paces(alloc, setting.size) {
         Ok(paces) => Ok(Crew { talkers, paces }),
@@ -157,9 +180,12 @@ fn run_crew<I: Inlet + Send + Drop, O: Outlet + Send + Drop, R: Threads + Wait +
     setting: RunSetting,
     links: Vec<(I, O)>,
     crew: Crew,
-) -> Result<RunText, RunFault>
-    requires { IsRunSetting setting }
-    ensures { IfOk result (λ told. ShowsRun setting told.refused told.text.items) }
+) -> Result<RunText, ThreadFault>
+    requires setting { IsRunSetting setting }
+    requires links { length links.items ≡ setting.size }
+    requires talkers { length crew.talkers.items ≡ setting.size }
+    requires paces { length crew.paces.items ≡ setting.size }
+    ensures { IfOk result (λ told. ShowsOver links.items setting told.refused told.text.items) }
 {
     let Crew { talkers, paces } = crew;
     let group = conference_group(setting);
@@ -184,13 +210,16 @@ fn conference_group(setting: RunSetting) -> Group
     group
 }
 
-fn fault_of(fault: GroupFault) -> RunFault {
+fn fault_of(fault: GroupFault) -> ThreadFault
+    requires { fault ≢ BadPlan }
+{
     match fault {
-        // There is a pace and a talker for each member, so a bad plan lacks links.
-        GroupFault::BadPlan => RunFault::NoLink,
-        GroupFault::NoThread => RunFault::NoThread,
-        GroupFault::NoMemory => RunFault::NoMemory,
-        GroupFault::Close { member: _, fault } => RunFault::from(fault),
+        GroupFault::BadPlan => {
+            unreachable!("each member has a link, a pace and a talker, and the limit is one")
+        }
+        GroupFault::NoThread => ThreadFault::NoThread,
+        GroupFault::NoMemory => ThreadFault::NoMemory,
+        GroupFault::Close { member: _, fault } => ThreadFault::from(fault),
     }
 }
 
@@ -200,13 +229,15 @@ fn reported<I: Drop, O: Drop>(
     setting: RunSetting,
     group: Group,
     report: GroupReport<I, O, Millisecond, Participant>,
-) -> Result<RunText, RunFault>
+) -> Result<RunText, ThreadFault>
     requires group { group ≡ group_of setting }
     requires parameters { AreParameters group }
     requires members { length report.histories.items ≡ group.size }
     requires kept { AreKept group 0 report.histories.items
         (map tally_in report.reports.items) }
-    ensures { IfOk result (λ told. ShowsRun setting told.refused told.text.items) }
+    requires parts { EachHandsBack report.reports.items }
+    ensures { IfOk result (λ told. ShowsReports setting report.reports.items told.refused
+        told.text.items) }
 {
     let GroupReport { reports, histories } = report;
     let text = told(alloc, setting, group, &reports, &histories);
@@ -215,7 +246,9 @@ fn reported<I: Drop, O: Drop>(
     text
 }
 
-fn participants(alloc: Global, setting: RunSetting) -> Result<Vec<Participant>, RunFault> {
+fn participants(alloc: Global, setting: RunSetting) -> Result<Vec<Participant>, ThreadFault>
+    ensures { IfOk result (λ talkers. length talkers.items ≡ setting.size) }
+{
     let mut talkers = Vec::with_capacity(alloc, setting.size as usize)?;
     for me in 0..setting.size {
         talkers.push(Participant::new(alloc, setting, me)?)?;
@@ -223,7 +256,9 @@ fn participants(alloc: Global, setting: RunSetting) -> Result<Vec<Participant>, 
     Ok(talkers)
 }
 
-fn paces(alloc: Global, size: u32) -> Result<Vec<Millisecond>, RunFault> {
+fn paces(alloc: Global, size: u32) -> Result<Vec<Millisecond>, ThreadFault>
+    ensures { IfOk result (λ paces. length paces.items ≡ size) }
+{
     let mut paces = Vec::with_capacity(alloc, size as usize)?;
     for _member in 0..size {
         paces.push(Millisecond)?;
@@ -238,12 +273,13 @@ fn told<I, O>(
     group: Group,
     reports: &[MemberReport<I, O, Millisecond, Participant>],
     histories: &[History],
-) -> Result<RunText, RunFault>
+) -> Result<RunText, ThreadFault>
     requires group { group ≡ group_of setting }
     requires parameters { AreParameters group }
     requires members { length histories.now ≡ group.size }
     requires kept { AreKept group 0 histories.now (map tally_in reports.now) }
-    ensures { IfOk result (λ told. ShowsRun setting told.refused told.text.items) }
+    requires parts { EachHandsBack reports.now }
+    ensures { IfOk result (λ told. ShowsReports setting reports.now told.refused told.text.items) }
 {
     let lines = lines_of(alloc, reports)?;
     if setting.trace {
@@ -257,8 +293,8 @@ fn told<I, O>(
 fn lines_of<I, O>(
     alloc: Global,
     reports: &[MemberReport<I, O, Millisecond, Participant>],
-) -> Result<Vec<u8>, RunFault>
-    ensures { IfOk result (λ text. AreLines 0 (map tally_in reports.now) text.items) }
+) -> Result<Vec<u8>, ThreadFault>
+    ensures { IfOk result (λ text. text.items ≡ report_lines 0 reports.now) }
 {
     let mut text = Vec::new(alloc);
     for (member, report) in reports.iter().enumerate() {
@@ -268,8 +304,8 @@ fn lines_of<I, O>(
 }
 
 /// The trace of these histories.
-fn traced(alloc: Global, histories: &[History]) -> Result<RunText, RunFault>
-    ensures { IfOk result (λ told. Shows true (map history_fields histories.now) told.refused
+fn traced(alloc: Global, histories: &[History]) -> Result<RunText, ThreadFault>
+    ensures { IfOk result (λ told. IsTraceText (map history_fields histories.now) told.refused
         told.text.items) }
 {
     match write_trace(alloc, histories) {
@@ -277,25 +313,25 @@ fn traced(alloc: Global, histories: &[History]) -> Result<RunText, RunFault>
             refused: false,
             text,
         }),
-        Err(WriteFault::NoMemory) => Err(RunFault::NoMemory),
+        Err(WriteFault::NoMemory) => Err(ThreadFault::NoMemory),
         // Each member's history is of the member's own group.
-        Err(WriteFault::MixedGroups) => Err(RunFault::BadReceipts),
+        Err(WriteFault::MixedGroups) => Err(ThreadFault::BadReceipts),
     }
 }
 
 /// These lines, and one for what the audit of these histories says.
-fn audited(alloc: Global, lines: Vec<u8>, histories: &[History]) -> Result<RunText, RunFault>
+fn audited(alloc: Global, lines: Vec<u8>, histories: &[History]) -> Result<RunText, ThreadFault>
     ensures { IfOk result (λ told. EndsWithAudit lines.items (map history_fields histories.now)
         told.refused told.text.items) }
 {
     match audit(alloc, histories) {
         Ok(_joint) => accepted(lines),
-        Err(AuditFault::NoMemory) => Err(RunFault::NoMemory),
+        Err(AuditFault::NoMemory) => Err(ThreadFault::NoMemory),
         Err(refusal) => refused(lines, refusal),
     }
 }
 
-fn accepted(lines: Vec<u8>) -> Result<RunText, RunFault>
+fn accepted(lines: Vec<u8>) -> Result<RunText, ThreadFault>
     ensures accepted { IfOk result (λ told. told.refused ≡ false) }
     ensures text { IfOk result (λ told. told.text.items ≡ lines.items ++ codes "audit yes\n") }
 {
@@ -307,7 +343,7 @@ fn accepted(lines: Vec<u8>) -> Result<RunText, RunFault>
     })
 }
 
-fn refused(lines: Vec<u8>, refusal: AuditFault) -> Result<RunText, RunFault>
+fn refused(lines: Vec<u8>, refusal: AuditFault) -> Result<RunText, ThreadFault>
     ensures { (histories : List HistoryFields) → Refuses histories refusal
         → IfOk result (λ told. EndsWithAudit lines.items histories told.refused told.text.items) }
 {
@@ -325,15 +361,14 @@ fn put_line<I, O>(
     out: &mut Vec<u8>,
     member: usize,
     report: &MemberReport<I, O, Millisecond, Participant>,
-) -> Result<(), RunFault>
-    ensures { OnOk result ((lost : ℕ) × (orphans : ℕ) × (out.new.items ≡ out.old.items
-        ++ member_line member (tally_in report.now) lost orphans)) }
+) -> Result<(), ThreadFault>
+    ensures { OnOk result (out.new.items ≡ out.old.items ++ report_line member report.now) }
 {
     if let Some(fault) = report.fault {
-        return Err(RunFault::from(fault));
+        return Err(ThreadFault::from(fault));
     }
     let Some(talker) = &report.talker else {
-        return Err(RunFault::NoThread);
+        return Err(ThreadFault::NoThread);
     };
     put_counts(out, member, report, talker.orphans())?;
     Ok(())

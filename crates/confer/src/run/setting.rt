@@ -8,23 +8,11 @@ use cb_times::{FEWEST_MEMBERS, WIDEST_WINDOW};
 /// How many members may run in threads at most.
 pub const MOST_WORKING: u32 = 8;
 
-/// How many members there are where the words don't say.
-pub const DEFAULT_SIZE: u32 = 3;
-
-/// The window where the words don't say one.
-pub const DEFAULT_WINDOW: u32 = 4;
-
 /// How many questions may be asked at most.
 pub const MOST_QUESTIONS: u32 = 100;
 
-/// How many questions are asked where the words don't say.
-pub const DEFAULT_QUESTIONS: u32 = 3;
-
 /// How many turns a worker may make at most.
 pub const MOST_TURNS: u32 = 10_000_000;
-
-/// How many turns a worker may make where the words don't say.
-pub const DEFAULT_TURNS: u32 = 1_000_000;
 
 /// What carries the frames.
 #[derive(Clone, Copy)]

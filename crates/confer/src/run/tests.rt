@@ -2,9 +2,16 @@
 
 use crate::cli::{run_plain, run_words};
 use crate::fakes::{reading, writing};
+use crate::run::participant::Participant;
+use crate::run::setting::{LinkKind, RunSetting};
+use bytes::Bytes;
+use cb_member::{Event, Message};
+use cb_threads::{Talk, Talker};
+use cb_times::{Name, VectorTime};
 use std::alloc::Global;
 use std::net::Net;
 use std::process::Abort;
+use std::slice;
 use std::sync::Wait;
 use std::thread::Threads;
 use std::time::Clock;
@@ -146,4 +153,53 @@ fn without_threads_nothing_is_done(rt: HostRuntime) {
     assert_eq!(rt; status, None);
     assert!(rt; is_silent);
     assert_eq!(rt; unread, 8);
+}
+
+/// The participant of member 2 of three, where one question is asked.
+fn participant(rt: &impl Abort, alloc: Global) -> Participant {
+    let setting = RunSetting {
+        size: 3,
+        window: 4,
+        questions: 1,
+        turns: 1,
+        link: LinkKind::Channel,
+        trace: false,
+    };
+    Participant::new(alloc, setting, 2).expect(rt, "memory")
+}
+
+/// The first message of this member is delivered, and says this.
+fn delivered(rt: &impl Abort, alloc: Global, sender: u32, payload: &[u8]) -> Event {
+    Event::Deliver(Message {
+        name: Name { sender, number: 1 },
+        time: VectorTime::zero(alloc, 3).expect(rt, "memory"),
+        payload: Bytes::copy_from_slice(alloc, payload).expect(rt, "memory"),
+    })
+}
+
+/// What the participant says once the message was delivered, and how many orphans it has counted then.
+fn answer_to(rt: &impl Abort, participant: &mut Participant, event: Event) -> (bool, u32) {
+    let talk = participant
+        .next(slice::from_ref(&event))
+        .expect(rt, "memory");
+    let is_answer = match &talk {
+        Talk::Cast(payload) => payload.as_slice() == b"\x02\x00\x01yes",
+        Talk::Idle | Talk::Finished => false,
+    };
+    drop(talk);
+    drop(event);
+    (is_answer, participant.orphans())
+}
+
+#[test]
+fn an_answer_before_its_question_is_an_orphan(rt: HostRuntime) {
+    let alloc = rt.alloc();
+    let mut participant = participant(&rt, alloc);
+    let answer = delivered(&rt, alloc, 1, b"\x02\x00\x01yes");
+    let first = answer_to(&rt, &mut participant, answer);
+    let question = delivered(&rt, alloc, 0, b"\x01\x04mainquestion 1");
+    let second = answer_to(&rt, &mut participant, question);
+    drop(participant);
+    assert_eq!(&rt; first, (false, 1));
+    assert_eq!(&rt; second, (true, 1));
 }

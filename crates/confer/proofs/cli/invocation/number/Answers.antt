@@ -1,7 +1,7 @@
 use Rattle.std.specs.Str.Parse.{ParsesUnsigned, ExplainsUnsignedError, HasUnsignedDigitsIfOk}
 use Rattle.clap.specs.Words.{found_of}
 use Rattle.confer.proofs.CommandLine.Reading.{number_given}
-use Rattle.confer.proofs.cli.order.number.Goals as goal
+use Rattle.confer.proofs.cli.invocation.number.Goals as goal
 
 pub returns : goal.returns
 returns c =

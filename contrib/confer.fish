@@ -1,0 +1,16 @@
+# Completion of confer for fish: put this file into ~/.config/fish/completions.
+complete -c confer -f
+complete -c confer -n __fish_use_subcommand -a expand -d 'Print the vector times of cast frames'
+complete -c confer -n __fish_use_subcommand -a play -d 'Run a script of steps'
+complete -c confer -n __fish_use_subcommand -a run -d 'Run a conference in threads'
+complete -c confer -n __fish_use_subcommand -a audit -d 'Judge a trace'
+complete -c confer -n __fish_use_subcommand -a help -d 'Say what a subcommand takes'
+complete -c confer -s h -l help -d 'Say what the program or the subcommand takes'
+complete -c confer -n '__fish_seen_subcommand_from expand' -l group -x -d 'The number of the group, 0 to 4294967295'
+complete -c confer -n '__fish_seen_subcommand_from expand' -l size -x -d 'How many members the group has, 2 to 64'
+complete -c confer -n '__fish_seen_subcommand_from run' -l size -x -d 'How many members run, 2 to 8 (3)'
+complete -c confer -n '__fish_seen_subcommand_from run' -l window -x -d 'How many casts a member may be ahead, 1 to 256 (4)'
+complete -c confer -n '__fish_seen_subcommand_from run' -l questions -x -d 'How many questions member 0 asks, 1 to 100 (3)'
+complete -c confer -n '__fish_seen_subcommand_from run' -l turns -x -d 'How many turns each worker makes, 1 to 10000000 (1000000)'
+complete -c confer -n '__fish_seen_subcommand_from run' -l link -x -a 'channel udp' -d 'What carries the frames (channel)'
+complete -c confer -n '__fish_seen_subcommand_from run' -l trace -d 'Print the trace of the histories in place of all else'
