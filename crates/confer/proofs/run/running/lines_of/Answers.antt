@@ -1,4 +1,4 @@
-use Rattle.std.proofs.Common.{List, ℕ, ◌++◌, arith, ap, ◌∙◌}
+use Rattle.std.proofs.Common.{List, ℕ, ◌++◌, arith, ap}
 use Rattle.confer.specs.Run.{report_lines}
 use Rattle.confer.proofs.Conferring.{continues, all_lines, ran_none, ran_next, all_ran}
 use Rattle.confer.proofs.run.running.lines_of.Goals as goal

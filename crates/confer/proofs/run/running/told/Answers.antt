@@ -1,4 +1,4 @@
-use Rattle.std.proofs.Common.{◌≡◌, Bool, List, ℕ, map, subst, sym}
+use Rattle.std.proofs.Common.{Bool, List, ℕ, map, subst, sym}
 use Rattle.std.proofs.lemmas.Result.{IfOk-weaker}
 use Rattle.cb_threads.specs.Groups.{tally_in}
 use Rattle.cb_trace.specs.Text.{history_fields}
