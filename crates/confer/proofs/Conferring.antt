@@ -1,6 +1,7 @@
 -- What a group in threads hands out, and its members' lines.
-use Rattle.std.proofs.Common.{◌≡◌, ℕ, zero, suc, ◌+◌, ◌<◌, ◌≤◌, List, [], ◌∷◌, ◌++◌, Some, length, map, drop, refl, sym, ap, subst, get_or, ◌∙◌, arith}
-use Rattle.std.proofs.lemmas.List.{append_assoc, append-nil, drop_all, drop_more, length-map}
+use Rattle.std.proofs.Common.{◌≡◌, ℕ, zero, suc, ◌+◌, ◌<◌, ◌≤◌, List, [], ◌∷◌, ◌++◌, Some, None, length, map, take, drop, sym, ap, subst, get_or, ◌∙◌, arith}
+use Rattle.std.proofs.lemmas.List.{append_assoc, append-nil, drop_all, drop_more, length-map, take_all}
+use Rattle.std.proofs.lemmas.List.Elements.{All-nil, All-more}
 use Rattle.std.specs.Prelude.{slice_get}
 use Rattle.cb_history.specs.Group.{Parameters, AreParameters}
 use Rattle.cb_history.specs.Legal.{IsLegal}
@@ -9,7 +10,7 @@ use Rattle.cb_threads.specs.declared.report.Tally.{Tally}
 use Rattle.cb_threads.specs.Groups.{AreKept}
 use Rattle.cb_trace.specs.Text.{HistoryFields, history_fields}
 use Rattle.cb_trace.specs.Auditing.{AreLegalHistories, entries_at, seat_of}
-use Rattle.confer.specs.Run.{AreCounts, Report, report_line, report_lines}
+use Rattle.confer.specs.Run.{AreCounts, EachRan, Report, report_line, report_lines}
 
 -- ---- the histories
 
@@ -67,3 +68,19 @@ continues {I} {O} reports me r text text' within is e before =
 pub all_lines : {I O : Type 0} (reports : List (Report I O)) (me : ℕ) (text : List ℕ) → length reports ≤ me → Continues reports me text → text ≡ report_lines 0 reports
 all_lines {I} {O} reports me text many all =
     sym (append-nil text) ∙ ap (λ (rs : List (Report I O)). text ++ report_lines me rs) (sym (drop_all me reports many)) ∙ all
+
+-- ---- who ran
+
+-- no worker of the members before this one failed to run
+abbrev pub RanBefore : {I O : Type 0} → List (Report I O) → ℕ → Type 0
+RanBefore reports me = EachRan (take me reports)
+
+pub ran_none : {I O : Type 0} (reports : List (Report I O)) → RanBefore reports 0
+ran_none reports = All-nil (λ r. r.fault ≡ None)
+
+pub ran_next : {I O : Type 0} (reports : List (Report I O)) (me : ℕ) (r : Report I O) → me < length reports → r ≡ get_or reports me r → r.fault ≡ None → RanBefore reports me → RanBefore reports (me + 1)
+ran_next {I} {O} reports me r within is ran before =
+    All-more (λ (x : Report I O). x.fault ≡ None) reports me r within before (subst (λ (x : Report I O). x.fault ≡ None) is ran)
+
+pub all_ran : {I O : Type 0} (reports : List (Report I O)) (me : ℕ) → length reports ≤ me → RanBefore reports me → EachRan reports
+all_ran reports me many ran = subst EachRan (take_all me reports many) ran

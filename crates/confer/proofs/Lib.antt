@@ -6,4 +6,6 @@ pub mod Arriving
 pub mod Naming
 pub mod Auditing
 pub mod Conferring
+pub mod Casting
+pub mod Scripts
 pub mod Seeing

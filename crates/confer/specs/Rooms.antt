@@ -85,3 +85,11 @@ ShowsClosedArrivals setting s =
     (i place j : ℕ) (m : Name) (payload : List ℕ) (line : LineFields)
     → slice_get (causal_lists setting s i) place ≡ Some (Cast m payload) → line_at payload ≡ Some line
     → IsClosedArrival setting s j m → Shows (view_of (causal_lists setting s j)) m line
+
+-- Each answer was composed where its question was shown. So no answer comes to a member whose conference does not have its question; each
+-- message that is a line has its line; and two members who have the line of a message have the same.
+pub record QuestionsComeFirst (lists : Lists) : Type 0 where
+  pub composed : AnswersWereComposed lists
+  pub no_orphan : (j : ℕ) → HasNoOrphan (lists j)
+  pub lines : (j : ℕ) → ShowsAllLines (lists j)
+  pub agree : AgreeOnLines lists

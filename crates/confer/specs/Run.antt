@@ -1,7 +1,15 @@
 -- What `confer run` prints of the histories of a conference in threads, and where it stops.
-use Rattle.std.specs.Prelude.{◌≡◌, ℕ, suc, Bool, true, false, List, [], ◌∷◌, ◌++◌, codes, map, Option, Some, None}
+use Rattle.std.specs.Prelude.{◌≡◌, ℕ, suc, Bool, true, false, List, [], ◌∷◌, ◌++◌, All, codes, map, Option, Some, None}
 use Rattle.std.specs.Io.KnownBytes.{Appends}
 use Rattle.cb_history.specs.Group.{Parameters}
+use Rattle.cb_lock.specs.declared.closing.CloseFault.{CloseFault}
+use Rattle.cb_lock.specs.declared.closing.CloseFault.TheVariants as closings
+use Rattle.cb_threads.specs.declared.group.GroupFault.{GroupFault}
+use Rattle.cb_threads.specs.declared.group.GroupFault.TheVariants as groups
+use Rattle.cb_threads.specs.declared.link.LinkFault.{LinkFault}
+use Rattle.cb_threads.specs.declared.link.LinkFault.TheVariants as devices
+use Rattle.cb_threads.specs.declared.report.WorkerFault.{WorkerFault}
+use Rattle.cb_threads.specs.declared.report.WorkerFault.TheVariants as workers
 use Rattle.cb_threads.specs.declared.report.MemberReport.{MemberReport}
 use Rattle.cb_threads.specs.declared.report.Tally.{Tally}
 use Rattle.cb_threads.specs.declared.channel.ChannelInlet.{ChannelInlet}
@@ -17,6 +25,8 @@ use Rattle.cb_trace.specs.Bounds.{IsTextOf}
 use Rattle.cb_trace.specs.Auditing.{IsAudited, AreLegalHistories}
 use Rattle.confer.specs.declared.run.fault.RunFault.{RunFault}
 use Rattle.confer.specs.declared.run.fault.RunFault.TheVariants as faults
+use Rattle.confer.specs.declared.run.fault.ThreadFault.{ThreadFault}
+use Rattle.confer.specs.declared.run.fault.ThreadFault.TheVariants as threads
 use Rattle.confer.specs.declared.run.participant.Participant.{Participant}
 use Rattle.confer.specs.declared.run.running.Millisecond.{Millisecond}
 use Rattle.confer.specs.declared.run.setting.LinkKind.{LinkKind}
@@ -67,6 +77,10 @@ AreCounts [] (tally ∷ tallies) = ⊥
 AreCounts (h ∷ histories) [] = ⊥
 AreCounts (h ∷ histories) (tally ∷ tallies) = IsTally h.entries tally × AreCounts histories tallies
 
+-- no worker of these members failed to run
+abbrev pub EachRan : {I O : Type 0} → List (Report I O) → Type 0
+EachRan reports = All (λ report. report.fault ≡ None) reports
+
 -- ---- the last line
 
 -- what the audit of the histories said
@@ -91,12 +105,13 @@ abbrev pub Shows : Bool → List ℕ → List HistoryFields → Bool → List �
 Shows true lines histories refused text = IsTraceText histories refused text
 Shows false lines histories refused text = EndsWithAudit lines histories refused text
 
--- Each member has a report with the counts of its history, which is legal, and with all parts that it ran with, unless a fault is told.
+-- Each member has a report with the counts of its history, which is legal, and with all parts that it ran with: all workers of each ran.
 -- The lines are those of the reports.
 pub record ShowsReports {I O : Type 0} (setting : RunSetting) (reports : List (Report I O)) (refused : Bool) (text : List ℕ) : Type 0 where
   pub histories : List HistoryFields
   pub legal : AreLegalHistories (group_of setting) histories
   pub counts : AreCounts histories (map tally_in reports)
+  pub ran : EachRan reports
   pub parts : EachHandsBack reports
   pub shows : Shows setting.trace (report_lines 0 reports) histories refused text
 
@@ -117,6 +132,37 @@ pub record PrintsRun (setting : RunSetting) (refused : Bool) (before now : Optio
   pub text : List ℕ
   pub written : Appends before now text
   pub shown : ShowsRun setting refused text
+
+-- ---- which fault it stops by
+
+-- the fault of a run for one of its links, of a worker, and of closing a shared member: whatever is wrong with receipts is the same to a run
+abbrev pub fault_of_link : LinkFault → ThreadFault
+fault_of_link devices.Device = threads.NoLink
+fault_of_link devices.NoMemory = threads.NoMemory
+
+abbrev pub fault_of_worker : WorkerFault → ThreadFault
+fault_of_worker workers.NoThread = threads.NoThread
+fault_of_worker workers.NoMemory = threads.NoMemory
+
+abbrev pub fault_of_closing : CloseFault → ThreadFault
+fault_of_closing closings.NoMemory = threads.NoMemory
+fault_of_closing (closings.SeatsMissing claimed entries) = threads.BadReceipts
+fault_of_closing closings.OtherMember = threads.BadReceipts
+fault_of_closing (closings.ReceiptMismatch place) = threads.BadReceipts
+
+-- that of a group: the plan of a run is never bad
+abbrev pub IsFaultOfGroup : GroupFault → ThreadFault → Type 0
+IsFaultOfGroup groups.BadPlan fault = ⊥
+IsFaultOfGroup groups.NoThread fault = fault ≡ threads.NoThread
+IsFaultOfGroup groups.NoMemory fault = fault ≡ threads.NoMemory
+IsFaultOfGroup (groups.Close member refusal) fault = fault ≡ fault_of_closing refusal
+
+-- and the same as a fault of the whole run
+abbrev pub fault_of_threads : ThreadFault → RunFault
+fault_of_threads threads.NoLink = faults.NoLink
+fault_of_threads threads.NoThread = faults.NoThread
+fault_of_threads threads.BadReceipts = faults.BadReceipts
+fault_of_threads threads.NoMemory = faults.NoMemory
 
 -- ---- where it stops
 

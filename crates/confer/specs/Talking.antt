@@ -1,5 +1,5 @@
 -- What a participant was shown of its member's messages, and what it says next.
-use Rattle.std.specs.Prelude.{◌≡◌, ◌⊎◌, ℕ, ◌+◌, ◌<◌, ◌≤◌, Bool, ◌&&◌, nat_lt, ◌==◌, if◌then◌else◌, List, [], ◌∷◌, ◌++◌, codes, take, drop, map, filter, fold, min, Option, Some, None, option_map, slice_get}
+use Rattle.std.specs.Prelude.{◌≡◌, ◌⊎◌, ℕ, ◌+◌, ◌<◌, ◌≤◌, Bool, ◌&&◌, nat_lt, ◌==◌, if◌then◌else◌, List, [], ◌∷◌, ◌++◌, codes, take, drop, map, filter, fold, min, Option, Some, option_map, slice_get}
 use Rattle.std.specs.Fmt.{decimal}
 use Rattle.cb_times.specs.declared.group.TheConstants.{MOST_MEMBERS}
 use Rattle.cb_times.specs.declared.name.Name.{Name}

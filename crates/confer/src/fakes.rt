@@ -1,10 +1,14 @@
 //! Readers and writers for tests, which fail where they are told to, and runs over them.
 
-use crate::cli::run_plain;
+use crate::cli::{run_plain, run_words};
 use std::alloc::Global;
 use std::io;
 use std::io::{ErrorKind, Read, Write};
+use std::net::Net;
 use std::process::Abort;
+use std::sync::Wait;
+use std::thread::Threads;
+use std::time::Clock;
 
 /// Gives its text `most` bytes at a time; the read after `good` of them is a fault.
 #[derive(Drop)]
@@ -93,7 +97,7 @@ impl Read for Bulk {
     }
 }
 
-/// What became of a run without threads.
+/// What became of a run.
 #[derive(Drop)]
 pub struct Outcome {
     pub status: Option<u8>,
@@ -145,6 +149,23 @@ pub fn run_into<R: Read>(
     let status = run_plain(alloc, words, input, &mut output, &mut errors);
     Outcome {
         status,
+        printed: output.text,
+        said: errors.text,
+    }
+}
+
+/// Runs the words on this input as the program does, with what they print going to this writer.
+pub fn run_whole<H: Threads + Wait + Clock + Net + Sync, R: Read>(
+    rt: &H,
+    alloc: Global,
+    words: &[&str],
+    input: &mut R,
+    mut output: Sink,
+) -> Outcome {
+    let mut errors = writing(alloc);
+    let status = run_words(rt, alloc, words, input, &mut output, &mut errors);
+    Outcome {
+        status: Some(status),
         printed: output.text,
         said: errors.text,
     }

@@ -8,7 +8,8 @@ ghost use Rattle.std.specs.Prelude.{ℕ};
 ghost use Rattle.cb_causality.specs.Laws.{EachRun};
 ghost use Rattle.cb_schedules.specs.Headline.{EachSchedule};
 ghost use Rattle.cb_schedules.specs.Messages.{causal_lists};
-ghost use Rattle.confer.specs.Rooms.{AnswersWereComposed, HasNoOrphan, ShowsAllLines, ShowsClosedArrivals, AgreeOnLines};
+ghost use Rattle.confer.specs.Playing.{EachScript, events_in};
+ghost use Rattle.confer.specs.Rooms.{AnswersWereComposed, HasNoOrphan, ShowsAllLines, ShowsClosedArrivals, AgreeOnLines, QuestionsComeFirst};
 
 /// No answer before its question, in every run of the causal broadcast machine: no member's conference ever answers `Orphan`. Each
 /// message that is a line has its line there, and all members who have the line of a message have the same.
@@ -29,4 +30,10 @@ pub fn no_answer_before_its_question_over_lossy_links()
         → ShowsClosedArrivals setting s) }
     ensures agree { EachSchedule (λ setting s. AnswersWereComposed (causal_lists setting s)
         → AgreeOnLines (causal_lists setting s)) }
+{}
+
+/// The same of what comes of every script whose plain casts carry no answer, where each line is composed over the view of the member
+/// that casts it: then the premise holds.
+pub fn no_answer_before_its_question_in_a_script()
+    ensures { EachScript (λ w. QuestionsComeFirst (events_in w)) }
 {}

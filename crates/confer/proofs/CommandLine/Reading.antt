@@ -2,7 +2,7 @@
 use Rattle.std.proofs.Common.{◌≡◌, ℕ, List, [], Option, Some, None, true, Result, Ok, refl, sym, ap₂, subst, ◌∙◌}
 use Rattle.std.specs.Prelude.{IfSome, option_map}
 use Rattle.std.specs.Str.Parse.{digits_value, without_leading_plus}
-use Rattle.clap.specs.Words.{App, Row, Text, ReadsOne, one_text, rows_of, fault_of, is_simple_and_free, HasKind, HasMatchesOf, Kinds, is_simple, subcommand_name_of, subcommand_rows_of, subcommand_of}
+use Rattle.clap.specs.Words.{App, Row, Text, ReadsOne, one_text, rows_of, fault_of, is_simple_and_free, HasKind, HasMatchesOf, Kinds, is_simple, subcommand_name_of, subcommand_rows_of}
 use Rattle.clap.specs.declared.parser.matches.ArgMatches.{ArgMatches}
 use Rattle.clap.specs.declared.parser.matches.ArgMatches.TheViews.{out-ArgMatches}
 use Rattle.clap.proofs.OnLiterals.{clap_on_literals}

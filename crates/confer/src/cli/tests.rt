@@ -3,16 +3,26 @@
 use crate::audit::TraceInputFault;
 use crate::cli::{Fault, report};
 use crate::expand::LinesFault;
-use crate::fakes::{Outcome, reading, run_on, writing};
+use crate::fakes::{Outcome, reading, run_on, run_whole, writing};
 use crate::play::ScriptFault;
 use crate::run::RunFault;
 use std::alloc::Global;
+use std::io::ErrorKind;
+use std::net::Net;
 use std::process::Abort;
+use std::sync::Wait;
+use std::thread::Threads;
+use std::time::Clock;
 
 /// What is said of words that are no command: nothing is read and nothing is printed.
-fn says(rt: &impl Abort, alloc: Global, words: &[&str], part: &str) {
+fn says<H: Threads + Wait + Clock + Net + Abort + Sync>(
+    rt: &H,
+    alloc: Global,
+    words: &[&str],
+    part: &str,
+) {
     let mut input = reading(b"1107000100026869\n");
-    let outcome = run_on(alloc, words, &mut input);
+    let outcome = run_whole(rt, alloc, words, &mut input, writing(alloc));
     let unread = input.text.len();
     drop(input);
     is_told(rt, outcome, part);
@@ -108,6 +118,142 @@ fn options_of_run_that_are_none_end_with_status_two(rt: HostRuntime) {
     for (option, part) in run_options() {
         says(&rt, rt.alloc(), &["confer", "run", option], part);
     }
+}
+
+/// A run of the program: its words and its input, and then its status, what is printed and what is said.
+struct ProgramRun {
+    words: &'static [&'static str],
+    input: &'static str,
+    status: u8,
+    printed: &'static str,
+    said: &'static str,
+}
+
+const EXPAND: &[&str] = &["confer", "expand", "--group", "7", "--size", "3"];
+
+const PLAY: &[&str] = &["confer", "play"];
+
+const AUDIT: &[&str] = &["confer", "audit"];
+
+/// What comes to its end, and what is stopped by its input.
+const RUNS: &[ProgramRun] = &[
+    ProgramRun {
+        words: EXPAND,
+        input: "1107000100026869\n",
+        status: 0,
+        printed: "0.1 [1,0,0] \"hi\"\n",
+        said: "",
+    },
+    ProgramRun {
+        words: EXPAND,
+        input: "12070200\n",
+        status: 1,
+        printed: "refused NotACast\n",
+        said: "",
+    },
+    ProgramRun {
+        words: PLAY,
+        input: "group 7 size 2 window 4 history 100\nsay 0 main hi\nscreen 0\n",
+        status: 0,
+        printed: "1 cast 0.1 [1,0]\n > 0 all 11070001000801046d61696e6869\n2 screen 0\n | [main] 0.1 hi\nmember 0 time [1,0] stable 0 entries 1\nmember 1 time [0,0] stable 0 entries 0\n",
+        said: "",
+    },
+    ProgramRun {
+        words: PLAY,
+        input: "group 7 size 2 window 4 history 100\ntock 0\n",
+        status: 4,
+        printed: "",
+        said: "confer: line 2: bad step\n",
+    },
+    ProgramRun {
+        words: AUDIT,
+        input: "cbcast 1 group 0 size 2 window 1\nmember 0 entries 0\nmember 1 entries 0\nend\n",
+        status: 0,
+        printed: "group 0 size 2 window 1 history 1\n",
+        said: "",
+    },
+    ProgramRun {
+        words: AUDIT,
+        input: "cbcast 1 group 0 size 2 window 1\nmember 0 entries 0\nend\n",
+        status: 1,
+        printed: "no WrongMember\n",
+        said: "",
+    },
+    ProgramRun {
+        words: AUDIT,
+        input: "cbcast 1 group 0 size 2 window 1\nend\n",
+        status: 4,
+        printed: "",
+        said: "confer: line 2: bad trace\n",
+    },
+];
+
+/// A function, since a constant would be looked through in the proof of the loop.
+fn runs() -> &'static [ProgramRun] {
+    RUNS
+}
+
+#[test]
+fn each_command_ends_with_its_status_and_says_its_faults_apart(rt: HostRuntime) {
+    for run in runs() {
+        ends_so(&rt, rt.alloc(), run);
+    }
+}
+
+fn ends_so<H: Threads + Wait + Clock + Net + Abort + Sync>(
+    rt: &H,
+    alloc: Global,
+    run: &ProgramRun,
+) {
+    let mut input = reading(run.input.as_bytes());
+    let outcome = run_whole(rt, alloc, run.words, &mut input, writing(alloc));
+    drop(input);
+    outcome.is(rt, run.status, run.printed.as_bytes(), run.said);
+}
+
+/// A function, since a constant would be looked through in the proof of the loop.
+fn commands() -> &'static [&'static [&'static str]] {
+    &[EXPAND, PLAY, AUDIT]
+}
+
+#[test]
+fn a_failing_stream_is_said_on_standard_error(rt: HostRuntime) {
+    for words in commands() {
+        fails_to_read(&rt, rt.alloc(), words);
+    }
+    for run in runs() {
+        fails_to_write(&rt, rt.alloc(), run);
+    }
+}
+
+fn fails_to_read<H: Threads + Wait + Clock + Net + Abort + Sync>(
+    rt: &H,
+    alloc: Global,
+    words: &[&str],
+) {
+    let mut input = reading(b"11");
+    input.good = 1;
+    input.fault = ErrorKind::OutOfMemory;
+    let outcome = run_whole(rt, alloc, words, &mut input, writing(alloc));
+    drop(input);
+    outcome.is(rt, 3, b"", "confer: read fault\n");
+}
+
+/// The writer takes three bytes and then no more: those stay, where anything is printed.
+fn fails_to_write<H: Threads + Wait + Clock + Net + Abort + Sync>(
+    rt: &H,
+    alloc: Global,
+    run: &ProgramRun,
+) {
+    let Some(first) = run.printed.as_bytes().get(..3) else {
+        return;
+    };
+    let mut output = writing(alloc);
+    output.good = 1;
+    let mut input = reading(run.input.as_bytes());
+    let outcome = run_whole(rt, alloc, run.words, &mut input, output);
+    drop(input);
+    outcome.is(rt, 3, first, "confer: write fault\n");
 }
 
 /// Words that order an expansion: the frame in group 7 is accepted.

@@ -3,9 +3,11 @@
 //! Each member has a conference with a screen of 20 lines. It is shown the member's own casts and its deliveries, in the order of the
 //! member's events, after each step. A line is composed in the conference of the member who casts it.
 
-ghost use Rattle.std.specs.Prelude.{◌≡◌};
+ghost use Rattle.std.specs.Prelude.{◌≡◌, OnOk, drop};
 ghost use Rattle.cb_causality.specs.StampedMachine.{message_of};
+ghost use Rattle.cb_rooms.specs.Conference.{held};
 ghost use Rattle.confer.specs.Rooms.{AreNamed};
+ghost use Rattle.confer.specs.Playing.{lines_with, CatchesUp};
 
 use crate::play::script::Setting;
 use bytes::Bytes;
@@ -113,17 +115,31 @@ impl Attendance {
     /// Shows the conference those of the member's events that it was not shown.
     fn catch_up(&mut self, events: &[Event]) -> Result<(), NoMemory>
         requires { AreNamed events.now }
+        ensures { OnOk result (CatchesUp events.now self.old self.new) }
     {
-        let (_, news) = events.split_at(self.shown.min(events.len()));
-        show_all(&mut self.conference, news)?;
+        show_all(&mut self.conference, behind(events, self.shown))?;
         self.shown = events.len();
         Ok(())
+    }
+}
+
+/// The events behind the first so many.
+fn behind(events: &[Event], shown: usize) -> &[Event]
+    ensures { result.now ≡ drop shown events.now }
+{
+    if shown < events.len() {
+        let (_, news) = events.split_at(shown);
+        news
+    } else {
+        &[]
     }
 }
 
 /// Shows the conference these events, one after the other.
 fn show_all(conference: &mut Conference, events: &[Event]) -> Result<(), NoMemory>
     requires { AreNamed events.now }
+    ensures { OnOk result (conference.new
+        ≡ held conference.old.screen (lines_with conference.old.lines events.now)) }
 {
     for event in events {
         let message = message(event);

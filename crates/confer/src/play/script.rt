@@ -5,6 +5,8 @@
 ghost use Rattle.std.specs.Prelude.{◌≡◌, ◌≤◌, ◌<◌, ◌^◌, ℕ, Ok, IfOk, IfErr, decimal};
 ghost use Rattle.cb_history.specs.Legal.{longest_history};
 ghost use Rattle.confer.specs.Play.{IsNoScript};
+ghost use Rattle.confer.specs.declared.play.script.LineFault.TheVariants.{NoLine};
+ghost use Rattle.hex.specs.declared.error.FromHexError.TheVariants as hex_faults;
 
 use crate::play::fault::ScriptFault;
 use bytes::Bytes;
@@ -239,7 +241,16 @@ fn payload(alloc: Global, word: &str) -> Result<Bytes, LineFault> {
     }
     match hex::decode(alloc, word) {
         Ok(bytes) => Ok(Bytes::from_vec(bytes).map_err(AllocError::from)?),
-        Err(FromHexError::OutOfMemory) => Err(LineFault::NoMemory(AllocError)),
-        Err(_) => Err(LineFault::NoLine),
+        Err(fault) => Err(hex_fault(fault)),
+    }
+}
+
+/// Why digits are no payload. Out of memory says nothing of the line.
+fn hex_fault(fault: FromHexError) -> LineFault
+    ensures { result ≡ NoLine → ¬ (fault ≡ hex_faults.OutOfMemory) }
+{
+    match fault {
+        FromHexError::OutOfMemory => LineFault::NoMemory(AllocError),
+        _ => LineFault::NoLine,
     }
 }

@@ -1,7 +1,8 @@
 //! Why a conference in threads did not run, or could not be printed.
 
 ghost use Rattle.std.specs.Prelude.{◌≡◌, List, Option, ℕ};
-ghost use Rattle.confer.specs.Run.{StopsRun};
+ghost use Rattle.confer.specs.Run.{StopsRun, fault_of_closing, fault_of_link, fault_of_threads, fault_of_worker};
+ghost use Rattle.confer.specs.declared.run.fault.ThreadFault.TheVariants.{NoMemory as OutOfMemory};
 ghost use Rattle.confer.specs.declared.run.setting.RunSetting.{RunSetting};
 
 use cb_lock::CloseFault;
@@ -49,7 +50,8 @@ pub enum ThreadFault {
 impl RunFault {
     /// The fault of a run that has written nothing.
     pub fn of_threads(fault: ThreadFault) -> RunFault
-        ensures { (setting : RunSetting) (written : Option (List ℕ))
+        ensures same { result ≡ fault_of_threads fault }
+        ensures stops { (setting : RunSetting) (written : Option (List ℕ))
             → StopsRun setting result written written }
     {
         match fault {
@@ -62,18 +64,24 @@ impl RunFault {
 }
 
 impl From<AllocError> for ThreadFault {
+    ghost from_gives = { λ _ e. e ≡ OutOfMemory };
+
     fn from(_refused: AllocError) -> ThreadFault {
         ThreadFault::NoMemory
     }
 }
 
 impl<T: Drop> From<AllocFailed<T>> for ThreadFault {
+    ghost from_gives = { λ _ e. e ≡ OutOfMemory };
+
     fn from(_refused: AllocFailed<T>) -> ThreadFault {
         ThreadFault::NoMemory
     }
 }
 
 impl From<LinkFault> for ThreadFault {
+    ghost from_gives = { λ fault e. e ≡ fault_of_link fault };
+
     fn from(fault: LinkFault) -> ThreadFault {
         match fault {
             LinkFault::Device => ThreadFault::NoLink,
@@ -83,6 +91,8 @@ impl From<LinkFault> for ThreadFault {
 }
 
 impl From<WorkerFault> for ThreadFault {
+    ghost from_gives = { λ fault e. e ≡ fault_of_worker fault };
+
     fn from(fault: WorkerFault) -> ThreadFault {
         match fault {
             WorkerFault::NoThread => ThreadFault::NoThread,
@@ -92,6 +102,8 @@ impl From<WorkerFault> for ThreadFault {
 }
 
 impl From<CloseFault> for ThreadFault {
+    ghost from_gives = { λ fault e. e ≡ fault_of_closing fault };
+
     fn from(fault: CloseFault) -> ThreadFault {
         match fault {
             CloseFault::NoMemory => ThreadFault::NoMemory,

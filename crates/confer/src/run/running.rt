@@ -1,13 +1,13 @@
 //! A conference in threads, from its setting to what is printed of it.
 
-ghost use Rattle.std.specs.Prelude.{◌≡◌, ◌≢◌, ◌++◌, List, IfOk, IfErr, OnOk, codes, length, map, true, false};
+ghost use Rattle.std.specs.Prelude.{◌≡◌, ◌≢◌, ◌++◌, List, None, IfOk, IfErr, OnOk, codes, length, map, true, false};
 ghost use Rattle.cb_history.specs.Group.{AreParameters};
 ghost use Rattle.cb_threads.specs.Groups.{AreKept, tally_in};
 ghost use Rattle.cb_threads.specs.Reports.{EachHandsBack};
 ghost use Rattle.cb_threads.specs.declared.group.GroupFault.TheVariants.{BadPlan};
 ghost use Rattle.cb_trace.specs.Text.{HistoryFields, history_fields};
 ghost use Rattle.confer.specs.Audit.{Refuses};
-ghost use Rattle.confer.specs.Run.{EndsWithAudit, PrintsRun, ShowsOver, ShowsReports, ShowsRun, StopsRun, IsTraceText, done_text, group_of, member_line, report_line, report_lines};
+ghost use Rattle.confer.specs.Run.{EachRan, EndsWithAudit, IsFaultOfGroup, PrintsRun, ShowsOver, ShowsReports, ShowsRun, StopsRun, IsTraceText, done_text, group_of, member_line, report_line, report_lines};
 ghost use Rattle.confer.specs.Cli.Orders.{IsRunSetting};
 ghost use Rattle.confer.specs.declared.run.setting.RunSetting.{RunSetting};
 
@@ -212,6 +212,7 @@ fn conference_group(setting: RunSetting) -> Group
 
 fn fault_of(fault: GroupFault) -> ThreadFault
     requires { fault ≢ BadPlan }
+    ensures { IsFaultOfGroup fault result }
 {
     match fault {
         GroupFault::BadPlan => {
@@ -294,7 +295,8 @@ fn lines_of<I, O>(
     alloc: Global,
     reports: &[MemberReport<I, O, Millisecond, Participant>],
 ) -> Result<Vec<u8>, ThreadFault>
-    ensures { IfOk result (λ text. text.items ≡ report_lines 0 reports.now) }
+    ensures text { IfOk result (λ text. text.items ≡ report_lines 0 reports.now) }
+    ensures ran { IfOk result (λ _. EachRan reports.now) }
 {
     let mut text = Vec::new(alloc);
     for (member, report) in reports.iter().enumerate() {
@@ -362,7 +364,8 @@ fn put_line<I, O>(
     member: usize,
     report: &MemberReport<I, O, Millisecond, Participant>,
 ) -> Result<(), ThreadFault>
-    ensures { OnOk result (out.new.items ≡ out.old.items ++ report_line member report.now) }
+    ensures line { OnOk result (out.new.items ≡ out.old.items ++ report_line member report.now) }
+    ensures ran { OnOk result (report.now.fault ≡ None) }
 {
     if let Some(fault) = report.fault {
         return Err(ThreadFault::from(fault));

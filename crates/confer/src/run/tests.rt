@@ -183,7 +183,7 @@ fn answer_to(rt: &impl Abort, participant: &mut Participant, event: Event) -> (b
         .next(slice::from_ref(&event))
         .expect(rt, "memory");
     let is_answer = match &talk {
-        Talk::Cast(payload) => payload.as_slice() == b"\x02\x00\x01yes",
+        Talk::Cast(payload) => payload.as_slice() == b"\x02\x00\x01yes".as_slice(),
         Talk::Idle | Talk::Finished => false,
     };
     drop(talk);

@@ -1,4 +1,4 @@
-use Rattle.std.proofs.Common.{◌≡◌, Bool, List, ℕ, map, subst, sym}
+use Rattle.std.proofs.Common.{Bool, List, ℕ, map, subst, sym}
 use Rattle.std.proofs.lemmas.Result.{IfOk-weaker}
 use Rattle.cb_threads.specs.Groups.{tally_in}
 use Rattle.cb_trace.specs.Text.{history_fields}
@@ -15,6 +15,7 @@ returns-then-setting g c =
       histories = these;
       legal = legal_histories c.args.group (group_of c.args.setting) hs (map tally_in rs) c.requires.group c.requires.parameters c.requires.members c.requires.kept;
       counts = counts_kept c.args.group 0 hs (map tally_in rs) c.requires.kept;
+      ran = c.in_ok-lines.ensures.ran;
       parts = c.requires.parts;
       shows = subst (λ (b : Bool). Shows b (report_lines 0 rs) these told.refused told.text.items) (sym c.if-setting.true) h;
     }) c.traced.ensures
@@ -28,7 +29,8 @@ returns-else-setting g c =
       histories = these;
       legal = legal_histories c.args.group (group_of c.args.setting) hs (map tally_in rs) c.requires.group c.requires.parameters c.requires.members c.requires.kept;
       counts = counts_kept c.args.group 0 hs (map tally_in rs) c.requires.kept;
+      ran = c.in_ok-lines.ensures.ran;
       parts = c.requires.parts;
       shows = subst (λ (b : Bool). Shows b (report_lines 0 rs) these told.refused told.text.items) (sym c.if-setting.false)
-          (subst (λ (lines : List ℕ). EndsWithAudit lines these told.refused told.text.items) c.in_ok-lines.ensures h);
+          (subst (λ (lines : List ℕ). EndsWithAudit lines these told.refused told.text.items) c.in_ok-lines.ensures.text h);
     }) c.audited.ensures

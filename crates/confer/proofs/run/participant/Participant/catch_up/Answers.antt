@@ -1,7 +1,6 @@
-use Rattle.std.proofs.Common.{◌≡◌, List, Bool, [], ◌∷◌, filter, drop, min, ap, subst, arith, ◌∙◌, length, ℕ, ◌+◌, ◌≤◌, ◌<◌}
+use Rattle.std.proofs.Common.{◌≡◌, [], ◌∷◌, filter, drop, ap, subst, arith, ◌∙◌, length, ◌+◌, ◌≤◌}
 use Rattle.cb_delay.specs.declared.message.Message.{Message}
-use Rattle.cb_delay.specs.declared.message.Event.{Event}
-use Rattle.confer.specs.Talking.{SawAll, SawFirst, as_shown_to, is_name}
+use Rattle.confer.specs.Talking.{SawAll, as_shown_to, is_name}
 use Rattle.confer.specs.declared.run.participant.Participant.{Participant}
 use Rattle.confer.proofs.Seeing.{saw_none, saw_next, saw_all, saw_first, saw_so_far}
 use Rattle.confer.proofs.run.participant.Participant.catch_up.Goals as goal

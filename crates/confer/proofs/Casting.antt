@@ -1,0 +1,311 @@
+-- What one step adds to the events of the members: to its own member's alone, and a cast only of the payload that it casts.
+use Rattle.std.proofs.Common.{◌≡◌, ◌≢◌, ℕ, zero, suc, ◌+◌, ◌<◌, ◌≤◌, Bool, true, false, not, eqb, ltb, List, [], ◌∷◌, ◌++◌, length, map, Option, Some, None, Result, Ok, Err, refl, sym, ap, subst, ◌∙◌, arith, ◌⊎◌, inl, inr}
+use Rattle.std.specs.Prelude.{slice_get}
+use Rattle.std.specs.List.{AllByRecursion}
+use Rattle.std.proofs.lemmas.Bool.{cases_eq, eq-eqb, ne_eqb, cond_both, ltb-false}
+use Rattle.std.proofs.lemmas.List.{append-nil, map-append}
+use Rattle.cb_times.specs.declared.name.Name.{Name}
+use Rattle.cb_frames.specs.declared.frame.TheConstants.{LONGEST_PAYLOAD}
+use Rattle.cb_frames.specs.declared.fault.FrameFault.{FrameFault}
+use Rattle.cb_frames.specs.Fields.{CastFields, FrameFields, CastFrame, StatusFrame, RequestFrame}
+use Rattle.cb_frames.specs.Text.{text_of}
+use Rattle.cb_frames.specs.Reading.{frame_at}
+use Rattle.cb_frames.specs.Laws.{IsBytes}
+use Rattle.cb_delay.specs.declared.message.Message.{Message}
+use Rattle.cb_delay.specs.declared.message.Event.{Event}
+use Rattle.cb_delay.specs.declared.message.Event.TheVariants.{Cast, Deliver}
+use Rattle.cb_causality.specs.declared.event.CausalEvent.{CausalEvent}
+use Rattle.cb_causality.specs.declared.event.CausalEvent.TheVariants as causal
+use Rattle.cb_causality.specs.StampedMachine.{without_time, without_times}
+use Rattle.cb_causality.proofs.Counting.{get_map_from}
+use Rattle.cb_history.specs.declared.answer.CastRefusal.{CastRefusal}
+use Rattle.cb_history.specs.declared.answer.CastRefusal.TheVariants as casts
+use Rattle.cb_history.specs.declared.answer.ArriveRefusal.{ArriveRefusal}
+use Rattle.cb_history.specs.declared.answer.TickRefusal.{TickRefusal}
+use Rattle.cb_history.specs.declared.answer.Outgoing.{Outgoing}
+use Rattle.cb_history.specs.Group.{Seat}
+use Rattle.cb_history.specs.Facts.{EntryFields, CastEntry, ArriveEntry, TickEntry, Fact, OwnCast, CastCame, StatusCame, OwnStatus, cast_said, arrival_said, status_said, said_by, facts_of}
+use Rattle.cb_history.specs.Answers.{is_full, is_window_full, next_cast, cast_answer, ArrivalSays, Accepted, Repeat, arrive_answer, status_of, tick_answer}
+use Rattle.cb_history.specs.Events.{events}
+use Rattle.cb_history.specs.EventLaws.{new_events}
+use Rattle.cb_history.specs.Legal.{Call, ToCast, ToTake, ToTick, cast_entry, arrive_entry, tick_entry, entry_of, and_entry, history_after, IsLegal}
+use Rattle.cb_history.specs.LegalFacts.{AreFactsOf}
+use Rattle.cb_history.proofs.Lists.{flat_map-append}
+use Rattle.cb_history.proofs.Happening.{events_with_one_more}
+use Rattle.cb_history.proofs.Histories.{legal_histories_say_legal_facts}
+use Rattle.cb_history.proofs.Calls.{calls_keep_legal}
+use Rattle.cb_history.proofs.ReadBack.{cast_read}
+use Rattle.cb_history.proofs.Requests.{own_frames_have_texts}
+use Rattle.cb_schedules.specs.Schedule.{Setting, IsSetting, Step, CastStep, ArriveStep, TickStep, SentFrame, seat_at, Asked, Calls, OfNoMember, OfNoFrame, OfNoBytes, are_bytes, asked_by, handed_over, after_asked, step_after, with_history, GroupState}
+use Rattle.cb_schedules.specs.Messages.{facts_at, stamped_lists, causal_lists}
+use Rattle.cb_schedules.specs.Consistent.{IsConsistent}
+use Rattle.cb_schedules.proofs.Courses.{IsFair, asked_is}
+use Rattle.cb_schedules.proofs.Later.{no_cast}
+use Rattle.cb_world.specs.Steps.{member_of}
+
+-- ---- lists
+
+-- what stands in two lists, one behind the other
+pub front_or_behind : {X : Type 0} (xs ys : List X) (n : ℕ) (x : X) → slice_get (xs ++ ys) n ≡ Some x
+    → (slice_get xs n ≡ Some x) ⊎ ((k : ℕ) × (n ≡ length xs + k) × (slice_get ys k ≡ Some x))
+front_or_behind [] ys n x e = inr (n, omega arith, e)
+front_or_behind (y ∷ xs) ys zero x e = inl e
+front_or_behind (y ∷ xs) ys (suc n) x e = elim (front_or_behind xs ys n x e) [
+  | inl here ↦ inl here
+  | inr there ↦ inr (there.0, omega (arith, there.1), there.2)
+]
+
+at_index : {X : Type 0} (P : X → Type 0) (xs : List X) (n : ℕ) (x : X) → AllByRecursion P xs → slice_get xs n ≡ Some x → P x
+at_index P [] n x all e = absurd (cc e)
+at_index P (y ∷ xs) zero x all e = let same : y ≡ x = cc in subst P same all.0
+at_index P (y ∷ xs) (suc n) x all e = at_index P xs n x all.1 e
+
+-- ---- one more fact
+
+-- an event that the call makes: a cast of its payload, or a delivery
+abbrev pub IsMadeBy : Call → Event → Type 0
+IsMadeBy call (Cast message) = call ≡ ToCast message.payload
+IsMadeBy call (Deliver message) = Unit {0}
+
+abbrev IsSaidBy : Call → Fact → Type 0
+IsSaidBy call (OwnCast c) = call ≡ ToCast c.payload
+IsSaidBy call (CastCame c) = Unit {0}
+IsSaidBy call (StatusCame s) = Unit {0}
+IsSaidBy call (OwnStatus s) = Unit {0}
+
+all_deliver : (call : Call) (messages : List Message) → AllByRecursion (IsMadeBy call) (map (λ message. Deliver message) messages)
+all_deliver call [] = tt
+all_deliver call (message ∷ messages) = (tt, all_deliver call messages)
+
+makes : (call : Call) (seat : Seat) (facts : List Fact) (f : Fact) → IsSaidBy call f → AllByRecursion (IsMadeBy call) (new_events seat facts f)
+makes call seat facts (OwnCast c) said = (said, tt)
+makes call seat facts (CastCame c) said = all_deliver call _
+makes call seat facts (StatusCame s) said = tt
+makes call seat facts (OwnStatus s) said = tt
+
+-- ---- one more entry
+
+-- none of these, or one that the call says
+abbrev SaysOne : Call → List Fact → Type 0
+SaysOne call [] = Unit {0}
+SaysOne call (f ∷ []) = IsSaidBy call f
+SaysOne call (f ∷ g ∷ facts) = ⊥
+
+-- the events go on by some that the call makes
+abbrev pub GoOn : Call → List Event → List Event → Type 0
+GoOn call before after = (new : List Event) × (after ≡ before ++ new) × AllByRecursion (IsMadeBy call) new
+
+by_facts : (call : Call) (seat : Seat) (facts more : List Fact) → AreFactsOf seat (facts ++ more) → SaysOne call more → GoOn call (events seat facts) (events seat (facts ++ more))
+by_facts call seat facts [] are said = ([], ap (events seat) (append-nil facts) ∙ sym (append-nil (events seat facts)), tt)
+by_facts call seat facts (f ∷ []) are said = (new_events seat facts f, events_with_one_more seat facts f are, makes call seat facts f said)
+by_facts call seat facts (f ∷ g ∷ more) are said = absurd said
+
+by_entry : (call : Call) (seat : Seat) (entries : List EntryFields) (o : Option EntryFields) → IsLegal seat (and_entry entries o)
+    → ((e : EntryFields) → o ≡ Some e → SaysOne call (said_by e)) → GoOn call (events seat (facts_of entries)) (events seat (facts_of (and_entry entries o)))
+by_entry call seat entries None legal said = ([], sym (append-nil (events seat (facts_of entries))), tt)
+by_entry call seat entries (Some e) legal said =
+    let facts : facts_of (entries ++ e ∷ []) ≡ facts_of entries ++ said_by e =
+    flat_map-append said_by entries (e ∷ []) ∙ ap (λ (fs : List Fact). facts_of entries ++ fs) (append-nil (said_by e)) in
+    subst (λ (fs : List Fact). GoOn call (events seat (facts_of entries)) (events seat fs)) (sym facts)
+    (by_facts call seat (facts_of entries) (said_by e) (subst (AreFactsOf seat) facts (legal_histories_say_legal_facts seat (entries ++ e ∷ []) legal)) (said e refl))
+
+-- ---- one call
+
+arrival_says_one : (call : Call) (r : Result FrameFields FrameFault) → SaysOne call (arrival_said r)
+arrival_says_one call (Ok (CastFrame c)) = tt
+arrival_says_one call (Ok (StatusFrame s)) = tt
+arrival_says_one call (Ok (RequestFrame r)) = tt
+arrival_says_one call (Err fault) = tt
+
+status_says_one : (call : Call) (r : Result FrameFields FrameFault) → SaysOne call (status_said r)
+status_says_one call (Ok (CastFrame c)) = tt
+status_says_one call (Ok (StatusFrame s)) = tt
+status_says_one call (Ok (RequestFrame r)) = tt
+status_says_one call (Err fault) = tt
+
+abbrev AddsOne : Call → Option EntryFields → Type 0
+AddsOne call o = (e : EntryFields) → o ≡ Some e → SaysOne call (said_by e)
+
+adds_none : (call : Call) → AddsOne call None
+adds_none call e at = absurd (cc at)
+
+arrival_adds : (bytes : List ℕ) (r : Result ArrivalSays ArriveRefusal) → AddsOne (ToTake bytes) (arrive_entry bytes r)
+arrival_adds bytes (Ok (Accepted deliveries true out)) e at =
+    let same : ArriveEntry bytes (map (λ (m : Message). m.name) deliveries) ≡ e = cc in
+    subst (λ (x : EntryFields). SaysOne (ToTake bytes) (said_by x)) same (arrival_says_one (ToTake bytes) (frame_at bytes))
+arrival_adds bytes (Ok (Accepted deliveries false out)) e at = absurd (cc at)
+arrival_adds bytes (Ok Repeat) e at = absurd (cc at)
+arrival_adds bytes (Err refusal) e at = absurd (cc at)
+
+tick_adds : (status : List ℕ) (r : Result (Bool × List Outgoing) TickRefusal) → AddsOne ToTick (tick_entry status r)
+tick_adds status (Ok (true, out)) e at =
+    let same : TickEntry status ≡ e = cc in
+    subst (λ (x : EntryFields). SaysOne ToTick (said_by x)) same (status_says_one ToTick (frame_at status))
+tick_adds status (Ok (false, out)) e at = absurd (cc at)
+tick_adds status (Err refusal) e at = absurd (cc at)
+
+module _ (setting : Setting) (is : IsSetting setting) (s : GroupState) (inv : IsConsistent setting s) (i : ℕ) (lt : i < setting.group.size) where
+  abbrev seat : Seat
+  seat = seat_at setting i
+
+  abbrev now : List EntryFields
+  now = s.histories i
+
+  are : AreFactsOf (seat_at setting i) (facts_of (s.histories i))
+  are = inv.together.legal i lt
+
+  cast_adds : (payload : List ℕ) → AddsOne (ToCast payload) (cast_entry (cast_answer seat setting.limit now payload))
+  unfolding cast_answer
+  cast_adds payload =
+      cond_both (ltb LONGEST_PAYLOAD (length payload)) _ _ Adds (λ _. adds_none (ToCast payload))
+      (λ short. cond_both (is_window_full seat (facts_of now)) _ _ Adds (λ _. adds_none (ToCast payload))
+      (λ _. cond_both (is_full setting.limit now) _ _ Adds (λ _. adds_none (ToCast payload)) (λ _. made (ltb-false LONGEST_PAYLOAD (length payload) short))))
+    where
+      Adds : Result CastFields CastRefusal → Type 0
+      Adds r = AddsOne (ToCast payload) (cast_entry r)
+
+      cast : CastFields
+      cast = next_cast seat (facts_of now) payload
+
+      made : length payload ≤ LONGEST_PAYLOAD → Adds (Ok cast)
+      made short e at =
+          let read : frame_at (text_of (CastFrame cast)) ≡ Ok (CastFrame cast) = cast_read cast ((own_frames_have_texts seat (facts_of now) are).0 payload short) in
+          let same : CastEntry (text_of (CastFrame cast)) ≡ e = cc in
+          subst (λ (x : EntryFields). SaysOne (ToCast payload) (said_by x)) same
+          (subst (λ (r : Result FrameFields FrameFault). SaysOne (ToCast payload) (cast_said r)) (sym read) refl)
+
+  call_goes_on : (call : Call) → IsFair setting s call → GoOn call (events seat (facts_of now)) (events seat (facts_of (history_after seat setting.limit now call)))
+  call_goes_on (ToCast payload) fair =
+      by_entry (ToCast payload) seat now (cast_entry (cast_answer seat setting.limit now payload))
+      (calls_keep_legal seat setting.limit now (ToCast payload) is.at_most (inv.legal i lt) fair) (cast_adds payload)
+  call_goes_on (ToTake bytes) fair =
+      by_entry (ToTake bytes) seat now (arrive_entry bytes (arrive_answer seat setting.limit now bytes))
+      (calls_keep_legal seat setting.limit now (ToTake bytes) is.at_most (inv.legal i lt) fair.are_bytes) (arrival_adds bytes (arrive_answer seat setting.limit now bytes))
+  call_goes_on ToTick fair =
+      by_entry ToTick seat now (entry_of seat setting.limit now ToTick)
+      (calls_keep_legal seat setting.limit now ToTick is.at_most (inv.legal i lt) tt) (tick_adds _ (tick_answer seat setting.limit now))
+
+-- ---- one step
+
+-- the events of member j go on by some that what was asked for makes: of another member by none
+abbrev GoOnAsAsked : Asked → ℕ → List Event → List Event → Type 0
+GoOnAsAsked (Calls i call) j before after = ((i ≡ j) × GoOn call before after) ⊎ ((i ≢ j) × (after ≡ before))
+GoOnAsAsked OfNoMember j before after = after ≡ before
+GoOnAsAsked OfNoFrame j before after = after ≡ before
+GoOnAsAsked OfNoBytes j before after = after ≡ before
+
+asked_goes_on : (setting : Setting) → IsSetting setting → (s : GroupState) → IsConsistent setting s → (step : Step) (j : ℕ)
+    → GoOnAsAsked (asked_by setting s.sent step) j (stamped_lists setting s j) (stamped_lists setting (step_after setting s step) j)
+unfolding step_after
+asked_goes_on setting is s inv step j =
+    asked_is setting s inv.honest (λ (asked : Asked). GoOnAsAsked asked j (stamped_lists setting s j) (stamped_lists setting (after_asked setting s asked) j))
+    called refl refl refl step
+  where
+    called : (i : ℕ) (call : Call) → i < setting.group.size → IsFair setting s call
+        → GoOnAsAsked (Calls i call) j (stamped_lists setting s j) (stamped_lists setting (after_asked setting s (Calls i call)) j)
+    called i call lt fair = elim (cases_eq j i) [
+      | inl e ↦
+          let here : with_history s.histories i (history_after (seat_at setting i) setting.limit (s.histories i) call) i ≡ history_after (seat_at setting i) setting.limit (s.histories i) call =
+          rw (eq-eqb i i refl) refl in
+          let own : GoOn call (stamped_lists setting s i) (stamped_lists setting (after_asked setting s (Calls i call)) i) =
+          subst (λ (es : List EntryFields). GoOn call (events (seat_at setting i) (facts_of (s.histories i))) (events (seat_at setting i) (facts_of es))) (sym here)
+          (call_goes_on setting is s inv i lt call fair) in
+          inl (sym e, subst (λ (k : ℕ). GoOn call (stamped_lists setting s k) (stamped_lists setting (after_asked setting s (Calls i call)) k)) (sym e) own)
+      | inr ne ↦
+          let there : with_history s.histories i (history_after (seat_at setting i) setting.limit (s.histories i) call) j ≡ s.histories j = rw (ne_eqb j i ne) refl in
+          inr (λ same. ne (sym same), ap (λ (es : List EntryFields). events (seat_at setting j) (facts_of es)) there)
+    ]
+
+-- what a step asks for is asked of its member
+asks_its_member : (setting : Setting) (sent : List SentFrame) (step : Step) (i : ℕ) (call : Call) → asked_by setting sent step ≡ Calls i call → member_of step ≡ i
+asks_its_member setting sent (CastStep k payload) i call =
+    cond_both (ltb k setting.group.size) _ _ (λ (asked : Asked). asked ≡ Calls i call → k ≡ i)
+    (λ _. cond_both (are_bytes payload) (Calls k (ToCast payload)) OfNoBytes (λ (asked : Asked). asked ≡ Calls i call → k ≡ i) (λ _ e. cc) (λ _ e. absurd (cc e))) (λ _ e. absurd (cc e))
+asks_its_member setting sent (ArriveStep k number) i call =
+    cond_both (ltb k setting.group.size) _ _ (λ (asked : Asked). asked ≡ Calls i call → k ≡ i) (λ _. handed (slice_get sent number)) (λ _ e. absurd (cc e))
+  where
+    handed : (found : Option SentFrame) → handed_over k found ≡ Calls i call → k ≡ i
+    handed None e = absurd (cc e)
+    handed (Some frame) e = cc
+asks_its_member setting sent (TickStep k) i call =
+    cond_both (ltb k setting.group.size) (Calls k ToTick) OfNoMember (λ (asked : Asked). asked ≡ Calls i call → k ≡ i) (λ _ e. cc) (λ _ e. absurd (cc e))
+
+-- and a cast is asked for by the step that casts
+asks_to_cast : (setting : Setting) (sent : List SentFrame) (step : Step) (i : ℕ) (payload : List ℕ) → asked_by setting sent step ≡ Calls i (ToCast payload) → step ≡ CastStep i payload
+asks_to_cast setting sent (CastStep k other) i payload =
+    cond_both (ltb k setting.group.size) _ _ (λ (asked : Asked). asked ≡ Calls i (ToCast payload) → CastStep k other ≡ CastStep i payload)
+    (λ _. cond_both (are_bytes other) (Calls k (ToCast other)) OfNoBytes (λ (asked : Asked). asked ≡ Calls i (ToCast payload) → CastStep k other ≡ CastStep i payload) (λ _ e. cc) (λ _ e. absurd (cc e)))
+    (λ _ e. absurd (cc e))
+asks_to_cast setting sent (ArriveStep k number) i payload = λ e. absurd (no_cast setting sent (ArriveStep k number) tt i payload e)
+asks_to_cast setting sent (TickStep k) i payload = λ e. absurd (no_cast setting sent (TickStep k) tt i payload e)
+
+module _ (setting : Setting) (is : IsSetting setting) (s : GroupState) (inv : IsConsistent setting s) (step : Step) where
+  abbrev before : ℕ → List CausalEvent
+  before = causal_lists setting s
+
+  abbrev after : ℕ → List CausalEvent
+  after = causal_lists setting (step_after setting s step)
+
+  -- others have the events that they had
+  pub others_stay : (j : ℕ) → j ≢ member_of step → stamped_lists setting (step_after setting s step) j ≡ stamped_lists setting s j
+  others_stay j ne = by (asked_by setting s.sent step) refl (asked_goes_on setting is s inv step j)
+    where
+      by : (asked : Asked) → asked_by setting s.sent step ≡ asked → GoOnAsAsked asked j (stamped_lists setting s j) (stamped_lists setting (step_after setting s step) j)
+          → stamped_lists setting (step_after setting s step) j ≡ stamped_lists setting s j
+      by (Calls i call) e on = elim on [
+        | inl own ↦ absurd (ne (sym (asks_its_member setting s.sent step i call e ∙ own.0)))
+        | inr other ↦ other.1
+      ]
+      by OfNoMember e on = on
+      by OfNoFrame e on = on
+      by OfNoBytes e on = on
+
+  -- and what a member has goes on
+  pub goes_on : (j : ℕ) → (new : List Event) × (stamped_lists setting (step_after setting s step) j ≡ stamped_lists setting s j ++ new)
+      × AllByRecursion (λ (e : Event). (m : Message) → e ≡ Cast m → step ≡ CastStep j m.payload) new
+  goes_on j = by (asked_by setting s.sent step) refl (asked_goes_on setting is s inv step j)
+    where
+      Made : List Event → Type 0
+      Made new = AllByRecursion (λ (e : Event). (m : Message) → e ≡ Cast m → step ≡ CastStep j m.payload) new
+
+      Goes : Type 0
+      Goes = (new : List Event) × (stamped_lists setting (step_after setting s step) j ≡ stamped_lists setting s j ++ new) × Made new
+
+      same : stamped_lists setting (step_after setting s step) j ≡ stamped_lists setting s j → Goes
+      same e = ([], e ∙ sym (append-nil (stamped_lists setting s j)), tt)
+
+      each : (i : ℕ) (call : Call) → asked_by setting s.sent step ≡ Calls i call → i ≡ j → (new : List Event) → AllByRecursion (IsMadeBy call) new → Made new
+      each i call e own [] all = tt
+      each i call e own (Cast x ∷ new) all = (
+        λ m at.
+            let payload : x.payload ≡ m.payload = cc in
+            asks_to_cast setting s.sent step j m.payload (e ∙ ap (λ (k : ℕ). Calls k call) own ∙ ap (Calls j) (all.0 ∙ ap ToCast payload)),
+        each i call e own new all.1,
+      )
+      each i call e own (Deliver x ∷ new) all = (λ m at. absurd (cc at), each i call e own new all.1)
+
+      by : (asked : Asked) → asked_by setting s.sent step ≡ asked → GoOnAsAsked asked j (stamped_lists setting s j) (stamped_lists setting (step_after setting s step) j) → Goes
+      by (Calls i call) e on = elim on [
+        | inl own ↦ (own.1.0, own.1.1, each i call e own.0 own.1.0 own.1.2)
+        | inr other ↦ same other.1
+      ]
+      by OfNoMember e on = same on
+      by OfNoFrame e on = same on
+      by OfNoBytes e on = same on
+
+  -- so a cast is an old one, or the step's
+  pub old_or_cast : (j place : ℕ) (m : Name) (payload : List ℕ) → slice_get (after j) place ≡ Some (causal.Cast m payload)
+      → (slice_get (before j) place ≡ Some (causal.Cast m payload)) ⊎ ((length (before j) ≤ place) × (step ≡ CastStep j payload))
+  old_or_cast j place m payload at =
+      let on = goes_on j in
+      let parts : after j ≡ before j ++ without_times on.0 = ap without_times on.1 ∙ map-append without_time (stamped_lists setting s j) on.0 in
+      elim (front_or_behind (before j) (without_times on.0) place (causal.Cast m payload) (subst (λ (es : List CausalEvent). slice_get es place ≡ Some (causal.Cast m payload)) parts at)) [
+        | inl old ↦ inl old
+        | inr new ↦
+            let event = get_map_from without_time on.0 new.0 (causal.Cast m payload) new.2 in
+            inr (omega (arith, new.1), is_its event.0 event.2 (at_index (λ (e : Event). (x : Message) → e ≡ Cast x → step ≡ CastStep j x.payload) on.0 new.0 event.0 on.2 event.1))
+      ]
+    where
+      is_its : (e : Event) → without_time e ≡ causal.Cast m payload → ((x : Message) → e ≡ Cast x → step ≡ CastStep j x.payload) → step ≡ CastStep j payload
+      is_its (Cast x) same each = let payloads : x.payload ≡ payload = cc in each x refl ∙ ap (CastStep j) payloads
+      is_its (Deliver x) same each = absurd (cc same)
