@@ -12,6 +12,7 @@ const KEPT: u32 = 4;
 #[derive(Drop)]
 pub struct Network {
     alloc: Global,
+    size: u32,
     queues: Vec<Vec<Bytes>>,
     since_loss: u32,
 }
@@ -24,6 +25,7 @@ impl Network {
         }
         Ok(Network {
             alloc,
+            size,
             queues,
             since_loss: 0,
         })
@@ -51,7 +53,7 @@ impl Network {
 
     /// Sends a frame to all members but its sender.
     pub fn send_to_others(&mut self, from: u32, bytes: &Bytes) -> Result<(), NoMemory> {
-        for to in 0..self.queues.len() as u32 {
+        for to in 0..self.size {
             if to != from {
                 self.send_to(to, bytes.clone()?)?;
             }
