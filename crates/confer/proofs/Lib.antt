@@ -8,3 +8,5 @@ pub mod Auditing
 pub mod Conferring
 pub mod Casting
 pub mod Scripts
+pub mod Shown
+pub mod Printing

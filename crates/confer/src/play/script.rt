@@ -2,10 +2,10 @@
 //!
 //! The lines and their words are those of `docs/PROTOCOL.md`. This module converts, and runs nothing.
 
-ghost use Rattle.std.specs.Prelude.{◌≡◌, ◌≤◌, ◌<◌, ◌^◌, ℕ, Ok, IfOk, IfErr, decimal};
+ghost use Rattle.std.specs.Prelude.{◌≡◌, ◌≤◌, ◌<◌, ◌^◌, ℕ, List, Ok, Err, IfOk, IfErr, decimal};
 ghost use Rattle.cb_history.specs.Legal.{longest_history};
-ghost use Rattle.confer.specs.Play.{IsNoScript};
-ghost use Rattle.confer.specs.declared.play.script.LineFault.TheVariants.{NoLine};
+ghost use Rattle.confer.specs.Play.{IsNoScript, IsPayloadWord};
+ghost use Rattle.confer.specs.declared.play.script.LineFault.TheVariants.{NoLine, NoMemory as OutOfMemory};
 ghost use Rattle.hex.specs.declared.error.FromHexError.TheVariants as hex_faults;
 
 use crate::play::fault::ScriptFault;
@@ -67,6 +67,8 @@ impl LineFault {
 }
 
 impl From<NoMemory> for LineFault {
+    ghost from_gives = { λ refused e. e ≡ OutOfMemory refused };
+
     fn from(refused: NoMemory) -> LineFault {
         LineFault::NoMemory(refused)
     }
@@ -231,8 +233,11 @@ fn number(word: &str) -> Result<u32, LineFault>
     }
 }
 
-/// A payload: `-` for none, else two digits for each byte, in either case of letters.
-fn payload(alloc: Global, word: &str) -> Result<Bytes, LineFault> {
+/// A payload: `-` for none, else two digits for each byte, in either case of letters. `NoLine` is answered only of a word that is none.
+fn payload(alloc: Global, word: &str) -> Result<Bytes, LineFault>
+    ensures ok { IfOk result (λ payload. IsPayloadWord word.now payload) }
+    ensures no_line { (result ≡ Err NoLine) → (payload : List ℕ) → ¬ IsPayloadWord word.now payload }
+{
     if word == "-" {
         return Ok(Bytes::new());
     }
