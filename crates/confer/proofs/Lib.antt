@@ -10,3 +10,4 @@ pub mod Casting
 pub mod Scripts
 pub mod Shown
 pub mod Printing
+pub mod ScriptLines

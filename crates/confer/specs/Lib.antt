@@ -6,3 +6,4 @@ pub mod Audit
 pub mod Run
 pub mod Cli
 pub mod Rooms
+pub mod ScriptText

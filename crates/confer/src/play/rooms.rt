@@ -54,7 +54,6 @@ pub struct Rooms {
 
 impl Rooms {
     /// A group in which nothing has happened.
-    #[tactic(auto, using(crate::proofs::Shown::new_are_shown))]
     pub fn new(alloc: Global, setting: Setting) -> Result<Rooms, NoMemory>
         ensures world { IfOk result (λ rooms. rooms.world ≡ new_group (setting_in setting)) }
         ensures shown { IfOk result (λ rooms. AreShown rooms.world rooms.attendances.items) }
@@ -79,7 +78,7 @@ impl Rooms {
 
     /// The group takes a step, and the member to whom it happened is shown what it cast and delivered by it: so each conference is shown
     /// just its member's events, each once. The only error is out of memory, after which the group may have taken the step.
-    #[tactic(auto, using(crate::proofs::Shown::step_shows, crate::proofs::Shown::step_shows_nobody))]
+    #[tactic(auto, using(crate::proofs::Shown::step_shows))]
     pub fn step(&mut self, step: &Step) -> Result<(), NoMemory>
         ensures world { OnOk result (self.new.world ≡ and_step self.old.world (step_fields step.now)) }
         ensures shown { OnOk result (AreShown self.old.world self.old.attendances.items
@@ -95,7 +94,7 @@ impl Rooms {
 
     /// Composes a line in the member's conference, over what the member cast and delivered so far, and casts it. The only error is out of
     /// memory.
-    #[tactic(auto, using(crate::proofs::Shown::composes, crate::proofs::Shown::composes_nothing, crate::proofs::Shown::nobody_composes))]
+    #[tactic(auto, using(crate::proofs::Shown::nobody_composes))]
     pub fn compose(&mut self, member: u32, line: &Line<'_>) -> Result<Composed, NoMemory>
         ensures world { OnOk result (AreShown self.old.world self.old.attendances.items
             → ComesOf (Composes member (fields_of line.now)) self.old.world self.new.world) }

@@ -1,14 +1,16 @@
 //! From a reader to a writer, by way of a group.
 
 ghost use Rattle.std.specs.Prelude.{◌≡◌, [], OnOk, IfOk, IfErr, map, string_bytes};
+ghost use Rattle.confer.specs.ScriptText.{RunsScript, WritesRun};
 ghost use Rattle.confer.specs.Streams.{IsWithinLimit, WritesSome};
 ghost use Rattle.confer.specs.Play.{IsNoScript, StopsPlaying};
 ghost use Rattle.confer.specs.Playing.{AreShown, ComesOf, IsRunText, PutsRun, PutsStep, PutsSteps, Says, Shows, order_of, setting_in};
 
 use crate::expand::{read_whole, write_whole};
 use crate::play::fault::ScriptFault;
+use crate::play::reading::script_of;
 use crate::play::rooms::{Composed, Rooms};
-use crate::play::script::{Script, ScriptStep, Setting, script_of};
+use crate::play::script::{Script, ScriptStep, Setting};
 use crate::play::transcript::{put_member, put_no_member, put_not_composed, put_screen, put_step};
 use cb_times::NoMemory;
 use cb_world::World;
@@ -19,6 +21,7 @@ use std::io::{Read, Write};
 ///
 /// The text of the run is made whole before any of it is written: where the script can't be read whole, has a bad step, or memory runs
 /// out, nothing is written.
+#[tactic(auto, using(crate::proofs::ScriptLines::writes_run))]
 pub fn play_script<R: Read, W: Write>(
     alloc: Global,
     input: &mut R,
@@ -26,6 +29,8 @@ pub fn play_script<R: Read, W: Write>(
 ) -> Result<(), ScriptFault>
     ensures limit { OnOk result (IsWithinLimit (R.remaining input.old)) }
     ensures written { OnOk result (WritesSome (W.contents output.old) (W.contents output.new)) }
+    ensures runs { OnOk result (WritesRun (R.remaining input.old)
+        (W.contents output.old) (W.contents output.new)) }
     ensures fault { IfErr result (λ fault. StopsPlaying fault (R.remaining input.old)
         (W.contents output.old) (W.contents output.new)) }
 {
@@ -44,8 +49,10 @@ pub fn play_script<R: Read, W: Write>(
 }
 
 /// What is printed of a script.
+#[tactic(auto, using(crate::proofs::ScriptLines::runs_script))]
 fn transcript_of(alloc: Global, text: &[u8]) -> Result<String, ScriptFault>
-    ensures { IfErr result IsNoScript }
+    ensures runs { IfOk result (λ printed. RunsScript text.now (string_bytes printed)) }
+    ensures fault { IfErr result IsNoScript }
 {
     let Script { setting, steps } = script_of(alloc, text)?;
     Ok(run_text(alloc, setting, &steps)?)
