@@ -9,3 +9,6 @@ pub mod Conferring
 pub mod Casting
 pub mod Scripts
 pub mod Seeing
+pub mod Shown
+pub mod Printing
+pub mod ScriptLines

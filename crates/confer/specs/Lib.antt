@@ -7,3 +7,4 @@ pub mod Run
 pub mod Talking
 pub mod Cli
 pub mod Rooms
+pub mod ScriptText

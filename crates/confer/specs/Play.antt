@@ -1,9 +1,14 @@
 -- What `confer play` has written where it stops. What it prints of which script is shown by tests.
-use Rattle.std.specs.Prelude.{◌≡◌, ℕ, List, Option}
+use Rattle.std.specs.Prelude.{◌≡◌, ◌≢◌, ◌⊎◌, ℕ, List, [], Option, Ok, codes}
+use Rattle.hex.specs.Hex.{decode_of}
 use Rattle.confer.specs.declared.expand.fault.LinesFault.TheVariants.{Read, Write, TooLong, NoMemory}
 use Rattle.confer.specs.Streams.{IsTooLong, IsWithinLimit, WritesSome}
 use Rattle.confer.specs.declared.play.fault.ScriptFault.{ScriptFault}
 use Rattle.confer.specs.declared.play.fault.ScriptFault.TheVariants.{Lines, BadStep}
+
+-- the word of a payload: a dash for none, else its bytes in hexadecimal
+abbrev pub IsPayloadWord : List ℕ → List ℕ → Type 0
+IsPayloadWord word payload = ((word ≡ codes "-") × (payload ≡ [])) ⊎ ((word ≢ []) × (decode_of word ≡ Ok payload))
 
 -- why the bytes are no script
 abbrev pub IsNoScript : ScriptFault → Type 0

@@ -32,8 +32,8 @@ pub fn no_answer_before_its_question_over_lossy_links()
         → AgreeOnLines (causal_lists setting s)) }
 {}
 
-/// The same of what comes of every script whose plain casts carry no answer, where each line is composed over the view of the member
-/// that casts it: then the premise holds.
+/// The same after every script whose plain casts carry no answer: what it says and answers is composed in the conference of the member
+/// that casts it, so the premise holds.
 pub fn no_answer_before_its_question_in_a_script()
     ensures { EachScript (λ w. QuestionsComeFirst (events_in w)) }
 {}

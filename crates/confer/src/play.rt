@@ -1,10 +1,11 @@
 //! `confer play`: a script of steps, run in a group of members, and what each step was answered.
 //!
-//! From the streams down: `running` reads the script whole, runs its steps and writes what came of them, `script` reads the lines of the
-//! script, `rooms` has the group and its members' conferences, and `transcript` says what is printed. Stands on `cb_world` for the group
+//! From the streams down: `running` reads the script whole, runs its steps and writes what came of them, `reading` reads the lines of the
+//! script, `script` has what they say, `rooms` has the group and its members' conferences, and `transcript` says what is printed. Stands on `cb_world` for the group
 //! and on `cb_rooms` for conferences.
 
 mod fault;
+mod reading;
 mod rooms;
 mod running;
 mod script;

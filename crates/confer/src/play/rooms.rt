@@ -3,11 +3,18 @@
 //! Each member has a conference with a screen of 20 lines. It is shown the member's own casts and its deliveries, in the order of the
 //! member's events, after each step. A line is composed in the conference of the member who casts it.
 
-ghost use Rattle.std.specs.Prelude.{◌≡◌, OnOk, drop};
+ghost use Rattle.std.specs.Prelude.{◌≡◌, ◌≢◌, ◌≤◌, ◌+◌, [], IfOk, OnOk, MatchOption, drop, length, string_bytes};
+ghost use Rattle.std.specs.List.{AllByRecursion};
 ghost use Rattle.cb_causality.specs.StampedMachine.{message_of};
+ghost use Rattle.cb_rooms.specs.declared.fault.ComposeFault.TheVariants as compose_faults;
 ghost use Rattle.cb_rooms.specs.Conference.{held};
+ghost use Rattle.cb_rooms.specs.Line.{fields_of};
+ghost use Rattle.cb_rooms.specs.View.{screen_text};
+ghost use Rattle.cb_schedules.specs.Schedule.{CastStep};
+ghost use Rattle.cb_world.specs.Steps.{step_fields};
+ghost use Rattle.cb_world.specs.World.{and_step};
 ghost use Rattle.confer.specs.Rooms.{AreNamed};
-ghost use Rattle.confer.specs.Playing.{lines_with, CatchesUp};
+ghost use Rattle.confer.specs.Playing.{setting_in, new_group, view_in, lines_with, Composes, ComesOf, CatchUp, CatchesUp, IsNew, AreShown};
 
 use crate::play::script::Setting;
 use bytes::Bytes;
@@ -47,7 +54,10 @@ pub struct Rooms {
 
 impl Rooms {
     /// A group in which nothing has happened.
-    pub fn new(alloc: Global, setting: Setting) -> Result<Rooms, NoMemory> {
+    pub fn new(alloc: Global, setting: Setting) -> Result<Rooms, NoMemory>
+        ensures world { IfOk result (λ rooms. rooms.world ≡ new_group (setting_in setting)) }
+        ensures shown { IfOk result (λ rooms. AreShown rooms.world rooms.attendances.items) }
+    {
         let world = new_world(alloc, setting)?;
         match new_attendances(alloc, setting.group.size()) {
             Ok(attendances) => Ok(Rooms { world, attendances }),
@@ -60,38 +70,53 @@ impl Rooms {
     }
 
     /// The group.
-    pub fn world(&self) -> &World {
+    pub fn world(&self) -> &World
+        ensures { result.now ≡ self.now.world }
+    {
         &self.world
     }
 
-    /// The group takes a step, and the member to whom it happened is shown what it cast and delivered by it. The only error is out of
-    /// memory, after which the group may have taken the step.
-    pub fn step(&mut self, step: &Step) -> Result<(), NoMemory> {
+    /// The group takes a step, and the member to whom it happened is shown what it cast and delivered by it: so each conference is shown
+    /// just its member's events, each once. The only error is out of memory, after which the group may have taken the step.
+    #[tactic(auto, using(crate::proofs::Shown::step_shows))]
+    pub fn step(&mut self, step: &Step) -> Result<(), NoMemory>
+        ensures world { OnOk result (self.new.world ≡ and_step self.old.world (step_fields step.now)) }
+        ensures shown { OnOk result (AreShown self.old.world self.old.attendances.items
+            → AreShown self.new.world self.new.attendances.items) }
+    {
         self.world.step(step)?;
         let member = step.member();
-        match (
-            self.attendances.get_mut(member as usize),
-            self.world.events(member),
-        ) {
-            (Some(attendance), Some(events)) => attendance.catch_up(events),
-            _ => Ok(()),
+        match self.world.events(member) {
+            Some(events) => catch_up(&mut self.attendances, member, events),
+            None => Ok(()),
         }
     }
 
-    /// Composes a line in the member's conference and casts it. The only error is out of memory.
-    pub fn compose(&mut self, member: u32, line: &Line<'_>) -> Result<Composed, NoMemory> {
+    /// Composes a line in the member's conference, over what the member cast and delivered so far, and casts it. The only error is out of
+    /// memory.
+    #[tactic(auto, using(crate::proofs::Shown::nobody_composes))]
+    pub fn compose(&mut self, member: u32, line: &Line<'_>) -> Result<Composed, NoMemory>
+        ensures world { OnOk result (AreShown self.old.world self.old.attendances.items
+            → ComesOf (Composes member (fields_of line.now)) self.old.world self.new.world) }
+        ensures shown { OnOk result (AreShown self.old.world self.old.attendances.items
+            → AreShown self.new.world self.new.attendances.items) }
+    {
         let Some(attendance) = self.attendances.get(member as usize) else {
             return Ok(Composed::NoSuchMember);
         };
         match attendance.conference.compose(line) {
             Ok(payload) => self.cast(member, payload),
-            Err(ComposeFault::NoMemory) => Err(AllocError),
-            Err(fault) => Ok(Composed::Refused(fault)),
+            Err(fault) => not_composed(fault),
         }
     }
 
     /// The member casts this payload.
-    fn cast(&mut self, member: u32, payload: Vec<u8>) -> Result<Composed, NoMemory> {
+    fn cast(&mut self, member: u32, payload: Vec<u8>) -> Result<Composed, NoMemory>
+        ensures world { OnOk result (self.new.world
+            ≡ and_step self.old.world (CastStep member payload.items)) }
+        ensures shown { OnOk result (AreShown self.old.world self.old.attendances.items
+            → AreShown self.new.world self.new.attendances.items) }
+    {
         let payload = Bytes::from_vec(payload).map_err(AllocError::from)?;
         let step = Step::Cast(member, payload);
         let taken = self.step(&step);
@@ -103,7 +128,11 @@ impl Rooms {
     }
 
     /// The screen of the member's conference, or None where there is no such member. The only error is out of memory.
-    pub fn screen(&self, member: u32) -> Result<Option<String>, NoMemory> {
+    pub fn screen(&self, member: u32) -> Result<Option<String>, NoMemory>
+        ensures { AreShown self.now.world self.now.attendances.items
+            → IfOk result (λ screen. MatchOption screen (self.now.world.setting.group.size ≤ member)
+            (λ text. string_bytes text ≡ screen_text SCREEN (view_in self.now.world member))) }
+    {
         match self.attendances.get(member as usize) {
             Some(attendance) => Ok(Some(attendance.conference.screen()?)),
             None => Ok(None),
@@ -123,6 +152,16 @@ impl Attendance {
     }
 }
 
+/// What becomes of a line that has no payload. Out of memory is no fault of the line.
+fn not_composed(fault: ComposeFault) -> Result<Composed, NoMemory>
+    ensures { OnOk result (fault ≢ compose_faults.NoMemory) }
+{
+    match fault {
+        ComposeFault::NoMemory => Err(AllocError),
+        _ => Ok(Composed::Refused(fault)),
+    }
+}
+
 /// The events behind the first so many.
 fn behind(events: &[Event], shown: usize) -> &[Event]
     ensures { result.now ≡ drop shown events.now }
@@ -132,6 +171,21 @@ fn behind(events: &[Event], shown: usize) -> &[Event]
         news
     } else {
         &[]
+    }
+}
+
+/// The member's conference is shown those of its events that it was not shown. No other conference is shown anything.
+fn catch_up(
+    attendances: &mut Vec<Attendance>,
+    member: u32,
+    events: &[Event],
+) -> Result<(), NoMemory>
+    requires { AreNamed events.now }
+    ensures { OnOk result (CatchUp attendances.old.items member events.now attendances.new.items) }
+{
+    match attendances.get_mut(member as usize) {
+        Some(attendance) => attendance.catch_up(events),
+        None => Ok(()),
     }
 }
 
@@ -157,7 +211,9 @@ fn message(event: &Event) -> &Message
     }
 }
 
-fn new_world(alloc: Global, setting: Setting) -> Result<World, NoMemory> {
+fn new_world(alloc: Global, setting: Setting) -> Result<World, NoMemory>
+    ensures { IfOk result (λ world. world ≡ new_group (setting_in setting)) }
+{
     match World::new(alloc, setting.group, setting.history_max) {
         Ok(world) => Ok(world),
         Err(PlayFault::NoMemory) => Err(AllocError),
@@ -165,7 +221,10 @@ fn new_world(alloc: Global, setting: Setting) -> Result<World, NoMemory> {
     }
 }
 
-fn new_attendances(alloc: Global, size: u32) -> Result<Vec<Attendance>, NoMemory> {
+fn new_attendances(alloc: Global, size: u32) -> Result<Vec<Attendance>, NoMemory>
+    ensures many { IfOk result (λ attendances. length attendances.items ≡ size) }
+    ensures new { IfOk result (λ attendances. AllByRecursion IsNew attendances.items) }
+{
     let mut attendances = Vec::with_capacity(alloc, size as usize)?;
     for _ in 0..size {
         if let Err(refused) = add_attendance(alloc, &mut attendances) {
@@ -177,7 +236,11 @@ fn new_attendances(alloc: Global, size: u32) -> Result<Vec<Attendance>, NoMemory
 }
 
 /// One attendance more, to which nothing was shown.
-fn add_attendance(alloc: Global, attendances: &mut Vec<Attendance>) -> Result<(), NoMemory> {
+fn add_attendance(alloc: Global, attendances: &mut Vec<Attendance>) -> Result<(), NoMemory>
+    ensures many { OnOk result (length attendances.new.items ≡ length attendances.old.items + 1) }
+    ensures new { OnOk result (AllByRecursion IsNew attendances.old.items
+        → AllByRecursion IsNew attendances.new.items) }
+{
     let attendance = Attendance {
         conference: new_conference(alloc)?,
         shown: 0,
@@ -185,7 +248,9 @@ fn add_attendance(alloc: Global, attendances: &mut Vec<Attendance>) -> Result<()
     attendances.push(attendance).map_err(AllocError::from)
 }
 
-fn new_conference(alloc: Global) -> Result<Conference, NoMemory> {
+fn new_conference(alloc: Global) -> Result<Conference, NoMemory>
+    ensures { IfOk result (λ conference. conference ≡ held SCREEN []) }
+{
     match Conference::new(alloc, SCREEN) {
         Ok(conference) => Ok(conference),
         Err(ConferenceFault::NoMemory) => Err(AllocError),

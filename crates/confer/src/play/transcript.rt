@@ -2,11 +2,16 @@
 //!
 //! The lines are those of `docs/PROGRAM.md`.
 
+ghost use Rattle.std.specs.Prelude.{◌≡◌, ◌++◌, IfOk, OnOk, flat_map, map, string_bytes};
+ghost use Rattle.std.specs.Str.Lines.{lines};
+ghost use Rattle.confer.specs.Playing.{behind_bar, screen_lines, screen_part};
+
 use crate::expand::is_plain_text;
 use cb_member::{Member, Message};
 use cb_rooms::ComposeFault;
 use cb_times::NoMemory;
 use cb_world::{Answer, Outcome, Sent};
+use std::alloc::Global;
 use std::fmt;
 
 /// What the member answered.
@@ -170,9 +175,42 @@ pub fn put_screen(
     number: usize,
     member: u32,
     screen: &str,
-) -> Result<(), NoMemory> {
+) -> Result<(), NoMemory>
+    ensures { OnOk result (string_bytes text.new
+        ≡ string_bytes text.old ++ screen_part number member screen.now) }
+{
+    let lines = lines_of(*text.allocator(), screen)?;
+    let put = put_screen_lines(text, number, member, &lines);
+    drop(lines);
+    put
+}
+
+fn lines_of(alloc: Global, text: &str) -> Result<Vec<&str>, NoMemory>
+    ensures { IfOk result (λ found. map (λ line. line.now) found.items ≡ lines text.now) }
+{
+    text.lines().collect(alloc)
+}
+
+#[tactic(auto, unfolding(crate::specs::Playing::screen_lines))]
+fn put_screen_lines(
+    text: &mut String,
+    number: usize,
+    member: u32,
+    lines: &[&str],
+) -> Result<(), NoMemory>
+    ensures { OnOk result (string_bytes text.new ≡ string_bytes text.old
+        ++ screen_lines number member (map (λ line. line.now) lines.now)) }
+{
     writeln!(text, "{number} screen {member}")?;
-    for line in screen.lines() {
+    put_behind_bars(text, lines)
+}
+
+/// Each line of a screen, behind a bar.
+fn put_behind_bars(text: &mut String, lines: &[&str]) -> Result<(), NoMemory>
+    ensures { OnOk result (string_bytes text.new ≡ string_bytes text.old
+        ++ flat_map behind_bar (map (λ line. line.now) lines.now)) }
+{
+    for line in lines {
         writeln!(text, " | {line}")?;
     }
     Ok(())

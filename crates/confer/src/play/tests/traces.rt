@@ -3,7 +3,8 @@
 use crate::audit::WORKED;
 use crate::cli::{run_plain, run_words};
 use crate::fakes::{reading, writing};
-use crate::play::script::{Script, ScriptStep, script_of};
+use crate::play::reading::script_of;
+use crate::play::script::{Script, ScriptStep};
 use cb_member::{Entry, Group, History};
 use cb_trace::write_trace;
 use cb_world::World;
