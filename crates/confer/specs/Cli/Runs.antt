@@ -7,7 +7,8 @@ use Rattle.confer.specs.declared.cli.fault.Fault.TheVariants as faults
 use Rattle.confer.specs.declared.run.setting.RunSetting.{RunSetting}
 use Rattle.confer.specs.Expand.Lines.{output_of, is_refused}
 use Rattle.confer.specs.Expand.Runs.{WritesPart, Stops}
-use Rattle.confer.specs.Streams.{IsWithinLimit, WritesSome}
+use Rattle.confer.specs.Streams.{IsWithinLimit}
+use Rattle.confer.specs.ScriptText.{WritesRun}
 use Rattle.confer.specs.Play.{StopsPlaying}
 use Rattle.confer.specs.Audit.{Answers, StopsAuditing}
 use Rattle.confer.specs.Run.{PrintsRun, StopsRun}
@@ -25,12 +26,12 @@ pub record Expanded (words : List Text) (refused : Bool) (input before now : Opt
   pub text : IfSome input (λ bytes. Appends before now (output_of group size bytes))
   pub refusal : IfSome input (λ bytes. refused ≡ is_refused group size bytes)
 
--- the words order a script to be run, which no run refuses; the script was within the limit, and some text was written
+-- the words order a script to be run, which no run refuses; the script was within the limit, and the text of its run was written
 pub record Played (words : List Text) (refused : Bool) (input before now : Option (List ℕ)) : Type 0 where
   pub ordered : OrdersPlay words
   pub refusal : refused ≡ false
   pub limit : IsWithinLimit input
-  pub written : WritesSome before now
+  pub written : WritesRun input before now
 
 -- the words order an audit; the trace was within the limit, and the answer was written
 pub record Audited (words : List Text) (refused : Bool) (input before now : Option (List ℕ)) : Type 0 where
