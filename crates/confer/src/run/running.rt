@@ -87,24 +87,24 @@ pub fn run_conference<R: Threads + Wait + Clock + Net + Sync, W: Write>(
         (W.contents output.new)) }
 {
     match run_linked(rt, alloc, setting) {
-        Ok(told) => write_told(told, output),
+        Ok(answer) => write_answer(answer, output),
         Err(fault) => Err(RunFault::of_threads(fault)),
     }
 }
 
 /// Writes what is printed of a conference. Whether its audit said no.
-fn write_told<W: Write>(told: RunText, output: &mut W) -> Result<bool, RunFault>
-    ensures ok { (setting : RunSetting) → ShowsRun setting told.refused told.text.items
+fn write_answer<W: Write>(answer: RunText, output: &mut W) -> Result<bool, RunFault>
+    ensures ok { (setting : RunSetting) → ShowsRun setting answer.refused answer.text.items
         → IfOk result (λ refused. PrintsRun setting refused (W.contents output.old)
         (W.contents output.new)) }
-    ensures fault { (setting : RunSetting) → ShowsRun setting told.refused told.text.items
+    ensures fault { (setting : RunSetting) → ShowsRun setting answer.refused answer.text.items
         → IfErr result (λ fault. StopsRun setting fault (W.contents output.old)
         (W.contents output.new)) }
 {
-    let written = write_whole(output, &told.text);
-    let refused = told.refused;
+    let written = write_whole(output, &answer.text);
+    let refused = answer.refused;
     // A call of `drop` takes the prover less time than a value that is left to the end.
-    drop(told);
+    drop(answer);
     match written {
         Ok(()) => Ok(refused),
         Err(_fault) => Err(RunFault::Write),
@@ -118,7 +118,7 @@ fn run_linked<R: Threads + Wait + Clock + Net + Sync>(
     setting: RunSetting,
 ) -> Result<RunText, ThreadFault>
     requires { IsRunSetting setting }
-    ensures { IfOk result (λ told. ShowsRun setting told.refused told.text.items) }
+    ensures { IfOk result (λ answer. ShowsRun setting answer.refused answer.text.items) }
 {
     match setting.link {
         LinkKind::Channel => {
@@ -141,7 +141,7 @@ fn run_over<I: Inlet + Send + Drop, O: Outlet + Send + Drop, R: Threads + Wait +
 ) -> Result<RunText, ThreadFault>
     requires setting { IsRunSetting setting }
     requires links { length links.items ≡ setting.size }
-    ensures { IfOk result (λ told. ShowsOver links.items setting told.refused told.text.items) }
+    ensures { IfOk result (λ answer. ShowsOver links.items setting answer.refused answer.text.items) }
 {
     match gather_crew(alloc, setting) {
         Ok(crew) => run_crew(rt, alloc, setting, links, crew),
@@ -185,7 +185,7 @@ fn run_crew<I: Inlet + Send + Drop, O: Outlet + Send + Drop, R: Threads + Wait +
     requires links { length links.items ≡ setting.size }
     requires talkers { length crew.talkers.items ≡ setting.size }
     requires paces { length crew.paces.items ≡ setting.size }
-    ensures { IfOk result (λ told. ShowsOver links.items setting told.refused told.text.items) }
+    ensures { IfOk result (λ answer. ShowsOver links.items setting answer.refused answer.text.items) }
 {
     let Crew { talkers, paces } = crew;
     let group = conference_group(setting);
@@ -237,11 +237,11 @@ fn reported<I: Drop, O: Drop>(
     requires kept { AreKept group 0 report.histories.items
         (map tally_in report.reports.items) }
     requires parts { EachHandsBack report.reports.items }
-    ensures { IfOk result (λ told. ShowsReports setting report.reports.items told.refused
-        told.text.items) }
+    ensures { IfOk result (λ answer. ShowsReports setting report.reports.items answer.refused
+        answer.text.items) }
 {
     let GroupReport { reports, histories } = report;
-    let text = told(alloc, setting, group, &reports, &histories);
+    let text = run_text(alloc, setting, group, &reports, &histories);
     drop(reports);
     drop(histories);
     text
@@ -268,7 +268,7 @@ fn paces(alloc: Global, size: u32) -> Result<Vec<Millisecond>, ThreadFault>
 }
 
 /// What is printed of a conference that ran. A worker's fault is the fault of all, whatever is to be printed.
-fn told<I, O>(
+fn run_text<I, O>(
     alloc: Global,
     setting: RunSetting,
     group: Group,
@@ -280,7 +280,7 @@ fn told<I, O>(
     requires members { length histories.now ≡ group.size }
     requires kept { AreKept group 0 histories.now (map tally_in reports.now) }
     requires parts { EachHandsBack reports.now }
-    ensures { IfOk result (λ told. ShowsReports setting reports.now told.refused told.text.items) }
+    ensures { IfOk result (λ answer. ShowsReports setting reports.now answer.refused answer.text.items) }
 {
     let lines = lines_of(alloc, reports)?;
     if setting.trace {
@@ -307,8 +307,8 @@ fn lines_of<I, O>(
 
 /// The trace of these histories.
 fn traced(alloc: Global, histories: &[History]) -> Result<RunText, ThreadFault>
-    ensures { IfOk result (λ told. IsTraceText (map history_fields histories.now) told.refused
-        told.text.items) }
+    ensures { IfOk result (λ answer. IsTraceText (map history_fields histories.now) answer.refused
+        answer.text.items) }
 {
     match write_trace(alloc, histories) {
         Ok(text) => Ok(RunText {
@@ -323,8 +323,8 @@ fn traced(alloc: Global, histories: &[History]) -> Result<RunText, ThreadFault>
 
 /// These lines, and one for what the audit of these histories says.
 fn audited(alloc: Global, lines: Vec<u8>, histories: &[History]) -> Result<RunText, ThreadFault>
-    ensures { IfOk result (λ told. EndsWithAudit lines.items (map history_fields histories.now)
-        told.refused told.text.items) }
+    ensures { IfOk result (λ answer. EndsWithAudit lines.items (map history_fields histories.now)
+        answer.refused answer.text.items) }
 {
     match audit(alloc, histories) {
         Ok(_joint) => accepted(lines),
@@ -334,8 +334,8 @@ fn audited(alloc: Global, lines: Vec<u8>, histories: &[History]) -> Result<RunTe
 }
 
 fn accepted(lines: Vec<u8>) -> Result<RunText, ThreadFault>
-    ensures accepted { IfOk result (λ told. told.refused ≡ false) }
-    ensures text { IfOk result (λ told. told.text.items ≡ lines.items ++ codes "audit yes\n") }
+    ensures accepted { IfOk result (λ answer. answer.refused ≡ false) }
+    ensures text { IfOk result (λ answer. answer.text.items ≡ lines.items ++ codes "audit yes\n") }
 {
     let mut text = lines;
     text.extend_from_slice(b"audit yes\n")?;
@@ -347,7 +347,7 @@ fn accepted(lines: Vec<u8>) -> Result<RunText, ThreadFault>
 
 fn refused(lines: Vec<u8>, refusal: AuditFault) -> Result<RunText, ThreadFault>
     ensures { (histories : List HistoryFields) → Refuses histories refusal
-        → IfOk result (λ told. EndsWithAudit lines.items histories told.refused told.text.items) }
+        → IfOk result (λ answer. EndsWithAudit lines.items histories answer.refused answer.text.items) }
 {
     let mut text = lines;
     text.extend_from_slice(b"audit ")?;

@@ -4,20 +4,20 @@ use Rattle.cb_threads.specs.Groups.{tally_in}
 use Rattle.cb_trace.specs.Text.{history_fields}
 use Rattle.confer.specs.Run.{EndsWithAudit, Shows, group_of, report_lines}
 use Rattle.confer.proofs.Conferring.{legal_histories, counts_kept}
-use Rattle.confer.proofs.run.running.told.Goals as goal
+use Rattle.confer.proofs.run.running.run_text.Goals as goal
 
 pub returns-then-setting : goal.returns-then-setting
 returns-then-setting g c =
     let hs = c.args.histories.now in
     let rs = c.args.reports.now in
     let these = map history_fields hs in
-    IfOk-weaker c.traced.result _ _ (λ told h. record {
+    IfOk-weaker c.traced.result _ _ (λ answer h. record {
       histories = these;
       legal = legal_histories c.args.group (group_of c.args.setting) hs (map tally_in rs) c.requires.group c.requires.parameters c.requires.members c.requires.kept;
       counts = counts_kept c.args.group 0 hs (map tally_in rs) c.requires.kept;
       ran = c.in_ok-lines.ensures.ran;
       parts = c.requires.parts;
-      shows = subst (λ (b : Bool). Shows b (report_lines 0 rs) these told.refused told.text.items) (sym c.if-setting.true) h;
+      shows = subst (λ (b : Bool). Shows b (report_lines 0 rs) these answer.refused answer.text.items) (sym c.if-setting.true) h;
     }) c.traced.ensures
 
 pub returns-else-setting : goal.returns-else-setting
@@ -25,12 +25,12 @@ returns-else-setting g c =
     let hs = c.args.histories.now in
     let rs = c.args.reports.now in
     let these = map history_fields hs in
-    IfOk-weaker c.audited.result _ _ (λ told h. record {
+    IfOk-weaker c.audited.result _ _ (λ answer h. record {
       histories = these;
       legal = legal_histories c.args.group (group_of c.args.setting) hs (map tally_in rs) c.requires.group c.requires.parameters c.requires.members c.requires.kept;
       counts = counts_kept c.args.group 0 hs (map tally_in rs) c.requires.kept;
       ran = c.in_ok-lines.ensures.ran;
       parts = c.requires.parts;
-      shows = subst (λ (b : Bool). Shows b (report_lines 0 rs) these told.refused told.text.items) (sym c.if-setting.false)
-          (subst (λ (lines : List ℕ). EndsWithAudit lines these told.refused told.text.items) c.in_ok-lines.ensures.text h);
+      shows = subst (λ (b : Bool). Shows b (report_lines 0 rs) these answer.refused answer.text.items) (sym c.if-setting.false)
+          (subst (λ (lines : List ℕ). EndsWithAudit lines these answer.refused answer.text.items) c.in_ok-lines.ensures.text h);
     }) c.audited.ensures
