@@ -1,5 +1,5 @@
 #!/usr/bin/env bash
-# Runs the random calls of the plain and the quick member (src/agreement.rt of cb_suite) with more and longer runs than the gate does,
+# Runs the random calls of the plain and the quick member (src/agreement.rt of tests_member) with more and longer runs than the gate does,
 # in a scratch copy of the repository and without its proof.
 #   checks/agreement.sh [RUNS [CALLS [SEED]]]     so many runs of so many calls each, with seeds from this one on
 set -eu
@@ -9,10 +9,10 @@ work=$(mktemp -d)
 trap 'rm -rf "$work"' EXIT
 (cd "$top" && tar -c --exclude=out --exclude=.git .) | tar -x -C "$work"
 for constant in RUNS="$runs" CALLS="$calls" SEED="$seed"; do
-    sed -i "s/^const ${constant%=*}: u32 = .*;/const ${constant%=*}: u32 = ${constant#*=};/" "$work/crates/cb_suite/src/agreement.rt"
-    grep -q "^const ${constant%=*}: u32 = ${constant#*=};" "$work/crates/cb_suite/src/agreement.rt"
+    sed -i "s/^const ${constant%=*}: u32 = .*;/const ${constant%=*}: u32 = ${constant#*=};/" "$work/crates/tests_member/src/agreement.rt"
+    grep -q "^const ${constant%=*}: u32 = ${constant#*=};" "$work/crates/tests_member/src/agreement.rt"
 done
-cd "$work/crates/cb_suite"
+cd "$work/crates/tests_member"
 rt try --test --seconds 100000 -- agreement > "$work/shown" 2>&1 || { cat "$work/shown"; exit 1; }
 grep '^test ' "$work/shown"
 echo "$((runs * calls)) calls in $runs runs, with seeds from $seed on: both members answer alike"

@@ -15,7 +15,7 @@ for constant in RUNS="$runs" STEPS="$steps" SEED="$seed"; do
     sed -i "s/^const ${constant%=*}: u32 = .*;/const ${constant%=*}: u32 = ${constant#*=};/" "$work/crates/world_agreement/src/main.rt"
 done
 below=$(sed -n 's/^cb_world: //p' "$top/crates.txt")
-echo "world_agreement: ${below% bytes} cb_plain cb_world bytes" >> "$work/crates.txt"
+echo "world_agreement: ${below% bytes} cb_reference cb_world bytes" >> "$work/crates.txt"
 cd "$work/crates/world_agreement"
 rt try --seconds 100000 > "$work/shown" 2>&1 || { tail -n 20 "$work/shown"; exit 1; }
 grep -q 'the worlds agree' "$work/shown" || { tail -n 20 "$work/shown"; exit 1; }

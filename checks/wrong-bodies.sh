@@ -73,9 +73,9 @@ fill() {
 # the crate whose tests run on a wrong body of the crate
 tests_of() {
     case $1 in
-        cb_varint | cb_frames | cb_times | cb_diffs | cb_delay) echo cb_base_tests ;;
-        cb_member | cb_plain) echo cb_suite ;;
-        cb_causality | cb_history | cb_rooms | cb_world | cb_trace) echo cb_tests ;;
+        cb_varint | cb_frames | cb_times | cb_diffs | cb_delay) echo tests_base ;;
+        cb_member | cb_reference) echo tests_member ;;
+        cb_causality | cb_history | cb_rooms | cb_world | cb_trace) echo tests_group ;;
         *) echo "$1" ;;
     esac
 }

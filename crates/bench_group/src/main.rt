@@ -1,5 +1,5 @@
 //! A whole group of members in threads: each casts so many messages, and the group ends when each has seen all of them. Prints how many were
-//! delivered; with a sixth word, whatever it is, also how many cast frames came, repeats among them.
+//! delivered; with a sixth word, whatever it is, also how many cast frames were received, repeats among them.
 //!
 //! `bench/plain_group.rs` is the same program in plain Rust, and `bench/group.sh` measures both.
 #![tactic(auto)]

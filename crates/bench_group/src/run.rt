@@ -13,12 +13,12 @@ use std::sync::Wait;
 use std::thread::Threads;
 use std::time::Clock;
 
-/// What came of a run.
+/// The outcome of a run.
 #[derive(Clone, Copy)]
 pub struct Ran {
     /// The messages of others that were delivered.
     pub deliveries: u64,
-    /// The cast frames that came, of which those above the deliveries are repeats.
+    /// The received cast frames, of which those above the deliveries are repeats.
     pub arrivals: u64,
 }
 

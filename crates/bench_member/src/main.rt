@@ -1,4 +1,4 @@
-//! A whole group of members in one thread: each in its turn takes all that the others put out and casts. Prints how many messages were
+//! A whole group of members in one thread: each in its turn takes all that the others sent and casts. Prints how many messages were
 //! delivered, and a digest of their names and times.
 //!
 //! `bench/plain_member.rs` is the same program in plain Rust, and both print the same: `bench/member.sh` compares them and measures.

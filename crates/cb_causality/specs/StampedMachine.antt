@@ -1,4 +1,4 @@
--- The same machine with vector times, as Birman, Schiper and Stephenson run it (1991, section 5): a cast is stamped
+-- The causal machine with vector times, as Birman, Schiper and Stephenson run it (1991, section 5): a cast is stamped
 -- with what its member has counted, and the delay rule alone decides on a delivery. Its events are those of a member.
 use Rattle.std.specs.Prelude.{◌≡◌, ◌≢◌, ℕ, ◌<◌, List, [], map, length, slice_get, Some}
 use Rattle.cb_times.specs.Order.{field}

@@ -30,7 +30,7 @@ impl Message {
         is_ready(self.name.sender, &self.time, now)
     }
 
-    /// The same message once more.
+    /// A copy of the message; its payload is shared.
     pub fn copy(&self) -> Result<Message, NoMemory>
         ensures { IfOk result (λ message. message ≡ self.now) }
     {

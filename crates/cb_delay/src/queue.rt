@@ -19,7 +19,7 @@ use std::marker::Model;
 
 /// Messages that were received and may not be delivered yet.
 ///
-/// A message that came is given to `hold`, those of one sender in the order of their numbers. Then:
+/// A received message is given to `hold`, those of one sender in the order of their numbers. Then:
 ///
 /// ```text
 /// while let Some(sender) = queue.next_ready(&time) {

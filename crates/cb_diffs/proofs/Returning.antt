@@ -10,7 +10,7 @@ use Rattle.std.proofs.lemmas.List.FromFn.{length-range_with_len, get_or-range_wi
 use Rattle.cb_times.specs.Order.{field}
 use Rattle.cb_frames.specs.declared.frame.Change.{Change}
 use Rattle.cb_frames.specs.Fields.{CastFields, first_number, growth_in}
-use Rattle.cb_diffs.specs.Differences.{change_of, is_told, differences}
+use Rattle.cb_diffs.specs.Differences.{change_of, is_reported, differences}
 use Rattle.cb_diffs.specs.Expansion.{expanded_time, time_of, Expands, ExpandsAll}
 use Rattle.cb_diffs.specs.Returning.{IsLater, AreSendersTimes, TellsDifference, TellDifferences, DifferencesExpandBack, DifferencesAddUp}
 use Rattle.cb_diffs.proofs.Growing.{kept_is_given}
@@ -19,55 +19,55 @@ use Rattle.cb_diffs.proofs.Sums.{times_are_sums}
 -- ---- what the differences say of one field
 
 -- the changes of n fields from a on
-abbrev told : List ℕ → List ℕ → ℕ → ℕ → ℕ → List Change
-told previous now own a n = filter (is_told own) (map (change_of previous now) (range_with_len a n))
+abbrev reported : List ℕ → List ℕ → ℕ → ℕ → ℕ → List Change
+reported previous now own a n = filter (is_reported own) (map (change_of previous now) (range_with_len a n))
 
 abbrev counts : ℕ → Change → ℕ
 counts k d = cond (eqb d.field k) d.amount 0
 
-told-suc : (previous now : List ℕ) (own a n k : ℕ) → growth_in (told previous now own a (suc n)) k ≡ cond (is_told own (change_of previous now a)) (counts k (change_of previous now a)) 0 + growth_in (told previous now own (a + 1) n) k
-told-suc previous now own a n k =
-    elim (is_told own (change_of previous now a)) as (λ b. sum_by (counts k) (cond b (change_of previous now a ∷ told previous now own (a + 1) n) (told previous now own (a + 1) n)) ≡ cond b (counts k (change_of previous now a)) 0 + growth_in (told previous now own (a + 1) n) k) [
-      | true ↦ sum_by-cons (counts k) (change_of previous now a) (told previous now own (a + 1) n)
+reported-suc : (previous now : List ℕ) (own a n k : ℕ) → growth_in (reported previous now own a (suc n)) k ≡ cond (is_reported own (change_of previous now a)) (counts k (change_of previous now a)) 0 + growth_in (reported previous now own (a + 1) n) k
+reported-suc previous now own a n k =
+    elim (is_reported own (change_of previous now a)) as (λ b. sum_by (counts k) (cond b (change_of previous now a ∷ reported previous now own (a + 1) n) (reported previous now own (a + 1) n)) ≡ cond b (counts k (change_of previous now a)) 0 + growth_in (reported previous now own (a + 1) n) k) [
+      | true ↦ sum_by-cons (counts k) (change_of previous now a) (reported previous now own (a + 1) n)
       | false ↦ omega arith
     ]
 
-counts-other : (previous now : List ℕ) (own a k : ℕ) → a ≢ k → cond (is_told own (change_of previous now a)) (counts k (change_of previous now a)) 0 ≡ 0
-counts-other previous now own a k ne = rw (ne_eqb a k ne) (elim (is_told own (change_of previous now a)) as (λ b. ◌≡◌ {A = ℕ} (cond b 0 0) 0) [ true ↦ refl | false ↦ refl ])
+counts-other : (previous now : List ℕ) (own a k : ℕ) → a ≢ k → cond (is_reported own (change_of previous now a)) (counts k (change_of previous now a)) 0 ≡ 0
+counts-other previous now own a k ne = rw (ne_eqb a k ne) (elim (is_reported own (change_of previous now a)) as (λ b. ◌≡◌ {A = ℕ} (cond b 0 0) 0) [ true ↦ refl | false ↦ refl ])
 
-told-before : (previous now : List ℕ) (own a n k : ℕ) → k < a → growth_in (told previous now own a n) k ≡ 0
-told-before previous now own a zero k lt = refl
-told-before previous now own a (suc n) k lt =
-    let others = told-before previous now own (a + 1) n k (omega arith) in
-    omega (arith, told-suc previous now own a n k, others, counts-other previous now own a k (omega arith))
+reported-before : (previous now : List ℕ) (own a n k : ℕ) → k < a → growth_in (reported previous now own a n) k ≡ 0
+reported-before previous now own a zero k lt = refl
+reported-before previous now own a (suc n) k lt =
+    let others = reported-before previous now own (a + 1) n k (omega arith) in
+    omega (arith, reported-suc previous now own a n k, others, counts-other previous now own a k (omega arith))
 
-counts-own : (previous now : List ℕ) (own a : ℕ) → a ≢ own → cond (is_told own (change_of previous now a)) (counts a (change_of previous now a)) 0 ≡ field now a - field previous a
+counts-own : (previous now : List ℕ) (own a : ℕ) → a ≢ own → cond (is_reported own (change_of previous now a)) (counts a (change_of previous now a)) 0 ≡ field now a - field previous a
 counts-own previous now own a ne =
     elim (cases_lt 0 (field now a - field previous a)) [
       | inl lt ↦ rw (ne_eqb a own ne, lt-ltb 0 (field now a - field previous a) lt, eq-eqb a a refl) refl
       | inr le ↦ rw (ne_eqb a own ne, le-ltb 0 (field now a - field previous a) le) (omega arith)
     ]
 
-told-there : (previous now : List ℕ) (own a n k : ℕ) → a ≤ k → k < a + n → k ≢ own → growth_in (told previous now own a n) k ≡ field now k - field previous k
-told-there previous now own a zero k le lt ne = absurd (omega arith)
-told-there previous now own a (suc n) k le lt ne =
+reported-there : (previous now : List ℕ) (own a n k : ℕ) → a ≤ k → k < a + n → k ≢ own → growth_in (reported previous now own a n) k ≡ field now k - field previous k
+reported-there previous now own a zero k le lt ne = absurd (omega arith)
+reported-there previous now own a (suc n) k le lt ne =
     elim (cases_eq a k) [
       | inl e ↦
-          let others = told-before previous now own (a + 1) n k (omega arith) in
-          let here : cond (is_told own (change_of previous now a)) (counts k (change_of previous now a)) 0 ≡ field now k - field previous k = subst (λ (i : ℕ). i ≢ own → cond (is_told own (change_of previous now a)) (counts i (change_of previous now a)) 0 ≡ field now i - field previous i) e (counts-own previous now own a) ne in
-          omega (arith, told-suc previous now own a n k, others, here)
+          let others = reported-before previous now own (a + 1) n k (omega arith) in
+          let here : cond (is_reported own (change_of previous now a)) (counts k (change_of previous now a)) 0 ≡ field now k - field previous k = subst (λ (i : ℕ). i ≢ own → cond (is_reported own (change_of previous now a)) (counts i (change_of previous now a)) 0 ≡ field now i - field previous i) e (counts-own previous now own a) ne in
+          omega (arith, reported-suc previous now own a n k, others, here)
       | inr far ↦
-          let others = told-there previous now own (a + 1) n k (omega arith) (omega arith) ne in
-          omega (arith, told-suc previous now own a n k, others, counts-other previous now own a k far)
+          let others = reported-there previous now own (a + 1) n k (omega arith) (omega arith) ne in
+          omega (arith, reported-suc previous now own a n k, others, counts-other previous now own a k far)
     ]
 
 -- the differences say of each other field by how much it grew
 pub growth_in-differences : (previous now : List ℕ) (own k : ℕ) → k < length now → k ≢ own → growth_in (differences previous now own) k ≡ field now k - field previous k
-growth_in-differences previous now own k lt ne = told-there previous now own 0 (length now) k (omega arith) (omega arith) ne
+growth_in-differences previous now own k lt ne = reported-there previous now own 0 (length now) k (omega arith) (omega arith) ne
 
 are_fields : (previous now : List ℕ) (own : ℕ) → All (λ (d : Change). d.field < length now) (differences previous now own)
 are_fields previous now own =
-    All-filter (is_told own) (λ (d : Change). d.field < length now) (map (change_of previous now) (range_with_len 0 (length now)))
+    All-filter (is_reported own) (λ (d : Change). d.field < length now) (map (change_of previous now) (range_with_len 0 (length now)))
     (All-map (λ (d : Change). d.field < length now) (change_of previous now) (range_with_len 0 (length now))
     (All-from_get_or (λ (k : ℕ). k < length now) (range_with_len 0 (length now)) 0
     (λ i lt. let short : i < length now = omega (arith, length-range_with_len 0 (length now)) in omega (arith, get_or-range_with_len 0 (length now) i 0 short))))

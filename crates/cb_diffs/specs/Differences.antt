@@ -9,9 +9,9 @@ abbrev pub change_of : List ℕ → List ℕ → ℕ → Change
 change_of previous now k = record { field = k; amount = field now k - field previous k }
 
 -- a field other than `own` that grew
-abbrev pub is_told : ℕ → Change → Bool
-is_told own d = not (d.field == own) && nat_lt 0 d.amount
+abbrev pub is_reported : ℕ → Change → Bool
+is_reported own d = not (d.field == own) && nat_lt 0 d.amount
 
 -- of the changes of all fields in their order, those of the fields other than `own` that grew
 abbrev pub differences : List ℕ → List ℕ → ℕ → List Change
-differences previous now own = filter (is_told own) (map (change_of previous now) (range_with_len 0 (length now)))
+differences previous now own = filter (is_reported own) (map (change_of previous now) (range_with_len 0 (length now)))

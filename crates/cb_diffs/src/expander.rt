@@ -99,7 +99,7 @@ impl Expander {
         Ok(time)
     }
 
-    /// The same without memory: the time takes the place of what `into` was, and a fault leaves `into` as it was too.
+    /// Expands the cast without memory: the time takes the place of what `into` was, and a fault leaves `into` as it was too.
     ///
     /// A copy of any time of the group will do for `into`, and it will do again for the next cast.
     pub fn expand_into(&mut self, cast: &Cast, into: &mut VectorTime) -> Result<(), ExpandFault>

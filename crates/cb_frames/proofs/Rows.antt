@@ -27,8 +27,8 @@ unfolding frame_at cast_at status_at request_at pairs_at pair_at number_at
 reads_after_six = refl
 
 -- the same member's status after 200 more of member 0
-abbrev told : StatusFields
-told = record {
+abbrev reported : StatusFields
+reported = record {
   group = 300;
   sender = 2;
   values = record { field = 0; amount = 203 } ∷ record { field = 1; amount = 1 } ∷ record { field = 2; amount = 2 } ∷ record { field = 4; amount = 2 } ∷ [];
@@ -43,13 +43,13 @@ asked = record {
   ranges = record { first = 2; last = 3 } ∷ record { first = 5; last = 5 } ∷ record { first = 9; last = 12 } ∷ [];
 }
 
-reads_told : frame_at (0x12 ∷ 0xac ∷ 2 ∷ 2 ∷ 4 ∷ 0 ∷ 0xcb ∷ 1 ∷ 0 ∷ 1 ∷ 0 ∷ 2 ∷ 1 ∷ 2 ∷ []) ≡ Ok (StatusFrame told)
+reads_reported : frame_at (0x12 ∷ 0xac ∷ 2 ∷ 2 ∷ 4 ∷ 0 ∷ 0xcb ∷ 1 ∷ 0 ∷ 1 ∷ 0 ∷ 2 ∷ 1 ∷ 2 ∷ []) ≡ Ok (StatusFrame reported)
 unfolding frame_at cast_at status_at request_at pairs_at pair_at number_at
-reads_told = refl
+reads_reported = refl
 
-writes_told : text_of (StatusFrame told) ≡ 0x12 ∷ 0xac ∷ 2 ∷ 2 ∷ 4 ∷ 0 ∷ 0xcb ∷ 1 ∷ 0 ∷ 1 ∷ 0 ∷ 2 ∷ 1 ∷ 2 ∷ []
+writes_reported : text_of (StatusFrame reported) ≡ 0x12 ∷ 0xac ∷ 2 ∷ 2 ∷ 4 ∷ 0 ∷ 0xcb ∷ 1 ∷ 0 ∷ 1 ∷ 0 ∷ 2 ∷ 1 ∷ 2 ∷ []
 unfolding text_of spelling
-writes_told = refl
+writes_reported = refl
 
 reads_asked : frame_at (0x13 ∷ 7 ∷ 2 ∷ 0 ∷ 3 ∷ 1 ∷ 1 ∷ 0 ∷ 0 ∷ 2 ∷ 3 ∷ []) ≡ Ok (RequestFrame asked)
 unfolding frame_at cast_at status_at request_at pairs_at pair_at number_at

@@ -15,7 +15,7 @@ const BLOCK: usize = 4096;
 
 /// A block of memory into which the frames of a member's casts go, one behind the other.
 ///
-/// The frames share the block's bytes: it is given back once all of them are let go of. Where one does not fit any more, the next block
+/// The frames share the block's bytes: it is given back once all of them are freed. Where one does not fit any more, the next block
 /// is taken.
 #[derive(Drop)]
 pub struct FrameBlock {

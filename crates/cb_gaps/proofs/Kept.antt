@@ -136,7 +136,7 @@ module _ (window taken : ℕ) (first : Cast) (after : List Cast) (are : AreKept 
       ∙ sym (fin.get-remove nat_cmp_total (buffer_of window taken (first ∷ after)).kept first.number number)) in
       ap (λ (k : fin.FinMap nat_cmp CastFields). record { window = window; taken = first.number; kept = k }) same
 
--- what comes out at the front
+-- which come out at the front
 module _ (window taken : ℕ) (casts after : List Cast) (first : Cast) (are : AreKept window taken casts)
     (at : first ≡ get_or casts 0 first) (next : first.number ≡ taken + 1) where
   number_of : (x : Cast) → casts ≡ x ∷ after → x.number ≡ taken + 1
@@ -172,7 +172,7 @@ module _ (window taken : ℕ) (casts after : List Cast) (first : Cast) (are : Ar
       ≡ record { window = window; taken = x.number; kept = fin.remove (buffer_of window taken (x ∷ after)).kept x.number }) (number_of x e)
       (front_taken window taken x after (here x e) (number_of x e)))
 
--- a cast that came
+-- a received cast
 module _ (window taken : ℕ) (casts : List Cast) (are : AreKept window taken casts) (number : ℕ) where
   pub is_received : Any (λ (c : Cast). c.number ≡ number) casts → IsReceived (buffer_of window taken casts) number
   is_received (k, x, below, at, same) =

@@ -14,10 +14,10 @@ use std::alloc::Global;
 use std::collections::VecDeque;
 use std::marker::Model;
 
-/// What became of a cast that came.
+/// What became of a received cast.
 #[derive(Clone, Copy, Debug, PartialEq, Eq, Hash)]
 pub enum Admission {
-    /// It is kept until those before it came.
+    /// It is kept until those before it are received.
     Kept,
     /// It was taken before, or is kept already.
     Repeat,
@@ -27,7 +27,7 @@ pub enum Admission {
 
 /// The casts of one sender that came and wait for those before them.
 ///
-/// Make one for each other sender; nothing here looks at who the sender of a cast is. A cast that came is given to `keep`,
+/// Make one for each other sender; nothing here looks at who the sender of a cast is. A received cast is given to `keep`,
 /// with how many casts of the sender are delivered. Then:
 ///
 /// ```text
@@ -126,7 +126,7 @@ impl Reorder {
         end - self.taken
     }
 
-    /// Keeps a cast that came until those before it came; `delivered` of the sender's casts are delivered, at most as many
+    /// Keeps a received cast until those before it are received; `delivered` of the sender's casts are delivered, at most as many
     /// as were taken.
     ///
     /// A number that was taken, and one that is kept, is a repeat, wherever it lies; number 0 is one too. Any other is kept

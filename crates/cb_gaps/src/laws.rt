@@ -2,9 +2,9 @@
 ghost use Rattle.cb_gaps.specs.Laws.{KeptComeOut, NoneIsLeft, TakingLeavesOneLess};
 ghost use Rattle.cb_gaps.specs.Ranges.{RangesAreOneList};
 
-/// How many casts come out is known beforehand. Once a cast is kept, as many come out one after the other as `ready_with` told for
+/// How many casts come out is known beforehand. Once a cast is kept, as many come out one after the other as `ready_with` answered for
 /// its number. Each call of `take_next` that gives one leaves one less, and where it gives none, none is left.
-pub fn casts_come_out_as_told()
+pub fn casts_come_out_as_reported()
     ensures kept { KeptComeOut }
     ensures one_less { TakingLeavesOneLess }
     ensures none { NoneIsLeft }

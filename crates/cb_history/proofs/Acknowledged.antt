@@ -4,10 +4,10 @@ use Rattle.std.specs.List.{filter, flat_map, list_any, range_with_len}
 use Rattle.std.proofs.lemmas.Bool.{ltb-false}
 use Rattle.cb_frames.specs.Fields.{StatusFields, StatusFrame}
 use Rattle.cb_diffs.specs.Expansion.{expanded_field}
-use Rattle.cb_history.specs.Group.{Seat}
-use Rattle.cb_history.specs.Facts.{Fact, OwnCast, CastCame, StatusCame, OwnStatus, casts_in}
+use Rattle.cb_history.specs.Group.{Identity}
+use Rattle.cb_history.specs.Facts.{Fact, OwnCast, CastReceived, StatusReceived, OwnStatus, casts_in}
 use Rattle.cb_history.specs.View.{count, view}
-use Rattle.cb_history.specs.Known.{greatest_of, value_in, told_by, counted_by, acknowledged, least_of}
+use Rattle.cb_history.specs.Known.{greatest_of, value_in, reported_by, counted_by, acknowledged, least_of}
 use Rattle.cb_history.specs.Answers.{delivered}
 use Rattle.cb_history.specs.LegalFacts.{IsTaken, IsStep, AreLegalFacts, NoFacts, OneFactMore, AreFactsOf}
 use Rattle.cb_history.specs.KnowledgeLaws.{AcknowledgedIsDelivered}
@@ -17,7 +17,7 @@ use Rattle.cb_history.proofs.Rising.{greatest_append, all_at_most}
 use Rattle.cb_history.proofs.Times.{count_grows, times_are_reached}
 
 -- what a status that was taken says of this member's casts
-status_below : (seat : Seat) (facts : List Fact) (s : StatusFields) → IsTaken seat facts (StatusFrame s) → value_in s.values seat.me ≤ delivered seat facts seat.me
+status_below : (seat : Identity) (facts : List Fact) (s : StatusFields) → IsTaken seat facts (StatusFrame s) → value_in s.values seat.me ≤ delivered seat facts seat.me
 status_below seat facts s t =
     let other : eqb s.sender seat.me ≡ false = not_true (eqb s.sender seat.me) (test_true (not (eqb s.sender seat.me)) _ t.change).0 in
     ltb-false (delivered seat facts seat.me) (value_in s.values seat.me)
@@ -27,30 +27,30 @@ status_below seat facts s t =
     pick true x y e h = absurd cc
     pick false x y e h = h
 
-told_below : (seat : Seat) (facts : List Fact) (f : Fact) (k : ℕ) → IsStep seat facts f → greatest_of (told_by k seat.me f ++ []) ≤ delivered seat facts seat.me
-told_below seat facts (OwnCast c) k step = omega arith
-told_below seat facts (CastCame c) k step = omega arith
-told_below seat facts (StatusCame s) k step = one_below (eqb s.sender k) (value_in s.values seat.me) (delivered seat facts seat.me) (status_below seat facts s step)
+reported_below : (seat : Identity) (facts : List Fact) (f : Fact) (k : ℕ) → IsStep seat facts f → greatest_of (reported_by k seat.me f ++ []) ≤ delivered seat facts seat.me
+reported_below seat facts (OwnCast c) k step = omega arith
+reported_below seat facts (CastReceived c) k step = omega arith
+reported_below seat facts (StatusReceived s) k step = one_below (eqb s.sender k) (value_in s.values seat.me) (delivered seat facts seat.me) (status_below seat facts s step)
   where
     one_below : (b : Bool) (v n : ℕ) → v ≤ n → greatest_of (cond b (v ∷ []) [] ++ []) ≤ n
     one_below true v n le = omega (arith, le)
     one_below false v n le = omega arith
-told_below seat facts (OwnStatus s) k step = omega arith
+reported_below seat facts (OwnStatus s) k step = omega arith
 
-all_told_below : (seat : Seat) (facts : List Fact) (k : ℕ) → AreLegalFacts seat facts → greatest_of (flat_map (told_by k seat.me) facts) ≤ count (view seat.group.size facts) seat.me
-all_told_below seat _ k NoFacts = omega arith
-all_told_below seat _ k (OneFactMore facts f before room step) =
-    let parts : greatest_of (flat_map (told_by k seat.me) (facts ++ f ∷ [])) ≡ max (greatest_of (flat_map (told_by k seat.me) facts)) (greatest_of (told_by k seat.me f ++ [])) =
-    ap greatest_of (flat_map-append (told_by k seat.me) facts (f ∷ [])) ∙ greatest_append (flat_map (told_by k seat.me) facts) (told_by k seat.me f ++ []) in
-    omega (arith, parts, all_told_below seat facts k before, told_below seat facts f k step, count_grows seat.group.size facts f seat.me)
+all_reported_below : (seat : Identity) (facts : List Fact) (k : ℕ) → AreLegalFacts seat facts → greatest_of (flat_map (reported_by k seat.me) facts) ≤ count (view seat.group.size facts) seat.me
+all_reported_below seat _ k NoFacts = omega arith
+all_reported_below seat _ k (OneFactMore facts f before room step) =
+    let parts : greatest_of (flat_map (reported_by k seat.me) (facts ++ f ∷ [])) ≡ max (greatest_of (flat_map (reported_by k seat.me) facts)) (greatest_of (reported_by k seat.me f ++ [])) =
+    ap greatest_of (flat_map-append (reported_by k seat.me) facts (f ∷ [])) ∙ greatest_append (flat_map (reported_by k seat.me) facts) (reported_by k seat.me f ++ []) in
+    omega (arith, parts, all_reported_below seat facts k before, reported_below seat facts f k step, count_grows seat.group.size facts f seat.me)
 
-acknowledged_below : (seat : Seat) (facts : List Fact) (k : ℕ) → AreFactsOf seat facts → acknowledged seat facts k ≤ delivered seat facts seat.me
+acknowledged_below : (seat : Identity) (facts : List Fact) (k : ℕ) → AreFactsOf seat facts → acknowledged seat facts k ≤ delivered seat facts seat.me
 acknowledged_below seat facts k are =
-    let parts = greatest_append (flat_map (told_by k seat.me) facts) (counted_by (casts_in facts) (view seat.group.size facts) k seat.me) in
+    let parts = greatest_append (flat_map (reported_by k seat.me) facts) (counted_by (casts_in facts) (view seat.group.size facts) k seat.me) in
     let counted = all_at_most (λ m. eqb m.sender k) (λ m. expanded_field (casts_in facts) m.sender m.number seat.me) (delivered seat facts seat.me) (view seat.group.size facts)
     (λ m there by. times_are_reached seat facts m seat.me are (in_is_among (view seat.group.size facts) m there) are.member) in
-    let told = all_told_below seat facts k are.facts_are in
-    omega (arith, parts, counted, told)
+    let reported = all_reported_below seat facts k are.facts_are in
+    omega (arith, parts, counted, reported)
 
 least_below : (g : ℕ → ℕ) (ks : List ℕ) (n : ℕ) → ((k : ℕ) → g k ≤ n) → least_of (map g ks) ≤ n
 least_below g [] n each = omega arith

@@ -8,8 +8,8 @@ use Rattle.cb_frames.specs.Fields.{CastFields, FrameFields, CastFrame}
 use Rattle.cb_frames.specs.Reading.{frame_at}
 use Rattle.cb_history.specs.declared.answer.ArriveRefusal.{ArriveRefusal}
 use Rattle.cb_history.specs.declared.answer.ArriveRefusal.TheVariants as arrivals
-use Rattle.cb_history.specs.Group.{Seat, IsSeat}
-use Rattle.cb_history.specs.Facts.{EntryFields, ArriveEntry, Fact, OwnCast, CastCame, StatusCame, OwnStatus, facts_of, casts_in, cast_in, is_there}
+use Rattle.cb_history.specs.Group.{Identity, IsIdentity}
+use Rattle.cb_history.specs.Facts.{EntryFields, ArriveEntry, Fact, OwnCast, CastReceived, StatusReceived, OwnStatus, facts_of, casts_in, cast_in, is_there}
 use Rattle.cb_history.specs.Answers.{is_full, delivered, are_members, is_impossible, is_repeat, is_too_far, ArrivalSays, frame_answer, answer_to, arrive_answer}
 use Rattle.cb_history.specs.Legal.{arrive_entry, and_entry}
 use Rattle.cb_history.specs.LegalFacts.{IsStep, AreLegalFacts, NoFacts, OneFactMore, AreFactsOf}
@@ -38,13 +38,13 @@ refused entries bytes c e none = ((λ ok. absurd cc), (λ there. absurd (none th
 
 taken_is_there : (entries : List EntryFields) (bytes : List ℕ) (names : List Name) (c : CastFields) → frame_at bytes ≡ Ok (CastFrame c) → AreThere (casts_in (facts_of (entries ++ ArriveEntry bytes names ∷ []))) c
 taken_is_there entries bytes names c read =
-    let facts : facts_of (entries ++ ArriveEntry bytes names ∷ []) ≡ facts_of entries ++ CastCame c ∷ [] = said_facts entries bytes names (CastFrame c) read in
-    let casts : casts_in (facts_of (entries ++ ArriveEntry bytes names ∷ [])) ≡ casts_in (facts_of entries) ++ c ∷ [] = ap casts_in facts ∙ casts_in-append (facts_of entries) (CastCame c) in
+    let facts : facts_of (entries ++ ArriveEntry bytes names ∷ []) ≡ facts_of entries ++ CastReceived c ∷ [] = said_facts entries bytes names (CastFrame c) read in
+    let casts : casts_in (facts_of (entries ++ ArriveEntry bytes names ∷ [])) ≡ casts_in (facts_of entries) ++ c ∷ [] = ap casts_in facts ∙ casts_in-append (facts_of entries) (CastReceived c) in
     subst (λ (cs : List CastFields). AreThere cs c) (sym casts)
     (and_from (is_there (casts_in (facts_of entries) ++ c ∷ []) c.sender c.number) true
     (cast_is_there (casts_in (facts_of entries) ++ c ∷ []) c c.sender c.number (in_back c (casts_in (facts_of entries)) (c ∷ []) (inl refl)) refl refl) refl)
 
-impossible_is_not_there : (seat : Seat) (facts : List Fact) (c : CastFields) → AreFactsOf seat facts → is_impossible seat facts (CastFrame c) ≡ true → AreThere (casts_in facts) c → ⊥
+impossible_is_not_there : (seat : Identity) (facts : List Fact) (c : CastFields) → AreFactsOf seat facts → is_impossible seat facts (CastFrame c) ≡ true → AreThere (casts_in facts) c → ⊥
 impossible_is_not_there seat facts c are impossible there =
     let both = and_parts (eqb c.sender seat.me) (ltb (delivered seat facts seat.me) c.number) impossible in
     let above = ltb-true (delivered seat facts seat.me) c.number both.1 in
@@ -52,7 +52,7 @@ impossible_is_not_there seat facts c are impossible there =
     let bound = own_is_delivered seat facts c.number are (subst (λ (i : ℕ). is_there (casts_in facts) i c.number ≡ true) (eqb-true c.sender seat.me both.0) here) in
     omega (arith, above, bound)
 
-answer_is_right : (seat : Seat) (limit : ℕ) (entries : List EntryFields) (bytes : List ℕ) (c : CastFields) → AreFactsOf seat (facts_of entries) → frame_at bytes ≡ Ok (CastFrame c) → IsOfTheGroup seat.group (CastFrame c)
+answer_is_right : (seat : Identity) (limit : ℕ) (entries : List EntryFields) (bytes : List ℕ) (c : CastFields) → AreFactsOf seat (facts_of entries) → frame_at bytes ≡ Ok (CastFrame c) → IsOfTheGroup seat.group (CastFrame c)
     → IsRight entries bytes c (frame_answer seat limit entries (facts_of entries) (CastFrame c))
 answer_is_right seat limit entries bytes c are read of =
     let facts = facts_of entries in
@@ -72,18 +72,18 @@ accepted_is_there seat limit entries bytes c are read of =
 
 -- ---- the casts that are there
 
-abbrev AllOfTheGroup : Seat → List Fact → Type 0
+abbrev AllOfTheGroup : Identity → List Fact → Type 0
 AllOfTheGroup seat facts = (c : CastFields) → IsIn c (casts_in facts) → IsOfTheGroup seat.group (CastFrame c)
 
-one_of_the_group : (seat : Seat) (facts : List Fact) (f : Fact) → IsSeat seat → IsStep seat facts f → (c : CastFields) → IsIn c (cast_in f) → IsOfTheGroup seat.group (CastFrame c)
+one_of_the_group : (seat : Identity) (facts : List Fact) (f : Fact) → IsIdentity seat → IsStep seat facts f → (c : CastFields) → IsIn c (cast_in f) → IsOfTheGroup seat.group (CastFrame c)
 one_of_the_group seat facts (OwnCast d) is step c there =
     subst (λ (x : CastFields). IsOfTheGroup seat.group (CastFrame x)) (sym (in_one c d there ∙ step.next)) (own_casts_are_of_the_group seat facts d.payload is)
-one_of_the_group seat facts (CastCame d) is step c there =
+one_of_the_group seat facts (CastReceived d) is step c there =
     subst (λ (x : CastFields). IsOfTheGroup seat.group (CastFrame x)) (sym (in_one c d there)) (record { number = step.taken.group; members = step.taken.members })
-one_of_the_group seat facts (StatusCame s) is step c there = absurd there
+one_of_the_group seat facts (StatusReceived s) is step c there = absurd there
 one_of_the_group seat facts (OwnStatus s) is step c there = absurd there
 
-all_of_the_group : (seat : Seat) (facts : List Fact) → IsSeat seat → AreLegalFacts seat facts → AllOfTheGroup seat facts
+all_of_the_group : (seat : Identity) (facts : List Fact) → IsIdentity seat → AreLegalFacts seat facts → AllOfTheGroup seat facts
 all_of_the_group seat _ is NoFacts c there = absurd there
 all_of_the_group seat _ is (OneFactMore facts f before room step) c there =
     elim (in_append c (casts_in facts) (cast_in f) (subst (IsIn c) (casts_in-append facts f) there)) [

@@ -2,9 +2,9 @@
 use Rattle.std.proofs.Common.{◌≡◌, ℕ, zero, suc, ◌+◌, ◌≤◌, Bool, true, false, List, [], ◌∷◌, ◌++◌, length, Option, Some, None, cond, eqb, refl, ap, arith}
 use Rattle.std.proofs.lemmas.List.{append-nil, length-append}
 use Rattle.cb_frames.specs.Fields.{CastFields, Carried, messages_of}
-use Rattle.cb_history.specs.Facts.{Fact, OwnCast, CastCame, StatusCame, OwnStatus, messages_in}
+use Rattle.cb_history.specs.Facts.{Fact, OwnCast, CastReceived, StatusReceived, OwnStatus, messages_in}
 use Rattle.cb_history.specs.View.{count, is_among, next_delivery, with_next, drained, seen_from, view}
-use Rattle.cb_history.specs.Group.{Seat}
+use Rattle.cb_history.specs.Group.{Identity}
 use Rattle.cb_history.specs.Legal.{longest_history}
 use Rattle.cb_history.specs.LegalFacts.{AreLegalFacts, NoFacts, OneFactMore}
 use Rattle.cb_history.proofs.Lists.{messages_in-push}
@@ -43,8 +43,8 @@ own_within casts seen c h =
     rw (messages_in-push casts c)
     (omega (arith, h, more, itself, left_append ms (seen ++ m ∷ []) m, length-append seen (m ∷ []), length-append ms (m ∷ [])))
 
-came_within : (casts : List CastFields) (seen : List Carried) (c : CastFields) → IsWithin (messages_in casts) seen → IsWithin (messages_in (casts ++ c ∷ [])) seen
-came_within casts seen c h =
+received_within : (casts : List CastFields) (seen : List Carried) (c : CastFields) → IsWithin (messages_in casts) seen → IsWithin (messages_in (casts ++ c ∷ [])) seen
+received_within casts seen c h =
     let m : Carried = record { sender = c.sender; number = c.number; payload = c.payload } in
     let ms = messages_in casts in
     let one : one_unless (is_among seen m) ≤ 1 = unless_more false (is_among seen m) (λ e. absurd cc) in
@@ -55,11 +55,11 @@ seen_from_at_most size casts seen [] h = omega (arith, h)
 seen_from_at_most size casts seen (OwnCast c ∷ facts) h =
     let others = seen_from_at_most size (casts ++ c ∷ []) (seen ++ messages_of c) facts (own_within casts seen c h) in
     omega (arith, others, ap (λ (ms : List Carried). length ms) (messages_in-push casts c), length-append (messages_in casts) (messages_of c))
-seen_from_at_most size casts seen (CastCame c ∷ facts) h =
+seen_from_at_most size casts seen (CastReceived c ∷ facts) h =
     let all = casts ++ c ∷ [] in
-    let others = seen_from_at_most size all (drained size all (length (messages_in all)) seen) facts (drained_within size all (length (messages_in all)) seen (came_within casts seen c h)) in
+    let others = seen_from_at_most size all (drained size all (length (messages_in all)) seen) facts (drained_within size all (length (messages_in all)) seen (received_within casts seen c h)) in
     omega (arith, others, ap (λ (ms : List Carried). length ms) (messages_in-push casts c), length-append (messages_in casts) (messages_of c))
-seen_from_at_most size casts seen (StatusCame s ∷ facts) h =
+seen_from_at_most size casts seen (StatusReceived s ∷ facts) h =
     let others = seen_from_at_most size casts seen facts h in
     rw (append-nil casts) (omega (arith, others))
 seen_from_at_most size casts seen (OwnStatus s ∷ facts) h =
@@ -83,7 +83,7 @@ count_at_most (m ∷ seen) k =
 
 -- ---- legal facts
 
-pub few_facts : (seat : Seat) (facts : List Fact) → AreLegalFacts seat facts → length facts ≤ longest_history
+pub few_facts : (seat : Identity) (facts : List Fact) → AreLegalFacts seat facts → length facts ≤ longest_history
 few_facts seat _ NoFacts = omega arith
 few_facts seat _ (OneFactMore facts f before room step) = omega (arith, room, length-append facts (f ∷ []))
 

@@ -13,7 +13,7 @@ use Rattle.cb_history.specs.declared.answer.ArriveRefusal.TheVariants as arrival
 use Rattle.cb_history.specs.declared.answer.TickRefusal.{TickRefusal}
 use Rattle.cb_history.specs.declared.answer.TickRefusal.TheVariants as ticks
 use Rattle.cb_history.specs.declared.answer.Outgoing.{Outgoing}
-use Rattle.cb_history.specs.Group.{Seat}
+use Rattle.cb_history.specs.Group.{Identity}
 use Rattle.cb_history.specs.Facts.{EntryFields, facts_of}
 use Rattle.cb_history.specs.Answers.{is_full, is_window_full, next_cast, cast_answer, group_of, are_members, is_impossible, is_repeat, is_too_far, is_change, deliveries, sent_in_answer, ArrivalSays, Accepted, Repeat, answer_to, arrive_answer, status_of, is_new_status, requests, tick_answer}
 use Rattle.cb_history.specs.Legal.{longest_history, Call, ToCast, ToTake, ToTick, OfBytes, cast_entry, arrive_entry, tick_entry, entry_of, and_entry, OneMore, IsLegal}
@@ -56,7 +56,7 @@ same_tick false none least out status e room h = h
 same_tick true true least out status e room h = absurd cc
 same_tick true false least out status e room h = rw (room refl) h
 
-taken_same : (seat : Seat) (limit : ℕ) (entries : List EntryFields) (bytes : List ℕ) (r : Result FrameFields FrameFault) (e : EntryFields) → (is_full limit entries ≡ false → is_full longest_history entries ≡ false)
+taken_same : (seat : Identity) (limit : ℕ) (entries : List EntryFields) (bytes : List ℕ) (r : Result FrameFields FrameFault) (e : EntryFields) → (is_full limit entries ≡ false → is_full longest_history entries ≡ false)
     → arrive_entry bytes (answer_to seat limit entries r) ≡ Some e → arrive_entry bytes (answer_to seat longest_history entries r) ≡ Some e
 taken_same seat limit entries bytes (Ok frame) e room h =
     let facts = facts_of entries in
@@ -64,7 +64,7 @@ taken_same seat limit entries bytes (Ok frame) e room h =
     (is_full limit entries) (is_full longest_history entries) (Accepted (deliveries seat facts frame) true (sent_in_answer seat facts frame)) (Accepted [] false (sent_in_answer seat facts frame)) bytes e room h
 taken_same seat limit entries bytes (Err fault) e room h = h
 
-pub entry_same : (seat : Seat) (limit : ℕ) (entries : List EntryFields) (call : Call) (e : EntryFields) → limit ≤ longest_history → entry_of seat limit entries call ≡ Some e → entry_of seat longest_history entries call ≡ Some e
+pub entry_same : (seat : Identity) (limit : ℕ) (entries : List EntryFields) (call : Call) (e : EntryFields) → limit ≤ longest_history → entry_of seat limit entries call ≡ Some e → entry_of seat longest_history entries call ≡ Some e
 unfolding cast_answer arrive_answer tick_answer
 entry_same seat limit entries (ToCast payload) e most h =
     same_cast (ltb LONGEST_PAYLOAD (length payload)) (is_window_full seat (facts_of entries)) (is_full limit entries) (is_full longest_history entries) (next_cast seat (facts_of entries) payload) e (room_at_most limit entries most) h
@@ -73,7 +73,7 @@ entry_same seat limit entries ToTick e most h =
     same_tick (is_new_status seat (facts_of entries)) (is_full limit entries) (is_full longest_history entries)
     (record { to = None; bytes = text_of (StatusFrame (status_of seat (facts_of entries))) } ∷ requests seat (facts_of entries)) (text_of (StatusFrame (status_of seat (facts_of entries)))) e (room_at_most limit entries most) h
 
-added_is_legal : (seat : Seat) (limit : ℕ) (entries : List EntryFields) (call : Call) (o : Option EntryFields) → limit ≤ longest_history → IsLegal seat entries → OfBytes call → entry_of seat limit entries call ≡ o → IsLegal seat (and_entry entries o)
+added_is_legal : (seat : Identity) (limit : ℕ) (entries : List EntryFields) (call : Call) (o : Option EntryFields) → limit ≤ longest_history → IsLegal seat entries → OfBytes call → entry_of seat limit entries call ≡ o → IsLegal seat (and_entry entries o)
 added_is_legal seat limit entries call None most legal bytes is = legal
 added_is_legal seat limit entries call (Some e) most legal bytes is = record {
   group = legal.group;

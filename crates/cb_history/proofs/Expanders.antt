@@ -13,7 +13,7 @@ use Rattle.cb_diffs.specs.Expansion.{greatest, growth_of, expanded_field, expand
 use Rattle.cb_diffs.specs.Expansion as expander
 use Rattle.cb_diffs.proofs.Growing.{kept_is_given}
 use Rattle.cb_diffs.proofs.Sums.{growth_of-later, growth_of-own, min_of_min}
-use Rattle.cb_history.specs.Group.{Seat}
+use Rattle.cb_history.specs.Group.{Identity}
 use Rattle.cb_history.specs.Facts.{Fact, casts_in, messages_in, is_there}
 use Rattle.cb_history.specs.NameLaws.{NamesDiffer, NumberedFrom}
 use Rattle.cb_history.specs.LegalFacts.{AreFactsOf}
@@ -83,7 +83,7 @@ fields_are_members size (d ∷ ds) all =
     let both = and_parts (ltb d.field size) (list_all (λ x. ltb x.field size) ds) all in
     All-cons (λ (x : Change). x.field < size) d ds (ltb-true d.field size both.0) (fields_are_members size ds both.1)
 
-cast_of_members : (seat : Seat) (facts : List Fact) (c : CastFields) → AreFactsOf seat facts → IsCastOf c (casts_in facts) → AreMembers seat.group.size c
+cast_of_members : (seat : Identity) (facts : List Fact) (c : CastFields) → AreFactsOf seat facts → IsCastOf c (casts_in facts) → AreMembers seat.group.size c
 cast_of_members seat facts c are there =
     let both = and_parts (ltb c.sender seat.group.size) (list_all (λ d. ltb d.field seat.group.size) c.changes) (casts_are_of_the_group seat facts c are there).members in
     record { sender = ltb-true c.sender seat.group.size both.0; changes = fields_are_members seat.group.size c.changes both.1 }
@@ -96,10 +96,10 @@ cast_behind_is_next seat facts c n kept are there behind keeps =
       next = behind ∙ ap (λ (m : ℕ). m + 1) (sym (ap (λ (t : List ℕ). field t c.sender) keeps.time ∙ own_is_number seat.group.size (casts_in facts) c.sender n members.sender));
     }
 
--- the time that is told, field by field
-told_field : (size : ℕ) (casts : List CastFields) (c : CastFields) (n k : ℕ) → NamesDiffer (messages_in casts) → IsIn c casts → c.number ≡ n + 1 → k < size → k ≢ c.sender
+-- the time that is reported, field by field
+reported_field : (size : ℕ) (casts : List CastFields) (c : CastFields) (n k : ℕ) → NamesDiffer (messages_in casts) → IsIn c casts → c.number ≡ n + 1 → k < size → k ≢ c.sender
     → min greatest (field (expanded_time size casts c.sender n) k + growth_in c.changes k) ≡ expanded_field casts c.sender c.number k
-told_field size casts c n k differ there behind lt ne =
+reported_field size casts c n k differ there behind lt ne =
     let before : field (expanded_time size casts c.sender n) k ≡ min greatest (total casts c.sender n k) = field_at size casts c.sender n k lt ∙ rw (ne_eqb k c.sender ne) refl in
     let after : expanded_field casts c.sender c.number k ≡ min greatest (total casts c.sender (n + 1) k) = ap (λ (m : ℕ). expanded_field casts c.sender m k) behind ∙ rw (ne_eqb k c.sender ne) refl in
     let more = one_more casts c n k differ there behind in
@@ -114,21 +114,21 @@ expander_tells_the_time seat facts c n time old new are there keeps e =
     let behind : c.number ≡ n + 1 = e.next ∙ ap (λ (m : ℕ). m + 1) (ap (λ (t : List ℕ). field t c.sender) keeps.time ∙ own_is_number size casts c.sender n member) in
     let old_size : length (expander.time_of old c.sender) ≡ size = ap length keeps.time ∙ length_of size casts c.sender n in
     let time_size : length time ≡ size = e.grown.size ∙ old_size in
-    let told : time ≡ expanded_time size casts c.sender c.number = ext_get_or 0 time (expanded_time size casts c.sender c.number) (time_size ∙ sym (length_of size casts c.sender c.number)) (λ k below.
+    let reported : time ≡ expanded_time size casts c.sender c.number = ext_get_or 0 time (expanded_time size casts c.sender c.number) (time_size ∙ sym (length_of size casts c.sender c.number)) (λ k below.
     let lt : k < size = omega (arith, below, time_size) in
     elim (cases_eq k c.sender) [
       | inl is ↦ ap (field time) is ∙ e.grown.own ∙ sym (ap (field (expanded_time size casts c.sender c.number)) is ∙ own_is_number size casts c.sender c.number member)
       | inr ne ↦
           e.grown.others k (omega (arith, lt, old_size)) ne ∙ ap (λ (t : List ℕ). min greatest (field t k + growth_in c.changes k)) keeps.time
-          ∙ told_field size casts c n k s.names (cast_of_is_in c casts there) behind lt ne ∙ sym (field_at size casts c.sender c.number k lt)
+          ∙ reported_field size casts c n k s.names (cast_of_is_in c casts there) behind lt ne ∙ sym (field_at size casts c.sender c.number k lt)
     ]) in
     let kept : new ≡ set old c.sender time = e.kept ∙ ap (set old c.sender) (kept_is_given c time e.grown.own) in
     let senders = keeps.senders in (
       behind,
-      told,
+      reported,
       record {
         senders = ap length kept ∙ length-set old c.sender time ∙ senders;
-        time = ap (λ (ts : List (List ℕ)). expander.time_of ts c.sender) kept ∙ get_or-set_same old c.sender time [] (omega (arith, senders, member)) ∙ told;
+        time = ap (λ (ts : List (List ℕ)). expander.time_of ts c.sender) kept ∙ get_or-set_same old c.sender time [] (omega (arith, senders, member)) ∙ reported;
       },
     )
 

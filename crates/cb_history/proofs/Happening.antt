@@ -8,8 +8,8 @@ use Rattle.cb_delay.specs.declared.message.Message.{Message}
 use Rattle.cb_delay.specs.declared.message.Event.{Event}
 use Rattle.cb_delay.specs.declared.message.Event.TheVariants.{Cast, Deliver}
 use Rattle.cb_diffs.specs.Expansion.{expanded_field, expanded_time}
-use Rattle.cb_history.specs.Group.{Seat}
-use Rattle.cb_history.specs.Facts.{Fact, OwnCast, CastCame, StatusCame, OwnStatus, casts_in, messages_in}
+use Rattle.cb_history.specs.Group.{Identity}
+use Rattle.cb_history.specs.Facts.{Fact, OwnCast, CastReceived, StatusReceived, OwnStatus, casts_in, messages_in}
 use Rattle.cb_history.specs.View.{count, expanded_in, is_expanded, is_among, is_ready, view, message_in}
 use Rattle.cb_history.specs.Answers.{own_casts, deliveries}
 use Rattle.cb_history.specs.Events.{event_in, events}
@@ -18,7 +18,7 @@ use Rattle.cb_history.specs.DeliveryLaws.{MeetsRule}
 use Rattle.cb_history.specs.EventLaws.{new_events, EventsWithOneMore, carried_in, casts_among, EventsCastTheOwn, OwnCastMakesReady}
 use Rattle.cb_history.proofs.Views.{IsIn, filter_in, casts_in-append, among_more, expanded_is_there}
 use Rattle.cb_history.proofs.Lists.{flat_map-append, count-append, count_own, count_other}
-use Rattle.cb_history.proofs.Walks.{view_grows, view_own, view_status, view_told, own_casts-own, own_casts-other}
+use Rattle.cb_history.proofs.Walks.{view_grows, view_own, view_status, view_reported, own_casts-own, own_casts-other}
 use Rattle.cb_history.proofs.Names.{StandsAt, all_stand, message, one_of_is_in}
 use Rattle.cb_history.proofs.Prefixes.{prefix_of_facts_is_legal, last_fact_is_a_step}
 use Rattle.cb_history.proofs.Times.{seen_is_expanded, stays, same_over_range}
@@ -31,7 +31,7 @@ same_message size casts now m same =
     ap (λ (time : List ℕ). record { name = record { sender = m.sender; number = m.number }; time = time; payload = m.payload })
     (same_over_range (expanded_field now m.sender m.number) (expanded_field casts m.sender m.number) 0 size (λ k lt. same k))
 
-same_events : (seat : Seat) (casts now : List CastFields) (ms : List Carried) → ((m : Carried) → IsIn m ms → (k : ℕ) → expanded_field now m.sender m.number k ≡ expanded_field casts m.sender m.number k)
+same_events : (seat : Identity) (casts now : List CastFields) (ms : List Carried) → ((m : Carried) → IsIn m ms → (k : ℕ) → expanded_field now m.sender m.number k ≡ expanded_field casts m.sender m.number k)
     → map (event_in seat now) ms ≡ map (event_in seat casts) ms
 same_events seat casts now [] same = refl
 same_events seat casts now (m ∷ ms) same =
@@ -39,7 +39,7 @@ same_events seat casts now (m ∷ ms) same =
     ∙ ap (λ (es : List Event). event_in seat casts m ∷ es) (same_events seat casts now ms (λ n later. same n (inr later)))
 
 -- what was seen keeps its events, whatever comes next
-earlier : (seat : Seat) (facts : List Fact) (f : Fact) → AreFactsOf seat (facts ++ f ∷ []) → map (event_in seat (casts_in (facts ++ f ∷ []))) (view seat.group.size facts) ≡ events seat facts
+earlier : (seat : Identity) (facts : List Fact) (f : Fact) → AreFactsOf seat (facts ++ f ∷ []) → map (event_in seat (casts_in (facts ++ f ∷ []))) (view seat.group.size facts) ≡ events seat facts
 earlier seat facts f are =
     let before = prefix_of_facts_is_legal seat facts (f ∷ []) are in
     let s = all_stand seat facts before.member before.facts_are in
@@ -47,7 +47,7 @@ earlier seat facts f are =
     same_events seat (casts_in facts) (casts_in (facts ++ f ∷ [])) (view seat.group.size facts)
     (λ m there k. stays seat facts f m k after (seen_is_expanded seat (casts_in facts) (view seat.group.size facts) (own_casts facts) m s there))
 
-with_more : (seat : Seat) (facts : List Fact) (f : Fact) (more : List Carried) → AreFactsOf seat (facts ++ f ∷ []) → view seat.group.size (facts ++ f ∷ []) ≡ view seat.group.size facts ++ more
+with_more : (seat : Identity) (facts : List Fact) (f : Fact) (more : List Carried) → AreFactsOf seat (facts ++ f ∷ []) → view seat.group.size (facts ++ f ∷ []) ≡ view seat.group.size facts ++ more
     → events seat (facts ++ f ∷ []) ≡ events seat facts ++ map (event_in seat (casts_in (facts ++ f ∷ []))) more
 with_more seat facts f more are grown =
     let casts = casts_in (facts ++ f ∷ []) in
@@ -67,19 +67,19 @@ none_counted (x ∷ ms) k m none there =
       ]
     ]
 
-others_deliver : (seat : Seat) (casts : List CastFields) (ms : List Carried) → ((m : Carried) → IsIn m ms → m.sender ≢ seat.me) → map (event_in seat casts) ms ≡ map (λ (message : Message). Deliver message) (map (message_in seat.group.size casts) ms)
+others_deliver : (seat : Identity) (casts : List CastFields) (ms : List Carried) → ((m : Carried) → IsIn m ms → m.sender ≢ seat.me) → map (event_in seat casts) ms ≡ map (λ (message : Message). Deliver message) (map (message_in seat.group.size casts) ms)
 others_deliver seat casts [] other = refl
 others_deliver seat casts (m ∷ ms) other =
     rw (ne_eqb m.sender seat.me (other m (inl refl))) (ap (λ (es : List Event). Deliver (message_in seat.group.size casts m) ∷ es) (others_deliver seat casts ms (λ n later. other n (inr later))))
 
 -- no own message is among those that a cast of another delivers
-delivered_of_others : (seat : Seat) (facts : List Fact) (c : CastFields) (more : List Carried) → AreFactsOf seat (facts ++ CastCame c ∷ []) → view seat.group.size (facts ++ CastCame c ∷ []) ≡ view seat.group.size facts ++ more → count more seat.me ≡ 0
+delivered_of_others : (seat : Identity) (facts : List Fact) (c : CastFields) (more : List Carried) → AreFactsOf seat (facts ++ CastReceived c ∷ []) → view seat.group.size (facts ++ CastReceived c ∷ []) ≡ view seat.group.size facts ++ more → count more seat.me ≡ 0
 delivered_of_others seat facts c more are grown =
-    let before = prefix_of_facts_is_legal seat facts (CastCame c ∷ []) are in
+    let before = prefix_of_facts_is_legal seat facts (CastReceived c ∷ []) are in
     let s = all_stand seat facts before.member before.facts_are in
-    let after = all_stand seat (facts ++ CastCame c ∷ []) are.member are.facts_are in
-    let own : length (own_casts (facts ++ CastCame c ∷ [])) ≡ length (own_casts facts) = ap length (own_casts-other facts (CastCame c) tt) in
-    let counted : count (view seat.group.size (facts ++ CastCame c ∷ [])) seat.me ≡ count (view seat.group.size facts) seat.me + count more seat.me =
+    let after = all_stand seat (facts ++ CastReceived c ∷ []) are.member are.facts_are in
+    let own : length (own_casts (facts ++ CastReceived c ∷ [])) ≡ length (own_casts facts) = ap length (own_casts-other facts (CastReceived c) tt) in
+    let counted : count (view seat.group.size (facts ++ CastReceived c ∷ [])) seat.me ≡ count (view seat.group.size facts) seat.me + count more seat.me =
     ap (λ (ms : List Carried). count ms seat.me) grown ∙ count-append (view seat.group.size facts) more seat.me in
     omega (arith, counted, s.own_count, after.own_count, own)
 
@@ -90,17 +90,17 @@ events_with_one_more seat facts (OwnCast c) are =
     with_more seat facts (OwnCast c) (message c ∷ []) are (view_own seat.group.size facts c)
     ∙ ap (λ (es : List Event). events seat facts ++ es) (rw (eq-eqb c.sender seat.me sender)
     (ap (λ (cs : List CastFields). Cast (message_in seat.group.size cs (message c)) ∷ []) (casts_in-append facts (OwnCast c))))
-events_with_one_more seat facts (CastCame c) are =
-    let grown = view_grows seat.group.size facts (CastCame c) in
-    let casts = casts_in (facts ++ CastCame c ∷ []) in
-    let behind : drop (length (view seat.group.size facts)) (view seat.group.size (facts ++ CastCame c ∷ [])) ≡ grown.0 =
+events_with_one_more seat facts (CastReceived c) are =
+    let grown = view_grows seat.group.size facts (CastReceived c) in
+    let casts = casts_in (facts ++ CastReceived c ∷ []) in
+    let behind : drop (length (view seat.group.size facts)) (view seat.group.size (facts ++ CastReceived c ∷ [])) ≡ grown.0 =
     ap (drop (length (view seat.group.size facts))) grown.1 ∙ drop_at (view seat.group.size facts) grown.0 (length (view seat.group.size facts)) refl in
-    with_more seat facts (CastCame c) grown.0 are grown.1
+    with_more seat facts (CastReceived c) grown.0 are grown.1
     ∙ ap (λ (es : List Event). events seat facts ++ es)
     (others_deliver seat casts grown.0 (λ m there. none_counted grown.0 seat.me m (delivered_of_others seat facts c grown.0 are grown.1) there)
     ∙ ap (λ (ms : List Carried). map (λ (message : Message). Deliver message) (map (message_in seat.group.size casts) ms)) (sym behind))
-events_with_one_more seat facts (StatusCame s) are = with_more seat facts (StatusCame s) [] are (view_status seat.group.size facts s ∙ sym (append-nil (view seat.group.size facts)))
-events_with_one_more seat facts (OwnStatus s) are = with_more seat facts (OwnStatus s) [] are (view_told seat.group.size facts s ∙ sym (append-nil (view seat.group.size facts)))
+events_with_one_more seat facts (StatusReceived s) are = with_more seat facts (StatusReceived s) [] are (view_status seat.group.size facts s ∙ sym (append-nil (view seat.group.size facts)))
+events_with_one_more seat facts (OwnStatus s) are = with_more seat facts (OwnStatus s) [] are (view_reported seat.group.size facts s ∙ sym (append-nil (view seat.group.size facts)))
 
 -- ---- the casts among the events
 
@@ -113,23 +113,23 @@ none_cast : (messages : List Message) → casts_among (map (λ (message : Messag
 none_cast [] = refl
 none_cast (message ∷ messages) = none_cast messages
 
-new_casts : (seat : Seat) (facts : List Fact) (f : Fact) → casts_among (new_events seat facts f) ≡ messages_in (own_casts (f ∷ []))
+new_casts : (seat : Identity) (facts : List Fact) (f : Fact) → casts_among (new_events seat facts f) ≡ messages_in (own_casts (f ∷ []))
 new_casts seat facts (OwnCast c) = refl
-new_casts seat facts (CastCame c) = none_cast (deliveries seat facts (CastFrame c))
-new_casts seat facts (StatusCame s) = refl
+new_casts seat facts (CastReceived c) = none_cast (deliveries seat facts (CastFrame c))
+new_casts seat facts (StatusReceived s) = refl
 new_casts seat facts (OwnStatus s) = refl
 
 own_casts-append : (facts : List Fact) (f : Fact) → own_casts (facts ++ f ∷ []) ≡ own_casts facts ++ own_casts (f ∷ [])
 own_casts-append facts (OwnCast c) = own_casts-own facts c
-own_casts-append facts (CastCame c) = own_casts-other facts (CastCame c) tt ∙ sym (append-nil (own_casts facts))
-own_casts-append facts (StatusCame s) = own_casts-other facts (StatusCame s) tt ∙ sym (append-nil (own_casts facts))
+own_casts-append facts (CastReceived c) = own_casts-other facts (CastReceived c) tt ∙ sym (append-nil (own_casts facts))
+own_casts-append facts (StatusReceived s) = own_casts-other facts (StatusReceived s) tt ∙ sym (append-nil (own_casts facts))
 own_casts-append facts (OwnStatus s) = own_casts-other facts (OwnStatus s) tt ∙ sym (append-nil (own_casts facts))
 
-no_events : (seat : Seat) → casts_among (events seat []) ≡ []
+no_events : (seat : Identity) → casts_among (events seat []) ≡ []
 unfolding view
 no_events seat = refl
 
-cast_the_own : (seat : Seat) (facts : List Fact) → AreFactsOf seat facts → AreLegalFacts seat facts → casts_among (events seat facts) ≡ messages_in (own_casts facts)
+cast_the_own : (seat : Identity) (facts : List Fact) → AreFactsOf seat facts → AreLegalFacts seat facts → casts_among (events seat facts) ≡ messages_in (own_casts facts)
 cast_the_own seat _ are NoFacts = no_events seat
 cast_the_own seat _ are (OneFactMore facts f before room step) =
     let prefix = prefix_of_facts_is_legal seat facts (f ∷ []) are in

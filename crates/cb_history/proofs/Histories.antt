@@ -16,8 +16,8 @@ use Rattle.cb_history.specs.declared.answer.CastRefusal.{CastRefusal}
 use Rattle.cb_history.specs.declared.answer.ArriveRefusal.{ArriveRefusal}
 use Rattle.cb_history.specs.declared.answer.TickRefusal.{TickRefusal}
 use Rattle.cb_history.specs.declared.answer.Outgoing.{Outgoing}
-use Rattle.cb_history.specs.Group.{Seat, AreParameters}
-use Rattle.cb_history.specs.Facts.{EntryFields, CastEntry, ArriveEntry, TickEntry, Fact, OwnCast, CastCame, StatusCame, OwnStatus, said_by, cast_said, arrival_said, status_said, facts_of, casts_in}
+use Rattle.cb_history.specs.Group.{Identity, AreParameters}
+use Rattle.cb_history.specs.Facts.{EntryFields, CastEntry, ArriveEntry, TickEntry, Fact, OwnCast, CastReceived, StatusReceived, OwnStatus, said_by, cast_said, arrival_said, status_said, facts_of, casts_in}
 use Rattle.cb_history.specs.Answers.{is_full, is_window_full, next_cast, cast_answer, group_of, are_members, is_impossible, is_repeat, is_too_far, is_change, with_frame, deliveries, ArrivalSays, frame_answer, answer_to, arrive_answer, status_of, is_new_status, tick_answer}
 use Rattle.cb_history.specs.Legal.{longest_history, Call, ToCast, ToTake, ToTick, OfBytes, cast_entry, arrive_entry, tick_entry, entry_of, AreLegal, NoEntries, OneMore}
 use Rattle.cb_history.specs.LegalFacts.{IsTaken, IsStep, AreLegalFacts, NoFacts, OneFactMore}
@@ -29,7 +29,7 @@ use Rattle.cb_history.proofs.ReadBack.{cast_read, status_read, frame_numbered}
 use Rattle.cb_history.proofs.Written.{cast_can, status_can}
 
 -- an entry that a call adds says a step
-record Added (seat : Seat) (entries : List EntryFields) (e : EntryFields) : Type 0 where
+record Added (seat : Identity) (entries : List EntryFields) (e : EntryFields) : Type 0 where
   fact : Fact
   said : said_by e ≡ fact ∷ []
   room : length entries < longest_history
@@ -37,7 +37,7 @@ record Added (seat : Seat) (entries : List EntryFields) (e : EntryFields) : Type
   text : SaysItsText e
 
 -- what is known of the entries before
-record Before (seat : Seat) (entries : List EntryFields) : Type 0 where
+record Before (seat : Identity) (entries : List EntryFields) : Type 0 where
   group : AreParameters seat.group
   member : seat.me < seat.group.size
   facts_are : AreLegalFacts seat (facts_of entries)
@@ -49,7 +49,7 @@ not_false false h = absurd cc
 
 -- ---- a cast
 
-cast_added : (seat : Seat) (entries : List EntryFields) (payload : List ℕ) (e : EntryFields) → Before seat entries → cast_entry (cast_answer seat longest_history entries payload) ≡ Some e → Added seat entries e
+cast_added : (seat : Identity) (entries : List EntryFields) (payload : List ℕ) (e : EntryFields) → Before seat entries → cast_entry (cast_answer seat longest_history entries payload) ≡ Some e → Added seat entries e
 unfolding cast_answer
 cast_added seat entries payload e b =
     cond_both (ltb LONGEST_PAYLOAD (length payload)) _ _ (λ (r : Result CastFields CastRefusal). cast_entry r ≡ Some e → Added seat entries e) (λ _ h. absurd cc)
@@ -70,7 +70,7 @@ cast_added seat entries payload e b =
 
 -- ---- an arrival
 
-pub record Taken (seat : Seat) (entries : List EntryFields) (bytes : List ℕ) (e : EntryFields) (frame : FrameFields) : Type 0 where
+pub record Taken (seat : Identity) (entries : List EntryFields) (bytes : List ℕ) (e : EntryFields) (frame : FrameFields) : Type 0 where
   pub names : List Name
   pub named : names ≡ map (λ m. m.name) (deliveries seat (facts_of entries) frame)
   pub is : ArriveEntry bytes names ≡ e
@@ -81,7 +81,7 @@ changes_entry : (a b : Bool) → (a && b) ≡ false → a ≡ true → b ≡ fal
 changes_entry true b h e = h
 changes_entry false b h e = absurd cc
 
-pub frame_taken : (seat : Seat) (entries : List EntryFields) (bytes : List ℕ) (e : EntryFields) (frame : FrameFields)
+pub frame_taken : (seat : Identity) (entries : List EntryFields) (bytes : List ℕ) (e : EntryFields) (frame : FrameFields)
     → arrive_entry bytes (frame_answer seat longest_history entries (facts_of entries) frame) ≡ Some e → Taken seat entries bytes e frame
 frame_taken seat entries bytes e frame =
     let P : Result ArrivalSays ArriveRefusal → Type 0 = λ r. arrive_entry bytes r ≡ Some e → Taken seat entries bytes e frame in
@@ -109,37 +109,37 @@ frame_taken seat entries bytes e frame =
     (λ _ h. absurd cc)))))))
 
 -- bytes that are a frame are its text
-came_as_text : (bytes : List ℕ) (names : List Name) (e : EntryFields) (f : FrameFields) → IsBytes bytes → frame_at bytes ≡ Ok f → ArriveEntry bytes names ≡ e → SaysItsText e
-came_as_text bytes names e f are read is = subst SaysItsText is (f, read, one_text f bytes ((reading_is_exact.text bytes f are).0 read))
+received_as_text : (bytes : List ℕ) (names : List Name) (e : EntryFields) (f : FrameFields) → IsBytes bytes → frame_at bytes ≡ Ok f → ArriveEntry bytes names ≡ e → SaysItsText e
+received_as_text bytes names e f are read is = subst SaysItsText is (f, read, one_text f bytes ((reading_is_exact.text bytes f are).0 read))
 
-taken_says : (seat : Seat) (entries : List EntryFields) (bytes : List ℕ) (e : EntryFields) (frame : FrameFields) → IsBytes bytes → frame_at bytes ≡ Ok frame → Taken seat entries bytes e frame → Added seat entries e
+taken_says : (seat : Identity) (entries : List EntryFields) (bytes : List ℕ) (e : EntryFields) (frame : FrameFields) → IsBytes bytes → frame_at bytes ≡ Ok frame → Taken seat entries bytes e frame → Added seat entries e
 taken_says seat entries bytes e (CastFrame c) are read t = record {
-  text = came_as_text bytes t.names e (CastFrame c) are read t.is;
-  fact = CastCame c;
+  text = received_as_text bytes t.names e (CastFrame c) are read t.is;
+  fact = CastReceived c;
   said = ap said_by (sym t.is) ∙ ap arrival_said read;
   room = t.room;
   step = record { numbered = frame_numbered bytes c read; taken = t.taken };
 }
 taken_says seat entries bytes e (StatusFrame s) are read t = record {
-  text = came_as_text bytes t.names e (StatusFrame s) are read t.is;
-  fact = StatusCame s;
+  text = received_as_text bytes t.names e (StatusFrame s) are read t.is;
+  fact = StatusReceived s;
   said = ap said_by (sym t.is) ∙ ap arrival_said read;
   room = t.room;
   step = t.taken;
 }
 taken_says seat entries bytes e (RequestFrame r) are read t = let none : false ≡ true = t.taken.change in absurd cc
 
-arrival_added : (seat : Seat) (entries : List EntryFields) (bytes : List ℕ) (e : EntryFields) (r : Result FrameFields FrameFault) → IsBytes bytes → frame_at bytes ≡ r → arrive_entry bytes (answer_to seat longest_history entries r) ≡ Some e → Added seat entries e
+arrival_added : (seat : Identity) (entries : List EntryFields) (bytes : List ℕ) (e : EntryFields) (r : Result FrameFields FrameFault) → IsBytes bytes → frame_at bytes ≡ r → arrive_entry bytes (answer_to seat longest_history entries r) ≡ Some e → Added seat entries e
 arrival_added seat entries bytes e (Ok frame) are read h = taken_says seat entries bytes e frame are read (frame_taken seat entries bytes e frame h)
 arrival_added seat entries bytes e (Err fault) are read h = absurd cc
 
-arrive_added : (seat : Seat) (entries : List EntryFields) (bytes : List ℕ) (e : EntryFields) → IsBytes bytes → arrive_entry bytes (arrive_answer seat longest_history entries bytes) ≡ Some e → Added seat entries e
+arrive_added : (seat : Identity) (entries : List EntryFields) (bytes : List ℕ) (e : EntryFields) → IsBytes bytes → arrive_entry bytes (arrive_answer seat longest_history entries bytes) ≡ Some e → Added seat entries e
 unfolding arrive_answer
 arrive_added seat entries bytes e are h = arrival_added seat entries bytes e (frame_at bytes) are refl h
 
 -- ---- a tick
 
-tick_added : (seat : Seat) (entries : List EntryFields) (e : EntryFields) → Before seat entries → tick_entry (text_of (StatusFrame (status_of seat (facts_of entries)))) (tick_answer seat longest_history entries) ≡ Some e → Added seat entries e
+tick_added : (seat : Identity) (entries : List EntryFields) (e : EntryFields) → Before seat entries → tick_entry (text_of (StatusFrame (status_of seat (facts_of entries)))) (tick_answer seat longest_history entries) ≡ Some e → Added seat entries e
 unfolding tick_answer
 tick_added seat entries e b =
     cond_both (is_new_status seat (facts_of entries) && is_full longest_history entries) _ _ (λ (r : Result (Bool × List Outgoing) TickRefusal). tick_entry (text_of (StatusFrame (status_of seat (facts_of entries)))) r ≡ Some e → Added seat entries e)
@@ -160,24 +160,24 @@ tick_added seat entries e b =
 
 -- ---- all entries
 
-call_added : (seat : Seat) (entries : List EntryFields) (call : Call) (e : EntryFields) → Before seat entries → OfBytes call → entry_of seat longest_history entries call ≡ Some e → Added seat entries e
+call_added : (seat : Identity) (entries : List EntryFields) (call : Call) (e : EntryFields) → Before seat entries → OfBytes call → entry_of seat longest_history entries call ≡ Some e → Added seat entries e
 call_added seat entries (ToCast payload) e b are h = cast_added seat entries payload e b h
 call_added seat entries (ToTake bytes) e b are h = arrive_added seat entries bytes e are h
 call_added seat entries ToTick e b are h = tick_added seat entries e b h
 
-facts_push : (seat : Seat) (entries : List EntryFields) (e : EntryFields) (fact : Fact) → said_by e ≡ fact ∷ [] → facts_of (entries ++ e ∷ []) ≡ facts_of entries ++ fact ∷ []
+facts_push : (seat : Identity) (entries : List EntryFields) (e : EntryFields) (fact : Fact) → said_by e ≡ fact ∷ [] → facts_of (entries ++ e ∷ []) ≡ facts_of entries ++ fact ∷ []
 facts_push seat entries e fact said = flat_map-append said_by entries (e ∷ []) ∙ ap (λ (fs : List Fact). facts_of entries ++ fs) (append-nil (said_by e) ∙ said)
 
 pub all_push : (P : EntryFields → Type 0) (entries : List EntryFields) (e : EntryFields) → AllByRecursion P entries → P e → AllByRecursion P (entries ++ e ∷ [])
 all_push P [] e all one = (one, tt)
 all_push P (x ∷ entries) e all one = (all.0, all_push P entries e all.1 one)
 
-record Says (seat : Seat) (entries : List EntryFields) : Type 0 where
+record Says (seat : Identity) (entries : List EntryFields) : Type 0 where
   before : Before seat entries
   each : AllByRecursion (λ x. length (said_by x) ≡ 1) entries
   texts : AllByRecursion SaysItsText entries
 
-says_more : (seat : Seat) (entries : List EntryFields) (e : EntryFields) → Says seat entries → Added seat entries e → Says seat (entries ++ e ∷ [])
+says_more : (seat : Identity) (entries : List EntryFields) (e : EntryFields) → Says seat entries → Added seat entries e → Says seat (entries ++ e ∷ [])
 says_more seat entries e s a =
     let facts = facts_push seat entries e a.fact a.said in
     record {
@@ -191,7 +191,7 @@ says_more seat entries e s a =
       texts = all_push SaysItsText entries e s.texts a.text;
     }
 
-all_say : (seat : Seat) (entries : List EntryFields) → AreParameters seat.group → seat.me < seat.group.size → AreLegal seat entries → Says seat entries
+all_say : (seat : Identity) (entries : List EntryFields) → AreParameters seat.group → seat.me < seat.group.size → AreLegal seat entries → Says seat entries
 all_say seat _ group member NoEntries = record {
   before = record { group = group; member = member; facts_are = NoFacts; as_many = refl };
   each = tt;
@@ -229,7 +229,7 @@ said_facts entries bytes names frame read =
     with_said facts (StatusFrame s) = refl
     with_said facts (RequestFrame r) = append-nil facts
 
-taken_names : (seat : Seat) (entries : List EntryFields) (bytes frame : List ℕ) (delivered : List Name) (f : FrameFields) → frame_at bytes ≡ Ok f → Taken seat entries bytes (ArriveEntry frame delivered) f
+taken_names : (seat : Identity) (entries : List EntryFields) (bytes frame : List ℕ) (delivered : List Name) (f : FrameFields) → frame_at bytes ≡ Ok f → Taken seat entries bytes (ArriveEntry frame delivered) f
     → delivered ≡ map name_of (drop (length (view seat.group.size (facts_of entries))) (view seat.group.size (facts_of (entries ++ ArriveEntry frame delivered ∷ []))))
 taken_names seat entries bytes frame delivered f read t =
     let names : t.names ≡ delivered = entry_names bytes frame t.names delivered t.is in
@@ -250,12 +250,12 @@ no_tick status (Ok (true, out)) frame delivered e = cc
 no_tick status (Ok (false, out)) frame delivered e = cc
 no_tick status (Err refusal) frame delivered e = cc
 
-arrival_names : (seat : Seat) (entries : List EntryFields) (bytes frame : List ℕ) (delivered : List Name) (r : Result FrameFields FrameFault) → frame_at bytes ≡ r → arrive_entry bytes (answer_to seat longest_history entries r) ≡ Some (ArriveEntry frame delivered)
+arrival_names : (seat : Identity) (entries : List EntryFields) (bytes frame : List ℕ) (delivered : List Name) (r : Result FrameFields FrameFault) → frame_at bytes ≡ r → arrive_entry bytes (answer_to seat longest_history entries r) ≡ Some (ArriveEntry frame delivered)
     → delivered ≡ map name_of (drop (length (view seat.group.size (facts_of entries))) (view seat.group.size (facts_of (entries ++ ArriveEntry frame delivered ∷ []))))
 arrival_names seat entries bytes frame delivered (Ok f) read h = taken_names seat entries bytes frame delivered f read (frame_taken seat entries bytes (ArriveEntry frame delivered) f h)
 arrival_names seat entries bytes frame delivered (Err fault) read h = absurd cc
 
-call_names : (seat : Seat) (entries : List EntryFields) (call : Call) (frame : List ℕ) (delivered : List Name) → entry_of seat longest_history entries call ≡ Some (ArriveEntry frame delivered)
+call_names : (seat : Identity) (entries : List EntryFields) (call : Call) (frame : List ℕ) (delivered : List Name) → entry_of seat longest_history entries call ≡ Some (ArriveEntry frame delivered)
     → delivered ≡ map name_of (drop (length (view seat.group.size (facts_of entries))) (view seat.group.size (facts_of (entries ++ ArriveEntry frame delivered ∷ []))))
 unfolding arrive_answer
 call_names seat entries (ToCast payload) frame delivered h = absurd (no_cast (cast_answer seat longest_history entries payload) frame delivered h)

@@ -4,14 +4,14 @@ use Rattle.std.specs.List.{list_all, range_with_len}
 use Rattle.std.proofs.lemmas.List.{append-nil}
 use Rattle.cb_frames.specs.Fields.{CastFields, Carried}
 use Rattle.cb_diffs.specs.Expansion.{expanded_field}
-use Rattle.cb_history.specs.Group.{Seat}
-use Rattle.cb_history.specs.Facts.{Fact, OwnCast, CastCame, StatusCame, OwnStatus, casts_in}
+use Rattle.cb_history.specs.Group.{Identity}
+use Rattle.cb_history.specs.Facts.{Fact, OwnCast, CastReceived, StatusReceived, OwnStatus, casts_in}
 use Rattle.cb_history.specs.View.{count, is_in_time, next_delivery, drain, view}
 use Rattle.cb_history.specs.Answers.{own_casts}
 use Rattle.cb_history.specs.LegalFacts.{AreLegalFacts, NoFacts, OneFactMore}
 use Rattle.cb_history.specs.TimeLaws.{InTimeAfter, ViewIsInTime}
 use Rattle.cb_history.proofs.Views.{IsIn, next_is, casts_in-append, test_true, all_in_range}
-use Rattle.cb_history.proofs.Walks.{drain_keeps, view_own, view_came, view_status, view_told}
+use Rattle.cb_history.proofs.Walks.{drain_keeps, view_own, view_received, view_status, view_reported}
 use Rattle.cb_history.proofs.Names.{StandsAt, all_stand, message}
 use Rattle.cb_history.proofs.Bounds.{few_facts}
 use Rattle.cb_history.proofs.Times.{seen_is_expanded, stays, own_number, tells, in_time_reached}
@@ -36,44 +36,44 @@ in_time_next size casts seen m all e =
     let rule = test_true _ (list_all (is_in_time casts seen m) (range_with_len 0 size)) next.0 in
     in_time_push size casts [] seen m all (λ k lt. in_time_reached casts seen m k (all_in_range (is_in_time casts seen m) 0 size k rule.1 (omega arith) (omega (arith, lt))))
 
-abbrev InTimeAt : Seat → List Fact → Type 0
+abbrev InTimeAt : Identity → List Fact → Type 0
 InTimeAt seat facts = InTimeAfter seat.group.size (casts_in facts) [] (view seat.group.size facts)
 
 -- what was seen before keeps its times
-in_time_stays : (seat : Seat) (facts : List Fact) (f : Fact) → StandsAt seat facts → StandsAt seat (facts ++ f ∷ []) → InTimeAt seat facts → InTimeAfter seat.group.size (casts_in (facts ++ f ∷ [])) [] (view seat.group.size facts)
+in_time_stays : (seat : Identity) (facts : List Fact) (f : Fact) → StandsAt seat facts → StandsAt seat (facts ++ f ∷ []) → InTimeAt seat facts → InTimeAfter seat.group.size (casts_in (facts ++ f ∷ [])) [] (view seat.group.size facts)
 in_time_stays seat facts f s after all =
     same_times seat.group.size (casts_in facts) (casts_in (facts ++ f ∷ [])) [] (view seat.group.size facts)
     (λ m there k. stays seat facts f m k after (seen_is_expanded seat (casts_in facts) (view seat.group.size facts) (own_casts facts) m s there)) all
 
-in_time_step : (seat : Seat) (facts : List Fact) (f : Fact) → seat.me < seat.group.size → AreLegalFacts seat (facts ++ f ∷ []) → StandsAt seat facts → InTimeAt seat facts → InTimeAt seat (facts ++ f ∷ [])
+in_time_step : (seat : Identity) (facts : List Fact) (f : Fact) → seat.me < seat.group.size → AreLegalFacts seat (facts ++ f ∷ []) → StandsAt seat facts → InTimeAt seat facts → InTimeAt seat (facts ++ f ∷ [])
 in_time_step seat facts (OwnCast c) member legal s all =
     let after = all_stand seat (facts ++ OwnCast c ∷ []) member legal in
     let number = own_number seat facts c after in
     subst (InTimeAfter seat.group.size (casts_in (facts ++ OwnCast c ∷ [])) []) (sym (view_own seat.group.size facts c))
     (in_time_push seat.group.size (casts_in (facts ++ OwnCast c ∷ [])) [] (view seat.group.size facts) (message c) (in_time_stays seat facts (OwnCast c) s after all)
     (λ k lt.
-    let told = tells seat facts c k member legal (omega (arith, few_facts seat (facts ++ OwnCast c ∷ []) legal)) lt in
+    let reported = tells seat facts c k member legal (omega (arith, few_facts seat (facts ++ OwnCast c ∷ []) legal)) lt in
     let at : expanded_field (casts_in (facts ++ OwnCast c ∷ [])) c.sender c.number k ≡ count (view seat.group.size facts ++ message c ∷ []) k =
-    ap (λ (i : ℕ). expanded_field (casts_in (facts ++ OwnCast c ∷ [])) i c.number k) number.0 ∙ told ∙ ap (λ (ms : List Carried). count ms k) (view_own seat.group.size facts c) in
+    ap (λ (i : ℕ). expanded_field (casts_in (facts ++ OwnCast c ∷ [])) i c.number k) number.0 ∙ reported ∙ ap (λ (ms : List Carried). count ms k) (view_own seat.group.size facts c) in
     subst (λ (n : ℕ). n ≤ count (view seat.group.size facts ++ message c ∷ []) k) (sym at) (omega arith)))
-in_time_step seat facts (CastCame c) member legal s all =
-    let after = all_stand seat (facts ++ CastCame c ∷ []) member legal in
+in_time_step seat facts (CastReceived c) member legal s all =
+    let after = all_stand seat (facts ++ CastReceived c ∷ []) member legal in
     let old : InTimeAfter seat.group.size (casts_in facts ++ c ∷ []) [] (view seat.group.size facts) =
-    subst (λ (cs : List CastFields). InTimeAfter seat.group.size cs [] (view seat.group.size facts)) (casts_in-append facts (CastCame c)) (in_time_stays seat facts (CastCame c) s after all) in
+    subst (λ (cs : List CastFields). InTimeAfter seat.group.size cs [] (view seat.group.size facts)) (casts_in-append facts (CastReceived c)) (in_time_stays seat facts (CastReceived c) s after all) in
     let drained : InTimeAfter seat.group.size (casts_in facts ++ c ∷ []) [] (drain seat.group.size (casts_in facts ++ c ∷ []) (view seat.group.size facts)) =
     drain_keeps seat.group.size (casts_in facts ++ c ∷ []) (InTimeAfter seat.group.size (casts_in facts ++ c ∷ []) []) (in_time_next seat.group.size (casts_in facts ++ c ∷ [])) (view seat.group.size facts) old in
-    subst (InTimeAfter seat.group.size (casts_in (facts ++ CastCame c ∷ [])) []) (sym (view_came seat.group.size facts c))
-    (subst (λ (cs : List CastFields). InTimeAfter seat.group.size cs [] (drain seat.group.size (casts_in facts ++ c ∷ []) (view seat.group.size facts))) (sym (casts_in-append facts (CastCame c))) drained)
-in_time_step seat facts (StatusCame t) member legal s all =
-    subst (InTimeAfter seat.group.size (casts_in (facts ++ StatusCame t ∷ [])) []) (sym (view_status seat.group.size facts t)) (in_time_stays seat facts (StatusCame t) s (all_stand seat (facts ++ StatusCame t ∷ []) member legal) all)
+    subst (InTimeAfter seat.group.size (casts_in (facts ++ CastReceived c ∷ [])) []) (sym (view_received seat.group.size facts c))
+    (subst (λ (cs : List CastFields). InTimeAfter seat.group.size cs [] (drain seat.group.size (casts_in facts ++ c ∷ []) (view seat.group.size facts))) (sym (casts_in-append facts (CastReceived c))) drained)
+in_time_step seat facts (StatusReceived t) member legal s all =
+    subst (InTimeAfter seat.group.size (casts_in (facts ++ StatusReceived t ∷ [])) []) (sym (view_status seat.group.size facts t)) (in_time_stays seat facts (StatusReceived t) s (all_stand seat (facts ++ StatusReceived t ∷ []) member legal) all)
 in_time_step seat facts (OwnStatus t) member legal s all =
-    subst (InTimeAfter seat.group.size (casts_in (facts ++ OwnStatus t ∷ [])) []) (sym (view_told seat.group.size facts t)) (in_time_stays seat facts (OwnStatus t) s (all_stand seat (facts ++ OwnStatus t ∷ []) member legal) all)
+    subst (InTimeAfter seat.group.size (casts_in (facts ++ OwnStatus t ∷ [])) []) (sym (view_reported seat.group.size facts t)) (in_time_stays seat facts (OwnStatus t) s (all_stand seat (facts ++ OwnStatus t ∷ []) member legal) all)
 
-none_in_time : (seat : Seat) → InTimeAt seat []
+none_in_time : (seat : Identity) → InTimeAt seat []
 unfolding view
 none_in_time seat = tt
 
-all_in_time : (seat : Seat) (facts : List Fact) → seat.me < seat.group.size → AreLegalFacts seat facts → InTimeAt seat facts
+all_in_time : (seat : Identity) (facts : List Fact) → seat.me < seat.group.size → AreLegalFacts seat facts → InTimeAt seat facts
 all_in_time seat _ member NoFacts = none_in_time seat
 all_in_time seat _ member (OneFactMore facts f before room step) =
     in_time_step seat facts f member (OneFactMore facts f before room step) (all_stand seat facts member before) (all_in_time seat facts member before)

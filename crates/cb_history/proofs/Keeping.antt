@@ -14,8 +14,8 @@ use Rattle.cb_stability.specs.Ranges.{is_in_some}
 use Rattle.cb_stability.specs.Sent.{Sent, room_of}
 use Rattle.cb_stability.proofs.Windows.{kept_from, entries-kept, len-kept, push_kept, trim_kept}
 use Rattle.cb_history.specs.declared.answer.Outgoing.{Outgoing}
-use Rattle.cb_history.specs.Group.{Seat}
-use Rattle.cb_history.specs.Facts.{Fact, OwnCast, CastCame, StatusCame, OwnStatus}
+use Rattle.cb_history.specs.Group.{Identity}
+use Rattle.cb_history.specs.Facts.{Fact, OwnCast, CastReceived, StatusReceived, OwnStatus}
 use Rattle.cb_history.specs.View.{count, view}
 use Rattle.cb_history.specs.Known.{acknowledged, stable, least_of}
 use Rattle.cb_history.specs.Answers.{delivered, own_casts, window, is_own_cast, is_window_full, is_asked_for}
@@ -54,7 +54,7 @@ at_most_least g (j ∷ i ∷ ks) n k there each =
     let rest = at_most_least g (i ∷ ks) n i (inl refl) (λ x later. each x (inr later)) in
     omega (arith, here, rest)
 
-abbrev others_of : Seat → List ℕ
+abbrev others_of : Identity → List ℕ
 others_of seat = filter (λ k. not (eqb k seat.me)) (range_with_len 0 seat.group.size)
 
 pub in_range : (a n k : ℕ) → a ≤ k → k < a + n → IsIn k (range_with_len a n)
@@ -73,10 +73,10 @@ range_in a (suc n) k (inr later) = let rest = range_in (a + 1) n k later in omeg
 unequal : (k me : ℕ) → not (eqb k me) ≡ true → k ≢ me
 unequal k me h e = let yes = eq-eqb k me e in let no : not true ≡ true = ap not (sym yes) ∙ h in cc
 
-other_in : (seat : Seat) (k : ℕ) → k < seat.group.size → k ≢ seat.me → IsIn k (others_of seat)
+other_in : (seat : Identity) (k : ℕ) → k < seat.group.size → k ≢ seat.me → IsIn k (others_of seat)
 other_in seat k lt ne = in_filter (λ j. not (eqb j seat.me)) (range_with_len 0 seat.group.size) k (rw (ne_eqb k seat.me ne) refl) (in_range 0 seat.group.size k (omega arith) (omega (arith, lt)))
 
-other_is : (seat : Seat) (k : ℕ) → IsIn k (others_of seat) → (k < seat.group.size) × (k ≢ seat.me)
+other_is : (seat : Identity) (k : ℕ) → IsIn k (others_of seat) → (k < seat.group.size) × (k ≢ seat.me)
 other_is seat k there =
     let found = filter_in (λ j. not (eqb j seat.me)) (range_with_len 0 seat.group.size) k there in
     let small = range_in 0 seat.group.size k found.1 in
@@ -134,10 +134,10 @@ those_above me n s (c ∷ own) numbered low high =
 abbrev frames_above : ℕ → List Fact → List (List ℕ)
 frames_above s facts = map (λ c. text_of (CastFrame c)) (drop s (own_casts facts))
 
-counted : (seat : Seat) (facts : List Fact) → AreFactsOf seat facts → length (own_casts facts) ≡ delivered seat facts seat.me
+counted : (seat : Identity) (facts : List Fact) → AreFactsOf seat facts → length (own_casts facts) ≡ delivered seat facts seat.me
 counted seat facts are = sym (all_stand seat facts are.member are.facts_are).own_count
 
-window_is : (seat : Seat) (facts : List Fact) → AreFactsOf seat facts → map numbered_frame (window seat facts) ≡ enumerate_from (stable seat facts + 1) (frames_above (stable seat facts) facts)
+window_is : (seat : Identity) (facts : List Fact) → AreFactsOf seat facts → map numbered_frame (window seat facts) ≡ enumerate_from (stable seat facts + 1) (frames_above (stable seat facts) facts)
 window_is seat facts are =
     let s = stable seat facts in
     let below = (acknowledged_is_delivered seat facts are).1 in
@@ -146,12 +146,12 @@ window_is seat facts are =
     those_above seat.me 1 s (own_casts facts) (all_stand seat facts are.member are.facts_are).own_numbers (omega arith) (omega (arith, below, many))
     ∙ ap (λ (k : ℕ). enumerate_from (s + 1) (frames_above k facts)) same
 
-length_above : (seat : Seat) (facts : List Fact) → AreFactsOf seat facts → length (frames_above (stable seat facts) facts) ≡ delivered seat facts seat.me - stable seat facts
+length_above : (seat : Identity) (facts : List Fact) → AreFactsOf seat facts → length (frames_above (stable seat facts) facts) ≡ delivered seat facts seat.me - stable seat facts
 length_above seat facts are =
     length-map (drop (stable seat facts) (own_casts facts)) (λ c. text_of (CastFrame c)) ∙ length-drop (stable seat facts) (own_casts facts) ∙ ap (λ (n : ℕ). n - stable seat facts) (counted seat facts are)
 
 -- the map that is kept
-kept_is : (seat : Seat) (facts : List Fact) (sent : Sent) → AreFactsOf seat facts → KeepsOwnCasts seat facts sent → sent.kept ≡ kept_from (stable seat facts + 1) (frames_above (stable seat facts) facts)
+kept_is : (seat : Identity) (facts : List Fact) (sent : Sent) → AreFactsOf seat facts → KeepsOwnCasts seat facts sent → sent.kept ≡ kept_from (stable seat facts + 1) (frames_above (stable seat facts) facts)
 kept_is seat facts sent are keeps =
     fin.same_entries_map sent.kept (kept_from (stable seat facts + 1) (frames_above (stable seat facts) facts))
     (keeps.kept ∙ window_is seat facts are ∙ sym (entries-kept (stable seat facts + 1) (frames_above (stable seat facts) facts)))
@@ -216,7 +216,7 @@ frames_in_are_sent_in_answer seat facts sent r keeps asked =
 
 -- ---- one more own cast
 
-others_same : (seat : Seat) (facts : List Fact) (c : CastFields) → AreFactsOf seat (facts ++ OwnCast c ∷ []) → stable seat (facts ++ OwnCast c ∷ []) ≡ stable seat facts
+others_same : (seat : Identity) (facts : List Fact) (c : CastFields) → AreFactsOf seat (facts ++ OwnCast c ∷ []) → stable seat (facts ++ OwnCast c ∷ []) ≡ stable seat facts
 others_same seat facts c are = ap least_of (same_over (others_of seat) (λ k there. let is = other_is seat k there in (own_cast_tells_nothing seat facts c k are is.0 is.1).1))
   where
     same_over : (ks : List ℕ) → ((k : ℕ) → IsIn k ks → acknowledged seat (facts ++ OwnCast c ∷ []) k ≡ acknowledged seat facts k) → map (acknowledged seat (facts ++ OwnCast c ∷ [])) ks ≡ map (acknowledged seat facts) ks
@@ -265,8 +265,8 @@ put_is_own_cast seat facts c sent after are keeps kept =
 
 not_own_is : (f : Fact) → is_own_cast f ≡ false → IsNotOwn f
 not_own_is (OwnCast c) h = absurd cc
-not_own_is (CastCame c) h = tt
-not_own_is (StatusCame s) h = tt
+not_own_is (CastReceived c) h = tt
+not_own_is (StatusReceived s) h = tt
 not_own_is (OwnStatus s) h = tt
 
 drop_more_of : {A : Type 0} (a b : ℕ) (xs : List A) → drop a (drop b xs) ≡ drop (b + a) xs

@@ -39,7 +39,7 @@ pub in_one : {A : Type 0} (a x : A) → IsIn a (x ∷ []) → a ≡ x
 in_one a x (inl same) = same
 in_one a x (inr none) = absurd none
 
--- a message that came before, or the new one
+-- a received message before, or the new one
 pub in_push : {A : Type 0} (a x : A) (xs : List A) → IsIn a (xs ++ x ∷ []) → IsIn a xs ⊎ (a ≡ x)
 in_push a x xs h = elim (in_append a xs (x ∷ []) h) [
   | inl front ↦ inl front

@@ -3,18 +3,18 @@ use Rattle.std.proofs.Common.{◌≡◌, ◌≢◌, ℕ, ◌+◌, ◌<◌, ◌�
 use Rattle.std.proofs.lemmas.Bool.{false_from_ne_true, eq-eqb, ltb-true, ltb-false}
 use Rattle.std.proofs.lemmas.List.{append-nil, length-append}
 use Rattle.cb_frames.specs.Fields.{CastFields, Carried, last_number}
-use Rattle.cb_history.specs.Group.{Seat}
-use Rattle.cb_history.specs.Facts.{Fact, OwnCast, CastCame, StatusCame, OwnStatus, casts_in, messages_in, is_there}
+use Rattle.cb_history.specs.Group.{Identity}
+use Rattle.cb_history.specs.Facts.{Fact, OwnCast, CastReceived, StatusReceived, OwnStatus, casts_in, messages_in, is_there}
 use Rattle.cb_history.specs.View.{count, is_among, next_delivery, drain, view}
 use Rattle.cb_history.specs.Answers.{own_casts, delivered}
 use Rattle.cb_history.specs.LegalFacts.{IsCastTaken, IsStep, AreLegalFacts, NoFacts, OneFactMore}
-use Rattle.cb_history.specs.NameLaws.{InOrderAfter, NamesDiffer, NumberedFrom, CameFromOthers, NamesStandOnce, OwnCastsAreNumbered, OwnMessagesAreOwn, ViewIsInOrder, ViewHoldsTheFirst, ViewIsOfCasts, IsOneOf, ViewIsAsCast}
+use Rattle.cb_history.specs.NameLaws.{InOrderAfter, NamesDiffer, NumberedFrom, ReceivedFromOthers, NamesStandOnce, OwnCastsAreNumbered, OwnMessagesAreOwn, ViewIsInOrder, ViewHoldsTheFirst, ViewIsOfCasts, IsOneOf, ViewIsAsCast}
 use Rattle.cb_history.proofs.Views.{IsIn, next_is, next_is_the_only_candidate, ready_is_new, expanded_is_there, casts_in-append, test_true, among_more, among_itself}
 use Rattle.cb_history.proofs.Lists.{length_messages, messages_in-push, in_front, in_back, in_push, names_push, in_is_among, among_is, count_own, count_other, order_push, among_by_order, order_bound}
-use Rattle.cb_history.proofs.Walks.{drain_keeps, view_own, view_came, view_status, view_told, own_casts-own, own_casts-other}
+use Rattle.cb_history.proofs.Walks.{drain_keeps, view_own, view_received, view_status, view_reported, own_casts-own, own_casts-other}
 
 -- what is true of the casts, the view and the own casts
-pub record Stands (seat : Seat) (casts : List CastFields) (seen : List Carried) (own : List CastFields) : Type 0 where
+pub record Stands (seat : Identity) (casts : List CastFields) (seen : List Carried) (own : List CastFields) : Type 0 where
   pub small : (m : Carried) → IsIn m (messages_in casts) → m.sender < seat.group.size
   pub positive : (m : Carried) → IsIn m (messages_in casts) → 1 ≤ m.number
   pub there : (m : Carried) → IsIn m seen → IsIn m (messages_in casts)
@@ -40,7 +40,7 @@ numbered_push me n at (d ∷ own) c numbered sender number is = (numbered.0, num
 
 -- ---- an own cast
 
-own_stands : (seat : Seat) (casts : List CastFields) (seen : List Carried) (own : List CastFields) (c : CastFields) → seat.me < seat.group.size → Stands seat casts seen own
+own_stands : (seat : Identity) (casts : List CastFields) (seen : List Carried) (own : List CastFields) (c : CastFields) → seat.me < seat.group.size → Stands seat casts seen own
     → c.sender ≡ seat.me → c.number ≡ count seen seat.me + 1 → Stands seat (casts ++ c ∷ []) (seen ++ message c ∷ []) (own ++ c ∷ [])
 own_stands seat casts seen own c member s sender number = record {
   small = λ m h. elim (in_push m (message c) (messages_in casts) (in_message casts c m h)) [
@@ -65,7 +65,7 @@ own_stands seat casts seen own c member s sender number = record {
   own_numbers = numbered_push seat.me 1 c.number own c s.own_numbers sender refl (omega (arith, number, s.own_count));
 }
   where
-    none_above : (seat : Seat) (casts : List CastFields) (seen : List Carried) (own : List CastFields) (c : CastFields) → Stands seat casts seen own → c.sender ≡ seat.me → c.number ≡ count seen seat.me + 1 → is_among (messages_in casts) (message c) ≡ true → ⊥
+    none_above : (seat : Identity) (casts : List CastFields) (seen : List Carried) (own : List CastFields) (c : CastFields) → Stands seat casts seen own → c.sender ≡ seat.me → c.number ≡ count seen seat.me + 1 → is_among (messages_in casts) (message c) ≡ true → ⊥
     none_above seat casts seen own c s sender number h =
         let found = among_is (messages_in casts) (message c) h in
         let n : Carried = found.0 in
@@ -76,19 +76,19 @@ own_stands seat casts seen own c member s sender number = record {
         let same : seen_one.0.number ≡ c.number = seen_one.3 ∙ found.3 in
         omega (arith, bound, at, same, number)
 
-    new_name : (seat : Seat) (casts : List CastFields) (seen : List Carried) (own : List CastFields) (c : CastFields) → Stands seat casts seen own → c.sender ≡ seat.me → c.number ≡ count seen seat.me + 1 → is_among (messages_in casts) (message c) ≡ false
+    new_name : (seat : Identity) (casts : List CastFields) (seen : List Carried) (own : List CastFields) (c : CastFields) → Stands seat casts seen own → c.sender ≡ seat.me → c.number ≡ count seen seat.me + 1 → is_among (messages_in casts) (message c) ≡ false
     new_name seat casts seen own c s sender number = false_from_ne_true (is_among (messages_in casts) (message c)) (none_above seat casts seen own c s sender number)
 
--- ---- a cast that came
+-- ---- a received cast
 
 -- what deliveries keep
-pub record Goes (seat : Seat) (casts : List CastFields) (n : ℕ) (seen : List Carried) : Type 0 where
+pub record Goes (seat : Identity) (casts : List CastFields) (n : ℕ) (seen : List Carried) : Type 0 where
   pub there : (m : Carried) → IsIn m seen → IsIn m (messages_in casts)
   pub order : InOrderAfter [] seen
   pub own_seen : (m : Carried) → IsIn m (messages_in casts) → m.sender ≡ seat.me → is_among seen m ≡ true
   pub own_count : count seen seat.me ≡ n
 
-goes_on : (seat : Seat) (casts : List CastFields) (n : ℕ) → ((m : Carried) → IsIn m (messages_in casts) → m.sender < seat.group.size) → (seen : List Carried) (m : Carried) → Goes seat casts n seen → next_delivery seat.group.size casts seen ≡ Some m → Goes seat casts n (seen ++ m ∷ [])
+goes_on : (seat : Identity) (casts : List CastFields) (n : ℕ) → ((m : Carried) → IsIn m (messages_in casts) → m.sender < seat.group.size) → (seen : List Carried) (m : Carried) → Goes seat casts n seen → next_delivery seat.group.size casts seen ≡ Some m → Goes seat casts n (seen ++ m ∷ [])
 goes_on seat casts n small seen m g e =
     let next = next_is seat.group.size casts seen m e in
     let in_casts : IsIn m (messages_in casts) = expanded_is_there casts m next.1 in
@@ -105,9 +105,9 @@ goes_on seat casts n small seen m g e =
       own_count = count_other seen m seat.me other ∙ g.own_count;
     }
 
-came_stands : (seat : Seat) (casts : List CastFields) (seen : List Carried) (own : List CastFields) (c : CastFields) → Stands seat casts seen own
+received_stands : (seat : Identity) (casts : List CastFields) (seen : List Carried) (own : List CastFields) (c : CastFields) → Stands seat casts seen own
     → c.sender < seat.group.size → 1 ≤ c.number → c.sender ≢ seat.me → is_among (messages_in casts) (message c) ≡ false → Stands seat (casts ++ c ∷ []) (drain seat.group.size (casts ++ c ∷ []) seen) own
-came_stands seat casts seen own c s member positive other new =
+received_stands seat casts seen own c s member positive other new =
     let small : (m : Carried) → IsIn m (messages_in (casts ++ c ∷ [])) → m.sender < seat.group.size = λ m h. elim (in_push m (message c) (messages_in casts) (in_message casts c m h)) [
       | inl old ↦ s.small m old
       | inr same ↦ subst (λ (y : Carried). y.sender < seat.group.size) (sym same) member
@@ -137,7 +137,7 @@ came_stands seat casts seen own c s member positive other new =
 
 -- ---- all facts
 
-abbrev pub StandsAt : Seat → List Fact → Type 0
+abbrev pub StandsAt : Identity → List Fact → Type 0
 StandsAt seat facts = Stands seat (casts_in facts) (view seat.group.size facts) (own_casts facts)
 
 not_there : (b : Bool) → (b && true) ≡ false → b ≡ false
@@ -148,9 +148,9 @@ possible_own : (a b : Bool) → (a && b) ≡ false → a ≡ true → b ≡ fals
 possible_own true b h e = h
 possible_own false b h e = absurd cc
 
--- a cast that came is of another member: one of its own would be a repeat
-pub came_is_others : (seat : Seat) (facts : List Fact) (c : CastFields) → StandsAt seat facts → IsCastTaken seat facts c → c.sender ≢ seat.me
-came_is_others seat facts c s came own =
+-- a received cast is of another member: one of its own would be a repeat
+pub received_is_others : (seat : Identity) (facts : List Fact) (c : CastFields) → StandsAt seat facts → IsCastTaken seat facts c → c.sender ≢ seat.me
+received_is_others seat facts c s came own =
     let bound = ltb-false (delivered seat facts seat.me) c.number (possible_own (eqb c.sender seat.me) (ltb (delivered seat facts seat.me) c.number) came.taken.possible (eq-eqb c.sender seat.me own)) in
     let high : c.number ≤ count (view seat.group.size facts) c.sender = subst (λ (k : ℕ). c.number ≤ count (view seat.group.size facts) k) (sym own) bound in
     let among : is_among (view seat.group.size facts) (message c) ≡ true = among_by_order [] (view seat.group.size facts) (message c) s.order (omega (arith, came.numbered)) (omega (arith, high)) in
@@ -160,24 +160,24 @@ came_is_others seat facts c s came own =
     let none : is_there (casts_in facts) c.sender c.number ≡ false = not_there (is_there (casts_in facts) c.sender c.number) came.taken.new in
     cc
 
-status_stands : (seat : Seat) (casts casts' : List CastFields) (seen seen' : List Carried) (own own' : List CastFields) → casts' ≡ casts → seen' ≡ seen → own' ≡ own → Stands seat casts seen own → Stands seat casts' seen' own'
+status_stands : (seat : Identity) (casts casts' : List CastFields) (seen seen' : List Carried) (own own' : List CastFields) → casts' ≡ casts → seen' ≡ seen → own' ≡ own → Stands seat casts seen own → Stands seat casts' seen' own'
 status_stands seat casts casts' seen seen' own own' a b d s =
     subst (λ (x : List CastFields). Stands seat x seen' own') (sym a) (subst (λ (x : List Carried). Stands seat casts x own') (sym b) (subst (λ (x : List CastFields). Stands seat casts seen x) (sym d) s))
 
-step_stands : (seat : Seat) (facts : List Fact) (f : Fact) → seat.me < seat.group.size → IsStep seat facts f → StandsAt seat facts → StandsAt seat (facts ++ f ∷ [])
+step_stands : (seat : Identity) (facts : List Fact) (f : Fact) → seat.me < seat.group.size → IsStep seat facts f → StandsAt seat facts → StandsAt seat (facts ++ f ∷ [])
 step_stands seat facts (OwnCast c) member step s =
     status_stands seat (casts_in facts ++ c ∷ []) _ (view seat.group.size facts ++ message c ∷ []) _ (own_casts facts ++ c ∷ []) _ (casts_in-append facts (OwnCast c)) (view_own seat.group.size facts c) (own_casts-own facts c)
     (own_stands seat (casts_in facts) (view seat.group.size facts) (own_casts facts) c member s (ap (λ (x : CastFields). x.sender) step.next) (ap (λ (x : CastFields). x.number) step.next))
-step_stands seat facts (CastCame c) member step s =
-    status_stands seat (casts_in facts ++ c ∷ []) _ (drain seat.group.size (casts_in facts ++ c ∷ []) (view seat.group.size facts)) _ (own_casts facts) _ (casts_in-append facts (CastCame c)) (view_came seat.group.size facts c) (own_casts-other facts (CastCame c) tt)
-    (came_stands seat (casts_in facts) (view seat.group.size facts) (own_casts facts) c s
-    (ltb-true c.sender seat.group.size (test_true (ltb c.sender seat.group.size) _ step.taken.members).0) step.numbered (came_is_others seat facts c s step) (not_there (is_there (casts_in facts) c.sender c.number) step.taken.new))
-step_stands seat facts (StatusCame t) member step s =
-    status_stands seat (casts_in facts) _ (view seat.group.size facts) _ (own_casts facts) _ (casts_in-append facts (StatusCame t) ∙ append-nil (casts_in facts)) (view_status seat.group.size facts t) (own_casts-other facts (StatusCame t) tt) s
+step_stands seat facts (CastReceived c) member step s =
+    status_stands seat (casts_in facts ++ c ∷ []) _ (drain seat.group.size (casts_in facts ++ c ∷ []) (view seat.group.size facts)) _ (own_casts facts) _ (casts_in-append facts (CastReceived c)) (view_received seat.group.size facts c) (own_casts-other facts (CastReceived c) tt)
+    (received_stands seat (casts_in facts) (view seat.group.size facts) (own_casts facts) c s
+    (ltb-true c.sender seat.group.size (test_true (ltb c.sender seat.group.size) _ step.taken.members).0) step.numbered (received_is_others seat facts c s step) (not_there (is_there (casts_in facts) c.sender c.number) step.taken.new))
+step_stands seat facts (StatusReceived t) member step s =
+    status_stands seat (casts_in facts) _ (view seat.group.size facts) _ (own_casts facts) _ (casts_in-append facts (StatusReceived t) ∙ append-nil (casts_in facts)) (view_status seat.group.size facts t) (own_casts-other facts (StatusReceived t) tt) s
 step_stands seat facts (OwnStatus t) member step s =
-    status_stands seat (casts_in facts) _ (view seat.group.size facts) _ (own_casts facts) _ (casts_in-append facts (OwnStatus t) ∙ append-nil (casts_in facts)) (view_told seat.group.size facts t) (own_casts-other facts (OwnStatus t) tt) s
+    status_stands seat (casts_in facts) _ (view seat.group.size facts) _ (own_casts facts) _ (casts_in-append facts (OwnStatus t) ∙ append-nil (casts_in facts)) (view_reported seat.group.size facts t) (own_casts-other facts (OwnStatus t) tt) s
 
-none_stands : (seat : Seat) → StandsAt seat []
+none_stands : (seat : Identity) → StandsAt seat []
 unfolding view
 none_stands seat = record {
   small = λ m h. absurd h;
@@ -190,26 +190,26 @@ none_stands seat = record {
   own_numbers = tt;
 }
 
-pub all_stand : (seat : Seat) (facts : List Fact) → seat.me < seat.group.size → AreLegalFacts seat facts → StandsAt seat facts
+pub all_stand : (seat : Identity) (facts : List Fact) → seat.me < seat.group.size → AreLegalFacts seat facts → StandsAt seat facts
 all_stand seat _ member NoFacts = none_stands seat
 all_stand seat _ member (OneFactMore facts f before room step) = step_stands seat facts f member step (all_stand seat facts member before)
 
 -- ---- the laws
 
-others_push : (me : ℕ) (facts : List Fact) (f : Fact) → CameFromOthers me facts → CameFromOthers me (f ∷ []) → CameFromOthers me (facts ++ f ∷ [])
+others_push : (me : ℕ) (facts : List Fact) (f : Fact) → ReceivedFromOthers me facts → ReceivedFromOthers me (f ∷ []) → ReceivedFromOthers me (facts ++ f ∷ [])
 others_push me [] f others here = here
 others_push me (OwnCast c ∷ facts) f others here = others_push me facts f others here
-others_push me (CastCame c ∷ facts) f others here = (others.0, others_push me facts f others.1 here)
-others_push me (StatusCame s ∷ facts) f others here = others_push me facts f others here
+others_push me (CastReceived c ∷ facts) f others here = (others.0, others_push me facts f others.1 here)
+others_push me (StatusReceived s ∷ facts) f others here = others_push me facts f others here
 others_push me (OwnStatus s ∷ facts) f others here = others_push me facts f others here
 
-other_here : (seat : Seat) (facts : List Fact) (f : Fact) → StandsAt seat facts → IsStep seat facts f → CameFromOthers seat.me (f ∷ [])
+other_here : (seat : Identity) (facts : List Fact) (f : Fact) → StandsAt seat facts → IsStep seat facts f → ReceivedFromOthers seat.me (f ∷ [])
 other_here seat facts (OwnCast c) s step = tt
-other_here seat facts (CastCame c) s step = (came_is_others seat facts c s step, tt)
-other_here seat facts (StatusCame t) s step = tt
+other_here seat facts (CastReceived c) s step = (received_is_others seat facts c s step, tt)
+other_here seat facts (StatusReceived t) s step = tt
 other_here seat facts (OwnStatus t) s step = tt
 
-all_others : (seat : Seat) (facts : List Fact) → seat.me < seat.group.size → AreLegalFacts seat facts → CameFromOthers seat.me facts
+all_others : (seat : Identity) (facts : List Fact) → seat.me < seat.group.size → AreLegalFacts seat facts → ReceivedFromOthers seat.me facts
 all_others seat _ member NoFacts = tt
 all_others seat _ member (OneFactMore facts f before room step) = others_push seat.me facts f (all_others seat facts member before) (other_here seat facts f (all_stand seat facts member before) step)
 

@@ -4,7 +4,7 @@ use Rattle.std.specs.List.{AllByRecursion, list_all}
 use Rattle.std.proofs.lemmas.Bool.{lt-ltb, ne_eqb, and_from}
 use Rattle.std.proofs.lemmas.List.FromFn.{length-map-range_with_len}
 use Rattle.cb_frames.specs.declared.frame.Change.{Change}
-use Rattle.cb_diffs.specs.Differences.{change_of, is_told, differences}
+use Rattle.cb_diffs.specs.Differences.{change_of, is_reported, differences}
 use Rattle.cb_history.specs.View.{count, view, time_of}
 use Rattle.cb_history.specs.Answers.{delivered, status_of, upto_last_cast}
 use Rattle.cb_history.specs.OwnFrameLaws.{OwnCastsAreOfTheGroup, OwnStatusesAreOfTheGroup, OwnRequestsAreOfTheGroup}
@@ -23,7 +23,7 @@ own_casts_are_of_the_group seat facts payload is =
       number = refl;
       members = and_from (ltb seat.me seat.group.size) (list_all (λ d. ltb d.field seat.group.size) (differences previous now seat.me)) (lt-ltb seat.me seat.group.size is.member)
           (all_pass (λ d. ltb d.field seat.group.size) (differences previous now seat.me)
-          (each_from (is_told seat.me) (change_of previous now) (λ d. ltb d.field seat.group.size ≡ true) 0 (length now) (λ k lt told. lt-ltb k seat.group.size (omega (arith, lt, size)))));
+          (each_from (is_reported seat.me) (change_of previous now) (λ d. ltb d.field seat.group.size ≡ true) 0 (length now) (λ k lt reported. lt-ltb k seat.group.size (omega (arith, lt, size)))));
     }
 
 pub own_statuses_are_of_the_group : OwnStatusesAreOfTheGroup
@@ -33,7 +33,7 @@ own_statuses_are_of_the_group seat facts is =
       number = refl;
       members = and_from (ltb seat.me seat.group.size) (list_all (λ d. ltb d.field seat.group.size) (status_of seat facts).values) (lt-ltb seat.me seat.group.size is.member)
           (all_pass (λ d. ltb d.field seat.group.size) (status_of seat facts).values
-          (each_from (λ d. ltb 0 d.amount) value (λ d. ltb d.field seat.group.size ≡ true) 0 seat.group.size (λ k lt told. lt-ltb k seat.group.size (omega (arith, lt)))));
+          (each_from (λ d. ltb 0 d.amount) value (λ d. ltb d.field seat.group.size ≡ true) 0 seat.group.size (λ k lt reported. lt-ltb k seat.group.size (omega (arith, lt)))));
     }
 
 pub own_requests_are_of_the_group : OwnRequestsAreOfTheGroup

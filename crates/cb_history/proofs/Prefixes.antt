@@ -1,7 +1,7 @@
 -- The entries before any place of a legal history are legal.
 use Rattle.std.proofs.Common.{◌≡◌, List, [], ◌∷◌, ◌++◌, Some, refl, sym, ap, subst, ◌∙◌, append_assoc, inl, inr, ◌⊎◌}
 use Rattle.std.proofs.lemmas.List.{append-nil}
-use Rattle.cb_history.specs.Group.{Seat}
+use Rattle.cb_history.specs.Group.{Identity}
 use Rattle.cb_history.specs.Facts.{EntryFields, Fact}
 use Rattle.cb_history.specs.Legal.{longest_history, Call, entry_of, AreLegal, NoEntries, OneMore}
 use Rattle.cb_history.specs.LegalFacts.{IsStep, AreLegalFacts, NoFacts, OneFactMore}
@@ -46,7 +46,7 @@ none_before : {A : Type 0} (xs ys : List A) → [] ≡ xs ++ ys → xs ≡ []
 none_before [] ys e = refl
 none_before (x ∷ xs) ys e = absurd cc
 
-prefix : (seat : Seat) (all : List EntryFields) → AreLegal seat all → (entries more : List EntryFields) → all ≡ entries ++ more → AreLegal seat entries
+prefix : (seat : Identity) (all : List EntryFields) → AreLegal seat all → (entries more : List EntryFields) → all ≡ entries ++ more → AreLegal seat entries
 prefix seat _ NoEntries entries more e = subst (AreLegal seat) (sym (none_before entries more e)) NoEntries
 prefix seat _ (OneMore before call last legal bytes says) entries more e =
     elim (ends more) [
@@ -63,7 +63,7 @@ prefix_is_legal seat entries more legal = record {
 
 -- ---- facts
 
-prefix_of_facts : (seat : Seat) (all : List Fact) → AreLegalFacts seat all → (facts more : List Fact) → all ≡ facts ++ more → AreLegalFacts seat facts
+prefix_of_facts : (seat : Identity) (all : List Fact) → AreLegalFacts seat all → (facts more : List Fact) → all ≡ facts ++ more → AreLegalFacts seat facts
 prefix_of_facts seat _ NoFacts facts more e = subst (AreLegalFacts seat) (sym (none_before facts more e)) NoFacts
 prefix_of_facts seat _ (OneFactMore before f legal room step) facts more e =
     elim (ends more) [
@@ -82,7 +82,7 @@ no_last : {A : Type 0} (xs : List A) (x : A) → [] ≡ xs ++ x ∷ [] → ⊥
 no_last [] x e = cc
 no_last (y ∷ xs) x e = cc
 
-last_added : (seat : Seat) (all : List EntryFields) → AreLegal seat all → (entries : List EntryFields) (e : EntryFields) → all ≡ entries ++ e ∷ [] → (call : Call) × (entry_of seat longest_history entries call ≡ Some e)
+last_added : (seat : Identity) (all : List EntryFields) → AreLegal seat all → (entries : List EntryFields) (e : EntryFields) → all ≡ entries ++ e ∷ [] → (call : Call) × (entry_of seat longest_history entries call ≡ Some e)
 last_added seat _ NoEntries entries e is = absurd (no_last entries e is)
 last_added seat _ (OneMore before call f legal bytes added) entries e is = (
   call,
@@ -90,10 +90,10 @@ last_added seat _ (OneMore before call f legal bytes added) entries e is = (
 )
 
 -- the last entry of a legal history is one that a call adds
-pub last_entry : (seat : Seat) (entries : List EntryFields) (e : EntryFields) → AreLegal seat (entries ++ e ∷ []) → (call : Call) × (entry_of seat longest_history entries call ≡ Some e)
+pub last_entry : (seat : Identity) (entries : List EntryFields) (e : EntryFields) → AreLegal seat (entries ++ e ∷ []) → (call : Call) × (entry_of seat longest_history entries call ≡ Some e)
 last_entry seat entries e legal = last_added seat (entries ++ e ∷ []) legal entries e refl
 
-last_step : (seat : Seat) (all : List Fact) → AreLegalFacts seat all → (facts : List Fact) (f : Fact) → all ≡ facts ++ f ∷ [] → IsStep seat facts f
+last_step : (seat : Identity) (all : List Fact) → AreLegalFacts seat all → (facts : List Fact) (f : Fact) → all ≡ facts ++ f ∷ [] → IsStep seat facts f
 last_step seat _ NoFacts facts f e = absurd (no_last facts f e)
 last_step seat _ (OneFactMore before g legal room step) facts f e =
     subst (λ (fs : List Fact). IsStep seat fs f) (same_front before facts g f e) (subst (IsStep seat before) (same_last before facts g f e) step)

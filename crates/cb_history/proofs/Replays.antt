@@ -17,7 +17,7 @@ use Rattle.cb_frames.proofs.Unique.{one_text}
 use Rattle.cb_history.specs.declared.answer.CastRefusal.{CastRefusal}
 use Rattle.cb_history.specs.declared.answer.TickRefusal.{TickRefusal}
 use Rattle.cb_history.specs.declared.answer.Outgoing.{Outgoing}
-use Rattle.cb_history.specs.Group.{Seat, IsSeat}
+use Rattle.cb_history.specs.Group.{Identity, IsIdentity}
 use Rattle.cb_history.specs.Facts.{EntryFields, CastEntry, ArriveEntry, TickEntry, facts_of}
 use Rattle.cb_history.specs.Answers.{is_full, is_window_full, next_cast, cast_answer, answer_to, arrive_answer, status_of, tick_answer}
 use Rattle.cb_history.specs.Legal.{longest_history, Call, ToCast, ToTake, ToTick, OfBytes, cast_entry, arrive_entry, tick_entry, entry_of, AreLegal, NoEntries, OneMore, IsLegal}
@@ -72,9 +72,9 @@ status_is_bytes s can = one_more_byte status_kind (flat_map spelling (status_num
 abbrev Tells : Call → EntryFields → Type 0
 Tells call e = (call_of e ≡ call) × (OfBytes call → IsBytes (bytes_in e))
 
-cast_told : (seat : Seat) (entries : List EntryFields) (payload : List ℕ) (e : EntryFields) → AreFactsOf seat (facts_of entries) → cast_entry (cast_answer seat longest_history entries payload) ≡ Some e → Tells (ToCast payload) e
+cast_reported : (seat : Identity) (entries : List EntryFields) (payload : List ℕ) (e : EntryFields) → AreFactsOf seat (facts_of entries) → cast_entry (cast_answer seat longest_history entries payload) ≡ Some e → Tells (ToCast payload) e
 unfolding cast_answer
-cast_told seat entries payload e are =
+cast_reported seat entries payload e are =
     let c = next_cast seat (facts_of entries) payload in
     let P : Result CastFields CastRefusal → Type 0 = λ r. cast_entry r ≡ Some e → Tells (ToCast payload) e in
     cond_both (ltb LONGEST_PAYLOAD (length payload)) _ _ P (λ _ h. absurd cc)
@@ -87,32 +87,32 @@ cast_told seat entries payload e are =
       (λ bytes. subst (λ (x : EntryFields). IsBytes (bytes_in x)) is (cast_is_bytes c can bytes)),
     ))))
 
-arrival_told : (seat : Seat) (entries : List EntryFields) (bytes : List ℕ) (e : EntryFields) (r : Result FrameFields FrameFault) → arrive_entry bytes (answer_to seat longest_history entries r) ≡ Some e → Tells (ToTake bytes) e
-arrival_told seat entries bytes e (Ok frame) h =
+arrival_reported : (seat : Identity) (entries : List EntryFields) (bytes : List ℕ) (e : EntryFields) (r : Result FrameFields FrameFault) → arrive_entry bytes (answer_to seat longest_history entries r) ≡ Some e → Tells (ToTake bytes) e
+arrival_reported seat entries bytes e (Ok frame) h =
     let is = (frame_taken seat entries bytes e frame h).is in
     (ap call_of (sym is), (λ are. subst (λ (x : EntryFields). IsBytes (bytes_in x)) is are))
-arrival_told seat entries bytes e (Err fault) h = absurd cc
+arrival_reported seat entries bytes e (Err fault) h = absurd cc
 
 status_entered : (status : List ℕ) (r : Result (Bool × List Outgoing) TickRefusal) (e : EntryFields) → tick_entry status r ≡ Some e → TickEntry status ≡ e
 status_entered status (Ok (true, out)) e h = cc
 status_entered status (Ok (false, out)) e h = absurd cc
 status_entered status (Err refusal) e h = absurd cc
 
-tick_told : (seat : Seat) (entries : List EntryFields) (e : EntryFields) → AreFactsOf seat (facts_of entries) → TickEntry (text_of (StatusFrame (status_of seat (facts_of entries)))) ≡ e → Tells ToTick e
-tick_told seat entries e are is =
+tick_reported : (seat : Identity) (entries : List EntryFields) (e : EntryFields) → AreFactsOf seat (facts_of entries) → TickEntry (text_of (StatusFrame (status_of seat (facts_of entries)))) ≡ e → Tells ToTick e
+tick_reported seat entries e are is =
     let can = status_can seat (facts_of entries) are.group are.member are.facts_are (few_facts seat (facts_of entries) are.facts_are) in
     (ap call_of (sym is), (λ _. subst (λ (x : EntryFields). IsBytes (bytes_in x)) is (status_is_bytes (status_of seat (facts_of entries)) can)))
 
-call_told : (seat : Seat) (entries : List EntryFields) (call : Call) (e : EntryFields) → AreFactsOf seat (facts_of entries) → entry_of seat longest_history entries call ≡ Some e → Tells call e
+call_reported : (seat : Identity) (entries : List EntryFields) (call : Call) (e : EntryFields) → AreFactsOf seat (facts_of entries) → entry_of seat longest_history entries call ≡ Some e → Tells call e
 unfolding arrive_answer
-call_told seat entries (ToCast payload) e are h = cast_told seat entries payload e are h
-call_told seat entries (ToTake bytes) e are h = arrival_told seat entries bytes e (frame_at bytes) h
-call_told seat entries ToTick e are h =
-    tick_told seat entries e are (status_entered (text_of (StatusFrame (status_of seat (facts_of entries)))) (tick_answer seat longest_history entries) e h)
+call_reported seat entries (ToCast payload) e are h = cast_reported seat entries payload e are h
+call_reported seat entries (ToTake bytes) e are h = arrival_reported seat entries bytes e (frame_at bytes) h
+call_reported seat entries ToTick e are h =
+    tick_reported seat entries e are (status_entered (text_of (StatusFrame (status_of seat (facts_of entries)))) (tick_answer seat longest_history entries) e h)
 
 pub entry_tells_its_call : EntryTellsItsCall
 entry_tells_its_call seat limit entries call e most legal h =
-    (call_told seat entries call e (legal_histories_say_legal_facts seat entries legal) (entry_same seat limit entries call e most h)).0
+    (call_reported seat entries call e (legal_histories_say_legal_facts seat entries legal) (entry_same seat limit entries call e most h)).0
 
 -- ---- what is read is bytes
 
@@ -138,11 +138,11 @@ entries_of_bytes_tell_bytes (TickEntry status) bytes = tt
 
 -- ---- replaying
 
-all_bytes : (seat : Seat) (entries : List EntryFields) → IsSeat seat → AreLegal seat entries → AllByRecursion (λ e. IsBytes (bytes_in e)) entries
+all_bytes : (seat : Identity) (entries : List EntryFields) → IsIdentity seat → AreLegal seat entries → AllByRecursion (λ e. IsBytes (bytes_in e)) entries
 all_bytes seat _ is NoEntries = tt
 all_bytes seat _ is (OneMore entries call e legal bytes added) =
     let facts = legal_histories_say_legal_facts seat entries (record { group = is.group; member = is.member; entries_are = legal }) in
-    all_push (λ x. IsBytes (bytes_in x)) entries e (all_bytes seat entries is legal) ((call_told seat entries call e facts added).1 bytes)
+    all_push (λ x. IsBytes (bytes_in x)) entries e (all_bytes seat entries is legal) ((call_reported seat entries call e facts added).1 bytes)
 
 pub legal_entries_are_bytes : LegalEntriesAreBytes
 legal_entries_are_bytes seat entries legal = all_bytes seat entries (record { group = legal.group; member = legal.member }) legal.entries_are
@@ -155,9 +155,9 @@ pub one_more_is_decided : OneMoreIsDecided
 one_more_is_decided seat entries e legal = (
   (λ more.
       let last = last_entry seat entries e more.entries_are in
-      let told = (call_told seat entries last.0 e (legal_histories_say_legal_facts seat entries legal) last.1).0 in (
+      let reported = (call_reported seat entries last.0 e (legal_histories_say_legal_facts seat entries legal) last.1).0 in (
         last_of_all (λ x. IsBytes (bytes_in x)) entries e (legal_entries_are_bytes seat (entries ++ e ∷ []) more),
-        subst (λ (call : Call). entry_of seat longest_history entries call ≡ Some e) (sym told) last.1,
+        subst (λ (call : Call). entry_of seat longest_history entries call ≡ Some e) (sym reported) last.1,
       )),
   (λ added. record {
     group = legal.group;
@@ -166,12 +166,12 @@ one_more_is_decided seat entries e legal = (
   }),
 )
 
-replayed_is_legal : (seat : Seat) (before more : List EntryFields) → IsLegal seat before → AreReplayed seat before more → IsLegal seat (before ++ more)
+replayed_is_legal : (seat : Identity) (before more : List EntryFields) → IsLegal seat before → AreReplayed seat before more → IsLegal seat (before ++ more)
 replayed_is_legal seat before [] legal replayed = subst (IsLegal seat) (sym (append-nil before)) legal
 replayed_is_legal seat before (e ∷ more) legal replayed =
     subst (IsLegal seat) (append_assoc before (e ∷ []) more) (replayed_is_legal seat (before ++ e ∷ []) more ((one_more_is_decided seat before e legal).1 replayed.0) replayed.1)
 
-legal_is_replayed : (seat : Seat) (before more : List EntryFields) → IsLegal seat (before ++ more) → AreReplayed seat before more
+legal_is_replayed : (seat : Identity) (before more : List EntryFields) → IsLegal seat (before ++ more) → AreReplayed seat before more
 legal_is_replayed seat before [] legal = tt
 legal_is_replayed seat before (e ∷ more) legal =
     let all : IsLegal seat ((before ++ e ∷ []) ++ more) = subst (IsLegal seat) (sym (append_assoc before (e ∷ []) more)) legal in

@@ -7,7 +7,7 @@ use Rattle.cb_frames.specs.declared.frame.Range.{Range}
 use Rattle.cb_frames.specs.Fields.{RequestFrame}
 use Rattle.cb_frames.specs.Text.{ranges_from, AreRanges}
 use Rattle.cb_frames.specs.Laws.{CanBeWritten}
-use Rattle.cb_history.specs.Group.{Seat, AreParameters}
+use Rattle.cb_history.specs.Group.{Identity, AreParameters}
 use Rattle.cb_history.specs.Facts.{Fact, casts_in, is_there}
 use Rattle.cb_history.specs.View.{count, view}
 use Rattle.cb_history.specs.Known.{known, expanded_count, missing, before_ranges, ranges_of}
@@ -55,14 +55,14 @@ ranges_small : (least : ℕ) (ranges : List Range) → AreRanges least ranges �
 ranges_small least [] are = tt
 ranges_small least (r ∷ ranges) are = (omega (arith, are.1, are.2), (omega (arith, are.2), ranges_small (r.last + 2) ranges are.3))
 
-missing_rise : (seat : Seat) (facts : List Fact) (i : ℕ) → AreParameters seat.group → AreLegalFacts seat facts → Rise 1 (missing seat facts i)
+missing_rise : (seat : Identity) (facts : List Fact) (i : ℕ) → AreParameters seat.group → AreLegalFacts seat facts → Rise 1 (missing seat facts i)
 missing_rise seat facts i group legal =
     let low = expanded_count (casts_in facts) i in
     let high = min (known facts i) (count (view seat.group.size facts) i + seat.group.window) in
     let bound : high ≤ LAST_NUMBER = omega (arith, count_below seat.group.size facts i, few_facts seat facts legal, group.width.at_most_widest) in
     filtered_rise (λ n. not (is_there (casts_in facts) i n)) (low + 1) (high - low) 1 (omega arith) (λ k lt. omega (arith, lt, bound))
 
-request_can : (seat : Seat) (facts : List Fact) (i : ℕ) (r : Range) (ranges : List Range) → AreParameters seat.group → seat.me < seat.group.size → AreLegalFacts seat facts → i < seat.group.size → ranges_of (missing seat facts i) ≡ r ∷ ranges
+request_can : (seat : Identity) (facts : List Fact) (i : ℕ) (r : Range) (ranges : List Range) → AreParameters seat.group → seat.me < seat.group.size → AreLegalFacts seat facts → i < seat.group.size → ranges_of (missing seat facts i) ≡ r ∷ ranges
     → CanBeWritten (RequestFrame (record { group = seat.group.number; requester = seat.me; asked = i; ranges = take MOST_RANGES (r ∷ ranges) }))
 request_can seat facts i r ranges group member legal asked is =
     let all : AreRanges 1 (r ∷ ranges) = subst (AreRanges 1) is (ranges_are 1 (missing seat facts i) (missing_rise seat facts i group legal)) in

@@ -6,14 +6,14 @@ use Rattle.std.proofs.lemmas.List.{append-nil}
 use Rattle.std.proofs.lemmas.List.Sums.{sum_by-append}
 use Rattle.cb_frames.specs.Fields.{CastFields, Carried, messages_of}
 use Rattle.cb_diffs.specs.Expansion.{expanded_field, growth_of, greatest}
-use Rattle.cb_history.specs.Group.{Seat}
-use Rattle.cb_history.specs.Facts.{Fact, StatusCame, OwnStatus, cast_in, casts_in, messages_in, is_there, numbers_between}
+use Rattle.cb_history.specs.Group.{Identity}
+use Rattle.cb_history.specs.Facts.{Fact, StatusReceived, OwnStatus, cast_in, casts_in, messages_in, is_there, numbers_between}
 use Rattle.cb_history.specs.View.{is_expanded, view}
-use Rattle.cb_history.specs.Known.{greatest_of, value_in, told_of, counted_in_times, known, told_by, counted_by, acknowledged, least_of}
+use Rattle.cb_history.specs.Known.{greatest_of, value_in, reported_of, counted_in_times, known, reported_by, counted_by, acknowledged, least_of}
 use Rattle.cb_history.specs.KnowledgeLaws.{StatusIsKnown, StatusIsAcknowledged, OwnStatusTellsNothing, NothingFalls}
 use Rattle.cb_history.proofs.Views.{IsIn, casts_in-append, test_true}
 use Rattle.cb_history.proofs.Lists.{flat_map-append}
-use Rattle.cb_history.proofs.Walks.{view_grows, view_status, view_told}
+use Rattle.cb_history.proofs.Walks.{view_grows, view_status, view_reported}
 
 pub greatest_append : (xs ys : List ℕ) → greatest_of (xs ++ ys) ≡ max (greatest_of xs) (greatest_of ys)
 greatest_append [] ys = omega arith
@@ -83,22 +83,22 @@ counts_rise casts more seen later k me =
 
 -- ---- what is known
 
-pub known_parts : (facts : List Fact) (i : ℕ) → known facts i ≡ max (greatest_of (flat_map (told_of i) facts)) (greatest_of (counted_in_times (casts_in facts) i))
-known_parts facts i = greatest_append (flat_map (told_of i) facts) (counted_in_times (casts_in facts) i)
+pub known_parts : (facts : List Fact) (i : ℕ) → known facts i ≡ max (greatest_of (flat_map (reported_of i) facts)) (greatest_of (counted_in_times (casts_in facts) i))
+known_parts facts i = greatest_append (flat_map (reported_of i) facts) (counted_in_times (casts_in facts) i)
 
-pub known_more : (facts : List Fact) (f : Fact) (i : ℕ) → known (facts ++ f ∷ []) i ≡ max (max (greatest_of (flat_map (told_of i) facts)) (greatest_of (told_of i f ++ []))) (greatest_of (counted_in_times (casts_in facts ++ cast_in f) i))
+pub known_more : (facts : List Fact) (f : Fact) (i : ℕ) → known (facts ++ f ∷ []) i ≡ max (max (greatest_of (flat_map (reported_of i) facts)) (greatest_of (reported_of i f ++ []))) (greatest_of (counted_in_times (casts_in facts ++ cast_in f) i))
 known_more facts f i =
     known_parts (facts ++ f ∷ []) i
-    ∙ ap (λ (ns : List ℕ). max (greatest_of ns) (greatest_of (counted_in_times (casts_in (facts ++ f ∷ [])) i))) (flat_map-append (told_of i) facts (f ∷ []))
-    ∙ ap (λ (n : ℕ). max n (greatest_of (counted_in_times (casts_in (facts ++ f ∷ [])) i))) (greatest_append (flat_map (told_of i) facts) (told_of i f ++ []))
-    ∙ ap (λ (cs : List CastFields). max (max (greatest_of (flat_map (told_of i) facts)) (greatest_of (told_of i f ++ []))) (greatest_of (counted_in_times cs i))) (casts_in-append facts f)
+    ∙ ap (λ (ns : List ℕ). max (greatest_of ns) (greatest_of (counted_in_times (casts_in (facts ++ f ∷ [])) i))) (flat_map-append (reported_of i) facts (f ∷ []))
+    ∙ ap (λ (n : ℕ). max n (greatest_of (counted_in_times (casts_in (facts ++ f ∷ [])) i))) (greatest_append (flat_map (reported_of i) facts) (reported_of i f ++ []))
+    ∙ ap (λ (cs : List CastFields). max (max (greatest_of (flat_map (reported_of i) facts)) (greatest_of (reported_of i f ++ []))) (greatest_of (counted_in_times cs i))) (casts_in-append facts f)
 
 same_times : (facts : List Fact) (i : ℕ) → greatest_of (counted_in_times (casts_in facts ++ []) i) ≡ greatest_of (counted_in_times (casts_in facts) i)
 same_times facts i = ap (λ (cs : List CastFields). greatest_of (counted_in_times cs i)) (append-nil (casts_in facts))
 
 pub status_is_known : StatusIsKnown
 status_is_known facts s i =
-    let more = known_more facts (StatusCame s) i in
+    let more = known_more facts (StatusReceived s) i in
     let parts = known_parts facts i in
     let same = same_times facts i in
     omega (arith, more, parts, same)
@@ -112,34 +112,34 @@ known_rises facts f i =
 
 -- ---- what is acknowledged
 
-abbrev pub counted_at : Seat → List CastFields → List Carried → ℕ → ℕ
+abbrev pub counted_at : Identity → List CastFields → List Carried → ℕ → ℕ
 counted_at seat casts seen k = greatest_of (counted_by casts seen k seat.me)
 
-pub acknowledged_parts : (seat : Seat) (facts : List Fact) (k : ℕ) → acknowledged seat facts k ≡ max (greatest_of (flat_map (told_by k seat.me) facts)) (counted_at seat (casts_in facts) (view seat.group.size facts) k)
-acknowledged_parts seat facts k = greatest_append (flat_map (told_by k seat.me) facts) (counted_by (casts_in facts) (view seat.group.size facts) k seat.me)
+pub acknowledged_parts : (seat : Identity) (facts : List Fact) (k : ℕ) → acknowledged seat facts k ≡ max (greatest_of (flat_map (reported_by k seat.me) facts)) (counted_at seat (casts_in facts) (view seat.group.size facts) k)
+acknowledged_parts seat facts k = greatest_append (flat_map (reported_by k seat.me) facts) (counted_by (casts_in facts) (view seat.group.size facts) k seat.me)
 
-pub acknowledged_more : (seat : Seat) (facts : List Fact) (f : Fact) (k : ℕ) → acknowledged seat (facts ++ f ∷ []) k ≡ max (max (greatest_of (flat_map (told_by k seat.me) facts)) (greatest_of (told_by k seat.me f ++ []))) (counted_at seat (casts_in facts ++ cast_in f) (view seat.group.size (facts ++ f ∷ [])) k)
+pub acknowledged_more : (seat : Identity) (facts : List Fact) (f : Fact) (k : ℕ) → acknowledged seat (facts ++ f ∷ []) k ≡ max (max (greatest_of (flat_map (reported_by k seat.me) facts)) (greatest_of (reported_by k seat.me f ++ []))) (counted_at seat (casts_in facts ++ cast_in f) (view seat.group.size (facts ++ f ∷ [])) k)
 acknowledged_more seat facts f k =
     acknowledged_parts seat (facts ++ f ∷ []) k
-    ∙ ap (λ (ns : List ℕ). max (greatest_of ns) (counted_at seat (casts_in (facts ++ f ∷ [])) (view seat.group.size (facts ++ f ∷ [])) k)) (flat_map-append (told_by k seat.me) facts (f ∷ []))
-    ∙ ap (λ (n : ℕ). max n (counted_at seat (casts_in (facts ++ f ∷ [])) (view seat.group.size (facts ++ f ∷ [])) k)) (greatest_append (flat_map (told_by k seat.me) facts) (told_by k seat.me f ++ []))
-    ∙ ap (λ (cs : List CastFields). max (max (greatest_of (flat_map (told_by k seat.me) facts)) (greatest_of (told_by k seat.me f ++ []))) (counted_at seat cs (view seat.group.size (facts ++ f ∷ [])) k)) (casts_in-append facts f)
+    ∙ ap (λ (ns : List ℕ). max (greatest_of ns) (counted_at seat (casts_in (facts ++ f ∷ [])) (view seat.group.size (facts ++ f ∷ [])) k)) (flat_map-append (reported_by k seat.me) facts (f ∷ []))
+    ∙ ap (λ (n : ℕ). max n (counted_at seat (casts_in (facts ++ f ∷ [])) (view seat.group.size (facts ++ f ∷ [])) k)) (greatest_append (flat_map (reported_by k seat.me) facts) (reported_by k seat.me f ++ []))
+    ∙ ap (λ (cs : List CastFields). max (max (greatest_of (flat_map (reported_by k seat.me) facts)) (greatest_of (reported_by k seat.me f ++ []))) (counted_at seat cs (view seat.group.size (facts ++ f ∷ [])) k)) (casts_in-append facts f)
 
-same_counts : (seat : Seat) (facts : List Fact) (seen : List Carried) (k : ℕ) → seen ≡ view seat.group.size facts → counted_at seat (casts_in facts ++ []) seen k ≡ counted_at seat (casts_in facts) (view seat.group.size facts) k
+same_counts : (seat : Identity) (facts : List Fact) (seen : List Carried) (k : ℕ) → seen ≡ view seat.group.size facts → counted_at seat (casts_in facts ++ []) seen k ≡ counted_at seat (casts_in facts) (view seat.group.size facts) k
 same_counts seat facts seen k e = ap (λ (cs : List CastFields). counted_at seat cs seen k) (append-nil (casts_in facts)) ∙ ap (λ (ms : List Carried). counted_at seat (casts_in facts) ms k) e
 
-told_at : (b : Bool) (v told counted before after : ℕ) → before ≡ max told counted → after ≡ max (max told (greatest_of (cond b (v ∷ []) [] ++ []))) counted → after ≡ cond b (max before v) before
-told_at true v told counted before after e f = omega (arith, e, f)
-told_at false v told counted before after e f = omega (arith, e, f)
+reported_at : (b : Bool) (v reported counted before after : ℕ) → before ≡ max reported counted → after ≡ max (max reported (greatest_of (cond b (v ∷ []) [] ++ []))) counted → after ≡ cond b (max before v) before
+reported_at true v reported counted before after e f = omega (arith, e, f)
+reported_at false v reported counted before after e f = omega (arith, e, f)
 
 pub status_is_acknowledged : StatusIsAcknowledged
 status_is_acknowledged seat facts s k =
-    told_at (eqb s.sender k) (value_in s.values seat.me) (greatest_of (flat_map (told_by k seat.me) facts)) (counted_at seat (casts_in facts) (view seat.group.size facts) k) (acknowledged seat facts k) (acknowledged seat (facts ++ StatusCame s ∷ []) k)
+    reported_at (eqb s.sender k) (value_in s.values seat.me) (greatest_of (flat_map (reported_by k seat.me) facts)) (counted_at seat (casts_in facts) (view seat.group.size facts) k) (acknowledged seat facts k) (acknowledged seat (facts ++ StatusReceived s ∷ []) k)
     (acknowledged_parts seat facts k)
-    (acknowledged_more seat facts (StatusCame s) k
-    ∙ ap (λ (n : ℕ). max (max (greatest_of (flat_map (told_by k seat.me) facts)) (greatest_of (cond (eqb s.sender k) (value_in s.values seat.me ∷ []) [] ++ []))) n) (same_counts seat facts (view seat.group.size (facts ++ StatusCame s ∷ [])) k (view_status seat.group.size facts s)))
+    (acknowledged_more seat facts (StatusReceived s) k
+    ∙ ap (λ (n : ℕ). max (max (greatest_of (flat_map (reported_by k seat.me) facts)) (greatest_of (cond (eqb s.sender k) (value_in s.values seat.me ∷ []) [] ++ []))) n) (same_counts seat facts (view seat.group.size (facts ++ StatusReceived s ∷ [])) k (view_status seat.group.size facts s)))
 
-acknowledged_rises : (seat : Seat) (facts : List Fact) (f : Fact) (k : ℕ) → acknowledged seat facts k ≤ acknowledged seat (facts ++ f ∷ []) k
+acknowledged_rises : (seat : Identity) (facts : List Fact) (f : Fact) (k : ℕ) → acknowledged seat facts k ≤ acknowledged seat (facts ++ f ∷ []) k
 acknowledged_rises seat facts f k =
     let more = acknowledged_more seat facts f k in
     let parts = acknowledged_parts seat facts k in
@@ -157,7 +157,7 @@ own_status_tells_nothing seat facts s k =
     let times = same_times facts k in
     let now = acknowledged_more seat facts (OwnStatus s) k in
     let before = acknowledged_parts seat facts k in
-    let counted = same_counts seat facts (view seat.group.size (facts ++ OwnStatus s ∷ [])) k (view_told seat.group.size facts s) in
+    let counted = same_counts seat facts (view seat.group.size (facts ++ OwnStatus s ∷ [])) k (view_reported seat.group.size facts s) in
     (omega (arith, known_now, known_then, times), omega (arith, now, before, counted))
 
 -- ---- what is stable

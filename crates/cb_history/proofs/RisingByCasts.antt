@@ -6,8 +6,8 @@ use Rattle.std.proofs.lemmas.List.{map-append}
 use Rattle.std.proofs.lemmas.List.Elements.{filter-append}
 use Rattle.cb_frames.specs.Fields.{CastFields, Carried, messages_of, last_number}
 use Rattle.cb_diffs.specs.Expansion.{expanded_field}
-use Rattle.cb_history.specs.Group.{Seat}
-use Rattle.cb_history.specs.Facts.{Fact, OwnCast, CastCame, casts_in, messages_in, is_there, numbers_between}
+use Rattle.cb_history.specs.Group.{Identity}
+use Rattle.cb_history.specs.Facts.{Fact, OwnCast, CastReceived, casts_in, messages_in, is_there, numbers_between}
 use Rattle.cb_history.specs.View.{count, is_among, is_expanded, expanded_in, view}
 use Rattle.cb_history.specs.Known.{greatest_of, counted_in_times, known, counted_by, acknowledged}
 use Rattle.cb_history.specs.Answers.{own_casts, delivered}
@@ -45,14 +45,14 @@ halves p g (m ∷ ms) = one_half (p m) (g m) (filter p ms) (filter (λ x. not (p
     one_half true n xs ys e = omega (arith, e)
     one_half false n xs ys e = omega (arith, e)
 
--- ---- a new cast and the times that can be told
+-- ---- a new cast and the times that can be known
 
 abbrev time_with : List CastFields → CastFields → ℕ → Carried → ℕ
 time_with casts c i m = expanded_field (casts ++ c ∷ []) m.sender m.number i
 
 -- a message that could be told before says what it said
-told_before : (casts : List CastFields) (c : CastFields) (i : ℕ) (m : Carried) → IsNew casts c → IsIn m (messages_in (casts ++ c ∷ [])) → is_expanded casts m ≡ true → time_with casts c i m ≤ greatest_of (counted_in_times casts i)
-told_before casts c i m new there expanded =
+reported_before : (casts : List CastFields) (c : CastFields) (i : ℕ) (m : Carried) → IsNew casts c → IsIn m (messages_in (casts ++ c ∷ [])) → is_expanded casts m ≡ true → time_with casts c i m ≤ greatest_of (counted_in_times casts i)
+reported_before casts c i m new there expanded =
     let same : time_with casts c i m ≡ expanded_field casts m.sender m.number i = same_field casts c m i new.new new.positive expanded in
     elim (in_push m (message c) (messages_in casts) (subst (IsIn m) (messages_in-push casts c) there)) [
       | inl old ↦ let most = one_at_most (is_expanded casts) (λ x. expanded_field casts x.sender x.number i) (messages_in casts) m old expanded in omega (arith, same, most)
@@ -68,22 +68,22 @@ times_with_one_more : (casts : List CastFields) (c : CastFields) (i : ℕ) → I
 times_with_one_more casts c i new =
     let both = halves (is_expanded casts) (time_with casts c i) (expanded_in (casts ++ c ∷ [])) in
     let before = all_at_most (is_expanded casts) (time_with casts c i) (greatest_of (counted_in_times casts i)) (expanded_in (casts ++ c ∷ []))
-    (λ m there was. told_before casts c i m new (filter_in (is_expanded (casts ++ c ∷ [])) (messages_in (casts ++ c ∷ [])) m there).1 was) in
+    (λ m there was. reported_before casts c i m new (filter_in (is_expanded (casts ++ c ∷ [])) (messages_in (casts ++ c ∷ [])) m there).1 was) in
     let rises = times_rise casts (c ∷ []) i in
     omega (arith, both, before, rises)
 
-told_one : (b : Bool) (n : ℕ) → greatest_of (cond b (n ∷ []) [] ++ []) ≡ cond b n 0
-told_one true n = omega arith
-told_one false n = refl
+reported_one : (b : Bool) (n : ℕ) → greatest_of (cond b (n ∷ []) [] ++ []) ≡ cond b n 0
+reported_one true n = omega arith
+reported_one false n = refl
 
 pub cast_is_known : CastIsKnown
 cast_is_known seat facts c i are =
-    let s = all_stand seat (facts ++ CastCame c ∷ []) are.member are.facts_are in
-    let more = known_more facts (CastCame c) i in
+    let s = all_stand seat (facts ++ CastReceived c ∷ []) are.member are.facts_are in
+    let more = known_more facts (CastReceived c) i in
     let parts = known_parts facts i in
-    let times = times_with_one_more (casts_in facts) c i (is_new seat facts (CastCame c) c s refl) in
-    let told = told_one (eqb c.sender i) (last_number c) in
-    omega (arith, more, parts, times, told)
+    let times = times_with_one_more (casts_in facts) c i (is_new seat facts (CastReceived c) c s refl) in
+    let reported = reported_one (eqb c.sender i) (last_number c) in
+    omega (arith, more, parts, times, reported)
 
 -- ---- what is acknowledged
 
@@ -108,7 +108,7 @@ counted_append casts seen later k me =
     ap (λ (ms : List Carried). greatest_of (map time ms)) (filter-append own seen later) ∙ ap greatest_of (map-append time (filter own seen) (filter own later))
     ∙ greatest_append (map time (filter own seen)) (map time (filter own later))
 
-acknowledged_by : (seat : Seat) (facts : List Fact) (c : CastFields) (later : List Carried) (k : ℕ) → IsNew (casts_in facts) c → StandsAt seat facts
+acknowledged_by : (seat : Identity) (facts : List Fact) (c : CastFields) (later : List Carried) (k : ℕ) → IsNew (casts_in facts) c → StandsAt seat facts
     → counted_at seat (casts_in facts ++ c ∷ []) (view seat.group.size facts ++ later) k ≡ max (counted_at seat (casts_in facts) (view seat.group.size facts) k) (greatest_of (counted_by (casts_in facts ++ c ∷ []) later k seat.me))
 acknowledged_by seat facts c later k new s =
     counted_append (casts_in facts ++ c ∷ []) (view seat.group.size facts) later k seat.me
@@ -117,12 +117,12 @@ acknowledged_by seat facts c later k new s =
 
 pub cast_is_acknowledged : CastIsAcknowledged
 cast_is_acknowledged seat facts c k later are grown =
-    let before = prefix_of_facts_is_legal seat facts (CastCame c ∷ []) are in
-    let s = all_stand seat (facts ++ CastCame c ∷ []) are.member are.facts_are in
-    let more = acknowledged_more seat facts (CastCame c) k in
+    let before = prefix_of_facts_is_legal seat facts (CastReceived c ∷ []) are in
+    let s = all_stand seat (facts ++ CastReceived c ∷ []) are.member are.facts_are in
+    let more = acknowledged_more seat facts (CastReceived c) k in
     let parts = acknowledged_parts seat facts k in
-    let seen : counted_at seat (casts_in facts ++ c ∷ []) (view seat.group.size (facts ++ CastCame c ∷ [])) k ≡ counted_at seat (casts_in facts ++ c ∷ []) (view seat.group.size facts ++ later) k = ap (λ (ms : List Carried). counted_at seat (casts_in facts ++ c ∷ []) ms k) grown in
-    let counted = acknowledged_by seat facts c later k (is_new seat facts (CastCame c) c s refl) (all_stand seat facts before.member before.facts_are) in
+    let seen : counted_at seat (casts_in facts ++ c ∷ []) (view seat.group.size (facts ++ CastReceived c ∷ [])) k ≡ counted_at seat (casts_in facts ++ c ∷ []) (view seat.group.size facts ++ later) k = ap (λ (ms : List Carried). counted_at seat (casts_in facts ++ c ∷ []) ms k) grown in
+    let counted = acknowledged_by seat facts c later k (is_new seat facts (CastReceived c) c s refl) (all_stand seat facts before.member before.facts_are) in
     omega (arith, more, parts, seen, counted)
 
 -- ---- what is delivered is known
@@ -130,7 +130,7 @@ cast_is_acknowledged seat facts c k later are grown =
 own_field : (casts : List CastFields) (sender number : ℕ) → expanded_field casts sender number sender ≡ number
 own_field casts sender number = rw (eq-eqb sender sender refl) refl
 
-known_from : (seat : Seat) (facts : List Fact) (i n : ℕ) → StandsAt seat facts → count (view seat.group.size facts) i ≡ n → n ≤ known facts i
+known_from : (seat : Identity) (facts : List Fact) (i n : ℕ) → StandsAt seat facts → count (view seat.group.size facts) i ≡ n → n ≤ known facts i
 known_from seat facts i zero s is = omega arith
 known_from seat facts i (suc n) s is =
     let name : Carried = record { sender = i; number = suc n; payload = [] } in
@@ -162,7 +162,7 @@ there_other casts c sender n other there =
 expanded_other : (casts : List CastFields) (c : CastFields) (m : Carried) → m.sender ≢ c.sender → is_expanded (casts ++ c ∷ []) m ≡ true → is_expanded casts m ≡ true
 expanded_other casts c m other expanded = all_weaker (is_there (casts ++ c ∷ []) m.sender) (is_there casts m.sender) (numbers_between 0 m.number) (λ n. there_other casts c m.sender n other) expanded
 
-own_cast_newly : (seat : Seat) (facts : List Fact) (c : CastFields) (k : ℕ) → AreFactsOf seat (facts ++ OwnCast c ∷ []) → k < seat.group.size → k ≢ seat.me → c.sender ≡ seat.me
+own_cast_newly : (seat : Identity) (facts : List Fact) (c : CastFields) (k : ℕ) → AreFactsOf seat (facts ++ OwnCast c ∷ []) → k < seat.group.size → k ≢ seat.me → c.sender ≡ seat.me
     → (m : Carried) → IsIn m (expanded_in (casts_in facts ++ c ∷ [])) → not (is_expanded (casts_in facts) m) ≡ true → time_with (casts_in facts) c k m ≤ delivered seat facts k
 own_cast_newly seat facts c k are member other own m there newly =
     let casts : casts_in (facts ++ OwnCast c ∷ []) ≡ casts_in facts ++ c ∷ [] = casts_in-append facts (OwnCast c) in
@@ -182,7 +182,7 @@ own_cast_newly seat facts c k are member other own m there newly =
           absurd cc
     ]
 
-own_cast_known : (seat : Seat) (facts : List Fact) (c : CastFields) (k : ℕ) → AreFactsOf seat (facts ++ OwnCast c ∷ []) → k < seat.group.size → k ≢ seat.me → c.sender ≡ seat.me → known (facts ++ OwnCast c ∷ []) k ≡ known facts k
+own_cast_known : (seat : Identity) (facts : List Fact) (c : CastFields) (k : ℕ) → AreFactsOf seat (facts ++ OwnCast c ∷ []) → k < seat.group.size → k ≢ seat.me → c.sender ≡ seat.me → known (facts ++ OwnCast c ∷ []) k ≡ known facts k
 own_cast_known seat facts c k are member other own =
     let before = prefix_of_facts_is_legal seat facts (OwnCast c ∷ []) are in
     let s = all_stand seat (facts ++ OwnCast c ∷ []) are.member are.facts_are in
@@ -193,7 +193,7 @@ own_cast_known seat facts c k are member other own =
     let least = delivered_is_known seat facts k before in
     omega (arith, more, parts, times, newly, least)
 
-own_cast_acknowledged : (seat : Seat) (facts : List Fact) (c : CastFields) (k : ℕ) → AreFactsOf seat (facts ++ OwnCast c ∷ []) → k ≢ seat.me → c.sender ≡ seat.me → acknowledged seat (facts ++ OwnCast c ∷ []) k ≡ acknowledged seat facts k
+own_cast_acknowledged : (seat : Identity) (facts : List Fact) (c : CastFields) (k : ℕ) → AreFactsOf seat (facts ++ OwnCast c ∷ []) → k ≢ seat.me → c.sender ≡ seat.me → acknowledged seat (facts ++ OwnCast c ∷ []) k ≡ acknowledged seat facts k
 own_cast_acknowledged seat facts c k are other own =
     let before = prefix_of_facts_is_legal seat facts (OwnCast c ∷ []) are in
     let s = all_stand seat (facts ++ OwnCast c ∷ []) are.member are.facts_are in

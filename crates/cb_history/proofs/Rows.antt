@@ -10,7 +10,7 @@ use Rattle.cb_history.specs.declared.answer.CastRefusal.{CastRefusal}
 use Rattle.cb_history.specs.declared.answer.CastRefusal.TheVariants as casts
 use Rattle.cb_history.specs.declared.answer.ArriveRefusal.TheVariants as arrivals
 use Rattle.cb_history.specs.declared.answer.TickRefusal.TheVariants as ticks
-use Rattle.cb_history.specs.Group.{Seat, AreParameters}
+use Rattle.cb_history.specs.Group.{Identity, AreParameters}
 use Rattle.cb_history.specs.Facts.{EntryFields, facts_of, casts_in}
 use Rattle.cb_history.specs.View.{view, drained, time_of, expanded_in, message_in}
 use Rattle.cb_history.specs.Known.{missing, ranges_of, acknowledged, stable}
@@ -18,15 +18,15 @@ use Rattle.cb_history.specs.Answers.{cast_answer, arrive_answer, tick_answer, wi
 use Rattle.cb_history.specs.Legal.{Call, ToCast, ToTake, ToTick, history_after}
 
 -- member `me` of group 7 with three members and a window of 4
-abbrev at : ℕ → Seat
+abbrev at : ℕ → Identity
 at me = record { group = record { number = 7; size = 3; window = 4 }; me = me }
 
 -- the history after some calls, with room for 100 entries
-abbrev after_from : Seat → List EntryFields → List Call → List EntryFields
+abbrev after_from : Identity → List EntryFields → List Call → List EntryFields
 after_from seat entries [] = entries
 after_from seat entries (call ∷ calls) = after_from seat (history_after seat 100 entries call) calls
 
-abbrev after : Seat → List Call → List EntryFields
+abbrev after : Identity → List Call → List EntryFields
 after seat calls = after_from seat [] calls
 
 abbrev bytes_of : Result CastFields CastRefusal → Option (List ℕ)
@@ -93,7 +93,7 @@ unfolding cast_answer arrive_answer tick_answer view drained frame_at cast_at st
 a_repeat_changes_nothing = refl
 
 -- member 0 where the window is 2
-abbrev narrow : Seat
+abbrev narrow : Identity
 narrow = record { group = record { number = 7; size = 3; window = 2 }; me = 0 }
 
 the_window_is_full : cast_answer narrow 100 (after narrow (ToCast (97 ∷ []) ∷ ToCast (98 ∷ []) ∷ [])) (99 ∷ []) ≡ Err casts.WindowFull
@@ -108,9 +108,9 @@ both_make_the_casts_stable : stable narrow (facts_of (after narrow (ToCast (97 �
 unfolding cast_answer arrive_answer tick_answer view drained frame_at cast_at status_at request_at pairs_at pair_at number_at text_of spelling
 both_make_the_casts_stable = refl
 
-and_their_frames_are_let_go : window narrow (facts_of (after narrow (ToCast (97 ∷ []) ∷ ToCast (98 ∷ []) ∷ ToTake (18 ∷ 7 ∷ 1 ∷ 1 ∷ 0 ∷ 2 ∷ []) ∷ ToTake (18 ∷ 7 ∷ 2 ∷ 1 ∷ 0 ∷ 2 ∷ []) ∷ []))) ≡ []
+and_their_frames_are_freed : window narrow (facts_of (after narrow (ToCast (97 ∷ []) ∷ ToCast (98 ∷ []) ∷ ToTake (18 ∷ 7 ∷ 1 ∷ 1 ∷ 0 ∷ 2 ∷ []) ∷ ToTake (18 ∷ 7 ∷ 2 ∷ 1 ∷ 0 ∷ 2 ∷ []) ∷ []))) ≡ []
 unfolding cast_answer arrive_answer tick_answer view drained frame_at cast_at status_at request_at pairs_at pair_at number_at text_of spelling
-and_their_frames_are_let_go = refl
+and_their_frames_are_freed = refl
 
 and_there_is_room_again : bytes_of (cast_answer narrow 100 (after narrow (ToCast (97 ∷ []) ∷ ToCast (98 ∷ []) ∷ ToTake (18 ∷ 7 ∷ 1 ∷ 1 ∷ 0 ∷ 2 ∷ []) ∷ ToTake (18 ∷ 7 ∷ 2 ∷ 1 ∷ 0 ∷ 2 ∷ []) ∷ [])) (99 ∷ [])) ≡ Some (17 ∷ 7 ∷ 0 ∷ 3 ∷ 0 ∷ 1 ∷ 99 ∷ [])
 unfolding cast_answer arrive_answer tick_answer view drained frame_at cast_at status_at request_at pairs_at pair_at number_at text_of spelling
@@ -166,9 +166,9 @@ and_a_status_without_news_is_taken : arrive_answer (at 0) 1 (after (at 0) (ToCas
 unfolding cast_answer arrive_answer tick_answer view drained frame_at cast_at status_at request_at pairs_at pair_at number_at text_of spelling
 and_a_status_without_news_is_taken = refl
 
-no_status_is_told : tick_answer (at 0) 1 (after (at 0) (ToCast (104 ∷ 105 ∷ []) ∷ [])) ≡ Err ticks.HistoryFull
+no_status_is_reported : tick_answer (at 0) 1 (after (at 0) (ToCast (104 ∷ 105 ∷ []) ∷ [])) ≡ Err ticks.HistoryFull
 unfolding cast_answer arrive_answer tick_answer view drained frame_at cast_at status_at request_at pairs_at pair_at number_at text_of spelling
-no_status_is_told = refl
+no_status_is_reported = refl
 
 nothing_more_is_cast : cast_answer (at 0) 1 (after (at 0) (ToCast (104 ∷ 105 ∷ []) ∷ [])) [] ≡ Err casts.HistoryFull
 unfolding cast_answer arrive_answer tick_answer view drained frame_at cast_at status_at request_at pairs_at pair_at number_at text_of spelling
@@ -263,7 +263,7 @@ unfolding cast_answer arrive_answer tick_answer view drained frame_at cast_at st
 nor_where_the_window_is_full = refl
 
 -- member 2 of five in group 300, which has delivered three casts of member 0, one of member 1 and two of member 4
-abbrev of_five : Seat
+abbrev of_five : Identity
 of_five = record { group = record { number = 300; size = 5; window = 4 }; me = 2 }
 
 abbrev six_calls : List Call

@@ -3,7 +3,7 @@ use Rattle.std.proofs.Common.{◌≡◌, ℕ, zero, suc, ◌+◌, ◌-◌, ◌<�
 use Rattle.std.specs.List.{filter}
 use Rattle.std.proofs.lemmas.Bool.{cases_eq, cases_lt, eq-eqb, eqb-true, false_from_ne_true, both_ways, not-true, not_from_false}
 use Rattle.cb_frames.specs.Fields.{CastFields, Carried}
-use Rattle.cb_history.specs.Group.{Seat}
+use Rattle.cb_history.specs.Group.{Identity}
 use Rattle.cb_history.specs.Facts.{Fact, casts_in, messages_in, is_there, numbers_between}
 use Rattle.cb_history.specs.View.{count, is_expanded, expanded_in, view}
 use Rattle.cb_history.specs.Known.{greatest_of, expanded_count}
@@ -123,7 +123,7 @@ expanded_up_to_the_count casts m = (
 -- ---- what is delivered
 
 -- an own cast that is there was delivered
-pub own_is_delivered : (seat : Seat) (facts : List Fact) (n : ℕ) → AreFactsOf seat facts → is_there (casts_in facts) seat.me n ≡ true → n ≤ delivered seat facts seat.me
+pub own_is_delivered : (seat : Identity) (facts : List Fact) (n : ℕ) → AreFactsOf seat facts → is_there (casts_in facts) seat.me n ≡ true → n ≤ delivered seat facts seat.me
 own_is_delivered seat facts n are there =
     let s = all_stand seat facts are.member are.facts_are in
     let m = message_there (casts_in facts) seat.me n there in
@@ -133,7 +133,7 @@ own_is_delivered seat facts n are there =
     let number : again.0.number ≡ n = again.3 ∙ m.number_is in
     omega (arith, bound, at, number)
 
-own_at_most : (seat : Seat) (facts : List Fact) (n : ℕ) → AreFactsOf seat facts → n ≡ expanded_count (casts_in facts) seat.me → n ≤ delivered seat facts seat.me
+own_at_most : (seat : Identity) (facts : List Fact) (n : ℕ) → AreFactsOf seat facts → n ≡ expanded_count (casts_in facts) seat.me → n ≤ delivered seat facts seat.me
 own_at_most seat facts zero are is = omega arith
 own_at_most seat facts (suc n) are is = own_is_delivered seat facts (suc n) are (expanded_are_there (casts_in facts) seat.me (suc n) (omega arith) (omega (arith, is)))
 

@@ -5,7 +5,7 @@ use Rattle.std.proofs.lemmas.Bool.{cond_both, cases_eq, eq-eqb, ne_eqb, eqb-true
 use Rattle.cb_times.specs.Order.{field}
 use Rattle.cb_frames.specs.declared.frame.Change.{Change}
 use Rattle.cb_frames.specs.Fields.{StatusFields}
-use Rattle.cb_history.specs.Facts.{Fact, OwnCast, CastCame, StatusCame, OwnStatus}
+use Rattle.cb_history.specs.Facts.{Fact, OwnCast, CastReceived, StatusReceived, OwnStatus}
 use Rattle.cb_history.specs.Known.{value_in}
 use Rattle.cb_history.specs.Answers.{delivered, status_of, last_status, is_new_status, says_the_time}
 use Rattle.cb_history.specs.StatusLaws.{status_after, LastStatusWithOneMore, StatusSaysTheTime, NewStatusIsANewTime}
@@ -16,15 +16,15 @@ use Rattle.cb_history.proofs.Times.{all_from_range, time_at, same_over_range}
 
 last_of_one : (f : Fact) (last : Option StatusFields) → last_status (f ∷ []) last ≡ status_after last f
 last_of_one (OwnCast c) last = refl
-last_of_one (CastCame c) last = refl
-last_of_one (StatusCame s) last = refl
+last_of_one (CastReceived c) last = refl
+last_of_one (StatusReceived s) last = refl
 last_of_one (OwnStatus s) last = refl
 
 pub last_status_with_one_more : LastStatusWithOneMore
 last_status_with_one_more [] f last = last_of_one f last
 last_status_with_one_more (OwnCast c ∷ facts) f last = last_status_with_one_more facts f last
-last_status_with_one_more (CastCame c ∷ facts) f last = last_status_with_one_more facts f last
-last_status_with_one_more (StatusCame s ∷ facts) f last = last_status_with_one_more facts f last
+last_status_with_one_more (CastReceived c ∷ facts) f last = last_status_with_one_more facts f last
+last_status_with_one_more (StatusReceived s ∷ facts) f last = last_status_with_one_more facts f last
 last_status_with_one_more (OwnStatus s ∷ facts) f last = last_status_with_one_more facts f (Some s)
 
 -- ---- what a status says

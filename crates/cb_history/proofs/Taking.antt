@@ -13,8 +13,8 @@ use Rattle.cb_delay.specs.Queue.{Queue, IsHeld, FollowsLast, count_of}
 use Rattle.cb_delay.proofs.Names.{names_total, eq_by_cmp-same, eq_by_cmp-true}
 use Rattle.cb_delay.proofs.Room.{count_is_within}
 use Rattle.cb_diffs.specs.Expansion.{expanded_field}
-use Rattle.cb_history.specs.Group.{Seat}
-use Rattle.cb_history.specs.Facts.{Fact, OwnCast, CastCame, StatusCame, OwnStatus, casts_in, messages_in}
+use Rattle.cb_history.specs.Group.{Identity}
+use Rattle.cb_history.specs.Facts.{Fact, OwnCast, CastReceived, StatusReceived, OwnStatus, casts_in, messages_in}
 use Rattle.cb_history.specs.View.{count, expanded_in, is_expanded, is_among, view, message_in}
 use Rattle.cb_history.specs.Known.{expanded_count}
 use Rattle.cb_history.specs.NameLaws.{IsOneOf}
@@ -24,7 +24,7 @@ use Rattle.cb_history.specs.QueueLaws.{IsUndelivered, HoldsUndelivered}
 use Rattle.cb_history.specs.WaitingLaws.{HoldsWaiting, OwnFactsLeaveWaiting, IsTakenOf, HoldsTakenOf, CastWaitsForItsTurn, NextTakenCanBeHeld, HoldingTakesOneMore, AllTakenIsWaiting}
 use Rattle.cb_history.proofs.Views.{IsIn, filter_in, in_filter, among_more, among_itself, casts_in-append}
 use Rattle.cb_history.proofs.Lists.{messages_in-push, in_front, in_push, among_is, order_bound, not_among_more}
-use Rattle.cb_history.proofs.Walks.{view_own, view_status, view_told}
+use Rattle.cb_history.proofs.Walks.{view_own, view_status, view_reported}
 use Rattle.cb_history.proofs.Names.{StandsAt, all_stand, message, one_of_is_in, in_is_one_of}
 use Rattle.cb_history.proofs.Prefixes.{prefix_of_facts_is_legal, last_fact_is_a_step}
 use Rattle.cb_history.proofs.Rising.{expanded_more}
@@ -66,7 +66,7 @@ was_expanded casts c m there other upto =
     ])
 
 -- it has the same time
-same_time : (seat : Seat) (facts : List Fact) (f : Fact) (c : CastFields) (m : Carried) → AreFactsOf seat (facts ++ f ∷ []) → casts_in (facts ++ f ∷ []) ≡ casts_in facts ++ c ∷ [] → IsOneOf m (expanded_in (casts_in facts))
+same_time : (seat : Identity) (facts : List Fact) (f : Fact) (c : CastFields) (m : Carried) → AreFactsOf seat (facts ++ f ∷ []) → casts_in (facts ++ f ∷ []) ≡ casts_in facts ++ c ∷ [] → IsOneOf m (expanded_in (casts_in facts))
     → message_in seat.group.size (casts_in facts ++ c ∷ []) m ≡ message_in seat.group.size (casts_in facts) m
 same_time seat facts f c m are is there =
     let found = filter_in (is_expanded (casts_in facts)) (messages_in (casts_in facts)) m (one_of_is_in m (expanded_in (casts_in facts)) there) in
@@ -82,7 +82,7 @@ not_there_yet casts c m new there sender number =
 
 -- ---- own facts
 
-own_leaves : (seat : Seat) (facts : List Fact) (c : CastFields) (queue : Queue) → AreFactsOf seat (facts ++ OwnCast c ∷ []) → HoldsWaiting seat facts queue
+own_leaves : (seat : Identity) (facts : List Fact) (c : CastFields) (queue : Queue) → AreFactsOf seat (facts ++ OwnCast c ∷ []) → HoldsWaiting seat facts queue
     → HoldsUndelivered seat.group.size (casts_in facts ++ c ∷ []) (view seat.group.size facts ++ message c ∷ []) queue
 own_leaves seat facts c queue are waits = record { of_size = waits.of_size; holds = λ x. (held_then x, then_held x) }
   where
@@ -131,8 +131,8 @@ own_leaves seat facts c queue are waits = record { of_size = waits.of_size; hold
         let old = was_expanded casts c m u.expanded not_new (λ e. absurd (let yes = stands.own_seen m there (e ∙ sender) in let no = unseen in cc)) in
         (waits.holds x).1 (record { carried = m; expanded = old; unseen = unseen; timed = u.timed ∙ same_time seat facts (OwnCast c) c m are (casts_in-append facts (OwnCast c)) old })
 
-no_cast : (facts : List Fact) (s : StatusFields) → (casts_in (facts ++ StatusCame s ∷ []) ≡ casts_in facts) × (casts_in (facts ++ OwnStatus s ∷ []) ≡ casts_in facts)
-no_cast facts s = (casts_in-append facts (StatusCame s) ∙ append-nil (casts_in facts), casts_in-append facts (OwnStatus s) ∙ append-nil (casts_in facts))
+no_cast : (facts : List Fact) (s : StatusFields) → (casts_in (facts ++ StatusReceived s ∷ []) ≡ casts_in facts) × (casts_in (facts ++ OwnStatus s ∷ []) ≡ casts_in facts)
+no_cast facts s = (casts_in-append facts (StatusReceived s) ∙ append-nil (casts_in facts), casts_in-append facts (OwnStatus s) ∙ append-nil (casts_in facts))
 
 waits_alike : (size : ℕ) (casts now : List CastFields) (seen then_seen : List Carried) (queue : Queue) → now ≡ casts → then_seen ≡ seen → HoldsUndelivered size casts seen queue → HoldsUndelivered size now then_seen queue
 waits_alike size casts now seen then_seen queue a b waits =
@@ -142,23 +142,23 @@ pub own_facts_leave_waiting : OwnFactsLeaveWaiting
 own_facts_leave_waiting seat facts queue waits = (
   (λ c are. waits_alike seat.group.size (casts_in facts ++ c ∷ []) (casts_in (facts ++ OwnCast c ∷ [])) (view seat.group.size facts ++ message c ∷ []) (view seat.group.size (facts ++ OwnCast c ∷ [])) queue
       (casts_in-append facts (OwnCast c)) (view_own seat.group.size facts c) (own_leaves seat facts c queue are waits)),
-  (λ s. waits_alike seat.group.size (casts_in facts) (casts_in (facts ++ StatusCame s ∷ [])) (view seat.group.size facts) (view seat.group.size (facts ++ StatusCame s ∷ [])) queue
+  (λ s. waits_alike seat.group.size (casts_in facts) (casts_in (facts ++ StatusReceived s ∷ [])) (view seat.group.size facts) (view seat.group.size (facts ++ StatusReceived s ∷ [])) queue
       (no_cast facts s).0 (view_status seat.group.size facts s) waits),
   (λ s. waits_alike seat.group.size (casts_in facts) (casts_in (facts ++ OwnStatus s ∷ [])) (view seat.group.size facts) (view seat.group.size (facts ++ OwnStatus s ∷ [])) queue
-      (no_cast facts s).1 (view_told seat.group.size facts s) waits),
+      (no_cast facts s).1 (view_reported seat.group.size facts s) waits),
 )
 
--- ---- a cast that came
+-- ---- a received cast
 
-came_waits : (seat : Seat) (facts : List Fact) (c : CastFields) (queue : Queue) → AreFactsOf seat (facts ++ CastCame c ∷ []) → HoldsWaiting seat facts queue
+received_waits : (seat : Identity) (facts : List Fact) (c : CastFields) (queue : Queue) → AreFactsOf seat (facts ++ CastReceived c ∷ []) → HoldsWaiting seat facts queue
     → HoldsTakenOf seat.group.size (casts_in facts ++ c ∷ []) (view seat.group.size facts) c.sender (expanded_count (casts_in facts) c.sender) queue
-came_waits seat facts c queue are waits = record { of_size = waits.of_size; holds = λ x. (held_then x, then_held x) }
+received_waits seat facts c queue are waits = record { of_size = waits.of_size; holds = λ x. (held_then x, then_held x) }
   where
     casts : List CastFields
     casts = casts_in facts
 
     new : IsNew casts c
-    new = is_new seat facts (CastCame c) c (all_stand seat (facts ++ CastCame c ∷ []) are.member are.facts_are) refl
+    new = is_new seat facts (CastReceived c) c (all_stand seat (facts ++ CastReceived c ∷ []) are.member are.facts_are) refl
 
     held_then : (x : Message) → IsHeld queue x → IsTakenOf seat.group.size (casts ++ c ∷ []) (view seat.group.size facts) c.sender (expanded_count casts c.sender) x
     held_then x h =
@@ -171,7 +171,7 @@ came_waits seat facts c queue are waits = record { of_size = waits.of_size; hold
             carried = m;
             expanded = still_expanded casts c m u.expanded;
             unseen = u.unseen;
-            timed = u.timed ∙ sym (same_time seat facts (CastCame c) c m are (casts_in-append facts (CastCame c)) u.expanded);
+            timed = u.timed ∙ sym (same_time seat facts (CastReceived c) c m are (casts_in-append facts (CastReceived c)) u.expanded);
           };
           upto = λ of.
               let sender : m.sender ≡ c.sender = sym (ap (λ (y : Message). y.name.sender) u.timed) ∙ of in
@@ -200,12 +200,12 @@ came_waits seat facts c queue are waits = record { of_size = waits.of_size; hold
         let no = new.new in
         absurd cc in
         let old = was_expanded casts c m u.expanded not_new upto in
-        (waits.holds x).1 (record { carried = m; expanded = old; unseen = u.unseen; timed = u.timed ∙ same_time seat facts (CastCame c) c m are (casts_in-append facts (CastCame c)) old })
+        (waits.holds x).1 (record { carried = m; expanded = old; unseen = u.unseen; timed = u.timed ∙ same_time seat facts (CastReceived c) c m are (casts_in-append facts (CastReceived c)) old })
 
 pub cast_waits_for_its_turn : CastWaitsForItsTurn
 cast_waits_for_its_turn seat facts c queue are waits =
-    subst (λ (cs : List CastFields). HoldsTakenOf seat.group.size cs (view seat.group.size facts) c.sender (expanded_count (casts_in facts) c.sender) queue) (sym (casts_in-append facts (CastCame c)))
-    (came_waits seat facts c queue are waits)
+    subst (λ (cs : List CastFields). HoldsTakenOf seat.group.size cs (view seat.group.size facts) c.sender (expanded_count (casts_in facts) c.sender) queue) (sym (casts_in-append facts (CastReceived c)))
+    (received_waits seat facts c queue are waits)
 
 -- ---- the next one taken
 

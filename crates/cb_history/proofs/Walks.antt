@@ -2,7 +2,7 @@
 use Rattle.std.proofs.Common.{◌≡◌, ℕ, zero, suc, List, [], ◌∷◌, ◌++◌, length, Option, Some, None, refl, sym, ap, ◌∙◌, append_assoc}
 use Rattle.std.proofs.lemmas.List.{append-nil}
 use Rattle.cb_frames.specs.Fields.{CastFields, StatusFields, Carried, messages_of}
-use Rattle.cb_history.specs.Facts.{Fact, OwnCast, CastCame, StatusCame, OwnStatus, casts_in, messages_in}
+use Rattle.cb_history.specs.Facts.{Fact, OwnCast, CastReceived, StatusReceived, OwnStatus, casts_in, messages_in}
 use Rattle.cb_history.specs.View.{next_delivery, with_next, drained, drain, seen_after, view}
 use Rattle.cb_history.specs.Answers.{own_casts}
 use Rattle.cb_history.specs.ViewLaws.{ViewGrows}
@@ -32,8 +32,8 @@ drain_grows size casts seen =
 
 after_grows : (size : ℕ) (casts : List CastFields) (seen : List Carried) (f : Fact) → (more : List Carried) × (seen_after size casts seen f ≡ seen ++ more)
 after_grows size casts seen (OwnCast c) = (messages_of c, refl)
-after_grows size casts seen (CastCame c) = drain_grows size casts seen
-after_grows size casts seen (StatusCame s) = ([], sym (append-nil seen))
+after_grows size casts seen (CastReceived c) = drain_grows size casts seen
+after_grows size casts seen (StatusReceived s) = ([], sym (append-nil seen))
 after_grows size casts seen (OwnStatus s) = ([], sym (append-nil seen))
 
 pub view_grows : (size : ℕ) (facts : List Fact) (f : Fact) → (more : List Carried) × (view size (facts ++ f ∷ []) ≡ view size facts ++ more)
@@ -55,39 +55,39 @@ view_only_grows size facts (f ∷ more) =
 pub view_own : (size : ℕ) (facts : List Fact) (c : CastFields) → view size (facts ++ OwnCast c ∷ []) ≡ view size facts ++ messages_of c
 view_own size facts c = view_with_one_more size facts (OwnCast c)
 
-pub view_came : (size : ℕ) (facts : List Fact) (c : CastFields) → view size (facts ++ CastCame c ∷ []) ≡ drain size (casts_in facts ++ c ∷ []) (view size facts)
-view_came size facts c = view_with_one_more size facts (CastCame c) ∙ ap (λ (casts : List CastFields). drain size casts (view size facts)) (casts_in-append facts (CastCame c))
+pub view_received : (size : ℕ) (facts : List Fact) (c : CastFields) → view size (facts ++ CastReceived c ∷ []) ≡ drain size (casts_in facts ++ c ∷ []) (view size facts)
+view_received size facts c = view_with_one_more size facts (CastReceived c) ∙ ap (λ (casts : List CastFields). drain size casts (view size facts)) (casts_in-append facts (CastReceived c))
 
-pub view_status : (size : ℕ) (facts : List Fact) (s : StatusFields) → view size (facts ++ StatusCame s ∷ []) ≡ view size facts
-view_status size facts s = view_with_one_more size facts (StatusCame s)
+pub view_status : (size : ℕ) (facts : List Fact) (s : StatusFields) → view size (facts ++ StatusReceived s ∷ []) ≡ view size facts
+view_status size facts s = view_with_one_more size facts (StatusReceived s)
 
-pub view_told : (size : ℕ) (facts : List Fact) (s : StatusFields) → view size (facts ++ OwnStatus s ∷ []) ≡ view size facts
-view_told size facts s = view_with_one_more size facts (OwnStatus s)
+pub view_reported : (size : ℕ) (facts : List Fact) (s : StatusFields) → view size (facts ++ OwnStatus s ∷ []) ≡ view size facts
+view_reported size facts s = view_with_one_more size facts (OwnStatus s)
 
 -- ---- own casts
 
 pub own_casts-own : (facts : List Fact) (c : CastFields) → own_casts (facts ++ OwnCast c ∷ []) ≡ own_casts facts ++ c ∷ []
 own_casts-own [] c = refl
 own_casts-own (OwnCast d ∷ facts) c = ap (λ (cs : List CastFields). d ∷ cs) (own_casts-own facts c)
-own_casts-own (CastCame d ∷ facts) c = own_casts-own facts c
-own_casts-own (StatusCame s ∷ facts) c = own_casts-own facts c
+own_casts-own (CastReceived d ∷ facts) c = own_casts-own facts c
+own_casts-own (StatusReceived s ∷ facts) c = own_casts-own facts c
 own_casts-own (OwnStatus s ∷ facts) c = own_casts-own facts c
 
 abbrev pub IsNotOwn : Fact → Type 0
 IsNotOwn (OwnCast c) = ⊥
-IsNotOwn (CastCame c) = Unit {0}
-IsNotOwn (StatusCame s) = Unit {0}
+IsNotOwn (CastReceived c) = Unit {0}
+IsNotOwn (StatusReceived s) = Unit {0}
 IsNotOwn (OwnStatus s) = Unit {0}
 
 alone_not_own : (f : Fact) → IsNotOwn f → own_casts (f ∷ []) ≡ []
 alone_not_own (OwnCast c) h = absurd h
-alone_not_own (CastCame c) h = refl
-alone_not_own (StatusCame s) h = refl
+alone_not_own (CastReceived c) h = refl
+alone_not_own (StatusReceived s) h = refl
 alone_not_own (OwnStatus s) h = refl
 
 pub own_casts-other : (facts : List Fact) (f : Fact) → IsNotOwn f → own_casts (facts ++ f ∷ []) ≡ own_casts facts
 own_casts-other [] f h = alone_not_own f h
 own_casts-other (OwnCast d ∷ facts) f h = ap (λ (cs : List CastFields). d ∷ cs) (own_casts-other facts f h)
-own_casts-other (CastCame d ∷ facts) f h = own_casts-other facts f h
-own_casts-other (StatusCame s ∷ facts) f h = own_casts-other facts f h
+own_casts-other (CastReceived d ∷ facts) f h = own_casts-other facts f h
+own_casts-other (StatusReceived s ∷ facts) f h = own_casts-other facts f h
 own_casts-other (OwnStatus s ∷ facts) f h = own_casts-other facts f h

@@ -3,8 +3,8 @@ use Rattle.std.proofs.Common.{◌≡◌, ◌+◌, ◌<◌, ◌≤◌, List, [], 
 use Rattle.std.proofs.lemmas.Bool.{ltb-false, leb-false}
 use Rattle.std.proofs.lemmas.List.{append-nil}
 use Rattle.cb_frames.specs.Fields.{CastFields, Carried}
-use Rattle.cb_history.specs.Group.{Seat}
-use Rattle.cb_history.specs.Facts.{Fact, OwnCast, CastCame, StatusCame, OwnStatus, cast_in, casts_in, messages_in}
+use Rattle.cb_history.specs.Group.{Identity}
+use Rattle.cb_history.specs.Facts.{Fact, OwnCast, CastReceived, StatusReceived, OwnStatus, cast_in, casts_in, messages_in}
 use Rattle.cb_history.specs.View.{count, view}
 use Rattle.cb_history.specs.Known.{stable}
 use Rattle.cb_history.specs.Answers.{own_casts, delivered}
@@ -20,14 +20,14 @@ use Rattle.cb_history.proofs.Runs.{message_there}
 
 -- ---- casts that are there
 
-abbrev AreNear : Seat → List Fact → Type 0
+abbrev AreNear : Identity → List Fact → Type 0
 AreNear seat facts = (m : Carried) → IsIn m (messages_in (casts_in facts)) → m.number ≤ count (view seat.group.size facts) m.sender + seat.group.window
 
-near_still : (seat : Seat) (facts : List Fact) (f : Fact) (m : Carried) → AreNear seat facts → IsIn m (messages_in (casts_in facts)) → m.number ≤ count (view seat.group.size (facts ++ f ∷ [])) m.sender + seat.group.window
+near_still : (seat : Identity) (facts : List Fact) (f : Fact) (m : Carried) → AreNear seat facts → IsIn m (messages_in (casts_in facts)) → m.number ≤ count (view seat.group.size (facts ++ f ∷ [])) m.sender + seat.group.window
 near_still seat facts f m near there = let before = near m there in omega (arith, before, count_grows seat.group.size facts f m.sender)
 
 -- with one more cast, which is near
-near_push : (seat : Seat) (facts : List Fact) (f : Fact) (c : CastFields) → cast_in f ≡ c ∷ [] → AreNear seat facts → c.number ≤ count (view seat.group.size (facts ++ f ∷ [])) c.sender + seat.group.window → AreNear seat (facts ++ f ∷ [])
+near_push : (seat : Identity) (facts : List Fact) (f : Fact) (c : CastFields) → cast_in f ≡ c ∷ [] → AreNear seat facts → c.number ≤ count (view seat.group.size (facts ++ f ∷ [])) c.sender + seat.group.window → AreNear seat (facts ++ f ∷ [])
 near_push seat facts f c is near here m there =
     let casts : casts_in (facts ++ f ∷ []) ≡ casts_in facts ++ c ∷ [] = casts_in-append facts f ∙ ap (λ (cs : List CastFields). casts_in facts ++ cs) is in
     let messages : messages_in (casts_in (facts ++ f ∷ [])) ≡ messages_in (casts_in facts) ++ message c ∷ [] = ap messages_in casts ∙ messages_in-push (casts_in facts) c in
@@ -36,23 +36,23 @@ near_push seat facts f c is near here m there =
       | inr new ↦ subst (λ (x : Carried). x.number ≤ count (view seat.group.size (facts ++ f ∷ [])) x.sender + seat.group.window) (sym new) here
     ]
 
-near_same : (seat : Seat) (facts : List Fact) (f : Fact) → cast_in f ≡ [] → AreNear seat facts → AreNear seat (facts ++ f ∷ [])
+near_same : (seat : Identity) (facts : List Fact) (f : Fact) → cast_in f ≡ [] → AreNear seat facts → AreNear seat (facts ++ f ∷ [])
 near_same seat facts f is near m there =
     let casts : casts_in (facts ++ f ∷ []) ≡ casts_in facts = casts_in-append facts f ∙ ap (λ (cs : List CastFields). casts_in facts ++ cs) is ∙ append-nil (casts_in facts) in
     near_still seat facts f m near (subst (λ (cs : List CastFields). IsIn m (messages_in cs)) casts there)
 
-near_step : (seat : Seat) (facts : List Fact) (f : Fact) → StandsAt seat (facts ++ f ∷ []) → IsStep seat facts f → AreNear seat facts → AreNear seat (facts ++ f ∷ [])
+near_step : (seat : Identity) (facts : List Fact) (f : Fact) → StandsAt seat (facts ++ f ∷ []) → IsStep seat facts f → AreNear seat facts → AreNear seat (facts ++ f ∷ [])
 near_step seat facts (OwnCast c) s step near =
     let number = own_number seat facts c s in
     let at : count (view seat.group.size (facts ++ OwnCast c ∷ [])) c.sender ≡ count (view seat.group.size (facts ++ OwnCast c ∷ [])) seat.me = ap (count (view seat.group.size (facts ++ OwnCast c ∷ []))) number.0 in
     near_push seat facts (OwnCast c) c refl near (omega (arith, number.1, at))
-near_step seat facts (CastCame c) s step near =
+near_step seat facts (CastReceived c) s step near =
     let near_enough = ltb-false (delivered seat facts c.sender + seat.group.window) c.number step.taken.near in
-    near_push seat facts (CastCame c) c refl near (omega (arith, near_enough, count_grows seat.group.size facts (CastCame c) c.sender))
-near_step seat facts (StatusCame t) s step near = near_same seat facts (StatusCame t) refl near
+    near_push seat facts (CastReceived c) c refl near (omega (arith, near_enough, count_grows seat.group.size facts (CastReceived c) c.sender))
+near_step seat facts (StatusReceived t) s step near = near_same seat facts (StatusReceived t) refl near
 near_step seat facts (OwnStatus t) s step near = near_same seat facts (OwnStatus t) refl near
 
-all_near : (seat : Seat) (facts : List Fact) → seat.me < seat.group.size → AreLegalFacts seat facts → AreNear seat facts
+all_near : (seat : Identity) (facts : List Fact) → seat.me < seat.group.size → AreLegalFacts seat facts → AreNear seat facts
 all_near seat _ member NoFacts = λ m there. absurd there
 all_near seat _ member (OneFactMore facts f before room step) = near_step seat facts f (all_stand seat (facts ++ f ∷ []) member (OneFactMore facts f before room step)) step (all_near seat facts member before)
 
@@ -66,27 +66,27 @@ casts_are_near seat facts i n are there =
 
 -- ---- own casts
 
-abbrev IsNearStable : Seat → List Fact → Type 0
+abbrev IsNearStable : Identity → List Fact → Type 0
 IsNearStable seat facts = count (view seat.group.size facts) seat.me ≤ stable seat facts + seat.group.window
 
-other_near_stable : (seat : Seat) (facts : List Fact) (f : Fact) → IsNotOwn f → StandsAt seat facts → StandsAt seat (facts ++ f ∷ []) → IsNearStable seat facts → IsNearStable seat (facts ++ f ∷ [])
+other_near_stable : (seat : Identity) (facts : List Fact) (f : Fact) → IsNotOwn f → StandsAt seat facts → StandsAt seat (facts ++ f ∷ []) → IsNearStable seat facts → IsNearStable seat (facts ++ f ∷ [])
 other_near_stable seat facts f other s after near =
     let as_many : length (own_casts (facts ++ f ∷ [])) ≡ length (own_casts facts) = ap length (own_casts-other facts f other) in
     let before = s.own_count in
     let now = after.own_count in
     omega (arith, as_many, before, now, near, (nothing_falls seat facts f).2)
 
-near_stable_step : (seat : Seat) (facts : List Fact) (f : Fact) → StandsAt seat facts → StandsAt seat (facts ++ f ∷ []) → IsStep seat facts f → IsNearStable seat facts → IsNearStable seat (facts ++ f ∷ [])
+near_stable_step : (seat : Identity) (facts : List Fact) (f : Fact) → StandsAt seat facts → StandsAt seat (facts ++ f ∷ []) → IsStep seat facts f → IsNearStable seat facts → IsNearStable seat (facts ++ f ∷ [])
 near_stable_step seat facts (OwnCast c) s after step near =
     let open_window = leb-false (stable seat facts + seat.group.window) (delivered seat facts seat.me) step.window in
     let one_more : count (view seat.group.size (facts ++ OwnCast c ∷ [])) seat.me ≡ count (view seat.group.size facts) seat.me + 1 =
     ap (λ (ms : List Carried). count ms seat.me) (view_own seat.group.size facts c) ∙ count_own (view seat.group.size facts) (message c) seat.me (own_number seat facts c after).0 in
     omega (arith, open_window, one_more, (nothing_falls seat facts (OwnCast c)).2)
-near_stable_step seat facts (CastCame c) s after step near = other_near_stable seat facts (CastCame c) tt s after near
-near_stable_step seat facts (StatusCame t) s after step near = other_near_stable seat facts (StatusCame t) tt s after near
+near_stable_step seat facts (CastReceived c) s after step near = other_near_stable seat facts (CastReceived c) tt s after near
+near_stable_step seat facts (StatusReceived t) s after step near = other_near_stable seat facts (StatusReceived t) tt s after near
 near_stable_step seat facts (OwnStatus t) s after step near = other_near_stable seat facts (OwnStatus t) tt s after near
 
-all_near_stable : (seat : Seat) (facts : List Fact) → seat.me < seat.group.size → AreLegalFacts seat facts → IsNearStable seat facts
+all_near_stable : (seat : Identity) (facts : List Fact) → seat.me < seat.group.size → AreLegalFacts seat facts → IsNearStable seat facts
 all_near_stable seat _ member NoFacts = let none = (all_stand seat [] member NoFacts).own_count in omega (arith, none)
 all_near_stable seat _ member (OneFactMore facts f before room step) =
     near_stable_step seat facts f (all_stand seat facts member before) (all_stand seat (facts ++ f ∷ []) member (OneFactMore facts f before room step)) step (all_near_stable seat facts member before)

@@ -9,8 +9,8 @@ use Rattle.cb_frames.specs.declared.frame.Change.{Change}
 use Rattle.cb_frames.specs.Fields.{CastFrame, StatusFrame}
 use Rattle.cb_frames.specs.Text.{pairs_from, RisesFrom, IsChange, IsValue, KeepsCastRules, KeepsStatusRules}
 use Rattle.cb_frames.specs.Laws.{CanBeWritten}
-use Rattle.cb_diffs.specs.Differences.{change_of, is_told, differences}
-use Rattle.cb_history.specs.Group.{Seat, AreParameters}
+use Rattle.cb_diffs.specs.Differences.{change_of, is_reported, differences}
+use Rattle.cb_history.specs.Group.{Identity, AreParameters}
 use Rattle.cb_history.specs.Facts.{Fact}
 use Rattle.cb_history.specs.View.{count, view, time_of}
 use Rattle.cb_history.specs.Answers.{delivered, next_cast, status_of, upto_last_cast}
@@ -59,19 +59,19 @@ small_both (m ∷ ms) ns a b = (a.0, small_both ms ns a.1 b)
 
 -- ---- the next cast
 
-amount_below : (seat : Seat) (facts : List Fact) (previous : List ℕ) (k : ℕ) → AreLegalFacts seat facts → k < seat.group.size → field (time_of seat.group.size facts) k - field previous k ≤ length facts
+amount_below : (seat : Identity) (facts : List Fact) (previous : List ℕ) (k : ℕ) → AreLegalFacts seat facts → k < seat.group.size → field (time_of seat.group.size facts) k - field previous k ≤ length facts
 amount_below seat facts previous k legal lt =
     let at : field (time_of seat.group.size facts) k ≡ count (view seat.group.size facts) k = get_or-map-range_with_len (count (view seat.group.size facts)) 0 seat.group.size k k 0 lt (omega arith) in
     let bound = count_below seat.group.size facts k in
     omega (arith, at, bound)
 
-told_says : (own : ℕ) (d : Change) → is_told own d ≡ true → (d.field ≢ own) × (1 ≤ d.amount)
-told_says own d h =
+reported_says : (own : ℕ) (d : Change) → is_reported own d ≡ true → (d.field ≢ own) × (1 ≤ d.amount)
+reported_says own d h =
     let both = test_true (not (eqb d.field own)) (ltb 0 d.amount) h in
     let some = ltb-true 0 d.amount both.1 in
     (eqb-false d.field own (not_true (eqb d.field own) both.0), omega (arith, some))
 
-pub next_keeps : (seat : Seat) (facts : List Fact) (payload : List ℕ) → seat.group.size ≤ 64 → seat.me < seat.group.size → KeepsCastRules (next_cast seat facts payload)
+pub next_keeps : (seat : Identity) (facts : List Fact) (payload : List ℕ) → seat.group.size ≤ 64 → seat.me < seat.group.size → KeepsCastRules (next_cast seat facts payload)
 next_keeps seat facts payload few_members member =
     let previous = time_of seat.group.size (upto_last_cast facts) in
     let now = time_of seat.group.size facts in
@@ -80,14 +80,14 @@ next_keeps seat facts payload few_members member =
       sender = omega (arith, member, few_members);
       number = omega arith;
       changes = record {
-        rising = rises_from (is_told seat.me) (change_of previous now) (λ k. refl) 0 (length now) 0 (omega arith);
-        each = each_from (is_told seat.me) (change_of previous now) (IsChange seat.me) 0 (length now) (λ k lt told.
-            let says = told_says seat.me (change_of previous now k) told in
+        rising = rises_from (is_reported seat.me) (change_of previous now) (λ k. refl) 0 (length now) 0 (omega arith);
+        each = each_from (is_reported seat.me) (change_of previous now) (IsChange seat.me) 0 (length now) (λ k lt reported.
+            let says = reported_says seat.me (change_of previous now k) reported in
             record { index = omega (arith, lt, size, few_members); other = says.0; grown = says.1 });
       };
     }
 
-pub cast_can : (seat : Seat) (facts : List Fact) (payload : List ℕ) → AreParameters seat.group → seat.me < seat.group.size → AreLegalFacts seat facts → length facts ≤ longest_history → length payload ≤ LONGEST_PAYLOAD
+pub cast_can : (seat : Identity) (facts : List Fact) (payload : List ℕ) → AreParameters seat.group → seat.me < seat.group.size → AreLegalFacts seat facts → length facts ≤ longest_history → length payload ≤ LONGEST_PAYLOAD
     → CanBeWritten (CastFrame (next_cast seat facts payload))
 cast_can seat facts payload group member legal room short =
     let previous = time_of seat.group.size (upto_last_cast facts) in
@@ -96,8 +96,8 @@ cast_can seat facts payload group member legal room short =
     let few_members = group.size.at_most_sixty_four in
     let fits = group.number_fits in
     let number = count_below seat.group.size facts seat.me in
-    let few : length (differences previous now seat.me) ≤ length now = few_from (is_told seat.me) (change_of previous now) 0 (length now) in
-    let small : AllByRecursion IsSmall (differences previous now seat.me) = each_from (is_told seat.me) (change_of previous now) IsSmall 0 (length now) (λ k lt told.
+    let few : length (differences previous now seat.me) ≤ length now = few_from (is_reported seat.me) (change_of previous now) 0 (length now) in
+    let small : AllByRecursion IsSmall (differences previous now seat.me) = each_from (is_reported seat.me) (change_of previous now) IsSmall 0 (length now) (λ k lt reported.
     let below = amount_below seat facts previous k legal (omega (arith, lt, size)) in (omega (arith, lt, size, few_members), omega (arith, below, room))) in (
       next_keeps seat facts payload few_members member,
       short,
@@ -118,7 +118,7 @@ cast_can seat facts payload group member legal room short =
 
 -- ---- the own status
 
-pub status_keeps : (seat : Seat) (facts : List Fact) → seat.group.size ≤ 64 → seat.me < seat.group.size → KeepsStatusRules (status_of seat facts)
+pub status_keeps : (seat : Identity) (facts : List Fact) → seat.group.size ≤ 64 → seat.me < seat.group.size → KeepsStatusRules (status_of seat facts)
 status_keeps seat facts few_members member =
     let value : ℕ → Change = λ k. record { field = k; amount = delivered seat facts k } in
     let some : Change → Bool = λ d. ltb 0 d.amount in
@@ -126,20 +126,20 @@ status_keeps seat facts few_members member =
       sender = omega (arith, member, few_members);
       values = record {
         rising = rises_from some value (λ k. refl) 0 seat.group.size 0 (omega arith);
-        each = each_from some value IsValue 0 seat.group.size (λ k lt told.
-            let positive = ltb-true 0 (delivered seat facts k) told in
+        each = each_from some value IsValue 0 seat.group.size (λ k lt reported.
+            let positive = ltb-true 0 (delivered seat facts k) reported in
             record { index = omega (arith, lt, few_members); nonzero = omega (arith, positive) });
       };
     }
 
-pub status_can : (seat : Seat) (facts : List Fact) → AreParameters seat.group → seat.me < seat.group.size → AreLegalFacts seat facts → length facts ≤ longest_history → CanBeWritten (StatusFrame (status_of seat facts))
+pub status_can : (seat : Identity) (facts : List Fact) → AreParameters seat.group → seat.me < seat.group.size → AreLegalFacts seat facts → length facts ≤ longest_history → CanBeWritten (StatusFrame (status_of seat facts))
 status_can seat facts group member legal room =
     let value : ℕ → Change = λ k. record { field = k; amount = delivered seat facts k } in
     let some : Change → Bool = λ d. ltb 0 d.amount in
     let few_members = group.size.at_most_sixty_four in
     let fits = group.number_fits in
     let few : length (filter some (map value (range_with_len 0 seat.group.size))) ≤ seat.group.size = few_from some value 0 seat.group.size in
-    let small : AllByRecursion IsSmall (filter some (map value (range_with_len 0 seat.group.size))) = each_from some value IsSmall 0 seat.group.size (λ k lt told.
+    let small : AllByRecursion IsSmall (filter some (map value (range_with_len 0 seat.group.size))) = each_from some value IsSmall 0 seat.group.size (λ k lt reported.
     let below = count_below seat.group.size facts k in (omega (arith, lt, few_members), omega (arith, below, room))) in (
       status_keeps seat facts few_members member,
       omega arith,

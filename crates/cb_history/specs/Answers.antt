@@ -12,20 +12,20 @@ use Rattle.cb_diffs.specs.Differences.{differences}
 use Rattle.cb_history.specs.declared.answer.CastRefusal.{CastRefusal}
 use Rattle.cb_history.specs.declared.answer.CastRefusal.TheVariants as casts
 use Rattle.cb_history.specs.declared.answer.Arrival.{Arrival}
-use Rattle.cb_history.specs.declared.answer.Arrival.TheVariants as told
+use Rattle.cb_history.specs.declared.answer.Arrival.TheVariants as reported
 use Rattle.cb_history.specs.declared.answer.ArriveRefusal.{ArriveRefusal}
 use Rattle.cb_history.specs.declared.answer.ArriveRefusal.TheVariants as arrivals
 use Rattle.cb_history.specs.declared.answer.TickRefusal.{TickRefusal}
 use Rattle.cb_history.specs.declared.answer.TickRefusal.TheVariants as ticks
 use Rattle.cb_history.specs.declared.answer.CastDone.{CastDone}
 use Rattle.cb_history.specs.declared.answer.Outgoing.{Outgoing}
-use Rattle.cb_history.specs.Group.{Seat}
-use Rattle.cb_history.specs.Facts.{EntryFields, Fact, OwnCast, CastCame, StatusCame, OwnStatus, facts_of, casts_in, is_there}
+use Rattle.cb_history.specs.Group.{Identity}
+use Rattle.cb_history.specs.Facts.{EntryFields, Fact, OwnCast, CastReceived, StatusReceived, OwnStatus, facts_of, casts_in, is_there}
 use Rattle.cb_history.specs.View.{count, view, counts, time_of, message_in}
 use Rattle.cb_history.specs.Known.{value_in, known, missing, ranges_of, acknowledged, stable}
 
 -- how many messages of member k the member has delivered, its own casts included
-abbrev pub delivered : Seat → List Fact → ℕ → ℕ
+abbrev pub delivered : Identity → List Fact → ℕ → ℕ
 delivered seat facts k = count (view seat.group.size facts) k
 
 -- no entry is left
@@ -36,8 +36,8 @@ is_full limit entries = nat_le limit (length entries)
 
 abbrev pub is_own_cast : Fact → Bool
 is_own_cast (OwnCast c) = true
-is_own_cast (CastCame c) = false
-is_own_cast (StatusCame s) = false
+is_own_cast (CastReceived c) = false
+is_own_cast (StatusReceived s) = false
 is_own_cast (OwnStatus s) = false
 
 -- the facts up to the last own cast
@@ -46,7 +46,7 @@ upto_last_cast [] = []
 upto_last_cast (f ∷ facts) = if list_any is_own_cast (f ∷ facts) then f ∷ upto_last_cast facts else []
 
 -- The next own cast. Its changes are by how much the view grew since the last own cast.
-abbrev pub next_cast : Seat → List Fact → List ℕ → CastFields
+abbrev pub next_cast : Identity → List Fact → List ℕ → CastFields
 next_cast seat facts payload = record {
   group = seat.group.number;
   sender = seat.me;
@@ -56,19 +56,19 @@ next_cast seat facts payload = record {
 }
 
 -- as many own casts as the window are not known to be delivered everywhere
-abbrev pub is_window_full : Seat → List Fact → Bool
+abbrev pub is_window_full : Identity → List Fact → Bool
 is_window_full seat facts = nat_le (stable seat facts + seat.group.window) (delivered seat facts seat.me)
 
 -- the frame of the cast, or why there is none
-unfoldable pub cast_answer : Seat → ℕ → List EntryFields → List ℕ → Result CastFields CastRefusal
+unfoldable pub cast_answer : Identity → ℕ → List EntryFields → List ℕ → Result CastFields CastRefusal
 cast_answer seat limit entries payload =
     if nat_lt LONGEST_PAYLOAD (length payload) then Err casts.PayloadTooLong else
     if is_window_full seat (facts_of entries) then Err casts.WindowFull else
     if is_full limit entries then Err casts.HistoryFull else
     Ok (next_cast seat (facts_of entries) payload)
 
--- what the caller is told of it: the name, the view's counts with it, and its frame
-abbrev pub cast_done : Seat → List Fact → CastFields → CastDone
+-- what the caller gets of it: the name, the view's counts with it, and its frame
+abbrev pub cast_done : Identity → List Fact → CastFields → CastDone
 cast_done seat facts c = record {
   name = record { sender = seat.me; number = first_number c };
   time = counts seat.group.size (view seat.group.size facts ++ messages_of c);
@@ -90,7 +90,7 @@ group_of (RequestFrame r) = r.group
 
 -- The frame says of this member what it never did: a cast that it did not make, a time of its own that it has not reached, or more
 -- deliveries of its casts than it made. Or the asked member asks itself.
-abbrev pub is_impossible : Seat → List Fact → FrameFields → Bool
+abbrev pub is_impossible : Identity → List Fact → FrameFields → Bool
 is_impossible seat facts (CastFrame c) = c.sender == seat.me && nat_lt (delivered seat facts seat.me) (last_number c)
 is_impossible seat facts (StatusFrame s) =
     if s.sender == seat.me then list_any (λ d. nat_lt (delivered seat facts d.field) d.amount) s.values else
@@ -104,32 +104,32 @@ is_repeat facts (StatusFrame s) = false
 is_repeat facts (RequestFrame r) = false
 
 -- beyond the window above what is delivered
-abbrev pub is_too_far : Seat → List Fact → FrameFields → Bool
+abbrev pub is_too_far : Identity → List Fact → FrameFields → Bool
 is_too_far seat facts (CastFrame c) = nat_lt (delivered seat facts c.sender + seat.group.window) (last_number c)
 is_too_far seat facts (StatusFrame s) = false
 is_too_far seat facts (RequestFrame r) = false
 
 -- a status of another that raises what is known of some other sender's casts, or of the deliveries of this member's
-abbrev pub is_news : Seat → List Fact → StatusFields → Bool
+abbrev pub is_news : Identity → List Fact → StatusFields → Bool
 is_news seat facts s =
     not (s.sender == seat.me)
     && (list_any (λ k. not (k == seat.me) && nat_lt (known facts k) (value_in s.values k)) (range_with_len 0 seat.group.size)
     || nat_lt (acknowledged seat facts s.sender) (value_in s.values seat.me))
 
 -- the frame, which is neither refused so far nor a repeat, would change the state
-abbrev pub is_change : Seat → List Fact → FrameFields → Bool
+abbrev pub is_change : Identity → List Fact → FrameFields → Bool
 is_change seat facts (CastFrame c) = true
 is_change seat facts (StatusFrame s) = is_news seat facts s
 is_change seat facts (RequestFrame r) = false
 
 -- the facts with this frame
 abbrev pub with_frame : List Fact → FrameFields → List Fact
-with_frame facts (CastFrame c) = facts ++ CastCame c ∷ []
-with_frame facts (StatusFrame s) = facts ++ StatusCame s ∷ []
+with_frame facts (CastFrame c) = facts ++ CastReceived c ∷ []
+with_frame facts (StatusFrame s) = facts ++ StatusReceived s ∷ []
 with_frame facts (RequestFrame r) = facts
 
 -- the messages that are delivered by it
-abbrev pub deliveries : Seat → List Fact → FrameFields → List Message
+abbrev pub deliveries : Identity → List Fact → FrameFields → List Message
 deliveries seat facts frame =
     map (message_in seat.group.size (casts_in (with_frame facts frame)))
     (drop (length (view seat.group.size facts)) (view seat.group.size (with_frame facts frame)))
@@ -138,11 +138,11 @@ deliveries seat facts frame =
 abbrev pub own_casts : List Fact → List CastFields
 own_casts [] = []
 own_casts (OwnCast c ∷ facts) = c ∷ own_casts facts
-own_casts (CastCame c ∷ facts) = own_casts facts
-own_casts (StatusCame s ∷ facts) = own_casts facts
+own_casts (CastReceived c ∷ facts) = own_casts facts
+own_casts (StatusReceived s ∷ facts) = own_casts facts
 own_casts (OwnStatus s ∷ facts) = own_casts facts
 
-abbrev pub window : Seat → List Fact → List CastFields
+abbrev pub window : Identity → List Fact → List CastFields
 window seat facts = filter (λ c. nat_lt (stable seat facts) (last_number c)) (own_casts facts)
 
 -- some message of the cast is asked for
@@ -150,7 +150,7 @@ abbrev pub is_asked_for : List Range → CastFields → Bool
 is_asked_for ranges c = list_any (λ m. list_any (λ r. nat_le r.first m.number && nat_le m.number r.last) ranges) (messages_of c)
 
 -- what is sent in answer: to a request at the asked member the first frames of the window that it asks for
-abbrev pub sent_in_answer : Seat → List Fact → FrameFields → List Outgoing
+abbrev pub sent_in_answer : Identity → List Fact → FrameFields → List Outgoing
 sent_in_answer seat facts (CastFrame c) = []
 sent_in_answer seat facts (StatusFrame s) = []
 sent_in_answer seat facts (RequestFrame r) =
@@ -163,13 +163,13 @@ pub data ArrivalSays : Type 0 where
   Accepted : List Message → Bool → List Outgoing → ArrivalSays
   Repeat : ArrivalSays
 
--- what the caller is told of it
+-- what the caller gets of it
 abbrev pub arrival_says : Arrival → ArrivalSays
-arrival_says (told.Accepted deliveries changed out) = Accepted deliveries.items changed out.items
-arrival_says told.Repeat = Repeat
+arrival_says (reported.Accepted deliveries changed out) = Accepted deliveries.items changed out.items
+arrival_says reported.Repeat = Repeat
 
 -- the answer to a frame of the group, by its rules in order
-abbrev pub frame_answer : Seat → ℕ → List EntryFields → List Fact → FrameFields → Result ArrivalSays ArriveRefusal
+abbrev pub frame_answer : Identity → ℕ → List EntryFields → List Fact → FrameFields → Result ArrivalSays ArriveRefusal
 frame_answer seat limit entries facts frame =
     if not (group_of frame == seat.group.number) then Err arrivals.OtherGroup else
     if not (are_members seat.group.size frame) then Err arrivals.BadMember else
@@ -180,17 +180,17 @@ frame_answer seat limit entries facts frame =
     if is_change seat facts frame then Ok (Accepted (deliveries seat facts frame) true (sent_in_answer seat facts frame)) else
     Ok (Accepted [] false (sent_in_answer seat facts frame))
 
-abbrev pub answer_to : Seat → ℕ → List EntryFields → Result FrameFields FrameFault → Result ArrivalSays ArriveRefusal
+abbrev pub answer_to : Identity → ℕ → List EntryFields → Result FrameFields FrameFault → Result ArrivalSays ArriveRefusal
 answer_to seat limit entries (Ok frame) = frame_answer seat limit entries (facts_of entries) frame
 answer_to seat limit entries (Err fault) = Err (arrivals.Malformed fault)
 
-unfoldable pub arrive_answer : Seat → ℕ → List EntryFields → List ℕ → Result ArrivalSays ArriveRefusal
+unfoldable pub arrive_answer : Identity → ℕ → List EntryFields → List ℕ → Result ArrivalSays ArriveRefusal
 arrive_answer seat limit entries bytes = answer_to seat limit entries (frame_at bytes)
 
 -- ---- a tick
 
 -- the status that says a time: its fields that are not 0
-abbrev pub status_of : Seat → List Fact → StatusFields
+abbrev pub status_of : Identity → List Fact → StatusFields
 status_of seat facts = record {
   group = seat.group.number;
   sender = seat.me;
@@ -202,29 +202,29 @@ abbrev pub last_status : List Fact → Option StatusFields → Option StatusFiel
 last_status [] last = last
 last_status (OwnStatus s ∷ facts) last = last_status facts (Some s)
 last_status (OwnCast c ∷ facts) last = last_status facts last
-last_status (CastCame c ∷ facts) last = last_status facts last
-last_status (StatusCame s ∷ facts) last = last_status facts last
+last_status (CastReceived c ∷ facts) last = last_status facts last
+last_status (StatusReceived s ∷ facts) last = last_status facts last
 
-abbrev pub says_the_time : Seat → List Fact → Option StatusFields → Bool
+abbrev pub says_the_time : Identity → List Fact → Option StatusFields → Bool
 says_the_time seat facts None = false
 says_the_time seat facts (Some s) = list_all (λ k. value_in s.values k == delivered seat facts k) (range_with_len 0 seat.group.size)
 
 -- the status differs from the last one; the first one does
-abbrev pub is_new_status : Seat → List Fact → Bool
+abbrev pub is_new_status : Identity → List Fact → Bool
 is_new_status seat facts = not (says_the_time seat facts (last_status facts None))
 
 -- the request to member i for the first ranges of what is missing of it, where something is
-abbrev pub request_to : Seat → ℕ → List Range → List Outgoing
+abbrev pub request_to : Identity → ℕ → List Range → List Outgoing
 request_to seat i [] = []
 request_to seat i (r ∷ ranges) =
     record { to = Some i; bytes = text_of (RequestFrame (record { group = seat.group.number; requester = seat.me; asked = i; ranges = take MOST_RANGES (r ∷ ranges) })) } ∷ []
 
-abbrev pub requests : Seat → List Fact → List Outgoing
+abbrev pub requests : Identity → List Fact → List Outgoing
 requests seat facts =
     flat_map (λ i. request_to seat i (ranges_of (missing seat facts i))) (filter (λ i. not (i == seat.me)) (range_with_len 0 seat.group.size))
 
 -- whether an entry is added, and what is sent: the status to all, then the requests
-unfoldable pub tick_answer : Seat → ℕ → List EntryFields → Result (Bool × List Outgoing) TickRefusal
+unfoldable pub tick_answer : Identity → ℕ → List EntryFields → Result (Bool × List Outgoing) TickRefusal
 tick_answer seat limit entries =
     if is_new_status seat (facts_of entries) && is_full limit entries then Err ticks.HistoryFull else
     Ok (

@@ -7,7 +7,7 @@ use Rattle.cb_gaps.specs.declared.buffer.Admission.TheVariants.{Kept}
 use Rattle.cb_gaps.specs.Buffer as buffers
 use Rattle.cb_gaps.specs.Buffer.{Buffer, IsNew, IsReceived, IsLacking, IsAfter, IsNext, Takes}
 use Rattle.cb_gaps.specs.Ranges.{AreRangesOf}
-use Rattle.cb_history.specs.Group.{Seat}
+use Rattle.cb_history.specs.Group.{Identity}
 use Rattle.cb_history.specs.Facts.{Fact, casts_in, is_there}
 use Rattle.cb_history.specs.Known.{known, expanded_count, missing, ranges_of}
 use Rattle.cb_history.specs.Answers.{delivered}
@@ -62,10 +62,10 @@ ReceivedIsThere = (casts : List CastFields) (i number : ℕ) (buffer : Buffer) �
 
 -- the buffer lacks exactly what is missing of the sender
 abbrev pub MissingIsLacked : Type 0
-MissingIsLacked = (seat : Seat) (facts : List Fact) (i number : ℕ) (buffer : Buffer) → HoldsWhatWaits (casts_in facts) i buffer → buffer.window ≡ seat.group.window
+MissingIsLacked = (seat : Identity) (facts : List Fact) (i number : ℕ) (buffer : Buffer) → HoldsWhatWaits (casts_in facts) i buffer → buffer.window ≡ seat.group.window
     → buffers.IsMissing buffer (delivered seat facts i) (known facts i) number ↔ IsMissing seat facts i number
 
 -- so its ranges are those that are asked for
 abbrev pub RangesAreAskedFor : Type 0
-RangesAreAskedFor = (seat : Seat) (facts : List Fact) (i : ℕ) (buffer : Buffer) (ranges : List Range) → HoldsWhatWaits (casts_in facts) i buffer → buffer.window ≡ seat.group.window
+RangesAreAskedFor = (seat : Identity) (facts : List Fact) (i : ℕ) (buffer : Buffer) (ranges : List Range) → HoldsWhatWaits (casts_in facts) i buffer → buffer.window ≡ seat.group.window
     → AreRangesOf (buffers.IsMissing buffer (delivered seat facts i) (known facts i)) ranges → ranges ≡ ranges_of (missing seat facts i)

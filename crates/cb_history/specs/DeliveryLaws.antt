@@ -5,7 +5,7 @@ use Rattle.cb_times.specs.Time.{IsRaised}
 use Rattle.cb_frames.specs.Fields.{CastFields, Carried}
 use Rattle.cb_delay.specs.Rule.{IsReady}
 use Rattle.cb_diffs.specs.Expansion.{expanded_time}
-use Rattle.cb_history.specs.Group.{Seat}
+use Rattle.cb_history.specs.Group.{Identity}
 use Rattle.cb_history.specs.Facts.{Fact, casts_in, messages_in}
 use Rattle.cb_history.specs.View.{count, counts, expanded_in, is_among, is_ready, next_delivery, drain, view}
 use Rattle.cb_history.specs.NameLaws.{NamesDiffer, InOrderAfter, IsOneOf}
@@ -71,7 +71,7 @@ SmallestReadyIsNext =
 -- so it is with every view and all casts that it was made of
 abbrev pub ViewsAreOnTheWay : Type 0
 ViewsAreOnTheWay =
-    (seat : Seat) (facts : List Fact) → AreFactsOf seat facts
+    (seat : Identity) (facts : List Fact) → AreFactsOf seat facts
     → IsOnTheWay seat.group.size (casts_in facts) (view seat.group.size facts)
 
 -- and a delivery leaves it so
@@ -111,10 +111,10 @@ MeetRuleAfter size casts before (m ∷ ms) = MeetsRule size casts before m × Me
 -- in a view the rule is met by each message, given those in front of it
 abbrev pub ViewMeetsTheRule : Type 0
 ViewMeetsTheRule =
-    (seat : Seat) (facts : List Fact) → AreFactsOf seat facts
+    (seat : Identity) (facts : List Fact) → AreFactsOf seat facts
     → MeetRuleAfter seat.group.size (casts_in facts) [] (view seat.group.size facts)
 
 -- nobody outside the group has a message in a view
 abbrev pub ViewIsOfMembers : Type 0
 ViewIsOfMembers =
-    (seat : Seat) (facts : List Fact) → AreFactsOf seat facts → AreOfMembers seat.group.size (view seat.group.size facts)
+    (seat : Identity) (facts : List Fact) → AreFactsOf seat facts → AreOfMembers seat.group.size (view seat.group.size facts)

@@ -1,7 +1,7 @@
 -- How many casts of a sender are expanded, and what one more cast expands.
 use Rattle.std.specs.Prelude.{◌≡◌, ◌≢◌, ℕ, ◌+◌, ◌<◌, ◌≤◌, ◌↔◌, true, false, List, [], ◌∷◌, ◌++◌, map}
 use Rattle.cb_frames.specs.Fields.{CastFields, Carried, first_number}
-use Rattle.cb_history.specs.Group.{Seat}
+use Rattle.cb_history.specs.Group.{Identity}
 use Rattle.cb_history.specs.Facts.{Fact, casts_in, messages_in, is_there, numbers_between}
 use Rattle.cb_history.specs.View.{is_expanded}
 use Rattle.cb_history.specs.Known.{greatest_of, expanded_count}
@@ -28,7 +28,7 @@ ExpandedUpToTheCount = (casts : List CastFields) (m : Carried) → (is_expanded 
 
 -- what a member has delivered is expanded, and of its own casts just as many
 abbrev pub DeliveredIsExpanded : Type 0
-DeliveredIsExpanded = (seat : Seat) (facts : List Fact) → AreFactsOf seat facts
+DeliveredIsExpanded = (seat : Identity) (facts : List Fact) → AreFactsOf seat facts
     → ((i : ℕ) → delivered seat facts i ≤ expanded_count (casts_in facts) i) × (expanded_count (casts_in facts) seat.me ≡ delivered seat facts seat.me)
 
 -- ---- one more cast

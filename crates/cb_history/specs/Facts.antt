@@ -22,8 +22,8 @@ entry_fields (entries.Tick status) = TickEntry status
 -- an own cast, a cast or a status of another that came, and an own status that was told
 pub data Fact : Type 0 where
   OwnCast : CastFields → Fact
-  CastCame : CastFields → Fact
-  StatusCame : StatusFields → Fact
+  CastReceived : CastFields → Fact
+  StatusReceived : StatusFields → Fact
   OwnStatus : StatusFields → Fact
 
 abbrev pub cast_said : Result FrameFields FrameFault → List Fact
@@ -33,8 +33,8 @@ cast_said (Ok (RequestFrame r)) = []
 cast_said (Err fault) = []
 
 abbrev pub arrival_said : Result FrameFields FrameFault → List Fact
-arrival_said (Ok (CastFrame c)) = CastCame c ∷ []
-arrival_said (Ok (StatusFrame s)) = StatusCame s ∷ []
+arrival_said (Ok (CastFrame c)) = CastReceived c ∷ []
+arrival_said (Ok (StatusFrame s)) = StatusReceived s ∷ []
 arrival_said (Ok (RequestFrame r)) = []
 arrival_said (Err fault) = []
 
@@ -57,8 +57,8 @@ facts_of entries = flat_map said_by entries
 
 abbrev pub cast_in : Fact → List CastFields
 cast_in (OwnCast c) = c ∷ []
-cast_in (CastCame c) = c ∷ []
-cast_in (StatusCame s) = []
+cast_in (CastReceived c) = c ∷ []
+cast_in (StatusReceived s) = []
 cast_in (OwnStatus s) = []
 
 abbrev pub casts_in : List Fact → List CastFields

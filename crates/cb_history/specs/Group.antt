@@ -19,14 +19,14 @@ abbrev pub parameters_code : Coded Parameters
 parameters_code = code_by (ℕ × (ℕ × ℕ)) (coded× coded_ℕ (coded× coded_ℕ coded_ℕ)) (λ p. (p.number, (p.size, p.window))) (λ x. record { number = x.0; size = x.1.0; window = x.1.1 }) (λ _. refl)
 
 -- a member of a group
-pub record Seat : Type 0 where
+pub record Identity : Type 0 where
   pub group : Parameters
   pub me : ℕ
 
 -- what is true of every member of a group
-pub record IsSeat (seat : Seat) : Type 0 where
+pub record IsIdentity (seat : Identity) : Type 0 where
   pub group : AreParameters seat.group
   pub member : seat.me < seat.group.size
 
-abbrev pub seat_code : Coded Seat
-seat_code = code_by (Parameters × ℕ) (coded× parameters_code coded_ℕ) (λ s. (s.group, s.me)) (λ x. record { group = x.0; me = x.1 }) (λ _. refl)
+abbrev pub identity_code : Coded Identity
+identity_code = code_by (Parameters × ℕ) (coded× parameters_code coded_ℕ) (λ s. (s.group, s.me)) (λ x. record { group = x.0; me = x.1 }) (λ _. refl)

@@ -8,7 +8,7 @@ use Rattle.cb_frames.specs.Text.{text_of}
 use Rattle.cb_frames.specs.Reading.{frame_at}
 use Rattle.cb_frames.specs.Laws.{CanBeWritten}
 use Rattle.cb_times.specs.declared.name.Name.{Name}
-use Rattle.cb_history.specs.Group.{Seat}
+use Rattle.cb_history.specs.Group.{Identity}
 use Rattle.cb_history.specs.Facts.{EntryFields, CastEntry, ArriveEntry, TickEntry, Fact, said_by, facts_of}
 use Rattle.cb_history.specs.View.{view}
 use Rattle.cb_history.specs.Known.{missing, ranges_of}
@@ -18,30 +18,30 @@ use Rattle.cb_history.specs.LegalFacts.{AreFactsOf, IsStep}
 
 -- the entries before any place of a legal history are a legal history
 abbrev pub PrefixIsLegal : Type 0
-PrefixIsLegal = (seat : Seat) (entries more : List EntryFields) → IsLegal seat (entries ++ more) → IsLegal seat entries
+PrefixIsLegal = (seat : Identity) (entries more : List EntryFields) → IsLegal seat (entries ++ more) → IsLegal seat entries
 
 -- the facts before any place of legal facts are legal facts
 abbrev pub PrefixOfFactsIsLegal : Type 0
-PrefixOfFactsIsLegal = (seat : Seat) (facts more : List Fact) → AreFactsOf seat (facts ++ more) → AreFactsOf seat facts
+PrefixOfFactsIsLegal = (seat : Identity) (facts more : List Fact) → AreFactsOf seat (facts ++ more) → AreFactsOf seat facts
 
 -- the last of legal facts is a step from those before it
 abbrev pub LastFactIsAStep : Type 0
-LastFactIsAStep = (seat : Seat) (facts : List Fact) (f : Fact) → AreFactsOf seat (facts ++ f ∷ []) → IsStep seat facts f
+LastFactIsAStep = (seat : Identity) (facts : List Fact) (f : Fact) → AreFactsOf seat (facts ++ f ∷ []) → IsStep seat facts f
 
 -- a call of bytes keeps a history legal, whatever limit it is made with
 abbrev pub CallsKeepLegal : Type 0
 CallsKeepLegal =
-    (seat : Seat) (limit : ℕ) (entries : List EntryFields) (call : Call) → limit ≤ longest_history → IsLegal seat entries → OfBytes call → IsLegal seat (history_after seat limit entries call)
+    (seat : Identity) (limit : ℕ) (entries : List EntryFields) (call : Call) → limit ≤ longest_history → IsLegal seat entries → OfBytes call → IsLegal seat (history_after seat limit entries call)
 
 -- the facts of a legal history are each a step from those before it
 abbrev pub LegalHistoriesSayLegalFacts : Type 0
-LegalHistoriesSayLegalFacts = (seat : Seat) (entries : List EntryFields) → IsLegal seat entries → AreFactsOf seat (facts_of entries)
+LegalHistoriesSayLegalFacts = (seat : Identity) (entries : List EntryFields) → IsLegal seat entries → AreFactsOf seat (facts_of entries)
 
 -- every entry of a legal history says one fact, so there are as many facts as entries
 abbrev pub EachEntrySaysOneFact : Type 0
-EachEntrySaysOneFact = (seat : Seat) (entries : List EntryFields) → IsLegal seat entries → AllByRecursion (λ e. length (said_by e) ≡ 1) entries × (length (facts_of entries) ≡ length entries)
+EachEntrySaysOneFact = (seat : Identity) (entries : List EntryFields) → IsLegal seat entries → AllByRecursion (λ e. length (said_by e) ≡ 1) entries × (length (facts_of entries) ≡ length entries)
 
--- What the entry says by its kind, and that its bytes are the one text of it: an own cast, a frame that came, an own status.
+-- What the entry says by its kind, and that its bytes are the one text of it: an own cast, a received frame, an own status.
 abbrev pub SaysItsText : EntryFields → Type 0
 SaysItsText (CastEntry frame) = (c : CastFields) × (frame_at frame ≡ Ok (CastFrame c)) × (frame ≡ text_of (CastFrame c))
 SaysItsText (ArriveEntry frame delivered) = (f : FrameFields) × (frame_at frame ≡ Ok f) × (frame ≡ text_of f)
@@ -49,19 +49,19 @@ SaysItsText (TickEntry status) = (s : StatusFields) × (frame_at status ≡ Ok (
 
 -- so what is sent again has the bytes that were sent first
 abbrev pub EntriesSayTheirTexts : Type 0
-EntriesSayTheirTexts = (seat : Seat) (entries : List EntryFields) → IsLegal seat entries → AllByRecursion SaysItsText entries
+EntriesSayTheirTexts = (seat : Identity) (entries : List EntryFields) → IsLegal seat entries → AllByRecursion SaysItsText entries
 
 abbrev pub name_of : Carried → Name
 name_of m = record { sender = m.sender; number = m.number }
 
 -- the names of an arrival's entry are those of the messages that the view has more by it
 abbrev pub ArrivalsNameDeliveries : Type 0
-ArrivalsNameDeliveries = (seat : Seat) (entries : List EntryFields) (frame : List ℕ) (delivered : List Name) → IsLegal seat (entries ++ ArriveEntry frame delivered ∷ [])
+ArrivalsNameDeliveries = (seat : Identity) (entries : List EntryFields) (frame : List ℕ) (delivered : List Name) → IsLegal seat (entries ++ ArriveEntry frame delivered ∷ [])
     → delivered ≡ map name_of (drop (length (view seat.group.size (facts_of entries))) (view seat.group.size (facts_of (entries ++ ArriveEntry frame delivered ∷ []))))
 
 -- The next cast of a payload that is not too long, the status and each request for what is missing have a text.
 abbrev pub OwnFramesHaveTexts : Type 0
-OwnFramesHaveTexts = (seat : Seat) (facts : List Fact) → AreFactsOf seat facts
+OwnFramesHaveTexts = (seat : Identity) (facts : List Fact) → AreFactsOf seat facts
     → ((payload : List ℕ) → length payload ≤ LONGEST_PAYLOAD → CanBeWritten (CastFrame (next_cast seat facts payload)))
     × CanBeWritten (StatusFrame (status_of seat facts))
     × ((i : ℕ) (r : Range) (ranges : List Range) → i < seat.group.size → ranges_of (missing seat facts i) ≡ r ∷ ranges

@@ -2,55 +2,55 @@
 use Rattle.std.specs.Prelude.{◌≡◌, ◌≢◌, ℕ, ◌<◌, ◌≤◌, List, [], ◌∷◌, ◌++◌, map, filter, not, max, ◌==◌, if◌then◌else◌}
 use Rattle.cb_frames.specs.Fields.{CastFields, StatusFields, Carried, last_number}
 use Rattle.cb_diffs.specs.Expansion.{expanded_field}
-use Rattle.cb_history.specs.Group.{Seat}
-use Rattle.cb_history.specs.Facts.{Fact, OwnCast, CastCame, StatusCame, OwnStatus, casts_in}
+use Rattle.cb_history.specs.Group.{Identity}
+use Rattle.cb_history.specs.Facts.{Fact, OwnCast, CastReceived, StatusReceived, OwnStatus, casts_in}
 use Rattle.cb_history.specs.View.{is_expanded, expanded_in, view}
 use Rattle.cb_history.specs.Known.{greatest_of, value_in, known, counted_by, acknowledged, stable}
 use Rattle.cb_history.specs.Answers.{delivered}
 use Rattle.cb_history.specs.LegalFacts.{AreFactsOf}
 
--- a status that came says how far each sender has cast
+-- a received status says how far each sender has cast
 abbrev pub StatusIsKnown : Type 0
-StatusIsKnown = (facts : List Fact) (s : StatusFields) (i : ℕ) → known (facts ++ StatusCame s ∷ []) i ≡ max (known facts i) (value_in s.values i)
+StatusIsKnown = (facts : List Fact) (s : StatusFields) (i : ℕ) → known (facts ++ StatusReceived s ∷ []) i ≡ max (known facts i) (value_in s.values i)
 
 -- and how many of this member's casts its own sender has delivered
 abbrev pub StatusIsAcknowledged : Type 0
-StatusIsAcknowledged = (seat : Seat) (facts : List Fact) (s : StatusFields) (k : ℕ)
-    → acknowledged seat (facts ++ StatusCame s ∷ []) k ≡ (if s.sender == k then max (acknowledged seat facts k) (value_in s.values seat.me) else acknowledged seat facts k)
+StatusIsAcknowledged = (seat : Identity) (facts : List Fact) (s : StatusFields) (k : ℕ)
+    → acknowledged seat (facts ++ StatusReceived s ∷ []) k ≡ (if s.sender == k then max (acknowledged seat facts k) (value_in s.values seat.me) else acknowledged seat facts k)
 
--- the messages whose times can be told by one more cast, and not before
+-- the messages whose times can be known by one more cast, and not before
 abbrev pub newly_expanded : List CastFields → CastFields → List Carried
 newly_expanded casts c = filter (λ m. not (is_expanded casts m)) (expanded_in (casts ++ c ∷ []))
 
--- a cast that came says its own number, and what the times say that can be told by it
+-- a received cast says its own number, and what the times say that can be known by it
 abbrev pub CastIsKnown : Type 0
-CastIsKnown = (seat : Seat) (facts : List Fact) (c : CastFields) (i : ℕ) → AreFactsOf seat (facts ++ CastCame c ∷ []) → known (facts ++ CastCame c ∷ []) i ≡ max (known facts i)
+CastIsKnown = (seat : Identity) (facts : List Fact) (c : CastFields) (i : ℕ) → AreFactsOf seat (facts ++ CastReceived c ∷ []) → known (facts ++ CastReceived c ∷ []) i ≡ max (known facts i)
     (max (if c.sender == i then last_number c else 0) (greatest_of (map (λ m. expanded_field (casts_in facts ++ c ∷ []) m.sender m.number i) (newly_expanded (casts_in facts) c))))
 
 -- and how many of this member's casts the senders of the messages that are delivered by it had delivered
 abbrev pub CastIsAcknowledged : Type 0
-CastIsAcknowledged = (seat : Seat) (facts : List Fact) (c : CastFields) (k : ℕ) (deliveries : List Carried) → AreFactsOf seat (facts ++ CastCame c ∷ [])
-    → view seat.group.size (facts ++ CastCame c ∷ []) ≡ view seat.group.size facts ++ deliveries
-    → acknowledged seat (facts ++ CastCame c ∷ []) k ≡ max (acknowledged seat facts k) (greatest_of (counted_by (casts_in facts ++ c ∷ []) deliveries k seat.me))
+CastIsAcknowledged = (seat : Identity) (facts : List Fact) (c : CastFields) (k : ℕ) (deliveries : List Carried) → AreFactsOf seat (facts ++ CastReceived c ∷ [])
+    → view seat.group.size (facts ++ CastReceived c ∷ []) ≡ view seat.group.size facts ++ deliveries
+    → acknowledged seat (facts ++ CastReceived c ∷ []) k ≡ max (acknowledged seat facts k) (greatest_of (counted_by (casts_in facts ++ c ∷ []) deliveries k seat.me))
 
 -- an own cast says nothing new of the others
 abbrev pub OwnCastTellsNothing : Type 0
-OwnCastTellsNothing = (seat : Seat) (facts : List Fact) (c : CastFields) (k : ℕ) → AreFactsOf seat (facts ++ OwnCast c ∷ []) → k < seat.group.size → k ≢ seat.me
+OwnCastTellsNothing = (seat : Identity) (facts : List Fact) (c : CastFields) (k : ℕ) → AreFactsOf seat (facts ++ OwnCast c ∷ []) → k < seat.group.size → k ≢ seat.me
     → (known (facts ++ OwnCast c ∷ []) k ≡ known facts k) × (acknowledged seat (facts ++ OwnCast c ∷ []) k ≡ acknowledged seat facts k)
 
 -- an own status says nothing new
 abbrev pub OwnStatusTellsNothing : Type 0
-OwnStatusTellsNothing = (seat : Seat) (facts : List Fact) (s : StatusFields) (k : ℕ) → (known (facts ++ OwnStatus s ∷ []) k ≡ known facts k) × (acknowledged seat (facts ++ OwnStatus s ∷ []) k ≡ acknowledged seat facts k)
+OwnStatusTellsNothing = (seat : Identity) (facts : List Fact) (s : StatusFields) (k : ℕ) → (known (facts ++ OwnStatus s ∷ []) k ≡ known facts k) × (acknowledged seat (facts ++ OwnStatus s ∷ []) k ≡ acknowledged seat facts k)
 
 -- what is delivered is known
 abbrev pub DeliveredIsKnown : Type 0
-DeliveredIsKnown = (seat : Seat) (facts : List Fact) (i : ℕ) → AreFactsOf seat facts → delivered seat facts i ≤ known facts i
+DeliveredIsKnown = (seat : Identity) (facts : List Fact) (i : ℕ) → AreFactsOf seat facts → delivered seat facts i ≤ known facts i
 
 -- one more fact makes nothing that is known, acknowledged or stable smaller
 abbrev pub NothingFalls : Type 0
-NothingFalls = (seat : Seat) (facts : List Fact) (f : Fact)
+NothingFalls = (seat : Identity) (facts : List Fact) (f : Fact)
     → ((i : ℕ) → known facts i ≤ known (facts ++ f ∷ []) i) × ((k : ℕ) → acknowledged seat facts k ≤ acknowledged seat (facts ++ f ∷ []) k) × (stable seat facts ≤ stable seat (facts ++ f ∷ []))
 
 -- no member is known to have delivered more of this member's casts than it made
 abbrev pub AcknowledgedIsDelivered : Type 0
-AcknowledgedIsDelivered = (seat : Seat) (facts : List Fact) → AreFactsOf seat facts → ((k : ℕ) → acknowledged seat facts k ≤ delivered seat facts seat.me) × (stable seat facts ≤ delivered seat facts seat.me)
+AcknowledgedIsDelivered = (seat : Identity) (facts : List Fact) → AreFactsOf seat facts → ((k : ℕ) → acknowledged seat facts k ≤ delivered seat facts seat.me) × (stable seat facts ≤ delivered seat facts seat.me)

@@ -5,8 +5,8 @@ use Rattle.cb_frames.specs.declared.frame.Change.{Change}
 use Rattle.cb_frames.specs.declared.frame.Range.{Range}
 use Rattle.cb_frames.specs.Fields.{CastFields, Carried, last_number}
 use Rattle.cb_diffs.specs.Expansion.{expanded_field}
-use Rattle.cb_history.specs.Group.{Seat}
-use Rattle.cb_history.specs.Facts.{Fact, OwnCast, CastCame, StatusCame, OwnStatus, casts_in, is_there, numbers_between}
+use Rattle.cb_history.specs.Group.{Identity}
+use Rattle.cb_history.specs.Facts.{Fact, OwnCast, CastReceived, StatusReceived, OwnStatus, casts_in, is_there, numbers_between}
 use Rattle.cb_history.specs.View.{count, expanded_in, view}
 
 abbrev pub greatest_of : List ℕ → ℕ
@@ -20,27 +20,27 @@ value_in (d ∷ values) k = if d.field == k then d.amount else value_in values k
 
 -- ---- the casts of sender i
 
--- what one fact says of how far sender i has cast: the number of a cast of it that came, or a status that came
-abbrev pub told_of : ℕ → Fact → List ℕ
-told_of i (OwnCast c) = []
-told_of i (CastCame c) = if c.sender == i then last_number c ∷ [] else []
-told_of i (StatusCame s) = value_in s.values i ∷ []
-told_of i (OwnStatus s) = []
+-- what one fact says of how far sender i has cast: the number of a cast of it that came, or a received status
+abbrev pub reported_of : ℕ → Fact → List ℕ
+reported_of i (OwnCast c) = []
+reported_of i (CastReceived c) = if c.sender == i then last_number c ∷ [] else []
+reported_of i (StatusReceived s) = value_in s.values i ∷ []
+reported_of i (OwnStatus s) = []
 
--- what the times say of it that can be told
+-- what the times say of it that can be known
 abbrev pub counted_in_times : List CastFields → ℕ → List ℕ
 counted_in_times casts i = map (λ m. expanded_field casts m.sender m.number i) (expanded_in casts)
 
 -- the greatest number of sender i that the member has heard of
 abbrev pub known : List Fact → ℕ → ℕ
-known facts i = greatest_of (flat_map (told_of i) facts ++ counted_in_times (casts_in facts) i)
+known facts i = greatest_of (flat_map (reported_of i) facts ++ counted_in_times (casts_in facts) i)
 
 -- how many casts of sender i are expanded
 abbrev pub expanded_count : List CastFields → ℕ → ℕ
 expanded_count casts i = greatest_of (map (λ m. m.number) (filter (λ m. m.sender == i) (expanded_in casts)))
 
 -- the numbers of casts of i that the member lacks: above what is expanded, known, within the window, and not kept
-abbrev pub missing : Seat → List Fact → ℕ → List ℕ
+abbrev pub missing : Identity → List Fact → ℕ → List ℕ
 missing seat facts i =
     filter (λ n. not (is_there (casts_in facts) i n))
     (numbers_between (expanded_count (casts_in facts) i) (min (known facts i) (count (view seat.group.size facts) i + seat.group.window)))
@@ -58,20 +58,20 @@ ranges_of (n ∷ ns) = before_ranges n (ranges_of ns)
 -- ---- own casts
 
 -- what one fact says of how many of this member's casts k has delivered: a status of k
-abbrev pub told_by : ℕ → ℕ → Fact → List ℕ
-told_by k me (OwnCast c) = []
-told_by k me (CastCame c) = []
-told_by k me (StatusCame s) = if s.sender == k then value_in s.values me ∷ [] else []
-told_by k me (OwnStatus s) = []
+abbrev pub reported_by : ℕ → ℕ → Fact → List ℕ
+reported_by k me (OwnCast c) = []
+reported_by k me (CastReceived c) = []
+reported_by k me (StatusReceived s) = if s.sender == k then value_in s.values me ∷ [] else []
+reported_by k me (OwnStatus s) = []
 
 -- what the times of the delivered messages of k say of it
 abbrev pub counted_by : List CastFields → List Carried → ℕ → ℕ → List ℕ
 counted_by casts seen k me = map (λ m. expanded_field casts m.sender m.number me) (filter (λ m. m.sender == k) seen)
 
 -- how many of its casts the member knows that k has delivered
-abbrev pub acknowledged : Seat → List Fact → ℕ → ℕ
+abbrev pub acknowledged : Identity → List Fact → ℕ → ℕ
 acknowledged seat facts k =
-    greatest_of (flat_map (told_by k seat.me) facts ++ counted_by (casts_in facts) (view seat.group.size facts) k seat.me)
+    greatest_of (flat_map (reported_by k seat.me) facts ++ counted_by (casts_in facts) (view seat.group.size facts) k seat.me)
 
 abbrev pub least_of : List ℕ → ℕ
 least_of [] = 0
@@ -79,5 +79,5 @@ least_of (n ∷ []) = n
 least_of (n ∷ m ∷ ns) = min n (least_of (m ∷ ns))
 
 -- how many of its casts the member knows that every other member has delivered
-abbrev pub stable : Seat → List Fact → ℕ
+abbrev pub stable : Identity → List Fact → ℕ
 stable seat facts = least_of (map (acknowledged seat facts) (filter (λ k. not (k == seat.me)) (range_with_len 0 seat.group.size)))

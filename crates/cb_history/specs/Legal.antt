@@ -8,7 +8,7 @@ use Rattle.cb_history.specs.declared.answer.CastRefusal.{CastRefusal}
 use Rattle.cb_history.specs.declared.answer.ArriveRefusal.{ArriveRefusal}
 use Rattle.cb_history.specs.declared.answer.TickRefusal.{TickRefusal}
 use Rattle.cb_history.specs.declared.answer.Outgoing.{Outgoing}
-use Rattle.cb_history.specs.Group.{Seat, AreParameters}
+use Rattle.cb_history.specs.Group.{Identity, AreParameters}
 use Rattle.cb_history.specs.Facts.{EntryFields, CastEntry, ArriveEntry, TickEntry, facts_of}
 use Rattle.cb_history.specs.Answers.{cast_answer, arrive_answer, tick_answer, status_of, ArrivalSays, Accepted, Repeat}
 
@@ -16,13 +16,13 @@ use Rattle.cb_history.specs.Answers.{cast_answer, arrive_answer, tick_answer, st
 abbrev pub longest_history : ℕ
 longest_history = LONGEST_HISTORY
 
--- what is asked of a member: to cast a payload, to take a frame that came, to tick
+-- what is asked of a member: to cast a payload, to take a received frame, to tick
 pub data Call : Type 0 where
   ToCast : List ℕ → Call
   ToTake : List ℕ → Call
   ToTick : Call
 
--- what is cast and what comes are bytes
+-- what is cast and what is received are bytes
 abbrev pub OfBytes : Call → Type 0
 OfBytes (ToCast payload) = IsBytes payload
 OfBytes (ToTake bytes) = IsBytes bytes
@@ -42,7 +42,7 @@ abbrev pub tick_entry : List ℕ → Result (Bool × List Outgoing) TickRefusal 
 tick_entry status (Ok t) = if t.0 then Some (TickEntry status) else None
 tick_entry status (Err refusal) = None
 
-abbrev pub entry_of : Seat → ℕ → List EntryFields → Call → Option EntryFields
+abbrev pub entry_of : Identity → ℕ → List EntryFields → Call → Option EntryFields
 entry_of seat limit entries (ToCast payload) = cast_entry (cast_answer seat limit entries payload)
 entry_of seat limit entries (ToTake bytes) = arrive_entry bytes (arrive_answer seat limit entries bytes)
 entry_of seat limit entries ToTick = tick_entry (text_of (StatusFrame (status_of seat (facts_of entries)))) (tick_answer seat limit entries)
@@ -52,16 +52,16 @@ abbrev pub and_entry : List EntryFields → Option EntryFields → List EntryFie
 and_entry entries None = entries
 and_entry entries (Some e) = entries ++ e ∷ []
 
-abbrev pub history_after : Seat → ℕ → List EntryFields → Call → List EntryFields
+abbrev pub history_after : Identity → ℕ → List EntryFields → Call → List EntryFields
 history_after seat limit entries call = and_entry entries (entry_of seat limit entries call)
 
 -- Each entry is the one that some call adds to the entries before it.
-pub data AreLegal (seat : Seat) : List EntryFields → Type 0 where
+pub data AreLegal (seat : Identity) : List EntryFields → Type 0 where
   NoEntries : AreLegal seat []
   OneMore : (entries : List EntryFields) (call : Call) (e : EntryFields) → AreLegal seat entries → OfBytes call → entry_of seat longest_history entries call ≡ Some e → AreLegal seat (entries ++ e ∷ [])
 
 -- a history of a member of a group
-pub record IsLegal (seat : Seat) (entries : List EntryFields) : Type 0 where
+pub record IsLegal (seat : Identity) (entries : List EntryFields) : Type 0 where
   pub group : AreParameters seat.group
   pub member : seat.me < seat.group.size
   pub entries_are : AreLegal seat entries

@@ -2,19 +2,19 @@
 use Rattle.std.specs.Prelude.{◌≡◌, ◌≤◌, ◌<◌, true, false, List, [], ◌∷◌, ◌++◌, length}
 use Rattle.cb_frames.specs.declared.frame.TheConstants.{LONGEST_PAYLOAD}
 use Rattle.cb_frames.specs.Fields.{CastFields, first_number, StatusFields, FrameFields, CastFrame, StatusFrame}
-use Rattle.cb_history.specs.Group.{Seat, AreParameters}
-use Rattle.cb_history.specs.Facts.{Fact, OwnCast, CastCame, StatusCame, OwnStatus}
+use Rattle.cb_history.specs.Group.{Identity, AreParameters}
+use Rattle.cb_history.specs.Facts.{Fact, OwnCast, CastReceived, StatusReceived, OwnStatus}
 use Rattle.cb_history.specs.Answers.{is_window_full, next_cast, group_of, are_members, is_impossible, is_repeat, is_too_far, is_change, status_of, is_new_status}
 use Rattle.cb_history.specs.Legal.{longest_history}
 
 -- an own cast: the next one, of a payload that is not too long, while the window is not full
-pub record IsOwnCast (seat : Seat) (facts : List Fact) (c : CastFields) : Type 0 where
+pub record IsOwnCast (seat : Identity) (facts : List Fact) (c : CastFields) : Type 0 where
   pub payload : length c.payload ≤ LONGEST_PAYLOAD
   pub window : is_window_full seat facts ≡ false
   pub next : c ≡ next_cast seat facts c.payload
 
--- a frame that came, was not refused and changed the state: of the group and its members, possible, no repeat, not too far, and news
-pub record IsTaken (seat : Seat) (facts : List Fact) (frame : FrameFields) : Type 0 where
+-- a received frame, was not refused and changed the state: of the group and its members, possible, no repeat, not too far, and news
+pub record IsTaken (seat : Identity) (facts : List Fact) (frame : FrameFields) : Type 0 where
   pub group : group_of frame ≡ seat.group.number
   pub members : are_members seat.group.size frame ≡ true
   pub possible : is_impossible seat facts frame ≡ false
@@ -22,30 +22,30 @@ pub record IsTaken (seat : Seat) (facts : List Fact) (frame : FrameFields) : Typ
   pub near : is_too_far seat facts frame ≡ false
   pub change : is_change seat facts frame ≡ true
 
--- a cast that came; casts are numbered from 1
-pub record IsCastTaken (seat : Seat) (facts : List Fact) (c : CastFields) : Type 0 where
+-- a received cast; casts are numbered from 1
+pub record IsCastTaken (seat : Identity) (facts : List Fact) (c : CastFields) : Type 0 where
   pub numbered : 1 ≤ first_number c
   pub taken : IsTaken seat facts (CastFrame c)
 
 -- an own status: the one that says the time, and it differs from the last one
-pub record IsOwnStatus (seat : Seat) (facts : List Fact) (s : StatusFields) : Type 0 where
+pub record IsOwnStatus (seat : Identity) (facts : List Fact) (s : StatusFields) : Type 0 where
   pub time : s ≡ status_of seat facts
   pub new : is_new_status seat facts ≡ true
 
 -- the fact may follow these facts
-abbrev pub IsStep : Seat → List Fact → Fact → Type 0
+abbrev pub IsStep : Identity → List Fact → Fact → Type 0
 IsStep seat facts (OwnCast c) = IsOwnCast seat facts c
-IsStep seat facts (CastCame c) = IsCastTaken seat facts c
-IsStep seat facts (StatusCame s) = IsTaken seat facts (StatusFrame s)
+IsStep seat facts (CastReceived c) = IsCastTaken seat facts c
+IsStep seat facts (StatusReceived s) = IsTaken seat facts (StatusFrame s)
 IsStep seat facts (OwnStatus s) = IsOwnStatus seat facts s
 
 -- Each fact is a step from the facts before it, of which there are fewer than a history can have.
-pub data AreLegalFacts (seat : Seat) : List Fact → Type 0 where
+pub data AreLegalFacts (seat : Identity) : List Fact → Type 0 where
   NoFacts : AreLegalFacts seat []
   OneFactMore : (facts : List Fact) (f : Fact) → AreLegalFacts seat facts → length facts < longest_history → IsStep seat facts f → AreLegalFacts seat (facts ++ f ∷ [])
 
 -- the facts of a member of a group
-pub record AreFactsOf (seat : Seat) (facts : List Fact) : Type 0 where
+pub record AreFactsOf (seat : Identity) (facts : List Fact) : Type 0 where
   pub group : AreParameters seat.group
   pub member : seat.me < seat.group.size
   pub facts_are : AreLegalFacts seat facts

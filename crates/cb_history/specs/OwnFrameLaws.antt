@@ -2,7 +2,7 @@
 use Rattle.std.specs.Prelude.{◌≡◌, ◌≢◌, ℕ, ◌<◌, true, false, List}
 use Rattle.cb_frames.specs.declared.frame.Range.{Range}
 use Rattle.cb_frames.specs.Fields.{FrameFields, CastFrame, StatusFrame, RequestFrame}
-use Rattle.cb_history.specs.Group.{Parameters, Seat, IsSeat}
+use Rattle.cb_history.specs.Group.{Parameters, Identity, IsIdentity}
 use Rattle.cb_history.specs.Facts.{Fact}
 use Rattle.cb_history.specs.Answers.{next_cast, group_of, are_members, is_impossible, status_of}
 
@@ -12,17 +12,17 @@ pub record IsOfTheGroup (group : Parameters) (frame : FrameFields) : Type 0 wher
   pub members : are_members group.size frame ≡ true
 
 -- the request for these ranges of the casts of member i
-abbrev pub own_request : Seat → ℕ → List Range → FrameFields
+abbrev pub own_request : Identity → ℕ → List Range → FrameFields
 own_request seat i ranges = RequestFrame (record { group = seat.group.number; requester = seat.me; asked = i; ranges = ranges })
 
 -- a member's next cast and its status are of its group
 abbrev pub OwnCastsAreOfTheGroup : Type 0
-OwnCastsAreOfTheGroup = (seat : Seat) (facts : List Fact) (payload : List ℕ) → IsSeat seat → IsOfTheGroup seat.group (CastFrame (next_cast seat facts payload))
+OwnCastsAreOfTheGroup = (seat : Identity) (facts : List Fact) (payload : List ℕ) → IsIdentity seat → IsOfTheGroup seat.group (CastFrame (next_cast seat facts payload))
 
 abbrev pub OwnStatusesAreOfTheGroup : Type 0
-OwnStatusesAreOfTheGroup = (seat : Seat) (facts : List Fact) → IsSeat seat → IsOfTheGroup seat.group (StatusFrame (status_of seat facts))
+OwnStatusesAreOfTheGroup = (seat : Identity) (facts : List Fact) → IsIdentity seat → IsOfTheGroup seat.group (StatusFrame (status_of seat facts))
 
 -- so is a request for casts of another member, and no member calls it impossible
 abbrev pub OwnRequestsAreOfTheGroup : Type 0
-OwnRequestsAreOfTheGroup = (seat : Seat) (i : ℕ) (ranges : List Range) → IsSeat seat → i < seat.group.size → i ≢ seat.me
-    → IsOfTheGroup seat.group (own_request seat i ranges) × ((other : Seat) (facts : List Fact) → is_impossible other facts (own_request seat i ranges) ≡ false)
+OwnRequestsAreOfTheGroup = (seat : Identity) (i : ℕ) (ranges : List Range) → IsIdentity seat → i < seat.group.size → i ≢ seat.me
+    → IsOfTheGroup seat.group (own_request seat i ranges) × ((other : Identity) (facts : List Fact) → is_impossible other facts (own_request seat i ranges) ≡ false)

@@ -5,7 +5,7 @@ use Rattle.cb_frames.specs.declared.fault.FrameFault.{FrameFault}
 use Rattle.cb_frames.specs.Fields.{FrameFields, CastFrame, StatusFrame, RequestFrame}
 use Rattle.cb_frames.specs.Reading.{frame_at}
 use Rattle.cb_frames.specs.Laws.{IsBytes}
-use Rattle.cb_history.specs.Group.{Seat, IsSeat}
+use Rattle.cb_history.specs.Group.{Identity, IsIdentity}
 use Rattle.cb_history.specs.Facts.{EntryFields, CastEntry, ArriveEntry, TickEntry}
 use Rattle.cb_history.specs.Legal.{longest_history, Call, ToCast, ToTake, ToTick, OfBytes, entry_of, IsLegal}
 
@@ -30,7 +30,7 @@ bytes_in (TickEntry status) = status
 
 -- A call that adds an entry to a legal history, with any limit up to the greatest, is the one that the entry tells.
 abbrev pub EntryTellsItsCall : Type 0
-EntryTellsItsCall = (seat : Seat) (limit : ℕ) (entries : List EntryFields) (call : Call) (e : EntryFields) → limit ≤ longest_history → IsLegal seat entries → entry_of seat limit entries call ≡ Some e → call_of e ≡ call
+EntryTellsItsCall = (seat : Identity) (limit : ℕ) (entries : List EntryFields) (call : Call) (e : EntryFields) → limit ≤ longest_history → IsLegal seat entries → entry_of seat limit entries call ≡ Some e → call_of e ≡ call
 
 -- an entry of bytes tells a call of bytes
 abbrev pub EntriesOfBytesTellBytes : Type 0
@@ -38,21 +38,21 @@ EntriesOfBytesTellBytes = (e : EntryFields) → IsBytes (bytes_in e) → OfBytes
 
 -- and the entries of a legal history are of bytes
 abbrev pub LegalEntriesAreBytes : Type 0
-LegalEntriesAreBytes = (seat : Seat) (entries : List EntryFields) → IsLegal seat entries → AllByRecursion (λ e. IsBytes (bytes_in e)) entries
+LegalEntriesAreBytes = (seat : Identity) (entries : List EntryFields) → IsLegal seat entries → AllByRecursion (λ e. IsBytes (bytes_in e)) entries
 
 -- the entry is of bytes, and the call that it tells adds it to these entries
-abbrev pub IsAdded : Seat → List EntryFields → EntryFields → Type 0
+abbrev pub IsAdded : Identity → List EntryFields → EntryFields → Type 0
 IsAdded seat entries e = IsBytes (bytes_in e) × (entry_of seat longest_history entries (call_of e) ≡ Some e)
 
 -- behind a legal history exactly such an entry is legal
 abbrev pub OneMoreIsDecided : Type 0
-OneMoreIsDecided = (seat : Seat) (entries : List EntryFields) (e : EntryFields) → IsLegal seat entries → IsLegal seat (entries ++ e ∷ []) ↔ IsAdded seat entries e
+OneMoreIsDecided = (seat : Identity) (entries : List EntryFields) (e : EntryFields) → IsLegal seat entries → IsLegal seat (entries ++ e ∷ []) ↔ IsAdded seat entries e
 
 -- behind some entries each of these is added
-abbrev pub AreReplayed : Seat → List EntryFields → List EntryFields → Type 0
+abbrev pub AreReplayed : Identity → List EntryFields → List EntryFields → Type 0
 AreReplayed seat before [] = Unit {0}
 AreReplayed seat before (e ∷ entries) = IsAdded seat before e × AreReplayed seat (before ++ e ∷ []) entries
 
 -- A history of a member of a group is legal exactly where replaying it from the start gives it again.
 abbrev pub ReplayingDecides : Type 0
-ReplayingDecides = (seat : Seat) (entries : List EntryFields) → IsSeat seat → IsLegal seat entries ↔ AreReplayed seat [] entries
+ReplayingDecides = (seat : Identity) (entries : List EntryFields) → IsIdentity seat → IsLegal seat entries ↔ AreReplayed seat [] entries

@@ -6,7 +6,7 @@ use Rattle.cb_frames.specs.Text.{text_of}
 use Rattle.cb_stability.specs.Known as acks
 use Rattle.cb_stability.specs.Sent.{Sent, Keeps, room_of, frames_in}
 use Rattle.cb_history.specs.declared.answer.Outgoing.{Outgoing}
-use Rattle.cb_history.specs.Group.{Seat}
+use Rattle.cb_history.specs.Group.{Identity}
 use Rattle.cb_history.specs.Facts.{Fact, OwnCast}
 use Rattle.cb_history.specs.Known.{acknowledged, stable}
 use Rattle.cb_history.specs.Answers.{delivered, window, is_own_cast, is_window_full, sent_in_answer}
@@ -15,14 +15,14 @@ use Rattle.cb_history.specs.LegalFacts.{AreFactsOf}
 -- ---- acknowledgements
 
 -- of each other member is learnt how many of this member's casts it is known to have delivered
-pub record KnowsAcknowledged (seat : Seat) (facts : List Fact) (known : acks.Known) : Type 0 where
+pub record KnowsAcknowledged (seat : Identity) (facts : List Fact) (known : acks.Known) : Type 0 where
   pub of_size : known.size ≡ seat.group.size
   pub learnt : (k : ℕ) → k < seat.group.size → k ≢ seat.me → acks.count known k seat.me ≡ acknowledged seat facts k
 
 -- the least count that is known of the others is what is stable
 abbrev pub LeastKnownIsStable : Type 0
 LeastKnownIsStable =
-    (seat : Seat) (facts : List Fact) (known : acks.Known) (n : ℕ) → KnowsAcknowledged seat facts known
+    (seat : Identity) (facts : List Fact) (known : acks.Known) (n : ℕ) → KnowsAcknowledged seat facts known
     → acks.IsStable known seat.me n → acks.IsCountOfOther known seat.me n → n ≡ stable seat facts
 
 -- ---- the sent window
@@ -32,7 +32,7 @@ abbrev pub numbered_frame : CastFields → ℕ × List ℕ
 numbered_frame c = (first_number c, text_of (CastFrame c))
 
 -- the window is the group's, as many frames were put as the member cast, and it keeps the own casts above stable
-pub record KeepsOwnCasts (seat : Seat) (facts : List Fact) (sent : Sent) : Type 0 where
+pub record KeepsOwnCasts (seat : Identity) (facts : List Fact) (sent : Sent) : Type 0 where
   pub width : sent.window ≡ seat.group.window
   pub put : sent.put ≡ delivered seat facts seat.me
   pub kept : fin.entries sent.kept ≡ map numbered_frame (window seat facts)
@@ -40,7 +40,7 @@ pub record KeepsOwnCasts (seat : Seat) (facts : List Fact) (sent : Sent) : Type 
 -- there is no room in it exactly where the member's window is full
 abbrev pub NoRoomIsFull : Type 0
 NoRoomIsFull =
-    (seat : Seat) (facts : List Fact) (sent : Sent) → AreFactsOf seat facts → KeepsOwnCasts seat facts sent
+    (seat : Identity) (facts : List Fact) (sent : Sent) → AreFactsOf seat facts → KeepsOwnCasts seat facts sent
     → (room_of sent ≡ 0) ↔ (is_window_full seat facts ≡ true)
 
 -- what is sent again
@@ -50,20 +50,20 @@ sent_to requester bytes = record { to = Some requester; bytes = bytes }
 -- the frames in the ranges of a request are those that are sent in answer to it
 abbrev pub FramesInAreSentInAnswer : Type 0
 FramesInAreSentInAnswer =
-    (seat : Seat) (facts : List Fact) (sent : Sent) (r : RequestFields) → KeepsOwnCasts seat facts sent → r.asked ≡ seat.me
+    (seat : Identity) (facts : List Fact) (sent : Sent) (r : RequestFields) → KeepsOwnCasts seat facts sent → r.asked ≡ seat.me
     → sent_in_answer seat facts (RequestFrame r) ≡ map (sent_to r.requester) (frames_in r.ranges sent)
 
 -- to put the frame of an own cast is to keep the own casts with it
 abbrev pub PutIsOwnCast : Type 0
 PutIsOwnCast =
-    (seat : Seat) (facts : List Fact) (c : CastFields) (sent after : Sent) → AreFactsOf seat (facts ++ OwnCast c ∷ [])
+    (seat : Identity) (facts : List Fact) (c : CastFields) (sent after : Sent) → AreFactsOf seat (facts ++ OwnCast c ∷ [])
     → KeepsOwnCasts seat facts sent → Keeps sent after (sent.put + 1) (fin.insert sent.kept (sent.put + 1) (text_of (CastFrame c)))
     → KeepsOwnCasts seat (facts ++ OwnCast c ∷ []) after
 
 -- to trim up to what is stable after another fact is to keep the own casts above it
 abbrev pub TrimIsStable : Type 0
 TrimIsStable =
-    (seat : Seat) (facts : List Fact) (f : Fact) (sent after : Sent) → AreFactsOf seat (facts ++ f ∷ []) → is_own_cast f ≡ false
+    (seat : Identity) (facts : List Fact) (f : Fact) (sent after : Sent) → AreFactsOf seat (facts ++ f ∷ []) → is_own_cast f ≡ false
     → KeepsOwnCasts seat facts sent
     → Keeps sent after sent.put (fin.retain_keys sent.kept (λ number. nat_lt (stable seat (facts ++ f ∷ [])) number))
     → KeepsOwnCasts seat (facts ++ f ∷ []) after

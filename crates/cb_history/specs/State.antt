@@ -14,7 +14,7 @@ use Rattle.cb_history.specs.declared.answer.Outgoing.{Outgoing}
 use Rattle.cb_history.specs.declared.answer.Ticked.{Ticked}
 use Rattle.cb_history.specs.declared.answer.TickRefusal.{TickRefusal}
 use Rattle.cb_history.specs.declared.answer.TickRefusal.TheVariants as ticks
-use Rattle.cb_history.specs.Group.{Seat}
+use Rattle.cb_history.specs.Group.{Identity}
 use Rattle.cb_history.specs.Facts.{EntryFields, Fact, entry_fields, facts_of}
 use Rattle.cb_delay.specs.declared.message.Event.{Event}
 use Rattle.cb_history.specs.View.{view, time_of}
@@ -25,12 +25,12 @@ use Rattle.cb_history.specs.Legal.{longest_history, IsLegal, Call, ToCast, ToTak
 
 -- the member, how many entries its history may have, and those that it has
 pub record MemberState : Type 0 where
-  pub seat : Seat
+  pub seat : Identity
   pub limit : ℕ
   pub entries : List EntryFields
 
 -- a member with these entries, as they lie in memory
-abbrev pub state_of : Seat → ℕ → List Entry → MemberState
+abbrev pub state_of : Identity → ℕ → List Entry → MemberState
 state_of seat limit entries = record { seat = seat; limit = limit; entries = map entry_fields entries }
 
 -- what is true of those of every member: the history is legal
@@ -89,7 +89,7 @@ answer_to_tick m = tick_answer m.seat m.limit m.entries
 -- a cast of this payload was made
 pub record HasCast (old new : MemberState) (payload : List ℕ) (done : CastDone) : Type 0 where
   pub answer : answer_to_cast old payload ≡ Ok (next_cast old.seat (facts_in old) payload)
-  pub told : done ≡ cast_done old.seat (facts_in old) (next_cast old.seat (facts_in old) payload)
+  pub reported : done ≡ cast_done old.seat (facts_in old) (next_cast old.seat (facts_in old) payload)
   pub after : new ≡ state_after old (ToCast payload)
 
 -- or it was refused. A member that has to look at its whole history may be out of memory in place of most answers.
@@ -97,7 +97,7 @@ abbrev pub RefusesCast : MemberState → List ℕ → CastRefusal → Type 0
 RefusesCast m payload refusal =
     (answer_to_cast m payload ≡ Err refusal) ⊎ ((refusal ≡ casts.NoMemory) × (length payload ≤ LONGEST_PAYLOAD))
 
--- bytes that came were taken, or were a repeat
+-- received bytes were taken, or were a repeat
 pub record HasTaken (old new : MemberState) (bytes : List ℕ) (arrival : Arrival) : Type 0 where
   pub answer : answer_to_arrival old bytes ≡ Ok (arrival_says arrival)
   pub after : new ≡ state_after old (ToTake bytes)
@@ -107,7 +107,7 @@ abbrev pub RefusesArrival : MemberState → List ℕ → ArriveRefusal → Type 
 RefusesArrival m bytes refusal =
     (answer_to_arrival m bytes ≡ Err refusal) ⊎ ((refusal ≡ arrivals.NoMemory) × HasValue (frame_at bytes))
 
--- the status was told, and what is missing was asked for
+-- the status was sent, and what is missing was asked for
 pub record HasTicked (old new : MemberState) (ticked : Ticked) : Type 0 where
   pub answer : answer_to_tick old ≡ Ok (ticked.entered, ticked.out.items)
   pub after : new ≡ state_after old ToTick

@@ -3,7 +3,7 @@ use Rattle.std.specs.Prelude.{◌≡◌, ℕ, ◌<◌, ◌≤◌, true, List, []
 use Rattle.std.specs.List.{AllByRecursion}
 use Rattle.cb_frames.specs.Fields.{first_number, CastFields, Carried}
 use Rattle.cb_diffs.specs.Expansion.{expanded_field, expanded_time}
-use Rattle.cb_history.specs.Group.{Seat}
+use Rattle.cb_history.specs.Group.{Identity}
 use Rattle.cb_history.specs.Facts.{Fact, OwnCast, casts_in}
 use Rattle.cb_history.specs.View.{count, is_among, is_expanded, view, time_of}
 use Rattle.cb_history.specs.Answers.{delivered}
@@ -11,17 +11,17 @@ use Rattle.cb_history.specs.LegalFacts.{AreFactsOf}
 
 -- the time of a message that is expanded does not change by more facts
 abbrev pub TimesStay : Type 0
-TimesStay = (seat : Seat) (facts more : List Fact) (m : Carried) (k : ℕ) → AreFactsOf seat (facts ++ more) → is_expanded (casts_in facts) m ≡ true
+TimesStay = (seat : Identity) (facts more : List Fact) (m : Carried) (k : ℕ) → AreFactsOf seat (facts ++ more) → is_expanded (casts_in facts) m ≡ true
     → expanded_field (casts_in (facts ++ more)) m.sender m.number k ≡ expanded_field (casts_in facts) m.sender m.number k
 
 -- the time that an own cast tells is the view's at that cast
 abbrev pub OwnCastsTellTheView : Type 0
-OwnCastsTellTheView = (seat : Seat) (facts more : List Fact) (c : CastFields) → AreFactsOf seat (facts ++ OwnCast c ∷ more)
+OwnCastsTellTheView = (seat : Identity) (facts more : List Fact) (c : CastFields) → AreFactsOf seat (facts ++ OwnCast c ∷ more)
     → expanded_time seat.group.size (casts_in (facts ++ OwnCast c ∷ more)) seat.me (first_number c) ≡ time_of seat.group.size (facts ++ OwnCast c ∷ [])
 
 -- what a message of the view had seen, the member has delivered: no field of its time is above the member's own
 abbrev pub TimesAreReached : Type 0
-TimesAreReached = (seat : Seat) (facts : List Fact) (m : Carried) (k : ℕ) → AreFactsOf seat facts → is_among (view seat.group.size facts) m ≡ true → k < seat.group.size
+TimesAreReached = (seat : Identity) (facts : List Fact) (m : Carried) (k : ℕ) → AreFactsOf seat facts → is_among (view seat.group.size facts) m ≡ true → k < seat.group.size
     → expanded_field (casts_in facts) m.sender m.number k ≤ delivered seat facts k
 
 -- each of these messages has a time that the messages up to it and with it reach
@@ -31,7 +31,7 @@ InTimeAfter size casts before (m ∷ ms) = ((k : ℕ) → k < size → expanded_
 
 -- before each message of the view stands all that its sender had delivered when it cast it
 abbrev pub ViewIsInTime : Type 0
-ViewIsInTime = (seat : Seat) (facts : List Fact) → AreFactsOf seat facts → InTimeAfter seat.group.size (casts_in facts) [] (view seat.group.size facts)
+ViewIsInTime = (seat : Identity) (facts : List Fact) → AreFactsOf seat facts → InTimeAfter seat.group.size (casts_in facts) [] (view seat.group.size facts)
 
 -- where both have a cast of this sender under one number, its changes are the same
 abbrev pub SameFrames : List CastFields → List CastFields → ℕ → Type 0
@@ -39,5 +39,5 @@ SameFrames casts others sender = AllByRecursion (λ c. AllByRecursion (λ d. c.s
 
 -- two members that have the same frames of a sender, and can tell the time of its message, tell the same time
 abbrev pub TimesAgree : Type 0
-TimesAgree = (seat other : Seat) (facts others : List Fact) (m : Carried) (k : ℕ) → AreFactsOf seat facts → AreFactsOf other others → SameFrames (casts_in facts) (casts_in others) m.sender
+TimesAgree = (seat other : Identity) (facts others : List Fact) (m : Carried) (k : ℕ) → AreFactsOf seat facts → AreFactsOf other others → SameFrames (casts_in facts) (casts_in others) m.sender
     → is_expanded (casts_in facts) m ≡ true → is_expanded (casts_in others) m ≡ true → expanded_field (casts_in facts) m.sender m.number k ≡ expanded_field (casts_in others) m.sender m.number k

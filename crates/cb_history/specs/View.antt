@@ -4,7 +4,7 @@ use Rattle.std.specs.List.{list_any, list_all, range_with_len}
 use Rattle.cb_frames.specs.Fields.{CastFields, Carried, messages_of}
 use Rattle.cb_delay.specs.declared.message.Message.{Message}
 use Rattle.cb_diffs.specs.Expansion.{expanded_field, expanded_time}
-use Rattle.cb_history.specs.Facts.{Fact, OwnCast, CastCame, StatusCame, OwnStatus, cast_in, messages_in, is_there, numbers_between}
+use Rattle.cb_history.specs.Facts.{Fact, OwnCast, CastReceived, StatusReceived, OwnStatus, cast_in, messages_in, is_there, numbers_between}
 
 -- how many of these messages are member k's
 abbrev pub count : List Carried → ℕ → ℕ
@@ -57,11 +57,11 @@ drained size casts (suc budget) seen = with_next (next_delivery size casts seen)
 abbrev pub drain : ℕ → List CastFields → List Carried → List Carried
 drain size casts seen = drained size casts (length (messages_in casts)) seen
 
--- What one more fact adds to what was seen; the casts are those of all facts up to it. Only a cast that came leads to deliveries.
+-- What one more fact adds to what was seen; the casts are those of all facts up to it. Only a received cast leads to deliveries.
 abbrev pub seen_after : ℕ → List CastFields → List Carried → Fact → List Carried
 seen_after size casts seen (OwnCast c) = seen ++ messages_of c
-seen_after size casts seen (CastCame c) = drain size casts seen
-seen_after size casts seen (StatusCame s) = seen
+seen_after size casts seen (CastReceived c) = drain size casts seen
+seen_after size casts seen (StatusReceived s) = seen
 seen_after size casts seen (OwnStatus s) = seen
 
 abbrev pub seen_from : ℕ → List CastFields → List Carried → List Fact → List Carried

@@ -5,8 +5,8 @@ use Rattle.cb_frames.specs.Fields.{CastFields, StatusFields, Carried}
 use Rattle.cb_delay.specs.declared.message.Message.{Message}
 use Rattle.cb_delay.specs.Message.{IsOfGroup}
 use Rattle.cb_delay.specs.Queue.{Queue, Holds, IsHeld, FollowsLast, IsDelayQueue, count_of}
-use Rattle.cb_history.specs.Group.{Seat}
-use Rattle.cb_history.specs.Facts.{Fact, OwnCast, CastCame, StatusCame, OwnStatus, casts_in, messages_in}
+use Rattle.cb_history.specs.Group.{Identity}
+use Rattle.cb_history.specs.Facts.{Fact, OwnCast, CastReceived, StatusReceived, OwnStatus, casts_in, messages_in}
 use Rattle.cb_history.specs.View.{count, is_expanded, view, message_in}
 use Rattle.cb_history.specs.Known.{expanded_count}
 use Rattle.cb_history.specs.NameLaws.{IsOneOf}
@@ -15,18 +15,18 @@ use Rattle.cb_history.specs.DeliveryLaws.{IsOnTheWay}
 use Rattle.cb_history.specs.QueueLaws.{IsUndelivered, HoldsUndelivered}
 
 -- the queue holds what is expanded of the member's casts and not in its view
-abbrev pub HoldsWaiting : Seat → List Fact → Queue → Type 0
+abbrev pub HoldsWaiting : Identity → List Fact → Queue → Type 0
 HoldsWaiting seat facts queue = HoldsUndelivered seat.group.size (casts_in facts) (view seat.group.size facts) queue
 
 -- an own cast leaves it so, and so does a status, an own one or one that came
 abbrev pub OwnFactsLeaveWaiting : Type 0
 OwnFactsLeaveWaiting =
-    (seat : Seat) (facts : List Fact) (queue : Queue) → HoldsWaiting seat facts queue
+    (seat : Identity) (facts : List Fact) (queue : Queue) → HoldsWaiting seat facts queue
     → ((c : CastFields) → AreFactsOf seat (facts ++ OwnCast c ∷ []) → HoldsWaiting seat (facts ++ OwnCast c ∷ []) queue)
-    × ((s : StatusFields) → HoldsWaiting seat (facts ++ StatusCame s ∷ []) queue)
+    × ((s : StatusFields) → HoldsWaiting seat (facts ++ StatusReceived s ∷ []) queue)
     × ((s : StatusFields) → HoldsWaiting seat (facts ++ OwnStatus s ∷ []) queue)
 
--- ---- a cast that came, while its sender's casts are taken one after the other
+-- ---- a received cast, while its sender's casts are taken one after the other
 
 -- undelivered, and of sender i up to this number
 pub record IsTakenOf (size : ℕ) (casts : List CastFields) (seen : List Carried) (i taken : ℕ) (message : Message) : Type 0 where
@@ -41,9 +41,9 @@ pub record HoldsTakenOf (size : ℕ) (casts : List CastFields) (seen : List Carr
 -- with one more cast that came it holds of its sender what was expanded before
 abbrev pub CastWaitsForItsTurn : Type 0
 CastWaitsForItsTurn =
-    (seat : Seat) (facts : List Fact) (c : CastFields) (queue : Queue) → AreFactsOf seat (facts ++ CastCame c ∷ [])
+    (seat : Identity) (facts : List Fact) (c : CastFields) (queue : Queue) → AreFactsOf seat (facts ++ CastReceived c ∷ [])
     → HoldsWaiting seat facts queue
-    → HoldsTakenOf seat.group.size (casts_in (facts ++ CastCame c ∷ [])) (view seat.group.size facts) c.sender
+    → HoldsTakenOf seat.group.size (casts_in (facts ++ CastReceived c ∷ [])) (view seat.group.size facts) c.sender
     (expanded_count (casts_in facts) c.sender) queue
 
 -- the sender's next message behind those that were taken, which are at least those seen; it is expanded and within the window

@@ -113,7 +113,7 @@ pub enum Arrival {
         /// What is to be sent in answer.
         out: Vec<Outgoing>,
     },
-    /// The cast came before, or is the member's own. Nothing changed.
+    /// The cast was received before, or is the member's own. Nothing changed.
     Repeat,
 }
 
@@ -217,7 +217,7 @@ impl<T: Drop> From<AllocFailed<T>> for TickRefusal {
     }
 }
 
-/// Why the missing numbers of a member were not told.
+/// Why the missing numbers of a member were not answered.
 #[derive(Clone, Copy, Debug, PartialEq, Eq)]
 pub enum MissingFault {
     /// The member is none of the group, or it is the member itself, which misses none of its own casts.

@@ -1,7 +1,7 @@
 //! The group, whose parameters all members share, and a member's seat in it.
 
 ghost use Rattle.std.specs.Prelude.{◌≡◌, ◌↔◌, ◌≤◌, IfOk, IsOk, MatchOption, Some, codes};
-ghost use Rattle.cb_history.specs.Group.{Parameters, AreParameters, IsSeat};
+ghost use Rattle.cb_history.specs.Group.{Parameters, AreParameters, IsIdentity};
 
 use cb_times::{FEWEST_MEMBERS, MOST_MEMBERS, WIDEST_WINDOW};
 use std::error::Error;
@@ -89,33 +89,33 @@ impl Group {
 
 /// A member of a group: the group, and which of its members it is.
 #[derive(Clone, Copy, Debug, PartialEq, Eq, Drop)]
-pub struct Seat {
+pub struct Identity {
     group: Group,
     me: u32,
 }
 
-impl Model for Seat {
-    ghost use Rattle.cb_history.specs.Group.{Seat as SeatOf, IsSeat, seat_code};
+impl Model for Identity {
+    ghost use Rattle.cb_history.specs.Group.{Identity as IdentityOf, IsIdentity, identity_code};
 
-    ghost Value = { SeatOf };
+    ghost Value = { IdentityOf };
 
-    ghost coded = { seat_code };
+    ghost coded = { identity_code };
 
     ghost view = { λ s. record { group = s.group; me = s.me } };
 
     ghost inverse = { λ s. record { group = s.group; me = s.me } };
 
-    ghost invariant = { λ s. IsSeat (record { group = s.group; me = s.me }) };
+    ghost invariant = { λ s. IsIdentity (record { group = s.group; me = s.me }) };
 }
 
-impl Seat {
+impl Identity {
     /// Member `me` of the group, where it has that member.
-    pub fn new(group: Group, me: u32) -> Option<Seat>
+    pub fn new(group: Group, me: u32) -> Option<Identity>
         ensures { MatchOption result (group.size ≤ me) (λ seat. (seat
-            ≡ record { group = group; me = me }) × IsSeat seat) }
+            ≡ record { group = group; me = me }) × IsIdentity seat) }
     {
         if me < group.size() {
-            Some(Seat { group, me })
+            Some(Identity { group, me })
         } else {
             None
         }
@@ -124,7 +124,7 @@ impl Seat {
     /// The group.
     pub fn group(&self) -> Group
         ensures group { result ≡ self.now.group }
-        ensures is { IsSeat self.now }
+        ensures is { IsIdentity self.now }
     {
         self.group
     }
@@ -132,7 +132,7 @@ impl Seat {
     /// The number of the member, below the group's size.
     pub fn me(&self) -> u32
         ensures me { result ≡ self.now.me }
-        ensures is { IsSeat self.now }
+        ensures is { IsIdentity self.now }
     {
         self.me
     }

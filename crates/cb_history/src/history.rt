@@ -22,7 +22,7 @@ pub enum Entry {
     Cast { frame: Bytes },
     /// This frame came and changed the member's state. These messages were delivered then, in this order.
     Arrive { frame: Bytes, delivered: Names },
-    /// The member told all others its time by this status.
+    /// The member reported all others its time by this status.
     Tick { status: Bytes },
 }
 
@@ -37,7 +37,7 @@ pub struct History {
 }
 
 impl Entry {
-    /// The same entry once more; the bytes of its frame are shared.
+    /// A copy of the entry; the bytes of its frame are shared.
     pub fn copy(&self) -> Result<Entry, NoMemory>
         ensures { IfOk result (λ entry. entry_fields entry ≡ entry_fields self.now) }
     {
@@ -55,7 +55,7 @@ impl Entry {
         })
     }
 
-    /// The same entries once more.
+    /// Copies of these entries, in order.
     pub fn copies(alloc: Global, entries: &[Entry]) -> Result<Vec<Entry>, NoMemory>
         ensures { IfOk result (λ copies. map entry_fields copies.items
             ≡ map entry_fields entries.now) }
@@ -69,7 +69,7 @@ impl Entry {
 }
 
 impl History {
-    /// The same history once more.
+    /// A copy of the history; the bytes of its frames are shared.
     pub fn copy(&self) -> Result<History, NoMemory>
         ensures { IfOk result (λ history. (history.group ≡ self.now.group) × (history.me
             ≡ self.now.me)

@@ -19,6 +19,6 @@ pub use answer::{
     Ticked,
 };
 pub use cb_delay::{Event, Message, Name};
-pub use group::{BadGroup, Group, Seat};
+pub use group::{BadGroup, Group, Identity};
 pub use history::{Entry, History, LONGEST_HISTORY, Names};
 pub use member::GroupMember;

@@ -28,7 +28,7 @@ pub trait GroupMember {
         ensures refused { IfErr result (RefusesCast (state self.old) payload.now) }
         ensures same { OnErr result (state self.new ≡ state self.old) };
 
-    /// Takes bytes that came. After a refusal the member is as it was.
+    /// Takes received bytes. After a refusal the member is as it was.
     fn arrive(&mut self, bytes: &Bytes) -> Result<Arrival, ArriveRefusal>
         ensures taken { IfOk result (HasTaken (state self.old) (state self.new) bytes.now) }
         ensures refused { IfErr result (RefusesArrival (state self.old) bytes.now) }

@@ -6,7 +6,7 @@ use Rattle.cb_history.specs.declared.answer.CastDone.{CastDone}
 use Rattle.cb_history.specs.declared.answer.CastRefusal.{CastRefusal}
 use Rattle.cb_history.specs.declared.answer.CastRefusal.TheVariants as casts
 use Rattle.cb_history.specs.declared.answer.Arrival.{Arrival}
-use Rattle.cb_history.specs.declared.answer.Arrival.TheVariants as told
+use Rattle.cb_history.specs.declared.answer.Arrival.TheVariants as reported
 use Rattle.cb_history.specs.declared.answer.ArriveRefusal.{ArriveRefusal}
 use Rattle.cb_history.specs.declared.answer.ArriveRefusal.TheVariants as arrivals
 use Rattle.cb_history.specs.declared.answer.Outgoing.{Outgoing}
@@ -20,20 +20,20 @@ use Rattle.cb_lock.specs.Receipts.{SeatState, and_claim}
 
 -- ---- the entry that an answer tells of, where it tells of one
 
-abbrev pub told_by_cast : CastDone → Option EntryFields
-told_by_cast done = Some (CastEntry done.out)
+abbrev pub reported_by_cast : CastDone → Option EntryFields
+reported_by_cast done = Some (CastEntry done.out)
 
-abbrev pub told_by_arrival : List ℕ → Arrival → Option EntryFields
-told_by_arrival bytes (told.Accepted deliveries changed out) = if changed then Some (ArriveEntry bytes (map (λ m. m.name) deliveries.items)) else None
-told_by_arrival bytes told.Repeat = None
+abbrev pub reported_by_arrival : List ℕ → Arrival → Option EntryFields
+reported_by_arrival bytes (reported.Accepted deliveries changed out) = if changed then Some (ArriveEntry bytes (map (λ m. m.name) deliveries.items)) else None
+reported_by_arrival bytes reported.Repeat = None
 
--- the first frame that is put out, the status to all
+-- the first frame that is sent, the status to all
 abbrev pub first_bytes : List Outgoing → List ℕ
 first_bytes [] = []
 first_bytes (o ∷ os) = o.bytes
 
-abbrev pub told_by_tick : Ticked → Option EntryFields
-told_by_tick ticked = if ticked.entered then Some (TickEntry (first_bytes ticked.out.items)) else None
+abbrev pub reported_by_tick : Ticked → Option EntryFields
+reported_by_tick ticked = if ticked.entered then Some (TickEntry (first_bytes ticked.out.items)) else None
 
 -- ---- the seat
 
@@ -63,8 +63,8 @@ pub record CoversReceipts (seat : SeatState) (m : MemberState) : Type 0 where
 pub record CastsOn (m : MemberState) (old new : SeatState) (payload : List ℕ) (result : Result CastDone CastRefusal) : Type 0 where
   pub done : IfOk result (HasCast m (state_after m (ToCast payload)) payload)
   pub refused : IfErr result (MayRefuseCast m payload)
-  pub receipt : IfOk result (λ done. new ≡ and_receipt old m (told_by_cast done))
-  pub entry : IfOk result (λ done. entry_by m (ToCast payload) ≡ told_by_cast done)
+  pub receipt : IfOk result (λ done. new ≡ and_receipt old m (reported_by_cast done))
+  pub entry : IfOk result (λ done. entry_by m (ToCast payload) ≡ reported_by_cast done)
   pub none : OnErr result (new ≡ old)
 
 -- A payload that was given was cast, or refused; without one the seat stays.
@@ -79,11 +79,11 @@ given cast = option_map (λ c. c.0) cast
 pub record ArrivesOn (m : MemberState) (old new : SeatState) (bytes : List ℕ) (result : Result Arrival ArriveRefusal) : Type 0 where
   pub taken : IfOk result (HasTaken m (state_after m (ToTake bytes)) bytes)
   pub refused : IfErr result (MayRefuseArrival m bytes)
-  pub receipt : IfOk result (λ arrival. new ≡ and_receipt old m (told_by_arrival bytes arrival))
-  pub entry : IfOk result (λ arrival. entry_by m (ToTake bytes) ≡ told_by_arrival bytes arrival)
+  pub receipt : IfOk result (λ arrival. new ≡ and_receipt old m (reported_by_arrival bytes arrival))
+  pub entry : IfOk result (λ arrival. entry_by m (ToTake bytes) ≡ reported_by_arrival bytes arrival)
   pub none : OnErr result (new ≡ old)
 
--- The same where only what is to be sent is told: the receipt is of the entry that the definition adds.
+-- An arrival of which only what is to be sent is answered: the receipt is of the entry that the definition adds.
 pub record ReceivesOn (m : MemberState) (old new : SeatState) (bytes : List ℕ) (result : Result (Vec Outgoing Global) ArriveRefusal) : Type 0 where
   pub taken : IfOk result (λ out. HasTakenToSend m (state_after m (ToTake bytes)) bytes out.items)
   pub refused : IfErr result (MayRefuseArrival m bytes)
@@ -93,8 +93,8 @@ pub record ReceivesOn (m : MemberState) (old new : SeatState) (bytes : List ℕ)
 pub record TicksOn (m : MemberState) (old new : SeatState) (result : Result Ticked TickRefusal) : Type 0 where
   pub done : IfOk result (HasTicked m (state_after m ToTick))
   pub refused : IfErr result (MayRefuseTick m)
-  pub receipt : IfOk result (λ ticked. new ≡ and_receipt old m (told_by_tick ticked))
-  pub entry : IfOk result (λ ticked. entry_by m ToTick ≡ told_by_tick ticked)
+  pub receipt : IfOk result (λ ticked. new ≡ and_receipt old m (reported_by_tick ticked))
+  pub entry : IfOk result (λ ticked. entry_by m ToTick ≡ reported_by_tick ticked)
   pub none : OnErr result (new ≡ old)
 
 -- Some legal member, whose history covers the seat's receipts, answered so.

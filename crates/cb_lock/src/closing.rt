@@ -9,7 +9,7 @@ ghost use Rattle.cb_lock.specs.FaultText.{close_fault_text};
 ghost use Rattle.cb_lock.specs.Seen.{Marks, Checks, ChecksSeat};
 
 use crate::seat::{Receipt, Seat};
-use cb_member::{Entry, Member, Name, NoMemory, Seat as Identity};
+use cb_member::{Entry, Identity, Member, Name, NoMemory};
 use std::alloc::Global;
 use std::error::Error;
 use std::fmt;

@@ -7,7 +7,7 @@ ghost use Rattle.cb_history.specs.State.{IsMemberState, HasCast, HasTaken, HasTi
 ghost use Rattle.cb_history.specs.Facts.{entry_fields};
 ghost use Rattle.cb_member.specs.AtOnce.{HasTakenToSend};
 ghost use Rattle.cb_lock.specs.Receipts.{receipt_fields, and_claim, entered};
-ghost use Rattle.cb_lock.specs.Calls.{MayRefuseCast, MayRefuseArrival, MayRefuseTick, and_receipt, told_by_cast, told_by_arrival, told_by_tick};
+ghost use Rattle.cb_lock.specs.Calls.{MayRefuseCast, MayRefuseArrival, MayRefuseTick, and_receipt, reported_by_cast, reported_by_arrival, reported_by_tick};
 
 use crate::seat::{Receipt, Seat};
 use bytes::Bytes;
@@ -63,9 +63,9 @@ impl<L: Ledger> Held<L> {
         ensures refused { IfErr result (MayRefuseCast self.old payload.now) }
         ensures same { OnErr result (self.new ≡ self.old) }
         ensures receipt { IfOk result (λ done. seat.new
-            ≡ and_receipt seat.old self.old (told_by_cast done)) }
+            ≡ and_receipt seat.old self.old (reported_by_cast done)) }
         ensures entry { IfOk result (λ done. entry_by self.old (ToCast payload.now)
-            ≡ told_by_cast done) }
+            ≡ reported_by_cast done) }
         ensures none { OnErr result (seat.new ≡ seat.old) }
         ensures parts { seat.new.parts ≡ seat.old.parts }
         ensures covered { length seat.old.receipts ≤ length self.old.entries }
@@ -80,7 +80,7 @@ impl<L: Ledger> Held<L> {
         Ok(done)
     }
 
-    /// Takes bytes that came, as the member does, and appends a receipt to the seat where an entry was added.
+    /// Takes received bytes, as the member does, and appends a receipt to the seat where an entry was added.
     ///
     /// `NoMemory` may stand in place of any refusal. After a refusal the member and the seat are as they were.
     pub fn arrive(&mut self, seat: &mut Seat<L>, bytes: &Bytes) -> Result<Arrival, ArriveRefusal>
@@ -88,9 +88,9 @@ impl<L: Ledger> Held<L> {
         ensures refused { IfErr result (MayRefuseArrival self.old bytes.now) }
         ensures same { OnErr result (self.new ≡ self.old) }
         ensures receipt { IfOk result (λ arrival. seat.new
-            ≡ and_receipt seat.old self.old (told_by_arrival bytes.now arrival)) }
+            ≡ and_receipt seat.old self.old (reported_by_arrival bytes.now arrival)) }
         ensures entry { IfOk result (λ arrival. entry_by self.old (ToTake bytes.now)
-            ≡ told_by_arrival bytes.now arrival) }
+            ≡ reported_by_arrival bytes.now arrival) }
         ensures none { OnErr result (seat.new ≡ seat.old) }
         ensures parts { seat.new.parts ≡ seat.old.parts }
         ensures covered { length seat.old.receipts ≤ length self.old.entries }
@@ -105,7 +105,7 @@ impl<L: Ledger> Held<L> {
         Ok(arrival)
     }
 
-    /// Takes bytes that came as `arrive` does, and tells only what is to be sent. The deliveries stand among the member's events.
+    /// Takes received bytes as `arrive` does, and tells only what is to be sent. The deliveries stand among the member's events.
     ///
     /// `NoMemory` may stand in place of any refusal. After a refusal the member and the seat are as they were.
     pub fn receive(
@@ -140,8 +140,8 @@ impl<L: Ledger> Held<L> {
         ensures refused { IfErr result (MayRefuseTick self.old) }
         ensures same { OnErr result (self.new ≡ self.old) }
         ensures receipt { IfOk result (λ ticked. seat.new
-            ≡ and_receipt seat.old self.old (told_by_tick ticked)) }
-        ensures entry { IfOk result (λ ticked. entry_by self.old ToTick ≡ told_by_tick ticked) }
+            ≡ and_receipt seat.old self.old (reported_by_tick ticked)) }
+        ensures entry { IfOk result (λ ticked. entry_by self.old ToTick ≡ reported_by_tick ticked) }
         ensures none { OnErr result (seat.new ≡ seat.old) }
         ensures parts { seat.new.parts ≡ seat.old.parts }
         ensures covered { length seat.old.receipts ≤ length self.old.entries }

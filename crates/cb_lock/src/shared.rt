@@ -10,8 +10,7 @@ use crate::held::Held;
 use crate::seat::Seat;
 use bytes::Bytes;
 use cb_member::{
-    Arrival, ArriveRefusal, CastDone, CastRefusal, Member, Outgoing, Seat as Identity, TickRefusal,
-    Ticked,
+    Arrival, ArriveRefusal, CastDone, CastRefusal, Identity, Member, Outgoing, TickRefusal, Ticked,
 };
 use std::alloc::Global;
 use std::sync::ledger::{Blank, Ledger};
@@ -57,7 +56,7 @@ impl<L: Ledger> SharedMember<L> {
         self.held.lock(rt).cast(seat, payload)
     }
 
-    /// Takes bytes that came, as the member does, and appends a receipt to the seat where an entry was added.
+    /// Takes received bytes, as the member does, and appends a receipt to the seat where an entry was added.
     pub fn arrive(
         &self,
         rt: &impl Wait,
@@ -70,7 +69,7 @@ impl<L: Ledger> SharedMember<L> {
         self.held.lock(rt).arrive(seat, bytes)
     }
 
-    /// Takes bytes that came as `arrive` does, and tells only what is to be sent: for a caller that reads the deliveries among the
+    /// Takes received bytes as `arrive` does, and tells only what is to be sent: for a caller that reads the deliveries among the
     /// member's events. It costs less, since no message is made twice, and the bytes go into the receipt.
     pub fn receive(
         &self,
@@ -112,7 +111,7 @@ impl<L: Ledger> SharedMember<L> {
 
     /// Shows the member to `f` under the lock, and casts the payload that `f` answers, where it answers one: nothing comes between.
     ///
-    /// The payload is handed back with what came of it. It is as if `with_state` and `cast` were called, but the lock is taken once.
+    /// The payload is handed back with the outcome of it. It is as if `with_state` and `cast` were called, but the lock is taken once.
     pub fn cast_with<R, F: FnOnce(&Member) -> (R, Option<Vec<u8>>)>(
         &self,
         rt: &impl Wait,

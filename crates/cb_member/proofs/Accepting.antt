@@ -13,8 +13,8 @@ use Rattle.cb_delay.specs.declared.message.Message.{Message}
 use Rattle.cb_history.specs.declared.history.Entry.{Entry}
 use Rattle.cb_history.specs.declared.answer.Arrival.{Arrival}
 use Rattle.cb_history.specs.declared.answer.Outgoing.{Outgoing}
-use Rattle.cb_history.specs.Group.{Seat}
-use Rattle.cb_history.specs.Facts.{ArriveEntry, EntryFields, Fact, CastCame, arrival_said, casts_in, entry_fields, facts_of, said_by}
+use Rattle.cb_history.specs.Group.{Identity}
+use Rattle.cb_history.specs.Facts.{ArriveEntry, EntryFields, Fact, CastReceived, arrival_said, casts_in, entry_fields, facts_of, said_by}
 use Rattle.cb_history.specs.Answers.{ArrivalSays, Accepted, Repeat, arrival_says, deliveries}
 use Rattle.cb_history.specs.Legal.{ToTake, arrive_entry}
 use Rattle.cb_history.specs.LegalFacts.{AreFactsOf}
@@ -38,7 +38,7 @@ use Rattle.cb_member.proofs.Entering.{after_entry, after_none, state_with_entry,
 same_facts : (old new : Store) → IsSameWithRoom old new → facts_held new ≡ facts_held old
 same_facts old new same = ap (λ (es : List Entry). facts_of (map entry_fields es)) same.entries
 
-pub keeps_with_room : (seat : Seat) (facts : List Fact) (old new : Store) → IsSameWithRoom old new → Keeps seat facts old → Keeps seat facts new
+pub keeps_with_room : (seat : Identity) (facts : List Fact) (old new : Store) → IsSameWithRoom old new → Keeps seat facts old → Keeps seat facts new
 keeps_with_room seat facts old new same k = record {
   delivered = subst (HasDelivered seat facts) (sym same.delivery) (record {
     waits = record { way = k.delivered.waits.way; time = k.delivered.waits.time; queue = k.delivered.waits.queue; copies = k.delivered.waits.copies };
@@ -58,7 +58,7 @@ keeps_with_room seat facts old new same k = record {
   sent = subst (HasSent seat facts) (sym same.sending) k.sent;
 }
 
-pub kept_with_room : (seat : Seat) (limit : ℕ) (old new : Store) → IsSameWithRoom old new → IsKept seat limit old → IsKept seat limit new
+pub kept_with_room : (seat : Identity) (limit : ℕ) (old new : Store) → IsSameWithRoom old new → IsKept seat limit old → IsKept seat limit new
 kept_with_room seat limit old new same k = record {
   state = subst (λ (es : List Entry). IsMemberState (state_of seat limit es)) (sym same.entries) k.state;
   keeps = subst (λ (fs : List Fact). Keeps seat fs new) (sym (same_facts old new same)) (keeps_with_room seat (facts_held old) old new same k.keeps);
@@ -73,9 +73,9 @@ can_keep_with_room c old new same can =
     (subst (λ (d : Delivery). CanKeep (field d.time c.sender) c (record old.reception { spares = new.reception.spares })) (sym same.delivery)
     (record { buffer = can.buffer; at = can.at; upto_taken = can.upto_taken; is_kept = can.is_kept }))
 
-pub can_take_with_room : (seat : Seat) (limit : ℕ) (c : CastFields) (old new : Store) → IsSameWithRoom old new → CanTake seat limit old c → CanTake seat limit new c
+pub can_take_with_room : (seat : Identity) (limit : ℕ) (c : CastFields) (old new : Store) → IsSameWithRoom old new → CanTake seat limit old c → CanTake seat limit new c
 can_take_with_room seat limit c old new same can = record {
-  legal = subst (λ (fs : List Fact). AreFactsOf seat (fs ++ CastCame c ∷ [])) (sym (same_facts old new same)) can.legal;
+  legal = subst (λ (fs : List Fact). AreFactsOf seat (fs ++ CastReceived c ∷ [])) (sym (same_facts old new same)) can.legal;
   member = can.member;
   other = can.other;
   can_keep = can_keep_with_room c old new same can.can_keep;
@@ -88,12 +88,12 @@ same_waiting c old new same =
     ap (λ (d : Delivery). fin.len d.queue.held + expanded_by (facts_held new) c) same.delivery
     ∙ ap (λ (fs : List Fact). fin.len old.delivery.queue.held + expanded_by fs c) (same_facts old new same)
 
-pub can_deliver : (seat : Seat) (limit : ℕ) (c : CastFields) (spare : Spare) (old new : Store) → IsKept seat limit old → CanTake seat limit old c → IsSameWithRoom old new → HasRoomFor (waiting_with old c) new → IsSpareFor seat.group.size c spare
+pub can_deliver : (seat : Identity) (limit : ℕ) (c : CastFields) (spare : Spare) (old new : Store) → IsKept seat limit old → CanTake seat limit old c → IsSameWithRoom old new → HasRoomFor (waiting_with old c) new → IsSpareFor seat.group.size c spare
     → CanDeliver seat c spare new
 can_deliver seat limit c spare old new k can same room for =
     let facts = same_facts old new same in
     record {
-      legal = subst (λ (fs : List Fact). AreFactsOf seat (fs ++ CastCame c ∷ [])) (sym facts) can.legal;
+      legal = subst (λ (fs : List Fact). AreFactsOf seat (fs ++ CastReceived c ∷ [])) (sym facts) can.legal;
       keeps = (kept_with_room seat limit old new same k).keeps;
       other = can.other;
       can_keep = can_keep_with_room c old new same can.can_keep;
@@ -104,7 +104,7 @@ can_deliver seat limit c spare old new k can same room for =
 
 -- ---- the entry
 
-pub record Accepts (seat : Seat) (limit : ℕ) (bytes : List ℕ) (c : CastFields) (old mid after new : Store) (messages : List Message) : Type 0 where
+pub record Accepts (seat : Identity) (limit : ℕ) (bytes : List ℕ) (c : CastFields) (old mid after new : Store) (messages : List Message) : Type 0 where
   pub kept : IsKept seat limit old
   pub bytes_are : IsBytes bytes
   pub can : CanTake seat limit old c
@@ -115,7 +115,7 @@ pub record Accepts (seat : Seat) (limit : ℕ) (bytes : List ℕ) (c : CastField
   pub messages_are : messages ≡ deliveries seat (facts_held mid) (CastFrame c)
   pub entered : EntersNames bytes messages after new
 
-module _ (seat : Seat) (limit : ℕ) (bytes : List ℕ) (c : CastFields) (old mid after new : Store) (messages : List Message) (a : Accepts seat limit bytes c old mid after new messages) where
+module _ (seat : Identity) (limit : ℕ) (bytes : List ℕ) (c : CastFields) (old mid after new : Store) (messages : List Message) (a : Accepts seat limit bytes c old mid after new messages) where
   delivered_are : messages ≡ deliveries seat (facts_held old) (CastFrame c)
   delivered_are = a.messages_are ∙ ap (λ (fs : List Fact). deliveries seat fs (CastFrame c)) (same_facts old mid a.same)
 
@@ -134,13 +134,13 @@ module _ (seat : Seat) (limit : ℕ) (bytes : List ℕ) (c : CastFields) (old mi
   added = a.entered.added ∙ ap (λ (es : List Entry). es ++ a.entered.entry ∷ []) (ap (λ (v : Vec Entry Global). v.items) a.entries ∙ a.same.entries)
 
   facts_now : facts_held new ≡ facts_with c old
-  facts_now = facts_with_entry old new a.entered.entry (CastCame c) added (ap said_by a.entered.fields ∙ ap arrival_said a.read)
+  facts_now = facts_with_entry old new a.entered.entry (CastReceived c) added (ap said_by a.entered.fields ∙ ap arrival_said a.read)
 
   pub accepted_keeps : IsKept seat limit new
   accepted_keeps = record {
     state = state_with_entry seat limit old new (ToTake bytes) a.entered.entry a.kept.state a.bytes_are a.can.room by_entry added;
     keeps = subst (λ (fs : List Fact). Keeps seat fs new) (sym facts_now)
-        (subst (λ (fs : List Fact). Keeps seat (fs ++ CastCame c ∷ []) new) (same_facts old mid a.same)
+        (subst (λ (fs : List Fact). Keeps seat (fs ++ CastReceived c ∷ []) new) (same_facts old mid a.same)
         (subst (Keeps seat (facts_with c mid)) (sym a.entered.rest) (record { delivered = a.keeps.delivered; received = a.keeps.received; knows = a.keeps.knows; sent = a.keeps.sent })));
   }
 
@@ -158,7 +158,7 @@ module _ (seat : Seat) (limit : ℕ) (bytes : List ℕ) (c : CastFields) (old mi
 
 -- ---- a repeat
 
-pub repeat_taken : (seat : Seat) (limit : ℕ) (bytes : List ℕ) (c : CastFields) (store : Store) (arrival : Arrival) → frame_at bytes ≡ Ok (CastFrame c) → answer_to_frame (held_by seat limit store) (CastFrame c) ≡ Ok Repeat → arrival_says arrival ≡ Repeat
+pub repeat_taken : (seat : Identity) (limit : ℕ) (bytes : List ℕ) (c : CastFields) (store : Store) (arrival : Arrival) → frame_at bytes ≡ Ok (CastFrame c) → answer_to_frame (held_by seat limit store) (CastFrame c) ≡ Ok Repeat → arrival_says arrival ≡ Repeat
     → HasTaken (held_by seat limit store) (held_by seat limit store) bytes arrival
 repeat_taken seat limit bytes c store arrival read is says =
     let answer = answered seat limit store bytes (CastFrame c) read ∙ is in
@@ -167,12 +167,12 @@ repeat_taken seat limit bytes c store arrival read is says =
       after = after_none seat limit store store (ToTake bytes) (ap (arrive_entry bytes) answer) refl;
     }
 
-pub repeat_to_send : (seat : Seat) (limit : ℕ) (bytes : List ℕ) (c : CastFields) (store : Store) (out : List Outgoing) → frame_at bytes ≡ Ok (CastFrame c) → answer_to_frame (held_by seat limit store) (CastFrame c) ≡ Ok Repeat → out ≡ []
+pub repeat_to_send : (seat : Identity) (limit : ℕ) (bytes : List ℕ) (c : CastFields) (store : Store) (out : List Outgoing) → frame_at bytes ≡ Ok (CastFrame c) → answer_to_frame (held_by seat limit store) (CastFrame c) ≡ Ok Repeat → out ≡ []
     → HasTakenToSend (held_by seat limit store) (held_by seat limit store) bytes out
 repeat_to_send seat limit bytes c store out read is none =
     let answer = answered seat limit store bytes (CastFrame c) read ∙ is in
     record { says = Repeat; answer = answer; sends = none; after = after_none seat limit store store (ToTake bytes) (ap (arrive_entry bytes) answer) refl }
 
-pub repeat_entry : (seat : Seat) (limit : ℕ) (bytes : List ℕ) (c : CastFields) (store : Store) → frame_at bytes ≡ Ok (CastFrame c) → answer_to_frame (held_by seat limit store) (CastFrame c) ≡ Ok Repeat
+pub repeat_entry : (seat : Identity) (limit : ℕ) (bytes : List ℕ) (c : CastFields) (store : Store) → frame_at bytes ≡ Ok (CastFrame c) → answer_to_frame (held_by seat limit store) (CastFrame c) ≡ Ok Repeat
     → entry_by (held_by seat limit store) (ToTake bytes) ≡ None
 repeat_entry seat limit bytes c store read is = ap (arrive_entry bytes) (answered seat limit store bytes (CastFrame c) read ∙ is)

@@ -14,8 +14,8 @@ use Rattle.cb_delay.specs.declared.message.Event.{Event}
 use Rattle.cb_delay.specs.declared.message.Event.TheVariants.{Deliver}
 use Rattle.cb_diffs.specs.Expansion.{expanded_field}
 use Rattle.cb_stability.specs.Known as acks
-use Rattle.cb_history.specs.Group.{Seat}
-use Rattle.cb_history.specs.Facts.{Fact, CastCame, casts_in}
+use Rattle.cb_history.specs.Group.{Identity}
+use Rattle.cb_history.specs.Facts.{Fact, CastReceived, casts_in}
 use Rattle.cb_history.specs.View.{view, time_of, drain, message_in}
 use Rattle.cb_history.specs.Known.{greatest_of, acknowledged, counted_by}
 use Rattle.cb_history.specs.Events.{events}
@@ -24,7 +24,7 @@ use Rattle.cb_history.specs.LegalFacts.{AreFactsOf}
 use Rattle.cb_history.specs.NameLaws.{IsOneOf}
 use Rattle.cb_history.specs.StabilityLaws.{KnowsAcknowledged}
 use Rattle.cb_history.proofs.Views.{casts_in-append}
-use Rattle.cb_history.proofs.Walks.{view_came}
+use Rattle.cb_history.proofs.Walks.{view_received}
 use Rattle.cb_history.proofs.Delivering.{in_field}
 use Rattle.cb_history.proofs.Happening.{events_with_one_more}
 use Rattle.cb_history.proofs.Times.{upto_other}
@@ -35,23 +35,23 @@ use Rattle.cb_member.specs.declared.reception.Spare.{Spare}
 use Rattle.cb_member.specs.declared.sending.Sending.{Sending}
 use Rattle.cb_member.specs.declared.store.Store.{Store}
 use Rattle.cb_member.specs.Delivery.{Drains, IsDrained, Waits}
-use Rattle.cb_member.specs.Knowledge.{HasTimeOf, LearnsAll, told_in}
+use Rattle.cb_member.specs.Knowledge.{HasTimeOf, LearnsAll, reported_in}
 use Rattle.cb_member.specs.Sending.{HasSent, TrimsToStable}
 use Rattle.cb_member.specs.Reception.{HasReceivedAll}
 use Rattle.cb_member.specs.Store.{HasDelivered, Keeps, facts_held}
 use Rattle.cb_member.specs.Taking.{HasTakenIn, OnlyTakesIn, TakesInCast}
 use Rattle.cb_member.specs.Arriving.{CanDeliver}
-use Rattle.cb_member.proofs.OwnCasts.{still_told}
+use Rattle.cb_member.proofs.OwnCasts.{still_reported}
 
 -- the cast was taken in, and what was ready is delivered
-pub record IsDelivered (seat : Seat) (facts : List Fact) (c : CastFields) (old mid : Store) (d : Delivery) (messages : List Message) : Type 0 where
-  pub legal : AreFactsOf seat (facts ++ CastCame c ∷ [])
+pub record IsDelivered (seat : Identity) (facts : List Fact) (c : CastFields) (old mid : Store) (d : Delivery) (messages : List Message) : Type 0 where
+  pub legal : AreFactsOf seat (facts ++ CastReceived c ∷ [])
   pub keeps : Keeps seat facts old
   pub taken : HasTakenIn seat facts c old mid
   pub only : OnlyTakesIn old mid
-  pub drained : IsDrained seat.group.size (casts_in (facts ++ CastCame c ∷ [])) (view seat.group.size facts) mid.delivery d [] messages
+  pub drained : IsDrained seat.group.size (casts_in (facts ++ CastReceived c ∷ [])) (view seat.group.size facts) mid.delivery d [] messages
 
-pub is_delivered : (seat : Seat) (c : CastFields) (spare : Spare) (old mid : Store) (d : Delivery) (before messages : List Message) → CanDeliver seat c spare old → TakesInCast c old mid → Drains mid.delivery d before messages → before ≡ []
+pub is_delivered : (seat : Identity) (c : CastFields) (spare : Spare) (old mid : Store) (d : Delivery) (before messages : List Message) → CanDeliver seat c spare old → TakesInCast c old mid → Drains mid.delivery d before messages → before ≡ []
     → IsDelivered seat (facts_held old) c old mid d messages
 is_delivered seat c spare old mid d before messages can takes drains empty =
     let taken = takes.takes_in seat (facts_held old) can.legal can.keeps in
@@ -60,25 +60,25 @@ is_delivered seat c spare old mid d before messages can takes drains empty =
       keeps = can.keeps;
       taken = taken;
       only = takes.only;
-      drained = subst (λ (ms : List Message). IsDrained seat.group.size (casts_in (facts_held old ++ CastCame c ∷ [])) (view seat.group.size (facts_held old)) mid.delivery d ms messages) empty
-          (drains seat.group.size (casts_in (facts_held old ++ CastCame c ∷ [])) (view seat.group.size (facts_held old)) taken.waits);
+      drained = subst (λ (ms : List Message). IsDrained seat.group.size (casts_in (facts_held old ++ CastReceived c ∷ [])) (view seat.group.size (facts_held old)) mid.delivery d ms messages) empty
+          (drains seat.group.size (casts_in (facts_held old ++ CastReceived c ∷ [])) (view seat.group.size (facts_held old)) taken.waits);
     }
 
-module _ (seat : Seat) (facts : List Fact) (c : CastFields) (old mid : Store) (d : Delivery) (messages : List Message) (is : IsDelivered seat facts c old mid d messages) where
+module _ (seat : Identity) (facts : List Fact) (c : CastFields) (old mid : Store) (d : Delivery) (messages : List Message) (is : IsDelivered seat facts c old mid d messages) where
   abbrev size : ℕ
   size = seat.group.size
 
   abbrev now : List Fact
-  now = facts ++ CastCame c ∷ []
+  now = facts ++ CastReceived c ∷ []
 
   abbrev casts : List CastFields
   casts = casts_in now
 
   casts_are : casts ≡ casts_in facts ++ c ∷ []
-  casts_are = casts_in-append facts (CastCame c)
+  casts_are = casts_in-append facts (CastReceived c)
 
   view_grows : view size now ≡ view size facts ++ is.drained.more
-  view_grows = view_came size facts c ∙ ap (λ (cs : List CastFields). drain size cs (view size facts)) (sym casts_are) ∙ is.drained.drained
+  view_grows = view_received size facts c ∙ ap (λ (cs : List CastFields). drain size cs (view size facts)) (sym casts_are) ∙ is.drained.drained
 
   pub are_deliveries : messages ≡ deliveries seat facts (CastFrame c)
   are_deliveries =
@@ -96,16 +96,16 @@ module _ (seat : Seat) (facts : List Fact) (c : CastFields) (old mid : Store) (d
         ∙ ap (λ (v : Vec Event Global). v.items ++ map (λ m. Deliver (message_in size casts m)) is.drained.more) is.only.events
         ∙ ap (λ (es : List Event). es ++ map (λ m. Deliver (message_in size casts m)) is.drained.more) is.keeps.delivered.events
         ∙ ap (λ (es : List Event). events seat facts ++ es) (delivered_as is.drained.more ∙ ap (map (λ (message : Message). Deliver message)) (sym is.drained.deliveries ∙ are_deliveries))
-        ∙ sym (events_with_one_more seat facts (CastCame c) is.legal);
+        ∙ sym (events_with_one_more seat facts (CastReceived c) is.legal);
   }
 
   -- ---- what it acknowledges
 
-  told_by_it : (ms : List Carried) (k : ℕ) → told_in seat.me (map (message_in size casts) ms) k ≡ counted_by casts ms k seat.me
-  told_by_it [] k = refl
-  told_by_it (m ∷ ms) k = elim (cases_eq m.sender k) [
-    | inl e ↦ rw (eq-eqb m.sender k e, told_by_it ms k, in_field size (expanded_field casts m.sender m.number) seat.me is.legal.member) refl
-    | inr ne ↦ rw (ne_eqb m.sender k ne) (told_by_it ms k)
+  reported_by_it : (ms : List Carried) (k : ℕ) → reported_in seat.me (map (message_in size casts) ms) k ≡ counted_by casts ms k seat.me
+  reported_by_it [] k = refl
+  reported_by_it (m ∷ ms) k = elim (cases_eq m.sender k) [
+    | inl e ↦ rw (eq-eqb m.sender k e, reported_by_it ms k, in_field size (expanded_field casts m.sender m.number) seat.me is.legal.member) refl
+    | inr ne ↦ rw (ne_eqb m.sender k ne) (reported_by_it ms k)
   ]
 
   pub knows_acknowledged : (k : acks.Known) → LearnsAll seat.me messages mid.knowledge.acks k → KnowsAcknowledged seat now k
@@ -113,10 +113,10 @@ module _ (seat : Seat) (facts : List Fact) (c : CastFields) (old mid : Store) (d
     of_size = learns.of_size ∙ ap (λ (known : acks.Known). known.size) is.only.acks ∙ is.keeps.knows.acknowledged.of_size;
     learnt = λ j lt other.
         learns.learnt j
-        ∙ ap (λ (known : acks.Known). max (acks.count known j seat.me) (greatest_of (told_in seat.me messages j))) is.only.acks
-        ∙ ap (λ (n : ℕ). max n (greatest_of (told_in seat.me messages j))) (is.keeps.knows.acknowledged.learnt j lt other)
-        ∙ ap (λ (ms : List Message). max (acknowledged seat facts j) (greatest_of (told_in seat.me ms j))) is.drained.deliveries
-        ∙ ap (λ (ns : List ℕ). max (acknowledged seat facts j) (greatest_of ns)) (told_by_it is.drained.more j)
+        ∙ ap (λ (known : acks.Known). max (acks.count known j seat.me) (greatest_of (reported_in seat.me messages j))) is.only.acks
+        ∙ ap (λ (n : ℕ). max n (greatest_of (reported_in seat.me messages j))) (is.keeps.knows.acknowledged.learnt j lt other)
+        ∙ ap (λ (ms : List Message). max (acknowledged seat facts j) (greatest_of (reported_in seat.me ms j))) is.drained.deliveries
+        ∙ ap (λ (ns : List ℕ). max (acknowledged seat facts j) (greatest_of ns)) (reported_by_it is.drained.more j)
         ∙ ap (λ (cs : List CastFields). max (acknowledged seat facts j) (greatest_of (counted_by cs is.drained.more j seat.me))) casts_are
         ∙ sym (cast_is_acknowledged seat facts c j is.drained.more is.legal view_grows);
   }
@@ -127,10 +127,10 @@ module _ (seat : Seat) (facts : List Fact) (c : CastFields) (old mid : Store) (d
   sent_with_it k s learns trims rest =
       let before : HasSent seat facts mid.sending = subst (HasSent seat facts) (sym is.only.sending) is.keeps.sent in
       let after : HasSent seat now (record mid.sending { window = s.window }) = record {
-        window = trims seat facts (CastCame c) refl is.legal refl (knows_acknowledged k learns) before.window;
-        last_cast = before.last_cast ∙ ap (time_of size) (sym (upto_other facts (CastCame c) tt));
+        window = trims seat facts (CastReceived c) refl is.legal refl (knows_acknowledged k learns) before.window;
+        last_cast = before.last_cast ∙ ap (time_of size) (sym (upto_other facts (CastReceived c) tt));
         fields = before.fields;
-        told = still_told seat facts now mid.sending.has_told mid.sending.last_told (last_status_with_one_more facts (CastCame c) None) before.told;
+        reported = still_reported seat facts now mid.sending.has_reported mid.sending.last_reported (last_status_with_one_more facts (CastReceived c) None) before.reported;
       } in
       subst (HasSent seat now) (sym rest) after
 
@@ -153,13 +153,13 @@ module _ (seat : Seat) (facts : List Fact) (c : CastFields) (old mid : Store) (d
       (timed is.drained.more (λ m there. way.members m (way.of_casts m (later (view size facts) is.drained.more m there)))) in
       subst (λ (n : ℕ). All (HasTimeOf n) messages) (sym (ap (λ (known : acks.Known). known.size) is.only.acks ∙ is.keeps.knows.acknowledged.of_size)) each
 
-pub all_kept : (seat : Seat) (facts : List Fact) (c : CastFields) (old mid new : Store) (d : Delivery) (messages : List Message) → IsDelivered seat facts c old mid d messages
+pub all_kept : (seat : Identity) (facts : List Fact) (c : CastFields) (old mid new : Store) (d : Delivery) (messages : List Message) → IsDelivered seat facts c old mid d messages
     → new.delivery ≡ d → new.reception ≡ mid.reception → new.knowledge.known ≡ mid.knowledge.known
     → LearnsAll seat.me messages mid.knowledge.acks new.knowledge.acks → TrimsToStable seat.me new.knowledge.acks mid.sending.window new.sending.window
-    → new.sending ≡ record mid.sending { window = new.sending.window } → Keeps seat (facts ++ CastCame c ∷ []) new
+    → new.sending ≡ record mid.sending { window = new.sending.window } → Keeps seat (facts ++ CastReceived c ∷ []) new
 all_kept seat facts c old mid new d messages is same_delivery same_reception same_known learns trims rest = record {
-  delivered = subst (HasDelivered seat (facts ++ CastCame c ∷ [])) (sym same_delivery) (delivered_with_it seat facts c old mid d messages is);
-  received = subst (HasReceivedAll seat (facts ++ CastCame c ∷ [])) (sym same_reception) is.taken.received;
+  delivered = subst (HasDelivered seat (facts ++ CastReceived c ∷ [])) (sym same_delivery) (delivered_with_it seat facts c old mid d messages is);
+  received = subst (HasReceivedAll seat (facts ++ CastReceived c ∷ [])) (sym same_reception) is.taken.received;
   knows = record {
     fields = ap (λ (time : List ℕ). length time) same_known ∙ is.taken.fields;
     heard = λ i lt other. ap (λ (time : List ℕ). field time i) same_known ∙ is.taken.heard i lt other;

@@ -18,7 +18,7 @@ use Rattle.cb_gaps.specs.Buffer.{Buffer, IsKeptWith, Passes, WouldComeOut}
 use Rattle.cb_stability.specs.Known.{Known}
 use Rattle.cb_history.specs.Answers.{deliveries}
 use Rattle.cb_history.specs.Facts.{Fact}
-use Rattle.cb_history.specs.Group.{Seat}
+use Rattle.cb_history.specs.Group.{Identity}
 use Rattle.cb_member.specs.declared.delivery.Delivery.{Delivery}
 use Rattle.cb_member.specs.declared.knowledge.Knowledge.{Knowledge}
 use Rattle.cb_member.specs.declared.reception.Reception.{Reception}
@@ -52,7 +52,7 @@ none_behind b number passes (inr e) = let follows = passes.follows in absurd (om
 comes_out_alone : (b : Buffer) (number : ℕ) → Passes b number → WouldComeOut b number 1
 comes_out_alone b number passes = record { begins = omega arith; each = λ n behind upto. kept_with b number n passes behind upto; ends = none_behind b number passes }
 
-pub waits_alone : (seat : Seat) (limit : ℕ) (c : CastFields) (store : Store) → IsKept seat limit store → CanTake seat limit store c → ComesAlone c store → waiting_with store c ≡ 1
+pub waits_alone : (seat : Identity) (limit : ℕ) (c : CastFields) (store : Store) → IsKept seat limit store → CanTake seat limit store c → ComesAlone c store → waiting_with store c ≡ 1
 waits_alone seat limit c store kept can alone =
     let lets = alone.lets_pass in
     let one = would_expand c.sender (first_number c) store.reception lets.buffer 1 lets.at (comes_out_alone lets.buffer (first_number c) lets.passes) seat (facts_held store) c can.legal refl refl kept.keeps.received in
@@ -68,12 +68,12 @@ alone_with_room c old new same alone = record {
 
 -- ---- it can be delivered at once
 
-pub can_at_once : (seat : Seat) (limit : ℕ) (c : CastFields) (store : Store) → IsKept seat limit store → CanTake seat limit store c → ComesAlone c store → HasRoomFor 1 store → CanDeliver seat c (spare_of seat.group.size c) store
+pub can_at_once : (seat : Identity) (limit : ℕ) (c : CastFields) (store : Store) → IsKept seat limit store → CanTake seat limit store c → ComesAlone c store → HasRoomFor 1 store → CanDeliver seat c (spare_of seat.group.size c) store
 can_at_once seat limit c store kept can alone room =
     let for : IsSpareFor seat.group.size c (spare_of seat.group.size c) = record { name = refl; payload = refl; time = length-replicate seat.group.size 0; copy = length-replicate seat.group.size 0 } in
     can_deliver seat limit c (spare_of seat.group.size c) store store kept can (same_store store) (subst (λ (n : ℕ). HasRoomFor n store) (sym (waits_alone seat limit c store kept can alone)) room) for
 
-pub is_at_once : (seat : Seat) (limit : ℕ) (c : CastFields) (store : Store) → IsKept seat limit store → CanTake seat limit store c → ComesAlone c store → HasRoomFor 1 store
+pub is_at_once : (seat : Identity) (limit : ℕ) (c : CastFields) (store : Store) → IsKept seat limit store → CanTake seat limit store c → ComesAlone c store → HasRoomFor 1 store
     → (time : List ℕ) → IsGrown (time_of store.reception.expander c.sender) c time → IsReady c.sender (field time) (field store.delivery.time) → IsAtOnce seat c time store
 is_at_once seat limit c store kept can alone room time grown ready = record {
   can = can_at_once seat limit c store kept can alone room;
@@ -82,7 +82,7 @@ is_at_once seat limit c store kept can alone room time grown ready = record {
   alone = record { none = alone.none_waits.none; no_copies = alone.none_waits.no_copies; ready = ready };
 }
 
-pub can_pass : (seat : Seat) (c : CastFields) (spare : Spare) (store : Store) → CanDeliver seat c spare store → LetsPass c.sender (first_number c) store.reception → CanPass c spare store.reception
+pub can_pass : (seat : Identity) (c : CastFields) (spare : Spare) (store : Store) → CanDeliver seat c spare store → LetsPass c.sender (first_number c) store.reception → CanPass c spare store.reception
 can_pass seat c spare store can lets = record {
   seat = seat;
   facts = facts_held store;
@@ -95,11 +95,11 @@ can_pass seat c spare store can lets = record {
   lets_pass = lets;
 }
 
-pub expander_is_long : (seat : Seat) (c : CastFields) (spare : Spare) (store : Store) → CanDeliver seat c spare store → LetsPass c.sender (first_number c) store.reception → length store.reception.expander ≡ seat.group.size
+pub expander_is_long : (seat : Identity) (c : CastFields) (spare : Spare) (store : Store) → CanDeliver seat c spare store → LetsPass c.sender (first_number c) store.reception → length store.reception.expander ≡ seat.group.size
 unfolding can_pass
 expander_is_long seat c spare store can lets = passing_size c spare store.reception (can_pass seat c spare store can lets)
 
-module _ (seat : Seat) (c : CastFields) (time : List ℕ) (store : Store) (at : IsAtOnce seat c time store) (heard : Knowledge) (reception : Reception) (message : Message)
+module _ (seat : Identity) (c : CastFields) (time : List ℕ) (store : Store) (at : IsAtOnce seat c time store) (heard : Knowledge) (reception : Reception) (message : Message)
     (once : PassesOnce c store.reception reception message) (hears : Hears c.sender c.number store.knowledge heard) where
   abbrev spare : Spare
   spare = spare_of seat.group.size c

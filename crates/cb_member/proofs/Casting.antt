@@ -12,7 +12,7 @@ use Rattle.cb_frames.specs.Fields.{Carried, CastFields, CastFrame}
 use Rattle.cb_frames.specs.Text.{cast_kind, cast_numbers, text_of}
 use Rattle.cb_delay.specs.declared.message.Message.{Message}
 use Rattle.cb_diffs.specs.Differences.{differences}
-use Rattle.cb_history.specs.Group.{Seat}
+use Rattle.cb_history.specs.Group.{Identity}
 use Rattle.cb_history.specs.Facts.{CastEntry, Fact, entry_fields}
 use Rattle.cb_history.specs.View.{count, counts, view, time_of}
 use Rattle.cb_history.specs.Answers.{delivered, upto_last_cast, next_cast}
@@ -28,33 +28,33 @@ use Rattle.cb_member.specs.Store.{IsKept, facts_held}
 use Rattle.cb_member.specs.declared.cast.Casting.{Casting}
 use Rattle.cb_member.specs.Casting.{MakesCasting, next_message, next_text, next_time}
 
-pub facts_kept : (seat : Seat) (limit : ℕ) (store : Store) → IsKept seat limit store → AreFactsOf seat (facts_held store)
+pub facts_kept : (seat : Identity) (limit : ℕ) (store : Store) → IsKept seat limit store → AreFactsOf seat (facts_held store)
 facts_kept seat limit store k = legal_histories_say_legal_facts seat (map entry_fields store.entries.items) k.state.legal
 
 counts_long : (size : ℕ) (seen : List Carried) → length (counts size seen) ≡ size
 counts_long size seen = length-map-range_with_len (count seen) 0 size
 
-pub time_is_long : (seat : Seat) (limit : ℕ) (store : Store) → IsKept seat limit store → length store.delivery.time ≡ seat.group.size
+pub time_is_long : (seat : Identity) (limit : ℕ) (store : Store) → IsKept seat limit store → length store.delivery.time ≡ seat.group.size
 time_is_long seat limit store k = ap length k.keeps.delivered.waits.time ∙ counts_long seat.group.size (view seat.group.size (facts_held store))
 
-pub last_is_long : (seat : Seat) (limit : ℕ) (store : Store) → IsKept seat limit store → length store.sending.last_cast ≡ seat.group.size
+pub last_is_long : (seat : Identity) (limit : ℕ) (store : Store) → IsKept seat limit store → length store.sending.last_cast ≡ seat.group.size
 last_is_long seat limit store k = ap length k.keeps.sent.last_cast ∙ counts_long seat.group.size (view seat.group.size (upto_last_cast (facts_held store)))
 
-pub time_has_me : (seat : Seat) (limit : ℕ) (store : Store) → IsKept seat limit store → seat.me < length store.delivery.time
+pub time_has_me : (seat : Identity) (limit : ℕ) (store : Store) → IsKept seat limit store → seat.me < length store.delivery.time
 time_has_me seat limit store k = omega (arith, time_is_long seat limit store k, (facts_kept seat limit store k).member)
 
-pub own_delivered : (seat : Seat) (limit : ℕ) (store : Store) → IsKept seat limit store → field store.delivery.time seat.me ≡ delivered seat (facts_held store) seat.me
+pub own_delivered : (seat : Identity) (limit : ℕ) (store : Store) → IsKept seat limit store → field store.delivery.time seat.me ≡ delivered seat (facts_held store) seat.me
 own_delivered seat limit store k =
     ap (λ (time : List ℕ). field time seat.me) k.keeps.delivered.waits.time ∙ in_field seat.group.size (count (view seat.group.size (facts_held store))) seat.me (facts_kept seat limit store k).member
 
 -- no member has more casts than a history has entries
-pub own_few : (seat : Seat) (limit : ℕ) (store : Store) → IsKept seat limit store → field store.delivery.time seat.me ≤ longest_history
+pub own_few : (seat : Identity) (limit : ℕ) (store : Store) → IsKept seat limit store → field store.delivery.time seat.me ≤ longest_history
 own_few seat limit store k =
     let are = facts_kept seat limit store k in
     omega (arith, own_delivered seat limit store k, count_below seat.group.size (facts_held store) seat.me, few_facts seat (facts_held store) are.facts_are)
 
 -- the time has only grown since the last cast
-pub has_grown : (seat : Seat) (limit : ℕ) (store : Store) → IsKept seat limit store → AtMost (field store.sending.last_cast) (field store.delivery.time)
+pub has_grown : (seat : Identity) (limit : ℕ) (store : Store) → IsKept seat limit store → AtMost (field store.sending.last_cast) (field store.delivery.time)
 has_grown seat limit store kept k = elim (cases_lt k seat.group.size) [
   | inl lt ↦
       let before : field store.sending.last_cast k ≡ count (view seat.group.size (upto_last_cast (facts_held store))) k =
@@ -86,13 +86,13 @@ counts_one_more size seen m lt =
           ∙ sym (count_other seen m k (λ e. ne (sym e))) ∙ sym (in_field size (count (seen ++ m ∷ [])) k small)
     ])
 
-pub counts_own : (seat : Seat) (limit : ℕ) (store : Store) (payload time : List ℕ) → IsKept seat limit store → time ≡ store.delivery.time
+pub counts_own : (seat : Identity) (limit : ℕ) (store : Store) (payload time : List ℕ) → IsKept seat limit store → time ≡ store.delivery.time
     → set time seat.me (field time seat.me + 1) ≡ next_time seat (facts_held store) payload
 counts_own seat limit store payload time k same =
     ap (λ (ns : List ℕ). set ns seat.me (field ns seat.me + 1)) (same ∙ k.keeps.delivered.waits.time)
     ∙ counts_one_more seat.group.size (view seat.group.size (facts_held store)) (record { sender = seat.me; number = delivered seat (facts_held store) seat.me + 1; payload = payload }) (facts_kept seat limit store k).member
 
-pub next_is_made : (seat : Seat) (limit : ℕ) (store : Store) (payload bytes : List ℕ) (group sender own : ℕ) (changes : List Change) → IsKept seat limit store
+pub next_is_made : (seat : Identity) (limit : ℕ) (store : Store) (payload bytes : List ℕ) (group sender own : ℕ) (changes : List Change) → IsKept seat limit store
     → group ≡ seat.group.number → sender ≡ seat.me → own ≡ field store.delivery.time seat.me → changes ≡ differences store.sending.last_cast store.delivery.time seat.me → bytes ≡ payload
     → record { group = group; sender = sender; number = own + 1; changes = changes; payload = bytes } ≡ next_cast seat (facts_held store) payload
 next_is_made seat limit store payload bytes group sender own changes k eg es en ec et =
@@ -111,7 +111,7 @@ unfolding text_of
 text_ends c = refl
 
 -- what the handles are made of is the next cast
-pub makes_casting : {E : Type 0} (seat : Seat) (facts : List Fact) (payload : List ℕ) (r : Result Casting E) (message : Message) (time out : List ℕ)
+pub makes_casting : {E : Type 0} (seat : Identity) (facts : List Fact) (payload : List ℕ) (r : Result Casting E) (message : Message) (time out : List ℕ)
     → message ≡ next_message seat facts payload → time ≡ message.time → out ≡ next_text seat facts payload
     → IfOk r (λ casting. (casting.done ≡ record { name = message.name; time = time; out = out }) × (casting.message ≡ message)
     × (entry_fields casting.entry ≡ CastEntry out) × (entry_fields casting.noted ≡ CastEntry out) × (casting.sent ≡ out))

@@ -1,4 +1,4 @@
--- A status that came: what the rules say of it, and what is kept of it.
+-- A received status: what the rules say of it, and what is kept of it.
 use Rattle.std.proofs.Common.{◌≡◌, ◌≢◌, ℕ, zero, suc, ◌+◌, ◌-◌, ◌<◌, max, Bool, true, false, not, cond, eqb, ltb, ◌&&◌, ◌||◌, List, [], ◌∷◌, ◌++◌, length, map, drop, Option, Some, None, Result, Ok, refl, sym, ap, subst, ◌∙◌, arith, inl, inr}
 use Rattle.std.specs.Prelude.{option_map}
 use Rattle.std.specs.List.{list_all, list_any, range_with_len}
@@ -14,8 +14,8 @@ use Rattle.cb_stability.specs.Known.{count}
 use Rattle.cb_history.specs.declared.answer.Arrival.{Arrival}
 use Rattle.cb_history.specs.declared.answer.ArriveRefusal.{ArriveRefusal}
 use Rattle.cb_history.specs.declared.history.Entry.{Entry}
-use Rattle.cb_history.specs.Group.{Seat}
-use Rattle.cb_history.specs.Facts.{EntryFields, ArriveEntry, Fact, StatusCame, arrival_said, casts_in, entry_fields, said_by}
+use Rattle.cb_history.specs.Group.{Identity}
+use Rattle.cb_history.specs.Facts.{EntryFields, ArriveEntry, Fact, StatusReceived, arrival_said, casts_in, entry_fields, said_by}
 use Rattle.cb_history.specs.View.{message_in, time_of, view}
 use Rattle.cb_history.specs.Known.{acknowledged, known, value_in}
 use Rattle.cb_history.specs.Answers.{ArrivalSays, Accepted, arrival_says, deliveries, delivered, is_news}
@@ -69,16 +69,16 @@ any_among p q r (d ∷ ds) all same =
 -- ---- what the rules say
 
 -- of the members of the group the time counts what is delivered
-pub ahead_is : (seat : Seat) (facts : List Fact) (d : Delivery) (values : List Change) → HasDelivered seat facts d → list_all (λ v. ltb v.field seat.group.size) values ≡ true
+pub ahead_is : (seat : Identity) (facts : List Fact) (d : Delivery) (values : List Change) → HasDelivered seat facts d → list_all (λ v. ltb v.field seat.group.size) values ≡ true
     → list_any (λ v. ltb (field d.time v.field) v.amount) values ≡ list_any (λ v. ltb (delivered seat facts v.field) v.amount) values
 ahead_is seat facts d values has all =
     any_among (λ v. ltb (field d.time v.field) v.amount) (λ v. ltb (delivered seat facts v.field) v.amount) (λ v. ltb v.field seat.group.size) values all
     (λ v small. ap (λ (n : ℕ). ltb n v.amount) (time_at seat facts d v.field has (ltb-true v.field seat.group.size small)))
 
-abbrev pub tells_more : Seat → List ℕ → List Change → ℕ → Bool
+abbrev pub tells_more : Identity → List ℕ → List Change → ℕ → Bool
 tells_more seat heard values k = not (eqb k seat.me) && ltb (field heard k) (value_in values k)
 
-tells_is : (seat : Seat) (facts : List Fact) (k : Knowledge) (values : List Change) → KnowsFacts seat facts k
+tells_is : (seat : Identity) (facts : List Fact) (k : Knowledge) (values : List Change) → KnowsFacts seat facts k
     → list_any (tells_more seat k.known values) (range_with_len 0 seat.group.size) ≡ list_any (λ i. not (eqb i seat.me) && ltb (known facts i) (value_in values i)) (range_with_len 0 seat.group.size)
 tells_is seat facts k values knows =
     any_over (tells_more seat k.known values) (λ i. not (eqb i seat.me) && ltb (known facts i) (value_in values i)) 0 seat.group.size (λ i lt. elim (cases_eq i seat.me) [
@@ -87,7 +87,7 @@ tells_is seat facts k values knows =
     ])
 
 -- a status of another is news where it tells more of casts, or of this member's that its sender delivered
-pub news_is : (seat : Seat) (facts : List Fact) (k : Knowledge) (s : StatusFields) → KnowsFacts seat facts k → s.sender ≢ seat.me → s.sender < seat.group.size
+pub news_is : (seat : Identity) (facts : List Fact) (k : Knowledge) (s : StatusFields) → KnowsFacts seat facts k → s.sender ≢ seat.me → s.sender < seat.group.size
     → is_news seat facts s ≡ (list_any (tells_more seat k.known s.values) (range_with_len 0 seat.group.size) || ltb (count k.acks s.sender seat.me) (value_in s.values seat.me))
 news_is seat facts k s knows other small =
     rw (ne_eqb s.sender seat.me other)
@@ -96,10 +96,10 @@ news_is seat facts k s knows other small =
 
 -- ---- what is kept with one more status that came
 
-no_cast_heard : (facts : List Fact) (s : StatusFields) → casts_in (facts ++ StatusCame s ∷ []) ≡ casts_in facts
-no_cast_heard facts s = casts_in-append facts (StatusCame s) ∙ append-nil (casts_in facts)
+no_cast_heard : (facts : List Fact) (s : StatusFields) → casts_in (facts ++ StatusReceived s ∷ []) ≡ casts_in facts
+no_cast_heard facts s = casts_in-append facts (StatusReceived s) ∙ append-nil (casts_in facts)
 
-knows_more : (seat : Seat) (facts : List Fact) (s : StatusFields) (old new : Knowledge) → HearsStatus seat.me s old new → KnowsFacts seat facts old → KnowsFacts seat (facts ++ StatusCame s ∷ []) new
+knows_more : (seat : Identity) (facts : List Fact) (s : StatusFields) (old new : Knowledge) → HearsStatus seat.me s old new → KnowsFacts seat facts old → KnowsFacts seat (facts ++ StatusReceived s ∷ []) new
 knows_more seat facts s old new hears knows = record {
   fields = hears.known.fields ∙ knows.fields;
   heard = λ i lt other.
@@ -120,20 +120,20 @@ knows_more seat facts s old new hears knows = record {
       | inr other ↦ rw (ne_eqb s.sender k other) (hears.acks.members k seat.me (λ e. other (sym e)) ∙ was)
     ]
 
-told_stays : (seat : Seat) (facts : List Fact) (s : StatusFields) (told : Bool) (time : List ℕ) → TellsLast seat facts told time → TellsLast seat (facts ++ StatusCame s ∷ []) told time
-told_stays seat facts s true time tells = record { before = tells.before; last = last_status_with_one_more facts (StatusCame s) None ∙ tells.last; said = tells.said }
-told_stays seat facts s false time tells = last_status_with_one_more facts (StatusCame s) None ∙ tells
+reported_stays : (seat : Identity) (facts : List Fact) (s : StatusFields) (reported : Bool) (time : List ℕ) → TellsLast seat facts reported time → TellsLast seat (facts ++ StatusReceived s ∷ []) reported time
+reported_stays seat facts s true time tells = record { before = tells.before; last = last_status_with_one_more facts (StatusReceived s) None ∙ tells.last; said = tells.said }
+reported_stays seat facts s false time tells = last_status_with_one_more facts (StatusReceived s) None ∙ tells
 
-pub heard_keeps : (seat : Seat) (facts : List Fact) (s : StatusFields) (entry : Entry) (old new : Store) → AreFactsOf seat (facts ++ StatusCame s ∷ []) → HasHeard seat.me s entry old new → Keeps seat facts old
-    → Keeps seat (facts ++ StatusCame s ∷ []) new
+pub heard_keeps : (seat : Identity) (facts : List Fact) (s : StatusFields) (entry : Entry) (old new : Store) → AreFactsOf seat (facts ++ StatusReceived s ∷ []) → HasHeard seat.me s entry old new → Keeps seat facts old
+    → Keeps seat (facts ++ StatusReceived s ∷ []) new
 heard_keeps seat facts s entry old new are heard keeps =
-    let now = facts ++ StatusCame s ∷ [] in
+    let now = facts ++ StatusReceived s ∷ [] in
     let knows = knows_more seat facts s old.knowledge new.knowledge heard.knowledge keeps.knows in
     let sent : HasSent seat now (record old.sending { window = new.sending.window }) = record {
-      window = heard.window seat facts (StatusCame s) refl are refl knows.acknowledged keeps.sent.window;
-      last_cast = keeps.sent.last_cast ∙ ap (time_of seat.group.size) (sym (upto_other facts (StatusCame s) tt));
+      window = heard.window seat facts (StatusReceived s) refl are refl knows.acknowledged keeps.sent.window;
+      last_cast = keeps.sent.last_cast ∙ ap (time_of seat.group.size) (sym (upto_other facts (StatusReceived s) tt));
       fields = keeps.sent.fields;
-      told = told_stays seat facts s old.sending.has_told old.sending.last_told keeps.sent.told;
+      reported = reported_stays seat facts s old.sending.has_reported old.sending.last_reported keeps.sent.reported;
     } in
     record {
       delivered = subst (HasDelivered seat now) (sym heard.delivery) (delivered_stays seat facts now old.delivery (no_cast_heard facts s) (view_status seat.group.size facts s) keeps.delivered);
@@ -145,18 +145,18 @@ heard_keeps seat facts s entry old new are heard keeps =
 -- ---- the answer
 
 -- what the arrival did is what it was to do
-pub record IsHeard (seat : Seat) (limit : ℕ) (old new : Store) (bytes : List ℕ) (noted : Arrival × Option Entry) : Type 0 where
+pub record IsHeard (seat : Identity) (limit : ℕ) (old new : Store) (bytes : List ℕ) (noted : Arrival × Option Entry) : Type 0 where
   pub kept : IsKept seat limit new
   pub taken : HasTaken (held_by seat limit old) (held_by seat limit new) bytes noted.0
   pub entry : entry_by (held_by seat limit old) (ToTake bytes) ≡ option_map entry_fields noted.1
 
 -- a status delivers nothing
-none_delivered : (seat : Seat) (facts : List Fact) (s : StatusFields) → deliveries seat facts (StatusFrame s) ≡ []
+none_delivered : (seat : Identity) (facts : List Fact) (s : StatusFields) → deliveries seat facts (StatusFrame s) ≡ []
 none_delivered seat facts s =
-    ap (map (message_in seat.group.size (casts_in (facts ++ StatusCame s ∷ []))))
+    ap (map (message_in seat.group.size (casts_in (facts ++ StatusReceived s ∷ []))))
     (ap (drop (length (view seat.group.size facts))) (view_status seat.group.size facts s) ∙ drop_all (length (view seat.group.size facts)) (view seat.group.size facts) (omega arith))
 
-pub heard_well : (seat : Seat) (limit : ℕ) (old new : Store) (s : StatusFields) (bytes : List ℕ) (arrival : Arrival) (copy : Entry) → IsKept seat limit old → frame_at bytes ≡ Ok (StatusFrame s) → IsBytes bytes
+pub heard_well : (seat : Identity) (limit : ℕ) (old new : Store) (s : StatusFields) (bytes : List ℕ) (arrival : Arrival) (copy : Entry) → IsKept seat limit old → frame_at bytes ≡ Ok (StatusFrame s) → IsBytes bytes
     → answer_to_status seat limit old s ≡ Ok (Accepted (deliveries seat (facts_held old) (StatusFrame s)) true []) → length old.entries.items < limit
     → TakesStatus seat.me s bytes old new copy → arrival_says arrival ≡ Accepted [] true [] → IsHeard seat limit old new bytes (arrival, Some copy)
 heard_well seat limit old new s bytes arrival copy kept read are is room takes says =
@@ -167,10 +167,10 @@ heard_well seat limit old new s bytes arrival copy kept read are is room takes s
     let some : entry_by (held_by seat limit old) (ToTake bytes) ≡ Some (ArriveEntry bytes []) = ap (arrive_entry bytes) answer in
     let adds : entry_by (held_by seat limit old) (ToTake bytes) ≡ Some (entry_fields takes.entry) = some ∙ ap (λ (e : EntryFields). Some e) (sym takes.says) in
     let joined : new.entries.items ≡ old.entries.items ++ takes.entry ∷ [] = takes.heard.entries ∙ ap (λ (es : List Entry). es ++ takes.entry ∷ []) takes.alike.entries in
-    let said : said_by (entry_fields takes.entry) ≡ StatusCame s ∷ [] = ap said_by takes.says ∙ ap arrival_said read in
-    let now = facts_with_entry old new takes.entry (StatusCame s) joined said in
+    let said : said_by (entry_fields takes.entry) ≡ StatusReceived s ∷ [] = ap said_by takes.says ∙ ap arrival_said read in
+    let now = facts_with_entry old new takes.entry (StatusReceived s) joined said in
     let state = state_with_entry seat limit old new (ToTake bytes) takes.entry kept.state are room adds joined in
-    let legal : AreFactsOf seat (facts ++ StatusCame s ∷ []) = subst (AreFactsOf seat) now (legal_histories_say_legal_facts seat (map entry_fields new.entries.items) state.legal) in
+    let legal : AreFactsOf seat (facts ++ StatusReceived s ∷ []) = subst (AreFactsOf seat) now (legal_histories_say_legal_facts seat (map entry_fields new.entries.items) state.legal) in
     record {
       kept = record {
         state = state;

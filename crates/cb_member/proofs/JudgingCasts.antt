@@ -1,4 +1,4 @@
--- What the rules say of a cast that came.
+-- What the rules say of a received cast.
 use Rattle.std.proofs.Common.{◌≡◌, ◌≢◌, ℕ, ◌+◌, ◌<◌, ◌≤◌, inl, inr, Bool, true, false, ltb, leb, eqb, List, length, map, Some, Ok, Err, refl, sym, ap, subst, ◌∙◌, arith}
 use Rattle.std.specs.Prelude.{is_some, slice_get}
 use Rattle.std.specs.List.{list_all}
@@ -12,8 +12,8 @@ use Rattle.cb_gaps.specs.declared.buffer.Admission.{Admission}
 use Rattle.cb_gaps.specs.declared.buffer.Admission.TheVariants.{Kept, Repeat, TooFar}
 use Rattle.cb_gaps.specs.Buffer.{Buffer, Admits, IsLacking, IsReceived}
 use Rattle.cb_history.specs.declared.answer.ArriveRefusal.TheVariants as arrivals
-use Rattle.cb_history.specs.Group.{Seat}
-use Rattle.cb_history.specs.Facts.{Fact, CastCame, casts_in, entry_fields, is_there}
+use Rattle.cb_history.specs.Group.{Identity}
+use Rattle.cb_history.specs.Facts.{Fact, CastReceived, casts_in, entry_fields, is_there}
 use Rattle.cb_history.specs.Answers.{are_members, is_impossible, is_repeat, is_too_far, delivered, deliveries, Accepted}
 use Rattle.cb_history.specs.Answers as says
 use Rattle.cb_history.specs.Legal.{longest_history}
@@ -28,14 +28,14 @@ use Rattle.cb_member.specs.Arriving.{answer_to_frame, own_verdict, other_verdict
 use Rattle.cb_member.proofs.Casting.{facts_kept}
 use Rattle.cb_member.proofs.Reading.{time_at}
 
-pub other_group : (seat : Seat) (limit : ℕ) (store : Store) (c : CastFields) → c.group ≢ seat.group.number → answer_to_frame (held_by seat limit store) (CastFrame c) ≡ Err arrivals.OtherGroup
+pub other_group : (seat : Identity) (limit : ℕ) (store : Store) (c : CastFields) → c.group ≢ seat.group.number → answer_to_frame (held_by seat limit store) (CastFrame c) ≡ Err arrivals.OtherGroup
 other_group seat limit store c other = rw (ne_eqb c.group seat.group.number other) refl
 
-pub bad_member : (seat : Seat) (limit : ℕ) (store : Store) (c : CastFields) → c.group ≡ seat.group.number → are_members seat.group.size (CastFrame c) ≡ false
+pub bad_member : (seat : Identity) (limit : ℕ) (store : Store) (c : CastFields) → c.group ≡ seat.group.number → are_members seat.group.size (CastFrame c) ≡ false
     → answer_to_frame (held_by seat limit store) (CastFrame c) ≡ Err arrivals.BadMember
 bad_member seat limit store c group none = rw (eq-eqb c.group seat.group.number group, none) refl
 
-module _ (seat : Seat) (limit : ℕ) (store : Store) (c : CastFields) (k : IsKept seat limit store) (numbered : 1 ≤ c.number) (group : c.group ≡ seat.group.number) (members : are_members seat.group.size (CastFrame c) ≡ true) where
+module _ (seat : Identity) (limit : ℕ) (store : Store) (c : CastFields) (k : IsKept seat limit store) (numbered : 1 ≤ c.number) (group : c.group ≡ seat.group.number) (members : are_members seat.group.size (CastFrame c) ≡ true) where
   abbrev facts : List Fact
   facts = facts_held store
 
@@ -102,7 +102,7 @@ module _ (seat : Seat) (limit : ℕ) (store : Store) (c : CastFields) (k : IsKep
           legal = record {
             group = are.group;
             member = are.member;
-            facts_are = OneFactMore facts (CastCame c) are.facts_are few (record {
+            facts_are = OneFactMore facts (CastReceived c) are.facts_are few (record {
               numbered = numbered;
               taken = record {
                 group = group;

@@ -16,7 +16,7 @@ use Rattle.cb_delay.specs.declared.message.Event.TheVariants.{Cast}
 use Rattle.cb_diffs.specs.Expansion.{expanded_time}
 use Rattle.cb_stability.specs.Sent as sent
 use Rattle.cb_history.specs.declared.history.Entry.{Entry}
-use Rattle.cb_history.specs.Group.{Seat}
+use Rattle.cb_history.specs.Group.{Identity}
 use Rattle.cb_history.specs.Facts.{EntryFields, Fact, OwnCast, cast_said, casts_in, entry_fields, said_by}
 use Rattle.cb_history.specs.View.{counts, time_of}
 use Rattle.cb_history.specs.Known.{expanded_count}
@@ -58,18 +58,18 @@ use Rattle.cb_member.proofs.Casting.{facts_kept}
 use Rattle.cb_history.specs.State.{entry_by}
 use Rattle.cb_member.proofs.Entering.{state_with_entry, facts_with_entry}
 
-abbrev with_cast : Seat → List Fact → List ℕ → List Fact
+abbrev with_cast : Identity → List Fact → List ℕ → List Fact
 with_cast seat facts payload = facts ++ OwnCast (next_cast seat facts payload) ∷ []
 
-casts_with : (seat : Seat) (facts : List Fact) (payload : List ℕ) → casts_in (with_cast seat facts payload) ≡ casts_in facts ++ next_cast seat facts payload ∷ []
+casts_with : (seat : Identity) (facts : List Fact) (payload : List ℕ) → casts_in (with_cast seat facts payload) ≡ casts_in facts ++ next_cast seat facts payload ∷ []
 casts_with seat facts payload = casts_in-append facts (OwnCast (next_cast seat facts payload))
 
 -- the counts with the cast are the time after it
-time_with_cast : (seat : Seat) (facts : List Fact) (payload : List ℕ) → next_time seat facts payload ≡ time_of seat.group.size (with_cast seat facts payload)
+time_with_cast : (seat : Identity) (facts : List Fact) (payload : List ℕ) → next_time seat facts payload ≡ time_of seat.group.size (with_cast seat facts payload)
 time_with_cast seat facts payload = ap (counts seat.group.size) (sym (view_own seat.group.size facts (next_cast seat facts payload)))
 
 -- which is what its frame tells
-cast_event : (seat : Seat) (facts : List Fact) (payload : List ℕ) → AreFactsOf seat (with_cast seat facts payload)
+cast_event : (seat : Identity) (facts : List Fact) (payload : List ℕ) → AreFactsOf seat (with_cast seat facts payload)
     → events seat (with_cast seat facts payload) ≡ events seat facts ++ Cast (next_message seat facts payload) ∷ []
 cast_event seat facts payload are =
     let c = next_cast seat facts payload in
@@ -79,7 +79,7 @@ cast_event seat facts payload are =
     events_with_one_more seat facts (OwnCast c) are
     ∙ ap (λ (time : List ℕ). events seat facts ++ Cast (record { name = record { sender = seat.me; number = delivered seat facts seat.me + 1 }; time = time; payload = payload }) ∷ []) tells
 
-delivered_with_cast : (seat : Seat) (facts : List Fact) (payload : List ℕ) (d : Delivery) (events : Vec Event Global) → AreFactsOf seat (with_cast seat facts payload) → HasDelivered seat facts d
+delivered_with_cast : (seat : Identity) (facts : List Fact) (payload : List ℕ) (d : Delivery) (events : Vec Event Global) → AreFactsOf seat (with_cast seat facts payload) → HasDelivered seat facts d
     → events.items ≡ d.events.items ++ Cast (next_message seat facts payload) ∷ []
     → HasDelivered seat (with_cast seat facts payload) (record d { time = next_time seat facts payload; events = events })
 delivered_with_cast seat facts payload d events are has added =
@@ -98,7 +98,7 @@ delivered_with_cast seat facts payload d events are has added =
 still_for_some : (size : ℕ) (casts : List CastFields) (c : CastFields) (spare : Spare) → IsSpareOfSome size casts spare → IsSpareOfSome size (casts ++ c ∷ []) spare
 still_for_some size casts c spare s = (s.0, in_is_cast_of s.0 (casts ++ c ∷ []) (in_front s.0 casts (c ∷ []) (cast_of_is_in s.0 casts s.1)), s.2)
 
-received_with_cast : (seat : Seat) (facts : List Fact) (payload : List ℕ) (r : Reception) → AreFactsOf seat (with_cast seat facts payload) → HasReceivedAll seat facts r
+received_with_cast : (seat : Identity) (facts : List Fact) (payload : List ℕ) (r : Reception) → AreFactsOf seat (with_cast seat facts payload) → HasReceivedAll seat facts r
     → HasReceivedAll seat (with_cast seat facts payload) r
 received_with_cast seat facts payload r are has =
     let c = next_cast seat facts payload in
@@ -123,7 +123,7 @@ received_with_cast seat facts payload r are has =
           (All-weaker (IsSpareOfSome seat.group.size (casts_in facts)) (IsSpareOfSome seat.group.size (casts_in facts ++ c ∷ [])) (still_for_some seat.group.size (casts_in facts) c) r.spares.items has.each_for);
     }
 
-known_with_cast : (seat : Seat) (facts : List Fact) (payload : List ℕ) (k : Knowledge) → AreFactsOf seat (with_cast seat facts payload) → KnowsFacts seat facts k → KnowsFacts seat (with_cast seat facts payload) k
+known_with_cast : (seat : Identity) (facts : List Fact) (payload : List ℕ) (k : Knowledge) → AreFactsOf seat (with_cast seat facts payload) → KnowsFacts seat facts k → KnowsFacts seat (with_cast seat facts payload) k
 known_with_cast seat facts payload k are has =
     let tells = own_cast_tells_nothing seat facts (next_cast seat facts payload) in
     record {
@@ -136,11 +136,11 @@ known_with_cast seat facts payload k are has =
     }
 
 -- the last status stays the last one
-pub still_told : (seat : Seat) (facts more : List Fact) (told : Bool) (time : List ℕ) → last_status more None ≡ last_status facts None → TellsLast seat facts told time → TellsLast seat more told time
-still_told seat facts more true time same t = record { before = t.before; last = same ∙ t.last; said = t.said }
-still_told seat facts more false time same t = same ∙ t
+pub still_reported : (seat : Identity) (facts more : List Fact) (reported : Bool) (time : List ℕ) → last_status more None ≡ last_status facts None → TellsLast seat facts reported time → TellsLast seat more reported time
+still_reported seat facts more true time same t = record { before = t.before; last = same ∙ t.last; said = t.said }
+still_reported seat facts more false time same t = same ∙ t
 
-sent_with_cast : (seat : Seat) (facts : List Fact) (payload : List ℕ) (s : Sending) (window : sent.Sent) → AreFactsOf seat (with_cast seat facts payload) → HasSent seat facts s
+sent_with_cast : (seat : Identity) (facts : List Fact) (payload : List ℕ) (s : Sending) (window : sent.Sent) → AreFactsOf seat (with_cast seat facts payload) → HasSent seat facts s
     → sent.Keeps s.window window (s.window.put + 1) (fin.insert s.window.kept (s.window.put + 1) (next_text seat facts payload))
     → HasSent seat (with_cast seat facts payload) (record s { window = window; last_cast = next_time seat facts payload })
 sent_with_cast seat facts payload s window are has put =
@@ -149,7 +149,7 @@ sent_with_cast seat facts payload s window are has put =
       window = put_is_own_cast seat facts c s.window window are has.window put;
       last_cast = time_with_cast seat facts payload ∙ ap (time_of seat.group.size) (sym (upto_own facts c));
       fields = has.fields;
-      told = still_told seat facts (with_cast seat facts payload) s.has_told s.last_told (last_status_with_one_more facts (OwnCast c) None) has.told;
+      reported = still_reported seat facts (with_cast seat facts payload) s.has_reported s.last_reported (last_status_with_one_more facts (OwnCast c) None) has.reported;
     }
 
 -- ---- a cast that entered
@@ -157,7 +157,7 @@ sent_with_cast seat facts payload s window are has put =
 said_of : (payload : List ℕ) (c : CastFields) → frame_at (text_of (CastFrame c)) ≡ Ok (CastFrame c) → cast_said (frame_at (text_of (CastFrame c))) ≡ OwnCast c ∷ []
 said_of payload c read = ap cast_said read
 
-pub record Enters (seat : Seat) (limit : ℕ) (old mid new : Store) (payload : List ℕ) (casting : Casting) : Type 0 where
+pub record Enters (seat : Identity) (limit : ℕ) (old mid new : Store) (payload : List ℕ) (casting : Casting) : Type 0 where
   pub kept : IsKept seat limit old
   pub bytes : IsBytes payload
   pub can : CanCast seat limit old payload
@@ -165,14 +165,14 @@ pub record Enters (seat : Seat) (limit : ℕ) (old mid new : Store) (payload : L
   pub made : MakesCasting seat (facts_held old) payload casting
   pub entered : HasEntered casting mid new
 
-added_to : (seat : Seat) (limit : ℕ) (old mid new : Store) (payload : List ℕ) (casting : Casting) → Enters seat limit old mid new payload casting → new.entries.items ≡ old.entries.items ++ casting.entry ∷ []
+added_to : (seat : Identity) (limit : ℕ) (old mid new : Store) (payload : List ℕ) (casting : Casting) → Enters seat limit old mid new payload casting → new.entries.items ≡ old.entries.items ++ casting.entry ∷ []
 added_to seat limit old mid new payload casting e = e.entered.entries ∙ ap (λ (es : List Entry). es ++ casting.entry ∷ []) e.alike.entries
 
-by_cast : (seat : Seat) (limit : ℕ) (old mid new : Store) (payload : List ℕ) (casting : Casting) → Enters seat limit old mid new payload casting
+by_cast : (seat : Identity) (limit : ℕ) (old mid new : Store) (payload : List ℕ) (casting : Casting) → Enters seat limit old mid new payload casting
     → entry_by (held_by seat limit old) (ToCast payload) ≡ Some (entry_fields casting.entry)
 by_cast seat limit old mid new payload casting e = ap cast_entry e.can.answer ∙ ap (λ (x : EntryFields). Some x) (sym e.made.entry)
 
-facts_with_cast : (seat : Seat) (limit : ℕ) (old mid new : Store) (payload : List ℕ) (casting : Casting) → Enters seat limit old mid new payload casting
+facts_with_cast : (seat : Identity) (limit : ℕ) (old mid new : Store) (payload : List ℕ) (casting : Casting) → Enters seat limit old mid new payload casting
     → facts_held new ≡ with_cast seat (facts_held old) payload
 facts_with_cast seat limit old mid new payload casting e =
     let are = facts_kept seat limit old e.kept in
@@ -180,7 +180,7 @@ facts_with_cast seat limit old mid new payload casting e =
     let can = cast_can seat (facts_held old) payload are.group are.member are.facts_are (few_facts seat (facts_held old) are.facts_are) e.can.short in
     facts_with_entry old new casting.entry (OwnCast c) (added_to seat limit old mid new payload casting e) (ap said_by e.made.entry ∙ said_of payload c (cast_read c can))
 
-pub cast_keeps : (seat : Seat) (limit : ℕ) (old mid new : Store) (payload : List ℕ) (casting : Casting) → Enters seat limit old mid new payload casting → IsKept seat limit new
+pub cast_keeps : (seat : Identity) (limit : ℕ) (old mid new : Store) (payload : List ℕ) (casting : Casting) → Enters seat limit old mid new payload casting → IsKept seat limit new
 cast_keeps seat limit old mid new payload casting e =
     let state = state_with_entry seat limit old new (ToCast payload) casting.entry e.kept.state e.bytes e.can.entries (by_cast seat limit old mid new payload casting e) (added_to seat limit old mid new payload casting e) in
     let facts = facts_held old in

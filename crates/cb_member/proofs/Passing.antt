@@ -18,8 +18,8 @@ use Rattle.cb_gaps.specs.Buffer.{Buffer, Admits}
 use Rattle.cb_gaps.proofs.Passing.{with_cast, is_not_kept, passing_is_next, passing_takes}
 use Rattle.cb_times.specs.Time.{IsRaised}
 use Rattle.cb_delay.specs.Queue.{IsDelayQueue}
-use Rattle.cb_history.specs.Group.{Seat}
-use Rattle.cb_history.specs.Facts.{Fact, CastCame, casts_in}
+use Rattle.cb_history.specs.Group.{Identity}
+use Rattle.cb_history.specs.Facts.{Fact, CastReceived, casts_in}
 use Rattle.cb_history.specs.View.{view}
 use Rattle.cb_history.specs.Known.{expanded_count}
 use Rattle.cb_history.specs.LegalFacts.{AreFactsOf}
@@ -35,7 +35,7 @@ use Rattle.cb_member.specs.Store.{Keeps}
 use Rattle.cb_member.specs.Taking.{KeepsCast, HasNoNextOf, TellsTwice, Hears, OnlyTakesIn, TakesIn, IsTakingIn, TakesAll, HasTakenIn, taken_with, one_more}
 use Rattle.cb_member.specs.Arriving.{expanded_by}
 use Rattle.cb_member.specs.Passing.{CanPass, PassesCast, HaveTurn, HoldsBoth}
-use Rattle.cb_member.proofs.Receiving.{GivesNext, IsTold, one_buffer, kept_cast, next_is_told, its_turn, its_size}
+use Rattle.cb_member.proofs.Receiving.{GivesNext, IsReported, one_buffer, kept_cast, next_is_reported, its_turn, its_size}
 use Rattle.cb_member.proofs.TakingIn.{of_other, TakesOne, expanded_then, takes_on, none_taken_yet, all_taken, begins, ends, only_alike, time_fits_known, message_has_turn, copy_has_turn}
 use Rattle.cb_member.proofs.Waiting.{time_fits}
 
@@ -93,22 +93,22 @@ module _ (c : CastFields) (spare : Spare) (old : Reception) (can : CanPass c spa
     takes = passing_takes can.lets_pass.buffer c can.lets_pass.passes;
   }
 
-  received : HasReceived can.seat (can.facts ++ CastCame c ∷ []) (expanded_count (casts_in can.facts)) between
+  received : HasReceived can.seat (can.facts ++ CastReceived c ∷ []) (expanded_count (casts_in can.facts)) between
   received = keeps_it can.seat can.facts can.legal can.received can.spare_for
 
   other : c.sender ≢ can.seat.me
   other = of_other can.seat can.facts c can.legal
 
   pub passing_has_turn : IsNextCast old.expander c
-  passing_has_turn = its_turn c c.sender full after between gives_it can.seat (can.facts ++ CastCame c ∷ []) (expanded_count (casts_in can.facts)) can.legal other received
+  passing_has_turn = its_turn c c.sender full after between gives_it can.seat (can.facts ++ CastReceived c ∷ []) (expanded_count (casts_in can.facts)) can.legal other received
 
   pub passing_size : length old.expander ≡ can.seat.group.size
-  passing_size = its_size c c.sender full after between gives_it can.seat (can.facts ++ CastCame c ∷ []) (expanded_count (casts_in can.facts)) can.legal other received
+  passing_size = its_size c c.sender full after between gives_it can.seat (can.facts ++ CastReceived c ∷ []) (expanded_count (casts_in can.facts)) can.legal other received
 
   module _ (new : Reception) (messages : Message × Message) (buffers : new.buffers.items ≡ set old.buffers.items c.sender after) (spares : new.spares ≡ old.spares)
       (tells : TellsTwice c spare.payload old.expander new.expander messages) where
-    told : IsTold c c.sender after spare between new messages
-    told = record {
+    reported : IsReported c c.sender after spare between new messages
+    reported = record {
       name = can.spare_for.name;
       others = subst (λ (xs : List Spare). IsPermutation (old.spares.items ++ spare ∷ []) (spare ∷ xs)) (sym (ap (λ (v : Vec Spare Global). v.items) spares)) (IsPermutation-append_comm old.spares.items (spare ∷ []));
       tells = tells;
@@ -128,7 +128,7 @@ module _ (c : CastFields) (spare : Spare) (old : Reception) (can : CanPass c spa
     passes_it = record {
       between = between;
       keeps = keeps_it;
-      expands = λ seat facts taken are not_me has. next_is_told c c.sender full after between gives_it seat facts taken are not_me has spare new messages told;
+      expands = λ seat facts taken are not_me has. next_is_reported c c.sender full after between gives_it seat facts taken are not_me has spare new messages reported;
       none = none_behind;
     }
 
@@ -136,7 +136,7 @@ module _ (c : CastFields) (spare : Spare) (old : Reception) (can : CanPass c spa
 
 -- a cast that passes is told, its number and its time are heard, and its message is put through
 module _ (c : CastFields) (spare : Spare) (old : Store) (known : Knowledge) (reception : Reception) (messages : Message × Message) (passes : PassesCast c spare old.reception reception messages)
-    (hears : Hears c.sender c.number old.knowledge known) (seat : Seat) (facts : List Fact) (are : AreFactsOf seat (facts ++ CastCame c ∷ [])) (keeps : Keeps seat facts old) (for : IsSpareFor seat.group.size c spare) where
+    (hears : Hears c.sender c.number old.knowledge known) (seat : Identity) (facts : List Fact) (are : AreFactsOf seat (facts ++ CastReceived c ∷ [])) (keeps : Keeps seat facts old) (for : IsSpareFor seat.group.size c spare) where
   -- as the store would be with the cast kept and its number heard
   abbrev begun : Store
   begun = record { entries = old.entries; delivery = old.delivery; reception = passes.between; knowledge = known; sending = old.sending }
@@ -156,8 +156,8 @@ module _ (c : CastFields) (spare : Spare) (old : Store) (known : Knowledge) (rec
   pub passing_have_turn : HaveTurn old.delivery messages.0 messages.1
   passing_have_turn = record {
     same_name =
-        let told = expanded_then seat facts c (expanded_count (casts_in facts) c.sender) c.sender begun reception messages refl takes_first passes.expands in
-        ap (λ (m : Message). m.name) told.copy ∙ sym (ap (λ (m : Message). m.name) told.message);
+        let reported = expanded_then seat facts c (expanded_count (casts_in facts) c.sender) c.sender begun reception messages refl takes_first passes.expands in
+        ap (λ (m : Message). m.name) reported.copy ∙ sym (ap (λ (m : Message). m.name) reported.message);
     message_has = message_has_turn c.sender begun reception messages is_taking passes.expands;
     copy_has = copy_has_turn c.sender begun reception messages is_taking passes.expands;
     fits = time_fits old.delivery (record { size = seat.group.size; casts = casts_in facts; seen = view seat.group.size facts; waits = keeps.delivered.waits });
@@ -165,17 +165,17 @@ module _ (c : CastFields) (spare : Spare) (old : Store) (known : Knowledge) (rec
 
   pub passing_is_long : length messages.0.time ≡ seat.group.size
   passing_is_long =
-      let told = expanded_then seat facts c (expanded_count (casts_in facts) c.sender) c.sender begun reception messages refl takes_first passes.expands in
-      ap (λ (m : Message). length m.time) told.message ∙ length-map-range_with_len (expanded_field (casts_in (facts ++ CastCame c ∷ [])) told.carried.sender told.carried.number) 0 seat.group.size
+      let reported = expanded_then seat facts c (expanded_count (casts_in facts) c.sender) c.sender begun reception messages refl takes_first passes.expands in
+      ap (λ (m : Message). length m.time) reported.message ∙ length-map-range_with_len (expanded_field (casts_in (facts ++ CastReceived c ∷ [])) reported.carried.sender reported.carried.number) 0 seat.group.size
 
   -- one more of the sender's is expanded by it
   pub passing_expands_one : expanded_by facts c ≡ 1
   passing_expands_one =
-      let now = facts ++ CastCame c ∷ [] in
+      let now = facts ++ CastReceived c ∷ [] in
       let taken = taken_with facts c (expanded_count (casts_in facts) c.sender) in
       let not_me = of_other seat facts c are in
-      let told = expanded_then seat facts c (expanded_count (casts_in facts) c.sender) c.sender begun reception messages refl takes_first passes.expands in
-      let last = passes.none seat now (one_more taken c.sender) are not_me told.received in
+      let reported = expanded_then seat facts c (expanded_count (casts_in facts) c.sender) c.sender begun reception messages refl takes_first passes.expands in
+      let last = passes.none seat now (one_more taken c.sender) are not_me reported.received in
       let more : one_more taken c.sender c.sender ≡ taken c.sender + 1 = rw (eq-eqb c.sender c.sender refl) refl in
       let here : taken c.sender ≡ expanded_count (casts_in facts) c.sender = rw (eq-eqb c.sender c.sender refl) refl in
       let is = last.0 in
@@ -202,4 +202,4 @@ module _ (c : CastFields) (spare : Spare) (old : Store) (known : Knowledge) (rec
     passing_only = only_alike old begun taken_in only_begun only_taken
 
     pub passing_waits : IsWaiting held
-    passing_waits = record { size = seat.group.size; casts = casts_in (facts ++ CastCame c ∷ []); seen = view seat.group.size facts; waits = passing_takes_in.waits }
+    passing_waits = record { size = seat.group.size; casts = casts_in (facts ++ CastReceived c ∷ []); seen = view seat.group.size facts; waits = passing_takes_in.waits }

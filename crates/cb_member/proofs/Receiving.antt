@@ -1,4 +1,4 @@
--- A cast that came is kept, and the next one is taken out and told.
+-- A received cast is kept, and the next one is taken out and told.
 use Rattle.std.proofs.Common.{◌≡◌, ◌≢◌, ℕ, zero, suc, ◌+◌, ◌<◌, List, [], ◌∷◌, ◌++◌, length, set, get_or, Some, None, refl, sym, ap, subst, ◌∙◌, arith, inl, inr, ◌⊎◌, All, Any, Contains, slice_get}
 use Rattle.std.specs.Prelude.{is_some}
 use Rattle.std.specs.FinMap as map
@@ -16,8 +16,8 @@ use Rattle.cb_diffs.specs.Expansion.{expanded_time, IsNext as IsNextCast}
 use Rattle.cb_gaps.specs.declared.buffer.Admission.{Admission}
 use Rattle.cb_gaps.specs.declared.buffer.Admission.TheVariants.{Kept, Repeat, TooFar}
 use Rattle.cb_gaps.specs.Buffer.{Buffer, Admits, IsAnswer, IsAfter, IsNext, Takes}
-use Rattle.cb_history.specs.Group.{Seat}
-use Rattle.cb_history.specs.Facts.{Fact, CastCame, casts_in, messages_in}
+use Rattle.cb_history.specs.Group.{Identity}
+use Rattle.cb_history.specs.Facts.{Fact, CastReceived, casts_in, messages_in}
 use Rattle.cb_history.specs.Known.{expanded_count}
 use Rattle.cb_history.specs.NameLaws.{IsOneOf}
 use Rattle.cb_history.specs.LegalFacts.{AreFactsOf}
@@ -32,7 +32,7 @@ use Rattle.cb_history.proofs.Expanders.{one_of_a_name, kept_times_stay, cast_beh
 use Rattle.cb_member.specs.declared.reception.Spare.{Spare}
 use Rattle.cb_member.specs.declared.reception.Reception.{Reception}
 use Rattle.cb_member.specs.Reception.{IsSpareFor, IsSpareOfSome, HasSpare, HasReceived, HasReceivedAll}
-use Rattle.cb_member.specs.Taking.{CanKeep, IsReceiving, one_more, IsNextTwice, HasNoNextOf, TellsTwice, told}
+use Rattle.cb_member.specs.Taking.{CanKeep, IsReceiving, one_more, IsNextTwice, HasNoNextOf, TellsTwice, reported}
 
 -- ---- one buffer written over
 
@@ -88,13 +88,13 @@ pub record WithCast (c : CastFields) (spare : Spare) (before after : Buffer) (ol
   pub spares : new.spares.items ≡ old.spares.items ++ spare ∷ []
 
 module _ (c : CastFields) (spare : Spare) (before after : Buffer) (old new : Reception) (w : WithCast c spare before after old new) (delivered : ℕ) (answer : Admission) (can : CanKeep delivered c old)
-    (answered : IsAnswer before delivered c answer) (becomes : IsAfter before c answer after) (seat : Seat) (facts : List Fact) (are : AreFactsOf seat (facts ++ CastCame c ∷ []))
+    (answered : IsAnswer before delivered c answer) (becomes : IsAfter before c answer after) (seat : Identity) (facts : List Fact) (are : AreFactsOf seat (facts ++ CastReceived c ∷ []))
     (all : HasReceivedAll seat facts old) (for : IsSpareFor seat.group.size c spare) where
   abbrev casts : List CastFields
   casts = casts_in facts
 
-  now : casts_in (facts ++ CastCame c ∷ []) ≡ casts ++ c ∷ []
-  now = casts_in-append facts (CastCame c)
+  now : casts_in (facts ++ CastReceived c ∷ []) ≡ casts ++ c ∷ []
+  now = casts_in-append facts (CastReceived c)
 
   kept : Admits before delivered c.number c.number Kept
   kept = subst (λ (b : Buffer). Admits b delivered c.number c.number Kept) (one_buffer can.buffer before (sym can.at ∙ w.at)) can.is_kept
@@ -108,7 +108,7 @@ module _ (c : CastFields) (spare : Spare) (before after : Buffer) (old new : Rec
   was_at : (i : ℕ) → i ≡ c.sender → slice_get old.buffers.items i ≡ Some before
   was_at i e = ap (slice_get old.buffers.items) e ∙ w.at
 
-  pub kept_cast : HasReceived seat (facts ++ CastCame c ∷ []) (expanded_count (casts_in facts)) new
+  pub kept_cast : HasReceived seat (facts ++ CastReceived c ∷ []) (expanded_count (casts_in facts)) new
   kept_cast = record {
     senders = ap length w.buffers ∙ length-set old.buffers.items c.sender after ∙ all.senders;
     waits = λ i b at other. subst (λ (cs : List CastFields). HoldsWhatWaits cs i b) (sym now) (elim (at_now i b at) [
@@ -123,7 +123,7 @@ module _ (c : CastFields) (spare : Spare) (before after : Buffer) (old new : Rec
       | inl here ↦ ap (λ (x : Buffer). x.window) here.1 ∙ ap (λ (x : Buffer). x.window) is_after ∙ all.windows i before (was_at i here.0)
       | inr elsewhere ↦ all.windows i b elsewhere.1
     ];
-    times = λ i lt other. kept_times_stay seat facts (CastCame c ∷ []) i (expanded_count casts i) new.expander are (omega arith) (subst (KeepsTimeOf seat facts i (expanded_count casts i)) (sym w.expander) (all.times i lt other));
+    times = λ i lt other. kept_times_stay seat facts (CastReceived c ∷ []) i (expanded_count casts i) new.expander are (omega arith) (subst (KeepsTimeOf seat facts i (expanded_count casts i)) (sym w.expander) (all.times i lt other));
     spares = λ i number d other waiting. subst (λ (xs : List Spare). HasSpare seat.group.size xs d) (sym w.spares)
         (elim (waits_or_new casts i (expanded_count casts i) number c d (subst (λ (cs : List CastFields). IsWaiting cs i (expanded_count casts i) number d) now waiting)) [
           | inl before ↦ one_spare_more seat.group.size old.spares.items spare d (all.spares i number d other before)
@@ -161,15 +161,15 @@ buffer_at sender before old r read =
     let senders = r.received.senders in
     slice_get_read old.buffers.items (length old.buffers.items) sender before refl (omega (arith, member, senders)) read
 
--- its spare is taken out, and it is told
-pub record IsTold (c : CastFields) (sender : ℕ) (after : Buffer) (spare : Spare) (old new : Reception) (messages : Message × Message) : Type 0 where
+-- its spare is taken out, and it is reported
+pub record IsReported (c : CastFields) (sender : ℕ) (after : Buffer) (spare : Spare) (old new : Reception) (messages : Message × Message) : Type 0 where
   pub name : spare.name ≡ name_in c
   pub others : IsPermutation old.spares.items (spare ∷ new.spares.items)
   pub tells : TellsTwice c spare.payload old.expander new.expander messages
   pub buffers : new.buffers.items ≡ set old.buffers.items sender after
 
 module _ (c : CastFields) (sender : ℕ) (before after : Buffer) (old : Reception) (g : GivesNext c sender before after old)
-    (seat : Seat) (facts : List Fact) (taken : ℕ → ℕ) (are : AreFactsOf seat facts) (other : sender ≢ seat.me) (received : HasReceived seat facts taken old) where
+    (seat : Identity) (facts : List Fact) (taken : ℕ → ℕ) (are : AreFactsOf seat facts) (other : sender ≢ seat.me) (received : HasReceived seat facts taken old) where
   abbrev size : ℕ
   size = seat.group.size
 
@@ -212,7 +212,7 @@ module _ (c : CastFields) (sender : ℕ) (before after : Buffer) (old : Receptio
   pub its_size : length old.expander ≡ size
   its_size = keeps.senders
 
-  module _ (spare : Spare) (new : Reception) (messages : Message × Message) (t : IsTold c sender after spare old new messages) where
+  module _ (spare : Spare) (new : Reception) (messages : Message × Message) (t : IsReported c sender after spare old new messages) where
     for : IsSpareFor size c spare
     for = is_its_spare spare new.spares.items t.name t.others
 
@@ -245,8 +245,8 @@ module _ (c : CastFields) (sender : ℕ) (before after : Buffer) (old : Receptio
           | inr left ↦ (left.0, has.1, left.1, left.2, has.4)
         ]
 
-    pub next_is_told : IsNextTwice seat facts sender taken new messages
-    next_is_told = record {
+    pub next_is_reported : IsNextTwice seat facts sender taken new messages
+    next_is_reported = record {
       carried = message c;
       next = record {
         there = message_of_cast all_casts c found.0;
@@ -258,8 +258,8 @@ module _ (c : CastFields) (sender : ℕ) (before after : Buffer) (old : Receptio
         of_sender = found.1;
         next = behind;
       };
-      message = t.tells.message ∙ ap (λ (time : List ℕ). told c time c.payload) tells.1;
-      copy = t.tells.copy ∙ ap (λ (time : List ℕ). told c time spare.payload) tells.1 ∙ ap (told c (expanded_time size all_casts c.sender c.number)) for.payload;
+      message = t.tells.message ∙ ap (λ (time : List ℕ). reported c time c.payload) tells.1;
+      copy = t.tells.copy ∙ ap (λ (time : List ℕ). reported c time spare.payload) tells.1 ∙ ap (reported c (expanded_time size all_casts c.sender c.number)) for.payload;
       received = record {
         senders = ap length t.buffers ∙ length-set old.buffers.items sender after ∙ received.senders;
         waits = λ i b at not_me. elim (at_new i b at) [
@@ -305,7 +305,7 @@ none_is_next sender before after old new was none same buffers expander spares s
 
 -- ---- the same numbers
 
-pub received_alike : (seat : Seat) (facts : List Fact) (taken later : ℕ → ℕ) (r : Reception) → ((i : ℕ) → later i ≡ taken i) → HasReceived seat facts taken r → HasReceived seat facts later r
+pub received_alike : (seat : Identity) (facts : List Fact) (taken later : ℕ → ℕ) (r : Reception) → ((i : ℕ) → later i ≡ taken i) → HasReceived seat facts taken r → HasReceived seat facts later r
 received_alike seat facts taken later r same h = record {
   senders = h.senders;
   waits = h.waits;

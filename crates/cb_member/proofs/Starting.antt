@@ -10,7 +10,7 @@ use Rattle.cb_delay.specs.Queue.{Queue, IsNew}
 use Rattle.cb_gaps.specs.Buffer as buffers
 use Rattle.cb_gaps.specs.Buffer.{Buffer}
 use Rattle.cb_history.specs.declared.history.Entry.{Entry}
-use Rattle.cb_history.specs.Group.{Seat, IsSeat}
+use Rattle.cb_history.specs.Group.{Identity, IsIdentity}
 use Rattle.cb_history.specs.Facts.{entry_fields, facts_of}
 use Rattle.cb_history.specs.View.{count, view, time_of}
 use Rattle.cb_history.specs.Legal.{longest_history, NoEntries}
@@ -32,7 +32,7 @@ use Rattle.cb_member.specs.declared.store.Store.{Store}
 use Rattle.cb_member.specs.Store.{HasDelivered, Keeps, IsNewStore, IsKept}
 use Rattle.cb_member.proofs.Receiving.{one_buffer}
 
-pub no_facts : (seat : Seat) → IsSeat seat → AreFactsOf seat []
+pub no_facts : (seat : Identity) → IsIdentity seat → AreFactsOf seat []
 no_facts seat is = record { group = is.group; member = is.member; facts_are = NoFacts }
 
 none_counted : (a n : ℕ) → map (count []) (range_with_len a n) ≡ replicate n 0
@@ -52,7 +52,7 @@ none_waits size window queue new = record {
   );
 }
 
-nothing_delivered : (seat : Seat) (d : Delivery) → IsSeat seat → IsNewDelivery seat.group.size seat.group.window d → HasDelivered seat [] d
+nothing_delivered : (seat : Identity) (d : Delivery) → IsIdentity seat → IsNewDelivery seat.group.size seat.group.window d → HasDelivered seat [] d
 unfolding view
 nothing_delivered seat d is new = record {
   waits = record {
@@ -73,7 +73,7 @@ one_of_each P (x ∷ bs) (suc i) b all at = one_of_each P bs i b all.1 at
 each_new : (window : ℕ) (bs : List Buffer) (i : ℕ) (b : Buffer) → All (buffers.IsNew window) bs → slice_get bs i ≡ Some b → buffers.IsNew window b
 each_new window bs i b all at = one_of_each (buffers.IsNew window) bs i b (recursion_from_All (buffers.IsNew window) bs all) at
 
-nothing_received : (seat : Seat) (r : Reception) → IsSeat seat → IsNewReception seat.group.size seat.group.window r → HasReceivedAll seat [] r
+nothing_received : (seat : Identity) (r : Reception) → IsIdentity seat → IsNewReception seat.group.size seat.group.window r → HasReceivedAll seat [] r
 nothing_received seat r is new = record {
   senders = new.senders;
   waits = λ i b at other. new_buffer_holds seat.group.window i b (each_new seat.group.window r.buffers.items i b new.buffers at);
@@ -84,7 +84,7 @@ nothing_received seat r is new = record {
   each_for = rw new.spares (All-nil (IsSpareOfSome seat.group.size []));
 }
 
-nothing_known : (seat : Seat) (k : Knowledge) → IsSeat seat → IsNewKnowledge seat.group.size k → KnowsFacts seat [] k
+nothing_known : (seat : Identity) (k : Knowledge) → IsIdentity seat → IsNewKnowledge seat.group.size k → KnowsFacts seat [] k
 unfolding view
 nothing_known seat k is new = record {
   fields = ap length new.known ∙ length-replicate seat.group.size 0;
@@ -92,7 +92,7 @@ nothing_known seat k is new = record {
   acknowledged = record { of_size = new.acks.of_size; learnt = λ j lt other. new.acks.none j seat.me };
 }
 
-nothing_sent : (seat : Seat) (s : Sending) → IsSeat seat → IsNewSending seat.group.size seat.group.window s → HasSent seat [] s
+nothing_sent : (seat : Identity) (s : Sending) → IsIdentity seat → IsNewSending seat.group.size seat.group.window s → HasSent seat [] s
 unfolding view
 nothing_sent seat s is new = record {
   window = record {
@@ -102,10 +102,10 @@ nothing_sent seat s is new = record {
   };
   last_cast = new.no_cast ∙ sym (no_time seat.group.size);
   fields = ap length new.fields ∙ length-replicate seat.group.size 0;
-  told = rw new.not_told refl;
+  reported = rw new.not_reported refl;
 }
 
-pub starts : (seat : Seat) (limit : ℕ) (store : Store) → IsSeat seat → 1 ≤ limit → limit ≤ longest_history → IsNewStore seat.group.size seat.group.window store → IsKept seat limit store
+pub starts : (seat : Identity) (limit : ℕ) (store : Store) → IsIdentity seat → 1 ≤ limit → limit ≤ longest_history → IsNewStore seat.group.size seat.group.window store → IsKept seat limit store
 starts seat limit store is low high new = record {
   state = rw new.entries (record {
     legal = record { group = is.group; member = is.member; entries_are = NoEntries };

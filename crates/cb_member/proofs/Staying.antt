@@ -7,7 +7,7 @@ use Rattle.cb_frames.specs.Fields.{CastFields, Carried}
 use Rattle.cb_delay.specs.declared.message.Event.{Event}
 use Rattle.cb_diffs.specs.Expansion.{expanded_time}
 use Rattle.cb_history.specs.declared.history.Entry.{Entry}
-use Rattle.cb_history.specs.Group.{Seat}
+use Rattle.cb_history.specs.Group.{Identity}
 use Rattle.cb_history.specs.Facts.{Fact, casts_in, entry_fields, facts_of}
 use Rattle.cb_history.specs.View.{view}
 use Rattle.cb_history.specs.Known.{expanded_count}
@@ -25,14 +25,14 @@ use Rattle.cb_member.specs.Store.{HasDelivered, Keeps, IsAlike, IsKept, facts_he
 
 -- ---- nothing but room
 
-pub delivered_alike : (seat : Seat) (facts : List Fact) (d : Delivery) (events : Vec Event Global) → events.items ≡ d.events.items → HasDelivered seat facts d → HasDelivered seat facts (record d { events = events })
+pub delivered_alike : (seat : Identity) (facts : List Fact) (d : Delivery) (events : Vec Event Global) → events.items ≡ d.events.items → HasDelivered seat facts d → HasDelivered seat facts (record d { events = events })
 delivered_alike seat facts d events same has = record {
   waits = record { way = has.waits.way; time = has.waits.time; queue = has.waits.queue; copies = has.waits.copies };
   windows = record { queue = has.windows.queue; copies = has.windows.copies };
   events = same ∙ has.events;
 }
 
-pub keeps_alike : (seat : Seat) (facts : List Fact) (old new : Store) → IsAlike old new → Keeps seat facts old → Keeps seat facts new
+pub keeps_alike : (seat : Identity) (facts : List Fact) (old new : Store) → IsAlike old new → Keeps seat facts old → Keeps seat facts new
 keeps_alike seat facts old new alike keeps = record {
   delivered = subst (HasDelivered seat facts) (sym alike.delivery) (delivered_alike seat facts old.delivery new.delivery.events alike.events keeps.delivered);
   received = subst (HasReceivedAll seat facts) (sym alike.reception) keeps.received;
@@ -40,7 +40,7 @@ keeps_alike seat facts old new alike keeps = record {
   sent = subst (HasSent seat facts) (sym alike.sending) keeps.sent;
 }
 
-pub kept_alike : (seat : Seat) (limit : ℕ) (old new : Store) → IsAlike old new → IsKept seat limit old → IsKept seat limit new
+pub kept_alike : (seat : Identity) (limit : ℕ) (old new : Store) → IsAlike old new → IsKept seat limit old → IsKept seat limit new
 kept_alike seat limit old new alike kept =
     record {
       state = subst (λ (es : List Entry). IsMemberState (state_of seat limit es)) (sym alike.entries) kept.state;
@@ -49,14 +49,14 @@ kept_alike seat limit old new alike kept =
 
 -- ---- a fact that is no cast
 
-pub delivered_stays : (seat : Seat) (facts now : List Fact) (d : Delivery) → casts_in now ≡ casts_in facts → view seat.group.size now ≡ view seat.group.size facts → HasDelivered seat facts d → HasDelivered seat now d
+pub delivered_stays : (seat : Identity) (facts now : List Fact) (d : Delivery) → casts_in now ≡ casts_in facts → view seat.group.size now ≡ view seat.group.size facts → HasDelivered seat facts d → HasDelivered seat now d
 delivered_stays seat facts now d casts seen has = record {
   waits = subst (λ (cs : List CastFields). Waits seat.group.size cs (view seat.group.size now) d) (sym casts) (subst (λ (ms : List Carried). Waits seat.group.size (casts_in facts) ms d) (sym seen) has.waits);
   windows = has.windows;
   events = has.events ∙ ap (map (event_in seat (casts_in facts))) (sym seen) ∙ ap (λ (cs : List CastFields). map (event_in seat cs) (view seat.group.size now)) (sym casts);
 }
 
-pub received_stays : (seat : Seat) (facts now : List Fact) (r : Reception) → casts_in now ≡ casts_in facts → HasReceivedAll seat facts r → HasReceivedAll seat now r
+pub received_stays : (seat : Identity) (facts now : List Fact) (r : Reception) → casts_in now ≡ casts_in facts → HasReceivedAll seat facts r → HasReceivedAll seat now r
 received_stays seat facts now r casts has = record {
   senders = has.senders;
   waits = λ i b at other. subst (λ (cs : List CastFields). HoldsWhatWaits cs i b) (sym casts) (has.waits i b at other);

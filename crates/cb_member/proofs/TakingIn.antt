@@ -16,11 +16,11 @@ use Rattle.cb_delay.specs.Queue.{Queue, Holds, IsDelayQueue, FollowsLast, count_
 use Rattle.cb_delay.proofs.Names.{names_total}
 use Rattle.cb_diffs.specs.Expansion.{expanded_field}
 use Rattle.cb_gaps.specs.Buffer.{Buffer, WouldComeOut}
-use Rattle.cb_history.specs.Group.{Seat}
-use Rattle.cb_history.specs.Facts.{Fact, OwnCast, CastCame, StatusCame, OwnStatus, casts_in, messages_in, numbers_between, is_there}
+use Rattle.cb_history.specs.Group.{Identity}
+use Rattle.cb_history.specs.Facts.{Fact, OwnCast, CastReceived, StatusReceived, OwnStatus, casts_in, messages_in, numbers_between, is_there}
 use Rattle.cb_history.specs.View.{count, view, message_in}
 use Rattle.cb_history.specs.Known.{greatest_of, known, expanded_count}
-use Rattle.cb_history.specs.NameLaws.{CameFromOthers, IsOneOf}
+use Rattle.cb_history.specs.NameLaws.{ReceivedFromOthers, IsOneOf}
 use Rattle.cb_history.specs.LegalFacts.{AreFactsOf}
 use Rattle.cb_history.specs.BufferLaws.{HoldsWhatWaits}
 use Rattle.cb_history.specs.DeliveryLaws.{IsOnTheWay}
@@ -44,14 +44,14 @@ use Rattle.cb_member.specs.Store.{Keeps}
 use Rattle.cb_member.specs.Taking.{one_more, IsReceiving, IsNextOf, IsNextTwice, taken_with, heard_with, TakesIn, IsTakingIn, HasTurn, HoldsMore, TakesSoFar, TakesAllOf, TakesAll, ExpandsNext, HasNoNextOf, OnlyTakesIn, Hears, KeepsCast, WouldExpand, HasTakenIn}
 use Rattle.cb_member.proofs.Receiving.{received_alike}
 
-came_from_other : (me : ℕ) (facts : List Fact) (c : CastFields) → CameFromOthers me (facts ++ CastCame c ∷ []) → c.sender ≢ me
-came_from_other me [] c h = h.0
-came_from_other me (OwnCast d ∷ facts) c h = came_from_other me facts c h
-came_from_other me (CastCame d ∷ facts) c h = came_from_other me facts c h.1
-came_from_other me (StatusCame s ∷ facts) c h = came_from_other me facts c h
-came_from_other me (OwnStatus s ∷ facts) c h = came_from_other me facts c h
+received_from_other : (me : ℕ) (facts : List Fact) (c : CastFields) → ReceivedFromOthers me (facts ++ CastReceived c ∷ []) → c.sender ≢ me
+received_from_other me [] c h = h.0
+received_from_other me (OwnCast d ∷ facts) c h = received_from_other me facts c h
+received_from_other me (CastReceived d ∷ facts) c h = received_from_other me facts c h.1
+received_from_other me (StatusReceived s ∷ facts) c h = received_from_other me facts c h
+received_from_other me (OwnStatus s ∷ facts) c h = received_from_other me facts c h
 
-module _ (seat : Seat) (facts : List Fact) (c : CastFields) (are : AreFactsOf seat (facts ++ CastCame c ∷ [])) where
+module _ (seat : Identity) (facts : List Fact) (c : CastFields) (are : AreFactsOf seat (facts ++ CastReceived c ∷ [])) where
   abbrev size : ℕ
   size = seat.group.size
 
@@ -59,29 +59,29 @@ module _ (seat : Seat) (facts : List Fact) (c : CastFields) (are : AreFactsOf se
   old_casts = casts_in facts
 
   abbrev new_casts : List CastFields
-  new_casts = casts_in (facts ++ CastCame c ∷ [])
+  new_casts = casts_in (facts ++ CastReceived c ∷ [])
 
   abbrev seen : List Carried
   seen = view seat.group.size facts
 
   with_cast : new_casts ≡ old_casts ++ c ∷ []
-  with_cast = casts_in-append facts (CastCame c)
+  with_cast = casts_in-append facts (CastReceived c)
 
   before : AreFactsOf seat facts
-  before = prefix_of_facts_is_legal seat facts (CastCame c ∷ []) are
+  before = prefix_of_facts_is_legal seat facts (CastReceived c ∷ []) are
 
   pub of_other : c.sender ≢ seat.me
-  of_other = came_from_other seat.me facts c (own_messages_are_own seat (facts ++ CastCame c ∷ []) are)
+  of_other = received_from_other seat.me facts c (own_messages_are_own seat (facts ++ CastReceived c ∷ []) are)
 
   pub of_member : c.sender < size
-  of_member = ltb-true c.sender size (and_parts (ltb c.sender size) (list_all (λ d. ltb d.field size) c.changes) (last_fact_is_a_step seat facts (CastCame c) are).taken.members).0
+  of_member = ltb-true c.sender size (and_parts (ltb c.sender size) (list_all (λ d. ltb d.field size) c.changes) (last_fact_is_a_step seat facts (CastReceived c) are).taken.members).0
 
   messages_with : messages_in new_casts ≡ messages_in old_casts ++ message c ∷ []
   messages_with = ap messages_in with_cast ∙ messages_in-push old_casts c
 
   pub on_the_way : IsOnTheWay size new_casts seen
   on_the_way =
-      let after = views_are_on_the_way seat (facts ++ CastCame c ∷ []) are in
+      let after = views_are_on_the_way seat (facts ++ CastReceived c ∷ []) are in
       let then_way = views_are_on_the_way seat facts before in
       record {
         names = after.names;
@@ -94,7 +94,7 @@ module _ (seat : Seat) (facts : List Fact) (c : CastFields) (are : AreFactsOf se
   is_near : (m : Carried) → IsOneOf m (messages_in new_casts) → m.number ≤ count seen m.sender + seat.group.window
   is_near m there = elim (in_push m (message c) (messages_in old_casts) (subst (IsIn m) messages_with (one_of_is_in m (messages_in new_casts) there))) [
     | inl old ↦ casts_are_near seat facts m.sender m.number before (message_is_there old_casts m m.sender m.number old refl refl)
-    | inr new ↦ subst (λ (x : Carried). x.number ≤ count seen x.sender + seat.group.window) (sym new) (ltb-false (count seen c.sender + seat.group.window) c.number (last_fact_is_a_step seat facts (CastCame c) are).taken.near)
+    | inr new ↦ subst (λ (x : Carried). x.number ≤ count seen x.sender + seat.group.window) (sym new) (ltb-false (count seen c.sender + seat.group.window) c.number (last_fact_is_a_step seat facts (CastReceived c) are).taken.near)
   ]
 
   more_taken : (taken : ℕ) (i : ℕ) → taken_with facts c (taken + 1) i ≡ one_more (taken_with facts c taken) c.sender i
@@ -186,40 +186,40 @@ pub record TakesOne (sender : ℕ) (old new : Store) (messages : Message × Mess
 greater_of : (n o t x h more v : ℕ) → n ≡ max o t → o ≡ max x h → t ≡ v → more ≡ max h v → n ≡ max x more
 greater_of n o t x h more v a b e f = omega (arith, a, b, e, f)
 
-pub expanded_then : (seat : Seat) (facts : List Fact) (c : CastFields) (taken sender : ℕ) (old : Store) (new : Reception) (messages : Message × Message) → c.sender ≡ sender → TakesIn seat facts c taken old
-    → ExpandsNext sender old.reception new messages → IsNextTwice seat (facts ++ CastCame c ∷ []) c.sender (taken_with facts c taken) new messages
+pub expanded_then : (seat : Identity) (facts : List Fact) (c : CastFields) (taken sender : ℕ) (old : Store) (new : Reception) (messages : Message × Message) → c.sender ≡ sender → TakesIn seat facts c taken old
+    → ExpandsNext sender old.reception new messages → IsNextTwice seat (facts ++ CastReceived c ∷ []) c.sender (taken_with facts c taken) new messages
 expanded_then seat facts c taken sender old new messages e t expands =
-    subst (λ (i : ℕ). ExpandsNext i old.reception new messages) (sym e) expands seat (facts ++ CastCame c ∷ []) (taken_with facts c taken) t.legal (of_other seat facts c t.legal) t.received
+    subst (λ (i : ℕ). ExpandsNext i old.reception new messages) (sym e) expands seat (facts ++ CastReceived c ∷ []) (taken_with facts c taken) t.legal (of_other seat facts c t.legal) t.received
 
-pub takes_one_more : (seat : Seat) (facts : List Fact) (c : CastFields) (taken sender : ℕ) (old new : Store) (messages : Message × Message) → c.sender ≡ sender → TakesIn seat facts c taken old → TakesOne sender old new messages
+pub takes_one_more : (seat : Identity) (facts : List Fact) (c : CastFields) (taken sender : ℕ) (old new : Store) (messages : Message × Message) → c.sender ≡ sender → TakesIn seat facts c taken old → TakesOne sender old new messages
     → TakesIn seat facts c (taken + 1) new × HoldsMore 1 old new
 takes_one_more seat facts c taken sender old new messages e t one = (
   record {
     legal = t.legal;
     at_least = let low = t.at_least in omega (arith, low);
-    received = received_alike seat (facts ++ CastCame c ∷ []) (one_more (taken_with facts c taken) c.sender) (taken_with facts c (taken + 1)) new.reception (more_taken seat facts c t.legal taken) told.received;
-    queue = holds_one_more seat facts c t.legal taken t.at_least m told.next old.delivery.queue new.delivery.queue messages.0 told.message t.queue one.queue;
-    copies = holds_one_more seat facts c t.legal taken t.at_least m told.next old.delivery.copies new.delivery.copies messages.1 told.copy t.copies one.copies;
+    received = received_alike seat (facts ++ CastReceived c ∷ []) (one_more (taken_with facts c taken) c.sender) (taken_with facts c (taken + 1)) new.reception (more_taken seat facts c t.legal taken) reported.received;
+    queue = holds_one_more seat facts c t.legal taken t.at_least m reported.next old.delivery.queue new.delivery.queue messages.0 reported.message t.queue one.queue;
+    copies = holds_one_more seat facts c t.legal taken t.at_least m reported.next old.delivery.copies new.delivery.copies messages.1 reported.copy t.copies one.copies;
     windows = record { queue = one.queue.window ∙ t.windows.queue; copies = one.copies.window ∙ t.windows.copies };
     fields = one.raised.size ∙ t.fields;
     heard = λ i lt other. greater_of (field new.knowledge.known i) (field old.knowledge.known i) (field messages.0.time i) (max (known facts i) (cond (eqb c.sender i) c.number 0)) _ _
         (expanded_field (casts_in facts ++ c ∷ []) c.sender (taken + 1) i) (one.raised.each i) (t.heard i lt other) (its_time i lt) (one_time_more seat facts c t.legal taken i t.at_least);
   },
-  one_longer seat facts c t.legal taken t.at_least m told.next old.delivery.queue new.delivery.queue messages.0 told.message one.is_queue t.queue one.queue,
+  one_longer seat facts c t.legal taken t.at_least m reported.next old.delivery.queue new.delivery.queue messages.0 reported.message one.is_queue t.queue one.queue,
 )
   where
-    told : IsNextTwice seat (facts ++ CastCame c ∷ []) c.sender (taken_with facts c taken) new.reception messages
-    told = expanded_then seat facts c taken sender old new.reception messages e t one.expands
+    reported : IsNextTwice seat (facts ++ CastReceived c ∷ []) c.sender (taken_with facts c taken) new.reception messages
+    reported = expanded_then seat facts c taken sender old new.reception messages e t one.expands
 
     m : Carried
-    m = told.carried
+    m = reported.carried
 
     its_time : (i : ℕ) → i < seat.group.size → field messages.0.time i ≡ expanded_field (casts_in facts ++ c ∷ []) c.sender (taken + 1) i
     its_time i lt =
-        ap (λ (x : Message). field x.time i) told.message ∙ in_field seat.group.size (expanded_field (casts_in (facts ++ CastCame c ∷ [])) m.sender m.number) i lt
+        ap (λ (x : Message). field x.time i) reported.message ∙ in_field seat.group.size (expanded_field (casts_in (facts ++ CastReceived c ∷ [])) m.sender m.number) i lt
         ∙ ap (λ (cs : List CastFields). expanded_field cs m.sender m.number i) (with_cast seat facts c t.legal)
-        ∙ ap (λ (s : ℕ). expanded_field (casts_in facts ++ c ∷ []) s m.number i) told.next.of_sender
-        ∙ ap (λ (n : ℕ). expanded_field (casts_in facts ++ c ∷ []) c.sender n i) (its_number seat facts c t.legal taken t.at_least m told.next)
+        ∙ ap (λ (s : ℕ). expanded_field (casts_in facts ++ c ∷ []) s m.number i) reported.next.of_sender
+        ∙ ap (λ (n : ℕ). expanded_field (casts_in facts ++ c ∷ []) c.sender n i) (its_number seat facts c t.legal taken t.at_least m reported.next)
 
 pub only_alike : (a b d : Store) → OnlyTakesIn a b → OnlyTakesIn b d → OnlyTakesIn a d
 only_alike a b d first later = record {
@@ -262,7 +262,7 @@ none_taken_yet sender store seat facts c taken e t = record { now_taken = taken;
 pub is_receiving : (sender : ℕ) (store : Store) → IsTakingIn sender store → IsReceiving sender store.reception
 is_receiving sender store t = record {
   seat = t.seat;
-  facts = t.facts ++ CastCame t.cast ∷ [];
+  facts = t.facts ++ CastReceived t.cast ∷ [];
   taken = taken_with t.facts t.cast t.taken;
   legal = t.takes.legal;
   member = subst (λ (i : ℕ). i < t.seat.group.size) t.of_sender (of_member t.seat t.facts t.cast t.takes.legal);
@@ -271,12 +271,12 @@ is_receiving sender store t = record {
 }
 
 module _ (sender : ℕ) (store : Store) (new : Reception) (messages : Message × Message) (t : IsTakingIn sender store) (expands : ExpandsNext sender store.reception new messages) where
-  its_message : IsNextTwice t.seat (t.facts ++ CastCame t.cast ∷ []) t.cast.sender (taken_with t.facts t.cast t.taken) new messages
+  its_message : IsNextTwice t.seat (t.facts ++ CastReceived t.cast ∷ []) t.cast.sender (taken_with t.facts t.cast t.taken) new messages
   its_message = expanded_then t.seat t.facts t.cast t.taken sender store new messages t.of_sender t.takes expands
 
   pub time_fits_known : length messages.0.time ≡ length store.knowledge.known
   time_fits_known =
-      ap (λ (x : Message). length x.time) its_message.message ∙ length-map-range_with_len (expanded_field (casts_in (t.facts ++ CastCame t.cast ∷ [])) its_message.carried.sender its_message.carried.number) 0 t.seat.group.size
+      ap (λ (x : Message). length x.time) its_message.message ∙ length-map-range_with_len (expanded_field (casts_in (t.facts ++ CastReceived t.cast ∷ [])) its_message.carried.sender its_message.carried.number) 0 t.seat.group.size
       ∙ sym t.takes.fields
 
   pub message_has_turn : HasTurn store.delivery.queue messages.0
@@ -292,8 +292,8 @@ all_taken sender first old new so_far none delivery knowledge seat facts c taken
     let some = so_far seat facts c taken e t in
     let n = some.now_taken in
     let legal = some.takes.legal in
-    let last = subst (λ (i : ℕ). HasNoNextOf i old.reception new.reception) (sym e) none seat (facts ++ CastCame c ∷ []) (taken_with facts c n) legal (of_other seat facts c legal) some.takes.received in
-    let is : n ≡ expanded_count (casts_in (facts ++ CastCame c ∷ [])) c.sender = sym (its_taken seat facts c legal n) ∙ last.0 in
+    let last = subst (λ (i : ℕ). HasNoNextOf i old.reception new.reception) (sym e) none seat (facts ++ CastReceived c ∷ []) (taken_with facts c n) legal (of_other seat facts c legal) some.takes.received in
+    let is : n ≡ expanded_count (casts_in (facts ++ CastReceived c ∷ [])) c.sender = sym (its_taken seat facts c legal n) ∙ last.0 in
     let takes : TakesIn seat facts c n new = record {
       legal = legal;
       at_least = some.takes.at_least;
@@ -339,12 +339,12 @@ number_heard facts c i old lt is = elim (cases_eq c.sender i) [
       rw (ne_eqb c.sender i ne) (omega (arith, there, is))
 ]
 
-pub begins : (seat : Seat) (facts : List Fact) (c : CastFields) (spare : Spare) (old new : Store) → AreFactsOf seat (facts ++ CastCame c ∷ []) → Keeps seat facts old → IsSpareFor seat.group.size c spare → IsBegun c spare old new
+pub begins : (seat : Identity) (facts : List Fact) (c : CastFields) (spare : Spare) (old new : Store) → AreFactsOf seat (facts ++ CastReceived c ∷ []) → Keeps seat facts old → IsSpareFor seat.group.size c spare → IsBegun c spare old new
     → TakesIn seat facts c (expanded_count (casts_in facts) c.sender) new
 begins seat facts c spare old new are keeps for begun = record {
   legal = are;
   at_least = omega arith;
-  received = received_alike seat (facts ++ CastCame c ∷ []) (expanded_count (casts_in facts)) (taken_with facts c (expanded_count (casts_in facts) c.sender)) new.reception
+  received = received_alike seat (facts ++ CastReceived c ∷ []) (expanded_count (casts_in facts)) (taken_with facts c (expanded_count (casts_in facts) c.sender)) new.reception
       (λ i. elim (cases_eq i c.sender) [
         | inl e ↦ rw (eq-eqb i c.sender e) (ap (expanded_count (casts_in facts)) (sym e))
         | inr ne ↦ rw (ne_eqb i c.sender ne) refl
@@ -360,31 +360,31 @@ begins seat facts c spare old new are keeps for begun = record {
 known_in_the_end : (n x own times newly then_known : ℕ) → n ≡ max (max x own) times → newly ≡ times → then_known ≡ max x (max own newly) → n ≡ then_known
 known_in_the_end n x own times newly then_known a b e = omega (arith, a, b, e)
 
-pub ends : (seat : Seat) (facts : List Fact) (c : CastFields) (old mid new : Store) → AreFactsOf seat (facts ++ CastCame c ∷ []) → Keeps seat facts old → mid.delivery ≡ old.delivery → OnlyTakesIn mid new
+pub ends : (seat : Identity) (facts : List Fact) (c : CastFields) (old mid new : Store) → AreFactsOf seat (facts ++ CastReceived c ∷ []) → Keeps seat facts old → mid.delivery ≡ old.delivery → OnlyTakesIn mid new
     → TakesAllOf seat facts c (expanded_count (casts_in facts) c.sender) mid new → HasTakenIn seat facts c old new
 ends seat facts c old mid new are keeps same only all = record {
-  received = received_alike seat (facts ++ CastCame c ∷ []) (taken_with facts c (expanded_count (casts_in (facts ++ CastCame c ∷ [])) c.sender)) (expanded_count (casts_in (facts ++ CastCame c ∷ []))) new.reception
+  received = received_alike seat (facts ++ CastReceived c ∷ []) (taken_with facts c (expanded_count (casts_in (facts ++ CastReceived c ∷ [])) c.sender)) (expanded_count (casts_in (facts ++ CastReceived c ∷ []))) new.reception
       (λ i. elim (cases_eq i c.sender) [
-        | inl e ↦ rw (eq-eqb i c.sender e) (ap (expanded_count (casts_in (facts ++ CastCame c ∷ []))) e)
-        | inr ne ↦ rw (ne_eqb i c.sender ne) (ap (λ (cs : List CastFields). expanded_count cs i) (casts_in-append facts (CastCame c)) ∙ others_expand_nothing (casts_in facts) c i (λ e. ne (sym e)))
+        | inl e ↦ rw (eq-eqb i c.sender e) (ap (expanded_count (casts_in (facts ++ CastReceived c ∷ []))) e)
+        | inr ne ↦ rw (ne_eqb i c.sender ne) (ap (λ (cs : List CastFields). expanded_count cs i) (casts_in-append facts (CastReceived c)) ∙ others_expand_nothing (casts_in facts) c i (λ e. ne (sym e)))
       ]) all.takes.received;
   waits = record {
     way = on_the_way seat facts c are;
     time = only.time ∙ rw same keeps.delivered.waits.time;
-    queue = all_taken_is_waiting seat.group.size (casts_in (facts ++ CastCame c ∷ [])) (view seat.group.size facts) c.sender new.delivery.queue all.takes.queue;
-    copies = all_taken_is_waiting seat.group.size (casts_in (facts ++ CastCame c ∷ [])) (view seat.group.size facts) c.sender new.delivery.copies all.takes.copies;
+    queue = all_taken_is_waiting seat.group.size (casts_in (facts ++ CastReceived c ∷ [])) (view seat.group.size facts) c.sender new.delivery.queue all.takes.queue;
+    copies = all_taken_is_waiting seat.group.size (casts_in (facts ++ CastReceived c ∷ [])) (view seat.group.size facts) c.sender new.delivery.copies all.takes.copies;
   };
   windows = all.takes.windows;
   fields = all.takes.fields;
-  heard = λ i lt other. known_in_the_end (field new.knowledge.known i) (known facts i) (cond (eqb c.sender i) c.number 0) _ _ (known (facts ++ CastCame c ∷ []) i)
+  heard = λ i lt other. known_in_the_end (field new.knowledge.known i) (known facts i) (cond (eqb c.sender i) c.number 0) _ _ (known (facts ++ CastReceived c ∷ []) i)
       (all.takes.heard i lt other)
       (greatest_of_the_run (casts_in facts) c (λ s n. expanded_field (casts_in facts ++ c ∷ []) s n i)
-      ∙ ap (λ (cs : List CastFields). heard_times seat facts c are (expanded_count cs c.sender) i) (sym (casts_in-append facts (CastCame c))))
+      ∙ ap (λ (cs : List CastFields). heard_times seat facts c are (expanded_count cs c.sender) i) (sym (casts_in-append facts (CastReceived c))))
       (cast_is_known seat facts c i are);
   held = rw (← same) all.held;
 }
 
-pub same_spare : (seat other : Seat) (facts others : List Fact) (c : CastFields) (spare : Spare) (store : Store) → Keeps seat facts store → Keeps other others store → IsSpareFor seat.group.size c spare → IsSpareFor other.group.size c spare
+pub same_spare : (seat other : Identity) (facts others : List Fact) (c : CastFields) (spare : Spare) (store : Store) → Keeps seat facts store → Keeps other others store → IsSpareFor seat.group.size c spare → IsSpareFor other.group.size c spare
 same_spare seat other facts others c spare store a b for = subst (λ (n : ℕ). IsSpareFor n c spare) (sym a.received.senders ∙ b.received.senders) for
 
 -- ---- how many come out
@@ -421,4 +421,4 @@ would_expand sender number r b more at row seat facts c are of_sender numbered a
     let holds = subst (λ (i : ℕ). HoldsWhatWaits (casts_in facts) i b) (sym of_sender) (all.waits sender b at other) in
     let count = comes_out (casts_in facts) c b more holds (subst (λ (n : ℕ). WouldComeOut b n more) (sym numbered) row) in
     let taken = all.taken_are sender b at other in
-    ap (λ (cs : List CastFields). expanded_count cs sender) (casts_in-append facts (CastCame c)) ∙ ap (expanded_count (casts_in facts ++ c ∷ [])) (sym of_sender) ∙ count ∙ ap (λ (n : ℕ). n + more) taken
+    ap (λ (cs : List CastFields). expanded_count cs sender) (casts_in-append facts (CastReceived c)) ∙ ap (expanded_count (casts_in facts ++ c ∷ [])) (sym of_sender) ∙ count ∙ ap (λ (n : ℕ). n + more) taken

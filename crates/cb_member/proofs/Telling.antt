@@ -9,7 +9,7 @@ use Rattle.cb_frames.specs.declared.frame.Range.{Range}
 use Rattle.cb_frames.specs.declared.frame.TheConstants.{LONGEST_PAYLOAD}
 use Rattle.cb_gaps.specs.Request.{request_for}
 use Rattle.cb_history.specs.declared.answer.Outgoing.{Outgoing}
-use Rattle.cb_history.specs.Group.{Seat}
+use Rattle.cb_history.specs.Group.{Identity}
 use Rattle.cb_history.specs.Facts.{Fact}
 use Rattle.cb_history.specs.Known.{missing, ranges_of}
 use Rattle.cb_history.specs.Answers.{request_to, delivered, status_of}
@@ -56,7 +56,7 @@ same_values f g a (suc n) same =
     ∙ ap (λ (ds : List Change). let d : Change = record { field = a; amount = g a } in d ∷ ds) (same_values f g (a + 1) n (λ k lt. same k (omega (arith, lt))))
 
 -- the time that is kept is the one that a status says
-pub values_say_the_time : (seat : Seat) (facts : List Fact) (d : Delivery) → HasDelivered seat facts d → values_saying d.time ≡ (status_of seat facts).values
+pub values_say_the_time : (seat : Identity) (facts : List Fact) (d : Delivery) → HasDelivered seat facts d → values_saying d.time ≡ (status_of seat facts).values
 values_say_the_time seat facts d has =
     ap (λ (n : ℕ). filter is_not_zero (map (value_at d.time) (range_with_len 0 n))) (time_long seat facts d has)
     ∙ ap (filter is_not_zero) (same_values (field d.time) (delivered seat facts) 0 seat.group.size (λ k lt. time_at seat facts d k has (omega (arith, lt))))
@@ -64,7 +64,7 @@ values_say_the_time seat facts d has =
 -- ---- requests
 
 -- the request is made from the ranges as the answer says
-pub requested : (seat : Seat) (facts : List Fact) (i : ℕ) (ranges : List Range) (frame : FrameFields) → AreFactsOf seat facts → i < seat.group.size
+pub requested : (seat : Identity) (facts : List Fact) (i : ℕ) (ranges : List Range) (frame : FrameFields) → AreFactsOf seat facts → i < seat.group.size
     → ranges ≡ ranges_of (missing seat facts i) → Some frame ≡ request_for seat.group.number seat.me i ranges → KeepsRules frame × (length (payload_of frame) ≤ LONGEST_PAYLOAD)
 requested seat facts i [] frame are asked is made = absurd cc
 requested seat facts i (r ∷ ranges) frame are asked is made =
@@ -76,11 +76,11 @@ requested seat facts i (r ∷ ranges) frame are asked is made =
     some_frame a b e = cc
 
 -- to these members
-abbrev pub requests_to : Seat → List Fact → List ℕ → List Outgoing
+abbrev pub requests_to : Identity → List Fact → List ℕ → List Outgoing
 requests_to seat facts members = flat_map (λ i. request_to seat i (ranges_of (missing seat facts i))) (filter (λ i. not (eqb i seat.me)) members)
 
 -- one member more, and the member itself
-pub requests_more : (seat : Seat) (facts : List Fact) (n i : ℕ) (items new whole : List Outgoing) → i < n → not (eqb i seat.me) ≡ true → new ≡ items ++ request_to seat i (ranges_of (missing seat facts i))
+pub requests_more : (seat : Identity) (facts : List Fact) (n i : ℕ) (items new whole : List Outgoing) → i < n → not (eqb i seat.me) ≡ true → new ≡ items ++ request_to seat i (ranges_of (missing seat facts i))
     → items ++ requests_to seat facts (range_with_len i (n - i)) ≡ whole → new ++ requests_to seat facts (range_with_len (i + 1) (n - (i + 1))) ≡ whole
 requests_more seat facts n i items new whole lt other pushed h =
     let one = request_to seat i (ranges_of (missing seat facts i)) in
@@ -88,7 +88,7 @@ requests_more seat facts n i items new whole lt other pushed h =
     let e : requests_to seat facts (range_with_len i (n - i)) ≡ one ++ others = rw (row_more n i lt, other) refl in
     rw pushed (append_assoc items one others ∙ ap (λ (out : List Outgoing). items ++ out) (sym e) ∙ h)
 
-pub requests_same : (seat : Seat) (facts : List Fact) (n i : ℕ) (items new whole : List Outgoing) → i < n → not (eqb i seat.me) ≡ false → new ≡ items
+pub requests_same : (seat : Identity) (facts : List Fact) (n i : ℕ) (items new whole : List Outgoing) → i < n → not (eqb i seat.me) ≡ false → new ≡ items
     → items ++ requests_to seat facts (range_with_len i (n - i)) ≡ whole → new ++ requests_to seat facts (range_with_len (i + 1) (n - (i + 1))) ≡ whole
 requests_same seat facts n i items new whole lt own same h =
     let others = requests_to seat facts (range_with_len (i + 1) (n - (i + 1))) in

@@ -14,8 +14,8 @@ use Rattle.cb_history.specs.declared.history.Entry.{Entry}
 use Rattle.cb_history.specs.declared.answer.Arrival.{Arrival}
 use Rattle.cb_history.specs.declared.answer.ArriveRefusal.{ArriveRefusal}
 use Rattle.cb_history.specs.declared.answer.ArriveRefusal.TheVariants as arrivals
-use Rattle.cb_history.specs.Group.{Seat}
-use Rattle.cb_history.specs.Facts.{ArriveEntry, Fact, CastCame, casts_in, entry_fields}
+use Rattle.cb_history.specs.Group.{Identity}
+use Rattle.cb_history.specs.Facts.{ArriveEntry, Fact, CastReceived, casts_in, entry_fields}
 use Rattle.cb_history.specs.Known.{expanded_count}
 use Rattle.cb_history.specs.Answers.{arrival_says, frame_answer, deliveries, ArrivalSays, Accepted, Repeat}
 use Rattle.cb_history.specs.LegalFacts.{AreFactsOf}
@@ -38,10 +38,10 @@ answer_to_frame m frame = frame_answer m.seat m.limit m.entries (facts_in m) fra
 
 -- what the store's entries say, and that the cast came
 abbrev pub facts_with : CastFields → Store → List Fact
-facts_with c store = facts_held store ++ CastCame c ∷ []
+facts_with c store = facts_held store ++ CastReceived c ∷ []
 
 -- the cast may follow what the entries say, its sender's buffer lacks it and keeps it, and there is room for an entry
-pub record CanTake (seat : Seat) (limit : ℕ) (store : Store) (c : CastFields) : Type 0 where
+pub record CanTake (seat : Identity) (limit : ℕ) (store : Store) (c : CastFields) : Type 0 where
   pub legal : AreFactsOf seat (facts_with c store)
   pub member : c.sender < seat.group.size
   pub other : c.sender ≢ seat.me
@@ -60,7 +60,7 @@ other_verdict admissions.Repeat full = Ok judged.Repeat
 other_verdict TooFar full = Err arrivals.TooFar
 
 -- what the rules say of a cast, as the answer that follows
-abbrev pub JudgesCast : Seat → ℕ → Store → CastFields → Result Judged ArriveRefusal → Type 0
+abbrev pub JudgesCast : Identity → ℕ → Store → CastFields → Result Judged ArriveRefusal → Type 0
 JudgesCast seat limit store c (Ok judged.Repeat) = answer_to_frame (held_by seat limit store) (CastFrame c) ≡ Ok Repeat
 JudgesCast seat limit store c (Ok judged.Taken) = CanTake seat limit store c
 JudgesCast seat limit store c (Err refusal) = answer_to_frame (held_by seat limit store) (CastFrame c) ≡ Err refusal
@@ -69,7 +69,7 @@ JudgesCast seat limit store c (Err refusal) = answer_to_frame (held_by seat limi
 
 -- how many casts of its sender are expanded by it
 abbrev pub expanded_by : List Fact → CastFields → ℕ
-expanded_by facts c = expanded_count (casts_in (facts ++ CastCame c ∷ [])) c.sender - expanded_count (casts_in facts) c.sender
+expanded_by facts c = expanded_count (casts_in (facts ++ CastReceived c ∷ [])) c.sender - expanded_count (casts_in facts) c.sender
 
 -- how many messages wait for the delay rule once it is taken in, and before anything is delivered
 abbrev pub waiting_with : Store → CastFields → ℕ
@@ -94,13 +94,13 @@ pub record IsArrivingFor (size : ℕ) (bytes : List ℕ) (c : CastFields) (room 
   pub entry : HasRoomForNames bytes room arriving.entry
   pub noted : HasRoomForNames bytes room arriving.noted
 
-abbrev pub IsArriving : Seat → List ℕ → CastFields → ℕ → Arriving → Type 0
+abbrev pub IsArriving : Identity → List ℕ → CastFields → ℕ → Arriving → Type 0
 IsArriving seat bytes c room arriving = IsArrivingFor seat.group.size bytes c room arriving
 
 -- ---- taking it, and delivering
 
 -- what the entries say is kept, the cast may follow, and there is a spare for it and room for all that it may deliver
-pub record CanDeliver (seat : Seat) (c : CastFields) (spare : Spare) (store : Store) : Type 0 where
+pub record CanDeliver (seat : Identity) (c : CastFields) (spare : Spare) (store : Store) : Type 0 where
   pub legal : AreFactsOf seat (facts_with c store)
   pub keeps : Keeps seat (facts_held store) store
   pub other : c.sender ≢ seat.me

@@ -8,7 +8,7 @@ use Rattle.cb_diffs.specs.Expansion.{IsGrown, time_of}
 use Rattle.cb_history.specs.declared.answer.Outgoing.{Outgoing}
 use Rattle.cb_history.specs.Answers.{ArrivalSays, Accepted, Repeat}
 use Rattle.cb_history.specs.Facts.{ArriveEntry, entry_fields}
-use Rattle.cb_history.specs.Group.{Seat}
+use Rattle.cb_history.specs.Group.{Identity}
 use Rattle.cb_history.specs.Legal.{ToTake}
 use Rattle.cb_history.specs.State.{MemberState, answer_to_arrival, state_after}
 use Rattle.cb_member.specs.declared.arrival.at_once.Twice.{Twice}
@@ -18,7 +18,7 @@ use Rattle.cb_member.specs.declared.reception.Spare.{Spare}
 use Rattle.cb_member.specs.declared.store.Store.{Store}
 use Rattle.cb_member.specs.Arriving.{CanDeliver}
 use Rattle.cb_member.specs.Passing.{CanPass, IsAlone, LetsPass, PassesCast}
-use Rattle.cb_member.specs.Taking.{told}
+use Rattle.cb_member.specs.Taking.{reported}
 
 -- ---- what is told
 
@@ -27,7 +27,7 @@ abbrev pub sent_by : ArrivalSays → List Outgoing
 sent_by (Accepted deliveries changed out) = out
 sent_by Repeat = []
 
--- bytes that came were taken, or were a repeat, and this is what is to be sent in answer
+-- received bytes were taken, or were a repeat, and this is what is to be sent in answer
 pub record HasTakenToSend (old new : MemberState) (bytes : List ℕ) (out : List Outgoing) : Type 0 where
   pub says : ArrivalSays
   pub answer : answer_to_arrival old bytes ≡ Ok says
@@ -47,7 +47,7 @@ spare_of size c = record {
 
 -- its message, where this is its time
 abbrev pub message_at : CastFields → List ℕ → Message
-message_at c time = told c time c.payload
+message_at c time = reported c time c.payload
 
 -- nothing waits
 pub record NoneWaits (d : Delivery) : Type 0 where
@@ -70,7 +70,7 @@ abbrev pub PassesOnce : CastFields → Reception → Reception → Message → T
 PassesOnce c old new message = (spare : Spare) → CanPass c spare old → PassesCast c spare old new (message, message)
 
 -- it can be taken in, it passes, this is its time, and it is delivered as soon as it is there
-pub record IsAtOnce (seat : Seat) (c : CastFields) (time : List ℕ) (store : Store) : Type 0 where
+pub record IsAtOnce (seat : Identity) (c : CastFields) (time : List ℕ) (store : Store) : Type 0 where
   pub can : CanDeliver seat c (spare_of seat.group.size c) store
   pub lets_pass : LetsPass c.sender (first_number c) store.reception
   pub grown : IsGrown (time_of store.reception.expander c.sender) c time

@@ -11,7 +11,7 @@ use Rattle.cb_stability.specs.Sent as sent
 use Rattle.cb_stability.specs.Sent.{room_of}
 use Rattle.cb_history.specs.declared.answer.CastRefusal.{CastRefusal}
 use Rattle.cb_history.specs.declared.answer.CastRefusal.TheVariants as casts
-use Rattle.cb_history.specs.Group.{Seat}
+use Rattle.cb_history.specs.Group.{Identity}
 use Rattle.cb_history.specs.Facts.{CastEntry, Fact, entry_fields}
 use Rattle.cb_history.specs.View.{counts, view}
 use Rattle.cb_history.specs.Answers.{delivered, next_cast, cast_done}
@@ -21,22 +21,22 @@ use Rattle.cb_member.specs.declared.store.Store.{Store}
 use Rattle.cb_member.specs.Store.{held_by, facts_held}
 
 -- the member's time with its next cast
-abbrev pub next_time : Seat → List Fact → List ℕ → List ℕ
+abbrev pub next_time : Identity → List Fact → List ℕ → List ℕ
 next_time seat facts payload = counts seat.group.size (view seat.group.size facts ++ record { sender = seat.me; number = delivered seat facts seat.me + 1; payload = payload } ∷ [])
 
 -- the next own message
-abbrev pub next_message : Seat → List Fact → List ℕ → Message
+abbrev pub next_message : Identity → List Fact → List ℕ → Message
 next_message seat facts payload = record {
   name = record { sender = seat.me; number = delivered seat facts seat.me + 1 };
   time = next_time seat facts payload;
   payload = payload;
 }
 
-abbrev pub next_text : Seat → List Fact → List ℕ → List ℕ
+abbrev pub next_text : Identity → List Fact → List ℕ → List ℕ
 next_text seat facts payload = text_of (CastFrame (next_cast seat facts payload))
 
 -- the next cast of this payload, ready to enter
-pub record MakesCasting (seat : Seat) (facts : List Fact) (payload : List ℕ) (casting : Casting) : Type 0 where
+pub record MakesCasting (seat : Identity) (facts : List Fact) (payload : List ℕ) (casting : Casting) : Type 0 where
   pub done : casting.done ≡ cast_done seat facts (next_cast seat facts payload)
   pub message : casting.message ≡ next_message seat facts payload
   pub entry : entry_fields casting.entry ≡ CastEntry (next_text seat facts payload)
@@ -44,14 +44,14 @@ pub record MakesCasting (seat : Seat) (facts : List Fact) (payload : List ℕ) (
   pub sent : casting.sent ≡ next_text seat facts payload
 
 -- nothing refuses the cast, and there is room in the sent window and in the history
-pub record CanCast (seat : Seat) (limit : ℕ) (store : Store) (payload : List ℕ) : Type 0 where
+pub record CanCast (seat : Identity) (limit : ℕ) (store : Store) (payload : List ℕ) : Type 0 where
   pub short : length payload ≤ LONGEST_PAYLOAD
   pub room : 0 < room_of store.sending.window
   pub entries : length store.entries.items < limit
   pub answer : answer_to_cast (held_by seat limit store) payload ≡ Ok (next_cast seat (facts_held store) payload)
 
 -- whether the payload can be cast, and if not, why
-abbrev pub IsJudged : Seat → ℕ → Store → List ℕ → Result (Unit {0}) CastRefusal → Type 0
+abbrev pub IsJudged : Identity → ℕ → Store → List ℕ → Result (Unit {0}) CastRefusal → Type 0
 IsJudged seat limit store payload (Ok done) = CanCast seat limit store payload
 IsJudged seat limit store payload (Err refusal) = answer_to_cast (held_by seat limit store) payload ≡ Err refusal
 

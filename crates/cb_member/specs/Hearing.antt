@@ -1,9 +1,9 @@
--- What a member does with a status that came.
+-- What a member does with a received status.
 use Rattle.std.specs.Prelude.{◌≡◌, ℕ, ◌<◌, true, false, List, [], ◌∷◌, ◌++◌, length, map, Result, Ok, Err}
 use Rattle.cb_frames.specs.Fields.{StatusFields, StatusFrame}
 use Rattle.cb_history.specs.declared.answer.ArriveRefusal.{ArriveRefusal}
 use Rattle.cb_history.specs.declared.history.Entry.{Entry}
-use Rattle.cb_history.specs.Group.{Seat}
+use Rattle.cb_history.specs.Group.{Identity}
 use Rattle.cb_history.specs.Facts.{ArriveEntry, entry_fields}
 use Rattle.cb_history.specs.Answers.{ArrivalSays, Accepted, deliveries, frame_answer}
 use Rattle.cb_member.specs.declared.arrival.status.Judged.{Judged}
@@ -22,12 +22,12 @@ pub record HasHeard (me : ℕ) (s : StatusFields) (entry : Entry) (old new : Sto
   pub window : TrimsToStable me new.knowledge.acks old.sending.window new.sending.window
   pub sending : new.sending ≡ record old.sending { window = new.sending.window }
 
--- the answer to the status that came
-abbrev pub answer_to_status : Seat → ℕ → Store → StatusFields → Result ArrivalSays ArriveRefusal
+-- the answer to the received status
+abbrev pub answer_to_status : Identity → ℕ → Store → StatusFields → Result ArrivalSays ArriveRefusal
 answer_to_status seat limit store s = frame_answer seat limit (map entry_fields store.entries.items) (facts_held store) (StatusFrame s)
 
 -- what the rules say of it, as the answer that follows; news is of another member of the group
-abbrev pub JudgesStatus : Seat → ℕ → Store → StatusFields → Result Judged ArriveRefusal → Type 0
+abbrev pub JudgesStatus : Identity → ℕ → Store → StatusFields → Result Judged ArriveRefusal → Type 0
 JudgesStatus seat limit store s (Ok judged.News) =
     (answer_to_status seat limit store s ≡ Ok (Accepted (deliveries seat (facts_held store) (StatusFrame s)) true []))
     × (length store.entries.items < limit) × (s.sender < seat.group.size)

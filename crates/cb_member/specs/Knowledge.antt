@@ -5,7 +5,7 @@ use Rattle.cb_delay.specs.declared.message.Message.{Message}
 use Rattle.cb_frames.specs.declared.frame.Change.{Change}
 use Rattle.cb_frames.specs.Fields.{StatusFields}
 use Rattle.cb_stability.specs.Known.{Known, count, IsUnknown, Learns}
-use Rattle.cb_history.specs.Group.{Seat}
+use Rattle.cb_history.specs.Group.{Identity}
 use Rattle.cb_history.specs.Facts.{Fact}
 use Rattle.cb_history.specs.Known.{greatest_of, known, value_in}
 use Rattle.cb_history.specs.StabilityLaws.{KnowsAcknowledged}
@@ -17,7 +17,7 @@ pub record IsNewKnowledge (size : ℕ) (k : Knowledge) : Type 0 where
   pub acks : IsUnknown size k.acks
 
 -- of each other member the greatest number that was heard of, and how many of this member's casts it is known to have delivered
-pub record KnowsFacts (seat : Seat) (facts : List Fact) (k : Knowledge) : Type 0 where
+pub record KnowsFacts (seat : Identity) (facts : List Fact) (k : Knowledge) : Type 0 where
   pub fields : length k.known ≡ seat.group.size
   pub heard : (i : ℕ) → i < seat.group.size → i ≢ seat.me → field k.known i ≡ known facts i
   pub acknowledged : KnowsAcknowledged seat facts k.acks
@@ -28,13 +28,13 @@ pub record HasTimeOf (size : ℕ) (message : Message) : Type 0 where
   pub time : length message.time ≡ size
 
 -- how many casts of member me the senders of these messages had delivered, where member k is the sender
-abbrev pub told_in : ℕ → List Message → ℕ → List ℕ
-told_in me messages k = map (λ m. field m.time me) (filter (λ m. m.name.sender == k) messages)
+abbrev pub reported_in : ℕ → List Message → ℕ → List ℕ
+reported_in me messages k = map (λ m. field m.time me) (filter (λ m. m.name.sender == k) messages)
 
 -- of each member k the greatest of what was known and what its messages tell
 pub record LearnsAll (me : ℕ) (messages : List Message) (old new : Known) : Type 0 where
   pub of_size : new.size ≡ old.size
-  pub learnt : (k : ℕ) → count new k me ≡ max (count old k me) (greatest_of (told_in me messages k))
+  pub learnt : (k : ℕ) → count new k me ≡ max (count old k me) (greatest_of (reported_in me messages k))
 
 -- each field became the greater of what it was and the value that is said of it
 pub record IsRaisedBy (values : List Change) (old new : List ℕ) : Type 0 where

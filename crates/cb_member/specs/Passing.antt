@@ -9,8 +9,8 @@ use Rattle.cb_delay.specs.declared.message.Message.{Message}
 use Rattle.cb_delay.specs.Queue.{Holds, IsDelayQueue}
 use Rattle.cb_delay.specs.Rule.{IsReady}
 use Rattle.cb_gaps.specs.Buffer.{Buffer, Passes}
-use Rattle.cb_history.specs.Group.{Seat}
-use Rattle.cb_history.specs.Facts.{Fact, CastCame}
+use Rattle.cb_history.specs.Group.{Identity}
+use Rattle.cb_history.specs.Facts.{Fact, CastReceived}
 use Rattle.cb_history.specs.LegalFacts.{AreFactsOf}
 use Rattle.cb_member.specs.declared.delivery.Delivery.{Delivery}
 use Rattle.cb_member.specs.declared.reception.Spare.{Spare}
@@ -30,10 +30,10 @@ pub record LetsPass (sender number : ℕ) (r : Reception) : Type 0 where
 
 -- the cast may follow some facts, of which all that is expanded was taken, and passes; the spare is for it
 pub record CanPass (c : CastFields) (spare : Spare) (r : Reception) : Type 0 where
-  pub seat : Seat
+  pub seat : Identity
   pub facts : List Fact
   pub delivered : ℕ
-  pub legal : AreFactsOf seat (facts ++ CastCame c ∷ [])
+  pub legal : AreFactsOf seat (facts ++ CastReceived c ∷ [])
   pub received : HasReceivedAll seat facts r
   pub can_keep : CanKeep delivered c r
   pub spare_for : IsSpareFor seat.group.size c spare

@@ -2,7 +2,7 @@
 use Rattle.std.specs.Prelude.{◌≡◌, ◌≢◌, ℕ, ◌<◌, Any, All, List, [], length, replicate, slice_get, Some}
 use Rattle.cb_frames.specs.Fields.{CastFields, first_number}
 use Rattle.cb_gaps.specs.Buffer.{Buffer, IsNew}
-use Rattle.cb_history.specs.Group.{Seat}
+use Rattle.cb_history.specs.Group.{Identity}
 use Rattle.cb_history.specs.Facts.{Fact, casts_in}
 use Rattle.cb_history.specs.Known.{expanded_count}
 use Rattle.cb_history.specs.BufferLaws.{IsCastOf, IsWaiting, HoldsWhatWaits}
@@ -34,7 +34,7 @@ pub record IsNewReception (size window : ℕ) (r : Reception) : Type 0 where
 
 -- Of each other member's casts so many were taken, one after the other: what was is expanded, the others that are there wait in its
 -- buffer, the expander keeps the time of the last one taken, for each that waits there is a spare, and each spare is for one that is there.
-pub record HasReceived (seat : Seat) (facts : List Fact) (taken : ℕ → ℕ) (r : Reception) : Type 0 where
+pub record HasReceived (seat : Identity) (facts : List Fact) (taken : ℕ → ℕ) (r : Reception) : Type 0 where
   pub senders : length r.buffers.items ≡ seat.group.size
   pub waits : (i : ℕ) (b : Buffer) → slice_get r.buffers.items i ≡ Some b → i ≢ seat.me → HoldsWhatWaits (casts_in facts) i b
   pub taken_are : (i : ℕ) (b : Buffer) → slice_get r.buffers.items i ≡ Some b → i ≢ seat.me → b.taken ≡ taken i
@@ -45,5 +45,5 @@ pub record HasReceived (seat : Seat) (facts : List Fact) (taken : ℕ → ℕ) (
   pub each_for : All (IsSpareOfSome seat.group.size (casts_in facts)) r.spares.items
 
 -- all that is expanded was taken
-abbrev pub HasReceivedAll : Seat → List Fact → Reception → Type 0
+abbrev pub HasReceivedAll : Identity → List Fact → Reception → Type 0
 HasReceivedAll seat facts r = HasReceived seat facts (expanded_count (casts_in facts)) r

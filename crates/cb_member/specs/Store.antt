@@ -1,7 +1,7 @@
 -- Everything that a member keeps, and what each part is of the facts in its history.
 use Rattle.std.specs.Prelude.{◌≡◌, ℕ, ◌+◌, ◌<◌, ◌≤◌, List, [], map}
 use Rattle.std.specs.Vec.{vec_capacity, vec_len}
-use Rattle.cb_history.specs.Group.{Seat}
+use Rattle.cb_history.specs.Group.{Identity}
 use Rattle.cb_history.specs.Facts.{Fact, casts_in, entry_fields, facts_of}
 use Rattle.cb_history.specs.View.{view}
 use Rattle.cb_history.specs.Events.{events}
@@ -15,13 +15,13 @@ use Rattle.cb_member.specs.Knowledge.{IsNewKnowledge, KnowsFacts}
 use Rattle.cb_member.specs.Sending.{IsNewSending, HasSent}
 
 -- the view is delivered, what else is expanded waits, and the events are those of the facts
-pub record HasDelivered (seat : Seat) (facts : List Fact) (d : Delivery) : Type 0 where
+pub record HasDelivered (seat : Identity) (facts : List Fact) (d : Delivery) : Type 0 where
   pub waits : Waits seat.group.size (casts_in facts) (view seat.group.size facts) d
   pub windows : HasWindow seat.group.window d
   pub events : d.events.items ≡ events seat facts
 
 -- all that is kept beside the entries is what these facts say
-pub record Keeps (seat : Seat) (facts : List Fact) (store : Store) : Type 0 where
+pub record Keeps (seat : Identity) (facts : List Fact) (store : Store) : Type 0 where
   pub delivered : HasDelivered seat facts store.delivery
   pub received : HasReceivedAll seat facts store.reception
   pub knows : KnowsFacts seat facts store.knowledge
@@ -31,11 +31,11 @@ pub record Keeps (seat : Seat) (facts : List Fact) (store : Store) : Type 0 wher
 abbrev pub facts_held : Store → List Fact
 facts_held store = facts_of (map entry_fields store.entries.items)
 
-abbrev pub held_by : Seat → ℕ → Store → MemberState
+abbrev pub held_by : Identity → ℕ → Store → MemberState
 held_by seat limit store = state_of seat limit store.entries.items
 
 -- the entries are a legal history, and the rest is what they say
-pub record Stands (seat : Seat) (store : Store) : Type 0 where
+pub record Stands (seat : Identity) (store : Store) : Type 0 where
   pub legal : IsLegal seat (map entry_fields store.entries.items)
   pub keeps : Keeps seat (facts_held store) store
 
@@ -70,7 +70,7 @@ pub record HasRoomFor (events : ℕ) (store : Store) : Type 0 where
   pub spares : vec_len store.reception.spares + 1 ≤ vec_capacity store.reception.spares
 
 -- a member's state is that of its entries, and the rest is what they say
-pub record IsKept (seat : Seat) (limit : ℕ) (store : Store) : Type 0 where
+pub record IsKept (seat : Identity) (limit : ℕ) (store : Store) : Type 0 where
   pub state : IsMemberState (held_by seat limit store)
   pub keeps : Keeps seat (facts_held store) store
 

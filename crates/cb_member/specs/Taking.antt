@@ -10,8 +10,8 @@ use Rattle.cb_delay.specs.Queue.{Queue, IsDelayQueue, FollowsLast, count_of}
 use Rattle.cb_diffs.specs.Expansion.{expanded_field, Expands}
 use Rattle.cb_gaps.specs.declared.buffer.Admission.TheVariants.{Kept}
 use Rattle.cb_gaps.specs.Buffer.{Buffer, Admits}
-use Rattle.cb_history.specs.Group.{Seat}
-use Rattle.cb_history.specs.Facts.{Fact, CastCame, casts_in, messages_in, numbers_between}
+use Rattle.cb_history.specs.Group.{Identity}
+use Rattle.cb_history.specs.Facts.{Fact, CastReceived, casts_in, messages_in, numbers_between}
 use Rattle.cb_history.specs.View.{is_expanded, view, message_in}
 use Rattle.cb_history.specs.Known.{greatest_of, known, expanded_count}
 use Rattle.cb_history.specs.NameLaws.{IsOneOf}
@@ -37,9 +37,9 @@ pub record CanKeep (delivered : ℕ) (c : CastFields) (r : Reception) : Type 0 w
 -- with the cast among the facts just as much of them was taken as before
 abbrev pub KeepsCast : CastFields → Spare → Reception → Reception → Type 0
 KeepsCast c spare old new =
-    (seat : Seat) (facts : List Fact) → AreFactsOf seat (facts ++ CastCame c ∷ [])
+    (seat : Identity) (facts : List Fact) → AreFactsOf seat (facts ++ CastReceived c ∷ [])
     → HasReceivedAll seat facts old → IsSpareFor seat.group.size c spare
-    → HasReceived seat (facts ++ CastCame c ∷ []) (expanded_count (casts_in facts)) new
+    → HasReceived seat (facts ++ CastReceived c ∷ []) (expanded_count (casts_in facts)) new
 
 -- the greatest number that was heard of this sender is at least this one, and nothing else has changed
 pub record Hears (sender number : ℕ) (old new : Knowledge) : Type 0 where
@@ -49,9 +49,9 @@ pub record Hears (sender number : ℕ) (old new : Knowledge) : Type 0 where
 -- were the cast of this number there as well, so many more of the sender's messages would be expanded
 abbrev pub WouldExpand : ℕ → ℕ → Reception → ℕ → Type 0
 WouldExpand sender number r more =
-    (seat : Seat) (facts : List Fact) (c : CastFields) → AreFactsOf seat (facts ++ CastCame c ∷ [])
+    (seat : Identity) (facts : List Fact) (c : CastFields) → AreFactsOf seat (facts ++ CastReceived c ∷ [])
     → c.sender ≡ sender → first_number c ≡ number → HasReceivedAll seat facts r
-    → expanded_count (casts_in (facts ++ CastCame c ∷ [])) sender ≡ expanded_count (casts_in facts) sender + more
+    → expanded_count (casts_in (facts ++ CastReceived c ∷ [])) sender ≡ expanded_count (casts_in facts) sender + more
 
 -- ---- the sender's next cast is taken out
 
@@ -61,7 +61,7 @@ one_more taken sender i = if i == sender then taken i + 1 else taken i
 
 -- so much of some facts was received, of which the sender is another member
 pub record IsReceiving (sender : ℕ) (r : Reception) : Type 0 where
-  pub seat : Seat
+  pub seat : Identity
   pub facts : List Fact
   pub taken : ℕ → ℕ
   pub legal : AreFactsOf seat facts
@@ -77,7 +77,7 @@ pub record IsNextOf (casts : List CastFields) (sender taken : ℕ) (m : Carried)
   pub next : m.number ≡ taken + 1
 
 -- that message, twice, and then one more was taken of these facts
-pub record IsNextTwice (seat : Seat) (facts : List Fact) (sender : ℕ) (taken : ℕ → ℕ) (new : Reception)
+pub record IsNextTwice (seat : Identity) (facts : List Fact) (sender : ℕ) (taken : ℕ → ℕ) (new : Reception)
     (messages : Message × Message) : Type 0 where
   pub carried : Carried
   pub next : IsNextOf (casts_in facts) sender (taken sender) carried
@@ -88,26 +88,26 @@ pub record IsNextTwice (seat : Seat) (facts : List Fact) (sender : ℕ) (taken :
 -- so it is on all facts of which it received so much
 abbrev pub ExpandsNext : ℕ → Reception → Reception → Message × Message → Type 0
 ExpandsNext sender old new messages =
-    (seat : Seat) (facts : List Fact) (taken : ℕ → ℕ) → AreFactsOf seat facts → sender ≢ seat.me
+    (seat : Identity) (facts : List Fact) (taken : ℕ → ℕ) → AreFactsOf seat facts → sender ≢ seat.me
     → HasReceived seat facts taken old → IsNextTwice seat facts sender taken new messages
 
 -- all that is expanded of the sender was taken, and nothing has changed
 abbrev pub HasNoNextOf : ℕ → Reception → Reception → Type 0
 HasNoNextOf sender old new =
-    (seat : Seat) (facts : List Fact) (taken : ℕ → ℕ) → AreFactsOf seat facts → sender ≢ seat.me
+    (seat : Identity) (facts : List Fact) (taken : ℕ → ℕ) → AreFactsOf seat facts → sender ≢ seat.me
     → HasReceived seat facts taken old
     → (taken sender ≡ expanded_count (casts_in facts) sender) × HasReceived seat facts taken new
 
 -- the message of a cast at this time, with this payload
-abbrev pub told : CastFields → List ℕ → List ℕ → Message
-told c time payload = record { name = record { sender = c.sender; number = first_number c }; time = time; payload = payload }
+abbrev pub reported : CastFields → List ℕ → List ℕ → Message
+reported c time payload = record { name = record { sender = c.sender; number = first_number c }; time = time; payload = payload }
 
 -- the cast was expanded, and the messages are those of the time that was told
 pub record TellsTwice (c : CastFields) (payload : List ℕ) (old new : List (List ℕ)) (messages : Message × Message) : Type 0 where
   pub time : List ℕ
   pub expands : Expands old c time new
-  pub message : messages.0 ≡ told c time c.payload
-  pub copy : messages.1 ≡ told c time payload
+  pub message : messages.0 ≡ reported c time c.payload
+  pub copy : messages.1 ≡ reported c time payload
 
 -- ---- as long as there is a next one
 
@@ -123,15 +123,15 @@ heard_with facts c taken i =
     (numbers_between (expanded_count (casts_in facts) c.sender) taken)))
 
 -- with the cast among the facts the queue holds what is undelivered, of the cast's sender up to so many
-abbrev pub HoldsSoMany : Seat → List Fact → CastFields → ℕ → Queue → Type 0
+abbrev pub HoldsSoMany : Identity → List Fact → CastFields → ℕ → Queue → Type 0
 HoldsSoMany seat facts c taken queue =
-    HoldsTakenOf seat.group.size (casts_in (facts ++ CastCame c ∷ [])) (view seat.group.size facts) c.sender taken queue
+    HoldsTakenOf seat.group.size (casts_in (facts ++ CastReceived c ∷ [])) (view seat.group.size facts) c.sender taken queue
 
 -- with the cast among the facts so many of its sender are taken, told and held
-pub record TakesIn (seat : Seat) (facts : List Fact) (c : CastFields) (taken : ℕ) (store : Store) : Type 0 where
-  pub legal : AreFactsOf seat (facts ++ CastCame c ∷ [])
+pub record TakesIn (seat : Identity) (facts : List Fact) (c : CastFields) (taken : ℕ) (store : Store) : Type 0 where
+  pub legal : AreFactsOf seat (facts ++ CastReceived c ∷ [])
   pub at_least : expanded_count (casts_in facts) c.sender ≤ taken
-  pub received : HasReceived seat (facts ++ CastCame c ∷ []) (taken_with facts c taken) store.reception
+  pub received : HasReceived seat (facts ++ CastReceived c ∷ []) (taken_with facts c taken) store.reception
   pub queue : HoldsSoMany seat facts c taken store.delivery.queue
   pub copies : HoldsSoMany seat facts c taken store.delivery.copies
   pub windows : HasWindow seat.group.window store.delivery
@@ -140,7 +140,7 @@ pub record TakesIn (seat : Seat) (facts : List Fact) (c : CastFields) (taken : �
 
 -- a cast of this sender is taken in
 pub record IsTakingIn (sender : ℕ) (store : Store) : Type 0 where
-  pub seat : Seat
+  pub seat : Identity
   pub facts : List Fact
   pub cast : CastFields
   pub taken : ℕ
@@ -166,7 +166,7 @@ abbrev pub HoldsMore : ℕ → Store → Store → Type 0
 HoldsMore count old new = fin.len new.delivery.queue.held ≡ fin.len old.delivery.queue.held + count
 
 -- no fewer are taken than were, and so many more are held
-pub record TakesSome (seat : Seat) (facts : List Fact) (c : CastFields) (taken : ℕ) (old new : Store) : Type 0 where
+pub record TakesSome (seat : Identity) (facts : List Fact) (c : CastFields) (taken : ℕ) (old new : Store) : Type 0 where
   pub now_taken : ℕ
   pub no_fewer : taken ≤ now_taken
   pub takes : TakesIn seat facts c now_taken new
@@ -174,41 +174,41 @@ pub record TakesSome (seat : Seat) (facts : List Fact) (c : CastFields) (taken :
 
 abbrev pub TakesSoFar : ℕ → Store → Store → Type 0
 TakesSoFar sender old new =
-    (seat : Seat) (facts : List Fact) (c : CastFields) (taken : ℕ) → c.sender ≡ sender
+    (seat : Identity) (facts : List Fact) (c : CastFields) (taken : ℕ) → c.sender ≡ sender
     → TakesIn seat facts c taken old → TakesSome seat facts c taken old new
 
 -- all that the cast lets be expanded was taken
-pub record TakesAllOf (seat : Seat) (facts : List Fact) (c : CastFields) (taken : ℕ) (old new : Store) : Type 0 where
-  pub takes : TakesIn seat facts c (expanded_count (casts_in (facts ++ CastCame c ∷ [])) c.sender) new
-  pub held : HoldsMore (expanded_count (casts_in (facts ++ CastCame c ∷ [])) c.sender - taken) old new
+pub record TakesAllOf (seat : Identity) (facts : List Fact) (c : CastFields) (taken : ℕ) (old new : Store) : Type 0 where
+  pub takes : TakesIn seat facts c (expanded_count (casts_in (facts ++ CastReceived c ∷ [])) c.sender) new
+  pub held : HoldsMore (expanded_count (casts_in (facts ++ CastReceived c ∷ [])) c.sender - taken) old new
 
 abbrev pub TakesAll : ℕ → Store → Store → Type 0
 TakesAll sender old new =
-    (seat : Seat) (facts : List Fact) (c : CastFields) (taken : ℕ) → c.sender ≡ sender
+    (seat : Identity) (facts : List Fact) (c : CastFields) (taken : ℕ) → c.sender ≡ sender
     → TakesIn seat facts c taken old → TakesAllOf seat facts c taken old new
 
 -- ---- the whole
 
 -- the store keeps what some facts say, which the cast may follow, its sender's buffer can keep it, and the spare is for it
 pub record CanTakeIn (delivered : ℕ) (c : CastFields) (spare : Spare) (store : Store) : Type 0 where
-  pub seat : Seat
+  pub seat : Identity
   pub facts : List Fact
-  pub legal : AreFactsOf seat (facts ++ CastCame c ∷ [])
+  pub legal : AreFactsOf seat (facts ++ CastReceived c ∷ [])
   pub keeps : Keeps seat facts store
   pub can_keep : CanKeep delivered c store.reception
   pub spare_for : IsSpareFor seat.group.size c spare
 
 -- With the cast among the facts, but nothing delivered by it: it is received, what is expanded waits, and what it tells is known.
-pub record HasTakenIn (seat : Seat) (facts : List Fact) (c : CastFields) (old new : Store) : Type 0 where
-  pub received : HasReceivedAll seat (facts ++ CastCame c ∷ []) new.reception
-  pub waits : Waits seat.group.size (casts_in (facts ++ CastCame c ∷ [])) (view seat.group.size facts) new.delivery
+pub record HasTakenIn (seat : Identity) (facts : List Fact) (c : CastFields) (old new : Store) : Type 0 where
+  pub received : HasReceivedAll seat (facts ++ CastReceived c ∷ []) new.reception
+  pub waits : Waits seat.group.size (casts_in (facts ++ CastReceived c ∷ [])) (view seat.group.size facts) new.delivery
   pub windows : HasWindow seat.group.window new.delivery
   pub fields : length new.knowledge.known ≡ seat.group.size
-  pub heard : (i : ℕ) → i < seat.group.size → i ≢ seat.me → field new.knowledge.known i ≡ known (facts ++ CastCame c ∷ []) i
-  pub held : HoldsMore (expanded_count (casts_in (facts ++ CastCame c ∷ [])) c.sender - expanded_count (casts_in facts) c.sender) old new
+  pub heard : (i : ℕ) → i < seat.group.size → i ≢ seat.me → field new.knowledge.known i ≡ known (facts ++ CastReceived c ∷ []) i
+  pub held : HoldsMore (expanded_count (casts_in (facts ++ CastReceived c ∷ [])) c.sender - expanded_count (casts_in facts) c.sender) old new
 
 -- so it is on all facts that the store kept
 pub record TakesInCast (c : CastFields) (old new : Store) : Type 0 where
-  pub takes_in : (seat : Seat) (facts : List Fact) → AreFactsOf seat (facts ++ CastCame c ∷ []) → Keeps seat facts old
+  pub takes_in : (seat : Identity) (facts : List Fact) → AreFactsOf seat (facts ++ CastReceived c ∷ []) → Keeps seat facts old
       → HasTakenIn seat facts c old new
   pub only : OnlyTakesIn old new

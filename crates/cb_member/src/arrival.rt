@@ -1,4 +1,4 @@
-//! Bytes that came: a frame is told apart by its kind once, and the rules of each kind stand in a file of its own.
+//! Received bytes: a frame is distinguished by its kind once, and the rules of each kind stand in a file of its own.
 
 ghost use Rattle.std.specs.Prelude.{◌≡◌, nat_lt, IfOk, IfErr, OnErr, Ok, option_map};
 ghost use Rattle.std.specs.List.{list_all};
@@ -21,12 +21,12 @@ mod status;
 use crate::store::Store;
 use bytes::Bytes;
 use cb_frames::{Change, Frame, FrameFault, decode};
-use cb_history::{Arrival, ArriveRefusal, Entry, Outgoing, Seat};
+use cb_history::{Arrival, ArriveRefusal, Entry, Identity, Outgoing};
 use std::alloc::Global;
 
-/// Takes bytes that came. A copy of the entry that they add, where they add one, comes with the answer.
+/// Takes received bytes. A copy of the entry that they add, where they add one, comes with the answer.
 pub fn answer(
-    seat: Seat,
+    seat: Identity,
     limit: usize,
     store: &mut Store,
     bytes: &Bytes,
@@ -51,9 +51,10 @@ pub fn answer(
     }
 }
 
-/// The same for a caller who wants no deliveries, and hands the bytes over: only what is to be sent comes with the copy of the entry.
+/// Answers received bytes for a caller who wants no deliveries, and hands the bytes over: only what is to be sent comes with the
+/// copy of the entry.
 pub fn answer_to_send(
-    seat: Seat,
+    seat: Identity,
     limit: usize,
     store: &mut Store,
     bytes: Bytes,

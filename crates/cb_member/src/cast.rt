@@ -18,7 +18,7 @@ use bytes::Bytes;
 use cb_delay::{Event, Message};
 use cb_diffs::difference;
 use cb_frames::{Cast, FrameBlock, LONGEST_PAYLOAD};
-use cb_history::{CastDone, CastRefusal, Entry, Seat};
+use cb_history::{CastDone, CastRefusal, Entry, Identity};
 use cb_times::{Name, NoMemory, VectorTime};
 use std::alloc::Global;
 
@@ -37,7 +37,7 @@ pub struct Casting {
 
 /// Casts a message of this payload. A copy of the entry that it adds comes with the answer.
 pub fn answer(
-    seat: Seat,
+    seat: Identity,
     limit: usize,
     store: &mut Store,
     block: &mut FrameBlock,
@@ -59,7 +59,7 @@ pub fn answer(
 }
 
 /// Whether the payload may be cast. This takes no memory.
-fn judge(seat: Seat, limit: usize, store: &Store, payload: &[u8]) -> Result<(), CastRefusal>
+fn judge(seat: Identity, limit: usize, store: &Store, payload: &[u8]) -> Result<(), CastRefusal>
     requires { IsKept seat limit store.now }
     ensures { IsJudged seat limit store.now payload.now result }
 {
@@ -77,7 +77,7 @@ fn judge(seat: Seat, limit: usize, store: &Store, payload: &[u8]) -> Result<(), 
 
 /// Makes the cast, and every handle and copy that its entering needs.
 fn make(
-    seat: Seat,
+    seat: Identity,
     limit: usize,
     store: &Store,
     block: &mut FrameBlock,
@@ -95,7 +95,7 @@ fn make(
 }
 
 /// The next own cast but for its payload, which is copied once, into the frame.
-fn cast_of(seat: Seat, limit: usize, store: &Store) -> Result<Cast, NoMemory>
+fn cast_of(seat: Identity, limit: usize, store: &Store) -> Result<Cast, NoMemory>
     requires { IsKept seat limit store.now }
     ensures { IfOk result (λ cast. (payload : List ℕ) → with_payload (cast_fields cast) payload
         ≡ next_cast seat (facts_held store.now) payload) }
@@ -114,7 +114,7 @@ fn cast_of(seat: Seat, limit: usize, store: &Store) -> Result<Cast, NoMemory>
 
 /// The message of the cast, with the member's time and one cast more.
 fn message_of(
-    seat: Seat,
+    seat: Identity,
     limit: usize,
     store: &Store,
     cast: &Cast,
@@ -137,7 +137,7 @@ fn message_of(
 }
 
 /// The member's time with one cast more.
-fn counted(seat: Seat, limit: usize, store: &Store) -> Result<VectorTime, NoMemory>
+fn counted(seat: Identity, limit: usize, store: &Store) -> Result<VectorTime, NoMemory>
     requires { IsKept seat limit store.now }
     ensures { IfOk result (λ time. (payload : List ℕ)
         → time ≡ next_time seat (facts_held store.now) payload) }

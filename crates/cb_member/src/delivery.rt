@@ -24,7 +24,7 @@ pub struct Delivery {
     pub events: Vec<Event>,
     /// The messages that are expanded and not delivered.
     pub queue: DelayQueue,
-    /// The same messages once more: at a delivery one goes to the caller and one to the events, and neither takes memory then.
+    /// A copy of each held message: at a delivery one goes to the caller and one to the events, and neither takes memory then.
     pub copies: DelayQueue,
 }
 

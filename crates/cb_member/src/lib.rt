@@ -1,4 +1,4 @@
-//! One member of a group, quick where the slow member of `cb_plain` reads its history again.
+//! One member of a group, quick where the slow member of `cb_reference` reads its history again.
 //!
 //! A bare machine without clock, link or thread: what it answers is a function of its history, which `cb_history` defines. What it keeps
 //! beside its history is tied to the entries by named facts: the counts of the view, the messages that are expanded and not delivered,
@@ -23,8 +23,8 @@ mod tick;
 pub use cb_frames::{FrameFault, Range};
 pub use cb_history::{
     Arrival, ArriveRefusal, BadGroup, CastDone, CastRefusal, Entry, Event, Group, GroupMember,
-    History, LONGEST_HISTORY, Message, MissingFault, Name, NewFault, Outgoing, Seat, TickRefusal,
-    Ticked,
+    History, Identity, LONGEST_HISTORY, Message, MissingFault, Name, NewFault, Outgoing,
+    TickRefusal, Ticked,
 };
 pub use cb_times::{NoMemory, TimeOrder, VectorTime};
 pub use member::Member;

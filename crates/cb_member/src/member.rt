@@ -1,7 +1,7 @@
 //! The member, and what is read of it.
 
 ghost use Rattle.std.specs.Prelude.{◌≡◌, ◌≢◌, ◌↔◌, ◌⊎◌, ◌≤◌, ◌<◌, [], IfOk, IfErr, OnErr, Some, Err, map, option_map};
-ghost use Rattle.cb_history.specs.Group.{IsSeat};
+ghost use Rattle.cb_history.specs.Group.{IsIdentity};
 ghost use Rattle.cb_history.specs.Legal.{longest_history, ToCast, ToTake, ToTick};
 ghost use Rattle.cb_history.specs.LegalHistory.{IsLegalHistory};
 ghost use Rattle.cb_history.specs.Facts.{entry_fields};
@@ -16,7 +16,7 @@ use bytes::Bytes;
 use cb_frames::{FrameBlock, Range};
 use cb_history::{
     Arrival, ArriveRefusal, CastDone, CastRefusal, Entry, Event, Group, GroupMember, History,
-    LONGEST_HISTORY, MissingFault, NewFault, Outgoing, Seat, TickRefusal, Ticked,
+    Identity, LONGEST_HISTORY, MissingFault, NewFault, Outgoing, TickRefusal, Ticked,
 };
 use cb_times::{NoMemory, VectorTime};
 use std::alloc::Global;
@@ -24,11 +24,12 @@ use std::marker::Model;
 
 /// One member of a group: its history, and beside it what makes its answers quick.
 ///
-/// Each call answers what its definition in `cb_history` says of the history so far, which is legal whatever came. After want of memory,
+/// Each call answers what its definition in `cb_history` says of the history so far, which is legal whatever is received. After
+/// want of memory,
 /// as after any refusal, the member is as it was.
 #[derive(Drop)]
 pub struct Member {
-    seat: Seat,
+    seat: Identity,
     limit: usize,
     store: Store,
     /// Where the frames of its casts are made.
@@ -55,7 +56,7 @@ impl Member {
         ensures bad_limit { (result ≡ Err NewFault.BadLimit)
             ↔ ((me < group.size) × ¬ ((1 ≤ history_max) × (history_max ≤ longest_history))) }
     {
-        let Some(seat) = Seat::new(group, me) else {
+        let Some(seat) = Identity::new(group, me) else {
             return Err(NewFault::BadMember);
         };
         if !(1..=LONGEST_HISTORY).contains(&history_max) {
@@ -67,8 +68,8 @@ impl Member {
         }
     }
 
-    fn at(alloc: Global, seat: Seat, limit: usize) -> Result<Member, NoMemory>
-        requires seat { IsSeat seat }
+    fn at(alloc: Global, seat: Identity, limit: usize) -> Result<Member, NoMemory>
+        requires seat { IsIdentity seat }
         requires limit { (1 ≤ limit) × (limit ≤ longest_history) }
         ensures { IfOk result (λ member. member ≡ state_of seat limit []) }
     {
@@ -84,7 +85,7 @@ impl Member {
     }
 
     /// The group, and which of its members this is.
-    pub fn seat(&self) -> Seat
+    pub fn seat(&self) -> Identity
         ensures seat { result ≡ self.now.seat }
         ensures member { IsMemberState self.now }
     {
@@ -98,7 +99,7 @@ impl Member {
         &self.store.delivery.time
     }
 
-    /// All that the member did, in order. The history is legal, whatever came.
+    /// All that the member did, in order. The history is legal, whatever is received.
     pub fn history(&self) -> &[Entry]
         ensures entries { map entry_fields result.now ≡ self.now.entries }
         ensures legal { IsMemberState self.now }
@@ -154,7 +155,7 @@ impl Member {
         Ok(done)
     }
 
-    /// The same, with a copy of the entry that was added.
+    /// Casts a payload as `cast` does, and hands out a copy of the entry that was added.
     pub fn cast_noted(&mut self, payload: &[u8]) -> Result<(CastDone, Entry), CastRefusal>
         ensures done { IfOk result (λ noted. HasCast self.old self.new payload.now noted.0) }
         ensures entry { IfOk result (λ noted. entry_by self.old (ToCast payload.now)
@@ -166,9 +167,9 @@ impl Member {
         cast::answer(self.seat, self.limit, store, block, payload)
     }
 
-    /// Takes bytes that came: delivers what they make ready, or answers a request.
+    /// Takes received bytes: delivers what they make ready, or answers a request.
     ///
-    /// A refusal is that of the definition, in the order of `ArriveRefusal`; a repeat is told before a cast that is too far ahead.
+    /// A refusal is that of the definition, in the order of `ArriveRefusal`; a repeat is reported before a cast that is too far ahead.
     /// `NoMemory` may stand in place of any answer for bytes that are a frame; what is no frame is refused without memory. After a
     /// refusal the member is as it was.
     pub fn arrive(&mut self, bytes: &Bytes) -> Result<Arrival, ArriveRefusal>
@@ -180,7 +181,7 @@ impl Member {
         Ok(arrival)
     }
 
-    /// The same, with a copy of the entry that was added, where one was.
+    /// Takes received bytes as `arrive` does, and hands out a copy of the entry, where one was added.
     pub fn arrive_noted(&mut self, bytes: &Bytes) -> Result<(Arrival, Option<Entry>), ArriveRefusal>
         ensures taken { IfOk result (λ noted. HasTaken self.old self.new bytes.now noted.0) }
         ensures entry { IfOk result (λ noted. entry_by self.old (ToTake bytes.now)
@@ -191,7 +192,7 @@ impl Member {
         arrival::answer(self.seat, self.limit, &mut self.store, bytes)
     }
 
-    /// Takes bytes that came as `arrive_noted` does, for a caller that reads the deliveries among the events: only what is to be sent
+    /// Takes received bytes as `arrive_noted` does, for a caller that reads the deliveries among the events: only what is to be sent
     /// comes with the copy of the entry. It costs less, since no message is made twice and the bytes go into the copy.
     pub fn receive_noted(
         &mut self,
@@ -220,7 +221,7 @@ impl Member {
         Ok(done)
     }
 
-    /// The same, with a copy of the entry that was added, where one was.
+    /// Ticks as `tick` does, and hands out a copy of the entry, where one was added.
     pub fn tick_noted(&mut self) -> Result<(Ticked, Option<Entry>), TickRefusal>
         ensures done { IfOk result (λ noted. HasTicked self.old self.new noted.0) }
         ensures entry { IfOk result (λ noted. entry_by self.old ToTick
@@ -231,7 +232,7 @@ impl Member {
         tick::answer(self.seat, self.limit, &mut self.store)
     }
 
-    /// All that the member did, for good. The history is legal, whatever came.
+    /// All that the member did, for good. The history is legal, whatever is received.
     pub fn into_history(self) -> History
         ensures seat { (result.group ≡ self.seat.group) × (result.me ≡ self.seat.me) }
         ensures entries { map entry_fields result.entries.items ≡ self.entries }
@@ -288,7 +289,7 @@ impl GroupMember for Member {
     }
 }
 
-/// The same events once more.
+/// Copies of these events, in order.
 fn copies_of(alloc: Global, events: &[Event]) -> Result<Vec<Event>, NoMemory>
     ensures { IfOk result (λ copies. copies.items ≡ events.now) }
 {

@@ -1,4 +1,4 @@
-//! The casts of others that came, until the delay queue has them.
+//! The casts received from others, until the delay queue has them.
 
 ghost use Rattle.std.specs.Prelude.{◌≡◌, ◌+◌, ◌≤◌, ◌<◌, ◌∷◌, true, Any, IfOk, IfSome, IfNone, OnSome, length};
 ghost use Rattle.std.specs.List.Sorted.{IsPermutation};
@@ -45,7 +45,7 @@ impl Spare {
     }
 }
 
-/// The casts that came and wait for those before them, and the times of those that don't.
+/// The received casts that wait for those before them, and the times of those that don't.
 #[derive(Drop)]
 pub struct Reception {
     /// One for each member; the member's own stays empty.
@@ -81,7 +81,7 @@ impl Reception {
         self.buffers[sender as usize].ready_with(number)
     }
 
-    /// Keeps a cast of another member until those before it came, and what is made for it.
+    /// Keeps a cast of another member until those before it are received, and what is made for it.
     pub fn keep(&mut self, delivered: u32, cast: Cast, spare: Spare)
         requires can_keep { CanKeep delivered (cast_fields cast) self.old }
         requires room { vec_len self.old.spares + 1 ≤ vec_capacity self.old.spares }

@@ -15,10 +15,10 @@ pub struct Sending {
     pub window: SentWindow,
     /// The member's time at its last own cast, zero before the first one.
     pub last_cast: VectorTime,
-    /// A status was told.
-    pub has_told: bool,
+    /// A status was sent.
+    pub has_reported: bool,
     /// The time that the last status said; without one it says nothing.
-    pub last_told: VectorTime,
+    pub last_reported: VectorTime,
 }
 
 impl Sending {
@@ -31,8 +31,8 @@ impl Sending {
         Ok(Sending {
             window: SentWindow::new(alloc, window)?,
             last_cast: VectorTime::zero(alloc, size)?,
-            has_told: false,
-            last_told: VectorTime::zero(alloc, size)?,
+            has_reported: false,
+            last_reported: VectorTime::zero(alloc, size)?,
         })
     }
 
@@ -45,12 +45,12 @@ impl Sending {
         self.window.trim(acks.stable(me));
     }
 
-    /// No status was told yet, or the last one said another time.
+    /// No status was sent yet, or the last one said another time.
     pub fn is_news(&self, time: &VectorTime) -> bool
-        requires { length time.now ≡ length self.now.last_told }
+        requires { length time.now ≡ length self.now.last_reported }
         ensures { (result ≡ false)
-            ↔ ((self.now.has_told ≡ true) × (self.now.last_told ≡ time.now)) }
+            ↔ ((self.now.has_reported ≡ true) × (self.now.last_reported ≡ time.now)) }
     {
-        !self.has_told || self.last_told.as_slice() != time.as_slice()
+        !self.has_reported || self.last_reported.as_slice() != time.as_slice()
     }
 }

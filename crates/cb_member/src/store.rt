@@ -7,7 +7,7 @@ ghost use Rattle.cb_frames.specs.Fields.{cast_fields, status_fields};
 ghost use Rattle.cb_history.specs.Known.{missing, ranges_of};
 ghost use Rattle.cb_member.specs.AtOnce.{ComesAlone};
 ghost use Rattle.cb_member.specs.Store.{IsNewStore, IsAlike, HasRoom, IsSameWithRoom, HasRoomFor, Stands, facts_held};
-ghost use Rattle.cb_member.specs.Telling.{HasTold};
+ghost use Rattle.cb_member.specs.Telling.{HasReported};
 ghost use Rattle.cb_member.specs.Hearing.{HasHeard};
 
 use crate::delivery::{Delivery, push_within};
@@ -15,7 +15,7 @@ use crate::knowledge::Knowledge;
 use crate::reception::Reception;
 use crate::sending::Sending;
 use cb_frames::{Cast, Range, Status};
-use cb_history::{Entry, Seat};
+use cb_history::{Entry, Identity};
 use cb_times::{NoMemory, make_room};
 use std::alloc::Global;
 
@@ -73,7 +73,7 @@ impl Store {
         Ok(())
     }
 
-    /// The same, and room for what one more cast needs to be expanded.
+    /// Makes room for an entry, for so many events, and for what one more cast needs to be expanded.
     pub fn reserve_for_cast(&mut self, events: usize) -> Result<(), NoMemory>
         ensures same { IsSameWithRoom self.old self.new }
         ensures room { OnOk result (HasRoomFor events self.new) }
@@ -91,7 +91,7 @@ impl Store {
     }
 
     /// The casts of member i that are missing.
-    pub fn missing(&self, seat: Seat, i: u32) -> Result<Vec<Range>, NoMemory>
+    pub fn missing(&self, seat: Identity, i: u32) -> Result<Vec<Range>, NoMemory>
         requires store { Stands seat self.now }
         requires of_group { i < seat.group.size }
         requires other { i ≢ seat.me }
@@ -106,15 +106,15 @@ impl Store {
     /// Enters the status that says the time.
     pub fn enter_status(&mut self, entry: Entry)
         requires room { vec_len self.old.entries < vec_capacity self.old.entries }
-        requires fields { length self.old.sending.last_told ≡ length self.old.delivery.time }
-        ensures { HasTold entry self.old self.new }
+        requires fields { length self.old.sending.last_reported ≡ length self.old.delivery.time }
+        ensures { HasReported entry self.old self.new }
     {
         push_within(&mut self.entries, entry);
-        self.sending.has_told = true;
-        self.sending.last_told.copy_from(&self.delivery.time);
+        self.sending.has_reported = true;
+        self.sending.last_reported.copy_from(&self.delivery.time);
     }
 
-    /// Enters a status that came, and keeps what it says.
+    /// Enters a received status, and keeps what it says.
     pub fn enter_heard(&mut self, me: u32, status: &Status, entry: Entry)
         requires room { vec_len self.old.entries < vec_capacity self.old.entries }
         requires me { me < self.old.knowledge.acks.size }

@@ -17,7 +17,7 @@ use crate::text::{another, frame_text};
 use bytes::Bytes;
 use cb_frames::{Change, Frame, Status};
 use cb_gaps::request_of;
-use cb_history::{Entry, Outgoing, Seat, TickRefusal, Ticked};
+use cb_history::{Entry, Identity, Outgoing, TickRefusal, Ticked};
 use cb_times::{NoMemory, VectorTime};
 use std::alloc::Global;
 
@@ -36,7 +36,7 @@ fn values_of(alloc: Global, time: &VectorTime) -> Result<Vec<Change>, NoMemory>
 }
 
 /// The status that says the time.
-fn status_of(seat: Seat, store: &Store) -> Result<Status, NoMemory>
+fn status_of(seat: Identity, store: &Store) -> Result<Status, NoMemory>
     requires { Stands seat store.now }
     ensures { IfOk result (λ status. status_fields status
         ≡ status_of seat (facts_held store.now)) }
@@ -48,7 +48,7 @@ fn status_of(seat: Seat, store: &Store) -> Result<Status, NoMemory>
     })
 }
 
-fn status_text(seat: Seat, store: &Store) -> Result<Bytes, NoMemory>
+fn status_text(seat: Identity, store: &Store) -> Result<Bytes, NoMemory>
     requires { Stands seat store.now }
     ensures { IfOk result (λ bytes. bytes
         ≡ text_of (StatusFrame (status_of seat (facts_held store.now)))) }
@@ -58,7 +58,7 @@ fn status_text(seat: Seat, store: &Store) -> Result<Bytes, NoMemory>
 }
 
 /// The request to member i for the first ranges of what is missing of it, where something is.
-fn request_to(seat: Seat, store: &Store, i: u32) -> Result<Option<Outgoing>, NoMemory>
+fn request_to(seat: Identity, store: &Store, i: u32) -> Result<Option<Outgoing>, NoMemory>
     requires store { Stands seat store.now }
     requires of_group { i < seat.group.size }
     requires other { i ≢ seat.me }
@@ -77,7 +77,7 @@ fn request_to(seat: Seat, store: &Store, i: u32) -> Result<Option<Outgoing>, NoM
 }
 
 /// A request to each other member of which something is missing.
-fn requests(seat: Seat, store: &Store) -> Result<Vec<Outgoing>, NoMemory>
+fn requests(seat: Identity, store: &Store) -> Result<Vec<Outgoing>, NoMemory>
     requires { Stands seat store.now }
     ensures { IfOk result (λ out. out.items ≡ requests seat (facts_held store.now)) }
 {
@@ -116,7 +116,7 @@ fn entries_if_new(is_new: bool, status: &Bytes) -> Result<Option<(Entry, Entry)>
 }
 
 /// Tells the status to all, and asks for what is missing.
-fn tell(seat: Seat, is_new: bool, store: &Store) -> Result<Telling, NoMemory>
+fn tell(seat: Identity, is_new: bool, store: &Store) -> Result<Telling, NoMemory>
     requires { Stands seat store.now }
     ensures { IfOk result (Tells seat (facts_held store.now) is_new) }
 {
@@ -130,7 +130,7 @@ fn tell(seat: Seat, is_new: bool, store: &Store) -> Result<Telling, NoMemory>
 /// The entry of the status joins the history, where it is new.
 fn enter(store: &mut Store, telling: Telling) -> (Ticked, Option<Entry>)
     requires room { vec_len store.old.entries < vec_capacity store.old.entries }
-    requires fields { length store.old.sending.last_told ≡ length store.old.delivery.time }
+    requires fields { length store.old.sending.last_reported ≡ length store.old.delivery.time }
     ensures { EntersStatus store.old store.new telling result }
 {
     let Telling { out, entries } = telling;
@@ -145,7 +145,7 @@ fn enter(store: &mut Store, telling: Telling) -> (Ticked, Option<Entry>)
 
 /// Tells the status to all, and asks for what is missing. The second is a copy of the status's entry, where it is new.
 pub fn answer(
-    seat: Seat,
+    seat: Identity,
     limit: usize,
     store: &mut Store,
 ) -> Result<(Ticked, Option<Entry>), TickRefusal>

@@ -18,8 +18,8 @@ use Rattle.cb_history.specs.declared.answer.ArriveRefusal.TheVariants as arrival
 use Rattle.cb_history.specs.declared.answer.TickRefusal.{TickRefusal}
 use Rattle.cb_history.specs.declared.answer.TickRefusal.TheVariants as ticks
 use Rattle.cb_history.specs.declared.answer.Outgoing.{Outgoing}
-use Rattle.cb_history.specs.Group.{Seat}
-use Rattle.cb_history.specs.Facts.{EntryFields, CastEntry, ArriveEntry, TickEntry, Fact, OwnCast, CastCame, StatusCame, OwnStatus, cast_said, status_said, facts_of, casts_in, messages_in, is_there}
+use Rattle.cb_history.specs.Group.{Identity}
+use Rattle.cb_history.specs.Facts.{EntryFields, CastEntry, ArriveEntry, TickEntry, Fact, OwnCast, CastReceived, StatusReceived, OwnStatus, cast_said, status_said, facts_of, casts_in, messages_in, is_there}
 use Rattle.cb_history.specs.Answers.{is_full, is_window_full, next_cast, cast_answer, group_of, are_members, is_impossible, is_repeat, is_too_far, is_change, deliveries, sent_in_answer, own_casts, ArrivalSays, Accepted, Repeat, frame_answer, answer_to, arrive_answer, status_of, is_new_status, requests, tick_answer}
 use Rattle.cb_history.specs.Legal.{Call, ToCast, ToTake, ToTick, cast_entry, arrive_entry, tick_entry, and_entry, history_after, IsLegal}
 use Rattle.cb_history.specs.LegalFacts.{AreFactsOf}
@@ -32,8 +32,8 @@ use Rattle.cb_history.proofs.Calls.{calls_keep_legal}
 use Rattle.cb_history.proofs.Buffers.{cast_of_is_in, in_is_cast_of}
 use Rattle.cb_history.proofs.ReadBack.{cast_read as cast_reads, status_read}
 use Rattle.cb_history.proofs.Requests.{own_frames_have_texts}
-use Rattle.cb_schedules.specs.Schedule.{Setting, IsSetting, seat_at, Calls, Answer, CastAnswer, ArrivalAnswer, TickAnswer, put_out, answer_of, GroupState}
-use Rattle.cb_schedules.specs.Messages.{facts_at, messages_read, came_by, has_arrived, cast_read, sent_casts}
+use Rattle.cb_schedules.specs.Schedule.{Setting, IsSetting, seat_at, Calls, Answer, CastAnswer, ArrivalAnswer, TickAnswer, frames_sent, answer_of, GroupState}
+use Rattle.cb_schedules.specs.Messages.{facts_at, messages_read, received_by, has_arrived, cast_read, sent_casts}
 use Rattle.cb_schedules.specs.Honest.{SaysWhatIsSo, IsHonest}
 use Rattle.cb_schedules.specs.Consistent.{IsConsistent}
 use Rattle.cb_schedules.proofs.Sending.{cast_is_honest, status_is_honest, requests_are_honest, resent_are_honest, sent_is_honest}
@@ -57,7 +57,7 @@ module _ (setting : Setting) (is : IsSetting setting) (s : GroupState) (inv : Is
   abbrev said : List Fact
   said = facts_of (s.histories i)
 
-  abbrev me : Seat
+  abbrev me : Identity
   me = seat_at setting i
 
   are : AreFactsOf (seat_at setting i) (facts_of (s.histories i))
@@ -67,16 +67,16 @@ module _ (setting : Setting) (is : IsSetting setting) (s : GroupState) (inv : Is
   own_is_honest c own = sent_is_honest setting.group (facts_at s) s.sent c inv.honest (cast_of_is_in c (sent_casts s) (inv.sent i c (in_is_cast_of c (own_casts said) own)))
 
   -- a call that adds no entry, and brings nothing that is not there
-  same_history : (call : Call) (answer : Answer) → AllByRecursion (λ out. IsHonest setting.group (facts_at s) out.bytes) (put_out answer)
-      → ((m : Name) → (has_arrived s i m || list_any (is_named m) (came_by i (Calls i call) answer)) ≡ is_there (casts_in said) m.sender m.number) → IsGood setting is s inv i lt call now answer
+  same_history : (call : Call) (answer : Answer) → AllByRecursion (λ out. IsHonest setting.group (facts_at s) out.bytes) (frames_sent answer)
+      → ((m : Name) → (has_arrived s i m || list_any (is_named m) (received_by i (Calls i call) answer)) ≡ is_there (casts_in said) m.sender m.number) → IsGood setting is s inv i lt call now answer
   same_history call answer out news =
       good setting is s inv i lt call now answer (inv.legal i lt) (inl refl)
-      (all_weaken (λ out. IsHonest setting.group (facts_at s) out.bytes) (λ out. IsHonest setting.group (after setting is s inv i lt call now answer) out.bytes) (put_out answer)
+      (all_weaken (λ out. IsHonest setting.group (facts_at s) out.bytes) (λ out. IsHonest setting.group (after setting is s inv i lt call now answer) out.bytes) (frames_sent answer)
       (λ out. still_honest setting is s inv i lt call now answer (inv.legal i lt) (inl refl) out.bytes) out)
       (λ c there. inl there) news
 
-  nothing_came : (m : Name) → (has_arrived s i m || false) ≡ is_there (casts_in said) m.sender m.number
-  nothing_came m = or_none (has_arrived s i m) ∙ inv.arrived i m
+  nothing_received : (m : Name) → (has_arrived s i m || false) ≡ is_there (casts_in said) m.sender m.number
+  nothing_received m = or_none (has_arrived s i m) ∙ inv.arrived i m
 
   -- ---- a cast
 
@@ -87,7 +87,7 @@ module _ (setting : Setting) (is : IsSetting setting) (s : GroupState) (inv : Is
     abbrev CastGood : Result CastFields CastRefusal → Type 0
     CastGood r = IsLegal (seat_at setting i) (and_entry now (cast_entry r)) → IsGood setting is s inv i lt (ToCast payload) (and_entry now (cast_entry r)) (CastAnswer r)
 
-    brings_itself : came_by i (Calls i (ToCast payload)) (CastAnswer (Ok cast)) ≡ messages_of cast
+    brings_itself : received_by i (Calls i (ToCast payload)) (CastAnswer (Ok cast)) ≡ messages_of cast
     brings_itself = rw (eq-eqb i i refl) refl
 
     made : length payload ≤ LONGEST_PAYLOAD → CastGood (Ok cast)
@@ -122,9 +122,9 @@ module _ (setting : Setting) (is : IsSetting setting) (s : GroupState) (inv : Is
     pub cast_is_good : IsGood setting is s inv i lt (ToCast payload) (history_after me setting.limit now (ToCast payload)) (answer_of me setting.limit now (ToCast payload))
     unfolding cast_answer
     cast_is_good =
-        cond_both (ltb LONGEST_PAYLOAD (length payload)) _ _ CastGood (λ _ _. same_history (ToCast payload) (CastAnswer (Err casts.PayloadTooLong)) tt nothing_came)
-        (λ short. cond_both (is_window_full me said) _ _ CastGood (λ _ _. same_history (ToCast payload) (CastAnswer (Err casts.WindowFull)) tt nothing_came)
-        (λ _. cond_both (is_full setting.limit now) _ _ CastGood (λ _ _. same_history (ToCast payload) (CastAnswer (Err casts.HistoryFull)) tt nothing_came)
+        cond_both (ltb LONGEST_PAYLOAD (length payload)) _ _ CastGood (λ _ _. same_history (ToCast payload) (CastAnswer (Err casts.PayloadTooLong)) tt nothing_received)
+        (λ short. cond_both (is_window_full me said) _ _ CastGood (λ _ _. same_history (ToCast payload) (CastAnswer (Err casts.WindowFull)) tt nothing_received)
+        (λ _. cond_both (is_full setting.limit now) _ _ CastGood (λ _ _. same_history (ToCast payload) (CastAnswer (Err casts.HistoryFull)) tt nothing_received)
         (λ _. made (ltb-false LONGEST_PAYLOAD (length payload) short))))
         (calls_keep_legal me setting.limit now (ToCast payload) is.at_most (inv.legal i lt) bytes)
 
@@ -142,13 +142,13 @@ module _ (setting : Setting) (is : IsSetting setting) (s : GroupState) (inv : Is
   goes_out : AllByRecursion (λ out. IsHonest setting.group (facts_at s) out.bytes) outs
   goes_out = (status_is_honest setting.group (facts_at s) i are, requests_are_honest setting.group (facts_at s) i are)
 
-  told : (b : Bool) → IsLegal (seat_at setting i) (now ++ TickEntry (text_of (StatusFrame status)) ∷ []) → IsGood setting is s inv i lt ToTick (now ++ TickEntry (text_of (StatusFrame status)) ∷ []) (TickAnswer (Ok (b, outs)))
-  told b legal =
+  reported : (b : Bool) → IsLegal (seat_at setting i) (now ++ TickEntry (text_of (StatusFrame status)) ∷ []) → IsGood setting is s inv i lt ToTick (now ++ TickEntry (text_of (StatusFrame status)) ∷ []) (TickAnswer (Ok (b, outs)))
+  reported b legal =
       good setting is s inv i lt ToTick with_status (TickAnswer (Ok (b, outs))) legal (inr (OwnStatus status, push, tt))
       (all_weaken (λ out. IsHonest setting.group (facts_at s) out.bytes) (λ out. IsHonest setting.group (after setting is s inv i lt ToTick with_status (TickAnswer (Ok (b, outs)))) out.bytes) outs
       (λ out. still_honest setting is s inv i lt ToTick with_status (TickAnswer (Ok (b, outs))) legal (inr (OwnStatus status, push, tt)) out.bytes) goes_out)
       (λ c there. inl (subst (IsIn c) (ap own_casts push ∙ own_casts-other said (OwnStatus status) tt) there))
-      (λ m. nothing_came m ∙ sym (ap (λ (cs : List CastFields). is_there cs m.sender m.number) (ap casts_in push ∙ casts_in-append said (OwnStatus status) ∙ append-nil (casts_in said))))
+      (λ m. nothing_received m ∙ sym (ap (λ (cs : List CastFields). is_there cs m.sender m.number) (ap casts_in push ∙ casts_in-append said (OwnStatus status) ∙ append-nil (casts_in said))))
     where
       with_status : List EntryFields
       with_status = now ++ TickEntry (text_of (StatusFrame status)) ∷ []
@@ -159,10 +159,10 @@ module _ (setting : Setting) (is : IsSetting setting) (s : GroupState) (inv : Is
   pub tick_is_good : IsGood setting is s inv i lt ToTick (history_after me setting.limit now ToTick) (answer_of me setting.limit now ToTick)
   unfolding tick_answer
   tick_is_good =
-      cond_both (is_new_status me said && is_full setting.limit now) _ _ TickGood (λ _ _. same_history ToTick (TickAnswer (Err ticks.HistoryFull)) tt nothing_came)
+      cond_both (is_new_status me said && is_full setting.limit now) _ _ TickGood (λ _ _. same_history ToTick (TickAnswer (Err ticks.HistoryFull)) tt nothing_received)
       (λ _. cond_both (is_new_status me said) (Some (TickEntry (text_of (StatusFrame status)))) None
       (λ (o : Option EntryFields). IsLegal (seat_at setting i) (and_entry now o) → IsGood setting is s inv i lt ToTick (and_entry now o) (TickAnswer (Ok (is_new_status me said, outs))))
-      (λ _. told (is_new_status me said)) (λ _ _. same_history ToTick (TickAnswer (Ok (is_new_status me said, outs))) goes_out nothing_came))
+      (λ _. reported (is_new_status me said)) (λ _ _. same_history ToTick (TickAnswer (Ok (is_new_status me said, outs))) goes_out nothing_received))
       (calls_keep_legal me setting.limit now ToTick is.at_most (inv.legal i lt) tt)
 
   -- ---- an arrival
@@ -172,14 +172,14 @@ module _ (setting : Setting) (is : IsSetting setting) (s : GroupState) (inv : Is
     ArrivalGood r = IsLegal (seat_at setting i) (and_entry now (arrive_entry bytes r)) → IsGood setting is s inv i lt (ToTake bytes) (and_entry now (arrive_entry bytes r)) (ArrivalAnswer r)
 
     refused : (e : ArriveRefusal) → ArrivalGood (Err e)
-    refused e _ = same_history (ToTake bytes) (ArrivalAnswer (Err e)) tt nothing_came
+    refused e _ = same_history (ToTake bytes) (ArrivalAnswer (Err e)) tt nothing_received
 
-    brings : (frame : FrameFields) (says : ArrivalSays) → frame_at bytes ≡ Ok frame → came_by i (Calls i (ToTake bytes)) (ArrivalAnswer (Ok says)) ≡ messages_read (Ok frame)
+    brings : (frame : FrameFields) (says : ArrivalSays) → frame_at bytes ≡ Ok frame → received_by i (Calls i (ToTake bytes)) (ArrivalAnswer (Ok says)) ≡ messages_read (Ok frame)
     brings frame says read = rw (eq-eqb i i refl) (ap messages_read read)
 
     -- it brings messages, and the others were there before
     news_of : (frame : FrameFields) (says : ArrivalSays) (m : Name) → frame_at bytes ≡ Ok frame
-        → (has_arrived s i m || list_any (is_named m) (came_by i (Calls i (ToTake bytes)) (ArrivalAnswer (Ok says)))) ≡ (is_there (casts_in said) m.sender m.number || list_any (is_named m) (messages_read (Ok frame)))
+        → (has_arrived s i m || list_any (is_named m) (received_by i (Calls i (ToTake bytes)) (ArrivalAnswer (Ok says)))) ≡ (is_there (casts_in said) m.sender m.number || list_any (is_named m) (messages_read (Ok frame)))
     news_of frame says m read =
         ap (λ (ms : List Carried). has_arrived s i m || list_any (is_named m) ms) (brings frame says read)
         ∙ ap (λ (b : Bool). b || list_any (is_named m) (messages_read (Ok frame))) (inv.arrived i m)
@@ -199,18 +199,18 @@ module _ (setting : Setting) (is : IsSetting setting) (s : GroupState) (inv : Is
     changed (CastFrame c) ds read so change legal =
         let says : ArrivalSays = Accepted ds true [] in
         let more : List EntryFields = now ++ ArriveEntry bytes (map (λ m. m.name) ds) ∷ [] in
-        let push : facts_of (now ++ ArriveEntry bytes (map (λ m. m.name) ds) ∷ []) ≡ said ++ CastCame c ∷ [] = said_facts now bytes (map (λ m. m.name) ds) (CastFrame c) read in
-        good setting is s inv i lt (ToTake bytes) more (ArrivalAnswer (Ok says)) legal (inr (CastCame c, push, so)) tt
-        (λ d there. inl (subst (IsIn d) (ap own_casts push ∙ own_casts-other said (CastCame c) tt) there))
-        (λ m. news_of (CastFrame c) says m read ∙ sym (ap (λ (cs : List CastFields). is_there cs m.sender m.number) (ap casts_in push ∙ casts_in-append said (CastCame c)) ∙ there_push_is (casts_in said) c m))
+        let push : facts_of (now ++ ArriveEntry bytes (map (λ m. m.name) ds) ∷ []) ≡ said ++ CastReceived c ∷ [] = said_facts now bytes (map (λ m. m.name) ds) (CastFrame c) read in
+        good setting is s inv i lt (ToTake bytes) more (ArrivalAnswer (Ok says)) legal (inr (CastReceived c, push, so)) tt
+        (λ d there. inl (subst (IsIn d) (ap own_casts push ∙ own_casts-other said (CastReceived c) tt) there))
+        (λ m. news_of (CastFrame c) says m read ∙ sym (ap (λ (cs : List CastFields). is_there cs m.sender m.number) (ap casts_in push ∙ casts_in-append said (CastReceived c)) ∙ there_push_is (casts_in said) c m))
     changed (StatusFrame t) ds read so change legal =
         let says : ArrivalSays = Accepted ds true [] in
         let more : List EntryFields = now ++ ArriveEntry bytes (map (λ m. m.name) ds) ∷ [] in
-        let push : facts_of (now ++ ArriveEntry bytes (map (λ m. m.name) ds) ∷ []) ≡ said ++ StatusCame t ∷ [] = said_facts now bytes (map (λ m. m.name) ds) (StatusFrame t) read in
-        good setting is s inv i lt (ToTake bytes) more (ArrivalAnswer (Ok says)) legal (inr (StatusCame t, push, so)) tt
-        (λ d there. inl (subst (IsIn d) (ap own_casts push ∙ own_casts-other said (StatusCame t) tt) there))
+        let push : facts_of (now ++ ArriveEntry bytes (map (λ m. m.name) ds) ∷ []) ≡ said ++ StatusReceived t ∷ [] = said_facts now bytes (map (λ m. m.name) ds) (StatusFrame t) read in
+        good setting is s inv i lt (ToTake bytes) more (ArrivalAnswer (Ok says)) legal (inr (StatusReceived t, push, so)) tt
+        (λ d there. inl (subst (IsIn d) (ap own_casts push ∙ own_casts-other said (StatusReceived t) tt) there))
         (λ m. news_of (StatusFrame t) says m read ∙ or_none (is_there (casts_in said) m.sender m.number)
-        ∙ sym (ap (λ (cs : List CastFields). is_there cs m.sender m.number) (ap casts_in push ∙ casts_in-append said (StatusCame t) ∙ append-nil (casts_in said))))
+        ∙ sym (ap (λ (cs : List CastFields). is_there cs m.sender m.number) (ap casts_in push ∙ casts_in-append said (StatusReceived t) ∙ append-nil (casts_in said))))
     changed (RequestFrame r) ds read so change legal = let none : false ≡ true = change in absurd cc
 
     unchanged : (frame : FrameFields) → frame_at bytes ≡ Ok frame → is_change me said frame ≡ false → ArrivalGood (Ok (Accepted [] false (sent_in_answer me said frame)))

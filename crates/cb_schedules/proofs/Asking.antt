@@ -107,7 +107,7 @@ module _ (setting : Setting) (s t : GroupState) (inv : IsConsistent setting s) (
         let own = is_own setting.group (facts_at now) inv_now.together i found.cast found.there in
         (found.cast, subst (λ (k : ℕ). IsIn found.cast (own_casts (facts_at now k))) found.sender_is own, found.sender_is, found.number_is)
 
-    -- an own cast of i that was put out in answer comes
+    -- an own cast of i that was sent in answer comes
     answer_comes : (now : GroupState) → IsConsistent setting now → (c : CastFields) → IsIn c (own_casts (facts_at now i)) → c.sender ≡ i → c.number ≡ n
         → Takes setting w.answered t (sent_by i (record { to = Some j; bytes = text_of (CastFrame c) })) j → Comes
     answer_comes now inv_now c own sender number b =

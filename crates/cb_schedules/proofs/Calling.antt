@@ -11,7 +11,7 @@ use Rattle.cb_causality.specs.Lists.{Appends}
 use Rattle.cb_causality.specs.StampedMachine.{StampedStep}
 use Rattle.cb_causality.specs.Extension.{Extends, Still}
 use Rattle.cb_history.specs.declared.answer.Outgoing.{Outgoing}
-use Rattle.cb_history.specs.Group.{Seat}
+use Rattle.cb_history.specs.Group.{Identity}
 use Rattle.cb_history.specs.Facts.{EntryFields, Fact, said_by, facts_of, casts_in, is_there}
 use Rattle.cb_history.specs.Answers.{own_casts}
 use Rattle.cb_history.specs.Legal.{Call, ToCast, ToTake, ToTick, IsLegal}
@@ -20,8 +20,8 @@ use Rattle.cb_history.proofs.Views.{IsIn}
 use Rattle.cb_history.proofs.Lists.{flat_map-append, in_front, in_back}
 use Rattle.cb_history.proofs.Histories.{legal_histories_say_legal_facts}
 use Rattle.cb_history.proofs.Buffers.{cast_of_is_in, in_is_cast_of}
-use Rattle.cb_schedules.specs.Schedule.{Setting, IsSetting, seat_at, SentFrame, Calls, Answer, CastAnswer, ArrivalAnswer, TickAnswer, NoSuchMember, NoSuchFrame, NoBytes, put_out, sent_by, GroupState, with_history}
-use Rattle.cb_schedules.specs.Messages.{facts_at, stamped_lists, came_by, arrived_at, has_arrived, cast_read, sent_casts}
+use Rattle.cb_schedules.specs.Schedule.{Setting, IsSetting, seat_at, SentFrame, Calls, Answer, CastAnswer, ArrivalAnswer, TickAnswer, NoSuchMember, NoSuchFrame, NoBytes, frames_sent, sent_by, GroupState, with_history}
+use Rattle.cb_schedules.specs.Messages.{facts_at, stamped_lists, received_by, arrived_at, has_arrived, cast_read, sent_casts}
 use Rattle.cb_schedules.specs.Honest.{member_of, IsHonest, events_of, AreTogether}
 use Rattle.cb_schedules.specs.Consistent.{IsConsistent}
 use Rattle.cb_schedules.proofs.Growing.{honest_stays}
@@ -46,7 +46,7 @@ or_none false = refl
 abbrev pub is_named : Name → Carried → Bool
 is_named m x = eqb x.sender m.sender && eqb x.number m.number
 
--- the casts among frames that a member puts out
+-- the casts among frames that a member sends
 abbrev pub casts_out : List Outgoing → List CastFields
 casts_out outs = flat_map (λ out. cast_read (frame_at out.bytes)) outs
 
@@ -59,22 +59,22 @@ all_sent P i [] all = tt
 all_sent P i (out ∷ outs) all = (all.0, all_sent P i outs all.1)
 
 -- nothing comes to a member by a call of another one
-came_elsewhere : (j i : ℕ) (call : Call) (answer : Answer) → i ≢ j → came_by j (Calls i call) answer ≡ []
-came_elsewhere j i (ToCast payload) (CastAnswer (Ok c)) ne = rw (ne_eqb i j ne) refl
-came_elsewhere j i (ToCast payload) (CastAnswer (Err refusal)) ne = refl
-came_elsewhere j i (ToCast payload) (ArrivalAnswer r) ne = refl
-came_elsewhere j i (ToCast payload) (TickAnswer r) ne = refl
-came_elsewhere j i (ToCast payload) NoSuchMember ne = refl
-came_elsewhere j i (ToCast payload) NoSuchFrame ne = refl
-came_elsewhere j i (ToCast payload) NoBytes ne = refl
-came_elsewhere j i (ToTake bytes) (ArrivalAnswer (Ok says)) ne = rw (ne_eqb i j ne) refl
-came_elsewhere j i (ToTake bytes) (ArrivalAnswer (Err refusal)) ne = refl
-came_elsewhere j i (ToTake bytes) (CastAnswer r) ne = refl
-came_elsewhere j i (ToTake bytes) (TickAnswer r) ne = refl
-came_elsewhere j i (ToTake bytes) NoSuchMember ne = refl
-came_elsewhere j i (ToTake bytes) NoSuchFrame ne = refl
-came_elsewhere j i (ToTake bytes) NoBytes ne = refl
-came_elsewhere j i ToTick answer ne = refl
+received_elsewhere : (j i : ℕ) (call : Call) (answer : Answer) → i ≢ j → received_by j (Calls i call) answer ≡ []
+received_elsewhere j i (ToCast payload) (CastAnswer (Ok c)) ne = rw (ne_eqb i j ne) refl
+received_elsewhere j i (ToCast payload) (CastAnswer (Err refusal)) ne = refl
+received_elsewhere j i (ToCast payload) (ArrivalAnswer r) ne = refl
+received_elsewhere j i (ToCast payload) (TickAnswer r) ne = refl
+received_elsewhere j i (ToCast payload) NoSuchMember ne = refl
+received_elsewhere j i (ToCast payload) NoSuchFrame ne = refl
+received_elsewhere j i (ToCast payload) NoBytes ne = refl
+received_elsewhere j i (ToTake bytes) (ArrivalAnswer (Ok says)) ne = rw (ne_eqb i j ne) refl
+received_elsewhere j i (ToTake bytes) (ArrivalAnswer (Err refusal)) ne = refl
+received_elsewhere j i (ToTake bytes) (CastAnswer r) ne = refl
+received_elsewhere j i (ToTake bytes) (TickAnswer r) ne = refl
+received_elsewhere j i (ToTake bytes) NoSuchMember ne = refl
+received_elsewhere j i (ToTake bytes) NoSuchFrame ne = refl
+received_elsewhere j i (ToTake bytes) NoBytes ne = refl
+received_elsewhere j i ToTick answer ne = refl
 
 pub facts_push : (entries : List EntryFields) (e : EntryFields) (fact : Fact) → said_by e ≡ fact ∷ [] → facts_of (entries ++ e ∷ []) ≡ facts_of entries ++ fact ∷ []
 facts_push entries e fact said = flat_map-append said_by entries (e ∷ []) ∙ ap (λ (fs : List Fact). facts_of entries ++ fs) (append-nil (said_by e) ∙ said)
@@ -88,15 +88,15 @@ module _ (setting : Setting) (is : IsSetting setting) (s : GroupState) (inv : Is
   abbrev pub facts : List Fact
   facts = facts_of (s.histories i)
 
-  abbrev pub seat : Seat
+  abbrev pub seat : Identity
   seat = member_of setting.group i
 
   -- the state where the member has these entries and gave this answer
   abbrev pub state_with : List EntryFields → Answer → GroupState
   state_with now answer = record {
     histories = with_history s.histories i now;
-    sent = s.sent ++ map (sent_by i) (put_out answer);
-    outcomes = s.outcomes ++ record { asked = Calls i call; answer = answer; first = length s.sent; count = length (put_out answer) } ∷ [];
+    sent = s.sent ++ map (sent_by i) (frames_sent answer);
+    outcomes = s.outcomes ++ record { asked = Calls i call; answer = answer; first = length s.sent; count = length (frames_sent answer) } ∷ [];
   }
 
   -- the history is as it was, or says one fact more
@@ -153,45 +153,45 @@ module _ (setting : Setting) (is : IsSetting setting) (s : GroupState) (inv : Is
       ]
 
       -- all that is to be shown of one call
-      pub good : AllByRecursion (λ out. IsHonest setting.group after out.bytes) (put_out answer)
-          → ((c : CastFields) → IsIn c (own_casts (facts_of now)) → IsIn c (own_casts facts) ⊎ IsIn c (casts_out (put_out answer)))
-          → ((m : Name) → (has_arrived s i m || list_any (is_named m) (came_by i (Calls i call) answer)) ≡ is_there (casts_in (facts_of now)) m.sender m.number)
+      pub good : AllByRecursion (λ out. IsHonest setting.group after out.bytes) (frames_sent answer)
+          → ((c : CastFields) → IsIn c (own_casts (facts_of now)) → IsIn c (own_casts facts) ⊎ IsIn c (casts_out (frames_sent answer)))
+          → ((m : Name) → (has_arrived s i m || list_any (is_named m) (received_by i (Calls i call) answer)) ≡ is_there (casts_in (facts_of now)) m.sender m.number)
           → IsGood now answer
       good out own news = (
         record {
           legal = λ k lt_k. at_member (λ k es. k < setting.group.size → IsLegal (seat_at setting k) es) (λ _. legal) (λ k ne. inv.legal k) k lt_k;
           nobody = λ k le. at_member (λ k es. setting.group.size ≤ k → es ≡ []) (λ le. absurd (omega (arith, lt, le))) (λ k ne. inv.nobody k) k le;
           together = together;
-          honest = all_both (λ frame. IsHonest setting.group after frame.bytes) s.sent (map (sent_by i) (put_out answer))
+          honest = all_both (λ frame. IsHonest setting.group after frame.bytes) s.sent (map (sent_by i) (frames_sent answer))
               (all_weaken (λ frame. IsHonest setting.group (facts_at s) frame.bytes) (λ frame. IsHonest setting.group after frame.bytes) s.sent (λ frame. still_honest frame.bytes) inv.honest)
-              (all_sent (IsHonest setting.group after) i (put_out answer) out);
+              (all_sent (IsHonest setting.group after) i (frames_sent answer) out);
           sent = λ k c there. in_is_cast_of c (sent_casts (state_with now answer)) (sent_after k c (cast_of_is_in c (own_casts (after k)) there));
           arrived = arrived_after;
         },
         extends,
       )
         where
-          all_casts : sent_casts (state_with now answer) ≡ sent_casts s ++ casts_out (put_out answer)
+          all_casts : sent_casts (state_with now answer) ≡ sent_casts s ++ casts_out (frames_sent answer)
           all_casts =
-              flat_map-append (λ frame. cast_read (frame_at frame.bytes)) s.sent (map (sent_by i) (put_out answer))
-              ∙ ap (λ (cs : List CastFields). sent_casts s ++ cs) (casts_sent i (put_out answer))
+              flat_map-append (λ frame. cast_read (frame_at frame.bytes)) s.sent (map (sent_by i) (frames_sent answer))
+              ∙ ap (λ (cs : List CastFields). sent_casts s ++ cs) (casts_sent i (frames_sent answer))
 
-          sent_before : (k : ℕ) (c : CastFields) → IsIn c (own_casts (facts_at s k)) → IsIn c (sent_casts s ++ casts_out (put_out answer))
-          sent_before k c there = in_front c (sent_casts s) (casts_out (put_out answer)) (cast_of_is_in c (sent_casts s) (inv.sent k c (in_is_cast_of c (own_casts (facts_at s k)) there)))
+          sent_before : (k : ℕ) (c : CastFields) → IsIn c (own_casts (facts_at s k)) → IsIn c (sent_casts s ++ casts_out (frames_sent answer))
+          sent_before k c there = in_front c (sent_casts s) (casts_out (frames_sent answer)) (cast_of_is_in c (sent_casts s) (inv.sent k c (in_is_cast_of c (own_casts (facts_at s k)) there)))
 
           sent_after : (k : ℕ) (c : CastFields) → IsIn c (own_casts (after k)) → IsIn c (sent_casts (state_with now answer))
-          sent_after k c there = subst (IsIn c) (sym all_casts) (at_member (λ k es. IsIn c (own_casts (facts_of es)) → IsIn c (sent_casts s ++ casts_out (put_out answer)))
+          sent_after k c there = subst (IsIn c) (sym all_casts) (at_member (λ k es. IsIn c (own_casts (facts_of es)) → IsIn c (sent_casts s ++ casts_out (frames_sent answer)))
               (λ here. elim (own c here) [
                 | inl old ↦ sent_before i c old
-                | inr new ↦ in_back c (sent_casts s) (casts_out (put_out answer)) new
+                | inr new ↦ in_back c (sent_casts s) (casts_out (frames_sent answer)) new
               ]) (λ k ne. sent_before k c) k there)
 
-          all_arrived : (j : ℕ) (m : Name) → has_arrived (state_with now answer) j m ≡ (has_arrived s j m || list_any (is_named m) (came_by j (Calls i call) answer))
+          all_arrived : (j : ℕ) (m : Name) → has_arrived (state_with now answer) j m ≡ (has_arrived s j m || list_any (is_named m) (received_by j (Calls i call) answer))
           all_arrived j m =
-              ap (list_any (is_named m)) (flat_map-append (λ outcome. came_by j outcome.asked outcome.answer) s.outcomes
-              (record { asked = Calls i call; answer = answer; first = length s.sent; count = length (put_out answer) } ∷ []) ∙ ap (λ (ms : List Carried). arrived_at s j ++ ms) (append-nil (came_by j (Calls i call) answer)))
-              ∙ any-append (is_named m) (arrived_at s j) (came_by j (Calls i call) answer)
+              ap (list_any (is_named m)) (flat_map-append (λ outcome. received_by j outcome.asked outcome.answer) s.outcomes
+              (record { asked = Calls i call; answer = answer; first = length s.sent; count = length (frames_sent answer) } ∷ []) ∙ ap (λ (ms : List Carried). arrived_at s j ++ ms) (append-nil (received_by j (Calls i call) answer)))
+              ∙ any-append (is_named m) (arrived_at s j) (received_by j (Calls i call) answer)
 
           arrived_after : (j : ℕ) (m : Name) → has_arrived (state_with now answer) j m ≡ is_there (casts_in (after j)) m.sender m.number
-          arrived_after j m = all_arrived j m ∙ at_member (λ j es. (has_arrived s j m || list_any (is_named m) (came_by j (Calls i call) answer)) ≡ is_there (casts_in (facts_of es)) m.sender m.number)
-              (news m) (λ j ne. ap (λ (ms : List Carried). has_arrived s j m || list_any (is_named m) ms) (came_elsewhere j i call answer (λ e. ne (sym e))) ∙ or_none (has_arrived s j m) ∙ inv.arrived j m) j
+          arrived_after j m = all_arrived j m ∙ at_member (λ j es. (has_arrived s j m || list_any (is_named m) (received_by j (Calls i call) answer)) ≡ is_there (casts_in (facts_of es)) m.sender m.number)
+              (news m) (λ j ne. ap (λ (ms : List Carried). has_arrived s j m || list_any (is_named m) ms) (received_elsewhere j i call answer (λ e. ne (sym e))) ∙ or_none (has_arrived s j m) ∙ inv.arrived j m) j

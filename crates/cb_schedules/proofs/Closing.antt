@@ -143,15 +143,15 @@ module _ (group : Parameters) (facts : ℕ → List Fact) (h : AreTogether group
       | inr ne ↦ delivered_there m.sender k c.member low (omega (arith, next, high, ne))
     ]
 
-    told : m.number ≡ delivered (member_of group j) (facts j) m.sender + 1 → (k : ℕ) → expanded_field (casts_in (facts j)) m.sender m.number k ≡ stamp k
+    reported : m.number ≡ delivered (member_of group j) (facts j) m.sender + 1 → (k : ℕ) → expanded_field (casts_in (facts j)) m.sender m.number k ≡ stamp k
     unfolding stamp
-    told next k = same_field m c k (expands m c (all_there next))
+    reported next k = same_field m c k (expands m c (all_there next))
 
     meets : m.number ≡ delivered (member_of group j) (facts j) m.sender + 1 → MeetsRule group.size (casts_in (facts j)) (view group.size (facts j)) (called m)
     meets next = record {
-      next = in_field group.size (expanded_field (casts_in (facts j)) m.sender m.number) m.sender c.sender_member ∙ told next m.sender ∙ own_stamp ∙ next;
+      next = in_field group.size (expanded_field (casts_in (facts j)) m.sender m.number) m.sender c.sender_member ∙ reported next m.sender ∙ own_stamp ∙ next;
       others = λ k ne. elim (cases_lt k group.size) [
-        | inl small ↦ subst (λ (n : ℕ). n ≤ count (view group.size (facts j)) k) (sym (in_field group.size (expanded_field (casts_in (facts j)) m.sender m.number) k small ∙ told next k)) (others_counted k small ne)
+        | inl small ↦ subst (λ (n : ℕ). n ≤ count (view group.size (facts j)) k) (sym (in_field group.size (expanded_field (casts_in (facts j)) m.sender m.number) k small ∙ reported next k)) (others_counted k small ne)
         | inr large ↦ nothing_above (field (expanded_time group.size (casts_in (facts j)) m.sender m.number) k) (count (view group.size (facts j)) k)
             (past_fields group.size (expanded_field (casts_in (facts j)) m.sender m.number) k large)
       ];

@@ -15,7 +15,7 @@ use Rattle.cb_history.specs.Legal.{Call, ToCast, ToTake, ToTick, NoEntries}
 use Rattle.cb_history.proofs.Lists.{flat_map-append}
 use Rattle.cb_history.proofs.Histories.{legal_histories_say_legal_facts}
 use Rattle.cb_schedules.specs.Schedule.{Setting, IsSetting, Step, CastStep, ArriveStep, TickStep, Schedule, SentFrame, Asked, Calls, OfNoMember, OfNoFrame, OfNoBytes, Answer, NoSuchMember, NoSuchFrame, NoBytes, GroupState, seat_at, are_bytes, handed_over, asked_by, and_nothing, after_asked, step_after, nothing_yet, run_from, run}
-use Rattle.cb_schedules.specs.Messages.{facts_at, stamped_lists, arrived_at, has_arrived, came_by}
+use Rattle.cb_schedules.specs.Messages.{facts_at, stamped_lists, arrived_at, has_arrived, received_by}
 use Rattle.cb_schedules.specs.Honest.{IsHonest, events_of}
 use Rattle.cb_schedules.specs.Consistent.{IsConsistent}
 use Rattle.cb_schedules.proofs.Calling.{is_named}
@@ -83,7 +83,7 @@ asked_is setting s honest P calls none no_frame no_bytes (TickStep i) =
 abbrev pub GoesOn : Setting → GroupState → GroupState → Type 0
 GoesOn setting s after = IsConsistent setting after × Extends (StampedStep setting.group.size) (stamped_lists setting s) (stamped_lists setting after)
 
-nothing_goes_on : (setting : Setting) (s : GroupState) (asked : Asked) (answer : Answer) → IsConsistent setting s → ((j : ℕ) → came_by j asked answer ≡ []) → GoesOn setting s (and_nothing s asked answer)
+nothing_goes_on : (setting : Setting) (s : GroupState) (asked : Asked) (answer : Answer) → IsConsistent setting s → ((j : ℕ) → received_by j asked answer ≡ []) → GoesOn setting s (and_nothing s asked answer)
 nothing_goes_on setting s asked answer inv none = (
   record {
     legal = inv.legal;
@@ -98,8 +98,8 @@ nothing_goes_on setting s asked answer inv none = (
   where
     none_more : (j : ℕ) (m : Name) → has_arrived (and_nothing s asked answer) j m ≡ has_arrived s j m
     none_more j m =
-        ap (list_any (is_named m)) (flat_map-append (λ outcome. came_by j outcome.asked outcome.answer) s.outcomes (record { asked = asked; answer = answer; first = length s.sent; count = 0 } ∷ [])
-        ∙ ap (λ (ms : List Carried). arrived_at s j ++ ms) (append-nil (came_by j asked answer) ∙ none j) ∙ append-nil (arrived_at s j))
+        ap (list_any (is_named m)) (flat_map-append (λ outcome. received_by j outcome.asked outcome.answer) s.outcomes (record { asked = asked; answer = answer; first = length s.sent; count = 0 } ∷ [])
+        ∙ ap (λ (ms : List Carried). arrived_at s j ++ ms) (append-nil (received_by j asked answer) ∙ none j) ∙ append-nil (arrived_at s j))
 
 call_goes_on : (setting : Setting) → IsSetting setting → (s : GroupState) → IsConsistent setting s → (i : ℕ) (call : Call) → i < setting.group.size → IsFair setting s call → GoesOn setting s (after_asked setting s (Calls i call))
 call_goes_on setting is s inv i (ToCast payload) lt fair = cast_is_good setting is s inv i lt payload fair

@@ -8,7 +8,7 @@ use Rattle.cb_frames.specs.Text.{AreRanges}
 use Rattle.cb_frames.specs.Fields.{CastFields}
 use Rattle.cb_gaps.specs.Ranges.{IsWithin}
 use Rattle.cb_gaps.proofs.Gaps.{any_cases, none_in}
-use Rattle.cb_history.specs.Group.{Seat}
+use Rattle.cb_history.specs.Group.{Identity}
 use Rattle.cb_history.specs.Facts.{Fact, casts_in, is_there}
 use Rattle.cb_history.specs.View.{count, view}
 use Rattle.cb_history.specs.Known.{known, expanded_count, missing, ranges_of}
@@ -74,7 +74,7 @@ any_is_some (r ∷ ranges) n h = elim (any_cases (IsWithin n) r ranges h) [
 
 -- ---- what is missing
 
-module _ (seat : Seat) (facts : List Fact) (i : ℕ) (are : AreFactsOf seat facts) where
+module _ (seat : Identity) (facts : List Fact) (i : ℕ) (are : AreFactsOf seat facts) where
   abbrev pub asked_ranges : List Range
   asked_ranges = ranges_of (missing seat facts i)
 

@@ -1,4 +1,4 @@
--- What is put out in answer is casts alone, and a cast that arrives puts nothing out: so a round has no third wave.
+-- What is sent in answer is casts alone, and a cast that arrives puts nothing out: so a round has no third wave.
 use Rattle.std.proofs.Common.{◌≡◌, ℕ, suc, ◌+◌, not, ◌&&◌, eqb, ltb, List, [], ◌∷◌, ◌++◌, length, drop, map, take, Option, Some, None, Result, Ok, Err, refl, sym, ap, subst, ◌∙◌, append_assoc, arith}
 use Rattle.std.specs.Prelude.{slice_get}
 use Rattle.std.specs.List.{AllByRecursion, filter}
@@ -16,7 +16,7 @@ use Rattle.cb_history.specs.Known.{stable}
 use Rattle.cb_history.specs.Answers.{own_casts, window, is_full, group_of, are_members, is_impossible, is_repeat, is_too_far, is_change, is_asked_for, sent_in_answer, ArrivalSays, frame_answer, answer_to, arrive_answer}
 use Rattle.cb_history.specs.Legal.{ToTake}
 use Rattle.cb_history.proofs.Views.{filter_in}
-use Rattle.cb_schedules.specs.Schedule.{Setting, IsSetting, seat_at, Step, CastStep, ArriveStep, TickStep, Schedule, SentFrame, Asked, OfNoMember, ArrivalAnswer, put_out, sent_by, answer_of, GroupState, handed_over, after_asked, step_after, run_from}
+use Rattle.cb_schedules.specs.Schedule.{Setting, IsSetting, seat_at, Step, CastStep, ArriveStep, TickStep, Schedule, SentFrame, Asked, OfNoMember, ArrivalAnswer, frames_sent, sent_by, answer_of, GroupState, handed_over, after_asked, step_after, run_from}
 use Rattle.cb_schedules.specs.Messages.{facts_at}
 use Rattle.cb_schedules.specs.Consistent.{IsConsistent}
 use Rattle.cb_schedules.specs.Rounds.{tick_steps, receivers, arrivals_from, arrivals_since, ticked, answered, round_steps}
@@ -34,10 +34,10 @@ abbrev AreCasts : List SentFrame → Type 0
 AreCasts frames = AllByRecursion (λ frame. IsCast frame.bytes) frames
 
 abbrev PutsOutCasts : Result ArrivalSays ArriveRefusal → Type 0
-PutsOutCasts r = AllByRecursion (λ out. IsCast out.bytes) (put_out (ArrivalAnswer r))
+PutsOutCasts r = AllByRecursion (λ out. IsCast out.bytes) (frames_sent (ArrivalAnswer r))
 
 abbrev PutsOutNothing : Result ArrivalSays ArriveRefusal → Type 0
-PutsOutNothing r = put_out (ArrivalAnswer r) ≡ []
+PutsOutNothing r = frames_sent (ArrivalAnswer r) ≡ []
 
 sent_are_casts : (i : ℕ) (outs : List Outgoing) → AllByRecursion (λ out. IsCast out.bytes) outs → AreCasts (map (sent_by i) outs)
 sent_are_casts i [] all = tt
@@ -45,11 +45,11 @@ sent_are_casts i (out ∷ outs) all = (all.0, sent_are_casts i outs all.1)
 
 -- ---- one arrival
 
--- a frame that is answered by its rules puts out what is sent in answer, or nothing
+-- a frame that is answered by its rules sends what is sent in answer, or nothing
 answer_puts_out : (P : List Outgoing → Type 0) (setting : Setting) (s : GroupState) (i : ℕ) (frame : FrameFields) → P [] → P (sent_in_answer (seat_at setting i) (facts_at s i) frame)
-    → P (put_out (ArrivalAnswer (frame_answer (seat_at setting i) setting.limit (s.histories i) (facts_at s i) frame)))
+    → P (frames_sent (ArrivalAnswer (frame_answer (seat_at setting i) setting.limit (s.histories i) (facts_at s i) frame)))
 answer_puts_out P setting s i frame none sent =
-    let Right : Result ArrivalSays ArriveRefusal → Type 0 = λ r. P (put_out (ArrivalAnswer r)) in
+    let Right : Result ArrivalSays ArriveRefusal → Type 0 = λ r. P (frames_sent (ArrivalAnswer r)) in
     cond_both (not (eqb (group_of frame) setting.group.number)) _ _ Right (λ _. none)
     (λ _. cond_both (not (are_members setting.group.size frame)) _ _ Right (λ _. none)
     (λ _. cond_both (is_impossible (seat_at setting i) (facts_at s i) frame) _ _ Right (λ _. none)
@@ -82,7 +82,7 @@ cast_puts_out_nothing setting s i bytes is =
     subst (λ (r : Result FrameFields FrameFault). PutsOutNothing (answer_to (seat_at setting i) setting.limit (s.histories i) r)) (sym is.1)
     (answer_puts_out (λ outs. outs ≡ []) setting s i (CastFrame is.0) refl refl)
 
--- ---- the first wave puts out casts
+-- ---- the first wave sends casts
 
 -- what a step sends more
 abbrev SendsCasts : GroupState → GroupState → Type 0
@@ -104,9 +104,9 @@ arrival_sends_casts setting s inv (ArriveStep j number) is =
     handed : (found : Option SentFrame) → SendsCasts s (after_asked setting s (handed_over j found))
     handed None = ([], sym (append-nil s.sent), tt)
     handed (Some frame) = (
-      map (sent_by j) (put_out (answer_of (seat_at setting j) setting.limit (s.histories j) (ToTake frame.bytes))),
+      map (sent_by j) (frames_sent (answer_of (seat_at setting j) setting.limit (s.histories j) (ToTake frame.bytes))),
       refl,
-      sent_are_casts j (put_out (answer_of (seat_at setting j) setting.limit (s.histories j) (ToTake frame.bytes))) (arrival_puts_out_casts setting s inv j frame.bytes),
+      sent_are_casts j (frames_sent (answer_of (seat_at setting j) setting.limit (s.histories j) (ToTake frame.bytes))) (arrival_puts_out_casts setting s inv j frame.bytes),
     )
 
 arrivals_send_casts : (setting : Setting) → IsSetting setting → (s : GroupState) → IsConsistent setting s → (steps : Schedule) → AllByRecursion IsArrival steps → SendsCasts s (run_from setting s steps)
@@ -120,7 +120,7 @@ arrivals_send_casts setting is s inv (step ∷ steps) all =
       all_both (λ (frame : SentFrame). IsCast frame.bytes) new more casts more_casts,
     )
 
--- ---- the second puts out nothing
+-- ---- the second sends nothing
 
 -- the arrival of a cast among these frames
 abbrev BringsCast : List SentFrame → Step → Type 0

@@ -8,7 +8,7 @@ use Rattle.cb_frames.specs.Fields.{CastFields, StatusFields, FrameFields, CastFr
 use Rattle.cb_diffs.specs.Expansion.{expanded_field}
 use Rattle.cb_causality.specs.Lists.{Appends}
 use Rattle.cb_history.specs.Group.{Parameters}
-use Rattle.cb_history.specs.Facts.{Fact, OwnCast, CastCame, StatusCame, OwnStatus, casts_in, cast_in, messages_in}
+use Rattle.cb_history.specs.Facts.{Fact, OwnCast, CastReceived, StatusReceived, OwnStatus, casts_in, cast_in, messages_in}
 use Rattle.cb_history.specs.View.{view, drain, is_expanded, expanded_in, is_ready, next_delivery}
 use Rattle.cb_history.specs.Known.{expanded_count}
 use Rattle.cb_history.specs.Answers.{delivered, own_casts}
@@ -16,7 +16,7 @@ use Rattle.cb_history.specs.LegalFacts.{AreFactsOf}
 use Rattle.cb_history.specs.BufferLaws.{IsCastOf}
 use Rattle.cb_history.proofs.Views.{IsIn, filter_in, casts_in-append, nothing_ready_is_left, ready_is_new, in_filter}
 use Rattle.cb_history.proofs.Lists.{in_front, in_back, in_push, messages_in-push}
-use Rattle.cb_history.proofs.Walks.{view_came, view_status, view_told, own_casts-own, own_casts-other}
+use Rattle.cb_history.proofs.Walks.{view_received, view_status, view_reported, own_casts-own, own_casts-other}
 use Rattle.cb_history.proofs.Names.{all_stand, message, one_of_is_in, in_is_one_of}
 use Rattle.cb_history.proofs.Times.{count_grows}
 use Rattle.cb_history.proofs.Prefixes.{last_fact_is_a_step}
@@ -24,16 +24,16 @@ use Rattle.cb_history.proofs.Delivering.{nothing_is_next}
 use Rattle.cb_history.proofs.Happening.{own_cast_makes_ready}
 use Rattle.cb_history.proofs.Runs.{expanded_up_to_the_count, others_expand_nothing}
 use Rattle.cb_history.proofs.Buffers.{cast_of_is_in, in_is_cast_of}
-use Rattle.cb_schedules.specs.Honest.{member_of, IsTold, SaysWhatIsSo, IsSo, IsHonest, AreTogether}
-use Rattle.cb_schedules.proofs.Members.{cast_of_message, told_at_most}
+use Rattle.cb_schedules.specs.Honest.{member_of, IsReported, SaysWhatIsSo, IsSo, IsHonest, AreTogether}
+use Rattle.cb_schedules.proofs.Members.{cast_of_message, reported_at_most}
 use Rattle.cb_schedules.proofs.Lists.{all_weaken, all_one_more}
 
 -- ---- one fact more
 
 own_more : (facts : List Fact) (f : Fact) (c : CastFields) → IsIn c (own_casts facts) → IsIn c (own_casts (facts ++ f ∷ []))
 own_more facts (OwnCast d) c there = subst (IsIn c) (sym (own_casts-own facts d)) (in_front c (own_casts facts) (d ∷ []) there)
-own_more facts (CastCame d) c there = subst (IsIn c) (sym (own_casts-other facts (CastCame d) tt)) there
-own_more facts (StatusCame s) c there = subst (IsIn c) (sym (own_casts-other facts (StatusCame s) tt)) there
+own_more facts (CastReceived d) c there = subst (IsIn c) (sym (own_casts-other facts (CastReceived d) tt)) there
+own_more facts (StatusReceived s) c there = subst (IsIn c) (sym (own_casts-other facts (StatusReceived s) tt)) there
 own_more facts (OwnStatus s) c there = subst (IsIn c) (sym (own_casts-other facts (OwnStatus s) tt)) there
 
 module _ (group : Parameters) (facts after : ℕ → List Fact) (j : ℕ) (f : Fact) (app : Appends facts after j f) where
@@ -53,16 +53,16 @@ module _ (group : Parameters) (facts after : ℕ → List Fact) (j : ℕ) (f : F
   pub cast_stays : (i : ℕ) (c : CastFields) → IsCastOf c (own_casts (facts i)) → IsCastOf c (own_casts (after i))
   cast_stays i c there = in_is_cast_of c (own_casts (after i)) (own_stays i c (cast_of_is_in c (own_casts (facts i)) there))
 
-  pub told_stays : (s : StatusFields) → IsTold group facts s → IsTold group after s
-  told_stays s told = record {
-    member = told.member;
+  pub reported_stays : (s : StatusFields) → IsReported group facts s → IsReported group after s
+  reported_stays s reported = record {
+    member = reported.member;
     reached = all_weaken (λ (d : Change). d.amount ≤ delivered (member_of group s.sender) (facts s.sender) d.field) (λ (d : Change). d.amount ≤ delivered (member_of group s.sender) (after s.sender) d.field) s.values
-        (λ d le. let more = delivered_stays s.sender d.field in omega (arith, le, more)) told.reached;
+        (λ d le. let more = delivered_stays s.sender d.field in omega (arith, le, more)) reported.reached;
   }
 
   pub says_stays : (frame : FrameFields) → SaysWhatIsSo group facts frame → SaysWhatIsSo group after frame
   says_stays (CastFrame c) so = cast_stays c.sender c so
-  says_stays (StatusFrame s) so = told_stays s so
+  says_stays (StatusFrame s) so = reported_stays s so
   says_stays (RequestFrame r) so = so
 
   pub honest_stays : (bytes : List ℕ) → IsHonest group facts bytes → IsHonest group after bytes
@@ -76,8 +76,8 @@ module _ (group : Parameters) (facts after : ℕ → List Fact) (j : ℕ) (f : F
 
   pub so_stays : (g : Fact) → IsSo group facts g → IsSo group after g
   so_stays (OwnCast c) so = cast_stays c.sender c so
-  so_stays (CastCame c) so = cast_stays c.sender c so
-  so_stays (StatusCame s) so = told_stays s so
+  so_stays (CastReceived c) so = cast_stays c.sender c so
+  so_stays (StatusReceived s) so = reported_stays s so
   so_stays (OwnStatus s) so = so
 
   -- an own cast is one of its sender's
@@ -150,23 +150,23 @@ module _ (group : Parameters) (facts : ℕ → List Fact) (h : AreTogether group
             let in_old = in_filter (is_expanded (casts_in (facts j))) (messages_in (casts_in (facts j))) m expanded old in
             let one = in_is_one_of m (expanded_in (casts_in (facts j))) in_old in
             let not_ready = (nothing_is_next group.size (casts_in (facts j)) (view group.size (facts j))).0 (h.settled j) m one in
-            let told = own_cast_makes_ready (member_of group j) (facts j) c m are one not_ready ready in
+            let reported = own_cast_makes_ready (member_of group j) (facts j) c m are one not_ready ready in
             let (d, d_there, is) = cast_of_message (casts_in (facts j)) m old in
             let most : expanded_field (casts_in (facts j)) m.sender m.number j ≤ delivered (member_of group j) (facts j) j =
             subst (λ (x : Carried). expanded_field (casts_in (facts j)) x.sender x.number j ≤ delivered (member_of group j) (facts j) j) (sym is)
-            (told_at_most group facts h j d d_there (subst (λ (x : Carried). is_expanded (casts_in (facts j)) x ≡ true) is expanded)) in
+            (reported_at_most group facts h j d d_there (subst (λ (x : Carried). is_expanded (casts_in (facts j)) x ≡ true) is expanded)) in
             let number = is_next.1 in
-            omega (arith, told.0, most, number)
+            omega (arith, reported.0, most, number)
       ]
 
   pub settled_by_own : IsSettled group.size now
   settled_by_own = (nothing_is_next group.size (casts_in now) (view group.size now)).1
       (λ m one. false_from_ne_true (is_ready group.size (casts_in now) (view group.size now) m) (never_ready m (one_of_is_in m (expanded_in (casts_in now)) one)))
 
-pub settled_by_cast : (size : ℕ) (facts : List Fact) (c : CastFields) → IsSettled size (facts ++ CastCame c ∷ [])
+pub settled_by_cast : (size : ℕ) (facts : List Fact) (c : CastFields) → IsSettled size (facts ++ CastReceived c ∷ [])
 settled_by_cast size facts c =
-    subst (λ (ms : List Carried). next_delivery size (casts_in (facts ++ CastCame c ∷ [])) ms ≡ None) (sym (view_came size facts c))
-    (subst (λ (cs : List CastFields). next_delivery size cs (drain size (casts_in facts ++ c ∷ []) (view size facts)) ≡ None) (sym (casts_in-append facts (CastCame c)))
+    subst (λ (ms : List Carried). next_delivery size (casts_in (facts ++ CastReceived c ∷ [])) ms ≡ None) (sym (view_received size facts c))
+    (subst (λ (cs : List CastFields). next_delivery size cs (drain size (casts_in facts ++ c ∷ []) (view size facts)) ≡ None) (sym (casts_in-append facts (CastReceived c)))
     (nothing_ready_is_left size (casts_in facts ++ c ∷ []) (view size facts)))
 
 settled_by_other : (size : ℕ) (facts : List Fact) (f : Fact) → cast_in f ≡ [] → view size (facts ++ f ∷ []) ≡ view size facts → IsSettled size facts → IsSettled size (facts ++ f ∷ [])
@@ -176,6 +176,6 @@ settled_by_other size facts f none same settled =
 
 pub settled_by : (group : Parameters) (facts : ℕ → List Fact) (j : ℕ) (f : Fact) → AreTogether group facts → AreFactsOf (member_of group j) (facts j ++ f ∷ []) → IsSettled group.size (facts j ++ f ∷ [])
 settled_by group facts j (OwnCast c) h are = settled_by_own group facts h j c are
-settled_by group facts j (CastCame c) h are = settled_by_cast group.size (facts j) c
-settled_by group facts j (StatusCame s) h are = settled_by_other group.size (facts j) (StatusCame s) refl (view_status group.size (facts j) s) (h.settled j)
-settled_by group facts j (OwnStatus s) h are = settled_by_other group.size (facts j) (OwnStatus s) refl (view_told group.size (facts j) s) (h.settled j)
+settled_by group facts j (CastReceived c) h are = settled_by_cast group.size (facts j) c
+settled_by group facts j (StatusReceived s) h are = settled_by_other group.size (facts j) (StatusReceived s) refl (view_status group.size (facts j) s) (h.settled j)
+settled_by group facts j (OwnStatus s) h are = settled_by_other group.size (facts j) (OwnStatus s) refl (view_reported group.size (facts j) s) (h.settled j)

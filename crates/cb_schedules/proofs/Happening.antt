@@ -1,4 +1,4 @@
--- Each step of a schedule happens at some moment of its run, and what it puts out is among the frames that were sent.
+-- Each step of a schedule happens at some moment of its run, and what it sends is among the frames that were sent.
 use Rattle.std.proofs.Common.{◌≡◌, ◌↔◌, ℕ, zero, suc, ◌+◌, ◌<◌, not, eqb, List, [], ◌∷◌, ◌++◌, length, drop, map, Some, None, refl, sym, ap, subst, ◌∙◌, append_assoc, arith, inl, inr}
 use Rattle.std.specs.Prelude.{slice_get}
 use Rattle.std.specs.List.{AllByRecursion, range_with_len}
@@ -10,7 +10,7 @@ use Rattle.cb_history.specs.Legal.{Call, ToTake, ToTick}
 use Rattle.cb_history.proofs.Views.{IsIn, in_filter}
 use Rattle.cb_history.proofs.Lists.{in_front, in_back}
 use Rattle.cb_history.proofs.Keeping.{in_range}
-use Rattle.cb_schedules.specs.Schedule.{Setting, IsSetting, seat_at, Step, ArriveStep, TickStep, Schedule, SentFrame, Asked, Calls, OfNoMember, OfNoFrame, OfNoBytes, Answer, NoSuchMember, NoSuchFrame, NoBytes, put_out, sent_by, answer_of, Outcome, GroupState, asked_by, after_asked, step_after, run_from}
+use Rattle.cb_schedules.specs.Schedule.{Setting, IsSetting, seat_at, Step, ArriveStep, TickStep, Schedule, SentFrame, Asked, Calls, OfNoMember, OfNoFrame, OfNoBytes, Answer, NoSuchMember, NoSuchFrame, NoBytes, frames_sent, sent_by, answer_of, Outcome, GroupState, asked_by, after_asked, step_after, run_from}
 use Rattle.cb_schedules.specs.Consistent.{IsConsistent}
 use Rattle.cb_schedules.specs.Rounds.{receivers, arrivals_from, IsNotFull, FindNoneFull}
 use Rattle.cb_schedules.specs.RoundLaws.{IsNoCastStep}
@@ -102,28 +102,28 @@ happens setting is s inv (first ∷ steps) none not_full step (inr later) =
       not_full = rest.not_full;
     }
 
--- ---- frames that were put out
+-- ---- frames that were sent
 
 -- a frame that was sent since s
 abbrev pub IsSentSince : GroupState → GroupState → SentFrame → Type 0
 IsSentSince s t frame = IsIn frame (drop (length s.sent) t.sent)
 
-put_out_between : (a outs b : List SentFrame) (sent : List SentFrame) (frame : SentFrame) → IsIn frame outs → IsIn frame (drop (length sent) (((sent ++ a) ++ outs) ++ b))
-put_out_between a outs b sent frame there =
+sent_out_between : (a outs b : List SentFrame) (sent : List SentFrame) (frame : SentFrame) → IsIn frame outs → IsIn frame (drop (length sent) (((sent ++ a) ++ outs) ++ b))
+sent_out_between a outs b sent frame there =
     subst (IsIn frame) (sym (ap (drop (length sent)) (ap (λ (fs : List SentFrame). fs ++ b) (append_assoc sent a outs) ∙ append_assoc sent (a ++ outs) b) ∙ drop-append_seam sent ((a ++ outs) ++ b)))
     (in_front frame (a ++ outs) b (in_back frame a outs there))
 
--- what member i puts out when it is called is sent
-pub put_out_is_sent : (setting : Setting) (s t : GroupState) (step : Step) (i : ℕ) (call : Call) (h : Happens setting s t step) (out : Outgoing) → asked_by setting h.now.sent step ≡ Calls i call
-    → IsIn out (put_out (answer_of (seat_at setting i) setting.limit (h.now.histories i) call)) → IsSentSince s t (sent_by i out)
+-- what member i sends when it is called is sent
+pub sent_out_is_sent : (setting : Setting) (s t : GroupState) (step : Step) (i : ℕ) (call : Call) (h : Happens setting s t step) (out : Outgoing) → asked_by setting h.now.sent step ≡ Calls i call
+    → IsIn out (frames_sent (answer_of (seat_at setting i) setting.limit (h.now.histories i) call)) → IsSentSince s t (sent_by i out)
 unfolding step_after
-put_out_is_sent setting s t step i call h out asks there =
-    let outs = map (sent_by i) (put_out (answer_of (seat_at setting i) setting.limit (h.now.histories i) call)) in
+sent_out_is_sent setting s t step i call h out asks there =
+    let outs = map (sent_by i) (frames_sent (answer_of (seat_at setting i) setting.limit (h.now.histories i) call)) in
     let next : (step_after setting h.now step).sent ≡ h.now.sent ++ outs = ap (λ (asked : Asked). (after_asked setting h.now asked).sent) asks in
     let all : t.sent ≡ ((s.sent ++ h.before.new) ++ outs) ++ h.after.new =
     h.after.sent ∙ ap (λ (fs : List SentFrame). fs ++ h.after.new) (next ∙ ap (λ (fs : List SentFrame). fs ++ outs) h.before.sent) in
     subst (λ (fs : List SentFrame). IsIn (sent_by i out) (drop (length s.sent) fs)) (sym all)
-    (put_out_between h.before.new outs h.after.new s.sent (sent_by i out) (in_map (sent_by i) (put_out (answer_of (seat_at setting i) setting.limit (h.now.histories i) call)) out there))
+    (sent_out_between h.before.new outs h.after.new s.sent (sent_by i out) (in_map (sent_by i) (frames_sent (answer_of (seat_at setting i) setting.limit (h.now.histories i) call)) out there))
 
 -- ---- and arrive
 

@@ -30,7 +30,7 @@ use Rattle.cb_schedules.specs.Consistent.{IsConsistent}
 use Rattle.cb_schedules.specs.SentLaws.{WasSent, SentCastsAreOwn, OneNameSameBytes, SentStatusesAreSo, NobodyAsksItself, CastsThereAreOwn, EventsHaveTimesFromBytes, HeardOfIsCast, DeliveredIsCast, TimesTellOwnCasts, AcknowledgedIsDeliveredThere, StableIsDeliveredEverywhere, StableStandsInEvents, SendersStayNear, IsNoRefusal, IsRefusedByFullHistoryAlone, ArrivalsAreWelcome}
 use Rattle.cb_schedules.specs.Headline.{IsCausalBroadcast, DeliversClosedArrivals, TimesTellHappenedBefore, Headline, EachSchedule, StepsExtendTheStamped, StepsExtendTheCausal}
 use Rattle.cb_schedules.proofs.Stamping.{events_count}
-use Rattle.cb_schedules.proofs.Members.{cast_of_message, told_at_most, is_own, own_is_there, delivered_at_most, inside, stands_at}
+use Rattle.cb_schedules.proofs.Members.{cast_of_message, reported_at_most, is_own, own_is_there, delivered_at_most, inside, stands_at}
 use Rattle.cb_schedules.proofs.Sending.{honest_text}
 use Rattle.cb_schedules.proofs.Courses.{IsFair, asked_is, step_goes_on, runs_are_consistent, starts}
 use Rattle.cb_schedules.proofs.Moments.{called, has_seen, seen_has, own_cast_of, has_clock, has_there}
@@ -183,7 +183,7 @@ module _ (setting : Setting) (s : GroupState) (inv : IsConsistent setting s) whe
       let parts = filter_in (is_expanded (casts_in (facts_at s j))) (messages_in (casts_in (facts_at s j))) m (one_of_is_in m (expanded_in (casts_in (facts_at s j))) one) in
       let (c, there, is) = cast_of_message (casts_in (facts_at s j)) m parts.1 in
       subst (λ (x : Carried). expanded_field (casts_in (facts_at s j)) x.sender x.number j ≤ delivered (seat_at setting j) (facts_at s j) j) (sym is)
-      (told_at_most setting.group (facts_at s) inv.together j c there (subst (λ (x : Carried). is_expanded (casts_in (facts_at s j)) x ≡ true) is parts.0))
+      (reported_at_most setting.group (facts_at s) inv.together j c there (subst (λ (x : Carried). is_expanded (casts_in (facts_at s j)) x ≡ true) is parts.0))
 
 -- ---- along runs
 

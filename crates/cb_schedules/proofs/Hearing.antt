@@ -1,4 +1,4 @@
--- One call of one member in a round: what a tick puts out, and what comes of an arrival that is not refused.
+-- One call of one member in a round: what a tick sends, and the outcome of an arrival that is not refused.
 use Rattle.std.proofs.Common.{◌≡◌, ◌≢◌, ℕ, ◌<◌, ◌≤◌, Bool, true, false, not, ◌&&◌, eqb, ltb, List, [], ◌∷◌, ◌++◌, max, None, Result, Ok, Err, refl, sym, ap, subst, ◌∙◌, arith, inl, inr}
 use Rattle.std.specs.Prelude.{IsOk}
 use Rattle.std.specs.List.{list_any, range_with_len}
@@ -10,8 +10,8 @@ use Rattle.cb_frames.specs.Reading.{frame_at}
 use Rattle.cb_history.specs.declared.answer.ArriveRefusal.{ArriveRefusal}
 use Rattle.cb_history.specs.declared.answer.TickRefusal.{TickRefusal}
 use Rattle.cb_history.specs.declared.answer.Outgoing.{Outgoing}
-use Rattle.cb_history.specs.Group.{Seat}
-use Rattle.cb_history.specs.Facts.{EntryFields, Fact, StatusCame, facts_of, casts_in}
+use Rattle.cb_history.specs.Group.{Identity}
+use Rattle.cb_history.specs.Facts.{EntryFields, Fact, StatusReceived, facts_of, casts_in}
 use Rattle.cb_history.specs.Known.{value_in, known, acknowledged}
 use Rattle.cb_history.specs.Answers.{is_full, are_members, is_impossible, is_news, sent_in_answer, ArrivalSays, answer_to, arrive_answer, status_of, is_new_status, requests, tick_answer}
 use Rattle.cb_history.specs.Legal.{ToTake, arrive_entry, and_entry, history_after}
@@ -24,25 +24,25 @@ use Rattle.cb_history.proofs.Rising.{status_is_known, status_is_acknowledged}
 use Rattle.cb_history.proofs.Histories.{said_facts}
 use Rattle.cb_history.proofs.Arrivals.{accepted_is_there}
 use Rattle.cb_history.proofs.Keeping.{in_range}
-use Rattle.cb_schedules.specs.Schedule.{ArrivalAnswer, TickAnswer, put_out}
+use Rattle.cb_schedules.specs.Schedule.{ArrivalAnswer, TickAnswer, frames_sent}
 use Rattle.cb_schedules.specs.SentLaws.{IsNoRefusal}
 use Rattle.cb_schedules.specs.Rounds.{IsNotFull}
 
--- what a tick with room puts out: the status, then the requests
-pub tick_puts_out : (seat : Seat) (limit : ℕ) (entries : List EntryFields) → IsNotFull (TickAnswer (tick_answer seat limit entries))
-    → put_out (TickAnswer (tick_answer seat limit entries)) ≡ record { to = None; bytes = text_of (StatusFrame (status_of seat (facts_of entries))) } ∷ requests seat (facts_of entries)
+-- what a tick with room sends: the status, then the requests
+pub tick_puts_out : (seat : Identity) (limit : ℕ) (entries : List EntryFields) → IsNotFull (TickAnswer (tick_answer seat limit entries))
+    → frames_sent (TickAnswer (tick_answer seat limit entries)) ≡ record { to = None; bytes = text_of (StatusFrame (status_of seat (facts_of entries))) } ∷ requests seat (facts_of entries)
 unfolding tick_answer
 tick_puts_out seat limit entries =
     cond_both (is_new_status seat (facts_of entries) && is_full limit entries) _ _
-    (λ (r : Result (Bool × List Outgoing) TickRefusal). IsNotFull (TickAnswer r) → put_out (TickAnswer r) ≡ record { to = None; bytes = text_of (StatusFrame (status_of seat (facts_of entries))) } ∷ requests seat (facts_of entries))
+    (λ (r : Result (Bool × List Outgoing) TickRefusal). IsNotFull (TickAnswer r) → frames_sent (TickAnswer r) ≡ record { to = None; bytes = text_of (StatusFrame (status_of seat (facts_of entries))) } ∷ requests seat (facts_of entries))
     (λ _ room. absurd (room refl)) (λ _ _. refl)
 
--- what is put out at the arrival of a request
-pub request_is_answered : (seat : Seat) (limit : ℕ) (entries : List EntryFields) (bytes : List ℕ) (q : RequestFields) → frame_at bytes ≡ Ok (RequestFrame q) → IsNoRefusal (arrive_answer seat limit entries bytes)
-    → put_out (ArrivalAnswer (arrive_answer seat limit entries bytes)) ≡ sent_in_answer seat (facts_of entries) (RequestFrame q)
+-- what is sent at the arrival of a request
+pub request_is_answered : (seat : Identity) (limit : ℕ) (entries : List EntryFields) (bytes : List ℕ) (q : RequestFields) → frame_at bytes ≡ Ok (RequestFrame q) → IsNoRefusal (arrive_answer seat limit entries bytes)
+    → frames_sent (ArrivalAnswer (arrive_answer seat limit entries bytes)) ≡ sent_in_answer seat (facts_of entries) (RequestFrame q)
 unfolding arrive_answer
 request_is_answered seat limit entries bytes q read =
-    let Right : Result ArrivalSays ArriveRefusal → Type 0 = λ r. IsNoRefusal r → put_out (ArrivalAnswer r) ≡ sent_in_answer seat (facts_of entries) (RequestFrame q) in
+    let Right : Result ArrivalSays ArriveRefusal → Type 0 = λ r. IsNoRefusal r → frames_sent (ArrivalAnswer r) ≡ sent_in_answer seat (facts_of entries) (RequestFrame q) in
     subst (λ (r : Result FrameFields FrameFault). Right (answer_to seat limit entries r)) (sym read)
     (cond_both (not (eqb q.group seat.group.number)) _ _ Right (λ _ e. absurd cc)
     (λ _. cond_both (not (are_members seat.group.size (RequestFrame q))) _ _ Right (λ _ e. absurd cc)
@@ -60,11 +60,11 @@ under_true true b e h = h
 under_true false b e h = absurd cc
 
 -- what these facts know of the casts, and of the deliveries of this member's, is at least what the status says
-pub record IsHeard (seat : Seat) (t : StatusFields) (facts : List Fact) : Type 0 where
+pub record IsHeard (seat : Identity) (t : StatusFields) (facts : List Fact) : Type 0 where
   pub known : (k : ℕ) → k < seat.group.size → k ≢ seat.me → value_in t.values k ≤ known facts k
   pub acknowledged : value_in t.values seat.me ≤ acknowledged seat facts t.sender
 
-no_news_is_heard : (seat : Seat) (t : StatusFields) (facts : List Fact) → t.sender ≢ seat.me → is_news seat facts t ≡ false → IsHeard seat t facts
+no_news_is_heard : (seat : Identity) (t : StatusFields) (facts : List Fact) → t.sender ≢ seat.me → is_news seat facts t ≡ false → IsHeard seat t facts
 no_news_is_heard seat t facts other none =
     let news = under_true (not (eqb t.sender seat.me)) _ (rw (ne_eqb t.sender seat.me other) refl) none in
     let parts = or_false (list_any (λ k. not (eqb k seat.me) && ltb (known facts k) (value_in t.values k)) (range_with_len 0 seat.group.size)) (ltb (acknowledged seat facts t.sender) (value_in t.values seat.me)) news in
@@ -75,16 +75,16 @@ no_news_is_heard seat t facts other none =
       acknowledged = ltb-false (acknowledged seat facts t.sender) (value_in t.values seat.me) parts.1;
     }
 
-taken_is_heard : (seat : Seat) (t : StatusFields) (facts : List Fact) → IsHeard seat t (facts ++ StatusCame t ∷ [])
+taken_is_heard : (seat : Identity) (t : StatusFields) (facts : List Fact) → IsHeard seat t (facts ++ StatusReceived t ∷ [])
 taken_is_heard seat t facts =
     record {
-      known = λ k lt ne. let told = status_is_known facts t k in omega (arith, told);
+      known = λ k lt ne. let reported = status_is_known facts t k in omega (arith, reported);
       acknowledged =
-          let told : acknowledged seat (facts ++ StatusCame t ∷ []) t.sender ≡ max (acknowledged seat facts t.sender) (value_in t.values seat.me) = status_is_acknowledged seat facts t t.sender ∙ rw (eq-eqb t.sender t.sender refl) refl in
-          omega (arith, told);
+          let reported : acknowledged seat (facts ++ StatusReceived t ∷ []) t.sender ≡ max (acknowledged seat facts t.sender) (value_in t.values seat.me) = status_is_acknowledged seat facts t t.sender ∙ rw (eq-eqb t.sender t.sender refl) refl in
+          omega (arith, reported);
     }
 
-pub status_is_heard : (seat : Seat) (limit : ℕ) (entries : List EntryFields) (bytes : List ℕ) (t : StatusFields) → frame_at bytes ≡ Ok (StatusFrame t) → t.sender ≢ seat.me
+pub status_is_heard : (seat : Identity) (limit : ℕ) (entries : List EntryFields) (bytes : List ℕ) (t : StatusFields) → frame_at bytes ≡ Ok (StatusFrame t) → t.sender ≢ seat.me
     → IsNoRefusal (arrive_answer seat limit entries bytes) → IsNotFull (ArrivalAnswer (arrive_answer seat limit entries bytes)) → IsHeard seat t (facts_of (history_after seat limit entries (ToTake bytes)))
 unfolding arrive_answer
 status_is_heard seat limit entries bytes t read other =
@@ -104,7 +104,7 @@ not_refused : (r : Result ArrivalSays ArriveRefusal) → IsNoRefusal r → IsNot
 not_refused (Ok says) welcome room = refl
 not_refused (Err refusal) full room = absurd (room full)
 
-pub cast_is_taken : (seat : Seat) (limit : ℕ) (entries : List EntryFields) (bytes : List ℕ) (c : CastFields) → AreFactsOf seat (facts_of entries) → frame_at bytes ≡ Ok (CastFrame c) → IsOfTheGroup seat.group (CastFrame c)
+pub cast_is_taken : (seat : Identity) (limit : ℕ) (entries : List EntryFields) (bytes : List ℕ) (c : CastFields) → AreFactsOf seat (facts_of entries) → frame_at bytes ≡ Ok (CastFrame c) → IsOfTheGroup seat.group (CastFrame c)
     → IsNoRefusal (arrive_answer seat limit entries bytes) → IsNotFull (ArrivalAnswer (arrive_answer seat limit entries bytes)) → AreThere (casts_in (facts_of (history_after seat limit entries (ToTake bytes)))) c
 cast_is_taken seat limit entries bytes c are read of welcome room =
     (accepted_is_there seat limit entries bytes c are read of).0 (not_refused (arrive_answer seat limit entries bytes) welcome room)

@@ -5,10 +5,10 @@ use Rattle.std.proofs.lemmas.Bool.{cond_both, cases_eq, eqb-true, ltb-true, eq-e
 use Rattle.cb_frames.specs.declared.frame.Change.{Change}
 use Rattle.cb_frames.specs.Fields.{CastFields, FrameFields, CastFrame, StatusFrame, RequestFrame, Carried}
 use Rattle.cb_diffs.specs.Expansion.{expanded_field}
-use Rattle.cb_history.specs.Group.{Parameters, Seat}
-use Rattle.cb_history.specs.Facts.{EntryFields, Fact, OwnCast, CastCame, StatusCame, OwnStatus, casts_in, messages_in}
+use Rattle.cb_history.specs.Group.{Parameters, Identity}
+use Rattle.cb_history.specs.Facts.{EntryFields, Fact, OwnCast, CastReceived, StatusReceived, OwnStatus, casts_in, messages_in}
 use Rattle.cb_history.specs.View.{view, is_expanded, expanded_in}
-use Rattle.cb_history.specs.Known.{greatest_of, value_in, told_of, counted_in_times, known, told_by, counted_by, acknowledged, least_of, stable}
+use Rattle.cb_history.specs.Known.{greatest_of, value_in, reported_of, counted_in_times, known, reported_by, counted_by, acknowledged, least_of, stable}
 use Rattle.cb_history.specs.Answers.{delivered, own_casts, is_full, group_of, are_members, is_impossible, is_repeat, is_too_far, is_change, frame_answer}
 use Rattle.cb_history.specs.OwnFrameLaws.{IsOfTheGroup}
 use Rattle.cb_history.proofs.Views.{IsIn, filter_in, in_filter}
@@ -53,14 +53,14 @@ module _ (group : Parameters) (facts : ℕ → List Fact) (h : AreTogether group
   has_delivered k i = delivered (member_of group k) (facts k) i
 
   -- from statuses
-  told_below : (i k : ℕ) (fs : List Fact) → AllByRecursion (IsSo group facts) fs → greatest_of (flat_map (told_by k i) fs) ≤ has_delivered k i
-  told_below i k [] all = omega arith
-  told_below i k (OwnCast c ∷ fs) all = told_below i k fs all.1
-  told_below i k (CastCame c ∷ fs) all = told_below i k fs all.1
-  told_below i k (OwnStatus s ∷ fs) all = told_below i k fs all.1
-  told_below i k (StatusCame s ∷ fs) all =
-      let others = told_below i k fs all.1 in
-      cond_both (eqb s.sender k) (value_in s.values i ∷ []) [] (λ (ns : List ℕ). greatest_of (ns ++ flat_map (told_by k i) fs) ≤ has_delivered k i)
+  reported_below : (i k : ℕ) (fs : List Fact) → AllByRecursion (IsSo group facts) fs → greatest_of (flat_map (reported_by k i) fs) ≤ has_delivered k i
+  reported_below i k [] all = omega arith
+  reported_below i k (OwnCast c ∷ fs) all = reported_below i k fs all.1
+  reported_below i k (CastReceived c ∷ fs) all = reported_below i k fs all.1
+  reported_below i k (OwnStatus s ∷ fs) all = reported_below i k fs all.1
+  reported_below i k (StatusReceived s ∷ fs) all =
+      let others = reported_below i k fs all.1 in
+      cond_both (eqb s.sender k) (value_in s.values i ∷ []) [] (λ (ns : List ℕ). greatest_of (ns ++ flat_map (reported_by k i) fs) ≤ has_delivered k i)
       (λ same.
       let value = value_below (has_delivered s.sender) s.values i all.0.reached in
       let here : value_in s.values i ≤ has_delivered k i = subst (λ (j : ℕ). value_in s.values i ≤ has_delivered j i) (eqb-true s.sender k same) value in
@@ -86,8 +86,8 @@ module _ (group : Parameters) (facts : ℕ → List Fact) (h : AreTogether group
   -- so what is acknowledged is delivered
   pub acknowledged_is_so : (i k : ℕ) → i < group.size → acknowledged (member_of group i) (facts i) k ≤ has_delivered k i
   acknowledged_is_so i k lt =
-      let parts = greatest_append (flat_map (told_by k i) (facts i)) (counted_by (casts_in (facts i)) (view group.size (facts i)) k i) in
-      omega (arith, parts, told_below i k (facts i) (h.so i), counted_below i k lt)
+      let parts = greatest_append (flat_map (reported_by k i) (facts i)) (counted_by (casts_in (facts i)) (view group.size (facts i)) k i) in
+      omega (arith, parts, reported_below i k (facts i) (h.so i), counted_below i k lt)
 
   -- and what is stable, every other member has delivered
   pub stable_is_so : (i j : ℕ) → i < group.size → j < group.size → j ≢ i → stable (member_of group i) (facts i) ≤ has_delivered j i
@@ -112,19 +112,19 @@ module _ (group : Parameters) (facts : ℕ → List Fact) (h : AreTogether group
       let there = own_is_there (facts c.sender) c own in
       own_is_delivered (member_of group c.sender) (facts c.sender) c.number (h.legal c.sender (inside group facts h c.sender c there)) (cast_is_there (casts_in (facts c.sender)) c c.sender c.number there refl refl)
 
-  -- from what came
-  heard_below : (i : ℕ) (fs : List Fact) → i < group.size → AllByRecursion (IsSo group facts) fs → greatest_of (flat_map (told_of i) fs) ≤ has_delivered i i
+  -- from what was received
+  heard_below : (i : ℕ) (fs : List Fact) → i < group.size → AllByRecursion (IsSo group facts) fs → greatest_of (flat_map (reported_of i) fs) ≤ has_delivered i i
   heard_below i [] lt all = omega arith
   heard_below i (OwnCast c ∷ fs) lt all = heard_below i fs lt all.1
   heard_below i (OwnStatus s ∷ fs) lt all = heard_below i fs lt all.1
-  heard_below i (StatusCame s ∷ fs) lt all =
+  heard_below i (StatusReceived s ∷ fs) lt all =
       let others = heard_below i fs lt all.1 in
       let value = value_below (has_delivered s.sender) s.values i all.0.reached in
       let most = delivered_at_most group facts h s.sender i all.0.member lt in
       omega (arith, value, most, others)
-  heard_below i (CastCame c ∷ fs) lt all =
+  heard_below i (CastReceived c ∷ fs) lt all =
       let others = heard_below i fs lt all.1 in
-      cond_both (eqb c.sender i) (c.number ∷ []) [] (λ (ns : List ℕ). greatest_of (ns ++ flat_map (told_of i) fs) ≤ has_delivered i i)
+      cond_both (eqb c.sender i) (c.number ∷ []) [] (λ (ns : List ℕ). greatest_of (ns ++ flat_map (reported_of i) fs) ≤ has_delivered i i)
       (λ same.
       let number = own_number c (cast_of_is_in c (own_casts (facts c.sender)) all.0) in
       let here : c.number ≤ has_delivered i i = subst (λ (k : ℕ). c.number ≤ has_delivered k k) (eqb-true c.sender i same) number in
@@ -150,13 +150,13 @@ module _ (group : Parameters) (facts : ℕ → List Fact) (h : AreTogether group
   -- so it has cast what others have heard of
   pub heard_is_so : (j i : ℕ) → j < group.size → i < group.size → known (facts j) i ≤ has_delivered i i
   heard_is_so j i lt lt_i =
-      let parts = greatest_append (flat_map (told_of i) (facts j)) (counted_in_times (casts_in (facts j)) i) in
+      let parts = greatest_append (flat_map (reported_of i) (facts j)) (counted_in_times (casts_in (facts j)) i) in
       omega (arith, parts, heard_below i (facts j) lt_i (h.so j), times_below j i lt lt_i)
 
   -- ---- arrivals
 
   module _ (j : ℕ) (lt : j < group.size) where
-    abbrev me : Seat
+    abbrev me : Identity
     me = member_of group j
 
     any_false : (f : ℕ → ℕ) (values : List Change) → AllByRecursion (λ d. d.amount ≤ f d.field) values → list_any (λ d. ltb (f d.field) d.amount) values ≡ true → ⊥

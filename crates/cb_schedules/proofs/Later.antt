@@ -10,8 +10,8 @@ use Rattle.cb_frames.specs.Reading.{frame_at}
 use Rattle.cb_history.specs.declared.answer.ArriveRefusal.{ArriveRefusal}
 use Rattle.cb_history.specs.declared.answer.TickRefusal.{TickRefusal}
 use Rattle.cb_history.specs.declared.answer.Outgoing.{Outgoing}
-use Rattle.cb_history.specs.Group.{Seat}
-use Rattle.cb_history.specs.Facts.{EntryFields, ArriveEntry, TickEntry, Fact, OwnCast, CastCame, StatusCame, OwnStatus, arrival_said, status_said, said_by, facts_of, casts_in, cast_in, is_there}
+use Rattle.cb_history.specs.Group.{Identity}
+use Rattle.cb_history.specs.Facts.{EntryFields, ArriveEntry, TickEntry, Fact, OwnCast, CastReceived, StatusReceived, OwnStatus, arrival_said, status_said, said_by, facts_of, casts_in, cast_in, is_there}
 use Rattle.cb_history.specs.Known.{known, expanded_count, acknowledged}
 use Rattle.cb_history.specs.Answers.{delivered, own_casts, ArrivalSays, Accepted, Repeat, arrive_answer, tick_answer}
 use Rattle.cb_history.specs.Legal.{Call, ToCast, ToTake, ToTick, arrive_entry, tick_entry, and_entry, history_after}
@@ -20,7 +20,7 @@ use Rattle.cb_history.proofs.Rising.{known_rises, nothing_falls}
 use Rattle.cb_history.proofs.Times.{count_grows}
 use Rattle.cb_history.proofs.Runs.{count_rises}
 use Rattle.cb_history.proofs.Arrivals.{there_stays}
-use Rattle.cb_schedules.specs.Schedule.{Setting, seat_at, Step, CastStep, ArriveStep, TickStep, Schedule, SentFrame, Asked, Calls, OfNoMember, OfNoFrame, OfNoBytes, Answer, NoSuchMember, NoSuchFrame, NoBytes, put_out, sent_by, answer_of, GroupState, handed_over, asked_by, and_nothing, and_answer, after_asked, step_after, run_from}
+use Rattle.cb_schedules.specs.Schedule.{Setting, seat_at, Step, CastStep, ArriveStep, TickStep, Schedule, SentFrame, Asked, Calls, OfNoMember, OfNoFrame, OfNoBytes, Answer, NoSuchMember, NoSuchFrame, NoBytes, frames_sent, sent_by, answer_of, GroupState, handed_over, asked_by, and_nothing, and_answer, after_asked, step_after, run_from}
 use Rattle.cb_schedules.specs.Messages.{facts_at}
 use Rattle.cb_schedules.specs.Consistent.{IsConsistent}
 use Rattle.cb_schedules.specs.RoundLaws.{IsNoCastStep}
@@ -29,8 +29,8 @@ use Rattle.cb_schedules.proofs.Members.{stands_at}
 own_casts-append : (facts more : List Fact) → own_casts (facts ++ more) ≡ own_casts facts ++ own_casts more
 own_casts-append [] more = refl
 own_casts-append (OwnCast c ∷ facts) more = ap (λ (cs : List CastFields). c ∷ cs) (own_casts-append facts more)
-own_casts-append (CastCame c ∷ facts) more = own_casts-append facts more
-own_casts-append (StatusCame s ∷ facts) more = own_casts-append facts more
+own_casts-append (CastReceived c ∷ facts) more = own_casts-append facts more
+own_casts-append (StatusReceived s ∷ facts) more = own_casts-append facts more
 own_casts-append (OwnStatus s ∷ facts) more = own_casts-append facts more
 
 -- ---- one state after another
@@ -106,7 +106,7 @@ tick_adds entries status (Ok t) =
     (λ _. one_entry entries (TickEntry status) (status_is_no_cast (frame_at status))) (λ _. same_facts (facts_of entries) (facts_of entries) refl)
 tick_adds entries status (Err refusal) = same_facts (facts_of entries) (facts_of entries) refl
 
-call_adds : (seat : Seat) (limit : ℕ) (entries : List EntryFields) (call : Call) → IsNoCast call → MoreFacts (facts_of entries) (facts_of (history_after seat limit entries call))
+call_adds : (seat : Identity) (limit : ℕ) (entries : List EntryFields) (call : Call) → IsNoCast call → MoreFacts (facts_of entries) (facts_of (history_after seat limit entries call))
 call_adds seat limit entries (ToCast payload) none = absurd none
 call_adds seat limit entries (ToTake bytes) none = arrival_adds entries bytes (arrive_answer seat limit entries bytes)
 call_adds seat limit entries ToTick none = tick_adds entries _ (tick_answer seat limit entries)
@@ -117,7 +117,7 @@ call_is_later setting s i call answer none = record {
       (λ same. subst (λ (j : ℕ). MoreFacts (facts_at s j) (facts_of (history_after (seat_at setting i) setting.limit (s.histories i) call))) (sym (eqb-true k i same))
       (call_adds (seat_at setting i) setting.limit (s.histories i) call none))
       (λ _. same_facts (facts_at s k) (facts_at s k) refl);
-  new = map (sent_by i) (put_out answer);
+  new = map (sent_by i) (frames_sent answer);
   sent = refl;
 }
 
@@ -172,10 +172,10 @@ module _ (s t : GroupState) (later : IsLater s t) where
   pub known_later : (j i : ℕ) → known (facts_at s j) i ≤ known (facts_at t j) i
   known_later j i = later_grows (λ fs. known fs i) (λ fs f. known_rises fs f i) (facts_at s j) (facts_at t j) (later.facts j)
 
-  pub acknowledged_later : (seat : Seat) (i k : ℕ) → acknowledged seat (facts_at s i) k ≤ acknowledged seat (facts_at t i) k
+  pub acknowledged_later : (seat : Identity) (i k : ℕ) → acknowledged seat (facts_at s i) k ≤ acknowledged seat (facts_at t i) k
   acknowledged_later seat i k = later_grows (λ fs. acknowledged seat fs k) (λ fs f. (nothing_falls seat fs f).1 k) (facts_at s i) (facts_at t i) (later.facts i)
 
-  pub delivered_later : (seat : Seat) (j i : ℕ) → delivered seat (facts_at s j) i ≤ delivered seat (facts_at t j) i
+  pub delivered_later : (seat : Identity) (j i : ℕ) → delivered seat (facts_at s j) i ≤ delivered seat (facts_at t j) i
   delivered_later seat j i = later_grows (λ fs. delivered seat fs i) (λ fs f. count_grows seat.group.size fs f i) (facts_at s j) (facts_at t j) (later.facts j)
 
   pub there_later : (j i n : ℕ) → is_there (casts_in (facts_at s j)) i n ≡ true → is_there (casts_in (facts_at t j)) i n ≡ true

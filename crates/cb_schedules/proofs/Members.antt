@@ -8,7 +8,7 @@ use Rattle.cb_delay.specs.declared.message.Event.TheVariants.{Cast}
 use Rattle.cb_diffs.specs.Expansion.{expanded_field}
 use Rattle.cb_causality.proofs.Counting.{get_map}
 use Rattle.cb_history.specs.Group.{Parameters}
-use Rattle.cb_history.specs.Facts.{Fact, OwnCast, CastCame, StatusCame, OwnStatus, casts_in, messages_in}
+use Rattle.cb_history.specs.Facts.{Fact, OwnCast, CastReceived, StatusReceived, OwnStatus, casts_in, messages_in}
 use Rattle.cb_history.specs.View.{view, is_expanded, message_in}
 use Rattle.cb_history.specs.Answers.{delivered, own_casts}
 use Rattle.cb_history.specs.Events.{event_in}
@@ -45,8 +45,8 @@ pub own_is_there : (facts : List Fact) (c : CastFields) → IsIn c (own_casts fa
 own_is_there [] c there = absurd there
 own_is_there (OwnCast d ∷ facts) c (inl same) = inl same
 own_is_there (OwnCast d ∷ facts) c (inr later) = inr (own_is_there facts c later)
-own_is_there (CastCame d ∷ facts) c there = inr (own_is_there facts c there)
-own_is_there (StatusCame s ∷ facts) c there = own_is_there facts c there
+own_is_there (CastReceived d ∷ facts) c there = inr (own_is_there facts c there)
+own_is_there (StatusReceived s ∷ facts) c there = own_is_there facts c there
 own_is_there (OwnStatus s ∷ facts) c there = own_is_there facts c there
 
 pub numbered_sender : (me n : ℕ) (own : List CastFields) (c : CastFields) → NumberedFrom me n own → IsIn c own → c.sender ≡ me
@@ -59,9 +59,9 @@ so_casts : (group : Parameters) (all : ℕ → List Fact) (facts : List Fact) (c
 so_casts group all [] c so there = absurd there
 so_casts group all (OwnCast d ∷ facts) c so (inl same) = subst (λ (x : CastFields). IsIn x (own_casts (all x.sender))) (sym same) (cast_of_is_in d (own_casts (all d.sender)) so.0)
 so_casts group all (OwnCast d ∷ facts) c so (inr later) = so_casts group all facts c so.1 later
-so_casts group all (CastCame d ∷ facts) c so (inl same) = subst (λ (x : CastFields). IsIn x (own_casts (all x.sender))) (sym same) (cast_of_is_in d (own_casts (all d.sender)) so.0)
-so_casts group all (CastCame d ∷ facts) c so (inr later) = so_casts group all facts c so.1 later
-so_casts group all (StatusCame s ∷ facts) c so there = so_casts group all facts c so.1 there
+so_casts group all (CastReceived d ∷ facts) c so (inl same) = subst (λ (x : CastFields). IsIn x (own_casts (all x.sender))) (sym same) (cast_of_is_in d (own_casts (all d.sender)) so.0)
+so_casts group all (CastReceived d ∷ facts) c so (inr later) = so_casts group all facts c so.1 later
+so_casts group all (StatusReceived s ∷ facts) c so there = so_casts group all facts c so.1 there
 so_casts group all (OwnStatus s ∷ facts) c so there = so_casts group all facts c so.1 there
 
 -- ---- one moment
@@ -142,9 +142,9 @@ module _ (group : Parameters) (facts : ℕ → List Fact) (h : AreTogether group
   ]
 
   -- no time that a member can tell says more of its own casts than it made
-  pub told_at_most : (j : ℕ) (c : CastFields) → IsIn c (casts_in (facts j)) → is_expanded (casts_in (facts j)) (message c) ≡ true
+  pub reported_at_most : (j : ℕ) (c : CastFields) → IsIn c (casts_in (facts j)) → is_expanded (casts_in (facts j)) (message c) ≡ true
       → expanded_field (casts_in (facts j)) c.sender c.number j ≤ delivered (member_of group j) (facts j) j
-  told_at_most j c there expanded =
+  reported_at_most j c there expanded =
       let i = c.sender in
       let lt_j = inside j c there in
       let lt = sender_inside j c there in

@@ -8,7 +8,7 @@ use Rattle.cb_diffs.specs.Expansion.{expanded_time}
 use Rattle.cb_causality.specs.Events.{name_of, Has}
 use Rattle.cb_causality.specs.StampedMachine.{erased, without_time, without_times, IsTimeOf}
 use Rattle.cb_causality.proofs.Counting.{get_map, get_map_from}
-use Rattle.cb_history.specs.Group.{Parameters, Seat}
+use Rattle.cb_history.specs.Group.{Parameters, Identity}
 use Rattle.cb_history.specs.Facts.{Fact, casts_in, is_there}
 use Rattle.cb_history.specs.View.{view, is_among, message_in}
 use Rattle.cb_history.specs.Answers.{own_casts}
@@ -31,7 +31,7 @@ event_name false message = refl
 
 -- ---- the events of a view
 
-module _ (seat : Seat) (facts : List Fact) where
+module _ (seat : Identity) (facts : List Fact) where
   -- the list without times has a message exactly where the view does
   pub has_seen : (m : Name) → Has (without_times (events seat facts)) m → is_among (view seat.group.size facts) (called m) ≡ true
   has_seen m has =

@@ -10,8 +10,8 @@ use Rattle.cb_frames.specs.Text.{text_of}
 use Rattle.cb_history.specs.declared.answer.ArriveRefusal.{ArriveRefusal}
 use Rattle.cb_history.specs.declared.answer.TickRefusal.{TickRefusal}
 use Rattle.cb_history.specs.declared.answer.Outgoing.{Outgoing}
-use Rattle.cb_history.specs.Group.{Seat}
-use Rattle.cb_history.specs.Facts.{EntryFields, TickEntry, Fact, OwnCast, CastCame, StatusCame, OwnStatus, status_said, facts_of, casts_in, is_there}
+use Rattle.cb_history.specs.Group.{Identity}
+use Rattle.cb_history.specs.Facts.{EntryFields, TickEntry, Fact, OwnCast, CastReceived, StatusReceived, OwnStatus, status_said, facts_of, casts_in, is_there}
 use Rattle.cb_history.specs.View.{view, counts}
 use Rattle.cb_history.specs.Known.{value_in, known, acknowledged, least_of, stable}
 use Rattle.cb_history.specs.Answers.{delivered, own_casts, is_full, are_members, is_impossible, is_repeat, is_news, ArrivalSays, frame_answer, answer_to, arrive_answer, status_of, last_status, says_the_time, is_new_status, tick_answer}
@@ -19,7 +19,7 @@ use Rattle.cb_history.specs.Legal.{Call, ToCast, ToTake, ToTick, arrive_entry, t
 use Rattle.cb_history.specs.LegalFacts.{AreFactsOf}
 use Rattle.cb_history.proofs.Views.{IsIn, all_in_range}
 use Rattle.cb_history.proofs.Lists.{both_false}
-use Rattle.cb_history.proofs.Walks.{view_told}
+use Rattle.cb_history.proofs.Walks.{view_reported}
 use Rattle.cb_history.proofs.Times.{seen_is_there, all_from_range, count_grows}
 use Rattle.cb_history.proofs.Statuses.{last_status_with_one_more, new_status_is_a_new_time}
 use Rattle.cb_history.proofs.Prefixes.{prefix_of_facts_is_legal, last_fact_is_a_step}
@@ -48,7 +48,7 @@ use Rattle.cb_schedules.proofs.Asking.{status_comes}
 -- ---- a status that says the time
 
 -- after a tick with room the next status is not new
-tick_tells : (seat : Seat) (limit : ℕ) (entries : List EntryFields) → AreFactsOf seat (facts_of entries) → IsNotFull (TickAnswer (tick_answer seat limit entries))
+tick_tells : (seat : Identity) (limit : ℕ) (entries : List EntryFields) → AreFactsOf seat (facts_of entries) → IsNotFull (TickAnswer (tick_answer seat limit entries))
     → is_new_status seat (facts_of (history_after seat limit entries ToTick)) ≡ false
 unfolding tick_answer
 tick_tells seat limit entries are =
@@ -59,10 +59,10 @@ tick_tells seat limit entries are =
     (λ _ room. absurd (room refl))
     (λ _ _. cond_both (is_new_status seat facts) (Some (TickEntry (text_of (StatusFrame said)))) None (λ (o : Option EntryFields). is_new_status seat (facts_of (and_entry entries o)) ≡ false)
     (λ _. subst (λ (fs : List Fact). is_new_status seat fs ≡ false) (sym (facts_push entries (TickEntry (text_of (StatusFrame said))) (OwnStatus said) (ap status_said (status_read said (own_frames_have_texts seat facts are).1))))
-    ((new_status_is_a_new_time seat facts (facts ++ OwnStatus said ∷ []) (last_status_with_one_more facts (OwnStatus said) None)).1 (ap (counts seat.group.size) (sym (view_told seat.group.size facts said)))))
+    ((new_status_is_a_new_time seat facts (facts ++ OwnStatus said ∷ []) (last_status_with_one_more facts (OwnStatus said) None)).1 (ap (counts seat.group.size) (sym (view_reported seat.group.size facts said)))))
     (λ old. old))
 
-says_same : (seat : Seat) (facts after : List Fact) (last : Option StatusFields) → ((k : ℕ) → k < seat.group.size → delivered seat facts k ≡ delivered seat after k)
+says_same : (seat : Identity) (facts after : List Fact) (last : Option StatusFields) → ((k : ℕ) → k < seat.group.size → delivered seat facts k ≡ delivered seat after k)
     → says_the_time seat facts last ≡ true → says_the_time seat after last ≡ true
 says_same seat facts after None same says = absurd cc
 says_same seat facts after (Some s) same says = all_from_range (λ k. eqb (value_in s.values k) (delivered seat after k)) 0 seat.group.size (λ k low high.
@@ -73,21 +73,21 @@ not_false_is : (b : Bool) → not b ≡ false → b ≡ true
 not_false_is true e = refl
 not_false_is false e = absurd cc
 
-still_says : (seat : Seat) (facts after : List Fact) → ((k : ℕ) → k < seat.group.size → delivered seat facts k ≡ delivered seat after k) → last_status after None ≡ last_status facts None
+still_says : (seat : Identity) (facts after : List Fact) → ((k : ℕ) → k < seat.group.size → delivered seat facts k ≡ delivered seat after k) → last_status after None ≡ last_status facts None
     → is_new_status seat facts ≡ false → is_new_status seat after ≡ false
 still_says seat facts after same last old =
     let says = says_same seat facts after (last_status facts None) same (not_false_is (says_the_time seat facts (last_status facts None)) old) in
     ap not (ap (says_the_time seat after) last ∙ says)
 
 -- nor is it while no count changes
-old_stays : (seat : Seat) (facts : List Fact) (f : Fact) → AreFactsOf seat (facts ++ f ∷ []) → ((k : ℕ) → k < seat.group.size → delivered seat facts k ≡ delivered seat (facts ++ f ∷ []) k)
+old_stays : (seat : Identity) (facts : List Fact) (f : Fact) → AreFactsOf seat (facts ++ f ∷ []) → ((k : ℕ) → k < seat.group.size → delivered seat facts k ≡ delivered seat (facts ++ f ∷ []) k)
     → is_new_status seat facts ≡ false → is_new_status seat (facts ++ f ∷ []) ≡ false
 old_stays seat facts (OwnCast c) are same old = still_says seat facts (facts ++ OwnCast c ∷ []) same (last_status_with_one_more facts (OwnCast c) None) old
-old_stays seat facts (CastCame c) are same old = still_says seat facts (facts ++ CastCame c ∷ []) same (last_status_with_one_more facts (CastCame c) None) old
-old_stays seat facts (StatusCame s) are same old = still_says seat facts (facts ++ StatusCame s ∷ []) same (last_status_with_one_more facts (StatusCame s) None) old
+old_stays seat facts (CastReceived c) are same old = still_says seat facts (facts ++ CastReceived c ∷ []) same (last_status_with_one_more facts (CastReceived c) None) old
+old_stays seat facts (StatusReceived s) are same old = still_says seat facts (facts ++ StatusReceived s ∷ []) same (last_status_with_one_more facts (StatusReceived s) None) old
 old_stays seat facts (OwnStatus s) are same old = absurd (both_ways (is_new_status seat facts) old (last_fact_is_a_step seat facts (OwnStatus s) are).new)
 
-all_old : (seat : Seat) (facts more : List Fact) → AreFactsOf seat (facts ++ more) → ((k : ℕ) → k < seat.group.size → delivered seat (facts ++ more) k ≤ delivered seat facts k)
+all_old : (seat : Identity) (facts more : List Fact) → AreFactsOf seat (facts ++ more) → ((k : ℕ) → k < seat.group.size → delivered seat (facts ++ more) k ≤ delivered seat facts k)
     → is_new_status seat facts ≡ false → is_new_status seat (facts ++ more) ≡ false
 all_old seat facts [] are most old = subst (λ (fs : List Fact). is_new_status seat fs ≡ false) (sym (append-nil facts)) old
 all_old seat facts (f ∷ more) are most old =
@@ -105,7 +105,7 @@ all_old seat facts (f ∷ more) are most old =
 pub record IsQuiet (setting : Setting) (facts : ℕ → List Fact) : Type 0 where
   pub everywhere : (j i : ℕ) → j < setting.group.size → i < setting.group.size → delivered (seat_at setting j) (facts j) i ≡ delivered (seat_at setting i) (facts i) i
   pub known_there : (j i : ℕ) → j < setting.group.size → i < setting.group.size → j ≢ i → delivered (seat_at setting j) (facts j) j ≤ acknowledged (seat_at setting j) (facts j) i
-  pub told : (j : ℕ) → j < setting.group.size → is_new_status (seat_at setting j) (facts j) ≡ false
+  pub reported : (j : ℕ) → j < setting.group.size → is_new_status (seat_at setting j) (facts j) ≡ false
 
 -- a round from where everything is delivered ends so
 module _ (setting : Setting) (s t : GroupState) (inv : IsConsistent setting s) (w : Waves setting s t) (all : (j i : ℕ) → j < setting.group.size → i < setting.group.size → delivered (seat_at setting j) (facts_at s j) i ≡ cast_count setting s i) where
@@ -121,11 +121,11 @@ module _ (setting : Setting) (s t : GroupState) (inv : IsConsistent setting s) (
       let most = delivered_at_most setting.group (facts_at t) w.end_consistent.together j i lt_j lt_i in
       omega (arith, low, most, all j i lt_j lt_i, count_is i lt_i)
 
-  then_told : (j : ℕ) → j < setting.group.size → is_new_status (seat_at setting j) (facts_at t j) ≡ false
-  then_told j lt =
+  then_reported : (j : ℕ) → j < setting.group.size → is_new_status (seat_at setting j) (facts_at t j) ≡ false
+  then_reported j lt =
       let k = w.ticks j lt in
-      let told = tick_tells (seat_at setting j) setting.limit (k.now.histories j) (k.consistent.together.legal j lt) k.room in
-      let next_told : is_new_status (seat_at setting j) (facts_at k.next j) ≡ false = subst (λ (es : List EntryFields). is_new_status (seat_at setting j) (facts_of es) ≡ false) (sym k.history) told in
+      let reported = tick_tells (seat_at setting j) setting.limit (k.now.histories j) (k.consistent.together.legal j lt) k.room in
+      let next_reported : is_new_status (seat_at setting j) (facts_at k.next j) ≡ false = subst (λ (es : List EntryFields). is_new_status (seat_at setting j) (facts_of es) ≡ false) (sym k.history) reported in
       let to_end = later_joins k.next w.asking t k.after (later_joins w.asking w.answered t w.to_answered w.to_end) in
       let m = to_end.facts j in
       subst (λ (fs : List Fact). is_new_status (seat_at setting j) fs ≡ false) (sym m.is)
@@ -133,7 +133,7 @@ module _ (setting : Setting) (s t : GroupState) (inv : IsConsistent setting s) (
       let now = delivered_later s k.now k.before (seat_at setting j) j i in
       let tick = delivered_later k.now k.next k.step (seat_at setting j) j i in
       subst (λ (fs : List Fact). delivered (seat_at setting j) fs i ≤ delivered (seat_at setting j) (facts_at k.next j) i) m.is
-      (omega (arith, still_delivered j i lt lt_i, count_is i lt_i, all j i lt lt_i, now, tick))) next_told)
+      (omega (arith, still_delivered j i lt lt_i, count_is i lt_i, all j i lt lt_i, now, tick))) next_reported)
 
   pub round_makes_quiet : IsQuiet setting (facts_at t)
   round_makes_quiet = record {
@@ -141,7 +141,7 @@ module _ (setting : Setting) (s t : GroupState) (inv : IsConsistent setting s) (
     known_there = λ j i lt_j lt_i ne.
         let comes = (status_comes setting s t inv w i j lt_i lt_j ne).1 in
         omega (arith, comes, all i j lt_i lt_j, count_is j lt_j);
-    told = then_told;
+    reported = then_reported;
   }
 
 -- ---- it is stable
@@ -261,7 +261,7 @@ module _ (setting : Setting) (s : GroupState) (inv : IsConsistent setting s) (qu
         cond_both (is_new_status (seat_at setting i) (facts_at s i) && is_full setting.limit (s.histories i)) _ _
         (λ (r : Result (Bool × List Outgoing) TickRefusal). and_entry (s.histories i) (tick_entry said r) ≡ s.histories i) (λ _. refl)
         (λ _. cond_both (is_new_status (seat_at setting i) (facts_at s i)) (Some (TickEntry said)) None (λ (o : Option EntryFields). and_entry (s.histories i) o ≡ s.histories i)
-        (λ new. absurd (both_ways (is_new_status (seat_at setting i) (facts_at s i)) (quiet.told i lt) new)) (λ _. refl))
+        (λ new. absurd (both_ways (is_new_status (seat_at setting i) (facts_at s i)) (quiet.reported i lt) new)) (λ _. refl))
 
     same_with : (now : List EntryFields) → now ≡ s.histories i → (k : ℕ) → with_history s.histories i now k ≡ s.histories k
     same_with now same k = cond_both (eqb k i) now (s.histories k) (λ (es : List EntryFields). es ≡ s.histories k) (λ e. same ∙ ap s.histories (sym (eqb-true k i e))) (λ _. refl)

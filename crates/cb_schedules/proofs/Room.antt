@@ -9,7 +9,7 @@ use Rattle.cb_history.specs.declared.answer.CastRefusal.{CastRefusal}
 use Rattle.cb_history.specs.declared.answer.ArriveRefusal.{ArriveRefusal}
 use Rattle.cb_history.specs.declared.answer.TickRefusal.{TickRefusal}
 use Rattle.cb_history.specs.declared.answer.Outgoing.{Outgoing}
-use Rattle.cb_history.specs.Group.{Seat}
+use Rattle.cb_history.specs.Group.{Identity}
 use Rattle.cb_history.specs.Facts.{EntryFields, facts_of}
 use Rattle.cb_history.specs.Answers.{is_full, is_window_full, cast_answer, group_of, are_members, is_impossible, is_repeat, is_too_far, is_change, ArrivalSays, frame_answer, answer_to, arrive_answer, is_new_status, tick_answer}
 use Rattle.cb_history.specs.Legal.{Call, ToCast, ToTake, ToTick, entry_of, and_entry, history_after}
@@ -19,7 +19,7 @@ use Rattle.cb_schedules.specs.RoundLaws.{RoomForEachStepIsEnough}
 use Rattle.cb_schedules.proofs.Happening.{answer_to_asked, FindNoneFullFrom, from_none_full}
 
 -- with an entry left no answer is that the history is full
-module _ (seat : Seat) (limit : ℕ) (entries : List EntryFields) (room : length entries < limit) where
+module _ (seat : Identity) (limit : ℕ) (entries : List EntryFields) (room : length entries < limit) where
   never_full : is_full limit entries ≡ true → ⊥
   never_full full = let le = leb-true limit (length entries) full in omega (arith, room, le)
 

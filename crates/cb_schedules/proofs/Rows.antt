@@ -80,7 +80,7 @@ the_frames_that_were_sent : map (λ f. f.bytes) (run three in_the_end).sent
 unfolding step_after run_from cast_answer arrive_answer tick_answer view drained frame_at cast_at status_at request_at pairs_at pair_at number_at text_of spelling
 the_frames_that_were_sent = refl
 
--- the number of the first frame that each step put out, and how many these were
+-- the number of the first frame that each step sent, and how many these were
 and_by_which_steps : map (λ o. o.first ∷ o.count ∷ []) (run three in_the_end).outcomes
     ≡ (0 ∷ 1 ∷ []) ∷ (1 ∷ 0 ∷ []) ∷ (1 ∷ 1 ∷ []) ∷ (2 ∷ 0 ∷ []) ∷ (2 ∷ 0 ∷ []) ∷ []
 unfolding step_after run_from cast_answer arrive_answer tick_answer view drained frame_at cast_at status_at request_at pairs_at pair_at number_at text_of spelling
@@ -195,18 +195,18 @@ the_other = refl
 
 -- ---- what is stable: both others tell their statuses
 
-abbrev told_back : Schedule
-told_back = CastStep 0 (97 ∷ []) ∷ ArriveStep 1 0 ∷ ArriveStep 2 0 ∷ TickStep 1 ∷ TickStep 2 ∷ ArriveStep 0 1 ∷ ArriveStep 0 2 ∷ []
+abbrev reported_back : Schedule
+reported_back = CastStep 0 (97 ∷ []) ∷ ArriveStep 1 0 ∷ ArriveStep 2 0 ∷ TickStep 1 ∷ TickStep 2 ∷ ArriveStep 0 1 ∷ ArriveStep 0 2 ∷ []
 
-the_cast_is_stable : stable (seat_at three 0) (facts_at (run three told_back) 0) ≡ 1
+the_cast_is_stable : stable (seat_at three 0) (facts_at (run three reported_back) 0) ≡ 1
 unfolding step_after run_from cast_answer arrive_answer tick_answer view drained frame_at cast_at status_at request_at pairs_at pair_at number_at text_of spelling
 the_cast_is_stable = refl
 
-and_delivered_by_the_first : delivered (seat_at three 1) (facts_at (run three told_back) 1) 0 ≡ 1
+and_delivered_by_the_first : delivered (seat_at three 1) (facts_at (run three reported_back) 1) 0 ≡ 1
 unfolding step_after run_from cast_answer arrive_answer tick_answer view drained frame_at cast_at status_at request_at pairs_at pair_at number_at text_of spelling
 and_delivered_by_the_first = refl
 
-and_by_the_second : delivered (seat_at three 2) (facts_at (run three told_back) 2) 0 ≡ 1
+and_by_the_second : delivered (seat_at three 2) (facts_at (run three reported_back) 2) 0 ≡ 1
 unfolding step_after run_from cast_answer arrive_answer tick_answer view drained frame_at cast_at status_at request_at pairs_at pair_at number_at text_of spelling
 and_by_the_second = refl
 

@@ -13,7 +13,7 @@ use Rattle.cb_frames.specs.Laws.{IsBytes}
 use Rattle.cb_frames.proofs.Decoding.{reading_is_exact, text_is_read}
 use Rattle.cb_frames.proofs.Unique.{one_text, some_text}
 use Rattle.cb_history.specs.declared.answer.Outgoing.{Outgoing}
-use Rattle.cb_history.specs.Group.{Parameters, IsSeat}
+use Rattle.cb_history.specs.Group.{Parameters, IsIdentity}
 use Rattle.cb_history.specs.Facts.{Fact}
 use Rattle.cb_history.specs.Known.{missing, ranges_of, stable}
 use Rattle.cb_history.specs.Answers.{delivered, next_cast, status_of, own_casts, window, is_asked_for, sent_in_answer, request_to, requests}
@@ -36,7 +36,7 @@ use Rattle.cb_history.proofs.Keeping.{range_in}
 -- ---- own frames
 
 module _ (group : Parameters) (facts : ℕ → List Fact) (i : ℕ) (are : AreFactsOf (member_of group i) (facts i)) where
-  is_seat : IsSeat (member_of group i)
+  is_seat : IsIdentity (member_of group i)
   is_seat = record { group = are.group; member = are.member }
 
   -- the next cast, once it is an own cast
@@ -64,7 +64,7 @@ module _ (group : Parameters) (facts : ℕ → List Fact) (i : ℕ) (are : AreFa
         so = record {
           member = are.member;
           reached = each_from (λ d. ltb 0 d.amount) (λ k. record { field = k; amount = delivered (member_of group i) (facts i) k })
-              (λ d. d.amount ≤ delivered (member_of group i) (facts i) d.field) 0 group.size (λ k lt told. omega arith);
+              (λ d. d.amount ≤ delivered (member_of group i) (facts i) d.field) 0 group.size (λ k lt reported. omega arith);
         };
       }
 

@@ -17,8 +17,8 @@ use Rattle.cb_causality.specs.Lists.{Appends, AppendsAll}
 use Rattle.cb_causality.specs.StampedMachine.{StampedLists, StampedStep, Casts, CastsStamped, IsTimeOfList, DelayRuleAllows, without_time, without_times, counts_of, next_message}
 use Rattle.cb_causality.specs.Extension.{Extends, Still, DelayRuleAllowsInTurn}
 use Rattle.cb_causality.proofs.Extending.{stamped_extends_runs, deliveries_extend}
-use Rattle.cb_history.specs.Group.{Parameters, Seat}
-use Rattle.cb_history.specs.Facts.{Fact, OwnCast, CastCame, StatusCame, OwnStatus, casts_in, messages_in}
+use Rattle.cb_history.specs.Group.{Parameters, Identity}
+use Rattle.cb_history.specs.Facts.{Fact, OwnCast, CastReceived, StatusReceived, OwnStatus, casts_in, messages_in}
 use Rattle.cb_history.specs.View.{count, view, next_delivery, time_of, message_in, is_expanded}
 use Rattle.cb_history.specs.Answers.{delivered, own_casts, deliveries}
 use Rattle.cb_history.specs.Events.{event_in, events}
@@ -29,7 +29,7 @@ use Rattle.cb_history.specs.EventLaws.{casts_among, new_events}
 use Rattle.cb_history.proofs.Views.{IsIn, casts_in-append}
 use Rattle.cb_history.proofs.Lists.{count-append, in_back, in_push}
 use Rattle.cb_history.proofs.Walks.{view_grows}
-use Rattle.cb_history.proofs.Names.{Stands, all_stand, message, own_casts_are_numbered, came_is_others}
+use Rattle.cb_history.proofs.Names.{Stands, all_stand, message, own_casts_are_numbered, received_is_others}
 use Rattle.cb_history.proofs.Times.{seen_is_expanded, own_casts_tell_the_view, same_over_range, time_at}
 use Rattle.cb_history.proofs.Prefixes.{prefix_of_facts_is_legal, last_fact_is_a_step}
 use Rattle.cb_history.proofs.Happening.{events_with_one_more, events_cast_the_own}
@@ -54,7 +54,7 @@ counts_of-append xs ys k =
     ap (λ es. count_by (is_of k) es) (map-append without_time xs ys) ∙ sum_by-append (λ x. cond (is_of k x) 1 0) (without_times xs) (without_times ys)
 
 -- the events of some messages count as the messages do
-pub events_count : (seat : Seat) (casts : List CastFields) (ms : List Carried) (k : ℕ) → counts_of (map (event_in seat casts) ms) k ≡ count ms k
+pub events_count : (seat : Identity) (casts : List CastFields) (ms : List Carried) (k : ℕ) → counts_of (map (event_in seat casts) ms) k ≡ count ms k
 events_count seat casts [] k = refl
 events_count seat casts (m ∷ ms) k =
     let one : ◌≡◌ {A = ℕ} (cond (is_of k (without_time (event_in seat casts m))) 1 0) (cond (eqb m.sender k) 1 0) =
@@ -168,57 +168,57 @@ same_message size casts others m same =
     ap (λ (time : List ℕ). record { name = record { sender = m.sender; number = m.number }; time = time; payload = m.payload })
     (same_over_range (expanded_field casts m.sender m.number) (expanded_field others m.sender m.number) 0 size (λ k lt. same k))
 
-module _ (group : Parameters) (facts after : ℕ → List Fact) (h : AreTogether group facts) (j : ℕ) (c : CastFields) (app : Appends facts after j (CastCame c))
-    (are : AreFactsOf (member_of group j) (facts j ++ CastCame c ∷ [])) (own : IsIn c (own_casts (facts c.sender))) where
-  abbrev now_came : List Fact
-  now_came = facts j ++ CastCame c ∷ []
+module _ (group : Parameters) (facts after : ℕ → List Fact) (h : AreTogether group facts) (j : ℕ) (c : CastFields) (app : Appends facts after j (CastReceived c))
+    (are : AreFactsOf (member_of group j) (facts j ++ CastReceived c ∷ [])) (own : IsIn c (own_casts (facts c.sender))) where
+  abbrev now_received : List Fact
+  now_received = facts j ++ CastReceived c ∷ []
 
   more : List Carried
-  more = (view_grows group.size (facts j) (CastCame c)).0
+  more = (view_grows group.size (facts j) (CastReceived c)).0
 
-  grown : view group.size now_came ≡ view group.size (facts j) ++ more
+  grown : view group.size now_received ≡ view group.size (facts j) ++ more
   unfolding more
-  grown = (view_grows group.size (facts j) (CastCame c)).1
+  grown = (view_grows group.size (facts j) (CastReceived c)).1
 
   abbrev messages : List Message
-  messages = map (message_in group.size (casts_in now_came)) more
+  messages = map (message_in group.size (casts_in now_received)) more
 
   delivered_are : deliveries (member_of group j) (facts j) (CastFrame c) ≡ messages
   delivered_are =
-      ap (map (message_in group.size (casts_in now_came)))
+      ap (map (message_in group.size (casts_in now_received)))
       (ap (drop (length (view group.size (facts j)))) grown ∙ drop_at (view group.size (facts j)) more (length (view group.size (facts j))) refl)
 
   appends : AppendsAll (events_of group facts) (events_of group after) j (map Deliver messages)
   appends = record {
-    own = ap (events (member_of group j)) app.own ∙ events_with_one_more (member_of group j) (facts j) (CastCame c) are
+    own = ap (events (member_of group j)) app.own ∙ events_with_one_more (member_of group j) (facts j) (CastReceived c) are
         ∙ ap (λ (ms : List Message). events_of group facts j ++ map Deliver ms) delivered_are;
     others = λ k ne. ap (events (member_of group k)) (app.others k ne);
   }
 
-  all_own : (d : CastFields) → IsIn d (casts_in now_came) → IsIn d (own_casts (facts d.sender))
-  all_own d there = elim (in_push d c (casts_in (facts j)) (subst (IsIn d) (casts_in-append (facts j) (CastCame c)) there)) [
+  all_own : (d : CastFields) → IsIn d (casts_in now_received) → IsIn d (own_casts (facts d.sender))
+  all_own d there = elim (in_push d c (casts_in (facts j)) (subst (IsIn d) (casts_in-append (facts j) (CastReceived c)) there)) [
     | inl old ↦ is_own group facts h j d old
     | inr new ↦ subst (λ (x : CastFields). IsIn x (own_casts (facts x.sender))) (sym new) own
   ]
 
-  other_sender : (d : CastFields) (n : ℕ) → IsIn d (casts_in now_came) → d.number ≡ n + 1 → delivered (member_of group j) (facts j) j ≤ n → d.sender ≢ j
+  other_sender : (d : CastFields) (n : ℕ) → IsIn d (casts_in now_received) → d.number ≡ n + 1 → delivered (member_of group j) (facts j) j ≤ n → d.sender ≢ j
   other_sender d n there at high e =
-      let legal = prefix_of_facts_is_legal (member_of group j) (facts j) (CastCame c ∷ []) are in
-      elim (in_push d c (casts_in (facts j)) (subst (IsIn d) (casts_in-append (facts j) (CastCame c)) there)) [
+      let legal = prefix_of_facts_is_legal (member_of group j) (facts j) (CastReceived c ∷ []) are in
+      elim (in_push d c (casts_in (facts j)) (subst (IsIn d) (casts_in-append (facts j) (CastReceived c)) there)) [
         | inl old ↦
             let most = own_is_delivered (member_of group j) (facts j) d.number legal (cast_is_there (casts_in (facts j)) d j d.number old e refl) in
             omega (arith, most, at, high)
         | inr new ↦
-            came_is_others (member_of group j) (facts j) c (all_stand (member_of group j) (facts j) are.member legal.facts_are) (last_fact_is_a_step (member_of group j) (facts j) (CastCame c) are)
+            received_is_others (member_of group j) (facts j) c (all_stand (member_of group j) (facts j) are.member legal.facts_are) (last_fact_is_a_step (member_of group j) (facts j) (CastReceived c) are)
             (ap (λ (x : CastFields). x.sender) (sym new) ∙ e)
       ]
 
   -- one of the deliveries, behind those before it
   allowed_one : (before behind : List Carried) (m : Carried) → more ≡ before ++ m ∷ behind → (then_lists : StampedLists)
-      → AppendsAll (events_of group facts) then_lists j (map Deliver (map (message_in group.size (casts_in now_came)) before))
-      → DelayRuleAllows then_lists j (message_in group.size (casts_in now_came) m)
+      → AppendsAll (events_of group facts) then_lists j (map Deliver (map (message_in group.size (casts_in now_received)) before))
+      → DelayRuleAllows then_lists j (message_in group.size (casts_in now_received) m)
   allowed_one before behind m cut lists all =
-      let cast = cast_of_message (casts_in now_came) m in_casts in
+      let cast = cast_of_message (casts_in now_received) m in_casts in
       let event = own_event group facts h (cast.0).sender cast.0 (all_own cast.0 cast.1) in
       let sender : m.sender ≡ (cast.0).sender = ap (λ (x : Carried). x.sender) cast.2 in
       let other : m.sender ≢ j = λ e. other_sender cast.0 (count (view group.size (facts j) ++ before) m.sender) cast.1 (ap (λ (x : Carried). x.number) (sym cast.2) ∙ number) (subst (λ (s : ℕ). delivered (member_of group j) (facts j) j ≤ count (view group.size (facts j) ++ before) s) (sym e) least) (sym sender ∙ e) in
@@ -229,28 +229,28 @@ module _ (group : Parameters) (facts after : ℕ → List Fact) (h : AreTogether
         stands = ap (λ (es : List Event). slice_get es event.0) (all.others m.sender other ∙ ap (events_of group facts) sender) ∙ event.1 ∙ ap (λ (x : Message). Some (Cast x)) (same cast.0 cast.1 cast.2);
         ready = record {
           next = meets.next ∙ ap (λ (n : ℕ). n + 1) (sym (counted m.sender));
-          others = λ k ne. subst (λ (n : ℕ). field (expanded_time group.size (casts_in now_came) m.sender m.number) k ≤ n) (sym (counted k)) (meets.others k ne);
+          others = λ k ne. subst (λ (n : ℕ). field (expanded_time group.size (casts_in now_received) m.sender m.number) k ≤ n) (sym (counted k)) (meets.others k ne);
         };
       }
     where
-      stands_now : Stands (member_of group j) (casts_in now_came) (view group.size now_came) (own_casts now_came)
-      stands_now = all_stand (member_of group j) now_came are.member are.facts_are
+      stands_now : Stands (member_of group j) (casts_in now_received) (view group.size now_received) (own_casts now_received)
+      stands_now = all_stand (member_of group j) now_received are.member are.facts_are
 
-      is_view : view group.size now_came ≡ (view group.size (facts j) ++ before) ++ m ∷ behind
+      is_view : view group.size now_received ≡ (view group.size (facts j) ++ before) ++ m ∷ behind
       is_view = grown ∙ ap (λ (ms : List Carried). view group.size (facts j) ++ ms) cut ∙ sym (append_assoc (view group.size (facts j)) before (m ∷ behind))
 
-      in_view : IsIn m (view group.size now_came)
+      in_view : IsIn m (view group.size now_received)
       in_view = subst (IsIn m) (sym is_view) (in_back m (view group.size (facts j) ++ before) (m ∷ behind) (inl refl))
 
-      in_casts : IsIn m (messages_in (casts_in now_came))
+      in_casts : IsIn m (messages_in (casts_in now_received))
       in_casts = stands_now.there m in_view
 
-      meets : MeetsRule group.size (casts_in now_came) (view group.size (facts j) ++ before) m
-      meets = meets_at group.size (casts_in now_came) [] (view group.size (facts j) ++ before) behind m
-          (subst (MeetRuleAfter group.size (casts_in now_came) []) is_view (view_meets_the_rule (member_of group j) now_came are))
+      meets : MeetsRule group.size (casts_in now_received) (view group.size (facts j) ++ before) m
+      meets = meets_at group.size (casts_in now_received) [] (view group.size (facts j) ++ before) behind m
+          (subst (MeetRuleAfter group.size (casts_in now_received) []) is_view (view_meets_the_rule (member_of group j) now_received are))
 
-      own_field : field (expanded_time group.size (casts_in now_came) m.sender m.number) m.sender ≡ m.number
-      own_field = in_field group.size (expanded_field (casts_in now_came) m.sender m.number) m.sender (stands_now.small m in_casts) ∙ rw (eq-eqb m.sender m.sender refl) refl
+      own_field : field (expanded_time group.size (casts_in now_received) m.sender m.number) m.sender ≡ m.number
+      own_field = in_field group.size (expanded_field (casts_in now_received) m.sender m.number) m.sender (stands_now.small m in_casts) ∙ rw (eq-eqb m.sender m.sender refl) refl
 
       number : m.number ≡ count (view group.size (facts j) ++ before) m.sender + 1
       number = sym own_field ∙ meets.next
@@ -260,23 +260,23 @@ module _ (group : Parameters) (facts after : ℕ → List Fact) (h : AreTogether
 
       counted : (k : ℕ) → counts_of (lists j) k ≡ count (view group.size (facts j) ++ before) k
       counted k =
-          let told : List Event = map Deliver (map (message_in group.size (casts_in now_came)) before) in
-          let parts : counts_of (lists j) k ≡ counts_of (events_of group facts j) k + counts_of (map Deliver (map (message_in group.size (casts_in now_came)) before)) k =
-          ap (λ (es : List Event). counts_of es k) all.own ∙ counts_of-append (events_of group facts j) (map Deliver (map (message_in group.size (casts_in now_came)) before)) k in
-          omega (arith, parts, events_count (member_of group j) (casts_in (facts j)) (view group.size (facts j)) k, deliveries_count group.size (casts_in now_came) before k, count-append (view group.size (facts j)) before k)
+          let reported : List Event = map Deliver (map (message_in group.size (casts_in now_received)) before) in
+          let parts : counts_of (lists j) k ≡ counts_of (events_of group facts j) k + counts_of (map Deliver (map (message_in group.size (casts_in now_received)) before)) k =
+          ap (λ (es : List Event). counts_of es k) all.own ∙ counts_of-append (events_of group facts j) (map Deliver (map (message_in group.size (casts_in now_received)) before)) k in
+          omega (arith, parts, events_count (member_of group j) (casts_in (facts j)) (view group.size (facts j)) k, deliveries_count group.size (casts_in now_received) before k, count-append (view group.size (facts j)) before k)
 
-      expanded : is_expanded (casts_in now_came) m ≡ true
-      expanded = seen_is_expanded (member_of group j) (casts_in now_came) (view group.size now_came) (own_casts now_came) m stands_now in_view
+      expanded : is_expanded (casts_in now_received) m ≡ true
+      expanded = seen_is_expanded (member_of group j) (casts_in now_received) (view group.size now_received) (own_casts now_received) m stands_now in_view
 
-      same : (d : CastFields) → IsIn d (casts_in now_came) → m ≡ message d → message_in group.size (casts_in (facts d.sender)) (message d) ≡ message_in group.size (casts_in now_came) m
+      same : (d : CastFields) → IsIn d (casts_in now_received) → m ≡ message d → message_in group.size (casts_in (facts d.sender)) (message d) ≡ message_in group.size (casts_in now_received) m
       same d there is =
-          same_message group.size (casts_in (facts d.sender)) (casts_in now_came) (message d)
-          (λ k. sym (time_is_senders group facts h j now_came d k are all_own there (subst (λ (x : Carried). is_expanded (casts_in now_came) x ≡ true) is expanded)))
-          ∙ ap (message_in group.size (casts_in now_came)) (sym is)
+          same_message group.size (casts_in (facts d.sender)) (casts_in now_received) (message d)
+          (λ k. sym (time_is_senders group facts h j now_received d k are all_own there (subst (λ (x : Carried). is_expanded (casts_in now_received) x ≡ true) is expanded)))
+          ∙ ap (message_in group.size (casts_in now_received)) (sym is)
 
   allowed : DelayRuleAllowsInTurn (events_of group facts) j messages
   allowed earlier later message split lists all =
-      let (before, m, behind, is, same, image) = map_cut (message_in group.size (casts_in now_came)) more earlier later message split in
+      let (before, m, behind, is, same, image) = map_cut (message_in group.size (casts_in now_received)) more earlier later message split in
       subst (λ (x : Message). DelayRuleAllows lists j x) image
       (allowed_one before behind m is lists (subst (λ (ms : List Message). AppendsAll (events_of group facts) lists j (map Deliver ms)) (sym same) all))
 
@@ -294,23 +294,23 @@ nothing_new group facts after j f app are none = Still (events_of group after)
 -- what a fact has to say that is so before it
 abbrev pub IsSoBefore : Parameters → (ℕ → List Fact) → Fact → Type 0
 IsSoBefore group facts (OwnCast c) = Unit {0}
-IsSoBefore group facts (CastCame c) = IsSo group facts (CastCame c)
-IsSoBefore group facts (StatusCame s) = IsSo group facts (StatusCame s)
+IsSoBefore group facts (CastReceived c) = IsSo group facts (CastReceived c)
+IsSoBefore group facts (StatusReceived s) = IsSo group facts (StatusReceived s)
 IsSoBefore group facts (OwnStatus s) = Unit {0}
 
 pub extends_by : (group : Parameters) (facts after : ℕ → List Fact) (j : ℕ) (f : Fact) → AreTogether group facts → j < group.size → Appends facts after j f
     → AreFactsOf (member_of group j) (facts j ++ f ∷ []) → IsSoBefore group facts f → Extends (StampedStep group.size) (events_of group facts) (events_of group after)
 extends_by group facts after j (OwnCast c) h lt app are so = cast_extends group facts after h j c app are lt
-extends_by group facts after j (CastCame c) h lt app are so = deliveries_extend_them group facts after h j c app are (cast_of_is_in c (own_casts (facts c.sender)) so) lt
-extends_by group facts after j (StatusCame s) h lt app are so = nothing_new group facts after j (StatusCame s) app are refl
+extends_by group facts after j (CastReceived c) h lt app are so = deliveries_extend_them group facts after h j c app are (cast_of_is_in c (own_casts (facts c.sender)) so) lt
+extends_by group facts after j (StatusReceived s) h lt app are so = nothing_new group facts after j (StatusReceived s) app are refl
 extends_by group facts after j (OwnStatus s) h lt app are so = nothing_new group facts after j (OwnStatus s) app are refl
 
 -- and together the members go on
 so_after : (group : Parameters) (facts after : ℕ → List Fact) (j : ℕ) (f : Fact) → Appends facts after j f → AreFactsOf (member_of group j) (facts j ++ f ∷ []) → IsSoBefore group facts f → IsSo group after f
 so_after group facts after j (OwnCast c) app are so =
     own_is_so group facts after j (OwnCast c) app c (ap (λ (x : CastFields). x.sender) (last_fact_is_a_step (member_of group j) (facts j) (OwnCast c) are).next) refl
-so_after group facts after j (CastCame c) app are so = so_stays group facts after j (CastCame c) app (CastCame c) so
-so_after group facts after j (StatusCame s) app are so = so_stays group facts after j (StatusCame s) app (StatusCame s) so
+so_after group facts after j (CastReceived c) app are so = so_stays group facts after j (CastReceived c) app (CastReceived c) so
+so_after group facts after j (StatusReceived s) app are so = so_stays group facts after j (StatusReceived s) app (StatusReceived s) so
 so_after group facts after j (OwnStatus s) app are so = tt
 
 pub together_after : (group : Parameters) (facts after : ℕ → List Fact) (j : ℕ) (f : Fact) → AreTogether group facts → j < group.size → Appends facts after j f

@@ -5,7 +5,7 @@ use Rattle.std.proofs.lemmas.List.{append-nil}
 use Rattle.cb_causality.specs.Extension.{Still}
 use Rattle.cb_history.specs.Facts.{EntryFields}
 use Rattle.cb_history.specs.Legal.{and_entry, entry_of}
-use Rattle.cb_schedules.specs.Schedule.{Setting, IsSetting, seat_at, Step, Schedule, Asked, Calls, OfNoMember, OfNoFrame, OfNoBytes, answer_of, put_out, sent_by, GroupState, with_history, after_asked, step_after, run}
+use Rattle.cb_schedules.specs.Schedule.{Setting, IsSetting, seat_at, Step, Schedule, Asked, Calls, OfNoMember, OfNoFrame, OfNoBytes, answer_of, frames_sent, sent_by, GroupState, with_history, after_asked, step_after, run}
 use Rattle.cb_schedules.specs.Messages.{stamped_lists, causal_lists}
 use Rattle.cb_schedules.specs.Consistent.{IsConsistent}
 use Rattle.cb_schedules.specs.StepLaws.{FramesGoOn, HistoriesGoOn, NoEntry, OneEntry, ListsGoOn, EachStepGoesOn}
@@ -16,7 +16,7 @@ use Rattle.cb_schedules.proofs.Headlines.{steps_extend_the_stamped, steps_extend
 -- ---- frames
 
 asked_frames : (setting : Setting) (s : GroupState) (asked : Asked) → FramesGoOn s.sent (after_asked setting s asked).sent
-asked_frames setting s (Calls i call) = (map (sent_by i) (put_out (answer_of (seat_at setting i) setting.limit (s.histories i) call)), refl)
+asked_frames setting s (Calls i call) = (map (sent_by i) (frames_sent (answer_of (seat_at setting i) setting.limit (s.histories i) call)), refl)
 asked_frames setting s OfNoMember = ([], sym (append-nil s.sent))
 asked_frames setting s OfNoFrame = ([], sym (append-nil s.sent))
 asked_frames setting s OfNoBytes = ([], sym (append-nil s.sent))

@@ -1,4 +1,4 @@
--- A round as its waves: the ticks, the arrivals of what they put out, and the arrivals of what was put out in answer.
+-- A round as its waves: the ticks, the arrivals of what they sent, and the arrivals of what was sent in answer.
 use Rattle.std.proofs.Common.{◌≡◌, ℕ, ◌<◌, [], ◌∷◌, ◌++◌, length, drop, None, refl, sym, ap, subst, ◌∙◌, arith}
 use Rattle.std.specs.List.{range_with_len}
 use Rattle.std.proofs.lemmas.Bool.{eq-eqb}
@@ -9,7 +9,7 @@ use Rattle.cb_history.specs.Answers.{arrive_answer, status_of, requests, tick_an
 use Rattle.cb_history.specs.Legal.{Call, ToTake, ToTick, history_after}
 use Rattle.cb_history.proofs.Views.{IsIn}
 use Rattle.cb_history.proofs.Keeping.{in_range}
-use Rattle.cb_schedules.specs.Schedule.{Setting, IsSetting, seat_at, Step, ArriveStep, TickStep, Schedule, SentFrame, Asked, Calls, ArrivalAnswer, TickAnswer, put_out, sent_by, GroupState, asked_by, after_asked, step_after, run_from}
+use Rattle.cb_schedules.specs.Schedule.{Setting, IsSetting, seat_at, Step, ArriveStep, TickStep, Schedule, SentFrame, Asked, Calls, ArrivalAnswer, TickAnswer, frames_sent, sent_by, GroupState, asked_by, after_asked, step_after, run_from}
 use Rattle.cb_schedules.specs.Messages.{facts_at}
 use Rattle.cb_schedules.specs.Honest.{IsHonest}
 use Rattle.cb_schedules.specs.Consistent.{IsConsistent}
@@ -21,7 +21,7 @@ use Rattle.cb_schedules.proofs.Headlines.{call_is_welcome}
 use Rattle.cb_schedules.proofs.Lists.{in_map, all_at_index}
 use Rattle.cb_schedules.proofs.Hearing.{tick_puts_out}
 use Rattle.cb_schedules.proofs.Later.{IsLater, later_joins, step_is_later, run_is_later}
-use Rattle.cb_schedules.proofs.Happening.{answer_to_asked, FindNoneFullFrom, happens, IsSentSince, put_out_is_sent, sent_arrives, still_sent, tick_asks, arrival_asks, ticks_cast_nothing, arrivals_cast_nothing}
+use Rattle.cb_schedules.proofs.Happening.{answer_to_asked, FindNoneFullFrom, happens, IsSentSince, sent_out_is_sent, sent_arrives, still_sent, tick_asks, arrival_asks, ticks_cast_nothing, arrivals_cast_nothing}
 
 -- the history of the member that a step calls
 own_history_after : (setting : Setting) (s : GroupState) (step : Step) (i : ℕ) (call : Call) → asked_by setting s.sent step ≡ Calls i call
@@ -31,7 +31,7 @@ own_history_after setting s step i call asks = ap (λ (asked : Asked). (after_as
 
 -- ---- a tick
 
--- member j ticks on the way from s to t, and what it puts out is sent
+-- member j ticks on the way from s to t, and what it sends is sent
 pub record Ticks (setting : Setting) (s t : GroupState) (j : ℕ) : Type 0 where
   pub now : GroupState
   pub next : GroupState
@@ -61,13 +61,13 @@ each_ticks setting is s inv none j lt =
       rest = later_joins h.now (step_after setting h.now (TickStep j)) (run_from setting s (tick_steps setting)) (step_is_later setting h.now (TickStep j) tt) h.after;
       history = own_history_after setting h.now (TickStep j) j ToTick asks;
       room = room;
-      sends = λ out there. put_out_is_sent setting s (run_from setting s (tick_steps setting)) (TickStep j) j ToTick h out asks
+      sends = λ out there. sent_out_is_sent setting s (run_from setting s (tick_steps setting)) (TickStep j) j ToTick h out asks
           (subst (IsIn out) (sym (tick_puts_out (seat_at setting j) setting.limit (h.now.histories j) room)) there);
     }
 
 -- ---- an arrival
 
--- the frame arrives at member j on the way from s to t, is not refused, and what is put out then is sent
+-- the frame arrives at member j on the way from s to t, is not refused, and what is sent then is sent
 pub record Takes (setting : Setting) (s t : GroupState) (frame : SentFrame) (j : ℕ) : Type 0 where
   pub now : GroupState
   pub next : GroupState
@@ -79,7 +79,7 @@ pub record Takes (setting : Setting) (s t : GroupState) (frame : SentFrame) (j :
   pub history : next.histories j ≡ history_after (seat_at setting j) setting.limit (now.histories j) (ToTake frame.bytes)
   pub welcome : IsNoRefusal (arrive_answer (seat_at setting j) setting.limit (now.histories j) frame.bytes)
   pub room : IsNotFull (ArrivalAnswer (arrive_answer (seat_at setting j) setting.limit (now.histories j) frame.bytes))
-  pub sends : (out : Outgoing) → IsIn out (put_out (ArrivalAnswer (arrive_answer (seat_at setting j) setting.limit (now.histories j) frame.bytes))) → IsSentSince s t (sent_by j out)
+  pub sends : (out : Outgoing) → IsIn out (frames_sent (ArrivalAnswer (arrive_answer (seat_at setting j) setting.limit (now.histories j) frame.bytes))) → IsSentSince s t (sent_by j out)
 
 -- what was sent between two states arrives at each of its receivers in the wave behind the second one
 pub each_takes : (setting : Setting) → IsSetting setting → (first s : GroupState) → IsConsistent setting s → IsLater first s → FindNoneFullFrom setting s (arrivals_since setting (length first.sent) s)
@@ -103,7 +103,7 @@ each_takes setting is first s inv later none frame j since to lt =
       history = own_history_after setting h.now (ArriveStep j a.number) j (ToTake frame.bytes) asks;
       welcome = call_is_welcome setting h.now h.consistent j (ToTake frame.bytes) lt honest;
       room = subst (λ (asked : Asked). IsNotFull (answer_to_asked setting h.now asked)) asks h.not_full;
-      sends = λ out there. put_out_is_sent setting s (run_from setting s wave) (ArriveStep j a.number) j (ToTake frame.bytes) h out asks there;
+      sends = λ out there. sent_out_is_sent setting s (run_from setting s wave) (ArriveStep j a.number) j (ToTake frame.bytes) h out asks there;
     }
 
 -- ---- a round
@@ -115,7 +115,8 @@ none_full_splits setting s (step ∷ steps) more none =
     let rest = none_full_splits setting (step_after setting s step) steps more none.1 in
     ((none.0, rest.0), rest.1)
 
--- The waves of a round: all that the ticks put out between s and `asking` arrives on the way to `answered`, and what was put out then arrives on the way to t.
+-- The waves of a round: all that the ticks sent between s and `asking` arrives on the way to `answered`, and what was sent then
+-- arrives on the way to t.
 pub record Waves (setting : Setting) (s t : GroupState) : Type 0 where
   pub asking : GroupState
   pub answered : GroupState

@@ -5,8 +5,8 @@ use Rattle.cb_frames.specs.Fields.{StatusFields, FrameFields, CastFrame, StatusF
 use Rattle.cb_frames.specs.Reading.{frame_at}
 use Rattle.cb_frames.specs.Laws.{IsBytes}
 use Rattle.cb_causality.specs.StampedMachine.{StampedLists, StampedRun}
-use Rattle.cb_history.specs.Group.{Parameters, Seat}
-use Rattle.cb_history.specs.Facts.{Fact, OwnCast, CastCame, StatusCame, OwnStatus, casts_in}
+use Rattle.cb_history.specs.Group.{Parameters, Identity}
+use Rattle.cb_history.specs.Facts.{Fact, OwnCast, CastReceived, StatusReceived, OwnStatus, casts_in}
 use Rattle.cb_history.specs.View.{view, next_delivery}
 use Rattle.cb_history.specs.Answers.{delivered, own_casts}
 use Rattle.cb_history.specs.Events.{events}
@@ -15,27 +15,27 @@ use Rattle.cb_history.specs.BufferLaws.{IsCastOf}
 use Rattle.cb_history.specs.OwnFrameLaws.{IsOfTheGroup}
 
 -- member k of a group
-abbrev pub member_of : Parameters → ℕ → Seat
+abbrev pub member_of : Parameters → ℕ → Identity
 member_of group k = record { group = group; me = k }
 
 -- ---- what members say of themselves
 
 -- the status says of each member no more than its own sender has delivered
-pub record IsTold (group : Parameters) (facts : ℕ → List Fact) (s : StatusFields) : Type 0 where
+pub record IsReported (group : Parameters) (facts : ℕ → List Fact) (s : StatusFields) : Type 0 where
   pub member : s.sender < group.size
   pub reached : AllByRecursion (λ d. d.amount ≤ delivered (member_of group s.sender) (facts s.sender) d.field) s.values
 
 -- A frame says what is so: a cast is an own cast of its sender, a status says what its sender has delivered, and nobody asks itself.
 abbrev pub SaysWhatIsSo : Parameters → (ℕ → List Fact) → FrameFields → Type 0
 SaysWhatIsSo group facts (CastFrame c) = IsCastOf c (own_casts (facts c.sender))
-SaysWhatIsSo group facts (StatusFrame s) = IsTold group facts s
+SaysWhatIsSo group facts (StatusFrame s) = IsReported group facts s
 SaysWhatIsSo group facts (RequestFrame r) = r.requester ≢ r.asked
 
 -- so with what an entry says
 abbrev pub IsSo : Parameters → (ℕ → List Fact) → Fact → Type 0
 IsSo group facts (OwnCast c) = IsCastOf c (own_casts (facts c.sender))
-IsSo group facts (CastCame c) = IsCastOf c (own_casts (facts c.sender))
-IsSo group facts (StatusCame s) = IsTold group facts s
+IsSo group facts (CastReceived c) = IsCastOf c (own_casts (facts c.sender))
+IsSo group facts (StatusReceived s) = IsReported group facts s
 IsSo group facts (OwnStatus s) = Unit {0}
 
 -- bytes that were sent: a frame of the group that says what is so

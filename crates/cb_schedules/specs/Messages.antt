@@ -43,15 +43,15 @@ abbrev pub messages_read : Result FrameFields FrameFault → List Carried
 messages_read (Ok (CastFrame c)) = messages_of c
 messages_read other = []
 
--- what came to member j by a call of member i: its own cast, or a cast frame that was accepted or was a repeat
-abbrev pub came_by : ℕ → Asked → Answer → List Carried
-came_by j (Calls i (ToCast payload)) (CastAnswer (Ok c)) = if i == j then messages_of c else []
-came_by j (Calls i (ToTake bytes)) (ArrivalAnswer (Ok says)) = if i == j then messages_read (frame_at bytes) else []
-came_by j asked answer = []
+-- what was received to member j by a call of member i: its own cast, or a cast frame that was accepted or was a repeat
+abbrev pub received_by : ℕ → Asked → Answer → List Carried
+received_by j (Calls i (ToCast payload)) (CastAnswer (Ok c)) = if i == j then messages_of c else []
+received_by j (Calls i (ToTake bytes)) (ArrivalAnswer (Ok says)) = if i == j then messages_read (frame_at bytes) else []
+received_by j asked answer = []
 
 -- the messages that have arrived at member j, by the outcomes alone; one that came again stands here again
 abbrev pub arrived_at : GroupState → ℕ → List Carried
-arrived_at s j = flat_map (λ outcome. came_by j outcome.asked outcome.answer) s.outcomes
+arrived_at s j = flat_map (λ outcome. received_by j outcome.asked outcome.answer) s.outcomes
 
 -- the message has arrived
 abbrev pub has_arrived : GroupState → ℕ → Name → Bool

@@ -54,7 +54,7 @@ NothingOldArrives =
     (setting : Setting) (s : GroupState) (number j : ℕ)
     → number < length s.sent → arrivals_at j number (round_steps setting s) ≡ 0
 
--- what is put out in answer arrives without putting anything out
+-- what is sent in answer arrives without sending anything
 abbrev pub AnswersPutNothingOut : Type 0
 AnswersPutNothingOut =
     (setting : Setting) (steps : Schedule) → IsSetting setting
@@ -78,7 +78,7 @@ RoomForEachStepIsEnough =
     → ((k : ℕ) → length (s.histories k) + length steps ≤ setting.limit) → FindNoneFull setting s steps
 
 -- Behind so many rounds it holds, from every state that any schedule reaches, where no answer in these rounds is that a history
--- is full. Nothing is asked of what came before: all frames may have been lost.
+-- is full. Nothing is asked of what was received before: all frames may have been lost.
 abbrev pub BehindRounds : (Setting → ℕ) → (Setting → GroupState → Type 0) → Type 0
 BehindRounds rounds P =
     (setting : Setting) (steps : Schedule) → IsSetting setting

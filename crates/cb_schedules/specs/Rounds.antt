@@ -1,4 +1,4 @@
--- Rounds: every member ticks, and then all that was put out arrives.
+-- Rounds: every member ticks, and then all that was sent arrives.
 use Rattle.std.specs.Prelude.{◌≢◌, ℕ, zero, suc, ◌+◌, not, ◌==◌, List, [], ◌∷◌, ◌++◌, length, drop, map, filter, Option, Some, None, Err}
 use Rattle.std.specs.List.{AllByRecursion, range_with_len}
 use Rattle.cb_history.specs.declared.answer.CastRefusal.TheVariants as casts
@@ -32,12 +32,12 @@ arrivals_since setting count s = arrivals_from setting count (drop count s.sent)
 unfoldable pub ticked : Setting → GroupState → GroupState
 ticked setting s = run_from setting s (tick_steps setting)
 
--- and behind the arrivals of what they put out, the statuses and the requests: these are answered
+-- and behind the arrivals of what they sent, the statuses and the requests: these are answered
 unfoldable pub answered : Setting → GroupState → GroupState
 answered setting s =
     run_from setting (ticked setting s) (arrivals_since setting (length s.sent) (ticked setting s))
 
--- A round: the ticks, the arrivals of what they put out, and the arrivals of what was put out in answer.
+-- A round: the ticks, the arrivals of what they sent, and the arrivals of what was sent in answer.
 unfoldable pub round_steps : Setting → GroupState → Schedule
 round_steps setting s =
     tick_steps setting
@@ -65,7 +65,7 @@ IsNotFull (ArrivalAnswer (Err refusal)) = refusal ≢ arrivals.HistoryFull
 IsNotFull (TickAnswer (Err refusal)) = refusal ≢ ticks.HistoryFull
 IsNotFull other = Unit {0}
 
--- what came of these steps, from this state on
+-- what was received of these steps, from this state on
 abbrev pub outcomes_of : Setting → GroupState → Schedule → List Outcome
 outcomes_of setting s steps = drop (length s.outcomes) (run_from setting s steps).outcomes
 

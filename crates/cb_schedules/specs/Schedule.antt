@@ -7,7 +7,7 @@ use Rattle.cb_history.specs.declared.answer.CastRefusal.{CastRefusal}
 use Rattle.cb_history.specs.declared.answer.ArriveRefusal.{ArriveRefusal}
 use Rattle.cb_history.specs.declared.answer.TickRefusal.{TickRefusal}
 use Rattle.cb_history.specs.declared.answer.Outgoing.{Outgoing}
-use Rattle.cb_history.specs.Group.{Parameters, AreParameters, Seat}
+use Rattle.cb_history.specs.Group.{Parameters, AreParameters, Identity}
 use Rattle.cb_history.specs.Facts.{EntryFields}
 use Rattle.cb_history.specs.Answers.{cast_answer, arrive_answer, tick_answer, ArrivalSays, Accepted}
 use Rattle.cb_history.specs.Legal.{longest_history, Call, ToCast, ToTake, ToTick, history_after}
@@ -24,7 +24,7 @@ pub record IsSetting (setting : Setting) : Type 0 where
   pub at_most : setting.limit ≤ longest_history
 
 -- member i of the group
-abbrev pub seat_at : Setting → ℕ → Seat
+abbrev pub seat_at : Setting → ℕ → Identity
 seat_at setting i = record { group = setting.group; me = i }
 
 -- ---- schedules
@@ -81,22 +81,22 @@ pub data Answer : Type 0 where
   NoSuchFrame : Answer
   NoBytes : Answer
 
-abbrev pub answer_of : Seat → ℕ → List EntryFields → Call → Answer
+abbrev pub answer_of : Identity → ℕ → List EntryFields → Call → Answer
 answer_of seat limit entries (ToCast payload) = CastAnswer (cast_answer seat limit entries payload)
 answer_of seat limit entries (ToTake bytes) = ArrivalAnswer (arrive_answer seat limit entries bytes)
 answer_of seat limit entries ToTick = TickAnswer (tick_answer seat limit entries)
 
--- the frames that an answer puts out: a cast's to all others, those in answer to a request, a status and requests
-abbrev pub put_out : Answer → List Outgoing
-put_out (CastAnswer (Ok c)) = record { to = None; bytes = text_of (CastFrame c) } ∷ []
-put_out (ArrivalAnswer (Ok (Accepted deliveries changed out))) = out
-put_out (TickAnswer (Ok t)) = t.1
-put_out other = []
+-- the frames that an answer sends: a cast's to all others, those in answer to a request, a status and requests
+abbrev pub frames_sent : Answer → List Outgoing
+frames_sent (CastAnswer (Ok c)) = record { to = None; bytes = text_of (CastFrame c) } ∷ []
+frames_sent (ArrivalAnswer (Ok (Accepted deliveries changed out))) = out
+frames_sent (TickAnswer (Ok t)) = t.1
+frames_sent other = []
 
 abbrev pub sent_by : ℕ → Outgoing → SentFrame
 sent_by i out = record { from = i; to = out.to; bytes = out.bytes }
 
--- what came of a step: what it asked for, the answer, and the number of the first frame put out and how many these are
+-- the outcome of a step: what it asked for, the answer, and the number of the first frame sent and how many these are
 pub record Outcome : Type 0 where
   pub asked : Asked
   pub answer : Answer
@@ -105,7 +105,7 @@ pub record Outcome : Type 0 where
 
 -- ---- runs
 
--- a history for each member, all frames that were sent, and what came of the steps
+-- a history for each member, all frames that were sent, and what was received of the steps
 pub record GroupState : Type 0 where
   pub histories : ℕ → List EntryFields
   pub sent : List SentFrame
@@ -123,12 +123,12 @@ and_nothing s asked answer = record {
   outcomes = s.outcomes ++ record { asked = asked; answer = answer; first = length s.sent; count = 0 } ∷ [];
 }
 
--- member i answers the call: its history is the one after it, and what it puts out is sent
+-- member i answers the call: its history is the one after it, and what it sends is sent
 abbrev pub and_answer : Setting → GroupState → ℕ → Call → Answer → GroupState
 and_answer setting s i call answer = record {
   histories = with_history s.histories i (history_after (seat_at setting i) setting.limit (s.histories i) call);
-  sent = s.sent ++ map (sent_by i) (put_out answer);
-  outcomes = s.outcomes ++ record { asked = Calls i call; answer = answer; first = length s.sent; count = length (put_out answer) } ∷ [];
+  sent = s.sent ++ map (sent_by i) (frames_sent answer);
+  outcomes = s.outcomes ++ record { asked = Calls i call; answer = answer; first = length s.sent; count = length (frames_sent answer) } ∷ [];
 }
 
 abbrev pub after_asked : Setting → GroupState → Asked → GroupState

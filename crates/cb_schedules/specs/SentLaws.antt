@@ -17,7 +17,7 @@ use Rattle.cb_history.specs.Known.{known, acknowledged, stable}
 use Rattle.cb_history.specs.BufferLaws.{IsCastOf}
 use Rattle.cb_schedules.specs.Schedule.{Setting, seat_at, SentFrame, Answer, ArrivalAnswer, GroupState}
 use Rattle.cb_schedules.specs.Messages.{facts_at, stamped_lists, time_from_bytes}
-use Rattle.cb_schedules.specs.Honest.{IsTold}
+use Rattle.cb_schedules.specs.Honest.{IsReported}
 
 -- ---- frames that were sent
 
@@ -39,14 +39,14 @@ OneNameSameBytes setting s =
 
 -- every status that was sent says of each member no more than its sender has delivered, and nobody asks itself
 abbrev pub SentStatusesAreSo : Setting → GroupState → Type 0
-SentStatusesAreSo setting s = (frame : SentFrame) (t : StatusFields) → WasSent s frame → frame_at frame.bytes ≡ Ok (StatusFrame t) → IsTold setting.group (facts_at s) t
+SentStatusesAreSo setting s = (frame : SentFrame) (t : StatusFields) → WasSent s frame → frame_at frame.bytes ≡ Ok (StatusFrame t) → IsReported setting.group (facts_at s) t
 
 abbrev pub NobodyAsksItself : Setting → GroupState → Type 0
 NobodyAsksItself setting s =
     (frame : SentFrame) (r : RequestFields) → WasSent s frame → frame_at frame.bytes ≡ Ok (RequestFrame r)
     → (r.requester < setting.group.size) × (r.asked < setting.group.size) × (r.requester ≢ r.asked)
 
--- ---- what came
+-- ---- what was received
 
 -- every cast that is there with a member is an own cast of its sender
 abbrev pub CastsThereAreOwn : Setting → GroupState → Type 0

@@ -106,7 +106,7 @@ trimmed_at put s d q xs before e =
           ]
     ]
 
--- letting go of the frames up to s
+-- dropping the frames up to s
 pub trim_kept : (put s d : ℕ) (xs : List (List ℕ)) → length xs ≤ put → d ≡ s - (put - length xs)
     → kept_from (put - length (drop d xs) + 1) (drop d xs)
     ≡ fin.retain_keys (kept_from (put - length xs + 1) xs) (λ number. nat_lt s number)

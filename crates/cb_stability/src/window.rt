@@ -17,7 +17,7 @@ use std::marker::Model;
 /// The frames that a member sent and may have to send again.
 ///
 /// Each frame of an own cast is given to `put`, in the order of the casts' numbers, where there is `room`. Once casts are
-/// stable their frames are let go of by `trim`. Where another member asks for casts, `frames_in` gives their frames.
+/// stable their frames are freed by `trim`. Where another member asks for casts, `frames_in` gives their frames.
 /// `new` reserves the places for all frames that are kept at once, and only it and `frames_in` take memory.
 #[derive(Debug, Drop)]
 pub struct SentWindow {
@@ -81,7 +81,7 @@ impl SentWindow {
     {
         let trimmed = self.put - self.frames.len() as u32;
         let count = last.saturating_sub(trimmed) as usize;
-        let_go(&mut self.frames, count);
+        free_oldest(&mut self.frames, count);
     }
 
     /// The frames that are kept with numbers in some of these ranges, each once, byte for byte as they were put.
@@ -111,7 +111,7 @@ impl SentWindow {
 }
 
 // The oldest frames go, so many or all that there are.
-fn let_go(frames: &mut VecDeque<Bytes>, count: usize)
+fn free_oldest(frames: &mut VecDeque<Bytes>, count: usize)
     ensures items { frames.new.items ≡ drop count frames.old.items }
     ensures capacity { deque_capacity frames.new ≡ deque_capacity frames.old }
 {

@@ -6,7 +6,7 @@ use Rattle.cb_lock.specs.Receipts.{ReceiptFields, SeatState}
 use Rattle.cb_lock.specs.Claims.{receipts_of}
 use Rattle.cb_threads.specs.declared.report.Tally.{Tally}
 use Rattle.cb_threads.specs.Counts.{greatest, held}
-use Rattle.cb_threads.specs.Reports.{casts_of, deliveries_of, entries_in, entries_told, Adds, IsTally, no_tally}
+use Rattle.cb_threads.specs.Reports.{casts_of, deliveries_of, entries_in, entries_reported, Adds, IsTally, no_tally}
 
 -- the counts with all of these entries
 abbrev pub sums : Tally → List EntryFields → Tally
@@ -66,9 +66,9 @@ pub item_at : {X : Type 0} (xs : List X) (i : ℕ) (x : X) → i < length xs →
 item_at xs i x within is = drop_more xs i x within ∙ ap (λ (y : _). y ∷ drop (i + 1) xs) (sym is)
 
 -- the entries of a seat were added
-pub seats_go_on : (seats : List SeatState) (i : ℕ) (seat : SeatState) (goal t u : Tally) → drop i seats ≡ seat ∷ drop (i + 1) seats → Goes (entries_in (drop i seats)) goal t → Adds t (entries_told seat.receipts) u
+pub seats_go_on : (seats : List SeatState) (i : ℕ) (seat : SeatState) (goal t u : Tally) → drop i seats ≡ seat ∷ drop (i + 1) seats → Goes (entries_in (drop i seats)) goal t → Adds t (entries_reported seat.receipts) u
     → Goes (entries_in (drop (i + 1) seats)) goal u
 seats_go_on seats i seat goal t u at g added =
-    let split : entries_in (drop i seats) ≡ entries_told seat.receipts ++ entries_in (drop (i + 1) seats) =
+    let split : entries_in (drop i seats) ≡ entries_reported seat.receipts ++ entries_in (drop (i + 1) seats) =
     ap entries_in at ∙ map-append (λ (r : ReceiptFields). r.entry) seat.receipts (receipts_of (drop (i + 1) seats)) in
-    goes_on (entries_told seat.receipts) (entries_in (drop (i + 1) seats)) goal t u (subst (λ (es : List EntryFields). Goes es goal t) split g) added
+    goes_on (entries_reported seat.receipts) (entries_in (drop (i + 1) seats)) goal t u (subst (λ (es : List EntryFields). Goes es goal t) split g) added

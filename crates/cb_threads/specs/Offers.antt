@@ -31,7 +31,7 @@ lost_of u = held (u.failures + u.refused)
 abbrev pub FailuresAreLost : ℕ → ℕ → Type 0
 FailuresAreLost failures lost = failures ≤ lost
 
--- what came of offering so many frames was added to what a sender has lost, and to its failures
+-- what was received of offering so many frames was added to what a sender has lost, and to its failures
 abbrev pub AddsUnsent : ℕ → ℕ → ℕ → ℕ → ℕ → Type 0
 AddsUnsent count lost failures lost' failures' = (u : Unsent) × (u.offered ≡ held count) × (lost' ≡ held (lost + lost_of u)) × (failures' ≡ held (failures + u.failures))
 

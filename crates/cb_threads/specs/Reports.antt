@@ -43,12 +43,12 @@ deliveries_of [] = 0
 deliveries_of (e ∷ es) = delivered_by e + deliveries_of es
 
 -- the entries that receipts tell of
-abbrev pub entries_told : List ReceiptFields → List EntryFields
-entries_told receipts = map (λ r. r.entry) receipts
+abbrev pub entries_reported : List ReceiptFields → List EntryFields
+entries_reported receipts = map (λ r. r.entry) receipts
 
 -- the entries of which these seats have receipts
 abbrev pub entries_in : List SeatState → List EntryFields
-entries_in seats = entries_told (receipts_of seats)
+entries_in seats = entries_reported (receipts_of seats)
 
 -- ---- counts
 
@@ -70,7 +70,7 @@ pub record Tells (entries : List EntryFields) (casts deliveries count : ℕ) : T
 abbrev pub IsTally : List EntryFields → Tally → Type 0
 IsTally entries tally = Tells entries tally.casts tally.deliveries tally.entries
 
--- ---- what comes back
+-- ---- what is received back
 
 -- the link, the pace and the talker are in the report
 pub record HandsAllBack {I O P T : Type 0} (report : MemberReport I O P T) : Type 0 where

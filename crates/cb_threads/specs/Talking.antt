@@ -1,4 +1,4 @@
--- What comes of what a talker says.
+-- The outcome of what a talker says.
 use Rattle.std.specs.Prelude.{ℕ, Option, Some, None}
 use Rattle.std.specs.declared.vec.Vec.{Vec}
 use Rattle.std.specs.declared.alloc.Global.{Global}

@@ -46,7 +46,7 @@ pub struct ChannelOutlet {
 #[derive(Drop)]
 struct End {
     slot: Slot<Vec<Bytes>>,
-    /// What came of offering it the last frames.
+    /// The outcome of offering it the last frames.
     offered: Offered,
 }
 
@@ -199,7 +199,7 @@ impl ChannelOutlet {
         offer_to_all(rt, alloc, &mut self.to, frames);
     }
 
-    /// What came of offering this frame, whose failures are counted.
+    /// The outcome of offering this frame, whose failures are counted.
     fn count(&mut self, out: &Outgoing) -> Result<(), LinkFault>
         ensures rises { self.old.failures ≤ self.new.failures }
         ensures fault { IfErr result (λ fault. LinkCounts fault self.old.failures
@@ -214,7 +214,7 @@ impl ChannelOutlet {
     }
 }
 
-/// What came of the last frames at one member; there is none for a number that is the sender's own or no member's.
+/// The outcome of the last frames at one member; there is none for a number that is the sender's own or no member's.
 fn offered_to(to: Option<&Option<End>>) -> Offered {
     match to {
         Some(Some(end)) => end.offered,
@@ -222,7 +222,7 @@ fn offered_to(to: Option<&Option<End>>) -> Offered {
     }
 }
 
-/// What came of the last frames at all others.
+/// The outcome of the last frames at all others.
 fn offered_to_all(to: &[Option<End>]) -> Offered {
     let mut offered = Offered::taken();
     for end in to {

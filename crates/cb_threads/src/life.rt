@@ -16,7 +16,7 @@ use crate::start::{Parts, Seats};
 use crate::talker::Talker;
 use crate::workers::Desk;
 use cb_lock::{CloseFault, CloseRefusal, Closed, Seat, SharedMember};
-use cb_member::{Group, History, Member, Seat as Identity};
+use cb_member::{Group, History, Identity, Member};
 use std::alloc::{AllocError, AllocFailed, Global};
 use std::marker::Brand;
 use std::sync::Wait;
@@ -350,7 +350,7 @@ fn share<
     ended(identity, shared.close(seats), report)
 }
 
-/// What came of closing this member.
+/// The outcome of closing this member.
 fn ended<I: Inlet + Drop, O: Outlet + Drop, P: Pace + Drop, T: Drop>(
     identity: Identity,
     closed: Result<Closed, CloseRefusal>,

@@ -67,7 +67,7 @@ pub trait Inlet {
     fn failures(&self) -> u64
         ensures { result ≡ failed self.now };
 
-    /// The next frame, where one is there or comes within about a millisecond. A frame that came is handed out once, or lost with a fault.
+    /// The next frame, where one is there or comes within about a millisecond. A received frame is handed out once, or lost with a fault.
     fn receive<R: Wait + Clock>(&mut self, rt: &R) -> Result<Received, LinkFault>
         ensures rises { failed self.old ≤ failed self.new }
         ensures fault { IfErr result (λ fault. LinkCounts fault (failed self.old)
@@ -183,7 +183,7 @@ fn and_refusal(refused: u64, fault: LinkFault) -> u64
     }
 }
 
-/// What came of offering a frame to some members.
+/// The outcome of offering a frame to some members.
 #[derive(Clone, Copy)]
 pub struct Offered {
     /// How many of them it could not be sent to.

@@ -126,7 +126,7 @@ impl<M: Drop> Mailbox<M> {
         }
     }
 
-    /// The same where messages come many at once: none is waited for where there is one.
+    /// Takes a message where many come at once: none is waited for where there is one.
     pub fn take_at_once<R: Wait>(&self, rt: &R) -> Taken<M> {
         match self.look(rt) {
             Taken::Nothing => self.sleep(rt, WAIT),

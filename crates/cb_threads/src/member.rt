@@ -20,8 +20,9 @@ use std::sync::ledger::Ledger;
 use std::thread::Threads;
 use std::time::Clock;
 
-/// Runs four workers at once at one member, each with a seat of its own: one that takes what comes, one that ticks, one that casts what the
-/// talker says, and one that sends what these put out.
+/// Runs four workers at once at one member, each with a seat of its own: one that takes what is received, one that ticks, one that
+/// casts what the
+/// talker says, and one that sends what these sent.
 ///
 /// The first three end after so many turns as the limits say, or once the stop is set; the talker's also once it has finished. The sender
 /// ends when they have. Link, pace and talker stand in the report, and the seats come back for `close`: all four, unless a thread could not be

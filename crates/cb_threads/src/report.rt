@@ -4,7 +4,7 @@ ghost use Rattle.std.specs.Prelude.{◌≡◌, [], ◌∷◌, map, Some};
 ghost use Rattle.cb_history.specs.Facts.{entry_fields};
 ghost use Rattle.cb_lock.specs.Receipts.{receipt_fields};
 ghost use Rattle.cb_threads.specs.FaultText.{worker_fault_text};
-ghost use Rattle.cb_threads.specs.Reports.{Adds, IsTally, entries_in, entries_told, no_tally};
+ghost use Rattle.cb_threads.specs.Reports.{Adds, IsTally, entries_in, entries_reported, no_tally};
 
 use cb_lock::{Receipt, Seat};
 use cb_member::Entry;
@@ -61,7 +61,7 @@ pub struct MemberReport<I, O, P, T> {
 }
 
 impl<I, O, P, T> MemberReport<I, O, P, T> {
-    /// The same with these counts.
+    /// The report with these counts.
     pub(crate) fn with(self, tally: Tally) -> MemberReport<I, O, P, T>
         ensures { result ≡ record self {
           casts = tally.casts;
@@ -128,7 +128,7 @@ impl Tally {
     }
 
     fn and_all(self, receipts: &[Receipt]) -> Tally
-        ensures { Adds self (entries_told (map receipt_fields receipts.now)) result }
+        ensures { Adds self (entries_reported (map receipt_fields receipts.now)) result }
     {
         let mut tally = self;
         for receipt in receipts {

@@ -190,7 +190,7 @@ fn offer(socket: &UdpSocket, to: Option<&SocketAddr>, frame: &Bytes) -> Offered 
     offered(socket.send_to(frame.as_slice(), *address))
 }
 
-/// What came of sending a datagram: the system takes it whole, or refuses it.
+/// The outcome of sending a datagram: the system takes it whole, or refuses it.
 fn offered(sent: io::Result<usize>) -> Offered
     ensures failures { MatchResult sent (λ _. result.failures ≡ 0) (λ _. result.failures ≡ 1) }
     ensures refused { result.refused ≡ false }

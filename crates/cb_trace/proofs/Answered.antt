@@ -1,4 +1,4 @@
--- What an answer that adds an entry puts out, and that it does not depend on the limit while an entry is left.
+-- What an answer that adds an entry sends, and that it does not depend on the limit while an entry is left.
 use Rattle.std.proofs.Common.{◌≡◌, ◌⊎◌, ℕ, Bool, true, false, not, ◌&&◌, eqb, ltb, List, [], ◌∷◌, length, filter, Some, None, Result, Ok, Err, refl, sym, ap, subst, ◌∙◌, inl, inr, if◌then◌else◌}
 use Rattle.std.specs.List.{AllByRecursion, range_with_len}
 use Rattle.std.proofs.lemmas.Bool.{cond_both}
@@ -16,20 +16,20 @@ use Rattle.cb_history.specs.declared.answer.ArriveRefusal.TheVariants as arrival
 use Rattle.cb_history.specs.declared.answer.TickRefusal.{TickRefusal}
 use Rattle.cb_history.specs.declared.answer.TickRefusal.TheVariants as ticks
 use Rattle.cb_history.specs.declared.answer.Outgoing.{Outgoing}
-use Rattle.cb_history.specs.Group.{Seat}
+use Rattle.cb_history.specs.Group.{Identity}
 use Rattle.cb_history.specs.Facts.{EntryFields, CastEntry, ArriveEntry, TickEntry, Fact, facts_of}
 use Rattle.cb_history.specs.Known.{missing, ranges_of}
 use Rattle.cb_history.specs.Answers.{is_full, is_window_full, next_cast, cast_answer, group_of, are_members, is_impossible, is_repeat, is_too_far, is_change, deliveries, sent_in_answer, ArrivalSays, Accepted, Repeat, frame_answer, answer_to, arrive_answer, status_of, is_new_status, request_to, requests, tick_answer}
 use Rattle.cb_history.specs.Legal.{Call, ToCast, ToTake, ToTick, cast_entry, arrive_entry, tick_entry, entry_of}
 use Rattle.cb_history.specs.ReplayLaws.{call_of}
 use Rattle.cb_history.proofs.Views.{IsIn}
-use Rattle.cb_schedules.specs.Schedule.{CastAnswer, ArrivalAnswer, TickAnswer, answer_of, put_out}
+use Rattle.cb_schedules.specs.Schedule.{CastAnswer, ArrivalAnswer, TickAnswer, answer_of, frames_sent}
 use Rattle.cb_schedules.proofs.Lists.{all_flat}
 use Rattle.cb_trace.specs.JointOrder.{PutsOut}
 
 -- ---- limits
 
-module _ (seat : Seat) (limit other : ℕ) (entries : List EntryFields) (same : is_full limit entries ≡ is_full other entries) where
+module _ (seat : Identity) (limit other : ℕ) (entries : List EntryFields) (same : is_full limit entries ≡ is_full other entries) where
   cast_room : (payload : List ℕ) → cast_answer seat limit entries payload ≡ cast_answer seat other entries payload
   unfolding cast_answer
   cast_room payload =
@@ -74,18 +74,18 @@ module _ (seat : Seat) (limit other : ℕ) (entries : List EntryFields) (same : 
   entry_room (ToTake bytes) = ap (arrive_entry bytes) (arrive_room bytes)
   entry_room ToTick = ap (tick_entry (text_of (StatusFrame (status_of seat (facts_of entries))))) tick_room
 
--- ---- what is put out
+-- ---- what is sent
 
 -- the bytes ask for what is missing
 abbrev pub IsRequest : List ℕ → Type 0
 IsRequest bytes = (r : RequestFields) × (bytes ≡ text_of (RequestFrame r))
 
--- What comes out with an entry: the bytes that it puts out, and beside these requests alone.
+-- What is received out with an entry: the bytes that it sends, and beside these requests alone.
 pub record ComesWith (e : EntryFields) (out : List Outgoing) : Type 0 where
   pub all : (bytes : List ℕ) → PutsOut e bytes → (o : Outgoing) × IsIn o out × (o.bytes ≡ bytes)
   pub only : AllByRecursion (λ (o : Outgoing). PutsOut e o.bytes ⊎ IsRequest o.bytes) out
 
-cast_out : (frame : List ℕ) (r : Result CastFields CastRefusal) → cast_entry r ≡ Some (CastEntry frame) → ComesWith (CastEntry frame) (put_out (CastAnswer r))
+cast_out : (frame : List ℕ) (r : Result CastFields CastRefusal) → cast_entry r ≡ Some (CastEntry frame) → ComesWith (CastEntry frame) (frames_sent (CastAnswer r))
 cast_out frame (Ok c) is =
     let said : text_of (CastFrame c) ≡ frame = cc in
     record {
@@ -96,15 +96,15 @@ cast_out frame (Err refusal) is = absurd cc
 
 -- an arrival that adds an entry puts nothing out: only a request is answered
 abbrev Quiet : List ℕ → EntryFields → Result ArrivalSays ArriveRefusal → Type 0
-Quiet bytes e r = arrive_entry bytes r ≡ Some e → put_out (ArrivalAnswer r) ≡ []
+Quiet bytes e r = arrive_entry bytes r ≡ Some e → frames_sent (ArrivalAnswer r) ≡ []
 
-accepted_quiet : (bytes : List ℕ) (e : EntryFields) (seat : Seat) (facts : List Fact) (frame : FrameFields) → is_change seat facts frame ≡ true
+accepted_quiet : (bytes : List ℕ) (e : EntryFields) (seat : Identity) (facts : List Fact) (frame : FrameFields) → is_change seat facts frame ≡ true
     → Quiet bytes e (Ok (Accepted (deliveries seat facts frame) true (sent_in_answer seat facts frame)))
 accepted_quiet bytes e seat facts (CastFrame c) change is = refl
 accepted_quiet bytes e seat facts (StatusFrame s) change is = refl
 accepted_quiet bytes e seat facts (RequestFrame r) change is = absurd cc
 
-frame_quiet : (seat : Seat) (limit : ℕ) (entries : List EntryFields) (facts : List Fact) (frame : FrameFields) (bytes : List ℕ) (e : EntryFields) → Quiet bytes e (frame_answer seat limit entries facts frame)
+frame_quiet : (seat : Identity) (limit : ℕ) (entries : List EntryFields) (facts : List Fact) (frame : FrameFields) (bytes : List ℕ) (e : EntryFields) → Quiet bytes e (frame_answer seat limit entries facts frame)
 frame_quiet seat limit entries facts frame bytes e =
     let P : Result ArrivalSays ArriveRefusal → Type 0 = Quiet bytes e in
     cond_both (not (eqb (group_of frame) seat.group.number)) _ _ P (λ _ is. refl) (λ _.
@@ -115,23 +115,23 @@ frame_quiet seat limit entries facts frame bytes e =
     cond_both (is_change seat facts frame && is_full limit entries) _ _ P (λ _ is. refl) (λ _.
     cond_both (is_change seat facts frame) _ _ P (λ change. accepted_quiet bytes e seat facts frame change) (λ _ is. absurd cc)))))))
 
-answer_quiet : (seat : Seat) (limit : ℕ) (entries : List EntryFields) (r : Result FrameFields FrameFault) (bytes : List ℕ) (e : EntryFields) → Quiet bytes e (answer_to seat limit entries r)
+answer_quiet : (seat : Identity) (limit : ℕ) (entries : List EntryFields) (r : Result FrameFields FrameFault) (bytes : List ℕ) (e : EntryFields) → Quiet bytes e (answer_to seat limit entries r)
 answer_quiet seat limit entries (Ok frame) bytes e is = frame_quiet seat limit entries (facts_of entries) frame bytes e is
 answer_quiet seat limit entries (Err fault) bytes e is = refl
 
-take_out : (seat : Seat) (limit : ℕ) (entries : List EntryFields) (bytes : List ℕ) (e : EntryFields) → Quiet bytes e (arrive_answer seat limit entries bytes)
+take_out : (seat : Identity) (limit : ℕ) (entries : List EntryFields) (bytes : List ℕ) (e : EntryFields) → Quiet bytes e (arrive_answer seat limit entries bytes)
 unfolding arrive_answer
 take_out seat limit entries bytes e = answer_quiet seat limit entries (frame_at bytes) bytes e
 
 nothing_comes : (bytes : List ℕ) (names : List Name) → ComesWith (ArriveEntry bytes names) []
 nothing_comes bytes names = record { all = λ _ e. absurd e; only = tt }
 
--- a tick puts out its status, and requests
-asks_alone : (seat : Seat) (i : ℕ) (ranges : List Range) → AllByRecursion (λ (o : Outgoing). IsRequest o.bytes) (request_to seat i ranges)
+-- a tick sends its status, and requests
+asks_alone : (seat : Identity) (i : ℕ) (ranges : List Range) → AllByRecursion (λ (o : Outgoing). IsRequest o.bytes) (request_to seat i ranges)
 asks_alone seat i [] = tt
 asks_alone seat i (r ∷ ranges) = ((_, refl), tt)
 
-are_requests : (seat : Seat) (facts : List Fact) → AllByRecursion (λ (o : Outgoing). IsRequest o.bytes) (requests seat facts)
+are_requests : (seat : Identity) (facts : List Fact) → AllByRecursion (λ (o : Outgoing). IsRequest o.bytes) (requests seat facts)
 are_requests seat facts =
     all_flat (λ (o : Outgoing). IsRequest o.bytes) (λ i. request_to seat i (ranges_of (missing seat facts i))) (filter (λ i. not (eqb i seat.me)) (range_with_len 0 seat.group.size))
     (λ i there. asks_alone seat i (ranges_of (missing seat facts i)))
@@ -144,7 +144,7 @@ abbrev ticked : Bool → Bool → List ℕ → List Outgoing → Result (Bool ×
 ticked new full status out = if new && full then Err ticks.HistoryFull else Ok (new, record { to = None; bytes = status } ∷ out)
 
 tick_out : (new full : Bool) (said status : List ℕ) (out : List Outgoing) → AllByRecursion (λ (o : Outgoing). IsRequest o.bytes) out → tick_entry said (ticked new full said out) ≡ Some (TickEntry status)
-    → ComesWith (TickEntry status) (put_out (TickAnswer (ticked new full said out)))
+    → ComesWith (TickEntry status) (frames_sent (TickAnswer (ticked new full said out)))
 tick_out false full said status out asks is = absurd cc
 tick_out true true said status out asks is = absurd cc
 tick_out true false said status out asks is =
@@ -154,12 +154,12 @@ tick_out true false said status out asks is =
       only = (inl (sym same), or_requests (TickEntry status) out asks);
     }
 
-tick_comes : (seat : Seat) (limit : ℕ) (entries : List EntryFields) (status : List ℕ) → entry_of seat limit entries ToTick ≡ Some (TickEntry status) → ComesWith (TickEntry status) (put_out (TickAnswer (tick_answer seat limit entries)))
+tick_comes : (seat : Identity) (limit : ℕ) (entries : List EntryFields) (status : List ℕ) → entry_of seat limit entries ToTick ≡ Some (TickEntry status) → ComesWith (TickEntry status) (frames_sent (TickAnswer (tick_answer seat limit entries)))
 unfolding tick_answer
 tick_comes seat limit entries status is =
     tick_out (is_new_status seat (facts_of entries)) (is_full limit entries) (text_of (StatusFrame (status_of seat (facts_of entries)))) status (requests seat (facts_of entries)) (are_requests seat (facts_of entries)) is
 
-pub comes_with : (seat : Seat) (limit : ℕ) (entries : List EntryFields) (e : EntryFields) → entry_of seat limit entries (call_of e) ≡ Some e → ComesWith e (put_out (answer_of seat limit entries (call_of e)))
+pub comes_with : (seat : Identity) (limit : ℕ) (entries : List EntryFields) (e : EntryFields) → entry_of seat limit entries (call_of e) ≡ Some e → ComesWith e (frames_sent (answer_of seat limit entries (call_of e)))
 comes_with seat limit entries (CastEntry frame) is = cast_out frame (cast_answer seat limit entries _) is
 comes_with seat limit entries (ArriveEntry frame names) is =
     subst (ComesWith (ArriveEntry frame names)) (sym (take_out seat limit entries frame (ArriveEntry frame names) is)) (nothing_comes frame names)

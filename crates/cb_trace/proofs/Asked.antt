@@ -19,7 +19,7 @@ use Rattle.cb_causality.specs.declared.event.CausalEvent.TheVariants as causal
 use Rattle.cb_causality.specs.HappenedBefore.{HappenedBefore}
 use Rattle.cb_causality.specs.StampedMachine.{without_time}
 use Rattle.cb_causality.proofs.Counting.{get_map, get_map_from}
-use Rattle.cb_history.specs.Group.{Seat}
+use Rattle.cb_history.specs.Group.{Identity}
 use Rattle.cb_history.specs.Facts.{Fact, facts_of, casts_in}
 use Rattle.cb_history.specs.View.{view, message_in}
 use Rattle.cb_history.specs.Events.{event_in, events}
@@ -33,7 +33,7 @@ use Rattle.cb_trace.specs.Asking.{HasCastOf, HasNoCastOf, IsCastAtTime}
 
 -- ---- casts are of the member itself
 
-cast_of_itself : (seat : Seat) (facts : List Fact) (m : Carried) (message : Message) (b : Bool) → eqb m.sender seat.me ≡ b → event_in seat (casts_in facts) m ≡ Cast message → message.name.sender ≡ seat.me
+cast_of_itself : (seat : Identity) (facts : List Fact) (m : Carried) (message : Message) (b : Bool) → eqb m.sender seat.me ≡ b → event_in seat (casts_in facts) m ≡ Cast message → message.name.sender ≡ seat.me
 cast_of_itself seat facts m message true own is =
     let cast : Cast (message_in seat.group.size (casts_in facts) m) ≡ Cast message = sym (rw own refl) ∙ is in
     let same : message_in seat.group.size (casts_in facts) m ≡ message = cc in
@@ -42,7 +42,7 @@ cast_of_itself seat facts m message false other is =
     let deliver : Deliver (message_in seat.group.size (casts_in facts) m) ≡ Cast message = sym (rw other refl) ∙ is in
     absurd cc
 
-own_casts_alone : (seat : Seat) (facts : List Fact) (index : ℕ) (message : Message) → slice_get (events seat facts) index ≡ Some (Cast message) → message.name.sender ≡ seat.me
+own_casts_alone : (seat : Identity) (facts : List Fact) (index : ℕ) (message : Message) → slice_get (events seat facts) index ≡ Some (Cast message) → message.name.sender ≡ seat.me
 own_casts_alone seat facts index message at =
     let (m, stands, is) = get_map_from (event_in seat (casts_in facts)) (view seat.group.size facts) index (Cast message) at in
     cast_of_itself seat facts m message (eqb m.sender seat.me) refl is
@@ -51,7 +51,7 @@ cast_with_time : (event : Event) (name : Name) (payload : List ℕ) → without_
 cast_with_time (Cast message) name payload e = (message, refl, cc)
 cast_with_time (Deliver message) name payload e = absurd cc
 
-no_events : (seat : Seat) → events seat [] ≡ []
+no_events : (seat : Identity) → events seat [] ≡ []
 unfolding view
 no_events seat = refl
 
@@ -95,9 +95,9 @@ module _ (setting : Setting) (s : GroupState) (inv : IsConsistent setting s) whe
       is = sym has.time_is ∙ times_from_bytes setting s inv name.sender has.index (Cast has.message) has.stands ∙ ap (time_from_bytes setting s) has.named
 
   -- the times tell which was before
-  pub told_before : (a b : Name) (first second : List ℕ) (order : TimeOrder) → IsCastAtTime setting s a first → IsCastAtTime setting s b second → Compares (field first) (field second) order
+  pub reported_before : (a b : Name) (first second : List ℕ) (order : TimeOrder) → IsCastAtTime setting s a first → IsCastAtTime setting s b second → Compares (field first) (field second) order
       → (order ≡ Before → HappenedBefore (causal_lists setting s) a b) × (HappenedBefore (causal_lists setting s) a b → Compares (field first) (field second) Before)
-  told_before a b first second order is_a is_b compared =
+  reported_before a b first second order is_a is_b compared =
       let tells = (headline_holds setting s inv).times a b is_a.cast is_b.cast Before in
       let C : List ℕ → List ℕ → Type 0 = λ x y. Compares (field x) (field y) Before in (
         (λ before. tells.0 (subst (λ (x : List ℕ). Compares (field x) (field (time_from_bytes setting s b)) Before) is_a.time_is
@@ -129,7 +129,7 @@ module _ (w : WorldState) (setting_is : IsSetting w.setting) where
   pub before_decided : (a b : Name) (first second : List ℕ) (order : TimeOrder) (answer : Bool) → IsCastAtTime w.setting (run_in w) a first → IsCastAtTime w.setting (run_in w) b second
       → Compares (field first) (field second) order → Decides answer (order ≡ Before) → Decides answer (HappenedBefore (causal_lists w.setting (run_in w)) a b)
   before_decided a b first second order answer is_a is_b compared decides =
-      let told = told_before w.setting (run_in w) inv_of a b first second order is_a is_b compared in (
-        (λ yes. told.0 (decides.0 yes)),
-        (λ before. decides.1 (only_before (field first) (field second) order compared (told.1 before))),
+      let reported = reported_before w.setting (run_in w) inv_of a b first second order is_a is_b compared in (
+        (λ yes. reported.0 (decides.0 yes)),
+        (λ before. decides.1 (only_before (field first) (field second) order compared (reported.1 before))),
       )

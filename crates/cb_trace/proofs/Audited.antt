@@ -9,7 +9,7 @@ use Rattle.std.proofs.lemmas.Grind.{get_or_default_zero}
 use Rattle.std.proofs.lemmas.Option.{slice_get_past, slice_get_within, slice_get_read}
 use Rattle.cb_causality.proofs.Counting.{get_map}
 use Rattle.cb_history.specs.declared.history.History.{History}
-use Rattle.cb_history.specs.Group.{Parameters, AreParameters, Seat}
+use Rattle.cb_history.specs.Group.{Parameters, AreParameters, Identity}
 use Rattle.cb_history.specs.Facts.{EntryFields, Fact, entry_fields, facts_of}
 use Rattle.cb_history.specs.Legal.{longest_history, IsLegal}
 use Rattle.cb_history.specs.LegalFacts.{AreLegalFacts, NoFacts, OneFactMore}
@@ -74,11 +74,11 @@ none_at_all (x ∷ hs) at group are = absurd cc
 
 -- ---- legal histories
 
-facts_few : (seat : Seat) (facts : List Fact) → AreLegalFacts seat facts → length facts ≤ longest_history
+facts_few : (seat : Identity) (facts : List Fact) → AreLegalFacts seat facts → length facts ≤ longest_history
 facts_few seat _ NoFacts = omega arith
 facts_few seat _ (OneFactMore facts f are few step) = let long = length-append facts (f ∷ []) in omega (arith, few, long)
 
-legal_few : (seat : Seat) (entries : List EntryFields) → IsLegal seat entries → length entries ≤ longest_history
+legal_few : (seat : Identity) (entries : List EntryFields) → IsLegal seat entries → length entries ≤ longest_history
 legal_few seat entries legal =
     let few = facts_few seat (facts_of entries) (legal_histories_say_legal_facts seat entries legal).facts_are in
     let same = (each_entry_says_one_fact seat entries legal).1 in
@@ -234,7 +234,7 @@ module _ (group : Parameters) (hs : List History) (are : AreOfEachMember group (
     | inl early ↦ before i early
     | inr late ↦
         let same : i ≡ k = omega (arith, less, late) in
-        let here : IsLegal (seat_of group k) (entries_at (map history_fields hs) k) = subst (IsLegal (seat_of group k)) (sym entries_are) (subst (λ (s : Seat). IsLegal s (map entry_fields x.entries.items)) seat_is legal) in
+        let here : IsLegal (seat_of group k) (entries_at (map history_fields hs) k) = subst (IsLegal (seat_of group k)) (sym entries_are) (subst (λ (s : Identity). IsLegal s (map entry_fields x.entries.items)) seat_is legal) in
         subst (λ (j : ℕ). IsLegal (seat_of group j) (entries_at (map history_fields hs) j)) (sym same) here
   ]
 
@@ -242,7 +242,7 @@ module _ (group : Parameters) (hs : List History) (are : AreOfEachMember group (
       → IsWrongAnswer (map history_fields hs) x.me entry
   wrong_here entry before wrong =
       let here : IsFirstWrong (seat_of group k) (entries_at (map history_fields hs) k) entry =
-      subst (λ (es : List EntryFields). IsFirstWrong (seat_of group k) es entry) (sym entries_are) (subst (λ (s : Seat). IsFirstWrong s (map entry_fields x.entries.items) entry) seat_is wrong) in
+      subst (λ (es : List EntryFields). IsFirstWrong (seat_of group k) es entry) (sym entries_are) (subst (λ (s : Identity). IsFirstWrong s (map entry_fields x.entries.items) entry) seat_is wrong) in
       subst (λ (m : ℕ). IsWrongAnswer (map history_fields hs) m entry) (sym is_of.1) (record { group = group; each = are; within = inside; before = before; first = here })
 
 -- the group, which all agree on

@@ -13,7 +13,7 @@ use Rattle.cb_history.specs.Legal.{longest_history, entry_of}
 use Rattle.cb_history.specs.ReplayLaws.{call_of}
 use Rattle.cb_schedules.specs.Schedule.{Setting, CastStep, ArriveStep, Schedule, step_after, run_from, run}
 use Rattle.cb_trace.specs.Text.{HistoryFields}
-use Rattle.cb_trace.specs.JointOrder.{Histories, gone, next_entry, ArePutOut, MayGo, Goes, IsOrder, NothingGone, OneMoreGoes, IsJointOrder}
+use Rattle.cb_trace.specs.JointOrder.{Histories, gone, next_entry, AreSentOut, MayGo, Goes, IsOrder, NothingGone, OneMoreGoes, IsJointOrder}
 use Rattle.cb_trace.specs.Auditing.{seat_of, entries_at, longest}
 
 -- ---- the worked trace
@@ -68,10 +68,10 @@ the_longest_of_none : longest (record { group = group; me = 0; entries = [] } �
 the_longest_of_none = refl
 
 -- member 0's frame
-by_member_0 : (order : List ℕ) → 0 < gone order 0 → ArePutOut worked order hi
+by_member_0 : (order : List ℕ) → 0 < gone order 0 → AreSentOut worked order hi
 by_member_0 order went = record { member = 0; place = 0; entry = CastEntry hi; went = went; stands = refl; out = refl }
 
-by_member_1 : (order : List ℕ) → 1 < gone order 1 → ArePutOut worked order yo
+by_member_1 : (order : List ℕ) → 1 < gone order 1 → AreSentOut worked order yo
 by_member_1 order went = record { member = 1; place = 1; entry = CastEntry yo; went = went; stands = refl; out = refl }
 
 is_an_order : IsOrder worked the_order
@@ -100,11 +100,11 @@ is_a_joint_order : IsJointOrder worked the_order
 is_a_joint_order = record { order_is = is_an_order; all = of_all }
 
 -- member 1 has to wait for member 0
-nothing_was_put_out : (bytes : List ℕ) → ¬ ArePutOut worked [] bytes
-nothing_was_put_out bytes put = let went = put.went in omega (arith, went)
+nothing_was_sent_out : (bytes : List ℕ) → ¬ AreSentOut worked [] bytes
+nothing_was_sent_out bytes put = let went = put.went in omega (arith, went)
 
 waits_for : (e : EntryFields) → ArriveEntry hi (of_hi ∷ []) ≡ e → ¬ MayGo worked [] e
-waits_for e same may = nothing_was_put_out hi (subst (MayGo worked []) (sym same) may)
+waits_for e same may = nothing_was_sent_out hi (subst (MayGo worked []) (sym same) may)
 
 at_first_member_1_waits : ¬ Goes worked [] 1
 at_first_member_1_waits goes = waits_for goes.entry (let next = goes.next in cc) goes.may
@@ -131,7 +131,7 @@ member_2_did_this = refl
 
 -- ---- damaged forms
 
--- without its cast the frame was never put out: nobody can go on
+-- without its cast the frame was never sent: nobody can go on
 abbrev without_the_cast : List HistoryFields
 without_the_cast =
     record { group = group; me = 0; entries = [] }
@@ -139,7 +139,7 @@ without_the_cast =
     ∷ record { group = group; me = 2; entries = ArriveEntry yo [] ∷ ArriveEntry hi (of_hi ∷ of_yo ∷ []) ∷ [] }
     ∷ []
 
-no_one_has_gone : (k : ℕ) (bytes : List ℕ) → ¬ ArePutOut (entries_at without_the_cast) [] bytes
+no_one_has_gone : (k : ℕ) (bytes : List ℕ) → ¬ AreSentOut (entries_at without_the_cast) [] bytes
 no_one_has_gone k bytes put = let went = put.went in omega (arith, went)
 
 -- a fresh member 2 that takes "hi" first delivers it alone

@@ -1,4 +1,4 @@
--- The run of an order's steps: each member has as many of its entries as have gone, and what was sent is what these put out, and requests.
+-- The run of an order's steps: each member has as many of its entries as have gone, and what was sent is what these sent, and requests.
 use Rattle.std.proofs.Common.{◌≡◌, ◌⊎◌, ℕ, zero, suc, ◌+◌, ◌<◌, ◌≤◌, Bool, true, false, eqb, List, [], ◌∷◌, ◌++◌, length, map, take, drop, Some, refl, sym, ap, subst, ◌∙◌, inl, inr, arith, append_assoc, add-one, add-zero, if◌then◌else◌}
 use Rattle.std.specs.Prelude.{slice_get}
 use Rattle.std.specs.List.{AllByRecursion}
@@ -9,7 +9,7 @@ use Rattle.std.proofs.lemmas.Option.{slice_get_within}
 use Rattle.cb_frames.specs.Laws.{IsBytes}
 use Rattle.cb_frames.specs.Reading.{frame_at}
 use Rattle.cb_history.specs.declared.answer.Outgoing.{Outgoing}
-use Rattle.cb_history.specs.Group.{Seat}
+use Rattle.cb_history.specs.Group.{Identity}
 use Rattle.cb_history.specs.Facts.{EntryFields, CastEntry, ArriveEntry, TickEntry}
 use Rattle.cb_history.specs.Answers.{is_full}
 use Rattle.cb_history.specs.Legal.{longest_history, ToCast, ToTake, ToTick, entry_of, and_entry, history_after, IsLegal}
@@ -18,14 +18,14 @@ use Rattle.cb_history.proofs.Views.{IsIn}
 use Rattle.cb_history.proofs.Lists.{in_front, in_back}
 use Rattle.cb_history.proofs.Prefixes.{prefix_is_legal}
 use Rattle.cb_history.proofs.Replays.{one_more_is_decided, entries_of_bytes_tell_bytes}
-use Rattle.cb_schedules.specs.Schedule.{Setting, IsSetting, seat_at, Step, Schedule, SentFrame, Asked, Calls, OfNoMember, OfNoBytes, are_bytes, handed_over, asked_by, answer_of, put_out, sent_by, GroupState, after_asked, step_after, nothing_yet, run_from, run}
+use Rattle.cb_schedules.specs.Schedule.{Setting, IsSetting, seat_at, Step, Schedule, SentFrame, Asked, Calls, OfNoMember, OfNoBytes, are_bytes, handed_over, asked_by, answer_of, frames_sent, sent_by, GroupState, after_asked, step_after, nothing_yet, run_from, run}
 use Rattle.cb_schedules.proofs.GoingOn.{runs_go_on}
 use Rattle.cb_schedules.proofs.Lists.{all_weaken, all_both, in_map}
 use Rattle.cb_world.proofs.Taken.{bytes_are_bytes}
-use Rattle.cb_trace.specs.JointOrder.{Histories, gone, next_entry, PutsOut, ArePutOut}
+use Rattle.cb_trace.specs.JointOrder.{Histories, gone, next_entry, PutsOut, AreSentOut}
 use Rattle.cb_trace.specs.JointRun.{IsStepOf, AreStepsOf, NoStep, OneStepMore, AreLegalWithin}
 use Rattle.cb_trace.specs.AuditLaws.{RunHasTheHistories}
-use Rattle.cb_trace.proofs.Ordering.{gone_more, gone_own, gone_at_least, put_out_stays, one_is}
+use Rattle.cb_trace.proofs.Ordering.{gone_more, gone_own, gone_at_least, sent_out_stays, one_is}
 use Rattle.cb_trace.proofs.Answered.{entry_room, IsRequest, ComesWith, comes_with}
 
 -- ---- lists
@@ -47,13 +47,13 @@ abbrev pub IsSent : List SentFrame → List ℕ → Type 0
 IsSent sent bytes = (frame : SentFrame) × IsIn frame sent × (frame.bytes ≡ bytes)
 
 -- an entry that has gone put the bytes out, or they ask for what is missing
-abbrev pub IsPutOutOrAsks : Histories → List ℕ → SentFrame → Type 0
-IsPutOutOrAsks histories order frame = ArePutOut histories order frame.bytes ⊎ IsRequest frame.bytes
+abbrev pub IsSentOutOrAsks : Histories → List ℕ → SentFrame → Type 0
+IsSentOutOrAsks histories order frame = AreSentOut histories order frame.bytes ⊎ IsRequest frame.bytes
 
 pub record Follows (histories : Histories) (order : List ℕ) (s : GroupState) : Type 0 where
   pub histories_are : (k : ℕ) → s.histories k ≡ take (gone order k) (histories k)
-  pub all : (bytes : List ℕ) → ArePutOut histories order bytes → IsSent s.sent bytes
-  pub only : AllByRecursion (IsPutOutOrAsks histories order) s.sent
+  pub all : (bytes : List ℕ) → AreSentOut histories order bytes → IsSent s.sent bytes
+  pub only : AllByRecursion (IsSentOutOrAsks histories order) s.sent
 
 starts : (histories : Histories) → Follows histories [] nothing_yet
 starts histories = record {
@@ -69,7 +69,7 @@ module _ (setting : Setting) (is : IsSetting setting) (histories : Histories) (a
   abbrev before : List EntryFields
   before = take (gone order k) (histories k)
 
-  abbrev me : Seat
+  abbrev me : Identity
   me = seat_at setting k
 
   inside : count < length (histories k)
@@ -129,11 +129,11 @@ module _ (setting : Setting) (is : IsSetting setting) (histories : Histories) (a
             ∙ ap (λ (b : Bool). if b then Calls k ToTick else OfNoMember) (lt-ltb k setting.group.size is_member)
 
     abbrev out : List Outgoing
-    out = put_out (answer_of (seat_at setting k) setting.limit (s.histories k) (call_of e))
+    out = frames_sent (answer_of (seat_at setting k) setting.limit (s.histories k) (call_of e))
 
     out_comes : ComesWith e out
     out_comes =
-        subst (λ (entries : List EntryFields). ComesWith e (put_out (answer_of me setting.limit entries (call_of e)))) (sym now_is)
+        subst (λ (entries : List EntryFields). ComesWith e (frames_sent (answer_of me setting.limit entries (call_of e)))) (sym now_is)
         (comes_with me setting.limit before e entry_is)
 
     abbrev after : GroupState
@@ -168,7 +168,7 @@ module _ (setting : Setting) (is : IsSetting setting) (histories : Histories) (a
     old_sent : (bytes : List ℕ) → IsSent s.sent bytes → IsSent after.sent bytes
     old_sent bytes found = (found.0, in_front found.0 s.sent (map (sent_by k) out) found.1, found.2)
 
-    all_after : (bytes : List ℕ) → ArePutOut histories (order ++ k ∷ []) bytes → IsSent after.sent bytes
+    all_after : (bytes : List ℕ) → AreSentOut histories (order ++ k ∷ []) bytes → IsSent after.sent bytes
     all_after bytes put = elim (cases_lt put.place (gone order put.member)) [
       | inl early ↦ old_sent bytes (so.all bytes (record { member = put.member; place = put.place; entry = put.entry; went = early; stands = put.stands; out = put.out }))
       | inr late ↦ by late (eqb k put.member) refl
@@ -186,11 +186,11 @@ module _ (setting : Setting) (is : IsSetting setting) (histories : Histories) (a
             let more = gone_more order k put.member ∙ ap (λ (b : Bool). gone order put.member + (if b then 1 else 0)) apart in
             absurd (let went = put.went in omega (arith, late, went, more))
 
-    only_old : (frame : SentFrame) → IsPutOutOrAsks histories order frame → IsPutOutOrAsks histories (order ++ k ∷ []) frame
-    only_old frame (inl put) = inl (put_out_stays histories order (order ++ k ∷ []) frame.bytes (λ i. gone_at_least order k i) put)
+    only_old : (frame : SentFrame) → IsSentOutOrAsks histories order frame → IsSentOutOrAsks histories (order ++ k ∷ []) frame
+    only_old frame (inl put) = inl (sent_out_stays histories order (order ++ k ∷ []) frame.bytes (λ i. gone_at_least order k i) put)
     only_old frame (inr asks) = inr asks
 
-    only_new : (o : Outgoing) → PutsOut e o.bytes ⊎ IsRequest o.bytes → IsPutOutOrAsks histories (order ++ k ∷ []) (sent_by k o)
+    only_new : (o : Outgoing) → PutsOut e o.bytes ⊎ IsRequest o.bytes → IsSentOutOrAsks histories (order ++ k ∷ []) (sent_by k o)
     only_new o (inl puts) = inl (record {
       member = k;
       place = gone order k;
@@ -201,13 +201,13 @@ module _ (setting : Setting) (is : IsSetting setting) (histories : Histories) (a
     })
     only_new o (inr asks) = inr asks
 
-    only_after : AllByRecursion (IsPutOutOrAsks histories (order ++ k ∷ [])) after.sent
+    only_after : AllByRecursion (IsSentOutOrAsks histories (order ++ k ∷ [])) after.sent
     only_after =
-        all_both (IsPutOutOrAsks histories (order ++ k ∷ [])) s.sent (map (sent_by k) out)
-        (all_weaken (IsPutOutOrAsks histories order) (IsPutOutOrAsks histories (order ++ k ∷ [])) s.sent only_old so.only)
+        all_both (IsSentOutOrAsks histories (order ++ k ∷ [])) s.sent (map (sent_by k) out)
+        (all_weaken (IsSentOutOrAsks histories order) (IsSentOutOrAsks histories (order ++ k ∷ [])) s.sent only_old so.only)
         (mapped out out_comes.only)
       where
-        mapped : (os : List Outgoing) → AllByRecursion (λ (o : Outgoing). PutsOut e o.bytes ⊎ IsRequest o.bytes) os → AllByRecursion (IsPutOutOrAsks histories (order ++ k ∷ [])) (map (sent_by k) os)
+        mapped : (os : List Outgoing) → AllByRecursion (λ (o : Outgoing). PutsOut e o.bytes ⊎ IsRequest o.bytes) os → AllByRecursion (IsSentOutOrAsks histories (order ++ k ∷ [])) (map (sent_by k) os)
         mapped [] each = tt
         mapped (o ∷ os) each = (only_new o each.0, mapped os each.1)
 

@@ -4,7 +4,7 @@ use Rattle.std.specs.Prelude.{slice_get}
 use Rattle.std.proofs.lemmas.Option.{slice_get_within}
 use Rattle.std.proofs.lemmas.Bool.{eq-eqb, eqb-true}
 use Rattle.cb_history.specs.Facts.{EntryFields, CastEntry, ArriveEntry, TickEntry}
-use Rattle.cb_trace.specs.JointOrder.{Histories, gone, ArePutOut, MayGo, IsOrder, NothingGone, OneMoreGoes, NothingTaken, SmallestTaken, IsStuck}
+use Rattle.cb_trace.specs.JointOrder.{Histories, gone, AreSentOut, MayGo, IsOrder, NothingGone, OneMoreGoes, NothingTaken, SmallestTaken, IsStuck}
 use Rattle.cb_trace.specs.AuditLaws.{GreedyOrdersAreOrders, JointOrderIsFound}
 
 -- one more of member i
@@ -22,9 +22,9 @@ gone_at_least order i k = omega (arith, gone_more order i k)
 pub one_is : (a b : EntryFields) → Some a ≡ Some b → a ≡ b
 one_is a b e = cc
 
--- what is put out stays so, where as many of each member have gone
-pub put_out_stays : (histories : Histories) (order more : List ℕ) (bytes : List ℕ) → ((k : ℕ) → gone order k ≤ gone more k) → ArePutOut histories order bytes → ArePutOut histories more bytes
-put_out_stays histories order more bytes most out = record {
+-- what is sent stays so, where as many of each member have gone
+pub sent_out_stays : (histories : Histories) (order more : List ℕ) (bytes : List ℕ) → ((k : ℕ) → gone order k ≤ gone more k) → AreSentOut histories order bytes → AreSentOut histories more bytes
+sent_out_stays histories order more bytes most out = record {
   member = out.member;
   place = out.place;
   entry = out.entry;
@@ -35,7 +35,7 @@ put_out_stays histories order more bytes most out = record {
 
 pub may_go_stays : (histories : Histories) (order more : List ℕ) (e : EntryFields) → ((k : ℕ) → gone order k ≤ gone more k) → MayGo histories order e → MayGo histories more e
 may_go_stays histories order more (CastEntry frame) most may = tt
-may_go_stays histories order more (ArriveEntry frame delivered) most may = put_out_stays histories order more frame most may
+may_go_stays histories order more (ArriveEntry frame delivered) most may = sent_out_stays histories order more frame most may
 may_go_stays histories order more (TickEntry status) most may = tt
 
 -- at most as many have gone as there are

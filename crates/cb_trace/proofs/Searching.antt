@@ -9,7 +9,7 @@ use Rattle.cb_frames.specs.Text.{text_of, cast_kind, status_kind, request_kind}
 use Rattle.cb_frames.specs.Reading.{frame_at}
 use Rattle.cb_times.specs.declared.name.Name.{Name}
 use Rattle.cb_history.specs.declared.answer.ArriveRefusal.{ArriveRefusal}
-use Rattle.cb_history.specs.Group.{Seat}
+use Rattle.cb_history.specs.Group.{Identity}
 use Rattle.cb_history.specs.Facts.{EntryFields, CastEntry, ArriveEntry, TickEntry, Fact, facts_of}
 use Rattle.cb_history.specs.Answers.{group_of, are_members, is_impossible, ArrivalSays, frame_answer, answer_to, arrive_answer}
 use Rattle.cb_history.specs.Legal.{longest_history, arrive_entry, IsLegal}
@@ -21,11 +21,11 @@ use Rattle.cb_schedules.specs.Schedule as schedules
 use Rattle.cb_schedules.proofs.Lists.{all_at_index, index_of}
 use Rattle.cb_world.specs.declared.step.Step.{Step}
 use Rattle.cb_world.specs.Steps.{step_fields, member_of}
-use Rattle.cb_trace.specs.JointOrder.{Histories, next_entry, ArePutOut, MayGo, Goes, GoesFirst, IsStuck}
+use Rattle.cb_trace.specs.JointOrder.{Histories, next_entry, AreSentOut, MayGo, Goes, GoesFirst, IsStuck}
 use Rattle.cb_trace.specs.JointRun.{IsStepOf, AreLegalWithin}
 use Rattle.cb_trace.specs.Search.{Waits, SaysNextStep, next_at, SaysFirstStep, AreCounts}
 use Rattle.cb_trace.proofs.Answered.{IsRequest}
-use Rattle.cb_trace.proofs.JointRuns.{Follows, IsPutOutOrAsks, IsSent, added, legal_before}
+use Rattle.cb_trace.proofs.JointRuns.{Follows, IsSentOutOrAsks, IsSent, added, legal_before}
 
 -- ---- no entry takes a request
 
@@ -33,7 +33,7 @@ last_of : (P : EntryFields → Type 0) (entries : List EntryFields) (e : EntryFi
 last_of P [] e all = all.0
 last_of P (x ∷ entries) e all = last_of P entries e all.1
 
-request_adds_nothing : (seat : Seat) (limit : ℕ) (entries : List EntryFields) (facts : List Fact) (r : RequestFields) (bytes : List ℕ) → arrive_entry bytes (frame_answer seat limit entries facts (RequestFrame r)) ≡ None
+request_adds_nothing : (seat : Identity) (limit : ℕ) (entries : List EntryFields) (facts : List Fact) (r : RequestFields) (bytes : List ℕ) → arrive_entry bytes (frame_answer seat limit entries facts (RequestFrame r)) ≡ None
 request_adds_nothing seat limit entries facts r bytes =
     let P : Result ArrivalSays ArriveRefusal → Type 0 = λ x. arrive_entry bytes x ≡ None in
     let frame = RequestFrame r in
@@ -41,7 +41,7 @@ request_adds_nothing seat limit entries facts r bytes =
     cond_both (not (are_members seat.group.size frame)) _ _ P (λ _. refl) (λ _.
     cond_both (is_impossible seat facts frame) _ _ P (λ _. refl) (λ _. refl)))
 
-takes_no_request : (seat : Seat) (limit : ℕ) (entries : List EntryFields) (bytes : List ℕ) (r : RequestFields) → frame_at bytes ≡ Ok (RequestFrame r) → arrive_entry bytes (arrive_answer seat limit entries bytes) ≡ None
+takes_no_request : (seat : Identity) (limit : ℕ) (entries : List EntryFields) (bytes : List ℕ) (r : RequestFields) → frame_at bytes ≡ Ok (RequestFrame r) → arrive_entry bytes (arrive_answer seat limit entries bytes) ≡ None
 unfolding arrive_answer
 takes_no_request seat limit entries bytes r read =
     ap (λ (f : Result FrameFields FrameFault). arrive_entry bytes (answer_to seat limit entries f)) read ∙ request_adds_nothing seat limit entries (facts_of entries) r bytes
@@ -71,7 +71,7 @@ text_is_no_request f r e =
     let other = text_begins (RequestFrame r) in
     request_kinds f (same_head (kind_of f) request_kind one.0 other.0 (sym one.1 ∙ e ∙ other.1))
 
-no_request : (seat : Seat) (before : List EntryFields) (bytes : List ℕ) (names : List Name) → IsLegal seat (before ++ ArriveEntry bytes names ∷ []) → IsAdded seat before (ArriveEntry bytes names) → IsRequest bytes → ⊥
+no_request : (seat : Identity) (before : List EntryFields) (bytes : List ℕ) (names : List Name) → IsLegal seat (before ++ ArriveEntry bytes names ∷ []) → IsAdded seat before (ArriveEntry bytes names) → IsRequest bytes → ⊥
 no_request seat before bytes names legal is asks =
     let says : SaysItsText (ArriveEntry bytes names) = last_of SaysItsText before (ArriveEntry bytes names) (entries_say_their_texts seat (before ++ ArriveEntry bytes names ∷ []) legal) in
     let request = text_is_no_request says.0 asks.0 (sym says.2 ∙ asks.1) in
@@ -87,8 +87,8 @@ module _ (setting : Setting) (is : IsSetting setting) (histories : Histories) (a
   may_go k (TickEntry status) step next of = tt
   may_go k (ArriveEntry frame names) step next of =
       let first = of.1 in
-      elim (all_at_index (IsPutOutOrAsks histories order) s.sent of.0 first.frame so.only first.stands) [
-        | inl put ↦ subst (ArePutOut histories order) first.bytes_are put
+      elim (all_at_index (IsSentOutOrAsks histories order) s.sent of.0 first.frame so.only first.stands) [
+        | inl put ↦ subst (AreSentOut histories order) first.bytes_are put
         | inr asks ↦
             let e : EntryFields = ArriveEntry frame names in
             absurd (no_request (seat_at setting k) _ frame names (legal_before setting is histories are order k e next).1 (added setting is histories are order k e next) (subst IsRequest first.bytes_are asks))

@@ -1,6 +1,6 @@
 -- What the audit of histories answers.
 use Rattle.std.specs.Prelude.{◌≡◌, ◌≢◌, ℕ, ◌+◌, ◌<◌, max, List, [], ◌∷◌, ◌++◌, length, slice_get, Option, Some, None}
-use Rattle.cb_history.specs.Group.{Parameters, AreParameters, Seat}
+use Rattle.cb_history.specs.Group.{Parameters, AreParameters, Identity}
 use Rattle.cb_history.specs.Facts.{EntryFields}
 use Rattle.cb_history.specs.Legal.{longest_history, entry_of, IsLegal}
 use Rattle.cb_history.specs.ReplayLaws.{call_of}
@@ -14,7 +14,7 @@ use Rattle.cb_trace.specs.JointOrder.{Histories, gone, IsJointOrder, IsGreedy, I
 use Rattle.cb_trace.specs.JointRun.{AreStepsOf}
 
 -- member i of the group
-abbrev pub seat_of : Parameters → ℕ → Seat
+abbrev pub seat_of : Parameters → ℕ → Identity
 seat_of group i = record { group = group; me = i }
 
 -- the entries of the history at each place
@@ -46,7 +46,7 @@ AreWrongMembers histories = (group : Parameters) → ¬ AreOfEachMember group hi
 
 -- The first entry that a fresh member, replaying those before it, does not give: these are a legal history, and the call that this one
 -- tells adds another entry to them, or none.
-pub record IsFirstWrong (seat : Seat) (entries : List EntryFields) (number : ℕ) : Type 0 where
+pub record IsFirstWrong (seat : Identity) (entries : List EntryFields) (number : ℕ) : Type 0 where
   pub before : List EntryFields
   pub wrong : EntryFields
   pub after : List EntryFields

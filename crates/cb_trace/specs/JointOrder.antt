@@ -22,7 +22,7 @@ PutsOut (ArriveEntry frame delivered) bytes = ⊥
 PutsOut (TickEntry status) bytes = status ≡ bytes
 
 -- some entry that has gone, of any member, put them out
-pub record ArePutOut (histories : Histories) (order : List ℕ) (bytes : List ℕ) : Type 0 where
+pub record AreSentOut (histories : Histories) (order : List ℕ) (bytes : List ℕ) : Type 0 where
   pub member : ℕ
   pub place : ℕ
   pub entry : EntryFields
@@ -30,10 +30,10 @@ pub record ArePutOut (histories : Histories) (order : List ℕ) (bytes : List �
   pub stands : slice_get (histories member) place ≡ Some entry
   pub out : PutsOut entry bytes
 
--- a cast and a tick may go always, an arrival once its bytes were put out
+-- a cast and a tick may go always, an arrival once its bytes were sent
 abbrev pub MayGo : Histories → List ℕ → EntryFields → Type 0
 MayGo histories order (CastEntry frame) = Unit {0}
-MayGo histories order (ArriveEntry frame delivered) = ArePutOut histories order frame
+MayGo histories order (ArriveEntry frame delivered) = AreSentOut histories order frame
 MayGo histories order (TickEntry status) = Unit {0}
 
 -- member k has an entry left, and it may go

@@ -1,6 +1,6 @@
 -- A history is replayed: a member is called as each entry tells, and is to give just that entry.
 use Rattle.std.specs.Prelude.{◌≡◌, ◌≢◌, ℕ, Bool, true, false, List, Option, Some, None}
-use Rattle.cb_history.specs.Group.{Seat}
+use Rattle.cb_history.specs.Group.{Identity}
 use Rattle.cb_history.specs.Facts.{EntryFields}
 use Rattle.cb_history.specs.Legal.{Call, IsLegal}
 use Rattle.cb_history.specs.State.{MemberState, entry_by, state_after}
@@ -17,6 +17,6 @@ SaysAdded old new call e true = HasAdded old new call e
 SaysAdded old new call e false = entry_by old call ≢ Some e
 
 -- the answer says which entry is the first wrong one, or that the history is legal
-abbrev pub SaysFirstWrong : Seat → List EntryFields → Option ℕ → Type 0
+abbrev pub SaysFirstWrong : Identity → List EntryFields → Option ℕ → Type 0
 SaysFirstWrong seat entries (Some number) = IsFirstWrong seat entries number
 SaysFirstWrong seat entries None = IsLegal seat entries

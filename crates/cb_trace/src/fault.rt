@@ -46,7 +46,7 @@ pub enum AuditFault {
     NoMemory,
 }
 
-/// Why it was not told which message was before which.
+/// Why it can't be said which message was before which.
 #[derive(Clone, Copy, Debug, PartialEq, Eq, Hash)]
 pub enum QueryFault {
     /// One of the messages was not cast by any of these members.

@@ -1,4 +1,4 @@
--- An answer puts out few frames.
+-- An answer sends few frames.
 use Rattle.std.proofs.Common.{ℕ, ◌≤◌, Bool, true, false, not, ◌&&◌, eqb, ltb, List, [], ◌∷◌, length, map, take, filter, Some, None, Result, Ok, Err, arith}
 use Rattle.std.specs.List.{range_with_len}
 use Rattle.std.proofs.lemmas.Bool.{cond_both}
@@ -17,20 +17,20 @@ use Rattle.cb_history.specs.declared.answer.ArriveRefusal.TheVariants as arrival
 use Rattle.cb_history.specs.declared.answer.CastRefusal.TheVariants as casts
 use Rattle.cb_history.specs.declared.answer.TickRefusal.TheVariants as ticks
 use Rattle.cb_history.specs.declared.answer.Outgoing.{Outgoing}
-use Rattle.cb_history.specs.Group.{Seat}
+use Rattle.cb_history.specs.Group.{Identity}
 use Rattle.cb_history.specs.Facts.{EntryFields, Fact, facts_of}
 use Rattle.cb_history.specs.Known.{missing, ranges_of}
 use Rattle.cb_history.specs.Answers.{is_full, is_window_full, next_cast, cast_answer, group_of, are_members, is_impossible, is_repeat, is_too_far, is_change, deliveries, is_asked_for, window, sent_in_answer, ArrivalSays, Accepted, Repeat, answer_to, arrive_answer, status_of, is_new_status, request_to, requests, tick_answer}
 use Rattle.cb_history.specs.Legal.{Call, ToCast, ToTake, ToTick}
-use Rattle.cb_schedules.specs.Schedule.{Answer, CastAnswer, ArrivalAnswer, TickAnswer, answer_of, put_out}
-use Rattle.cb_world.specs.declared.taking.TheConstants.{MOST_PUT_OUT}
+use Rattle.cb_schedules.specs.Schedule.{Answer, CastAnswer, ArrivalAnswer, TickAnswer, answer_of, frames_sent}
+use Rattle.cb_world.specs.declared.taking.TheConstants.{MOST_SENT_OUT}
 use Rattle.cb_world.proofs.Lists.{short_flat, short_filter, short_take}
 
 -- a status to all, and a request to each other member; or the frames that were asked for
 abbrev Few : Answer → Type 0
-Few answer = length (put_out answer) ≤ MOST_PUT_OUT
+Few answer = length (frames_sent answer) ≤ MOST_SENT_OUT
 
-module _ (seat : Seat) (limit : ℕ) (entries : List EntryFields) where
+module _ (seat : Identity) (limit : ℕ) (entries : List EntryFields) where
   one_request : (i : ℕ) (ranges : List Range) → length (request_to seat i ranges) ≤ 1
   one_request i [] = omega arith
   one_request i (r ∷ ranges) = omega arith
@@ -71,18 +71,18 @@ module _ (seat : Seat) (limit : ℕ) (entries : List EntryFields) where
       (λ _. cond_both (is_window_full seat (facts_of entries)) _ _ P (λ _. cast_refused casts.WindowFull)
       (λ _. cond_both (is_full limit entries) _ _ P (λ _. cast_refused casts.HistoryFull) (λ _. one_cast (next_cast seat (facts_of entries) payload))))
 
-  none_asked_for : length {A = Outgoing} [] ≤ MOST_PUT_OUT
+  none_asked_for : length {A = Outgoing} [] ≤ MOST_SENT_OUT
   none_asked_for = omega arith
 
-  first_asked_for : (to : ℕ) (asked : List CastFields) → length (map (λ c. let out : Outgoing = record { to = Some to; bytes = text_of (CastFrame c) } in out) (take MOST_FRAMES asked)) ≤ MOST_PUT_OUT
+  first_asked_for : (to : ℕ) (asked : List CastFields) → length (map (λ c. let out : Outgoing = record { to = Some to; bytes = text_of (CastFrame c) } in out) (take MOST_FRAMES asked)) ≤ MOST_SENT_OUT
   first_asked_for to asked =
       omega (arith, length-map (take MOST_FRAMES asked) (λ c. let out : Outgoing = record { to = Some to; bytes = text_of (CastFrame c) } in out), short_take MOST_FRAMES asked)
 
-  few_asked_for : (facts : List Fact) (frame : FrameFields) → length (sent_in_answer seat facts frame) ≤ MOST_PUT_OUT
+  few_asked_for : (facts : List Fact) (frame : FrameFields) → length (sent_in_answer seat facts frame) ≤ MOST_SENT_OUT
   few_asked_for facts (CastFrame c) = none_asked_for
   few_asked_for facts (StatusFrame s) = none_asked_for
   few_asked_for facts (RequestFrame r) =
-      cond_both (eqb r.asked seat.me) _ _ (λ (out : List Outgoing). length out ≤ MOST_PUT_OUT) (λ _. first_asked_for r.requester (filter (is_asked_for r.ranges) (window seat facts))) (λ _. none_asked_for)
+      cond_both (eqb r.asked seat.me) _ _ (λ (out : List Outgoing). length out ≤ MOST_SENT_OUT) (λ _. first_asked_for r.requester (filter (is_asked_for r.ranges) (window seat facts))) (λ _. none_asked_for)
 
   arrival_refused : (refusal : ArriveRefusal) → Few (ArrivalAnswer (Err refusal))
   arrival_refused refusal = omega arith
@@ -108,7 +108,7 @@ module _ (seat : Seat) (limit : ℕ) (entries : List EntryFields) where
   unfolding arrive_answer
   few_in_an_arrival bytes = few_in_answer (frame_at bytes)
 
-  pub few_put_out : (call : Call) → seat.group.size ≤ 64 → length (put_out (answer_of seat limit entries call)) ≤ MOST_PUT_OUT
-  few_put_out (ToCast payload) size = few_in_a_cast payload
-  few_put_out (ToTake bytes) size = few_in_an_arrival bytes
-  few_put_out ToTick size = few_in_a_tick size
+  pub few_sent_out : (call : Call) → seat.group.size ≤ 64 → length (frames_sent (answer_of seat limit entries call)) ≤ MOST_SENT_OUT
+  few_sent_out (ToCast payload) size = few_in_a_cast payload
+  few_sent_out (ToTake bytes) size = few_in_an_arrival bytes
+  few_sent_out ToTick size = few_in_a_tick size

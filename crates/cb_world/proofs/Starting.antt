@@ -35,7 +35,7 @@ none_run setting = refl
 
 pub starts : (setting : Setting) (members : List MemberState) (sent : List Sent) (outcomes : List Outcome) (steps : List Step) → 1 ≤ setting.limit → setting.limit ≤ longest_history → AreNewMembers setting members
     → sent ≡ [] → outcomes ≡ [] → steps ≡ [] → IsWorld (record { setting = setting; steps = map step_fields steps }) members sent outcomes
-starts setting members sent outcomes steps low high new none_sent none_told none_taken =
+starts setting members sent outcomes steps low high new none_sent none_reported none_taken =
     subst (λ (ss : List Step). IsWorld (record { setting = setting; steps = map step_fields ss }) members sent outcomes) (sym none_taken) (record {
       setting_is = record { group = new.group; one_or_more = low; at_most = high };
       stands = record {
@@ -43,5 +43,5 @@ starts setting members sent outcomes steps low high new none_sent none_told none
         members_are = λ i m at. new.new i m at ∙ ap (λ (s : GroupState). member_at setting s i) (sym (none_run setting));
         sent_are = ap (map sent_fields) none_sent ∙ ap (λ (s : GroupState). s.sent) (sym (none_run setting));
       };
-      outcomes_are = subst (AreOutcomes setting []) (sym none_told) NoOutcomes;
+      outcomes_are = subst (AreOutcomes setting []) (sym none_reported) NoOutcomes;
     })

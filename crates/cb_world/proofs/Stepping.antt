@@ -3,7 +3,7 @@ use Rattle.std.proofs.Common.{◌≡◌, ◌+◌, ◌≤◌, List, [], ◌∷◌
 use Rattle.std.specs.Prelude.{OnOk, OnErr}
 use Rattle.std.proofs.lemmas.List.{length-map, map-append}
 use Rattle.cb_history.specs.State.{MemberState}
-use Rattle.cb_schedules.specs.Schedule.{IsSetting, GroupState, asked_by, put_out, step_after}
+use Rattle.cb_schedules.specs.Schedule.{IsSetting, GroupState, asked_by, frames_sent, step_after}
 use Rattle.cb_schedules.specs.Schedule as schedules
 use Rattle.cb_schedules.specs.StepLaws.{ListsGoOn}
 use Rattle.cb_schedules.proofs.GoingOn.{runs_go_on}
@@ -28,7 +28,7 @@ module _ (w : WorldState) (members members_after : List MemberState) (sent sent_
   now_long : length sent ≡ length (run_in w).sent
   now_long = sent_long (run_in w) sent world.stands.sent_are
 
-  then_long : length sent_after ≡ length (run_in w).sent + length (put_out (answer_to w.setting (run_in w) (asked_by w.setting (run_in w).sent step)))
+  then_long : length sent_after ≡ length (run_in w).sent + length (frames_sent (answer_to w.setting (run_in w) (asked_by w.setting (run_in w).sent step)))
   then_long = sent_long (step_after w.setting (run_in w) step) sent_after taken.stands.sent_are ∙ frames_grow w.setting (run_in w) step
 
   -- no frame is lost
@@ -40,7 +40,7 @@ module _ (w : WorldState) (members members_after : List MemberState) (sent sent_
     setting_is = world.setting_is;
     stands = subst (λ (s : GroupState). Stands w.setting s members_after sent_after) (sym (runs_go_on w.setting w.steps step)) taken.stands;
     outcomes_are = OneOutcomeMore w.steps step outcomes outcome world.outcomes_are (record {
-      answer = taken.told_is;
+      answer = taken.reported_is;
       first = first ∙ now_long;
       count = omega (arith, count, now_long, then_long);
     });

@@ -7,11 +7,11 @@ use Rattle.std.proofs.lemmas.Option.{slice_get-get_or, slice_get-map}
 use Rattle.cb_history.specs.Facts.{EntryFields}
 use Rattle.cb_history.specs.Legal.{Call, ToCast, history_after}
 use Rattle.cb_history.specs.State.{MemberState}
-use Rattle.cb_schedules.specs.Schedule.{Setting, seat_at, Step, CastStep, ArriveStep, TickStep, SentFrame, Asked, Calls, OfNoMember, OfNoFrame, OfNoBytes, are_bytes, handed_over, asked_by, answer_of, put_out, sent_by, GroupState, with_history, after_asked, step_after}
+use Rattle.cb_schedules.specs.Schedule.{Setting, seat_at, Step, CastStep, ArriveStep, TickStep, SentFrame, Asked, Calls, OfNoMember, OfNoFrame, OfNoBytes, are_bytes, handed_over, asked_by, answer_of, frames_sent, sent_by, GroupState, with_history, after_asked, step_after}
 use Rattle.cb_world.specs.declared.outcome.Answer.{Answer}
 use Rattle.cb_world.specs.declared.outcome.Sent.{Sent}
 use Rattle.cb_world.specs.Steps.{member_of}
-use Rattle.cb_world.specs.Outcomes.{sent_fields, NoMemberTold, NoFrameTold, told, told_of, answer_to}
+use Rattle.cb_world.specs.Outcomes.{sent_fields, NoMemberReported, NoFrameReported, reported, reported_of, answer_to}
 use Rattle.cb_world.specs.Taking.{HasAnswered, HasDone, asks, member_at, Stands, HasTaken}
 use Rattle.cb_world.proofs.Lists.{replaced_at}
 
@@ -64,11 +64,11 @@ pub frame_is_taken : (old new : MemberState) (j number : ℕ) (sent : List Sent)
 frame_is_taken old new j number sent frame after answer e did =
     subst (λ (f : Option SentFrame). HasDone old new (handed_over j f) (map sent_fields sent) after answer) (sym (slice_get-map sent_fields sent number ∙ ap (option_map sent_fields) e)) did
 
-pub no_frame_is_taken : (old new : MemberState) (j number : ℕ) (sent : List Sent) (answer : Answer) → slice_get sent number ≡ None → new ≡ old → told answer ≡ NoFrameTold
+pub no_frame_is_taken : (old new : MemberState) (j number : ℕ) (sent : List Sent) (answer : Answer) → slice_get sent number ≡ None → new ≡ old → reported answer ≡ NoFrameReported
     → HasDone old new (handed_over j (slice_get (map sent_fields sent) number)) (map sent_fields sent) (map sent_fields sent) answer
 no_frame_is_taken old new j number sent answer e same says =
     subst (λ (f : Option SentFrame). HasDone old new (handed_over j f) (map sent_fields sent) (map sent_fields sent) answer) (sym (slice_get-map sent_fields sent number ∙ ap (option_map sent_fields) e))
-    (record { told_is = says; state = same; sent = refl })
+    (record { reported_is = says; state = same; sent = refl })
 
 -- ---- the group
 
@@ -76,11 +76,11 @@ one_is : (a b : MemberState) → Some a ≡ Some b → a ≡ b
 one_is a b e = cc
 
 module _ (setting : Setting) (s : GroupState) (members : List MemberState) (sent : List Sent) (stands : Stands setting s members sent) where
-  taken : (step : Step) (asked : Asked) (members_after : List MemberState) (sent_after : List Sent) (answer : Answer) → asked_by setting s.sent step ≡ asked → told answer ≡ told_of setting s asked
+  taken : (step : Step) (asked : Asked) (members_after : List MemberState) (sent_after : List Sent) (answer : Answer) → asked_by setting s.sent step ≡ asked → reported answer ≡ reported_of setting s asked
       → Stands setting (after_asked setting s asked) members_after sent_after → HasTaken setting s step members_after sent_after answer
   unfolding step_after
   taken step asked members_after sent_after answer e says after = record {
-    told_is = says ∙ ap (told_of setting s) (sym e);
+    reported_is = says ∙ ap (reported_of setting s) (sym e);
     stands = subst (λ (a : Asked). Stands setting (after_asked setting s a) members_after sent_after) (sym e) after;
   }
 
@@ -94,7 +94,7 @@ module _ (setting : Setting) (s : GroupState) (members : List MemberState) (sent
 
   -- the step names no member
   pub nobody_takes : (step : Step) (members_after : List MemberState) (sent_after : List Sent) (answer : Answer) → length members ≤ member_of step → members_after ≡ members → sent_after ≡ sent
-      → told answer ≡ NoMemberTold → HasTaken setting s step members_after sent_after answer
+      → reported answer ≡ NoMemberReported → HasTaken setting s step members_after sent_after answer
   nobody_takes step members_after sent_after answer beyond same sent_same says =
       let s_is : Stands setting s members_after sent_after = nothing_stands members_after sent_after same (ap (map sent_fields) sent_same) in
       taken step OfNoMember members_after sent_after answer (names_nobody setting s.sent step (le-ltb (member_of step) setting.group.size (omega (arith, beyond, stands.many)))) says
@@ -105,10 +105,10 @@ module _ (setting : Setting) (s : GroupState) (members : List MemberState) (sent
     before_is = stands.members_are i before (slice_get-get_or members i before within ∙ ap (λ (m : MemberState). Some m) (sym value))
 
     done_by : (k : ℕ) (call : Call) (sent_after : List Sent) (answer : Answer) → k ≡ i → HasAnswered (member_at setting s i) after call (map sent_fields sent) (map sent_fields sent_after) answer
-        → (told answer ≡ told_of setting s (Calls k call)) × Stands setting (after_asked setting s (Calls k call)) (set members i after) sent_after
+        → (reported answer ≡ reported_of setting s (Calls k call)) × Stands setting (after_asked setting s (Calls k call)) (set members i after) sent_after
     done_by k call sent_after answer named did =
-        subst (λ (j : ℕ). (told answer ≡ told_of setting s (Calls j call)) × Stands setting (after_asked setting s (Calls j call)) (set members i after) sent_after) (sym named) (
-          did.told_is,
+        subst (λ (j : ℕ). (reported answer ≡ reported_of setting s (Calls j call)) × Stands setting (after_asked setting s (Calls j call)) (set members i after) sent_after) (sym named) (
+          did.reported_is,
           record {
             many = length-set members i after ∙ stands.many;
             members_are = λ j m at. elim (replaced_at members i j after m at) [
@@ -116,7 +116,7 @@ module _ (setting : Setting) (s : GroupState) (members : List MemberState) (sent
                   ∙ ap (λ (n : ℕ). member_at setting (after_asked setting s (Calls i call)) n) (sym here.0)
               | inr elsewhere ↦ stands.members_are j m elsewhere.1 ∙ ap (λ (entries : List EntryFields). let x : MemberState = record { seat = seat_at setting j; limit = setting.limit; entries = entries } in x) (sym (other_entries j elsewhere.0))
             ];
-            sent_are = did.sent ∙ ap (λ (fs : List SentFrame). fs ++ map (sent_by i) (put_out (answer_of (seat_at setting i) setting.limit (s.histories i) call))) stands.sent_are;
+            sent_are = did.sent ∙ ap (λ (fs : List SentFrame). fs ++ map (sent_by i) (frames_sent (answer_of (seat_at setting i) setting.limit (s.histories i) call))) stands.sent_are;
           },
         )
       where
@@ -136,18 +136,18 @@ module _ (setting : Setting) (s : GroupState) (members : List MemberState) (sent
     same_members e = ap (set members i) (e ∙ value) ∙ set-get_or members i before
 
     done_all : (asked : Asked) (sent_after : List Sent) (answer : Answer) → IsBy i asked → HasDone before after asked (map sent_fields sent) (map sent_fields sent_after) answer
-        → (told answer ≡ told_of setting s asked) × Stands setting (after_asked setting s asked) (set members i after) sent_after
+        → (reported answer ≡ reported_of setting s asked) × Stands setting (after_asked setting s asked) (set members i after) sent_after
     done_all (Calls k call) sent_after answer named did =
         done_by k call sent_after answer named (subst (λ (m : MemberState). HasAnswered m after call (map sent_fields sent) (map sent_fields sent_after) answer) before_is did)
     done_all OfNoMember sent_after answer named did =
         let s_is = still (same_members did.state) sent_after did.sent in
-        (did.told_is, record { many = s_is.many; members_are = s_is.members_are; sent_are = s_is.sent_are })
+        (did.reported_is, record { many = s_is.many; members_are = s_is.members_are; sent_are = s_is.sent_are })
     done_all OfNoFrame sent_after answer named did =
         let s_is = still (same_members did.state) sent_after did.sent in
-        (did.told_is, record { many = s_is.many; members_are = s_is.members_are; sent_are = s_is.sent_are })
+        (did.reported_is, record { many = s_is.many; members_are = s_is.members_are; sent_are = s_is.sent_are })
     done_all OfNoBytes sent_after answer named did =
         let s_is = still (same_members did.state) sent_after did.sent in
-        (did.told_is, record { many = s_is.many; members_are = s_is.members_are; sent_are = s_is.sent_are })
+        (did.reported_is, record { many = s_is.many; members_are = s_is.members_are; sent_are = s_is.sent_are })
 
     -- the step names this member, which does what is asked for
     pub member_takes : (step : Step) (members_after : List MemberState) (sent_after : List Sent) (answer : Answer) → member_of step ≡ i → members_after ≡ set members i after
@@ -161,16 +161,16 @@ module _ (setting : Setting) (s : GroupState) (members : List MemberState) (sent
         (names_one setting s.sent step (lt-ltb (member_of step) setting.group.size (omega (arith, within, stands.many, named)))) both.0
         (subst (λ (ms : List MemberState). Stands setting (after_asked setting s asked) ms sent_after) (sym replaced) both.1)
 
--- ---- how many frames a step puts out
+-- ---- how many frames a step sends
 
-grows_by : (setting : Setting) (s : GroupState) (asked : Asked) → length (after_asked setting s asked).sent ≡ length s.sent + length (put_out (answer_to setting s asked))
+grows_by : (setting : Setting) (s : GroupState) (asked : Asked) → length (after_asked setting s asked).sent ≡ length s.sent + length (frames_sent (answer_to setting s asked))
 grows_by setting s (Calls i call) =
-    let out = put_out (answer_of (seat_at setting i) setting.limit (s.histories i) call) in
+    let out = frames_sent (answer_of (seat_at setting i) setting.limit (s.histories i) call) in
     length-append s.sent (map (sent_by i) out) ∙ ap (λ (n : ℕ). length s.sent + n) (length-map out (sent_by i))
 grows_by setting s OfNoMember = omega arith
 grows_by setting s OfNoFrame = omega arith
 grows_by setting s OfNoBytes = omega arith
 
-pub frames_grow : (setting : Setting) (s : GroupState) (step : Step) → length (step_after setting s step).sent ≡ length s.sent + length (put_out (answer_to setting s (asked_by setting s.sent step)))
+pub frames_grow : (setting : Setting) (s : GroupState) (step : Step) → length (step_after setting s step).sent ≡ length s.sent + length (frames_sent (answer_to setting s (asked_by setting s.sent step)))
 unfolding step_after
 frames_grow setting s step = grows_by setting s (asked_by setting s.sent step)

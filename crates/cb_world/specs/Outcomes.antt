@@ -5,10 +5,10 @@ use Rattle.cb_delay.specs.declared.message.Message.{Message}
 use Rattle.cb_history.specs.declared.answer.CastRefusal.{CastRefusal}
 use Rattle.cb_history.specs.declared.answer.ArriveRefusal.{ArriveRefusal}
 use Rattle.cb_history.specs.declared.answer.TickRefusal.{TickRefusal}
-use Rattle.cb_history.specs.Group.{Seat}
+use Rattle.cb_history.specs.Group.{Identity}
 use Rattle.cb_history.specs.Facts.{Fact}
 use Rattle.cb_history.specs.Answers.{Accepted, Repeat, cast_done}
-use Rattle.cb_schedules.specs.Schedule.{Setting, seat_at, Step, Schedule, SentFrame, Asked, Calls, OfNoMember, OfNoFrame, OfNoBytes, asked_by, GroupState, run, CastAnswer, ArrivalAnswer, TickAnswer, NoSuchMember, NoSuchFrame, NoBytes, answer_of, put_out}
+use Rattle.cb_schedules.specs.Schedule.{Setting, seat_at, Step, Schedule, SentFrame, Asked, Calls, OfNoMember, OfNoFrame, OfNoBytes, asked_by, GroupState, run, CastAnswer, ArrivalAnswer, TickAnswer, NoSuchMember, NoSuchFrame, NoBytes, answer_of, frames_sent}
 use Rattle.cb_schedules.specs.Schedule as schedules
 use Rattle.cb_schedules.specs.Messages.{facts_at}
 use Rattle.cb_world.specs.declared.outcome.Answer.{Answer}
@@ -20,30 +20,30 @@ use Rattle.cb_world.specs.declared.outcome.Sent.{Sent}
 abbrev pub sent_fields : Sent → SentFrame
 sent_fields sent = record { from = sent.from; to = sent.to; bytes = sent.bytes }
 
--- an answer without the frames that it puts out
-pub data Told : Type 0 where
-  CastTold : Name → List ℕ → Told
-  CastRefused : CastRefusal → Told
-  AcceptedTold : List Message → Bool → Told
-  RepeatTold : Told
-  ArrivalRefused : ArriveRefusal → Told
-  TickTold : Bool → Told
-  TickRefused : TickRefusal → Told
-  NoMemberTold : Told
-  NoFrameTold : Told
-  NoBytesTold : Told
+-- an answer without the frames that it sends
+pub data Reported : Type 0 where
+  CastReported : Name → List ℕ → Reported
+  CastRefused : CastRefusal → Reported
+  AcceptedReported : List Message → Bool → Reported
+  RepeatReported : Reported
+  ArrivalRefused : ArriveRefusal → Reported
+  TickReported : Bool → Reported
+  TickRefused : TickRefusal → Reported
+  NoMemberReported : Reported
+  NoFrameReported : Reported
+  NoBytesReported : Reported
 
 -- what the program tells
-abbrev pub told : Answer → Told
-told (answers.Cast name time) = CastTold name time
-told (answers.CastRefused refusal) = CastRefused refusal
-told (answers.Accepted deliveries changed) = AcceptedTold deliveries.items changed
-told answers.Repeat = RepeatTold
-told (answers.ArrivalRefused refusal) = ArrivalRefused refusal
-told (answers.Ticked entered) = TickTold entered
-told (answers.TickRefused refusal) = TickRefused refusal
-told answers.NoSuchMember = NoMemberTold
-told answers.NoSuchFrame = NoFrameTold
+abbrev pub reported : Answer → Reported
+reported (answers.Cast name time) = CastReported name time
+reported (answers.CastRefused refusal) = CastRefused refusal
+reported (answers.Accepted deliveries changed) = AcceptedReported deliveries.items changed
+reported answers.Repeat = RepeatReported
+reported (answers.ArrivalRefused refusal) = ArrivalRefused refusal
+reported (answers.Ticked entered) = TickReported entered
+reported (answers.TickRefused refusal) = TickRefused refusal
+reported answers.NoSuchMember = NoMemberReported
+reported answers.NoSuchFrame = NoFrameReported
 
 -- the answer to what a step asks for, by the definition
 abbrev pub answer_to : Setting → GroupState → Asked → schedules.Answer
@@ -53,30 +53,30 @@ answer_to setting s OfNoFrame = NoSuchFrame
 answer_to setting s OfNoBytes = NoBytes
 
 -- What is told of a member's answer: of a cast its name and its time.
-abbrev pub told_by : Seat → List Fact → schedules.Answer → Told
-told_by seat facts (CastAnswer (Ok c)) = CastTold (cast_done seat facts c).name (cast_done seat facts c).time
-told_by seat facts (CastAnswer (Err refusal)) = CastRefused refusal
-told_by seat facts (ArrivalAnswer (Ok (Accepted deliveries changed out))) = AcceptedTold deliveries changed
-told_by seat facts (ArrivalAnswer (Ok Repeat)) = RepeatTold
-told_by seat facts (ArrivalAnswer (Err refusal)) = ArrivalRefused refusal
-told_by seat facts (TickAnswer (Ok t)) = TickTold t.0
-told_by seat facts (TickAnswer (Err refusal)) = TickRefused refusal
-told_by seat facts NoSuchMember = NoMemberTold
-told_by seat facts NoSuchFrame = NoFrameTold
-told_by seat facts NoBytes = NoBytesTold
+abbrev pub reported_by : Identity → List Fact → schedules.Answer → Reported
+reported_by seat facts (CastAnswer (Ok c)) = CastReported (cast_done seat facts c).name (cast_done seat facts c).time
+reported_by seat facts (CastAnswer (Err refusal)) = CastRefused refusal
+reported_by seat facts (ArrivalAnswer (Ok (Accepted deliveries changed out))) = AcceptedReported deliveries changed
+reported_by seat facts (ArrivalAnswer (Ok Repeat)) = RepeatReported
+reported_by seat facts (ArrivalAnswer (Err refusal)) = ArrivalRefused refusal
+reported_by seat facts (TickAnswer (Ok t)) = TickReported t.0
+reported_by seat facts (TickAnswer (Err refusal)) = TickRefused refusal
+reported_by seat facts NoSuchMember = NoMemberReported
+reported_by seat facts NoSuchFrame = NoFrameReported
+reported_by seat facts NoBytes = NoBytesReported
 
 -- and of what a step asks for
-abbrev pub told_of : Setting → GroupState → Asked → Told
-told_of setting s (Calls i call) = told_by (seat_at setting i) (facts_at s i) (answer_of (seat_at setting i) setting.limit (s.histories i) call)
-told_of setting s OfNoMember = NoMemberTold
-told_of setting s OfNoFrame = NoFrameTold
-told_of setting s OfNoBytes = NoBytesTold
+abbrev pub reported_of : Setting → GroupState → Asked → Reported
+reported_of setting s (Calls i call) = reported_by (seat_at setting i) (facts_at s i) (answer_of (seat_at setting i) setting.limit (s.histories i) call)
+reported_of setting s OfNoMember = NoMemberReported
+reported_of setting s OfNoFrame = NoFrameReported
+reported_of setting s OfNoBytes = NoBytesReported
 
--- the outcome of a step in this state: what its member answers, and which frames it puts out
+-- the outcome of a step in this state: what its member answers, and which frames it sends
 pub record IsOutcome (setting : Setting) (s : GroupState) (step : Step) (outcome : Outcome) : Type 0 where
-  pub answer : told outcome.answer ≡ told_of setting s (asked_by setting s.sent step)
+  pub answer : reported outcome.answer ≡ reported_of setting s (asked_by setting s.sent step)
   pub first : outcome.first_frame ≡ length s.sent
-  pub count : outcome.frame_count ≡ length (put_out (answer_to setting s (asked_by setting s.sent step)))
+  pub count : outcome.frame_count ≡ length (frames_sent (answer_to setting s (asked_by setting s.sent step)))
 
 -- an outcome for each step, in the state before it
 pub data AreOutcomes (setting : Setting) : Schedule → List Outcome → Type 0 where

@@ -2,31 +2,31 @@
 use Rattle.std.specs.Prelude.{◌≡◌, ℕ, List, ◌++◌, length, map, slice_get, Some, if◌then◌else◌}
 use Rattle.cb_history.specs.Legal.{Call, ToCast, ToTick}
 use Rattle.cb_history.specs.State.{MemberState, facts_in, state_after}
-use Rattle.cb_schedules.specs.Schedule.{Setting, seat_at, Step, CastStep, ArriveStep, TickStep, SentFrame, Asked, Calls, OfNoMember, OfNoFrame, OfNoBytes, are_bytes, handed_over, asked_by, answer_of, put_out, sent_by, GroupState, step_after}
+use Rattle.cb_schedules.specs.Schedule.{Setting, seat_at, Step, CastStep, ArriveStep, TickStep, SentFrame, Asked, Calls, OfNoMember, OfNoFrame, OfNoBytes, are_bytes, handed_over, asked_by, answer_of, frames_sent, sent_by, GroupState, step_after}
 use Rattle.cb_world.specs.declared.outcome.Answer.{Answer}
 use Rattle.cb_world.specs.declared.outcome.Sent.{Sent}
-use Rattle.cb_world.specs.Outcomes.{sent_fields, Told, NoMemberTold, NoFrameTold, NoBytesTold, told, told_by, told_of}
+use Rattle.cb_world.specs.Outcomes.{sent_fields, Reported, NoMemberReported, NoFrameReported, NoBytesReported, reported, reported_by, reported_of}
 
 -- ---- one member
 
--- the member answered the call: it is told, the member is as after it, and what it puts out is sent
+-- the member answered the call: it is reported, the member is as after it, and what it sends is sent
 pub record HasAnswered (old new : MemberState) (call : Call) (before after : List SentFrame) (answer : Answer) : Type 0 where
-  pub told_is : told answer ≡ told_by old.seat (facts_in old) (answer_of old.seat old.limit old.entries call)
+  pub reported_is : reported answer ≡ reported_by old.seat (facts_in old) (answer_of old.seat old.limit old.entries call)
   pub state : new ≡ state_after old call
-  pub sent : after ≡ before ++ map (sent_by old.seat.me) (put_out (answer_of old.seat old.limit old.entries call))
+  pub sent : after ≡ before ++ map (sent_by old.seat.me) (frames_sent (answer_of old.seat old.limit old.entries call))
 
--- nothing happened, and this is told
-pub record HasToldAlone (old new : MemberState) (says : Told) (before after : List SentFrame) (answer : Answer) : Type 0 where
-  pub told_is : told answer ≡ says
+-- nothing happened, and this is reported
+pub record HasReportedAlone (old new : MemberState) (says : Reported) (before after : List SentFrame) (answer : Answer) : Type 0 where
+  pub reported_is : reported answer ≡ says
   pub state : new ≡ old
   pub sent : after ≡ before
 
 -- the member did what is asked for
 abbrev pub HasDone : MemberState → MemberState → Asked → List SentFrame → List SentFrame → Answer → Type 0
 HasDone old new (Calls i call) before after answer = HasAnswered old new call before after answer
-HasDone old new OfNoMember before after answer = HasToldAlone old new NoMemberTold before after answer
-HasDone old new OfNoFrame before after answer = HasToldAlone old new NoFrameTold before after answer
-HasDone old new OfNoBytes before after answer = HasToldAlone old new NoBytesTold before after answer
+HasDone old new OfNoMember before after answer = HasReportedAlone old new NoMemberReported before after answer
+HasDone old new OfNoFrame before after answer = HasReportedAlone old new NoFrameReported before after answer
+HasDone old new OfNoBytes before after answer = HasReportedAlone old new NoBytesReported before after answer
 
 -- what a step asks of the member that it names, where these frames were sent
 abbrev pub asks : List SentFrame → Step → Asked
@@ -46,9 +46,9 @@ pub record Stands (setting : Setting) (s : GroupState) (members : List MemberSta
   pub members_are : (i : ℕ) (m : MemberState) → slice_get members i ≡ Some m → m ≡ member_at setting s i
   pub sent_are : map sent_fields sent ≡ s.sent
 
--- after the step they are those of the state after it, and its answer is told
+-- after the step they are those of the state after it, and its answer is reported
 pub record HasTaken (setting : Setting) (s : GroupState) (step : Step) (members : List MemberState) (sent : List Sent) (answer : Answer) : Type 0 where
-  pub told_is : told answer ≡ told_of setting s (asked_by setting s.sent step)
+  pub reported_is : reported answer ≡ reported_of setting s (asked_by setting s.sent step)
   pub stands : Stands setting (step_after setting s step) members sent
 
 -- so it is in each state that they are those of

@@ -8,7 +8,7 @@ use Rattle.cb_history.specs.State.{MemberState}
 use Rattle.cb_schedules.specs.Schedule.{Setting, IsSetting, Schedule, GroupState, seat_at, run}
 use Rattle.cb_schedules.specs.Schedule as schedules
 use Rattle.cb_world.specs.declared.step.Step.{Step}
-use Rattle.cb_world.specs.declared.taking.TheConstants.{MOST_PUT_OUT}
+use Rattle.cb_world.specs.declared.taking.TheConstants.{MOST_SENT_OUT}
 use Rattle.cb_world.specs.declared.outcome.Outcome.{Outcome}
 use Rattle.cb_world.specs.declared.outcome.Sent.{Sent}
 use Rattle.cb_world.specs.Outcomes.{AreOutcomes}
@@ -50,8 +50,8 @@ pub record AreNewMembers (setting : Setting) (members : List MemberState) : Type
   pub many : length members ≡ setting.group.size
   pub new : (i : ℕ) (m : MemberState) → slice_get members i ≡ Some m → m ≡ new_member setting i
 
--- there is room for a step more, its outcome and what it puts out
+-- there is room for a step more, its outcome and what it sends
 pub record HasRoom (steps : Vec Step Global) (outcomes : Vec Outcome Global) (sent : Vec Sent Global) : Type 0 where
   pub step : vec_len steps + 1 ≤ vec_capacity steps
   pub outcome : vec_len outcomes + 1 ≤ vec_capacity outcomes
-  pub frames : vec_len sent + MOST_PUT_OUT ≤ vec_capacity sent
+  pub frames : vec_len sent + MOST_SENT_OUT ≤ vec_capacity sent

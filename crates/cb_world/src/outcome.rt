@@ -1,4 +1,4 @@
-//! What comes of a step.
+//! The outcome of a step.
 
 use bytes::Bytes;
 use cb_member::{ArriveRefusal, CastRefusal, Message, Name, TickRefusal, VectorTime};
@@ -12,7 +12,7 @@ pub struct Sent {
     pub bytes: Bytes,
 }
 
-/// What a step was answered, without the frames that it put out.
+/// What a step was answered, without the frames that it sent.
 #[derive(Debug, Drop)]
 pub enum Answer {
     Cast {
@@ -37,7 +37,7 @@ pub enum Answer {
     NoSuchFrame,
 }
 
-/// What came of a step.
+/// The outcome of a step.
 #[derive(Debug, Drop)]
 pub struct Outcome {
     pub answer: Answer,

@@ -33,7 +33,7 @@ impl Model for Run {
 }
 
 impl Run {
-    /// What came of each step. No arrival is refused, but where the history is full.
+    /// The outcome of each step. No arrival is refused, but where the history is full.
     pub fn outcomes(&self) -> &[Outcome]
         ensures outcomes { AreOutcomes self.now.setting self.now.steps result.now }
         ensures welcome { ArrivalsAreWelcome self.now.setting (run_in self.now) }

@@ -29,7 +29,7 @@ impl Step {
         }
     }
 
-    /// The same once more; a payload is shared.
+    /// A copy of the step; a payload is shared.
     pub fn copy(&self) -> Result<Step, NoMemory>
         ensures { IfOk result (λ step. step_fields step ≡ step_fields self.now) }
     {

@@ -4,7 +4,7 @@ ghost use Rattle.std.specs.Prelude.{◌≡◌, ℕ, ◌+◌, ◌≤◌, [], ◌�
 ghost use Rattle.std.specs.Vec.{vec_capacity, vec_len};
 ghost use Rattle.cb_history.specs.Legal.{ToCast, ToTake, ToTick};
 ghost use Rattle.cb_schedules.specs.Schedule.{are_bytes, handed_over, sent_by};
-ghost use Rattle.cb_world.specs.declared.taking.TheConstants.{MOST_PUT_OUT};
+ghost use Rattle.cb_world.specs.declared.taking.TheConstants.{MOST_SENT_OUT};
 ghost use Rattle.cb_world.specs.Outcomes.{sent_fields};
 ghost use Rattle.cb_world.specs.Steps.{step_fields};
 ghost use Rattle.cb_world.specs.Taking.{asks, HasAnswered, HasDone, Takes};
@@ -18,8 +18,8 @@ use cb_member::{
 };
 use std::alloc::AllocError;
 
-/// More frames than any answer puts out: the frames that were asked for, or a status to all and a request to each other member.
-pub const MOST_PUT_OUT: usize = MOST_FRAMES + 1;
+/// More frames than any answer sends: the frames that were asked for, or a status to all and a request to each other member.
+pub const MOST_SENT_OUT: usize = MOST_FRAMES + 1;
 
 /// Pushes where there is room.
 pub fn push_within<T: Drop>(items: &mut Vec<T>, item: T)
@@ -33,7 +33,7 @@ pub fn push_within<T: Drop>(items: &mut Vec<T>, item: T)
     };
 }
 
-/// The frames that a member puts out join those that were sent.
+/// The frames that a member sends join those that were sent.
 fn send(sent: &mut Vec<Sent>, from: u32, out: Vec<Outgoing>)
     requires { vec_len sent.old + vec_len out ≤ vec_capacity sent.old }
     ensures { map sent_fields sent.new.items
@@ -46,7 +46,7 @@ fn send(sent: &mut Vec<Sent>, from: u32, out: Vec<Outgoing>)
 
 #[tactic(auto, using(crate::proofs::Taken::bytes_are_bytes))]
 fn cast(member: &mut Member, payload: &[u8], sent: &mut Vec<Sent>) -> Result<Answer, NoMemory>
-    requires { vec_len sent.old + MOST_PUT_OUT ≤ vec_capacity sent.old }
+    requires { vec_len sent.old + MOST_SENT_OUT ≤ vec_capacity sent.old }
     ensures done { IfOk result (HasAnswered member.old member.new (ToCast payload.now)
         (map sent_fields sent.old.items) (map sent_fields sent.new.items)) }
     ensures bytes { are_bytes payload.now ≡ true }
@@ -73,7 +73,7 @@ fn cast(member: &mut Member, payload: &[u8], sent: &mut Vec<Sent>) -> Result<Ans
 }
 
 fn arrive(member: &mut Member, bytes: &Bytes, sent: &mut Vec<Sent>) -> Result<Answer, NoMemory>
-    requires { vec_len sent.old + MOST_PUT_OUT ≤ vec_capacity sent.old }
+    requires { vec_len sent.old + MOST_SENT_OUT ≤ vec_capacity sent.old }
     ensures done { IfOk result (HasAnswered member.old member.new (ToTake bytes.now)
         (map sent_fields sent.old.items) (map sent_fields sent.new.items)) }
     ensures same { OnErr result (member.new ≡ member.old) }
@@ -102,7 +102,7 @@ fn arrive(member: &mut Member, bytes: &Bytes, sent: &mut Vec<Sent>) -> Result<An
 
 /// The frame of this number arrives.
 fn hand_over(member: &mut Member, number: usize, sent: &mut Vec<Sent>) -> Result<Answer, NoMemory>
-    requires { vec_len sent.old + MOST_PUT_OUT ≤ vec_capacity sent.old }
+    requires { vec_len sent.old + MOST_SENT_OUT ≤ vec_capacity sent.old }
     ensures done { (j : ℕ) → IfOk result (HasDone member.old member.new
         (handed_over j (slice_get (map sent_fields sent.old.items) number))
         (map sent_fields sent.old.items) (map sent_fields sent.new.items)) }
@@ -117,7 +117,7 @@ fn hand_over(member: &mut Member, number: usize, sent: &mut Vec<Sent>) -> Result
 }
 
 fn tick(member: &mut Member, sent: &mut Vec<Sent>) -> Result<Answer, NoMemory>
-    requires { vec_len sent.old + MOST_PUT_OUT ≤ vec_capacity sent.old }
+    requires { vec_len sent.old + MOST_SENT_OUT ≤ vec_capacity sent.old }
     ensures done { IfOk result (HasAnswered member.old member.new ToTick
         (map sent_fields sent.old.items) (map sent_fields sent.new.items)) }
     ensures same { OnErr result (member.new ≡ member.old) }
@@ -125,8 +125,13 @@ fn tick(member: &mut Member, sent: &mut Vec<Sent>) -> Result<Answer, NoMemory>
 {
     let from = member.seat().me();
     match member.tick() {
-        Ok(Ticked { entered, out: told }) => {
-            send(sent, from, told);
+        Ok(
+            Ticked {
+                entered,
+                out: reported,
+            },
+        ) => {
+            send(sent, from, reported);
             Ok(Answer::Ticked { entered })
         }
         Err(TickRefusal::NoMemory) => Err(AllocError),
@@ -136,7 +141,7 @@ fn tick(member: &mut Member, sent: &mut Vec<Sent>) -> Result<Answer, NoMemory>
 
 /// The member does what the step asks for.
 fn call(member: &mut Member, step: &Step, sent: &mut Vec<Sent>) -> Result<Answer, NoMemory>
-    requires { vec_len sent.old + MOST_PUT_OUT ≤ vec_capacity sent.old }
+    requires { vec_len sent.old + MOST_SENT_OUT ≤ vec_capacity sent.old }
     ensures done { IfOk result (HasDone member.old member.new
         (asks (map sent_fields sent.old.items) (step_fields step.now))
         (map sent_fields sent.old.items) (map sent_fields sent.new.items)) }
@@ -156,7 +161,7 @@ pub fn take(
     step: &Step,
     sent: &mut Vec<Sent>,
 ) -> Result<Answer, NoMemory>
-    requires { vec_len sent.old + MOST_PUT_OUT ≤ vec_capacity sent.old }
+    requires { vec_len sent.old + MOST_SENT_OUT ≤ vec_capacity sent.old }
     ensures taken { IfOk result (Takes members.old.items sent.old.items (step_fields step.now)
         members.new.items sent.new.items) }
     ensures same { OnErr result (members.new.items ≡ members.old.items) }

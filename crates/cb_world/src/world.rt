@@ -16,7 +16,7 @@ ghost use Rattle.cb_world.specs.World.{AreNewMembers, HasRoom, and_step, member_
 use crate::outcome::{Outcome, Sent};
 use crate::run::Run;
 use crate::step::Step;
-use crate::taking::{MOST_PUT_OUT, push_within, take};
+use crate::taking::{MOST_SENT_OUT, push_within, take};
 use cb_member::{Entry, Event, Group, LONGEST_HISTORY, Member, NewFault, NoMemory};
 use std::alloc::{AllocError, Global};
 use std::error::Error;
@@ -45,7 +45,7 @@ impl fmt::Display for PlayFault {
 
 impl Error for PlayFault {}
 
-/// A group of members, all frames that they sent, and what came of each step so far.
+/// A group of members, all frames that they sent, and the outcome of each step so far.
 #[derive(Drop)]
 pub struct World {
     group: Group,
@@ -208,7 +208,7 @@ impl World {
         self.sent.as_slice()
     }
 
-    /// What came of each step. No arrival is refused, but where the history is full.
+    /// The outcome of each step. No arrival is refused, but where the history is full.
     pub fn outcomes(&self) -> &[Outcome]
         ensures outcomes { AreOutcomes self.now.setting self.now.steps result.now }
         ensures welcome { ArrivalsAreWelcome self.now.setting (run_in self.now) }
@@ -230,7 +230,7 @@ fn make_room(
 {
     steps.reserve(1)?;
     outcomes.reserve(1)?;
-    sent.reserve(MOST_PUT_OUT)?;
+    sent.reserve(MOST_SENT_OUT)?;
     Ok(())
 }
 

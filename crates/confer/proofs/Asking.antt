@@ -23,7 +23,7 @@ use Rattle.cb_rooms.specs.View.{ViewLine, line_named, has_line, line_of, line_sh
 use Rattle.cb_rooms.proofs.Lists.{Some-injective}
 use Rattle.cb_rooms.proofs.Decoding.{payload_is_read}
 use Rattle.confer.specs.Rooms.{view_of, HasNoOrphan, WasComposed, AnswersWereComposed, Shows, ShowsAllLines, AgreeOnLines}
-use Rattle.confer.proofs.Views.{take_past, view_step, adds, told, named_stays, named_new, IsLineOf, line_is_of}
+use Rattle.confer.proofs.Views.{take_past, view_step, adds, reported, named_stays, named_new, IsLineOf, line_is_of}
 
 -- an event that is a line, before a place of a list
 pub record LineBefore (events : List CausalEvent) (place : ℕ) (q : Name) : Type 0 where
@@ -166,7 +166,7 @@ module _ (size : ℕ) (lists : Lists) (run : Run size lists) (composed : Answers
       let lines : List ViewLine = view_of (take n (lists j)) in
       let (l, new) = made j n e line at read shown in
       let more : added lines (name_of e) (payload_of e) ≡ Some l = adds lines (name_of e) (payload_of e) line (not_yet j n e at) read ∙ new in
-      (l, named_new lines (name_of e) (payload_of e) l more, (told lines (name_of e) line l new).1)
+      (l, named_new lines (name_of e) (payload_of e) l more, (reported lines (name_of e) line l new).1)
 
   pub shows : (j n : ℕ) → ShowsFirst j n
   shows j (zero) a e line less at read = absurd (omega (arith, less))

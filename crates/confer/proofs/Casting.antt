@@ -23,8 +23,8 @@ use Rattle.cb_history.specs.declared.answer.CastRefusal.TheVariants as casts
 use Rattle.cb_history.specs.declared.answer.ArriveRefusal.{ArriveRefusal}
 use Rattle.cb_history.specs.declared.answer.TickRefusal.{TickRefusal}
 use Rattle.cb_history.specs.declared.answer.Outgoing.{Outgoing}
-use Rattle.cb_history.specs.Group.{Seat}
-use Rattle.cb_history.specs.Facts.{EntryFields, CastEntry, ArriveEntry, TickEntry, Fact, OwnCast, CastCame, StatusCame, OwnStatus, cast_said, arrival_said, status_said, said_by, facts_of}
+use Rattle.cb_history.specs.Group.{Identity}
+use Rattle.cb_history.specs.Facts.{EntryFields, CastEntry, ArriveEntry, TickEntry, Fact, OwnCast, CastReceived, StatusReceived, OwnStatus, cast_said, arrival_said, status_said, said_by, facts_of}
 use Rattle.cb_history.specs.Answers.{is_full, is_window_full, next_cast, cast_answer, ArrivalSays, Accepted, Repeat, arrive_answer, status_of, tick_answer}
 use Rattle.cb_history.specs.Events.{events}
 use Rattle.cb_history.specs.EventLaws.{new_events}
@@ -69,18 +69,18 @@ IsMadeBy call (Deliver message) = Unit {0}
 
 abbrev IsSaidBy : Call → Fact → Type 0
 IsSaidBy call (OwnCast c) = call ≡ ToCast c.payload
-IsSaidBy call (CastCame c) = Unit {0}
-IsSaidBy call (StatusCame s) = Unit {0}
+IsSaidBy call (CastReceived c) = Unit {0}
+IsSaidBy call (StatusReceived s) = Unit {0}
 IsSaidBy call (OwnStatus s) = Unit {0}
 
 all_deliver : (call : Call) (messages : List Message) → AllByRecursion (IsMadeBy call) (map (λ message. Deliver message) messages)
 all_deliver call [] = tt
 all_deliver call (message ∷ messages) = (tt, all_deliver call messages)
 
-makes : (call : Call) (seat : Seat) (facts : List Fact) (f : Fact) → IsSaidBy call f → AllByRecursion (IsMadeBy call) (new_events seat facts f)
+makes : (call : Call) (seat : Identity) (facts : List Fact) (f : Fact) → IsSaidBy call f → AllByRecursion (IsMadeBy call) (new_events seat facts f)
 makes call seat facts (OwnCast c) said = (said, tt)
-makes call seat facts (CastCame c) said = all_deliver call _
-makes call seat facts (StatusCame s) said = tt
+makes call seat facts (CastReceived c) said = all_deliver call _
+makes call seat facts (StatusReceived s) said = tt
 makes call seat facts (OwnStatus s) said = tt
 
 -- ---- one more entry
@@ -95,12 +95,12 @@ SaysOne call (f ∷ g ∷ facts) = ⊥
 abbrev pub GoOn : Call → List Event → List Event → Type 0
 GoOn call before after = (new : List Event) × (after ≡ before ++ new) × AllByRecursion (IsMadeBy call) new
 
-by_facts : (call : Call) (seat : Seat) (facts more : List Fact) → AreFactsOf seat (facts ++ more) → SaysOne call more → GoOn call (events seat facts) (events seat (facts ++ more))
+by_facts : (call : Call) (seat : Identity) (facts more : List Fact) → AreFactsOf seat (facts ++ more) → SaysOne call more → GoOn call (events seat facts) (events seat (facts ++ more))
 by_facts call seat facts [] are said = ([], ap (events seat) (append-nil facts) ∙ sym (append-nil (events seat facts)), tt)
 by_facts call seat facts (f ∷ []) are said = (new_events seat facts f, events_with_one_more seat facts f are, makes call seat facts f said)
 by_facts call seat facts (f ∷ g ∷ more) are said = absurd said
 
-by_entry : (call : Call) (seat : Seat) (entries : List EntryFields) (o : Option EntryFields) → IsLegal seat (and_entry entries o)
+by_entry : (call : Call) (seat : Identity) (entries : List EntryFields) (o : Option EntryFields) → IsLegal seat (and_entry entries o)
     → ((e : EntryFields) → o ≡ Some e → SaysOne call (said_by e)) → GoOn call (events seat (facts_of entries)) (events seat (facts_of (and_entry entries o)))
 by_entry call seat entries None legal said = ([], sym (append-nil (events seat (facts_of entries))), tt)
 by_entry call seat entries (Some e) legal said =
@@ -145,7 +145,7 @@ tick_adds status (Ok (false, out)) e at = absurd (cc at)
 tick_adds status (Err refusal) e at = absurd (cc at)
 
 module _ (setting : Setting) (is : IsSetting setting) (s : GroupState) (inv : IsConsistent setting s) (i : ℕ) (lt : i < setting.group.size) where
-  abbrev seat : Seat
+  abbrev seat : Identity
   seat = seat_at setting i
 
   abbrev now : List EntryFields

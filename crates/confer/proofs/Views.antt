@@ -62,11 +62,11 @@ unfolding added
 adds lines name payload line fresh read = rw (fresh, read) refl
 
 -- the line is that of the message, and says what it says
-pub told : (lines : List ViewLine) (name : Name) (line : LineFields) (l : ViewLine) → line_of lines name line ≡ Some l → (l.name ≡ name) × Tells l line
-told lines name (SayLine room text) l e =
+pub reported : (lines : List ViewLine) (name : Name) (line : LineFields) (l : ViewLine) → line_of lines name line ≡ Some l → (l.name ≡ name) × Tells l line
+reported lines name (SayLine room text) l e =
     let same : view_line name room None text ≡ l = Some-injective (view_line name room None text) l e in
     (sym (ap (λ (x : ViewLine). x.name) same), (sym (ap (λ (x : ViewLine). x.room) same), sym (ap (λ (x : ViewLine). x.question) same), sym (ap (λ (x : ViewLine). x.text) same)))
-told lines name (AnswerLine question text) l e = by (line_named lines question) e
+reported lines name (AnswerLine question text) l e = by (line_named lines question) e
   where
     by : (o : Option ViewLine) → option_map (λ (x : ViewLine). view_line name x.room (Some question) text) o ≡ Some l
         → (l.name ≡ name) × Tells l (AnswerLine question text)
@@ -90,7 +90,7 @@ pub named_new : (lines : List ViewLine) (name : Name) (payload : List ℕ) (l : 
 unfolding lines_after
 named_new lines name payload l e =
     let new = is_new lines name payload l e in
-    let own : l.name ≡ name = (told lines name new.line l new.made).0 in
+    let own : l.name ≡ name = (reported lines name new.line l new.made).0 in
     let test : ViewLine → Bool = λ (x : ViewLine). is_same name x.name in
     let none : find test lines ≡ None = is_none (line_named lines name) new.fresh in
     let pass : test l ≡ true = rw own (same_name name) in
@@ -116,7 +116,7 @@ named_before lines name payload q l e = by (find test lines) refl
         found true t =
             let same : m ≡ l = Some-injective m l (rw t at h) in
             let is = is_new lines name payload m a in
-            (same_names q m.name t ∙ (told lines name is.line m is.made).0, a ∙ ap (λ (x : ViewLine). Some x) same)
+            (same_names q m.name t ∙ (reported lines name is.line m is.made).0, a ∙ ap (λ (x : ViewLine). Some x) same)
         found false t = absurd (none-some l (rw t at h))
 
     whole : option_or (find test lines) (find test (option_to_list (added lines name payload))) ≡ Some l

@@ -77,7 +77,7 @@ pub record PrintsOf (bytes : List ℕ) (refused : Bool) (text : List ℕ) : Type
   pub trace : IsTrace histories bytes
   pub prints : Prints histories refused text
 
--- so much of the input, where it can be told
+-- so much of the input, where it can be known
 pub record Answers (refused : Bool) (input before now : Option (List ℕ)) : Type 0 where
   pub limit : IsWithinLimit input
   pub text : List ℕ

@@ -54,13 +54,13 @@ pub record ComposesNothing (w : WorldState) (i : ℕ) (line : LineFields) (after
   pub none : (w.setting.group.size ≤ i) ⊎ (compose_fault (view_in w i) line ≢ None)
   pub same : after ≡ w
 
--- what comes of an order in a group
+-- the outcome of an order in a group
 abbrev pub ComesOf : ScriptOrder → WorldState → WorldState → Type 0
 ComesOf (Takes step) w after = after ≡ and_step w step
 ComesOf (Composes i line) w after = ComposesAndCasts w i line after ⊎ ComposesNothing w i line after
 ComesOf (Shows i) w after = after ≡ w
 
--- what comes of some orders, one after the other
+-- the outcome of some orders, one after the other
 pub data Plays : WorldState → List ScriptOrder → WorldState → Type 0 where
   NoOrders : (w : WorldState) → Plays w [] w
   OneAndThen : (w next after : WorldState) (order : ScriptOrder) (orders : List ScriptOrder) → ComesOf order w next → Plays next orders after
@@ -145,7 +145,7 @@ Says number (Shows i) w part = i < w.setting.group.size → part ≡ screen_part
 
 -- ---- what is printed of a script
 
--- what comes of some orders, one after the other, and what is printed of them
+-- the outcome of some orders, one after the other, and what is printed of them
 pub data Prints : WorldState → ℕ → List ScriptOrder → List ℕ → WorldState → Type 0 where
   NothingMore : (w : WorldState) (number : ℕ) → Prints w number [] [] w
   OneAndMore : (w next after : WorldState) (number : ℕ) (order : ScriptOrder) (orders : List ScriptOrder) (part rest : List ℕ) → ComesOf order w next

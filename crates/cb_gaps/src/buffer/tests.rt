@@ -1,4 +1,4 @@
-//! Worked examples of one sender's casts: what is kept, what comes out, what is missing.
+//! Worked examples of one sender's casts: what is kept, which come out, what is missing.
 ghost use Rattle.cb_times.specs.Group.{IsWindow};
 
 use super::*;
@@ -217,7 +217,7 @@ fn a_judgement_is_what_a_cast_would_get_and_changes_nothing(rt: HostRuntime) {
 }
 
 #[test]
-fn what_would_come_out_is_told_before_it_is_kept(rt: HostRuntime) {
+fn what_would_come_out_is_reported_before_it_is_kept(rt: HostRuntime) {
     const STEPS: &[(Call, &str)] = &[
         (Call::ReadyWith(1), "1"),
         (Call::ReadyWith(2), "0"),

@@ -2,8 +2,8 @@
 
 ghost use Rattle.cb_history.specs.KnowledgeLaws.{StatusIsKnown, StatusIsAcknowledged, CastIsKnown, CastIsAcknowledged, OwnStatusTellsNothing, OwnCastTellsNothing, NothingFalls, DeliveredIsKnown, AcknowledgedIsDelivered};
 
-/// What one more fact does to what is known, acknowledged and stable: a status that came raises it to what it says, a cast that came
-/// to what it and the times say that can be told by it, an own cast or status leaves it, and none makes it smaller. What is
+/// What one more fact does to what is known, acknowledged and stable: a received status raises it to what it says, a received cast
+/// to what it and the times say that can be known by it, an own cast or status leaves it, and none makes it smaller. What is
 /// delivered is known, and no more is acknowledged than was cast.
 pub fn knowledge_grows()
     ensures known { StatusIsKnown }

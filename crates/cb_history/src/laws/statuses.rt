@@ -3,7 +3,7 @@
 ghost use Rattle.cb_history.specs.StatusLaws.{LastStatusWithOneMore, StatusSaysTheTime, NewStatusIsANewTime};
 
 /// A status says how many messages of each member are delivered. An own status is the last one until the next, whatever else comes,
-/// and a new one is told exactly where the time is another one.
+/// and a new one is reported exactly where the time is another one.
 pub fn statuses_say_the_time()
     ensures last { LastStatusWithOneMore }
     ensures says { StatusSaysTheTime }

@@ -5,7 +5,7 @@ ghost use Rattle.std.specs.Prelude.{◌≡◌};
 use super::{member, seats};
 use crate::closing::{fault_of, none_seen, wrong_in_seat};
 use crate::{CloseFault, Held, Receipt, Seat};
-use cb_member::{Member, Seat as Identity};
+use cb_member::{Identity, Member};
 use std::alloc::Global;
 use std::marker::Brand;
 use std::process::Abort;

@@ -266,7 +266,7 @@ fn locked_answer<L: Ledger>(
     said.expect(rt, "memory")
 }
 
-/// The same calls where what comes is received, and what is cast is said under the lock: the receipts and the history are the same.
+/// The calls of the scripts, with frames received and casts said under the lock: the receipts and the history are as before.
 #[test]
 fn received_as_plain(rt: HostRuntime) {
     for script in SCRIPTS {

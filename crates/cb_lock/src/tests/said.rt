@@ -1,4 +1,4 @@
-//! Answers as texts: the names of messages that are delivered, and what is put out, in hexadecimal.
+//! Answers as texts: the names of messages that are delivered, and what is sent, in hexadecimal.
 
 use bytes::Bytes;
 use cb_member::{

@@ -21,7 +21,7 @@ use crate::text::another;
 use bytes::Bytes;
 use cb_delay::is_ready;
 use cb_frames::Cast;
-use cb_history::{ArriveRefusal, Entry, Names, Outgoing, Seat};
+use cb_history::{ArriveRefusal, Entry, Identity, Names, Outgoing};
 use cb_times::{Name, NoMemory, VectorTime};
 use std::alloc::Global;
 use std::slice;
@@ -33,9 +33,9 @@ pub struct Twice {
     pub noted: Entry,
 }
 
-/// Takes a cast that came, and delivers what it makes ready. What is to be sent is told, with a copy of the entry that it adds.
+/// Takes a received cast, and delivers what it makes ready. What is to be sent is answered, with a copy of the entry that it adds.
 pub fn answer(
-    seat: Seat,
+    seat: Identity,
     limit: usize,
     store: &mut Store,
     bytes: Bytes,
@@ -61,7 +61,7 @@ pub fn answer(
 
 /// Takes a cast that no rule refuses.
 fn accept(
-    seat: Seat,
+    seat: Identity,
     limit: usize,
     store: &mut Store,
     bytes: Bytes,
@@ -86,9 +86,9 @@ fn accept(
     accept_alone(seat, limit, store, bytes, cast)
 }
 
-/// The same for one that may wait, or that others wait for.
+/// Accepts a cast that may wait, or for which others wait.
 fn accept_with_others(
-    seat: Seat,
+    seat: Identity,
     limit: usize,
     store: &mut Store,
     bytes: &Bytes,
@@ -112,10 +112,11 @@ fn accept_with_others(
     }
 }
 
-/// The same for one that comes alone, with room for it. Where it is delivered as soon as it is there, the bytes go into the copy of its
+/// Accepts a cast behind which nothing waits, with room for it. Where it is delivered as soon as it is there, the bytes go into
+/// the copy of its
 /// entry.
 fn accept_alone(
-    seat: Seat,
+    seat: Identity,
     limit: usize,
     store: &mut Store,
     bytes: Bytes,
@@ -150,7 +151,7 @@ fn accept_alone(
 /// The time of a cast that comes alone, where the delay rule lets it be delivered as soon as it is there.
 fn time_at_once(
     alloc: Global,
-    seat: Seat,
+    seat: Identity,
     limit: usize,
     store: &Store,
     cast: &Cast,
@@ -197,7 +198,7 @@ fn entry_of(alloc: Global, frame: Bytes, cast: &Cast) -> Entry
 }
 
 /// Takes the cast in and delivers its message, and learns from that what is acknowledged and stable. This takes no memory.
-fn deliver(seat: Seat, store: &mut Store, cast: Cast, time: VectorTime)
+fn deliver(seat: Identity, store: &mut Store, cast: Cast, time: VectorTime)
     requires { IsAtOnce seat (cast_fields cast) time store.old }
     ensures keeps { Keeps seat (facts_with (cast_fields cast) store.old) store.new }
     ensures entries { store.new.entries ≡ store.old.entries }

@@ -23,7 +23,7 @@ use bytes::Bytes;
 use cb_delay::Message;
 use cb_frames::Cast;
 use cb_gaps::Admission;
-use cb_history::{Arrival, ArriveRefusal, Entry, Names, Seat};
+use cb_history::{Arrival, ArriveRefusal, Entry, Identity, Names};
 use cb_times::NoMemory;
 use std::alloc::{AllocError, Global};
 
@@ -53,9 +53,9 @@ pub struct Named {
     pub delivered: Names,
 }
 
-/// Takes a cast that came, and delivers what it makes ready. A copy of the entry that it adds, where it adds one, comes with the answer.
+/// Takes a received cast, and delivers what it makes ready. A copy of the entry that it adds, where it adds one, comes with the answer.
 pub fn answer(
-    seat: Seat,
+    seat: Identity,
     limit: usize,
     store: &mut Store,
     bytes: &Bytes,
@@ -80,7 +80,12 @@ pub fn answer(
 }
 
 /// The first rule that the cast breaks, or what it does.
-pub fn judge(seat: Seat, limit: usize, store: &Store, cast: &Cast) -> Result<Judged, ArriveRefusal>
+pub fn judge(
+    seat: Identity,
+    limit: usize,
+    store: &Store,
+    cast: &Cast,
+) -> Result<Judged, ArriveRefusal>
     requires kept { IsKept seat limit store.now }
     requires numbered { 1 ≤ cast.now.number }
     ensures { JudgesCast seat limit store.now (cast_fields cast.now) result }
@@ -131,7 +136,7 @@ fn are_members(size: u32, cast: &Cast) -> bool
 
 /// Takes a cast that no rule refuses.
 pub fn accept(
-    seat: Seat,
+    seat: Identity,
     limit: usize,
     store: &mut Store,
     bytes: &Bytes,
@@ -161,7 +166,7 @@ pub fn accept(
 
 /// Makes what the cast needs, and room for what it delivers. Nothing else changes.
 fn prepare(
-    seat: Seat,
+    seat: Identity,
     limit: usize,
     store: &mut Store,
     bytes: &Bytes,
@@ -187,7 +192,7 @@ fn prepare(
 }
 
 /// How many messages wait for the delay rule once the cast has come: those that do, and those that can be expanded with it.
-fn room_for(seat: Seat, limit: usize, store: &Store, cast: &Cast) -> Result<usize, NoMemory>
+fn room_for(seat: Identity, limit: usize, store: &Store, cast: &Cast) -> Result<usize, NoMemory>
     requires kept { IsKept seat limit store.now }
     requires can { CanTake seat limit store.now (cast_fields cast.now) }
     ensures { IfOk result (λ room. room ≡ waiting_with store.now (cast_fields cast.now)) }
@@ -201,7 +206,7 @@ fn room_for(seat: Seat, limit: usize, store: &Store, cast: &Cast) -> Result<usiz
 }
 
 /// How many of its sender's casts are expanded by it.
-fn expanded_by(seat: Seat, limit: usize, store: &Store, cast: &Cast) -> u32
+fn expanded_by(seat: Identity, limit: usize, store: &Store, cast: &Cast) -> u32
     requires kept { IsKept seat limit store.now }
     requires can { CanTake seat limit store.now (cast_fields cast.now) }
     ensures { result ≡ expanded_by (facts_held store.now) (cast_fields cast.now) }
@@ -237,7 +242,13 @@ fn named_for(alloc: Global, room: usize, bytes: &Bytes) -> Result<Named, NoMemor
 }
 
 /// Takes the cast in, delivers what it makes ready, and learns from that what is acknowledged and stable. This takes no memory.
-fn deliver(seat: Seat, store: &mut Store, cast: Cast, spare: Spare, deliveries: &mut Vec<Message>)
+fn deliver(
+    seat: Identity,
+    store: &mut Store,
+    cast: Cast,
+    spare: Spare,
+    deliveries: &mut Vec<Message>,
+)
     requires can { CanDeliver seat (cast_fields cast) spare store.old }
     requires empty { IsEmptyFor (waiting_with store.old (cast_fields cast)) deliveries.old }
     ensures keeps { Keeps seat (facts_with (cast_fields cast) store.old) store.new }
@@ -254,7 +265,7 @@ fn deliver(seat: Seat, store: &mut Store, cast: Cast, spare: Spare, deliveries: 
 
 /// Takes the cast in, and delivers what it makes ready. Nearly always it comes in order and nothing waits: then it is not put anywhere
 /// on the way.
-fn take(seat: Seat, store: &mut Store, cast: Cast, spare: Spare, deliveries: &mut Vec<Message>)
+fn take(seat: Identity, store: &mut Store, cast: Cast, spare: Spare, deliveries: &mut Vec<Message>)
     requires can { CanDeliver seat (cast_fields cast) spare store.old }
     requires empty { IsEmptyFor (waiting_with store.old (cast_fields cast)) deliveries.old }
     ensures taken { TakesAndDelivers (cast_fields cast) store.old store.new deliveries.new.items }
@@ -270,7 +281,7 @@ fn take(seat: Seat, store: &mut Store, cast: Cast, spare: Spare, deliveries: &mu
 }
 
 /// Takes a cast in that is expanded as soon as it is there.
-fn pass(seat: Seat, store: &mut Store, cast: Cast, spare: Spare, deliveries: &mut Vec<Message>)
+fn pass(seat: Identity, store: &mut Store, cast: Cast, spare: Spare, deliveries: &mut Vec<Message>)
     requires can { CanDeliver seat (cast_fields cast) spare store.old }
     requires empty { IsEmptyFor (waiting_with store.old (cast_fields cast)) deliveries.old }
     requires passes { LetsPass cast.sender cast.number store.old.reception }

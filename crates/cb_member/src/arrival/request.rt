@@ -1,4 +1,4 @@
-//! A request that came: frames are sent again, and nothing changes.
+//! A received request: frames are sent again, and nothing changes.
 
 ghost use Rattle.std.specs.Prelude.{◌≡◌, IfOk, IfErr, Some, map};
 ghost use Rattle.cb_frames.specs.Fields.{request_fields, RequestFrame};
@@ -10,12 +10,12 @@ ghost use Rattle.cb_member.specs.Answering.{JudgesRequest, LeavesState, Refuses}
 use crate::store::Store;
 use bytes::Bytes;
 use cb_frames::Request;
-use cb_history::{Arrival, ArriveRefusal, Outgoing, Seat};
+use cb_history::{Arrival, ArriveRefusal, Identity, Outgoing};
 use cb_times::NoMemory;
 use std::alloc::Global;
 
 /// The first rule that the request breaks.
-fn check(seat: Seat, request: &Request) -> Result<(), ArriveRefusal>
+fn check(seat: Identity, request: &Request) -> Result<(), ArriveRefusal>
     ensures { JudgesRequest seat (request_fields request.now) result }
 {
     let size = seat.group().size();
@@ -44,7 +44,11 @@ fn sent_to(alloc: Global, to: u32, frames: Vec<Bytes>) -> Result<Vec<Outgoing>, 
 }
 
 /// What is sent in answer: at the asked member the first frames of its window that are asked for.
-fn sent_in_answer(seat: Seat, store: &Store, request: &Request) -> Result<Vec<Outgoing>, NoMemory>
+fn sent_in_answer(
+    seat: Identity,
+    store: &Store,
+    request: &Request,
+) -> Result<Vec<Outgoing>, NoMemory>
     requires { Stands seat store.now }
     ensures { IfOk result (λ out. out.items ≡ sent_in_answer seat (facts_held store.now)
         (RequestFrame (request_fields request.now))) }
@@ -58,7 +62,7 @@ fn sent_in_answer(seat: Seat, store: &Store, request: &Request) -> Result<Vec<Ou
 }
 
 /// The answer to a request, which never changes the state.
-pub fn answer(seat: Seat, store: &Store, request: &Request) -> Result<Arrival, ArriveRefusal>
+pub fn answer(seat: Identity, store: &Store, request: &Request) -> Result<Arrival, ArriveRefusal>
     requires { Stands seat store.now }
     ensures taken { IfOk result (LeavesState seat store.now (RequestFrame
         (request_fields request.now))) }

@@ -1,4 +1,4 @@
-//! A status that came.
+//! A received status.
 
 ghost use Rattle.std.specs.Prelude.{◌≡◌, ◌<◌, ◌==◌, ◌&&◌, not, true, nat_lt, [], length, option_map, IfOk, IfErr, OnErr, Ok};
 ghost use Rattle.std.specs.List.{list_any, range_with_len};
@@ -20,7 +20,7 @@ use crate::store::Store;
 use crate::text::another;
 use bytes::Bytes;
 use cb_frames::{Change, Status};
-use cb_history::{Arrival, ArriveRefusal, Entry, Names, Seat};
+use cb_history::{Arrival, ArriveRefusal, Entry, Identity, Names};
 use cb_times::{NoMemory, VectorTime};
 use std::alloc::Global;
 
@@ -47,7 +47,7 @@ fn is_ahead(time: &VectorTime, values: &[Change]) -> bool
 }
 
 /// It would be a time of the member itself that it has not reached, or more deliveries of its casts than it made.
-fn is_impossible(seat: Seat, store: &Store, status: &Status) -> bool
+fn is_impossible(seat: Identity, store: &Store, status: &Status) -> bool
     requires store { Stands seat store.now }
     requires members { are_members seat.group.size (StatusFrame (status_fields status.now)) ≡ true }
     ensures { result ≡ is_impossible seat (facts_held store.now) (StatusFrame
@@ -62,7 +62,7 @@ fn is_impossible(seat: Seat, store: &Store, status: &Status) -> bool
 }
 
 /// Some value tells more of another sender's casts than was heard of.
-fn tells_of_casts(seat: Seat, known: &VectorTime, values: &[Change]) -> bool
+fn tells_of_casts(seat: Identity, known: &VectorTime, values: &[Change]) -> bool
     requires { length known.now ≡ seat.group.size }
     ensures { result ≡ list_any (λ k. not (k == seat.me)
         && nat_lt (field known.now k) (value_in values.now k))
@@ -78,7 +78,7 @@ fn tells_of_casts(seat: Seat, known: &VectorTime, values: &[Change]) -> bool
 }
 
 /// A status of another that raises what is known.
-fn is_news(seat: Seat, store: &Store, status: &Status) -> bool
+fn is_news(seat: Identity, store: &Store, status: &Status) -> bool
     requires store { Stands seat store.now }
     requires members { are_members seat.group.size (StatusFrame (status_fields status.now)) ≡ true }
     ensures { result ≡ is_news seat (facts_held store.now) (status_fields status.now) }
@@ -100,7 +100,12 @@ pub enum Judged {
 }
 
 /// The first rule that the status breaks, or what it does.
-fn judge(seat: Seat, limit: usize, store: &Store, status: &Status) -> Result<Judged, ArriveRefusal>
+fn judge(
+    seat: Identity,
+    limit: usize,
+    store: &Store,
+    status: &Status,
+) -> Result<Judged, ArriveRefusal>
     requires { Stands seat store.now }
     ensures { JudgesStatus seat limit store.now (status_fields status.now) result }
 {
@@ -122,7 +127,7 @@ fn judge(seat: Seat, limit: usize, store: &Store, status: &Status) -> Result<Jud
     Ok(Judged::News)
 }
 
-/// The entry of a status that came. It delivers nothing.
+/// The entry of a received status. It delivers nothing.
 fn entry_of(alloc: Global, bytes: &Bytes) -> Result<Entry, NoMemory>
     ensures { IfOk result (λ entry. entry_fields entry ≡ ArriveEntry bytes.now []) }
 {
@@ -133,7 +138,12 @@ fn entry_of(alloc: Global, bytes: &Bytes) -> Result<Entry, NoMemory>
 }
 
 /// Enters the status and keeps what it says; answers a copy of the entry.
-fn take(seat: Seat, store: &mut Store, status: &Status, bytes: &Bytes) -> Result<Entry, NoMemory>
+fn take(
+    seat: Identity,
+    store: &mut Store,
+    status: &Status,
+    bytes: &Bytes,
+) -> Result<Entry, NoMemory>
     requires me { seat.me < store.old.knowledge.acks.size }
     requires sender { status.now.sender < store.old.knowledge.acks.size }
     ensures taken { IfOk result (TakesStatus seat.me (status_fields status.now) bytes.now store.old
@@ -149,7 +159,7 @@ fn take(seat: Seat, store: &mut Store, status: &Status, bytes: &Bytes) -> Result
 }
 
 /// A status delivers nothing, and nothing is sent in answer.
-fn told(alloc: Global, changed: bool) -> Arrival
+fn reported(alloc: Global, changed: bool) -> Arrival
     ensures { arrival_says result ≡ Accepted [] changed [] }
 {
     Arrival::Accepted {
@@ -161,7 +171,7 @@ fn told(alloc: Global, changed: bool) -> Arrival
 
 /// The answer to a status. The second is a copy of its entry, where it is news.
 pub fn answer(
-    seat: Seat,
+    seat: Identity,
     limit: usize,
     store: &mut Store,
     status: &Status,
@@ -180,10 +190,10 @@ pub fn answer(
 {
     let alloc = *store.entries.allocator();
     match judge(seat, limit, store, status)? {
-        Judged::NoNews => Ok((told(alloc, false), None)),
+        Judged::NoNews => Ok((reported(alloc, false), None)),
         Judged::News => {
             let copy = take(seat, store, status, bytes)?;
-            Ok((told(alloc, true), Some(copy)))
+            Ok((reported(alloc, true), Some(copy)))
         }
     }
 }

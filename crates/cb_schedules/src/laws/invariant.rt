@@ -7,7 +7,7 @@ ghost use Rattle.cb_schedules.specs.StepLaws.{EachStepGoesOn};
 
 /// After every schedule the histories, the frames that were sent and the outcomes belong together: each history is legal, every frame says
 /// what is so, and what arrived is there. So every cast that is there with a member is an own cast of its sender, the time of each event is
-/// the time from the bytes, and no member has a ready message left, whatever came last.
+/// the time from the bytes, and no member has a ready message left, whatever is received last.
 pub fn runs_are_consistent()
     ensures invariant { EachSchedule IsConsistent }
     ensures casts { EachSchedule CastsThereAreOwn }

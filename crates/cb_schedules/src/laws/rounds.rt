@@ -1,4 +1,4 @@
-//! Rounds: every member ticks, and then all that was put out arrives. A few of them repair whatever was lost.
+//! Rounds: every member ticks, and then all that was sent arrives. A few of them repair whatever was lost.
 
 ghost use Rattle.cb_schedules.specs.Headline.{EachSchedule, IsCausalBroadcast};
 ghost use Rattle.cb_schedules.specs.RoundLaws.{AnswersPutNothingOut, ArrivedEverywhereIsDelivered};
@@ -12,7 +12,7 @@ ghost use Rattle.cb_schedules.specs.RoundLaws.{RoundsCastNothing, RoundsExpand};
 ghost use Rattle.cb_schedules.specs.RoundLaws.{one_round, rounds_to_be_stable, rounds_to_deliver};
 
 /// In a round every member ticks once, and each frame that is sent in it arrives once at everyone it was sent to; no frame that was sent
-/// before arrives. What is put out in answer arrives without putting anything out, and that is where a round ends.
+/// before arrives. What is sent in answer arrives without sending anything, and that is where a round ends.
 pub fn a_round_is_a_tick_of_each_and_its_arrivals()
     ensures ticks { EachTicksOnce }
     ensures arrives { EachArrivesOnce }

@@ -26,10 +26,10 @@ fn what_was_learnt_is_of_one_member_and_one_sender(rt: HostRuntime) {
     let mut acks = Acks::new(rt.alloc(), 3).expect(&rt, "memory");
     acks.learn(1, 0, 2);
     acks.learn(2, 1, 7);
-    let told = [acks.learnt(1, 0), acks.learnt(2, 1)];
+    let reported = [acks.learnt(1, 0), acks.learnt(2, 1)];
     let others = [acks.learnt(0, 1), acks.learnt(1, 2), acks.learnt(2, 0)];
     drop(acks);
-    are(&rt, &told, &[2, 7]);
+    are(&rt, &reported, &[2, 7]);
     are(&rt, &others, &[0, 0, 0]);
 }
 

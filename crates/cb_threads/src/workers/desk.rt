@@ -1,4 +1,4 @@
-//! What every worker has: the member that it works at, and where it hands what the member puts out.
+//! What every worker has: the member that it works at, and where it hands what the member sends.
 
 ghost use Rattle.std.specs.Prelude.{◌≡◌};
 

@@ -1,4 +1,4 @@
-//! The worker that takes what comes.
+//! The worker that takes what is received.
 
 ghost use Rattle.std.specs.Prelude.{◌≡◌};
 ghost use Rattle.cb_threads.specs.Counts.{Counts, MetAtMost};
@@ -25,7 +25,7 @@ impl<I: Inlet, L: Ledger> Promise<Worked<I, L>> for InletCounts {
     ghost kept_by = { λ p r. MetAtMost r.failures p.before (I.failed r.part) };
 }
 
-/// Takes what comes, one look at the inlet in each turn.
+/// Takes what is received, one look at the inlet in each turn.
 ///
 /// Where its turns are used up it closes the inlet, since nobody takes anything from there any more: others may still send for as long as
 /// their turns last. Where the workers are to end, so are those of the others.
@@ -71,7 +71,7 @@ fn take_once<I: Inlet, L: Ledger, R: Wait + Clock>(
     }
 }
 
-/// A frame arrives, and what is put out in answer goes to the sender. One that finds no memory is dropped: it was lost on the way.
+/// A frame arrives, and what is sent in answer goes to the sender. One that finds no memory is dropped: it was lost on the way.
 fn take<L: Ledger>(
     rt: &impl Wait,
     shared: &SharedMember<L>,

@@ -19,7 +19,7 @@ use std::sync::ledger::Ledger;
 use std::thread::sleep;
 use std::time::{Clock, Duration};
 
-/// What came of a turn.
+/// The outcome of a turn.
 #[derive(Clone, Copy)]
 pub enum Turn {
     Cast,
@@ -120,7 +120,7 @@ impl<'a, T: Talker, L: Ledger> Speech<'a, T, L> {
         }
     }
 
-    /// The same while the member waits for it: what the talker says is cast before the lock is let go of.
+    /// Asks the talker while the member waits for it: what the talker says is cast before the lock is dropped.
     fn ask_in_place<R: Wait>(&mut self, rt: &R) -> Turn {
         let (talker, seen) = (&mut self.talker, self.seen);
         let (said, cast) = self.desk.shared.cast_with(
@@ -223,9 +223,9 @@ fn left_to_cast(payload: Vec<u8>, refusal: CastRefusal) -> Option<Vec<u8>>
 /// What becomes of the turn where nothing is cast, how many news the talker saw, and what it wants to cast. Out of memory it saw none, and
 /// is shown the same again.
 fn parted(answer: Result<(Talk, usize), NoMemory>) -> (Said, Option<Vec<u8>>)
-    ensures seen { MatchResult answer (λ told. result.0.count ≡ told.1) (λ _. result.0.count ≡ 0) }
-    ensures turn { IfOk answer (λ told. result.0.turn ≡ turn_of told.0) }
-    ensures cast { IfOk answer (λ told. result.1 ≡ cast_of told.0) }
+    ensures seen { MatchResult answer (λ reported. result.0.count ≡ reported.1) (λ _. result.0.count ≡ 0) }
+    ensures turn { IfOk answer (λ reported. result.0.turn ≡ turn_of reported.0) }
+    ensures cast { IfOk answer (λ reported. result.1 ≡ cast_of reported.0) }
 {
     match answer {
         Ok((talk, count)) => wanted(talk, count),
@@ -250,7 +250,7 @@ fn to_all(bytes: Bytes) -> Outgoing {
 
 /// What the talker says to the news, and how many they are.
 fn asked<T: Talker>(talker: &mut T, news: &[Event]) -> Result<(Talk, usize), NoMemory>
-    ensures { IfOk result (λ told. told.1 ≡ length news.now) }
+    ensures { IfOk result (λ reported. reported.1 ≡ length news.now) }
 {
     let talk = talker.next(news)?;
     Ok((talk, news.len()))
@@ -265,7 +265,7 @@ fn news_in(member: &Member, seen: usize) -> &[Event]
     news
 }
 
-/// Copies of the same, in a list whose own events are let go of.
+/// Copies of the same, in a list whose own events are freed.
 fn events_behind(room: Vec<Event>, member: &Member, seen: usize) -> Result<Vec<Event>, NoMemory>
     ensures { IfOk result (λ news. news.items ≡ drop seen (events_in member.now)) }
 {

@@ -27,7 +27,7 @@ const DONE: u8 = 0;
 /// A line was refused, or the audit said no.
 const REFUSED: u8 = 1;
 
-/// What came of words that were not refused.
+/// The outcome of words that were not refused.
 #[derive(Clone, Copy)]
 enum Carried {
     /// All was done; a line was refused, or the audit said no, or neither.

@@ -25,11 +25,11 @@ fn says<H: Threads + Wait + Clock + Net + Abort + Sync>(
     let outcome = run_whole(rt, alloc, words, &mut input, writing(alloc));
     let unread = input.text.len();
     drop(input);
-    is_told(rt, outcome, part);
+    is_reported(rt, outcome, part);
     assert_eq!(rt; unread, 17);
 }
 
-fn is_told(rt: &impl Abort, outcome: Outcome, part: &str) {
+fn is_reported(rt: &impl Abort, outcome: Outcome, part: &str) {
     let status = outcome.status;
     let is_printed = !outcome.printed.is_empty();
     has_part(rt, &outcome.said, part);
@@ -135,7 +135,7 @@ const PLAY: &[&str] = &["confer", "play"];
 
 const AUDIT: &[&str] = &["confer", "audit"];
 
-/// What comes to its end, and what is stopped by its input.
+/// What is received to its end, and what is stopped by its input.
 const RUNS: &[ProgramRun] = &[
     ProgramRun {
         words: EXPAND,

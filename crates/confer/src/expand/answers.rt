@@ -129,7 +129,7 @@ fn show(cast: Cast, time: &VectorTime, room: &mut [u8], text: &mut Vec<u8>)
     };
 }
 
-/// The same at the end of the room. Where it starts.
+/// Writes the answer to an accepted cast at the end of the room, and says where it starts.
 fn put_accepted(cast: &Cast, time: &VectorTime, room: &mut [u8]) -> usize
     requires short { length cast.now.payload ≤ LONGEST_PAYLOAD }
     requires room { length room.old ≡ LONGEST_ANSWER }

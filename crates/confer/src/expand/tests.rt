@@ -20,7 +20,7 @@ fn expands(rt: &impl Abort, alloc: Global, lines: &[u8], status: u8, text: &str)
     run_on(alloc, &WORDS, &mut reading(lines)).is(rt, status, text.as_bytes(), "");
 }
 
-/// The same of lines that were made. A call of `drop` takes the prover less time than a value that is left to the end.
+/// Expands lines that were made for the test. A call of `drop` takes the prover less time than a value that is left to the end.
 fn expands_made(rt: &impl Abort, alloc: Global, lines: String, status: u8, text: &str) {
     expands(rt, alloc, lines.as_bytes(), status, text);
     drop(lines);

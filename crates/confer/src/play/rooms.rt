@@ -30,7 +30,7 @@ const SCREEN: usize = 20;
 /// What became of a line that a member was to compose and cast.
 #[derive(Clone, Copy)]
 pub enum Composed {
-    /// It was composed; what came of its cast is the last outcome of the group.
+    /// It was composed; the outcome of its cast is the last outcome of the group.
     Cast,
     /// There is no such member.
     NoSuchMember,

@@ -17,7 +17,7 @@ use cb_world::World;
 use std::alloc::Global;
 use std::io::{Read, Write};
 
-/// Reads a script to the end of the input, runs it, and writes what came of each step and how each member stands at the end.
+/// Reads a script to the end of the input, runs it, and writes the outcome of each step and how each member stands at the end.
 ///
 /// The text of the run is made whole before any of it is written: where the script can't be read whole, has a bad step, or memory runs
 /// out, nothing is written.
@@ -58,7 +58,7 @@ fn transcript_of(alloc: Global, text: &[u8]) -> Result<String, ScriptFault>
     Ok(run_text(alloc, setting, &steps)?)
 }
 
-/// What is printed of a run of these steps: of each step what came of it, and of all members behind them. A line is composed in the
+/// What is printed of a run of these steps: of each step the outcome of it, and of all members behind them. A line is composed in the
 /// conference of its member, and each screen is that of a conference that was shown just its member's events: so where no plain cast
 /// carries an answer, no conference ever lacks the question of an answer.
 pub fn run_text(
@@ -101,7 +101,7 @@ fn put_run(
     put
 }
 
-/// Takes these steps and puts their lines. What the group does is what comes of the script's orders.
+/// Takes these steps and puts their lines. What the group does is the outcome of the script's orders.
 fn put_steps(text: &mut String, steps: &[ScriptStep<'_>], rooms: &mut Rooms) -> Result<(), NoMemory>
     ensures { OnOk result (AreShown rooms.old.world rooms.old.attendances.items
         → PutsSteps rooms.old.world 1 (map order_of steps.now) rooms.new.world

@@ -16,7 +16,7 @@ fn prints(rt: &impl Abort, alloc: Global, script: &str, text: &str) {
     run_on(alloc, &WORDS, &mut reading(script.as_bytes())).is(rt, 0, text.as_bytes(), "");
 }
 
-/// The same of texts that were made. A call of `drop` takes the prover less time than a value that is left to the end.
+/// Plays a script that was made for the test. A call of `drop` takes the prover less time than a value that is left to the end.
 fn prints_made(rt: &impl Abort, alloc: Global, script: String, text: String) {
     prints(rt, alloc, &script, &text);
     drop(script);
@@ -28,7 +28,7 @@ fn stops(rt: &impl Abort, alloc: Global, script: &[u8], status: u8, said: &str) 
     run_on(alloc, &WORDS, &mut reading(script)).is(rt, status, b"", said);
 }
 
-/// The same of a script that was made, with a bad step in this line.
+/// A script that was made for the test has a bad step in this line.
 fn stops_at(rt: &impl Abort, alloc: Global, script: String, line: &str) {
     let said = joined(rt, alloc, &["confer: line ", line, ": bad step\n"]);
     stops(rt, alloc, script.as_bytes(), 4, &said);

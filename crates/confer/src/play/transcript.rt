@@ -81,7 +81,7 @@ impl fmt::Display for DeliveryText<'_> {
     }
 }
 
-/// A frame that was put out, with its number.
+/// A frame that was sent, with its number.
 #[derive(Clone, Copy)]
 struct FrameText<'a> {
     number: usize,
@@ -119,7 +119,7 @@ impl fmt::Display for MemberText<'_> {
     }
 }
 
-/// The lines of step `number`, counted from 1: what was answered, what was delivered, and the frames that were put out.
+/// The lines of step `number`, counted from 1: what was answered, what was delivered, and the frames that were sent.
 pub fn put_step(
     text: &mut String,
     number: usize,
@@ -142,7 +142,7 @@ fn put_deliveries(text: &mut String, deliveries: &[Message]) -> Result<(), NoMem
     Ok(())
 }
 
-/// The frames that one step put out, the first of which has this number.
+/// The frames that one step sent, the first of which has this number.
 fn put_frames(text: &mut String, first: usize, frames: &[Sent]) -> Result<(), NoMemory> {
     for (place, sent) in frames.iter().enumerate() {
         let frame = FrameText {

@@ -50,7 +50,7 @@ fn text_in(rt: &impl Abort, bytes: Vec<u8>) -> String {
 }
 
 /// Every member's line says this of its casts and deliveries, and that it saw no answer before its question; the last line is the audit's.
-fn is_told(rt: &impl Abort, alloc: Global, text: &str, members: usize, part: &str) {
+fn is_reported(rt: &impl Abort, alloc: Global, text: &str, members: usize, part: &str) {
     is_ended(rt, text, members.saturating_add(1));
     for member in 0..members {
         is_line(rt, alloc, line_at(text, member), member, part);
@@ -84,7 +84,7 @@ fn tells<R: Threads + Wait + Clock + Net + Abort + Sync>(
     part: &str,
 ) {
     let text = printed(rt, alloc, words);
-    is_told(rt, alloc, &text, members, part);
+    is_reported(rt, alloc, &text, members, part);
     drop(text);
 }
 

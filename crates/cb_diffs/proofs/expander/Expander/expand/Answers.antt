@@ -6,5 +6,5 @@ returns-in_err-check_next-clause-not_next c =
     let exit = err_from_is_err_and c.from_residual.result c.from_residual.ensures.1 in
     rw (exit.1, exit.2)
     (λ expected found.
-    let told = c.in_err-check_next.ensures.not_next expected found in
-    (λ h. told.0 (cc), λ h. let same = told.1 h in cc))
+    let reported = c.in_err-check_next.ensures.not_next expected found in
+    (λ h. reported.0 (cc), λ h. let same = reported.1 h in cc))

@@ -3,15 +3,15 @@ use Rattle.cb_history.specs.Facts.{entry_fields}
 use Rattle.cb_history.specs.Legal.{ToTake}
 use Rattle.cb_history.specs.State.{HasTaken, entry_by}
 use Rattle.cb_lock.specs.Receipts.{receipt_fields}
-use Rattle.cb_lock.specs.Calls.{and_receipt, told_by_arrival}
+use Rattle.cb_lock.specs.Calls.{and_receipt, reported_by_arrival}
 use Rattle.cb_lock.proofs.Entering.{seat_after}
 use Rattle.cb_lock.proofs.held.Held.arrive.Goals as goal
 
 pub returns-clause-receipt : goal.returns-clause-receipt
 returns-clause-receipt g c =
     let m = c.args.self.now in
-    let told : HasTaken m c.arrive_noted.new.self c.args.bytes.now c.in_ok-arrival.arrival = search rules in
+    let reported : HasTaken m c.arrive_noted.new.self c.args.bytes.now c.in_ok-arrival.arrival = search rules in
     let by : entry_by m (ToTake c.args.bytes.now) ≡ option_map entry_fields c.in_ok-arrival.noted = search rules in
-    let tells : entry_by m (ToTake c.args.bytes.now) ≡ told_by_arrival c.args.bytes.now c.in_ok-arrival.arrival = search rules in
-    seat_after c.args.seat.now m c.arrive_noted.new.self (ToTake c.args.bytes.now) (option_map entry_fields c.in_ok-arrival.noted) c.enter.new.share.parts (map receipt_fields c.enter.new.receipts.items) by told.after (search rules) (search rules)
+    let tells : entry_by m (ToTake c.args.bytes.now) ≡ reported_by_arrival c.args.bytes.now c.in_ok-arrival.arrival = search rules in
+    seat_after c.args.seat.now m c.arrive_noted.new.self (ToTake c.args.bytes.now) (option_map entry_fields c.in_ok-arrival.noted) c.enter.new.share.parts (map receipt_fields c.enter.new.receipts.items) by reported.after (search rules) (search rules)
     ∙ ap (and_receipt c.args.seat.now m) (sym by ∙ tells)

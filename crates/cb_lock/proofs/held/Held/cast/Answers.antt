@@ -3,7 +3,7 @@ use Rattle.cb_history.specs.Facts.{entry_fields}
 use Rattle.cb_history.specs.Legal.{ToCast}
 use Rattle.cb_history.specs.State.{MemberState, HasCast, entry_by}
 use Rattle.cb_lock.specs.Receipts.{receipt_fields}
-use Rattle.cb_lock.specs.Calls.{and_receipt, told_by_cast}
+use Rattle.cb_lock.specs.Calls.{and_receipt, reported_by_cast}
 use Rattle.cb_lock.proofs.Entering.{seat_after}
 use Rattle.cb_lock.proofs.held.Held.cast.Goals as goal
 
@@ -16,8 +16,8 @@ pub returns-clause-receipt : goal.returns-clause-receipt
 returns-clause-receipt g c =
     let m = c.args.self.now in
     let done = c.in_ok-done.done in
-    let told = returns-clause-done g c in
+    let reported = returns-clause-done g c in
     let by : entry_by m (ToCast c.args.payload.now) ≡ Some (entry_fields c.in_ok-done.entry) = search rules in
-    let tells : entry_by m (ToCast c.args.payload.now) ≡ told_by_cast done = search rules in
-    seat_after c.args.seat.now m c.cast_noted.new.self (ToCast c.args.payload.now) (Some (entry_fields c.in_ok-done.entry)) c.enter.new.share.parts (map receipt_fields c.enter.new.receipts.items) by told.after (search rules) (search rules)
+    let tells : entry_by m (ToCast c.args.payload.now) ≡ reported_by_cast done = search rules in
+    seat_after c.args.seat.now m c.cast_noted.new.self (ToCast c.args.payload.now) (Some (entry_fields c.in_ok-done.entry)) c.enter.new.share.parts (map receipt_fields c.enter.new.receipts.items) by reported.after (search rules) (search rules)
     ∙ ap (and_receipt c.args.seat.now m) (sym by ∙ tells)

@@ -11,7 +11,7 @@ use Rattle.cb_lock.proofs.held.Held.receive.Goals as goal
 pub returns-clause-receipt : goal.returns-clause-receipt
 returns-clause-receipt g c =
     let m = c.args.self.now in
-    let told : HasTakenToSend m c.receive_noted.new.self c.args.bytes c.in_ok-out.out.items = search rules in
+    let reported : HasTakenToSend m c.receive_noted.new.self c.args.bytes c.in_ok-out.out.items = search rules in
     let by : entry_by m (ToTake c.args.bytes) ≡ option_map entry_fields c.in_ok-out.noted = search rules in
-    seat_after c.args.seat.now m c.receive_noted.new.self (ToTake c.args.bytes) (option_map entry_fields c.in_ok-out.noted) c.enter.new.share.parts (map receipt_fields c.enter.new.receipts.items) by told.after (search rules) (search rules)
+    seat_after c.args.seat.now m c.receive_noted.new.self (ToTake c.args.bytes) (option_map entry_fields c.in_ok-out.noted) c.enter.new.share.parts (map receipt_fields c.enter.new.receipts.items) by reported.after (search rules) (search rules)
     ∙ ap (and_receipt c.args.seat.now m) (sym by)

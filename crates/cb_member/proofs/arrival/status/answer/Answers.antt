@@ -14,11 +14,11 @@ returns-in_err-judge-clause-refused c =
     rw (exit.1, exit.2)
     (refused c.args.seat c.args.limit c.args.store.now c.args.bytes.now (StatusFrame (status_fields c.args.status.now)) c.in_err-judge.field-0.0 c.requires.frame c.in_err-judge.ensures)
 
-no_news : (c : goal.After-told) → LeavesStateBy c.args.seat c.args.limit c.args.store.now c.args.bytes.now c.told.result
+no_news : (c : goal.After-reported) → LeavesStateBy c.args.seat c.args.limit c.args.store.now c.args.bytes.now c.reported.result
 no_news c =
     let s = status_fields c.args.status.now in
     let is = subst (λ (j : Judged). JudgesStatus c.args.seat c.args.limit c.args.store.now s (Ok j)) c.in-NoNews.is c.in_ok-judge.ensures in
-    leaves_state c.args.seat c.args.limit c.args.store.now c.args.bytes.now (StatusFrame s) c.told.result [] c.requires.frame is c.told.ensures
+    leaves_state c.args.seat c.args.limit c.args.store.now c.args.bytes.now (StatusFrame s) c.reported.result [] c.requires.frame is c.reported.ensures
 
 pub returns-in-NoNews-clause-taken : goal.returns-in-NoNews-clause-taken
 returns-in-NoNews-clause-taken c = (no_news c).taken
@@ -26,11 +26,11 @@ returns-in-NoNews-clause-taken c = (no_news c).taken
 pub returns-in-NoNews-clause-entry : goal.returns-in-NoNews-clause-entry
 returns-in-NoNews-clause-entry c = (no_news c).no_entry
 
-is_heard : (c : goal.After-told-in-News) → IsHeard c.args.seat c.args.limit c.args.store.now c.take.new.store c.args.bytes.now (c.told-in-News.result, Some c.in_ok-copy-in-News.copy)
+is_heard : (c : goal.After-reported-in-News) → IsHeard c.args.seat c.args.limit c.args.store.now c.take.new.store c.args.bytes.now (c.reported-in-News.result, Some c.in_ok-copy-in-News.copy)
 is_heard c =
     let s = status_fields c.args.status.now in
     let is = subst (λ (j : Judged). JudgesStatus c.args.seat c.args.limit c.args.store.now s (Ok j)) c.in-News.is c.in_ok-judge.ensures in
-    heard_well c.args.seat c.args.limit c.args.store.now c.take.new.store s c.args.bytes.now c.told-in-News.result c.in_ok-copy-in-News.copy c.requires.kept c.requires.frame c.requires.bytes is.0 is.1 c.in_ok-copy-in-News.ensures.taken c.told-in-News.ensures
+    heard_well c.args.seat c.args.limit c.args.store.now c.take.new.store s c.args.bytes.now c.reported-in-News.result c.in_ok-copy-in-News.copy c.requires.kept c.requires.frame c.requires.bytes is.0 is.1 c.in_ok-copy-in-News.ensures.taken c.reported-in-News.ensures
 
 pub returns-in_ok-copy-in-News-clause-kept : goal.returns-in_ok-copy-in-News-clause-kept
 returns-in_ok-copy-in-News-clause-kept c = (is_heard c).kept

@@ -4,7 +4,7 @@ use Rattle.std.proofs.lemmas.List.Elements.{All-drop}
 use Rattle.cb_delay.specs.declared.message.Message.{Message}
 use Rattle.cb_stability.specs.Known.{count}
 use Rattle.cb_history.specs.Known.{greatest_of}
-use Rattle.cb_member.specs.Knowledge.{HasTimeOf, told_in}
+use Rattle.cb_member.specs.Knowledge.{HasTimeOf, reported_in}
 use Rattle.cb_member.proofs.Acknowledging.{learns_one}
 use Rattle.cb_member.proofs.knowledge.Knowledge.acknowledge.Goals as goal
 
@@ -17,7 +17,7 @@ loop-message-preserved c =
       known = c.loop-message.invariant.known;
       of_size = c.learn.ensures.size ∙ c.loop-message.invariant.of_size;
       learnt = λ k. learns_one c.args.me k c.get-count.result c.message-item.result rest c.loop-message.self.acks c.learn.new.self c.learn.ensures c.get-count.ensures.field
-          ∙ ap (λ (ms : List Message). max (count c.loop-message.self.acks k c.args.me) (greatest_of (told_in c.args.me ms k))) (sym more)
+          ∙ ap (λ (ms : List Message). max (count c.loop-message.self.acks k c.args.me) (greatest_of (reported_in c.args.me ms k))) (sym more)
           ∙ c.loop-message.invariant.learnt k;
       senders = All-drop (HasTimeOf c.args.self.now.acks.size) (c.loop-message.message-index + 1) c.args.deliveries.now c.requires.senders;
     }

@@ -1,6 +1,6 @@
 use Rattle.std.proofs.Common.{refl, sym, ◌∙◌, arith}
 use Rattle.cb_frames.specs.Fields.{cast_fields}
-use Rattle.cb_member.proofs.Receiving.{GivesNext, buffer_at, its_spare_is_there, is_its_spare, its_turn, its_size, next_is_told, none_is_next}
+use Rattle.cb_member.proofs.Receiving.{GivesNext, buffer_at, its_spare_is_there, is_its_spare, its_turn, its_size, next_is_reported, none_is_next}
 use Rattle.cb_member.proofs.reception.Reception.expand_next.Goals as goal
 
 pub index_mut-requires : goal.index_mut-requires
@@ -52,6 +52,6 @@ returns-clause-some c seat facts taken are other received =
     let r = c.requires in
     let was = buffer_at c.args.sender c.index_mut.result.now c.args.self.now r c.index_mut.ensures.value in
     let gives : GivesNext (cast_fields c.in_ok-cast.cast) c.args.sender c.index_mut.result.now c.take_next.new.self c.args.self.now = record { at = was; next = c.in_ok-cast.ensures.next; takes = c.in_ok-cast.ensures.taken } in
-    next_is_told (cast_fields c.in_ok-cast.cast) c.args.sender c.index_mut.result.now c.take_next.new.self c.args.self.now gives seat facts taken are other received
+    next_is_reported (cast_fields c.in_ok-cast.cast) c.args.sender c.index_mut.result.now c.take_next.new.self c.args.self.now gives seat facts taken are other received
     c.take_spare-spare.result _ c.tell_twice.result
     (record { name = c.take_spare-spare.ensures.name ∙ c.name_of.ensures; others = c.take_spare-spare.ensures.others; tells = c.tell_twice.ensures; buffers = refl })

@@ -5,7 +5,7 @@ use Rattle.cb_times.specs.declared.name.Name.{Name}
 use Rattle.cb_delay.specs.declared.message.Message.{Message}
 use Rattle.cb_gaps.specs.Buffer.{Buffer}
 use Rattle.cb_member.specs.AtOnce.{message_at}
-use Rattle.cb_member.specs.Taking.{told}
+use Rattle.cb_member.specs.Taking.{reported}
 use Rattle.cb_member.proofs.Receiving.{one_buffer}
 use Rattle.cb_member.proofs.Passing.{passing_has_turn, passes_it}
 use Rattle.cb_member.proofs.reception.Reception.pass_once.Goals as goal
@@ -25,4 +25,4 @@ returns-clause-passes c spare can =
     ap (λ (n : Name). let m : Message = record { name = n; time = c.args.time; payload = c.args.cast.payload } in m) c.name_of.ensures in
     passes_it (cast_fields c.args.cast) spare c.args.self.now can _ _
     (ap (set buffers sender) (c.pass.ensures ∙ ap (λ (b : Buffer). record b { taken = b.taken + 1 }) is)) refl
-    (record { time = c.args.time; expands = c.take.ensures; message = message; copy = message ∙ ap (told (cast_fields c.args.cast) c.args.time) (sym can.spare_for.payload) })
+    (record { time = c.args.time; expands = c.take.ensures; message = message; copy = message ∙ ap (reported (cast_fields c.args.cast) c.args.time) (sym can.spare_for.payload) })

@@ -1,0 +1,13 @@
+use Rattle.std.proofs.Common.{◌&&◌, leb, sym, ◌∙◌, rules, tests}
+use Rattle.std.specs.List.{list_any}
+use Rattle.std.proofs.Math.Bool.{or-false}
+use Rattle.std.proofs.lemmas.Iterator.{YieldsList-from_slice}
+use Rattle.std.proofs.lemmas.Iterator.Search.{any_from_yields_List}
+use Rattle.cb_frames.specs.declared.frame.Range.{Range}
+use Rattle.cb_reference.proofs.arrival.request.is_asked_for.Goals as goal
+
+pub returns : goal.returns
+returns c =
+    let test = λ (r : Range). leb r.first c.args.cast.now.number && leb c.args.cast.now.number r.last in
+    any_from_yields_List test _ _ c.any.result c.any.ensures.ran (YieldsList-from_slice c.args.ranges.now cc) (λ x b q k. search (rules, tests))
+    ∙ sym (or-false (list_any test c.args.ranges.now))

@@ -1,0 +1,111 @@
+//! What the entries say.
+
+ghost use Rattle.std.specs.Prelude.{◌≡◌, ◌≤◌, IfOk, map, length};
+ghost use Rattle.cb_frames.specs.Reading.{frame_at};
+ghost use Rattle.cb_history.specs.Facts.{entry_fields, cast_said, arrival_said, status_said, said_by, facts_of, cast_in, casts_in};
+ghost use Rattle.cb_reference.specs.Facts.{fact_of, as_facts, cast_of, as_casts};
+
+use bytes::Bytes;
+use cb_frames::{Cast, Frame, FrameFault, Status, decode};
+use cb_history::Entry;
+use cb_times::NoMemory;
+use std::alloc::{AllocError, Global};
+
+/// What an entry says.
+#[derive(Debug, Drop)]
+pub enum Fact {
+    /// The member cast this.
+    OwnCast(Cast),
+    /// The cast was received.
+    CastReceived(Cast),
+    /// The status was received.
+    StatusReceived(Status),
+    /// The member reported this status.
+    OwnStatus(Status),
+}
+
+fn cast_said(alloc: Global, frame: &Bytes) -> Result<Option<Fact>, NoMemory>
+    ensures { IfOk result (λ fact. as_facts fact ≡ cast_said (frame_at frame.now)) }
+{
+    match decode(alloc, frame) {
+        Ok(Frame::Cast(cast)) => Ok(Some(Fact::OwnCast(cast))),
+        Ok(Frame::Status(_)) => Ok(None),
+        Ok(Frame::Request(_)) => Ok(None),
+        Err(FrameFault::NoMemory) => Err(AllocError),
+        Err(_) => Ok(None),
+    }
+}
+
+fn arrival_said(alloc: Global, frame: &Bytes) -> Result<Option<Fact>, NoMemory>
+    ensures { IfOk result (λ fact. as_facts fact ≡ arrival_said (frame_at frame.now)) }
+{
+    match decode(alloc, frame) {
+        Ok(Frame::Cast(cast)) => Ok(Some(Fact::CastReceived(cast))),
+        Ok(Frame::Status(status)) => Ok(Some(Fact::StatusReceived(status))),
+        Ok(Frame::Request(_)) => Ok(None),
+        Err(FrameFault::NoMemory) => Err(AllocError),
+        Err(_) => Ok(None),
+    }
+}
+
+fn status_said(alloc: Global, frame: &Bytes) -> Result<Option<Fact>, NoMemory>
+    ensures { IfOk result (λ fact. as_facts fact ≡ status_said (frame_at frame.now)) }
+{
+    match decode(alloc, frame) {
+        Ok(Frame::Status(status)) => Ok(Some(Fact::OwnStatus(status))),
+        Ok(Frame::Cast(_)) => Ok(None),
+        Ok(Frame::Request(_)) => Ok(None),
+        Err(FrameFault::NoMemory) => Err(AllocError),
+        Err(_) => Ok(None),
+    }
+}
+
+fn said_by(alloc: Global, entry: &Entry) -> Result<Option<Fact>, NoMemory>
+    ensures { IfOk result (λ fact. as_facts fact ≡ said_by (entry_fields entry.now)) }
+{
+    match entry {
+        Entry::Cast { frame } => cast_said(alloc, frame),
+        Entry::Arrive { frame, .. } => arrival_said(alloc, frame),
+        Entry::Tick { status } => status_said(alloc, status),
+    }
+}
+
+/// What the entries say, in their order.
+pub fn facts_of(alloc: Global, entries: &[Entry]) -> Result<Vec<Fact>, NoMemory>
+    ensures facts { IfOk result (λ facts. map fact_of facts.items
+        ≡ facts_of (map entry_fields entries.now)) }
+    ensures few { IfOk result (λ facts. length facts.items ≤ length entries.now) }
+{
+    let mut facts = Vec::new(alloc);
+    for entry in entries {
+        if let Some(fact) = said_by(alloc, entry)? {
+            facts.push(fact)?;
+        }
+    }
+    Ok(facts)
+}
+
+/// The cast that a fact has.
+pub fn cast_in(fact: &Fact) -> Option<&Cast>
+    ensures { as_casts result ≡ cast_in (fact_of fact.now) }
+{
+    match fact {
+        Fact::OwnCast(cast) => Some(cast),
+        Fact::CastReceived(cast) => Some(cast),
+        Fact::StatusReceived(_) => None,
+        Fact::OwnStatus(_) => None,
+    }
+}
+
+/// The casts among the facts.
+pub fn casts_in(alloc: Global, facts: &[Fact]) -> Result<Vec<&Cast>, NoMemory>
+    ensures { IfOk result (λ casts. map cast_of casts.items ≡ casts_in (map fact_of facts.now)) }
+{
+    let mut casts = Vec::new(alloc);
+    for fact in facts {
+        if let Some(cast) = cast_in(fact) {
+            casts.push(cast)?;
+        }
+    }
+    Ok(casts)
+}

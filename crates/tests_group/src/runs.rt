@@ -1,0 +1,203 @@
+//! Runs of whole schedules.
+
+use bytes::Bytes;
+use cb_member::{Event, Group, Name};
+use cb_world::{Answer, PlayFault, Run, Step, play};
+use std::alloc::Global;
+use std::process::Abort;
+
+const HI: &[u8] = &[0x11, 7, 0, 1, 0, 2, b'h', b'i'];
+
+const YO: &[u8] = &[0x11, 7, 1, 1, 1, 0, 1, 2, b'y', b'o'];
+
+const OK: &[u8] = &[0x11, 7, 1, 2, 0, 2, b'o', b'k'];
+
+const STATUS: &[u8] = &[0x12, 7, 1, 1, 0, 1];
+
+const LONG: &[u8] = &[0; 1_025];
+
+fn run_of(rt: &impl Abort, alloc: Global, steps: &[Step]) -> Run {
+    let group = Group::new(7, 3, 4).expect(rt, "the numbers are those of a group");
+    play(alloc, group, 100, steps).expect(rt, "a run")
+}
+
+fn cast(i: u32, payload: &'static [u8]) -> Step {
+    Step::Cast(i, Bytes::from_static(payload))
+}
+
+fn word(answer: &Answer) -> &'static str {
+    match answer {
+        Answer::Cast { .. } => "cast",
+        Answer::CastRefused(_refusal) => "cast refused",
+        Answer::Accepted { changed: true, .. } => "changed",
+        Answer::Accepted { .. } => "same",
+        Answer::Repeat => "repeat",
+        Answer::ArrivalRefused(_refusal) => "arrival refused",
+        Answer::Ticked { entered: true } => "entered",
+        Answer::Ticked { .. } => "not entered",
+        Answer::TickRefused(_refusal) => "tick refused",
+        Answer::NoSuchMember => "no such member",
+        Answer::NoSuchFrame => "no such frame",
+    }
+}
+
+/// Each answer in a word, the number of its first frame and how many it sent.
+fn assert_outcomes(rt: &impl Abort, run: &Run, rows: &[(&str, usize, usize)]) {
+    assert_eq!(rt; run.outcomes().len(), rows.len());
+    for (outcome, (answer, first, count)) in run.outcomes().iter().zip(rows) {
+        assert_eq!(rt; word(&outcome.answer), *answer);
+        assert_eq!(rt; outcome.first_frame, *first);
+        assert_eq!(rt; outcome.frame_count, *count);
+    }
+}
+
+fn assert_frames(rt: &impl Abort, run: &Run, frames: &[&[u8]]) {
+    assert_eq!(rt; run.frames().len(), frames.len());
+    for (sent, frame) in run.frames().iter().zip(frames) {
+        assert_eq!(rt; sent.bytes.as_slice(), *frame);
+    }
+}
+
+fn name_of(event: &Event) -> Name {
+    match event {
+        Event::Cast(message) | Event::Deliver(message) => message.name,
+    }
+}
+
+fn assert_names(rt: &impl Abort, run: &Run, j: u32, names: &[(u32, u32)]) {
+    let events = run.events(j).expect(rt, "a member");
+    assert_eq!(rt; events.len(), names.len());
+    for (event, (sender, number)) in events.iter().zip(names) {
+        assert_eq!(rt;
+            name_of(event),
+            Name {
+                sender: *sender,
+                number: *number
+            }
+        );
+    }
+}
+
+#[test]
+fn an_answer_that_overtakes_its_question_waits_for_it(rt: HostRuntime) {
+    let steps = [
+        cast(0, b"hi"),
+        Step::Arrive(1, 0),
+        cast(1, b"yo"),
+        Step::Arrive(2, 1),
+        Step::Arrive(2, 0),
+    ];
+    let run = run_of(&rt, rt.alloc(), &steps);
+    assert_frames(&rt, &run, &[HI, YO]);
+    assert_names(&rt, &run, 2, &[(0, 1), (1, 1)]);
+    assert_eq!(rt; run.history(2).map(|entries| entries.len()), Some(2));
+    assert!(rt; run.events(3).is_none());
+    assert!(rt; run.history(3).is_none());
+}
+
+#[test]
+fn two_casts_that_come_reversed_are_delivered_in_order(rt: HostRuntime) {
+    let steps = [
+        cast(0, b"hi"),
+        Step::Arrive(1, 0),
+        cast(1, b"yo"),
+        cast(1, b"ok"),
+        Step::Arrive(0, 2),
+        Step::Arrive(0, 1),
+    ];
+    let run = run_of(&rt, rt.alloc(), &steps);
+    assert_frames(&rt, &run, &[HI, YO, OK]);
+    assert_names(&rt, &run, 0, &[(0, 1), (1, 1), (1, 2)]);
+}
+
+#[test]
+fn each_answer_names_its_frames(rt: HostRuntime) {
+    let steps = [
+        cast(0, b"hi"),
+        cast(3, b"hi"),
+        Step::Arrive(1, 1),
+        Step::Arrive(3, 0),
+        Step::Arrive(1, 0),
+        Step::Tick(1),
+        Step::Tick(1),
+        Step::Arrive(1, 0),
+        cast(0, LONG),
+        Step::Tick(3),
+        Step::Arrive(0, 1),
+    ];
+    let run = run_of(&rt, rt.alloc(), &steps);
+    let rows = &[
+        ("cast", 0, 1),
+        ("no such member", 1, 0),
+        ("no such frame", 1, 0),
+        ("no such member", 1, 0),
+        ("changed", 1, 0),
+        ("entered", 1, 1),
+        ("not entered", 2, 1),
+        ("repeat", 3, 0),
+        ("cast refused", 3, 0),
+        ("no such member", 3, 0),
+        ("changed", 3, 0),
+    ];
+    assert_outcomes(&rt, &run, rows);
+    assert_frames(&rt, &run, &[HI, STATUS, STATUS]);
+    assert_eq!(rt; run.frames().last().map(|sent| sent.from), Some(1));
+}
+
+#[test]
+fn a_full_history_refuses(rt: HostRuntime) {
+    let group = Group::new(7, 3, 4).expect(&rt, "the numbers are those of a group");
+    let steps = [
+        cast(0, b"hi"),
+        cast(1, b"yo"),
+        Step::Arrive(0, 1),
+        Step::Tick(0),
+        cast(0, b"ok"),
+    ];
+    let run = play(rt.alloc(), group, 1, &steps).expect(&rt, "a run");
+    let rows = &[
+        ("cast", 0, 1),
+        ("cast", 1, 1),
+        ("arrival refused", 2, 0),
+        ("tick refused", 2, 0),
+        ("cast refused", 2, 0),
+    ];
+    assert_outcomes(&rt, &run, rows);
+}
+
+#[test]
+fn a_run_wants_a_limit(rt: HostRuntime) {
+    let group = Group::new(7, 3, 4).expect(&rt, "the numbers are those of a group");
+    assert_eq!(rt;
+        play(rt.alloc(), group, 0, &[]).err(),
+        Some(PlayFault::BadLimit)
+    );
+    let run = play(rt.alloc(), group, 16_777_216, &[]).expect(&rt, "a run");
+    assert!(rt; run.outcomes().is_empty());
+}
+
+#[test]
+fn a_delivered_message_is_copied(rt: HostRuntime) {
+    let steps = [
+        cast(0, b"hi"),
+        Step::Arrive(1, 0),
+        cast(1, b"yo"),
+        Step::Arrive(2, 1),
+        Step::Arrive(2, 0),
+    ];
+    let run = run_of(&rt, rt.alloc(), &steps);
+    let events = run.events(2).expect(&rt, "a member");
+    let Some(Event::Deliver(message)) = events.last() else {
+        panic!(&rt; "a delivery is the last event");
+    };
+    let copy = message.copy().expect(&rt, "a copy");
+    assert_eq!(rt;
+        copy.name,
+        Name {
+            sender: 1,
+            number: 1
+        }
+    );
+    assert_eq!(rt; copy.time.as_slice(), [1, 1, 0].as_slice());
+    assert_eq!(rt; copy.payload.as_slice(), b"yo".as_slice());
+}

@@ -1,0 +1,273 @@
+//! Random calls: the plain member and the quick one answer each alike, whatever is received, and end with the same history.
+//!
+//! Each run is a member of a group of its own, twice, among some other members whose frames get lost, come twice and in another
+//! order, with forged and damaged ones between them. `checks/agreement.sh` runs the same with more and longer runs.
+
+mod dice;
+mod forging;
+mod world;
+
+use crate::agreement::dice::Dice;
+use crate::agreement::forging::{Target, damaged, forged};
+use crate::agreement::world::World;
+use crate::examples::calls::{Call, Made, answer, group_of};
+use bytes::Bytes;
+use cb_history::{Entry, Event, Group, GroupMember, History};
+use cb_member::Member;
+use cb_reference::ReferenceMember;
+use std::alloc::Global;
+use std::process::Abort;
+use std::test::Fail;
+
+/// How many runs there are, the calls of each, and the seed of the first.
+const RUNS: u32 = 130;
+
+const CALLS: u32 = 40;
+
+const SEED: u32 = 1;
+
+/// A payload that has a byte too many.
+const TOO_LONG: &[u8] = &[0; 1_025];
+
+/// One member in both forms.
+#[derive(Drop)]
+struct Pair {
+    plain: ReferenceMember,
+    quick: Member,
+}
+
+impl Pair {
+    fn new(alloc: Global, group: Group, me: u32, limit: usize) -> Result<Pair, Fail> {
+        Ok(Pair {
+            plain: ReferenceMember::made(alloc, group, me, limit)?,
+            quick: Member::made(alloc, group, me, limit)?,
+        })
+    }
+
+    /// Both answer alike.
+    fn call<R: Abort>(&mut self, rt: &R, alloc: Global, call: Call<'_>) -> Result<(), Fail> {
+        let plain = answer(alloc, &mut self.plain, call)?;
+        says(rt, answer(alloc, &mut self.quick, call), plain)
+    }
+
+    /// The frame of the last entry, where the member sent it to all.
+    fn sent(&self) -> Result<Option<Bytes>, Fail> {
+        match self.quick.history().last() {
+            Some(Entry::Cast { frame: sent } | Entry::Tick { status: sent }) => {
+                Ok(Some(sent.clone()?))
+            }
+            Some(Entry::Arrive { .. }) | None => Ok(None),
+        }
+    }
+
+    fn has_same_events(&self) -> Result<bool, Fail> {
+        let plain = GroupMember::events(&self.plain)?;
+        Ok(are_same_events(&plain, self.quick.events()))
+    }
+}
+
+fn says(rt: &impl Abort, said: Result<String, Fail>, expected: String) -> Result<(), Fail> {
+    let said = said?;
+    assert_eq!(rt; said.as_str(), expected.as_str());
+    drop(said);
+    drop(expected);
+    Ok(())
+}
+
+fn are_same_events(plain: &[Event], quick: &[Event]) -> bool {
+    plain.len() == quick.len() && plain.iter().zip(quick).all(is_same)
+}
+
+/// The events are of one kind, with the same name, time and payload.
+fn is_same(events: (&Event, &Event)) -> bool {
+    match events {
+        (Event::Cast(one), Event::Cast(other)) | (Event::Deliver(one), Event::Deliver(other)) => {
+            one.name == other.name
+                && one.time.as_slice() == other.time.as_slice()
+                && one.payload == other.payload
+        }
+        (Event::Cast(_), Event::Deliver(_)) | (Event::Deliver(_), Event::Cast(_)) => false,
+    }
+}
+
+fn random_group(size: u32, dice: &mut Dice) -> Result<Group, Fail> {
+    let number = dice.near(299);
+    let window = dice.below(8).saturating_add(1);
+    group_of(number, size, window)
+}
+
+/// A history that is soon full, now and then.
+fn random_limit(dice: &mut Dice) -> usize {
+    if dice.one_in(4) {
+        dice.place(20).saturating_add(1)
+    } else {
+        100_000
+    }
+}
+
+/// A member under test, among others.
+#[derive(Drop)]
+struct Trial {
+    pair: Pair,
+    world: World,
+    group: Group,
+    me: u32,
+    /// One frame in so many is forged.
+    honesty: u32,
+}
+
+impl Trial {
+    fn new(alloc: Global, size: u32, dice: &mut Dice) -> Result<Trial, Fail> {
+        let group = random_group(size, dice)?;
+        let me = dice.below(size);
+        let limit = random_limit(dice);
+        let honesty = dice.below(10).saturating_add(1);
+        let world = World::new(alloc, group, me)?;
+        Trial::with(
+            world,
+            Pair::new(alloc, group, me, limit),
+            group,
+            me,
+            honesty,
+        )
+    }
+
+    /// Takes the pair as it was made, so that no other exit has one to let go.
+    fn with(
+        world: World,
+        pair: Result<Pair, Fail>,
+        group: Group,
+        me: u32,
+        honesty: u32,
+    ) -> Result<Trial, Fail> {
+        match pair {
+            Ok(pair) => Ok(Trial {
+                pair,
+                world,
+                group,
+                me,
+                honesty,
+            }),
+            Err(fail) => Err(fail),
+        }
+    }
+
+    /// A frame that was sent, a damaged one, or a forged one.
+    fn frame(&self, alloc: Global, dice: &mut Dice) -> Result<Bytes, Fail> {
+        if dice.one_in(self.honesty) {
+            let target = Target {
+                group: self.group,
+                me: self.me,
+                time: self.pair.quick.time().as_slice(),
+            };
+            return forged(alloc, &target, dice);
+        }
+        let frame = self.world.frame(dice)?;
+        if dice.one_in(8) {
+            damaged(alloc, &frame, dice)
+        } else {
+            Ok(frame)
+        }
+    }
+
+    /// A call of any kind.
+    fn call<R: Abort>(&mut self, rt: &R, alloc: Global, dice: &mut Dice) -> Result<(), Fail> {
+        match dice.below(32) {
+            0..=3 => self.send(rt, alloc, Call::Cast(&[dice.byte()])),
+            4 => self.pair.call(rt, alloc, Call::Cast(TOO_LONG)),
+            5 | 6 => self.send(rt, alloc, Call::Tick),
+            7 | 8 => {
+                let member = dice.below(self.group.size());
+                self.pair.call(rt, alloc, Call::Missing(member))
+            }
+            9 => self.pair.call(rt, alloc, Call::Stable),
+            10 => self.pair.call(rt, alloc, Call::Time),
+            _ => {
+                let frame = self.frame(alloc, dice)?;
+                self.pair.call(rt, alloc, Call::Take(&frame))
+            }
+        }
+    }
+
+    /// A call that sends a frame to the others.
+    fn send<R: Abort>(&mut self, rt: &R, alloc: Global, call: Call<'_>) -> Result<(), Fail> {
+        self.pair.call(rt, alloc, call)?;
+        match self.pair.sent()? {
+            Some(frame) => self.world.keep(frame),
+            None => Ok(()),
+        }
+    }
+
+    /// So many calls, with the others doing something between them.
+    fn calls<R: Abort>(&mut self, rt: &R, alloc: Global, dice: &mut Dice) -> Result<(), Fail> {
+        for _ in 0..CALLS {
+            for _ in 0..dice.below(5) {
+                self.world.act(alloc, dice)?;
+            }
+            self.call(rt, alloc, dice)?;
+        }
+        Ok(())
+    }
+
+    fn calls_compared<R: Abort>(
+        &mut self,
+        rt: &R,
+        alloc: Global,
+        dice: &mut Dice,
+    ) -> Result<(), Fail> {
+        self.calls(rt, alloc, dice)?;
+        self.compare(rt, alloc)
+    }
+
+    fn into_pair(self) -> Pair {
+        self.pair
+    }
+
+    /// All that is read of both is the same in the end.
+    fn compare<R: Abort>(&mut self, rt: &R, alloc: Global) -> Result<(), Fail> {
+        for call in [Call::Time, Call::Stable, Call::Entries] {
+            self.pair.call(rt, alloc, call)?;
+        }
+        for member in 0..=self.group.size() {
+            self.pair.call(rt, alloc, Call::Missing(member))?;
+        }
+        assert!(rt; self.pair.has_same_events()?);
+        Ok(())
+    }
+}
+
+/// The histories that both end with.
+fn end(rt: &impl Abort, pair: Pair) {
+    let Pair { plain, quick } = pair;
+    are_same_histories(rt, &quick.into_history(), &plain.into_history());
+}
+
+fn are_same_histories(rt: &impl Abort, quick: &History, plain: &History) {
+    assert_eq!(rt; quick.me, plain.me);
+    assert!(rt; quick.group == plain.group);
+    assert!(rt; quick.entries.as_slice() == plain.entries.as_slice());
+}
+
+fn play<R: Abort>(rt: &R, alloc: Global, size: u32, seed: u32) -> Result<(), Fail> {
+    let mut dice = Dice::new(seed);
+    let mut trial = Trial::new(alloc, size, &mut dice)?;
+    trial.calls_compared(rt, alloc, &mut dice)?;
+    end(rt, trial.into_pair());
+    Ok(())
+}
+
+/// Each size from 2 to 8, and 64.
+fn size_for(seed: u32) -> u32 {
+    match seed.checked_rem(8) {
+        Some(rest @ 0..=6) => rest.saturating_add(2),
+        Some(_) | None => 64,
+    }
+}
+
+#[test]
+fn both_members_answer_random_calls_alike(rt: HostRuntime) -> Result<(), Fail> {
+    for seed in SEED..SEED.saturating_add(RUNS) {
+        play(&rt, rt.alloc(), size_for(seed), seed)?;
+    }
+    Ok(())
+}
