@@ -1,4 +1,4 @@
-pub mod Least
+pub mod Minima
 pub mod Unknown
 pub mod Entries
 pub mod Windows

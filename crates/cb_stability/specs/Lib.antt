@@ -1,5 +1,6 @@
 pub mod Known
 pub mod Rows
+pub mod Minima
 pub mod Ranges
 pub mod Sent
 pub mod Numbered

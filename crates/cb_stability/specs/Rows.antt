@@ -1,4 +1,4 @@
--- How the plain acknowledgements are kept: a row of counts for each member.
+-- How the acknowledgements are kept: a row of counts for each member.
 use Rattle.std.specs.Prelude.{◌≡◌, ℕ, List, length, All}
 use Rattle.cb_times.specs.Group.{IsGroupSize}
 use Rattle.cb_stability.specs.Known.{Known}

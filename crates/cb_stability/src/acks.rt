@@ -1,8 +1,9 @@
-//! The plain acknowledgements: a row of counts for each member, and a look at all of them for each answer.
-ghost use Rattle.std.specs.Prelude.{◌≡◌, ◌≢◌, ◌<◌, ◌≤◌, ℕ, length, All, IfOk};
+//! The acknowledgements: a row of counts for each member, and of each sender the least count of the others.
+ghost use Rattle.std.specs.Prelude.{◌≡◌, ◌-◌, ◌<◌, length, replicate, IfOk};
 ghost use Rattle.cb_times.specs.Group.{IsGroupSize};
 ghost use Rattle.cb_stability.specs.Known.{count, IsUnknown, IsKnown, Learns, IsStable, IsCountOfOther};
 ghost use Rattle.cb_stability.specs.Rows.{AreRows, known_of};
+ghost use Rattle.cb_stability.specs.Minima.{minimum, minimum_with, IsMinimum, IsBeforeRise};
 
 use cb_times::{NoMemory, VectorTime};
 use std::alloc::Global;
@@ -15,12 +16,23 @@ use std::marker::Model;
 /// kept any longer, since every other member has delivered them. Only `new` takes memory.
 #[derive(Debug, Drop)]
 pub struct Acks {
+    /// Each member's counts, one for each sender.
     rows: Vec<VectorTime>,
+    /// For each sender the least count of the others. It moves when the last who stands at it rises.
+    minima: Vec<Minimum>,
+}
+
+// The least of the counts that all members but the sender have for it, and how many of them have just that.
+#[derive(Clone, Copy, Debug)]
+struct Minimum {
+    least: u32,
+    standing: u32,
 }
 
 impl Model for Acks {
     ghost use Rattle.cb_stability.specs.Known.{Known, known_code};
     ghost use Rattle.cb_stability.specs.Rows.{AreRows, known_of};
+    ghost use Rattle.cb_stability.specs.Minima.{AreMinima};
 
     ghost Value = { Known };
 
@@ -28,7 +40,8 @@ impl Model for Acks {
 
     ghost view = { λ acks. known_of acks.rows.items };
 
-    ghost invariant = { λ acks. AreRows acks.rows.items };
+    ghost invariant = { λ acks. AreRows acks.rows.items
+        × AreMinima acks.rows.items acks.minima.items };
 }
 
 impl Acks {
@@ -41,7 +54,8 @@ impl Acks {
         for _ in 0..size {
             rows.push(VectorTime::zero(alloc, size)?)?;
         }
-        Ok(Acks { rows })
+        let minima = zero_minima(alloc, size)?;
+        Ok(Acks { rows, minima })
     }
 
     /// This member is known to have delivered so many casts of this sender.
@@ -53,9 +67,10 @@ impl Acks {
         requires from_group { sender < self.old.size }
         ensures { Learns self.old self.new member sender delivered }
     {
-        let row = &mut self.rows[member as usize];
-        let count = row.get(sender);
-        row.set(sender, count.max(delivered));
+        let count = raise(&mut self.rows, member, sender, delivered);
+        if member != sender && count < delivered {
+            count_down(&mut self.minima[sender as usize], count, &self.rows, sender);
+        }
     }
 
     /// How many casts of this sender the member is known to have delivered.
@@ -76,23 +91,92 @@ impl Acks {
         ensures reached { IsCountOfOther self.now sender result }
         ensures known { IsKnown self.now }
     {
-        least_of_others(&self.rows, sender)
+        self.minima[sender as usize].least
     }
 }
 
-fn least_of_others(rows: &[VectorTime], sender: u32) -> u32
+// Where all counts are 0, all others stand at 0.
+fn zero_minima(alloc: Global, size: u32) -> Result<Vec<Minimum>, NoMemory>
+    requires { IsGroupSize size }
+    ensures { IfOk result (λ minima. minima.items ≡ replicate size (minimum 0 (size - 1))) }
+{
+    let minimum = Minimum {
+        least: 0,
+        standing: size - 1,
+    };
+    vec![in alloc; minimum; size as usize]
+}
+
+// Raises the member's count to what it has delivered, and answers what it was.
+fn raise(rows: &mut [VectorTime], member: u32, sender: u32, delivered: u32) -> u32
+    requires rows { AreRows rows.old }
+    requires of_group { member < length rows.old }
+    requires from_group { sender < length rows.old }
+    ensures rows { AreRows rows.new }
+    ensures learns { Learns (known_of rows.old) (known_of rows.new) member sender delivered }
+    ensures before { result ≡ count (known_of rows.old) member sender }
+{
+    let row = &mut rows[member as usize];
+    let count = row.get(sender);
+    if count < delivered {
+        row.set(sender, delivered);
+    }
+    count
+}
+
+// One of the others had this count, and has a greater one now.
+// Once nobody stands at the least any more, the column is read anew.
+fn count_down(minimum: &mut Minimum, count: u32, rows: &[VectorTime], sender: u32)
     requires rows { AreRows rows.now }
     requires from_group { sender < length rows.now }
-    ensures stable { IsStable (known_of rows.now) sender result }
-    ensures reached { IsCountOfOther (known_of rows.now) sender result }
+    requires before { IsBeforeRise rows.now sender count minimum.old }
+    ensures { IsMinimum rows.now sender minimum.new }
 {
-    let mut least = u32::MAX;
+    if minimum.least < count {
+        return;
+    }
+    minimum.standing -= 1;
+    if minimum.standing == 0 {
+        *minimum = minimum_of(rows, sender);
+    }
+}
+
+// Reads the column of a sender.
+fn minimum_of(rows: &[VectorTime], sender: u32) -> Minimum
+    requires rows { AreRows rows.now }
+    requires from_group { sender < length rows.now }
+    ensures { IsMinimum rows.now sender result }
+{
+    let mut minimum = Minimum {
+        least: u32::MAX,
+        standing: 0,
+    };
     for (k, row) in rows.iter().enumerate() {
         if k != sender as usize {
-            least = least.min(row.get(sender));
+            minimum = minimum_with(minimum, row.get(sender));
         }
     }
-    least
+    minimum
+}
+
+// The minimum with one more count.
+fn minimum_with(minimum: Minimum, count: u32) -> Minimum
+    requires { minimum.standing < u32.MAX }
+    ensures { result ≡ minimum_with minimum count }
+{
+    if count < minimum.least {
+        return Minimum {
+            least: count,
+            standing: 1,
+        };
+    }
+    if count == minimum.least {
+        return Minimum {
+            least: count,
+            standing: minimum.standing + 1,
+        };
+    }
+    minimum
 }
 
 #[cfg(test)]

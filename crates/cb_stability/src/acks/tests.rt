@@ -39,12 +39,31 @@ fn a_late_report_and_what_the_sender_itself_says_change_nothing(rt: HostRuntime)
     acks.learn(1, 0, 2);
     acks.learn(2, 0, 1);
     acks.learn(2, 0, 0);
-    let behind_a_late_report = acks.stable(0);
+    let behind_a_late_report = [acks.stable(0), acks.learnt(2, 0)];
     acks.learn(0, 0, 9);
     let stable = [acks.stable(0), acks.stable(1), acks.stable(2)];
     drop(acks);
-    are(&rt, &[behind_a_late_report], &[1]);
+    are(&rt, &behind_a_late_report, &[1, 1]);
     are(&rt, &stable, &[1, 0, 0]);
+}
+
+#[test]
+fn what_is_stable_rises_with_the_last_who_stood_at_the_least(rt: HostRuntime) {
+    let mut acks = Acks::new(rt.alloc(), 4).expect(&rt, "memory");
+    acks.learn(1, 0, 1);
+    acks.learn(2, 0, 1);
+    acks.learn(3, 0, 1);
+    let all_at_it = acks.stable(0);
+    acks.learn(1, 0, 2);
+    acks.learn(1, 0, 3);
+    acks.learn(2, 0, 2);
+    let one_at_it = acks.stable(0);
+    acks.learn(3, 0, 5);
+    let none_left = acks.stable(0);
+    acks.learn(2, 0, 9);
+    let stable = [all_at_it, one_at_it, none_left, acks.stable(0)];
+    drop(acks);
+    are(&rt, &stable, &[1, 1, 2, 3]);
 }
 
 #[test]
