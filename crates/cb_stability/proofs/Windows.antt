@@ -8,9 +8,10 @@ use Rattle.std.specs.FinMap.Entries.{find-append}
 use Rattle.std.proofs.lemmas.Bool.{cases_lt}
 use Rattle.std.proofs.lemmas.Bool.Decides.{nat_tests}
 use Rattle.std.proofs.lemmas.Cmp.{nat_cmp_total}
-use Rattle.std.proofs.lemmas.List.{length-append, length-drop}
+use Rattle.std.proofs.lemmas.List.{drop_all, length-append, length-drop}
 use Rattle.std.proofs.lemmas.List.FromFn.{length-enumerate_from}
 use Rattle.std.proofs.lemmas.Option.{slice_get_past}
+use Rattle.circular_buffer.specs.Buffer.{keep_last}
 use Rattle.cb_stability.specs.Sent.{Keeps, Sent, IsFresh, IsSentWindow, room_of}
 use Rattle.cb_stability.specs.Numbered.{AreFrames, sent_of}
 use Rattle.cb_stability.proofs.Entries.{find-before, find-at, enumerate_from-push, sorted_numbered, slice_get-drop}
@@ -58,6 +59,18 @@ push_kept n xs x = same_kept (kept_from n (xs ++ x ∷ [])) (fin.insert (kept_fr
     ∙ find-append-at n xs x q
     ∙ ap (cond (eq_by_cmp nat_cmp q (n + length xs)) (Some x)) (sym (get-kept n xs q))
     ∙ sym (fin.get-insert nat_cmp_total (kept_from n xs) (n + length xs) x q))
+
+-- a ring that keeps all but k items has dropped the first k
+pub keep_last-drop : (k : ℕ) (xs : List (List ℕ)) → keep_last (length xs - k) xs ≡ drop k xs
+keep_last-drop k xs =
+    elim (cases_lt k (length xs)) as (λ _. keep_last (length xs - k) xs ≡ drop k xs) [
+      | inl some ↦ let e : length xs - (length xs - k) ≡ k = omega (arith, some) in ap (λ (n : ℕ). drop n xs) e
+      | inr all ↦ drop_all (length xs - (length xs - k)) xs (omega (arith, all)) ∙ sym (drop_all k xs all)
+    ]
+
+-- and one that has room keeps all
+keep_last-all : (n : ℕ) (xs : List (List ℕ)) → length xs ≤ n → keep_last n xs ≡ xs
+keep_last-all n xs room = let e : length xs - n ≡ 0 = omega (arith, room) in ap (λ (k : ℕ). drop k xs) e
 
 hidden : (b : Bool) (o : Option (List ℕ)) → (b ≡ false) ⊎ (o ≡ None) → cond b o None ≡ None
 hidden true o (inl e) = cc
@@ -185,6 +198,9 @@ module _ (window put : ℕ) (xs : List (List ℕ)) (are : AreFrames window put x
   module _ (x : List ℕ) (places : length xs < window) (numbers : put < 4294967295) where
     longer : length (xs ++ x ∷ []) ≡ length xs + 1
     longer = length-append xs (x ∷ [])
+
+    pub all_kept : keep_last window (xs ++ x ∷ []) ≡ xs ++ x ∷ []
+    all_kept = keep_last-all window (xs ++ x ∷ []) (omega (arith, longer, places))
 
     pub put_keeps : AreFrames window (put + 1) (xs ++ x ∷ [])
     put_keeps = record {

@@ -1,7 +1,6 @@
-//! The window of a member's own frames that are not stable yet: a queue in the order of their numbers.
-ghost use Rattle.std.specs.Prelude.{◌≡◌, ◌+◌, ◌^◌, ◌<◌, ◌≤◌, [], ◌∷◌, ◌++◌, length, drop, nat_lt, if◌then◌else◌, IfOk, OnOk};
+//! The window of a member's own frames that are not stable yet: a ring in the order of their numbers.
+ghost use Rattle.std.specs.Prelude.{◌≡◌, ◌+◌, ◌^◌, ◌<◌, ◌≤◌, [], ◌∷◌, ◌++◌, length, nat_lt, if◌then◌else◌, IfOk, OnOk};
 ghost use Rattle.std.specs.FinMap as map;
-ghost use Rattle.std.specs.VecDeque.{deque_len, deque_capacity};
 ghost use Rattle.cb_times.specs.Group.{IsWindow};
 ghost use Rattle.cb_stability.specs.Ranges.{is_in_some};
 ghost use Rattle.cb_stability.specs.Sent.{IsFresh, IsSentWindow, Keeps, room_of, frames_in};
@@ -10,8 +9,8 @@ ghost use Rattle.cb_stability.specs.Numbered.{numbered_after, first_in};
 use bytes::Bytes;
 use cb_frames::{MOST_FRAMES, Range};
 use cb_times::NoMemory;
+use circular_buffer::HeapCircularBuffer;
 use std::alloc::Global;
-use std::collections::VecDeque;
 use std::marker::Model;
 
 /// The frames that a member sent and may have to send again.
@@ -25,13 +24,12 @@ pub struct SentWindow {
     window: u32,
     /// How many frames were put so far, so the number of the last one.
     put: u32,
-    /// The last of these, those that were not trimmed. Places are reserved for a full window.
-    frames: VecDeque<Bytes>,
+    /// The last of these, those that were not trimmed. The ring's capacity is the window.
+    frames: HeapCircularBuffer<Bytes>,
 }
 
 impl Model for SentWindow {
-    ghost use Rattle.std.specs.Prelude.{◌≤◌};
-    ghost use Rattle.std.specs.VecDeque.{deque_capacity};
+    ghost use Rattle.std.specs.Prelude.{◌≡◌};
     ghost use Rattle.cb_stability.specs.Sent.{Sent, sent_code};
     ghost use Rattle.cb_stability.specs.Numbered.{AreFrames, sent_of};
 
@@ -42,7 +40,7 @@ impl Model for SentWindow {
     ghost view = { λ sent. sent_of sent.window sent.put sent.frames.items };
 
     ghost invariant = { λ sent. AreFrames sent.window sent.put sent.frames.items
-        × (sent.window ≤ deque_capacity sent.frames) };
+        × (sent.frames.capacity ≡ sent.window) };
 }
 
 impl SentWindow {
@@ -51,7 +49,7 @@ impl SentWindow {
         requires { IsWindow window }
         ensures { IfOk result (IsFresh window) }
     {
-        let frames = VecDeque::with_capacity(alloc, window as usize)?;
+        let frames = HeapCircularBuffer::with_capacity(alloc, window as usize)?;
         Ok(SentWindow {
             window,
             put: 0,
@@ -67,7 +65,7 @@ impl SentWindow {
         ensures { let number = self.old.put + 1 in
             Keeps self.old self.new number (map.insert self.old.kept number frame) }
     {
-        self.frames.push_back_reserved(frame);
+        self.frames.push_back(frame);
         self.put += 1;
     }
 
@@ -81,7 +79,8 @@ impl SentWindow {
     {
         let trimmed = self.put - self.frames.len() as u32;
         let count = last.saturating_sub(trimmed) as usize;
-        free_oldest(&mut self.frames, count);
+        let left = self.frames.len().saturating_sub(count);
+        self.frames.truncate_front(left);
     }
 
     /// The frames that are kept with numbers in some of these ranges, each once, byte for byte as they were put.
@@ -110,21 +109,10 @@ impl SentWindow {
     }
 }
 
-// The oldest frames go, so many or all that there are.
-fn free_oldest(frames: &mut VecDeque<Bytes>, count: usize)
-    ensures items { frames.new.items ≡ drop count frames.old.items }
-    ensures capacity { deque_capacity frames.new ≡ deque_capacity frames.old }
-{
-    let count = count.min(frames.len());
-    if count > 0 {
-        frames.drain(..count);
-    }
-}
-
 // Of the frames with the numbers after those trimmed, the first in some range.
 fn copies_in(
     alloc: Global,
-    frames: &VecDeque<Bytes>,
+    frames: &HeapCircularBuffer<Bytes>,
     trimmed: u32,
     ranges: &[Range],
 ) -> Result<Vec<Bytes>, NoMemory>

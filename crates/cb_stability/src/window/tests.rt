@@ -122,11 +122,24 @@ fn past_the_end_it_empties_the_window_and_the_next_number_follows(rt: HostRuntim
 }
 
 #[test]
+fn frames_stay_in_order_where_the_ring_goes_round(rt: HostRuntime) {
+    let mut sent = window_with(&rt, rt.alloc(), 3, 3);
+    sent.trim(2);
+    put_next(&rt, rt.alloc(), &mut sent, 4);
+    put_next(&rt, rt.alloc(), &mut sent, 5);
+    gives(&rt, &sent, &[range(1, 9)], &[3, 4, 5]);
+    sent.trim(4);
+    put_next(&rt, rt.alloc(), &mut sent, 6);
+    gives(&rt, &sent, &[range(1, 9)], &[5, 6]);
+    drop(sent);
+}
+
+#[test]
 fn after_the_greatest_number_there_is_no_room(rt: HostRuntime) {
     let mut sent = SentWindow {
         window: 2,
         put: 4294967294,
-        frames: VecDeque::with_capacity(rt.alloc(), 2).expect(&rt, "memory"),
+        frames: HeapCircularBuffer::with_capacity(rt.alloc(), 2).expect(&rt, "memory"),
     };
     has_room(&rt, &sent, 2);
     put_next(&rt, rt.alloc(), &mut sent, 4294967295);

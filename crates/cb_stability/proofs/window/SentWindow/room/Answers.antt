@@ -9,7 +9,7 @@ returns-then-self-clause-window c =
 pub returns-else-self-clause-room : goal.returns-else-self-clause-room
 returns-else-self-clause-room c =
     let s = c.self.inside in
-    rw (← c.self.view_is, c.len.ensures, s.frames.ok.0)
+    rw (← c.self.view_is, c.len.ensures.len)
     (room_unless s.window s.put s.frames.items c.self.invariant.0 c.if-self.false)
 
 pub returns-else-self-clause-window : goal.returns-else-self-clause-window
