@@ -1,8 +1,7 @@
 -- The lists of a queue as the program keeps them, each with the places reserved for it.
-use Rattle.std.proofs.Common.{◌≡◌, ◌≢◌, ℕ, zero, suc, ◌*◌, ◌^◌, ◌<◌, ◌≤◌, List, [], ◌∷◌, ◌++◌, length, map, sym, ◌∙◌, ap, subst, arith, get_or, refl, All, sum_by, Global, deque_capacity, inl, inr, Some, None}
+use Rattle.std.proofs.Common.{◌≡◌, ◌≢◌, ℕ, zero, suc, ◌+◌, ◌*◌, ◌<◌, ◌≤◌, List, [], ◌∷◌, ◌++◌, length, map, sym, ◌∙◌, ap, subst, arith, get_or, refl, All, sum_by, Global, deque_capacity, inl, inr, Some, None}
 use Rattle.std.specs.declared.collections.VecDeque.{VecDeque}
 use Rattle.std.specs.Prelude.{Option, IsSome, IfSome, IfNone}
-use Rattle.std.specs.List.{AllWithin, HoldsAt}
 use Rattle.std.specs.Option.{option_to_list}
 use Rattle.std.specs.VecDeque.{deque_len}
 use Rattle.std.specs.FinMap as fin
@@ -10,17 +9,23 @@ use Rattle.std.proofs.Math.ListN.{set, length-set}
 use Rattle.std.proofs.lemmas.Bool.{cases_lt}
 use Rattle.std.proofs.lemmas.Bool.Decides.{eqb_tells}
 use Rattle.std.proofs.lemmas.List.{get_or-map, get_or-set_same, get_or-set_other, set-get_or, get_or_past, get_or_default, map-set, length-map, length-append}
-use Rattle.std.proofs.lemmas.List.Sums.{sum_by-cons, sum_by-le}
+use Rattle.std.proofs.lemmas.List.Sums.{sum_by-cons, sum_by-le, sum_by-set}
+use Rattle.std.specs.Int.{bit_at}
+use Rattle.cb_times.specs.Order.{field}
+use Rattle.cb_delay.specs.declared.index.Index.{Index}
+use Rattle.cb_delay.specs.Index.{IsIndex, HasShape, IsFresh}
+use Rattle.cb_delay.proofs.Telling.{told_holding, told_releasing}
+use Rattle.cb_delay.proofs.Answering.{fresh_index}
 use Rattle.std.proofs.Math.Nat.{mul-le-mul_right}
 use Rattle.cb_times.specs.Group.{IsGroupSize, IsWindow}
 use Rattle.cb_times.specs.declared.name.Name.{Name}
 use Rattle.cb_delay.specs.declared.message.Message.{Message}
 use Rattle.cb_delay.specs.Message.{name_cmp, IsOfGroup}
-use Rattle.cb_delay.specs.Queue.{Queue, Holds, IsNew, HasReady, IsSmallestReady, IsHeld, IsFirst, count_of, FollowsLast}
-use Rattle.cb_delay.specs.Lists.{IsRun, AreLists, list_of, queue_of, entries_of, all_entries, HasSomeReady}
+use Rattle.cb_delay.specs.Queue.{Queue, Holds, IsNew, IsHeld, IsFirst, IsDelayQueue, count_of, FollowsLast}
+use Rattle.cb_delay.specs.Lists.{IsRun, AreLists, list_of, queue_of, with_looks, entries_of, all_entries}
 use Rattle.cb_delay.proofs.Names.{names_total, exact_names}
 use Rattle.cb_delay.proofs.Runs.{found}
-use Rattle.cb_delay.proofs.Kept.{sorted, get-held, count-held, lists_holding, queue_holding, lists_releasing, queue_releasing, first_held, none_held, all_of_group, has_ready, has_none_ready}
+use Rattle.cb_delay.proofs.Kept.{sorted, get-held, count-held, lists_holding, queue_holding, lists_releasing, queue_releasing, first_held, none_held, all_of_group}
 
 abbrev pub Deque : Type 0
 Deque = VecDeque Message Global
@@ -63,8 +68,37 @@ reserved-set window deques sender d reserved within room k x below =
     ]
 
 -- a queue that is this one but for what it holds
-holds_now : {old new : Queue} {held : fin.FinMap name_cmp Message} → new ≡ record { size = old.size; window = old.window; held = held } → Holds old new held
+holds_now : {old new : Queue} {held : fin.FinMap name_cmp Message} → new ≡ record { size = old.size; window = old.window; held = held; looked = 0; settled = None } → Holds old new held
 holds_now same = record { size = ap (λ (q : Queue). q.size) same; window = ap (λ (q : Queue). q.window) same; now_held = ap (λ (q : Queue). q.held) same }
+
+-- the same of queues with looks
+pub holds_seen : {old new : Queue} {held : fin.FinMap name_cmp Message} (looked looked_after : ℕ) (settled settled_after : Option (List ℕ))
+    → Holds old new held → Holds (with_looks old looked settled) (with_looks new looked_after settled_after) held
+holds_seen looked looked_after settled settled_after holds = record { size = holds.size; window = holds.window; now_held = holds.now_held }
+
+pub first_seen : {queue : Queue} {sender : ℕ} {first : Message} (looked : ℕ) (settled : Option (List ℕ))
+    → IsFirst queue sender first → IsFirst (with_looks queue looked settled) sender first
+first_seen looked settled first = record { held = first.held; of_sender = first.of_sender; least = first.least }
+
+pub follows_unseen : {queue : Queue} {name : Name} (looked : ℕ) (settled : Option (List ℕ))
+    → FollowsLast (with_looks queue looked settled) name → FollowsLast queue name
+follows_unseen looked settled follows last is = follows last (record { held = is.held; of_sender = is.of_sender; greatest = is.greatest })
+
+pub queue_seen : {queue : Queue} (looked : ℕ) (settled : Option (List ℕ)) → IsDelayQueue queue → IsDelayQueue (with_looks queue looked settled)
+queue_seen looked settled is = record { by_name = is.by_name; of_group = is.of_group; in_a_row = is.in_a_row; room = is.room }
+
+-- an index keeps its shape where other members are stale
+with_stale : (size sender stale_after : ℕ) (index : Index) → sender < size → ((i : ℕ) → i ≢ sender → bit_at stale_after i ≡ bit_at index.stale i)
+    → HasShape size index → HasShape size (record index { stale = stale_after })
+with_stale size sender stale_after index within others shape = record {
+  some = shape.some;
+  most = shape.most;
+  time_size = shape.time_size;
+  places_size = shape.places_size;
+  waiting_size = shape.waiting_size;
+  members = λ i above. others i (λ same. omega (arith, above, same, within)) ∙ shape.members i above;
+  walkers = shape.walkers;
+}
 
 module _ (window : ℕ) (deques : List Deque) (kept : AreLists window (lists_of deques) × AreReserved window deques)
     (message : Message) (d : Deque) (here : d ≡ get_or deques message.name.sender d)
@@ -97,6 +131,28 @@ module _ (window : ℕ) (deques : List Deque) (kept : AreLists window (lists_of 
           (lists_holding window (lists_of deques) kept.0 message group room follows),
       reserved-set window deques message.name.sender after kept.1 within (omega (arith, capacity, reserved_here)),
     )
+
+    pub hold_index : (index : Index) (stale_after : ℕ) → IsIndex (lists_of deques) index
+        → ((i : ℕ) → i ≢ message.name.sender → bit_at stale_after i ≡ bit_at index.stale i)
+        → (bit_at stale_after message.name.sender ≡ 0 → bit_at index.stale message.name.sender ≡ 0)
+        → (bit_at stale_after message.name.sender ≡ 0 → message.name.number ≢ field index.last message.name.sender + 1)
+        → IsIndex (lists_of (set deques message.name.sender after)) (record index { stale = stale_after })
+    hold_index index stale_after is others stays other =
+        subst (λ (ls : List (List Message)). IsIndex ls (record index { stale = stale_after })) (sym appended) (
+          subst (λ (n : ℕ). HasShape n (record index { stale = stale_after }))
+              (sym (length-set (lists_of deques) message.name.sender (list_of (lists_of deques) message.name.sender ++ message ∷ [])))
+              (with_stale (length (lists_of deques)) message.name.sender stale_after index group.sender others is.0),
+          told_holding (lists_of deques) index.last index.places.items index.waiting.items index.ready index.stale is.1
+              message.name.sender stale_after others message group.sender stays other,
+        )
+
+    pub hold_sum : (held : ℕ) → held ≡ sum_by (λ (x : Deque). deque_len x) deques
+        → held + 1 ≡ sum_by (λ (x : Deque). deque_len x) (set deques message.name.sender after)
+    hold_sum held is =
+        let sums = sum_by-set (λ (x : Deque). deque_len x) deques message.name.sender after d within in
+        let was : deque_len d ≡ deque_len (get_or deques message.name.sender d) = ap (λ (x : Deque). deque_len x) here in
+        let longer : length after.items ≡ length (d.items ++ message ∷ []) = ap length items in
+        omega (arith, is, sums, was, longer, length-append d.items (message ∷ []), deque_len-items d, deque_len-items after)
 
     pub hold_gives : Holds (queue_of window (lists_of deques)) (queue_of window (lists_of (set deques message.name.sender after))) (fin.insert (queue_of window (lists_of deques)).held message.name message)
     hold_gives = holds_now (ap (queue_of window) appended ∙ queue_holding window (lists_of deques) kept.0 message group room follows)
@@ -156,6 +212,38 @@ module _ (window : ℕ) (deques : List Deque) (kept : AreLists window (lists_of 
       λ other. none_held window (lists_of deques) kept.0 sender other (list_here ∙ nil_of_length d.items empty)
   release_none (Some first) some = tt
 
+  -- where nothing is taken the index is as it was, and so is the sum
+  pub same_index : (index : Index) → d.items ≡ after.items → IsIndex (lists_of deques) index → IsIndex (lists_of (set deques sender after)) index
+  same_index index same is = subst (λ (ls : List (List Message)). IsIndex ls index) (sym (unchanged same)) is
+
+  pub same_sum : (held : ℕ) → d.items ≡ after.items → held ≡ sum_by (λ (x : Deque). deque_len x) deques
+      → held ≡ sum_by (λ (x : Deque). deque_len x) (set deques sender after)
+  same_sum held same is =
+      let sums = sum_by-set (λ (x : Deque). deque_len x) deques sender after d within in
+      let was : deque_len d ≡ deque_len (get_or deques sender d) = ap (λ (x : Deque). deque_len x) here in
+      let long : length d.items ≡ length after.items = ap length same in
+      omega (arith, is, sums, was, long, deque_len-items d, deque_len-items after)
+
+  -- where one is, its sender is stale, and the sum is one less
+  pub release_index : (index : Index) (stale_after : ℕ) → IsIndex (lists_of deques) index
+      → ((i : ℕ) → i ≢ sender → bit_at stale_after i ≡ bit_at index.stale i) → bit_at stale_after sender ≡ 1
+      → IsIndex (lists_of (set deques sender after)) (record index { stale = stale_after })
+  release_index index stale_after is others marked =
+      subst (λ (ls : List (List Message)). IsIndex ls (record index { stale = stale_after })) (sym (lists_of-set deques sender after)) (
+        subst (λ (n : ℕ). HasShape n (record index { stale = stale_after })) (sym (length-set (lists_of deques) sender after.items))
+            (with_stale (length (lists_of deques)) sender stale_after index within_lists others is.0),
+        told_releasing (lists_of deques) index.last index.places.items index.waiting.items index.ready index.stale is.1
+            sender stale_after others after.items marked,
+      )
+
+  pub release_sum : (held : ℕ) (first : Message) → d.items ≡ first ∷ after.items → held ≡ sum_by (λ (x : Deque). deque_len x) deques
+      → held ≡ sum_by (λ (x : Deque). deque_len x) (set deques sender after) + 1
+  release_sum held first items is =
+      let sums = sum_by-set (λ (x : Deque). deque_len x) deques sender after d within in
+      let was : deque_len d ≡ deque_len (get_or deques sender d) = ap (λ (x : Deque). deque_len x) here in
+      let long : length d.items ≡ length (first ∷ after.items) = ap length items in
+      omega (arith, is, sums, was, long, deque_len-items d, deque_len-items after)
+
 -- of a sender that the group lacks none is held
 pub release_outside : (window : ℕ) (deques : List Deque) → AreLists window (lists_of deques) → (sender : ℕ) → length deques ≤ sender
     → (other : Message) → IsHeld (queue_of window (lists_of deques)) other → other.name.sender ≢ sender
@@ -184,7 +272,7 @@ again deques k d below = get_or_default deques k d (get_or deques k d) below
 
 -- and those are few
 pub few-held : (window : ℕ) (deques : List Deque) → AreLists window (lists_of deques)
-    → sum_by (λ (d : Deque). deque_len d) deques < 2 ^ 64
+    → sum_by (λ (d : Deque). deque_len d) deques ≤ 64 * 256
 few-held window deques are =
     let each : All (λ (d : Deque). deque_len d ≤ 256) deques =
     λ k d below.
@@ -226,9 +314,21 @@ module _ (window : ℕ) (deques : List Deque) (fresh : AreFresh window deques) w
         λ k d below. (fresh k d below).1,
       )
 
-  pub new_gives : (are : AreLists window (lists_of deques)) (size : ℕ) → length deques ≡ size
-      → IsNew size window (queue_of window (lists_of deques))
-  new_gives are size e = record {
+  pub new_index : (size : ℕ) (index : Index) → IsGroupSize size → length deques ≡ size → IsFresh size index → IsIndex (lists_of deques) index
+  new_index size index group e fresh_there = fresh_index size (lists_of deques) index group (length-lists_of deques ∙ e) no_list fresh_there
+
+  pub new_sum : 0 ≡ sum_by (λ (d : Deque). deque_len d) deques
+  new_sum =
+      let each : All (λ (d : Deque). deque_len d ≤ 0) deques =
+      λ k d below.
+      let empty : length (get_or deques k d).items ≡ 0 = ap length (fresh k d below).0 in
+      omega (arith, empty, deque_len-items (get_or deques k d)) in
+      omega (arith, sum_by-le (λ (d : Deque). deque_len d) 0 deques each)
+
+  pub new_gives : (are : AreLists window (lists_of deques)) (size looked : ℕ) (settled : Option (List ℕ)) → length deques ≡ size → looked ≡ 0
+      → IsNew size window (with_looks (queue_of window (lists_of deques)) looked settled)
+  new_gives are size looked settled e never = record {
+    none_looked = never;
     of_size = length-lists_of deques ∙ e;
     of_window = refl;
     empty = fin.same_map names_total exact_names _ _ (λ name.
@@ -244,42 +344,3 @@ all_of_group_here window deques are n size k d below =
     let list = list_of-deques deques k (get_or deques k d) below (again deques k d below) in
     subst (λ (m : ℕ). All (IsOfGroup m) (get_or deques k d).items) (sym size)
     (subst (λ (l : List Message). All (IsOfGroup (length (lists_of deques))) l) list (all_of_group window (lists_of deques) are k))
-
-a_deque : (deques : List Deque) → 2 ≤ length deques → Deque
-a_deque [] two = absurd (omega (arith, two))
-a_deque (d ∷ deques) two = d
-
-module _ (window : ℕ) (deques : List Deque) (are : AreLists window (lists_of deques)) (now : List ℕ) where
-  default : Deque
-  default = a_deque deques (omega (arith, are.group.two_or_more, length-lists_of deques))
-
-  list_at : (sender : ℕ) → sender < length deques → list_of (lists_of deques) sender ≡ (get_or deques sender default).items
-  list_at sender below = list_of-deques deques sender (get_or deques sender default) below (again deques sender default below)
-
-  no_list_ready : (l : List Message) → l ≡ [] → ¬ HasSomeReady now l
-  no_list_ready l empty (k, x, below, at, ready) = omega (arith, below, ap length empty)
-
-  none_at : (sender : ℕ) → (sender < length deques → ¬ HasSomeReady now (get_or deques sender default).items)
-      → ¬ HasReady (queue_of window (lists_of deques)) now sender
-  none_at sender none =
-      has_none_ready window (lists_of deques) are sender now
-      (elim (cases_lt sender (length deques)) as (λ _. ¬ HasSomeReady now (list_of (lists_of deques) sender)) [
-        | inl below ↦ subst (λ (l : List Message). ¬ HasSomeReady now l) (sym (list_at sender below)) (none below)
-        | inr past ↦ no_list_ready (list_of (lists_of deques) sender)
-            (get_or_past (lists_of deques) sender [] (omega (arith, past, length-lists_of deques)))
-      ])
-
-  -- the first list with a ready message is of the smallest sender
-  pub smallest_ready : (sender : ℕ) → (sender < length deques) × HoldsAt (λ (x : Deque). HasSomeReady now x.items) deques sender
-      × AllWithin (λ (x : Deque). ¬ HasSomeReady now x.items) deques 0 sender
-      → IsSmallestReady (queue_of window (lists_of deques)) now sender
-  smallest_ready sender (below, ready, none) = record {
-    ready = has_ready window (lists_of deques) are sender now
-        (subst (λ (l : List Message). HasSomeReady now l) (sym (list_at sender below)) (ready default));
-    smallest = λ other under. none_at other (λ _. none other default (omega arith) under);
-  }
-
-  -- and where no list has one none is ready
-  pub none_ready : AllWithin (λ (x : Deque). ¬ HasSomeReady now x.items) deques 0 (length deques)
-      → (sender : ℕ) → ¬ HasReady (queue_of window (lists_of deques)) now sender
-  none_ready none sender = none_at sender (λ below. none sender default (omega arith) below)

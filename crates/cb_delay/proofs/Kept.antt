@@ -14,8 +14,6 @@ use Rattle.cb_delay.specs.declared.message.Message.{Message}
 use Rattle.cb_delay.specs.Message.{name_cmp, IsOfGroup}
 use Rattle.cb_delay.specs.Queue.{HasReady, IsHeld, count_of, IsFirst, FollowsLast, AreInARow, IsDelayQueue}
 use Rattle.cb_delay.specs.Lists.{entries_of, all_entries, IsRun, list_of, AreLists, queue_of, HasSomeReady}
-use Rattle.cb_times.specs.Order.{field}
-use Rattle.cb_delay.specs.Rule.{IsReady}
 use Rattle.cb_delay.proofs.Names.{names_total, exact_names, eq_by_cmp-sender, eq_by_cmp-true}
 use Rattle.cb_delay.proofs.Runs.{found, IsFound, found-below, found-above, found-within, is_found, run_push, is_at, found_at, place_of}
 use Rattle.cb_delay.proofs.Entries.{AreRunsFrom, find-all_entries, sorted-all_entries, count_in, count_in-all_entries}
@@ -158,7 +156,7 @@ module _ (window : ℕ) (lists : List (List Message)) (are : AreLists window lis
   pub queue_with : (within : sender < length lists) (with : AreLists window (set lists sender list)) (held : fin.FinMap name_cmp Message)
       → ((name : Name) → name.sender ≡ sender → found name list ≡ fin.get held name)
       → ((name : Name) → name.sender ≢ sender → found name (list_of lists name.sender) ≡ fin.get held name)
-      → queue_of window (set lists sender list) ≡ record { size = length lists; window = window; held = held }
+      → queue_of window (set lists sender list) ≡ record { size = length lists; window = window; held = held; looked = 0; settled = None }
   queue_with within with held here elsewhere =
       let same : (queue_of window (set lists sender list)).held ≡ held =
       fin.same_map names_total exact_names _ _ (λ name.
@@ -168,7 +166,7 @@ module _ (window : ℕ) (lists : List (List Message)) (are : AreLists window lis
         | inr apart ↦ ap (λ l. found name l) (list_of-set_other name.sender apart.1) ∙ elsewhere name apart.1
       ]) in
       let size = length-set lists sender list in
-      λ i. record { size = size i; window = window; held = same i }
+      λ i. record { size = size i; window = window; held = same i; looked = 0; settled = None }
 
 -- holding a message appends it to its sender's list
 pub lists_holding : (window : ℕ) (lists : List (List Message)) (are : AreLists window lists) (message : Message)
@@ -186,7 +184,7 @@ pub queue_holding : (window : ℕ) (lists : List (List Message)) (are : AreLists
     → IsOfGroup (length lists) message → count_of (queue_of window lists) message.name.sender < window
     → FollowsLast (queue_of window lists) message.name
     → queue_of window (set lists message.name.sender (list_of lists message.name.sender ++ message ∷ []))
-    ≡ record { size = length lists; window = window; held = fin.insert (queue_of window lists).held message.name message }
+    ≡ record { size = length lists; window = window; held = fin.insert (queue_of window lists).held message.name message; looked = 0; settled = None }
 queue_holding window lists are message group room follows =
     let list = list_of lists message.name.sender in
     let run = are.runs message.name.sender in
@@ -226,7 +224,7 @@ found-rest size sender first rest name run =
 pub queue_releasing : (window : ℕ) (lists : List (List Message)) (are : AreLists window lists) (sender : ℕ) (first : Message) (rest : List Message)
     → sender < length lists → list_of lists sender ≡ first ∷ rest
     → queue_of window (set lists sender rest)
-    ≡ record { size = length lists; window = window; held = fin.remove (queue_of window lists).held first.name }
+    ≡ record { size = length lists; window = window; held = fin.remove (queue_of window lists).held first.name; looked = 0; settled = None }
 queue_releasing window lists are sender first rest within e =
     let held = (queue_of window lists).held in
     let run = subst (λ (l : List Message). IsRun (length lists) sender l) e (are.runs sender) in
@@ -267,18 +265,18 @@ module _ (window : ℕ) (lists : List (List Message)) (are : AreLists window lis
       (is_at (length lists) sender (are.runs sender).0 (list_of lists sender) k d (are.runs sender).1 below).of_group
 
   -- a message of the sender's list that is ready is held and ready
-  pub has_ready : (now : List ℕ) → HasSomeReady now (list_of lists sender) → HasReady (queue_of window lists) now sender
+  pub has_ready : (now : List ℕ) → HasSomeReady sender now (list_of lists sender) → HasReady (queue_of window lists) now sender
   has_ready now (k, x, below, at, ready) =
       let of : x.name.sender ≡ sender = subst (λ (m : Message). m.name.sender ≡ sender) at
       (is_at (length lists) sender (are.runs sender).0 (list_of lists sender) k x (are.runs sender).1 below).of_sender in (
         x,
         subst (λ (m : Message). IsHeld (queue_of window lists) m) at (held_at window lists are sender k x below),
         of,
-        subst (λ (s : ℕ). IsReady s (field x.time) (field now)) of ready,
+        ready,
       )
 
   -- where none of the list is ready none that is held of the sender is
-  pub has_none_ready : (now : List ℕ) → ¬ HasSomeReady now (list_of lists sender) → ¬ HasReady (queue_of window lists) now sender
+  pub has_none_ready : (now : List ℕ) → ¬ HasSomeReady sender now (list_of lists sender) → ¬ HasReady (queue_of window lists) now sender
   has_none_ready now none (message, held, of, ready) =
       let place = place_of (list_of lists sender) message.name message (found_of_held window lists are sender message.name message of held) in
-      none (place.0, message, place.1, place.2 message, subst (λ (s : ℕ). IsReady s (field message.time) (field now)) (sym of) ready)
+      none (place.0, message, place.1, place.2 message, ready)

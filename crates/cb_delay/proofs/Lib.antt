@@ -4,3 +4,7 @@ pub mod Entries
 pub mod Kept
 pub mod Deques
 pub mod Room
+pub mod Sets
+pub mod Candidates
+pub mod Telling
+pub mod Answering

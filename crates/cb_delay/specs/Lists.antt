@@ -1,5 +1,5 @@
 -- How the plain queue keeps its messages: a list for each sender, in the order of the numbers.
-use Rattle.std.specs.Prelude.{◌≡◌, ℕ, suc, ◌≤◌, List, [], ◌∷◌, ◌++◌, length, map, slice_index_or, Any}
+use Rattle.std.specs.Prelude.{◌≡◌, ℕ, suc, ◌≤◌, List, [], ◌∷◌, ◌++◌, length, map, slice_index_or, Any, Option, None}
 use Rattle.std.specs.FinMap.{from_sorted}
 use Rattle.cb_times.specs.declared.name.Name.{Name}
 use Rattle.cb_delay.specs.declared.message.Message.{Message}
@@ -35,10 +35,14 @@ pub record AreLists (window : ℕ) (lists : List (List Message)) : Type 0 where
   pub runs : (sender : ℕ) → IsRun (length lists) sender (list_of lists sender)
   pub room : (sender : ℕ) → length (list_of lists sender) ≤ window
 
--- the queue that the lists are
+-- the queue that the lists are, but for its looks
 abbrev pub queue_of : ℕ → List (List Message) → Queue
-queue_of window lists = record { size = length lists; window = window; held = from_sorted (all_entries lists) }
+queue_of window lists = record { size = length lists; window = window; held = from_sorted (all_entries lists); looked = 0; settled = None }
 
--- a message of the list may be delivered at this time
-abbrev pub HasSomeReady : List ℕ → List Message → Type 0
-HasSomeReady now list = Any (λ message. IsReady message.name.sender (field message.time) (field now)) list
+-- the queue with these looks
+abbrev pub with_looks : Queue → ℕ → Option (List ℕ) → Queue
+with_looks queue looked settled = record queue { looked = looked; settled = settled }
+
+-- a message of this sender's list may be delivered at this time
+abbrev pub HasSomeReady : ℕ → List ℕ → List Message → Type 0
+HasSomeReady sender now list = Any (λ message. IsReady sender (field message.time) (field now)) list

@@ -1,6 +1,6 @@
 -- What a delay queue holds.
-use Rattle.std.specs.Prelude.{◌≡◌, ◌≢◌, ℕ, ◌+◌, ◌==◌, ◌<◌, ◌≤◌, ◌↔◌, List, IsSome, Some, count_by, refl}
-use Rattle.std.specs.Coded.{Coded, code_by, coded×, coded_list, coded_ℕ}
+use Rattle.std.specs.Prelude.{◌≡◌, ◌≢◌, ℕ, ◌+◌, ◌==◌, ◌<◌, ◌≤◌, ◌↔◌, List, Option, IsSome, Some, count_by, refl}
+use Rattle.std.specs.Coded.{Coded, code_by, coded×, coded_list, coded_option, coded_ℕ}
 use Rattle.std.specs.FinMap as map
 use Rattle.cb_times.specs.Order.{field}
 use Rattle.cb_times.specs.declared.name.Name.{Name}
@@ -8,19 +8,23 @@ use Rattle.cb_delay.specs.declared.message.Message.{Message}
 use Rattle.cb_delay.specs.Message.{name_cmp, IsOfGroup}
 use Rattle.cb_delay.specs.Rule.{IsReady}
 
--- the size of the group, how many messages of one sender there is room for, and the messages held, each by its name
+-- the size of the group, how many messages of one sender there is room for, and the messages held, each by its name;
+-- how many comparisons with a time were made, and the time at which an answer needs no more of them
 pub record Queue : Type 0 where
   pub size : ℕ
   pub window : ℕ
   pub held : map.FinMap name_cmp Message
+  pub looked : ℕ
+  pub settled : Option (List ℕ)
 
 -- a queue that was just made
 pub record IsNew (size window : ℕ) (queue : Queue) : Type 0 where
   pub of_size : queue.size ≡ size
   pub of_window : queue.window ≡ window
   pub empty : queue.held ≡ map.empty
+  pub none_looked : queue.looked ≡ 0
 
--- the queue holds just this now, and nothing else has changed that a caller can see
+-- the queue holds just this now, and its size and window are as they were
 pub record Holds (old new : Queue) (held : map.FinMap name_cmp Message) : Type 0 where
   pub size : new.size ≡ old.size
   pub window : new.window ≡ old.window
@@ -91,5 +95,7 @@ message_code =
 
 abbrev pub queue_code : Coded Queue
 queue_code =
-    code_by (ℕ × (ℕ × map.FinMap name_cmp Message)) (coded× coded_ℕ (coded× coded_ℕ (map.code name_code message_code)))
-    (λ q. (q.size, (q.window, q.held))) (λ p. record { size = p.0; window = p.1.0; held = p.1.1 }) (λ _. refl)
+    code_by (ℕ × (ℕ × (map.FinMap name_cmp Message × (ℕ × Option (List ℕ)))))
+    (coded× coded_ℕ (coded× coded_ℕ (coded× (map.code name_code message_code) (coded× coded_ℕ (coded_option (coded_list coded_ℕ))))))
+    (λ q. (q.size, (q.window, (q.held, (q.looked, q.settled)))))
+    (λ p. record { size = p.0; window = p.1.0; held = p.1.1.0; looked = p.1.1.1.0; settled = p.1.1.1.1 }) (λ _. refl)

@@ -4,8 +4,11 @@
 //! messages that came too early. Stands on `cb_times`, and on `bytes` for what a message says.
 #![tactic(auto)]
 
+mod index;
 pub mod laws;
+mod members;
 mod message;
+mod place;
 mod queue;
 
 pub use cb_times::Name;

@@ -1,18 +1,14 @@
-//! The plain delay queue: a list for each sender, and a look at every held message for each answer.
-ghost use Rattle.std.specs.Prelude.{◌≡◌, ◌+◌, ◌<◌, ◌≤◌, ◌↔◌, ℕ, length, map, All, MatchOption, IfOk, IfSome, IfNone, IsTrue, sum_by, ◌^◌, ◌≢◌};
-ghost use Rattle.std.specs.Bool.{OnTrue, OnFalse};
+//! The delay queue: a list for each sender, and an index of which of them wait for whom.
+ghost use Rattle.std.specs.Prelude.{◌≡◌, ◌<◌, ◌≤◌, ℕ, length, IfOk, IfSome, IfNone, Some};
 ghost use Rattle.std.specs.FinMap as map;
-ghost use Rattle.std.specs.VecDeque.{deque_len};
 ghost use Rattle.cb_times.specs.Group.{IsGroupSize, IsWindow};
-ghost use Rattle.cb_times.specs.Order.{field};
 ghost use Rattle.cb_delay.specs.Message.{IsOfGroup};
 ghost use Rattle.cb_delay.specs.Queue.{IsNew, Holds, Releases, HoldsNoneOf, IsHeld, IsDelayQueue, IsFirst, IsSmallestReady, HasReady, FollowsLast, count_of};
-ghost use Rattle.cb_delay.specs.Rule.{IsReady};
-ghost use Rattle.cb_delay.specs.Lists.{HasSomeReady};
-ghost use Rattle.std.specs.List.{HoldsAt, AllWithin};
 
+use crate::index::Index;
+use crate::members;
 use crate::message::Message;
-use cb_times::{NoMemory, VectorTime};
+use cb_times::{Name, NoMemory, VectorTime};
 use std::alloc::Global;
 use std::collections::VecDeque;
 use std::marker::Model;
@@ -36,22 +32,29 @@ use std::marker::Model;
 pub struct DelayQueue {
     window: u32,
     lists: Vec<VecDeque<Message>>,
+    /// How many messages the lists have.
+    held: usize,
+    index: Index,
 }
 
 impl Model for DelayQueue {
-    ghost use Rattle.std.specs.Prelude.{◌≤◌, map, All};
-    ghost use Rattle.std.specs.VecDeque.{deque_capacity};
+    ghost use Rattle.std.specs.Prelude.{◌≡◌, ◌≤◌, map, All, sum_by};
+    ghost use Rattle.std.specs.VecDeque.{deque_capacity, deque_len};
+    ghost use Rattle.cb_delay.specs.Index.{IsIndex, settled_at};
+    ghost use Rattle.cb_delay.specs.Lists.{AreLists, queue_of, with_looks};
     ghost use Rattle.cb_delay.specs.Queue.{Queue, queue_code};
-    ghost use Rattle.cb_delay.specs.Lists.{AreLists, queue_of};
 
     ghost Value = { Queue };
 
     ghost coded = { queue_code };
 
-    ghost view = { λ queue. queue_of queue.window (map (λ list. list.items) queue.lists.items) };
+    ghost view = { λ queue. with_looks (queue_of queue.window (map (λ list. list.items) queue.lists.items))
+        queue.index.looked (settled_at queue.index) };
 
     ghost invariant = { λ queue. AreLists queue.window (map (λ list. list.items) queue.lists.items)
-        × All (λ list. queue.window ≤ deque_capacity list) queue.lists.items };
+        × All (λ list. queue.window ≤ deque_capacity list) queue.lists.items
+        × IsIndex (map (λ list. list.items) queue.lists.items) queue.index
+        × (queue.held ≡ sum_by (λ list. deque_len list) queue.lists.items) };
 }
 
 impl DelayQueue {
@@ -65,7 +68,13 @@ impl DelayQueue {
         for _ in 0..size {
             lists.push(VecDeque::with_capacity(alloc, window as usize)?)?;
         }
-        Ok(DelayQueue { window, lists })
+        let index = Index::new(alloc, size)?;
+        Ok(DelayQueue {
+            window,
+            lists,
+            held: 0,
+            index,
+        })
     }
 
     /// How many messages of one sender the queue has room for.
@@ -84,10 +93,14 @@ impl DelayQueue {
         requires of_group { IsOfGroup self.old.size message }
         requires room { count_of self.old message.name.sender < self.old.window }
         requires next { FollowsLast self.old message.name }
-        ensures { Holds self.old self.new (map.insert self.old.held message.name message) }
+        ensures held { Holds self.old self.new (map.insert self.old.held message.name message) }
+        ensures looked { self.new.looked ≡ self.old.looked }
     {
-        let list = &mut self.lists[message.name.sender as usize];
+        let Name { sender, number } = message.name;
+        let list = &mut self.lists[sender as usize];
         list.push_back_reserved(message);
+        self.held += 1;
+        self.index.stale = self.index.stale_with(sender, number);
     }
 
     /// The smallest sender of which some held message may be delivered at this time.
@@ -100,9 +113,12 @@ impl DelayQueue {
         ensures none { IfNone result ((sender : ℕ) → ¬ HasReady self.old now.now sender) }
         ensures same { Holds self.old self.new self.old.held }
         ensures queue { IsDelayQueue self.old }
+        ensures settled { self.new.settled ≡ Some now.now }
+        ensures free { self.old.settled ≡ Some now.now → self.new.looked ≡ self.old.looked }
+        ensures counts { self.old.looked ≤ self.new.looked }
     {
-        let sender = first_ready(&self.lists, now)?;
-        Some(sender as u32)
+        self.index.settle(&self.lists, now);
+        members::first(self.index.ready)
     }
 
     /// Takes out the message of this sender with the smallest number, where one is held.
@@ -111,8 +127,12 @@ impl DelayQueue {
         ensures taken { IfSome result (Releases self.old self.new) }
         ensures none { IfNone result (HoldsNoneOf self.old sender) }
         ensures same { IfNone result (Holds self.old self.new self.old.held) }
+        ensures looked { self.new.looked ≡ self.old.looked }
     {
-        self.lists.get_mut(sender as usize)?.pop_front()
+        let message = self.lists.get_mut(sender as usize)?.pop_front()?;
+        self.held -= 1;
+        self.index.stale = members::with(self.index.stale, sender);
+        Some(message)
     }
 
     /// How many messages are held.
@@ -120,31 +140,15 @@ impl DelayQueue {
         ensures len { result ≡ map.len self.now.held }
         ensures queue { IsDelayQueue self.now }
     {
-        total_len(&self.lists)
+        self.held
     }
-}
 
-fn total_len(lists: &[VecDeque<Message>]) -> usize
-    requires { sum_by (λ list. deque_len list) lists.now < 2 ^ 64 }
-    ensures { result ≡ sum_by (λ list. deque_len list) lists.now }
-{
-    lists.iter().map(|list| list.len()).sum()
-}
-
-fn first_ready(lists: &[VecDeque<Message>], now: &VectorTime) -> Option<usize>
-    requires { All (λ list. All (IsOfGroup (length now.now)) list.items) lists.now }
-    ensures { MatchOption result
-        (AllWithin (λ list. ¬ HasSomeReady now.now list.items) lists.now 0 (length lists.now))
-        (λ sender. (sender < length lists.now)
-        × HoldsAt (λ list. HasSomeReady now.now list.items) lists.now sender
-        × AllWithin (λ list. ¬ HasSomeReady now.now list.items) lists.now 0 sender) }
-{
-    lists.iter().position(|list| any_ready(list, now))
-}
-
-fn any_ready(list: &VecDeque<Message>, now: &VectorTime) -> bool
-    requires { All (IsOfGroup (length now.now)) list.now.items }
-    ensures { IsTrue result ↔ HasSomeReady now.now list.now.items }
-{
-    list.iter().any(|message| message.is_ready(now))
+    /// How many comparisons of a held message with a time by the delay rule `next_ready` has made, up to the greatest number.
+    ///
+    /// To ask again at the time of the last answer adds nothing where nothing was held or released in between.
+    pub fn looked(&self) -> u64
+        ensures looked { result ≡ self.now.looked }
+    {
+        self.index.looked
+    }
 }

@@ -1,0 +1,231 @@
+//! Where each sender's candidate stands at the time of the last answer, so that an answer need not look at all that waits.
+ghost use Rattle.std.specs.Prelude.{◌≡◌, ◌≢◌, ◌+◌, ◌<◌, ◌≤◌, ℕ, List, length, map, slice_index, slice_set, IfOk};
+ghost use Rattle.std.specs.Int.{bit_at};
+ghost use Rattle.cb_times.specs.Group.{IsGroupSize};
+ghost use Rattle.cb_times.specs.Order.{field};
+ghost use Rattle.cb_delay.specs.declared.message.Message.{Message};
+ghost use Rattle.cb_delay.specs.declared.place.Place.TheVariants.{Ready, Waits};
+ghost use Rattle.cb_delay.specs.Index.{IsFresh, HasShape, Tells, AreRuns, IsPlaced, place_of};
+ghost use Rattle.cb_delay.specs.Lists.{list_of};
+
+use crate::members;
+use crate::message::Message;
+use crate::place::{Place, look};
+use cb_times::{NoMemory, VectorTime};
+use std::alloc::Global;
+use std::collections::VecDeque;
+
+/// Where the candidates stand. All that it keeps is made in `new`.
+#[derive(Debug, Drop)]
+pub struct Index {
+    /// The time of the last answer, at which the places hold.
+    pub last: VectorTime,
+    /// Of each sender. Of one that is stale it says nothing.
+    pub places: Vec<Place>,
+    /// Of each member who waits for messages of it, and maybe some who do no more: who leaves writes nothing.
+    pub waiting: Vec<u64>,
+    /// Who stands at `Ready`.
+    pub ready: u64,
+    /// Who must be looked at before the next answer.
+    pub stale: u64,
+    /// How many comparisons were made, up to the greatest number.
+    pub looked: u64,
+}
+
+impl Index {
+    /// The index of a queue that holds nothing, at the time at which nothing is delivered.
+    pub fn new(alloc: Global, size: u32) -> Result<Index, NoMemory>
+        requires { IsGroupSize size }
+        ensures { IfOk result (IsFresh size) }
+    {
+        Ok(Index {
+            last: VectorTime::zero(alloc, size)?,
+            places: vec![in alloc; Place::Free; size as usize]?,
+            waiting: vec![in alloc; 0; size as usize]?,
+            ready: 0,
+            stale: 0,
+            looked: 0,
+        })
+    }
+
+    /// Who is stale once the message of this number is held of this sender.
+    pub fn stale_with(&self, sender: u32, number: u32) -> u64
+        requires sender { sender < length self.now.last }
+        requires size { length self.now.last ≤ 64 }
+        ensures others { (i : ℕ) → i ≢ sender → bit_at result i ≡ bit_at self.now.stale i }
+        ensures stays { bit_at result sender ≡ 0 → bit_at self.now.stale sender ≡ 0 }
+        ensures other { bit_at result sender ≡ 0 → number ≢ field self.now.last sender + 1 }
+    {
+        let is_next = u64::from(number) == u64::from(self.last.get(sender)) + 1;
+        members::with_if(self.stale, sender, is_next)
+    }
+
+    /// Looks at those who may stand elsewhere at this time than at that of the last answer.
+    pub fn settle(&mut self, lists: &[VecDeque<Message>], now: &VectorTime)
+        requires size { length lists.now ≡ length now.now }
+        requires shape { HasShape (length now.now) self.old }
+        requires runs { AreRuns (map (λ list. list.items) lists.now) }
+        requires told { Tells (map (λ list. list.items) lists.now) self.old }
+        ensures shape { HasShape (length now.now) self.new }
+        ensures told { Tells (map (λ list. list.items) lists.now) self.new }
+        ensures last { self.new.last ≡ now.now }
+        ensures stale { self.new.stale ≡ 0 }
+        ensures free { self.old.stale ≡ 0 → self.old.last ≡ now.now → self.new.looked ≡ self.old.looked }
+        ensures counts { self.old.looked ≤ self.new.looked }
+    {
+        if self.stale == 0 && self.last.as_slice() == now.as_slice() {
+            return;
+        }
+        self.go_to(now);
+        self.look_at_the_stale(lists);
+    }
+
+    /// Makes this the time of the index.
+    fn go_to(&mut self, now: &VectorTime)
+        requires { HasShape (length now.now) self.old }
+        ensures shape { HasShape (length now.now) self.new }
+        ensures last { self.new.last ≡ now.now }
+        ensures told { (lists : List (List Message)) → Tells lists self.old → Tells lists self.new }
+        ensures looked { self.new.looked ≡ self.old.looked }
+    {
+        for k in 0..now.size() {
+            self.set_field(k, now.get(k));
+        }
+    }
+
+    fn set_field(&mut self, k: u32, count: u32)
+        requires member { k < length self.old.last }
+        requires shape { HasShape (length self.old.last) self.old }
+        ensures shape { HasShape (length self.old.last) self.new }
+        ensures last { self.new.last ≡ slice_set self.old.last k count }
+        ensures told { (lists : List (List Message)) → Tells lists self.old → Tells lists self.new }
+        ensures looked { self.new.looked ≡ self.old.looked }
+    {
+        let before = self.last.get(k);
+        if before == count {
+            return;
+        }
+        if before < count {
+            self.grow(k, count);
+            return;
+        }
+        self.shrink(k, count);
+    }
+
+    /// More is delivered of member k: its own candidate is another, and who waited for just that may be ready.
+    fn grow(&mut self, k: u32, count: u32)
+        requires member { k < length self.old.last }
+        requires shape { HasShape (length self.old.last) self.old }
+        requires more { field self.old.last k < count }
+        ensures shape { HasShape (length self.old.last) self.new }
+        ensures last { self.new.last ≡ slice_set self.old.last k count }
+        ensures told { (lists : List (List Message)) → Tells lists self.old → Tells lists self.new }
+        ensures looked { self.new.looked ≡ self.old.looked }
+    {
+        let walk = walk_over(self.waiting[k as usize], &self.places, k, count);
+        self.waiting[k as usize] = walk.waiting;
+        self.stale = members::with(members::either(self.stale, walk.reached), k);
+        self.last.set(k, count);
+    }
+
+    /// Less is delivered than before: nobody's place is known.
+    fn shrink(&mut self, k: u32, count: u32)
+        requires member { k < length self.old.last }
+        requires shape { HasShape (length self.old.last) self.old }
+        ensures shape { HasShape (length self.old.last) self.new }
+        ensures last { self.new.last ≡ slice_set self.old.last k count }
+        ensures told { (lists : List (List Message)) → Tells lists self.old → Tells lists self.new }
+        ensures looked { self.new.looked ≡ self.old.looked }
+    {
+        self.stale = members::all(self.places.len());
+        self.last.set(k, count);
+    }
+
+    fn look_at_the_stale(&mut self, lists: &[VecDeque<Message>])
+        requires shape { HasShape (length lists.now) self.old }
+        requires runs { AreRuns (map (λ list. list.items) lists.now) }
+        requires told { Tells (map (λ list. list.items) lists.now) self.old }
+        ensures shape { HasShape (length lists.now) self.new }
+        ensures told { Tells (map (λ list. list.items) lists.now) self.new }
+        ensures last { self.new.last ≡ self.old.last }
+        ensures stale { self.new.stale ≡ 0 }
+        ensures counts { self.old.looked ≤ self.new.looked }
+    {
+        while let Some(sender) = members::first(self.stale) {
+            let list = &lists[sender as usize];
+            let place = look(&mut self.looked, list, sender, &self.last);
+            self.put(sender, place);
+        }
+    }
+
+    /// The sender's candidate stands here.
+    fn put(&mut self, sender: u32, place: Place)
+        requires member { sender < length self.old.last }
+        requires shape { HasShape (length self.old.last) self.old }
+        requires within { (k value : ℕ) → place ≡ Waits k value → k < length self.old.last }
+        ensures shape { HasShape (length self.old.last) self.new }
+        ensures told { (lists : List (List Message)) → Tells lists self.old
+            → IsPlaced sender (list_of lists sender) self.old.last place → Tells lists self.new }
+        ensures last { self.new.last ≡ self.old.last }
+        ensures less { bit_at self.old.stale sender ≡ 1 → self.new.stale < self.old.stale }
+        ensures looked { self.new.looked ≡ self.old.looked }
+    {
+        wait(&mut self.waiting, sender, place);
+        self.ready = ready_with(self.ready, sender, place);
+        self.places[sender as usize] = place;
+        self.stale = members::without(self.stale, sender);
+    }
+}
+
+/// Whom a walk over those who wait for one member found.
+#[derive(Clone, Copy)]
+struct Walk {
+    reached: u64,
+    waiting: u64,
+}
+
+/// Of those in the set, who has what it waits for once so much is delivered of this member, and who waits on.
+fn walk_over(set: u64, places: &[Place], member: u32, count: u32) -> Walk
+    requires size { length places.now ≤ 64 }
+    requires members { (i : ℕ) → length places.now ≤ i → bit_at set i ≡ 0 }
+    ensures reached { (i value : ℕ) → bit_at set i ≡ 1 → place_of places.now i ≡ Waits member value → value ≤ count → bit_at result.reached i ≡ 1 }
+    ensures waiting { (i value : ℕ) → bit_at set i ≡ 1 → place_of places.now i ≡ Waits member value → count < value → bit_at result.waiting i ≡ 1 }
+    ensures no_others { (i : ℕ) → bit_at set i ≡ 0 → bit_at result.reached i ≡ 0 }
+    ensures none_waits { (i : ℕ) → bit_at set i ≡ 0 → bit_at result.waiting i ≡ 0 }
+{
+    let mut left = set;
+    let mut reached = 0;
+    let mut waiting = 0;
+    while let Some(i) = members::first(left) {
+        left = members::without(left, i);
+        let place = places[i as usize];
+        reached = members::with_if(reached, i, place.is_reached(member, count));
+        waiting = members::with_if(waiting, i, place.still_waits(member, count));
+    }
+    Walk { reached, waiting }
+}
+
+/// Lets the sender wait for the member that its place names.
+fn wait(waiting: &mut [u64], sender: u32, place: Place)
+    requires sender { sender < 64 }
+    requires within { (k value : ℕ) → place ≡ Waits k value → k < length waiting.old }
+    ensures waits { (k value : ℕ) → place ≡ Waits k value → bit_at (slice_index waiting.new k) sender ≡ 1 }
+    ensures others { (k i : ℕ) → i ≢ sender → bit_at (slice_index waiting.new k) i ≡ bit_at (slice_index waiting.old k) i }
+{
+    if let Place::Waits { field, .. } = place {
+        let set = &mut waiting[field as usize];
+        *set = members::with(*set, sender);
+    }
+}
+
+fn ready_with(ready: u64, sender: u32, place: Place) -> u64
+    requires { sender < 64 }
+    ensures is_in { place ≡ Ready → bit_at result sender ≡ 1 }
+    ensures is_out { place ≢ Ready → bit_at result sender ≡ 0 }
+    ensures others { (i : ℕ) → i ≢ sender → bit_at result i ≡ bit_at ready i }
+{
+    match place {
+        Place::Ready => members::with(ready, sender),
+        Place::Free | Place::Waits { .. } => members::without(ready, sender),
+    }
+}

@@ -1,0 +1,101 @@
+//! Where a sender's candidate stands: the message held of it that comes next after what is delivered.
+ghost use Rattle.std.specs.Prelude.{◌≡◌, ◌≢◌, ◌+◌, ◌<◌, ◌≤◌, ℕ, List, length, All, Any, IfSome, IfNone, false};
+ghost use Rattle.cb_times.specs.Order.{field};
+ghost use Rattle.cb_delay.specs.Message.{IsOfGroup};
+ghost use Rattle.cb_delay.specs.declared.message.Message.{Message};
+ghost use Rattle.cb_delay.specs.Lists.{IsRun};
+ghost use Rattle.cb_delay.specs.declared.place.Place.TheVariants.{Waits};
+ghost use Rattle.cb_delay.specs.Index.{IsPlaced, LacksNext, IsCandidate};
+
+use crate::message::Message;
+use cb_times::VectorTime;
+use std::collections::VecDeque;
+
+/// Where the candidate of a sender stands.
+#[derive(Clone, Copy, Debug)]
+pub enum Place {
+    /// None of the messages held of it comes next.
+    Free,
+    /// It may be delivered.
+    Ready,
+    /// It may not before so many messages of that other member are delivered.
+    Waits { field: u32, value: u32 },
+}
+
+impl Place {
+    /// Whether the candidate waits for this field, which a count of `count` gives it.
+    pub fn is_reached(&self, member: u32, count: u32) -> bool
+        ensures { result ≡ false → (value : ℕ) → self.now ≡ Waits member value → count < value }
+    {
+        matches!(self, Place::Waits { field, value } if *field == member && *value <= count)
+    }
+
+    /// Whether it goes on waiting for this field at a count of `count`.
+    pub fn still_waits(&self, member: u32, count: u32) -> bool
+        ensures { result ≡ false → (value : ℕ) → self.now ≡ Waits member value → value ≤ count }
+    {
+        matches!(self, Place::Waits { field, value } if *field == member && count < *value)
+    }
+}
+
+/// Looks at the candidate of a sender: where it stands at this time.
+///
+/// Only here is a held message compared with a time, and each comparison is counted, up to the greatest number.
+pub fn look(looked: &mut u64, list: &VecDeque<Message>, sender: u32, now: &VectorTime) -> Place
+    requires sender { sender < length now.now }
+    requires run { IsRun (length now.now) sender list.now.items }
+    ensures placed { IsPlaced sender list.now.items now.now result }
+    ensures counted { looked.old ≤ looked.new }
+{
+    let Some(message) = candidate(list, sender, now) else {
+        return Place::Free;
+    };
+    *looked = looked.saturating_add(1);
+    stands(message, sender, now)
+}
+
+fn stands(message: &Message, sender: u32, now: &VectorTime) -> Place
+    requires group { IsOfGroup (length now.now) message.now }
+    requires sender { message.now.name.sender ≡ sender }
+    ensures { (list : List Message) → IsCandidate sender list now.now message.now
+        → IsPlaced sender list now.now result }
+{
+    match first_missing(sender, &message.time, now) {
+        Some(field) => Place::Waits {
+            field,
+            value: message.time.get(field),
+        },
+        None => Place::Ready,
+    }
+}
+
+/// The message of the list that comes next.
+fn candidate<'a>(list: &'a VecDeque<Message>, sender: u32, now: &VectorTime) -> Option<&'a Message>
+    requires sender { sender < length now.now }
+    requires run { IsRun (length now.now) sender list.now.items }
+    ensures none { IfNone result (LacksNext sender list.now.items now.now) }
+    ensures some { IfSome result (λ message. IsCandidate sender list.now.items now.now message.now) }
+{
+    let first = list.front()?.name.number;
+    let next = u64::from(now.get(sender)) + 1;
+    let ahead = next.checked_sub(u64::from(first))?;
+    let message = list.get(ahead as usize)?;
+    Some(message)
+}
+
+/// The first other member of whom a message of this time misses something.
+fn first_missing(sender: u32, time: &VectorTime, now: &VectorTime) -> Option<u32>
+    requires { length time.now ≡ length now.now }
+    ensures none { IfNone result ((k : ℕ) → k ≢ sender → field time.now k ≤ field now.now k) }
+    ensures within { IfSome result (λ k. k < length now.now) }
+    ensures other { IfSome result (λ k. k ≢ sender) }
+    ensures missing { IfSome result (λ k. field now.now k < field time.now k) }
+{
+    let (stamps, counts) = (time.as_slice(), now.as_slice());
+    for k in 0..now.size() {
+        if counts[k as usize] < stamps[k as usize] && k != sender {
+            return Some(k);
+        }
+    }
+    None
+}
