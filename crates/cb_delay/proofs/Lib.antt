@@ -4,3 +4,4 @@ pub mod Entries
 pub mod Kept
 pub mod Deques
 pub mod Room
+pub mod Above
