@@ -8,3 +8,4 @@ pub mod Sets
 pub mod Candidates
 pub mod Telling
 pub mod Answering
+pub mod Above

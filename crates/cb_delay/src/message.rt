@@ -1,10 +1,11 @@
 //! A message of the group, with the name and the time that its sender gave it, and what a member does with it.
 //!
 //! Birman, Schiper and Stephenson 1991, section 5.
-ghost use Rattle.std.specs.Prelude.{◌≡◌, ◌<◌, ◌↔◌, IfOk, IsTrue, length};
+ghost use Rattle.std.specs.Prelude.{◌≡◌, ◌<◌, ◌↔◌, IfOk, IsTrue, length, count_by};
+ghost use Rattle.std.specs.List.{range_with_len};
 ghost use Rattle.cb_times.specs.Order.{field};
 ghost use Rattle.cb_delay.specs.Message.{IsOfGroup};
-ghost use Rattle.cb_delay.specs.Rule.{IsReady};
+ghost use Rattle.cb_delay.specs.Rule.{IsReady, is_above};
 
 use bytes::Bytes;
 use cb_times::{Name, NoMemory, VectorTime};
@@ -50,18 +51,19 @@ pub fn is_ready(sender: u32, time: &VectorTime, now: &VectorTime) -> bool
     ensures { IsTrue result ↔ IsReady sender (field time.now) (field now.now) }
 {
     let (stamps, counts) = (time.as_slice(), now.as_slice());
-    for k in 0..now.size() {
-        let (stamp, count) = (stamps[k as usize], counts[k as usize]);
-        let in_time = if k == sender {
-            count.checked_add(1) == Some(stamp)
-        } else {
-            stamp <= count
-        };
-        if !in_time {
-            return false;
-        }
-    }
-    true
+    let own = sender as usize;
+    counts[own].checked_add(1) == Some(stamps[own]) && count_above(stamps, counts) == 1
+}
+
+/// In how many fields the first is above the second. It looks at all of them, so that the compiler can take many at a time.
+fn count_above(stamps: &[u32], counts: &[u32]) -> usize
+    requires { length stamps.now ≡ length counts.now }
+    ensures { result ≡ count_by (is_above (field stamps.now) (field counts.now))
+        (range_with_len 0 (length counts.now)) }
+{
+    (0..counts.len())
+        .filter(|k| stamps[*k] > counts[*k])
+        .count()
 }
 
 /// What a member did with a message.
