@@ -1,23 +1,74 @@
 #!/usr/bin/env bash
 # Measures a group of proved members in one thread (`crates/bench_member`) against the same run of a plain Rust program that is written
-# for speed: processor time and peak memory for each delivery, at three sizes, in order and with frames that are lost or come early.
-# Both must print the same deliveries and digest. Times are the best of three. A word divides the casts: `member.sh 10` is a quick look.
-# It wants rustc, python3, and the proved program: `rt run` in crates/bench_member leaves it in crates/bench_member/out.
+# for speed, at three sizes, in order and with frames that are lost or come early. Both must print the same deliveries and digest.
+#   member.sh count      instructions (callgrind), allocations and peak memory (dhat) of a delivery: these repeat from run to run
+#   member.sh count 10   the same with a tenth of the casts
+#   member.sh            processor time, the best of three; a number as the first word divides the casts
+# It wants rustc, python3, for counts valgrind, and the proved program: `rt run` in crates/bench_member leaves it in
+# crates/bench_member/out. PROVED=FILE measures another build.
 set -eu
 here=$(cd "$(dirname "$0")" && pwd)
 work=$(mktemp -d)
 trap 'rm -rf "$work"' EXIT
-proved=$here/../crates/bench_member/out/bench_member
+how=time
+if [ "${1:-}" = count ]; then
+    how=count
+    shift
+fi
+proved=${PROVED:-$here/../crates/bench_member/out/bench_member}
 [ -x "$proved" ] || (cd "$here/../crates/bench_member" && rt run -- 3 4 2 12 0 0 > /dev/null)
 rustc -O -o "$work/plain" "$here/plain_member.rs"
-python3 - "$work/plain" "$proved" "${1:-1}" <<'END'
-import os, subprocess, sys
+python3 - "$work/plain" "$proved" "$how" "${1:-1}" "$work" <<'END'
+import concurrent.futures, os, re, subprocess, sys
 
-plain, proved, divisor = sys.argv[1], sys.argv[2], int(sys.argv[3])
+plain, proved, how, divisor, work = sys.argv[1], sys.argv[2], sys.argv[3], int(sys.argv[4]), sys.argv[5]
 window, payload = 64, 32
+losses = [(0, 0), (50, 10)]
 
 
-def measure(program, words):
+def words_of(size, casts, lost, early):
+    return [str(word) for word in [size, window, payload, casts // divisor, lost, early]]
+
+
+def run(command):
+    done = subprocess.run(command, capture_output=True, text=True)
+    if done.returncode != 0:
+        sys.exit(f"{' '.join(command)} ended with {done.returncode}: {done.stderr}")
+    return done
+
+
+def same(words, said, proved_said):
+    if said != proved_said:
+        sys.exit(f"{' '.join(words)}: {said.strip()}, but proved {proved_said.strip()}")
+    return int(said.split()[1])
+
+
+def counted(program, words):
+    """What it prints, its instructions, its allocations and its peak of memory in bytes."""
+    calls = run(["valgrind", "--tool=callgrind", "--callgrind-out-file=/dev/null", program, *words])
+    memory = run(["valgrind", "--tool=dhat", "--dhat-out-file=/dev/null", program, *words])
+    instructions = int(re.search(r"Collected : (\d+)", calls.stderr)[1])
+    allocations = int(re.search(r"Total: .* in ([\d,]+) blocks", memory.stderr)[1].replace(",", ""))
+    peak = int(re.search(r"At t-gmax: ([\d,]+) bytes", memory.stderr)[1].replace(",", ""))
+    return calls.stdout, instructions, allocations, peak
+
+
+def print_counts():
+    cells = [(size, casts, lost, early) for lost, early in losses for size, casts in [(3, 20_000), (16, 4_800), (64, 1_600)]]
+    with concurrent.futures.ThreadPoolExecutor(os.cpu_count()) as pool:
+        found = {(cell, program): pool.submit(counted, program, words_of(*cell)) for cell in cells for program in [plain, proved]}
+    print("                 instructions           allocations            peak, bytes       of a delivery")
+    print("size  lost early   plain proved ratio    plain proved ratio    plain proved ratio")
+    for cell in cells:
+        size, _, lost, early = cell
+        ours, theirs = found[cell, proved].result(), found[cell, plain].result()
+        each = 1 / same(words_of(*cell), theirs[0], ours[0])
+        line = f"{size:4} {lost:5} {early:5} {theirs[1] * each:7.0f} {ours[1] * each:6.0f} {ours[1] / theirs[1]:5.2f}"
+        line += f"   {theirs[2] * each:6.2f} {ours[2] * each:6.2f} {ours[2] / theirs[2]:5.2f}"
+        print(line + f"   {theirs[3] * each:6.0f} {ours[3] * each:6.0f} {ours[3] / theirs[3]:5.2f}", flush=True)
+
+
+def timed(program, words):
     """What it prints, its least processor time in seconds and its greatest peak of memory in bytes."""
     time, peak = None, 0
     for _ in range(3):
@@ -33,16 +84,18 @@ def measure(program, words):
     return printed, time, peak
 
 
-print("                      ns for a delivery           bytes for a delivery")
-print("size  lost  early    plain   proved  ratio        plain   proved  ratio")
-for lost, early in [(0, 0), (50, 10)]:
-    for size, casts in [(3, 200_000), (16, 48_000), (64, 12_800)]:
-        words = [str(word) for word in [size, window, payload, casts // divisor, lost, early]]
-        said, plain_time, plain_peak = measure(plain, words)
-        proved_said, proved_time, proved_peak = measure(proved, words)
-        if said != proved_said:
-            sys.exit(f"{' '.join(words)}: {said.strip()}, but proved {proved_said.strip()}")
-        each = 1 / int(said.split()[1])
-        print(f"{size:4} {lost:5} {early:6} {1e9 * plain_time * each:8.0f} {1e9 * proved_time * each:8.0f} {proved_time / plain_time:6.2f}"
-              f"     {plain_peak * each:8.0f} {proved_peak * each:8.0f} {proved_peak / plain_peak:6.2f}", flush=True)
+def print_times():
+    print("                      ns for a delivery           bytes for a delivery")
+    print("size  lost  early    plain   proved  ratio        plain   proved  ratio")
+    for lost, early in losses:
+        for size, casts in [(3, 200_000), (16, 48_000), (64, 12_800)]:
+            words = words_of(size, casts, lost, early)
+            said, plain_time, plain_peak = timed(plain, words)
+            proved_said, proved_time, proved_peak = timed(proved, words)
+            each = 1 / same(words, said, proved_said)
+            print(f"{size:4} {lost:5} {early:6} {1e9 * plain_time * each:8.0f} {1e9 * proved_time * each:8.0f} {proved_time / plain_time:6.2f}"
+                  f"     {plain_peak * each:8.0f} {proved_peak * each:8.0f} {proved_peak / plain_peak:6.2f}", flush=True)
+
+
+print_counts() if how == "count" else print_times()
 END

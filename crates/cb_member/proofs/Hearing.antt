@@ -40,19 +40,9 @@ use Rattle.cb_member.proofs.Reading.{time_at}
 use Rattle.cb_member.proofs.Staying.{delivered_stays, keeps_alike, received_stays}
 use Rattle.cb_history.proofs.Times.{upto_other}
 use Rattle.cb_member.proofs.Answering.{answered}
-use Rattle.cb_member.proofs.Telling.{row_more}
-
-pub both_true : (a b : Bool) → (a && b) ≡ true → (a ≡ true) × (b ≡ true)
-both_true true b h = (refl, h)
-both_true false b h = absurd cc
+use Rattle.cb_member.proofs.Values.{both_true, tells_more}
 
 -- ---- searches over a row of members
-
-pub any_more : (p : ℕ → Bool) (n i : ℕ) → i < n → p i ≡ false → list_any p (range_with_len (i + 1) (n - (i + 1))) ≡ list_any p (range_with_len i (n - i))
-any_more p n i lt fails = rw (row_more n i lt, fails) refl
-
-pub any_holds : (p : ℕ → Bool) (n i : ℕ) → i < n → p i ≡ true → list_any p (range_with_len i (n - i)) ≡ true
-any_holds p n i lt holds = rw (row_more n i lt, holds) refl
 
 any_over : (p q : ℕ → Bool) (a n : ℕ) → ((k : ℕ) → k < a + n → p k ≡ q k) → list_any p (range_with_len a n) ≡ list_any q (range_with_len a n)
 any_over p q a zero same = refl
@@ -75,24 +65,21 @@ ahead_is seat facts d values has all =
     any_among (λ v. ltb (field d.time v.field) v.amount) (λ v. ltb (delivered seat facts v.field) v.amount) (λ v. ltb v.field seat.group.size) values all
     (λ v small. ap (λ (n : ℕ). ltb n v.amount) (time_at seat facts d v.field has (ltb-true v.field seat.group.size small)))
 
-abbrev pub tells_more : Identity → List ℕ → List Change → ℕ → Bool
-tells_more seat heard values k = not (eqb k seat.me) && ltb (field heard k) (value_in values k)
-
 tells_is : (seat : Identity) (facts : List Fact) (k : Knowledge) (values : List Change) → KnowsFacts seat facts k
-    → list_any (tells_more seat k.known values) (range_with_len 0 seat.group.size) ≡ list_any (λ i. not (eqb i seat.me) && ltb (known facts i) (value_in values i)) (range_with_len 0 seat.group.size)
+    → list_any (tells_more seat.me k.known values) (range_with_len 0 seat.group.size) ≡ list_any (λ i. not (eqb i seat.me) && ltb (known facts i) (value_in values i)) (range_with_len 0 seat.group.size)
 tells_is seat facts k values knows =
-    any_over (tells_more seat k.known values) (λ i. not (eqb i seat.me) && ltb (known facts i) (value_in values i)) 0 seat.group.size (λ i lt. elim (cases_eq i seat.me) [
+    any_over (tells_more seat.me k.known values) (λ i. not (eqb i seat.me) && ltb (known facts i) (value_in values i)) 0 seat.group.size (λ i lt. elim (cases_eq i seat.me) [
       | inl own ↦ rw (eq-eqb i seat.me own) refl
       | inr other ↦ ap (λ (n : ℕ). not (eqb i seat.me) && ltb n (value_in values i)) (knows.heard i (omega (arith, lt)) other)
     ])
 
 -- a status of another is news where it tells more of casts, or of this member's that its sender delivered
 pub news_is : (seat : Identity) (facts : List Fact) (k : Knowledge) (s : StatusFields) → KnowsFacts seat facts k → s.sender ≢ seat.me → s.sender < seat.group.size
-    → is_news seat facts s ≡ (list_any (tells_more seat k.known s.values) (range_with_len 0 seat.group.size) || ltb (count k.acks s.sender seat.me) (value_in s.values seat.me))
+    → is_news seat facts s ≡ (list_any (tells_more seat.me k.known s.values) (range_with_len 0 seat.group.size) || ltb (count k.acks s.sender seat.me) (value_in s.values seat.me))
 news_is seat facts k s knows other small =
     rw (ne_eqb s.sender seat.me other)
     (ap (λ (b : Bool). b || ltb (acknowledged seat facts s.sender) (value_in s.values seat.me)) (sym (tells_is seat facts k s.values knows))
-    ∙ ap (λ (n : ℕ). list_any (tells_more seat k.known s.values) (range_with_len 0 seat.group.size) || ltb n (value_in s.values seat.me)) (sym (knows.acknowledged.learnt s.sender small other)))
+    ∙ ap (λ (n : ℕ). list_any (tells_more seat.me k.known s.values) (range_with_len 0 seat.group.size) || ltb n (value_in s.values seat.me)) (sym (knows.acknowledged.learnt s.sender small other)))
 
 -- ---- what is kept with one more status that came
 

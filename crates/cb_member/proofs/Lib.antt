@@ -19,4 +19,5 @@ pub mod JudgingCasts
 pub mod Accepting
 pub mod AtOnce
 pub mod Answering
+pub mod Values
 pub mod Hearing

@@ -9,7 +9,7 @@ use Rattle.cb_history.specs.Answers.{ArrivalSays, Accepted, deliveries, frame_an
 use Rattle.cb_member.specs.declared.arrival.status.Judged.{Judged}
 use Rattle.cb_member.specs.declared.arrival.status.Judged.TheVariants as judged
 use Rattle.cb_member.specs.declared.store.Store.{Store}
-use Rattle.cb_member.specs.Knowledge.{HearsStatus}
+use Rattle.cb_member.specs.Knowledge.{AreValuesOf, HearsStatus}
 use Rattle.cb_member.specs.Sending.{TrimsToStable}
 use Rattle.cb_member.specs.Store.{IsAlike, facts_held}
 
@@ -30,7 +30,7 @@ answer_to_status seat limit store s = frame_answer seat limit (map entry_fields 
 abbrev pub JudgesStatus : Identity → ℕ → Store → StatusFields → Result Judged ArriveRefusal → Type 0
 JudgesStatus seat limit store s (Ok judged.News) =
     (answer_to_status seat limit store s ≡ Ok (Accepted (deliveries seat (facts_held store) (StatusFrame s)) true []))
-    × (length store.entries.items < limit) × (s.sender < seat.group.size)
+    × (length store.entries.items < limit) × (s.sender < seat.group.size) × AreValuesOf seat.group.size s.values
 JudgesStatus seat limit store s (Ok judged.NoNews) = answer_to_status seat limit store s ≡ Ok (Accepted [] false [])
 JudgesStatus seat limit store s (Err refusal) = answer_to_status seat limit store s ≡ Err refusal
 

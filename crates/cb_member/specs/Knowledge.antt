@@ -1,9 +1,11 @@
 -- What a member knows of the others.
-use Rattle.std.specs.Prelude.{◌≡◌, ◌≢◌, ℕ, ◌<◌, ◌==◌, max, List, length, filter, map, replicate}
+use Rattle.std.specs.Prelude.{◌≡◌, ◌≢◌, ℕ, ◌<◌, ◌==◌, nat_lt, true, max, List, length, filter, map, replicate}
+use Rattle.std.specs.List.{list_all}
 use Rattle.cb_times.specs.Order.{field}
 use Rattle.cb_delay.specs.declared.message.Message.{Message}
 use Rattle.cb_frames.specs.declared.frame.Change.{Change}
 use Rattle.cb_frames.specs.Fields.{StatusFields}
+use Rattle.cb_frames.specs.Text.{RisesFrom}
 use Rattle.cb_stability.specs.Known.{Known, count, IsUnknown, Learns}
 use Rattle.cb_history.specs.Group.{Identity}
 use Rattle.cb_history.specs.Facts.{Fact}
@@ -35,6 +37,11 @@ reported_in me messages k = map (λ m. field m.time me) (filter (λ m. m.name.se
 pub record LearnsAll (me : ℕ) (messages : List Message) (old new : Known) : Type 0 where
   pub of_size : new.size ≡ old.size
   pub learnt : (k : ℕ) → count new k me ≡ max (count old k me) (greatest_of (reported_in me messages k))
+
+-- the values of a status: of members of a group of this size, each named once, in rising order
+pub record AreValuesOf (size : ℕ) (values : List Change) : Type 0 where
+  pub rising : RisesFrom 0 values
+  pub members : list_all (λ d. nat_lt d.field size) values ≡ true
 
 -- each field became the greater of what it was and the value that is said of it
 pub record IsRaisedBy (values : List Change) (old new : List ℕ) : Type 0 where

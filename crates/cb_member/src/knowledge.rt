@@ -5,7 +5,7 @@ ghost use Rattle.std.specs.List.{All};
 ghost use Rattle.cb_times.specs.Group.{IsGroupSize};
 ghost use Rattle.cb_frames.specs.Fields.{status_fields};
 ghost use Rattle.cb_history.specs.Known.{value_in};
-ghost use Rattle.cb_member.specs.Knowledge.{IsNewKnowledge, IsRaisedBy, HasTimeOf, LearnsAll, HearsStatus};
+ghost use Rattle.cb_member.specs.Knowledge.{AreValuesOf, IsNewKnowledge, IsRaisedBy, HasTimeOf, LearnsAll, HearsStatus};
 ghost use Rattle.cb_member.specs.Taking.{Hears};
 
 use cb_delay::Message;
@@ -61,6 +61,7 @@ impl Knowledge {
     pub fn hear_status(&mut self, me: u32, status: &Status)
         requires me { me < self.old.acks.size }
         requires sender { status.now.sender < self.old.acks.size }
+        requires values { AreValuesOf (length self.old.known) status.now.values.items }
         ensures { HearsStatus me (status_fields status.now) self.old self.new }
     {
         raise_by(&mut self.known, &status.values);
@@ -83,10 +84,11 @@ pub fn value_in(values: &[Change], k: u32) -> u32
 
 /// Each field becomes the greater of what it was and the value.
 fn raise_by(known: &mut VectorTime, values: &[Change])
+    requires { AreValuesOf (length known.old) values.now }
     ensures { IsRaisedBy values.now known.old known.new }
 {
-    for k in 0..known.size() {
-        let heard = value_in(values, k);
-        known.set(k, known.get(k).max(heard));
+    for value in values {
+        let heard = known.get(value.field);
+        known.set(value.field, heard.max(value.amount));
     }
 }

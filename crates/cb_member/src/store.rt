@@ -9,6 +9,7 @@ ghost use Rattle.cb_member.specs.AtOnce.{ComesAlone};
 ghost use Rattle.cb_member.specs.Store.{IsNewStore, IsAlike, HasRoom, IsSameWithRoom, HasRoomFor, Stands, facts_held};
 ghost use Rattle.cb_member.specs.Telling.{HasReported};
 ghost use Rattle.cb_member.specs.Hearing.{HasHeard};
+ghost use Rattle.cb_member.specs.Knowledge.{AreValuesOf};
 
 use crate::delivery::{Delivery, push_within};
 use crate::knowledge::Knowledge;
@@ -119,6 +120,7 @@ impl Store {
         requires room { vec_len self.old.entries < vec_capacity self.old.entries }
         requires me { me < self.old.knowledge.acks.size }
         requires sender { status.now.sender < self.old.knowledge.acks.size }
+        requires values { AreValuesOf (length self.old.knowledge.known) status.now.values.items }
         ensures { HasHeard me (status_fields status.now) entry self.old self.new }
     {
         push_within(&mut self.entries, entry);

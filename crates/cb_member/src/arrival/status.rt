@@ -6,6 +6,7 @@ ghost use Rattle.cb_times.specs.Order.{field};
 ghost use Rattle.cb_frames.specs.Fields.{status_fields, StatusFrame};
 ghost use Rattle.cb_frames.specs.Laws.{IsBytes};
 ghost use Rattle.cb_frames.specs.Reading.{frame_at};
+ghost use Rattle.cb_frames.specs.Text.{RisesFrom};
 ghost use Rattle.cb_history.specs.Facts.{entry_fields, ArriveEntry};
 ghost use Rattle.cb_history.specs.Known.{value_in};
 ghost use Rattle.cb_history.specs.Answers.{are_members, arrival_says, is_impossible, is_news, Accepted};
@@ -13,13 +14,14 @@ ghost use Rattle.cb_history.specs.Legal.{ToTake};
 ghost use Rattle.cb_history.specs.State.{entry_by, HasTaken, RefusesArrival};
 ghost use Rattle.cb_member.specs.Store.{IsAlike, IsKept, Stands, facts_held, held_by};
 ghost use Rattle.cb_member.specs.Hearing.{JudgesStatus, TakesStatus};
+ghost use Rattle.cb_member.specs.Knowledge.{AreValuesOf};
 
 use crate::arrival::are_fields;
 use crate::knowledge::value_in;
 use crate::store::Store;
 use crate::text::another;
 use bytes::Bytes;
-use cb_frames::{Change, Status};
+use cb_frames::{Change, Status, each_is_a_text_or_a_fault};
 use cb_history::{Arrival, ArriveRefusal, Entry, Identity, Names};
 use cb_times::{NoMemory, VectorTime};
 use std::alloc::Global;
@@ -61,26 +63,25 @@ fn is_impossible(seat: Identity, store: &Store, status: &Status) -> bool
     }
 }
 
-/// Some value tells more of another sender's casts than was heard of.
+/// Some value tells more of another sender's casts than was heard of. The values are of different members, so one look at each will do.
 fn tells_of_casts(seat: Identity, known: &VectorTime, values: &[Change]) -> bool
-    requires { length known.now ≡ seat.group.size }
+    requires known { length known.now ≡ seat.group.size }
+    requires values { AreValuesOf seat.group.size values.now }
     ensures { result ≡ list_any (λ k. not (k == seat.me)
         && nat_lt (field known.now k) (value_in values.now k))
         (range_with_len 0 seat.group.size) }
 {
     let me = seat.me();
-    for k in 0..known.size() {
-        if k != me && known.get(k) < value_in(values, k) {
-            return true;
-        }
-    }
-    false
+    values
+        .iter()
+        .any(|value| value.field != me && counted(known, value.field) < value.amount)
 }
 
 /// A status of another that raises what is known.
 fn is_news(seat: Identity, store: &Store, status: &Status) -> bool
     requires store { Stands seat store.now }
     requires members { are_members seat.group.size (StatusFrame (status_fields status.now)) ≡ true }
+    requires rising { RisesFrom 0 status.now.values.items }
     ensures { result ≡ is_news seat (facts_held store.now) (status_fields status.now) }
 {
     let me = seat.me();
@@ -106,7 +107,8 @@ fn judge(
     store: &Store,
     status: &Status,
 ) -> Result<Judged, ArriveRefusal>
-    requires { Stands seat store.now }
+    requires store { Stands seat store.now }
+    requires rising { RisesFrom 0 status.now.values.items }
     ensures { JudgesStatus seat limit store.now (status_fields status.now) result }
 {
     if status.group != seat.group().number() {
@@ -146,6 +148,7 @@ fn take(
 ) -> Result<Entry, NoMemory>
     requires me { seat.me < store.old.knowledge.acks.size }
     requires sender { status.now.sender < store.old.knowledge.acks.size }
+    requires values { AreValuesOf (length store.old.knowledge.known) status.now.values.items }
     ensures taken { IfOk result (TakesStatus seat.me (status_fields status.now) bytes.now store.old
         store.new) }
     ensures same { OnErr result (IsAlike store.old store.new) }
@@ -188,6 +191,8 @@ pub fn answer(
     ensures refused { IfErr result (RefusesArrival (held_by seat limit store.old) bytes.now) }
     ensures same { OnErr result (held_by seat limit store.new ≡ held_by seat limit store.old) }
 {
+    // asked for what is true of every text
+    each_is_a_text_or_a_fault();
     let alloc = *store.entries.allocator();
     match judge(seat, limit, store, status)? {
         Judged::NoNews => Ok((reported(alloc, false), None)),

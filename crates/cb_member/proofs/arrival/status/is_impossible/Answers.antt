@@ -7,7 +7,8 @@ use Rattle.cb_history.specs.Known.{value_in}
 use Rattle.cb_history.specs.Answers.{delivered}
 use Rattle.cb_member.specs.Store.{facts_held}
 use Rattle.cb_member.proofs.Reading.{time_at}
-use Rattle.cb_member.proofs.Hearing.{both_true, ahead_is}
+use Rattle.cb_member.proofs.Hearing.{ahead_is}
+use Rattle.cb_member.proofs.Values.{both_true}
 use Rattle.cb_member.proofs.arrival.status.is_impossible.Goals as goal
 
 pub returns-then-status-me : goal.returns-then-status-me

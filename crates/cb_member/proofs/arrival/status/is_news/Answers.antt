@@ -6,7 +6,8 @@ use Rattle.cb_frames.specs.Fields.{status_fields}
 use Rattle.cb_stability.specs.Known.{count}
 use Rattle.cb_history.specs.Known.{value_in}
 use Rattle.cb_member.specs.Store.{facts_held}
-use Rattle.cb_member.proofs.Hearing.{both_true, tells_more, news_is}
+use Rattle.cb_member.proofs.Hearing.{news_is}
+use Rattle.cb_member.proofs.Values.{both_true, tells_more}
 use Rattle.cb_member.proofs.arrival.status.is_news.Goals as goal
 
 pub returns-then-tells_of_casts : goal.returns-then-tells_of_casts
@@ -18,8 +19,8 @@ returns-then-tells_of_casts c =
     let other : status.sender ≢ seat.me = omega (arith, c.if-status-me.false, c.me-me.ensures.me) in
     let small : status.sender < seat.group.size = ltb-true _ _ (both_true (ltb status.sender seat.group.size) (list_all (λ (v : Change). ltb v.field seat.group.size) status.values.items) c.requires.members).0 in
     let said = ltb (count knowledge.acks status.sender seat.me) (value_in status.values.items seat.me) in
-    let tells : c.tells_of_casts.result ≡ list_any (tells_more seat knowledge.known status.values.items) (range_with_len 0 seat.group.size) =
-    c.tells_of_casts.ensures ∙ ap (λ (vs : List Change). list_any (tells_more seat knowledge.known vs) (range_with_len 0 seat.group.size)) c.deref.ensures.value in
+    let tells : c.tells_of_casts.result ≡ list_any (tells_more seat.me knowledge.known status.values.items) (range_with_len 0 seat.group.size) =
+    c.tells_of_casts.ensures ∙ ap (λ (vs : List Change). list_any (tells_more seat.me knowledge.known vs) (range_with_len 0 seat.group.size)) c.deref.ensures.value in
     let news = news_is seat (facts_held store) knowledge (status_fields status) c.requires.store.keeps.knows other small in
     c.if-tells_of_casts.true ∙ sym (news ∙ ap (λ (b : Bool). b || said) (sym tells ∙ c.if-tells_of_casts.true))
 
@@ -32,8 +33,8 @@ returns-else-tells_of_casts c =
     let other : status.sender ≢ seat.me = omega (arith, c.if-status-me.false, c.me-me.ensures.me) in
     let small : status.sender < seat.group.size = ltb-true _ _ (both_true (ltb status.sender seat.group.size) (list_all (λ (v : Change). ltb v.field seat.group.size) status.values.items) c.requires.members).0 in
     let said = ltb (count knowledge.acks status.sender seat.me) (value_in status.values.items seat.me) in
-    let tells : c.tells_of_casts.result ≡ list_any (tells_more seat knowledge.known status.values.items) (range_with_len 0 seat.group.size) =
-    c.tells_of_casts.ensures ∙ ap (λ (vs : List Change). list_any (tells_more seat knowledge.known vs) (range_with_len 0 seat.group.size)) c.deref.ensures.value in
+    let tells : c.tells_of_casts.result ≡ list_any (tells_more seat.me knowledge.known status.values.items) (range_with_len 0 seat.group.size) =
+    c.tells_of_casts.ensures ∙ ap (λ (vs : List Change). list_any (tells_more seat.me knowledge.known vs) (range_with_len 0 seat.group.size)) c.deref.ensures.value in
     let news = news_is seat (facts_held store) knowledge (status_fields status) c.requires.store.keeps.knows other small in
     let is : ltb c.learnt.result c.value_in.result ≡ said =
     ap (λ (n : ℕ). ltb n c.value_in.result) (c.learnt.ensures ∙ ap (count knowledge.acks status.sender) c.me-me.ensures.me)
