@@ -1,7 +1,7 @@
 -- Counts and numbers of messages stay in the range of numbers.
 use Rattle.std.proofs.Common.{◌≡◌, ℕ, zero, suc, ◌+◌, ◌<◌, ◌≤◌, ◌^◌, Bool, true, false, ◌||◌, cond, eqb, leb, List, [], ◌∷◌, ◌++◌, length, map, max, min, Ok, refl, sym, ap, subst, ◌∙◌, arith, inl, inr}
 use Rattle.std.specs.List.{AllByRecursion, flat_map, filter}
-use Rattle.std.proofs.lemmas.Bool.{leb-false, lt-leb}
+use Rattle.std.proofs.lemmas.Bool.{leb-false, le-leb, lt-leb}
 use Rattle.std.proofs.lemmas.List.{append-nil}
 use Rattle.cb_frames.specs.declared.frame.TheConstants.{LAST_NUMBER}
 use Rattle.cb_frames.specs.declared.frame.Change.{Change}
@@ -20,8 +20,8 @@ use Rattle.cb_history.specs.Known.{greatest_of, value_in, reported_of, counted_i
 use Rattle.cb_history.specs.Answers.{delivered, is_window_full}
 use Rattle.cb_history.specs.Legal.{longest_history}
 use Rattle.cb_history.specs.LegalFacts.{IsOwnCast, SaysNumbers, IsStep, AreLegalFacts, NoFacts, OneFactMore, AreFactsOf}
-use Rattle.cb_history.specs.CountLaws.{OwnCastsHaveNumbers, MessagesHaveNumbers, CountsAreNumbers, KnownAreNumbers, HistoriesLeaveNumbers}
-use Rattle.cb_history.proofs.Views.{IsIn, casts_in-append}
+use Rattle.cb_history.specs.CountLaws.{OwnCastsHaveNumbers, MessagesHaveNumbers, CountsAreNumbers, KnownAreNumbers, NoNumberIsFull, HistoriesLeaveNumbers}
+use Rattle.cb_history.proofs.Views.{IsIn, or_right, casts_in-append}
 use Rattle.cb_history.proofs.Lists.{flat_map-append, messages_in-push, in_push, or_false, among_is, among_by_order}
 use Rattle.cb_history.proofs.Names.{message, all_stand}
 use Rattle.cb_history.proofs.Bounds.{count_below}
@@ -33,6 +33,10 @@ use Rattle.cb_history.proofs.Rising.{greatest_append, all_at_most, known_parts}
 pub number_left : (seat : Identity) (facts : List Fact) → is_window_full seat facts ≡ false → delivered seat facts seat.me < LAST_NUMBER
 number_left seat facts free =
     leb-false LAST_NUMBER (delivered seat facts seat.me) (or_false (leb (stable seat facts + seat.group.window) (delivered seat facts seat.me)) (leb LAST_NUMBER (delivered seat facts seat.me)) free).1
+
+pub no_number_is_full : NoNumberIsFull
+no_number_is_full seat facts used =
+    or_right (leb (stable seat facts + seat.group.window) (delivered seat facts seat.me)) (leb LAST_NUMBER (delivered seat facts seat.me)) (le-leb LAST_NUMBER (delivered seat facts seat.me) used)
 
 pub histories_leave_numbers : HistoriesLeaveNumbers
 histories_leave_numbers seat facts few =

@@ -1,12 +1,18 @@
 -- A legal history is what calls add without a limit, with at most so many entries as a history can have.
-use Rattle.std.proofs.Common.{◌≡◌, ◌<◌, ◌≤◌, ◌+◌, List, [], ◌∷◌, ◌++◌, length, arith}
+use Rattle.std.proofs.Common.{◌≡◌, ◌<◌, ◌≤◌, ◌+◌, Bool, cond, ltb, List, [], ◌∷◌, ◌++◌, length, Result, Ok, Err, ap, arith}
 use Rattle.std.proofs.lemmas.List.{length-append}
 use Rattle.cb_history.specs.Group.{Identity, IsIdentity}
-use Rattle.cb_history.specs.Facts.{EntryFields, Fact}
+use Rattle.cb_frames.specs.declared.frame.TheConstants.{LONGEST_PAYLOAD}
+use Rattle.cb_history.specs.declared.answer.CastRefusal.{CastRefusal}
+use Rattle.cb_history.specs.declared.answer.CastRefusal.TheVariants as casts
+use Rattle.cb_history.specs.Facts.{EntryFields, Fact, facts_of}
+use Rattle.cb_history.specs.Answers.{is_full, next_cast, cast_answer}
 use Rattle.cb_history.specs.Legal.{longest_history, AreLegal, NoEntries, OneMore, IsLegal}
 use Rattle.cb_history.specs.LegalFacts.{AreLegalFacts, NoFacts, OneFactMore}
-use Rattle.cb_history.specs.LimitLaws.{LimitIsAdded, AreAddedInLimit, NoneAdded, OneAdded, LegalIsAddedInLimit, AreStepsInLimit, NoStepInLimit, OneStepInLimit, LegalFactsInLimit}
+use Rattle.cb_history.specs.LimitLaws.{LimitIsAdded, AreAddedInLimit, NoneAdded, OneAdded, LegalIsAddedInLimit, AreStepsInLimit, NoStepInLimit, OneStepInLimit, LegalFactsInLimit, LegalAnswersByStable}
 use Rattle.cb_history.proofs.Calls.{entry_with_room, entry_in_limit, added_below}
+use Rattle.cb_history.proofs.Counts.{histories_leave_numbers}
+use Rattle.cb_history.proofs.Histories.{each_entry_says_one_fact}
 
 pub limit_is_added : LimitIsAdded
 limit_is_added seat entries = (
@@ -51,3 +57,13 @@ steps_without_limit seat _ (OneStepInLimit facts f before below step) = (OneFact
 
 pub legal_facts_in_limit : LegalFactsInLimit
 legal_facts_in_limit seat facts = ((λ both. steps_in_limit seat facts both.0 both.1), (λ steps. steps_without_limit seat facts steps))
+
+-- ---- answers
+
+pub legal_answers_by_stable : LegalAnswersByStable
+unfolding cast_answer
+legal_answers_by_stable seat limit entries payload legal =
+    let many = (each_entry_says_one_fact seat entries legal).1 in
+    let few = legal.few in
+    ap (λ (b : Bool). cond (ltb LONGEST_PAYLOAD (length payload)) (Err casts.PayloadTooLong) (cond b (Err casts.WindowFull) (cond (is_full limit entries) (Err casts.HistoryFull) (Ok (next_cast seat (facts_of entries) payload)))))
+    (histories_leave_numbers seat (facts_of entries) (omega (arith, many, few)))

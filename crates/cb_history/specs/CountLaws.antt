@@ -25,6 +25,10 @@ CountsAreNumbers = (seat : Identity) (facts : List Fact) (k : ℕ) → AreFactsO
 abbrev pub KnownAreNumbers : Type 0
 KnownAreNumbers = (seat : Identity) (facts : List Fact) (i : ℕ) → AreFactsOf seat facts → known facts i ≤ LAST_NUMBER
 
+-- a member that has used up its numbers finds its window full
+abbrev pub NoNumberIsFull : Type 0
+NoNumberIsFull = (seat : Identity) (facts : List Fact) → LAST_NUMBER ≤ delivered seat facts seat.me → is_window_full seat facts ≡ true
+
 -- A history within its limit has a number left for one more cast, so its window is full by what is stable alone.
 abbrev pub HistoriesLeaveNumbers : Type 0
 HistoriesLeaveNumbers =

@@ -90,10 +90,10 @@ module _ (setting : Setting) (is : IsSetting setting) (s : GroupState) (inv : Is
     brings_itself : received_by i (Calls i (ToCast payload)) (CastAnswer (Ok cast)) ≡ messages_of cast
     brings_itself = rw (eq-eqb i i refl) refl
 
-    made : length payload ≤ LONGEST_PAYLOAD → CastGood (Ok cast)
-    made short legal =
+    made : delivered me said me.me < LAST_NUMBER → length payload ≤ LONGEST_PAYLOAD → CastGood (Ok cast)
+    made left short legal =
         good setting is s inv i lt (ToCast payload) with_cast (CastAnswer (Ok cast)) legal (inr (OwnCast cast, push, tt)) (
-          cast_is_honest setting.group (facts_at s) i are (after setting is s inv i lt (ToCast payload) with_cast (CastAnswer (Ok cast))) payload bytes short
+          cast_is_honest setting.group (facts_at s) i are (after setting is s inv i lt (ToCast payload) with_cast (CastAnswer (Ok cast))) payload bytes left short
               (in_is_cast_of cast (own_casts (after setting is s inv i lt (ToCast payload) with_cast (CastAnswer (Ok cast)) i))
               (subst (λ (fs : List Fact). IsIn cast (own_casts fs)) (own_now setting is s inv i lt (ToCast payload) with_cast (CastAnswer (Ok cast)))
               (subst (IsIn cast) (sym all_own) (in_back cast (own_casts said) (cast ∷ []) (inl refl))))),
@@ -111,7 +111,7 @@ module _ (setting : Setting) (is : IsSetting setting) (s : GroupState) (inv : Is
         with_cast = now ++ CastEntry (text_of (CastFrame cast)) ∷ []
 
         read : frame_at (text_of (CastFrame cast)) ≡ Ok (CastFrame cast)
-        read = cast_reads cast ((own_frames_have_texts me said are).0 payload short)
+        read = cast_reads cast ((own_frames_have_texts me said are).0 payload left short)
 
         push : facts_of (now ++ CastEntry (text_of (CastFrame cast)) ∷ []) ≡ said ++ OwnCast cast ∷ []
         push = facts_push now (CastEntry (text_of (CastFrame cast))) (OwnCast cast) (ap cast_said read)
@@ -124,8 +124,8 @@ module _ (setting : Setting) (is : IsSetting setting) (s : GroupState) (inv : Is
     cast_is_good =
         cond_both (ltb LONGEST_PAYLOAD (length payload)) _ _ CastGood (λ _ _. same_history (ToCast payload) (CastAnswer (Err casts.PayloadTooLong)) tt nothing_received)
         (λ short. cond_both (is_window_full me said) _ _ CastGood (λ _ _. same_history (ToCast payload) (CastAnswer (Err casts.WindowFull)) tt nothing_received)
-        (λ _. cond_both (is_full setting.limit now) _ _ CastGood (λ _ _. same_history (ToCast payload) (CastAnswer (Err casts.HistoryFull)) tt nothing_received)
-        (λ _. made (ltb-false LONGEST_PAYLOAD (length payload) short))))
+        (λ free. cond_both (is_full setting.limit now) _ _ CastGood (λ _ _. same_history (ToCast payload) (CastAnswer (Err casts.HistoryFull)) tt nothing_received)
+        (λ _. made (number_left me said free) (ltb-false LONGEST_PAYLOAD (length payload) short))))
         (calls_keep_legal me setting.limit now (ToCast payload) is.at_most (inv.legal i lt) bytes)
 
   -- ---- a tick

@@ -40,10 +40,10 @@ module _ (group : Parameters) (facts : ℕ → List Fact) (i : ℕ) (are : AreFa
   is_seat = record { group = are.group; member = are.member }
 
   -- the next cast, once it is an own cast
-  pub cast_is_honest : (after : ℕ → List Fact) (payload : List ℕ) → IsBytes payload → length payload ≤ LONGEST_PAYLOAD
+  pub cast_is_honest : (after : ℕ → List Fact) (payload : List ℕ) → IsBytes payload → delivered (member_of group i) (facts i) i < LAST_NUMBER → length payload ≤ LONGEST_PAYLOAD
       → IsCastOf (next_cast (member_of group i) (facts i) payload) (own_casts (after i)) → IsHonest group after (text_of (CastFrame (next_cast (member_of group i) (facts i) payload)))
-  cast_is_honest after payload bytes short own =
-      let can = (own_frames_have_texts (member_of group i) (facts i) are).0 payload short in
+  cast_is_honest after payload bytes left short own =
+      let can = (own_frames_have_texts (member_of group i) (facts i) are).0 payload left short in
       record {
         are_bytes = cast_is_bytes (next_cast (member_of group i) (facts i) payload) can bytes;
         frame = CastFrame (next_cast (member_of group i) (facts i) payload);

@@ -159,7 +159,7 @@ module _ (setting : Setting) (is : IsSetting setting) (s : GroupState) (inv : Is
   cast_adds payload =
       cond_both (ltb LONGEST_PAYLOAD (length payload)) _ _ Adds (λ _. adds_none (ToCast payload))
       (λ short. cond_both (is_window_full seat (facts_of now)) _ _ Adds (λ _. adds_none (ToCast payload))
-      (λ _. cond_both (is_full setting.limit now) _ _ Adds (λ _. adds_none (ToCast payload)) (λ _. made (ltb-false LONGEST_PAYLOAD (length payload) short))))
+      (λ free. cond_both (is_full setting.limit now) _ _ Adds (λ _. adds_none (ToCast payload)) (λ _. made (number_left seat (facts_of now) free) (ltb-false LONGEST_PAYLOAD (length payload) short))))
     where
       Adds : Result CastFields CastRefusal → Type 0
       Adds r = AddsOne (ToCast payload) (cast_entry r)
@@ -167,9 +167,9 @@ module _ (setting : Setting) (is : IsSetting setting) (s : GroupState) (inv : Is
       cast : CastFields
       cast = next_cast seat (facts_of now) payload
 
-      made : length payload ≤ LONGEST_PAYLOAD → Adds (Ok cast)
-      made short e at =
-          let read : frame_at (text_of (CastFrame cast)) ≡ Ok (CastFrame cast) = cast_read cast ((own_frames_have_texts seat (facts_of now) are).0 payload short) in
+      made : delivered seat (facts_of now) seat.me < LAST_NUMBER → length payload ≤ LONGEST_PAYLOAD → Adds (Ok cast)
+      made left short e at =
+          let read : frame_at (text_of (CastFrame cast)) ≡ Ok (CastFrame cast) = cast_read cast ((own_frames_have_texts seat (facts_of now) are).0 payload left short) in
           let same : CastEntry (text_of (CastFrame cast)) ≡ e = cc in
           subst (λ (x : EntryFields). SaysOne (ToCast payload) (said_by x)) same
           (subst (λ (r : Result FrameFields FrameFault). SaysOne (ToCast payload) (cast_said r)) (sym read) refl)
