@@ -5,7 +5,7 @@ use Rattle.std.specs.List.{AllByRecursion}
 use Rattle.std.proofs.lemmas.Bool.{cases_eq, eq-eqb, ne_eqb, cond_both, ltb-false}
 use Rattle.std.proofs.lemmas.List.{append-nil, map-append}
 use Rattle.cb_times.specs.declared.name.Name.{Name}
-use Rattle.cb_frames.specs.declared.frame.TheConstants.{LONGEST_PAYLOAD}
+use Rattle.cb_frames.specs.declared.frame.TheConstants.{LONGEST_PAYLOAD, LAST_NUMBER}
 use Rattle.cb_frames.specs.declared.fault.FrameFault.{FrameFault}
 use Rattle.cb_frames.specs.Fields.{CastFields, FrameFields, CastFrame, StatusFrame, RequestFrame}
 use Rattle.cb_frames.specs.Text.{text_of}
@@ -25,11 +25,12 @@ use Rattle.cb_history.specs.declared.answer.TickRefusal.{TickRefusal}
 use Rattle.cb_history.specs.declared.answer.Outgoing.{Outgoing}
 use Rattle.cb_history.specs.Group.{Identity}
 use Rattle.cb_history.specs.Facts.{EntryFields, CastEntry, ArriveEntry, TickEntry, Fact, OwnCast, CastReceived, StatusReceived, OwnStatus, cast_said, arrival_said, status_said, said_by, facts_of}
-use Rattle.cb_history.specs.Answers.{is_full, is_window_full, next_cast, cast_answer, ArrivalSays, Accepted, Repeat, arrive_answer, status_of, tick_answer}
+use Rattle.cb_history.specs.Answers.{is_full, is_window_full, delivered, next_cast, cast_answer, ArrivalSays, Accepted, Repeat, arrive_answer, status_of, tick_answer}
 use Rattle.cb_history.specs.Events.{events}
 use Rattle.cb_history.specs.EventLaws.{new_events}
 use Rattle.cb_history.specs.Legal.{Call, ToCast, ToTake, ToTick, cast_entry, arrive_entry, tick_entry, entry_of, and_entry, history_after, IsLegal}
 use Rattle.cb_history.specs.LegalFacts.{AreFactsOf}
+use Rattle.cb_history.proofs.Counts.{number_left}
 use Rattle.cb_history.proofs.Lists.{flat_map-append}
 use Rattle.cb_history.proofs.Happening.{events_with_one_more}
 use Rattle.cb_history.proofs.Histories.{legal_histories_say_legal_facts}
