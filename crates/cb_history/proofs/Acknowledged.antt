@@ -39,7 +39,7 @@ reported_below seat facts (OwnStatus s) k step = omega arith
 
 all_reported_below : (seat : Identity) (facts : List Fact) (k : ℕ) → AreLegalFacts seat facts → greatest_of (flat_map (reported_by k seat.me) facts) ≤ count (view seat.group.size facts) seat.me
 all_reported_below seat _ k NoFacts = omega arith
-all_reported_below seat _ k (OneFactMore facts f before room step) =
+all_reported_below seat _ k (OneFactMore facts f before step) =
     let parts : greatest_of (flat_map (reported_by k seat.me) (facts ++ f ∷ [])) ≡ max (greatest_of (flat_map (reported_by k seat.me) facts)) (greatest_of (reported_by k seat.me f ++ [])) =
     ap greatest_of (flat_map-append (reported_by k seat.me) facts (f ∷ [])) ∙ greatest_append (flat_map (reported_by k seat.me) facts) (reported_by k seat.me f ++ []) in
     omega (arith, parts, all_reported_below seat facts k before, reported_below seat facts f k step, count_grows seat.group.size facts f seat.me)

@@ -85,7 +85,7 @@ one_of_the_group seat facts (OwnStatus s) is step c there = absurd there
 
 all_of_the_group : (seat : Identity) (facts : List Fact) → IsIdentity seat → AreLegalFacts seat facts → AllOfTheGroup seat facts
 all_of_the_group seat _ is NoFacts c there = absurd there
-all_of_the_group seat _ is (OneFactMore facts f before room step) c there =
+all_of_the_group seat _ is (OneFactMore facts f before step) c there =
     elim (in_append c (casts_in facts) (cast_in f) (subst (IsIn c) (casts_in-append facts f) there)) [
       | inl old ↦ all_of_the_group seat facts is before c old
       | inr new ↦ one_of_the_group seat facts f is step c new

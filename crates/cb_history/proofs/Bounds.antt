@@ -4,9 +4,6 @@ use Rattle.std.proofs.lemmas.List.{append-nil, length-append}
 use Rattle.cb_frames.specs.Fields.{CastFields, Carried, messages_of}
 use Rattle.cb_history.specs.Facts.{Fact, OwnCast, CastReceived, StatusReceived, OwnStatus, messages_in}
 use Rattle.cb_history.specs.View.{count, is_among, next_delivery, with_next, drained, seen_from, view}
-use Rattle.cb_history.specs.Group.{Identity}
-use Rattle.cb_history.specs.Legal.{longest_history}
-use Rattle.cb_history.specs.LegalFacts.{AreLegalFacts, NoFacts, OneFactMore}
 use Rattle.cb_history.proofs.Lists.{messages_in-push}
 use Rattle.cb_history.proofs.Views.{left, left_more, left_shrinks, one_unless, unless_more, among_itself, next_is, expanded_is_there, ready_is_new}
 
@@ -80,12 +77,6 @@ count_at_most (m ∷ seen) k =
     let others = count_at_most seen k in
     let one = one_or_none (eqb m.sender k) in
     omega (arith, one, others)
-
--- ---- legal facts
-
-pub few_facts : (seat : Identity) (facts : List Fact) → AreLegalFacts seat facts → length facts ≤ longest_history
-few_facts seat _ NoFacts = omega arith
-few_facts seat _ (OneFactMore facts f before room step) = omega (arith, room, length-append facts (f ∷ []))
 
 pub count_below : (size : ℕ) (facts : List Fact) (k : ℕ) → count (view size facts) k ≤ length facts
 count_below size facts k = omega (arith, view_at_most size facts, count_at_most (view size facts) k)

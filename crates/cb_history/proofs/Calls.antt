@@ -1,11 +1,13 @@
--- What a call adds with any limit, it adds with the greatest.
-use Rattle.std.proofs.Common.{◌≡◌, ℕ, ◌≤◌, Bool, true, false, cond, not, ◌&&◌, eqb, ltb, List, [], ◌∷◌, length, Option, Some, None, Result, Ok, Err, refl, arith}
+-- What a call adds with any limit, it adds with each that leaves room.
+use Rattle.std.proofs.Common.{◌≡◌, ℕ, ◌<◌, ◌≤◌, Bool, true, false, cond, not, ◌&&◌, eqb, ltb, List, [], ◌∷◌, ◌++◌, length, Option, Some, None, Result, Ok, Err, refl, arith}
 use Rattle.std.proofs.lemmas.Bool.{leb-false, lt-leb}
+use Rattle.std.proofs.lemmas.List.{length-append}
 use Rattle.cb_frames.specs.declared.frame.TheConstants.{LONGEST_PAYLOAD}
 use Rattle.cb_frames.specs.declared.fault.FrameFault.{FrameFault}
 use Rattle.cb_frames.specs.Fields.{CastFields, FrameFields, StatusFrame}
 use Rattle.cb_frames.specs.Text.{text_of}
 use Rattle.cb_frames.specs.Reading.{frame_at}
+use Rattle.cb_delay.specs.declared.message.Message.{Message}
 use Rattle.cb_history.specs.declared.answer.CastRefusal.{CastRefusal}
 use Rattle.cb_history.specs.declared.answer.CastRefusal.TheVariants as casts
 use Rattle.cb_history.specs.declared.answer.ArriveRefusal.{ArriveRefusal}
@@ -16,11 +18,13 @@ use Rattle.cb_history.specs.declared.answer.Outgoing.{Outgoing}
 use Rattle.cb_history.specs.Group.{Identity}
 use Rattle.cb_history.specs.Facts.{EntryFields, facts_of}
 use Rattle.cb_history.specs.Answers.{is_full, is_window_full, next_cast, cast_answer, group_of, are_members, is_impossible, is_repeat, is_too_far, is_change, deliveries, sent_in_answer, ArrivalSays, Accepted, Repeat, answer_to, arrive_answer, status_of, is_new_status, requests, tick_answer}
-use Rattle.cb_history.specs.Legal.{longest_history, Call, ToCast, ToTake, ToTick, OfBytes, cast_entry, arrive_entry, tick_entry, entry_of, and_entry, OneMore, IsLegal}
+use Rattle.cb_history.specs.Legal.{longest_history, Call, ToCast, ToTake, ToTick, OfBytes, cast_entry, arrive_entry, tick_entry, entry_of, and_entry, room_for_one, OneMore, AreEntriesOf, IsLegal}
 use Rattle.cb_history.specs.HistoryLaws.{CallsKeepLegal}
+use Rattle.cb_history.specs.LimitLaws.{CallsKeepEntries}
 
-room_at_most : (limit : ℕ) (entries : List EntryFields) → limit ≤ longest_history → is_full limit entries ≡ false → is_full longest_history entries ≡ false
-room_at_most limit entries most room = let left = leb-false limit (length entries) room in lt-leb longest_history (length entries) (omega (arith, most, left))
+-- there is room for one entry more
+pub room_left : (entries : List EntryFields) → is_full (room_for_one entries) entries ≡ false
+room_left entries = lt-leb (room_for_one entries) (length entries) (omega arith)
 
 -- the tests of an answer, of which the last is whether an entry is left
 abbrev a_cast : Bool → Bool → Bool → CastFields → Result CastFields CastRefusal
@@ -56,29 +60,95 @@ same_tick false none least out status e room h = h
 same_tick true true least out status e room h = absurd cc
 same_tick true false least out status e room h = rw (room refl) h
 
-taken_same : (seat : Identity) (limit : ℕ) (entries : List EntryFields) (bytes : List ℕ) (r : Result FrameFields FrameFault) (e : EntryFields) → (is_full limit entries ≡ false → is_full longest_history entries ≡ false)
-    → arrive_entry bytes (answer_to seat limit entries r) ≡ Some e → arrive_entry bytes (answer_to seat longest_history entries r) ≡ Some e
-taken_same seat limit entries bytes (Ok frame) e room h =
+taken_same : (seat : Identity) (limit other : ℕ) (entries : List EntryFields) (bytes : List ℕ) (r : Result FrameFields FrameFault) (e : EntryFields) → (is_full limit entries ≡ false → is_full other entries ≡ false)
+    → arrive_entry bytes (answer_to seat limit entries r) ≡ Some e → arrive_entry bytes (answer_to seat other entries r) ≡ Some e
+taken_same seat limit other entries bytes (Ok frame) e room h =
     let facts = facts_of entries in
     same_arrival (eqb (group_of frame) seat.group.number) (are_members seat.group.size frame) (is_impossible seat facts frame) (is_repeat facts frame) (is_too_far seat facts frame) (is_change seat facts frame)
-    (is_full limit entries) (is_full longest_history entries) (Accepted (deliveries seat facts frame) true (sent_in_answer seat facts frame)) (Accepted [] false (sent_in_answer seat facts frame)) bytes e room h
-taken_same seat limit entries bytes (Err fault) e room h = h
+    (is_full limit entries) (is_full other entries) (Accepted (deliveries seat facts frame) true (sent_in_answer seat facts frame)) (Accepted [] false (sent_in_answer seat facts frame)) bytes e room h
+taken_same seat limit other entries bytes (Err fault) e room h = h
 
-pub entry_same : (seat : Identity) (limit : ℕ) (entries : List EntryFields) (call : Call) (e : EntryFields) → limit ≤ longest_history → entry_of seat limit entries call ≡ Some e → entry_of seat longest_history entries call ≡ Some e
+-- with another limit that leaves room the call adds the same entry
+entry_same : (seat : Identity) (limit other : ℕ) (entries : List EntryFields) (call : Call) (e : EntryFields) → (is_full limit entries ≡ false → is_full other entries ≡ false) → entry_of seat limit entries call ≡ Some e → entry_of seat other entries call ≡ Some e
 unfolding cast_answer arrive_answer tick_answer
-entry_same seat limit entries (ToCast payload) e most h =
-    same_cast (ltb LONGEST_PAYLOAD (length payload)) (is_window_full seat (facts_of entries)) (is_full limit entries) (is_full longest_history entries) (next_cast seat (facts_of entries) payload) e (room_at_most limit entries most) h
-entry_same seat limit entries (ToTake bytes) e most h = taken_same seat limit entries bytes (frame_at bytes) e (room_at_most limit entries most) h
-entry_same seat limit entries ToTick e most h =
-    same_tick (is_new_status seat (facts_of entries)) (is_full limit entries) (is_full longest_history entries)
-    (record { to = None; bytes = text_of (StatusFrame (status_of seat (facts_of entries))) } ∷ requests seat (facts_of entries)) (text_of (StatusFrame (status_of seat (facts_of entries)))) e (room_at_most limit entries most) h
+entry_same seat limit other entries (ToCast payload) e room h =
+    same_cast (ltb LONGEST_PAYLOAD (length payload)) (is_window_full seat (facts_of entries)) (is_full limit entries) (is_full other entries) (next_cast seat (facts_of entries) payload) e room h
+entry_same seat limit other entries (ToTake bytes) e room h = taken_same seat limit other entries bytes (frame_at bytes) e room h
+entry_same seat limit other entries ToTick e room h =
+    same_tick (is_new_status seat (facts_of entries)) (is_full limit entries) (is_full other entries)
+    (record { to = None; bytes = text_of (StatusFrame (status_of seat (facts_of entries))) } ∷ requests seat (facts_of entries)) (text_of (StatusFrame (status_of seat (facts_of entries)))) e room h
+
+-- what a call adds with some limit, it adds where one entry is left
+pub entry_with_room : (seat : Identity) (limit : ℕ) (entries : List EntryFields) (call : Call) (e : EntryFields) → entry_of seat limit entries call ≡ Some e → entry_of seat (room_for_one entries) entries call ≡ Some e
+entry_with_room seat limit entries call e h = entry_same seat limit (room_for_one entries) entries call e (λ _. room_left entries) h
+
+-- and with each limit above the number of entries
+pub entry_in_limit : (seat : Identity) (limit : ℕ) (entries : List EntryFields) (call : Call) (e : EntryFields) → length entries < limit → entry_of seat (room_for_one entries) entries call ≡ Some e → entry_of seat limit entries call ≡ Some e
+entry_in_limit seat limit entries call e below h = entry_same seat (room_for_one entries) limit entries call e (λ _. lt-leb limit (length entries) below) h
+
+-- ---- an entry is added only where there is room
+
+cast_has_room : (long full none : Bool) (c : CastFields) (e : EntryFields) → cast_entry (a_cast long full none c) ≡ Some e → none ≡ false
+cast_has_room true full none c e h = absurd cc
+cast_has_room false true none c e h = absurd cc
+cast_has_room false false true c e h = absurd cc
+cast_has_room false false false c e h = refl
+
+arrival_has_room : (group members impossible repeat far change none : Bool) (deliveries : List Message) (out more : List Outgoing) (bytes : List ℕ) (e : EntryFields)
+    → arrive_entry bytes (an_arrival group members impossible repeat far change none (Accepted deliveries true out) (Accepted [] false more)) ≡ Some e → none ≡ false
+arrival_has_room false members impossible repeat far change none deliveries out more bytes e h = absurd cc
+arrival_has_room true false impossible repeat far change none deliveries out more bytes e h = absurd cc
+arrival_has_room true true true repeat far change none deliveries out more bytes e h = absurd cc
+arrival_has_room true true false true far change none deliveries out more bytes e h = absurd cc
+arrival_has_room true true false false true change none deliveries out more bytes e h = absurd cc
+arrival_has_room true true false false false false none deliveries out more bytes e h = absurd cc
+arrival_has_room true true false false false true true deliveries out more bytes e h = absurd cc
+arrival_has_room true true false false false true false deliveries out more bytes e h = refl
+
+tick_has_room : (new none : Bool) (out : List Outgoing) (status : List ℕ) (e : EntryFields) → tick_entry status (a_tick new none out) ≡ Some e → none ≡ false
+tick_has_room false none out status e h = absurd cc
+tick_has_room true true out status e h = absurd cc
+tick_has_room true false out status e h = refl
+
+taken_has_room : (seat : Identity) (limit : ℕ) (entries : List EntryFields) (bytes : List ℕ) (r : Result FrameFields FrameFault) (e : EntryFields) → arrive_entry bytes (answer_to seat limit entries r) ≡ Some e → is_full limit entries ≡ false
+taken_has_room seat limit entries bytes (Ok frame) e h =
+    let facts = facts_of entries in
+    arrival_has_room (eqb (group_of frame) seat.group.number) (are_members seat.group.size frame) (is_impossible seat facts frame) (is_repeat facts frame) (is_too_far seat facts frame) (is_change seat facts frame)
+    (is_full limit entries) (deliveries seat facts frame) (sent_in_answer seat facts frame) (sent_in_answer seat facts frame) bytes e h
+taken_has_room seat limit entries bytes (Err fault) e h = absurd cc
+
+has_room : (seat : Identity) (limit : ℕ) (entries : List EntryFields) (call : Call) (e : EntryFields) → entry_of seat limit entries call ≡ Some e → is_full limit entries ≡ false
+unfolding cast_answer arrive_answer tick_answer
+has_room seat limit entries (ToCast payload) e h =
+    cast_has_room (ltb LONGEST_PAYLOAD (length payload)) (is_window_full seat (facts_of entries)) (is_full limit entries) (next_cast seat (facts_of entries) payload) e h
+has_room seat limit entries (ToTake bytes) e h = taken_has_room seat limit entries bytes (frame_at bytes) e h
+has_room seat limit entries ToTick e h =
+    tick_has_room (is_new_status seat (facts_of entries)) (is_full limit entries)
+    (record { to = None; bytes = text_of (StatusFrame (status_of seat (facts_of entries))) } ∷ requests seat (facts_of entries)) (text_of (StatusFrame (status_of seat (facts_of entries)))) e h
+
+pub added_below : (seat : Identity) (limit : ℕ) (entries : List EntryFields) (call : Call) (e : EntryFields) → entry_of seat limit entries call ≡ Some e → length entries < limit
+added_below seat limit entries call e h = leb-false limit (length entries) (has_room seat limit entries call e h)
+
+-- ---- calls keep what is legal
+
+added_is_kept : (seat : Identity) (limit : ℕ) (entries : List EntryFields) (call : Call) (o : Option EntryFields) → AreEntriesOf seat entries → OfBytes call → entry_of seat limit entries call ≡ o → AreEntriesOf seat (and_entry entries o)
+added_is_kept seat limit entries call None legal bytes is = legal
+added_is_kept seat limit entries call (Some e) legal bytes is = record {
+  group = legal.group;
+  member = legal.member;
+  entries_are = OneMore entries call e legal.entries_are bytes (entry_with_room seat limit entries call e is);
+}
+
+pub calls_keep_entries : CallsKeepEntries
+calls_keep_entries seat limit entries call legal bytes = added_is_kept seat limit entries call (entry_of seat limit entries call) legal bytes refl
 
 added_is_legal : (seat : Identity) (limit : ℕ) (entries : List EntryFields) (call : Call) (o : Option EntryFields) → limit ≤ longest_history → IsLegal seat entries → OfBytes call → entry_of seat limit entries call ≡ o → IsLegal seat (and_entry entries o)
 added_is_legal seat limit entries call None most legal bytes is = legal
 added_is_legal seat limit entries call (Some e) most legal bytes is = record {
   group = legal.group;
   member = legal.member;
-  entries_are = OneMore entries call e legal.entries_are bytes (entry_same seat limit entries call e most is);
+  entries_are = OneMore entries call e legal.entries_are bytes (entry_with_room seat limit entries call e is);
+  few = omega (arith, added_below seat limit entries call e is, most, length-append entries (e ∷ []));
 }
 
 pub calls_keep_legal : CallsKeepLegal

@@ -131,7 +131,7 @@ no_events seat = refl
 
 cast_the_own : (seat : Identity) (facts : List Fact) → AreFactsOf seat facts → AreLegalFacts seat facts → casts_among (events seat facts) ≡ messages_in (own_casts facts)
 cast_the_own seat _ are NoFacts = no_events seat
-cast_the_own seat _ are (OneFactMore facts f before room step) =
+cast_the_own seat _ are (OneFactMore facts f before step) =
     let prefix = prefix_of_facts_is_legal seat facts (f ∷ []) are in
     ap casts_among (events_with_one_more seat facts f are) ∙ casts_among-append (events seat facts) (new_events seat facts f)
     ∙ ap (λ (ms : List Carried). ms ++ casts_among (new_events seat facts f)) (cast_the_own seat facts prefix before)

@@ -19,20 +19,21 @@ use Rattle.cb_history.specs.declared.answer.Outgoing.{Outgoing}
 use Rattle.cb_history.specs.Group.{Identity, AreParameters}
 use Rattle.cb_history.specs.Facts.{EntryFields, CastEntry, ArriveEntry, TickEntry, Fact, OwnCast, CastReceived, StatusReceived, OwnStatus, said_by, cast_said, arrival_said, status_said, facts_of, casts_in}
 use Rattle.cb_history.specs.Answers.{is_full, is_window_full, next_cast, cast_answer, group_of, are_members, is_impossible, is_repeat, is_too_far, is_change, with_frame, deliveries, ArrivalSays, frame_answer, answer_to, arrive_answer, status_of, is_new_status, tick_answer}
-use Rattle.cb_history.specs.Legal.{longest_history, Call, ToCast, ToTake, ToTick, OfBytes, cast_entry, arrive_entry, tick_entry, entry_of, AreLegal, NoEntries, OneMore}
-use Rattle.cb_history.specs.LegalFacts.{IsTaken, IsStep, AreLegalFacts, NoFacts, OneFactMore}
+use Rattle.cb_history.specs.Legal.{Call, ToCast, ToTake, ToTick, OfBytes, cast_entry, arrive_entry, tick_entry, entry_of, room_for_one, AreLegal, NoEntries, OneMore}
+use Rattle.cb_history.specs.LegalFacts.{SaysNumbers, IsTaken, IsStep, AreLegalFacts, NoFacts, OneFactMore}
 use Rattle.cb_history.specs.HistoryLaws.{LegalHistoriesSayLegalFacts, EachEntrySaysOneFact, SaysItsText, EntriesSayTheirTexts, name_of, ArrivalsNameDeliveries}
+use Rattle.cb_history.specs.LimitLaws.{EntriesSayLegalFacts}
 use Rattle.cb_history.specs.View.{view, message_in}
 use Rattle.cb_history.proofs.Lists.{flat_map-append}
 use Rattle.cb_history.proofs.Prefixes.{last_entry}
 use Rattle.cb_history.proofs.ReadBack.{cast_read, status_read, frame_numbered}
 use Rattle.cb_history.proofs.Written.{cast_can, status_can}
+use Rattle.cb_history.proofs.Counts.{number_left, read_numbers}
 
 -- an entry that a call adds says a step
 record Added (seat : Identity) (entries : List EntryFields) (e : EntryFields) : Type 0 where
   fact : Fact
   said : said_by e ≡ fact ∷ []
-  room : length entries < longest_history
   step : IsStep seat (facts_of entries) fact
   text : SaysItsText e
 
@@ -49,21 +50,19 @@ not_false false h = absurd cc
 
 -- ---- a cast
 
-cast_added : (seat : Identity) (entries : List EntryFields) (payload : List ℕ) (e : EntryFields) → Before seat entries → cast_entry (cast_answer seat longest_history entries payload) ≡ Some e → Added seat entries e
+cast_added : (seat : Identity) (entries : List EntryFields) (payload : List ℕ) (e : EntryFields) → Before seat entries → cast_entry (cast_answer seat (room_for_one entries) entries payload) ≡ Some e → Added seat entries e
 unfolding cast_answer
 cast_added seat entries payload e b =
     cond_both (ltb LONGEST_PAYLOAD (length payload)) _ _ (λ (r : Result CastFields CastRefusal). cast_entry r ≡ Some e → Added seat entries e) (λ _ h. absurd cc)
     (λ short. cond_both (is_window_full seat (facts_of entries)) _ _ (λ (r : Result CastFields CastRefusal). cast_entry r ≡ Some e → Added seat entries e) (λ _ h. absurd cc)
-    (λ open_window. cond_both (is_full longest_history entries) _ _ (λ (r : Result CastFields CastRefusal). cast_entry r ≡ Some e → Added seat entries e) (λ _ h. absurd cc)
-    (λ some_room h.
+    (λ open_window. cond_both (is_full (room_for_one entries) entries) _ _ (λ (r : Result CastFields CastRefusal). cast_entry r ≡ Some e → Added seat entries e) (λ _ h. absurd cc)
+    (λ _ h.
     let is : CastEntry (text_of (CastFrame (next_cast seat (facts_of entries) payload))) ≡ e = cc in
     let small : length payload ≤ LONGEST_PAYLOAD = ltb-false LONGEST_PAYLOAD (length payload) short in
-    let room : length entries < longest_history = leb-false longest_history (length entries) some_room in
-    let can = cast_can seat (facts_of entries) payload b.group b.member b.facts_are (omega (arith, room, b.as_many)) small in
+    let can = cast_can seat (facts_of entries) payload b.group b.member b.facts_are (number_left seat (facts_of entries) open_window) small in
     record {
       fact = OwnCast (next_cast seat (facts_of entries) payload);
       said = ap said_by (sym is) ∙ ap cast_said (cast_read (next_cast seat (facts_of entries) payload) can);
-      room = room;
       step = record { payload = small; window = open_window; next = refl };
       text = subst SaysItsText is (next_cast seat (facts_of entries) payload, cast_read (next_cast seat (facts_of entries) payload) can, refl);
     })))
@@ -74,15 +73,10 @@ pub record Taken (seat : Identity) (entries : List EntryFields) (bytes : List �
   pub names : List Name
   pub named : names ≡ map (λ m. m.name) (deliveries seat (facts_of entries) frame)
   pub is : ArriveEntry bytes names ≡ e
-  pub room : length entries < longest_history
-  pub taken : IsTaken seat (facts_of entries) frame
-
-changes_entry : (a b : Bool) → (a && b) ≡ false → a ≡ true → b ≡ false
-changes_entry true b h e = h
-changes_entry false b h e = absurd cc
+  pub taken : SaysNumbers frame → IsTaken seat (facts_of entries) frame
 
 pub frame_taken : (seat : Identity) (entries : List EntryFields) (bytes : List ℕ) (e : EntryFields) (frame : FrameFields)
-    → arrive_entry bytes (frame_answer seat longest_history entries (facts_of entries) frame) ≡ Some e → Taken seat entries bytes e frame
+    → arrive_entry bytes (frame_answer seat (room_for_one entries) entries (facts_of entries) frame) ≡ Some e → Taken seat entries bytes e frame
 frame_taken seat entries bytes e frame =
     let P : Result ArrivalSays ArriveRefusal → Type 0 = λ r. arrive_entry bytes r ≡ Some e → Taken seat entries bytes e frame in
     cond_both (not (eqb (group_of frame) seat.group.number)) _ _ P (λ _ h. absurd cc)
@@ -90,14 +84,14 @@ frame_taken seat entries bytes e frame =
     (λ members. cond_both (is_impossible seat (facts_of entries) frame) _ _ P (λ _ h. absurd cc)
     (λ possible. cond_both (is_repeat (facts_of entries) frame) _ _ P (λ _ h. absurd cc)
     (λ new. cond_both (is_too_far seat (facts_of entries) frame) _ _ P (λ _ h. absurd cc)
-    (λ near. cond_both (is_change seat (facts_of entries) frame && is_full longest_history entries) _ _ P (λ _ h. absurd cc)
+    (λ near. cond_both (is_change seat (facts_of entries) frame && is_full (room_for_one entries) entries) _ _ P (λ _ h. absurd cc)
     (λ fits. cond_both (is_change seat (facts_of entries) frame) _ _ P
     (λ change h. record {
       names = map (λ m. m.name) (deliveries seat (facts_of entries) frame);
       named = refl;
       is = cc;
-      room = leb-false longest_history (length entries) (changes_entry (is_change seat (facts_of entries) frame) (is_full longest_history entries) fits change);
-      taken = record {
+      taken = λ numbers. record {
+        numbers = numbers;
         group = eqb-true (group_of frame) seat.group.number (not_false (eqb (group_of frame) seat.group.number) group);
         members = not_false (are_members seat.group.size frame) members;
         possible = possible;
@@ -117,42 +111,38 @@ taken_says seat entries bytes e (CastFrame c) are read t = record {
   text = received_as_text bytes t.names e (CastFrame c) are read t.is;
   fact = CastReceived c;
   said = ap said_by (sym t.is) ∙ ap arrival_said read;
-  room = t.room;
-  step = record { numbered = frame_numbered bytes c read; taken = t.taken };
+  step = record { numbered = frame_numbered bytes c read; taken = t.taken (read_numbers bytes (CastFrame c) are read) };
 }
 taken_says seat entries bytes e (StatusFrame s) are read t = record {
   text = received_as_text bytes t.names e (StatusFrame s) are read t.is;
   fact = StatusReceived s;
   said = ap said_by (sym t.is) ∙ ap arrival_said read;
-  room = t.room;
-  step = t.taken;
+  step = t.taken (read_numbers bytes (StatusFrame s) are read);
 }
-taken_says seat entries bytes e (RequestFrame r) are read t = let none : false ≡ true = t.taken.change in absurd cc
+taken_says seat entries bytes e (RequestFrame r) are read t = let none : false ≡ true = (t.taken tt).change in absurd cc
 
-arrival_added : (seat : Identity) (entries : List EntryFields) (bytes : List ℕ) (e : EntryFields) (r : Result FrameFields FrameFault) → IsBytes bytes → frame_at bytes ≡ r → arrive_entry bytes (answer_to seat longest_history entries r) ≡ Some e → Added seat entries e
+arrival_added : (seat : Identity) (entries : List EntryFields) (bytes : List ℕ) (e : EntryFields) (r : Result FrameFields FrameFault) → IsBytes bytes → frame_at bytes ≡ r → arrive_entry bytes (answer_to seat (room_for_one entries) entries r) ≡ Some e → Added seat entries e
 arrival_added seat entries bytes e (Ok frame) are read h = taken_says seat entries bytes e frame are read (frame_taken seat entries bytes e frame h)
 arrival_added seat entries bytes e (Err fault) are read h = absurd cc
 
-arrive_added : (seat : Identity) (entries : List EntryFields) (bytes : List ℕ) (e : EntryFields) → IsBytes bytes → arrive_entry bytes (arrive_answer seat longest_history entries bytes) ≡ Some e → Added seat entries e
+arrive_added : (seat : Identity) (entries : List EntryFields) (bytes : List ℕ) (e : EntryFields) → IsBytes bytes → arrive_entry bytes (arrive_answer seat (room_for_one entries) entries bytes) ≡ Some e → Added seat entries e
 unfolding arrive_answer
 arrive_added seat entries bytes e are h = arrival_added seat entries bytes e (frame_at bytes) are refl h
 
 -- ---- a tick
 
-tick_added : (seat : Identity) (entries : List EntryFields) (e : EntryFields) → Before seat entries → tick_entry (text_of (StatusFrame (status_of seat (facts_of entries)))) (tick_answer seat longest_history entries) ≡ Some e → Added seat entries e
+tick_added : (seat : Identity) (entries : List EntryFields) (e : EntryFields) → Before seat entries → tick_entry (text_of (StatusFrame (status_of seat (facts_of entries)))) (tick_answer seat (room_for_one entries) entries) ≡ Some e → Added seat entries e
 unfolding tick_answer
 tick_added seat entries e b =
-    cond_both (is_new_status seat (facts_of entries) && is_full longest_history entries) _ _ (λ (r : Result (Bool × List Outgoing) TickRefusal). tick_entry (text_of (StatusFrame (status_of seat (facts_of entries)))) r ≡ Some e → Added seat entries e)
+    cond_both (is_new_status seat (facts_of entries) && is_full (room_for_one entries) entries) _ _ (λ (r : Result (Bool × List Outgoing) TickRefusal). tick_entry (text_of (StatusFrame (status_of seat (facts_of entries)))) r ≡ Some e → Added seat entries e)
     (λ _ h. absurd cc)
     (λ fits. cond_both (is_new_status seat (facts_of entries)) (Some (TickEntry (text_of (StatusFrame (status_of seat (facts_of entries)))))) None (λ (o : Option EntryFields). o ≡ Some e → Added seat entries e)
     (λ new h.
     let is : TickEntry (text_of (StatusFrame (status_of seat (facts_of entries)))) ≡ e = cc in
-    let room : length entries < longest_history = leb-false longest_history (length entries) (changes_entry (is_new_status seat (facts_of entries)) (is_full longest_history entries) fits new) in
-    let can = status_can seat (facts_of entries) b.group b.member b.facts_are (omega (arith, room, b.as_many)) in
+    let can = status_can seat (facts_of entries) b.group b.member b.facts_are in
     record {
       fact = OwnStatus (status_of seat (facts_of entries));
       said = ap said_by (sym is) ∙ ap status_said (status_read (status_of seat (facts_of entries)) can);
-      room = room;
       step = record { time = refl; new = new };
       text = subst SaysItsText is (status_of seat (facts_of entries), status_read (status_of seat (facts_of entries)) can, refl);
     })
@@ -160,7 +150,7 @@ tick_added seat entries e b =
 
 -- ---- all entries
 
-call_added : (seat : Identity) (entries : List EntryFields) (call : Call) (e : EntryFields) → Before seat entries → OfBytes call → entry_of seat longest_history entries call ≡ Some e → Added seat entries e
+call_added : (seat : Identity) (entries : List EntryFields) (call : Call) (e : EntryFields) → Before seat entries → OfBytes call → entry_of seat (room_for_one entries) entries call ≡ Some e → Added seat entries e
 call_added seat entries (ToCast payload) e b are h = cast_added seat entries payload e b h
 call_added seat entries (ToTake bytes) e b are h = arrive_added seat entries bytes e are h
 call_added seat entries ToTick e b are h = tick_added seat entries e b h
@@ -184,7 +174,7 @@ says_more seat entries e s a =
       before = record {
         group = s.before.group;
         member = s.before.member;
-        facts_are = subst (AreLegalFacts seat) (sym facts) (OneFactMore (facts_of entries) a.fact s.before.facts_are (omega (arith, a.room, s.before.as_many)) a.step);
+        facts_are = subst (AreLegalFacts seat) (sym facts) (OneFactMore (facts_of entries) a.fact s.before.facts_are a.step);
         as_many = ap length facts ∙ omega (arith, length-append (facts_of entries) (a.fact ∷ []), length-append entries (e ∷ []), s.before.as_many);
       };
       each = all_push (λ x. length (said_by x) ≡ 1) entries e s.each (ap length a.said);
@@ -200,6 +190,11 @@ all_say seat _ group member NoEntries = record {
 all_say seat _ group member (OneMore entries call e legal bytes added) =
     let s = all_say seat entries group member legal in
     says_more seat entries e s (call_added seat entries call e s.before bytes added)
+
+pub entries_say_legal_facts : EntriesSayLegalFacts
+entries_say_legal_facts seat entries legal =
+    let s = all_say seat entries legal.group legal.member legal.entries_are in
+    (record { group = legal.group; member = legal.member; facts_are = s.before.facts_are }, s.before.as_many)
 
 pub legal_histories_say_legal_facts : LegalHistoriesSayLegalFacts
 legal_histories_say_legal_facts seat entries legal =
@@ -250,17 +245,17 @@ no_tick status (Ok (true, out)) frame delivered e = cc
 no_tick status (Ok (false, out)) frame delivered e = cc
 no_tick status (Err refusal) frame delivered e = cc
 
-arrival_names : (seat : Identity) (entries : List EntryFields) (bytes frame : List ℕ) (delivered : List Name) (r : Result FrameFields FrameFault) → frame_at bytes ≡ r → arrive_entry bytes (answer_to seat longest_history entries r) ≡ Some (ArriveEntry frame delivered)
+arrival_names : (seat : Identity) (entries : List EntryFields) (bytes frame : List ℕ) (delivered : List Name) (r : Result FrameFields FrameFault) → frame_at bytes ≡ r → arrive_entry bytes (answer_to seat (room_for_one entries) entries r) ≡ Some (ArriveEntry frame delivered)
     → delivered ≡ map name_of (drop (length (view seat.group.size (facts_of entries))) (view seat.group.size (facts_of (entries ++ ArriveEntry frame delivered ∷ []))))
 arrival_names seat entries bytes frame delivered (Ok f) read h = taken_names seat entries bytes frame delivered f read (frame_taken seat entries bytes (ArriveEntry frame delivered) f h)
 arrival_names seat entries bytes frame delivered (Err fault) read h = absurd cc
 
-call_names : (seat : Identity) (entries : List EntryFields) (call : Call) (frame : List ℕ) (delivered : List Name) → entry_of seat longest_history entries call ≡ Some (ArriveEntry frame delivered)
+call_names : (seat : Identity) (entries : List EntryFields) (call : Call) (frame : List ℕ) (delivered : List Name) → entry_of seat (room_for_one entries) entries call ≡ Some (ArriveEntry frame delivered)
     → delivered ≡ map name_of (drop (length (view seat.group.size (facts_of entries))) (view seat.group.size (facts_of (entries ++ ArriveEntry frame delivered ∷ []))))
 unfolding arrive_answer
-call_names seat entries (ToCast payload) frame delivered h = absurd (no_cast (cast_answer seat longest_history entries payload) frame delivered h)
+call_names seat entries (ToCast payload) frame delivered h = absurd (no_cast (cast_answer seat (room_for_one entries) entries payload) frame delivered h)
 call_names seat entries (ToTake bytes) frame delivered h = arrival_names seat entries bytes frame delivered (frame_at bytes) refl h
-call_names seat entries ToTick frame delivered h = absurd (no_tick (text_of (StatusFrame (status_of seat (facts_of entries)))) (tick_answer seat longest_history entries) frame delivered h)
+call_names seat entries ToTick frame delivered h = absurd (no_tick (text_of (StatusFrame (status_of seat (facts_of entries)))) (tick_answer seat (room_for_one entries) entries) frame delivered h)
 
 pub arrivals_name_deliveries : ArrivalsNameDeliveries
 arrivals_name_deliveries seat entries frame delivered legal =

@@ -13,7 +13,6 @@ use Rattle.cb_history.specs.TimeLaws.{InTimeAfter, ViewIsInTime}
 use Rattle.cb_history.proofs.Views.{IsIn, next_is, casts_in-append, test_true, all_in_range}
 use Rattle.cb_history.proofs.Walks.{drain_keeps, view_own, view_received, view_status, view_reported}
 use Rattle.cb_history.proofs.Names.{StandsAt, all_stand, message}
-use Rattle.cb_history.proofs.Bounds.{few_facts}
 use Rattle.cb_history.proofs.Times.{seen_is_expanded, stays, own_number, tells, in_time_reached}
 
 -- the time of the message is reached by these
@@ -52,7 +51,7 @@ in_time_step seat facts (OwnCast c) member legal s all =
     subst (InTimeAfter seat.group.size (casts_in (facts ++ OwnCast c ∷ [])) []) (sym (view_own seat.group.size facts c))
     (in_time_push seat.group.size (casts_in (facts ++ OwnCast c ∷ [])) [] (view seat.group.size facts) (message c) (in_time_stays seat facts (OwnCast c) s after all)
     (λ k lt.
-    let reported = tells seat facts c k member legal (omega (arith, few_facts seat (facts ++ OwnCast c ∷ []) legal)) lt in
+    let reported = tells seat facts c k member legal lt in
     let at : expanded_field (casts_in (facts ++ OwnCast c ∷ [])) c.sender c.number k ≡ count (view seat.group.size facts ++ message c ∷ []) k =
     ap (λ (i : ℕ). expanded_field (casts_in (facts ++ OwnCast c ∷ [])) i c.number k) number.0 ∙ reported ∙ ap (λ (ms : List Carried). count ms k) (view_own seat.group.size facts c) in
     subst (λ (n : ℕ). n ≤ count (view seat.group.size facts ++ message c ∷ []) k) (sym at) (omega arith)))
@@ -75,8 +74,8 @@ none_in_time seat = tt
 
 all_in_time : (seat : Identity) (facts : List Fact) → seat.me < seat.group.size → AreLegalFacts seat facts → InTimeAt seat facts
 all_in_time seat _ member NoFacts = none_in_time seat
-all_in_time seat _ member (OneFactMore facts f before room step) =
-    in_time_step seat facts f member (OneFactMore facts f before room step) (all_stand seat facts member before) (all_in_time seat facts member before)
+all_in_time seat _ member (OneFactMore facts f before step) =
+    in_time_step seat facts f member (OneFactMore facts f before step) (all_stand seat facts member before) (all_in_time seat facts member before)
 
 pub view_is_in_time : ViewIsInTime
 view_is_in_time seat facts are = all_in_time seat facts are.member are.facts_are

@@ -1,10 +1,10 @@
 -- The least of what is known, and the frames that are kept.
-use Rattle.std.proofs.Common.{◌≡◌, ◌≢◌, ℕ, zero, suc, ◌+◌, ◌-◌, ◌<◌, ◌≤◌, Bool, true, false, not, cond, eqb, ltb, List, [], ◌∷◌, ◌++◌, length, map, take, drop, refl, sym, ap, subst, ◌∙◌, arith, inl, inr}
+use Rattle.std.proofs.Common.{◌≡◌, ◌≢◌, ℕ, zero, suc, ◌+◌, ◌-◌, ◌<◌, ◌≤◌, ◌||◌, Bool, true, false, not, cond, eqb, leb, ltb, List, [], ◌∷◌, ◌++◌, length, map, take, drop, refl, sym, ap, subst, ◌∙◌, arith, inl, inr}
 use Rattle.std.specs.FinMap as fin
 use Rattle.std.specs.Ordering.{nat_cmp}
 use Rattle.std.specs.List.{filter, enumerate_from, range_with_len}
 use Rattle.std.proofs.Math.Bool.{or-false}
-use Rattle.std.proofs.lemmas.Bool.{cases_eq, cases_lt, eq-eqb, ne_eqb, le-leb, leb-true, le-ltb, lt-ltb}
+use Rattle.std.proofs.lemmas.Bool.{cases_eq, cases_lt, eq-eqb, ne_eqb, le-leb, lt-leb, leb-true, le-ltb, lt-ltb}
 use Rattle.std.proofs.lemmas.List.{length-map, length-drop, drop-append-le, drop-map, map-append}
 use Rattle.cb_frames.specs.declared.frame.TheConstants.{LAST_NUMBER, MOST_FRAMES}
 use Rattle.cb_frames.specs.declared.frame.Range.{Range}
@@ -19,15 +19,14 @@ use Rattle.cb_history.specs.Facts.{Fact, OwnCast, CastReceived, StatusReceived, 
 use Rattle.cb_history.specs.View.{count, view}
 use Rattle.cb_history.specs.Known.{acknowledged, stable, least_of}
 use Rattle.cb_history.specs.Answers.{delivered, own_casts, window, is_own_cast, is_window_full, is_asked_for}
-use Rattle.cb_history.specs.Legal.{longest_history}
 use Rattle.cb_history.specs.LegalFacts.{AreFactsOf}
 use Rattle.cb_history.specs.NameLaws.{NumberedFrom}
 use Rattle.cb_history.specs.StabilityLaws.{LeastKnownIsStable, numbered_frame, KeepsOwnCasts, NoRoomIsFull, sent_to, FramesInAreSentInAnswer, PutIsOwnCast, TrimIsStable}
-use Rattle.cb_history.proofs.Views.{IsIn, filter_in, in_filter}
+use Rattle.cb_history.proofs.Views.{IsIn, filter_in, in_filter, or_left, or_right}
 use Rattle.cb_history.proofs.Lists.{count_own}
 use Rattle.cb_history.proofs.Walks.{view_own, own_casts-own, own_casts-other, IsNotOwn}
 use Rattle.cb_history.proofs.Names.{all_stand, message}
-use Rattle.cb_history.proofs.Bounds.{few_facts, count_below}
+use Rattle.cb_history.proofs.Counts.{counts_are_numbers}
 use Rattle.cb_history.proofs.Prefixes.{prefix_of_facts_is_legal, last_fact_is_a_step}
 use Rattle.cb_history.proofs.Acknowledged.{acknowledged_is_delivered}
 use Rattle.cb_history.proofs.Rising.{nothing_falls}
@@ -171,20 +170,33 @@ no_room_is_full seat facts sent are keeps = (full, none)
     len : fin.len sent.kept ≡ d - s
     len = ap (λ (m : fin.FinMap nat_cmp (List ℕ)). fin.len m) (kept_is seat facts sent are keeps) ∙ len-kept (s + 1) (frames_above s facts) ∙ length_above seat facts are
 
-    few : d ≤ longest_history
-    few = le_then d (length facts) longest_history (count_below seat.group.size facts seat.me) (few_facts seat facts are.facts_are)
+    most : d ≤ LAST_NUMBER
+    most = counts_are_numbers seat facts seat.me are
 
-    early : eqb sent.put LAST_NUMBER ≡ false
-    early = ne_eqb sent.put LAST_NUMBER (λ e. let put = keeps.put in let small = few in absurd (omega (arith, e, put, small)))
+    no_number : d ≡ LAST_NUMBER → room_of sent ≡ 0
+    no_number e = rw (eq-eqb sent.put LAST_NUMBER (keeps.put ∙ e)) refl
 
-    room : room_of sent ≡ seat.group.window - (d - s)
-    room = rw early (ap (λ (w : ℕ). w - fin.len sent.kept) keeps.width ∙ ap (λ (n : ℕ). seat.group.window - n) len)
+    room : d ≢ LAST_NUMBER → room_of sent ≡ seat.group.window - (d - s)
+    room left = rw (ne_eqb sent.put LAST_NUMBER (λ e. left (sym keeps.put ∙ e))) (ap (λ (w : ℕ). w - fin.len sent.kept) keeps.width ∙ ap (λ (n : ℕ). seat.group.window - n) len)
 
     full : room_of sent ≡ 0 → is_window_full seat facts ≡ true
-    full h = le-leb (s + seat.group.window) d (omega (arith, room, h, below))
+    full h = elim (cases_eq d LAST_NUMBER) [
+      | inl e ↦ or_right (leb (s + seat.group.window) d) (leb LAST_NUMBER d) (le-leb LAST_NUMBER d (omega (arith, e)))
+      | inr left ↦ or_left (leb (s + seat.group.window) d) (leb LAST_NUMBER d) (le-leb (s + seat.group.window) d (omega (arith, room left, h, below)))
+    ]
+
+    by_stable : (a b : Bool) → b ≡ false → (a || b) ≡ true → a ≡ true
+    by_stable true b none h = refl
+    by_stable false b none h = absurd cc
 
     none : is_window_full seat facts ≡ true → room_of sent ≡ 0
-    none h = let reached = leb-true (s + seat.group.window) d h in room ∙ omega (arith, reached)
+    none h = elim (cases_eq d LAST_NUMBER) [
+      | inl e ↦ no_number e
+      | inr left ↦
+          let some : leb LAST_NUMBER d ≡ false = lt-leb LAST_NUMBER d (omega (arith, most, left)) in
+          let reached = leb-true (s + seat.group.window) d (by_stable (leb (s + seat.group.window) d) (leb LAST_NUMBER d) some h) in
+          room left ∙ omega (arith, reached)
+    ]
 
 -- ---- what is sent again
 

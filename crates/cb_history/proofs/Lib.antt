@@ -7,6 +7,8 @@ pub mod Rising
 pub mod Prefixes
 pub mod ReadBack
 pub mod Bounds
+pub mod Counts
+pub mod Limits
 pub mod Written
 pub mod Histories
 pub mod Calls

@@ -192,7 +192,7 @@ none_stands seat = record {
 
 pub all_stand : (seat : Identity) (facts : List Fact) → seat.me < seat.group.size → AreLegalFacts seat facts → StandsAt seat facts
 all_stand seat _ member NoFacts = none_stands seat
-all_stand seat _ member (OneFactMore facts f before room step) = step_stands seat facts f member step (all_stand seat facts member before)
+all_stand seat _ member (OneFactMore facts f before step) = step_stands seat facts f member step (all_stand seat facts member before)
 
 -- ---- the laws
 
@@ -211,7 +211,7 @@ other_here seat facts (OwnStatus t) s step = tt
 
 all_others : (seat : Identity) (facts : List Fact) → seat.me < seat.group.size → AreLegalFacts seat facts → ReceivedFromOthers seat.me facts
 all_others seat _ member NoFacts = tt
-all_others seat _ member (OneFactMore facts f before room step) = others_push seat.me facts f (all_others seat facts member before) (other_here seat facts f (all_stand seat facts member before) step)
+all_others seat _ member (OneFactMore facts f before step) = others_push seat.me facts f (all_others seat facts member before) (other_here seat facts f (all_stand seat facts member before) step)
 
 pub names_stand_once : NamesStandOnce
 names_stand_once seat facts are = (all_stand seat facts are.member are.facts_are).names

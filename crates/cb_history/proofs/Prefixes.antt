@@ -1,9 +1,9 @@
 -- The entries before any place of a legal history are legal.
-use Rattle.std.proofs.Common.{◌≡◌, List, [], ◌∷◌, ◌++◌, Some, refl, sym, ap, subst, ◌∙◌, append_assoc, inl, inr, ◌⊎◌}
-use Rattle.std.proofs.lemmas.List.{append-nil}
+use Rattle.std.proofs.Common.{◌≡◌, List, length, arith, [], ◌∷◌, ◌++◌, Some, refl, sym, ap, subst, ◌∙◌, append_assoc, inl, inr, ◌⊎◌}
+use Rattle.std.proofs.lemmas.List.{append-nil, length-append}
 use Rattle.cb_history.specs.Group.{Identity}
 use Rattle.cb_history.specs.Facts.{EntryFields, Fact}
-use Rattle.cb_history.specs.Legal.{longest_history, Call, entry_of, AreLegal, NoEntries, OneMore}
+use Rattle.cb_history.specs.Legal.{Call, entry_of, room_for_one, AreLegal, NoEntries, OneMore}
 use Rattle.cb_history.specs.LegalFacts.{IsStep, AreLegalFacts, NoFacts, OneFactMore}
 use Rattle.cb_history.specs.HistoryLaws.{PrefixIsLegal, PrefixOfFactsIsLegal, LastFactIsAStep}
 
@@ -59,15 +59,16 @@ prefix_is_legal seat entries more legal = record {
   group = legal.group;
   member = legal.member;
   entries_are = prefix seat (entries ++ more) legal.entries_are entries more refl;
+  few = let few = legal.few in omega (arith, few, length-append entries more);
 }
 
 -- ---- facts
 
 prefix_of_facts : (seat : Identity) (all : List Fact) → AreLegalFacts seat all → (facts more : List Fact) → all ≡ facts ++ more → AreLegalFacts seat facts
 prefix_of_facts seat _ NoFacts facts more e = subst (AreLegalFacts seat) (sym (none_before facts more e)) NoFacts
-prefix_of_facts seat _ (OneFactMore before f legal room step) facts more e =
+prefix_of_facts seat _ (OneFactMore before f legal step) facts more e =
     elim (ends more) [
-      | inl none ↦ subst (AreLegalFacts seat) (e ∙ ap (λ (m : List Fact). facts ++ m) none ∙ append-nil facts) (OneFactMore before f legal room step)
+      | inl none ↦ subst (AreLegalFacts seat) (e ∙ ap (λ (m : List Fact). facts ++ m) none ∙ append-nil facts) (OneFactMore before f legal step)
       | inr w ↦ prefix_of_facts seat before legal facts w.0 (same_front before (facts ++ w.0) f w.1 (e ∙ ap (λ (m : List Fact). facts ++ m) w.2 ∙ sym (append_assoc facts w.0 (w.1 ∷ []))))
     ]
 
@@ -82,20 +83,20 @@ no_last : {A : Type 0} (xs : List A) (x : A) → [] ≡ xs ++ x ∷ [] → ⊥
 no_last [] x e = cc
 no_last (y ∷ xs) x e = cc
 
-last_added : (seat : Identity) (all : List EntryFields) → AreLegal seat all → (entries : List EntryFields) (e : EntryFields) → all ≡ entries ++ e ∷ [] → (call : Call) × (entry_of seat longest_history entries call ≡ Some e)
+last_added : (seat : Identity) (all : List EntryFields) → AreLegal seat all → (entries : List EntryFields) (e : EntryFields) → all ≡ entries ++ e ∷ [] → (call : Call) × (entry_of seat (room_for_one entries) entries call ≡ Some e)
 last_added seat _ NoEntries entries e is = absurd (no_last entries e is)
 last_added seat _ (OneMore before call f legal bytes added) entries e is = (
   call,
-  subst (λ (es : List EntryFields). entry_of seat longest_history es call ≡ Some e) (same_front before entries f e is) (subst (λ (x : EntryFields). entry_of seat longest_history before call ≡ Some x) (same_last before entries f e is) added),
+  subst (λ (es : List EntryFields). entry_of seat (room_for_one es) es call ≡ Some e) (same_front before entries f e is) (subst (λ (x : EntryFields). entry_of seat (room_for_one before) before call ≡ Some x) (same_last before entries f e is) added),
 )
 
 -- the last entry of a legal history is one that a call adds
-pub last_entry : (seat : Identity) (entries : List EntryFields) (e : EntryFields) → AreLegal seat (entries ++ e ∷ []) → (call : Call) × (entry_of seat longest_history entries call ≡ Some e)
+pub last_entry : (seat : Identity) (entries : List EntryFields) (e : EntryFields) → AreLegal seat (entries ++ e ∷ []) → (call : Call) × (entry_of seat (room_for_one entries) entries call ≡ Some e)
 last_entry seat entries e legal = last_added seat (entries ++ e ∷ []) legal entries e refl
 
 last_step : (seat : Identity) (all : List Fact) → AreLegalFacts seat all → (facts : List Fact) (f : Fact) → all ≡ facts ++ f ∷ [] → IsStep seat facts f
 last_step seat _ NoFacts facts f e = absurd (no_last facts f e)
-last_step seat _ (OneFactMore before g legal room step) facts f e =
+last_step seat _ (OneFactMore before g legal step) facts f e =
     subst (λ (fs : List Fact). IsStep seat fs f) (same_front before facts g f e) (subst (IsStep seat before) (same_last before facts g f e) step)
 
 pub last_fact_is_a_step : LastFactIsAStep

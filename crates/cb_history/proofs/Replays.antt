@@ -1,8 +1,8 @@
 -- The call that an entry tells.
-use Rattle.std.proofs.Common.{◌≡◌, ℕ, zero, suc, ◌+◌, ◌<◌, ◌^◌, Bool, true, false, ltb, List, [], ◌∷◌, ◌++◌, length, Some, Result, Ok, Err, sym, ap, subst, ◌∙◌, append_assoc, refl, arith}
+use Rattle.std.proofs.Common.{◌≡◌, ℕ, zero, suc, ◌+◌, ◌<◌, ◌≤◌, ◌^◌, Bool, true, false, ltb, List, [], ◌∷◌, ◌++◌, length, Some, Result, Ok, Err, sym, ap, subst, ◌∙◌, append_assoc, refl, arith}
 use Rattle.std.specs.List.{AllByRecursion, flat_map}
 use Rattle.std.proofs.lemmas.Bool.{cond_both, ltb-false}
-use Rattle.std.proofs.lemmas.List.{append-nil, get_or-append-add}
+use Rattle.std.proofs.lemmas.List.{append-nil, length-append, get_or-append-add}
 use Rattle.cb_varint.specs.Spelling.{HasTopBit}
 use Rattle.cb_varint.specs.Reading.{spelling}
 use Rattle.cb_varint.proofs.Spelled.{spelled}
@@ -20,15 +20,15 @@ use Rattle.cb_history.specs.declared.answer.Outgoing.{Outgoing}
 use Rattle.cb_history.specs.Group.{Identity, IsIdentity}
 use Rattle.cb_history.specs.Facts.{EntryFields, CastEntry, ArriveEntry, TickEntry, facts_of}
 use Rattle.cb_history.specs.Answers.{is_full, is_window_full, next_cast, cast_answer, answer_to, arrive_answer, status_of, tick_answer}
-use Rattle.cb_history.specs.Legal.{longest_history, Call, ToCast, ToTake, ToTick, OfBytes, cast_entry, arrive_entry, tick_entry, entry_of, AreLegal, NoEntries, OneMore, IsLegal}
+use Rattle.cb_history.specs.Legal.{longest_history, Call, ToCast, ToTake, ToTick, OfBytes, cast_entry, arrive_entry, tick_entry, entry_of, room_for_one, AreLegal, NoEntries, OneMore, IsLegal}
 use Rattle.cb_history.specs.LegalFacts.{AreFactsOf}
 use Rattle.cb_history.specs.ReplayLaws.{payload_said, call_of, bytes_in, EntryTellsItsCall, EntriesOfBytesTellBytes, LegalEntriesAreBytes, OneMoreIsDecided, AreReplayed, ReplayingDecides}
-use Rattle.cb_history.proofs.Bounds.{few_facts}
+use Rattle.cb_history.proofs.Counts.{number_left}
 use Rattle.cb_history.proofs.Written.{cast_can, status_can}
 use Rattle.cb_history.proofs.ReadBack.{cast_read}
-use Rattle.cb_history.proofs.Calls.{entry_same}
+use Rattle.cb_history.proofs.Calls.{entry_with_room, entry_in_limit, added_below}
 use Rattle.cb_history.proofs.Prefixes.{last_entry, prefix_is_legal}
-use Rattle.cb_history.proofs.Histories.{frame_taken, legal_histories_say_legal_facts, all_push}
+use Rattle.cb_history.proofs.Histories.{frame_taken, entries_say_legal_facts, legal_histories_say_legal_facts, all_push}
 
 -- ---- what is written is bytes
 
@@ -72,22 +72,22 @@ status_is_bytes s can = one_more_byte status_kind (flat_map spelling (status_num
 abbrev Tells : Call → EntryFields → Type 0
 Tells call e = (call_of e ≡ call) × (OfBytes call → IsBytes (bytes_in e))
 
-cast_reported : (seat : Identity) (entries : List EntryFields) (payload : List ℕ) (e : EntryFields) → AreFactsOf seat (facts_of entries) → cast_entry (cast_answer seat longest_history entries payload) ≡ Some e → Tells (ToCast payload) e
+cast_reported : (seat : Identity) (entries : List EntryFields) (payload : List ℕ) (e : EntryFields) → AreFactsOf seat (facts_of entries) → cast_entry (cast_answer seat (room_for_one entries) entries payload) ≡ Some e → Tells (ToCast payload) e
 unfolding cast_answer
 cast_reported seat entries payload e are =
     let c = next_cast seat (facts_of entries) payload in
     let P : Result CastFields CastRefusal → Type 0 = λ r. cast_entry r ≡ Some e → Tells (ToCast payload) e in
     cond_both (ltb LONGEST_PAYLOAD (length payload)) _ _ P (λ _ h. absurd cc)
     (λ short. cond_both (is_window_full seat (facts_of entries)) _ _ P (λ _ h. absurd cc)
-    (λ _. cond_both (is_full longest_history entries) _ _ P (λ _ h. absurd cc)
+    (λ free. cond_both (is_full (room_for_one entries) entries) _ _ P (λ _ h. absurd cc)
     (λ _ h.
     let is : CastEntry (text_of (CastFrame c)) ≡ e = cc in
-    let can = cast_can seat (facts_of entries) payload are.group are.member are.facts_are (few_facts seat (facts_of entries) are.facts_are) (ltb-false LONGEST_PAYLOAD (length payload) short) in (
+    let can = cast_can seat (facts_of entries) payload are.group are.member are.facts_are (number_left seat (facts_of entries) free) (ltb-false LONGEST_PAYLOAD (length payload) short) in (
       ap call_of (sym is) ∙ ap (λ (r : Result FrameFields FrameFault). ToCast (payload_said r)) (cast_read c can),
       (λ bytes. subst (λ (x : EntryFields). IsBytes (bytes_in x)) is (cast_is_bytes c can bytes)),
     ))))
 
-arrival_reported : (seat : Identity) (entries : List EntryFields) (bytes : List ℕ) (e : EntryFields) (r : Result FrameFields FrameFault) → arrive_entry bytes (answer_to seat longest_history entries r) ≡ Some e → Tells (ToTake bytes) e
+arrival_reported : (seat : Identity) (entries : List EntryFields) (bytes : List ℕ) (e : EntryFields) (r : Result FrameFields FrameFault) → arrive_entry bytes (answer_to seat (room_for_one entries) entries r) ≡ Some e → Tells (ToTake bytes) e
 arrival_reported seat entries bytes e (Ok frame) h =
     let is = (frame_taken seat entries bytes e frame h).is in
     (ap call_of (sym is), (λ are. subst (λ (x : EntryFields). IsBytes (bytes_in x)) is are))
@@ -100,19 +100,19 @@ status_entered status (Err refusal) e h = absurd cc
 
 tick_reported : (seat : Identity) (entries : List EntryFields) (e : EntryFields) → AreFactsOf seat (facts_of entries) → TickEntry (text_of (StatusFrame (status_of seat (facts_of entries)))) ≡ e → Tells ToTick e
 tick_reported seat entries e are is =
-    let can = status_can seat (facts_of entries) are.group are.member are.facts_are (few_facts seat (facts_of entries) are.facts_are) in
+    let can = status_can seat (facts_of entries) are.group are.member are.facts_are in
     (ap call_of (sym is), (λ _. subst (λ (x : EntryFields). IsBytes (bytes_in x)) is (status_is_bytes (status_of seat (facts_of entries)) can)))
 
-call_reported : (seat : Identity) (entries : List EntryFields) (call : Call) (e : EntryFields) → AreFactsOf seat (facts_of entries) → entry_of seat longest_history entries call ≡ Some e → Tells call e
+call_reported : (seat : Identity) (entries : List EntryFields) (call : Call) (e : EntryFields) → AreFactsOf seat (facts_of entries) → entry_of seat (room_for_one entries) entries call ≡ Some e → Tells call e
 unfolding arrive_answer
 call_reported seat entries (ToCast payload) e are h = cast_reported seat entries payload e are h
 call_reported seat entries (ToTake bytes) e are h = arrival_reported seat entries bytes e (frame_at bytes) h
 call_reported seat entries ToTick e are h =
-    tick_reported seat entries e are (status_entered (text_of (StatusFrame (status_of seat (facts_of entries)))) (tick_answer seat longest_history entries) e h)
+    tick_reported seat entries e are (status_entered (text_of (StatusFrame (status_of seat (facts_of entries)))) (tick_answer seat (room_for_one entries) entries) e h)
 
 pub entry_tells_its_call : EntryTellsItsCall
 entry_tells_its_call seat limit entries call e most legal h =
-    (call_reported seat entries call e (legal_histories_say_legal_facts seat entries legal) (entry_same seat limit entries call e most h)).0
+    (call_reported seat entries call e (legal_histories_say_legal_facts seat entries legal) (entry_with_room seat limit entries call e h)).0
 
 -- ---- what is read is bytes
 
@@ -141,7 +141,7 @@ entries_of_bytes_tell_bytes (TickEntry status) bytes = tt
 all_bytes : (seat : Identity) (entries : List EntryFields) → IsIdentity seat → AreLegal seat entries → AllByRecursion (λ e. IsBytes (bytes_in e)) entries
 all_bytes seat _ is NoEntries = tt
 all_bytes seat _ is (OneMore entries call e legal bytes added) =
-    let facts = legal_histories_say_legal_facts seat entries (record { group = is.group; member = is.member; entries_are = legal }) in
+    let facts = (entries_say_legal_facts seat entries (record { group = is.group; member = is.member; entries_are = legal })).0 in
     all_push (λ x. IsBytes (bytes_in x)) entries e (all_bytes seat entries is legal) ((call_reported seat entries call e facts added).1 bytes)
 
 pub legal_entries_are_bytes : LegalEntriesAreBytes
@@ -157,14 +157,18 @@ one_more_is_decided seat entries e legal = (
       let last = last_entry seat entries e more.entries_are in
       let reported = (call_reported seat entries last.0 e (legal_histories_say_legal_facts seat entries legal) last.1).0 in (
         last_of_all (λ x. IsBytes (bytes_in x)) entries e (legal_entries_are_bytes seat (entries ++ e ∷ []) more),
-        subst (λ (call : Call). entry_of seat longest_history entries call ≡ Some e) (sym reported) last.1,
+        entry_in_limit seat longest_history entries (call_of e) e (one_fewer entries e more.few) (subst (λ (call : Call). entry_of seat (room_for_one entries) entries call ≡ Some e) (sym reported) last.1),
       )),
   (λ added. record {
     group = legal.group;
     member = legal.member;
-    entries_are = OneMore entries (call_of e) e legal.entries_are (entries_of_bytes_tell_bytes e added.0) added.1;
+    entries_are = OneMore entries (call_of e) e legal.entries_are (entries_of_bytes_tell_bytes e added.0) (entry_with_room seat longest_history entries (call_of e) e added.1);
+    few = omega (arith, added_below seat longest_history entries (call_of e) e added.1, length-append entries (e ∷ []));
   }),
 )
+  where
+    one_fewer : (entries : List EntryFields) (e : EntryFields) → length (entries ++ e ∷ []) ≤ longest_history → length entries < longest_history
+    one_fewer entries e few = omega (arith, few, length-append entries (e ∷ []))
 
 replayed_is_legal : (seat : Identity) (before more : List EntryFields) → IsLegal seat before → AreReplayed seat before more → IsLegal seat (before ++ more)
 replayed_is_legal seat before [] legal replayed = subst (IsLegal seat) (sym (append-nil before)) legal
@@ -181,5 +185,5 @@ legal_is_replayed seat before (e ∷ more) legal =
 pub replaying_decides : ReplayingDecides
 replaying_decides seat entries is = (
   (λ legal. legal_is_replayed seat [] entries legal),
-  (λ replayed. replayed_is_legal seat [] entries (record { group = is.group; member = is.member; entries_are = NoEntries }) replayed),
+  (λ replayed. replayed_is_legal seat [] entries (record { group = is.group; member = is.member; entries_are = NoEntries; few = omega arith }) replayed),
 )

@@ -7,13 +7,13 @@ use Rattle.cb_frames.specs.declared.frame.Range.{Range}
 use Rattle.cb_frames.specs.Fields.{RequestFrame}
 use Rattle.cb_frames.specs.Text.{ranges_from, AreRanges}
 use Rattle.cb_frames.specs.Laws.{CanBeWritten}
-use Rattle.cb_history.specs.Group.{Identity, AreParameters}
+use Rattle.cb_history.specs.Group.{Identity}
 use Rattle.cb_history.specs.Facts.{Fact, casts_in, is_there}
 use Rattle.cb_history.specs.View.{count, view}
 use Rattle.cb_history.specs.Known.{known, expanded_count, missing, before_ranges, ranges_of}
-use Rattle.cb_history.specs.LegalFacts.{AreLegalFacts}
+use Rattle.cb_history.specs.LegalFacts.{AreFactsOf}
 use Rattle.cb_history.specs.HistoryLaws.{OwnFramesHaveTexts}
-use Rattle.cb_history.proofs.Bounds.{few_facts, count_below}
+use Rattle.cb_history.proofs.Counts.{known_are_numbers}
 use Rattle.cb_history.proofs.Written.{cast_can, status_can}
 
 -- rising numbers, each at least `low` and at most the greatest
@@ -55,17 +55,19 @@ ranges_small : (least : ℕ) (ranges : List Range) → AreRanges least ranges �
 ranges_small least [] are = tt
 ranges_small least (r ∷ ranges) are = (omega (arith, are.1, are.2), (omega (arith, are.2), ranges_small (r.last + 2) ranges are.3))
 
-missing_rise : (seat : Identity) (facts : List Fact) (i : ℕ) → AreParameters seat.group → AreLegalFacts seat facts → Rise 1 (missing seat facts i)
-missing_rise seat facts i group legal =
+missing_rise : (seat : Identity) (facts : List Fact) (i : ℕ) → AreFactsOf seat facts → Rise 1 (missing seat facts i)
+missing_rise seat facts i are =
     let low = expanded_count (casts_in facts) i in
     let high = min (known facts i) (count (view seat.group.size facts) i + seat.group.window) in
-    let bound : high ≤ LAST_NUMBER = omega (arith, count_below seat.group.size facts i, few_facts seat facts legal, group.width.at_most_widest) in
+    let bound : high ≤ LAST_NUMBER = omega (arith, known_are_numbers seat facts i are) in
     filtered_rise (λ n. not (is_there (casts_in facts) i n)) (low + 1) (high - low) 1 (omega arith) (λ k lt. omega (arith, lt, bound))
 
-request_can : (seat : Identity) (facts : List Fact) (i : ℕ) (r : Range) (ranges : List Range) → AreParameters seat.group → seat.me < seat.group.size → AreLegalFacts seat facts → i < seat.group.size → ranges_of (missing seat facts i) ≡ r ∷ ranges
+request_can : (seat : Identity) (facts : List Fact) (i : ℕ) (r : Range) (ranges : List Range) → AreFactsOf seat facts → i < seat.group.size → ranges_of (missing seat facts i) ≡ r ∷ ranges
     → CanBeWritten (RequestFrame (record { group = seat.group.number; requester = seat.me; asked = i; ranges = take MOST_RANGES (r ∷ ranges) }))
-request_can seat facts i r ranges group member legal asked is =
-    let all : AreRanges 1 (r ∷ ranges) = subst (AreRanges 1) is (ranges_are 1 (missing seat facts i) (missing_rise seat facts i group legal)) in
+request_can seat facts i r ranges are asked is =
+    let group = are.group in
+    let member = are.member in
+    let all : AreRanges 1 (r ∷ ranges) = subst (AreRanges 1) is (ranges_are 1 (missing seat facts i) (missing_rise seat facts i are)) in
     let some : AreRanges 1 (take MOST_RANGES (r ∷ ranges)) = taken_are MOST_RANGES 1 (r ∷ ranges) all in
     let few : length (take MOST_RANGES (r ∷ ranges)) ≤ MOST_RANGES = taken_few MOST_RANGES (r ∷ ranges) in
     let few_members = group.size.at_most_sixty_four in (
@@ -81,9 +83,8 @@ request_can seat facts i r ranges group member legal asked is =
     )
 
 pub own_frames_have_texts : OwnFramesHaveTexts
-own_frames_have_texts seat facts are =
-    let few = few_facts seat facts are.facts_are in (
-      (λ payload short. cast_can seat facts payload are.group are.member are.facts_are few short),
-      status_can seat facts are.group are.member are.facts_are few,
-      (λ i r ranges asked is. request_can seat facts i r ranges are.group are.member are.facts_are asked is),
-    )
+own_frames_have_texts seat facts are = (
+  (λ payload left short. cast_can seat facts payload are.group are.member are.facts_are left short),
+  status_can seat facts are.group are.member are.facts_are,
+  (λ i r ranges asked is. request_can seat facts i r ranges are asked is),
+)

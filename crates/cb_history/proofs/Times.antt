@@ -19,7 +19,7 @@ use Rattle.cb_history.proofs.Views.{IsIn, next_is, casts_in-append, test_true, a
 use Rattle.cb_history.proofs.Lists.{messages_in-push, in_push, in_is_among, among_is, count-append, count_own, count_other, among_by_order, order_bound, or_false, both_false, flipped}
 use Rattle.cb_history.proofs.Walks.{drain_keeps, view_grows, view_own, view_received, view_status, view_reported, own_casts-own, IsNotOwn}
 use Rattle.cb_history.proofs.Names.{Stands, StandsAt, all_stand, message, received_is_others}
-use Rattle.cb_history.proofs.Bounds.{few_facts, count_below}
+use Rattle.cb_history.proofs.Counts.{count_at_most_last}
 use Rattle.cb_history.proofs.Prefixes.{prefix_of_facts_is_legal}
 use Rattle.cb_history.proofs.Rising.{expanded_more}
 use Rattle.cb_diffs.proofs.Sums.{growth_of-other, growth_of-own}
@@ -153,7 +153,7 @@ upto_below_step size facts (OwnStatus s) k below = upto_below_other size facts (
 
 pub upto_below : (seat : Identity) (facts : List Fact) (k : ℕ) → AreLegalFacts seat facts → UptoBelow seat.group.size facts k
 upto_below seat _ k NoFacts = omega arith
-upto_below seat _ k (OneFactMore facts f before room step) = upto_below_step seat.group.size facts f k (upto_below seat facts k before)
+upto_below seat _ k (OneFactMore facts f before step) = upto_below_step seat.group.size facts f k (upto_below seat facts k before)
 
 -- ---- the increments of own casts sum up
 
@@ -209,7 +209,7 @@ none_summed seat k number le = refl
 
 own_sum : (seat : Identity) (facts : List Fact) (k : ℕ) → seat.me < seat.group.size → k < seat.group.size → k ≢ seat.me → AreLegalFacts seat facts → OwnSum seat facts k
 own_sum seat _ k member lt other NoFacts = none_summed seat k
-own_sum seat _ k member lt other (OneFactMore facts f before room step) = own_sum_step seat facts f k lt other before (all_stand seat facts member before) step (own_sum seat facts k member lt other before)
+own_sum seat _ k member lt other (OneFactMore facts f before step) = own_sum_step seat facts f k lt other before (all_stand seat facts member before) step (own_sum seat facts k member lt other before)
 
 -- ---- an own cast tells the view
 
@@ -224,17 +224,17 @@ own_number seat facts c s =
     let as_many : length (own_casts (facts ++ OwnCast c ∷ [])) ≡ length (own_casts facts) + 1 = ap length own ∙ length-append (own_casts facts) (c ∷ []) in
     (last.0, omega (arith, last.1, s.own_count, as_many))
 
-pub tells : (seat : Identity) (facts : List Fact) (c : CastFields) (k : ℕ) → seat.me < seat.group.size → AreLegalFacts seat (facts ++ OwnCast c ∷ []) → length (facts ++ OwnCast c ∷ []) ≤ greatest → k < seat.group.size
+pub tells : (seat : Identity) (facts : List Fact) (c : CastFields) (k : ℕ) → seat.me < seat.group.size → AreLegalFacts seat (facts ++ OwnCast c ∷ []) → k < seat.group.size
     → expanded_field (casts_in (facts ++ OwnCast c ∷ [])) seat.me c.number k ≡ count (view seat.group.size (facts ++ OwnCast c ∷ [])) k
-tells seat facts c k member legal few lt =
+tells seat facts c k member legal lt =
     let last = own_number seat facts c (all_stand seat (facts ++ OwnCast c ∷ []) member legal) in
     elim (cases_eq k seat.me) [
       | inl e ↦ rw (eq-eqb k seat.me e) (last.1 ∙ ap (count (view seat.group.size (facts ++ OwnCast c ∷ []))) (sym e))
       | inr ne ↦
           let sum = own_sum seat (facts ++ OwnCast c ∷ []) k member lt ne legal c.number (omega (arith, last.1)) in
           let upto : count (view seat.group.size (upto_last_cast (facts ++ OwnCast c ∷ []))) k ≡ count (view seat.group.size (facts ++ OwnCast c ∷ [])) k = ap (λ (fs : List Fact). count (view seat.group.size fs) k) (upto_own facts c) in
-          let small = count_below seat.group.size (facts ++ OwnCast c ∷ []) k in
-          rw (ne_eqb k seat.me ne) (omega (arith, sum, upto, small, few))
+          let small = count_at_most_last seat (facts ++ OwnCast c ∷ []) k member legal in
+          rw (ne_eqb k seat.me ne) (omega (arith, sum, upto, small))
     ]
 
 pub same_over_range : (f g : ℕ → ℕ) (a n : ℕ) → ((k : ℕ) → k < a + n → f k ≡ g k) → map f (range_with_len a n) ≡ map g (range_with_len a n)
@@ -259,7 +259,7 @@ own_casts_tell_the_view seat facts more c are =
     (subst (λ (fs : List Fact). expanded_field (casts_in fs) c.sender c.number k ≡ expanded_field (casts_in (facts ++ OwnCast c ∷ [])) c.sender c.number k) regrouped
     (times_stay seat (facts ++ OwnCast c ∷ []) more (message c) k all (own_is_expanded seat facts c s))) in
     same_over_range (expanded_field (casts_in (facts ++ OwnCast c ∷ more)) seat.me c.number) (count (view seat.group.size (facts ++ OwnCast c ∷ []))) 0 seat.group.size
-    (λ k lt. stay k ∙ tells seat facts c k now.member now.facts_are (omega (arith, few_facts seat (facts ++ OwnCast c ∷ []) now.facts_are)) (omega (arith, lt)))
+    (λ k lt. stay k ∙ tells seat facts c k now.member now.facts_are (omega (arith, lt)))
 
 -- ---- the times of what was delivered
 
@@ -321,7 +321,7 @@ reached_step seat facts (OwnCast c) member legal s reached =
     subst (Reached seat.group.size (casts_in (facts ++ OwnCast c ∷ []))) (sym (view_own seat.group.size facts c))
     (reached_push seat.group.size (casts_in (facts ++ OwnCast c ∷ [])) (view seat.group.size facts) (message c) (reached_stays seat facts (OwnCast c) s after reached)
     (λ k lt.
-    let reported = tells seat facts c k member legal (omega (arith, few_facts seat (facts ++ OwnCast c ∷ []) legal)) lt in
+    let reported = tells seat facts c k member legal lt in
     let at : expanded_field (casts_in (facts ++ OwnCast c ∷ [])) c.sender c.number k ≡ count (view seat.group.size facts ++ message c ∷ []) k =
     ap (λ (i : ℕ). expanded_field (casts_in (facts ++ OwnCast c ∷ [])) i c.number k) number.0 ∙ reported ∙ ap (λ (ms : List Carried). count ms k) (view_own seat.group.size facts c) in
     subst (λ (n : ℕ). n ≤ count (view seat.group.size facts ++ message c ∷ []) k) (sym at) (omega arith)))
@@ -343,8 +343,8 @@ none_reached seat m there k lt = absurd there
 
 all_reached : (seat : Identity) (facts : List Fact) → seat.me < seat.group.size → AreLegalFacts seat facts → ReachedAt seat facts
 all_reached seat _ member NoFacts = none_reached seat
-all_reached seat _ member (OneFactMore facts f before room step) =
-    reached_step seat facts f member (OneFactMore facts f before room step) (all_stand seat facts member before) (all_reached seat facts member before)
+all_reached seat _ member (OneFactMore facts f before step) =
+    reached_step seat facts f member (OneFactMore facts f before step) (all_stand seat facts member before) (all_reached seat facts member before)
 
 pub times_are_reached : TimesAreReached
 times_are_reached seat facts m k are among lt =

@@ -1,7 +1,8 @@
 -- The bounds that the windows keep.
-use Rattle.std.proofs.Common.{◌≡◌, ◌+◌, ◌<◌, ◌≤◌, List, [], ◌∷◌, ◌++◌, length, refl, sym, ap, subst, ◌∙◌, arith, inl, inr}
+use Rattle.std.proofs.Common.{◌≡◌, ◌+◌, ◌<◌, ◌≤◌, leb, List, [], ◌∷◌, ◌++◌, length, refl, sym, ap, subst, ◌∙◌, arith, inl, inr}
 use Rattle.std.proofs.lemmas.Bool.{ltb-false, leb-false}
 use Rattle.std.proofs.lemmas.List.{append-nil}
+use Rattle.cb_frames.specs.declared.frame.TheConstants.{LAST_NUMBER}
 use Rattle.cb_frames.specs.Fields.{CastFields, Carried}
 use Rattle.cb_history.specs.Group.{Identity}
 use Rattle.cb_history.specs.Facts.{Fact, OwnCast, CastReceived, StatusReceived, OwnStatus, cast_in, casts_in, messages_in}
@@ -11,7 +12,7 @@ use Rattle.cb_history.specs.Answers.{own_casts, delivered}
 use Rattle.cb_history.specs.LegalFacts.{IsStep, AreLegalFacts, NoFacts, OneFactMore}
 use Rattle.cb_history.specs.WindowLaws.{CastsAreNear, OwnCastsAreNearStable}
 use Rattle.cb_history.proofs.Views.{IsIn, casts_in-append}
-use Rattle.cb_history.proofs.Lists.{messages_in-push, in_push, count_own}
+use Rattle.cb_history.proofs.Lists.{messages_in-push, in_push, or_false, count_own}
 use Rattle.cb_history.proofs.Walks.{view_own, own_casts-other, IsNotOwn}
 use Rattle.cb_history.proofs.Names.{message, StandsAt, all_stand}
 use Rattle.cb_history.proofs.Times.{count_grows, own_number}
@@ -54,7 +55,7 @@ near_step seat facts (OwnStatus t) s step near = near_same seat facts (OwnStatus
 
 all_near : (seat : Identity) (facts : List Fact) → seat.me < seat.group.size → AreLegalFacts seat facts → AreNear seat facts
 all_near seat _ member NoFacts = λ m there. absurd there
-all_near seat _ member (OneFactMore facts f before room step) = near_step seat facts f (all_stand seat (facts ++ f ∷ []) member (OneFactMore facts f before room step)) step (all_near seat facts member before)
+all_near seat _ member (OneFactMore facts f before step) = near_step seat facts f (all_stand seat (facts ++ f ∷ []) member (OneFactMore facts f before step)) step (all_near seat facts member before)
 
 pub casts_are_near : CastsAreNear
 casts_are_near seat facts i n are there =
@@ -78,7 +79,8 @@ other_near_stable seat facts f other s after near =
 
 near_stable_step : (seat : Identity) (facts : List Fact) (f : Fact) → StandsAt seat facts → StandsAt seat (facts ++ f ∷ []) → IsStep seat facts f → IsNearStable seat facts → IsNearStable seat (facts ++ f ∷ [])
 near_stable_step seat facts (OwnCast c) s after step near =
-    let open_window = leb-false (stable seat facts + seat.group.window) (delivered seat facts seat.me) step.window in
+    let by_stable = leb (stable seat facts + seat.group.window) (delivered seat facts seat.me) in
+    let open_window = leb-false (stable seat facts + seat.group.window) (delivered seat facts seat.me) (or_false by_stable (leb LAST_NUMBER (delivered seat facts seat.me)) step.window).0 in
     let one_more : count (view seat.group.size (facts ++ OwnCast c ∷ [])) seat.me ≡ count (view seat.group.size facts) seat.me + 1 =
     ap (λ (ms : List Carried). count ms seat.me) (view_own seat.group.size facts c) ∙ count_own (view seat.group.size facts) (message c) seat.me (own_number seat facts c after).0 in
     omega (arith, open_window, one_more, (nothing_falls seat facts (OwnCast c)).2)
@@ -88,8 +90,8 @@ near_stable_step seat facts (OwnStatus t) s after step near = other_near_stable 
 
 all_near_stable : (seat : Identity) (facts : List Fact) → seat.me < seat.group.size → AreLegalFacts seat facts → IsNearStable seat facts
 all_near_stable seat _ member NoFacts = let none = (all_stand seat [] member NoFacts).own_count in omega (arith, none)
-all_near_stable seat _ member (OneFactMore facts f before room step) =
-    near_stable_step seat facts f (all_stand seat facts member before) (all_stand seat (facts ++ f ∷ []) member (OneFactMore facts f before room step)) step (all_near_stable seat facts member before)
+all_near_stable seat _ member (OneFactMore facts f before step) =
+    near_stable_step seat facts f (all_stand seat facts member before) (all_stand seat (facts ++ f ∷ []) member (OneFactMore facts f before step)) step (all_near_stable seat facts member before)
 
 pub own_casts_are_near_stable : OwnCastsAreNearStable
 own_casts_are_near_stable seat facts are = all_near_stable seat facts are.member are.facts_are

@@ -4,7 +4,7 @@ use Rattle.std.specs.List.{AllByRecursion, filter, range_with_len}
 use Rattle.std.proofs.lemmas.Bool.{cond_both, ltb-true, eqb-false}
 use Rattle.std.proofs.lemmas.List.FromFn.{length-map-range_with_len, get_or-map-range_with_len}
 use Rattle.cb_times.specs.Order.{field}
-use Rattle.cb_frames.specs.declared.frame.TheConstants.{LONGEST_PAYLOAD}
+use Rattle.cb_frames.specs.declared.frame.TheConstants.{LONGEST_PAYLOAD, LAST_NUMBER}
 use Rattle.cb_frames.specs.declared.frame.Change.{Change}
 use Rattle.cb_frames.specs.Fields.{CastFrame, StatusFrame}
 use Rattle.cb_frames.specs.Text.{pairs_from, RisesFrom, IsChange, IsValue, KeepsCastRules, KeepsStatusRules}
@@ -14,10 +14,9 @@ use Rattle.cb_history.specs.Group.{Identity, AreParameters}
 use Rattle.cb_history.specs.Facts.{Fact}
 use Rattle.cb_history.specs.View.{count, view, time_of}
 use Rattle.cb_history.specs.Answers.{delivered, next_cast, status_of, upto_last_cast}
-use Rattle.cb_history.specs.Legal.{longest_history}
 use Rattle.cb_history.specs.LegalFacts.{AreLegalFacts}
 use Rattle.cb_history.proofs.Views.{test_true, not_true}
-use Rattle.cb_history.proofs.Bounds.{count_below}
+use Rattle.cb_history.proofs.Counts.{count_at_most_last}
 
 -- ---- lists made from the fields in their order
 
@@ -59,10 +58,10 @@ small_both (m ∷ ms) ns a b = (a.0, small_both ms ns a.1 b)
 
 -- ---- the next cast
 
-amount_below : (seat : Identity) (facts : List Fact) (previous : List ℕ) (k : ℕ) → AreLegalFacts seat facts → k < seat.group.size → field (time_of seat.group.size facts) k - field previous k ≤ length facts
-amount_below seat facts previous k legal lt =
+amount_below : (seat : Identity) (facts : List Fact) (previous : List ℕ) (k : ℕ) → seat.me < seat.group.size → AreLegalFacts seat facts → k < seat.group.size → field (time_of seat.group.size facts) k - field previous k ≤ LAST_NUMBER
+amount_below seat facts previous k member legal lt =
     let at : field (time_of seat.group.size facts) k ≡ count (view seat.group.size facts) k = get_or-map-range_with_len (count (view seat.group.size facts)) 0 seat.group.size k k 0 lt (omega arith) in
-    let bound = count_below seat.group.size facts k in
+    let bound = count_at_most_last seat facts k member legal in
     omega (arith, at, bound)
 
 reported_says : (own : ℕ) (d : Change) → is_reported own d ≡ true → (d.field ≢ own) × (1 ≤ d.amount)
@@ -87,18 +86,17 @@ next_keeps seat facts payload few_members member =
       };
     }
 
-pub cast_can : (seat : Identity) (facts : List Fact) (payload : List ℕ) → AreParameters seat.group → seat.me < seat.group.size → AreLegalFacts seat facts → length facts ≤ longest_history → length payload ≤ LONGEST_PAYLOAD
+pub cast_can : (seat : Identity) (facts : List Fact) (payload : List ℕ) → AreParameters seat.group → seat.me < seat.group.size → AreLegalFacts seat facts → delivered seat facts seat.me < LAST_NUMBER → length payload ≤ LONGEST_PAYLOAD
     → CanBeWritten (CastFrame (next_cast seat facts payload))
-cast_can seat facts payload group member legal room short =
+cast_can seat facts payload group member legal left short =
     let previous = time_of seat.group.size (upto_last_cast facts) in
     let now = time_of seat.group.size facts in
     let size : length now ≡ seat.group.size = length-map-range_with_len (count (view seat.group.size facts)) 0 seat.group.size in
     let few_members = group.size.at_most_sixty_four in
     let fits = group.number_fits in
-    let number = count_below seat.group.size facts seat.me in
     let few : length (differences previous now seat.me) ≤ length now = few_from (is_reported seat.me) (change_of previous now) 0 (length now) in
     let small : AllByRecursion IsSmall (differences previous now seat.me) = each_from (is_reported seat.me) (change_of previous now) IsSmall 0 (length now) (λ k lt reported.
-    let below = amount_below seat facts previous k legal (omega (arith, lt, size)) in (omega (arith, lt, size, few_members), omega (arith, below, room))) in (
+    let below = amount_below seat facts previous k member legal (omega (arith, lt, size)) in (omega (arith, lt, size, few_members), omega (arith, below))) in (
       next_keeps seat facts payload few_members member,
       short,
       (
@@ -106,7 +104,7 @@ cast_can seat facts payload group member legal room short =
         (
           omega (arith, member, few_members),
           (
-            omega (arith, number, room),
+            omega (arith, left),
             (
               omega (arith, few, size, few_members),
               small_both (pairs_from 0 (differences previous now seat.me)) (length payload ∷ []) (pairs_small 0 (differences previous now seat.me) small) (omega (arith, short), tt),
@@ -132,15 +130,15 @@ status_keeps seat facts few_members member =
       };
     }
 
-pub status_can : (seat : Identity) (facts : List Fact) → AreParameters seat.group → seat.me < seat.group.size → AreLegalFacts seat facts → length facts ≤ longest_history → CanBeWritten (StatusFrame (status_of seat facts))
-status_can seat facts group member legal room =
+pub status_can : (seat : Identity) (facts : List Fact) → AreParameters seat.group → seat.me < seat.group.size → AreLegalFacts seat facts → CanBeWritten (StatusFrame (status_of seat facts))
+status_can seat facts group member legal =
     let value : ℕ → Change = λ k. record { field = k; amount = delivered seat facts k } in
     let some : Change → Bool = λ d. ltb 0 d.amount in
     let few_members = group.size.at_most_sixty_four in
     let fits = group.number_fits in
     let few : length (filter some (map value (range_with_len 0 seat.group.size))) ≤ seat.group.size = few_from some value 0 seat.group.size in
     let small : AllByRecursion IsSmall (filter some (map value (range_with_len 0 seat.group.size))) = each_from some value IsSmall 0 seat.group.size (λ k lt reported.
-    let below = count_below seat.group.size facts k in (omega (arith, lt, few_members), omega (arith, below, room))) in (
+    let below = count_at_most_last seat facts k member legal in (omega (arith, lt, few_members), omega (arith, below))) in (
       status_keeps seat facts few_members member,
       omega arith,
       (fits, (omega (arith, member, few_members), (omega (arith, few, few_members), pairs_small 0 (filter some (map value (range_with_len 0 seat.group.size))) small))),

@@ -1,7 +1,7 @@
 -- What a member answers, as a function of its history. Every quantity is that of the view or of what is known.
 use Rattle.std.specs.Prelude.{ℕ, ◌+◌, Bool, true, false, ◌&&◌, ◌||◌, not, ◌==◌, nat_le, nat_lt, List, [], ◌∷◌, ◌++◌, length, take, drop, map, filter, Option, Some, None, Result, Ok, Err, if◌then◌else◌}
 use Rattle.std.specs.List.{list_any, list_all, range_with_len, flat_map}
-use Rattle.cb_frames.specs.declared.frame.TheConstants.{LONGEST_PAYLOAD, MOST_FRAMES, MOST_RANGES}
+use Rattle.cb_frames.specs.declared.frame.TheConstants.{LONGEST_PAYLOAD, MOST_FRAMES, MOST_RANGES, LAST_NUMBER}
 use Rattle.cb_frames.specs.declared.frame.Range.{Range}
 use Rattle.cb_frames.specs.declared.fault.FrameFault.{FrameFault}
 use Rattle.cb_frames.specs.Fields.{CastFields, StatusFields, FrameFields, CastFrame, StatusFrame, RequestFrame, messages_of, first_number, last_number}
@@ -55,9 +55,9 @@ next_cast seat facts payload = record {
   payload = payload;
 }
 
--- as many own casts as the window are not known to be delivered everywhere
+-- as many own casts as the window are not known to be delivered everywhere, or no number is left for another
 abbrev pub is_window_full : Identity → List Fact → Bool
-is_window_full seat facts = nat_le (stable seat facts + seat.group.window) (delivered seat facts seat.me)
+is_window_full seat facts = nat_le (stable seat facts + seat.group.window) (delivered seat facts seat.me) || nat_le LAST_NUMBER (delivered seat facts seat.me)
 
 -- the frame of the cast, or why there is none
 unfoldable pub cast_answer : Identity → ℕ → List EntryFields → List ℕ → Result CastFields CastRefusal

@@ -1,5 +1,5 @@
 -- Histories that a member can have.
-use Rattle.std.specs.Prelude.{◌≡◌, ℕ, ◌<◌, Bool, List, [], ◌∷◌, ◌++◌, map, Option, Some, None, Result, Ok, Err, if◌then◌else◌}
+use Rattle.std.specs.Prelude.{◌≡◌, ℕ, ◌+◌, ◌<◌, ◌≤◌, Bool, List, [], ◌∷◌, ◌++◌, length, map, Option, Some, None, Result, Ok, Err, if◌then◌else◌}
 use Rattle.cb_frames.specs.Fields.{CastFields, StatusFrame, CastFrame}
 use Rattle.cb_frames.specs.Text.{text_of}
 use Rattle.cb_frames.specs.Laws.{IsBytes}
@@ -55,13 +55,24 @@ and_entry entries (Some e) = entries ++ e ∷ []
 abbrev pub history_after : Identity → ℕ → List EntryFields → Call → List EntryFields
 history_after seat limit entries call = and_entry entries (entry_of seat limit entries call)
 
--- Each entry is the one that some call adds to the entries before it.
+-- the least limit that leaves room for one entry more; with any greater one a call adds the same entry
+abbrev pub room_for_one : List EntryFields → ℕ
+room_for_one entries = length entries + 1
+
+-- Each entry is the one that some call adds to the entries before it, however many these are.
 pub data AreLegal (seat : Identity) : List EntryFields → Type 0 where
   NoEntries : AreLegal seat []
-  OneMore : (entries : List EntryFields) (call : Call) (e : EntryFields) → AreLegal seat entries → OfBytes call → entry_of seat longest_history entries call ≡ Some e → AreLegal seat (entries ++ e ∷ [])
+  OneMore : (entries : List EntryFields) (call : Call) (e : EntryFields) → AreLegal seat entries → OfBytes call → entry_of seat (room_for_one entries) entries call ≡ Some e → AreLegal seat (entries ++ e ∷ [])
 
--- a history of a member of a group
+-- what a member of a group may have entered, without a limit
+pub record AreEntriesOf (seat : Identity) (entries : List EntryFields) : Type 0 where
+  pub group : AreParameters seat.group
+  pub member : seat.me < seat.group.size
+  pub entries_are : AreLegal seat entries
+
+-- a history of a member of a group: such entries, and not too many
 pub record IsLegal (seat : Identity) (entries : List EntryFields) : Type 0 where
   pub group : AreParameters seat.group
   pub member : seat.me < seat.group.size
   pub entries_are : AreLegal seat entries
+  pub few : length entries ≤ longest_history

@@ -1,11 +1,11 @@
 -- The facts of a legal history, one after another.
-use Rattle.std.specs.Prelude.{◌≡◌, ◌≤◌, ◌<◌, true, false, List, [], ◌∷◌, ◌++◌, length}
-use Rattle.cb_frames.specs.declared.frame.TheConstants.{LONGEST_PAYLOAD}
-use Rattle.cb_frames.specs.Fields.{CastFields, first_number, StatusFields, FrameFields, CastFrame, StatusFrame}
+use Rattle.std.specs.Prelude.{◌≡◌, ℕ, ◌≤◌, ◌<◌, true, false, List, [], ◌∷◌, ◌++◌, length}
+use Rattle.cb_frames.specs.declared.frame.TheConstants.{LONGEST_PAYLOAD, LAST_NUMBER}
+use Rattle.cb_frames.specs.Fields.{CastFields, first_number, last_number, StatusFields, FrameFields, CastFrame, StatusFrame, RequestFrame}
 use Rattle.cb_history.specs.Group.{Identity, AreParameters}
 use Rattle.cb_history.specs.Facts.{Fact, OwnCast, CastReceived, StatusReceived, OwnStatus}
+use Rattle.cb_history.specs.Known.{value_in}
 use Rattle.cb_history.specs.Answers.{is_window_full, next_cast, group_of, are_members, is_impossible, is_repeat, is_too_far, is_change, status_of, is_new_status}
-use Rattle.cb_history.specs.Legal.{longest_history}
 
 -- an own cast: the next one, of a payload that is not too long, while the window is not full
 pub record IsOwnCast (seat : Identity) (facts : List Fact) (c : CastFields) : Type 0 where
@@ -13,8 +13,15 @@ pub record IsOwnCast (seat : Identity) (facts : List Fact) (c : CastFields) : Ty
   pub window : is_window_full seat facts ≡ false
   pub next : c ≡ next_cast seat facts c.payload
 
+-- the numbers of messages that a frame says are numbers that messages can have
+abbrev pub SaysNumbers : FrameFields → Type 0
+SaysNumbers (CastFrame c) = last_number c ≤ LAST_NUMBER
+SaysNumbers (StatusFrame s) = (k : ℕ) → value_in s.values k ≤ LAST_NUMBER
+SaysNumbers (RequestFrame r) = Unit {0}
+
 -- a received frame, was not refused and changed the state: of the group and its members, possible, no repeat, not too far, and news
 pub record IsTaken (seat : Identity) (facts : List Fact) (frame : FrameFields) : Type 0 where
+  pub numbers : SaysNumbers frame
   pub group : group_of frame ≡ seat.group.number
   pub members : are_members seat.group.size frame ≡ true
   pub possible : is_impossible seat facts frame ≡ false
@@ -39,12 +46,12 @@ IsStep seat facts (CastReceived c) = IsCastTaken seat facts c
 IsStep seat facts (StatusReceived s) = IsTaken seat facts (StatusFrame s)
 IsStep seat facts (OwnStatus s) = IsOwnStatus seat facts s
 
--- Each fact is a step from the facts before it, of which there are fewer than a history can have.
+-- Each fact is a step from the facts before it, however many these are.
 pub data AreLegalFacts (seat : Identity) : List Fact → Type 0 where
   NoFacts : AreLegalFacts seat []
-  OneFactMore : (facts : List Fact) (f : Fact) → AreLegalFacts seat facts → length facts < longest_history → IsStep seat facts f → AreLegalFacts seat (facts ++ f ∷ [])
+  OneFactMore : (facts : List Fact) (f : Fact) → AreLegalFacts seat facts → IsStep seat facts f → AreLegalFacts seat (facts ++ f ∷ [])
 
--- the facts of a member of a group
+-- the facts of a member of a group, without a limit
 pub record AreFactsOf (seat : Identity) (facts : List Fact) : Type 0 where
   pub group : AreParameters seat.group
   pub member : seat.me < seat.group.size

@@ -24,6 +24,8 @@ pub mod BufferLaws
 pub mod StatusLaws
 pub mod OwnFrameLaws
 pub mod WindowLaws
+pub mod CountLaws
+pub mod LimitLaws
 pub mod ArrivalLaws
 pub mod ExpanderLaws
 pub mod ReplayLaws

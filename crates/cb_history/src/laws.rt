@@ -2,6 +2,7 @@
 
 mod arrivals;
 mod buffers;
+mod counts;
 mod deliveries;
 mod events;
 mod expander;
@@ -22,12 +23,15 @@ mod windows;
 
 pub use arrivals::accepted_casts_are_there;
 pub use buffers::reorder_buffers_hold_what_waits;
+pub use counts::counts_are_numbers;
 pub use deliveries::{deliveries_come_one_by_one, readiness_is_the_delay_rule};
 pub use events::events_with_one_more_fact;
 pub use expander::the_expander_tells_the_times;
 pub use expansion::what_is_expanded;
 pub use gaps::missing_numbers;
-pub use histories::{calls_keep_histories_legal, histories_say_facts, prefixes_are_legal};
+pub use histories::{
+    calls_keep_histories_legal, histories_say_facts, legality_without_a_limit, prefixes_are_legal,
+};
 pub use knowledge::knowledge_grows;
 pub use names::names_and_order;
 pub use own_frames::own_frames_are_of_the_group;

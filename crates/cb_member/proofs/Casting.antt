@@ -1,27 +1,29 @@
 -- The next cast, made from what is kept.
-use Rattle.std.proofs.Common.{◌≡◌, ℕ, ◌+◌, ◌<◌, ◌≤◌, inl, inr, List, [], ◌∷◌, ◌++◌, length, set, map, refl, sym, ap, subst, ◌∙◌, arith, Result, Ok, Err}
+use Rattle.std.proofs.Common.{◌≡◌, ◌≢◌, ℕ, true, false, ◌+◌, ◌<◌, ◌≤◌, inl, inr, List, [], ◌∷◌, ◌++◌, length, set, map, refl, sym, ap, subst, ◌∙◌, arith, Result, Ok, Err}
 use Rattle.std.specs.Prelude.{IfOk}
 use Rattle.std.specs.List.{flat_map}
-use Rattle.std.proofs.lemmas.Bool.{cases_eq, cases_lt}
+use Rattle.std.proofs.lemmas.Bool.{cases_Bool, cases_eq, cases_lt}
 use Rattle.std.proofs.lemmas.List.{length-set, get_or-set_same, get_or-set_other, get_or_past, ext_get_or}
 use Rattle.std.proofs.lemmas.List.FromFn.{length-map-range_with_len}
 use Rattle.cb_times.specs.Order.{field, AtMost}
+use Rattle.cb_frames.specs.declared.frame.TheConstants.{LAST_NUMBER}
 use Rattle.cb_frames.specs.declared.frame.Change.{Change}
 use Rattle.cb_varint.specs.Reading.{spelling}
 use Rattle.cb_frames.specs.Fields.{Carried, CastFields, CastFrame}
 use Rattle.cb_frames.specs.Text.{cast_kind, cast_numbers, text_of}
 use Rattle.cb_delay.specs.declared.message.Message.{Message}
 use Rattle.cb_diffs.specs.Differences.{differences}
+use Rattle.cb_stability.specs.Sent.{room_of}
 use Rattle.cb_history.specs.Group.{Identity}
 use Rattle.cb_history.specs.Facts.{CastEntry, Fact, entry_fields}
 use Rattle.cb_history.specs.View.{count, counts, view, time_of}
-use Rattle.cb_history.specs.Answers.{delivered, upto_last_cast, next_cast}
-use Rattle.cb_history.specs.Legal.{longest_history}
+use Rattle.cb_history.specs.Answers.{delivered, upto_last_cast, next_cast, is_window_full}
 use Rattle.cb_history.specs.LegalFacts.{AreFactsOf}
 use Rattle.cb_history.proofs.Lists.{count_own, count_other}
 use Rattle.cb_history.proofs.Delivering.{in_field}
 use Rattle.cb_history.proofs.Times.{upto_below}
-use Rattle.cb_history.proofs.Bounds.{few_facts, count_below}
+use Rattle.cb_history.proofs.Counts.{number_left}
+use Rattle.cb_history.proofs.Keeping.{no_room_is_full}
 use Rattle.cb_history.proofs.Histories.{legal_histories_say_legal_facts}
 use Rattle.cb_member.specs.declared.store.Store.{Store}
 use Rattle.cb_member.specs.Store.{IsKept, facts_held}
@@ -47,11 +49,18 @@ pub own_delivered : (seat : Identity) (limit : ℕ) (store : Store) → IsKept s
 own_delivered seat limit store k =
     ap (λ (time : List ℕ). field time seat.me) k.keeps.delivered.waits.time ∙ in_field seat.group.size (count (view seat.group.size (facts_held store))) seat.me (facts_kept seat limit store k).member
 
--- no member has more casts than a history has entries
-pub own_few : (seat : Identity) (limit : ℕ) (store : Store) → IsKept seat limit store → field store.delivery.time seat.me ≤ longest_history
-own_few seat limit store k =
-    let are = facts_kept seat limit store k in
-    omega (arith, own_delivered seat limit store k, count_below seat.group.size (facts_held store) seat.me, few_facts seat (facts_held store) are.facts_are)
+-- while there is room in the window it is not full, and a number is left
+pub is_free : (seat : Identity) (limit : ℕ) (store : Store) → IsKept seat limit store → room_of store.sending.window ≢ 0 → is_window_full seat (facts_held store) ≡ false
+is_free seat limit store k some = elim (cases_Bool (is_window_full seat (facts_held store))) [
+  | inl full ↦ absurd (some ((no_room_is_full seat (facts_held store) store.sending.window (facts_kept seat limit store k) k.keeps.sent.window).1 full))
+  | inr free ↦ free
+]
+
+pub number_kept : (seat : Identity) (limit : ℕ) (store : Store) → IsKept seat limit store → 0 < room_of store.sending.window → delivered seat (facts_held store) seat.me < LAST_NUMBER
+number_kept seat limit store k some = number_left seat (facts_held store) (is_free seat limit store k (λ e. omega (arith, e, some)))
+
+pub own_left : (seat : Identity) (limit : ℕ) (store : Store) → IsKept seat limit store → 0 < room_of store.sending.window → field store.delivery.time seat.me < LAST_NUMBER
+own_left seat limit store k some = omega (arith, own_delivered seat limit store k, number_kept seat limit store k some)
 
 -- the time has only grown since the last cast
 pub has_grown : (seat : Identity) (limit : ℕ) (store : Store) → IsKept seat limit store → AtMost (field store.sending.last_cast) (field store.delivery.time)

@@ -1,7 +1,7 @@
 -- Whether a payload can be cast.
 use Rattle.std.proofs.Common.{◌≡◌, ◌≢◌, ℕ, ◌<◌, ◌≤◌, inl, inr, true, false, List, length, map, Ok, Err, refl, ap, arith}
 use Rattle.std.specs.Prelude.{IsOk, is_ok}
-use Rattle.std.proofs.lemmas.Bool.{both_ways, cases_lt, le-ltb, lt-leb, le-leb, lt-ltb, cases_Bool}
+use Rattle.std.proofs.lemmas.Bool.{both_ways, cases_lt, le-ltb, lt-leb, le-leb, lt-ltb}
 use Rattle.std.proofs.lemmas.List.{length-map}
 use Rattle.cb_frames.specs.declared.frame.TheConstants.{LONGEST_PAYLOAD}
 use Rattle.cb_stability.specs.Sent.{room_of}
@@ -15,7 +15,7 @@ use Rattle.cb_history.proofs.Keeping.{no_room_is_full}
 use Rattle.cb_member.specs.declared.store.Store.{Store}
 use Rattle.cb_member.specs.Store.{IsKept, held_by, facts_held}
 use Rattle.cb_member.specs.Casting.{CanCast, RefusesExactly}
-use Rattle.cb_member.proofs.Casting.{facts_kept}
+use Rattle.cb_member.proofs.Casting.{facts_kept, is_free}
 
 too_long : (seat : Identity) (limit : ℕ) (entries : List EntryFields) (payload : List ℕ) → LONGEST_PAYLOAD < length payload → cast_answer seat limit entries payload ≡ Err casts.PayloadTooLong
 unfolding cast_answer
@@ -43,12 +43,6 @@ pub refuses_window : (seat : Identity) (limit : ℕ) (store : Store) (payload : 
     → answer_to_cast (held_by seat limit store) payload ≡ Err casts.WindowFull
 refuses_window seat limit store payload k short none =
     window_full seat limit (map entry_fields store.entries.items) payload short ((no_room_is_full seat (facts_held store) store.sending.window (facts_kept seat limit store k) k.keeps.sent.window).0 none)
-
-is_free : (seat : Identity) (limit : ℕ) (store : Store) → IsKept seat limit store → room_of store.sending.window ≢ 0 → is_window_full seat (facts_held store) ≡ false
-is_free seat limit store k some = elim (cases_Bool (is_window_full seat (facts_held store))) [
-  | inl full ↦ absurd (some ((no_room_is_full seat (facts_held store) store.sending.window (facts_kept seat limit store k) k.keeps.sent.window).1 full))
-  | inr free ↦ free
-]
 
 pub refuses_history : (seat : Identity) (limit : ℕ) (store : Store) (payload : List ℕ) → IsKept seat limit store → length payload ≤ LONGEST_PAYLOAD → room_of store.sending.window ≢ 0 → limit ≤ length store.entries.items
     → answer_to_cast (held_by seat limit store) payload ≡ Err casts.HistoryFull

@@ -7,6 +7,7 @@ use Rattle.std.proofs.Math.Bool.{and-false}
 use Rattle.std.proofs.lemmas.Bool.{cases_Bool, cond_both, and_parts, both_ways, eq-eqb, ne_eqb, lt-ltb, le-ltb, ltb-true, ltb-false, leb-false}
 use Rattle.std.proofs.lemmas.List.{length-map}
 use Rattle.cb_times.specs.Order.{field}
+use Rattle.cb_frames.specs.declared.frame.TheConstants.{LAST_NUMBER}
 use Rattle.cb_frames.specs.Fields.{CastFields, CastFrame}
 use Rattle.cb_gaps.specs.declared.buffer.Admission.{Admission}
 use Rattle.cb_gaps.specs.declared.buffer.Admission.TheVariants.{Kept, Repeat, TooFar}
@@ -16,11 +17,9 @@ use Rattle.cb_history.specs.Group.{Identity}
 use Rattle.cb_history.specs.Facts.{Fact, CastReceived, casts_in, entry_fields, is_there}
 use Rattle.cb_history.specs.Answers.{are_members, is_impossible, is_repeat, is_too_far, delivered, deliveries, Accepted}
 use Rattle.cb_history.specs.Answers as says
-use Rattle.cb_history.specs.Legal.{longest_history}
 use Rattle.cb_history.specs.LegalFacts.{AreFactsOf, OneFactMore}
 use Rattle.cb_history.proofs.Buffers.{received_is_there}
 use Rattle.cb_history.proofs.Runs.{expanded_are_there, delivered_is_expanded}
-use Rattle.cb_history.proofs.Histories.{each_entry_says_one_fact}
 use Rattle.cb_member.specs.declared.arrival.cast.Judged.TheVariants as judged
 use Rattle.cb_member.specs.declared.store.Store.{Store}
 use Rattle.cb_member.specs.Store.{IsKept, held_by, facts_held}
@@ -82,12 +81,12 @@ module _ (seat : Identity) (limit : ℕ) (store : Store) (c : CastFields) (k : I
         lacks (inl taken) = omega (arith, taken, lacking.not_taken)
         lacks (inr kept) = both_ways (is_some (fin.get b.kept c.number)) (ap is_some lacking.not_kept) kept
 
-    pub judges_other : (a : Admission) (full : Bool) → full ≡ leb limit (length store.entries.items) → Admits b (field store.delivery.time c.sender) c.number c.number a → JudgesCast seat limit store c (other_verdict a full)
-    judges_other Repeat full is received = rw (eq-eqb c.group seat.group.number group, members, ne_eqb c.sender seat.me other, there_is received) refl
-    judges_other TooFar full is far =
+    pub judges_other : c.number ≤ LAST_NUMBER → (a : Admission) (full : Bool) → full ≡ leb limit (length store.entries.items) → Admits b (field store.delivery.time c.sender) c.number c.number a → JudgesCast seat limit store c (other_verdict a full)
+    judges_other small Repeat full is received = rw (eq-eqb c.group seat.group.number group, members, ne_eqb c.sender seat.me other, there_is received) refl
+    judges_other small TooFar full is far =
         let beyond : delivered seat facts c.sender + seat.group.window < c.number = omega (arith, far.1, counted, of_window) in
         rw (eq-eqb c.group seat.group.number group, members, ne_eqb c.sender seat.me other, not_there far.0, lt-ltb (delivered seat facts c.sender + seat.group.window) c.number beyond) refl
-    judges_other Kept full is admitted =
+    judges_other small Kept full is admitted =
         let near : ltb (delivered seat facts c.sender + seat.group.window) c.number ≡ false = le-ltb (delivered seat facts c.sender + seat.group.window) c.number (omega (arith, admitted.1, counted, of_window)) in
         let many : length (map entry_fields store.entries.items) ≡ length store.entries.items = length-map store.entries.items entry_fields in
         cond_both full (Err arrivals.HistoryFull) (Ok judged.Taken) (JudgesCast seat limit store c)
@@ -97,14 +96,14 @@ module _ (seat : Identity) (limit : ℕ) (store : Store) (c : CastFields) (k : I
         (λ no.
         let below : leb limit (length (map entry_fields store.entries.items)) ≡ false = ap (leb limit) many ∙ sym is ∙ no in
         let room : length store.entries.items < limit = (let lt = leb-false limit (length store.entries.items) (sym is ∙ no) in omega (arith, lt)) in
-        let few : length facts < longest_history = omega (arith, room, many, (each_entry_says_one_fact seat (map entry_fields store.entries.items) k.state.legal).1, k.state.at_most) in
         record {
           legal = record {
             group = are.group;
             member = are.member;
-            facts_are = OneFactMore facts (CastReceived c) are.facts_are few (record {
+            facts_are = OneFactMore facts (CastReceived c) are.facts_are (record {
               numbered = numbered;
               taken = record {
+                numbers = small;
                 group = group;
                 members = members;
                 possible = rw (ne_eqb c.sender seat.me other) refl;

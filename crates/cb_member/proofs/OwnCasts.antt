@@ -39,7 +39,6 @@ use Rattle.cb_history.proofs.Expanders.{kept_times_stay}
 use Rattle.cb_history.proofs.RisingByCasts.{own_cast_tells_nothing}
 use Rattle.cb_history.proofs.Keeping.{put_is_own_cast}
 use Rattle.cb_history.proofs.Statuses.{last_status_with_one_more}
-use Rattle.cb_history.proofs.Bounds.{few_facts}
 use Rattle.cb_history.proofs.Written.{cast_can}
 use Rattle.cb_history.proofs.ReadBack.{cast_read}
 use Rattle.cb_history.proofs.Histories.{legal_histories_say_legal_facts}
@@ -54,7 +53,7 @@ use Rattle.cb_member.specs.Knowledge.{KnowsFacts}
 use Rattle.cb_member.specs.Sending.{TellsLast, HasSent}
 use Rattle.cb_member.specs.Store.{HasDelivered, Keeps, IsKept, IsAlike, held_by, facts_held}
 use Rattle.cb_member.specs.Casting.{next_time, next_message, next_text, MakesCasting, CanCast, HasEntered}
-use Rattle.cb_member.proofs.Casting.{facts_kept}
+use Rattle.cb_member.proofs.Casting.{facts_kept, number_kept}
 use Rattle.cb_history.specs.State.{entry_by}
 use Rattle.cb_member.proofs.Entering.{state_with_entry, facts_with_entry}
 
@@ -177,7 +176,7 @@ facts_with_cast : (seat : Identity) (limit : ℕ) (old mid new : Store) (payload
 facts_with_cast seat limit old mid new payload casting e =
     let are = facts_kept seat limit old e.kept in
     let c = next_cast seat (facts_held old) payload in
-    let can = cast_can seat (facts_held old) payload are.group are.member are.facts_are (few_facts seat (facts_held old) are.facts_are) e.can.short in
+    let can = cast_can seat (facts_held old) payload are.group are.member are.facts_are (number_kept seat limit old e.kept e.can.room) e.can.short in
     facts_with_entry old new casting.entry (OwnCast c) (added_to seat limit old mid new payload casting e) (ap said_by e.made.entry ∙ said_of payload c (cast_read c can))
 
 pub cast_keeps : (seat : Identity) (limit : ℕ) (old mid new : Store) (payload : List ℕ) (casting : Casting) → Enters seat limit old mid new payload casting → IsKept seat limit new

@@ -108,7 +108,7 @@ nothing_sent seat s is new = record {
 pub starts : (seat : Identity) (limit : ℕ) (store : Store) → IsIdentity seat → 1 ≤ limit → limit ≤ longest_history → IsNewStore seat.group.size seat.group.window store → IsKept seat limit store
 starts seat limit store is low high new = record {
   state = rw new.entries (record {
-    legal = record { group = is.group; member = is.member; entries_are = NoEntries };
+    legal = record { group = is.group; member = is.member; entries_are = NoEntries; few = omega arith };
     one_or_more = low;
     at_most = high;
     room = omega arith;

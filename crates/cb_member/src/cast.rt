@@ -1,9 +1,10 @@
 //! Casting: what a cast is made of before anything changes, and how it enters.
 
-ghost use Rattle.std.specs.Prelude.{◌≡◌, ◌≤◌, ℕ, List, IfOk, IfErr, OnErr, Some, length};
+ghost use Rattle.std.specs.Prelude.{◌≡◌, ◌≤◌, ◌<◌, ℕ, List, IfOk, IfErr, OnErr, Some, length};
 ghost use Rattle.cb_frames.specs.declared.frame.TheConstants.{LONGEST_PAYLOAD};
 ghost use Rattle.cb_frames.specs.Fields.{cast_fields};
 ghost use Rattle.cb_frames.specs.Text.{with_payload};
+ghost use Rattle.cb_stability.specs.Sent.{room_of};
 ghost use Rattle.cb_history.specs.Facts.{entry_fields, CastEntry};
 ghost use Rattle.cb_history.specs.Answers.{next_cast};
 ghost use Rattle.cb_history.specs.Legal.{ToCast};
@@ -85,6 +86,7 @@ fn make(
 ) -> Result<Casting, NoMemory>
     requires kept { IsKept seat limit store.now }
     requires payload { length payload.now ≤ LONGEST_PAYLOAD }
+    requires room { 0 < room_of store.now.sending.window }
     ensures { IfOk result (MakesCasting seat (facts_held store.now) payload.now) }
 {
     let cast = cast_of(seat, limit, store)?;
@@ -96,7 +98,8 @@ fn make(
 
 /// The next own cast but for its payload, which is copied once, into the frame.
 fn cast_of(seat: Identity, limit: usize, store: &Store) -> Result<Cast, NoMemory>
-    requires { IsKept seat limit store.now }
+    requires kept { IsKept seat limit store.now }
+    requires room { 0 < room_of store.now.sending.window }
     ensures { IfOk result (λ cast. (payload : List ℕ) → with_payload (cast_fields cast) payload
         ≡ next_cast seat (facts_held store.now) payload) }
 {
@@ -121,6 +124,7 @@ fn message_of(
     payload: Bytes,
 ) -> Result<Message, NoMemory>
     requires kept { IsKept seat limit store.now }
+    requires room { 0 < room_of store.now.sending.window }
     requires next { with_payload (cast_fields cast.now) payload
         ≡ next_cast seat (facts_held store.now) payload }
     ensures { IfOk result (λ message. message
@@ -138,7 +142,8 @@ fn message_of(
 
 /// The member's time with one cast more.
 fn counted(seat: Identity, limit: usize, store: &Store) -> Result<VectorTime, NoMemory>
-    requires { IsKept seat limit store.now }
+    requires kept { IsKept seat limit store.now }
+    requires room { 0 < room_of store.now.sending.window }
     ensures { IfOk result (λ time. (payload : List ℕ)
         → time ≡ next_time seat (facts_held store.now) payload) }
 {

@@ -19,7 +19,9 @@ use crate::member::ReferenceMember;
 use crate::past::Past;
 use crate::view::{Message, count, counts, message_of, view};
 use bytes::Bytes;
-use cb_frames::{Cast, Change, EncodeFault, Frame, LONGEST_PAYLOAD, encode, one_text};
+use cb_frames::{
+    Cast, Change, EncodeFault, Frame, LAST_NUMBER, LONGEST_PAYLOAD, encode, one_text,
+};
 use cb_history::{CastDone, CastRefusal, Entry};
 use cb_times::{Name, NoMemory, VectorTime};
 use std::alloc::{AllocError, Global};
@@ -178,11 +180,12 @@ fn make(past: &Past<'_>, payload: &[u8]) -> Result<Casting, NoMemory>
     casting_of(alloc, name, time, cast)
 }
 
-/// As many own casts as the window are not known to be delivered everywhere.
+/// As many own casts as the window are not known to be delivered everywhere, or no number is left.
 fn is_window_full(past: &Past<'_>) -> bool
     ensures { result ≡ is_window_full past.now.seat (facts_in past.now) }
 {
-    stable(past) as usize + past.window() as usize <= past.delivered(past.me())
+    let own = past.delivered(past.me());
+    stable(past) as usize + past.window() as usize <= own || LAST_NUMBER as usize <= own
 }
 
 /// The answer to a cast of this payload.

@@ -34,10 +34,10 @@ nothing_happened group k = refl
 
 pub starts : (setting : Setting) → IsSetting setting → IsConsistent setting nothing_yet
 starts setting is = record {
-  legal = λ k lt. record { group = is.group; member = lt; entries_are = NoEntries };
+  legal = λ k lt. record { group = is.group; member = lt; entries_are = NoEntries; few = omega arith };
   nobody = λ k le. refl;
   together = record {
-    legal = λ k lt. legal_histories_say_legal_facts (seat_at setting k) [] (record { group = is.group; member = lt; entries_are = NoEntries });
+    legal = λ k lt. legal_histories_say_legal_facts (seat_at setting k) [] (record { group = is.group; member = lt; entries_are = NoEntries; few = omega arith });
     nobody = λ k le. refl;
     so = λ k. tt;
     settled = λ k. nothing_next setting.group.size;

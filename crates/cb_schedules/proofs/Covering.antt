@@ -18,7 +18,7 @@ use Rattle.cb_history.specs.GapLaws.{IsMissing}
 use Rattle.cb_history.specs.NameLaws.{NumberedFrom}
 use Rattle.cb_history.proofs.Views.{IsIn, or_left, or_right}
 use Rattle.cb_history.proofs.Gaps.{ranges_of_missing}
-use Rattle.cb_history.proofs.Bounds.{few_facts, count_below}
+use Rattle.cb_history.proofs.Counts.{known_are_numbers}
 use Rattle.cb_history.proofs.Requests.{filtered_rise, ranges_are}
 use Rattle.std.specs.List.{Any}
 
@@ -83,7 +83,7 @@ module _ (seat : Identity) (facts : List Fact) (i : ℕ) (are : AreFactsOf seat 
   missing_ranges_are =
       let low = expanded_count (casts_in facts) i in
       let high = min (known facts i) (count (view seat.group.size facts) i + seat.group.window) in
-      let bound : high ≤ LAST_NUMBER = omega (arith, count_below seat.group.size facts i, few_facts seat facts are.facts_are, are.group.width.at_most_widest) in
+      let bound : high ≤ LAST_NUMBER = omega (arith, known_are_numbers seat facts i are) in
       ranges_are (low + 1) (missing seat facts i) (filtered_rise (λ n. not (is_there (casts_in facts) i n)) (low + 1) (high - low) (low + 1) (omega arith) (λ k lt. omega (arith, lt, bound)))
 
   pub missing_is_in_some : (n : ℕ) → IsMissing seat facts i n → is_in_some (ranges_of (missing seat facts i)) n ≡ true

@@ -3,7 +3,7 @@ use Rattle.std.proofs.Common.{◌≡◌, ◌≢◌, ℕ, ◌<◌, ◌≤◌, not
 use Rattle.std.specs.List.{AllByRecursion, flat_map, filter, range_with_len}
 use Rattle.std.proofs.lemmas.Bool.{cond_both, eqb-false}
 use Rattle.cb_varint.specs.Reading.{spelling}
-use Rattle.cb_frames.specs.declared.frame.TheConstants.{LONGEST_PAYLOAD, MOST_RANGES, MOST_FRAMES}
+use Rattle.cb_frames.specs.declared.frame.TheConstants.{LAST_NUMBER, LONGEST_PAYLOAD, MOST_RANGES, MOST_FRAMES}
 use Rattle.cb_frames.specs.declared.frame.Range.{Range}
 use Rattle.cb_frames.specs.declared.fault.FrameFault.{FrameFault}
 use Rattle.cb_frames.specs.Fields.{CastFields, RequestFields, FrameFields, CastFrame, StatusFrame, RequestFrame}
@@ -40,10 +40,10 @@ module _ (group : Parameters) (facts : ℕ → List Fact) (i : ℕ) (are : AreFa
   is_seat = record { group = are.group; member = are.member }
 
   -- the next cast, once it is an own cast
-  pub cast_is_honest : (after : ℕ → List Fact) (payload : List ℕ) → IsBytes payload → length payload ≤ LONGEST_PAYLOAD
+  pub cast_is_honest : (after : ℕ → List Fact) (payload : List ℕ) → IsBytes payload → delivered (member_of group i) (facts i) i < LAST_NUMBER → length payload ≤ LONGEST_PAYLOAD
       → IsCastOf (next_cast (member_of group i) (facts i) payload) (own_casts (after i)) → IsHonest group after (text_of (CastFrame (next_cast (member_of group i) (facts i) payload)))
-  cast_is_honest after payload bytes short own =
-      let can = (own_frames_have_texts (member_of group i) (facts i) are).0 payload short in
+  cast_is_honest after payload bytes left short own =
+      let can = (own_frames_have_texts (member_of group i) (facts i) are).0 payload left short in
       record {
         are_bytes = cast_is_bytes (next_cast (member_of group i) (facts i) payload) can bytes;
         frame = CastFrame (next_cast (member_of group i) (facts i) payload);

@@ -74,16 +74,6 @@ none_at_all (x ∷ hs) at group are = absurd cc
 
 -- ---- legal histories
 
-facts_few : (seat : Identity) (facts : List Fact) → AreLegalFacts seat facts → length facts ≤ longest_history
-facts_few seat _ NoFacts = omega arith
-facts_few seat _ (OneFactMore facts f are few step) = let long = length-append facts (f ∷ []) in omega (arith, few, long)
-
-legal_few : (seat : Identity) (entries : List EntryFields) → IsLegal seat entries → length entries ≤ longest_history
-legal_few seat entries legal =
-    let few = facts_few seat (facts_of entries) (legal_histories_say_legal_facts seat entries legal).facts_are in
-    let same = (each_entry_says_one_fact seat entries legal).1 in
-    omega (arith, few, same)
-
 pub at_least_one : (histories : List HistoryFields) → 1 ≤ longest histories
 at_least_one [] = omega arith
 at_least_one (h ∷ histories) = let rest = at_least_one histories in omega (arith, rest)
@@ -109,7 +99,7 @@ module _ (group : Parameters) (histories : List HistoryFields) (are : AreLegalHi
 
   few_entries : (k : ℕ) → length (entries_at histories k) ≤ longest_history
   few_entries k = elim (cases_lt k group.size) [
-    | inl lt ↦ legal_few (seat_of group k) (entries_at histories k) (are.legal k lt)
+    | inl lt ↦ (are.legal k lt).few
     | inr le ↦ let none = ap length (beyond k le) in omega (arith, none)
   ]
 

@@ -5,7 +5,7 @@ use Rattle.std.specs.List.{AllByRecursion}
 use Rattle.std.proofs.lemmas.Bool.{cases_eq, eq-eqb, ne_eqb, cond_both, ltb-false}
 use Rattle.std.proofs.lemmas.List.{append-nil, map-append}
 use Rattle.cb_times.specs.declared.name.Name.{Name}
-use Rattle.cb_frames.specs.declared.frame.TheConstants.{LONGEST_PAYLOAD}
+use Rattle.cb_frames.specs.declared.frame.TheConstants.{LONGEST_PAYLOAD, LAST_NUMBER}
 use Rattle.cb_frames.specs.declared.fault.FrameFault.{FrameFault}
 use Rattle.cb_frames.specs.Fields.{CastFields, FrameFields, CastFrame, StatusFrame, RequestFrame}
 use Rattle.cb_frames.specs.Text.{text_of}
@@ -25,11 +25,12 @@ use Rattle.cb_history.specs.declared.answer.TickRefusal.{TickRefusal}
 use Rattle.cb_history.specs.declared.answer.Outgoing.{Outgoing}
 use Rattle.cb_history.specs.Group.{Identity}
 use Rattle.cb_history.specs.Facts.{EntryFields, CastEntry, ArriveEntry, TickEntry, Fact, OwnCast, CastReceived, StatusReceived, OwnStatus, cast_said, arrival_said, status_said, said_by, facts_of}
-use Rattle.cb_history.specs.Answers.{is_full, is_window_full, next_cast, cast_answer, ArrivalSays, Accepted, Repeat, arrive_answer, status_of, tick_answer}
+use Rattle.cb_history.specs.Answers.{is_full, is_window_full, delivered, next_cast, cast_answer, ArrivalSays, Accepted, Repeat, arrive_answer, status_of, tick_answer}
 use Rattle.cb_history.specs.Events.{events}
 use Rattle.cb_history.specs.EventLaws.{new_events}
 use Rattle.cb_history.specs.Legal.{Call, ToCast, ToTake, ToTick, cast_entry, arrive_entry, tick_entry, entry_of, and_entry, history_after, IsLegal}
 use Rattle.cb_history.specs.LegalFacts.{AreFactsOf}
+use Rattle.cb_history.proofs.Counts.{number_left}
 use Rattle.cb_history.proofs.Lists.{flat_map-append}
 use Rattle.cb_history.proofs.Happening.{events_with_one_more}
 use Rattle.cb_history.proofs.Histories.{legal_histories_say_legal_facts}
@@ -159,7 +160,7 @@ module _ (setting : Setting) (is : IsSetting setting) (s : GroupState) (inv : Is
   cast_adds payload =
       cond_both (ltb LONGEST_PAYLOAD (length payload)) _ _ Adds (λ _. adds_none (ToCast payload))
       (λ short. cond_both (is_window_full seat (facts_of now)) _ _ Adds (λ _. adds_none (ToCast payload))
-      (λ _. cond_both (is_full setting.limit now) _ _ Adds (λ _. adds_none (ToCast payload)) (λ _. made (ltb-false LONGEST_PAYLOAD (length payload) short))))
+      (λ free. cond_both (is_full setting.limit now) _ _ Adds (λ _. adds_none (ToCast payload)) (λ _. made (number_left seat (facts_of now) free) (ltb-false LONGEST_PAYLOAD (length payload) short))))
     where
       Adds : Result CastFields CastRefusal → Type 0
       Adds r = AddsOne (ToCast payload) (cast_entry r)
@@ -167,9 +168,9 @@ module _ (setting : Setting) (is : IsSetting setting) (s : GroupState) (inv : Is
       cast : CastFields
       cast = next_cast seat (facts_of now) payload
 
-      made : length payload ≤ LONGEST_PAYLOAD → Adds (Ok cast)
-      made short e at =
-          let read : frame_at (text_of (CastFrame cast)) ≡ Ok (CastFrame cast) = cast_read cast ((own_frames_have_texts seat (facts_of now) are).0 payload short) in
+      made : delivered seat (facts_of now) seat.me < LAST_NUMBER → length payload ≤ LONGEST_PAYLOAD → Adds (Ok cast)
+      made left short e at =
+          let read : frame_at (text_of (CastFrame cast)) ≡ Ok (CastFrame cast) = cast_read cast ((own_frames_have_texts seat (facts_of now) are).0 payload left short) in
           let same : CastEntry (text_of (CastFrame cast)) ≡ e = cc in
           subst (λ (x : EntryFields). SaysOne (ToCast payload) (said_by x)) same
           (subst (λ (r : Result FrameFields FrameFault). SaysOne (ToCast payload) (cast_said r)) (sym read) refl)

@@ -3,6 +3,7 @@
 ghost use Rattle.std.specs.Prelude.{◌≡◌, ◌+◌, ◌≤◌, IfOk, IfErr, OnErr, Ok, length, map, option_map};
 ghost use Rattle.std.specs.Vec.{vec_capacity, vec_len};
 ghost use Rattle.cb_times.specs.Group.{IsGroupSize};
+ghost use Rattle.cb_frames.specs.declared.frame.TheConstants.{LAST_NUMBER};
 ghost use Rattle.cb_frames.specs.Fields.{cast_fields, CastFrame};
 ghost use Rattle.cb_frames.specs.Laws.{IsBytes};
 ghost use Rattle.cb_frames.specs.Reading.{frame_at};
@@ -88,6 +89,7 @@ pub fn judge(
 ) -> Result<Judged, ArriveRefusal>
     requires kept { IsKept seat limit store.now }
     requires numbered { 1 ≤ cast.now.number }
+    requires numbers { cast.now.number ≤ LAST_NUMBER }
     ensures { JudgesCast seat limit store.now (cast_fields cast.now) result }
 {
     if cast.group != seat.group().number() {

@@ -2,25 +2,25 @@ use Rattle.std.proofs.Common.{◌≡◌, ◌∙◌, ℕ, ap, arith, refl}
 use Rattle.cb_times.specs.Order.{field}
 use Rattle.cb_diffs.specs.Differences.{differences}
 use Rattle.cb_history.specs.Group.{Parameters}
-use Rattle.cb_member.proofs.Casting.{time_has_me, has_grown, own_few, next_is_made}
+use Rattle.cb_member.proofs.Casting.{time_has_me, has_grown, own_left, next_is_made}
 use Rattle.cb_member.proofs.cast.cast_of.Goals as goal
 
 pub difference-requires-clause-member : goal.difference-requires-clause-member
-difference-requires-clause-member c = omega (arith, time_has_me c.args.seat c.args.limit c.args.store.now c.requires, c.me-me.ensures.me)
+difference-requires-clause-member c = omega (arith, time_has_me c.args.seat c.args.limit c.args.store.now c.requires.kept, c.me-me.ensures.me)
 
 pub difference-requires-clause-grown : goal.difference-requires-clause-grown
-difference-requires-clause-grown c = has_grown c.args.seat c.args.limit c.args.store.now c.requires
+difference-requires-clause-grown c = has_grown c.args.seat c.args.limit c.args.store.now c.requires.kept
 
 pub get-requires : goal.get-requires
-get-requires c = omega (arith, time_has_me c.args.seat c.args.limit c.args.store.now c.requires, c.me-me.ensures.me)
+get-requires c = omega (arith, time_has_me c.args.seat c.args.limit c.args.store.now c.requires.kept, c.me-me.ensures.me)
 
 pub overflow_add-result : goal.overflow_add-result
 overflow_add-result c =
     let at : c.get.result ≡ field c.args.store.now.delivery.time c.args.seat.me = c.get.ensures.field ∙ ap (field c.args.store.now.delivery.time) c.me-me.ensures.me in
-    omega (arith, own_few c.args.seat c.args.limit c.args.store.now c.requires, at)
+    omega (arith, own_left c.args.seat c.args.limit c.args.store.now c.requires.kept c.requires.room, at)
 
 pub returns : goal.returns
-returns c payload = next_is_made c.args.seat c.args.limit c.args.store.now payload payload c.number.result c.me-me.result c.get.result c.in_ok-changes.changes.items c.requires
+returns c payload = next_is_made c.args.seat c.args.limit c.args.store.now payload payload c.number.result c.me-me.result c.get.result c.in_ok-changes.changes.items c.requires.kept
     (c.number.ensures ∙ ap (λ (g : Parameters). g.number) c.group.ensures.group)
     c.me-me.ensures.me
     (c.get.ensures.field ∙ ap (field c.args.store.now.delivery.time) c.me-me.ensures.me)

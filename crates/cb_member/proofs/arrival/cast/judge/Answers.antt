@@ -50,4 +50,4 @@ returns c =
     let many : c.len.result ≡ length c.args.store.now.entries.items = omega (arith, c.len.ensures) in
     subst (JudgesCast c.args.seat c.args.limit c.args.store.now (cast_fields c.args.cast.now)) (sym c.judge_other.ensures)
     (judges_other c.args.seat c.args.limit c.args.store.now (cast_fields c.args.cast.now) c.requires.kept c.requires.numbered group members (λ e. c.if-cast-me.false (e ∙ sym c.me.ensures.me)) c.index.result.now at
-    c.judge-admission.result _ (ap (leb c.args.limit) many) admits)
+    c.requires.numbers c.judge-admission.result _ (ap (leb c.args.limit) many) admits)

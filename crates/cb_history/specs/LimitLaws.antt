@@ -1,0 +1,54 @@
+-- A legal history is what calls add without a limit, with at most so many entries as a history can have.
+use Rattle.std.specs.Prelude.{◌≡◌, ℕ, ◌+◌, ◌≤◌, ◌<◌, ◌↔◌, nat_le, nat_lt, List, [], ◌∷◌, ◌++◌, length, Some, Result, Ok, Err, if◌then◌else◌}
+use Rattle.cb_frames.specs.declared.frame.TheConstants.{LONGEST_PAYLOAD}
+use Rattle.cb_frames.specs.Fields.{CastFields}
+use Rattle.cb_history.specs.declared.answer.CastRefusal.{CastRefusal}
+use Rattle.cb_history.specs.declared.answer.CastRefusal.TheVariants as casts
+use Rattle.cb_history.specs.Group.{Identity, IsIdentity}
+use Rattle.cb_history.specs.Facts.{EntryFields, Fact, facts_of}
+use Rattle.cb_history.specs.Known.{stable}
+use Rattle.cb_history.specs.Answers.{is_full, delivered, next_cast, cast_answer}
+use Rattle.cb_history.specs.Legal.{longest_history, Call, OfBytes, entry_of, history_after, AreEntriesOf, IsLegal}
+use Rattle.cb_history.specs.LegalFacts.{IsStep, AreLegalFacts, AreFactsOf}
+
+-- the limit is all that legality adds
+abbrev pub LimitIsAdded : Type 0
+LimitIsAdded = (seat : Identity) (entries : List EntryFields) → IsLegal seat entries ↔ (AreEntriesOf seat entries × (length entries ≤ longest_history))
+
+-- each entry is the one that some call adds with the greatest limit
+pub data AreAddedInLimit (seat : Identity) : List EntryFields → Type 0 where
+  NoneAdded : AreAddedInLimit seat []
+  OneAdded : (entries : List EntryFields) (call : Call) (e : EntryFields) → AreAddedInLimit seat entries → OfBytes call → entry_of seat longest_history entries call ≡ Some e → AreAddedInLimit seat (entries ++ e ∷ [])
+
+-- and that is legality
+abbrev pub LegalIsAddedInLimit : Type 0
+LegalIsAddedInLimit = (seat : Identity) (entries : List EntryFields) → IsIdentity seat → IsLegal seat entries ↔ AreAddedInLimit seat entries
+
+-- each fact is a step from those before it, of which there are fewer than a history can have
+pub data AreStepsInLimit (seat : Identity) : List Fact → Type 0 where
+  NoStepInLimit : AreStepsInLimit seat []
+  OneStepInLimit : (facts : List Fact) (f : Fact) → AreStepsInLimit seat facts → length facts < longest_history → IsStep seat facts f → AreStepsInLimit seat (facts ++ f ∷ [])
+
+-- these are the legal facts that a history has room for
+abbrev pub LegalFactsInLimit : Type 0
+LegalFactsInLimit = (seat : Identity) (facts : List Fact) → (AreLegalFacts seat facts × (length facts ≤ longest_history)) ↔ AreStepsInLimit seat facts
+
+-- the answer to a cast where only what is stable fills the window
+abbrev pub answer_by_stable : Identity → ℕ → List EntryFields → List ℕ → Result CastFields CastRefusal
+answer_by_stable seat limit entries payload =
+    if nat_lt LONGEST_PAYLOAD (length payload) then Err casts.PayloadTooLong else
+    if nat_le (stable seat (facts_of entries) + seat.group.window) (delivered seat (facts_of entries) seat.me) then Err casts.WindowFull else
+    if is_full limit entries then Err casts.HistoryFull else
+    Ok (next_cast seat (facts_of entries) payload)
+
+-- that numbers end changes no answer of a member with a legal history
+abbrev pub LegalAnswersByStable : Type 0
+LegalAnswersByStable = (seat : Identity) (limit : ℕ) (entries : List EntryFields) (payload : List ℕ) → IsLegal seat entries → cast_answer seat limit entries payload ≡ answer_by_stable seat limit entries payload
+
+-- a call of bytes keeps entries legal, whatever limit it is made with
+abbrev pub CallsKeepEntries : Type 0
+CallsKeepEntries = (seat : Identity) (limit : ℕ) (entries : List EntryFields) (call : Call) → AreEntriesOf seat entries → OfBytes call → AreEntriesOf seat (history_after seat limit entries call)
+
+-- and such entries say legal facts, one each
+abbrev pub EntriesSayLegalFacts : Type 0
+EntriesSayLegalFacts = (seat : Identity) (entries : List EntryFields) → AreEntriesOf seat entries → AreFactsOf seat (facts_of entries) × (length (facts_of entries) ≡ length entries)
