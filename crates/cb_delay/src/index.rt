@@ -1,5 +1,6 @@
-//! Where each sender's candidate stands at the time of the last answer, so that an answer need not look at all that waits.
-ghost use Rattle.std.specs.Prelude.{◌≡◌, ◌≢◌, ◌+◌, ◌<◌, ◌≤◌, ℕ, List, length, map, slice_index, slice_set, IfOk};
+//! Where each sender's candidate stands at the time of the last answer, so that the next looks at few.
+ghost use Rattle.std.specs.Prelude.{◌≡◌, ◌≢◌, ◌+◌, ◌<◌, ◌≤◌, ℕ, List, IfOk};
+ghost use Rattle.std.specs.Prelude.{length, map, slice_index, slice_set};
 ghost use Rattle.std.specs.Int.{bit_at};
 ghost use Rattle.cb_times.specs.Group.{IsGroupSize};
 ghost use Rattle.cb_times.specs.Order.{field};
@@ -70,7 +71,8 @@ impl Index {
         ensures told { Tells (map (λ list. list.items) lists.now) self.new }
         ensures last { self.new.last ≡ now.now }
         ensures stale { self.new.stale ≡ 0 }
-        ensures free { self.old.stale ≡ 0 → self.old.last ≡ now.now → self.new.looked ≡ self.old.looked }
+        ensures free { self.old.stale ≡ 0 → self.old.last ≡ now.now
+            → self.new.looked ≡ self.old.looked }
         ensures counts { self.old.looked ≤ self.new.looked }
     {
         if self.stale == 0 && self.last.as_slice() == now.as_slice() {
@@ -112,7 +114,7 @@ impl Index {
         self.shrink(k, count);
     }
 
-    /// More is delivered of member k: its own candidate is another, and who waited for just that may be ready.
+    /// More of member k is delivered: its own candidate is another, and who waited for that may be ready.
     fn grow(&mut self, k: u32, count: u32)
         requires member { k < length self.old.last }
         requires shape { HasShape (length self.old.last) self.old }
@@ -188,8 +190,10 @@ struct Walk {
 fn walk_over(set: u64, places: &[Place], member: u32, count: u32) -> Walk
     requires size { length places.now ≤ 64 }
     requires members { (i : ℕ) → length places.now ≤ i → bit_at set i ≡ 0 }
-    ensures reached { (i value : ℕ) → bit_at set i ≡ 1 → place_of places.now i ≡ Waits member value → value ≤ count → bit_at result.reached i ≡ 1 }
-    ensures waiting { (i value : ℕ) → bit_at set i ≡ 1 → place_of places.now i ≡ Waits member value → count < value → bit_at result.waiting i ≡ 1 }
+    ensures reached { (i value : ℕ) → bit_at set i ≡ 1 → place_of places.now i ≡ Waits member value
+        → value ≤ count → bit_at result.reached i ≡ 1 }
+    ensures waiting { (i value : ℕ) → bit_at set i ≡ 1 → place_of places.now i ≡ Waits member value
+        → count < value → bit_at result.waiting i ≡ 1 }
     ensures no_others { (i : ℕ) → bit_at set i ≡ 0 → bit_at result.reached i ≡ 0 }
     ensures none_waits { (i : ℕ) → bit_at set i ≡ 0 → bit_at result.waiting i ≡ 0 }
 {
@@ -209,8 +213,10 @@ fn walk_over(set: u64, places: &[Place], member: u32, count: u32) -> Walk
 fn wait(waiting: &mut [u64], sender: u32, place: Place)
     requires sender { sender < 64 }
     requires within { (k value : ℕ) → place ≡ Waits k value → k < length waiting.old }
-    ensures waits { (k value : ℕ) → place ≡ Waits k value → bit_at (slice_index waiting.new k) sender ≡ 1 }
-    ensures others { (k i : ℕ) → i ≢ sender → bit_at (slice_index waiting.new k) i ≡ bit_at (slice_index waiting.old k) i }
+    ensures waits { (k value : ℕ) → place ≡ Waits k value
+        → bit_at (slice_index waiting.new k) sender ≡ 1 }
+    ensures others { (k i : ℕ) → i ≢ sender
+        → bit_at (slice_index waiting.new k) i ≡ bit_at (slice_index waiting.old k) i }
 {
     if let Place::Waits { field, .. } = place {
         let set = &mut waiting[field as usize];

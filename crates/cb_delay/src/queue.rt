@@ -143,9 +143,9 @@ impl DelayQueue {
         self.held
     }
 
-    /// How many comparisons of a held message with a time by the delay rule `next_ready` has made, up to the greatest number.
+    /// How many comparisons of a held message with a time `next_ready` has made, up to the greatest number.
     ///
-    /// To ask again at the time of the last answer adds nothing where nothing was held or released in between.
+    /// To ask again at the time of the last answer adds none where nothing was held or released in between.
     pub fn looked(&self) -> u64
         ensures looked { result ≡ self.now.looked }
     {

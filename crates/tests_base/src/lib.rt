@@ -11,6 +11,8 @@ mod differences;
 #[cfg(test)]
 mod frames;
 #[cfg(test)]
+mod index;
+#[cfg(test)]
 mod numbers;
 #[cfg(test)]
 mod queues;

@@ -18,4 +18,4 @@ hold-requires-clause-next c last is =
 pub returns-clause-only : goal.returns-clause-only
 returns-clause-only c =
     only_is_held c.in_ok-queue.queue c.hold.new.self c.args.message
-    c.in_ok-queue.ensures.empty c.hold.ensures.now_held
+    c.in_ok-queue.ensures.empty c.hold.ensures.held.now_held
