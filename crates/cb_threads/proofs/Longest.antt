@@ -1,5 +1,5 @@
 -- The longest frame.
-use Rattle.std.proofs.Common.{◌≡◌, ◌≢◌, ℕ, suc, ◌+◌, ◌*◌, ◌<◌, ◌≤◌, List, [], ◌∷◌, ◌++◌, length, length-append, ap, subst, sym, refl, ◌∙◌, arith, inl, inr}
+use Rattle.std.proofs.Common.{◌≡◌, ◌≢◌, ℕ, suc, ◌+◌, ◌-◌, ◌*◌, ◌<◌, ◌≤◌, List, [], ◌∷◌, ◌++◌, length, length-append, ap, subst, sym, refl, ◌∙◌, arith, inl, inr}
 use Rattle.std.proofs.lemmas.Bool.{cases_lt}
 use Rattle.std.proofs.lemmas.List.{append-nil}
 use Rattle.std.specs.List.{AllByRecursion}
@@ -36,21 +36,28 @@ at_most_1 text n s small = omega (arith, one_byte s.front s.last n s.more s.ends
 at_most_2 : (text : List ℕ) (n : ℕ) → Spells text n → n < 16384 → length text ≤ 2
 at_most_2 text n s small = omega (arith, two_bytes s.front s.last n s.more s.ends s.shortest (s.worth ∙ ap value_of s.parts) small, ap length s.parts, length-append s.front (s.last ∷ []))
 
--- what is spelled behind changes, and six bytes at most for each of them
+-- what is spelled behind the first numbers, which have so many bytes at most
 abbrev Behind : List ℕ → List ℕ → ℕ → Type 0
 Behind numbers text room = (rest : List ℕ) × SpellAll numbers rest × (length text ≤ room + length rest)
+
+-- so the numbers in front, of which each has five bytes at most
+front_length : (front behind text : List ℕ) → SpellAll (front ++ behind) text → Behind behind text (5 * length front)
+front_length [] behind text s = (text, s, omega arith)
+front_length (n ∷ front) behind text s =
+    let others = front_length front behind s.1 s.3 in (others.0, others.1, omega (arith, at_most_5 s.0 n s.2, others.2, ap length s.4, length-append s.0 s.1))
+
+-- a small number in front has one byte
+small_length : (n : ℕ) (behind text : List ℕ) → n < 128 → SpellAll (n ∷ behind) text → Behind behind text 1
+small_length n behind text small s = (s.1, s.3, omega (arith, at_most_1 s.0 n s.2 small, ap length s.4, length-append s.0 s.1))
 
 pairs_length : {P : Change → Type 0} (least : ℕ) (changes : List Change) (numbers text : List ℕ) → ((d : Change) → P d → d.field ≤ 63) → AllByRecursion P changes → SpellAll (pairs_from least changes ++ numbers) text
     → Behind numbers text (6 * length changes)
 pairs_length least [] numbers text bound each s = (text, s, omega arith)
 pairs_length least (d ∷ changes) numbers text bound each s =
-    let gap = at_most_1 s.0 _ s.2 (omega (arith, bound d each.0)) in
-    let amount = at_most_5 s.3.0 _ s.3.2 in
-    let others = pairs_length (d.field + 1) changes numbers s.3.1 bound each.1 s.3.3 in (
-      others.0,
-      others.1,
-      omega (arith, gap, amount, others.2, ap length s.4, length-append s.0 s.1, ap length s.3.4, length-append s.3.0 s.3.1),
-    )
+    let behind = pairs_from (d.field + 1) changes ++ numbers in
+    let gap = small_length (d.field - least) (d.amount ∷ behind) text (omega (arith, bound d each.0)) s in
+    let amount = front_length (d.amount ∷ []) behind gap.0 gap.1 in
+    let others = pairs_length (d.field + 1) changes numbers amount.0 bound each.1 amount.1 in (others.0, others.1, omega (arith, gap.2, amount.2, others.2))
 
 -- fields that rise are at most 64
 few_values : (least : ℕ) (values : List Change) → least ≤ 64 → RisesFrom least values → AllByRecursion IsValue values → length values + least ≤ 64
@@ -77,97 +84,26 @@ few_changes sender least (d ∷ changes) low own rising each =
 ranges_length : (least : ℕ) (ranges : List Range) (text : List ℕ) → SpellAll (ranges_from least ranges) text → length text ≤ 10 * length ranges
 ranges_length least [] text s = omega (arith, ap length s)
 ranges_length least (r ∷ ranges) text s =
-    omega (arith, at_most_5 s.0 _ s.2, at_most_5 s.3.0 _ s.3.2, ranges_length (r.last + 2) ranges s.3.1 s.3.3, ap length s.4, length-append s.0 s.1, ap length s.3.4, length-append s.3.0 s.3.1)
+    let front = front_length ((r.first - least) ∷ (r.last - r.first) ∷ []) (ranges_from (r.last + 2) ranges) text s in omega (arith, front.2, ranges_length (r.last + 2) ranges front.0 front.1)
 
 pub frames_fit : FramesFit
 frames_fit (CastFrame c) bytes (rules, short, text) =
-    let numbers = text.0 in
-    let s = text.1 in
-    let parts = text.2 in
     let few = (few_changes c.sender 0 c.changes (omega arith) rules.sender rules.changes.rising rules.changes.each).1 (omega arith) in
-    let group = at_most_5 s.0 _ s.2 in
-    let s1 = s.3 in
-    let sender = at_most_1 s1.0 _ s1.2 (omega (arith, rules.sender)) in
-    let s2 = s1.3 in
-    let number = at_most_5 s2.0 _ s2.2 in
-    let s3 = s2.3 in
-    let count = at_most_1 s3.0 _ s3.2 (omega (arith, few)) in
-    let pairs = pairs_length 0 c.changes (length c.payload ∷ []) s3.1 (λ d change. change.index) rules.changes.each s3.3 in
-    let s4 = pairs.1 in
-    let payload = at_most_2 s4.0 _ s4.2 (omega (arith, short)) in
-    omega (
-      arith,
-      few,
-      group,
-      sender,
-      number,
-      count,
-      pairs.2,
-      payload,
-      short,
-      ap length s.4,
-      length-append s.0 s.1,
-      ap length s1.4,
-      length-append s1.0 s1.1,
-      ap length s2.4,
-      length-append s2.0 s2.1,
-      ap length s3.4,
-      length-append s3.0 s3.1,
-      ap length s4.4,
-      length-append s4.0 s4.1,
-      ap length s4.3,
-      ap length parts,
-      length-append numbers c.payload,
-    )
+    let pairs = pairs_from 0 c.changes ++ length c.payload ∷ [] in
+    let group = front_length (c.group ∷ []) (c.sender ∷ c.number ∷ length c.changes ∷ pairs) text.0 text.1 in
+    let sender = small_length c.sender (c.number ∷ length c.changes ∷ pairs) group.0 (omega (arith, rules.sender)) group.1 in
+    let number = front_length (c.number ∷ []) (length c.changes ∷ pairs) sender.0 sender.1 in
+    let count = small_length (length c.changes) pairs number.0 (omega (arith, few)) number.1 in
+    let changes = pairs_length 0 c.changes (length c.payload ∷ []) count.0 (λ d change. change.index) rules.changes.each count.1 in
+    let s = changes.1 in
+    let payload = at_most_2 s.0 _ s.2 (omega (arith, short)) in
+    omega (arith, few, group.2, sender.2, number.2, count.2, changes.2, payload, short, ap length s.4, length-append s.0 s.1, ap length s.3, ap length text.2, length-append text.0 c.payload)
 frames_fit (StatusFrame v) bytes (rules, text) =
-    let s = text.1 in
-    let parts = text.2 in
     let few = few_values 0 v.values (omega arith) rules.values.rising rules.values.each in
-    let group = at_most_5 s.0 _ s.2 in
-    let s1 = s.3 in
-    let sender = at_most_5 s1.0 _ s1.2 in
-    let s2 = s1.3 in
-    let count = at_most_5 s2.0 _ s2.2 in
-    let whole : SpellAll (pairs_from 0 v.values ++ []) s2.1 = subst (λ (ns : List ℕ). SpellAll ns s2.1) (sym (append-nil (pairs_from 0 v.values))) s2.3 in
-    let pairs = pairs_length 0 v.values [] s2.1 (λ d value. value.index) rules.values.each whole in
-    omega (
-      arith,
-      few,
-      group,
-      sender,
-      count,
-      pairs.2,
-      ap length pairs.1,
-      ap length s.4,
-      length-append s.0 s.1,
-      ap length s1.4,
-      length-append s1.0 s1.1,
-      ap length s2.4,
-      length-append s2.0 s2.1,
-      ap length parts,
-    )
+    let front = front_length (v.group ∷ v.sender ∷ length v.values ∷ []) (pairs_from 0 v.values) text.0 text.1 in
+    let whole : SpellAll (pairs_from 0 v.values ++ []) front.0 = subst (λ (ns : List ℕ). SpellAll ns front.0) (sym (append-nil (pairs_from 0 v.values))) front.1 in
+    let pairs = pairs_length 0 v.values [] front.0 (λ d value. value.index) rules.values.each whole in
+    omega (arith, few, front.2, pairs.2, ap length pairs.1, ap length text.2)
 frames_fit (RequestFrame r) bytes (rules, text) =
-    let s = text.1 in
-    let parts = text.2 in
-    let s1 = s.3 in
-    let s2 = s1.3 in
-    let s3 = s2.3 in
-    let ranges = ranges_length 1 r.ranges s3.1 s3.3 in
-    omega (
-      arith,
-      rules.few,
-      at_most_5 s.0 _ s.2,
-      at_most_5 s1.0 _ s1.2,
-      at_most_5 s2.0 _ s2.2,
-      at_most_5 s3.0 _ s3.2,
-      ranges,
-      ap length s.4,
-      length-append s.0 s.1,
-      ap length s1.4,
-      length-append s1.0 s1.1,
-      ap length s2.4,
-      length-append s2.0 s2.1,
-      ap length s3.4,
-      length-append s3.0 s3.1,
-      ap length parts,
-    )
+    let front = front_length (r.group ∷ r.requester ∷ r.asked ∷ length r.ranges ∷ []) (ranges_from 1 r.ranges) text.0 text.1 in
+    omega (arith, rules.few, front.2, ranges_length 1 r.ranges front.0 front.1, ap length text.2)

@@ -51,7 +51,8 @@ struct End {
 }
 
 impl ChannelLink {
-    /// A link for each member of a group of this size, in the order of their numbers. The only fault is out of memory.
+    /// A link for each member of a group of this size, in the order of their numbers. The only
+    /// fault is out of memory.
     pub fn group(alloc: Global, size: u32) -> Result<Vec<(ChannelInlet, ChannelOutlet)>, LinkFault>
         ensures { IfOk result (λ links. length links.items ≡ size) }
     {
@@ -214,7 +215,8 @@ impl ChannelOutlet {
     }
 }
 
-/// The outcome of the last frames at one member; there is none for a number that is the sender's own or no member's.
+/// The outcome of the last frames at one member; there is none for a number that is the sender's
+/// own or no member's.
 fn offered_to(to: Option<&Option<End>>) -> Offered {
     match to {
         Some(Some(end)) => end.offered,

@@ -26,7 +26,8 @@ use std::time::Clock;
 /// Why a group did not run to its end.
 #[derive(Clone, Copy, Debug, PartialEq, Eq)]
 pub enum GroupFault {
-    /// A list has not one item for each member, or the limit of the histories is not 1 to 16,777,216.
+    /// A list has not one item for each member, or the limit of the histories is not 1 to
+    /// 16,777,216.
     BadPlan,
     /// The thread of a member could not be started.
     NoThread,
@@ -58,11 +59,13 @@ pub struct GroupReport<I, O, P, T> {
     pub histories: Vec<History>,
 }
 
-/// Runs a group of new members, each in a thread of its own, behind a lock and with a ledger of its own, with four workers.
+/// Runs a group of new members, each in a thread of its own, behind a lock and with a ledger of its
+/// own, with four workers.
 ///
-/// It ends once every talker has ended, or after so many turns of each worker as the limits say. The histories are legal, one for each
-/// member in order; the counts of each report are those of its history. The histories may have `history_max` entries each. Of its link and
-/// its pace a report tells of no more failures than they counted.
+/// It ends once every talker has ended, or after so many turns of each worker as the limits say.
+/// The histories are legal, one for each member in order; the counts of each report are those of
+/// its history. The histories may have `history_max` entries each. Of its link and its pace a
+/// report tells of no more failures than they counted.
 pub fn run_group<
     I: Inlet + Send + Drop,
     O: Outlet + Send + Drop,

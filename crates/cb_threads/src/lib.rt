@@ -1,11 +1,11 @@
 //! Members that run in threads: links between them, the workers of a member, and a whole group.
 //!
-//! `run_member` runs four workers at one shared member: one takes what is received, one ticks, one casts what a talker says, and
-//! one sends what the
-//! others sent. `run_group` runs a member in each thread, and hands out the members' histories. Links go over channels or over UDP.
+//! `run_member` runs four workers at one shared member: one takes what is received, one ticks, one
+//! casts what a talker says, and one sends what the others sent. `run_group` runs a member in each
+//! thread, and hands out the members' histories. Links go over channels or over UDP.
 //!
-//! Stands on `cb_lock` for the shared member and on `crossbeam_channel`. Nothing says that a frame arrives or that a worker gets on;
-//! `docs/GUIDE.md` says what a user may rely on.
+//! Stands on `cb_lock` for the shared member and on `crossbeam_channel`. Nothing says that a frame
+//! arrives or that a worker gets on; `docs/GUIDE.md` says what a user may rely on.
 #![tactic(auto)]
 
 mod channel;

@@ -96,8 +96,8 @@ pub struct Lives<I, O, P, T> {
     pub histories: Vec<History>,
 }
 
-/// A promise: what is kept is a legal history of this member, with its counts, what its workers worked with, and the failures that they
-/// met since it had failed so often.
+/// A promise: what is kept is a legal history of this member, with its counts, what its workers
+/// worked with, and the failures that they met since it had failed so often.
 #[derive(Clone, Copy)]
 pub struct OfMember {
     pub group: Group,
@@ -346,7 +346,7 @@ fn share<
         shared: &shared,
         ending: setting.ending,
     };
-    let (report, seats) = run_shared(rt, &desk, four(seat), parts);
+    let (report, seats) = run_shared(rt, &desk, split_in_four(seat), parts);
     ended(identity, shared.close(seats), report)
 }
 
@@ -370,8 +370,8 @@ fn ended<I: Inlet + Drop, O: Outlet + Drop, P: Pace + Drop, T: Drop>(
     }
 }
 
-/// What it left is let go by calls, which the prover takes less time for than for values that are left to the end; of the member's own
-/// parts it would prove anew how each is let go.
+/// What it left is let go by calls, which the prover takes less time for than for values that are
+/// left to the end; of the member's own parts it would prove anew how each is let go.
 fn not_closed<I: Drop, O: Drop, P: Drop, T: Drop>(
     identity: Identity,
     refusal: CloseRefusal,
@@ -389,7 +389,7 @@ fn not_closed<I: Drop, O: Drop, P: Drop, T: Drop>(
 }
 
 /// A seat for each worker, of one part each.
-fn four<L: Ledger>(seat: Seat<L>) -> Seats<L>
+fn split_in_four<L: Ledger>(seat: Seat<L>) -> Seats<L>
     requires { seat.parts ≡ 4 }
 {
     let mut seat = seat;

@@ -4,7 +4,8 @@ ghost use Rattle.std.specs.Prelude.{◌≤◌, Decides};
 
 use std::sync::atomic::{AtomicBool, AtomicU64, Ordering};
 
-/// How many turns each worker of a member makes at most, the sender apart, which ends once the others have.
+/// How many turns each worker of a member makes at most, the sender apart, which ends once the
+/// others have.
 #[derive(Clone, Copy, Debug, PartialEq, Eq)]
 pub struct Limits {
     pub turns: u64,

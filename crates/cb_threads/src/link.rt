@@ -13,7 +13,8 @@ use std::fmt;
 use std::sync::Wait;
 use std::time::Clock;
 
-/// The most bytes of a frame: what a cast has with 63 changes, its greatest numbers and 1,024 bytes of payload.
+/// The most bytes of a frame: what a cast has with 63 changes, its greatest numbers and 1,024 bytes
+/// of payload.
 pub const LONGEST_FRAME: usize = 1_417;
 
 /// What an inlet found.
@@ -63,18 +64,21 @@ impl<T: Drop> From<AllocFailed<T>> for LinkFault {
 pub trait Inlet {
     ghost failed: { Self → ℕ };
 
-    /// How often `receive` has answered `Device` so far. The count never falls, and stays at its greatest value.
+    /// How often `receive` has answered `Device` so far. The count never falls, and stays at its
+    /// greatest value.
     fn failures(&self) -> u64
         ensures { result ≡ failed self.now };
 
-    /// The next frame, where one is there or comes within about a millisecond. A received frame is handed out once, or lost with a fault.
+    /// The next frame, where one is there or comes within about a millisecond. A received frame is
+    /// handed out once, or lost with a fault.
     fn receive<R: Wait + Clock>(&mut self, rt: &R) -> Result<Received, LinkFault>
         ensures rises { failed self.old ≤ failed self.new }
         ensures fault { IfErr result (λ fault. LinkCounts fault (failed self.old)
             (failed self.new)) };
 
-    /// Takes no more frames: those that came and were not received are dropped, and one that is sent here from now on is lost. By default
-    /// nothing is done, for an inlet in which not more than so much can gather.
+    /// Takes no more frames: those that came and were not received are dropped, and one that is
+    /// sent here from now on is lost. By default nothing is done, for an inlet in which not more
+    /// than so much can gather.
     fn close(&mut self)
         ensures { failed self.new ≡ failed self.old }
     {}
@@ -84,17 +88,20 @@ pub trait Inlet {
 pub trait Outlet {
     ghost failed: { Self → ℕ };
 
-    /// How many frames to one member could not be sent so far. The count never falls, and stays at its greatest value.
+    /// How many frames to one member could not be sent so far. The count never falls, and stays at
+    /// its greatest value.
     fn failures(&self) -> u64
         ensures { result ≡ failed self.now };
 
-    /// Sends a frame to the member that it names, or to all others. One to all is offered to each of them, even where another one fails.
+    /// Sends a frame to the member that it names, or to all others. One to all is offered to each
+    /// of them, even where another one fails.
     fn send<R: Wait>(&mut self, rt: &R, out: &Outgoing) -> Result<(), LinkFault>
         ensures rises { failed self.old ≤ failed self.new }
         ensures fault { IfErr result (λ fault. LinkCounts fault (failed self.old)
             (failed self.new)) };
 
-    /// Sends frames in order, each as `send` does, and counts the faults. An outlet that can take many at once has a body of its own.
+    /// Sends frames in order, each as `send` does, and counts the faults. An outlet that can take
+    /// many at once has a body of its own.
     fn send_all<R: Wait>(&mut self, rt: &R, frames: &[Outgoing]) -> Unsent
         ensures rises { failed self.old ≤ failed self.new }
         ensures offered { result.offered ≡ held (length frames.now) }
@@ -109,7 +116,8 @@ pub trait Outlet {
     }
 }
 
-/// How many frames an outlet was offered, and to how many it answered a fault. The counts stay at their greatest value.
+/// How many frames an outlet was offered, and to how many it answered a fault. The counts stay at
+/// their greatest value.
 #[derive(Clone, Copy, Debug, PartialEq, Eq)]
 pub struct Unsent {
     /// All frames, whether it took them or not.
@@ -153,7 +161,8 @@ impl Unsent {
         }
     }
 
-    /// To how many frames a fault was answered: at each of them the device failed, or memory was refused.
+    /// To how many frames a fault was answered: at each of them the device failed, or memory was
+    /// refused.
     pub fn lost(self) -> u64
         ensures { result ≡ lost_of self }
     {

@@ -1,7 +1,9 @@
-//! A channel whose reader sleeps where nothing comes, and is woken once for all that has come by then.
+//! A channel whose reader sleeps where nothing comes, and is woken once for all that has come by
+//! then.
 //!
-//! The channel alone wakes its reader at each message until the reader runs, and each time the system is called. Here a reader says that
-//! it sleeps, and `Parker` calls the system for the first message only.
+//! The channel alone wakes its reader at each message until the reader runs, and each time the
+//! system is called. Here a reader says that it sleeps, and `Parker` calls the system for the first
+//! message only.
 
 use crate::waits::{GATHERING, WAIT};
 use crossbeam_channel::{Receiver, SendError, Sender, TryRecvError, unbounded};
@@ -11,10 +13,12 @@ use std::sync::{Arc, Wait};
 use std::thread::Parker;
 use std::time::Duration;
 
-/// Where so many messages have gathered, more are not waited for. Those of links are lists of frames.
+/// Where so many messages have gathered, more are not waited for. Those of links are lists of
+/// frames.
 pub const ENOUGH_GATHERED: usize = 2;
 
-/// So many messages are taken at once: for so many that were added the reader is woken, whether or not more are to come.
+/// So many messages are taken at once: for so many that were added the reader is woken, whether or
+/// not more are to come.
 pub const MOST_AT_ONCE: usize = 64;
 
 /// Whether the reader sleeps, or lets messages gather, and how it is woken.
@@ -88,7 +92,8 @@ impl<M: Drop> Slot<M> {
         Ok(())
     }
 
-    /// Puts a message in for a reader that `wake` wakes once all is added. One that is not woken finds it within about a millisecond.
+    /// Puts a message in for a reader that `wake` wakes once all is added. One that is not woken
+    /// finds it within about a millisecond.
     pub fn add(&self, rt: &impl Wait, message: M) -> Result<(), SendError<M>> {
         self.to.send(rt, message)?;
         if self.to.len() >= MOST_AT_ONCE {
@@ -115,10 +120,15 @@ impl<M: Drop> Mailbox<M> {
     /// The next message, which is waited for where there is none, a millisecond in all.
     ///
     /// Where a mailbox has become empty, what is on its way gathers for a part of that time first.
+    /// One that is closed is not waited for: nothing more comes.
     pub fn take<R: Wait>(&self, rt: &R) -> Taken<M> {
-        if let Some(message) = self.more(rt) {
-            return Taken::Message(message);
+        match self.look(rt) {
+            Taken::Nothing => self.gather_and_sleep(rt),
+            taken => taken,
         }
+    }
+
+    fn gather_and_sleep<R: Wait>(&self, rt: &R) -> Taken<M> {
         self.gather(rt);
         match self.look(rt) {
             Taken::Nothing => self.sleep(rt, WAIT - GATHERING),
@@ -147,8 +157,8 @@ impl<M: Drop> Mailbox<M> {
         }
     }
 
-    /// Lets messages gather for a while, or until there are enough. Those that were put in before the reader said that it lets them gather
-    /// woke nobody, so it looks once more behind that.
+    /// Lets messages gather for a while, or until there are enough. Those that were put in before
+    /// the reader said that it lets them gather woke nobody, so it looks once more behind that.
     pub fn gather<R: Wait>(&self, rt: &R) {
         self.reader.gathers.store(true, Ordering::SeqCst);
         if self.from.len() < ENOUGH_GATHERED {
@@ -157,8 +167,9 @@ impl<M: Drop> Mailbox<M> {
         self.reader.gathers.store(false, Ordering::SeqCst);
     }
 
-    /// Sleeps until a message is put in, and at most for so long. A message that is put in while the reader falls asleep either is
-    /// seen by the look or wakes it: each side tells of itself before it looks at the other.
+    /// Sleeps until a message is put in, and at most for so long. A message that is put in while
+    /// the reader falls asleep either is seen by the look or wakes it: each side tells of itself
+    /// before it looks at the other.
     fn sleep<R: Wait>(&self, rt: &R, micros: u64) -> Taken<M> {
         self.reader.sleeps.store(true, Ordering::SeqCst);
         let taken = match self.look(rt) {

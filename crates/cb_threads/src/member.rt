@@ -20,14 +20,15 @@ use std::sync::ledger::Ledger;
 use std::thread::Threads;
 use std::time::Clock;
 
-/// Runs four workers at once at one member, each with a seat of its own: one that takes what is received, one that ticks, one that
-/// casts what the
-/// talker says, and one that sends what these sent.
+/// Runs four workers at once at one member, each with a seat of its own: one that takes what is
+/// received, one that ticks, one that casts what the talker says, and one that sends what these
+/// sent.
 ///
-/// The first three end after so many turns as the limits say, or once the stop is set; the talker's also once it has finished. The sender
-/// ends when they have. Link, pace and talker stand in the report, and the seats come back for `close`: all four, unless a thread could not be
-/// started or a list not be made, which the report's fault tells. The counts of the report are those of the receipts in the seats that
-/// come back.
+/// The first three end after so many turns as the limits say, or once the stop is set; the talker's
+/// also once it has finished. The sender ends when they have. Link, pace and talker stand in the
+/// report, and the seats come back for `close`: all four, unless a thread could not be started or a
+/// list not be made, which the report's fault tells. The counts of the report are those of the
+/// receipts in the seats that come back.
 pub fn run_member<
     I: Inlet + Send + Drop,
     O: Outlet + Send + Drop,
@@ -118,7 +119,8 @@ pub fn run_shared<
     }
 }
 
-/// A list for the seats and the ends of the workers' channel, which is not made where the list could not be.
+/// A list for the seats and the ends of the workers' channel, which is not made where the list
+/// could not be.
 fn room<L: Ledger>(alloc: Global) -> (Vec<Seat<L>>, Option<Ends>)
     ensures empty { vec_len result.0 ≡ 0 }
     ensures list { IfSome result.1 (λ _. 4 ≤ vec_capacity result.0) }

@@ -55,7 +55,8 @@ pub struct Seats<L: Ledger> {
     pub sender: Seat<L>,
 }
 
-/// The ends of the workers' channel: one to send from for each of the first three, and one to receive from.
+/// The ends of the workers' channel: one to send from for each of the first three, and one to
+/// receive from.
 #[derive(Drop)]
 pub struct Ends {
     receiver: Slot<Outgoing>,
@@ -162,7 +163,8 @@ pub fn run_workers<
     )
 }
 
-/// Starts the sender first, so that somebody takes what the others hand over, and waits for it last.
+/// Starts the sender first, so that somebody takes what the others hand over, and waits for it
+/// last.
 fn run_in<
     's,
     E,
@@ -206,7 +208,8 @@ fn run_in<
     }
 }
 
-/// In a group nobody is to wait for a worker that does not run, nor for what its talker would have said.
+/// In a group nobody is to wait for a worker that does not run, nor for what its talker would have
+/// said.
 pub fn end_without(ending: Ending<'_>, speaker_runs: bool, others_run: bool) {
     if !speaker_runs || !others_run {
         ending.give_up();

@@ -5,8 +5,8 @@ use cb_member::{Event, NoMemory};
 /// What a talker wants next.
 #[derive(Debug, PartialEq, Eq, Drop)]
 pub enum Talk {
-    /// To cast this payload. One that finds the window or the history full, or no memory, is tried again before the talker is asked again;
-    /// one that is too long is dropped.
+    /// To cast this payload. One that finds the window or the history full, or no memory, is tried
+    /// again before the talker is asked again; one that is too long is dropped.
     Cast(Vec<u8>),
     /// Nothing now.
     Idle,
@@ -16,12 +16,13 @@ pub enum Talk {
 
 /// Who decides what a member casts. It sees what the member has cast and delivered.
 pub trait Talker {
-    /// What to do next. `news` are the member's events since the last call, in order. After a refusal the same news come again, with what
-    /// came behind them.
+    /// What to do next. `news` are the member's events since the last call, in order. After a
+    /// refusal the same news come again, with what came behind them.
     fn next(&mut self, news: &[Event]) -> Result<Talk, NoMemory>;
 
-    /// Whether `next` is over so soon that the member may wait for it: then the news are shown in place, and the member takes and tells
-    /// nothing meanwhile. Else they are copied, and the member works on while the talker thinks.
+    /// Whether `next` is over so soon that the member may wait for it: then the news are shown in
+    /// place, and the member takes and tells nothing meanwhile. Else they are copied, and the
+    /// member works on while the talker thinks.
     fn is_quick(&self) -> bool {
         false
     }

@@ -15,7 +15,8 @@ use std::net::{Net, SocketAddr, UdpSocket};
 use std::sync::Wait;
 use std::time::Clock;
 
-/// The room for a datagram: one byte more than the longest frame, so that a longer datagram is seen to be no frame.
+/// The room for a datagram: one byte more than the longest frame, so that a longer datagram is seen
+/// to be no frame.
 const ROOM: usize = 1_418;
 
 const _: () = prove!(ROOM == LONGEST_FRAME + 1);
@@ -64,7 +65,8 @@ impl UdpLink {
     }
 }
 
-/// The link of this member, whose outlet has no addresses yet; the address of its inlet is added to them.
+/// The link of this member, whose outlet has no addresses yet; the address of its inlet is added to
+/// them.
 fn unlinked<N: Net>(
     net: &N,
     alloc: Global,

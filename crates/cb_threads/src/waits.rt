@@ -3,7 +3,8 @@
 use std::thread::sleep;
 use std::time::{Clock, Duration};
 
-/// An inlet that finds nothing says so after a millisecond. So long also waits a worker whose turn brought nothing, or a fault.
+/// An inlet that finds nothing says so after a millisecond. So long also waits a worker whose turn
+/// brought nothing, or a fault.
 pub const WAIT: u64 = 1_000;
 
 /// Of that, for so long messages gather in a mailbox that has become empty.

@@ -1,4 +1,5 @@
-//! The four workers of a member. Each has a seat of its own at the shared member, and hands it back.
+//! The four workers of a member. Each has a seat of its own at the shared member, and hands it
+//! back.
 
 mod desk;
 mod receiver;

@@ -72,10 +72,11 @@ fn each_frame_goes_to_whom_it_is_to(rt: HostRuntime) {
     came(&rt, &mut of_0.0, &[]);
 }
 
+/// The member behind it is offered its own all the same.
 #[test]
 fn frames_to_a_member_that_is_gone_are_lost(rt: HostRuntime) {
-    let (mut of_0, mut of_1, of_2) = three(&rt, rt.alloc());
-    drop(of_2);
+    let (mut of_0, of_1, mut of_2) = three(&rt, rt.alloc());
+    drop(of_1);
     sends(&rt, rt.alloc(), &mut of_0.1, 4);
-    came(&rt, &mut of_1.0, &["all", "one"]);
+    came(&rt, &mut of_2.0, &["all", "two"]);
 }

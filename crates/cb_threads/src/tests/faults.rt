@@ -21,7 +21,8 @@ use std::time::Clock;
 
 type FailingLink = (Failing<ChannelInlet>, Failing<ChannelOutlet>);
 
-/// What a group reports of which member 1's inlet and outlet fail at these calls, and every pace at each.
+/// What a group reports of which member 1's inlet and outlet fail at these calls, and every pace at
+/// each.
 type Failed = GroupReport<Failing<ChannelInlet>, Failing<ChannelOutlet>, Uneven, Counting>;
 
 fn run_failing<R: Threads + Wait + Clock + Abort + Sync>(
@@ -114,7 +115,8 @@ fn counts_waits<I, O, P: Pace, T>(rt: &impl Abort, report: &MemberReport<I, O, P
     assert_eq!(rt; waits, Some(report.pace_failures));
 }
 
-/// Two casts are sure to be sent. How many statuses are sent with them depends on time, so that a third call may not come.
+/// Two casts are sure to be sent. How many statuses are sent with them depends on time, so that a
+/// third call may not come.
 #[test]
 fn what_an_outlet_lost_is_sent_again(rt: HostRuntime) {
     for at in 1..=2u64 {

@@ -45,11 +45,19 @@ fn a_mailbox_is_closed_once_its_last_slot_is_gone_and_it_is_empty(rt: HostRuntim
     assert!(&rt; matches!(mailbox.take_at_once(&rt), Taken::Closed));
 }
 
-/// So often a reader lets messages gather of which there are enough.
-const GATHERINGS: u64 = 5_000;
+/// So often a reader does what is to take no time.
+const READINGS: u64 = 5_000;
 
-/// So often a reader takes from an empty mailbox. The machine may be busy: of the times that it takes the least counts.
+/// So often a reader takes from an empty mailbox. The machine may be busy: of the times that it
+/// takes the least counts.
 const LOOKS: u32 = 100;
+
+/// So many readings took less time than if messages had been let gather in each.
+fn has_not_gathered<R: Clock + Abort>(rt: &R, begun: Duration) {
+    let ended = rt.monotonic().expect(rt, "a clock");
+    let all = Duration::from_micros(GATHERING * READINGS);
+    assert!(rt; ended.saturating_sub(begun) < all);
+}
 
 /// Nobody wakes a reader for what was put in before it said that it lets messages gather.
 #[test]
@@ -59,13 +67,23 @@ fn a_reader_does_not_wait_for_what_is_there(rt: HostRuntime) {
         assert!(&rt; slot.put(&rt, number).is_ok());
     }
     let begun = rt.monotonic().expect(&rt, "a clock");
-    for _gathering in 0..GATHERINGS {
+    for _reading in 0..READINGS {
         mailbox.gather(&rt);
     }
-    let ended = rt.monotonic().expect(&rt, "a clock");
-    let all = Duration::from_micros(GATHERING * GATHERINGS);
-    assert!(&rt; ended.saturating_sub(begun) < all);
+    has_not_gathered(&rt, begun);
     drop(slot);
+}
+
+/// Whoever reads from it waits by itself where it has nothing else to do.
+#[test]
+fn a_reader_does_not_wait_where_no_slot_is_left(rt: HostRuntime) {
+    let (slot, mailbox) = new_mailbox::<u32>(rt.alloc()).expect(&rt, "a mailbox");
+    drop(slot);
+    let begun = rt.monotonic().expect(&rt, "a clock");
+    for _reading in 0..READINGS {
+        assert!(&rt; matches!(mailbox.take(&rt), Taken::Closed));
+    }
+    has_not_gathered(&rt, begun);
 }
 
 /// Gathering and sleeping take a millisecond together.

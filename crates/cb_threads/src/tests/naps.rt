@@ -1,4 +1,5 @@
-//! A device that fails at each call keeps no processor busy, nor does an inlet whose senders are gone. Sleeps are counted and not slept.
+//! A device that fails at each call keeps no processor busy, nor does an inlet whose senders are
+//! gone. Sleeps are counted and not slept.
 
 ghost use Rattle.std.specs.Prelude.{◌≡◌};
 

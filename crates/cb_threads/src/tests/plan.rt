@@ -1,4 +1,5 @@
-//! A group runs as its plan says: each talker at its own member, and no history longer than the limit.
+//! A group runs as its plan says: each talker at its own member, and no history longer than the
+//! limit.
 
 ghost use Rattle.std.specs.Prelude.{◌≡◌};
 
@@ -16,7 +17,8 @@ use std::time::Clock;
 
 type Ran = GroupReport<ChannelInlet, ChannelOutlet, Millisecond, Counting>;
 
-/// What becomes of three members, the first of whom casts once, the second twice and the third three times.
+/// What becomes of three members, the first of whom casts once, the second twice and the third
+/// three times.
 fn run_plan<R: Threads + Wait + Clock + Abort + Sync>(
     rt: &R,
     alloc: Global,

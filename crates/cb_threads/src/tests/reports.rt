@@ -1,4 +1,5 @@
-//! What the reports of members are to say. Each function asserts a little, of which the prover makes less than of all at once.
+//! What the reports of members are to say. Each function asserts a little, of which the prover
+//! makes less than of all at once.
 
 use crate::MemberReport;
 use std::process::Abort;

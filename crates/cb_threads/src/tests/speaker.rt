@@ -35,7 +35,8 @@ fn finish<L: Ledger + Send + Sync, R: Threads + Wait + Clock + Abort + Sync>(
     sent(rt, alloc, &shared, seat)
 }
 
-/// How many casts the outlet was given of a talker that casts twice and has finished once it has seen both.
+/// How many casts the outlet was given of a talker that casts twice and has finished once it has
+/// seen both.
 fn sent<L: Ledger + Send + Sync, R: Threads + Wait + Clock + Abort + Sync>(
     rt: &R,
     alloc: Global,
@@ -95,7 +96,8 @@ impl<'a> Talker for Stopping<'a> {
     }
 }
 
-/// The history has no room for its cast, which would be tried again in each of 20,000 turns, with a millisecond behind each.
+/// The history has no room for its cast, which would be tried again in each of 20,000 turns, with a
+/// millisecond behind each.
 #[test]
 fn a_stop_ends_a_talker_whose_cast_waits(rt: HostRuntime) {
     let begin = Instant::now(&rt).expect(&rt, "a clock");

@@ -92,7 +92,8 @@ impl Post {
         self.lost
     }
 
-    /// Hands a frame to the sender, which finds it within about a millisecond where it is not woken.
+    /// Hands a frame to the sender, which finds it within about a millisecond where it is not
+    /// woken.
     pub fn put(&mut self, rt: &impl Wait, out: Outgoing) {
         self.has_put = true;
         if self.out.add(rt, out).is_err() {

@@ -27,8 +27,9 @@ impl<I: Inlet, L: Ledger> Promise<Worked<I, L>> for InletCounts {
 
 /// Takes what is received, one look at the inlet in each turn.
 ///
-/// Where its turns are used up it closes the inlet, since nobody takes anything from there any more: others may still send for as long as
-/// their turns last. Where the workers are to end, so are those of the others.
+/// Where its turns are used up it closes the inlet, since nobody takes anything from there any
+/// more: others may still send for as long as their turns last. The stop of a group ends the others
+/// too, so that behind it nothing gathers for long.
 pub fn take_all<I: Inlet, L: Ledger, R: Wait + Clock>(
     rt: &R,
     desk: &Desk<'_, L>,
@@ -51,7 +52,8 @@ pub fn take_all<I: Inlet, L: Ledger, R: Wait + Clock>(
     worked.ended(&post)
 }
 
-/// Looks at the inlet once. Behind a fault it waits, so that an inlet that fails at each call keeps no processor busy.
+/// Looks at the inlet once. Behind a fault it waits, so that an inlet that fails at each call keeps
+/// no processor busy.
 fn take_once<I: Inlet, L: Ledger, R: Wait + Clock>(
     rt: &R,
     desk: &Desk<'_, L>,
@@ -71,7 +73,8 @@ fn take_once<I: Inlet, L: Ledger, R: Wait + Clock>(
     }
 }
 
-/// A frame arrives, and what is sent in answer goes to the sender. One that finds no memory is dropped: it was lost on the way.
+/// A frame arrives, and what is sent in answer goes to the sender. One that finds no memory is
+/// dropped: it was lost on the way.
 fn take<L: Ledger>(
     rt: &impl Wait,
     shared: &SharedMember<L>,

@@ -14,7 +14,8 @@ use std::sync::Wait;
 use std::sync::ledger::Ledger;
 use std::thread::Promise;
 
-/// A promise: the failures that were met are those that an outlet counted since it had counted this, and at each a frame was lost.
+/// A promise: the failures that were met are those that an outlet counted since it had counted
+/// this, and at each a frame was lost.
 #[derive(Clone, Copy)]
 pub struct OutletCounts {
     pub before: u64,
@@ -58,7 +59,8 @@ fn next<R: Wait>(rt: &R, frames: &Mailbox<Outgoing>) -> Option<Outgoing> {
     unreachable!("the loop has no end")
 }
 
-/// Sends a frame, and with it what else is there, as far as the list has room. The list is empty before and behind it.
+/// Sends a frame, and with it what else is there, as far as the list has room. The list is empty
+/// before and behind it.
 #[tactic(auto, using(crate::proofs::Sending::stay_lost))]
 fn send_with_more<O: Outlet, L: Ledger, R: Wait>(
     rt: &R,

@@ -9,6 +9,7 @@ ghost use Rattle.cb_threads.specs.declared.workers.speaker.Turn.TheVariants.{Fin
 
 use crate::mailbox::Slot;
 use crate::talker::{Talk, Talker};
+use crate::waits::wait;
 use crate::workers::desk::{Desk, Job, Post, Worked};
 use bytes::Bytes;
 use cb_lock::Seat;
@@ -16,8 +17,7 @@ use cb_member::{CastDone, CastRefusal, Event, Member, NoMemory, Outgoing};
 use std::mem;
 use std::sync::Wait;
 use std::sync::ledger::Ledger;
-use std::thread::sleep;
-use std::time::{Clock, Duration};
+use std::time::Clock;
 
 /// The outcome of a turn.
 #[derive(Clone, Copy)]
@@ -58,8 +58,8 @@ struct Speech<'a, T, L: Ledger> {
     waiting: Option<Vec<u8>>,
 }
 
-/// Casts what the talker says, at most one message in each turn, until it has finished. A turn without a cast is followed by a millisecond's
-/// sleep.
+/// Casts what the talker says, at most one message in each turn, until it has finished. A turn
+/// without a cast is followed by a millisecond's sleep.
 pub fn talk_all<T: Talker, L: Ledger, R: Wait + Clock>(
     rt: &R,
     desk: &Desk<'_, L>,
@@ -84,14 +84,15 @@ pub fn talk_all<T: Talker, L: Ledger, R: Wait + Clock>(
         last = speech.turn(rt);
         if matches!(last, Turn::Quiet) {
             speech.post.wake();
-            sleep(rt, Duration::from_millis(1));
+            wait(rt);
         }
     }
     ending.talker_ended();
     speech.ended()
 }
 
-/// Whether another turn is begun: until the stop is set or the talker has finished, whatever waits to be cast.
+/// Whether another turn is begun: until the stop is set or the talker has finished, whatever waits
+/// to be cast.
 fn goes_on(is_stopped: bool, last: Turn) -> bool
     ensures { Decides result ((is_stopped ≡ false) × (last ≢ Finished)) }
 {
@@ -107,7 +108,8 @@ impl<'a, T: Talker, L: Ledger> Speech<'a, T, L> {
         }
     }
 
-    /// Shows the talker the news, and does what it says. Where memory is refused it has not seen them.
+    /// Shows the talker the news, and does what it says. Where memory is refused it has not seen
+    /// them.
     fn ask<R: Wait>(&mut self, rt: &R) -> Turn {
         if self.talker.is_quick() {
             return self.ask_in_place(rt);
@@ -120,7 +122,8 @@ impl<'a, T: Talker, L: Ledger> Speech<'a, T, L> {
         }
     }
 
-    /// Asks the talker while the member waits for it: what the talker says is cast before the lock is dropped.
+    /// Asks the talker while the member waits for it: what the talker says is cast before the lock
+    /// is dropped.
     fn ask_in_place<R: Wait>(&mut self, rt: &R) -> Turn {
         let (talker, seen) = (&mut self.talker, self.seen);
         let (said, cast) = self.desk.shared.cast_with(
@@ -142,7 +145,8 @@ impl<'a, T: Talker, L: Ledger> Speech<'a, T, L> {
         self.seen = self.seen.saturating_add(said.count);
     }
 
-    /// What the talker says to copies of the news, and how many they are, while the member works on.
+    /// What the talker says to copies of the news, and how many they are, while the member works
+    /// on.
     fn ask_with_copies<R: Wait>(&mut self, rt: &R) -> Result<(Talk, usize), NoMemory> {
         let news = self.news(rt)?;
         let answer = asked(&mut self.talker, &news);
@@ -173,15 +177,19 @@ impl<'a, T: Talker, L: Ledger> Speech<'a, T, L> {
         self.hand_on(rt, payload, cast)
     }
 
-    /// Hands a cast to the sender. A payload that the window, the history or memory has no room for waits; one that is too long is dropped.
+    /// Hands a cast to the sender. A payload that the window, the history or memory has no room for
+    /// waits; one that is too long is dropped.
     fn hand_on<R: Wait>(
         &mut self,
         rt: &R,
         payload: Vec<u8>,
         cast: Result<CastDone, CastRefusal>,
     ) -> Turn
+        ensures sent { IfOk cast (λ _. self.new.waiting ≡ self.old.waiting) }
         ensures waits { IfErr cast (λ refusal. refusal ≢ PayloadTooLong
             → self.new.waiting ≡ Some payload) }
+        ensures dropped { IfErr cast (λ refusal. refusal ≡ PayloadTooLong
+            → self.new.waiting ≡ None) }
         ensures quiet { OnErr cast (result ≡ Quiet) }
     {
         match cast {
@@ -209,7 +217,8 @@ impl<'a, T: Talker, L: Ledger> Speech<'a, T, L> {
     }
 }
 
-/// What is to be cast again behind a refusal: the payload, but for one that is too long, which never can be cast.
+/// What is to be cast again behind a refusal: the payload, but for one that is too long, which
+/// never can be cast.
 fn left_to_cast(payload: Vec<u8>, refusal: CastRefusal) -> Option<Vec<u8>>
     ensures dropped { refusal ≡ PayloadTooLong → result ≡ None }
     ensures waits { refusal ≢ PayloadTooLong → result ≡ Some payload }
@@ -220,10 +229,11 @@ fn left_to_cast(payload: Vec<u8>, refusal: CastRefusal) -> Option<Vec<u8>>
     }
 }
 
-/// What becomes of the turn where nothing is cast, how many news the talker saw, and what it wants to cast. Out of memory it saw none, and
-/// is shown the same again.
+/// What becomes of the turn where nothing is cast, how many news the talker saw, and what it wants
+/// to cast. Out of memory it saw none, and is shown the same again.
 fn parted(answer: Result<(Talk, usize), NoMemory>) -> (Said, Option<Vec<u8>>)
-    ensures seen { MatchResult answer (λ reported. result.0.count ≡ reported.1) (λ _. result.0.count ≡ 0) }
+    ensures seen { MatchResult answer (λ reported. result.0.count ≡ reported.1)
+        (λ _. result.0.count ≡ 0) }
     ensures turn { IfOk answer (λ reported. result.0.turn ≡ turn_of reported.0) }
     ensures cast { IfOk answer (λ reported. result.1 ≡ cast_of reported.0) }
 {

@@ -23,7 +23,8 @@ impl<P: Pace, L: Ledger> Promise<Worked<P, L>> for PaceCounts {
     ghost kept_by = { λ p r. MetAtMost r.failures p.before (P.failed r.part) };
 }
 
-/// Ticks once in each turn, and then waits as the pace has it. A tick that finds no memory is made again in the next turn.
+/// Ticks once in each turn, and then waits as the pace has it. A tick that finds no memory is made
+/// again in the next turn.
 pub fn tick_all<P: Pace, L: Ledger, R: Wait + Clock>(
     rt: &R,
     desk: &Desk<'_, L>,
