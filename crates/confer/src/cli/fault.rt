@@ -15,7 +15,8 @@ use thiserror::Error;
 /// A fault in the words, or a call for help.
 const USAGE: u8 = 2;
 
-/// A fault of the reader or the writer, an input that is too long, or a conference in threads that did not run.
+/// A fault of the reader or the writer, an input that is too long, or a conference in threads that did not
+/// run.
 const STREAMS: u8 = 3;
 
 /// A script has a bad step, or a trace a bad line.

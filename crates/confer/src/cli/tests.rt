@@ -155,7 +155,13 @@ const RUNS: &[ProgramRun] = &[
         words: PLAY,
         input: "group 7 size 2 window 4 history 100\nsay 0 main hi\nscreen 0\n",
         status: 0,
-        printed: "1 cast 0.1 [1,0]\n > 0 all 11070001000801046d61696e6869\n2 screen 0\n | [main] 0.1 hi\nmember 0 time [1,0] stable 0 entries 1\nmember 1 time [0,0] stable 0 entries 0\n",
+        printed: "1 cast 0.1 [1,0]
+ > 0 all 11070001000801046d61696e6869
+2 screen 0
+ | [main] 0.1 hi
+member 0 time [1,0] stable 0 entries 1
+member 1 time [0,0] stable 0 entries 0
+",
         said: "",
     },
     ProgramRun {

@@ -20,7 +20,8 @@ fn expands(rt: &impl Abort, alloc: Global, lines: &[u8], status: u8, text: &str)
     run_on(alloc, &WORDS, &mut reading(lines)).is(rt, status, text.as_bytes(), "");
 }
 
-/// Expands lines that were made for the test. A call of `drop` takes the prover less time than a value that is left to the end.
+/// Expands lines that were made for the test. A call of `drop` takes the prover less time than a value that
+/// is left to the end.
 fn expands_made(rt: &impl Abort, alloc: Global, lines: String, status: u8, text: &str) {
     expands(rt, alloc, lines.as_bytes(), status, text);
     drop(lines);
@@ -145,8 +146,8 @@ fn an_interrupted_write_is_tried_again(rt: HostRuntime) {
 /// Line feeds around the end of the longest input.
 const FEEDS: [usize; 4] = [67_108_854, 67_108_861, 67_108_866, 67_108_869];
 
-/// Letters up to a place in reads that end within lines, with four line feeds in each and those around the end of the
-/// longest input.
+/// Letters up to a place in reads that end within lines, with four line feeds in each and those around the
+/// end of the longest input.
 #[derive(Drop)]
 struct Letters {
     place: usize,

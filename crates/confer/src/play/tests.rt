@@ -16,7 +16,8 @@ fn prints(rt: &impl Abort, alloc: Global, script: &str, text: &str) {
     run_on(alloc, &WORDS, &mut reading(script.as_bytes())).is(rt, 0, text.as_bytes(), "");
 }
 
-/// Plays a script that was made for the test. A call of `drop` takes the prover less time than a value that is left to the end.
+/// Plays a script that was made for the test. A call of `drop` takes the prover less time than a value that
+/// is left to the end.
 fn prints_made(rt: &impl Abort, alloc: Global, script: String, text: String) {
     prints(rt, alloc, &script, &text);
     drop(script);
@@ -447,21 +448,26 @@ fn the_first_bad_step_is_named(rt: HostRuntime) {
     stops_at(&rt, alloc, script, "1002");
 }
 
+/// What is printed of one tick.
+const TICKED: &str = "1 tick entered
+ > 0 all 12070000
+member 0 time [0,0] stable 0 entries 1
+member 1 time [0,0] stable 0 entries 0
+";
+
 #[test]
 fn the_last_line_may_lack_its_line_feed(rt: HostRuntime) {
-    let text =
-        "1 tick entered\n > 0 all 12070000\nmember 0 time [0,0] stable 0 entries 1\nmember 1 time [0,0] stable 0 entries 0\n";
     prints(
         &rt,
         rt.alloc(),
         "group 7 size 2 window 4 history 100\ntick 0",
-        text,
+        TICKED,
     );
     prints(
         &rt,
         rt.alloc(),
         "group 7 size 2 window 4 history 100\ntick 0\n",
-        text,
+        TICKED,
     );
 }
 
@@ -510,10 +516,6 @@ fn a_failing_read_comes_before_a_bad_step(rt: HostRuntime) {
         fails_to_read(&rt, rt.alloc(), good, ErrorKind::Interrupted);
     }
 }
-
-/// What is printed of one tick.
-const TICKED: &str =
-    "1 tick entered\n > 0 all 12070000\nmember 0 time [0,0] stable 0 entries 1\nmember 1 time [0,0] stable 0 entries 0\n";
 
 /// The write after so many good ones fails: what was written stays.
 fn keeps(rt: &impl Abort, alloc: Global, good: usize) {

@@ -70,7 +70,8 @@ impl Participant {
 
     /// Shows the conference what it was not shown of these events.
     pub fn catch_up(&mut self, news: &[Event]) -> Result<(), NoMemory>
-        ensures ok { OnOk result (SawAll self.old self.new (messages_of (drop self.old.ahead news.now))) }
+        ensures ok { OnOk result (SawAll self.old self.new
+            (messages_of (drop self.old.ahead news.now))) }
         ensures so_far { SawFirst self.old self.new news.now }
         ensures kept { self.new ≡ record self.old {
           conference = self.new.conference;
@@ -88,8 +89,8 @@ impl Participant {
         Ok(())
     }
 
-    /// Shows the conference a message, and counts what became of it. The names of a member's messages are all such that a conference can
-    /// show them; that is looked at again here.
+    /// Shows the conference a message, and counts what became of it. The names of a member's messages are all
+    /// such that a conference can show them; that is looked at again here.
     fn show(&mut self, message: &Message) -> Result<(), NoMemory>
         ensures ok { OnOk result (SawAll self.old self.new
             (filter (λ m. has_name m.0) (as_shown_to message.now ∷ []))) }
@@ -112,7 +113,8 @@ impl Participant {
         Ok(())
     }
 
-    /// Counts what became of the message with this name, and keeps it where it is a question. There is room for one.
+    /// Counts what became of the message with this name, and keeps it where it is a question. There is room
+    /// for one.
     fn count(&mut self, name: Name, showing: Showing)
         requires { vec_len self.old.questions < vec_capacity self.old.questions }
         ensures kept { self.new ≡ record self.old {

@@ -35,8 +35,9 @@ const GROUP: u32 = 7;
 /// How many entries each history may have.
 const HISTORY_MAX: usize = 100_000;
 
-/// How many entries a member has at most for each cast of its group: the cast or its arrival, a tick that is the first to tell of it, a
-/// status that is the first to make it known, and one that is the first to acknowledge it.
+/// How many entries a member has at most for each cast of its group: the cast or its arrival, a tick that is
+/// the first to tell of it, a status that is the first to make it known, and one that is the first to
+/// acknowledge it.
 const ENTRIES_A_CAST: usize = 4;
 
 /// No conference fills a history: it would stop for ever.
@@ -68,12 +69,13 @@ struct RunText {
     text: Vec<u8>,
 }
 
-/// Runs a conference in threads, has the histories of its members audited, and writes a line for each member, with the counts of its
-/// history, and what the audit said; or, where the setting says so, the trace of the histories in place of all this. Whether the audit
-/// said no.
+/// Runs a conference in threads, has the histories of its members audited, and writes a line for each member,
+/// with the counts of its history, and what the audit said; or, where the setting says so, the trace of the
+/// histories in place of all this. Whether the audit said no.
 ///
-/// It ends once each participant has cast and seen all, or after the setting's turns; the lines tell which. Its faults are those of
-/// `RunFault`: after a write fault a beginning of the text stands written, after each other fault nothing.
+/// It ends once each participant has cast and seen all, or after the setting's turns; the lines tell which.
+/// Its faults are those of `RunFault`: after a write fault a beginning of the text stands written, after each
+/// other fault nothing.
 pub fn run_conference<R: Threads + Wait + Clock + Net + Sync, W: Write>(
     rt: &R,
     alloc: Global,
@@ -141,7 +143,8 @@ fn run_over<I: Inlet + Send + Drop, O: Outlet + Send + Drop, R: Threads + Wait +
 ) -> Result<RunText, ThreadFault>
     requires setting { IsRunSetting setting }
     requires links { length links.items ≡ setting.size }
-    ensures { IfOk result (λ answer. ShowsOver links.items setting answer.refused answer.text.items) }
+    ensures { IfOk result (λ answer. ShowsOver links.items setting answer.refused
+        answer.text.items) }
 {
     match gather_crew(alloc, setting) {
         Ok(crew) => run_crew(rt, alloc, setting, links, crew),
@@ -185,7 +188,8 @@ fn run_crew<I: Inlet + Send + Drop, O: Outlet + Send + Drop, R: Threads + Wait +
     requires links { length links.items ≡ setting.size }
     requires talkers { length crew.talkers.items ≡ setting.size }
     requires paces { length crew.paces.items ≡ setting.size }
-    ensures { IfOk result (λ answer. ShowsOver links.items setting answer.refused answer.text.items) }
+    ensures { IfOk result (λ answer. ShowsOver links.items setting answer.refused
+        answer.text.items) }
 {
     let Crew { talkers, paces } = crew;
     let group = conference_group(setting);
@@ -280,7 +284,8 @@ fn run_text<I, O>(
     requires members { length histories.now ≡ group.size }
     requires kept { AreKept group 0 histories.now (map tally_in reports.now) }
     requires parts { EachHandsBack reports.now }
-    ensures { IfOk result (λ answer. ShowsReports setting reports.now answer.refused answer.text.items) }
+    ensures { IfOk result (λ answer. ShowsReports setting reports.now answer.refused
+        answer.text.items) }
 {
     let lines = lines_of(alloc, reports)?;
     if setting.trace {
@@ -347,7 +352,8 @@ fn accepted(lines: Vec<u8>) -> Result<RunText, ThreadFault>
 
 fn refused(lines: Vec<u8>, refusal: AuditFault) -> Result<RunText, ThreadFault>
     ensures { (histories : List HistoryFields) → Refuses histories refusal
-        → IfOk result (λ answer. EndsWithAudit lines.items histories answer.refused answer.text.items) }
+        → IfOk result (λ answer. EndsWithAudit lines.items histories answer.refused
+        answer.text.items) }
 {
     let mut text = lines;
     text.extend_from_slice(b"audit ")?;

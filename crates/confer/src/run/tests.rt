@@ -49,7 +49,8 @@ fn text_in(rt: &impl Abort, bytes: Vec<u8>) -> String {
     text
 }
 
-/// Every member's line says this of its casts and deliveries, and that it saw no answer before its question; the last line is the audit's.
+/// Every member's line says this of its casts and deliveries, and that it saw no answer before its question;
+/// the last line is the audit's.
 fn is_reported(rt: &impl Abort, alloc: Global, text: &str, members: usize, part: &str) {
     is_ended(rt, text, members.saturating_add(1));
     for member in 0..members {
