@@ -63,7 +63,7 @@ fn one_arrival_delivers_all_that_waited_for_it(rt: HostRuntime) {
 const ASKED: &str = "101 arrive accepted changed
 102 tick entered
  > 100 all 12070100
- > 101 0 13070100010162
+ > 101 0 13070100010062
 103 arrive accepted same
 ";
 
