@@ -67,9 +67,9 @@ const ASKED: &str = "101 arrive accepted changed
 103 arrive accepted same
 ";
 
-/// They are sent again, to member 1 alone.
+/// The first 64 of them, which is the most for a request, are sent again, to member 1 alone.
 fn put_repair(text: &mut String) -> Result<(), AllocError> {
-    for number in 1..CASTS {
+    for number in 1..65u32 {
         let frame = number.saturating_add(101);
         write!(text, " > {frame} 1 110700{number:02x}0000\n")?;
     }
@@ -81,7 +81,7 @@ member 1 time [0,0] stable 0 entries 2
 ";
 
 #[test]
-fn one_request_is_answered_with_all_that_it_asks_for(rt: HostRuntime) {
+fn one_request_is_answered_with_64_frames(rt: HostRuntime) {
     let alloc = rt.alloc();
     let mut script = String::from_str(alloc, FIRST).expect(&rt, "memory");
     let mut text = String::new(alloc);
