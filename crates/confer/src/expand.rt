@@ -1,8 +1,8 @@
-//! `confer expand`: cast frames in hexadecimal, a frame a line, and for each its message with its vector time, or why it is
-//! refused.
+//! `confer expand`: cast frames in hexadecimal, a frame a line, and for each its message with its vector
+//! time, or why it is refused.
 //!
-//! From the streams down: `streams` reads and writes, `lines` cuts what was read into lines, `answers` answers one line,
-//! `expansion` finds its cast and the cast's time, and `text` writes the answer. Stands on
+//! From the streams down: `streams` reads and writes, `lines` cuts what was read into lines, `answers`
+//! answers one line, `expansion` finds its cast and the cast's time, and `text` writes the answer. Stands on
 //! `cb_frames` and `cb_diffs`.
 
 mod answers;

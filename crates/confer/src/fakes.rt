@@ -41,8 +41,8 @@ pub fn reading(text: &[u8]) -> Source<'_> {
     }
 }
 
-/// Keeps what it is given, `most` bytes at a time. The first `interrupted` writes are interrupted, and the write after
-/// `good` others is a fault.
+/// Keeps what it is given, `most` bytes at a time. The first `interrupted` writes are interrupted, and the
+/// write after `good` others is a fault.
 #[derive(Drop)]
 pub struct Sink {
     pub text: Vec<u8>,

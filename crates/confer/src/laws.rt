@@ -1,8 +1,9 @@
 //! Conferences over causal broadcast, as contracts of functions that do nothing.
 //!
-//! Each member's conference is shown the messages of the member's events in their order, its own casts among them. The one premise
-//! is that whoever casts an answer composed it in its own conference, at or before the cast: then no network, however it loses,
-//! repeats or reorders frames, can show an answer to anyone before its question.
+//! Each member's conference is shown the messages of the member's events in their order, its own casts among
+//! them. The one premise is that whoever casts an answer composed it in its own conference, at or before the
+//! cast: then no network, however it loses, repeats or reorders frames, can show an answer to anyone before
+//! its question.
 
 ghost use Rattle.std.specs.Prelude.{ℕ};
 ghost use Rattle.cb_causality.specs.Laws.{EachRun};
@@ -11,8 +12,9 @@ ghost use Rattle.cb_schedules.specs.Messages.{causal_lists};
 ghost use Rattle.confer.specs.Playing.{EachScript, events_in};
 ghost use Rattle.confer.specs.Rooms.{AnswersWereComposed, HasNoOrphan, ShowsAllLines, ShowsClosedArrivals, AgreeOnLines, QuestionsComeFirst};
 
-/// No answer before its question, in every run of the causal broadcast machine: no member's conference ever answers `Orphan`. Each
-/// message that is a line has its line there, and all members who have the line of a message have the same.
+/// No answer before its question, in every run of the causal broadcast machine: no member's conference ever
+/// answers `Orphan`. Each message that is a line has its line there, and all members who have the line of a
+/// message have the same.
 pub fn no_answer_before_its_question()
     ensures no_orphan { EachRun (λ size lists. AnswersWereComposed lists
         → (j : ℕ) → HasNoOrphan (lists j)) }
@@ -21,9 +23,9 @@ pub fn no_answer_before_its_question()
     ensures agree { EachRun (λ size lists. AnswersWereComposed lists → AgreeOnLines lists) }
 {}
 
-/// No answer before its question, after every schedule of casts, ticks and arrivals of sent frames, whatever was lost, repeated or
-/// reordered. And a line
-/// that has arrived somewhere with everything that happened before it, has its line there.
+/// No answer before its question, after every schedule of casts, ticks and arrivals of sent frames, whatever
+/// was lost, repeated or reordered. And a line that has arrived somewhere with everything that happened
+/// before it, has its line there.
 pub fn no_answer_before_its_question_over_lossy_links()
     ensures no_orphan { EachSchedule (λ setting s. AnswersWereComposed (causal_lists setting s)
         → (j : ℕ) → HasNoOrphan (causal_lists setting s j)) }
@@ -33,8 +35,8 @@ pub fn no_answer_before_its_question_over_lossy_links()
         → AgreeOnLines (causal_lists setting s)) }
 {}
 
-/// The same after every script whose plain casts carry no answer: what it says and answers is composed in the conference of the member
-/// that casts it, so the premise holds.
+/// The same after every script whose plain casts carry no answer: what it says and answers is composed in the
+/// conference of the member that casts it, so the premise holds.
 pub fn no_answer_before_its_question_in_a_script()
     ensures { EachScript (λ w. QuestionsComeFirst (events_in w)) }
 {}

@@ -1,7 +1,8 @@
 //! `confer`: causal broadcast at the command line.
 //!
-//! `cli` reads the words, by `clap`, and runs what they order. Each subcommand has a module of its own: `expand` stands on
-//! `cb_frames` and `cb_diffs`, `play` on `cb_world`, `audit` on `cb_trace`, `run` on `cb_threads` and `cb_trace`.
+//! `cli` reads the words, by `clap`, and runs what they order. Each subcommand has a module of its own:
+//! `expand` stands on `cb_frames` and `cb_diffs`, `play` on `cb_world`, `audit` on `cb_trace`, `run` on
+//! `cb_threads` and `cb_trace`.
 #![tactic(auto)]
 
 mod audit;

@@ -1,8 +1,9 @@
 //! `confer play`: a script of steps, run in a group of members, and what each step was answered.
 //!
-//! From the streams down: `running` reads the script whole, runs its steps and writes the outcome of them, `reading` reads the lines of the
-//! script, `script` has what they say, `rooms` has the group and its members' conferences, and `transcript` says what is printed. Stands on `cb_world` for the group
-//! and on `cb_rooms` for conferences.
+//! From the streams down: `running` reads the script whole, runs its steps and writes the outcome of them,
+//! `reading` reads the lines of the script, `script` has what they say, `rooms` has the group and its
+//! members' conferences, and `transcript` says what is printed. Stands on `cb_world` for the group and on
+//! `cb_rooms` for conferences.
 
 mod fault;
 mod reading;

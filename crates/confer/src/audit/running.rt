@@ -20,11 +20,11 @@ struct Verdict {
     text: Vec<u8>,
 }
 
-/// Reads a trace to the end of the input, has its histories audited, and writes the script of their joint order or why there is none.
-/// Whether the audit said no.
+/// Reads a trace to the end of the input, has its histories audited, and writes the script of their joint
+/// order or why there is none. Whether the audit said no.
 ///
-/// The whole answer is made before any of it is written: where the trace can't be read whole, has a bad line, or memory runs out,
-/// nothing is written.
+/// The whole answer is made before any of it is written: where the trace can't be read whole, has a bad line,
+/// or memory runs out, nothing is written.
 pub fn audit_trace<R: Read, W: Write>(
     alloc: Global,
     input: &mut R,

@@ -87,8 +87,8 @@ pub fn report<E: Write>(fault: &Fault, errors: &mut E) -> u8
     fault.status()
 }
 
-/// Does what the words say, of which the first is the program's name, and answers the exit status. `None` stands for words that order a run
-/// in threads: nothing was done then.
+/// Does what the words say, of which the first is the program's name, and answers the exit status. `None`
+/// stands for words that order a run in threads: nothing was done then.
 ///
 /// It returns wherever the calls of the reader and of the writers return.
 pub fn run_plain<S: AsStr, R: Read, W: Write, E: Write>(
@@ -114,7 +114,8 @@ pub fn run_plain<S: AsStr, R: Read, W: Write, E: Write>(
     }
 }
 
-/// Does what the words say, of which the first is the program's name, and answers the exit status. A conference in threads may wait for ever.
+/// Does what the words say, of which the first is the program's name, and answers the exit status. A
+/// conference in threads may wait for ever.
 pub fn run_words<S: AsStr, R: Read, W: Write, E: Write, H: Threads + Wait + Clock + Net + Sync>(
     rt: &H,
     alloc: Global,

@@ -5,7 +5,7 @@ use crate::cli::{Fault, report};
 use crate::expand::LinesFault;
 use crate::fakes::{Outcome, reading, run_on, run_whole, writing};
 use crate::play::ScriptFault;
-use crate::run::RunFault;
+use crate::run::{RunFault, ThreadFault};
 use std::alloc::Global;
 use std::io::ErrorKind;
 use std::net::Net;
@@ -50,7 +50,12 @@ fn has_part(rt: &impl Abort, bytes: &[u8], part: &str) {
 const NO_COMMANDS: &[(&[&str], &str)] = &[
     (&["confer"], "Usage: confer"),
     (&["confer", "--help"], "Usage: confer"),
+    (&["confer", "--help"], "Exit status: 0 all was done"),
     (&["confer", "expand", "--help"], "--group <G>"),
+    (
+        &["confer", "expand", "--help"],
+        "Reads cast frames of one group",
+    ),
     (&["confer", "juggle"], "juggle"),
     (&["confer", "expand", "--size", "3"], "--group <G>"),
     (&["confer", "expand", "--group", "7"], "--size <N>"),
@@ -71,8 +76,16 @@ const NO_COMMANDS: &[(&[&str], &str)] = &[
         "cannot be used multiple times",
     ),
     (&["confer", "audit", "--help"], "Usage: confer audit"),
+    (
+        &["confer", "audit", "--help"],
+        "Reads the trace of a group's histories",
+    ),
     (&["confer", "audit", "more"], "more"),
     (&["confer", "play", "--help"], "Usage: confer play"),
+    (
+        &["confer", "play", "--help"],
+        "Reads a script from standard input",
+    ),
     (&["confer", "play", "more"], "more"),
     (
         &["confer", "expand", "--group", "7", "--size", "3", "more"],
@@ -105,6 +118,10 @@ const RUN_OPTIONS: &[(&str, &str)] = &[
     ("--link=tcp", "[possible values: channel, udp]"),
     ("--trace=yes", "--trace"),
     ("--help", "--questions <Q>"),
+    (
+        "--help",
+        "Runs a conference in which each member is a thread",
+    ),
     ("more", "more"),
 ];
 
@@ -155,7 +172,13 @@ const RUNS: &[ProgramRun] = &[
         words: PLAY,
         input: "group 7 size 2 window 4 history 100\nsay 0 main hi\nscreen 0\n",
         status: 0,
-        printed: "1 cast 0.1 [1,0]\n > 0 all 11070001000801046d61696e6869\n2 screen 0\n | [main] 0.1 hi\nmember 0 time [1,0] stable 0 entries 1\nmember 1 time [0,0] stable 0 entries 0\n",
+        printed: "1 cast 0.1 [1,0]
+ > 0 all 11070001000801046d61696e6869
+2 screen 0
+ | [main] 0.1 hi
+member 0 time [1,0] stable 0 entries 1
+member 1 time [0,0] stable 0 entries 0
+",
         said: "",
     },
     ProgramRun {
@@ -298,8 +321,9 @@ fn begins_and_ends(rt: &impl Abort, outcome: Outcome, first: &[u8], last: &[u8])
     assert_eq!(rt; status, Some(0));
 }
 
-/// The fault ends a run with this status, and this is said of it.
+/// The fault ends a run with this status, and this is said of it, which is its text behind the program's name.
 fn reports(rt: &impl Abort, alloc: Global, fault: Fault, status: u8, said: &str) {
+    has_text(rt, alloc, &fault, said);
     let mut errors = writing(alloc);
     let reported = report(&fault, &mut errors);
     drop(fault);
@@ -309,6 +333,13 @@ fn reports(rt: &impl Abort, alloc: Global, fault: Fault, status: u8, said: &str)
         said: errors.text,
     };
     outcome.is(rt, status, b"", said);
+}
+
+fn has_text(rt: &impl Abort, alloc: Global, fault: &Fault, said: &str) {
+    let text = format!(in alloc; "confer: {fault}\n").expect(rt, "memory");
+    let is_said = text.as_str() == said;
+    drop(text);
+    assert!(rt; is_said, "{said}");
 }
 
 fn reports_faults_of_words(rt: &impl Abort, alloc: Global) {
@@ -359,20 +390,28 @@ fn reports_bad_lines(rt: &impl Abort, alloc: Global) {
 fn reports_faults_of_runs(rt: &impl Abort, alloc: Global) {
     let write = RunFault::Write;
     reports(rt, alloc, Fault::Run(write), 3, "confer: write fault\n");
-    let no_link = RunFault::NoLink;
-    reports(rt, alloc, Fault::Run(no_link), 3, "confer: no link\n");
-    let no_thread = RunFault::NoThread;
-    reports(rt, alloc, Fault::Run(no_thread), 3, "confer: no thread\n");
-    let bad_receipts = RunFault::BadReceipts;
+    reports_fault_of_threads(rt, alloc, ThreadFault::NoLink, 3, "confer: no link\n");
+    reports_fault_of_threads(rt, alloc, ThreadFault::NoThread, 3, "confer: no thread\n");
+    let said = "confer: bad receipts\n";
+    reports_fault_of_threads(rt, alloc, ThreadFault::BadReceipts, 3, said);
+    let said = "confer: out of memory\n";
+    reports_fault_of_threads(rt, alloc, ThreadFault::NoMemory, 5, said);
+}
+
+fn reports_fault_of_threads(
+    rt: &impl Abort,
+    alloc: Global,
+    fault: ThreadFault,
+    status: u8,
+    said: &str,
+) {
     reports(
         rt,
         alloc,
-        Fault::Run(bad_receipts),
-        3,
-        "confer: bad receipts\n",
+        Fault::Run(RunFault::Threads(fault)),
+        status,
+        said,
     );
-    let memory = RunFault::NoMemory;
-    reports(rt, alloc, Fault::Run(memory), 5, "confer: out of memory\n");
 }
 
 #[test]

@@ -11,7 +11,8 @@ use cb_times::{NoMemory, VectorTime};
 use std::alloc::Global;
 use std::marker::Model;
 
-/// The most bytes of an answer with its line feed: the two numbers of a name, a time and a payload, and what stands between them.
+/// The most bytes of an answer with its line feed: the two numbers of a name, a time and a payload, and what
+/// stands between them.
 pub const LONGEST_ANSWER: usize = 24 + 705 + 2049;
 
 /// Answers to lines, one behind the other. A clause sees their text, and whether one of them is a refusal.

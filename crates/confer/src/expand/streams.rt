@@ -75,8 +75,8 @@ pub fn read_whole<R: Read>(alloc: Global, input: &mut R) -> Result<Vec<u8>, Line
     }
 }
 
-/// Writes some of the bytes, none of them only where the write was interrupted. A write that failed is a write fault, and
-/// nothing else is.
+/// Writes some of the bytes, none of them only where the write was interrupted. A write that failed is a
+/// write fault, and nothing else is.
 fn write_some<W: Write>(output: &mut W, bytes: &[u8]) -> Result<usize, LinesFault>
     ensures within { IfOk result (λ count. count ≤ length bytes.now) }
     ensures ok { IfOk result (λ count.
@@ -142,7 +142,8 @@ fn answer_piece<W: Write>(output: &mut W, lines: &mut Lines, piece: &[u8]) -> Re
     put(output, &mut lines.answers, taken)
 }
 
-/// Answers a last line that lacks its line feed, and writes the answer. Whether a line of the input was refused.
+/// Answers a last line that lacks its line feed, and writes the answer. Whether a line of the input was
+/// refused.
 fn answer_last<W: Write>(output: &mut W, lines: &mut Lines) -> Result<bool, LinesFault>
     ensures ok { OnOk result (PutsLines (last_line lines.old.begun.items)
         lines.old.expansion lines.new.expansion lines.old.answers lines.new.answers
@@ -158,8 +159,8 @@ fn answer_last<W: Write>(output: &mut W, lines: &mut Lines) -> Result<bool, Line
     }
 }
 
-/// Reads lines of hexadecimal to the end of the input, and writes for each the time of the cast that it is, or why it
-/// is refused. Whether a line was refused.
+/// Reads lines of hexadecimal to the end of the input, and writes for each the time of the cast that it is,
+/// or why it is refused. Whether a line was refused.
 ///
 /// Output is written once for each read; memory does not grow with the number of lines.
 pub fn expand_lines<R: Read, W: Write>(

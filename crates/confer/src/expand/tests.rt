@@ -1,6 +1,6 @@
 //! What is written for which input.
 
-use crate::expand::{LinesFault, expand_lines};
+use crate::expand::{LinesFault, expand_lines, write_whole};
 use crate::fakes::{joined, reading, run_into, run_on, writing};
 use std::alloc::Global;
 use std::io;
@@ -20,7 +20,8 @@ fn expands(rt: &impl Abort, alloc: Global, lines: &[u8], status: u8, text: &str)
     run_on(alloc, &WORDS, &mut reading(lines)).is(rt, status, text.as_bytes(), "");
 }
 
-/// Expands lines that were made for the test. A call of `drop` takes the prover less time than a value that is left to the end.
+/// Expands lines that were made for the test. A call of `drop` takes the prover less time than a value that
+/// is left to the end.
 fn expands_made(rt: &impl Abort, alloc: Global, lines: String, status: u8, text: &str) {
     expands(rt, alloc, lines.as_bytes(), status, text);
     drop(lines);
@@ -142,11 +143,35 @@ fn an_interrupted_write_is_tried_again(rt: HostRuntime) {
     outcome.is(&rt, 1, REFUSED, "");
 }
 
+/// Takes nothing at first, and then all that it is given.
+#[derive(Drop)]
+struct Late {
+    is_asked: bool,
+}
+
+impl Write for Late {
+    fn write(&mut self, buf: &[u8]) -> io::Result<usize> {
+        let count = if self.is_asked { buf.len() } else { 0 };
+        self.is_asked = true;
+        Ok(count)
+    }
+
+    fn flush(&mut self) -> io::Result<()> {
+        Ok(())
+    }
+}
+
+#[test]
+fn a_writer_that_takes_nothing_is_a_fault(rt: HostRuntime) {
+    let mut output = Late { is_asked: false };
+    assert_eq!(&rt; write_whole(&mut output, b"hi"), Err(LinesFault::Write));
+}
+
 /// Line feeds around the end of the longest input.
 const FEEDS: [usize; 4] = [67_108_854, 67_108_861, 67_108_866, 67_108_869];
 
-/// Letters up to a place in reads that end within lines, with four line feeds in each and those around the end of the
-/// longest input.
+/// Letters up to a place in reads that end within lines, with four line feeds in each and those around the
+/// end of the longest input.
 #[derive(Drop)]
 struct Letters {
     place: usize,

@@ -1,7 +1,8 @@
 //! A group whose members hold a conference.
 //!
-//! Each member has a conference with a screen of 20 lines. It is shown the member's own casts and its deliveries, in the order of the
-//! member's events, after each step. A line is composed in the conference of the member who casts it.
+//! Each member has a conference with a screen of 20 lines. It is shown the member's own casts and its
+//! deliveries, in the order of the member's events, after each step. A line is composed in the conference of
+//! the member who casts it.
 
 ghost use Rattle.std.specs.Prelude.{◌≡◌, ◌≢◌, ◌≤◌, ◌+◌, [], IfOk, OnOk, MatchOption, drop, length, string_bytes};
 ghost use Rattle.std.specs.List.{AllByRecursion};
@@ -76,11 +77,13 @@ impl Rooms {
         &self.world
     }
 
-    /// The group takes a step, and the member to whom it happened is shown what it cast and delivered by it: so each conference is shown
-    /// just its member's events, each once. The only error is out of memory, after which the group may have taken the step.
+    /// The group takes a step, and the member to whom it happened is shown what it cast and delivered by it:
+    /// so each conference is shown just its member's events, each once. The only error is out of memory,
+    /// after which the group may have taken the step.
     #[tactic(auto, using(crate::proofs::Shown::step_shows))]
     pub fn step(&mut self, step: &Step) -> Result<(), NoMemory>
-        ensures world { OnOk result (self.new.world ≡ and_step self.old.world (step_fields step.now)) }
+        ensures world { OnOk result (self.new.world
+            ≡ and_step self.old.world (step_fields step.now)) }
         ensures shown { OnOk result (AreShown self.old.world self.old.attendances.items
             → AreShown self.new.world self.new.attendances.items) }
     {
@@ -92,8 +95,8 @@ impl Rooms {
         }
     }
 
-    /// Composes a line in the member's conference, over what the member cast and delivered so far, and casts it. The only error is out of
-    /// memory.
+    /// Composes a line in the member's conference, over what the member cast and delivered so far, and casts
+    /// it. The only error is out of memory.
     #[tactic(auto, using(crate::proofs::Shown::nobody_composes))]
     pub fn compose(&mut self, member: u32, line: &Line<'_>) -> Result<Composed, NoMemory>
         ensures world { OnOk result (AreShown self.old.world self.old.attendances.items
@@ -127,7 +130,8 @@ impl Rooms {
         }
     }
 
-    /// The screen of the member's conference, or None where there is no such member. The only error is out of memory.
+    /// The screen of the member's conference, or None where there is no such member. The only error is out of
+    /// memory.
     pub fn screen(&self, member: u32) -> Result<Option<String>, NoMemory>
         ensures { AreShown self.now.world self.now.attendances.items
             → IfOk result (λ screen. MatchOption screen (self.now.world.setting.group.size ≤ member)
@@ -174,7 +178,8 @@ fn behind(events: &[Event], shown: usize) -> &[Event]
     }
 }
 
-/// The member's conference is shown those of its events that it was not shown. No other conference is shown anything.
+/// The member's conference is shown those of its events that it was not shown. No other conference is shown
+/// anything.
 fn catch_up(
     attendances: &mut Vec<Attendance>,
     member: u32,

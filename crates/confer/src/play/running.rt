@@ -17,10 +17,11 @@ use cb_world::World;
 use std::alloc::Global;
 use std::io::{Read, Write};
 
-/// Reads a script to the end of the input, runs it, and writes the outcome of each step and how each member stands at the end.
+/// Reads a script to the end of the input, runs it, and writes the outcome of each step and how each member
+/// stands at the end.
 ///
-/// The text of the run is made whole before any of it is written: where the script can't be read whole, has a bad step, or memory runs
-/// out, nothing is written.
+/// The text of the run is made whole before any of it is written: where the script can't be read whole, has a
+/// bad step, or memory runs out, nothing is written.
 #[tactic(auto, using(crate::proofs::ScriptLines::writes_run))]
 pub fn play_script<R: Read, W: Write>(
     alloc: Global,
@@ -58,9 +59,10 @@ fn transcript_of(alloc: Global, text: &[u8]) -> Result<String, ScriptFault>
     Ok(run_text(alloc, setting, &steps)?)
 }
 
-/// What is printed of a run of these steps: of each step the outcome of it, and of all members behind them. A line is composed in the
-/// conference of its member, and each screen is that of a conference that was shown just its member's events: so where no plain cast
-/// carries an answer, no conference ever lacks the question of an answer.
+/// What is printed of a run of these steps: of each step the outcome of it, and of all members behind them. A
+/// line is composed in the conference of its member, and each screen is that of a conference that was shown
+/// just its member's events: so where no plain cast carries an answer, no conference ever lacks the question
+/// of an answer.
 pub fn run_text(
     alloc: Global,
     setting: Setting,

@@ -1,5 +1,6 @@
 //! What is printed of which script, and what ends a run.
 
+mod many;
 mod rooms;
 mod traces;
 
@@ -16,7 +17,8 @@ fn prints(rt: &impl Abort, alloc: Global, script: &str, text: &str) {
     run_on(alloc, &WORDS, &mut reading(script.as_bytes())).is(rt, 0, text.as_bytes(), "");
 }
 
-/// Plays a script that was made for the test. A call of `drop` takes the prover less time than a value that is left to the end.
+/// Plays a script that was made for the test. A call of `drop` takes the prover less time than a value that
+/// is left to the end.
 fn prints_made(rt: &impl Abort, alloc: Global, script: String, text: String) {
     prints(rt, alloc, &script, &text);
     drop(script);
@@ -441,27 +443,32 @@ fn the_first_bad_step_is_named(rt: HostRuntime) {
     stops(&rt, alloc, script, 4, "confer: line 3: bad step\n");
     let script = b"group 7 size 2 window 4 history 100\ntick 0\n\n";
     stops(&rt, alloc, script, 4, "confer: line 3: bad step\n");
-    let ticks = "tick 0\n".repeat(alloc, 1000).expect(&rt, "memory");
+    let ticks = "tick 0\n".repeat(alloc, 70_000).expect(&rt, "memory");
     let script = joined(&rt, alloc, &[FIRST, "\n", ticks.as_str(), "tock 0"]);
     drop(ticks);
-    stops_at(&rt, alloc, script, "1002");
+    stops_at(&rt, alloc, script, "70002");
 }
+
+/// What is printed of one tick.
+const TICKED: &str = "1 tick entered
+ > 0 all 12070000
+member 0 time [0,0] stable 0 entries 1
+member 1 time [0,0] stable 0 entries 0
+";
 
 #[test]
 fn the_last_line_may_lack_its_line_feed(rt: HostRuntime) {
-    let text =
-        "1 tick entered\n > 0 all 12070000\nmember 0 time [0,0] stable 0 entries 1\nmember 1 time [0,0] stable 0 entries 0\n";
     prints(
         &rt,
         rt.alloc(),
         "group 7 size 2 window 4 history 100\ntick 0",
-        text,
+        TICKED,
     );
     prints(
         &rt,
         rt.alloc(),
         "group 7 size 2 window 4 history 100\ntick 0\n",
-        text,
+        TICKED,
     );
 }
 
@@ -510,10 +517,6 @@ fn a_failing_read_comes_before_a_bad_step(rt: HostRuntime) {
         fails_to_read(&rt, rt.alloc(), good, ErrorKind::Interrupted);
     }
 }
-
-/// What is printed of one tick.
-const TICKED: &str =
-    "1 tick entered\n > 0 all 12070000\nmember 0 time [0,0] stable 0 entries 1\nmember 1 time [0,0] stable 0 entries 0\n";
 
 /// The write after so many good ones fails: what was written stays.
 fn keeps(rt: &impl Abort, alloc: Global, good: usize) {

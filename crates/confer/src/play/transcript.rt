@@ -119,7 +119,8 @@ impl fmt::Display for MemberText<'_> {
     }
 }
 
-/// The lines of step `number`, counted from 1: what was answered, what was delivered, and the frames that were sent.
+/// The lines of step `number`, counted from 1: what was answered, what was delivered, and the frames that
+/// were sent.
 pub fn put_step(
     text: &mut String,
     number: usize,

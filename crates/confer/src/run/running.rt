@@ -1,14 +1,19 @@
 //! A conference in threads, from its setting to what is printed of it.
 
-ghost use Rattle.std.specs.Prelude.{◌≡◌, ◌≢◌, ◌++◌, List, None, IfOk, IfErr, OnOk, codes, length, map, true, false};
+ghost use Rattle.std.specs.Prelude.{◌≡◌, ◌≢◌, ◌⊎◌, ◌++◌, List, None, Some, Err, IfOk, IfErr, OnOk, codes, length, map, true, false};
 ghost use Rattle.cb_history.specs.Group.{AreParameters};
 ghost use Rattle.cb_threads.specs.Groups.{AreKept, tally_in};
 ghost use Rattle.cb_threads.specs.Reports.{EachHandsBack};
 ghost use Rattle.cb_threads.specs.declared.group.GroupFault.TheVariants.{BadPlan};
+ghost use Rattle.cb_threads.specs.declared.report.WorkerFault.{WorkerFault};
+ghost use Rattle.cb_trace.specs.Bounds.{AreMixed};
 ghost use Rattle.cb_trace.specs.Text.{HistoryFields, history_fields};
 ghost use Rattle.confer.specs.Audit.{Refuses};
-ghost use Rattle.confer.specs.Run.{EachRan, EndsWithAudit, IsFaultOfGroup, PrintsRun, ShowsOver, ShowsReports, ShowsRun, StopsRun, IsTraceText, done_text, group_of, member_line, report_line, report_lines};
+ghost use Rattle.confer.specs.Run.{EachRan, EndsWithAudit, IsFaultOfGroup, PrintsRun, ShowsOver, ShowsReports, ShowsRun, StopsRun, IsTraceText, done_text, fault_of_worker, group_of, member_line, report_line, report_lines};
 ghost use Rattle.confer.specs.Cli.Orders.{IsRunSetting};
+ghost use Rattle.confer.specs.declared.run.fault.RunFault.TheVariants as run_faults;
+ghost use Rattle.confer.specs.declared.run.fault.ThreadFault.{ThreadFault};
+ghost use Rattle.confer.specs.declared.run.fault.ThreadFault.TheVariants.{NoMemory as OutOfMemory};
 ghost use Rattle.confer.specs.declared.run.setting.RunSetting.{RunSetting};
 
 use crate::audit::{put_parameter, put_refusal};
@@ -35,8 +40,9 @@ const GROUP: u32 = 7;
 /// How many entries each history may have.
 const HISTORY_MAX: usize = 100_000;
 
-/// How many entries a member has at most for each cast of its group: the cast or its arrival, a tick that is the first to tell of it, a
-/// status that is the first to make it known, and one that is the first to acknowledge it.
+/// How many entries a member has at most for each cast of its group: the cast or its arrival, a tick that is
+/// the first to tell of it, a status that is the first to make it known, and one that is the first to
+/// acknowledge it.
 const ENTRIES_A_CAST: usize = 4;
 
 /// No conference fills a history: it would stop for ever.
@@ -68,12 +74,13 @@ struct RunText {
     text: Vec<u8>,
 }
 
-/// Runs a conference in threads, has the histories of its members audited, and writes a line for each member, with the counts of its
-/// history, and what the audit said; or, where the setting says so, the trace of the histories in place of all this. Whether the audit
-/// said no.
+/// Runs a conference in threads, has the histories of its members audited, and writes a line for each member,
+/// with the counts of its history, and what the audit said; or, where the setting says so, the trace of the
+/// histories in place of all this. Whether the audit said no.
 ///
-/// It ends once each participant has cast and seen all, or after the setting's turns; the lines tell which. Its faults are those of
-/// `RunFault`: after a write fault a beginning of the text stands written, after each other fault nothing.
+/// It ends once each participant has cast and seen all, or after the setting's turns; the lines tell which.
+/// Its faults are those of `RunFault`: after a write fault a beginning of the text stands written, after each
+/// other fault nothing.
 pub fn run_conference<R: Threads + Wait + Clock + Net + Sync, W: Write>(
     rt: &R,
     alloc: Global,
@@ -86,9 +93,24 @@ pub fn run_conference<R: Threads + Wait + Clock + Net + Sync, W: Write>(
     ensures fault { IfErr result (λ fault. StopsRun setting fault (W.contents output.old)
         (W.contents output.new)) }
 {
-    match run_linked(rt, alloc, setting) {
+    write_run(run_linked(rt, alloc, setting), output)
+}
+
+/// Writes what a conference left to print, or answers why there is nothing. Whether its audit said no.
+fn write_run<W: Write>(run: Result<RunText, ThreadFault>, output: &mut W) -> Result<bool, RunFault>
+    ensures ok { (setting : RunSetting)
+        → IfOk run (λ answer. ShowsRun setting answer.refused answer.text.items)
+        → IfOk result (λ refused. PrintsRun setting refused (W.contents output.old)
+        (W.contents output.new)) }
+    ensures fault { (setting : RunSetting)
+        → IfOk run (λ answer. ShowsRun setting answer.refused answer.text.items)
+        → IfErr result (λ fault. StopsRun setting fault (W.contents output.old)
+        (W.contents output.new)) }
+    ensures nothing { (fault : ThreadFault) → run ≡ Err fault → result ≡ Err (run_faults.Threads fault) }
+{
+    match run {
         Ok(answer) => write_answer(answer, output),
-        Err(fault) => Err(RunFault::of_threads(fault)),
+        Err(fault) => Err(RunFault::Threads(fault)),
     }
 }
 
@@ -141,7 +163,8 @@ fn run_over<I: Inlet + Send + Drop, O: Outlet + Send + Drop, R: Threads + Wait +
 ) -> Result<RunText, ThreadFault>
     requires setting { IsRunSetting setting }
     requires links { length links.items ≡ setting.size }
-    ensures { IfOk result (λ answer. ShowsOver links.items setting answer.refused answer.text.items) }
+    ensures { IfOk result (λ answer. ShowsOver links.items setting answer.refused
+        answer.text.items) }
 {
     match gather_crew(alloc, setting) {
         Ok(crew) => run_crew(rt, alloc, setting, links, crew),
@@ -185,13 +208,12 @@ fn run_crew<I: Inlet + Send + Drop, O: Outlet + Send + Drop, R: Threads + Wait +
     requires links { length links.items ≡ setting.size }
     requires talkers { length crew.talkers.items ≡ setting.size }
     requires paces { length crew.paces.items ≡ setting.size }
-    ensures { IfOk result (λ answer. ShowsOver links.items setting answer.refused answer.text.items) }
+    ensures { IfOk result (λ answer. ShowsOver links.items setting answer.refused
+        answer.text.items) }
 {
     let Crew { talkers, paces } = crew;
     let group = conference_group(setting);
-    let limits = Limits {
-        turns: u64::from(setting.turns),
-    };
+    let limits = limits_of(setting);
     match run_group(rt, alloc, group, HISTORY_MAX, links, paces, talkers, limits) {
         Ok(report) => reported(alloc, setting, group, report),
         Err(fault) => Err(fault_of(fault)),
@@ -208,6 +230,15 @@ fn conference_group(setting: RunSetting) -> Group
         unreachable!("the setting is within its bounds");
     };
     group
+}
+
+/// How long each worker works at most.
+fn limits_of(setting: RunSetting) -> Limits
+    ensures { result.turns ≡ setting.turns }
+{
+    Limits {
+        turns: u64::from(setting.turns),
+    }
 }
 
 fn fault_of(fault: GroupFault) -> ThreadFault
@@ -247,7 +278,8 @@ fn reported<I: Drop, O: Drop>(
     text
 }
 
-fn participants(alloc: Global, setting: RunSetting) -> Result<Vec<Participant>, ThreadFault>
+/// Who talks: a participant for each member, in their order.
+pub fn participants(alloc: Global, setting: RunSetting) -> Result<Vec<Participant>, ThreadFault>
     ensures { IfOk result (λ talkers. length talkers.items ≡ setting.size) }
 {
     let mut talkers = Vec::with_capacity(alloc, setting.size as usize)?;
@@ -280,7 +312,8 @@ fn run_text<I, O>(
     requires members { length histories.now ≡ group.size }
     requires kept { AreKept group 0 histories.now (map tally_in reports.now) }
     requires parts { EachHandsBack reports.now }
-    ensures { IfOk result (λ answer. ShowsReports setting reports.now answer.refused answer.text.items) }
+    ensures { IfOk result (λ answer. ShowsReports setting reports.now answer.refused
+        answer.text.items) }
 {
     let lines = lines_of(alloc, reports)?;
     if setting.trace {
@@ -290,8 +323,8 @@ fn run_text<I, O>(
     }
 }
 
-/// A line for each member.
-fn lines_of<I, O>(
+/// A line for each member. A worker's fault is the fault of all.
+pub fn lines_of<I, O>(
     alloc: Global,
     reports: &[MemberReport<I, O, Millisecond, Participant>],
 ) -> Result<Vec<u8>, ThreadFault>
@@ -307,8 +340,10 @@ fn lines_of<I, O>(
 
 /// The trace of these histories.
 fn traced(alloc: Global, histories: &[History]) -> Result<RunText, ThreadFault>
-    ensures { IfOk result (λ answer. IsTraceText (map history_fields histories.now) answer.refused
-        answer.text.items) }
+    ensures text { IfOk result (λ answer. IsTraceText (map history_fields histories.now)
+        answer.refused answer.text.items) }
+    ensures fault { IfErr result (λ fault. (fault ≡ OutOfMemory)
+        ⊎ AreMixed (map history_fields histories.now)) }
 {
     match write_trace(alloc, histories) {
         Ok(text) => Ok(RunText {
@@ -323,8 +358,9 @@ fn traced(alloc: Global, histories: &[History]) -> Result<RunText, ThreadFault>
 
 /// These lines, and one for what the audit of these histories says.
 fn audited(alloc: Global, lines: Vec<u8>, histories: &[History]) -> Result<RunText, ThreadFault>
-    ensures { IfOk result (λ answer. EndsWithAudit lines.items (map history_fields histories.now)
-        answer.refused answer.text.items) }
+    ensures text { IfOk result (λ answer. EndsWithAudit lines.items
+        (map history_fields histories.now) answer.refused answer.text.items) }
+    ensures fault { IfErr result (λ fault. fault ≡ OutOfMemory) }
 {
     match audit(alloc, histories) {
         Ok(_joint) => accepted(lines),
@@ -336,6 +372,7 @@ fn audited(alloc: Global, lines: Vec<u8>, histories: &[History]) -> Result<RunTe
 fn accepted(lines: Vec<u8>) -> Result<RunText, ThreadFault>
     ensures accepted { IfOk result (λ answer. answer.refused ≡ false) }
     ensures text { IfOk result (λ answer. answer.text.items ≡ lines.items ++ codes "audit yes\n") }
+    ensures fault { IfErr result (λ fault. fault ≡ OutOfMemory) }
 {
     let mut text = lines;
     text.extend_from_slice(b"audit yes\n")?;
@@ -346,8 +383,10 @@ fn accepted(lines: Vec<u8>) -> Result<RunText, ThreadFault>
 }
 
 fn refused(lines: Vec<u8>, refusal: AuditFault) -> Result<RunText, ThreadFault>
-    ensures { (histories : List HistoryFields) → Refuses histories refusal
-        → IfOk result (λ answer. EndsWithAudit lines.items histories answer.refused answer.text.items) }
+    ensures text { (histories : List HistoryFields) → Refuses histories refusal
+        → IfOk result (λ answer. EndsWithAudit lines.items histories answer.refused
+        answer.text.items) }
+    ensures fault { IfErr result (λ fault. fault ≡ OutOfMemory) }
 {
     let mut text = lines;
     text.extend_from_slice(b"audit ")?;
@@ -366,6 +405,8 @@ fn put_line<I, O>(
 ) -> Result<(), ThreadFault>
     ensures line { OnOk result (out.new.items ≡ out.old.items ++ report_line member report.now) }
     ensures ran { OnOk result (report.now.fault ≡ None) }
+    ensures fault { (worker : WorkerFault) → report.now.fault ≡ Some worker
+        → result ≡ Err (fault_of_worker worker) }
 {
     if let Some(fault) = report.fault {
         return Err(ThreadFault::from(fault));

@@ -5,8 +5,8 @@ use crate::fakes::joined;
 use std::alloc::Global;
 use std::process::Abort;
 
-/// Steps of a group in which nothing was said, and what each is answered. Of several faults the first in order is named: the member, then
-/// the place of the line, then its text.
+/// Steps of a group in which nothing was said, and what each is answered. Of several faults the first in
+/// order is named: the member, then the place of the line, then its text.
 const REFUSED: &[(&str, &str)] = &[
     ("say 2 main hi", "refused NoSuchMember"),
     ("say 4294967295 Main \u{7}", "refused NoSuchMember"),
@@ -82,6 +82,9 @@ const SAID: &[(&str, &str)] = &[
     ("answer 1 0.2 hi", "refused UnknownQuestion"),
     ("answer 1 1.1 hi", "refused UnknownQuestion"),
     ("answer 1 0.1 \u{7}", "refused BadText"),
+    ("say 2 main hi", "refused NoSuchMember"),
+    ("answer 2 0.1 hi", "refused NoSuchMember"),
+    ("screen 2", "refused NoSuchMember"),
     ("screen 1", "screen 1\n | [main] 0.1 hi"),
 ];
 
@@ -96,23 +99,27 @@ fn a_line_is_composed_in_the_conference_of_its_member(rt: HostRuntime) {
     }
 }
 
+/// What is printed of the steps before it, and of member 0 behind it.
+const BEFORE: &str = "1 cast 0.1 [1,0]
+ > 0 all 11070001000801046d61696e6869
+2 arrive accepted changed
+ = 0.1 [1,0] x01046d61696e6869
+3 ";
+
+const BEHIND: &str = "\nmember 0 time [1,0] stable 0 entries 1\nmember 1 time ";
+
 fn is_composed(rt: &impl Abort, alloc: Global, step: &str, lines: &str) {
     let script = joined(rt, alloc, &[FIRST, "\nsay 0 main hi\narrive 1 0\n", step]);
-    let before =
-        "1 cast 0.1 [1,0]\n > 0 all 11070001000801046d61696e6869\n2 arrive accepted changed\n = 0.1 [1,0] x01046d61696e6869";
-    let (time, entries) = standing(lines);
-    let text = format!(in alloc;
-        "{before}\n3 {lines}\nmember 0 time [1,0] stable 0 entries 1\nmember 1 time {time} stable 0 entries {entries}\n"
-    ).expect(rt, "memory");
+    let text = joined(rt, alloc, &[BEFORE, lines, BEHIND, standing(lines), "\n"]);
     prints_made(rt, alloc, script, text);
 }
 
-/// How member 1 stands after this answer: its time, and how many entries its history has.
-fn standing(lines: &str) -> (&'static str, u32) {
+/// How member 1 stands after this answer: a cast is an entry more.
+fn standing(lines: &str) -> &'static str {
     if lines.starts_with("cast") {
-        ("[1,1]", 2)
+        "[1,1] stable 0 entries 2"
     } else {
-        ("[1,0]", 1)
+        "[1,0] stable 0 entries 1"
     }
 }
 
@@ -154,26 +161,82 @@ fn says_the_longest(rt: &impl Abort, alloc: Global, text: &str) {
     prints_made(rt, alloc, script, printed);
 }
 
-/// A composed line is cast like any payload: where the window or the history is full it is refused, and shown to nobody.
+/// Where the window is full.
+const WINDOW_SCRIPT: &str = "group 7 size 2 window 1 history 100
+say 0 main one
+say 0 main two
+answer 0 0.1 three
+screen 0
+";
+
+const WINDOW_TEXT: &str = "1 cast 0.1 [1,0]
+ > 0 all 11070001000901046d61696e6f6e65
+2 refused WindowFull
+3 refused WindowFull
+4 screen 0
+ | [main] 0.1 one
+member 0 time [1,0] stable 0 entries 1
+member 1 time [0,0] stable 0 entries 0
+";
+
+/// Where the history is full.
+const HISTORY_SCRIPT: &str = "group 7 size 2 window 4 history 1
+say 0 main one
+say 0 main two
+screen 0
+";
+
+const HISTORY_TEXT: &str = "1 cast 0.1 [1,0]
+ > 0 all 11070001000901046d61696e6f6e65
+2 refused HistoryFull
+3 screen 0
+ | [main] 0.1 one
+member 0 time [1,0] stable 0 entries 1
+member 1 time [0,0] stable 0 entries 0
+";
+
+/// A composed line is cast like any payload: where the window or the history is full it is refused, and shown
+/// to nobody.
 #[test]
 fn a_line_whose_cast_is_refused_is_not_shown(rt: HostRuntime) {
-    let window =
-        "group 7 size 2 window 1 history 100\nsay 0 main one\nsay 0 main two\nanswer 0 0.1 three\nscreen 0\n";
-    let text =
-        "1 cast 0.1 [1,0]\n > 0 all 11070001000901046d61696e6f6e65\n2 refused WindowFull\n3 refused WindowFull\n4 screen 0\n | [main] 0.1 one\nmember 0 time [1,0] stable 0 entries 1\nmember 1 time [0,0] stable 0 entries 0\n";
-    prints(&rt, rt.alloc(), window, text);
-    let history = "group 7 size 2 window 4 history 1\nsay 0 main one\nsay 0 main two\nscreen 0\n";
-    let text =
-        "1 cast 0.1 [1,0]\n > 0 all 11070001000901046d61696e6f6e65\n2 refused HistoryFull\n3 screen 0\n | [main] 0.1 one\nmember 0 time [1,0] stable 0 entries 1\nmember 1 time [0,0] stable 0 entries 0\n";
-    prints(&rt, rt.alloc(), history, text);
+    prints(&rt, rt.alloc(), WINDOW_SCRIPT, WINDOW_TEXT);
+    prints(&rt, rt.alloc(), HISTORY_SCRIPT, HISTORY_TEXT);
 }
 
-/// A payload that was cast as it is, without a conference: a line is shown, another payload is not, and an answer to nothing is an orphan.
+/// Payloads that were cast as they are, without a conference: no line, an answer to nothing, and a line.
+const CAST_SCRIPT: &str = "group 7 size 2 window 4 history 100
+cast 0 03
+cast 0 02010178
+cast 0 01016178
+screen 0
+arrive 1 0
+arrive 1 1
+arrive 1 2
+screen 1
+";
+
+const CAST_TEXT: &str = "1 cast 0.1 [1,0]
+ > 0 all 11070001000103
+2 cast 0.2 [2,0]
+ > 1 all 11070002000402010178
+3 cast 0.3 [3,0]
+ > 2 all 11070003000401016178
+4 screen 0
+ | [a] 0.3 x
+5 arrive accepted changed
+ = 0.1 [1,0] x03
+6 arrive accepted changed
+ = 0.2 [2,0] x02010178
+7 arrive accepted changed
+ = 0.3 [3,0] x01016178
+8 screen 1
+ | [a] 0.3 x
+member 0 time [3,0] stable 0 entries 3
+member 1 time [3,0] stable 0 entries 3
+";
+
+/// A line is shown, another payload is not, and an answer to nothing is an orphan.
 #[test]
 fn what_a_cast_says_is_shown_where_it_is_a_line(rt: HostRuntime) {
-    let script =
-        "group 7 size 2 window 4 history 100\ncast 0 03\ncast 0 02010178\ncast 0 01016178\nscreen 0\narrive 1 0\narrive 1 1\narrive 1 2\nscreen 1\n";
-    let text =
-        "1 cast 0.1 [1,0]\n > 0 all 11070001000103\n2 cast 0.2 [2,0]\n > 1 all 11070002000402010178\n3 cast 0.3 [3,0]\n > 2 all 11070003000401016178\n4 screen 0\n | [a] 0.3 x\n5 arrive accepted changed\n = 0.1 [1,0] x03\n6 arrive accepted changed\n = 0.2 [2,0] x02010178\n7 arrive accepted changed\n = 0.3 [3,0] x01016178\n8 screen 1\n | [a] 0.3 x\nmember 0 time [3,0] stable 0 entries 3\nmember 1 time [3,0] stable 0 entries 3\n";
-    prints(&rt, rt.alloc(), script, text);
+    prints(&rt, rt.alloc(), CAST_SCRIPT, CAST_TEXT);
 }
