@@ -1,6 +1,6 @@
 -- Counts and numbers of messages stay in the range of numbers.
-use Rattle.std.proofs.Common.{◌≡◌, ℕ, zero, suc, ◌+◌, ◌<◌, ◌≤◌, ◌^◌, Bool, true, false, ◌||◌, cond, eqb, leb, List, [], ◌∷◌, ◌++◌, length, map, max, min, Ok, refl, sym, ap, subst, ◌∙◌, arith, inl, inr}
-use Rattle.std.specs.List.{AllByRecursion, flat_map, filter}
+use Rattle.std.proofs.Common.{◌≡◌, ℕ, zero, suc, ◌+◌, ◌<◌, ◌≤◌, ◌^◌, Bool, true, false, ◌||◌, cond, eqb, leb, List, [], ◌∷◌, ◌++◌, max, Ok, refl, sym, ap, subst, ◌∙◌, arith, inl, inr}
+use Rattle.std.specs.List.{AllByRecursion, flat_map}
 use Rattle.std.proofs.lemmas.Bool.{leb-false, le-leb, lt-leb}
 use Rattle.std.proofs.lemmas.List.{append-nil}
 use Rattle.cb_frames.specs.declared.frame.TheConstants.{LAST_NUMBER}
@@ -11,15 +11,14 @@ use Rattle.cb_frames.specs.Reading.{frame_at}
 use Rattle.cb_frames.specs.Laws.{IsBytes, CanBeWritten}
 use Rattle.cb_frames.proofs.Decoding.{reading_is_exact}
 use Rattle.cb_frames.proofs.Unique.{one_text, some_text}
-use Rattle.cb_frames.specs.Text.{IsText, text_of}
-use Rattle.cb_diffs.specs.Expansion.{expanded_field, growth_of, greatest}
+use Rattle.cb_frames.specs.Text.{IsText}
+use Rattle.cb_diffs.specs.Expansion.{expanded_field}
 use Rattle.cb_history.specs.Group.{Identity}
 use Rattle.cb_history.specs.Facts.{Fact, OwnCast, CastReceived, StatusReceived, OwnStatus, cast_in, casts_in, messages_in}
 use Rattle.cb_history.specs.View.{count, is_among, is_expanded, view}
-use Rattle.cb_history.specs.Known.{greatest_of, value_in, reported_of, counted_in_times, known, stable}
+use Rattle.cb_history.specs.Known.{greatest_of, value_in, reported_of, stable}
 use Rattle.cb_history.specs.Answers.{delivered, is_window_full}
-use Rattle.cb_history.specs.Legal.{longest_history}
-use Rattle.cb_history.specs.LegalFacts.{IsOwnCast, SaysNumbers, IsStep, AreLegalFacts, NoFacts, OneFactMore, AreFactsOf}
+use Rattle.cb_history.specs.LegalFacts.{SaysNumbers, IsStep, AreLegalFacts, NoFacts, OneFactMore}
 use Rattle.cb_history.specs.CountLaws.{OwnCastsHaveNumbers, MessagesHaveNumbers, CountsAreNumbers, KnownAreNumbers, NoNumberIsFull, HistoriesLeaveNumbers}
 use Rattle.cb_history.proofs.Views.{IsIn, or_right, casts_in-append}
 use Rattle.cb_history.proofs.Lists.{flat_map-append, messages_in-push, in_push, or_false, among_is, among_by_order}

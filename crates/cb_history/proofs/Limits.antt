@@ -1,13 +1,12 @@
 -- A legal history is what calls add without a limit, with at most so many entries as a history can have.
-use Rattle.std.proofs.Common.{◌≡◌, ◌<◌, ◌≤◌, ◌+◌, Bool, cond, ltb, List, [], ◌∷◌, ◌++◌, length, Result, Ok, Err, ap, arith}
+use Rattle.std.proofs.Common.{◌<◌, ◌≤◌, Bool, cond, ltb, List, [], ◌∷◌, ◌++◌, length, Ok, Err, ap, arith}
 use Rattle.std.proofs.lemmas.List.{length-append}
-use Rattle.cb_history.specs.Group.{Identity, IsIdentity}
+use Rattle.cb_history.specs.Group.{Identity}
 use Rattle.cb_frames.specs.declared.frame.TheConstants.{LONGEST_PAYLOAD}
-use Rattle.cb_history.specs.declared.answer.CastRefusal.{CastRefusal}
 use Rattle.cb_history.specs.declared.answer.CastRefusal.TheVariants as casts
 use Rattle.cb_history.specs.Facts.{EntryFields, Fact, facts_of}
 use Rattle.cb_history.specs.Answers.{is_full, next_cast, cast_answer}
-use Rattle.cb_history.specs.Legal.{longest_history, AreLegal, NoEntries, OneMore, IsLegal}
+use Rattle.cb_history.specs.Legal.{longest_history, AreLegal, NoEntries, OneMore}
 use Rattle.cb_history.specs.LegalFacts.{AreLegalFacts, NoFacts, OneFactMore}
 use Rattle.cb_history.specs.LimitLaws.{LimitIsAdded, AreAddedInLimit, NoneAdded, OneAdded, LegalIsAddedInLimit, AreStepsInLimit, NoStepInLimit, OneStepInLimit, LegalFactsInLimit, LegalAnswersByStable}
 use Rattle.cb_history.proofs.Calls.{entry_with_room, entry_in_limit, added_below}

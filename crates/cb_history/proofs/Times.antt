@@ -7,7 +7,7 @@ use Rattle.std.proofs.lemmas.List.Sums.{sum_by_push}
 use Rattle.std.proofs.lemmas.List.FromFn.{length-map-range_with_len, get_or-map-range_with_len}
 use Rattle.cb_times.specs.Order.{field}
 use Rattle.cb_frames.specs.Fields.{CastFields, Carried, growth_in, last_number}
-use Rattle.cb_diffs.specs.Expansion.{greatest, growth_of, expanded_field}
+use Rattle.cb_diffs.specs.Expansion.{growth_of, expanded_field}
 use Rattle.cb_history.specs.Group.{Identity}
 use Rattle.cb_history.specs.Facts.{Fact, OwnCast, CastReceived, StatusReceived, OwnStatus, cast_in, casts_in, messages_in, is_there}
 use Rattle.cb_history.specs.View.{count, is_among, is_expanded, is_in_time, next_delivery, drain, view, time_of}

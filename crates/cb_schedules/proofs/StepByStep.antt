@@ -5,7 +5,7 @@ use Rattle.std.proofs.lemmas.List.{append-nil}
 use Rattle.cb_causality.specs.Extension.{Still}
 use Rattle.cb_history.specs.Facts.{EntryFields}
 use Rattle.cb_history.specs.Legal.{and_entry, entry_of}
-use Rattle.cb_schedules.specs.Schedule.{Setting, IsSetting, seat_at, Step, Schedule, Asked, Calls, OfNoMember, OfNoFrame, OfNoBytes, answer_of, frames_sent, sent_by, GroupState, with_history, after_asked, step_after, run}
+use Rattle.cb_schedules.specs.Schedule.{Setting, seat_at, Step, Asked, Calls, OfNoMember, OfNoFrame, OfNoBytes, answer_of, frames_sent, sent_by, GroupState, with_history, after_asked, step_after, run}
 use Rattle.cb_schedules.specs.Messages.{stamped_lists, causal_lists}
 use Rattle.cb_schedules.specs.Consistent.{IsConsistent}
 use Rattle.cb_schedules.specs.StepLaws.{FramesGoOn, HistoriesGoOn, NoEntry, OneEntry, ListsGoOn, EachStepGoesOn}

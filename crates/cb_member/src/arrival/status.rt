@@ -72,9 +72,7 @@ fn tells_of_casts(seat: Identity, known: &VectorTime, values: &[Change]) -> bool
         (range_with_len 0 seat.group.size) }
 {
     let me = seat.me();
-    values
-        .iter()
-        .any(|value| value.field != me && counted(known, value.field) < value.amount)
+    values.iter().any(|value| value.field != me && counted(known, value.field) < value.amount)
 }
 
 /// A status of another that raises what is known.
