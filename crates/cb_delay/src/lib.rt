@@ -1,7 +1,7 @@
 //! The delay queue of CBCAST: messages that wait until all before them are delivered.
 //!
 //! A `Message` has the name and the time that its sender gave it, an `Event` is its cast or its delivery; a `DelayQueue` holds
-//! messages that came too early. Stands on `cb_times`, and on `bytes` for what a message says.
+//! messages that were received too early. Stands on `cb_times`, and on `bytes` for what a message says.
 #![tactic(auto)]
 
 mod index;

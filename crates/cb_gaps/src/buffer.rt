@@ -1,4 +1,4 @@
-//! The reorder buffer: the casts of one sender that came before those in front of them.
+//! The reorder buffer: the casts of one sender that were received before those in front of them.
 ghost use Rattle.std.specs.Prelude.{◌≡◌, ◌==◌, if◌then◌else◌, ◌+◌, ◌^◌, ◌<◌, ◌≤◌, ◌++◌, None, Any, MatchOption, IfOk, IfSome, IfNone, IsTrue, ◌↔◌, OnOk, insert};
 ghost use Rattle.std.specs.FinMap as map;
 ghost use Rattle.std.specs.VecDeque.{deque_len, deque_capacity};
@@ -25,7 +25,7 @@ pub enum Admission {
     TooFar,
 }
 
-/// The casts of one sender that came and wait for those before them.
+/// The received casts of one sender that wait for those before them.
 ///
 /// Make one for each other sender; nothing here looks at who the sender of a cast is. A received cast is given to `keep`,
 /// with how many casts of the sender are delivered. Then:
@@ -36,9 +36,9 @@ pub enum Admission {
 /// }
 /// ```
 ///
-/// A cast that would come out alone need not be kept: where `passes` tells so of its number, `pass` takes it.
+/// A cast that would come out alone need not be kept: where `passes` says so of its number, `pass` takes it.
 ///
-/// `judge` and `ready_with` tell beforehand what `keep` would answer and how many casts would then come out. `missing` names the
+/// `judge` and `ready_with` say beforehand what `keep` would answer and how many casts would then come out. `missing` names the
 /// numbers that have not come, for a request. `new` reserves all places, and `missing` takes memory for its answer.
 #[derive(Debug, Drop)]
 pub struct Reorder {

@@ -1,4 +1,4 @@
-//! Repairing gaps from the receiver's side: casts of one sender that were lost, repeated or came out of order.
+//! Repairing gaps from the receiver's side: casts of one sender that were lost, repeated or reordered.
 //!
 //! A `Reorder` keeps what is received too early, gives the casts back in the order of their numbers with none missing, and names
 //! the numbers that are missing; `request_of` asks for them. Stands on `cb_frames`, whose casts and ranges these are, on

@@ -1,4 +1,4 @@
--- What a cast frame that came leaves there.
+-- What a received cast frame leaves there.
 use Rattle.std.specs.Prelude.{◌≡◌, ◌↔◌, ℕ, true, List, ◌++◌, Ok, IsOk}
 use Rattle.std.specs.List.{list_all}
 use Rattle.cb_frames.specs.Fields.{CastFields, CastFrame, messages_of}

@@ -54,7 +54,7 @@ TakenCastIsThere = (casts : List CastFields) (i : ℕ) (c : CastFields) (old new
 abbrev pub AllIsTaken : Type 0
 AllIsTaken = (casts : List CastFields) (i : ℕ) (buffer : Buffer) → HoldsWhatWaits casts i buffer → map.get buffer.kept (buffer.taken + 1) ≡ None → buffer.taken ≡ expanded_count casts i
 
--- ---- what it tells
+-- ---- what it says
 
 -- a number from 1 on was received exactly where its cast is there
 abbrev pub ReceivedIsThere : Type 0

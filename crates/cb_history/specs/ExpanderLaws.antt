@@ -1,4 +1,4 @@
--- The times that the expander tells, cast by cast, against the times over all facts.
+-- The times that the expander gives, cast by cast, against the times over all facts.
 use Rattle.std.specs.Prelude.{◌≡◌, ◌≢◌, ℕ, ◌+◌, ◌<◌, ◌≤◌, List, ◌++◌, length, replicate}
 use Rattle.std.specs.List.{AllByRecursion}
 use Rattle.cb_frames.specs.Fields.{CastFields, first_number, last_number}
@@ -25,7 +25,7 @@ abbrev pub CastBehindIsNext : Type 0
 CastBehindIsNext = (seat : Identity) (facts : List Fact) (c : CastFields) (n : ℕ) (kept : List (List ℕ)) → AreFactsOf seat facts → IsCastOf c (casts_in facts) → first_number c ≡ n + 1
     → KeepsTimeOf seat facts c.sender n kept → IsNext kept c
 
--- What it then tells is the cast's time over all facts, whatever else is among them, and it keeps the time of the cast's last message.
+-- What it then gives is the cast's time over all facts, whatever else is among them, and it keeps the time of the cast's last message.
 abbrev pub ExpanderTellsTheTime : Type 0
 ExpanderTellsTheTime = (seat : Identity) (facts : List Fact) (c : CastFields) (n : ℕ) (time : List ℕ) (old new : List (List ℕ)) → AreFactsOf seat facts → IsCastOf c (casts_in facts)
     → KeepsTimeOf seat facts c.sender n old → Expands old c time new

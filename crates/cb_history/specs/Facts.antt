@@ -19,7 +19,7 @@ entry_fields (entries.Cast frame) = CastEntry frame
 entry_fields (entries.Arrive frame delivered) = ArriveEntry frame delivered.items
 entry_fields (entries.Tick status) = TickEntry status
 
--- an own cast, a cast or a status of another that came, and an own status that was told
+-- an own cast, a received cast or status of another, and an own status that was sent
 pub data Fact : Type 0 where
   OwnCast : CastFields → Fact
   CastReceived : CastFields → Fact

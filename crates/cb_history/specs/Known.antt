@@ -20,7 +20,7 @@ value_in (d ∷ values) k = if d.field == k then d.amount else value_in values k
 
 -- ---- the casts of sender i
 
--- what one fact says of how far sender i has cast: the number of a cast of it that came, or a received status
+-- what one fact says of how far sender i has cast: the number of a received cast of it, or a received status
 abbrev pub reported_of : ℕ → Fact → List ℕ
 reported_of i (OwnCast c) = []
 reported_of i (CastReceived c) = if c.sender == i then last_number c ∷ [] else []

@@ -22,7 +22,7 @@ abbrev pub NumberedFrom : ℕ → ℕ → List CastFields → Type 0
 NumberedFrom me n [] = Unit {0}
 NumberedFrom me n (c ∷ casts) = (c.sender ≡ me) × (first_number c ≡ n) × NumberedFrom me (last_number c + 1) casts
 
--- no cast that came is the member's
+-- no received cast is the member's own
 abbrev pub ReceivedFromOthers : ℕ → List Fact → Type 0
 ReceivedFromOthers me [] = Unit {0}
 ReceivedFromOthers me (CastReceived c ∷ facts) = (c.sender ≢ me) × ReceivedFromOthers me facts

@@ -16,7 +16,7 @@ payload_said (Ok (StatusFrame s)) = []
 payload_said (Ok (RequestFrame r)) = []
 payload_said (Err fault) = []
 
--- the call that an entry tells: a cast of its frame's payload, an arrival of its bytes, or a tick
+-- the call that an entry determines: a cast of its frame's payload, an arrival of its bytes, or a tick
 abbrev pub call_of : EntryFields → Call
 call_of (CastEntry frame) = ToCast (payload_said (frame_at frame))
 call_of (ArriveEntry frame delivered) = ToTake frame
@@ -28,11 +28,11 @@ bytes_in (CastEntry frame) = frame
 bytes_in (ArriveEntry frame delivered) = frame
 bytes_in (TickEntry status) = status
 
--- A call that adds an entry to a legal history, with any limit up to the greatest, is the one that the entry tells.
+-- A call that adds an entry to a legal history, with any limit up to the greatest, is the one that the entry determines.
 abbrev pub EntryTellsItsCall : Type 0
 EntryTellsItsCall = (seat : Identity) (limit : ℕ) (entries : List EntryFields) (call : Call) (e : EntryFields) → limit ≤ longest_history → IsLegal seat entries → entry_of seat limit entries call ≡ Some e → call_of e ≡ call
 
--- an entry of bytes tells a call of bytes
+-- an entry of bytes determines a call of bytes
 abbrev pub EntriesOfBytesTellBytes : Type 0
 EntriesOfBytesTellBytes = (e : EntryFields) → IsBytes (bytes_in e) → OfBytes (call_of e)
 
@@ -40,7 +40,7 @@ EntriesOfBytesTellBytes = (e : EntryFields) → IsBytes (bytes_in e) → OfBytes
 abbrev pub LegalEntriesAreBytes : Type 0
 LegalEntriesAreBytes = (seat : Identity) (entries : List EntryFields) → IsLegal seat entries → AllByRecursion (λ e. IsBytes (bytes_in e)) entries
 
--- the entry is of bytes, and the call that it tells adds it to these entries
+-- the entry is of bytes, and the call that it determines adds it to these entries
 abbrev pub IsAdded : Identity → List EntryFields → EntryFields → Type 0
 IsAdded seat entries e = IsBytes (bytes_in e) × (entry_of seat longest_history entries (call_of e) ≡ Some e)
 

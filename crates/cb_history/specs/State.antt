@@ -60,7 +60,7 @@ missing_in m i = missing m.seat (facts_in m) i
 abbrev pub stable_in : MemberState → ℕ
 stable_in m = stable m.seat (facts_in m)
 
--- what it would cast and tell next
+-- what it would cast next
 abbrev pub next_in : MemberState → List ℕ → CastFields
 next_in m payload = next_cast m.seat (facts_in m) payload
 

@@ -14,7 +14,7 @@ abbrev pub TimesStay : Type 0
 TimesStay = (seat : Identity) (facts more : List Fact) (m : Carried) (k : ℕ) → AreFactsOf seat (facts ++ more) → is_expanded (casts_in facts) m ≡ true
     → expanded_field (casts_in (facts ++ more)) m.sender m.number k ≡ expanded_field (casts_in facts) m.sender m.number k
 
--- the time that an own cast tells is the view's at that cast
+-- the time of an own cast is the view's at that cast
 abbrev pub OwnCastsTellTheView : Type 0
 OwnCastsTellTheView = (seat : Identity) (facts more : List Fact) (c : CastFields) → AreFactsOf seat (facts ++ OwnCast c ∷ more)
     → expanded_time seat.group.size (casts_in (facts ++ OwnCast c ∷ more)) seat.me (first_number c) ≡ time_of seat.group.size (facts ++ OwnCast c ∷ [])
@@ -37,7 +37,7 @@ ViewIsInTime = (seat : Identity) (facts : List Fact) → AreFactsOf seat facts �
 abbrev pub SameFrames : List CastFields → List CastFields → ℕ → Type 0
 SameFrames casts others sender = AllByRecursion (λ c. AllByRecursion (λ d. c.sender ≡ sender → d.sender ≡ sender → first_number c ≡ first_number d → c.changes ≡ d.changes) others) casts
 
--- two members that have the same frames of a sender, and can tell the time of its message, tell the same time
+-- two members that have the same frames of a sender, and know the time of its message, know the same time
 abbrev pub TimesAgree : Type 0
 TimesAgree = (seat other : Identity) (facts others : List Fact) (m : Carried) (k : ℕ) → AreFactsOf seat facts → AreFactsOf other others → SameFrames (casts_in facts) (casts_in others) m.sender
     → is_expanded (casts_in facts) m ≡ true → is_expanded (casts_in others) m ≡ true → expanded_field (casts_in facts) m.sender m.number k ≡ expanded_field (casts_in others) m.sender m.number k

@@ -18,7 +18,7 @@ use Rattle.cb_history.specs.QueueLaws.{IsUndelivered, HoldsUndelivered}
 abbrev pub HoldsWaiting : Identity → List Fact → Queue → Type 0
 HoldsWaiting seat facts queue = HoldsUndelivered seat.group.size (casts_in facts) (view seat.group.size facts) queue
 
--- an own cast leaves it so, and so does a status, an own one or one that came
+-- an own cast leaves it so, and so does a status, an own or a received one
 abbrev pub OwnFactsLeaveWaiting : Type 0
 OwnFactsLeaveWaiting =
     (seat : Identity) (facts : List Fact) (queue : Queue) → HoldsWaiting seat facts queue
@@ -38,7 +38,7 @@ pub record HoldsTakenOf (size : ℕ) (casts : List CastFields) (seen : List Carr
   pub of_size : queue.size ≡ size
   pub holds : (message : Message) → IsHeld queue message ↔ IsTakenOf size casts seen i taken message
 
--- with one more cast that came it holds of its sender what was expanded before
+-- with one more received cast it holds of its sender what was expanded before
 abbrev pub CastWaitsForItsTurn : Type 0
 CastWaitsForItsTurn =
     (seat : Identity) (facts : List Fact) (c : CastFields) (queue : Queue) → AreFactsOf seat (facts ++ CastReceived c ∷ [])

@@ -20,9 +20,9 @@ pub type Names = SmallVec<Name, 2>;
 pub enum Entry {
     /// The member cast a message by this frame.
     Cast { frame: Bytes },
-    /// This frame came and changed the member's state. These messages were delivered then, in this order.
+    /// This frame was received and changed the member's state. These messages were delivered then, in this order.
     Arrive { frame: Bytes, delivered: Names },
-    /// The member reported all others its time by this status.
+    /// The member reported its time to all others by this status.
     Tick { status: Bytes },
 }
 

@@ -34,7 +34,7 @@ pub trait GroupMember {
         ensures refused { IfErr result (RefusesArrival (state self.old) bytes.now) }
         ensures same { OnErr result (state self.new ≡ state self.old) };
 
-    /// Tells the status to all others, and asks each for what is missing of it. After a refusal the member is as it was.
+    /// Sends its status to all others, and asks each for what is missing of it. After a refusal the member is as it was.
     fn tick(&mut self) -> Result<Ticked, TickRefusal>
         ensures done { IfOk result (HasTicked (state self.old) (state self.new)) }
         ensures refused { IfErr result (RefusesTick (state self.old)) }

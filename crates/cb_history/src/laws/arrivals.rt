@@ -1,4 +1,4 @@
-//! Which casts are there after one came.
+//! Which casts are there once one was received.
 
 ghost use Rattle.cb_history.specs.ArrivalLaws.{AcceptedIsThere, ThereStays, CastsAreOfTheGroup};
 

@@ -2,8 +2,8 @@
 
 ghost use Rattle.cb_history.specs.TimeLaws.{TimesStay, OwnCastsTellTheView, TimesAreReached, ViewIsInTime, TimesAgree};
 
-/// The times of messages: one that can be known stays as it is, an own cast tells the time of its view, and before each delivered
-/// message stands all that its sender had delivered. Members that have the same frames of a sender tell the same times.
+/// The times of messages: one that can be known stays as it is, an own cast has the time of its view, and before each delivered
+/// message stands all that its sender had delivered. Members that have the same frames of a sender give it the same times.
 pub fn times_of_messages()
     ensures stay { TimesStay }
     ensures own { OwnCastsTellTheView }
