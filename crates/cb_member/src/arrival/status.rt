@@ -61,7 +61,7 @@ fn is_impossible(seat: Identity, store: &Store, status: &Status) -> bool
     }
 }
 
-/// Some value tells more of another sender's casts than was heard of.
+/// Some value says more of another sender's casts than was heard of.
 fn tells_of_casts(seat: Identity, known: &VectorTime, values: &[Change]) -> bool
     requires { length known.now ≡ seat.group.size }
     ensures { result ≡ list_any (λ k. not (k == seat.me)
