@@ -3,6 +3,7 @@
 #   - a line of README.md or docs/GUIDE.md has more than 120 characters, or a paragraph of either more than five lines; a line of text of any
 #     page in docs/ but that of the mutants has more than 120; README.md more than 150 lines, docs/PERFORMANCE.md more than 80;
 #   - a page has a word that was exchanged for a better one;
+#   - a measured figure of the README or the guide does not stand in docs/PERFORMANCE.md;
 #   - a link leads nowhere, to a file or to a heading, or a comment or script names a page of docs/ that is not there;
 #   - a code block differs from the text that it shows, or a fenced block is not closed;
 #   - docs/WRONG_BODIES.md and the mutants differ: an edit has no row or two, a row no edit, or the row stands under the wrong heading; or the
@@ -44,6 +45,20 @@ def read(path):
 def files_here():
     listed = subprocess.run(["git", "ls-files", "-co", "--exclude-standard"], capture_output=True, text=True, check=True)
     return [name for name in listed.stdout.splitlines() if os.path.isfile(name)]
+
+
+def look_at_figures(page, heading):
+    """The tables under the heading have no number, but in their first row and column, that the page of measurements has not."""
+    measured = set(re.findall(r"[\d,.]*\d", read("docs/PERFORMANCE.md")))
+    text = read(page)
+    begin = text.index(f"\n{heading}\n") + 1
+    first = text[:begin].count("\n") + 1
+    rows = text[begin:].split("\n## ")[0].splitlines()
+    for number, line in enumerate(rows, first):
+        if line.startswith("|") and not (number > first and not rows[number - first - 1].startswith("|")):
+            for figure in re.findall(r"[\d,.]*\d", "|".join(line.split("|")[2:])):
+                if figure not in measured:
+                    fault(page, number, f"{figure} is not in docs/PERFORMANCE.md")
 
 
 def with_fences(text):
@@ -275,6 +290,8 @@ for page in (name for name in names if name.endswith(".md")):
     if page in RUN:
         todo.extend(examples(page, text))
 look_at_mutants("docs/WRONG_BODIES.md")
+look_at_figures("README.md", "## Speed")
+look_at_figures("docs/GUIDE.md", "## Memory")
 for path in names:
     if path.endswith((".rt", ".antt", ".sh", ".py", ".md")):
         look_at_names(path)

@@ -40,7 +40,7 @@ fn turn(rt: &HostRuntime, member: &mut Member, network: &mut Network) -> anyhow:
             Err(refusal) => println!(rt; "{me} keeps {line:?}: {refusal}")?,
         }
     }
-    network.send(me, member.tick()?.out)?; // its status to all, and what it misses
+    network.send(me, member.tick()?.out)?; // says what it has, asks for what it misses
     Ok(())
 }
 // README: end
