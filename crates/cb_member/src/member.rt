@@ -24,8 +24,8 @@ use std::marker::Model;
 
 /// One member of a group: its history, and beside it what makes its answers quick.
 ///
-/// Each call answers what its definition in `cb_history` says of the history so far, which is legal whatever is received. After any
-/// refusal, out of memory too, the member is as it was.
+/// Each call answers what its definition in `cb_history` says of the history so far, which is legal whatever
+/// is received. After any refusal, out of memory too, the member is as it was.
 #[derive(Drop)]
 pub struct Member {
     seat: Identity,

@@ -71,9 +71,10 @@ impl Run {
 
 /// Runs the schedule in a group whose members' histories may have 1 to 16,777,216 entries.
 ///
-/// Whatever the schedule loses, repeats or reorders: the events are a run of the causal machine. Each member has delivered just the messages
-/// that reached it together with their whole past. The times of any two messages that were cast, read from the bytes of the frames, compare
-/// as happened-before does. And of a member's messages no more are stable, by its history, than stand in the list of events of each member.
+/// Whatever the schedule loses, repeats or reorders: the events are a run of the causal machine. Each member
+/// has delivered just the messages that reached it together with their whole past. The times of any two
+/// messages that were cast, read from the bytes of the frames, compare as happened-before does. And of a
+/// member's messages no more are stable, by its history, than stand in the list of events of each member.
 pub fn play(
     alloc: Global,
     group: Group,
