@@ -6,7 +6,7 @@
 //! member, outside the lock; an arrival hands its deliveries out.
 //!
 //! Each member stands behind a lock, with four threads: one takes what comes, one ticks and sleeps for a millisecond, one casts as long as it
-//! may, and one sends what the others put out. The group ends when each member has seen every message.
+//! may, and one sends what the others answer. The group ends when each member has seen every message.
 
 use std::env;
 use std::net::{SocketAddr, UdpSocket};

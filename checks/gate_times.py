@@ -21,7 +21,7 @@ KINDS = ("check", "tests", "mutants")
 
 
 def gate_anew():
-    """The gate's command. A kit that keeps what an earlier run proved is told to prove it anew."""
+    """The gate's command. A kit that keeps what an earlier run proved is made to prove it anew."""
     asked = subprocess.run(["rt", "help"], capture_output=True, text=True)
     known = asked.stdout + asked.stderr
     return ["rt", "ci", "--anew"] if "--anew" in known else ["rt", "ci"]

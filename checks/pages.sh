@@ -1,8 +1,13 @@
 #!/usr/bin/env bash
 # Looks at the pages: ends with 1, and a line for each fault, where
-#   - a line of README.md or docs/GUIDE.md has more than 120 characters, the README more than 150 lines, or a paragraph of either five lines;
+#   - a line of README.md or docs/GUIDE.md has more than 120 characters, or a paragraph of either more than five lines; a line of text of any
+#     page in docs/ but that of the mutants has more than 120; README.md more than 150 lines, docs/PERFORMANCE.md more than 80;
+#   - a page has a word that was exchanged for a better one;
+#   - a measured figure of the README or the guide does not stand in docs/PERFORMANCE.md;
 #   - a link leads nowhere, to a file or to a heading, or a comment or script names a page of docs/ that is not there;
-#   - a code block differs from the text that it shows;
+#   - a code block differs from the text that it shows, or a fenced block is not closed;
+#   - docs/WRONG_BODIES.md and the mutants differ: an edit has no row or two, a row no edit, or the row stands under the wrong heading; or the
+#     text that an edit exchanges does not stand there once, or more than ten edits of a crate are in CI;
 #   - an example does not run, or prints something else.
 # In the pages a block ```sh is an example, run by bash at the top of a scratch copy. It has to end with status 0, or N after `sh status=N`.
 # Where the next block is ```text, that is what it prints: `..` stands there for any text, and alone on a line for any lines. One after
@@ -10,6 +15,7 @@
 # it shows some lines of PATH.
 #   checks/pages.sh          all of it; an example takes a minute or two. JOBS=4 runs four at a time; two if not said
 #   checks/pages.sh text     all but the examples, in a second
+#   checks/pages.sh WORD     all, but of the examples only those whose commands have this word
 set -u
 top=$(cd "$(dirname "$0")/.." && pwd)
 cd "$top" || exit 2
@@ -17,7 +23,10 @@ exec python3 - "$top" "${1:-all}" "${JOBS:-2}" <<'END'
 import concurrent.futures, os, re, shutil, subprocess, sys, tempfile, time
 
 top, what, jobs = sys.argv[1], sys.argv[2], int(sys.argv[3])
-NARROW = {"README.md": 150, "docs/GUIDE.md": None}
+NARROW = ["README.md", "docs/GUIDE.md"]
+MOST_LINES = {"README.md": 150, "docs/PERFORMANCE.md": 80}
+WIDE = ["docs/WRONG_BODIES.md", "schedules/README.md"]
+OLD_WORDS = r"\b(puts? out|lets? go of|told|(?:seen|shown) twice|beside the gate|by turns)\b"
 RUN = ["README.md", "docs/GUIDE.md", "docs/PROGRAM.md"]
 MOST_CHARACTERS, MOST_PARAGRAPH_LINES, MOST_SECONDS = 120, 5, 900
 faults = []
@@ -36,6 +45,20 @@ def read(path):
 def files_here():
     listed = subprocess.run(["git", "ls-files", "-co", "--exclude-standard"], capture_output=True, text=True, check=True)
     return [name for name in listed.stdout.splitlines() if os.path.isfile(name)]
+
+
+def look_at_figures(page, heading):
+    """The tables under the heading have no number, but in their first row and column, that the page of measurements has not."""
+    measured = set(re.findall(r"[\d,.]*\d", read("docs/PERFORMANCE.md")))
+    text = read(page)
+    begin = text.index(f"\n{heading}\n") + 1
+    first = text[:begin].count("\n") + 1
+    rows = text[begin:].split("\n## ")[0].splitlines()
+    for number, line in enumerate(rows, first):
+        if line.startswith("|") and not (number > first and not rows[number - first - 1].startswith("|")):
+            for figure in re.findall(r"[\d,.]*\d", "|".join(line.split("|")[2:])):
+                if figure not in measured:
+                    fault(page, number, f"{figure} is not in docs/PERFORMANCE.md")
 
 
 def with_fences(text):
@@ -62,14 +85,28 @@ def blocks(text):
     return found
 
 
-def look_at_lengths(page, text, most_lines):
+def look_at_blocks(page, text):
+    fences = [number for number, line in enumerate(text.splitlines(), 1) if line.lstrip().startswith("```")]
+    if len(fences) % 2:
+        fault(page, fences[-1], "a fenced block is not closed")
+
+
+def look_at_text(page, text):
     lines = text.splitlines()
-    if most_lines and len(lines) > most_lines:
-        fault(page, len(lines), f"{len(lines)} lines, more than {most_lines}")
+    if len(lines) > MOST_LINES.get(page, len(lines)):
+        fault(page, len(lines), f"{len(lines)} lines, more than {MOST_LINES[page]}")
+    for number, line, is_code in with_fences(text):
+        is_free = page in WIDE or (page not in NARROW and (is_code or line.startswith("|")))
+        if len(line) > MOST_CHARACTERS and not is_free:
+            fault(page, number, f"{len(line)} characters, more than {MOST_CHARACTERS}")
+        old = re.search(OLD_WORDS, re.sub(r"`[^`]*`", "", line), re.I)
+        if old and not is_code:
+            fault(page, number, f"\"{old[1]}\" is no word of these pages")
+
+
+def look_at_paragraphs(page, text):
     length = 0
     for number, line, is_code in with_fences(text):
-        if len(line) > MOST_CHARACTERS:
-            fault(page, number, f"{len(line)} characters, more than {MOST_CHARACTERS}")
         begins_anew = re.match(r"\s*([-*]|\d+\.) ", line)
         if is_code or not line.strip() or line.startswith(("#", "|", "<!--")):
             length = 0
@@ -137,6 +174,64 @@ def look_at_code(page, text):
             fault(page, number, f"the code is not that of {path}")
 
 
+def mutants():
+    """The mutants: crate and name of each, whether it is in CI, and its file."""
+    for path in names:
+        found = re.fullmatch(r"crates/(\w+)/must-fail/(\w+)\.edit", path) or re.fullmatch(r"checks/wrong-bodies/(\w+)/(\w+)\.edit", path)
+        if found:
+            yield found[1], found[2], path.startswith("crates/"), path
+
+
+def rows_of_mutants(page):
+    """The rows of the page's tables: line, crate, name, and whether the heading says that it is in CI."""
+    crate = in_ci = None
+    for number, line, _ in with_fences(read(page)):
+        crate = (re.match(r"## `(\w+)`", line) or [0, crate])[1]
+        heading = re.match(r"(In|Not in|None in) CI\b", line)
+        in_ci = heading[1] == "In" if heading else in_ci
+        name = re.match(r"\| `(\w+)` \|", line)
+        if name:
+            yield number, crate, name[1], in_ci
+
+
+def look_at_edit(crate, path):
+    text, file, old = {}, None, None
+    for number, line in enumerate(read(path).splitlines(), 1):
+        word, _, rest = line.partition(": ")
+        if word == "file":
+            file = rest
+            if not os.path.isfile(f"crates/{crate}/{file}"):
+                fault(path, number, f"{file} is not there")
+                return
+            text.setdefault(file, read(f"crates/{crate}/{file}"))
+        elif word == "old":
+            old = rest
+            if text[file].count(old) != 1:
+                fault(path, number, f"the text stands {text[file].count(old)} times in {file}")
+        elif word.rstrip(":") == "new":
+            text[file] = text[file].replace(old, rest, 1)
+
+
+def look_at_mutants(page):
+    there = {(crate, name): (in_ci, path) for crate, name, in_ci, path in mutants()}
+    seen = set()
+    for number, crate, name, in_ci in rows_of_mutants(page):
+        if (crate, name) not in there:
+            fault(page, number, f"{crate} has no mutant {name}")
+        elif (crate, name) in seen:
+            fault(page, number, f"{name} has two rows")
+        elif there[crate, name][0] != in_ci:
+            fault(page, number, f"{name} stands under the wrong heading")
+        seen.add((crate, name))
+    for (crate, name), (_, path) in there.items():
+        if (crate, name) not in seen:
+            fault(path, 1, f"it has no row in {page}")
+        look_at_edit(crate, path)
+    for crate in {crate for crate, _ in there}:
+        if sum(of == crate and in_ci for (of, _), (in_ci, _) in there.items()) > 10:
+            fault(f"crates/{crate}/must-fail", 1, "more than ten mutants in CI")
+
+
 def examples(page, text):
     """The line, the commands, the status and the lines to be printed, of each example."""
     found = blocks(text)
@@ -186,17 +281,22 @@ names = files_here()
 todo = []
 for page in (name for name in names if name.endswith(".md")):
     text = read(page)
+    look_at_text(page, text)
+    look_at_blocks(page, text)
     look_at_links(page, text)
     look_at_code(page, text)
     if page in NARROW:
-        look_at_lengths(page, text, NARROW[page])
+        look_at_paragraphs(page, text)
     if page in RUN:
         todo.extend(examples(page, text))
+look_at_mutants("docs/WRONG_BODIES.md")
+look_at_figures("README.md", "## Speed")
+look_at_figures("docs/GUIDE.md", "## Memory")
 for path in names:
     if path.endswith((".rt", ".antt", ".sh", ".py", ".md")):
         look_at_names(path)
-if what == "all":
-    run_all(todo)
-print(f"{len(faults)} faults, {len(todo) if what == 'all' else 0} examples run")
+todo = [example for example in todo if what == "all" or what in re.split(r"\W+", example[2])] if what != "text" else []
+run_all(todo)
+print(f"{len(faults)} faults, {len(todo)} examples run")
 sys.exit(1 if faults else 0)
 END

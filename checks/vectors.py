@@ -3,7 +3,9 @@
 
 In PROTOCOL a line '`confer expand ..`, alone:' or '.., in order:' is followed by a table: a frame, and the line printed of it.
 In PROGRAM a line '`confer ..`, status S:' is followed by two blocks: the input, and what is printed of it.
+A line that begins with '`confer' and has no such form, or nothing behind it, is a fault before anything is run.
 One build for each command line, some two minutes each: checks/vectors.py [PART OF A COMMAND LINE]
+checks/vectors.py list prints what would be run, in a second.
 """
 
 import pathlib
@@ -14,16 +16,19 @@ import tempfile
 
 TOP = pathlib.Path(__file__).resolve().parent.parent
 
+# a line that says what is run
+MARK = r"`confer .*:"
+
 
 def rows(lines):
-    """The frames and answers of the table that comes next."""
+    """The frames and answers of the table that these lines begin with."""
     found = []
     for line in lines:
         if line.startswith("|"):
             cells = re.findall(r"`([^`]*)`", line)
             if cells:
                 found.append((cells[0].replace(" ", ""), cells[1]))
-        elif found:
+        elif line.strip() or found:
             break
     return found
 
@@ -32,11 +37,12 @@ def vectors(text):
     """Command line, input, what is printed of it and the status, for each vector."""
     lines = text.split("\n")
     for place, line in enumerate(lines):
-        marked = re.fullmatch(r"`confer (expand [^`]*)`, (alone|in order):", line)
-        if not marked:
+        if not re.fullmatch(MARK, line):
             continue
-        table = rows(lines[place + 1 :])
-        assert table, line
+        marked = re.fullmatch(r"`confer (expand [^`]*)`, (alone|in order):", line)
+        table = rows(lines[place + 1 :]) if marked else []
+        if not table:
+            sys.exit(f"docs/PROTOCOL.md:{place + 1}: no vectors: {line}")
         runs = [table] if marked[2] == "in order" else [[row] for row in table]
         for run in runs:
             given = "".join(frame + "\n" for frame, _ in run)
@@ -47,8 +53,13 @@ def vectors(text):
 def examples(text):
     """The same for each example."""
     form = r"^`confer ([^`]*)`, status (\d):\n\n```\n(.*?)```\n[^`]*?\n```\n(.*?)```$"
+    begun = [mark.start() for mark in re.finditer(f"^{MARK}$", text, re.M)]
     for found in re.finditer(form, text, re.M | re.S):
+        begun.remove(found.start())
         yield found[1], found[3], found[4], int(found[2])
+    for place in begun:
+        line = text[:place].count("\n") + 1
+        sys.exit(f"docs/PROGRAM.md:{line}: no example: {text[place:].splitlines()[0]}")
 
 
 def run(command, cases):
@@ -74,8 +85,12 @@ def main():
     wanted = {}
     for page, read in (("PROTOCOL.md", vectors), ("PROGRAM.md", examples)):
         for command, given, printed, status in read((TOP / "docs" / page).read_text()):
-            if part in command:
+            if part == "list" or part in command:
                 wanted.setdefault(command, []).append((given, printed, status))
+    if part == "list":
+        for command, cases in wanted.items():
+            print(f"confer {command}: {len(cases)} runs")
+        return
     bad = []
     for command, cases in wanted.items():
         bad += run(command, cases)

@@ -1,7 +1,7 @@
 #!/usr/bin/env bash
-# Runs the tests of a crate on each of its wrong bodies: the edits of crates/CRATE/must-fail and of checks/wrong-bodies/CRATE, each in
+# Runs the tests of a crate on each of its mutants: the edits of crates/CRATE/must-fail and of checks/wrong-bodies/CRATE, each in
 # a scratch copy of the repository and without its proof. A line for each, `CRATE EDIT refused-by-test TESTS` or `CRATE EDIT passes-tests`.
-# It ends with 1 where an edit does not fit the code, or where the wrong body does not compile or does not run.
+# It ends with 1 where an edit does not fit the code, or where the mutant does not compile or does not run.
 # No part of the gate, where the prover refuses the edits of must-fail. Some 10 seconds an edit; JOBS=2 tries two at a time.
 #   checks/wrong-bodies.sh [CRATE..]      those crates, or all that have such edits
 #   EDITS='NAME ..' checks/wrong-bodies.sh CRATE      those edits alone
@@ -70,7 +70,7 @@ fill() {
     ' "$work/results" "$top/docs/WRONG_BODIES.md"
 }
 
-# the crate whose tests run on a wrong body of the crate
+# the crate whose tests run on a mutant of the crate
 tests_of() {
     case $1 in
         cb_varint | cb_frames | cb_times | cb_diffs | cb_delay) echo tests_base ;;

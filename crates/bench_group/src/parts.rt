@@ -13,7 +13,7 @@ use std::time::{Clock, Duration};
 /// The first byte of a cast frame.
 const CAST: u8 = 0x11;
 
-/// An inlet that counts the cast frames that come.
+/// An inlet that counts the cast frames that it receives.
 #[derive(Drop)]
 pub struct Counting<I> {
     pub inner: I,

@@ -36,7 +36,7 @@ fn members_of(alloc: Global, group: Group) -> Result<Vec<Member>, NoMemory> {
     Ok(members)
 }
 
-/// Runs the plan, and tells what was delivered.
+/// Runs the plan, and answers what was delivered.
 pub fn tally_of(alloc: Global, plan: Plan) -> Result<Tally, NoMemory> {
     let mut run = Run::new(alloc, plan)?;
     let ended = run.go();

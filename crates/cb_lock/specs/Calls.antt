@@ -18,7 +18,7 @@ use Rattle.cb_history.specs.State.{MemberState, IsMemberState, HasCast, HasTaken
 use Rattle.cb_member.specs.AtOnce.{HasTakenToSend}
 use Rattle.cb_lock.specs.Receipts.{SeatState, and_claim}
 
--- ---- the entry that an answer tells of, where it tells of one
+-- ---- the entry that an answer reports, where it reports one
 
 abbrev pub reported_by_cast : CastDone → Option EntryFields
 reported_by_cast done = Some (CastEntry done.out)
@@ -59,7 +59,7 @@ pub record CoversReceipts (seat : SeatState) (m : MemberState) : Type 0 where
   pub legal : IsMemberState m
   pub covered : length seat.receipts ≤ length m.entries
 
--- On this member the answer is the defined one, and the seat has a receipt of what the answer tells.
+-- On this member the answer is the defined one, and the seat has a receipt of what the answer reports.
 pub record CastsOn (m : MemberState) (old new : SeatState) (payload : List ℕ) (result : Result CastDone CastRefusal) : Type 0 where
   pub done : IfOk result (HasCast m (state_after m (ToCast payload)) payload)
   pub refused : IfErr result (MayRefuseCast m payload)

@@ -35,8 +35,8 @@ pub enum CloseFault {
     SeatsMissing { claimed: usize, entries: usize },
     /// The lock holds a member of another group, or with another number, than the sharing began with.
     OtherMember,
-    /// The first receipt, in the order of seats and receipts, that is not the entry at its place, repeats a place, or does not rise within
-    /// its seat. Receipts of this ledger alone never meet it.
+    /// A receipt whose place is not that of its entry, was claimed already, or is not above the one before it
+    /// in its seat: the first such, seat by seat. Receipts of this ledger alone never meet it.
     ReceiptMismatch { place: usize },
     /// Out of memory.
     NoMemory,

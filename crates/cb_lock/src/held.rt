@@ -105,7 +105,7 @@ impl<L: Ledger> Held<L> {
         Ok(arrival)
     }
 
-    /// Takes received bytes as `arrive` does, and tells only what is to be sent. The deliveries stand among the member's events.
+    /// Takes received bytes as `arrive` does, and answers only what is to be sent. The deliveries stand among the member's events.
     ///
     /// `NoMemory` may stand in place of any refusal. After a refusal the member and the seat are as they were.
     pub fn receive(
@@ -132,7 +132,7 @@ impl<L: Ledger> Held<L> {
         Ok(out)
     }
 
-    /// Tells the status, as the member does, and appends a receipt to the seat where the status is an entry.
+    /// Reports the status, as the member does, and appends a receipt to the seat where the status is an entry.
     ///
     /// `NoMemory` may stand in place of any refusal. After a refusal the member and the seat are as they were.
     pub fn tick(&mut self, seat: &mut Seat<L>) -> Result<Ticked, TickRefusal>

@@ -2,7 +2,7 @@
 //!
 //! Whoever changes the member gets a receipt into its seat, with the entry that the history has now and the entry's place. When all is
 //! done, closing the member compares the receipts of all seats with the history: each entry has to be claimed by exactly one receipt.
-//! So what a caller got as an answer is what happened, however the threads came after each other.
+//! So what a caller was answered is what happened, however the threads took turns.
 //!
 //! Stands on `cb_member` for the member and its definitions, and on std's mutex and ledger. Its calls may wait for the lock; nothing
 //! says that a lock is ever got, or who came first. `docs/GUIDE.md` says call by call what a thread may rely on.

@@ -19,7 +19,7 @@ use std::sync::{Mutex, Wait};
 /// One member that several threads share.
 ///
 /// `L` names the ledger that counts the receipts; a seat fits the shared member whose ledger it names. A call takes the lock, makes one
-/// call of `Held`, and lets the lock go; no lock covers two members.
+/// call of `Held`, and frees the lock; no lock covers two members.
 #[derive(Drop)]
 pub struct SharedMember<L: Ledger> {
     /// The group and the number of the member that `new` was given.
@@ -69,7 +69,7 @@ impl<L: Ledger> SharedMember<L> {
         self.held.lock(rt).arrive(seat, bytes)
     }
 
-    /// Takes received bytes as `arrive` does, and tells only what is to be sent: for a caller that reads the deliveries among the
+    /// Takes received bytes as `arrive` does, and answers only what is to be sent: for a caller that reads the deliveries among the
     /// member's events. It costs less, since no message is made twice, and the bytes go into the receipt.
     pub fn receive(
         &self,
@@ -83,7 +83,7 @@ impl<L: Ledger> SharedMember<L> {
         self.held.lock(rt).receive(seat, bytes)
     }
 
-    /// Tells the status, as the member does, and appends a receipt to the seat where the status is an entry.
+    /// Reports the status, as the member does, and appends a receipt to the seat where the status is an entry.
     pub fn tick(&self, rt: &impl Wait, seat: &mut Seat<L>) -> Result<Ticked, TickRefusal>
         ensures answer { OnSome seat.old (λ m. TicksOn m seat.old seat.new result) }
         ensures parts { seat.new.parts ≡ seat.old.parts }

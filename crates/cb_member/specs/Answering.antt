@@ -1,4 +1,4 @@
--- What an arrival does with the frame that came.
+-- What an arrival does with the frame that was received.
 use Rattle.std.specs.Prelude.{◌≡◌, ◌⊎◌, ℕ, false, List, [], None, Result, Ok, Err}
 use Rattle.cb_frames.specs.Fields.{FrameFields, RequestFields, RequestFrame}
 use Rattle.cb_frames.specs.Reading.{frame_at, HasValue}

@@ -36,7 +36,7 @@ answer_to_frame m frame = frame_answer m.seat m.limit m.entries (facts_in m) fra
 
 -- ---- judging
 
--- what the store's entries say, and that the cast came
+-- what the store's entries say, and that the cast was received
 abbrev pub facts_with : CastFields → Store → List Fact
 facts_with c store = facts_held store ++ CastReceived c ∷ []
 
@@ -49,7 +49,7 @@ pub record CanTake (seat : Identity) (limit : ℕ) (store : Store) (c : CastFiel
   pub room : length store.entries.items < limit
   pub answer : answer_to_frame (held_by seat limit store) (CastFrame c) ≡ Ok (Accepted (deliveries seat (facts_held store) (CastFrame c)) true [])
 
--- a cast of the member itself came before, or it never made it
+-- a cast of the member itself was made before, or it never made it
 abbrev pub own_verdict : ℕ → ℕ → Result Judged ArriveRefusal
 own_verdict delivered number = if nat_lt delivered number then Err arrivals.Impossible else Ok judged.Repeat
 

@@ -1,5 +1,5 @@
 -- A cast of another member that is delivered as soon as it is there, for a caller who wants no copies of what it delivers; and what such a
--- caller is told of an arrival.
+-- caller is answered to an arrival.
 use Rattle.std.specs.Prelude.{◌≡◌, ℕ, List, [], ◌∷◌, Ok, replicate}
 use Rattle.std.specs.FinMap as fin
 use Rattle.cb_frames.specs.Fields.{CastFields, first_number}
@@ -20,7 +20,7 @@ use Rattle.cb_member.specs.Arriving.{CanDeliver}
 use Rattle.cb_member.specs.Passing.{CanPass, IsAlone, LetsPass, PassesCast}
 use Rattle.cb_member.specs.Taking.{reported}
 
--- ---- what is told
+-- ---- what is answered
 
 -- what an answer has to be sent
 abbrev pub sent_by : ArrivalSays → List Outgoing

@@ -33,7 +33,7 @@ pub record HasTimeOf (size : ℕ) (message : Message) : Type 0 where
 abbrev pub reported_in : ℕ → List Message → ℕ → List ℕ
 reported_in me messages k = map (λ m. field m.time me) (filter (λ m. m.name.sender == k) messages)
 
--- of each member k the greatest of what was known and what its messages tell
+-- of each member k the greatest of what was known and what its messages say
 pub record LearnsAll (me : ℕ) (messages : List Message) (old new : Known) : Type 0 where
   pub of_size : new.size ≡ old.size
   pub learnt : (k : ℕ) → count new k me ≡ max (count old k me) (greatest_of (reported_in me messages k))

@@ -25,7 +25,7 @@ HasSpare size spares c = Any (IsSpareFor size c) spares
 abbrev pub IsSpareOfSome : ℕ → List CastFields → Spare → Type 0
 IsSpareOfSome size casts spare = (c : CastFields) × IsCastOf c casts × IsSpareFor size c spare
 
--- nothing came: a buffer for each member, from which nothing was taken and in which nothing waits
+-- nothing was received: a buffer for each member, from which nothing was taken and in which nothing waits
 pub record IsNewReception (size window : ℕ) (r : Reception) : Type 0 where
   pub senders : length r.buffers.items ≡ size
   pub buffers : All (IsNew window) r.buffers.items

@@ -1,5 +1,5 @@
 -- What a cast of another member does, up to but not with the deliveries: it waits in its sender's buffer, and as long as the sender's
--- next cast is there, that one is taken out, its time is told, and it waits for the delay rule.
+-- next cast is there, that one is taken out, its time is computed, and it waits for the delay rule.
 use Rattle.std.specs.Prelude.{◌≡◌, ◌≢◌, ℕ, ◌+◌, ◌-◌, ◌<◌, ◌≤◌, ◌==◌, true, List, [], ◌∷◌, ◌++◌, length, map, max, Some, slice_get, slice_set, if◌then◌else◌}
 use Rattle.std.specs.FinMap as fin
 use Rattle.cb_times.specs.Order.{field}
@@ -102,7 +102,7 @@ HasNoNextOf sender old new =
 abbrev pub reported : CastFields → List ℕ → List ℕ → Message
 reported c time payload = record { name = record { sender = c.sender; number = first_number c }; time = time; payload = payload }
 
--- the cast was expanded, and the messages are those of the time that was told
+-- the cast was expanded, and the messages are those of the time that was computed
 pub record TellsTwice (c : CastFields) (payload : List ℕ) (old new : List (List ℕ)) (messages : Message × Message) : Type 0 where
   pub time : List ℕ
   pub expands : Expands old c time new
@@ -127,7 +127,7 @@ abbrev pub HoldsSoMany : Identity → List Fact → CastFields → ℕ → Queue
 HoldsSoMany seat facts c taken queue =
     HoldsTakenOf seat.group.size (casts_in (facts ++ CastReceived c ∷ [])) (view seat.group.size facts) c.sender taken queue
 
--- with the cast among the facts so many of its sender are taken, told and held
+-- with the cast among the facts so many of its sender are taken, expanded and held
 pub record TakesIn (seat : Identity) (facts : List Fact) (c : CastFields) (taken : ℕ) (store : Store) : Type 0 where
   pub legal : AreFactsOf seat (facts ++ CastReceived c ∷ [])
   pub at_least : expanded_count (casts_in facts) c.sender ≤ taken
@@ -198,7 +198,7 @@ pub record CanTakeIn (delivered : ℕ) (c : CastFields) (spare : Spare) (store :
   pub can_keep : CanKeep delivered c store.reception
   pub spare_for : IsSpareFor seat.group.size c spare
 
--- With the cast among the facts, but nothing delivered by it: it is received, what is expanded waits, and what it tells is known.
+-- With the cast among the facts, but nothing delivered by it: it is received, what is expanded waits, and what it says is known.
 pub record HasTakenIn (seat : Identity) (facts : List Fact) (c : CastFields) (old new : Store) : Type 0 where
   pub received : HasReceivedAll seat (facts ++ CastReceived c ∷ []) new.reception
   pub waits : Waits seat.group.size (casts_in (facts ++ CastReceived c ∷ [])) (view seat.group.size facts) new.delivery

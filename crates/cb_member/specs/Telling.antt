@@ -1,4 +1,4 @@
--- What a tick tells, and what a member keeps of it.
+-- What a tick sends, and what a member keeps of it.
 use Rattle.std.specs.Prelude.{◌≡◌, ℕ, Bool, true, false, nat_lt, List, [], ◌∷◌, ◌++◌, filter, length, map, Option, Some, None, option_map, if◌then◌else◌}
 use Rattle.std.specs.List.{range_with_len}
 use Rattle.cb_times.specs.Order.{field}

@@ -24,9 +24,8 @@ use std::marker::Model;
 
 /// One member of a group: its history, and beside it what makes its answers quick.
 ///
-/// Each call answers what its definition in `cb_history` says of the history so far, which is legal whatever is received. After
-/// want of memory,
-/// as after any refusal, the member is as it was.
+/// Each call answers what its definition in `cb_history` says of the history so far, which is legal whatever
+/// is received. After any refusal, out of memory too, the member is as it was.
 #[derive(Drop)]
 pub struct Member {
     seat: Identity,
@@ -142,7 +141,7 @@ impl Member {
         self.store.missing(self.seat, i)
     }
 
-    /// Casts a message of this payload, of up to 1,024 bytes, and tells its name, its time and the frame that goes to all others.
+    /// Casts a message of this payload, of up to 1,024 bytes, and answers its name, its time and the frame that goes to all others.
     ///
     /// A refusal is that of the definition, in the order of `CastRefusal`; `NoMemory` stands only in place of a cast. After a refusal
     /// the member is as it was.
@@ -208,7 +207,7 @@ impl Member {
         arrival::answer_to_send(self.seat, self.limit, &mut self.store, bytes)
     }
 
-    /// Tells the status to all others, and asks each for what is missing of it.
+    /// Reports the status to all others, and asks each for what is missing of it.
     ///
     /// The status is an entry only where it differs from the last one. `NoMemory` may stand in place of any answer. After a refusal
     /// the member is as it was.

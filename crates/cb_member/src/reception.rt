@@ -56,7 +56,7 @@ pub struct Reception {
 }
 
 impl Reception {
-    /// Nothing came.
+    /// Nothing was received yet.
     pub fn new(alloc: Global, size: u32, window: u32) -> Result<Reception, NoMemory>
         requires group { IsGroupSize size }
         requires window { IsWindow window }

@@ -1,4 +1,4 @@
-//! What a tick tells: the status to all, and to each other member a request for what is missing of it.
+//! What a tick sends: the status to all, and to each other member a request for what is missing of it.
 
 ghost use Rattle.std.specs.Prelude.{◌≡◌, ◌≢◌, ◌<◌, IfOk, IfErr, OnErr, Some, None, length, option_map, option_to_list, if◌then◌else◌};
 ghost use Rattle.std.specs.Vec.{vec_capacity, vec_len};
@@ -92,7 +92,7 @@ fn requests(seat: Identity, store: &Store) -> Result<Vec<Outgoing>, NoMemory>
     Ok(requests)
 }
 
-/// What a tick tells, and the entry of its status, where that is new: once for the history and once for the caller.
+/// What a tick sends, and the entry of its status, where that is new: once for the history and once for the caller.
 #[derive(Drop)]
 pub struct Telling {
     pub out: Vec<Outgoing>,
@@ -115,7 +115,7 @@ fn entries_if_new(is_new: bool, status: &Bytes) -> Result<Option<(Entry, Entry)>
     Ok(Some((entry, copy)))
 }
 
-/// Tells the status to all, and asks for what is missing.
+/// Reports the status to all, and asks for what is missing.
 fn tell(seat: Identity, is_new: bool, store: &Store) -> Result<Telling, NoMemory>
     requires { Stands seat store.now }
     ensures { IfOk result (Tells seat (facts_held store.now) is_new) }
@@ -143,7 +143,7 @@ fn enter(store: &mut Store, telling: Telling) -> (Ticked, Option<Entry>)
     (Ticked { entered, out }, Some(copy))
 }
 
-/// Tells the status to all, and asks for what is missing. The second is a copy of the status's entry, where it is new.
+/// Reports the status to all, and asks for what is missing. The second is a copy of the status's entry, where it is new.
 pub fn answer(
     seat: Identity,
     limit: usize,

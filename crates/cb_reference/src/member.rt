@@ -214,7 +214,7 @@ impl ReferenceMember {
         Ok((arrival, noted))
     }
 
-    /// Tells the status to all others, and asks each for what is missing of it.
+    /// Reports the status to all others, and asks each for what is missing of it.
     ///
     /// The status is an entry only where it differs from the last one. `NoMemory` may stand in place of any answer.
     pub fn tick(&mut self) -> Result<Ticked, TickRefusal>

@@ -185,7 +185,7 @@ pub struct Ticking {
     pub entry: Option<Entry>,
 }
 
-/// Tells the status to all, and asks for what is missing.
+/// Reports the status to all, and asks for what is missing.
 fn tell(past: &Past<'_>, is_new: bool) -> Result<Ticking, NoMemory>
     ensures entered { IfOk result (λ ticking. ticking.done.entered ≡ is_new) }
     ensures out { IfOk result (λ ticking. ticking.done.out.items

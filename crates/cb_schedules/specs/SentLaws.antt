@@ -96,7 +96,7 @@ DeliveredIsCast setting s =
     (j i : ℕ) → j < setting.group.size → i < setting.group.size
     → delivered (seat_at setting j) (facts_at s j) i ≤ delivered (seat_at setting i) (facts_at s i) i
 
--- no time that a member can tell says more of its own casts than it made
+-- no time that a member can compute says more of its own casts than it made
 abbrev pub TimesTellOwnCasts : Setting → GroupState → Type 0
 TimesTellOwnCasts setting s =
     (j : ℕ) (m : Carried) → IsOneOf m (expanded_in (casts_in (facts_at s j)))

@@ -23,9 +23,10 @@ use std::alloc::{AllocError, Global};
 
 /// Looks for a run of the whole group in which each member did what its history says.
 ///
-/// The joint order takes, each time, the smallest member whose next entry may go: a cast and a tick always, an arrival once its bytes
-/// were sent by a cast or a tick that was taken. `Unsent` is answered only where no joint order exists. Where there is one, its steps are a
-/// schedule whose run has exactly these histories; so all that is true after every schedule is true of what these members did.
+/// Of the members whose next entry may go the joint order takes the smallest: a cast and a tick may go
+/// always, an arrival once its bytes were sent by a cast or a tick that was taken. `Unsent` is answered only
+/// where no joint order exists. Where there is one, its steps are a schedule whose run has exactly these
+/// histories; so all that is true after every schedule is true of what these members did.
 pub fn audit(alloc: Global, histories: &[History]) -> Result<Joint, AuditFault>
     ensures joint { IfOk result (λ joint. IsJoint (map history_fields histories.now)
         joint.setting joint.steps) }

@@ -15,8 +15,8 @@ use std::fmt;
 /// Why no histories were read.
 #[derive(Clone, Copy, Debug, PartialEq, Eq, Hash)]
 pub enum TraceFault {
-    /// This line, counted from 1, is the first that is not what must stand there. A line that is missing has the number that it would
-    /// have, and text behind the last line is the line after it.
+    /// This line, counted from 1, is the first that is not what must stand there. A missing line is counted
+    /// where it should stand, and text behind the last line is the line after it.
     BadLine { line: u64 },
     /// Out of memory.
     NoMemory,

@@ -1,4 +1,4 @@
--- What the program tells of a step, against what the definition answers.
+-- What the program reports of a step, against what the definition answers.
 use Rattle.std.specs.Prelude.{◌≡◌, ℕ, Bool, List, [], ◌∷◌, ◌++◌, length, Ok, Err}
 use Rattle.cb_times.specs.declared.name.Name.{Name}
 use Rattle.cb_delay.specs.declared.message.Message.{Message}
@@ -33,7 +33,7 @@ pub data Reported : Type 0 where
   NoFrameReported : Reported
   NoBytesReported : Reported
 
--- what the program tells
+-- what the program reports
 abbrev pub reported : Answer → Reported
 reported (answers.Cast name time) = CastReported name time
 reported (answers.CastRefused refusal) = CastRefused refusal
@@ -52,7 +52,7 @@ answer_to setting s OfNoMember = NoSuchMember
 answer_to setting s OfNoFrame = NoSuchFrame
 answer_to setting s OfNoBytes = NoBytes
 
--- What is told of a member's answer: of a cast its name and its time.
+-- What is reported of a member's answer: of a cast its name and its time.
 abbrev pub reported_by : Identity → List Fact → schedules.Answer → Reported
 reported_by seat facts (CastAnswer (Ok c)) = CastReported (cast_done seat facts c).name (cast_done seat facts c).time
 reported_by seat facts (CastAnswer (Err refusal)) = CastRefused refusal

@@ -71,10 +71,10 @@ impl Run {
 
 /// Runs the schedule in a group whose members' histories may have 1 to 16,777,216 entries.
 ///
-/// For every schedule of casts, ticks and arrivals of sent frames, lost, repeated or reordered at will: the members' casts and deliveries are
-/// a run of the causal broadcast machine; a member has delivered a message exactly when it and everything that happened before it have
-/// arrived there; and the times from the frames' bytes compare, for any two messages that were cast, exactly as happened-before does. What a
-/// member's history says to be stable of its messages is at most the number of them in the list of events of each member.
+/// Whatever the schedule loses, repeats or reorders: the events are a run of the causal machine. Each member
+/// has delivered just the messages that reached it together with their whole past. The times of any two
+/// messages that were cast, read from the bytes of the frames, compare as happened-before does. And of a
+/// member's messages no more are stable, by its history, than stand in the list of events of each member.
 pub fn play(
     alloc: Global,
     group: Group,

@@ -122,10 +122,11 @@ impl World {
 
     /// One thing more happens: the run goes on by this step. Out of memory, the group is as it was.
     ///
-    /// So after every step, whatever was lost, repeated or reordered: the members' casts and deliveries are a run of the causal broadcast
-    /// machine; a member has delivered a message exactly when it and everything that happened before it have arrived there; and the times
-    /// from the frames' bytes compare, for any two messages that were cast, exactly as happened-before does. What a member's history says
-    /// to be stable of its messages is at most the number of them in the list of events of each member.
+    /// After it, whatever was lost, repeated or reordered, the events are a run of the causal machine. Each
+    /// member has delivered just the messages that reached it together with their whole past. The times of
+    /// any two messages that were cast, read from the bytes of the frames, compare as happened-before does.
+    /// And of a member's messages no more are stable, by its history, than stand in the list of events of
+    /// each member.
     ///
     /// All lists go on at their ends: the events by steps of the stamped machine, the frames that were sent by some or none, and the
     /// histories by at most one entry of one member.

@@ -4,18 +4,15 @@
 //! The README and the guide show the lines between the marks.
 #![tactic(auto)]
 
-mod fault;
 mod network;
 mod restart;
 mod silent;
 
-use crate::fault::Fault;
 use crate::network::Network;
 use crate::restart::restart;
 use crate::silent::wait;
-use cb_member::{Arrival, Group, Member, Message, Outgoing};
+use cb_member::{Arrival, Group, Member, Message};
 use std::alloc::Global;
-use std::process::ExitCode;
 
 const SIZE: u32 = 3;
 
@@ -29,40 +26,37 @@ const ROUNDS: u32 = 8;
 const LINES: [&str; 2] = ["hello", "bye"];
 
 // README: begin
-fn talk(rt: &HostRuntime, members: &mut [Member], network: &mut Network) -> Result<(), Fault> {
-    for member in members {
-        let me = member.seat().me();
-        for bytes in network.take(me) {
-            match member.arrive(&bytes) {
-                Ok(arrival) => {
-                    let (deliveries, out) = parts(rt.alloc(), arrival); // a repeat has neither
-                    show(rt, me, deliveries)?; // in causal order, each message once
-                    network.send(me, out)?; // what another member asked for again
-                }
-                Err(refusal) => println!(rt; "{me} drops a frame: {refusal}")?,
-            }
+fn turn(rt: &HostRuntime, member: &mut Member, network: &mut Network) -> anyhow::Result<()> {
+    let me = member.seat().me(); // its number in the group
+    for bytes in network.take(me) {
+        match member.arrive(&bytes) {
+            Ok(arrival) => take(rt, me, arrival, network)?, // Accepted or Repeat, see below
+            Err(refusal) => println!(rt; "{me} drops a frame: {refusal}")?,
         }
-        if let Some(line) = LINES.get(casts_of(member)) {
-            match member.cast(line.as_bytes()) {
-                Ok(done) => network.send_to_others(me, &done.out)?,
-                Err(refusal) => println!(rt; "{me} keeps {line:?}: {refusal}")?,
-            }
-        }
-        network.send(me, member.tick()?.out)?; // its status to all, and what it misses
     }
+    if let Some(line) = LINES.get(casts_of(member)) {
+        match member.cast(line.as_bytes()) {
+            Ok(done) => network.send_to_others(me, &done.out)?,
+            Err(refusal) => println!(rt; "{me} keeps {line:?}: {refusal}")?,
+        }
+    }
+    network.send(me, member.tick()?.out)?; // says what it has, asks for what it misses
     Ok(())
 }
 // README: end
 
-/// What an arrival delivered, and what is to be sent in answer.
-fn parts(alloc: Global, arrival: Arrival) -> (Vec<Message>, Vec<Outgoing>) {
+/// Shows what the arrival delivered, and sends what another member asked for again.
+fn take(rt: &HostRuntime, me: u32, arrival: Arrival, network: &mut Network) -> anyhow::Result<()> {
     match arrival {
         Arrival::Accepted {
             deliveries,
             out,
             changed: _,
-        } => (deliveries, out),
-        Arrival::Repeat => (Vec::new(alloc), Vec::new(alloc)),
+        } => {
+            show(rt, me, deliveries)?;
+            Ok(network.send(me, out)?)
+        }
+        Arrival::Repeat => Ok(()),
     }
 }
 
@@ -76,7 +70,7 @@ fn casts_of(member: &Member) -> usize {
 }
 
 /// Prints each message that member `me` delivered.
-fn show(rt: &HostRuntime, me: u32, deliveries: Vec<Message>) -> Result<(), Fault> {
+fn show(rt: &HostRuntime, me: u32, deliveries: Vec<Message>) -> anyhow::Result<()> {
     for message in deliveries {
         let text = String::from_utf8_lossy(rt.alloc(), &message.payload)?;
         println!(rt; "{me} delivers {} {:?}", message.name, text)?;
@@ -84,7 +78,7 @@ fn show(rt: &HostRuntime, me: u32, deliveries: Vec<Message>) -> Result<(), Fault
     Ok(())
 }
 
-fn members_of(alloc: Global, group: Group) -> Result<Vec<Member>, Fault> {
+fn members_of(alloc: Global, group: Group) -> anyhow::Result<Vec<Member>> {
     let mut members = Vec::with_capacity(alloc, group.size() as usize)?;
     for me in 0..group.size() {
         members.push(Member::new(alloc, group, me, HISTORY_LIMIT)?)?;
@@ -92,23 +86,15 @@ fn members_of(alloc: Global, group: Group) -> Result<Vec<Member>, Fault> {
     Ok(members)
 }
 
-fn run(rt: &HostRuntime) -> Result<(), Fault> {
+fn main(rt: HostRuntime) -> anyhow::Result<()> {
     let group = Group::new(7, SIZE, WINDOW)?;
     let mut members = members_of(rt.alloc(), group)?;
     let mut network = Network::new(rt.alloc(), SIZE)?;
     for _ in 0..ROUNDS {
-        talk(rt, &mut members, &mut network)?;
-    }
-    restart(rt, &mut members)?;
-    wait(rt, &mut members)
-}
-
-fn main(rt: HostRuntime) -> ExitCode {
-    match run(&rt) {
-        Ok(()) => ExitCode::from(0),
-        Err(fault) => {
-            let _ = eprintln!(rt; "example_member: {fault}");
-            ExitCode::from(1)
+        for member in &mut members {
+            turn(&rt, member, &mut network)?;
         }
     }
+    restart(&rt, &mut members)?;
+    wait(&rt, &mut members)
 }

@@ -1,14 +1,13 @@
 //! What a restart does to a member: without its history the others take its casts for repeats; with it, it goes on.
 
-use crate::fault::Fault;
-use crate::{HISTORY_LIMIT, parts, show};
+use crate::{HISTORY_LIMIT, show};
 use bytes::Bytes;
 use cb_frames::{Frame, decode};
 use cb_member::{Arrival, Entry, Group, Member};
 use std::alloc::Global;
 
 /// Member 0 begins again, once without its history and once with it, and casts each time. The second takes its place.
-pub fn restart(rt: &HostRuntime, members: &mut [Member]) -> Result<(), Fault> {
+pub fn restart(rt: &HostRuntime, members: &mut [Member]) -> anyhow::Result<()> {
     let Some((old, others)) = members.split_first_mut() else {
         return Ok(());
     };
@@ -18,7 +17,7 @@ pub fn restart(rt: &HostRuntime, members: &mut [Member]) -> Result<(), Fault> {
     cast_to(rt, old, others, "back again")
 }
 
-fn without_history(rt: &HostRuntime, group: Group, others: &mut [Member]) -> Result<(), Fault> {
+fn without_history(rt: &HostRuntime, group: Group, others: &mut [Member]) -> anyhow::Result<()> {
     let mut member = Member::new(rt.alloc(), group, 0, HISTORY_LIMIT)?;
     let cast = cast_to(rt, &mut member, others, "hello again");
     drop(member);
@@ -31,7 +30,7 @@ fn cast_to(
     member: &mut Member,
     others: &mut [Member],
     text: &str,
-) -> Result<(), Fault> {
+) -> anyhow::Result<()> {
     let frame = member.cast(text.as_bytes())?.out;
     println!(rt; "0 casts {text:?}")?;
     for other in others {
@@ -41,17 +40,17 @@ fn cast_to(
 }
 
 /// Prints what the frame is to the member.
-fn take(rt: &HostRuntime, member: &mut Member, frame: &Bytes) -> Result<(), Fault> {
+fn take(rt: &HostRuntime, member: &mut Member, frame: &Bytes) -> anyhow::Result<()> {
     let me = member.seat().me();
     match member.arrive(frame)? {
         Arrival::Repeat => Ok(println!(rt; "{me} takes it for a repeat")?),
-        accepted => show(rt, me, parts(rt.alloc(), accepted).0),
+        Arrival::Accepted { deliveries, .. } => show(rt, me, deliveries),
     }
 }
 
 // GUIDE: begin
 /// The member whose history has these entries: it makes their calls again.
-fn replay(alloc: Global, group: Group, me: u32, entries: &[Entry]) -> Result<Member, Fault> {
+fn replay(alloc: Global, group: Group, me: u32, entries: &[Entry]) -> anyhow::Result<Member> {
     let mut member = Member::new(alloc, group, me, HISTORY_LIMIT)?;
     for entry in entries {
         call_again(alloc, &mut member, entry)?;
@@ -59,7 +58,7 @@ fn replay(alloc: Global, group: Group, me: u32, entries: &[Entry]) -> Result<Mem
     Ok(member)
 }
 
-fn call_again(alloc: Global, member: &mut Member, entry: &Entry) -> Result<(), Fault> {
+fn call_again(alloc: Global, member: &mut Member, entry: &Entry) -> anyhow::Result<()> {
     match entry {
         Entry::Cast { frame } => drop(member.cast(&payload_of(alloc, frame)?)?),
         Entry::Arrive { frame, .. } => drop(member.arrive(frame)?),
@@ -70,7 +69,7 @@ fn call_again(alloc: Global, member: &mut Member, entry: &Entry) -> Result<(), F
 // GUIDE: end
 
 /// The payload of a cast frame; of other bytes none.
-fn payload_of(alloc: Global, frame: &Bytes) -> Result<Bytes, Fault> {
+fn payload_of(alloc: Global, frame: &Bytes) -> anyhow::Result<Bytes> {
     match decode(alloc, frame)? {
         Frame::Cast(cast) => Ok(cast.payload),
         _other => Ok(Bytes::new()),

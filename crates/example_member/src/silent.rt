@@ -1,13 +1,12 @@
 //! A window that stays full, and who it waits for.
 
-use crate::fault::Fault;
 use bytes::Bytes;
 use cb_frames::{Change, Frame, decode};
 use cb_member::{Entry, Event, Member};
 use std::alloc::Global;
 
 /// Member 0 finds its window full, with a status of member 1 too: it waits for a member that says nothing.
-pub fn wait(rt: &HostRuntime, members: &mut [Member]) -> Result<(), Fault> {
+pub fn wait(rt: &HostRuntime, members: &mut [Member]) -> anyhow::Result<()> {
     let Some((member, others)) = members.split_first_mut() else {
         return Ok(());
     };
@@ -24,14 +23,14 @@ pub fn wait(rt: &HostRuntime, members: &mut [Member]) -> Result<(), Fault> {
 }
 
 /// The other member ticks, and the member takes what it sends.
-fn hear(member: &mut Member, other: &mut Member) -> Result<(), Fault> {
+fn hear(member: &mut Member, other: &mut Member) -> anyhow::Result<()> {
     for status in other.tick()?.out {
         drop(member.arrive(&status.bytes)?);
     }
     Ok(())
 }
 
-fn print(rt: &HostRuntime, member: &Member, other: u32) -> Result<(), Fault> {
+fn print(rt: &HostRuntime, member: &Member, other: u32) -> anyhow::Result<()> {
     let count = acknowledged(rt.alloc(), member, other)?;
     println!(rt; "{other} is known to have delivered {count} casts of 0")?;
     Ok(())
@@ -40,7 +39,7 @@ fn print(rt: &HostRuntime, member: &Member, other: u32) -> Result<(), Fault> {
 // GUIDE: begin
 /// How many casts of this member the other one is known to have delivered: by its statuses, and by the
 /// times of its messages.
-fn acknowledged(alloc: Global, member: &Member, other: u32) -> Result<u32, Fault> {
+fn acknowledged(alloc: Global, member: &Member, other: u32) -> anyhow::Result<u32> {
     let me = member.seat().me();
     let mut count = 0;
     for entry in member.history() {
@@ -55,7 +54,7 @@ fn acknowledged(alloc: Global, member: &Member, other: u32) -> Result<u32, Fault
 }
 
 /// What the frame says of it, where it is a status of the other member.
-fn in_status(alloc: Global, frame: &Bytes, other: u32, me: u32) -> Result<u32, Fault> {
+fn in_status(alloc: Global, frame: &Bytes, other: u32, me: u32) -> anyhow::Result<u32> {
     match decode(alloc, frame)? {
         Frame::Status(status) if status.sender == other => Ok(value_at(&status.values, me)),
         _other => Ok(0),

@@ -1,6 +1,6 @@
 //! Random calls: the plain member and the quick one answer each alike, whatever is received, and end with the same history.
 //!
-//! Each run is a member of a group of its own, twice, among some other members whose frames get lost, come twice and in another
+//! Each run is a member of a group of its own, twice, among some other members whose frames get lost, are copied and come in another
 //! order, with forged and damaged ones between them. `checks/agreement.sh` runs the same with more and longer runs.
 
 mod dice;
@@ -132,7 +132,7 @@ impl Trial {
         )
     }
 
-    /// Takes the pair as it was made, so that no other exit has one to let go.
+    /// Takes the pair as it was made, so that no other exit has one to drop.
     fn with(
         world: World,
         pair: Result<Pair, Fail>,

@@ -17,7 +17,7 @@ use std::thread::{Threads, map_vec};
 /// How many calls each of the eight threads makes.
 const CALLS: u32 = 1250;
 
-/// The casts of member 1 that come, and what frames are made with.
+/// The casts of member 1 that are received, and what frames are made with.
 #[derive(Drop)]
 struct Mail {
     alloc: Global,
@@ -98,7 +98,7 @@ fn all_call<L: Ledger + Send + Sync, R: Threads + Wait + Sync>(
     map_vec(rt, seats, &|seat| calls(rt, shared, mail, seat))
 }
 
-/// Casts, lets the other member tell that it has delivered the cast, takes a cast of the other, and ticks, in turn.
+/// Casts, lets the other member report that it has delivered the cast, takes a cast of the other, and ticks, in turn.
 fn calls<L: Ledger>(
     rt: &impl Wait,
     shared: &SharedMember<L>,

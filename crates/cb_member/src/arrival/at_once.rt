@@ -113,8 +113,7 @@ fn accept_with_others(
 }
 
 /// Accepts a cast behind which nothing waits, with room for it. Where it is delivered as soon as it is there, the bytes go into
-/// the copy of its
-/// entry.
+/// the copy of its entry.
 fn accept_alone(
     seat: Identity,
     limit: usize,

@@ -106,7 +106,7 @@ pub fn judge(
     judge_other(admission, store.entries.len() >= limit)
 }
 
-/// A cast of the member itself came before, or it never made it.
+/// A cast of the member itself was made before, or it never made it.
 fn judge_own(delivered: u32, number: u32) -> Result<Judged, ArriveRefusal>
     ensures { result ≡ own_verdict delivered number }
 {
@@ -193,7 +193,7 @@ fn prepare(
     )
 }
 
-/// How many messages wait for the delay rule once the cast has come: those that do, and those that can be expanded with it.
+/// How many messages wait for the delay rule once the cast is there: those that do, and those that can be expanded with it.
 fn room_for(seat: Identity, limit: usize, store: &Store, cast: &Cast) -> Result<usize, NoMemory>
     requires kept { IsKept seat limit store.now }
     requires can { CanTake seat limit store.now (cast_fields cast.now) }

@@ -63,7 +63,8 @@ fn is_impossible(seat: Identity, store: &Store, status: &Status) -> bool
     }
 }
 
-/// Some value tells more of another sender's casts than was heard of. The values are of different members, so one look at each will do.
+/// Some value says more of another sender's casts than was heard of. The values are of different members, so one
+/// look at each will do.
 fn tells_of_casts(seat: Identity, known: &VectorTime, values: &[Change]) -> bool
     requires known { length known.now ≡ seat.group.size }
     requires values { AreValuesOf seat.group.size values.now }

@@ -56,7 +56,7 @@ fn is_impossible(past: &Past<'_>, status: &Status) -> bool
     }
 }
 
-/// Some value tells more of another sender's casts than the member has heard of.
+/// Some value says more of another sender's casts than the member has heard of.
 fn tells_of_casts(past: &Past<'_>, values: &[Change]) -> bool
     ensures { result ≡ list_any (λ k. not (k == past.now.seat.me)
         && nat_lt (known (facts_in past.now) k) (value_in values.now k))

@@ -4,7 +4,7 @@ ghost use Rattle.cb_schedules.specs.Headline.{EachSchedule};
 ghost use Rattle.cb_schedules.specs.SentLaws.{AcknowledgedIsDeliveredThere, ArrivalsAreWelcome, DeliveredIsCast, HeardOfIsCast, SendersStayNear, StableIsDeliveredEverywhere, StableStandsInEvents, TimesTellOwnCasts};
 
 /// Nobody has delivered, or heard of, more of a member's messages than it has cast: so nothing is asked for that is not. No time that a
-/// member can tell says more of its own casts than it made.
+/// member can compute says more of its own casts than it made.
 pub fn what_is_heard_of_is_cast()
     ensures delivered { EachSchedule DeliveredIsCast }
     ensures heard_of { EachSchedule HeardOfIsCast }

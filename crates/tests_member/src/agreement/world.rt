@@ -46,7 +46,7 @@ impl World {
         Ok(())
     }
 
-    /// One of the others casts, tells its time, or takes a frame that was sent.
+    /// One of the others casts, reports its time, or takes a frame that was sent.
     pub fn act(&mut self, alloc: Global, dice: &mut Dice) -> Result<(), Fail> {
         let came = self.frame(dice)?;
         let sent = self.sent(alloc, dice, &came)?;

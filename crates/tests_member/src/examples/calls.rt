@@ -37,9 +37,9 @@ impl Made for Member {
 pub enum Call<'a> {
     /// To cast this payload.
     Cast(&'a [u8]),
-    /// To take these bytes, which came.
+    /// To take these bytes, which were received.
     Take(&'a [u8]),
-    /// To tell the others what it has.
+    /// To report to the others what it has.
     Tick,
     /// Its time, events, entries, how many own casts are stable, and what is missing of a member.
     Time,
@@ -65,7 +65,7 @@ pub fn group_of(number: u32, size: u32, window: u32) -> Result<Group, Fail> {
     Ok(Group::new(number, size, window).ok().ok_or("a group")?)
 }
 
-/// Takes the second text by value: who calls this has but one to let go.
+/// Takes the second text by value: who calls this has but one to drop.
 fn add(text: &mut String, more: String) -> Result<(), Fail> {
     Ok(text.push_str(more.as_str())?)
 }
@@ -353,7 +353,7 @@ fn raised_by(alloc: Global, entry: &Entry, name: Name, field: u32) -> u32 {
     }
 }
 
-/// A cast tells of each field once at most.
+/// A cast names each field once at most.
 fn amount_in(cast: &Cast, field: u32) -> u32 {
     match cast.changes.iter().find(|change| change.field == field) {
         Some(change) => change.amount,

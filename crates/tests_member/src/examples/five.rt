@@ -115,7 +115,7 @@ fn empty_of_0(alloc: Global, number: u8) -> Result<Vec<u8>, Fail> {
     Ok(frame)
 }
 
-/// The protocol's status of member 2 of group 300 comes before all that it tells of.
+/// The protocol's status of member 2 of group 300 comes before all that it reports.
 pub const A_MEMBER_OF_FIVE_ASKS_FOR_WHAT_IT_LACKS: &[Script<'static>] = &[Script {
     number: 300,
     size: 5,
