@@ -19,9 +19,7 @@ use crate::member::ReferenceMember;
 use crate::past::Past;
 use crate::view::{Message, count, counts, message_of, view};
 use bytes::Bytes;
-use cb_frames::{
-    Cast, Change, EncodeFault, Frame, LAST_NUMBER, LONGEST_PAYLOAD, encode, one_text,
-};
+use cb_frames::{Cast, Change, EncodeFault, Frame, LAST_NUMBER, LONGEST_PAYLOAD, encode, one_text};
 use cb_history::{CastDone, CastRefusal, Entry};
 use cb_times::{Name, NoMemory, VectorTime};
 use std::alloc::{AllocError, Global};
