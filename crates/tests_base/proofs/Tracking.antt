@@ -1,5 +1,5 @@
 -- What is tracked of a delay queue stays so.
-use Rattle.std.proofs.Common.{◌≡◌, ◌≢◌, ℕ, ◌+◌, ◌<◌, ◌≤◌, ◌==◌, true, false, cond, List, length, map, sym, ◌∙◌, ap, subst, arith, Some, None, get_or, slice_index, refl, inl, inr}
+use Rattle.std.proofs.Common.{◌≡◌, ◌≢◌, ℕ, ◌+◌, ◌<◌, ◌≤◌, ◌==◌, true, false, cond, List, length, map, ◌⊎◌, sym, ◌∙◌, ap, subst, arith, Some, None, get_or, slice_index, refl, inl, inr}
 use Rattle.std.specs.Prelude.{Option}
 use Rattle.std.specs.Ordering.{eq_by_cmp}
 use Rattle.std.specs.FinMap as fin
@@ -25,6 +25,18 @@ count_of-le queue sender =
       length-map (fin.entries queue.held) (λ (e : Name × Message). e.0),
       fin.len-entries queue.held,
     )
+
+-- who is held once a message was added is that one, or was held
+pub one_of : (old new : Queue) (message : Message) → new.held ≡ fin.insert old.held message.name message
+    → (m : Message) → IsHeld new m → (m ≡ message) ⊎ IsHeld old m
+one_of old new message added m held =
+    let at : fin.get new.held m.name ≡ cond (eq_by_cmp name_cmp m.name message.name) (Some message) (fin.get old.held m.name) =
+    ap (λ (h : fin.FinMap name_cmp Message). fin.get h m.name) added ∙ fin.get-insert names_total old.held message.name message m.name in
+    elim (eq_by_cmp name_cmp m.name message.name)
+    as (λ b. cond b (Some message) (fin.get old.held m.name) ≡ Some m → (m ≡ message) ⊎ IsHeld old m) [
+      | true ↦ λ h. let same : m ≡ message = cc in inl same
+      | false ↦ λ h. inr h
+    ] (sym at ∙ held)
 
 module _ (old : Queue) (next : List ℕ) (tracked : IsTracked old next) where
   pub follows : (name : Name) → name.number ≡ slice_index next name.sender → FollowsLast old name
@@ -95,7 +107,7 @@ module _ (old : Queue) (next : List ℕ) (tracked : IsTracked old next) where
 
     module _ (message : Message) (added : new.held ≡ fin.insert old.held message.name message)
         (within : message.name.sender < length next) (is_next : message.name.number ≡ slice_index next message.name.sender) where
-      after : List ℕ
+      abbrev after : List ℕ
       after = set next message.name.sender (message.name.number + 1)
 
       named : (name : Name) → fin.get new.held name ≡ cond (eq_by_cmp name_cmp name message.name) (Some message) (fin.get old.held name)
@@ -103,15 +115,6 @@ module _ (old : Queue) (next : List ℕ) (tracked : IsTracked old next) where
 
       is_held : IsHeld new message
       is_held = named message.name ∙ ap (λ b. cond b (Some message) (fin.get old.held message.name)) (eq_by_cmp-same message.name message.name refl refl)
-
-      -- who is held is the new one, or was held
-      one_of : (m : Message) → IsHeld new m → (m ≡ message) ⊎ IsHeld old m
-      one_of m held =
-          elim (eq_by_cmp name_cmp m.name message.name)
-          as (λ b. cond b (Some message) (fin.get old.held m.name) ≡ Some m → (m ≡ message) ⊎ IsHeld old m) [
-            | true ↦ λ h. let same : m ≡ message = cc in inl same
-            | false ↦ λ h. inr h
-          ] (sym (named m.name) ∙ held)
 
       of_others : (m : Message) → m.name.sender ≢ message.name.sender → IsHeld old m → IsHeld new m
       of_others m apart held =
@@ -122,7 +125,7 @@ module _ (old : Queue) (next : List ℕ) (tracked : IsTracked old next) where
 
       below_now : (m : Message) → IsHeld new m → m.name.number < slice_index after m.name.sender
       below_now m held =
-          elim (one_of m held) as (λ _. m.name.number < slice_index after m.name.sender) [
+          elim (one_of old new message added m held) as (λ _. m.name.number < slice_index after m.name.sender) [
             | inl same ↦ subst (λ (x : Message). x.name.number < slice_index after x.name.sender) (sym same) (omega (arith, here))
             | inr was ↦
                 elim (eqb_tells m.name.sender message.name.sender) as (λ _. m.name.number < slice_index after m.name.sender) [
@@ -144,7 +147,7 @@ module _ (old : Queue) (next : List ℕ) (tracked : IsTracked old next) where
                 omega (arith, low, below_now m is.held, to, here)
             | inr apart ↦
                 let was : IsHeld old m =
-                elim (one_of m is.held) as (λ _. IsHeld old m) [
+                elim (one_of old new message added m is.held) as (λ _. IsHeld old m) [
                   | inl same ↦ absurd (apart.1 (ap (λ (x : Message). x.name.sender) same))
                   | inr held ↦ held
                 ] in

@@ -340,10 +340,11 @@ fn sequence(rt: &impl Abort, alloc: Global, numbers: &mut Numbers) -> bool {
 fn index_equals_rescan(rt: HostRuntime) {
     let mut numbers = Numbers { state: 1 };
     let mut alike: u32 = 0;
-    for _ in 0..300 {
-        alike += u32::from(sequence(&rt, rt.alloc(), &mut numbers));
+    for _ in 0..10_000 {
+        let agrees = sequence(&rt, rt.alloc(), &mut numbers);
+        alike = alike.saturating_add(u32::from(agrees));
     }
-    same(&rt, alike, 300);
+    same(&rt, alike, 10_000);
 }
 
 /// What the queue answers at the time of 64 members with this in the first two fields, and how many looks it made by then.
