@@ -29,8 +29,8 @@ abbrev pub Rise : ℕ → List ReceiptFields → Type 0
 Rise last [] = Unit {0}
 Rise last (r ∷ rs) = (last < r.place) × Rise r.place rs
 
--- The receipts of the seats claim these entries: each is the entry at its place, places rise within a seat, and every entry is at the
--- place of exactly one receipt.
+-- The receipts of the seats claim these entries: each has the entry that stands at its place, a seat's places rise, and no entry is
+-- without a receipt or has two.
 pub record AreClaimed (entries : List EntryFields) (seats : List SeatState) : Type 0 where
   pub entries_are : AllByRecursion (λ r. entry_at entries r.place ≡ Some r.entry) (receipts_of seats)
   pub rising : AllByRecursion (λ s. Rise 0 s.receipts) seats
@@ -59,7 +59,7 @@ claims_behind before (s ∷ seats) = claims_of_seat before 0 s.receipts ++ claim
 abbrev pub claims_of : List SeatState → List Claim
 claims_of seats = claims_behind [] seats
 
--- it is the entry at its place, repeats no place, and rises within its seat
+-- it has the entry that stands at its place, no other has the place, and it is above those before it in its seat
 pub record IsRight (entries : List EntryFields) (c : Claim) : Type 0 where
   pub entry_is : entry_at entries c.receipt.place ≡ Some c.receipt.entry
   pub new : times c.receipt.place c.before ≡ 0

@@ -31,7 +31,7 @@ pub struct CloseRefusal {
 /// What is wrong at closing: the first that fits, in this order.
 #[derive(Clone, Copy, Debug, PartialEq, Eq)]
 pub enum CloseFault {
-    /// The seats have fewer receipts than the history has entries, so that a seat is missing.
+    /// There are more entries than receipts in these seats: one of the seats is missing.
     SeatsMissing { claimed: usize, entries: usize },
     /// The lock holds a member of another group, or with another number, than the sharing began with.
     OtherMember,

@@ -42,7 +42,7 @@ abbrev pub deliveries_of : List EntryFields → ℕ
 deliveries_of [] = 0
 deliveries_of (e ∷ es) = delivered_by e + deliveries_of es
 
--- the entries that receipts tell of
+-- the entries that receipts name
 abbrev pub entries_reported : List ReceiptFields → List EntryFields
 entries_reported receipts = map (λ r. r.entry) receipts
 
@@ -79,7 +79,7 @@ pub record HandsAllBack {I O P T : Type 0} (report : MemberReport I O P T) : Typ
   pub pace : is_some report.pace ≡ true
   pub talker : is_some report.talker ≡ true
 
--- so where no fault is told
+-- so where no fault is reported
 abbrev pub HandsBack : {I O P T : Type 0} → MemberReport I O P T → Type 0
 HandsBack report = report.fault ≡ None → HandsAllBack report
 
@@ -99,7 +99,7 @@ lost_in (Some w) lost = lost w
 abbrev pub failures_in : {I O P T : Type 0} → (I → ℕ) → (O → ℕ) → (P → ℕ) → Parts I O P T → Failures
 failures_in inlet outlet pace parts = record { inlet = inlet parts.inlet; outlet = outlet parts.outlet; pace = pace parts.pace }
 
--- Of what is handed back a report tells of at most as many failures as were counted since it had counted these, of what is not of none.
+-- Of what is handed back a report names at most as many failures as were counted since it had counted these, of what is not of none.
 -- At each failure to send a frame was lost.
 pub record TellsFailures {I O P T : Type 0} (inlet_failed : I → ℕ) (outlet_failed : O → ℕ) (pace_failed : P → ℕ) (before : Failures) (report : MemberReport I O P T) : Type 0 where
   pub inlet : MatchOption report.inlet (report.receive_failures ≡ 0) (λ inlet. MetAtMost report.receive_failures before.inlet (inlet_failed inlet))

@@ -65,7 +65,7 @@ pub struct GroupReport<I, O, P, T> {
 /// It ends once every talker has ended, or after so many turns of each worker as the limits say.
 /// The histories are legal, one for each member in order; the counts of each report are those of
 /// its history. The histories may have `history_max` entries each. Of its link and its pace a
-/// report tells of no more failures than they counted.
+/// report names no more failures than they counted.
 pub fn run_group<
     I: Inlet + Send + Drop,
     O: Outlet + Send + Drop,

@@ -370,8 +370,8 @@ fn ended<I: Inlet + Drop, O: Outlet + Drop, P: Pace + Drop, T: Drop>(
     }
 }
 
-/// What it left is let go by calls, which the prover takes less time for than for values that are
-/// left to the end; of the member's own parts it would prove anew how each is let go.
+/// What it left is dropped by calls, which the prover takes less time for than for values that are
+/// left to the end; of the member's own parts it would prove anew how each is dropped.
 fn not_closed<I: Drop, O: Drop, P: Drop, T: Drop>(
     identity: Identity,
     refusal: CloseRefusal,

@@ -76,7 +76,7 @@ pub trait Inlet {
         ensures fault { IfErr result (λ fault. LinkCounts fault (failed self.old)
             (failed self.new)) };
 
-    /// Takes no more frames: those that came and were not received are dropped, and one that is
+    /// Takes no more frames: those that wait there are dropped, and one that is
     /// sent here from now on is lost. By default nothing is done, for an inlet in which not more
     /// than so much can gather.
     fn close(&mut self)

@@ -26,9 +26,9 @@ use std::time::Clock;
 ///
 /// The first three end after so many turns as the limits say, or once the stop is set; the talker's
 /// also once it has finished. The sender ends when they have. Link, pace and talker stand in the
-/// report, and the seats come back for `close`: all four, unless a thread could not be started or a
-/// list not be made, which the report's fault tells. The counts of the report are those of the
-/// receipts in the seats that come back.
+/// report. The seats are handed back for `close`: all four, but where a thread or a list was
+/// refused, as the report's fault says. The counts of the report are those of the receipts in the
+/// seats that are handed back.
 pub fn run_member<
     I: Inlet + Send + Drop,
     O: Outlet + Send + Drop,

@@ -85,7 +85,7 @@ pub struct Failures {
     pub pace: u64,
 }
 
-/// What entries tell of casts and deliveries.
+/// What entries say of casts and deliveries.
 #[derive(Clone, Copy)]
 pub struct Tally {
     pub casts: u64,
@@ -105,7 +105,7 @@ impl Tally {
         }
     }
 
-    /// What these entries tell of casts and deliveries.
+    /// What these entries say of casts and deliveries.
     pub fn of_history(entries: &[Entry]) -> Tally
         ensures { IsTally (map entry_fields entries.now) result }
     {

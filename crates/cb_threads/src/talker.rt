@@ -16,12 +16,12 @@ pub enum Talk {
 
 /// Who decides what a member casts. It sees what the member has cast and delivered.
 pub trait Talker {
-    /// What to do next. `news` are the member's events since the last call, in order. After a
-    /// refusal the same news come again, with what came behind them.
+    /// What to do next. `news` has what the member cast and delivered since it was last asked, in
+    /// order. After a refusal it begins with the same events again.
     fn next(&mut self, news: &[Event]) -> Result<Talk, NoMemory>;
 
     /// Whether `next` is over so soon that the member may wait for it: then the news are shown in
-    /// place, and the member takes and tells nothing meanwhile. Else they are copied, and the
+    /// place, and the member takes and sends nothing meanwhile. Else they are copied, and the
     /// member works on while the talker thinks.
     fn is_quick(&self) -> bool {
         false

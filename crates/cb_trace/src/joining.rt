@@ -1,4 +1,4 @@
-//! The search for the joint order: each time the smallest member whose next entry may go.
+//! The search for the joint order. Of the members whose next entry may go it takes the one with the least number.
 
 ghost use Rattle.std.specs.Prelude.{◌≡◌, ◌<◌, ◌≤◌, ℕ, List, length, take, map, get_or, slice_get};
 ghost use Rattle.std.specs.Prelude.{IfOk, OnOk, MatchOption};

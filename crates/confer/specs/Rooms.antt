@@ -51,7 +51,7 @@ pub record WasComposed (events : List CausalEvent) (place : ℕ) (payload : List
 abbrev pub IsAnswer : List ℕ → Type 0
 IsAnswer payload = (question : Name) × (text : List ℕ) × (line_at payload ≡ Some (AnswerLine question text))
 
--- each cast of an answer was composed over its sender's view, at or before the cast
+-- whoever cast an answer had composed it by then, over what it had cast and delivered
 abbrev pub AnswersWereComposed : Lists → Type 0
 AnswersWereComposed lists =
     (i place : ℕ) (m : Name) (payload : List ℕ) → slice_get (lists i) place ≡ Some (Cast m payload) → IsAnswer payload

@@ -23,9 +23,8 @@ pub fn no_answer_before_its_question()
     ensures agree { EachRun (λ size lists. AnswersWereComposed lists → AgreeOnLines lists) }
 {}
 
-/// No answer before its question, after every schedule of casts, ticks and arrivals of sent frames, whatever
-/// was lost, repeated or reordered. And a line that has arrived somewhere with everything that happened
-/// before it, has its line there.
+/// No answer before its question, whatever a schedule casts, ticks, loses, repeats or reorders. And where a
+/// line has arrived together with its whole past, it is shown.
 pub fn no_answer_before_its_question_over_lossy_links()
     ensures no_orphan { EachSchedule (λ setting s. AnswersWereComposed (causal_lists setting s)
         → (j : ℕ) → HasNoOrphan (causal_lists setting s j)) }

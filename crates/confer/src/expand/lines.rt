@@ -54,7 +54,7 @@ impl Lines {
         self.begun.extend_from_slice(rest)
     }
 
-    /// Answers the line of which this is the end. It is copied only where it came in more than one piece.
+    /// Answers the line of which this is the end. It is copied only where it was read in more than one piece.
     fn answer(&mut self, end: &[u8]) -> Result<(), NoMemory>
         ensures ok { OnOk result (Says ((self.old.begun.items ++ end.now) ∷ [])
             self.old.expansion self.new.expansion self.old.answers self.new.answers) }

@@ -1,8 +1,7 @@
 //! A group whose members hold a conference.
 //!
-//! Each member has a conference with a screen of 20 lines. It is shown the member's own casts and its
-//! deliveries, in the order of the member's events, after each step. A line is composed in the conference of
-//! the member who casts it.
+//! After each step the conference of the member that took it is shown what the member cast and delivered by
+//! it, as its events have it. Who casts a line composes it in its own conference; a screen has 20 lines.
 
 ghost use Rattle.std.specs.Prelude.{◌≡◌, ◌≢◌, ◌≤◌, ◌+◌, [], IfOk, OnOk, MatchOption, drop, length, string_bytes};
 ghost use Rattle.std.specs.List.{AllByRecursion};

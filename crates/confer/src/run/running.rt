@@ -41,7 +41,7 @@ const GROUP: u32 = 7;
 const HISTORY_MAX: usize = 100_000;
 
 /// How many entries a member has at most for each cast of its group: the cast or its arrival, a tick that is
-/// the first to tell of it, a status that is the first to make it known, and one that is the first to
+/// the first to say so, a status that is the first to make it known, and one that is the first to
 /// acknowledge it.
 const ENTRIES_A_CAST: usize = 4;
 
@@ -78,7 +78,7 @@ struct RunText {
 /// with the counts of its history, and what the audit said; or, where the setting says so, the trace of the
 /// histories in place of all this. Whether the audit said no.
 ///
-/// It ends once each participant has cast and seen all, or after the setting's turns; the lines tell which.
+/// It ends once each participant has cast and seen all, or after the setting's turns; the lines say which.
 /// Its faults are those of `RunFault`: after a write fault a beginning of the text stands written, after each
 /// other fault nothing.
 pub fn run_conference<R: Threads + Wait + Clock + Net + Sync, W: Write>(
