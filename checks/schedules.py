@@ -33,7 +33,6 @@ HEAD = f'''//! The texts of the folder `schedules/`, {COPIED}
 ''' + "".join(f"mod {module};\n" for module, _, _ in sorted(THEMES)) + '''
 /// A script, and what `confer play` prints of it.
 pub struct Schedule {
-    pub name: &'static str,
     pub script: &'static str,
     pub text: &'static str,
 }
@@ -47,7 +46,7 @@ def text(name):
 
 
 def row(name):
-    fields = f'    name: "{name}",\n    script: r#"{text(name + ".script")}"#,\n    text: r#"{text(name + ".out")}"#,\n'
+    fields = f'    script: r#"{text(name + ".script")}"#,\n    text: r#"{text(name + ".out")}"#,\n'
     return f"const {name.upper()}: Schedule = Schedule {{\n{fields}}};\n"
 
 

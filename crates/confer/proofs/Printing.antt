@@ -4,7 +4,7 @@ use Rattle.std.proofs.lemmas.List.{append-nil, append_assoc, drop_all}
 use Rattle.cb_schedules.specs.Schedule.{Setting, IsSetting}
 use Rattle.cb_world.specs.World.{WorldState}
 use Rattle.confer.specs.declared.play.script.ScriptStep.{ScriptStep}
-use Rattle.confer.specs.Playing.{ScriptOrder, order_of, new_group, ComesOf, Plays, NoOrders, OneAndThen, Says, Prints, NothingMore, OneAndMore, PutsStep, PutsSteps, PutsRun, IsRunText}
+use Rattle.confer.specs.Playing.{ScriptOrder, order_of, new_group, Plays, NoOrders, OneAndThen, Prints, NothingMore, OneAndMore, PutsStep, PutsSteps, PutsRun, IsRunText}
 use Rattle.confer.proofs.Scripts.{questions_come_first}
 
 -- with what is printed of the orders that are left, the text has what is printed of all

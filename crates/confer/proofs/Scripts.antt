@@ -1,8 +1,7 @@
 -- What is so after a script whose plain casts carry no answer: each answer was composed where its question was shown.
-use Rattle.std.proofs.Common.{◌≡◌, ℕ, zero, suc, ◌<◌, ◌≤◌, List, [], ◌∷◌, ◌++◌, length, take, Some, None, refl, sym, ap, subst, ◌∙◌, arith, slice_get, inl, inr}
+use Rattle.std.proofs.Common.{◌≡◌, ℕ, zero, suc, ◌≤◌, List, [], ◌∷◌, ◌++◌, length, take, Some, None, refl, sym, ap, subst, ◌∙◌, arith, slice_get, inl, inr}
 use Rattle.std.proofs.lemmas.Option.{none-some, slice_get_within}
 use Rattle.std.proofs.lemmas.List.{map-append}
-use Rattle.cb_times.specs.declared.name.Name.{Name}
 use Rattle.cb_causality.specs.declared.event.CausalEvent.{CausalEvent}
 use Rattle.cb_causality.specs.declared.event.CausalEvent.TheVariants.{Cast}
 use Rattle.cb_causality.specs.StampedMachine.{without_time, without_times}
@@ -10,7 +9,7 @@ use Rattle.cb_causality.proofs.Counting.{take_whole}
 use Rattle.cb_history.specs.View.{view}
 use Rattle.cb_rooms.specs.Line.{LineFields, IsPayload}
 use Rattle.cb_rooms.specs.Compose.{compose_fault}
-use Rattle.cb_schedules.specs.Schedule.{Setting, IsSetting, Step, CastStep, GroupState, nothing_yet, run_from, run, step_after}
+use Rattle.cb_schedules.specs.Schedule.{Setting, IsSetting, Step, CastStep, GroupState, run_from, run, step_after}
 use Rattle.cb_schedules.specs.Messages.{stamped_lists, causal_lists}
 use Rattle.cb_schedules.specs.Consistent.{IsConsistent}
 use Rattle.cb_schedules.proofs.Courses.{runs_are_consistent}
@@ -18,7 +17,7 @@ use Rattle.cb_schedules.proofs.GoingOn.{runs_go_on}
 use Rattle.cb_schedules.proofs.Headlines.{headline_holds}
 use Rattle.cb_world.specs.World.{WorldState, run_in, and_step}
 use Rattle.confer.specs.Rooms.{view_of, IsAnswer, WasComposed, AnswersWereComposed, QuestionsComeFirst}
-use Rattle.confer.specs.Playing.{ScriptOrder, Takes, Composes, Shows, events_in, view_in, new_group, ComesOf, Plays, NoOrders, OneAndThen, CastsNoAnswer, CastNoAnswers, EachScript}
+use Rattle.confer.specs.Playing.{ScriptOrder, Takes, Composes, Shows, events_in, view_in, new_group, ComesOf, Plays, NoOrders, OneAndThen, CastsNoAnswer, CastNoAnswers}
 use Rattle.confer.proofs.Asking.{no_orphan, shows_all_lines, agree_on_lines}
 use Rattle.confer.proofs.Casting.{goes_on, old_or_cast}
 

@@ -2,8 +2,8 @@
 use Rattle.std.specs.Prelude.{◌≡◌, ◌≢◌, ◌==◌, ◌⊎◌, ℕ, List, [], ◌∷◌, ◌++◌, Option, IfSome, codes, decimal}
 use Rattle.std.specs.Io.KnownBytes.{Appends}
 use Rattle.std.specs.List.{slice_split}
-use Rattle.cb_rooms.specs.Line.{LineFields, SayLine, AnswerLine}
-use Rattle.cb_schedules.specs.Schedule.{Setting, Step, CastStep, ArriveStep, TickStep}
+use Rattle.cb_rooms.specs.Line.{SayLine, AnswerLine}
+use Rattle.cb_schedules.specs.Schedule.{Setting, CastStep, ArriveStep, TickStep}
 use Rattle.confer.specs.Play.{IsPayloadWord}
 use Rattle.confer.specs.Playing.{ScriptOrder, Takes, Composes, Shows, IsRunText}
 

@@ -50,7 +50,12 @@ fn has_part(rt: &impl Abort, bytes: &[u8], part: &str) {
 const NO_COMMANDS: &[(&[&str], &str)] = &[
     (&["confer"], "Usage: confer"),
     (&["confer", "--help"], "Usage: confer"),
+    (&["confer", "--help"], "Exit status: 0 all was done"),
     (&["confer", "expand", "--help"], "--group <G>"),
+    (
+        &["confer", "expand", "--help"],
+        "Reads cast frames of one group",
+    ),
     (&["confer", "juggle"], "juggle"),
     (&["confer", "expand", "--size", "3"], "--group <G>"),
     (&["confer", "expand", "--group", "7"], "--size <N>"),
@@ -71,8 +76,16 @@ const NO_COMMANDS: &[(&[&str], &str)] = &[
         "cannot be used multiple times",
     ),
     (&["confer", "audit", "--help"], "Usage: confer audit"),
+    (
+        &["confer", "audit", "--help"],
+        "Reads the trace of a group's histories",
+    ),
     (&["confer", "audit", "more"], "more"),
     (&["confer", "play", "--help"], "Usage: confer play"),
+    (
+        &["confer", "play", "--help"],
+        "Reads a script from standard input",
+    ),
     (&["confer", "play", "more"], "more"),
     (
         &["confer", "expand", "--group", "7", "--size", "3", "more"],
@@ -105,6 +118,10 @@ const RUN_OPTIONS: &[(&str, &str)] = &[
     ("--link=tcp", "[possible values: channel, udp]"),
     ("--trace=yes", "--trace"),
     ("--help", "--questions <Q>"),
+    (
+        "--help",
+        "Runs a conference in which each member is a thread",
+    ),
     ("more", "more"),
 ];
 
@@ -304,8 +321,9 @@ fn begins_and_ends(rt: &impl Abort, outcome: Outcome, first: &[u8], last: &[u8])
     assert_eq!(rt; status, Some(0));
 }
 
-/// The fault ends a run with this status, and this is said of it.
+/// The fault ends a run with this status, and this is said of it, which is its text behind the program's name.
 fn reports(rt: &impl Abort, alloc: Global, fault: Fault, status: u8, said: &str) {
+    has_text(rt, alloc, &fault, said);
     let mut errors = writing(alloc);
     let reported = report(&fault, &mut errors);
     drop(fault);
@@ -315,6 +333,13 @@ fn reports(rt: &impl Abort, alloc: Global, fault: Fault, status: u8, said: &str)
         said: errors.text,
     };
     outcome.is(rt, status, b"", said);
+}
+
+fn has_text(rt: &impl Abort, alloc: Global, fault: &Fault, said: &str) {
+    let text = format!(in alloc; "confer: {fault}\n").expect(rt, "memory");
+    let is_said = text.as_str() == said;
+    drop(text);
+    assert!(rt; is_said, "{said}");
 }
 
 fn reports_faults_of_words(rt: &impl Abort, alloc: Global) {

@@ -7,7 +7,7 @@ use crate::expand::refusal::Refusal;
 use cb_times::NoMemory;
 use thiserror::Error;
 
-/// Why `confer expand` stopped. What was read and written before stays so.
+/// Why an input was not read to its end, or an output not written. What was read and written before stays so.
 #[derive(Clone, Copy, Debug, PartialEq, Eq, Error)]
 pub enum LinesFault {
     /// The reader answered a fault; a read that was interrupted counts as one.

@@ -1,6 +1,6 @@
 //! What is written for which input.
 
-use crate::expand::{LinesFault, expand_lines};
+use crate::expand::{LinesFault, expand_lines, write_whole};
 use crate::fakes::{joined, reading, run_into, run_on, writing};
 use std::alloc::Global;
 use std::io;
@@ -141,6 +141,30 @@ fn an_interrupted_write_is_tried_again(rt: HostRuntime) {
     output.interrupted = 2;
     let outcome = run_into(rt.alloc(), &WORDS, &mut reading(b"\n00\n"), output);
     outcome.is(&rt, 1, REFUSED, "");
+}
+
+/// Takes nothing at first, and then all that it is given.
+#[derive(Drop)]
+struct Late {
+    is_asked: bool,
+}
+
+impl Write for Late {
+    fn write(&mut self, buf: &[u8]) -> io::Result<usize> {
+        let count = if self.is_asked { buf.len() } else { 0 };
+        self.is_asked = true;
+        Ok(count)
+    }
+
+    fn flush(&mut self) -> io::Result<()> {
+        Ok(())
+    }
+}
+
+#[test]
+fn a_writer_that_takes_nothing_is_a_fault(rt: HostRuntime) {
+    let mut output = Late { is_asked: false };
+    assert_eq!(&rt; write_whole(&mut output, b"hi"), Err(LinesFault::Write));
 }
 
 /// Line feeds around the end of the longest input.

@@ -7,7 +7,6 @@ mod screens;
 
 /// A script, and what `confer play` prints of it.
 pub struct Schedule {
-    pub name: &'static str,
     pub script: &'static str,
     pub text: &'static str,
 }

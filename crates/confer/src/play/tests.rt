@@ -1,5 +1,6 @@
 //! What is printed of which script, and what ends a run.
 
+mod many;
 mod rooms;
 mod traces;
 
@@ -442,10 +443,10 @@ fn the_first_bad_step_is_named(rt: HostRuntime) {
     stops(&rt, alloc, script, 4, "confer: line 3: bad step\n");
     let script = b"group 7 size 2 window 4 history 100\ntick 0\n\n";
     stops(&rt, alloc, script, 4, "confer: line 3: bad step\n");
-    let ticks = "tick 0\n".repeat(alloc, 1000).expect(&rt, "memory");
+    let ticks = "tick 0\n".repeat(alloc, 70_000).expect(&rt, "memory");
     let script = joined(&rt, alloc, &[FIRST, "\n", ticks.as_str(), "tock 0"]);
     drop(ticks);
-    stops_at(&rt, alloc, script, "1002");
+    stops_at(&rt, alloc, script, "70002");
 }
 
 /// What is printed of one tick.

@@ -251,7 +251,8 @@ fn reported<I: Drop, O: Drop>(
     text
 }
 
-fn participants(alloc: Global, setting: RunSetting) -> Result<Vec<Participant>, ThreadFault>
+/// Who talks: a participant for each member, in their order.
+pub fn participants(alloc: Global, setting: RunSetting) -> Result<Vec<Participant>, ThreadFault>
     ensures { IfOk result (λ talkers. length talkers.items ≡ setting.size) }
 {
     let mut talkers = Vec::with_capacity(alloc, setting.size as usize)?;
@@ -295,8 +296,8 @@ fn run_text<I, O>(
     }
 }
 
-/// A line for each member.
-fn lines_of<I, O>(
+/// A line for each member. A worker's fault is the fault of all.
+pub fn lines_of<I, O>(
     alloc: Global,
     reports: &[MemberReport<I, O, Millisecond, Participant>],
 ) -> Result<Vec<u8>, ThreadFault>

@@ -3,6 +3,7 @@
 ghost use Rattle.std.specs.Prelude.{◌≡◌};
 
 use crate::run::participant::Participant;
+use crate::run::running::participants;
 use crate::run::setting::{LinkKind, RunSetting};
 use bytes::Bytes;
 use cb_member::{Event, Message};
@@ -37,17 +38,19 @@ enum Said {
     NothingMore,
 }
 
-/// Who talks for this member where two questions are asked in a group of two.
+/// Two questions are asked in a group of two.
+const SETTING: RunSetting = RunSetting {
+    size: 2,
+    window: 4,
+    questions: 2,
+    turns: 100,
+    link: LinkKind::Channel,
+    trace: false,
+};
+
+/// Who talks for this member.
 fn participant(rt: &impl Abort, alloc: Global, me: u32) -> Participant {
-    let setting = RunSetting {
-        size: 2,
-        window: 4,
-        questions: 2,
-        turns: 100,
-        link: LinkKind::Channel,
-        trace: false,
-    };
-    Participant::new(alloc, setting, me).expect(rt, "memory")
+    Participant::new(alloc, SETTING, me).expect(rt, "memory")
 }
 
 /// So many of the messages, from this one on, as they are delivered.
@@ -112,4 +115,21 @@ fn another_member_answers_each_question_that_it_was_shown(rt: HostRuntime) {
         (3, 1, Said::NothingMore),
     ];
     says(&rt, rt.alloc(), 1, &calls);
+}
+
+/// The participant in this place says this where nothing was cast.
+fn begins_with(rt: &impl Abort, talkers: &mut Vec<Participant>, place: usize, said: Said) {
+    let Some(talker) = talkers.get_mut(place) else {
+        panic!(rt; "there is no participant {place}");
+    };
+    let talk = talker.next(&[]).expect(rt, "memory");
+    assert!(rt; is_said(talk, said), "participant {place}");
+}
+
+#[test]
+fn the_first_participant_asks_and_the_second_does_not(rt: HostRuntime) {
+    let mut talkers = participants(rt.alloc(), SETTING).expect(&rt, "memory");
+    begins_with(&rt, &mut talkers, 0, Said::Casts(QUESTION_1));
+    begins_with(&rt, &mut talkers, 1, Said::Nothing);
+    drop(talkers);
 }

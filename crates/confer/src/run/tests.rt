@@ -2,11 +2,13 @@
 
 use crate::cli::{run_plain, run_words};
 use crate::fakes::{reading, writing};
+use crate::run::fault::ThreadFault;
 use crate::run::participant::Participant;
+use crate::run::running::{Millisecond, lines_of};
 use crate::run::setting::{LinkKind, RunSetting};
 use bytes::Bytes;
 use cb_member::{Event, Message};
-use cb_threads::{Talk, Talker};
+use cb_threads::{MemberReport, Talk, Talker, WorkerFault};
 use cb_times::{Name, VectorTime};
 use std::alloc::Global;
 use std::net::Net;
@@ -203,4 +205,57 @@ fn an_answer_before_its_question_is_an_orphan(rt: HostRuntime) {
     drop(participant);
     assert_eq!(&rt; first, (false, 1));
     assert_eq!(&rt; second, (true, 1));
+}
+
+/// What became of a member: its participant was shown an answer before its question.
+fn report(
+    rt: &impl Abort,
+    alloc: Global,
+    fault: Option<WorkerFault>,
+) -> MemberReport<u8, u8, Millisecond, Participant> {
+    let mut talker = participant(rt, alloc);
+    let orphan = delivered(rt, alloc, 1, b"\x02\x00\x01yes");
+    let _ = answer_to(rt, &mut talker, orphan);
+    MemberReport {
+        casts: 11,
+        deliveries: 12,
+        entries: 13,
+        lost: 14,
+        receive_failures: 15,
+        send_failures: 16,
+        pace_failures: 17,
+        inlet: Some(18),
+        outlet: Some(19),
+        pace: Some(Millisecond),
+        talker: Some(talker),
+        fault,
+    }
+}
+
+#[test]
+fn the_line_of_a_member_says_its_counts(rt: HostRuntime) {
+    let report = report(&rt, rt.alloc(), None);
+    let lines = lines_of(rt.alloc(), slice::from_ref(&report));
+    drop(report);
+    let text = text_in(&rt, lines.expect(&rt, "all workers ran"));
+    let line = "member 0 casts 11 deliveries 12 entries 13 lost 14 orphans 1\n";
+    let is_said = text.as_str() == line;
+    drop(text);
+    assert!(&rt; is_said);
+}
+
+/// Why nothing is printed of a member of which a worker did not run for this fault.
+fn fault_of(rt: &impl Abort, alloc: Global, fault: WorkerFault) -> Option<ThreadFault> {
+    let report = report(rt, alloc, Some(fault));
+    let lines = lines_of(alloc, slice::from_ref(&report));
+    drop(report);
+    lines.err()
+}
+
+#[test]
+fn a_worker_that_did_not_run_leaves_no_lines(rt: HostRuntime) {
+    let no_thread = fault_of(&rt, rt.alloc(), WorkerFault::NoThread);
+    assert!(&rt; matches!(no_thread, Some(ThreadFault::NoThread)));
+    let no_memory = fault_of(&rt, rt.alloc(), WorkerFault::NoMemory);
+    assert!(&rt; matches!(no_memory, Some(ThreadFault::NoMemory)));
 }

@@ -5,7 +5,6 @@
 use crate::play::schedules::Schedule;
 
 const NAMES_THAT_DO_NOT_EXIST: Schedule = Schedule {
-    name: "names_that_do_not_exist",
     script: r#"group 7 size 3 window 4 history 100
 cast 3 00
 arrive 0 9
@@ -33,7 +32,6 @@ member 2 time [0,0,0] stable 0 entries 0
 };
 
 const ONE_MEMBER_ONLY_LISTENS: Schedule = Schedule {
-    name: "one_member_only_listens",
     script: r#"group 7 size 3 window 1 history 100
 cast 0 61
 arrive 1 0
@@ -74,7 +72,6 @@ member 2 time [1,1,0] stable 0 entries 3
 };
 
 const THE_HISTORY_IS_FULL: Schedule = Schedule {
-    name: "the_history_is_full",
     script: r#"group 7 size 3 window 4 history 1
 cast 0 6869
 cast 1 796f
@@ -106,7 +103,6 @@ member 2 time [0,0,0] stable 0 entries 1
 };
 
 const THE_WINDOW_FILLS_AND_OPENS: Schedule = Schedule {
-    name: "the_window_fills_and_opens",
     script: r#"group 7 size 3 window 2 history 100
 cast 0 61
 cast 0 62

@@ -5,7 +5,6 @@
 use crate::play::schedules::Schedule;
 
 const AN_ANSWER_OVERTAKES_ITS_QUESTION: Schedule = Schedule {
-    name: "an_answer_overtakes_its_question",
     script: r#"group 7 size 3 window 4 history 100
 cast 0 6869
 arrive 1 0
@@ -30,7 +29,6 @@ member 2 time [1,1,0] stable 0 entries 2
 };
 
 const FIVE_MEMBERS_IN_A_RING: Schedule = Schedule {
-    name: "five_members_in_a_ring",
     script: r#"group 7 size 5 window 4 history 100
 cast 0 61
 arrive 1 0
@@ -99,7 +97,6 @@ member 4 time [1,1,1,1,1] stable 0 entries 5
 };
 
 const TWO_ANSWER_AT_ONCE: Schedule = Schedule {
-    name: "two_answer_at_once",
     script: r#"group 7 size 3 window 4 history 100
 cast 0 6869
 arrive 1 0
@@ -136,7 +133,6 @@ member 2 time [1,1,1] stable 0 entries 3
 };
 
 const TWO_CASTS_COME_REVERSED: Schedule = Schedule {
-    name: "two_casts_come_reversed",
     script: r#"group 7 size 3 window 4 history 100
 cast 0 6869
 arrive 1 0

@@ -5,7 +5,6 @@
 use crate::play::schedules::Schedule;
 
 const A_FRAME_COMES_AGAIN: Schedule = Schedule {
-    name: "a_frame_comes_again",
     script: r#"group 7 size 2 window 4 history 100
 cast 0 6869
 arrive 1 0
@@ -24,7 +23,6 @@ member 1 time [1,0] stable 0 entries 1
 };
 
 const A_LOSS_AND_ITS_REPAIR: Schedule = Schedule {
-    name: "a_loss_and_its_repair",
     script: r#"group 7 size 3 window 4 history 100
 cast 0 61
 cast 0 62
@@ -71,7 +69,6 @@ member 2 time [4,0,0] stable 0 entries 6
 };
 
 const A_REQUEST_COMES_LATE: Schedule = Schedule {
-    name: "a_request_comes_late",
     script: r#"group 7 size 2 window 4 history 100
 cast 0 61
 cast 0 62
@@ -103,7 +100,6 @@ member 1 time [2,0] stable 0 entries 4
 };
 
 const ALL_IS_LOST_AND_TWO_ROUNDS_REPAIR_IT: Schedule = Schedule {
-    name: "all_is_lost_and_two_rounds_repair_it",
     script: r#"group 7 size 3 window 16 history 100
 cast 0 61
 cast 0 62

@@ -5,7 +5,6 @@
 use crate::play::schedules::Schedule;
 
 const A_SCREEN_SCROLLS: Schedule = Schedule {
-    name: "a_screen_scrolls",
     script: r#"group 7 size 2 window 64 history 100
 say 0 main one
 say 0 main two
@@ -136,7 +135,6 @@ member 1 time [1,0] stable 0 entries 2
 };
 
 const NO_SCREEN_SHOWS_IT_TOO_EARLY: Schedule = Schedule {
-    name: "no_screen_shows_it_too_early",
     script: r#"group 7 size 3 window 4 history 100
 say 0 plan when?
 arrive 1 0
@@ -180,7 +178,6 @@ member 2 time [1,1,0] stable 0 entries 2
 };
 
 const THREE_SCREENS_AGREE: Schedule = Schedule {
-    name: "three_screens_agree",
     script: r#"group 7 size 3 window 4 history 100
 say 0 plan when?
 arrive 1 0
@@ -237,7 +234,6 @@ member 2 time [1,1,1] stable 0 entries 3
 };
 
 const TWO_ROOMS: Schedule = Schedule {
-    name: "two_rooms",
     script: r#"group 7 size 3 window 4 history 100
 say 0 plan when?
 say 1 lunch pizza?

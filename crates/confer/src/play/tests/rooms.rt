@@ -82,6 +82,9 @@ const SAID: &[(&str, &str)] = &[
     ("answer 1 0.2 hi", "refused UnknownQuestion"),
     ("answer 1 1.1 hi", "refused UnknownQuestion"),
     ("answer 1 0.1 \u{7}", "refused BadText"),
+    ("say 2 main hi", "refused NoSuchMember"),
+    ("answer 2 0.1 hi", "refused NoSuchMember"),
+    ("screen 2", "refused NoSuchMember"),
     ("screen 1", "screen 1\n | [main] 0.1 hi"),
 ];
 
