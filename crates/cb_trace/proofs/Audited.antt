@@ -1,5 +1,5 @@
 -- The audit, from the histories in memory to its answer.
-use Rattle.std.proofs.Common.{◌≡◌, ℕ, zero, suc, ◌+◌, ◌<◌, ◌≤◌, List, [], ◌∷◌, length, length-append, map, get_or, Option, Some, None, refl, sym, ap, subst, ◌∙◌, inl, inr, arith}
+use Rattle.std.proofs.Common.{◌≡◌, ℕ, zero, suc, ◌+◌, ◌<◌, ◌≤◌, List, [], ◌∷◌, length, map, get_or, Option, Some, None, refl, sym, ap, subst, ◌∙◌, inl, inr, arith}
 use Rattle.std.specs.Prelude.{slice_get, MatchOption}
 use Rattle.std.proofs.lemmas.Bool.{cases_lt}
 use Rattle.std.specs.Prelude.{bytes_eq, replicate}
@@ -10,10 +10,8 @@ use Rattle.std.proofs.lemmas.Option.{slice_get_past, slice_get_within, slice_get
 use Rattle.cb_causality.proofs.Counting.{get_map}
 use Rattle.cb_history.specs.declared.history.History.{History}
 use Rattle.cb_history.specs.Group.{Parameters, AreParameters, Identity}
-use Rattle.cb_history.specs.Facts.{EntryFields, Fact, entry_fields, facts_of}
+use Rattle.cb_history.specs.Facts.{EntryFields, entry_fields}
 use Rattle.cb_history.specs.Legal.{longest_history, IsLegal}
-use Rattle.cb_history.specs.LegalFacts.{AreLegalFacts, NoFacts, OneFactMore}
-use Rattle.cb_history.proofs.Histories.{legal_histories_say_legal_facts, each_entry_says_one_fact}
 use Rattle.cb_schedules.specs.Schedule.{Setting, IsSetting, run_from}
 use Rattle.cb_schedules.specs.Headline.{Headline}
 use Rattle.cb_schedules.proofs.Headlines.{each_schedule, headline_holds}
