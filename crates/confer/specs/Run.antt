@@ -157,13 +157,6 @@ IsFaultOfGroup groups.NoThread fault = fault ≡ threads.NoThread
 IsFaultOfGroup groups.NoMemory fault = fault ≡ threads.NoMemory
 IsFaultOfGroup (groups.Close member refusal) fault = fault ≡ fault_of_closing refusal
 
--- and the same as a fault of the whole run
-abbrev pub fault_of_threads : ThreadFault → RunFault
-fault_of_threads threads.NoLink = faults.NoLink
-fault_of_threads threads.NoThread = faults.NoThread
-fault_of_threads threads.BadReceipts = faults.BadReceipts
-fault_of_threads threads.NoMemory = faults.NoMemory
-
 -- ---- where it stops
 
 -- a beginning of such a text was written
@@ -176,7 +169,4 @@ pub record PrintsPart (setting : RunSetting) (before now : Option (List ℕ)) : 
 -- what stands written where a conference stops by this fault: nothing, unless its text was being written
 abbrev pub StopsRun : RunSetting → RunFault → Option (List ℕ) → Option (List ℕ) → Type 0
 StopsRun setting faults.Write before now = PrintsPart setting before now
-StopsRun setting faults.NoLink before now = now ≡ before
-StopsRun setting faults.NoThread before now = now ≡ before
-StopsRun setting faults.BadReceipts before now = now ≡ before
-StopsRun setting faults.NoMemory before now = now ≡ before
+StopsRun setting (faults.Threads fault) before now = now ≡ before

@@ -1,5 +1,5 @@
 -- What a participant was shown of its member's messages, and what it says next.
-use Rattle.std.specs.Prelude.{◌≡◌, ◌⊎◌, ℕ, ◌+◌, ◌<◌, ◌≤◌, Bool, ◌&&◌, nat_lt, ◌==◌, if◌then◌else◌, List, [], ◌∷◌, ◌++◌, codes, take, drop, map, filter, fold, min, Option, Some, option_map, slice_get}
+use Rattle.std.specs.Prelude.{◌≡◌, ◌⊎◌, ℕ, ◌+◌, ◌-◌, ◌*◌, ◌^◌, ◌<◌, ◌≤◌, Bool, ◌&&◌, nat_lt, ◌==◌, if◌then◌else◌, List, [], ◌∷◌, ◌++◌, codes, take, drop, map, filter, fold, min, Option, Some, option_map, slice_get}
 use Rattle.std.specs.Fmt.{decimal}
 use Rattle.cb_times.specs.declared.group.TheConstants.{MOST_MEMBERS}
 use Rattle.cb_times.specs.declared.name.Name.{Name}
@@ -14,6 +14,22 @@ use Rattle.cb_rooms.specs.declared.shown.Showing.TheVariants as showings
 use Rattle.cb_threads.specs.declared.talker.Talk.{Talk}
 use Rattle.cb_threads.specs.declared.talker.Talk.TheVariants as talks
 use Rattle.confer.specs.declared.run.participant.Participant.{Participant}
+use Rattle.confer.specs.declared.run.participant.TheConstants.{SCREEN}
+use Rattle.confer.specs.declared.run.setting.RunSetting.{RunSetting}
+
+-- ---- before all turns
+
+-- who talks for a member of a conference, and has said and seen nothing
+pub record Begins (setting : RunSetting) (me : ℕ) (p : Participant) : Type 0 where
+  pub member : p.me ≡ me
+  pub questions_to_cast : p.to_cast ≡ setting.questions
+  pub lines_of_all : p.to_show ≡ min (setting.questions * setting.size) (2 ^ 32 - 1)
+  pub empty : p.conference ≡ held SCREEN []
+  pub none_cast : p.cast ≡ 0
+  pub none_shown : p.shown ≡ 0
+  pub no_orphans : p.orphans ≡ 0
+  pub no_questions : p.questions.items ≡ []
+  pub not_ahead : p.ahead ≡ 0
 
 -- ---- messages that are shown
 

@@ -16,6 +16,6 @@ mod spoken;
 #[cfg(test)]
 mod tests;
 
-pub use fault::RunFault;
+pub use fault::{RunFault, ThreadFault};
 pub use running::run_conference;
 pub use setting::{LinkKind, RunSetting};

@@ -12,6 +12,8 @@ use Rattle.confer.specs.declared.audit.fault.TraceInputFault.{TraceInputFault}
 use Rattle.confer.specs.declared.audit.fault.TraceInputFault.TheVariants as traces
 use Rattle.confer.specs.declared.run.fault.RunFault.{RunFault}
 use Rattle.confer.specs.declared.run.fault.RunFault.TheVariants as runs
+use Rattle.confer.specs.declared.run.fault.ThreadFault.{ThreadFault}
+use Rattle.confer.specs.declared.run.fault.ThreadFault.TheVariants as threads
 use Rattle.confer.specs.declared.cli.fault.Fault.{Fault}
 use Rattle.confer.specs.declared.cli.fault.Fault.TheVariants as faults
 
@@ -33,12 +35,15 @@ abbrev pub trace_status : TraceInputFault → ℕ
 trace_status (traces.Lines fault) = lines_status fault
 trace_status (traces.BadTrace line) = 4
 
+abbrev pub thread_status : ThreadFault → ℕ
+thread_status threads.NoLink = 3
+thread_status threads.NoThread = 3
+thread_status threads.BadReceipts = 3
+thread_status threads.NoMemory = 5
+
 abbrev pub run_status : RunFault → ℕ
 run_status runs.Write = 3
-run_status runs.NoLink = 3
-run_status runs.NoThread = 3
-run_status runs.BadReceipts = 3
-run_status runs.NoMemory = 5
+run_status (runs.Threads fault) = thread_status fault
 
 abbrev pub status_of : Fault → ℕ
 status_of (faults.Words error) = words_status (kind_of error)
@@ -73,12 +78,15 @@ abbrev pub trace_said : TraceInputFault → List ℕ
 trace_said (traces.Lines fault) = lines_said fault
 trace_said (traces.BadTrace line) = bad_line_said line (codes ": bad trace\n")
 
+abbrev pub thread_said : ThreadFault → List ℕ
+thread_said threads.NoLink = codes "confer: no link\n"
+thread_said threads.NoThread = codes "confer: no thread\n"
+thread_said threads.BadReceipts = codes "confer: bad receipts\n"
+thread_said threads.NoMemory = codes "confer: out of memory\n"
+
 abbrev pub run_said : RunFault → List ℕ
 run_said runs.Write = codes "confer: write fault\n"
-run_said runs.NoLink = codes "confer: no link\n"
-run_said runs.NoThread = codes "confer: no thread\n"
-run_said runs.BadReceipts = codes "confer: bad receipts\n"
-run_said runs.NoMemory = codes "confer: out of memory\n"
+run_said (runs.Threads fault) = thread_said fault
 
 abbrev pub said_of : Fault → Option (List ℕ)
 said_of (faults.Words error) = words_said (kind_of error)

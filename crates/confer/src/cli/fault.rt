@@ -1,13 +1,13 @@
 //! Why a run of `confer` did not end as it should, and its exit status then.
 
 ghost use Rattle.std.specs.Prelude.{◌≡◌};
-ghost use Rattle.confer.specs.Cli.Statuses.{words_status, lines_status, script_status, trace_status, run_status, status_of};
+ghost use Rattle.confer.specs.Cli.Statuses.{words_status, lines_status, script_status, trace_status, run_status, thread_status, status_of};
 ghost use Rattle.confer.specs.declared.cli.fault.Fault.TheVariants.{NoMemory as OutOfMemory};
 
 use crate::audit::TraceInputFault;
 use crate::expand::LinesFault;
 use crate::play::ScriptFault;
-use crate::run::RunFault;
+use crate::run::{RunFault, ThreadFault};
 use cb_times::NoMemory;
 use clap::error::ErrorKind;
 use thiserror::Error;
@@ -101,8 +101,17 @@ fn run_status(fault: RunFault) -> u8
     ensures { result ≡ run_status fault }
 {
     match fault {
-        RunFault::Write | RunFault::NoLink | RunFault::NoThread | RunFault::BadReceipts => STREAMS,
-        RunFault::NoMemory => MEMORY,
+        RunFault::Write => STREAMS,
+        RunFault::Threads(fault) => thread_status(fault),
+    }
+}
+
+fn thread_status(fault: ThreadFault) -> u8
+    ensures { result ≡ thread_status fault }
+{
+    match fault {
+        ThreadFault::NoLink | ThreadFault::NoThread | ThreadFault::BadReceipts => STREAMS,
+        ThreadFault::NoMemory => MEMORY,
     }
 }
 

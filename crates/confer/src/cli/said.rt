@@ -3,14 +3,14 @@
 ghost use Rattle.std.specs.Prelude.{◌≡◌, ◌≤◌, ◌++◌, IfSome, drop, length};
 ghost use Rattle.clap.specs.Words.{kind_of};
 ghost use Rattle.confer.specs.Expand.Runs.{WritesPart};
-ghost use Rattle.confer.specs.Cli.Statuses.{words_said, lines_said, bad_line_said, script_said, trace_said, run_said, said_of};
+ghost use Rattle.confer.specs.Cli.Statuses.{words_said, lines_said, bad_line_said, script_said, trace_said, run_said, thread_said, said_of};
 ghost use Rattle.confer.specs.declared.cli.said.TheConstants.{LONGEST_BAD_LINE, LONGEST_END};
 
 use crate::audit::TraceInputFault;
 use crate::cli::fault::Fault;
 use crate::expand::{LinesFault, put_bytes, put_long_number, write_whole};
 use crate::play::ScriptFault;
-use crate::run::RunFault;
+use crate::run::{RunFault, ThreadFault};
 use clap::error::ErrorKind;
 use std::io::Write;
 
@@ -78,10 +78,18 @@ fn run_said(fault: RunFault) -> &'static str
 {
     match fault {
         RunFault::Write => "confer: write fault\n",
-        RunFault::NoLink => "confer: no link\n",
-        RunFault::NoThread => "confer: no thread\n",
-        RunFault::BadReceipts => "confer: bad receipts\n",
-        RunFault::NoMemory => "confer: out of memory\n",
+        RunFault::Threads(fault) => thread_said(fault),
+    }
+}
+
+fn thread_said(fault: ThreadFault) -> &'static str
+    ensures { result.now ≡ thread_said fault }
+{
+    match fault {
+        ThreadFault::NoLink => "confer: no link\n",
+        ThreadFault::NoThread => "confer: no thread\n",
+        ThreadFault::BadReceipts => "confer: bad receipts\n",
+        ThreadFault::NoMemory => "confer: out of memory\n",
     }
 }
 

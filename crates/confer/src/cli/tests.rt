@@ -5,7 +5,7 @@ use crate::cli::{Fault, report};
 use crate::expand::LinesFault;
 use crate::fakes::{Outcome, reading, run_on, run_whole, writing};
 use crate::play::ScriptFault;
-use crate::run::RunFault;
+use crate::run::{RunFault, ThreadFault};
 use std::alloc::Global;
 use std::io::ErrorKind;
 use std::net::Net;
@@ -390,20 +390,28 @@ fn reports_bad_lines(rt: &impl Abort, alloc: Global) {
 fn reports_faults_of_runs(rt: &impl Abort, alloc: Global) {
     let write = RunFault::Write;
     reports(rt, alloc, Fault::Run(write), 3, "confer: write fault\n");
-    let no_link = RunFault::NoLink;
-    reports(rt, alloc, Fault::Run(no_link), 3, "confer: no link\n");
-    let no_thread = RunFault::NoThread;
-    reports(rt, alloc, Fault::Run(no_thread), 3, "confer: no thread\n");
-    let bad_receipts = RunFault::BadReceipts;
+    reports_fault_of_threads(rt, alloc, ThreadFault::NoLink, 3, "confer: no link\n");
+    reports_fault_of_threads(rt, alloc, ThreadFault::NoThread, 3, "confer: no thread\n");
+    let said = "confer: bad receipts\n";
+    reports_fault_of_threads(rt, alloc, ThreadFault::BadReceipts, 3, said);
+    let said = "confer: out of memory\n";
+    reports_fault_of_threads(rt, alloc, ThreadFault::NoMemory, 5, said);
+}
+
+fn reports_fault_of_threads(
+    rt: &impl Abort,
+    alloc: Global,
+    fault: ThreadFault,
+    status: u8,
+    said: &str,
+) {
     reports(
         rt,
         alloc,
-        Fault::Run(bad_receipts),
-        3,
-        "confer: bad receipts\n",
+        Fault::Run(RunFault::Threads(fault)),
+        status,
+        said,
     );
-    let memory = RunFault::NoMemory;
-    reports(rt, alloc, Fault::Run(memory), 5, "confer: out of memory\n");
 }
 
 #[test]

@@ -1,36 +1,15 @@
 //! Why a conference in threads did not run, or could not be printed.
 
-ghost use Rattle.std.specs.Prelude.{◌≡◌, List, Option, ℕ};
-ghost use Rattle.confer.specs.Run.{StopsRun, fault_of_closing, fault_of_link, fault_of_threads, fault_of_worker};
+ghost use Rattle.std.specs.Prelude.{◌≡◌};
+ghost use Rattle.confer.specs.Run.{fault_of_closing, fault_of_link, fault_of_worker};
 ghost use Rattle.confer.specs.declared.run.fault.ThreadFault.TheVariants.{NoMemory as OutOfMemory};
-ghost use Rattle.confer.specs.declared.run.setting.RunSetting.{RunSetting};
 
 use cb_lock::CloseFault;
 use cb_threads::{LinkFault, WorkerFault};
 use std::alloc::{AllocError, AllocFailed};
 use thiserror::Error;
 
-/// Why a conference in threads did not run, or could not be printed.
-#[derive(Clone, Copy, Debug, Error)]
-pub enum RunFault {
-    /// The writer answered an error.
-    #[error("write fault")]
-    Write,
-    /// The links could not be made.
-    #[error("no link")]
-    NoLink,
-    /// A thread could not be started.
-    #[error("no thread")]
-    NoThread,
-    /// The receipts of a member are not those of its history.
-    #[error("bad receipts")]
-    BadReceipts,
-    /// An allocation was refused.
-    #[error("out of memory")]
-    NoMemory,
-}
-
-/// Why a conference in threads left nothing to print: the faults of a run before anything is written.
+/// Why a conference in threads left nothing to print.
 #[derive(Clone, Copy, Debug, Error)]
 pub enum ThreadFault {
     /// The links could not be made.
@@ -47,20 +26,15 @@ pub enum ThreadFault {
     NoMemory,
 }
 
-impl RunFault {
-    /// The fault of a run that has written nothing.
-    pub fn of_threads(fault: ThreadFault) -> RunFault
-        ensures same { result ≡ fault_of_threads fault }
-        ensures stops { (setting : RunSetting) (written : Option (List ℕ))
-            → StopsRun setting result written written }
-    {
-        match fault {
-            ThreadFault::NoLink => RunFault::NoLink,
-            ThreadFault::NoThread => RunFault::NoThread,
-            ThreadFault::BadReceipts => RunFault::BadReceipts,
-            ThreadFault::NoMemory => RunFault::NoMemory,
-        }
-    }
+/// Why a conference in threads did not run, or could not be printed.
+#[derive(Clone, Copy, Debug, Error)]
+pub enum RunFault {
+    /// The writer answered an error.
+    #[error("write fault")]
+    Write,
+    /// There was nothing to write.
+    #[error("{0}")]
+    Threads(ThreadFault),
 }
 
 impl From<AllocError> for ThreadFault {

@@ -3,8 +3,9 @@
 ghost use Rattle.std.specs.Prelude.{◌≡◌, ◌≢◌, ◌<◌, ◌++◌, Decides, IfOk, IfSome, OnOk, OnErr, drop, filter, [], ◌∷◌, vec_len};
 ghost use Rattle.std.specs.Vec.{vec_capacity};
 ghost use Rattle.cb_causality.specs.StampedMachine.{message_of};
+ghost use Rattle.cb_rooms.specs.Conference.{held};
 ghost use Rattle.cb_rooms.specs.Line.{IsName, IsPayload, fields_of};
-ghost use Rattle.confer.specs.Talking.{RoseBy, SawAll, SawFirst, SaysNext, TalksAbout, as_orphan, as_shown, as_shown_to, is_name as has_name, messages_of, question_of};
+ghost use Rattle.confer.specs.Talking.{Begins, RoseBy, SawAll, SawFirst, SaysNext, TalksAbout, as_orphan, as_shown, as_shown_to, is_name as has_name, messages_of, question_of};
 
 use crate::run::setting::RunSetting;
 use cb_member::{Event, Message, NoMemory};
@@ -42,14 +43,12 @@ pub struct Participant {
 
 impl Participant {
     /// Who talks for this member. The only error is out of memory.
-    pub fn new(alloc: Global, setting: RunSetting, me: u32) -> Result<Participant, NoMemory> {
-        let conference = match Conference::new(alloc, SCREEN) {
-            Ok(conference) => conference,
-            Err(ConferenceFault::BadScreen | ConferenceFault::NoMemory) => return Err(AllocError),
-        };
+    pub fn new(alloc: Global, setting: RunSetting, me: u32) -> Result<Participant, NoMemory>
+        ensures { IfOk result (Begins setting me) }
+    {
         Ok(Participant {
             alloc,
-            conference,
+            conference: new_conference(alloc)?,
             me,
             to_cast: setting.questions,
             to_show: setting.questions.saturating_mul(setting.size),
@@ -219,6 +218,16 @@ impl Talker for Participant {
         }
         let is_done = self.cast >= self.to_cast && self.shown >= self.to_show;
         Ok(if is_done { Talk::Finished } else { Talk::Idle })
+    }
+}
+
+fn new_conference(alloc: Global) -> Result<Conference, NoMemory>
+    ensures { IfOk result (λ conference. conference ≡ held SCREEN []) }
+{
+    match Conference::new(alloc, SCREEN) {
+        Ok(conference) => Ok(conference),
+        Err(ConferenceFault::NoMemory) => Err(AllocError),
+        Err(ConferenceFault::BadScreen) => unreachable!("a screen may have 20 lines"),
     }
 }
 

@@ -1,14 +1,19 @@
 //! A conference in threads, from its setting to what is printed of it.
 
-ghost use Rattle.std.specs.Prelude.{◌≡◌, ◌≢◌, ◌++◌, List, None, IfOk, IfErr, OnOk, codes, length, map, true, false};
+ghost use Rattle.std.specs.Prelude.{◌≡◌, ◌≢◌, ◌⊎◌, ◌++◌, List, None, Some, Err, IfOk, IfErr, OnOk, codes, length, map, true, false};
 ghost use Rattle.cb_history.specs.Group.{AreParameters};
 ghost use Rattle.cb_threads.specs.Groups.{AreKept, tally_in};
 ghost use Rattle.cb_threads.specs.Reports.{EachHandsBack};
 ghost use Rattle.cb_threads.specs.declared.group.GroupFault.TheVariants.{BadPlan};
+ghost use Rattle.cb_threads.specs.declared.report.WorkerFault.{WorkerFault};
+ghost use Rattle.cb_trace.specs.Bounds.{AreMixed};
 ghost use Rattle.cb_trace.specs.Text.{HistoryFields, history_fields};
 ghost use Rattle.confer.specs.Audit.{Refuses};
-ghost use Rattle.confer.specs.Run.{EachRan, EndsWithAudit, IsFaultOfGroup, PrintsRun, ShowsOver, ShowsReports, ShowsRun, StopsRun, IsTraceText, done_text, group_of, member_line, report_line, report_lines};
+ghost use Rattle.confer.specs.Run.{EachRan, EndsWithAudit, IsFaultOfGroup, PrintsRun, ShowsOver, ShowsReports, ShowsRun, StopsRun, IsTraceText, done_text, fault_of_worker, group_of, member_line, report_line, report_lines};
 ghost use Rattle.confer.specs.Cli.Orders.{IsRunSetting};
+ghost use Rattle.confer.specs.declared.run.fault.RunFault.TheVariants as run_faults;
+ghost use Rattle.confer.specs.declared.run.fault.ThreadFault.{ThreadFault};
+ghost use Rattle.confer.specs.declared.run.fault.ThreadFault.TheVariants.{NoMemory as OutOfMemory};
 ghost use Rattle.confer.specs.declared.run.setting.RunSetting.{RunSetting};
 
 use crate::audit::{put_parameter, put_refusal};
@@ -88,9 +93,24 @@ pub fn run_conference<R: Threads + Wait + Clock + Net + Sync, W: Write>(
     ensures fault { IfErr result (λ fault. StopsRun setting fault (W.contents output.old)
         (W.contents output.new)) }
 {
-    match run_linked(rt, alloc, setting) {
+    write_run(run_linked(rt, alloc, setting), output)
+}
+
+/// Writes what a conference left to print, or answers why there is nothing. Whether its audit said no.
+fn write_run<W: Write>(run: Result<RunText, ThreadFault>, output: &mut W) -> Result<bool, RunFault>
+    ensures ok { (setting : RunSetting)
+        → IfOk run (λ answer. ShowsRun setting answer.refused answer.text.items)
+        → IfOk result (λ refused. PrintsRun setting refused (W.contents output.old)
+        (W.contents output.new)) }
+    ensures fault { (setting : RunSetting)
+        → IfOk run (λ answer. ShowsRun setting answer.refused answer.text.items)
+        → IfErr result (λ fault. StopsRun setting fault (W.contents output.old)
+        (W.contents output.new)) }
+    ensures nothing { (fault : ThreadFault) → run ≡ Err fault → result ≡ Err (run_faults.Threads fault) }
+{
+    match run {
         Ok(answer) => write_answer(answer, output),
-        Err(fault) => Err(RunFault::of_threads(fault)),
+        Err(fault) => Err(RunFault::Threads(fault)),
     }
 }
 
@@ -193,9 +213,7 @@ fn run_crew<I: Inlet + Send + Drop, O: Outlet + Send + Drop, R: Threads + Wait +
 {
     let Crew { talkers, paces } = crew;
     let group = conference_group(setting);
-    let limits = Limits {
-        turns: u64::from(setting.turns),
-    };
+    let limits = limits_of(setting);
     match run_group(rt, alloc, group, HISTORY_MAX, links, paces, talkers, limits) {
         Ok(report) => reported(alloc, setting, group, report),
         Err(fault) => Err(fault_of(fault)),
@@ -212,6 +230,15 @@ fn conference_group(setting: RunSetting) -> Group
         unreachable!("the setting is within its bounds");
     };
     group
+}
+
+/// How long each worker works at most.
+fn limits_of(setting: RunSetting) -> Limits
+    ensures { result.turns ≡ setting.turns }
+{
+    Limits {
+        turns: u64::from(setting.turns),
+    }
 }
 
 fn fault_of(fault: GroupFault) -> ThreadFault
@@ -313,8 +340,10 @@ pub fn lines_of<I, O>(
 
 /// The trace of these histories.
 fn traced(alloc: Global, histories: &[History]) -> Result<RunText, ThreadFault>
-    ensures { IfOk result (λ answer. IsTraceText (map history_fields histories.now) answer.refused
-        answer.text.items) }
+    ensures text { IfOk result (λ answer. IsTraceText (map history_fields histories.now)
+        answer.refused answer.text.items) }
+    ensures fault { IfErr result (λ fault. (fault ≡ OutOfMemory)
+        ⊎ AreMixed (map history_fields histories.now)) }
 {
     match write_trace(alloc, histories) {
         Ok(text) => Ok(RunText {
@@ -329,8 +358,9 @@ fn traced(alloc: Global, histories: &[History]) -> Result<RunText, ThreadFault>
 
 /// These lines, and one for what the audit of these histories says.
 fn audited(alloc: Global, lines: Vec<u8>, histories: &[History]) -> Result<RunText, ThreadFault>
-    ensures { IfOk result (λ answer. EndsWithAudit lines.items (map history_fields histories.now)
-        answer.refused answer.text.items) }
+    ensures text { IfOk result (λ answer. EndsWithAudit lines.items
+        (map history_fields histories.now) answer.refused answer.text.items) }
+    ensures fault { IfErr result (λ fault. fault ≡ OutOfMemory) }
 {
     match audit(alloc, histories) {
         Ok(_joint) => accepted(lines),
@@ -342,6 +372,7 @@ fn audited(alloc: Global, lines: Vec<u8>, histories: &[History]) -> Result<RunTe
 fn accepted(lines: Vec<u8>) -> Result<RunText, ThreadFault>
     ensures accepted { IfOk result (λ answer. answer.refused ≡ false) }
     ensures text { IfOk result (λ answer. answer.text.items ≡ lines.items ++ codes "audit yes\n") }
+    ensures fault { IfErr result (λ fault. fault ≡ OutOfMemory) }
 {
     let mut text = lines;
     text.extend_from_slice(b"audit yes\n")?;
@@ -352,9 +383,10 @@ fn accepted(lines: Vec<u8>) -> Result<RunText, ThreadFault>
 }
 
 fn refused(lines: Vec<u8>, refusal: AuditFault) -> Result<RunText, ThreadFault>
-    ensures { (histories : List HistoryFields) → Refuses histories refusal
+    ensures text { (histories : List HistoryFields) → Refuses histories refusal
         → IfOk result (λ answer. EndsWithAudit lines.items histories answer.refused
         answer.text.items) }
+    ensures fault { IfErr result (λ fault. fault ≡ OutOfMemory) }
 {
     let mut text = lines;
     text.extend_from_slice(b"audit ")?;
@@ -373,6 +405,8 @@ fn put_line<I, O>(
 ) -> Result<(), ThreadFault>
     ensures line { OnOk result (out.new.items ≡ out.old.items ++ report_line member report.now) }
     ensures ran { OnOk result (report.now.fault ≡ None) }
+    ensures fault { (worker : WorkerFault) → report.now.fault ≡ Some worker
+        → result ≡ Err (fault_of_worker worker) }
 {
     if let Some(fault) = report.fault {
         return Err(ThreadFault::from(fault));

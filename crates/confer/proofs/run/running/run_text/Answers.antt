@@ -18,7 +18,7 @@ returns-then-setting g c =
       ran = c.in_ok-lines.ensures.ran;
       parts = c.requires.parts;
       shows = subst (λ (b : Bool). Shows b (report_lines 0 rs) these answer.refused answer.text.items) (sym c.if-setting.true) h;
-    }) c.traced.ensures
+    }) c.traced.ensures.text
 
 pub returns-else-setting : goal.returns-else-setting
 returns-else-setting g c =
@@ -33,4 +33,4 @@ returns-else-setting g c =
       parts = c.requires.parts;
       shows = subst (λ (b : Bool). Shows b (report_lines 0 rs) these answer.refused answer.text.items) (sym c.if-setting.false)
           (subst (λ (lines : List ℕ). EndsWithAudit lines these answer.refused answer.text.items) c.in_ok-lines.ensures.text h);
-    }) c.audited.ensures
+    }) c.audited.ensures.text
