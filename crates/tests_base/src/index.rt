@@ -323,12 +323,13 @@ impl Pair {
 
 /// One sequence of calls: whether both answered alike all along.
 fn sequence(rt: &impl Abort, alloc: Global, numbers: &mut Numbers) -> bool {
-    let size = 2 + numbers.below(63);
+    let most = 1 + numbers.below(63);
+    let size = 2 + numbers.below(most);
     let stride = (size / (2 + numbers.below(5))).max(1);
     let falls = numbers.below(2) == 0;
     let mut pair = Pair::new(rt, alloc, size);
     let mut alike = true;
-    for _ in 0..16 {
+    for _ in 0..12 {
         let agrees = pair.step(rt, alloc, numbers, stride, falls);
         alike = alike && agrees;
     }
