@@ -1,7 +1,7 @@
 #!/usr/bin/env bash
 # Measures a group of proved members in one thread (`crates/bench_member`) against the same run of a plain Rust program that is written
-# for speed, at three sizes, in order and with frames that are lost or come early. Both must print the same deliveries and digest.
-#   member.sh count      instructions (callgrind), allocations and peak memory (dhat) of a delivery: these repeat from run to run
+# for speed, at some sizes, in order and with frames that are lost or come early. Both must print the same deliveries and digest.
+#   member.sh count      instructions (callgrind), allocations (dhat) and peak memory of a delivery: these repeat from run to run
 #   member.sh count 10   the same with a tenth of the casts
 #   member.sh            processor time, the best of three; a number as the first word divides the casts
 # It wants rustc, python3, for counts valgrind, and the proved program: `rt run` in crates/bench_member leaves it in
@@ -24,6 +24,7 @@ import concurrent.futures, os, re, subprocess, sys
 plain, proved, how, divisor, work = sys.argv[1], sys.argv[2], sys.argv[3], int(sys.argv[4]), sys.argv[5]
 window, payload = 64, 32
 losses = [(0, 0), (50, 10)]
+sizes = {3: 200_000, 8: 96_000, 16: 48_000, 64: 12_800}
 
 
 def words_of(size, casts, lost, early):
@@ -43,52 +44,64 @@ def same(words, said, proved_said):
     return int(said.split()[1])
 
 
+def once(program, words):
+    """What it prints, its processor time in seconds and its peak of memory in bytes."""
+    process = subprocess.Popen([program, *words], stdout=subprocess.PIPE)
+    printed = process.stdout.read().decode()
+    _, status, usage = os.wait4(process.pid, 0)
+    process.returncode = os.waitstatus_to_exitcode(status)
+    if process.returncode != 0:
+        sys.exit(f"{program} {' '.join(words)} ended with {process.returncode}")
+    return printed, usage.ru_utime + usage.ru_stime, 1024 * usage.ru_maxrss
+
+
 def counted(program, words):
-    """What it prints, its instructions, its allocations and its peak of memory in bytes."""
+    """What it prints, its instructions and its allocations."""
     calls = run(["valgrind", "--tool=callgrind", "--callgrind-out-file=/dev/null", program, *words])
     memory = run(["valgrind", "--tool=dhat", "--dhat-out-file=/dev/null", program, *words])
     instructions = int(re.search(r"Collected : (\d+)", calls.stderr)[1])
     allocations = int(re.search(r"Total: .* in ([\d,]+) blocks", memory.stderr)[1].replace(",", ""))
-    peak = int(re.search(r"At t-gmax: ([\d,]+) bytes", memory.stderr)[1].replace(",", ""))
-    return calls.stdout, instructions, allocations, peak
+    return calls.stdout, instructions, allocations
+
+
+def peaks(words):
+    """The peaks of memory of both, and the deliveries of each."""
+    said, _, theirs = once(plain, words)
+    proved_said, _, ours = once(proved, words)
+    return theirs, ours, same(words, said, proved_said)
 
 
 def print_counts():
-    cells = [(size, casts, lost, early) for lost, early in losses for size, casts in [(3, 20_000), (16, 4_800), (64, 1_600)]]
+    # Instructions and allocations of a tenth of the casts: valgrind is slow. The peak is that of all, since the system counts
+    # for a short run what this program had.
+    cells = [(size, casts, lost, early) for lost, early in losses for size, casts in sizes.items()]
+    tenth = {cell: words_of(cell[0], cell[1] // 10, *cell[2:]) for cell in cells}
     with concurrent.futures.ThreadPoolExecutor(os.cpu_count()) as pool:
-        found = {(cell, program): pool.submit(counted, program, words_of(*cell)) for cell in cells for program in [plain, proved]}
+        found = {(cell, program): pool.submit(counted, program, tenth[cell]) for cell in cells for program in [plain, proved]}
     print("                 instructions           allocations            peak, bytes       of a delivery")
     print("size  lost early   plain proved ratio    plain proved ratio    plain proved ratio")
     for cell in cells:
         size, _, lost, early = cell
         ours, theirs = found[cell, proved].result(), found[cell, plain].result()
-        each = 1 / same(words_of(*cell), theirs[0], ours[0])
+        each = 1 / same(tenth[cell], theirs[0], ours[0])
         line = f"{size:4} {lost:5} {early:5} {theirs[1] * each:7.0f} {ours[1] * each:6.0f} {ours[1] / theirs[1]:5.2f}"
         line += f"   {theirs[2] * each:6.2f} {ours[2] * each:6.2f} {ours[2] / theirs[2]:5.2f}"
-        print(line + f"   {theirs[3] * each:6.0f} {ours[3] * each:6.0f} {ours[3] / theirs[3]:5.2f}", flush=True)
+        their_peak, our_peak, deliveries = peaks(words_of(*cell))
+        line += f"   {their_peak / deliveries:6.0f} {our_peak / deliveries:6.0f} {our_peak / their_peak:5.2f}"
+        print(line, flush=True)
 
 
 def timed(program, words):
     """What it prints, its least processor time in seconds and its greatest peak of memory in bytes."""
-    time, peak = None, 0
-    for _ in range(3):
-        process = subprocess.Popen([program, *words], stdout=subprocess.PIPE)
-        printed = process.stdout.read().decode()
-        _, status, usage = os.wait4(process.pid, 0)
-        process.returncode = os.waitstatus_to_exitcode(status)
-        if process.returncode != 0:
-            sys.exit(f"{program} {' '.join(words)} ended with {process.returncode}")
-        spent = usage.ru_utime + usage.ru_stime
-        time = spent if time is None else min(time, spent)
-        peak = max(peak, 1024 * usage.ru_maxrss)
-    return printed, time, peak
+    runs = [once(program, words) for _ in range(3)]
+    return runs[0][0], min(run[1] for run in runs), max(run[2] for run in runs)
 
 
 def print_times():
     print("                      ns for a delivery           bytes for a delivery")
     print("size  lost  early    plain   proved  ratio        plain   proved  ratio")
     for lost, early in losses:
-        for size, casts in [(3, 200_000), (16, 48_000), (64, 12_800)]:
+        for size, casts in sizes.items():
             words = words_of(size, casts, lost, early)
             said, plain_time, plain_peak = timed(plain, words)
             proved_said, proved_time, proved_peak = timed(proved, words)
