@@ -24,7 +24,11 @@ pub fn first_wrong(alloc: Global, history: &History) -> Result<Option<usize>, No
         (map entry_fields history.now.entries.items)) }
 {
     match Member::new(alloc, history.group, history.me, LONGEST_HISTORY) {
-        Ok(mut member) => replay(alloc, &mut member, &history.entries),
+        Ok(mut member) => {
+            let answer = replay(alloc, &mut member, &history.entries);
+            drop(member);
+            answer
+        }
         Err(NewFault::NoMemory) => Err(AllocError),
         Err(_fault) => unreachable!("it is a member of the group"),
     }
