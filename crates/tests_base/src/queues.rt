@@ -172,6 +172,25 @@ fn a_message_is_ready_once_all_before_it_is_delivered(rt: HostRuntime) {
     drop(answer);
 }
 
+/// Of its sender, here the last member, it has to be the next message.
+#[test]
+fn a_later_message_is_not_ready_before_the_next_one(rt: HostRuntime) {
+    let later = Name {
+        sender: 2,
+        number: 2,
+    };
+    let message = message_of(&rt, rt.alloc(), later, 0);
+    for (now, is_ready) in [
+        ([0, 0, 0], false),
+        ([0, 0, 1], true),
+        ([0, 7, 1], true),
+        ([0, 0, 2], false),
+    ] {
+        may_be_delivered(&rt, rt.alloc(), &message, now, is_ready);
+    }
+    drop(message);
+}
+
 fn may_be_delivered(
     rt: &impl Abort,
     alloc: Global,
