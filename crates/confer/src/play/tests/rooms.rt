@@ -110,7 +110,8 @@ const BEHIND: &str = "\nmember 0 time [1,0] stable 0 entries 1\nmember 1 time ";
 
 fn is_composed(rt: &impl Abort, alloc: Global, step: &str, lines: &str) {
     let script = joined(rt, alloc, &[FIRST, "\nsay 0 main hi\narrive 1 0\n", step]);
-    let text = joined(rt, alloc, &[BEFORE, lines, BEHIND, standing(lines), "\n"]);
+    let (before, behind, standing) = (BEFORE, BEHIND, standing(lines));
+    let text = format!(in alloc; "{before}{lines}{behind}{standing}\n").expect(rt, "memory");
     prints_made(rt, alloc, script, text);
 }
 
