@@ -1,24 +1,21 @@
--- How a cast is made from what is kept, and how it enters.
+-- How a cast is made from what is kept, and what is kept of it.
 use Rattle.std.specs.Prelude.{◌≡◌, ◌⊎◌, ℕ, ◌+◌, ◌<◌, ◌≤◌, List, [], ◌∷◌, ◌++◌, length, Result, Ok, Err, IsOk}
-use Rattle.std.specs.FinMap as fin
-use Rattle.std.specs.Vec.{vec_capacity, vec_len}
 use Rattle.cb_frames.specs.declared.frame.TheConstants.{LONGEST_PAYLOAD}
 use Rattle.cb_frames.specs.Fields.{CastFrame}
 use Rattle.cb_frames.specs.Text.{text_of}
 use Rattle.cb_delay.specs.declared.message.Message.{Message}
-use Rattle.cb_delay.specs.declared.message.Event.TheVariants.{Cast}
-use Rattle.cb_stability.specs.Sent as sent
 use Rattle.cb_stability.specs.Sent.{room_of}
 use Rattle.cb_history.specs.declared.answer.CastRefusal.{CastRefusal}
 use Rattle.cb_history.specs.declared.answer.CastRefusal.TheVariants as casts
 use Rattle.cb_history.specs.Group.{Identity}
-use Rattle.cb_history.specs.Facts.{CastEntry, Fact, entry_fields}
+use Rattle.cb_history.specs.Facts.{EntryFields, Fact, OwnCast, facts_of}
 use Rattle.cb_history.specs.View.{counts, view}
-use Rattle.cb_history.specs.Answers.{delivered, next_cast, cast_done}
+use Rattle.cb_history.specs.Answers.{cast_answer, delivered, is_window_full, next_cast}
+use Rattle.cb_history.specs.LegalFacts.{AreFactsOf}
 use Rattle.cb_history.specs.State.{MemberState, answer_to_cast}
-use Rattle.cb_member.specs.declared.cast.Casting.{Casting}
-use Rattle.cb_member.specs.declared.store.Store.{Store}
-use Rattle.cb_member.specs.Store.{held_by, facts_held}
+use Rattle.cb_member.specs.declared.own_cast.Casting.{Casting}
+use Rattle.cb_member.specs.declared.state.State.{State}
+use Rattle.cb_member.specs.State.{IsState, Keeps, OnAll}
 
 -- the member's time with its next cast
 abbrev pub next_time : Identity → List Fact → List ℕ → List ℕ
@@ -35,43 +32,46 @@ next_message seat facts payload = record {
 abbrev pub next_text : Identity → List Fact → List ℕ → List ℕ
 next_text seat facts payload = text_of (CastFrame (next_cast seat facts payload))
 
--- the next cast of this payload, ready to enter
-pub record MakesCasting (seat : Identity) (facts : List Fact) (payload : List ℕ) (casting : Casting) : Type 0 where
-  pub done : casting.done ≡ cast_done seat facts (next_cast seat facts payload)
-  pub message : casting.message ≡ next_message seat facts payload
-  pub entry : entry_fields casting.entry ≡ CastEntry (next_text seat facts payload)
-  pub noted : entry_fields casting.noted ≡ CastEntry (next_text seat facts payload)
-  pub sent : casting.sent ≡ next_text seat facts payload
-
--- nothing refuses the cast, and there is room in the sent window and in the history
-pub record CanCast (seat : Identity) (limit : ℕ) (store : Store) (payload : List ℕ) : Type 0 where
+-- nothing refuses the payload, and there is room in the sent window
+pub record CanCast (state : State) (payload : List ℕ) : Type 0 where
   pub short : length payload ≤ LONGEST_PAYLOAD
-  pub room : 0 < room_of store.sending.window
-  pub entries : length store.entries.items < limit
-  pub answer : answer_to_cast (held_by seat limit store) payload ≡ Ok (next_cast seat (facts_held store) payload)
+  pub room : 0 < room_of state.sending.window
+
+-- the payload is refused so, whatever the history's limit
+abbrev pub RefusesPayload : Identity → List Fact → List ℕ → CastRefusal → Type 0
+RefusesPayload seat facts payload refusal =
+    (limit : ℕ) (entries : List EntryFields) → facts_of entries ≡ facts → cast_answer seat limit entries payload ≡ Err refusal
 
 -- whether the payload can be cast, and if not, why
-abbrev pub IsJudged : Identity → ℕ → Store → List ℕ → Result (Unit {0}) CastRefusal → Type 0
-IsJudged seat limit store payload (Ok done) = CanCast seat limit store payload
-IsJudged seat limit store payload (Err refusal) = answer_to_cast (held_by seat limit store) payload ≡ Err refusal
+abbrev pub JudgesPayload : State → List ℕ → Result (Unit {0}) CastRefusal → Type 0
+JudgesPayload state payload (Ok done) = CanCast state payload
+JudgesPayload state payload (Err refusal) = OnAll state (λ facts. RefusesPayload state.seat facts payload refusal)
 
--- there is room for it, and its time has as many fields as those that it is to replace
-pub record CanEnter (casting : Casting) (store : Store) : Type 0 where
-  pub time : length casting.message.time ≡ length store.delivery.time
-  pub last_cast : length casting.message.time ≡ length store.sending.last_cast
-  pub room : 0 < room_of store.sending.window
-  pub events : vec_len store.delivery.events + 1 ≤ vec_capacity store.delivery.events
-  pub entries : vec_len store.entries + 1 ≤ vec_capacity store.entries
+-- the next cast of this payload on these facts
+pub record IsCasting (seat : Identity) (facts : List Fact) (payload : List ℕ) (casting : Casting) : Type 0 where
+  pub message : casting.message ≡ next_message seat facts payload
+  pub out : casting.out ≡ next_text seat facts payload
+  pub sent : casting.sent ≡ next_text seat facts payload
 
--- its time is the member's and that of the last cast; its event, its entry and its frame are kept; nothing else has changed
-pub record HasEntered (casting : Casting) (old new : Store) : Type 0 where
-  pub entries : new.entries.items ≡ old.entries.items ++ casting.entry ∷ []
-  pub events : new.delivery.events.items ≡ old.delivery.events.items ++ Cast casting.message ∷ []
-  pub delivery : new.delivery ≡ record old.delivery { time = casting.message.time; events = new.delivery.events }
-  pub window : sent.Keeps old.sending.window new.sending.window (old.sending.window.put + 1) (fin.insert old.sending.window.kept (old.sending.window.put + 1) casting.sent)
-  pub sending : new.sending ≡ record old.sending { window = new.sending.window; last_cast = casting.message.time }
-  pub reception : new.reception ≡ old.reception
-  pub knowledge : new.knowledge ≡ old.knowledge
+abbrev pub MakesCasting : State → List ℕ → Casting → Type 0
+MakesCasting state payload casting = OnAll state (λ facts. IsCasting state.seat facts payload casting)
+
+-- nothing has changed but what is left of the block for frames
+abbrev pub IsSameButBlock : State → State → Type 0
+IsSameButBlock old new = new ≡ record old { block = new.block }
+
+-- there is room in the sent window, and this is the time and the frame of the next cast
+pub record CanKeepCast (time sent : List ℕ) (state : State) : Type 0 where
+  pub state_is : IsState state
+  pub room : 0 < room_of state.sending.window
+  pub size : length time ≡ state.seat.group.size
+
+-- the cast is kept with whatever was
+pub record HasKept (time sent : List ℕ) (old new : State) : Type 0 where
+  pub seat : new.seat ≡ old.seat
+  pub keeps : (facts : List Fact) (payload : List ℕ) → AreFactsOf old.seat (facts ++ OwnCast (next_cast old.seat facts payload) ∷ [])
+      → Keeps facts old → time ≡ next_time old.seat facts payload → sent ≡ next_text old.seat facts payload
+      → Keeps (facts ++ OwnCast (next_cast old.seat facts payload) ∷ []) new
 
 -- the refusal is that of the definition; out of memory stands only in place of a cast
 abbrev pub RefusesExactly : MemberState → List ℕ → CastRefusal → Type 0

@@ -1,7 +1,9 @@
 -- What a member knows of the others.
-use Rattle.std.specs.Prelude.{◌≡◌, ◌≢◌, ℕ, ◌<◌, ◌==◌, nat_lt, true, max, List, length, filter, map, replicate}
+use Rattle.std.specs.Prelude.{◌≡◌, ◌≢◌, ℕ, ◌<◌, ◌==◌, nat_lt, true, max, List, [], ◌∷◌, length, filter, map, replicate}
 use Rattle.std.specs.List.{list_all}
 use Rattle.cb_times.specs.Order.{field}
+use Rattle.cb_delay.specs.declared.message.Event.{Event}
+use Rattle.cb_delay.specs.declared.message.Event.TheVariants.{Cast, Deliver}
 use Rattle.cb_delay.specs.declared.message.Message.{Message}
 use Rattle.cb_frames.specs.declared.frame.Change.{Change}
 use Rattle.cb_frames.specs.Fields.{StatusFields}
@@ -28,6 +30,12 @@ pub record KnowsFacts (seat : Identity) (facts : List Fact) (k : Knowledge) : Ty
 pub record HasTimeOf (size : ℕ) (message : Message) : Type 0 where
   pub sender : message.name.sender < size
   pub time : length message.time ≡ size
+
+-- the messages that are delivered by these events
+abbrev pub delivered_by : List Event → List Message
+delivered_by [] = []
+delivered_by (Deliver m ∷ events) = m ∷ delivered_by events
+delivered_by (Cast m ∷ events) = delivered_by events
 
 -- how many casts of member me the senders of these messages had delivered, where member k is the sender
 abbrev pub reported_in : ℕ → List Message → ℕ → List ℕ

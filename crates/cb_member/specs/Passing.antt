@@ -1,89 +1,80 @@
--- A cast of another member that comes in order: it is expanded as soon as it is there, and delivered at once where nothing waits. It is as
--- if it had been kept and taken out, held and released.
-use Rattle.std.specs.Prelude.{◌≡◌, ℕ, ◌+◌, ◌≤◌, List, [], ◌∷◌, ◌++◌, length, Some, slice_get}
+-- A cast of another member that comes in order: it is expanded as soon as it is there. It is as if it had been kept and taken out.
+-- Where its message may be delivered, and nothing else then, it is as if it had been held and released.
+use Rattle.std.specs.Prelude.{◌≡◌, ℕ, ◌<◌, List, [], ◌∷◌, ◌++◌, length, Some, slice_get}
 use Rattle.std.specs.FinMap as fin
-use Rattle.std.specs.Vec.{vec_capacity, vec_len}
 use Rattle.cb_times.specs.Order.{field}
 use Rattle.cb_frames.specs.Fields.{CastFields, first_number}
 use Rattle.cb_delay.specs.declared.message.Message.{Message}
+use Rattle.cb_delay.specs.declared.message.Event.{Event}
 use Rattle.cb_delay.specs.Queue.{Holds, IsDelayQueue}
 use Rattle.cb_delay.specs.Rule.{IsReady}
-use Rattle.cb_gaps.specs.Buffer.{Buffer, Passes}
+use Rattle.cb_diffs.specs.Expansion.{IsGrown, time_of}
+use Rattle.cb_gaps.specs.Buffer as gaps
+use Rattle.cb_gaps.specs.Buffer.{Buffer}
 use Rattle.cb_history.specs.Group.{Identity}
 use Rattle.cb_history.specs.Facts.{Fact, CastReceived}
 use Rattle.cb_history.specs.LegalFacts.{AreFactsOf}
 use Rattle.cb_member.specs.declared.delivery.Delivery.{Delivery}
-use Rattle.cb_member.specs.declared.reception.Spare.{Spare}
 use Rattle.cb_member.specs.declared.reception.Reception.{Reception}
-use Rattle.cb_member.specs.declared.store.Store.{Store}
-use Rattle.cb_member.specs.Delivery.{IsWaiting, Drains}
-use Rattle.cb_member.specs.Reception.{IsSpareFor, HasReceivedAll}
-use Rattle.cb_member.specs.Taking.{CanKeep, KeepsCast, ExpandsNext, HasNoNextOf, HasTurn, TakesInCast}
+use Rattle.cb_member.specs.Delivery.{Drains, LeavesWaiting}
+use Rattle.cb_member.specs.Reception.{HasReceivedAll}
+use Rattle.cb_member.specs.Taking.{CanKeep, KeepsCast, ExpandsNext, HasNoNextOf, HasTurn, reported}
 
 -- ---- expanded as soon as it is there
 
 -- the sender's cast of this number is the next one, and none of the sender's waits
-pub record LetsPass (sender number : ℕ) (r : Reception) : Type 0 where
+pub record IsInOrder (sender number : ℕ) (r : Reception) : Type 0 where
   pub buffer : Buffer
   pub at : slice_get r.buffers.items sender ≡ Some buffer
-  pub passes : Passes buffer number
+  pub in_order : gaps.IsInOrder buffer number
 
--- the cast may follow some facts, of which all that is expanded was taken, and passes; the spare is for it
-pub record CanPass (c : CastFields) (spare : Spare) (r : Reception) : Type 0 where
+-- the cast may follow some facts, of which all that is expanded was taken, and comes in order
+pub record CanTakeInOrder (c : CastFields) (r : Reception) : Type 0 where
   pub seat : Identity
   pub facts : List Fact
   pub delivered : ℕ
   pub legal : AreFactsOf seat (facts ++ CastReceived c ∷ [])
   pub received : HasReceivedAll seat facts r
   pub can_keep : CanKeep delivered c r
-  pub spare_for : IsSpareFor seat.group.size c spare
-  pub place : vec_len r.spares + 1 ≤ vec_capacity r.spares
-  pub lets_pass : LetsPass c.sender (first_number c) r
+  pub in_order : IsInOrder c.sender (first_number c) r
 
--- as if it had been kept, and been taken out then, with none behind it
-pub record PassesCast (c : CastFields) (spare : Spare) (old new : Reception) (messages : Message × Message) : Type 0 where
+-- and this is its time
+pub record TakesAt (c : CastFields) (time : List ℕ) (r : Reception) : Type 0 where
+  pub can : CanTakeInOrder c r
+  pub grown : IsGrown (time_of r.expander c.sender) c time
+
+-- its message, where this is its time
+abbrev pub message_at : CastFields → List ℕ → Message
+message_at c time = reported c time c.payload
+
+-- as if it had been kept with some spare, and been taken out then, with none behind it
+pub record TakesInOrder (c : CastFields) (old new : Reception) (message : Message) : Type 0 where
   pub between : Reception
+  pub spare : List ℕ
   pub keeps : KeepsCast c spare old between
-  pub expands : ExpandsNext c.sender between new messages
+  pub size : length spare ≡ length old.expander
+  pub expands : ExpandsNext c.sender between new message
   pub none : HasNoNextOf c.sender new new
 
--- ---- delivered at once
+-- ---- delivered alone
 
--- both queues can hold the message next
-pub record HaveTurn (d : Delivery) (message copy : Message) : Type 0 where
-  pub same_name : copy.name ≡ message.name
-  pub message_has : HasTurn d.queue message
-  pub copy_has : HasTurn d.copies copy
-  pub fits : length d.time ≡ d.queue.size
-
--- both hold it
-pub record HoldsBoth (old : Delivery) (message copy : Message) (new : Delivery) : Type 0 where
-  pub time : new.time ≡ old.time
-  pub events : new.events ≡ old.events
-  pub queue : Holds old.queue new.queue (fin.insert old.queue.held message.name message)
-  pub copies : Holds old.copies new.copies (fin.insert old.copies.held copy.name copy)
-
--- once both hold it, it waits on the way of some walk
-abbrev pub IsWaitingWith : Delivery → Message → Message → Type 0
-IsWaitingWith d message copy = (held : Delivery) → IsDelayQueue d.queue → HoldsBoth d message copy held → IsWaiting held
-
--- nothing waits, and the message may be delivered
+-- the queue can hold it next, it may be delivered, and nothing else may, then or before
 pub record IsAlone (message : Message) (d : Delivery) : Type 0 where
-  pub none : d.queue.held ≡ fin.empty
-  pub no_copies : d.copies.held ≡ fin.empty
+  pub turn : HasTurn d.queue message
+  pub is_queue : IsDelayQueue d.queue
+  pub fits : length message.time ≡ length d.time
+  pub sender : message.name.sender < length d.time
   pub ready : IsReady message.name.sender (field message.time) (field d.time)
+  pub leaves : LeavesWaiting message.name.sender d
 
--- as if both had held it, and what was ready had been delivered then
-pub record PutsThrough (message copy : Message) (old new : Delivery) (before after : List Message) : Type 0 where
-  pub held : Delivery
+-- the queue holds the message as well
+pub record HoldsIt (old : Delivery) (message : Message) (new : Delivery) : Type 0 where
+  pub time : new.time ≡ old.time
   pub is_queue : IsDelayQueue old.queue
-  pub holds : HoldsBoth old message copy held
+  pub queue : Holds old.queue new.queue (fin.insert old.queue.held message.name message)
+
+-- as if it had been held, and what was ready had been delivered then
+pub record DeliversAlone (message : Message) (old new : Delivery) (before after : List Event) : Type 0 where
+  pub held : Delivery
+  pub holds : HoldsIt old message held
   pub drains : Drains held new before after
-
--- ---- the whole
-
--- as if the cast had been taken in, and what was ready had been delivered then
-pub record TakesAndDelivers (c : CastFields) (old new : Store) (messages : List Message) : Type 0 where
-  pub waits : Delivery
-  pub takes_in : TakesInCast c old (record new { delivery = waits })
-  pub drains : Drains waits new.delivery [] messages

@@ -18,12 +18,11 @@ use Rattle.cb_history.specs.NameLaws.{IsOneOf}
 use Rattle.cb_history.specs.LegalFacts.{AreFactsOf}
 use Rattle.cb_history.specs.WaitingLaws.{HoldsTakenOf}
 use Rattle.cb_member.specs.declared.knowledge.Knowledge.{Knowledge}
-use Rattle.cb_member.specs.declared.reception.Spare.{Spare}
 use Rattle.cb_member.specs.declared.reception.Reception.{Reception}
-use Rattle.cb_member.specs.declared.store.Store.{Store}
-use Rattle.cb_member.specs.Delivery.{HasWindow, Waits}
-use Rattle.cb_member.specs.Reception.{IsSpareFor, HasReceived, HasReceivedAll}
-use Rattle.cb_member.specs.Store.{Keeps}
+use Rattle.cb_member.specs.declared.state.State.{State}
+use Rattle.cb_member.specs.Delivery.{Waits}
+use Rattle.cb_member.specs.Reception.{HasReceived, HasReceivedAll, HasPlaceFor}
+use Rattle.cb_member.specs.State.{Keeps}
 
 -- ---- the cast is kept
 
@@ -35,10 +34,10 @@ pub record CanKeep (delivered : ℕ) (c : CastFields) (r : Reception) : Type 0 w
   pub is_kept : Admits buffer delivered (first_number c) (last_number c) Kept
 
 -- with the cast among the facts just as much of them was taken as before
-abbrev pub KeepsCast : CastFields → Spare → Reception → Reception → Type 0
+abbrev pub KeepsCast : CastFields → List ℕ → Reception → Reception → Type 0
 KeepsCast c spare old new =
     (seat : Identity) (facts : List Fact) → AreFactsOf seat (facts ++ CastReceived c ∷ [])
-    → HasReceivedAll seat facts old → IsSpareFor seat.group.size c spare
+    → HasReceivedAll seat facts old → length spare ≡ seat.group.size
     → HasReceived seat (facts ++ CastReceived c ∷ []) (expanded_count (casts_in facts)) new
 
 -- the greatest number that was heard of this sender is at least this one, and nothing else has changed
@@ -76,20 +75,19 @@ pub record IsNextOf (casts : List CastFields) (sender taken : ℕ) (m : Carried)
   pub of_sender : m.sender ≡ sender
   pub next : m.number ≡ taken + 1
 
--- that message, twice, and then one more was taken of these facts
-pub record IsNextTwice (seat : Identity) (facts : List Fact) (sender : ℕ) (taken : ℕ → ℕ) (new : Reception)
-    (messages : Message × Message) : Type 0 where
+-- that message, and then one more was taken of these facts
+pub record IsNextMessage (seat : Identity) (facts : List Fact) (sender : ℕ) (taken : ℕ → ℕ) (new : Reception)
+    (message : Message) : Type 0 where
   pub carried : Carried
   pub next : IsNextOf (casts_in facts) sender (taken sender) carried
-  pub message : messages.0 ≡ message_in seat.group.size (casts_in facts) carried
-  pub copy : messages.1 ≡ message_in seat.group.size (casts_in facts) carried
+  pub message_is : message ≡ message_in seat.group.size (casts_in facts) carried
   pub received : HasReceived seat facts (one_more taken sender) new
 
 -- so it is on all facts of which it received so much
-abbrev pub ExpandsNext : ℕ → Reception → Reception → Message × Message → Type 0
-ExpandsNext sender old new messages =
+abbrev pub ExpandsNext : ℕ → Reception → Reception → Message → Type 0
+ExpandsNext sender old new message =
     (seat : Identity) (facts : List Fact) (taken : ℕ → ℕ) → AreFactsOf seat facts → sender ≢ seat.me
-    → HasReceived seat facts taken old → IsNextTwice seat facts sender taken new messages
+    → HasReceived seat facts taken old → IsNextMessage seat facts sender taken new message
 
 -- all that is expanded of the sender was taken, and nothing has changed
 abbrev pub HasNoNextOf : ℕ → Reception → Reception → Type 0
@@ -102,12 +100,11 @@ HasNoNextOf sender old new =
 abbrev pub reported : CastFields → List ℕ → List ℕ → Message
 reported c time payload = record { name = record { sender = c.sender; number = first_number c }; time = time; payload = payload }
 
--- the cast was expanded, and the messages are those of the time that was computed
-pub record TellsTwice (c : CastFields) (payload : List ℕ) (old new : List (List ℕ)) (messages : Message × Message) : Type 0 where
+-- the cast was expanded, and the message has the time that was computed
+pub record Tells (c : CastFields) (old new : List (List ℕ)) (message : Message) : Type 0 where
   pub time : List ℕ
   pub expands : Expands old c time new
-  pub message : messages.0 ≡ reported c time c.payload
-  pub copy : messages.1 ≡ reported c time payload
+  pub message_is : message ≡ reported c time c.payload
 
 -- ---- as long as there is a next one
 
@@ -128,30 +125,27 @@ HoldsSoMany seat facts c taken queue =
     HoldsTakenOf seat.group.size (casts_in (facts ++ CastReceived c ∷ [])) (view seat.group.size facts) c.sender taken queue
 
 -- with the cast among the facts so many of its sender are taken, expanded and held
-pub record TakesIn (seat : Identity) (facts : List Fact) (c : CastFields) (taken : ℕ) (store : Store) : Type 0 where
-  pub legal : AreFactsOf seat (facts ++ CastReceived c ∷ [])
+pub record TakesIn (facts : List Fact) (c : CastFields) (taken : ℕ) (state : State) : Type 0 where
+  pub legal : AreFactsOf state.seat (facts ++ CastReceived c ∷ [])
   pub at_least : expanded_count (casts_in facts) c.sender ≤ taken
-  pub received : HasReceived seat (facts ++ CastReceived c ∷ []) (taken_with facts c taken) store.reception
-  pub queue : HoldsSoMany seat facts c taken store.delivery.queue
-  pub copies : HoldsSoMany seat facts c taken store.delivery.copies
-  pub windows : HasWindow seat.group.window store.delivery
-  pub fields : length store.knowledge.known ≡ seat.group.size
-  pub heard : (i : ℕ) → i < seat.group.size → i ≢ seat.me → field store.knowledge.known i ≡ heard_with facts c taken i
+  pub received : HasReceived state.seat (facts ++ CastReceived c ∷ []) (taken_with facts c taken) state.reception
+  pub queue : HoldsSoMany state.seat facts c taken state.delivery.queue
+  pub window : state.delivery.queue.window ≡ state.seat.group.window
+  pub fields : length state.knowledge.known ≡ state.seat.group.size
+  pub heard : (i : ℕ) → i < state.seat.group.size → i ≢ state.seat.me → field state.knowledge.known i ≡ heard_with facts c taken i
 
 -- a cast of this sender is taken in
-pub record IsTakingIn (sender : ℕ) (store : Store) : Type 0 where
-  pub seat : Identity
+pub record IsTakingIn (sender : ℕ) (state : State) : Type 0 where
   pub facts : List Fact
   pub cast : CastFields
   pub taken : ℕ
   pub of_sender : cast.sender ≡ sender
-  pub takes : TakesIn seat facts cast taken store
+  pub takes : TakesIn facts cast taken state
 
--- the history, the deliveries so far, what was sent and what is acknowledged are as they were
-pub record OnlyTakesIn (old new : Store) : Type 0 where
-  pub entries : new.entries ≡ old.entries
+-- the deliveries so far, what was sent and what is acknowledged are as they were
+pub record OnlyTakesIn (old new : State) : Type 0 where
+  pub seat : new.seat ≡ old.seat
   pub time : new.delivery.time ≡ old.delivery.time
-  pub events : new.delivery.events ≡ old.delivery.events
   pub acks : new.knowledge.acks ≡ old.knowledge.acks
   pub sending : new.sending ≡ old.sending
 
@@ -162,53 +156,56 @@ HasTurn queue message =
     → IsOfGroup queue.size message × (count_of queue message.name.sender < queue.window) × FollowsLast queue message.name
 
 -- this many more messages are held
-abbrev pub HoldsMore : ℕ → Store → Store → Type 0
+abbrev pub HoldsMore : ℕ → State → State → Type 0
 HoldsMore count old new = fin.len new.delivery.queue.held ≡ fin.len old.delivery.queue.held + count
 
 -- no fewer are taken than were, and so many more are held
-pub record TakesSome (seat : Identity) (facts : List Fact) (c : CastFields) (taken : ℕ) (old new : Store) : Type 0 where
+pub record TakesSome (facts : List Fact) (c : CastFields) (taken : ℕ) (old new : State) : Type 0 where
   pub now_taken : ℕ
   pub no_fewer : taken ≤ now_taken
-  pub takes : TakesIn seat facts c now_taken new
+  pub takes : TakesIn facts c now_taken new
   pub held : HoldsMore (now_taken - taken) old new
 
-abbrev pub TakesSoFar : ℕ → Store → Store → Type 0
+abbrev pub TakesSoFar : ℕ → State → State → Type 0
 TakesSoFar sender old new =
-    (seat : Identity) (facts : List Fact) (c : CastFields) (taken : ℕ) → c.sender ≡ sender
-    → TakesIn seat facts c taken old → TakesSome seat facts c taken old new
+    (facts : List Fact) (c : CastFields) (taken : ℕ) → c.sender ≡ sender
+    → TakesIn facts c taken old → TakesSome facts c taken old new
 
 -- all that the cast lets be expanded was taken
-pub record TakesAllOf (seat : Identity) (facts : List Fact) (c : CastFields) (taken : ℕ) (old new : Store) : Type 0 where
-  pub takes : TakesIn seat facts c (expanded_count (casts_in (facts ++ CastReceived c ∷ [])) c.sender) new
+pub record TakesAllOf (facts : List Fact) (c : CastFields) (taken : ℕ) (old new : State) : Type 0 where
+  pub takes : TakesIn facts c (expanded_count (casts_in (facts ++ CastReceived c ∷ [])) c.sender) new
   pub held : HoldsMore (expanded_count (casts_in (facts ++ CastReceived c ∷ [])) c.sender - taken) old new
 
-abbrev pub TakesAll : ℕ → Store → Store → Type 0
+abbrev pub TakesAll : ℕ → State → State → Type 0
 TakesAll sender old new =
-    (seat : Identity) (facts : List Fact) (c : CastFields) (taken : ℕ) → c.sender ≡ sender
-    → TakesIn seat facts c taken old → TakesAllOf seat facts c taken old new
+    (facts : List Fact) (c : CastFields) (taken : ℕ) → c.sender ≡ sender
+    → TakesIn facts c taken old → TakesAllOf facts c taken old new
 
 -- ---- the whole
 
--- the store keeps what some facts say, which the cast may follow, its sender's buffer can keep it, and the spare is for it
-pub record CanTakeIn (delivered : ℕ) (c : CastFields) (spare : Spare) (store : Store) : Type 0 where
-  pub seat : Identity
+-- the state keeps what some facts say, which the cast may follow, and its sender's buffer can keep it
+pub record CanFollow (c : CastFields) (state : State) : Type 0 where
   pub facts : List Fact
-  pub legal : AreFactsOf seat (facts ++ CastReceived c ∷ [])
-  pub keeps : Keeps seat facts store
-  pub can_keep : CanKeep delivered c store.reception
-  pub spare_for : IsSpareFor seat.group.size c spare
+  pub legal : AreFactsOf state.seat (facts ++ CastReceived c ∷ [])
+  pub keeps : Keeps facts state
+  pub can_keep : CanKeep (field state.delivery.time c.sender) c state.reception
+
+-- and there is place for a spare of the group's size
+pub record CanTakeIn (c : CastFields) (spare : List ℕ) (state : State) : Type 0 where
+  pub can : CanFollow c state
+  pub size : length spare ≡ state.seat.group.size
+  pub place : HasPlaceFor c.sender state.reception
 
 -- With the cast among the facts, but nothing delivered by it: it is received, what is expanded waits, and what it says is known.
-pub record HasTakenIn (seat : Identity) (facts : List Fact) (c : CastFields) (old new : Store) : Type 0 where
-  pub received : HasReceivedAll seat (facts ++ CastReceived c ∷ []) new.reception
-  pub waits : Waits seat.group.size (casts_in (facts ++ CastReceived c ∷ [])) (view seat.group.size facts) new.delivery
-  pub windows : HasWindow seat.group.window new.delivery
-  pub fields : length new.knowledge.known ≡ seat.group.size
-  pub heard : (i : ℕ) → i < seat.group.size → i ≢ seat.me → field new.knowledge.known i ≡ known (facts ++ CastReceived c ∷ []) i
+pub record HasTakenIn (facts : List Fact) (c : CastFields) (old new : State) : Type 0 where
+  pub received : HasReceivedAll old.seat (facts ++ CastReceived c ∷ []) new.reception
+  pub waits : Waits old.seat.group.size (casts_in (facts ++ CastReceived c ∷ [])) (view old.seat.group.size facts) new.delivery
+  pub window : new.delivery.queue.window ≡ old.seat.group.window
+  pub fields : length new.knowledge.known ≡ old.seat.group.size
+  pub heard : (i : ℕ) → i < old.seat.group.size → i ≢ old.seat.me → field new.knowledge.known i ≡ known (facts ++ CastReceived c ∷ []) i
   pub held : HoldsMore (expanded_count (casts_in (facts ++ CastReceived c ∷ [])) c.sender - expanded_count (casts_in facts) c.sender) old new
 
--- so it is on all facts that the store kept
-pub record TakesInCast (c : CastFields) (old new : Store) : Type 0 where
-  pub takes_in : (seat : Identity) (facts : List Fact) → AreFactsOf seat (facts ++ CastReceived c ∷ []) → Keeps seat facts old
-      → HasTakenIn seat facts c old new
+-- so it is on all facts that the state kept
+pub record TakesInCast (c : CastFields) (old new : State) : Type 0 where
+  pub takes_in : (facts : List Fact) → AreFactsOf old.seat (facts ++ CastReceived c ∷ []) → Keeps facts old → HasTakenIn facts c old new
   pub only : OnlyTakesIn old new

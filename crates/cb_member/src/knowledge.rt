@@ -5,10 +5,10 @@ ghost use Rattle.std.specs.List.{All};
 ghost use Rattle.cb_times.specs.Group.{IsGroupSize};
 ghost use Rattle.cb_frames.specs.Fields.{status_fields};
 ghost use Rattle.cb_history.specs.Known.{value_in};
-ghost use Rattle.cb_member.specs.Knowledge.{AreValuesOf, IsNewKnowledge, IsRaisedBy, HasTimeOf, LearnsAll, HearsStatus};
+ghost use Rattle.cb_member.specs.Knowledge.{AreValuesOf, IsNewKnowledge, IsRaisedBy, HasTimeOf, LearnsAll, HearsStatus, delivered_by};
 ghost use Rattle.cb_member.specs.Taking.{Hears};
 
-use cb_delay::Message;
+use cb_delay::Event;
 use cb_frames::{Change, Status};
 use cb_stability::Acks;
 use cb_times::{NoMemory, VectorTime};
@@ -35,6 +35,15 @@ impl Knowledge {
         })
     }
 
+    pub fn copy(&self) -> Result<Knowledge, NoMemory>
+        ensures { IfOk result (λ copy. copy ≡ self.now) }
+    {
+        Ok(Knowledge {
+            known: self.known.copy()?,
+            acks: self.acks.copy()?,
+        })
+    }
+
     /// This member has cast as far as this.
     pub fn hear(&mut self, sender: u32, number: u32)
         requires { sender < length self.old.known }
@@ -44,16 +53,18 @@ impl Knowledge {
         self.known.set(sender, heard.max(number));
     }
 
-    /// These messages are delivered: their senders had delivered as many casts of member me as the messages' times say.
-    pub fn acknowledge(&mut self, me: u32, deliveries: &[Message])
+    /// Of these events the messages are delivered: their senders had delivered as many casts of member me as the messages' times say.
+    pub fn acknowledge(&mut self, me: u32, events: &[Event])
         requires me { me < self.old.acks.size }
-        requires senders { All (HasTimeOf self.old.acks.size) deliveries.now }
-        ensures acks { LearnsAll me deliveries.now self.old.acks self.new.acks }
+        requires senders { All (HasTimeOf self.old.acks.size) (delivered_by events.now) }
+        ensures acks { LearnsAll me (delivered_by events.now) self.old.acks self.new.acks }
         ensures known { self.new.known ≡ self.old.known }
     {
-        for message in deliveries {
-            let count = message.time.get(me);
-            self.acks.learn(message.name.sender, me, count);
+        for event in events {
+            if let Event::Deliver(message) = event {
+                let count = message.time.get(me);
+                self.acks.learn(message.name.sender, me, count);
+            }
         }
     }
 

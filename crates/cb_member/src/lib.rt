@@ -9,13 +9,14 @@
 #![tactic(auto)]
 
 mod arrival;
-mod cast;
 mod delivery;
 mod knowledge;
 mod member;
+mod own_cast;
 mod reception;
+mod recorder;
 mod sending;
-mod store;
+mod state;
 mod taking;
 mod text;
 mod tick;
@@ -28,3 +29,4 @@ pub use cb_history::{
 };
 pub use cb_times::{NoMemory, TimeOrder, VectorTime};
 pub use member::Member;
+pub use recorder::Received;

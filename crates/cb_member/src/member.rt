@@ -7,13 +7,12 @@ ghost use Rattle.cb_history.specs.LegalHistory.{IsLegalHistory};
 ghost use Rattle.cb_history.specs.Facts.{entry_fields};
 ghost use Rattle.cb_history.specs.Known.{ranges_of};
 ghost use Rattle.cb_history.specs.State.{IsMemberState, state_of, time_in, events_in, stable_in, missing_in, entry_by, HasCast, HasTaken, RefusesArrival, HasTicked, RefusesTick};
-ghost use Rattle.cb_member.specs.AtOnce.{HasTakenToSend};
 ghost use Rattle.cb_member.specs.Casting.{RefusesExactly};
+ghost use Rattle.cb_member.specs.Received.{HasReceivedFrame, HasTakenToSend};
 
-use crate::store::Store;
-use crate::{arrival, cast, tick};
+use crate::recorder::{Received, Recorder, Taken, Wanted};
 use bytes::Bytes;
-use cb_frames::{FrameBlock, Range};
+use cb_frames::Range;
 use cb_history::{
     Arrival, ArriveRefusal, CastDone, CastRefusal, Entry, Event, Group, GroupMember, History,
     Identity, LONGEST_HISTORY, MissingFault, NewFault, Outgoing, TickRefusal, Ticked,
@@ -28,22 +27,18 @@ use std::marker::Model;
 /// is received. After any refusal, out of memory too, the member is as it was.
 #[derive(Drop)]
 pub struct Member {
-    seat: Identity,
-    limit: usize,
-    store: Store,
-    /// Where the frames of its casts are made.
-    block: FrameBlock,
+    recorder: Recorder,
 }
 
 impl Model for Member {
-    ghost use Rattle.cb_history.specs.State.{MemberState, state_of};
-    ghost use Rattle.cb_member.specs.Store.{IsKept};
+    ghost use Rattle.cb_history.specs.State.{MemberState};
+    ghost use Rattle.cb_member.specs.Recorder.{IsKept, held_by};
 
     ghost Value = { MemberState };
 
-    ghost view = { λ m. state_of m.seat m.limit m.store.entries.items };
+    ghost view = { λ m. held_by m.recorder };
 
-    ghost invariant = { λ m. IsKept m.seat m.limit m.store };
+    ghost invariant = { λ m. IsKept m.recorder };
 }
 
 impl Member {
@@ -72,15 +67,8 @@ impl Member {
         requires limit { (1 ≤ limit) × (limit ≤ longest_history) }
         ensures { IfOk result (λ member. member ≡ state_of seat limit []) }
     {
-        let (size, window) = (seat.group().size(), seat.group().window());
-        let store = Store::new(alloc, size, window)?;
-        let block = FrameBlock::new(alloc);
-        Ok(Member {
-            seat,
-            limit,
-            store,
-            block,
-        })
+        let recorder = Recorder::new(alloc, seat, limit)?;
+        Ok(Member { recorder })
     }
 
     /// The group, and which of its members this is.
@@ -88,14 +76,14 @@ impl Member {
         ensures seat { result ≡ self.now.seat }
         ensures member { IsMemberState self.now }
     {
-        self.seat
+        self.recorder.state.seat
     }
 
     /// How many messages of each member are delivered, own casts included.
     pub fn time(&self) -> &VectorTime
         ensures { result.now ≡ time_in self.now }
     {
-        &self.store.delivery.time
+        &self.recorder.state.delivery.time
     }
 
     /// All that the member did, in order. The history is legal, whatever is received.
@@ -103,21 +91,22 @@ impl Member {
         ensures entries { map entry_fields result.now ≡ self.now.entries }
         ensures legal { IsMemberState self.now }
     {
-        self.store.entries.as_slice()
+        self.recorder.entries.as_slice()
     }
 
     /// The casts and deliveries so far, in order.
     pub fn events(&self) -> &[Event]
         ensures { result.now ≡ events_in self.now }
     {
-        self.store.delivery.events.as_slice()
+        self.recorder.events.as_slice()
     }
 
     /// How many own casts are known to be delivered by every other member.
     pub fn stable(&self) -> u32
         ensures { result ≡ stable_in self.now }
     {
-        self.store.knowledge.acks.stable(self.seat.me())
+        let state = &self.recorder.state;
+        state.knowledge.acks.stable(state.seat.me())
     }
 
     /// The casts of member i that are missing, as rising ranges that neither touch nor overlap.
@@ -126,7 +115,8 @@ impl Member {
         ensures bad_member { (result ≡ Err MissingFault.BadMember)
             ↔ ((self.now.seat.group.size ≤ i) ⊎ (i ≡ self.now.seat.me)) }
     {
-        if i >= self.seat.group().size() || i == self.seat.me() {
+        let seat = self.seat();
+        if i >= seat.group().size() || i == seat.me() {
             return Err(MissingFault::BadMember);
         }
         let ranges = self.missing_of(i)?;
@@ -138,7 +128,7 @@ impl Member {
         requires other { i ≢ self.now.seat.me }
         ensures { IfOk result (λ ranges. ranges.items ≡ ranges_of (missing_in self.now i)) }
     {
-        self.store.missing(self.seat, i)
+        self.recorder.state.missing(i)
     }
 
     /// Casts a message of this payload, of up to 1,024 bytes, and answers its name, its time and the frame that goes to all others.
@@ -150,8 +140,7 @@ impl Member {
         ensures refused { IfErr result (RefusesExactly self.old payload.now) }
         ensures same { OnErr result (self.new ≡ self.old) }
     {
-        let (done, _noted) = self.cast_noted(payload)?;
-        Ok(done)
+        self.recorder.cast(payload)
     }
 
     /// Casts a payload as `cast` does, and hands out a copy of the entry that was added.
@@ -162,37 +151,28 @@ impl Member {
         ensures refused { IfErr result (RefusesExactly self.old payload.now) }
         ensures same { OnErr result (self.new ≡ self.old) }
     {
-        let (store, block) = (&mut self.store, &mut self.block);
-        cast::answer(self.seat, self.limit, store, block, payload)
+        self.recorder.cast_noted(payload)
     }
 
-    /// Takes received bytes: delivers what they make ready, or answers a request.
+    /// Takes received bytes: delivers what they make ready, or answers a request. The deliveries stand at the end of the events.
     ///
     /// A refusal is that of the definition, in the order of `ArriveRefusal`; a repeat is reported before a cast that is too far ahead.
     /// `NoMemory` may stand in place of any answer for bytes that are a frame; what is no frame is refused without memory. After a
     /// refusal the member is as it was.
-    pub fn arrive(&mut self, bytes: &Bytes) -> Result<Arrival, ArriveRefusal>
-        ensures taken { IfOk result (HasTaken self.old self.new bytes.now) }
+    pub fn receive(&mut self, bytes: &Bytes) -> Result<Received, ArriveRefusal>
+        ensures taken { IfOk result (HasReceivedFrame self.old self.new bytes.now) }
         ensures refused { IfErr result (RefusesArrival self.old bytes.now) }
         ensures same { OnErr result (self.new ≡ self.old) }
     {
-        let (arrival, _noted) = self.arrive_noted(bytes)?;
-        Ok(arrival)
+        let wanted = Wanted {
+            deliveries: false,
+            entry: false,
+        };
+        let taken = self.recorder.take(bytes, wanted)?;
+        Ok(taken.received)
     }
 
-    /// Takes received bytes as `arrive` does, and hands out a copy of the entry, where one was added.
-    pub fn arrive_noted(&mut self, bytes: &Bytes) -> Result<(Arrival, Option<Entry>), ArriveRefusal>
-        ensures taken { IfOk result (λ noted. HasTaken self.old self.new bytes.now noted.0) }
-        ensures entry { IfOk result (λ noted. entry_by self.old (ToTake bytes.now)
-            ≡ option_map entry_fields noted.1) }
-        ensures refused { IfErr result (RefusesArrival self.old bytes.now) }
-        ensures same { OnErr result (self.new ≡ self.old) }
-    {
-        arrival::answer(self.seat, self.limit, &mut self.store, bytes)
-    }
-
-    /// Takes received bytes as `arrive_noted` does, for a caller that reads the deliveries among the events: only what is to be sent
-    /// comes with the copy of the entry. It costs less, since no message is made twice and the bytes go into the copy.
+    /// Takes received bytes as `receive` does, and hands out a copy of the entry, where one was added, with what is to be sent.
     pub fn receive_noted(
         &mut self,
         bytes: Bytes,
@@ -204,7 +184,47 @@ impl Member {
         ensures refused { IfErr result (RefusesArrival self.old bytes) }
         ensures same { OnErr result (self.new ≡ self.old) }
     {
-        arrival::answer_to_send(self.seat, self.limit, &mut self.store, bytes)
+        let wanted = Wanted {
+            deliveries: false,
+            entry: true,
+        };
+        let taken = self.recorder.take(&bytes, wanted)?;
+        let Taken {
+            received,
+            deliveries: _,
+            noted,
+        } = taken;
+        Ok((received.out(self.recorder.state.alloc), noted))
+    }
+
+    /// Takes received bytes as `receive` does, and hands out copies of what they deliver, which are made before anything changes.
+    pub fn arrive(&mut self, bytes: &Bytes) -> Result<Arrival, ArriveRefusal>
+        ensures taken { IfOk result (HasTaken self.old self.new bytes.now) }
+        ensures refused { IfErr result (RefusesArrival self.old bytes.now) }
+        ensures same { OnErr result (self.new ≡ self.old) }
+    {
+        let wanted = Wanted {
+            deliveries: true,
+            entry: false,
+        };
+        let taken = self.recorder.take(bytes, wanted)?;
+        Ok(taken.received.arrival(taken.deliveries))
+    }
+
+    /// Takes received bytes as `arrive` does, and hands out a copy of the entry, where one was added.
+    pub fn arrive_noted(&mut self, bytes: &Bytes) -> Result<(Arrival, Option<Entry>), ArriveRefusal>
+        ensures taken { IfOk result (λ noted. HasTaken self.old self.new bytes.now noted.0) }
+        ensures entry { IfOk result (λ noted. entry_by self.old (ToTake bytes.now)
+            ≡ option_map entry_fields noted.1) }
+        ensures refused { IfErr result (RefusesArrival self.old bytes.now) }
+        ensures same { OnErr result (self.new ≡ self.old) }
+    {
+        let wanted = Wanted {
+            deliveries: true,
+            entry: true,
+        };
+        let taken = self.recorder.take(bytes, wanted)?;
+        Ok((taken.received.arrival(taken.deliveries), taken.noted))
     }
 
     /// Reports the status to all others, and asks each for what is missing of it.
@@ -216,8 +236,7 @@ impl Member {
         ensures refused { IfErr result (RefusesTick self.old) }
         ensures same { OnErr result (self.new ≡ self.old) }
     {
-        let (done, _noted) = self.tick_noted()?;
-        Ok(done)
+        self.recorder.tick()
     }
 
     /// Ticks as `tick` does, and hands out a copy of the entry, where one was added.
@@ -228,7 +247,7 @@ impl Member {
         ensures refused { IfErr result (RefusesTick self.old) }
         ensures same { OnErr result (self.new ≡ self.old) }
     {
-        tick::answer(self.seat, self.limit, &mut self.store)
+        self.recorder.tick_noted()
     }
 
     /// All that the member did, for good. The history is legal, whatever is received.
@@ -237,17 +256,12 @@ impl Member {
         ensures entries { map entry_fields result.entries.items ≡ self.entries }
         ensures legal { IsLegalHistory result }
     {
-        let Member {
-            seat,
-            limit: _,
-            store,
-            block,
-        } = self;
-        drop(block);
+        let seat = self.seat();
+        let Member { recorder } = self;
         History {
             group: seat.group(),
             me: seat.me(),
-            entries: store.into_entries(),
+            entries: recorder.into_entries(),
         }
     }
 }
@@ -272,7 +286,7 @@ impl GroupMember for Member {
     }
 
     fn events(&self) -> Result<Vec<Event>, NoMemory> {
-        copies_of(*self.store.entries.allocator(), Member::events(self))
+        copies_of(self.recorder.state.alloc, Member::events(self))
     }
 
     fn missing(&self, i: u32) -> Result<Vec<Range>, MissingFault> {
@@ -284,7 +298,7 @@ impl GroupMember for Member {
     }
 
     fn entries(&self) -> Result<Vec<Entry>, NoMemory> {
-        Entry::copies(*self.store.entries.allocator(), self.history())
+        Entry::copies(self.recorder.state.alloc, self.history())
     }
 }
 

@@ -1,18 +1,14 @@
 //! The casts received from others, until the delay queue has them.
 
-ghost use Rattle.std.specs.Prelude.{◌≡◌, ◌+◌, ◌≤◌, ◌<◌, ◌∷◌, true, Any, IfOk, IfSome, IfNone, OnSome, length};
-ghost use Rattle.std.specs.List.Sorted.{IsPermutation};
-ghost use Rattle.std.specs.Vec.{vec_capacity, vec_len};
+ghost use Rattle.std.specs.Prelude.{◌≡◌, ◌<◌, true, IfOk, IfSome, IfNone, OnOk, length, map};
 ghost use Rattle.cb_times.specs.Group.{IsGroupSize, IsWindow};
 ghost use Rattle.cb_diffs.specs.Expansion.{IsGrown, IsNext, time_of};
 ghost use Rattle.cb_frames.specs.Fields.{cast_fields};
-ghost use Rattle.cb_member.specs.AtOnce.{PassesAt, PassesOnce, message_at};
-ghost use Rattle.cb_member.specs.Reception.{IsSpareFor, IsNewReception};
-ghost use Rattle.cb_member.specs.Taking.{WouldExpand, CanKeep, KeepsCast, IsReceiving, ExpandsNext, HasNoNextOf, TellsTwice};
-ghost use Rattle.cb_member.specs.Passing.{LetsPass, CanPass, PassesCast};
+ghost use Rattle.cb_member.specs.Reception.{IsNewReception, IsAlike, HasPlaceFor};
+ghost use Rattle.cb_member.specs.Taking.{WouldExpand, CanKeep, KeepsCast, IsReceiving, ExpandsNext, HasNoNextOf, Tells};
+ghost use Rattle.cb_member.specs.Passing.{IsInOrder, TakesAt, TakesInOrder, message_at};
 
 use crate::delivery::push_within;
-use bytes::Bytes;
 use cb_delay::Message;
 use cb_diffs::Expander;
 use cb_frames::Cast;
@@ -20,39 +16,14 @@ use cb_gaps::Reorder;
 use cb_times::{Name, NoMemory, VectorTime};
 use std::alloc::Global;
 
-/// What is made for a cast when it is accepted, so that neither expanding nor delivering it takes memory.
-#[derive(Drop)]
-pub struct Spare {
-    pub name: Name,
-    /// A second handle of the payload, which the events keep.
-    pub payload: Bytes,
-    /// What become the two copies of its time.
-    pub time: VectorTime,
-    pub copy: VectorTime,
-}
-
-impl Spare {
-    pub fn of(alloc: Global, size: u32, cast: &Cast) -> Result<Spare, NoMemory>
-        requires { IsGroupSize size }
-        ensures { IfOk result (IsSpareFor size (cast_fields cast.now)) }
-    {
-        Ok(Spare {
-            name: name_of(cast),
-            payload: cast.payload.clone()?,
-            time: VectorTime::zero(alloc, size)?,
-            copy: VectorTime::zero(alloc, size)?,
-        })
-    }
-}
-
 /// The received casts that wait for those before them, and the times of those that don't.
 #[derive(Drop)]
 pub struct Reception {
     /// One for each member; the member's own stays empty.
     pub buffers: Vec<Reorder>,
     pub expander: Expander,
-    /// One for each cast that waits.
-    pub spares: Vec<Spare>,
+    /// For each member as many times as casts wait in its buffer, to write their messages' times over, so that expanding takes no memory.
+    pub spares: Vec<Vec<VectorTime>>,
 }
 
 impl Reception {
@@ -63,13 +34,25 @@ impl Reception {
         ensures { IfOk result (IsNewReception size window) }
     {
         let mut buffers = Vec::with_capacity(alloc, size as usize)?;
+        let mut spares = Vec::with_capacity(alloc, size as usize)?;
         for _ in 0..size {
             buffers.push(Reorder::new(alloc, window)?)?;
+            spares.push(Vec::new(alloc))?;
         }
         Ok(Reception {
             buffers,
             expander: Expander::new(alloc, size)?,
-            spares: Vec::new(alloc),
+            spares,
+        })
+    }
+
+    pub fn copy(&self) -> Result<Reception, NoMemory>
+        ensures { IfOk result (IsAlike self.now) }
+    {
+        Ok(Reception {
+            buffers: buffers_like(&self.buffers)?,
+            expander: self.expander.copy()?,
+            spares: spares_like(&self.spares)?,
         })
     }
 
@@ -81,57 +64,42 @@ impl Reception {
         self.buffers[sender as usize].ready_with(number)
     }
 
+    /// Makes room for one spare more of this sender.
+    pub fn reserve(&mut self, sender: u32) -> Result<(), NoMemory>
+        requires { sender < length self.old.spares.items }
+        ensures same { IsAlike self.old self.new }
+        ensures place { OnOk result (HasPlaceFor sender self.new) }
+    {
+        self.spares[sender as usize].reserve(1)
+    }
+
     /// Keeps a cast of another member until those before it are received, and what is made for it.
-    pub fn keep(&mut self, delivered: u32, cast: Cast, spare: Spare)
+    pub fn keep(&mut self, delivered: u32, cast: Cast, spare: VectorTime)
         requires can_keep { CanKeep delivered (cast_fields cast) self.old }
-        requires room { vec_len self.old.spares + 1 ≤ vec_capacity self.old.spares }
+        requires place { HasPlaceFor cast.sender self.old }
         ensures { KeepsCast (cast_fields cast) spare self.old self.new }
     {
-        push_within(&mut self.spares, spare);
         let sender = cast.sender as usize;
+        push_within(&mut self.spares[sender], spare);
         let _kept = self.buffers[sender].keep(delivered, cast);
     }
 
-    /// Whether the sender's cast of this number is expanded as soon as it is there, and none of the sender's with it.
-    pub fn passes(&self, sender: u32, number: u32) -> bool
+    /// Whether the cast of this number is its sender's next one, and none of the sender's waits behind it.
+    pub fn is_in_order(&self, sender: u32, number: u32) -> bool
         requires { sender < length self.now.buffers.items }
-        ensures { result ≡ true → LetsPass sender number self.now }
+        ensures { result ≡ true → IsInOrder sender number self.now }
     {
-        self.buffers[sender as usize].passes(number)
+        self.buffers[sender as usize].is_in_order(number)
     }
 
-    /// The message of a cast of another member that is expanded as soon as it is there, and a copy of it made of its spare. It is as
-    /// if the cast were kept and taken out.
-    pub fn pass(&mut self, cast: Cast, spare: Spare) -> (Message, Message)
-        requires { CanPass (cast_fields cast) spare self.old }
-        ensures { PassesCast (cast_fields cast) spare self.old self.new result }
-    {
-        self.buffers[cast.sender as usize].pass();
-        tell_twice(&mut self.expander, cast, spare)
-    }
-
-    /// The time of a cast that is expanded as soon as it is there, while nothing changes.
-    pub fn look_ahead(&self, alloc: Global, size: u32, cast: &Cast) -> Result<VectorTime, NoMemory>
-        requires group { IsGroupSize size }
-        requires size { length self.now.expander ≡ size }
-        requires next { IsNext self.now.expander (cast_fields cast.now) }
-        ensures time { IfOk result (λ time. IsGrown (time_of self.now.expander cast.now.sender)
-            (cast_fields cast.now) time) }
-        ensures size { IfOk result (λ time. length time ≡ size) }
-    {
-        let mut time = VectorTime::zero(alloc, size)?;
-        self.expander.look_ahead(cast, &mut time);
-        Ok(time)
-    }
-
-    /// The message of a cast of another member that is expanded as soon as it is there, once its time was looked at. It is as if the
-    /// cast were kept and taken out.
-    pub fn pass_once(&mut self, cast: Cast, time: VectorTime) -> Message
-        requires { PassesAt (cast_fields cast) time self.old }
-        ensures passes { PassesOnce (cast_fields cast) self.old self.new result }
+    /// The message of a cast of another member that comes in order, once its time was looked at. It is as if the cast were kept and
+    /// taken out.
+    pub fn take_in_order(&mut self, cast: Cast, time: VectorTime) -> Message
+        requires { TakesAt (cast_fields cast) time self.old }
+        ensures takes { TakesInOrder (cast_fields cast) self.old self.new result }
         ensures message { result ≡ message_at (cast_fields cast) time }
     {
-        self.buffers[cast.sender as usize].pass();
+        self.buffers[cast.sender as usize].take_in_order();
         self.expander.take(&cast, &time);
         Message {
             name: name_of(&cast),
@@ -140,55 +108,67 @@ impl Reception {
         }
     }
 
-    /// The sender's next message, twice, where its cast is there and none is missing before it.
-    pub fn expand_next(&mut self, sender: u32) -> Option<(Message, Message)>
+    /// The sender's next message, where its cast is there and none is missing before it.
+    pub fn expand_next(&mut self, sender: u32) -> Option<Message>
         requires { IsReceiving sender self.old }
-        ensures some { IfSome result (λ messages. ExpandsNext sender self.old self.new messages) }
+        ensures some { IfSome result (λ message. ExpandsNext sender self.old self.new message) }
         ensures none { IfNone result (HasNoNextOf sender self.old self.new) }
-        ensures fewer { OnSome result (vec_len self.new.spares + 1 ≡ vec_len self.old.spares) }
     {
         let cast = self.buffers[sender as usize].take_next()?;
-        let spare = take_spare(&mut self.spares, name_of(&cast));
-        Some(tell_twice(&mut self.expander, cast, spare))
+        let Some(spare) = self.spares[sender as usize].pop() else {
+            unreachable!("there is one for each cast that waits")
+        };
+        Some(expanded(&mut self.expander, cast, spare))
     }
 }
 
-/// The message of the sender's next cast, and a copy of it made of its spare.
-fn tell_twice(expander: &mut Expander, cast: Cast, mut spare: Spare) -> (Message, Message)
+/// The message of the sender's next cast, whose time is written over the spare.
+fn expanded(expander: &mut Expander, cast: Cast, mut spare: VectorTime) -> Message
     requires next { IsNext expander.old (cast_fields cast) }
-    requires time { length spare.time ≡ length expander.old }
-    requires copy { length spare.copy ≡ length expander.old }
-    ensures { TellsTwice (cast_fields cast) spare.payload expander.old expander.new result }
+    requires size { length spare ≡ length expander.old }
+    ensures { Tells (cast_fields cast) expander.old expander.new result }
 {
     let name = name_of(&cast);
-    let Ok(()) = expander.expand_into(&cast, &mut spare.time) else {
+    let Ok(()) = expander.expand_into(&cast, &mut spare) else {
         unreachable!("it is the next one")
     };
-    spare.copy.copy_from(&spare.time);
-    let message = Message {
+    Message {
         name,
-        time: spare.time,
+        time: spare,
         payload: cast.payload,
-    };
-    let copy = Message {
-        name,
-        time: spare.copy,
-        payload: spare.payload,
-    };
-    (message, copy)
+    }
 }
 
-/// Takes out the spare of this name.
-fn take_spare(spares: &mut Vec<Spare>, name: Name) -> Spare
-    requires { Any (λ spare. spare.name ≡ name) spares.old.items }
-    ensures name { result.name ≡ name }
-    ensures others { IsPermutation spares.old.items (result ∷ spares.new.items) }
-    ensures len { vec_len spares.new + 1 ≡ vec_len spares.old }
+fn buffers_like(buffers: &Vec<Reorder>) -> Result<Vec<Reorder>, NoMemory>
+    ensures { IfOk result (λ copies. copies.items ≡ buffers.now.items) }
 {
-    let Some(place) = spares.iter().position(|spare| spare.name == name) else {
-        unreachable!("there is one")
-    };
-    spares.swap_remove(place)
+    let mut copies = Vec::with_capacity(*buffers.allocator(), buffers.len())?;
+    for buffer in buffers {
+        copies.push(buffer.copy()?)?;
+    }
+    Ok(copies)
+}
+
+/// As many spares of each member.
+fn spares_like(spares: &Vec<Vec<VectorTime>>) -> Result<Vec<Vec<VectorTime>>, NoMemory>
+    ensures { IfOk result (λ copies. map (λ times. times.items) copies.items
+        ≡ map (λ times. times.items) spares.now.items) }
+{
+    let mut copies = Vec::with_capacity(*spares.allocator(), spares.len())?;
+    for times in spares {
+        copies.push(times_like(times)?)?;
+    }
+    Ok(copies)
+}
+
+fn times_like(times: &Vec<VectorTime>) -> Result<Vec<VectorTime>, NoMemory>
+    ensures { IfOk result (λ copies. copies.items ≡ times.now.items) }
+{
+    let mut copies = Vec::with_capacity(*times.allocator(), times.len())?;
+    for time in times {
+        copies.push(time.copy()?)?;
+    }
+    Ok(copies)
 }
 
 fn name_of(cast: &Cast) -> Name

@@ -1,21 +1,46 @@
 //! A received request: frames are sent again, and nothing changes.
 
-ghost use Rattle.std.specs.Prelude.{◌≡◌, IfOk, IfErr, Some, map};
+ghost use Rattle.std.specs.Prelude.{◌≡◌, IfOk, Some, map};
 ghost use Rattle.cb_frames.specs.Fields.{request_fields, RequestFrame};
 ghost use Rattle.cb_history.specs.Answers.{sent_in_answer};
 ghost use Rattle.cb_history.specs.StabilityLaws.{sent_to};
-ghost use Rattle.cb_member.specs.Store.{Stands, facts_held};
-ghost use Rattle.cb_member.specs.Answering.{JudgesRequest, LeavesState, Refuses};
+ghost use Rattle.cb_member.specs.Answering.{JudgesRequest, IsAnswered};
+ghost use Rattle.cb_member.specs.State.{IsState, OnAll};
 
-use crate::store::Store;
+use crate::state::State;
 use bytes::Bytes;
 use cb_frames::Request;
-use cb_history::{Arrival, ArriveRefusal, Identity, Outgoing};
+use cb_history::{ArriveRefusal, Identity, Outgoing};
 use cb_times::NoMemory;
 use std::alloc::Global;
 
+impl State {
+    /// What is sent in answer to a request, which changes nothing.
+    pub fn answer_request(&self, request: &Request) -> Result<Vec<Outgoing>, ArriveRefusal>
+        requires { IsState self.now }
+        ensures { IsAnswered self.now (request_fields request.now) result }
+    {
+        judge(self.seat, request)?;
+        let out = self.sent_in_answer(request)?;
+        Ok(out)
+    }
+
+    /// At the asked member the first frames of its window that are asked for.
+    fn sent_in_answer(&self, request: &Request) -> Result<Vec<Outgoing>, NoMemory>
+        requires { IsState self.now }
+        ensures { IfOk result (λ out. OnAll self.now (λ facts. out.items
+            ≡ sent_in_answer self.now.seat facts (RequestFrame (request_fields request.now)))) }
+    {
+        if request.asked != self.seat.me() {
+            return Ok(Vec::new(self.alloc));
+        }
+        let frames = self.sending.window.frames_in(&request.ranges)?;
+        sent_to(self.alloc, request.requester, frames)
+    }
+}
+
 /// The first rule that the request breaks.
-fn check(seat: Identity, request: &Request) -> Result<(), ArriveRefusal>
+fn judge(seat: Identity, request: &Request) -> Result<(), ArriveRefusal>
     ensures { JudgesRequest seat (request_fields request.now) result }
 {
     let size = seat.group().size();
@@ -41,39 +66,4 @@ fn sent_to(alloc: Global, to: u32, frames: Vec<Bytes>) -> Result<Vec<Outgoing>, 
         out.push(Outgoing { to, bytes })?;
     }
     Ok(out)
-}
-
-/// What is sent in answer: at the asked member the first frames of its window that are asked for.
-fn sent_in_answer(
-    seat: Identity,
-    store: &Store,
-    request: &Request,
-) -> Result<Vec<Outgoing>, NoMemory>
-    requires { Stands seat store.now }
-    ensures { IfOk result (λ out. out.items ≡ sent_in_answer seat (facts_held store.now)
-        (RequestFrame (request_fields request.now))) }
-{
-    let alloc = *store.entries.allocator();
-    if request.asked != seat.me() {
-        return Ok(Vec::new(alloc));
-    }
-    let frames = store.sending.window.frames_in(&request.ranges)?;
-    sent_to(alloc, request.requester, frames)
-}
-
-/// The answer to a request, which never changes the state.
-pub fn answer(seat: Identity, store: &Store, request: &Request) -> Result<Arrival, ArriveRefusal>
-    requires { Stands seat store.now }
-    ensures taken { IfOk result (LeavesState seat store.now (RequestFrame
-        (request_fields request.now))) }
-    ensures refused { IfErr result (Refuses seat store.now (RequestFrame
-        (request_fields request.now))) }
-{
-    check(seat, request)?;
-    let out = sent_in_answer(seat, store, request)?;
-    Ok(Arrival::Accepted {
-        deliveries: Vec::new(*store.entries.allocator()),
-        changed: false,
-        out,
-    })
 }

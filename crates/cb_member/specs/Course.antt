@@ -1,0 +1,79 @@
+-- The course of a received cast: what must hold for it to be taken so, and what is done then.
+use Rattle.std.specs.Prelude.{◌≡◌, ℕ, ◌+◌, ◌-◌, ◌≤◌, List, [], ◌∷◌, ◌++◌, length}
+use Rattle.std.specs.FinMap as fin
+use Rattle.cb_times.specs.Order.{field}
+use Rattle.cb_frames.specs.Fields.{CastFields, first_number}
+use Rattle.cb_delay.specs.declared.message.Event.{Event}
+use Rattle.cb_delay.specs.Rule.{IsReady}
+use Rattle.cb_diffs.specs.Expansion.{IsGrown, time_of}
+use Rattle.cb_history.specs.Facts.{Fact, CastReceived, casts_in}
+use Rattle.cb_history.specs.Known.{expanded_count}
+use Rattle.cb_history.specs.LegalFacts.{AreFactsOf}
+use Rattle.cb_member.specs.declared.arrival.course.Course.{Course}
+use Rattle.cb_member.specs.declared.arrival.course.Course.TheVariants.{Early, Waits, Alone, LetsGo}
+use Rattle.cb_member.specs.declared.delivery.Delivery.{Delivery}
+use Rattle.cb_member.specs.declared.state.State.{State}
+use Rattle.cb_member.specs.Delivery.{Drains, NoneReady, LeavesWaiting}
+use Rattle.cb_member.specs.Passing.{IsInOrder}
+use Rattle.cb_member.specs.State.{Keeps}
+use Rattle.cb_member.specs.Taking.{CanFollow, CanTakeIn, WouldExpand, TakesInCast}
+
+-- how many messages are delivered at most
+abbrev pub most : Course → ℕ
+most (Early spare) = 0
+most (Waits time) = 0
+most (Alone time) = 1
+most (LetsGo spare count) = count
+
+-- no more than so many messages wait for the delay rule once the cast is taken in, and before anything is delivered
+abbrev pub HoldsAtMost : CastFields → State → ℕ → Type 0
+HoldsAtMost c state count =
+    (facts : List Fact) → AreFactsOf state.seat (facts ++ CastReceived c ∷ []) → Keeps facts state
+    → fin.len state.delivery.queue.held + (expanded_count (casts_in (facts ++ CastReceived c ∷ [])) c.sender - expanded_count (casts_in facts) c.sender) ≤ count
+
+-- it waits for casts before it, lets none be expanded, and nothing that waits may be delivered
+pub record IsEarly (c : CastFields) (spare : List ℕ) (state : State) : Type 0 where
+  pub can : CanTakeIn c spare state
+  pub expands_none : WouldExpand c.sender (first_number c) state.reception 0
+  pub none_ready : NoneReady state.delivery
+
+-- it comes in order, and this is its time
+pub record HasTime (c : CastFields) (time : List ℕ) (state : State) : Type 0 where
+  pub can : CanFollow c state
+  pub in_order : IsInOrder c.sender (first_number c) state.reception
+  pub grown : IsGrown (time_of state.reception.expander c.sender) c time
+  pub size : length time ≡ state.seat.group.size
+
+-- it may not be delivered, and nothing that waits may be
+pub record MustWait (c : CastFields) (time : List ℕ) (state : State) : Type 0 where
+  pub has_time : HasTime c time state
+  pub not_ready : ¬ IsReady c.sender (field time) (field state.delivery.time)
+  pub none_ready : NoneReady state.delivery
+
+-- it may be delivered, and nothing that waits may be, then or before
+pub record GoesAlone (c : CastFields) (time : List ℕ) (state : State) : Type 0 where
+  pub has_time : HasTime c time state
+  pub ready : IsReady c.sender (field time) (field state.delivery.time)
+  pub leaves : LeavesWaiting c.sender state.delivery
+
+-- it may let go all that waits, and that are so many at most
+pub record CanLetGoAt (c : CastFields) (count : ℕ) (state : State) : Type 0 where
+  pub can : CanFollow c state
+  pub holds : HoldsAtMost c state count
+
+-- what a course asks for
+abbrev pub CanGo : CastFields → Course → State → Type 0
+CanGo c (Early spare) state = IsEarly c spare state
+CanGo c (Waits time) state = MustWait c time state
+CanGo c (Alone time) state = GoesAlone c time state
+CanGo c (LetsGo spare count) state = CanTakeIn c spare state × HoldsAtMost c state count
+
+-- as if the cast had been taken in, and what was ready had been delivered then
+pub record TakesAndDelivers (c : CastFields) (old new : State) (before after : List Event) : Type 0 where
+  pub waits : Delivery
+  pub takes_in : TakesInCast c old (record new { delivery = waits })
+  pub drains : Drains waits new.delivery before after
+
+-- and that was nothing
+abbrev pub TakesAndWaits : CastFields → State → State → Type 0
+TakesAndWaits c old new = (events : List Event) → TakesAndDelivers c old new events events

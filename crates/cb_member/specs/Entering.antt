@@ -1,0 +1,50 @@
+-- Own casts and statuses that are ready to be entered, and what entering does.
+use Rattle.std.specs.Prelude.{◌≡◌, ℕ, ◌<◌, true, List, [], ◌∷◌, length, Option, Some, None, option_map, if◌then◌else◌}
+use Rattle.cb_frames.specs.Fields.{StatusFrame}
+use Rattle.cb_frames.specs.Laws.{IsBytes}
+use Rattle.cb_frames.specs.Text.{text_of}
+use Rattle.cb_history.specs.declared.answer.CastDone.{CastDone}
+use Rattle.cb_history.specs.Facts.{CastEntry, TickEntry, entry_fields}
+use Rattle.cb_history.specs.Answers.{is_new_status, next_cast, requests, status_of}
+use Rattle.cb_history.specs.Legal.{ToCast}
+use Rattle.cb_history.specs.State.{HasCast, answer_to_cast, entry_by}
+use Rattle.std.specs.Prelude.{Ok}
+use Rattle.cb_member.specs.declared.recorder.EnteringCast.{EnteringCast}
+use Rattle.cb_member.specs.declared.recorder.Recorder.{Recorder}
+use Rattle.cb_member.specs.declared.recorder.Telling.{Telling}
+use Rattle.cb_member.specs.Casting.{CanCast, IsCasting, next_text}
+use Rattle.cb_member.specs.Recorder.{HasRoom, IsKept, facts_held, held_by}
+
+-- the next cast of this payload is made, and there is room for it
+pub record CanEnterCast (payload : List ℕ) (r : Recorder) (entering : EnteringCast) : Type 0 where
+  pub kept : IsKept r
+  pub bytes : IsBytes payload
+  pub answer : answer_to_cast (held_by r) payload ≡ Ok (next_cast r.state.seat (facts_held r) payload)
+  pub can : CanCast r.state payload
+  pub few : length r.entries.items < r.limit
+  pub casting : IsCasting r.state.seat (facts_held r) payload entering.casting
+  pub entry : entry_fields entering.entry ≡ CastEntry (next_text r.state.seat (facts_held r) payload)
+  pub time : entering.time ≡ entering.casting.message.time
+  pub room : HasRoom 1 r
+
+pub record IsEnteringCast (entering : EnteringCast) (r : Recorder) : Type 0 where
+  pub payload : List ℕ
+  pub can : CanEnterCast payload r entering
+
+-- it was cast
+pub record IsCastDone (payload : List ℕ) (old new : Recorder) (entering : EnteringCast) (done : CastDone) : Type 0 where
+  pub kept : IsKept new
+  pub done_is : HasCast (held_by old) (held_by new) payload done
+  pub entry : entry_by (held_by old) (ToCast payload) ≡ Some (entry_fields entering.entry)
+
+abbrev pub EntersCast : EnteringCast → Recorder → Recorder → CastDone → Type 0
+EntersCast entering old new done = (payload : List ℕ) → CanEnterCast payload old entering → IsCastDone payload old new entering done
+
+-- the status to all and the requests, the entry of the status where it is new, and room for that
+pub record Tells (r : Recorder) (telling : Telling) : Type 0 where
+  pub kept : IsKept r
+  pub out : telling.out.items ≡ record { to = None; bytes = text_of (StatusFrame (status_of r.state.seat (facts_held r))) } ∷ requests r.state.seat (facts_held r)
+  pub entry : option_map entry_fields telling.entry
+      ≡ (if is_new_status r.state.seat (facts_held r) then Some (TickEntry (text_of (StatusFrame (status_of r.state.seat (facts_held r))))) else None)
+  pub few : is_new_status r.state.seat (facts_held r) ≡ true → length r.entries.items < r.limit
+  pub room : HasRoom 0 r

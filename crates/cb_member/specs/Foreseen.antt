@@ -1,0 +1,33 @@
+-- What a cast will deliver, told before anything changes.
+use Rattle.std.specs.Prelude.{◌≡◌, ℕ, List, [], ◌∷◌, ◌++◌}
+use Rattle.cb_frames.specs.Fields.{CastFields, CastFrame}
+use Rattle.cb_delay.specs.declared.message.Event.{Event}
+use Rattle.cb_delay.specs.declared.message.Event.TheVariants.{Deliver}
+use Rattle.cb_delay.specs.declared.message.Message.{Message}
+use Rattle.cb_history.specs.Answers.{deliveries}
+use Rattle.cb_history.specs.Facts.{Fact, CastReceived}
+use Rattle.cb_history.specs.LegalFacts.{AreFactsOf}
+use Rattle.cb_member.specs.declared.arrival.course.Course.{Course}
+use Rattle.cb_member.specs.declared.arrival.course.Course.TheVariants.{Early, Waits, Alone, LetsGo}
+use Rattle.cb_member.specs.declared.state.State.{State}
+use Rattle.cb_member.specs.Passing.{message_at}
+use Rattle.cb_member.specs.State.{Keeps}
+
+-- on all facts that the state keeps and that the cast may follow these are delivered by it
+abbrev pub AreDeliveries : CastFields → State → List Message → Type 0
+AreDeliveries c state messages =
+    (facts : List Fact) → AreFactsOf state.seat (facts ++ CastReceived c ∷ []) → Keeps facts state → messages ≡ deliveries state.seat facts (CastFrame c)
+
+-- copies of what is delivered on the course
+abbrev pub AreCopies : CastFields → Course → State → List Message → Type 0
+AreCopies c (Early spare) state copies = copies ≡ []
+AreCopies c (Waits time) state copies = copies ≡ []
+AreCopies c (Alone time) state copies = copies ≡ message_at c time ∷ []
+AreCopies c (LetsGo spare count) state copies = AreDeliveries c state copies
+
+-- what joins the events on the course
+abbrev pub JoinsEvents : CastFields → Course → List Event → List Event → Type 0
+JoinsEvents c (Early spare) before after = after ≡ before
+JoinsEvents c (Waits time) before after = after ≡ before
+JoinsEvents c (Alone time) before after = after ≡ before ++ Deliver (message_at c time) ∷ []
+JoinsEvents c (LetsGo spare count) before after = Unit {0}

@@ -1,0 +1,111 @@
+//! The course of a received cast, told before anything changes.
+
+ghost use Rattle.std.specs.Prelude.{◌≡◌, IfOk, length};
+ghost use Rattle.cb_frames.specs.Fields.{cast_fields};
+ghost use Rattle.cb_member.specs.State.{IsAlike};
+ghost use Rattle.cb_member.specs.Taking.{CanFollow};
+ghost use Rattle.cb_member.specs.Passing.{IsInOrder};
+ghost use Rattle.cb_member.specs.Course.{CanGo, HoldsAtMost, most};
+
+use crate::state::State;
+use cb_delay::is_ready;
+use cb_frames::Cast;
+use cb_times::{NoMemory, VectorTime};
+use std::alloc::AllocError;
+
+/// What a cast does that is taken, and what is made for it, so that nothing then takes memory.
+#[derive(Drop)]
+pub enum Course {
+    /// It comes before its turn, and waits for the casts before it; nothing is delivered. `spare` is for its time.
+    Early { spare: VectorTime },
+    /// It comes in order, and waits for the delay rule; nothing is delivered.
+    Waits { time: VectorTime },
+    /// It comes in order, and is delivered alone.
+    Alone { time: VectorTime },
+    /// It may let others go: at most so many are delivered.
+    LetsGo { spare: VectorTime, most: usize },
+}
+
+impl Course {
+    /// How many messages are delivered at most.
+    pub fn most(&self) -> usize
+        ensures { result ≡ most self.now }
+    {
+        match self {
+            Course::Early { .. } | Course::Waits { .. } => 0,
+            Course::Alone { .. } => 1,
+            Course::LetsGo { most, .. } => *most,
+        }
+    }
+}
+
+impl State {
+    /// The course of a cast that no rule refuses. Only what the delay queue remembers, and room, is changed by asking.
+    pub fn course_of(&mut self, cast: &Cast) -> Result<Course, NoMemory>
+        requires { CanFollow (cast_fields cast.now) self.old }
+        ensures same { IsAlike self.old self.new }
+        ensures course { IfOk result (λ course. CanGo (cast_fields cast.now) course self.new) }
+    {
+        if self.reception.is_in_order(cast.sender, cast.number) {
+            self.course_in_order(cast)
+        } else {
+            self.course_of_others(cast)
+        }
+    }
+
+    fn course_in_order(&mut self, cast: &Cast) -> Result<Course, NoMemory>
+        requires can { CanFollow (cast_fields cast.now) self.old }
+        requires in_order { IsInOrder cast.now.sender cast.now.number self.old.reception }
+        ensures same { IsAlike self.old self.new }
+        ensures course { IfOk result (λ course. CanGo (cast_fields cast.now) course self.new) }
+    {
+        let time = self.reception.expander.time_ahead(cast)?;
+        if is_ready(cast.sender, &time, &self.delivery.time) {
+            if self.delivery.leaves_waiting(cast.sender) {
+                return Ok(Course::Alone { time });
+            }
+        } else if self.delivery.has_none_ready() {
+            return Ok(Course::Waits { time });
+        }
+        self.letting_go(cast, time)
+    }
+
+    fn course_of_others(&mut self, cast: &Cast) -> Result<Course, NoMemory>
+        requires { CanFollow (cast_fields cast.now) self.old }
+        ensures same { IsAlike self.old self.new }
+        ensures course { IfOk result (λ course. CanGo (cast_fields cast.now) course self.new) }
+    {
+        let spare = VectorTime::zero(self.alloc, self.seat.group().size())?;
+        let more = self.reception.would_expand(cast.sender, cast.number);
+        if more == 0 && self.delivery.has_none_ready() {
+            self.reception.reserve(cast.sender)?;
+            return Ok(Course::Early { spare });
+        }
+        self.letting_go(cast, spare)
+    }
+
+    /// The course of one that may let all go that waits.
+    fn letting_go(&mut self, cast: &Cast, spare: VectorTime) -> Result<Course, NoMemory>
+        requires can { CanFollow (cast_fields cast.now) self.old }
+        requires size { length spare ≡ self.old.seat.group.size }
+        ensures same { IsAlike self.old self.new }
+        ensures course { IfOk result (λ course. CanGo (cast_fields cast.now) course self.new) }
+    {
+        self.reception.reserve(cast.sender)?;
+        let most = self.most_with(cast)?;
+        Ok(Course::LetsGo { spare, most })
+    }
+
+    /// How many messages wait for the delay rule once the cast is there: those that do, and those that can be expanded with it.
+    fn most_with(&self, cast: &Cast) -> Result<usize, NoMemory>
+        requires { CanFollow (cast_fields cast.now) self.now }
+        ensures { IfOk result (HoldsAtMost (cast_fields cast.now) self.now) }
+    {
+        let more = self.reception.would_expand(cast.sender, cast.number);
+        match self.delivery.queue.len().checked_add(more as usize) {
+            Some(most) => Ok(most),
+            // more than memory has places
+            None => Err(AllocError),
+        }
+    }
+}

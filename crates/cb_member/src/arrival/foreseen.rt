@@ -1,0 +1,87 @@
+//! Copies of what a cast will deliver, for a caller who wants messages of its own.
+
+ghost use Rattle.std.specs.Prelude.{◌≡◌, ◌∷◌, [], IfOk};
+ghost use Rattle.cb_frames.specs.Fields.{cast_fields};
+ghost use Rattle.cb_member.specs.Course.{CanGo, CanLetGoAt};
+ghost use Rattle.cb_member.specs.Knowledge.{delivered_by};
+ghost use Rattle.cb_member.specs.Foreseen.{AreCopies, AreDeliveries};
+ghost use Rattle.cb_member.specs.Passing.{message_at};
+
+use crate::arrival::course::Course;
+use crate::state::State;
+
+use cb_delay::{Event, Message};
+use cb_frames::Cast;
+use cb_times::{Name, NoMemory, VectorTime};
+use std::alloc::Global;
+
+impl State {
+    /// Copies of the messages that the cast will deliver on its course, while nothing changes.
+    pub fn foreseen(&self, cast: &Cast, course: &Course) -> Result<Vec<Message>, NoMemory>
+        requires { CanGo (cast_fields cast.now) course.now self.now }
+        ensures { IfOk result (λ copies. AreCopies (cast_fields cast.now) course.now self.now
+            copies.items) }
+    {
+        match course {
+            Course::Early { .. } | Course::Waits { .. } => Ok(Vec::new(self.alloc)),
+            Course::Alone { time } => alone(self.alloc, cast, time),
+            Course::LetsGo { most, .. } => self.delivered_by_twin(cast, *most),
+        }
+    }
+
+    /// What a copy of the state delivers. Rarely is more than one message delivered, and then only is this paid.
+    fn delivered_by_twin(&self, cast: &Cast, most: usize) -> Result<Vec<Message>, NoMemory>
+        requires { CanLetGoAt (cast_fields cast.now) most self.now }
+        ensures { IfOk result (λ copies. AreDeliveries (cast_fields cast.now) self.now
+            copies.items) }
+    {
+        let mut twin = self.copy()?;
+        twin.reception.reserve(cast.sender)?;
+        let spare = VectorTime::zero(self.alloc, self.seat.group().size())?;
+        let mut events = Vec::with_capacity(self.alloc, most)?;
+        twin.take_cast(copy_of(cast)?, Course::LetsGo { spare, most }, &mut events);
+        drop(twin);
+        messages_of(self.alloc, events)
+    }
+}
+
+fn alone(alloc: Global, cast: &Cast, time: &VectorTime) -> Result<Vec<Message>, NoMemory>
+    ensures { IfOk result (λ copies. copies.items ≡ message_at (cast_fields cast.now) time.now ∷ []) }
+{
+    let message = Message {
+        name: Name {
+            sender: cast.sender,
+            number: cast.number,
+        },
+        time: time.copy()?,
+        payload: cast.payload.clone()?,
+    };
+    let mut copies = Vec::with_capacity(alloc, 1)?;
+    copies.push(message)?;
+    Ok(copies)
+}
+
+/// The messages that are delivered by these events.
+fn messages_of(alloc: Global, events: Vec<Event>) -> Result<Vec<Message>, NoMemory>
+    ensures { IfOk result (λ messages. messages.items ≡ delivered_by events.items) }
+{
+    let mut messages = Vec::with_capacity(alloc, events.len())?;
+    for event in events {
+        if let Event::Deliver(message) = event {
+            messages.push(message)?;
+        }
+    }
+    Ok(messages)
+}
+
+fn copy_of(cast: &Cast) -> Result<Cast, NoMemory>
+    ensures { IfOk result (λ copy. cast_fields copy ≡ cast_fields cast.now) }
+{
+    Ok(Cast {
+        group: cast.group,
+        sender: cast.sender,
+        number: cast.number,
+        changes: Vec::from_slice(*cast.changes.allocator(), &cast.changes)?,
+        payload: cast.payload.clone()?,
+    })
+}

@@ -1,0 +1,108 @@
+//! Casting: what a cast is made of before anything changes, and what is kept of it.
+
+ghost use Rattle.std.specs.Prelude.{◌≡◌, ◌<◌, ℕ, List, IfOk};
+ghost use Rattle.cb_frames.specs.Fields.{cast_fields};
+ghost use Rattle.cb_frames.specs.Text.{with_payload};
+ghost use Rattle.cb_stability.specs.Sent.{room_of};
+ghost use Rattle.cb_history.specs.Answers.{next_cast};
+ghost use Rattle.cb_member.specs.State.{IsState, OnAll};
+ghost use Rattle.cb_member.specs.Casting.{next_message, CanCast, JudgesPayload, MakesCasting, IsSameButBlock, CanKeepCast, HasKept};
+
+use crate::state::State;
+use crate::text::{another, cast_text, payload_in};
+use bytes::Bytes;
+use cb_delay::Message;
+use cb_diffs::difference;
+use cb_frames::{Cast, LONGEST_PAYLOAD};
+use cb_history::CastRefusal;
+use cb_times::{Name, NoMemory, VectorTime};
+
+/// A cast that can be kept without memory.
+#[derive(Drop)]
+pub struct Casting {
+    /// The message as its sender's events have it.
+    pub message: Message,
+    /// Its frame, and the frame once more, which may have to be sent again.
+    pub out: Bytes,
+    pub sent: Bytes,
+}
+
+impl State {
+    /// Whether the payload may be cast. This takes no memory, and how much room the history has is not asked.
+    pub fn judge_payload(&self, payload: &[u8]) -> Result<(), CastRefusal>
+        requires { IsState self.now }
+        ensures { JudgesPayload self.now payload.now result }
+    {
+        if payload.len() > LONGEST_PAYLOAD {
+            return Err(CastRefusal::PayloadTooLong);
+        }
+        if self.sending.window.room() == 0 {
+            return Err(CastRefusal::WindowFull);
+        }
+        Ok(())
+    }
+
+    /// Makes the next cast. Nothing changes but what is left of the block that its frame lies in.
+    pub fn make(&mut self, payload: &[u8]) -> Result<Casting, NoMemory>
+        requires state { IsState self.old }
+        requires can { CanCast self.old payload.now }
+        ensures made { IfOk result (MakesCasting self.old payload.now) }
+        ensures same { IsSameButBlock self.old self.new }
+    {
+        let cast = self.next_cast()?;
+        let out = cast_text(&mut self.block, &cast, payload)?;
+        let message = self.message_of(&cast, payload_in(&out, payload)?)?;
+        let sent = another(&out)?;
+        Ok(Casting { message, out, sent })
+    }
+
+    /// The next own cast but for its payload, which is copied once, into the frame.
+    fn next_cast(&self) -> Result<Cast, NoMemory>
+        requires state { IsState self.now }
+        requires room { 0 < room_of self.now.sending.window }
+        ensures { IfOk result (λ cast. OnAll self.now (λ facts. (payload : List ℕ)
+            → with_payload (cast_fields cast) payload
+            ≡ next_cast self.now.seat facts payload)) }
+    {
+        let (me, now) = (self.seat.me(), &self.delivery.time);
+        let changes = difference(self.alloc, &self.sending.last_cast, now, me)?;
+        Ok(Cast {
+            group: self.seat.group().number(),
+            sender: me,
+            number: now.get(me) + 1,
+            changes,
+            payload: Bytes::new(),
+        })
+    }
+
+    /// The message of the cast, with the member's time and one cast more.
+    fn message_of(&self, cast: &Cast, payload: Bytes) -> Result<Message, NoMemory>
+        requires state { IsState self.now }
+        requires room { 0 < room_of self.now.sending.window }
+        requires next { OnAll self.now (λ facts. with_payload (cast_fields cast.now) payload
+            ≡ next_cast self.now.seat facts payload) }
+        ensures { IfOk result (λ message. OnAll self.now (λ facts. message
+            ≡ next_message self.now.seat facts payload)) }
+    {
+        let mut time = self.delivery.time.copy()?;
+        time.add_one(self.seat.me());
+        Ok(Message {
+            name: Name {
+                sender: cast.sender,
+                number: cast.number,
+            },
+            time,
+            payload,
+        })
+    }
+
+    /// Keeps the cast that was made. This takes no memory.
+    pub fn keep_cast(&mut self, time: &VectorTime, sent: Bytes)
+        requires { CanKeepCast time.now sent self.old }
+        ensures { HasKept time.now sent self.old self.new }
+    {
+        self.delivery.time.copy_from(time);
+        self.sending.last_cast.copy_from(time);
+        self.sending.window.put(sent);
+    }
+}

@@ -1,0 +1,251 @@
+//! A member's state with its history: each call that changes the state adds its entry, and what it casts or delivers to the events.
+
+ghost use Rattle.std.specs.Prelude.{◌≡◌, ◌≤◌, IfOk, IfErr, OnErr, OnOk, Some, None, length, nat_le, option_map, if◌then◌else◌};
+ghost use Rattle.cb_history.specs.Facts.{entry_fields, TickEntry};
+ghost use Rattle.cb_history.specs.Group.{IsIdentity};
+ghost use Rattle.cb_history.specs.Legal.{longest_history, ToCast, ToTick};
+ghost use Rattle.cb_history.specs.State.{entry_by, HasCast, HasTicked, RefusesTick};
+ghost use Rattle.cb_member.specs.Casting.{RefusesExactly};
+ghost use Rattle.cb_member.specs.Recorder.{IsKept, IsNewRecorder, IsSame, HasRoom, held_by};
+ghost use Rattle.cb_member.specs.Entering.{CanEnterCast, IsEnteringCast, EntersCast, Tells};
+
+mod arriving;
+mod taken;
+
+use crate::delivery::push_within;
+use crate::own_cast::Casting;
+use crate::state::State;
+use crate::text::another;
+use bytes::Bytes;
+use cb_delay::Event;
+use cb_history::{CastDone, CastRefusal, Entry, Identity, Outgoing, TickRefusal, Ticked};
+use cb_times::{NoMemory, VectorTime, make_room};
+use std::alloc::Global;
+
+pub use taken::{Received, Taken, Wanted};
+
+/// The state, and beside it the history that it stands for.
+#[derive(Drop)]
+pub struct Recorder {
+    /// How many entries the history may have.
+    pub limit: usize,
+    pub state: State,
+    pub entries: Vec<Entry>,
+    /// The casts and deliveries so far, in order.
+    pub events: Vec<Event>,
+}
+
+/// A cast that can be entered, with its entry and a copy of its time for the caller.
+#[derive(Drop)]
+pub struct EnteringCast {
+    pub casting: Casting,
+    pub entry: Entry,
+    pub time: VectorTime,
+}
+
+/// What a tick sends, and the entry of its status, where that is new.
+#[derive(Drop)]
+pub struct Telling {
+    pub out: Vec<Outgoing>,
+    pub entry: Option<Entry>,
+}
+
+impl Recorder {
+    /// Without entries, of which there may be so many.
+    pub fn new(alloc: Global, seat: Identity, limit: usize) -> Result<Recorder, NoMemory>
+        requires seat { IsIdentity seat }
+        requires some { 1 ≤ limit }
+        requires most { limit ≤ longest_history }
+        ensures kept { IfOk result IsKept }
+        ensures new { IfOk result (IsNewRecorder seat limit) }
+    {
+        Ok(Recorder {
+            limit,
+            state: State::new(alloc, seat)?,
+            entries: Vec::new(alloc),
+            events: Vec::new(alloc),
+        })
+    }
+
+    /// The history, for good.
+    pub fn into_entries(self) -> Vec<Entry>
+        ensures { result ≡ self.entries }
+    {
+        let Recorder {
+            limit: _,
+            state,
+            entries,
+            events,
+        } = self;
+        drop(state);
+        drop(events);
+        entries
+    }
+
+    /// Casts a message of this payload.
+    pub fn cast(&mut self, payload: &[u8]) -> Result<CastDone, CastRefusal>
+        requires { IsKept self.old }
+        ensures kept { IsKept self.new }
+        ensures done { IfOk result (HasCast (held_by self.old) (held_by self.new) payload.now) }
+        ensures refused { IfErr result (RefusesExactly (held_by self.old) payload.now) }
+        ensures same { OnErr result (held_by self.new ≡ held_by self.old) }
+    {
+        let entering = self.prepare_cast(payload)?;
+        Ok(self.enter_cast(entering))
+    }
+
+    /// Casts a message of this payload, and hands out a copy of the entry that it adds.
+    pub fn cast_noted(&mut self, payload: &[u8]) -> Result<(CastDone, Entry), CastRefusal>
+        requires { IsKept self.old }
+        ensures kept { IsKept self.new }
+        ensures done { IfOk result (λ noted. HasCast (held_by self.old) (held_by self.new)
+            payload.now noted.0) }
+        ensures entry { IfOk result (λ noted. entry_by (held_by self.old)
+            (ToCast payload.now) ≡ Some (entry_fields noted.1)) }
+        ensures refused { IfErr result (RefusesExactly (held_by self.old) payload.now) }
+        ensures same { OnErr result (held_by self.new ≡ held_by self.old) }
+    {
+        let entering = self.prepare_cast(payload)?;
+        let noted = entering.entry.copy()?;
+        Ok((self.enter_cast(entering), noted))
+    }
+
+    /// Makes all that the cast needs, and room for it. What is kept stays as it was.
+    fn prepare_cast(&mut self, payload: &[u8]) -> Result<EnteringCast, CastRefusal>
+        requires { IsKept self.old }
+        ensures kept { IsKept self.new }
+        ensures same { held_by self.new ≡ held_by self.old }
+        ensures can { IfOk result (CanEnterCast payload.now self.new) }
+        ensures refused { IfErr result (RefusesExactly (held_by self.old) payload.now) }
+    {
+        self.state.judge_payload(payload)?;
+        if self.is_full() {
+            return Err(CastRefusal::HistoryFull);
+        }
+        let casting = self.state.make(payload)?;
+        let time = casting.message.time.copy()?;
+        let entry = Entry::Cast {
+            frame: another(&casting.out)?,
+        };
+        self.reserve(1)?;
+        Ok(EnteringCast {
+            casting,
+            entry,
+            time,
+        })
+    }
+
+    /// Enters a cast that was made. This takes no memory.
+    fn enter_cast(&mut self, entering: EnteringCast) -> CastDone
+        requires { IsEnteringCast entering self.old }
+        ensures { EntersCast entering self.old self.new result }
+    {
+        let EnteringCast {
+            casting,
+            entry,
+            time,
+        } = entering;
+        let Casting { message, out, sent } = casting;
+        let name = message.name;
+        self.state.keep_cast(&time, sent);
+        push_within(&mut self.events, Event::Cast(message));
+        push_within(&mut self.entries, entry);
+        CastDone { name, time, out }
+    }
+
+    /// Reports the status to all, and asks for what is missing.
+    pub fn tick(&mut self) -> Result<Ticked, TickRefusal>
+        requires { IsKept self.old }
+        ensures kept { IsKept self.new }
+        ensures done { IfOk result (HasTicked (held_by self.old) (held_by self.new)) }
+        ensures refused { IfErr result (RefusesTick (held_by self.old)) }
+        ensures same { OnErr result (held_by self.new ≡ held_by self.old) }
+    {
+        let telling = self.prepare_tick()?;
+        Ok(self.enter_tick(telling))
+    }
+
+    /// Ticks as `tick` does, and hands out a copy of the entry, where one is added.
+    pub fn tick_noted(&mut self) -> Result<(Ticked, Option<Entry>), TickRefusal>
+        requires { IsKept self.old }
+        ensures kept { IsKept self.new }
+        ensures done { IfOk result (λ noted. HasTicked (held_by self.old) (held_by self.new)
+            noted.0) }
+        ensures entry { IfOk result (λ noted. entry_by (held_by self.old) ToTick
+            ≡ option_map entry_fields noted.1) }
+        ensures refused { IfErr result (RefusesTick (held_by self.old)) }
+        ensures same { OnErr result (held_by self.new ≡ held_by self.old) }
+    {
+        let telling = self.prepare_tick()?;
+        let noted = match &telling.entry {
+            Some(entry) => Some(entry.copy()?),
+            None => None,
+        };
+        Ok((self.enter_tick(telling), noted))
+    }
+
+    /// Makes all that a tick sends, and room for the entry of its status. What is kept stays as it was.
+    fn prepare_tick(&mut self) -> Result<Telling, TickRefusal>
+        requires { IsKept self.old }
+        ensures kept { IsKept self.new }
+        ensures same { held_by self.new ≡ held_by self.old }
+        ensures tells { IfOk result (Tells self.new) }
+        ensures refused { IfErr result (RefusesTick (held_by self.old)) }
+    {
+        let is_new = self.state.has_news();
+        if is_new && self.is_full() {
+            return Err(TickRefusal::HistoryFull);
+        }
+        let bytes = self.state.status_text()?;
+        let entry = entry_if(is_new, &bytes)?;
+        let mut out = self.state.requests()?;
+        out.insert(0, Outgoing { to: None, bytes })?;
+        self.reserve(0)?;
+        Ok(Telling { out, entry })
+    }
+
+    /// Enters the status, where it is new. This takes no memory.
+    fn enter_tick(&mut self, telling: Telling) -> Ticked
+        requires { Tells self.old telling }
+        ensures kept { IsKept self.new }
+        ensures done { HasTicked (held_by self.old) (held_by self.new) result }
+    {
+        let Telling { out, entry } = telling;
+        let Some(entry) = entry else {
+            let entered = false;
+            return Ticked { entered, out };
+        };
+        self.state.report();
+        push_within(&mut self.entries, entry);
+        let entered = true;
+        Ticked { entered, out }
+    }
+
+    /// Makes room for one more entry and for so many events. Nothing else changes.
+    fn reserve(&mut self, events: usize) -> Result<(), NoMemory>
+        ensures same { IsSame self.old self.new }
+        ensures room { OnOk result (HasRoom events self.new) }
+    {
+        make_room(&mut self.entries, 1)?;
+        make_room(&mut self.events, events)?;
+        Ok(())
+    }
+
+    fn is_full(&self) -> bool
+        ensures { result ≡ nat_le self.now.limit (length self.now.entries.items) }
+    {
+        self.entries.len() >= self.limit
+    }
+}
+
+fn entry_if(is_new: bool, status: &Bytes) -> Result<Option<Entry>, NoMemory>
+    ensures { IfOk result (λ entry. option_map entry_fields entry
+        ≡ if is_new then Some (TickEntry status.now) else None) }
+{
+    if !is_new {
+        return Ok(None);
+    }
+    Ok(Some(Entry::Tick {
+        status: another(status)?,
+    }))
+}

@@ -1,0 +1,283 @@
+//! Received bytes: a frame is distinguished by its kind once; what is wanted of it is made before anything changes.
+
+ghost use Rattle.std.specs.Prelude.{◌≡◌, ◌<◌, IfOk, IfErr, Ok, None, [], length};
+ghost use Rattle.cb_frames.specs.Fields.{cast_fields, fields_of, request_fields, status_fields, CastFrame, RequestFrame, StatusFrame};
+ghost use Rattle.cb_frames.specs.Laws.{IsBytes};
+ghost use Rattle.cb_frames.specs.Reading.{frame_at};
+ghost use Rattle.cb_history.specs.Facts.{ArriveEntry, entry_fields};
+ghost use Rattle.cb_member.specs.Answering.{RefusesBytes};
+ghost use Rattle.cb_member.specs.Arriving.{IsNew};
+ghost use Rattle.cb_member.specs.Recorder.{IsKept, held_by};
+ghost use Rattle.cb_member.specs.Received.{AnswersBytes, CanEnter, IsEntering, Enters, HasRoomForNames, names_of, received_says};
+ghost use Rattle.cb_history.specs.Answers.{Accepted};
+
+use crate::arrival::cast::Judged;
+use crate::arrival::course::Course;
+use crate::arrival::status;
+use crate::delivery::push_within;
+use crate::recorder::Recorder;
+use crate::recorder::taken::{Received, Taken, Wanted};
+use crate::text::another;
+use bytes::Bytes;
+use cb_delay::{Event, Message};
+use cb_frames::{Cast, Frame, FrameFault, Request, Status, decode, each_is_a_text_or_a_fault};
+use cb_history::{ArriveRefusal, Entry, Names};
+use cb_times::NoMemory;
+use std::alloc::Global;
+
+/// A cast that can be entered, and what is made for it before anything changes.
+#[derive(Drop)]
+pub struct Arriving {
+    pub cast: Cast,
+    pub course: Course,
+    pub entry: Named,
+    /// What the caller wants of it.
+    pub deliveries: Vec<Message>,
+    pub noted: Option<Named>,
+}
+
+/// The frame of an arrival, with the names of what is delivered by it.
+#[derive(Drop)]
+pub struct Named {
+    pub frame: Bytes,
+    pub delivered: Names,
+}
+
+impl Recorder {
+    /// Takes received bytes: delivers what they make ready, or answers a request.
+    pub fn take(&mut self, bytes: &Bytes, wanted: Wanted) -> Result<Taken, ArriveRefusal>
+        requires { IsKept self.old }
+        ensures { AnswersBytes wanted bytes.now self.old self.new result }
+    {
+        match read(self.state.alloc, bytes) {
+            Ok(Frame::Cast(cast)) => self.take_cast(bytes, cast, wanted),
+            Ok(Frame::Status(status)) => self.take_status(bytes, &status, wanted),
+            Ok(Frame::Request(request)) => self.take_request(bytes, &request, wanted),
+            Err(refusal) => Err(refusal),
+        }
+    }
+
+    fn take_cast(
+        &mut self,
+        bytes: &Bytes,
+        cast: Cast,
+        wanted: Wanted,
+    ) -> Result<Taken, ArriveRefusal>
+        requires kept { IsKept self.old }
+        requires bytes { IsBytes bytes.now }
+        requires read { frame_at bytes.now ≡ Ok (CastFrame (cast_fields cast)) }
+        ensures { AnswersBytes wanted bytes.now self.old self.new result }
+    {
+        match self.state.judge_cast(&cast) {
+            Ok(Judged::Repeat) => return Ok(unchanged(self.state.alloc, Received::Repeat)),
+            Ok(Judged::Taken) => {}
+            Err(refusal) => return Err(refusal),
+        }
+        if self.is_full() {
+            return Err(ArriveRefusal::HistoryFull);
+        }
+        let arriving = self.prepare(bytes, cast, wanted)?;
+        Ok(self.enter(arriving))
+    }
+
+    /// Makes what the cast needs, and what the caller wants of it. What is kept stays as it was.
+    fn prepare(&mut self, bytes: &Bytes, cast: Cast, wanted: Wanted) -> Result<Arriving, NoMemory>
+        requires kept { IsKept self.old }
+        requires bytes { IsBytes bytes.now }
+        requires read { frame_at bytes.now ≡ Ok (CastFrame (cast_fields cast)) }
+        requires new { IsNew (cast_fields cast) self.old.state }
+        requires few { length self.old.entries.items < self.old.limit }
+        ensures kept { IsKept self.new }
+        ensures same { held_by self.new ≡ held_by self.old }
+        ensures can { IfOk result (CanEnter wanted bytes.now self.new) }
+    {
+        let course = self.state.course_of(&cast)?;
+        let most = course.most();
+        self.reserve(most)?;
+        let deliveries = if wanted.deliveries {
+            self.state.foreseen(&cast, &course)?
+        } else {
+            Vec::new(self.state.alloc)
+        };
+        let noted = if wanted.entry {
+            Some(Named::with_room(self.state.alloc, bytes, most)?)
+        } else {
+            None
+        };
+        Ok(Arriving {
+            entry: Named::with_room(self.state.alloc, bytes, most)?,
+            cast,
+            course,
+            deliveries,
+            noted,
+        })
+    }
+
+    /// Takes the cast, and enters it with the names of what it delivers. This takes no memory.
+    fn enter(&mut self, arriving: Arriving) -> Taken
+        requires { IsEntering arriving self.old }
+        ensures { Enters arriving self.old self.new result }
+    {
+        let Arriving {
+            cast,
+            course,
+            entry,
+            deliveries,
+            noted,
+        } = arriving;
+        let first = self.events.len();
+        self.state.take_cast(cast, course, &mut self.events);
+        let delivered = &self.events[first..];
+        let noted = match noted {
+            Some(named) => Some(named.entry(delivered)),
+            None => None,
+        };
+        let entry = entry.entry(delivered);
+        push_within(&mut self.entries, entry);
+        let received = Received::Accepted {
+            delivered: self.events.len() - first,
+            changed: true,
+            out: Vec::new(self.state.alloc),
+        };
+        Taken {
+            received,
+            deliveries,
+            noted,
+        }
+    }
+
+    fn take_status(
+        &mut self,
+        bytes: &Bytes,
+        status: &Status,
+        wanted: Wanted,
+    ) -> Result<Taken, ArriveRefusal>
+        requires kept { IsKept self.old }
+        requires bytes { IsBytes bytes.now }
+        requires read { frame_at bytes.now ≡ Ok (StatusFrame (status_fields status.now)) }
+        ensures { AnswersBytes wanted bytes.now self.old self.new result }
+    {
+        // asked for what is true of every text
+        each_is_a_text_or_a_fault();
+        match self.state.judge_status(status) {
+            Ok(status::Judged::NoNews) => return Ok(unchanged(self.state.alloc, nothing(self.state.alloc, false))),
+            Ok(status::Judged::News) => {}
+            Err(refusal) => return Err(refusal),
+        }
+        if self.is_full() {
+            return Err(ArriveRefusal::HistoryFull);
+        }
+        let entry = heard_in(self.state.alloc, bytes)?;
+        let noted = if wanted.entry {
+            Some(heard_in(self.state.alloc, bytes)?)
+        } else {
+            None
+        };
+        self.reserve(0)?;
+        self.state.hear(status);
+        push_within(&mut self.entries, entry);
+        Ok(Taken {
+            received: nothing(self.state.alloc, true),
+            deliveries: Vec::new(self.state.alloc),
+            noted,
+        })
+    }
+
+    fn take_request(
+        &self,
+        bytes: &Bytes,
+        request: &Request,
+        wanted: Wanted,
+    ) -> Result<Taken, ArriveRefusal>
+        requires kept { IsKept self.now }
+        requires read { frame_at bytes.now ≡ Ok (RequestFrame (request_fields request.now)) }
+        ensures { AnswersBytes wanted bytes.now self.now self.now result }
+    {
+        match self.state.answer_request(request) {
+            Ok(out) => Ok(unchanged(
+                self.state.alloc,
+                Received::Accepted {
+                    delivered: 0,
+                    changed: false,
+                    out,
+                },
+            )),
+            Err(refusal) => Err(refusal),
+        }
+    }
+}
+
+impl Named {
+    /// Without names, with room for so many.
+    fn with_room(alloc: Global, bytes: &Bytes, room: usize) -> Result<Named, NoMemory>
+        ensures { IfOk result (HasRoomForNames bytes.now room) }
+    {
+        Ok(Named {
+            frame: another(bytes)?,
+            delivered: Names::with_capacity(alloc, room)?,
+        })
+    }
+
+    /// The entry with the names of what is delivered by these events. It keeps no more room than they need.
+    fn entry(self, events: &[Event]) -> Entry
+        requires { HasRoomForNames self.frame (length events.now) self }
+        ensures { entry_fields result ≡ ArriveEntry self.frame (names_of events.now) }
+    {
+        let Named {
+            frame,
+            mut delivered,
+        } = self;
+        for event in events {
+            if let Event::Deliver(message) = event {
+                delivered.push_reserved(message.name);
+            }
+        }
+        delivered.shrink_to_fit();
+        Entry::Arrive { frame, delivered }
+    }
+}
+
+/// The frame of the bytes. What is no frame is refused without memory.
+fn read(alloc: Global, bytes: &Bytes) -> Result<Frame, ArriveRefusal>
+    ensures frame { IfOk result (λ frame. frame_at bytes.now ≡ Ok (fields_of frame)) }
+    ensures refused { IfErr result (RefusesBytes bytes.now) }
+    ensures bytes { IsBytes bytes.now }
+{
+    match decode(alloc, bytes) {
+        Ok(frame) => Ok(frame),
+        Err(FrameFault::NoMemory) => Err(ArriveRefusal::NoMemory),
+        Err(fault) => Err(ArriveRefusal::Malformed(fault)),
+    }
+}
+
+/// The answer to what added no entry.
+fn unchanged(alloc: Global, received: Received) -> Taken
+    ensures { (result.received ≡ received) × (result.deliveries.items ≡ []) × (result.noted ≡ None) }
+{
+    Taken {
+        received,
+        deliveries: Vec::new(alloc),
+        noted: None,
+    }
+}
+
+/// The answer to a frame that delivers nothing, and to which nothing is sent.
+fn nothing(alloc: Global, changed: bool) -> Received
+    ensures { received_says result [] ≡ Accepted [] changed [] }
+{
+    Received::Accepted {
+        delivered: 0,
+        changed,
+        out: Vec::new(alloc),
+    }
+}
+
+/// The entry of a received status. It delivers nothing.
+fn heard_in(alloc: Global, bytes: &Bytes) -> Result<Entry, NoMemory>
+    ensures { IfOk result (λ entry. entry_fields entry ≡ ArriveEntry bytes.now []) }
+{
+    Ok(Entry::Arrive {
+        frame: another(bytes)?,
+        delivered: Names::new(alloc),
+    })
+}

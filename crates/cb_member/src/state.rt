@@ -1,0 +1,76 @@
+//! All that a member has to know of its history, and what it does with that.
+
+ghost use Rattle.std.specs.Prelude.{◌≡◌, ◌≢◌, ◌<◌, IfOk, length};
+ghost use Rattle.cb_history.specs.Group.{IsIdentity};
+ghost use Rattle.cb_history.specs.Known.{missing, ranges_of};
+ghost use Rattle.cb_member.specs.State.{IsNewState, IsState, IsAlike, OnAll};
+
+use crate::delivery::Delivery;
+use crate::knowledge::Knowledge;
+use crate::reception::Reception;
+use crate::sending::Sending;
+use cb_frames::{FrameBlock, Range};
+use cb_history::Identity;
+use cb_times::NoMemory;
+use std::alloc::Global;
+
+/// What a member knows: each part is what `specs/` says of the facts in its history, which it does not keep.
+///
+/// What its calls promise they promise of all facts that it may stand for.
+#[derive(Drop)]
+pub struct State {
+    pub alloc: Global,
+    pub seat: Identity,
+    pub delivery: Delivery,
+    pub reception: Reception,
+    pub knowledge: Knowledge,
+    pub sending: Sending,
+    /// Where the frames of its casts are made.
+    pub block: FrameBlock,
+}
+
+impl State {
+    /// Of a member that did nothing yet.
+    pub fn new(alloc: Global, seat: Identity) -> Result<State, NoMemory>
+        requires { IsIdentity seat }
+        ensures { IfOk result (IsNewState seat) }
+    {
+        let (size, window) = (seat.group().size(), seat.group().window());
+        Ok(State {
+            alloc,
+            seat,
+            delivery: Delivery::new(alloc, size, window)?,
+            reception: Reception::new(alloc, size, window)?,
+            knowledge: Knowledge::new(alloc, size)?,
+            sending: Sending::new(alloc, size, window)?,
+            block: FrameBlock::new(alloc),
+        })
+    }
+
+    pub fn copy(&self) -> Result<State, NoMemory>
+        ensures { IfOk result (IsAlike self.now) }
+    {
+        Ok(State {
+            alloc: self.alloc,
+            seat: self.seat,
+            delivery: self.delivery.copy()?,
+            reception: self.reception.copy()?,
+            knowledge: self.knowledge.copy()?,
+            sending: self.sending.copy()?,
+            block: FrameBlock::new(self.alloc),
+        })
+    }
+
+    /// The casts of member i that are missing.
+    pub fn missing(&self, i: u32) -> Result<Vec<Range>, NoMemory>
+        requires state { IsState self.now }
+        requires of_group { i < self.now.seat.group.size }
+        requires other { i ≢ self.now.seat.me }
+        ensures { IfOk result (λ ranges. OnAll self.now (λ facts. ranges.items
+            ≡ ranges_of (missing self.now.seat facts i))) }
+    {
+        let delivered = self.delivery.time.get(i);
+        let known = self.knowledge.known.get(i);
+        self.reception.buffers[i as usize].missing(delivered, known)
+    }
+}
