@@ -40,11 +40,11 @@ pub list_of-deques : (deques : List Deque) (i : ℕ) (d : Deque) → i < length 
     → list_of (lists_of deques) i ≡ d.items
 list_of-deques deques i d within e = get_or-map (λ (x : Deque). x.items) deques i d [] within ∙ ap (λ (x : Deque). x.items) (sym e)
 
-nil_of_length : {A : Type 0} (xs : List A) → length xs ≡ 0 → xs ≡ []
+pub nil_of_length : {A : Type 0} (xs : List A) → length xs ≡ 0 → xs ≡ []
 nil_of_length [] e = refl
 nil_of_length (x ∷ xs) e = absurd (omega (arith, e))
 
-length-lists_of : (deques : List Deque) → length (lists_of deques) ≡ length deques
+pub length-lists_of : (deques : List Deque) → length (lists_of deques) ≡ length deques
 length-lists_of deques = length-map deques (λ (x : Deque). x.items)
 
 lists_of-set : (deques : List Deque) (sender : ℕ) (d : Deque) → lists_of (set deques sender d) ≡ set (lists_of deques) sender d.items

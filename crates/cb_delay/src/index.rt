@@ -1,5 +1,5 @@
 //! Where each sender's candidate stands at the time of the last answer, so that the next looks at few.
-ghost use Rattle.std.specs.Prelude.{◌≡◌, ◌≢◌, ◌+◌, ◌<◌, ◌≤◌, ℕ, List, IfOk};
+ghost use Rattle.std.specs.Prelude.{◌≡◌, ◌≢◌, ◌+◌, ◌<◌, ◌≤◌, ℕ, List, IfOk, true};
 ghost use Rattle.std.specs.Prelude.{length, map, slice_index, slice_set};
 ghost use Rattle.std.specs.Int.{bit_at};
 ghost use Rattle.cb_times.specs.Group.{IsGroupSize};
@@ -80,6 +80,23 @@ impl Index {
         }
         self.go_to(now);
         self.look_at_the_stale(lists);
+    }
+
+    /// Whether nobody is ready, nor reached once one more message of this member is delivered.
+    pub fn none_goes_with(&self, member: u32) -> bool
+        requires member { member < length self.now.last }
+        requires shape { HasShape (length self.now.last) self.now }
+        ensures none { result ≡ true → self.now.ready ≡ 0 }
+        ensures none_reached { result ≡ true → (i value : ℕ)
+            → bit_at (slice_index self.now.waiting.items member) i ≡ 1
+            → place_of self.now.places.items i ≡ Waits member value
+            → field self.now.last member + 1 < value }
+    {
+        let Some(count) = self.last.get(member).checked_add(1) else {
+            return false;
+        };
+        self.ready == 0
+            && walk_over(self.waiting[member as usize], &self.places, member, count).reached == 0
     }
 
     /// Makes this the time of the index.
