@@ -6,8 +6,8 @@ ghost use Rattle.cb_delay.specs.Message.{IsOfGroup};
 ghost use Rattle.cb_delay.specs.Queue.{IsNew, Holds, Releases, HoldsNoneOf, IsHeld, IsDelayQueue, IsFirst, IsSmallestReady, HasReady, HasNoneReady, with_one_more, FollowsLast, count_of};
 
 use crate::index::Index;
-use crate::members;
 use crate::message::Message;
+use crate::{lists, members};
 use cb_times::{Name, NoMemory, VectorTime};
 use std::alloc::Global;
 use std::collections::VecDeque;
@@ -73,6 +73,20 @@ impl DelayQueue {
             window,
             lists,
             held: 0,
+            index,
+        })
+    }
+
+    /// A second queue that holds copies of the same messages, with the same room; their payloads are shared.
+    pub fn copy(&self) -> Result<DelayQueue, NoMemory>
+        ensures { IfOk result (λ copy. copy ≡ self.now) }
+    {
+        let lists = lists::copies(*self.lists.allocator(), &self.lists, self.window)?;
+        let index = self.index.copy()?;
+        Ok(DelayQueue {
+            window: self.window,
+            lists,
+            held: self.held,
             index,
         })
     }
