@@ -1,5 +1,5 @@
 -- A stamp that counts the message itself, one more than was delivered of its sender, is ready where it counts more of nobody else.
-use Rattle.std.proofs.Common.{◌≡◌, ◌≢◌, ◌⊎◌, ℕ, zero, suc, ◌+◌, ◌<◌, ◌≤◌, Bool, true, false, cond, List, ◌∷◌, length, refl, sym, ap, ◌∙◌, arith, inl, inr}
+use Rattle.std.proofs.Common.{◌≡◌, ◌≢◌, ◌⊎◌, ℕ, zero, suc, ◌+◌, ◌<◌, ◌≤◌, Bool, true, false, cond, List, [], ◌∷◌, length, refl, sym, ap, ◌∙◌, arith, inl, inr}
 use Rattle.std.specs.Prelude.{count_by}
 use Rattle.std.specs.List.{range_with_len}
 use Rattle.std.proofs.lemmas.Bool.{cases_eq, cases_lt, lt-ltb, le-ltb}
@@ -8,11 +8,36 @@ use Rattle.std.proofs.lemmas.List.Sums.{sum_by-cons}
 use Rattle.cb_times.specs.Order.{field}
 use Rattle.cb_delay.specs.Rule.{IsReady, is_above}
 
-abbrev one_if : Bool → ℕ
+abbrev pub one_if : Bool → ℕ
 one_if b = cond b 1 0
 
 count_more : (p : ℕ → Bool) (k : ℕ) (ks : List ℕ) → count_by p (k ∷ ks) ≡ one_if (p k) + count_by p ks
 count_more p k ks = sum_by-cons (λ k. cond (p k) 1 0) k ks
+
+one_at_most : (b : Bool) → one_if b ≤ 1
+one_at_most true = omega arith
+one_at_most false = omega arith
+
+-- one more of a range is counted, where it is above
+counted_more : (p : ℕ → Bool) (a n : ℕ) → count_by p (range_with_len a (suc n)) ≡ count_by p (range_with_len a n) + one_if (p (a + n))
+counted_more p a zero =
+    let here : one_if (p (a + 0)) ≡ one_if (p a) = ap (λ k. one_if (p k)) (omega arith) in
+    omega (arith, count_more p a [], here)
+counted_more p a (suc n) =
+    let here : one_if (p (a + 1 + n)) ≡ one_if (p (a + suc n)) = ap (λ k. one_if (p k)) (omega arith) in
+    let more : count_by p (range_with_len a (suc (suc n))) ≡ one_if (p a) + count_by p (range_with_len (a + 1) (suc n)) = count_more p a (range_with_len (a + 1) (suc n)) in
+    let fewer : count_by p (range_with_len a (suc n)) ≡ one_if (p a) + count_by p (range_with_len (a + 1) n) = count_more p a (range_with_len (a + 1) n) in
+    omega (arith, more, fewer, counted_more p (a + 1) n, here)
+
+-- and so it goes on where one field after another is counted
+pub counted_so_far : (p : ℕ → Bool) (n above one : ℕ) → one ≡ one_if (p n) → above ≡ count_by p (range_with_len 0 n) → above ≤ n
+    → (above + one ≡ count_by p (range_with_len 0 (n + 1))) × (above + one ≤ n + 1)
+counted_so_far p n above one here so_far few =
+    let after : n + 1 ≡ suc n = omega arith in
+    let next : count_by p (range_with_len 0 (n + 1)) ≡ count_by p (range_with_len 0 (suc n)) = ap (λ k. count_by p (range_with_len 0 k)) after in
+    let at : 0 + n ≡ n = omega arith in
+    let place : one_if (p (0 + n)) ≡ one_if (p n) = ap (λ k. one_if (p k)) at in
+    (omega (arith, here, so_far, next, place, counted_more p 0 n), omega (arith, here, few, one_at_most (p n)))
 
 both : (b : Bool) → (b ≡ true) ⊎ (b ≡ false)
 both true = inl refl

@@ -2,20 +2,23 @@
 use Rattle.std.proofs.Common.{◌≡◌, ℕ, ◌<◌, ◌≤◌, ◌==◌, cond, List, [], length, replicate, sym, ◌∙◌, ap, subst, arith, slice_index, Some, None, inl, inr}
 use Rattle.std.specs.Prelude.{Option, IfSome, IfNone}
 use Rattle.std.specs.Int.{bit_at}
+use Rattle.std.proofs.Math.ListN.{set}
 use Rattle.std.proofs.lemmas.Bool.{cases_lt}
 use Rattle.std.proofs.lemmas.Bool.Decides.{eqb_tells}
 use Rattle.std.proofs.lemmas.List.{get_or_past, get_or-replicate, length-replicate}
 use Rattle.std.proofs.lemmas.Nat.Bits.{bit_at-zero}
 use Rattle.cb_times.specs.Group.{IsGroupSize}
+use Rattle.cb_times.specs.Order.{field}
 use Rattle.cb_delay.specs.declared.index.Index.{Index}
 use Rattle.cb_delay.specs.declared.message.Message.{Message}
 use Rattle.cb_delay.specs.declared.place.Place.{Place}
 use Rattle.cb_delay.specs.declared.place.Place.TheVariants.{Free, Ready, Waits}
-use Rattle.cb_delay.specs.Queue.{HasReady, IsSmallestReady}
+use Rattle.cb_delay.specs.Queue.{HasReady, HasNoneReady, IsSmallestReady}
 use Rattle.cb_delay.specs.Lists.{AreLists, list_of, queue_of, with_looks, HasSomeReady}
 use Rattle.cb_delay.specs.Index.{IsPlaced, IsIndex, IsFresh, HasShape, Tells, place_of, settled_at}
 use Rattle.cb_delay.proofs.Kept.{has_ready, has_none_ready}
 use Rattle.cb_delay.proofs.Candidates.{none_ready_at}
+use Rattle.cb_delay.proofs.Telling.{place_stays}
 
 module _ (window : ℕ) (lists : List (List Message)) (are : AreLists window lists) (index : Index)
     (shape : HasShape (length lists) index) (told : Tells lists index) (settled : index.stale ≡ 0) where
@@ -73,6 +76,32 @@ module _ (window : ℕ) (lists : List (List Message)) (are : AreLists window lis
         → IfNone result ((i : ℕ) → ¬ HasReady (with_looks (queue_of window lists) looked when) now i)
     answers_none None zero = none_ready zero
     answers_none (Some i) zero = tt
+
+  -- where one more message of a sender is delivered of whom none is held, who does not wait for that one stays where it is
+  module _ (sender count : ℕ) (within : sender < length index.last) (more : field index.last sender < count)
+      (empty : list_of lists sender ≡ []) (none : index.ready ≡ 0)
+      (waits : (i value : ℕ) → bit_at (slice_index index.waiting.items sender) i ≡ 1 → place_of index.places.items i ≡ Waits sender value → count < value) where
+    none_with : (i : ℕ) → ¬ HasSomeReady i (set index.last sender count) (list_of lists i)
+    none_with i = elim (eqb_tells i sender) [
+      | inl at ↦ λ some. omega (arith, some.2, ap length (ap (list_of lists) at.1 ∙ empty))
+      | inr apart ↦ elim (cases_lt i (length index.last)) [
+        | inl below ↦
+            let zero : bit_at index.ready i ≡ 0 = ap (λ n. bit_at n i) none ∙ bit_at-zero i in
+            let place = place_of index.places.items i in
+            none_ready_at (length lists) i (list_of lists i) (are.runs i) (set index.last sender count) place
+            (λ same. omega (arith, zero, (told.ready_ones i (known i)).1 same))
+            (place_stays i sender count index.last apart.1 within more (list_of lists i) place
+            (λ value same. waits i value (told.waits i sender value (known i) same) same)
+            (told.placed i below (known i)))
+        | inr past ↦ λ some.
+            let nothing : list_of lists i ≡ [] = get_or_past lists i [] (omega (arith, past, shape.time_size)) in
+            omega (arith, some.2, ap length nothing)
+      ]
+    ]
+
+    pub none_ready_with : (looked : ℕ) (when : Option (List ℕ))
+        → HasNoneReady (with_looks (queue_of window lists) looked when) (set index.last sender count)
+    none_ready_with looked when i = has_none_ready window lists are i (set index.last sender count) (none_with i)
 
 -- a settled queue is so at this time
 pub settled_now : (index : Index) (now : List ℕ) → index.stale ≡ 0 → index.last ≡ now → settled_at index ≡ Some now

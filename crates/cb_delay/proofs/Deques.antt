@@ -13,7 +13,7 @@ use Rattle.std.proofs.lemmas.List.Sums.{sum_by-cons, sum_by-le, sum_by-set}
 use Rattle.std.specs.Int.{bit_at}
 use Rattle.cb_times.specs.Order.{field}
 use Rattle.cb_delay.specs.declared.index.Index.{Index}
-use Rattle.cb_delay.specs.Index.{IsIndex, HasShape, IsFresh}
+use Rattle.cb_delay.specs.Index.{IsIndex, IsSameIndex, HasShape, IsFresh}
 use Rattle.cb_delay.proofs.Telling.{told_holding, told_releasing}
 use Rattle.cb_delay.proofs.Answering.{fresh_index}
 use Rattle.std.proofs.Math.Nat.{mul-le-mul_right}
@@ -40,11 +40,11 @@ pub list_of-deques : (deques : List Deque) (i : ℕ) (d : Deque) → i < length 
     → list_of (lists_of deques) i ≡ d.items
 list_of-deques deques i d within e = get_or-map (λ (x : Deque). x.items) deques i d [] within ∙ ap (λ (x : Deque). x.items) (sym e)
 
-nil_of_length : {A : Type 0} (xs : List A) → length xs ≡ 0 → xs ≡ []
+pub nil_of_length : {A : Type 0} (xs : List A) → length xs ≡ 0 → xs ≡ []
 nil_of_length [] e = refl
 nil_of_length (x ∷ xs) e = absurd (omega (arith, e))
 
-length-lists_of : (deques : List Deque) → length (lists_of deques) ≡ length deques
+pub length-lists_of : (deques : List Deque) → length (lists_of deques) ≡ length deques
 length-lists_of deques = length-map deques (λ (x : Deque). x.items)
 
 lists_of-set : (deques : List Deque) (sender : ℕ) (d : Deque) → lists_of (set deques sender d) ≡ set (lists_of deques) sender d.items
@@ -344,3 +344,23 @@ all_of_group_here window deques are n size k d below =
     let list = list_of-deques deques k (get_or deques k d) below (again deques k d below) in
     subst (λ (m : ℕ). All (IsOfGroup m) (get_or deques k d).items) (sym size)
     (subst (λ (l : List Message). All (IsOfGroup (length (lists_of deques))) l) list (all_of_group window (lists_of deques) are k))
+
+-- no list is longer than the window
+pub few_each : (window : ℕ) (deques : List Deque) → AreLists window (lists_of deques) → All (λ (d : Deque). deque_len d ≤ window) deques
+few_each window deques are k d below =
+    let list = list_of-deques deques k (get_or deques k d) below (again deques k d below) in
+    let items : length (list_of (lists_of deques) k) ≡ length (get_or deques k d).items = ap length list in
+    omega (arith, deque_len-items (get_or deques k d), items, are.room k)
+
+-- of copied lists holds what held of them, and what an index of them said
+module _ (deques copies : List Deque) (same : lists_of copies ≡ lists_of deques) where
+  pub copied_lists : (window : ℕ) → AreLists window (lists_of deques) → AreLists window (lists_of copies)
+  copied_lists window are = subst (λ (ls : List (List Message)). AreLists window ls) (sym same) are
+
+  pub copied_index : (index other : Index) → IsSameIndex index other → IsIndex (lists_of deques) index → IsIndex (lists_of copies) other
+  copied_index index other as_was is = rw (same, as_was.last, as_was.places, as_was.waiting, as_was.ready, as_was.stale) is
+
+  pub copied_sum : (held : ℕ) → held ≡ sum_by (λ (d : Deque). deque_len d) deques → held ≡ sum_by (λ (d : Deque). deque_len d) copies
+  copied_sum held is =
+      let entries : length (all_entries (lists_of copies)) ≡ length (all_entries (lists_of deques)) = ap (λ ls. length (all_entries ls)) same in
+      omega (arith, is, entries, sum-lengths deques, sum-lengths copies)

@@ -1,5 +1,5 @@
 -- What a delay queue holds.
-use Rattle.std.specs.Prelude.{◌≡◌, ◌≢◌, ℕ, ◌+◌, ◌==◌, ◌<◌, ◌≤◌, ◌↔◌, List, Option, IsSome, Some, count_by, refl}
+use Rattle.std.specs.Prelude.{◌≡◌, ◌≢◌, ℕ, ◌+◌, ◌==◌, ◌<◌, ◌≤◌, ◌↔◌, List, Option, IsSome, Some, count_by, refl, slice_set}
 use Rattle.std.specs.Coded.{Coded, code_by, coded×, coded_list, coded_option, coded_ℕ}
 use Rattle.std.specs.FinMap as map
 use Rattle.cb_times.specs.Order.{field}
@@ -65,6 +65,14 @@ FollowsLast queue name = (last : Message) → IsLast queue name.sender last → 
 abbrev pub HasReady : Queue → List ℕ → ℕ → Type 0
 HasReady queue now sender =
     (message : Message) × IsHeld queue message × (message.name.sender ≡ sender) × IsReady sender (field message.time) (field now)
+
+-- no message held may be delivered at this time
+abbrev pub HasNoneReady : Queue → List ℕ → Type 0
+HasNoneReady queue now = (sender : ℕ) → ¬ HasReady queue now sender
+
+-- the time once one more message of this sender is delivered
+abbrev pub with_one_more : List ℕ → ℕ → List ℕ
+with_one_more now sender = slice_set now sender (field now sender + 1)
 
 -- of the senders with such a message this one is the smallest
 pub record IsSmallestReady (queue : Queue) (now : List ℕ) (sender : ℕ) : Type 0 where

@@ -1,12 +1,12 @@
 //! Where each sender's candidate stands at the time of the last answer, so that the next looks at few.
-ghost use Rattle.std.specs.Prelude.{◌≡◌, ◌≢◌, ◌+◌, ◌<◌, ◌≤◌, ℕ, List, IfOk};
+ghost use Rattle.std.specs.Prelude.{◌≡◌, ◌≢◌, ◌+◌, ◌<◌, ◌≤◌, ℕ, List, IfOk, true};
 ghost use Rattle.std.specs.Prelude.{length, map, slice_index, slice_set};
 ghost use Rattle.std.specs.Int.{bit_at};
 ghost use Rattle.cb_times.specs.Group.{IsGroupSize};
 ghost use Rattle.cb_times.specs.Order.{field};
 ghost use Rattle.cb_delay.specs.declared.message.Message.{Message};
 ghost use Rattle.cb_delay.specs.declared.place.Place.TheVariants.{Ready, Waits};
-ghost use Rattle.cb_delay.specs.Index.{IsFresh, HasShape, Tells, AreRuns, IsPlaced, place_of};
+ghost use Rattle.cb_delay.specs.Index.{IsFresh, IsSameIndex, HasShape, Tells, AreRuns, IsPlaced, place_of};
 ghost use Rattle.cb_delay.specs.Lists.{list_of};
 
 use crate::members;
@@ -49,6 +49,20 @@ impl Index {
         })
     }
 
+    /// A second index that says the same.
+    pub fn copy(&self) -> Result<Index, NoMemory>
+        ensures { IfOk result (IsSameIndex self.now) }
+    {
+        Ok(Index {
+            last: self.last.copy()?,
+            places: Vec::from_slice(*self.places.allocator(), &self.places)?,
+            waiting: Vec::from_slice(*self.waiting.allocator(), &self.waiting)?,
+            ready: self.ready,
+            stale: self.stale,
+            looked: self.looked,
+        })
+    }
+
     /// Who is stale once the message of this number is held of this sender.
     pub fn stale_with(&self, sender: u32, number: u32) -> u64
         requires sender { sender < length self.now.last }
@@ -80,6 +94,23 @@ impl Index {
         }
         self.go_to(now);
         self.look_at_the_stale(lists);
+    }
+
+    /// Whether nobody is ready, nor reached once one more message of this member is delivered.
+    pub fn none_goes_with(&self, member: u32) -> bool
+        requires member { member < length self.now.last }
+        requires shape { HasShape (length self.now.last) self.now }
+        ensures none { result ≡ true → self.now.ready ≡ 0 }
+        ensures none_reached { result ≡ true → (i value : ℕ)
+            → bit_at (slice_index self.now.waiting.items member) i ≡ 1
+            → place_of self.now.places.items i ≡ Waits member value
+            → field self.now.last member + 1 < value }
+    {
+        let Some(count) = self.last.get(member).checked_add(1) else {
+            return false;
+        };
+        self.ready == 0
+            && walk_over(self.waiting[member as usize], &self.places, member, count).reached == 0
     }
 
     /// Makes this the time of the index.

@@ -6,6 +6,7 @@
 
 mod index;
 pub mod laws;
+mod lists;
 mod members;
 mod message;
 mod place;

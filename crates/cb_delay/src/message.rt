@@ -1,7 +1,7 @@
 //! A message of the group, with the name and the time that its sender gave it, and what a member does with it.
 //!
 //! Birman, Schiper and Stephenson 1991, section 5.
-ghost use Rattle.std.specs.Prelude.{◌≡◌, ◌<◌, ◌↔◌, IfOk, IsTrue, length, count_by};
+ghost use Rattle.std.specs.Prelude.{◌≡◌, ◌<◌, ◌≤◌, ◌↔◌, IfOk, IsTrue, length, count_by};
 ghost use Rattle.std.specs.List.{range_with_len};
 ghost use Rattle.cb_times.specs.Order.{field};
 ghost use Rattle.cb_delay.specs.Message.{IsOfGroup};
@@ -55,15 +55,18 @@ pub fn is_ready(sender: u32, time: &VectorTime, now: &VectorTime) -> bool
     counts[own].checked_add(1) == Some(stamps[own]) && count_above(stamps, counts) == 1
 }
 
-/// In how many fields the first is above the second. It looks at all of them, so that the compiler can take many at a time.
-fn count_above(stamps: &[u32], counts: &[u32]) -> usize
-    requires { length stamps.now ≡ length counts.now }
+/// In how many fields the first is above the second. It looks at all of them, so that the compiler takes many at a time.
+fn count_above(stamps: &[u32], counts: &[u32]) -> u32
+    requires size { length stamps.now ≡ length counts.now }
+    requires few { length counts.now ≤ 64 }
     ensures { result ≡ count_by (is_above (field stamps.now) (field counts.now))
         (range_with_len 0 (length counts.now)) }
 {
-    (0..counts.len())
-        .filter(|k| stamps[*k] > counts[*k])
-        .count()
+    let mut above = 0;
+    for k in 0..counts.len() {
+        above += u32::from(stamps[k] > counts[k]);
+    }
+    above
 }
 
 /// What a member did with a message.

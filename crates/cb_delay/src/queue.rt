@@ -1,13 +1,13 @@
 //! The delay queue: a list for each sender, and an index of which of them wait for whom.
-ghost use Rattle.std.specs.Prelude.{◌≡◌, ◌<◌, ◌≤◌, ℕ, length, IfOk, IfSome, IfNone, Some};
+ghost use Rattle.std.specs.Prelude.{◌≡◌, ◌<◌, ◌≤◌, ℕ, length, IfOk, IfSome, IfNone, Some, true};
 ghost use Rattle.std.specs.FinMap as map;
 ghost use Rattle.cb_times.specs.Group.{IsGroupSize, IsWindow};
 ghost use Rattle.cb_delay.specs.Message.{IsOfGroup};
-ghost use Rattle.cb_delay.specs.Queue.{IsNew, Holds, Releases, HoldsNoneOf, IsHeld, IsDelayQueue, IsFirst, IsSmallestReady, HasReady, FollowsLast, count_of};
+ghost use Rattle.cb_delay.specs.Queue.{IsNew, Holds, Releases, HoldsNoneOf, IsHeld, IsDelayQueue, IsFirst, IsSmallestReady, HasReady, HasNoneReady, with_one_more, FollowsLast, count_of};
 
 use crate::index::Index;
-use crate::members;
 use crate::message::Message;
+use crate::{lists, members};
 use cb_times::{Name, NoMemory, VectorTime};
 use std::alloc::Global;
 use std::collections::VecDeque;
@@ -77,6 +77,20 @@ impl DelayQueue {
         })
     }
 
+    /// A second queue that holds copies of the same messages, with the same room; their payloads are shared.
+    pub fn copy(&self) -> Result<DelayQueue, NoMemory>
+        ensures { IfOk result (λ copy. copy ≡ self.now) }
+    {
+        let lists = lists::copies(*self.lists.allocator(), &self.lists, self.window)?;
+        let index = self.index.copy()?;
+        Ok(DelayQueue {
+            window: self.window,
+            lists,
+            held: self.held,
+            index,
+        })
+    }
+
     /// How many messages of one sender the queue has room for.
     pub fn window(&self) -> u32
         ensures window { result ≡ self.now.window }
@@ -119,6 +133,28 @@ impl DelayQueue {
     {
         self.index.settle(&self.lists, now);
         members::first(self.index.ready)
+    }
+
+    /// Whether all that is held must wait on: none of it may be delivered at this time, nor once one more message of this sender is.
+    ///
+    /// For who decides how a received message of that sender is taken. What is held stays. Where the answer is `false`, something
+    /// may still have to wait: so it is wherever a message of that sender is held.
+    pub fn leaves_waiting(&mut self, now: &VectorTime, sender: u32) -> bool
+        requires length { length now.now ≡ self.old.size }
+        requires sender { sender < self.old.size }
+        ensures none { result ≡ true → HasNoneReady self.old now.now }
+        ensures none_next { result ≡ true → HasNoneReady self.old (with_one_more now.now sender) }
+        ensures same { Holds self.old self.new self.old.held }
+        ensures queue { IsDelayQueue self.old }
+        ensures settled { self.new.settled ≡ Some now.now }
+        ensures free { self.old.settled ≡ Some now.now → self.new.looked ≡ self.old.looked }
+        ensures counts { self.old.looked ≤ self.new.looked }
+    {
+        self.index.settle(&self.lists, now);
+        if !self.lists[sender as usize].is_empty() {
+            return false;
+        }
+        self.index.none_goes_with(sender)
     }
 
     /// Takes out the message of this sender with the smallest number, where one is held.

@@ -1,0 +1,48 @@
+use Rattle.std.proofs.Common.{◌≡◌, ◌+◌, ◌<◌, ℕ, [], length, arith, subst, sym, ap, ◌∙◌}
+use Rattle.std.specs.VecDeque.{deque_len}
+use Rattle.std.proofs.lemmas.Bool.{eqb-true}
+use Rattle.cb_times.specs.Order.{field}
+use Rattle.cb_delay.specs.Lists.{list_of}
+use Rattle.cb_delay.specs.Index.{HasShape, settled_at}
+use Rattle.cb_delay.proofs.Kept.{is_delay_queue}
+use Rattle.cb_delay.proofs.Deques.{lists_of, length-lists_of, list_of-deques, nil_of_length, queue_seen}
+use Rattle.cb_delay.proofs.Answering.{none_ready, none_ready_with}
+use Rattle.cb_delay.proofs.queue.DelayQueue.leaves_waiting.Goals as goal
+
+pub settle-requires-clause-runs : goal.settle-requires-clause-runs
+settle-requires-clause-runs c = rw c.deref.ensures.value c.self.invariant.0.runs
+
+pub returns-clause-none : goal.returns-clause-none
+returns-clause-none c waits =
+    let size = rw (← c.self.view_is) at c.requires.length in
+    let told = rw c.deref.ensures.value at c.settle.ensures.told in
+    rw (← c.self.view_is)
+    (none_ready c.self.inside.window (lists_of c.self.inside.lists.items) c.self.invariant.0 c.settle.new.self
+    (subst (λ (n : ℕ). HasShape n c.settle.new.self) size c.settle.ensures.shape) told c.settle.ensures.stale
+    c.args.now.now c.settle.ensures.last c.self.inside.index.looked (settled_at c.self.inside.index)
+    (c.none_goes_with.ensures.none waits))
+
+pub returns-then-not-is_empty-clause-queue : goal.returns-then-not-is_empty-clause-queue
+returns-then-not-is_empty-clause-queue c =
+    rw (← c.self.view_is) (queue_seen _ _ (is_delay_queue c.self.inside.window (lists_of c.self.inside.lists.items) c.self.invariant.0))
+
+pub returns-clause-none_next : goal.returns-clause-none_next
+returns-clause-none_next c waits =
+    let size = rw (← c.self.view_is) at c.requires.length in
+    let below = rw (← c.self.view_is) at c.requires.sender in
+    let told = rw c.deref.ensures.value at c.settle.ensures.told in
+    let deques = c.self.inside.lists.items in
+    let within : c.args.sender < length deques = omega (arith, below, length-lists_of deques) in
+    let none_held : deque_len c.index.result.now ≡ 0 = eqb-true (deque_len c.index.result.now) 0 (sym c.is_empty.ensures ∙ c.if-not-is_empty.false) in
+    let empty : list_of (lists_of deques) c.args.sender ≡ [] =
+    list_of-deques deques c.args.sender c.index.result.now within c.index.ensures ∙ nil_of_length c.index.result.now.items (omega (arith, none_held, c.index.result.now.ok.0)) in
+    rw (← c.self.view_is, ← c.settle.ensures.last)
+    (none_ready_with c.self.inside.window (lists_of deques) c.self.invariant.0 c.settle.new.self
+    (subst (λ (n : ℕ). HasShape n c.settle.new.self) size c.settle.ensures.shape) told c.settle.ensures.stale
+    c.args.sender (field c.settle.new.self.last c.args.sender + 1)
+    (omega (arith, below, size, ap length c.settle.ensures.last)) (omega arith) empty (c.none_goes_with.ensures.none waits)
+    (c.none_goes_with.ensures.none_reached waits) c.self.inside.index.looked (settled_at c.self.inside.index))
+
+pub returns-clause-queue : goal.returns-clause-queue
+returns-clause-queue c =
+    rw (← c.self.view_is) (queue_seen _ _ (is_delay_queue c.self.inside.window (lists_of c.self.inside.lists.items) c.self.invariant.0))
