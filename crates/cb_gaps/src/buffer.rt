@@ -4,7 +4,7 @@ ghost use Rattle.std.specs.FinMap as fin;
 ghost use Rattle.std.specs.VecDeque.{deque_len, deque_capacity};
 ghost use Rattle.cb_frames.specs.Fields.{cast_fields};
 ghost use Rattle.cb_times.specs.Group.{IsWindow};
-ghost use Rattle.cb_gaps.specs.Buffer.{IsNew, Admits, IsAnswer, IsAfter, IsNext, Passes, Takes, IsMissing, IsReorderBuffer, WouldComeOut};
+ghost use Rattle.cb_gaps.specs.Buffer.{IsNew, Admits, IsAnswer, IsAfter, IsNext, IsInOrder, Takes, IsMissing, IsReorderBuffer, WouldComeOut};
 ghost use Rattle.cb_gaps.specs.Ranges.{AreRangesOf, IsRow, gap_between};
 ghost use Rattle.cb_gaps.specs.Lists.{Rise, HasNumber, IsGap, IsPlaceFor};
 
@@ -36,10 +36,10 @@ pub enum Admission {
 /// }
 /// ```
 ///
-/// A cast that would come out alone need not be kept: where `passes` says so of its number, `pass` takes it.
+/// A cast that would come out alone need not be kept: where `is_in_order` says so of its number, `take_in_order` takes it.
 ///
 /// `judge` and `ready_with` say beforehand what `keep` would answer and how many casts would then come out. `missing` names the
-/// numbers that have not come, for a request. `new` reserves all places, and `missing` takes memory for its answer.
+/// numbers that have not come, for a request. `new` and `copy` reserve all places, and `missing` takes memory for its answer.
 #[derive(Debug, Drop)]
 pub struct Reorder {
     /// How far above the delivered casts a number may be, 1 to 256.
@@ -164,15 +164,16 @@ impl Reorder {
         Admission::Kept
     }
 
-    /// Whether a cast of this number would come out alone: it is the next one, and none is kept. `pass` then takes it unkept.
-    pub fn passes(&self, number: u32) -> bool
-        ensures { IsTrue result ↔ Passes self.now number }
+    /// Whether a cast of this number would come out alone: it is the next one, and none is kept. `take_in_order` then takes
+    /// it unkept.
+    pub fn is_in_order(&self, number: u32) -> bool
+        ensures { IsTrue result ↔ IsInOrder self.now number }
     {
         self.kept.is_empty() && follows(number, self.taken)
     }
 
     /// Counts the next cast as taken, which the caller has in hand: as if it were kept and taken out, where none is kept.
-    pub fn pass(&mut self)
+    pub fn take_in_order(&mut self)
         requires none { self.old.kept ≡ fin.empty }
         requires room { self.old.taken + 1 < 2 ^ 32 }
         ensures { self.new ≡ record self.old { taken = self.old.taken + 1 } }

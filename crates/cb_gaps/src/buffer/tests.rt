@@ -22,8 +22,8 @@ enum Call {
     Len,
     /// The next cast.
     Take,
-    /// To take a cast of this number without keeping it, where it passes.
-    Pass(u32),
+    /// To take a cast of this number without keeping it, where it is in order.
+    TakeInOrder(u32),
     /// What is missing: how many are delivered, and the greatest number that was heard of.
     Missing(u32, u32),
 }
@@ -73,13 +73,13 @@ fn tell_ranges(ranges: &[Range], text: &mut String) -> Result<(), NoMemory> {
     Ok(())
 }
 
-/// Takes a cast of this number where it passes.
-fn passed(reorder: &mut Reorder, number: u32) -> bool {
-    let passes = reorder.passes(number);
-    if passes {
-        reorder.pass();
+/// Takes a cast of this number where it is in order.
+fn takes_in_order(reorder: &mut Reorder, number: u32) -> bool {
+    let is_in_order = reorder.is_in_order(number);
+    if is_in_order {
+        reorder.take_in_order();
     }
-    passes
+    is_in_order
 }
 
 fn answer(
@@ -98,8 +98,8 @@ fn answer(
         Call::ReadyWith(number) => write!(text, "{}", reorder.ready_with(number)),
         Call::Len => write!(text, "{}", reorder.len()),
         Call::Take => tell_cast(&reorder.take_next(), text),
-        Call::Pass(number) => text.push_str(if passed(reorder, number) {
-            "passed"
+        Call::TakeInOrder(number) => text.push_str(if takes_in_order(reorder, number) {
+            "taken"
         } else {
             "no"
         }),
@@ -247,21 +247,21 @@ fn what_would_come_out_is_reported_before_it_is_kept(rt: HostRuntime) {
 }
 
 #[test]
-fn a_cast_passes_where_it_is_the_next_one_and_none_is_kept(rt: HostRuntime) {
+fn a_cast_is_in_order_where_it_is_the_next_one_and_none_is_kept(rt: HostRuntime) {
     const STEPS: &[(Call, &str)] = &[
-        (Call::Pass(0), "no"),
-        (Call::Pass(2), "no"),
-        (Call::Pass(1), "passed"),
+        (Call::TakeInOrder(0), "no"),
+        (Call::TakeInOrder(2), "no"),
+        (Call::TakeInOrder(1), "taken"),
         (Call::Taken, "1"),
         (Call::Len, "0"),
-        (Call::Pass(1), "no"),
+        (Call::TakeInOrder(1), "no"),
         (Call::Keep(1, 3), "Kept"),
         // What is kept would come out with it.
-        (Call::Pass(2), "no"),
+        (Call::TakeInOrder(2), "no"),
         (Call::Keep(1, 2), "Kept"),
         (Call::Take, "7 0.2 yo"),
         (Call::Take, "7 0.3 yo"),
-        (Call::Pass(4), "passed"),
+        (Call::TakeInOrder(4), "taken"),
         (Call::Missing(4, 6), "5-6;"),
         (Call::Keep(4, 4), "Repeat"),
     ];
@@ -324,8 +324,8 @@ fn none_follows_the_greatest_number(rt: HostRuntime) {
         (Call::ReadyWith(0), "0"),
         (Call::ReadyWith(LAST), "0"),
         (Call::Taken, "4294967295"),
-        (Call::Pass(0), "no"),
-        (Call::Pass(LAST), "no"),
+        (Call::TakeInOrder(0), "no"),
+        (Call::TakeInOrder(LAST), "no"),
         (Call::Keep(LAST, 0), "Repeat"),
         (Call::Missing(LAST, LAST), ""),
     ];
