@@ -102,8 +102,8 @@ impl Expander {
         ensures err { OnErr result (self.new ≡ self.old) }
     {
         self.check_next(cast)?;
-        let mut time = self.times[cast.sender as usize].copy()?;
-        self.take_next(cast, &mut time);
+        let time = self.time_ahead(cast)?;
+        self.take(cast, &time);
         Ok(time)
     }
 
