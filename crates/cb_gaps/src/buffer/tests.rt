@@ -3,7 +3,7 @@ ghost use Rattle.cb_times.specs.Group.{IsWindow};
 
 use super::*;
 use bytes::Bytes;
-use cb_frames::LAST_NUMBER as LAST;
+use cb_frames::{Change, LAST_NUMBER as LAST};
 use std::process::Abort;
 use std::test::*;
 
@@ -116,11 +116,16 @@ fn said(rt: &impl Abort, alloc: Global, reorder: &mut Reorder, call: Call) -> St
 }
 
 /// Each call has the answer that stands beside it.
+fn go_on(rt: &impl Abort, alloc: Global, reorder: &mut Reorder, steps: &[(Call, &str)]) {
+    for (k, (call, expected)) in steps.iter().enumerate() {
+        says(rt, k, said(rt, alloc, reorder, *call), expected);
+    }
+}
+
+/// Goes on to the end.
 fn play(rt: &impl Abort, alloc: Global, reorder: Reorder, steps: &[(Call, &str)]) {
     let mut reorder = reorder;
-    for (k, (call, expected)) in steps.iter().enumerate() {
-        says(rt, k, said(rt, alloc, &mut reorder, *call), expected);
-    }
+    go_on(rt, alloc, &mut reorder, steps);
     drop(reorder);
 }
 
@@ -266,6 +271,74 @@ fn a_cast_is_in_order_where_it_is_the_next_one_and_none_is_kept(rt: HostRuntime)
         (Call::Keep(4, 4), "Repeat"),
     ];
     run(&rt, rt.alloc(), 4, STEPS);
+}
+
+/// One is taken and two are kept, with a gap before them.
+const BEFORE_THE_COPY: &[(Call, &str)] = &[
+    (Call::Keep(0, 1), "Kept"),
+    (Call::Take, "7 0.1 yo"),
+    (Call::Keep(1, 3), "Kept"),
+    (Call::Keep(1, 4), "Kept"),
+];
+
+/// What the copy is asked: it goes on, past the last one kept, with a place for each number of the window.
+const BY_THE_COPY: &[(Call, &str)] = &[
+    (Call::Taken, "1"),
+    (Call::Missing(1, 9), "2-2;5-5;"),
+    (Call::Keep(1, 6), "TooFar"),
+    (Call::Keep(1, 2), "Kept"),
+    (Call::Take, "7 0.2 yo"),
+    (Call::Take, "7 0.3 yo"),
+    (Call::Keep(2, 5), "Kept"),
+    (Call::Keep(2, 6), "Kept"),
+];
+
+const BY_THE_FIRST: &[(Call, &str)] = &[
+    (Call::Taken, "1"),
+    (Call::Missing(1, 9), "2-2;5-5;"),
+    (Call::Keep(1, 2), "Kept"),
+    (Call::Take, "7 0.2 yo"),
+    (Call::Take, "7 0.3 yo"),
+    (Call::Take, "7 0.4 yo"),
+    (Call::Take, "none"),
+];
+
+const BEHIND_BOTH: &[(Call, &str)] = &[
+    (Call::Take, "7 0.4 yo"),
+    (Call::Take, "7 0.5 yo"),
+    (Call::Take, "7 0.6 yo"),
+];
+
+#[test]
+fn a_copy_goes_on_alike_and_what_one_takes_the_other_keeps(rt: HostRuntime) {
+    let mut reorder = Reorder::new(rt.alloc(), 4).expect(&rt, "memory");
+    go_on(&rt, rt.alloc(), &mut reorder, BEFORE_THE_COPY);
+    let mut copy = reorder.copy().expect(&rt, "memory");
+    go_on(&rt, rt.alloc(), &mut copy, BY_THE_COPY);
+    go_on(&rt, rt.alloc(), &mut reorder, BY_THE_FIRST);
+    go_on(&rt, rt.alloc(), &mut copy, BEHIND_BOTH);
+    drop(reorder);
+    drop(copy);
+}
+
+#[test]
+fn a_copied_cast_says_the_same(rt: HostRuntime) {
+    let change = Change {
+        field: 3,
+        amount: 9,
+    };
+    let cast = Cast {
+        group: 7,
+        sender: 2,
+        number: 1,
+        changes: vec![in rt.alloc(); change; 2].expect(&rt, "memory"),
+        payload: Bytes::from_static(b"hello"),
+    };
+    let copy = copy_of(&cast).expect(&rt, "memory");
+    let is_same = copy == cast;
+    drop(cast);
+    drop(copy);
+    assert!(rt; is_same);
 }
 
 #[test]
