@@ -83,6 +83,14 @@ impl Expander {
         Ok(Expander { times })
     }
 
+    /// A second expander of which the same casts were expanded. The only error is out of memory.
+    pub fn copy(&self) -> Result<Expander, NoMemory>
+        ensures { IfOk result (λ copy. copy ≡ self.now) }
+    {
+        let times = copies(*self.times.allocator(), &self.times)?;
+        Ok(Expander { times })
+    }
+
     /// The time of the sender's next cast. The faults come in the order in which they are listed, and change nothing.
     pub fn expand(&mut self, cast: &Cast) -> Result<VectorTime, ExpandFault>
         ensures ok { IfOk result (λ time. Expands self.old (cast_fields cast.now) time self.new) }
@@ -94,8 +102,8 @@ impl Expander {
         ensures err { OnErr result (self.new ≡ self.old) }
     {
         self.check_next(cast)?;
-        let mut time = self.times[cast.sender as usize].copy()?;
-        self.take_next(cast, &mut time);
+        let time = self.time_ahead(cast)?;
+        self.take(cast, &time);
         Ok(time)
     }
 
@@ -152,6 +160,18 @@ impl Expander {
         self.take(cast, into);
     }
 
+    /// The time of the sender's next cast, which is not taken by that: `take` does it. The only error is out of memory.
+    pub fn time_ahead(&self, cast: &Cast) -> Result<VectorTime, NoMemory>
+        requires next { IsNext self.now (cast_fields cast.now) }
+        ensures time { IfOk result
+            (IsGrown (time_of self.now cast.now.sender) (cast_fields cast.now)) }
+        ensures size { IfOk result (λ time. length time ≡ length self.now) }
+    {
+        let mut time = self.times[cast.sender as usize].copy()?;
+        grow(&mut time, cast);
+        Ok(time)
+    }
+
     /// Makes `into` the time of the sender's next cast, which is not taken by that: `take` does it.
     ///
     /// A copy of any time of the group will do for `into`.
@@ -173,6 +193,16 @@ impl Expander {
     {
         self.times[cast.sender as usize].copy_from(time);
     }
+}
+
+fn copies(alloc: Global, times: &[VectorTime]) -> Result<Vec<VectorTime>, NoMemory>
+    ensures { IfOk result (λ copies. copies.items ≡ times.now) }
+{
+    let mut copies = Vec::with_capacity(alloc, times.len())?;
+    for time in times {
+        copies.push(time.copy()?)?;
+    }
+    Ok(copies)
 }
 
 fn are_members(size: usize, cast: &Cast) -> bool

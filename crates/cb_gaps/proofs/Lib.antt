@@ -5,3 +5,4 @@ pub mod OneList
 pub mod Rows
 pub mod ComingOut
 pub mod Passing
+pub mod Copies

@@ -1,4 +1,4 @@
--- A cast that passes does what one does that is kept and taken out at once.
+-- A cast that is taken in order does what one does that is kept and taken out at once.
 use Rattle.std.proofs.Common.{◌≡◌, ℕ, ◌+◌, ◌<◌, ◌^◌, List, [], ◌∷◌, Bool, true, false, cond, length, None, Some, refl, sym, ap, ◌∙◌, arith}
 use Rattle.std.specs.Ordering.{nat_cmp, eq_by_cmp}
 use Rattle.std.specs.Cmp.{nat_cmp_total}
@@ -7,7 +7,7 @@ use Rattle.std.proofs.lemmas.List.Elements.{All-nil}
 use Rattle.cb_frames.specs.declared.frame.Cast.{Cast}
 use Rattle.cb_frames.specs.Fields.{CastFields, first_number}
 use Rattle.cb_times.proofs.Entries.{equal_numbers, numbers_equal}
-use Rattle.cb_gaps.specs.Buffer.{Buffer, IsNext, Passes, Takes}
+use Rattle.cb_gaps.specs.Buffer.{Buffer, IsNext, IsInOrder, Takes}
 use Rattle.cb_gaps.specs.Lists.{AreKept, buffer_of}
 use Rattle.cb_gaps.proofs.Kept.{len-kept, new_gives}
 
@@ -40,19 +40,19 @@ put_and_taken kept n c none = fin.same_map nat_cmp_total fin.nat_cmp-IsAntisymme
 abbrev pub with_cast : Buffer → CastFields → Buffer
 with_cast buffer c = record buffer { kept = fin.insert buffer.kept (first_number c) c }
 
-module _ (buffer : Buffer) (c : CastFields) (passes : Passes buffer (first_number c)) where
+module _ (buffer : Buffer) (c : CastFields) (in_order : IsInOrder buffer (first_number c)) where
   pub is_not_kept : (number : ℕ) → fin.get buffer.kept number ≡ None
-  is_not_kept number = ap (λ (m : fin.FinMap nat_cmp CastFields). fin.get m number) passes.none_kept ∙ fin.get-empty nat_cmp number
+  is_not_kept number = ap (λ (m : fin.FinMap nat_cmp CastFields). fin.get m number) in_order.none_kept ∙ fin.get-empty nat_cmp number
 
   pub passing_is_next : IsNext (with_cast buffer c) c
   passing_is_next = record {
-    follows = passes.follows;
+    follows = in_order.follows;
     kept = fin.get-insert nat_cmp_total buffer.kept (first_number c) c (first_number c) ∙ rw (equal_numbers (first_number c) (first_number c) refl) refl;
   }
 
   pub passing_takes : Takes (with_cast buffer c) c (record buffer { taken = buffer.taken + 1 })
   passing_takes i = record {
     window = buffer.window;
-    taken = sym passes.follows i;
+    taken = sym in_order.follows i;
     kept = sym (put_and_taken buffer.kept (first_number c) c (is_not_kept (first_number c))) i;
   }

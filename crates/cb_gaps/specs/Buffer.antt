@@ -64,7 +64,7 @@ abbrev pub Takes : Buffer → CastFields → Buffer → Type 0
 Takes old cast new = new ≡ record old { taken = last_number cast; kept = map.remove old.kept (first_number cast) }
 
 -- the number is that of the next cast, and none is kept
-pub record Passes (buffer : Buffer) (number : ℕ) : Type 0 where
+pub record IsInOrder (buffer : Buffer) (number : ℕ) : Type 0 where
   pub none_kept : buffer.kept ≡ map.empty
   pub follows : number ≡ buffer.taken + 1
 

@@ -1,10 +1,10 @@
 //! The reorder buffer: the casts of one sender that were received before those in front of them.
-ghost use Rattle.std.specs.Prelude.{◌≡◌, ◌==◌, if◌then◌else◌, ◌+◌, ◌^◌, ◌<◌, ◌≤◌, ◌++◌, None, Any, MatchOption, IfOk, IfSome, IfNone, IsTrue, ◌↔◌, OnOk, insert};
-ghost use Rattle.std.specs.FinMap as map;
+ghost use Rattle.std.specs.Prelude.{◌≡◌, ◌==◌, if◌then◌else◌, ◌+◌, ◌^◌, ◌<◌, ◌≤◌, ◌++◌, None, Any, MatchOption, IfOk, IfSome, IfNone, IsTrue, ◌↔◌, OnOk, insert, map};
+ghost use Rattle.std.specs.FinMap as fin;
 ghost use Rattle.std.specs.VecDeque.{deque_len, deque_capacity};
 ghost use Rattle.cb_frames.specs.Fields.{cast_fields};
 ghost use Rattle.cb_times.specs.Group.{IsWindow};
-ghost use Rattle.cb_gaps.specs.Buffer.{IsNew, Admits, IsAnswer, IsAfter, IsNext, Passes, Takes, IsMissing, IsReorderBuffer, WouldComeOut};
+ghost use Rattle.cb_gaps.specs.Buffer.{IsNew, Admits, IsAnswer, IsAfter, IsNext, IsInOrder, Takes, IsMissing, IsReorderBuffer, WouldComeOut};
 ghost use Rattle.cb_gaps.specs.Ranges.{AreRangesOf, IsRow, gap_between};
 ghost use Rattle.cb_gaps.specs.Lists.{Rise, HasNumber, IsGap, IsPlaceFor};
 
@@ -36,10 +36,10 @@ pub enum Admission {
 /// }
 /// ```
 ///
-/// A cast that would come out alone need not be kept: where `passes` says so of its number, `pass` takes it.
+/// A cast that would come out alone need not be kept: where `is_in_order` says so of its number, `take_in_order` takes it.
 ///
 /// `judge` and `ready_with` say beforehand what `keep` would answer and how many casts would then come out. `missing` names the
-/// numbers that have not come, for a request. `new` reserves all places, and `missing` takes memory for its answer.
+/// numbers that have not come, for a request. `new` and `copy` reserve all places, and `missing` takes memory for its answer.
 #[derive(Debug, Drop)]
 pub struct Reorder {
     /// How far above the delivered casts a number may be, 1 to 256.
@@ -81,6 +81,20 @@ impl Reorder {
         })
     }
 
+    /// A second buffer that has taken as many casts, and keeps copies of those that this one keeps; it has room for the window.
+    ///
+    /// The bytes of the payloads are shared. The only error is out of memory.
+    pub fn copy(&self) -> Result<Reorder, NoMemory>
+        ensures { IfOk result (λ copy. copy ≡ self.now) }
+    {
+        let kept = copies(&self.kept, self.window as usize)?;
+        Ok(Reorder {
+            window: self.window,
+            taken: self.taken,
+            kept,
+        })
+    }
+
     /// How many casts were taken, which is also the number of the last one.
     pub fn taken(&self) -> u32
         ensures taken { result ≡ self.now.taken }
@@ -91,7 +105,7 @@ impl Reorder {
 
     /// How many casts are kept, at most the window.
     pub fn len(&self) -> usize
-        ensures { result ≡ map.len self.now.kept }
+        ensures { result ≡ fin.len self.now.kept }
     {
         self.kept.len()
     }
@@ -150,16 +164,17 @@ impl Reorder {
         Admission::Kept
     }
 
-    /// Whether a cast of this number would come out alone: it is the next one, and none is kept. `pass` then takes it unkept.
-    pub fn passes(&self, number: u32) -> bool
-        ensures { IsTrue result ↔ Passes self.now number }
+    /// Whether a cast of this number would come out alone: it is the next one, and none is kept. `take_in_order` then takes
+    /// it unkept.
+    pub fn is_in_order(&self, number: u32) -> bool
+        ensures { IsTrue result ↔ IsInOrder self.now number }
     {
         self.kept.is_empty() && follows(number, self.taken)
     }
 
     /// Counts the next cast as taken, which the caller has in hand: as if it were kept and taken out, where none is kept.
-    pub fn pass(&mut self)
-        requires none { self.old.kept ≡ map.empty }
+    pub fn take_in_order(&mut self)
+        requires none { self.old.kept ≡ fin.empty }
         requires room { self.old.taken + 1 < 2 ^ 32 }
         ensures { self.new ≡ record self.old { taken = self.old.taken + 1 } }
     {
@@ -172,7 +187,7 @@ impl Reorder {
     pub fn take_next(&mut self) -> Option<Cast>
         ensures next { IfSome result (λ cast. IsNext self.old (cast_fields cast)) }
         ensures taken { IfSome result (λ cast. Takes self.old (cast_fields cast) self.new) }
-        ensures none { IfNone result (map.get self.old.kept (self.old.taken + 1) ≡ None) }
+        ensures none { IfNone result (fin.get self.old.kept (self.old.taken + 1) ≡ None) }
         ensures same { IfNone result (self.new ≡ self.old) }
     {
         let next = self.taken.checked_add(1)?;
@@ -195,6 +210,31 @@ impl Reorder {
         let last = known.min(delivered.saturating_add(self.window));
         gaps(*self.kept.allocator(), &self.kept, self.taken, last)
     }
+}
+
+// copies of these casts, in places for so many
+fn copies(casts: &VecDeque<Cast>, places: usize) -> Result<VecDeque<Cast>, NoMemory>
+    ensures casts { IfOk result (λ copies.
+        map cast_fields copies.items ≡ map cast_fields casts.now.items) }
+    ensures places { IfOk result (λ copies. places ≤ deque_capacity copies) }
+{
+    let mut copies = VecDeque::with_capacity(*casts.allocator(), places)?;
+    for cast in casts {
+        copies.push_back(copy_of(cast)?)?;
+    }
+    Ok(copies)
+}
+
+fn copy_of(cast: &Cast) -> Result<Cast, NoMemory>
+    ensures { IfOk result (λ copy. cast_fields copy ≡ cast_fields cast.now) }
+{
+    Ok(Cast {
+        group: cast.group,
+        sender: cast.sender,
+        number: cast.number,
+        changes: Vec::from_slice(*cast.changes.allocator(), &cast.changes)?,
+        payload: cast.payload.clone()?,
+    })
 }
 
 fn follows(number: u32, taken: u32) -> bool

@@ -3,3 +3,4 @@ pub mod Unknown
 pub mod Entries
 pub mod Windows
 pub mod Found
+pub mod Learning

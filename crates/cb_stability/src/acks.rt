@@ -13,7 +13,7 @@ use std::marker::Model;
 ///
 /// Members are numbered from 0 to the size of the group less one. What a member says of its deliveries, in an
 /// acknowledgement of its own or in a cast, is given to `learn`; `stable` then says how many casts of a sender need not be
-/// kept any longer, since every other member has delivered them. Only `new` takes memory.
+/// kept any longer, since every other member has delivered them. Only `new` and `copy` take memory.
 #[derive(Debug, Drop)]
 pub struct Acks {
     /// Each member's counts, one for each sender.
@@ -58,6 +58,15 @@ impl Acks {
         Ok(Acks { rows, minima })
     }
 
+    /// A second one of which the same is known. The only error is out of memory.
+    pub fn copy(&self) -> Result<Acks, NoMemory>
+        ensures { IfOk result (λ copy. copy ≡ self.now) }
+    {
+        let rows = copies(*self.rows.allocator(), &self.rows)?;
+        let minima = Vec::from_slice(*self.minima.allocator(), &self.minima)?;
+        Ok(Acks { rows, minima })
+    }
+
     /// This member is known to have delivered so many casts of this sender.
     ///
     /// Its count becomes the greater of what it was and `delivered`, so that a report that comes late changes nothing. All
@@ -93,6 +102,16 @@ impl Acks {
     {
         self.minima[sender as usize].least
     }
+}
+
+fn copies(alloc: Global, rows: &[VectorTime]) -> Result<Vec<VectorTime>, NoMemory>
+    ensures { IfOk result (λ copies. copies.items ≡ rows.now) }
+{
+    let mut copies = Vec::with_capacity(alloc, rows.len())?;
+    for row in rows {
+        copies.push(row.copy()?)?;
+    }
+    Ok(copies)
 }
 
 // Where all counts are 0, all others stand at 0.

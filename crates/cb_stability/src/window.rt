@@ -17,7 +17,7 @@ use std::marker::Model;
 ///
 /// Each frame of an own cast is given to `put`, in the order of the casts' numbers, where there is `room`. Once casts are
 /// stable their frames are freed by `trim`. Where another member asks for casts, `frames_in` gives their frames.
-/// `new` reserves the places for all frames that are kept at once, and only it and `frames_in` take memory.
+/// `new` reserves the places for all frames that are kept at once, and only it, `copy` and `frames_in` take memory.
 #[derive(Debug, Drop)]
 pub struct SentWindow {
     /// How many frames are kept at most, 1 to 256.
@@ -53,6 +53,20 @@ impl SentWindow {
         Ok(SentWindow {
             window,
             put: 0,
+            frames,
+        })
+    }
+
+    /// A second window in which as many frames were put, and the same ones are kept; it has places for all of its own.
+    ///
+    /// The bytes of the frames are shared. The only error is out of memory.
+    pub fn copy(&self) -> Result<SentWindow, NoMemory>
+        ensures { IfOk result (λ copy. copy ≡ self.now) }
+    {
+        let frames = copies(&self.frames)?;
+        Ok(SentWindow {
+            window: self.window,
+            put: self.put,
             frames,
         })
     }
@@ -107,6 +121,17 @@ impl SentWindow {
             self.window - self.frames.len() as u32
         }
     }
+}
+
+// A ring of the same frames, with as many places.
+fn copies(frames: &HeapCircularBuffer<Bytes>) -> Result<HeapCircularBuffer<Bytes>, NoMemory>
+    ensures { IfOk result (λ copies. copies ≡ frames.now) }
+{
+    let mut copies = HeapCircularBuffer::with_capacity(*frames.allocator(), frames.capacity())?;
+    for frame in frames {
+        copies.push_back(frame.clone()?);
+    }
+    Ok(copies)
 }
 
 // Of the frames with the numbers after those trimmed, the first in some range.

@@ -227,6 +227,79 @@ fn a_field_stays_at_the_greatest_number(rt: HostRuntime) {
     expand_all(&rt, rt.alloc(), 3, &steps);
 }
 
+/// Each cast has the answer that stands beside it.
+fn go_on(rt: &impl Abort, alloc: Global, expander: &mut Expander, steps: &[Step<'_>]) {
+    for step in steps {
+        let cast = cast(rt, alloc, step);
+        says(rt, expanded(alloc, expander, &cast), step.gives);
+        drop(cast);
+    }
+}
+
+const BEFORE_THE_COPY: &[Step<'static>] = &[
+    Step {
+        sender: 1,
+        number: 1,
+        changes: &[(0, 1)],
+        gives: "[1,1,0]",
+    },
+    Step {
+        sender: 2,
+        number: 1,
+        changes: &[],
+        gives: "[0,0,1]",
+    },
+];
+
+const BY_THE_COPY: &[Step<'static>] = &[
+    Step {
+        sender: 1,
+        number: 2,
+        changes: &[(2, 4)],
+        gives: "[1,2,4]",
+    },
+    Step {
+        sender: 2,
+        number: 2,
+        changes: &[],
+        gives: "[0,0,2]",
+    },
+];
+
+const BY_THE_FIRST: &[Step<'static>] = &[
+    Step {
+        sender: 1,
+        number: 2,
+        changes: &[(0, 8)],
+        gives: "[9,2,0]",
+    },
+    Step {
+        sender: 2,
+        number: 3,
+        changes: &[],
+        gives: "NotNext expected 2 found 3",
+    },
+];
+
+const BEHIND_BOTH: &[Step<'static>] = &[Step {
+    sender: 1,
+    number: 3,
+    changes: &[],
+    gives: "[1,3,4]",
+}];
+
+#[test]
+fn a_copy_goes_on_alike_and_what_one_expands_the_other_does_not(rt: HostRuntime) {
+    let mut expander = Expander::new(rt.alloc(), 3).expect(&rt, "memory");
+    go_on(&rt, rt.alloc(), &mut expander, BEFORE_THE_COPY);
+    let mut copy = expander.copy().expect(&rt, "memory");
+    go_on(&rt, rt.alloc(), &mut copy, BY_THE_COPY);
+    go_on(&rt, rt.alloc(), &mut expander, BY_THE_FIRST);
+    go_on(&rt, rt.alloc(), &mut copy, BEHIND_BOTH);
+    drop(expander);
+    drop(copy);
+}
+
 fn time_of(rt: &impl Abort, alloc: Global, fields: &[u32]) -> VectorTime {
     let mut time = zero(rt, alloc, fields.len());
     for (k, count) in (0..time.size()).zip(fields) {

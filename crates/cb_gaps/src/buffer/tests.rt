@@ -3,7 +3,7 @@ ghost use Rattle.cb_times.specs.Group.{IsWindow};
 
 use super::*;
 use bytes::Bytes;
-use cb_frames::LAST_NUMBER as LAST;
+use cb_frames::{Change, LAST_NUMBER as LAST};
 use std::process::Abort;
 use std::test::*;
 
@@ -22,8 +22,8 @@ enum Call {
     Len,
     /// The next cast.
     Take,
-    /// To take a cast of this number without keeping it, where it passes.
-    Pass(u32),
+    /// To take a cast of this number without keeping it, where it is in order.
+    TakeInOrder(u32),
     /// What is missing: how many are delivered, and the greatest number that was heard of.
     Missing(u32, u32),
 }
@@ -73,13 +73,13 @@ fn tell_ranges(ranges: &[Range], text: &mut String) -> Result<(), NoMemory> {
     Ok(())
 }
 
-/// Takes a cast of this number where it passes.
-fn passed(reorder: &mut Reorder, number: u32) -> bool {
-    let passes = reorder.passes(number);
-    if passes {
-        reorder.pass();
+/// Takes a cast of this number where it is in order.
+fn takes_in_order(reorder: &mut Reorder, number: u32) -> bool {
+    let is_in_order = reorder.is_in_order(number);
+    if is_in_order {
+        reorder.take_in_order();
     }
-    passes
+    is_in_order
 }
 
 fn answer(
@@ -98,8 +98,8 @@ fn answer(
         Call::ReadyWith(number) => write!(text, "{}", reorder.ready_with(number)),
         Call::Len => write!(text, "{}", reorder.len()),
         Call::Take => tell_cast(&reorder.take_next(), text),
-        Call::Pass(number) => text.push_str(if passed(reorder, number) {
-            "passed"
+        Call::TakeInOrder(number) => text.push_str(if takes_in_order(reorder, number) {
+            "taken"
         } else {
             "no"
         }),
@@ -116,11 +116,16 @@ fn said(rt: &impl Abort, alloc: Global, reorder: &mut Reorder, call: Call) -> St
 }
 
 /// Each call has the answer that stands beside it.
+fn go_on(rt: &impl Abort, alloc: Global, reorder: &mut Reorder, steps: &[(Call, &str)]) {
+    for (k, (call, expected)) in steps.iter().enumerate() {
+        says(rt, k, said(rt, alloc, reorder, *call), expected);
+    }
+}
+
+/// Goes on to the end.
 fn play(rt: &impl Abort, alloc: Global, reorder: Reorder, steps: &[(Call, &str)]) {
     let mut reorder = reorder;
-    for (k, (call, expected)) in steps.iter().enumerate() {
-        says(rt, k, said(rt, alloc, &mut reorder, *call), expected);
-    }
+    go_on(rt, alloc, &mut reorder, steps);
     drop(reorder);
 }
 
@@ -247,25 +252,93 @@ fn what_would_come_out_is_reported_before_it_is_kept(rt: HostRuntime) {
 }
 
 #[test]
-fn a_cast_passes_where_it_is_the_next_one_and_none_is_kept(rt: HostRuntime) {
+fn a_cast_is_in_order_where_it_is_the_next_one_and_none_is_kept(rt: HostRuntime) {
     const STEPS: &[(Call, &str)] = &[
-        (Call::Pass(0), "no"),
-        (Call::Pass(2), "no"),
-        (Call::Pass(1), "passed"),
+        (Call::TakeInOrder(0), "no"),
+        (Call::TakeInOrder(2), "no"),
+        (Call::TakeInOrder(1), "taken"),
         (Call::Taken, "1"),
         (Call::Len, "0"),
-        (Call::Pass(1), "no"),
+        (Call::TakeInOrder(1), "no"),
         (Call::Keep(1, 3), "Kept"),
         // What is kept would come out with it.
-        (Call::Pass(2), "no"),
+        (Call::TakeInOrder(2), "no"),
         (Call::Keep(1, 2), "Kept"),
         (Call::Take, "7 0.2 yo"),
         (Call::Take, "7 0.3 yo"),
-        (Call::Pass(4), "passed"),
+        (Call::TakeInOrder(4), "taken"),
         (Call::Missing(4, 6), "5-6;"),
         (Call::Keep(4, 4), "Repeat"),
     ];
     run(&rt, rt.alloc(), 4, STEPS);
+}
+
+/// One is taken and two are kept, with a gap before them.
+const BEFORE_THE_COPY: &[(Call, &str)] = &[
+    (Call::Keep(0, 1), "Kept"),
+    (Call::Take, "7 0.1 yo"),
+    (Call::Keep(1, 3), "Kept"),
+    (Call::Keep(1, 4), "Kept"),
+];
+
+/// What the copy is asked: it goes on, past the last one kept, with a place for each number of the window.
+const BY_THE_COPY: &[(Call, &str)] = &[
+    (Call::Taken, "1"),
+    (Call::Missing(1, 9), "2-2;5-5;"),
+    (Call::Keep(1, 6), "TooFar"),
+    (Call::Keep(1, 2), "Kept"),
+    (Call::Take, "7 0.2 yo"),
+    (Call::Take, "7 0.3 yo"),
+    (Call::Keep(2, 5), "Kept"),
+    (Call::Keep(2, 6), "Kept"),
+];
+
+const BY_THE_FIRST: &[(Call, &str)] = &[
+    (Call::Taken, "1"),
+    (Call::Missing(1, 9), "2-2;5-5;"),
+    (Call::Keep(1, 2), "Kept"),
+    (Call::Take, "7 0.2 yo"),
+    (Call::Take, "7 0.3 yo"),
+    (Call::Take, "7 0.4 yo"),
+    (Call::Take, "none"),
+];
+
+const BEHIND_BOTH: &[(Call, &str)] = &[
+    (Call::Take, "7 0.4 yo"),
+    (Call::Take, "7 0.5 yo"),
+    (Call::Take, "7 0.6 yo"),
+];
+
+#[test]
+fn a_copy_goes_on_alike_and_what_one_takes_the_other_keeps(rt: HostRuntime) {
+    let mut reorder = Reorder::new(rt.alloc(), 4).expect(&rt, "memory");
+    go_on(&rt, rt.alloc(), &mut reorder, BEFORE_THE_COPY);
+    let mut copy = reorder.copy().expect(&rt, "memory");
+    go_on(&rt, rt.alloc(), &mut copy, BY_THE_COPY);
+    go_on(&rt, rt.alloc(), &mut reorder, BY_THE_FIRST);
+    go_on(&rt, rt.alloc(), &mut copy, BEHIND_BOTH);
+    drop(reorder);
+    drop(copy);
+}
+
+#[test]
+fn a_copied_cast_says_the_same(rt: HostRuntime) {
+    let change = Change {
+        field: 3,
+        amount: 9,
+    };
+    let cast = Cast {
+        group: 7,
+        sender: 2,
+        number: 1,
+        changes: vec![in rt.alloc(); change; 2].expect(&rt, "memory"),
+        payload: Bytes::from_static(b"hello"),
+    };
+    let copy = copy_of(&cast).expect(&rt, "memory");
+    let is_same = copy == cast;
+    drop(cast);
+    drop(copy);
+    assert!(rt; is_same);
 }
 
 #[test]
@@ -324,8 +397,8 @@ fn none_follows_the_greatest_number(rt: HostRuntime) {
         (Call::ReadyWith(0), "0"),
         (Call::ReadyWith(LAST), "0"),
         (Call::Taken, "4294967295"),
-        (Call::Pass(0), "no"),
-        (Call::Pass(LAST), "no"),
+        (Call::TakeInOrder(0), "no"),
+        (Call::TakeInOrder(LAST), "no"),
         (Call::Keep(LAST, 0), "Repeat"),
         (Call::Missing(LAST, LAST), ""),
     ];

@@ -67,6 +67,25 @@ fn what_is_stable_rises_with_the_last_who_stood_at_the_least(rt: HostRuntime) {
 }
 
 #[test]
+fn a_copy_goes_on_alike_and_what_one_learns_the_other_does_not(rt: HostRuntime) {
+    let mut acks = Acks::new(rt.alloc(), 3).expect(&rt, "memory");
+    acks.learn(1, 0, 2);
+    acks.learn(2, 0, 1);
+    let mut copy = acks.copy().expect(&rt, "memory");
+    let copied = [copy.stable(0), copy.learnt(1, 0), copy.learnt(2, 0)];
+    copy.learn(2, 0, 5);
+    let behind_the_copy = [copy.stable(0), acks.stable(0), acks.learnt(2, 0)];
+    acks.learn(1, 0, 4);
+    acks.learn(2, 0, 3);
+    let behind_both = [acks.stable(0), copy.stable(0), copy.learnt(1, 0)];
+    drop(acks);
+    drop(copy);
+    are(&rt, &copied, &[1, 2, 1]);
+    are(&rt, &behind_the_copy, &[2, 1, 1]);
+    are(&rt, &behind_both, &[3, 2, 2]);
+}
+
+#[test]
 fn in_the_largest_group_the_last_member_counts_too(rt: HostRuntime) {
     let mut acks = Acks::new(rt.alloc(), 64).expect(&rt, "memory");
     for member in 0..63 {

@@ -135,6 +135,25 @@ fn frames_stay_in_order_where_the_ring_goes_round(rt: HostRuntime) {
 }
 
 #[test]
+fn a_copy_gives_the_same_frames_and_what_one_lets_go_of_the_other_keeps(rt: HostRuntime) {
+    let mut sent = window_with(&rt, rt.alloc(), 3, 3);
+    sent.trim(1);
+    let mut copy = sent.copy().expect(&rt, "memory");
+    gives(&rt, &copy, &[range(1, 9)], &[2, 3]);
+    has_room(&rt, &copy, 1);
+    put_next(&rt, rt.alloc(), &mut copy, 4);
+    copy.trim(2);
+    gives(&rt, &copy, &[range(1, 9)], &[3, 4]);
+    gives(&rt, &sent, &[range(1, 9)], &[2, 3]);
+    sent.trim(9);
+    put_next(&rt, rt.alloc(), &mut sent, 4);
+    gives(&rt, &sent, &[range(1, 9)], &[4]);
+    gives(&rt, &copy, &[range(1, 9)], &[3, 4]);
+    drop(sent);
+    drop(copy);
+}
+
+#[test]
 fn after_the_greatest_number_there_is_no_room(rt: HostRuntime) {
     let mut sent = SentWindow {
         window: 2,

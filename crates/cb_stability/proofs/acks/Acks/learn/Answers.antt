@@ -1,6 +1,6 @@
-use Rattle.std.proofs.Common.{◌≡◌, ◌<◌, ◌++◌, length, take, drop, arith, inl, inr}
-use Rattle.std.proofs.lemmas.List.{with_items_is}
-use Rattle.cb_stability.proofs.Minima.{before_rise, minima_kept, minima_set}
+use Rattle.std.proofs.Common.{◌<◌, length, arith, inl, inr}
+use Rattle.cb_stability.proofs.Learning.{rows_raised, minima_stay}
+use Rattle.cb_stability.proofs.Minima.{before_rise, minima_set}
 use Rattle.cb_stability.proofs.acks.Acks.learn.Goals as goal
 
 pub count_down-requires-clause-before : goal.count_down-requires-clause-before
@@ -8,8 +8,7 @@ count_down-requires-clause-before c =
     let s = c.self.inside in
     let later = c.raise-count.new.rows in
     let raised = rw c.deref_mut.ensures.value at c.raise-count.ensures in
-    let now : take s.rows.len (later ++ drop (length later) s.rows.items) ≡ later =
-    with_items_is s.rows later (omega (arith, raised.learns.size, s.rows.ok.0)) in
+    let now = rows_raised s.rows later c.args.member c.args.sender c.args.delivered raised.learns in
     let of_group : c.args.member < length s.rows.items = rw (← c.self.view_is) at c.requires.of_group in
     let from_group : c.args.sender < length s.rows.items = rw (← c.self.view_is) at c.requires.from_group in
     rw (c.deref.ensures.value, now, raised.before, c.index_mut.ensures.value)
@@ -22,8 +21,7 @@ invariant_of-self c =
     let s = c.self.inside in
     let later = c.raise-count.new.rows in
     let raised = rw c.deref_mut.ensures.value at c.raise-count.ensures in
-    let now : take s.rows.len (later ++ drop (length later) s.rows.items) ≡ later =
-    with_items_is s.rows later (omega (arith, raised.learns.size, s.rows.ok.0)) in
+    let now = rows_raised s.rows later c.args.member c.args.sender c.args.delivered raised.learns in
     let from_group : c.args.sender < length s.rows.items = rw (← c.self.view_is) at c.requires.from_group in
     let is = rw (c.deref.ensures.value, now) at c.count_down.ensures in
     rw now (
@@ -35,25 +33,13 @@ invariant_of-self c =
 pub invariant_of-self-else-count-delivered : goal.invariant_of-self-else-count-delivered
 invariant_of-self-else-count-delivered c =
     let s = c.self.inside in
-    let later = c.raise-count.new.rows in
     let raised = rw c.deref_mut.ensures.value at c.raise-count.ensures in
-    let now : take s.rows.len (later ++ drop (length later) s.rows.items) ≡ later =
-    with_items_is s.rows later (omega (arith, raised.learns.size, s.rows.ok.0)) in
-    rw now (
-      raised.rows,
-      minima_kept s.rows.items later c.args.member c.args.sender c.args.delivered raised.learns s.minima.items c.self.invariant.1
-          (inr (omega (arith, raised.before, c.if-count-delivered.false))),
-    )
+    minima_stay s.rows c.raise-count.new.rows c.args.member c.args.sender c.args.delivered raised.learns s.minima.items raised.rows
+    c.self.invariant.1 (inr (omega (arith, raised.before, c.if-count-delivered.false)))
 
 pub invariant_of-self-else-member-sender : goal.invariant_of-self-else-member-sender
 invariant_of-self-else-member-sender c =
     let s = c.self.inside in
-    let later = c.raise-count.new.rows in
     let raised = rw c.deref_mut.ensures.value at c.raise-count.ensures in
-    let now : take s.rows.len (later ++ drop (length later) s.rows.items) ≡ later =
-    with_items_is s.rows later (omega (arith, raised.learns.size, s.rows.ok.0)) in
-    rw now (
-      raised.rows,
-      minima_kept s.rows.items later c.args.member c.args.sender c.args.delivered raised.learns s.minima.items c.self.invariant.1
-          (inl c.if-member-sender.false),
-    )
+    minima_stay s.rows c.raise-count.new.rows c.args.member c.args.sender c.args.delivered raised.learns s.minima.items raised.rows
+    c.self.invariant.1 (inl c.if-member-sender.false)

@@ -1,5 +1,5 @@
 use Rattle.cb_gaps.proofs.Passing.{passed_keeps}
-use Rattle.cb_gaps.proofs.buffer.Reorder.pass.Goals as goal
+use Rattle.cb_gaps.proofs.buffer.Reorder.take_in_order.Goals as goal
 
 pub invariant_of-self : goal.invariant_of-self
 invariant_of-self c =
