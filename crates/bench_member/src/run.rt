@@ -4,8 +4,8 @@ use crate::network::Network;
 use crate::plan::Plan;
 use crate::tally::Tally;
 use bytes::Bytes;
-use cb_history::{Arrival, ArriveRefusal, CastRefusal, Group, LONGEST_HISTORY, TickRefusal};
-use cb_member::Member;
+use cb_history::{ArriveRefusal, CastRefusal, Group, LONGEST_HISTORY, TickRefusal};
+use cb_member::{Member, Received};
 use cb_times::NoMemory;
 use std::alloc::{AllocError, Global};
 
@@ -93,8 +93,14 @@ impl Run {
             return Ok(());
         };
         for bytes in self.inbox.iter() {
-            let arrival = member.arrive(bytes);
-            took(me, arrival, &mut self.tally, &mut self.network)?;
+            match member.receive(bytes) {
+                Ok(Received::Accepted { delivered, out, .. }) => {
+                    self.tally.add_last(me, delivered, member.events());
+                    self.network.send_all(me, out)?;
+                }
+                Err(ArriveRefusal::NoMemory) => return Err(AllocError),
+                Ok(Received::Repeat) | Err(_) => {}
+            }
         }
         self.inbox.clear();
         Ok(())
@@ -131,30 +137,5 @@ impl Run {
             }
         }
         Ok(())
-    }
-}
-
-/// Counts what member `me` delivered, and sends what it answered.
-fn took(
-    me: u32,
-    arrival: Result<Arrival, ArriveRefusal>,
-    tally: &mut Tally,
-    network: &mut Network,
-) -> Result<(), NoMemory> {
-    match arrival {
-        Ok(
-            Arrival::Accepted {
-                deliveries,
-                changed: _,
-                out,
-            },
-        ) => {
-            tally.add_all(me, &deliveries);
-            drop(deliveries);
-            network.send_all(me, out)
-        }
-        Ok(Arrival::Repeat) => Ok(()),
-        Err(ArriveRefusal::NoMemory) => Err(AllocError),
-        Err(_refusal) => Ok(()),
     }
 }

@@ -1,6 +1,6 @@
 //! What was delivered, in short.
 
-use cb_history::Message;
+use cb_history::{Event, Message};
 
 /// What the digest begins with and is multiplied by: those of the hash of Fowler, Noll and Vo.
 const START: u64 = 0xcbf2_9ce4_8422_2325;
@@ -22,10 +22,13 @@ impl Tally {
         }
     }
 
-    /// Member `me` delivered these messages.
-    pub fn add_all(&mut self, me: u32, messages: &[Message]) {
-        for message in messages {
-            self.add(me, message);
+    /// The last so many events of member `me` are new: what it delivered counts.
+    pub fn add_last(&mut self, me: u32, count: usize, events: &[Event]) {
+        let before = events.len().saturating_sub(count);
+        for event in &events[before..] {
+            if let Event::Deliver(message) = event {
+                self.add(me, message);
+            }
         }
     }
 

@@ -51,7 +51,7 @@ impl Delivery {
         ensures none { result ≡ true → NoneReady self.old }
         ensures same { IsSettled self.old self.new }
     {
-        self.queue.next_ready(&self.time).is_none()
+        self.queue.len() == 0 || self.queue.next_ready(&self.time).is_none()
     }
 
     /// Whether nothing that waits may be delivered, nor once one message more of this sender is.
@@ -61,7 +61,7 @@ impl Delivery {
         ensures leaves { result ≡ true → LeavesWaiting sender self.old }
         ensures same { IsSettled self.old self.new }
     {
-        self.queue.leaves_waiting(&self.time, sender)
+        self.queue.len() == 0 || self.queue.leaves_waiting(&self.time, sender)
     }
 
     /// The message that is delivered next, where one is ready.

@@ -21,7 +21,6 @@ use cb_delay::Event;
 use cb_history::{CastDone, CastRefusal, Entry, Identity, Outgoing, TickRefusal, Ticked};
 use cb_times::{NoMemory, VectorTime, make_room};
 use std::alloc::Global;
-
 pub use taken::{Received, Taken, Wanted};
 
 /// The state, and beside it the history that it stands for.

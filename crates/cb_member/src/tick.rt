@@ -74,7 +74,13 @@ impl State {
             ≡ request_to self.now.seat i (ranges_of (missing self.now.seat facts i)))) }
     {
         let ranges = self.missing(i)?;
-        match request_of(self.alloc, self.seat.group().number(), self.seat.me(), i, &ranges)? {
+        match request_of(
+            self.alloc,
+            self.seat.group().number(),
+            self.seat.me(),
+            i,
+            &ranges,
+        )? {
             None => Ok(None),
             Some(frame) => Ok(Some(Outgoing {
                 to: Some(i),

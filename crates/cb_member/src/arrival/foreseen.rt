@@ -9,7 +9,6 @@ ghost use Rattle.cb_member.specs.Passing.{message_at};
 
 use crate::arrival::course::Course;
 use crate::state::State;
-
 use cb_delay::{Event, Message};
 use cb_frames::Cast;
 use cb_times::{Name, NoMemory, VectorTime};

@@ -160,7 +160,10 @@ impl Recorder {
         // asked for what is true of every text
         each_is_a_text_or_a_fault();
         match self.state.judge_status(status) {
-            Ok(status::Judged::NoNews) => return Ok(unchanged(self.state.alloc, nothing(self.state.alloc, false))),
+            Ok(status::Judged::NoNews) => return Ok(unchanged(
+                self.state.alloc,
+                nothing(self.state.alloc, false),
+            )),
             Ok(status::Judged::News) => {}
             Err(refusal) => return Err(refusal),
         }
