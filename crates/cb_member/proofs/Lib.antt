@@ -1,1 +1,3 @@
+pub mod JudgingCasts
+pub mod Reading
 pub mod Values
