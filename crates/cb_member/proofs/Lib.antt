@@ -1,1 +1,4 @@
+pub mod Draining
+pub mod Putting
 pub mod Values
+pub mod Waiting
