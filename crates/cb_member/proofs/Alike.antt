@@ -1,9 +1,9 @@
 -- States that are alike keep the same facts, and what holds of the one holds of the other.
 use Rattle.std.proofs.Common.{◌≡◌, ℕ, ◌+◌, ◌≤◌, List, [], ◌∷◌, ◌++◌, length, map, Some, refl, sym, ap, subst, ◌∙◌, arith}
-use Rattle.std.specs.Prelude.{slice_get}
+use Rattle.std.specs.Prelude.{◌↔◌, slice_get, slice_set}
 use Rattle.std.specs.FinMap as fin
 use Rattle.cb_times.specs.Order.{field}
-use Rattle.cb_frames.specs.Fields.{CastFields}
+use Rattle.cb_frames.specs.Fields.{Carried, CastFields}
 use Rattle.cb_delay.specs.declared.message.Message.{Message}
 use Rattle.cb_delay.specs.Message.{name_cmp}
 use Rattle.cb_delay.specs.Queue.{Queue, Holds, HasReady}
@@ -29,7 +29,7 @@ use Rattle.cb_member.specs.Course.{HoldsAtMost}
 
 -- ---- a queue that holds the same
 
-pub queue_alike : (size : ℕ) (casts : List CastFields) (seen : List _) (old new : Queue) → Holds old new old.held → HoldsUndelivered size casts seen old → HoldsUndelivered size casts seen new
+pub queue_alike : (size : ℕ) (casts : List CastFields) (seen : List Carried) (old new : Queue) → Holds old new old.held → HoldsUndelivered size casts seen old → HoldsUndelivered size casts seen new
 queue_alike size casts seen old new same holds = record {
   of_size = same.size ∙ holds.of_size;
   holds = λ message. subst (λ (held : fin.FinMap name_cmp Message). (fin.get held message.name ≡ Some message) ↔ IsUndelivered size casts seen message) (sym same.now_held) (holds.holds message);
@@ -54,7 +54,7 @@ pub leaves_alike : (sender : ℕ) (old new : Delivery) → IsSettled old new →
 leaves_alike sender old new same leaves = record {
   none = none_ready_alike old new same leaves.none;
   none_then = λ i ready. leaves.none_then i
-      (subst (λ (time : List ℕ). HasReady old.queue (Rattle.std.specs.Prelude.slice_set time sender (field time sender + 1)) i) same.time (ready_alike old.queue new.queue _ i same.queue ready));
+      (subst (λ (time : List ℕ). HasReady old.queue (slice_set time sender (field time sender + 1)) i) same.time (ready_alike old.queue new.queue _ i same.queue ready));
 }
 
 -- ---- a reception with more room

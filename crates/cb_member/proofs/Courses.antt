@@ -3,9 +3,11 @@ use Rattle.std.proofs.Common.{◌≡◌, ◌≢◌, ℕ, ◌+◌, ◌<◌, ◌�
 use Rattle.std.specs.Prelude.{slice_get}
 use Rattle.std.specs.List.{list_all}
 use Rattle.std.proofs.lemmas.Bool.{and_parts, ltb-true}
+use Rattle.std.proofs.lemmas.List.{length-map}
 use Rattle.cb_frames.specs.Fields.{CastFields, first_number}
 use Rattle.cb_diffs.specs.Expansion.{IsGrown, IsNext, time_of}
 use Rattle.cb_gaps.specs.Buffer.{Buffer}
+use Rattle.cb_history.specs.Group.{Identity}
 use Rattle.cb_history.specs.Facts.{Fact, OwnCast, CastReceived, StatusReceived, OwnStatus, casts_in}
 use Rattle.cb_history.specs.Known.{expanded_count}
 use Rattle.cb_history.specs.LegalFacts.{AreFactsOf}
@@ -35,9 +37,6 @@ last_is_there : (casts : List CastFields) (c : CastFields) → IsCastOf c (casts
 last_is_there [] c = inl refl
 last_is_there (d ∷ casts) c = inr (last_is_there casts c)
 
-one_buffer : (a b : Buffer) → (o : Option Buffer) → o ≡ Some a → o ≡ Some b → a ≡ b
-one_buffer a b o refl refl = refl
-
 module _ (c : CastFields) (state : State) (can : CanFollow c state) where
   pub is_of_member : c.sender < state.seat.group.size
   is_of_member =
@@ -66,7 +65,7 @@ module _ (c : CastFields) (state : State) (can : CanFollow c state) where
   has_stack = omega (arith, is_of_member, stacks)
     where
       stacks : length state.reception.spares.items ≡ state.seat.group.size
-      stacks = sym (Rattle.std.proofs.lemmas.List.length-map state.reception.spares.items (λ times. times.items)) ∙ can.keeps.received.stacks
+      stacks = sym (length-map state.reception.spares.items (λ times. times.items)) ∙ can.keeps.received.stacks
 
   -- its sender's next one, where it comes in order
   pub is_next : IsInOrder c.sender (first_number c) state.reception → IsNext state.reception.expander c
@@ -82,7 +81,7 @@ has_time_alike c time old new same has = record {
   can = can_follow_alike c old new same has.can;
   in_order = in_order_alike c.sender (first_number c) old.reception new.reception same.reception has.in_order;
   grown = subst (λ (expander : List (List ℕ)). IsGrown (time_of expander c.sender) c time) (sym same.reception.expander) has.grown;
-  size = has.size ∙ ap (λ (seat : Rattle.cb_history.specs.Group.Identity). seat.group.size) (sym same.seat);
+  size = has.size ∙ ap (λ (seat : Identity). seat.group.size) (sym same.seat);
 }
 
 pub has_its_time : (c : CastFields) (time : List ℕ) (state : State) → CanFollow c state → IsInOrder c.sender (first_number c) state.reception → IsGrown (time_of state.reception.expander c.sender) c time → length time ≡ length state.reception.expander
