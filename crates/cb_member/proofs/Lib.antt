@@ -1,4 +1,5 @@
 pub mod Alike
+pub mod Arriving
 pub mod Courses
 pub mod Draining
 pub mod JudgingCasts
