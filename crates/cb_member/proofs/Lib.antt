@@ -1,1 +1,4 @@
+pub mod Reading
+pub mod Casting
+pub mod Judging
 pub mod Values
