@@ -1,4 +1,5 @@
 pub mod Reading
 pub mod Casting
 pub mod Judging
+pub mod OwnCasts
 pub mod Values
