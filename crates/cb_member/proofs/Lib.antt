@@ -5,5 +5,12 @@ pub mod Draining
 pub mod JudgingCasts
 pub mod Putting
 pub mod Reading
+pub mod Reading
+pub mod Casting
+pub mod Judging
+pub mod OwnCasts
+pub mod Staying
+pub mod Telling
+pub mod Ticks
 pub mod Values
 pub mod Waiting
