@@ -1,8 +1,8 @@
 -- What is kept is so of the facts with a cast of another member, once it is taken in and delivered.
-use Rattle.std.proofs.Common.{◌≡◌, ℕ, ◌+◌, ◌<◌, ◌≤◌, max, inl, inr, List, [], ◌∷◌, ◌++◌, length, length-append, map, drop, None, refl, sym, ap, subst, ◌∙◌, arith}
+use Rattle.std.proofs.Common.{◌≡◌, ℕ, ◌+◌, ◌-◌, ◌<◌, ◌≤◌, max, inl, inr, List, [], ◌∷◌, ◌++◌, length, length-append, map, drop, take, None, refl, sym, ap, subst, ◌∙◌, arith}
 use Rattle.std.specs.List.{All}
 use Rattle.std.proofs.lemmas.Bool.{cases_eq, eq-eqb, ne_eqb}
-use Rattle.std.proofs.lemmas.List.{drop_at}
+use Rattle.std.proofs.lemmas.List.{drop_at, take_rest}
 use Rattle.std.proofs.lemmas.List.Elements.{All-cons, All-nil}
 use Rattle.std.proofs.lemmas.List.FromFn.{length-map-range_with_len}
 use Rattle.cb_times.specs.Order.{field}
@@ -77,6 +77,10 @@ delivered_as size casts (m ∷ ms) = ap (λ (es : List Event). Deliver (message_
 delivered_back : (size : ℕ) (casts : List CastFields) (ms : List Carried) → delivered_by (delivered_in size casts ms) ≡ map (message_in size casts) ms
 delivered_back size casts [] = refl
 delivered_back size casts (m ∷ ms) = ap (λ (messages : List Message). message_in size casts m ∷ messages) (delivered_back size casts ms)
+
+-- what is behind the first events
+pub since_then : (before after now : List Event) (n : ℕ) → now ≡ after → n ≡ length before → take (length now - n) (drop n now) ≡ drop (length before) after
+since_then before after now n same so_many = take_rest now n ∙ ap (λ (k : ℕ). drop k now) so_many ∙ ap (drop (length before)) same
 
 module _ (facts : List Fact) (c : CastFields) (old mid : State) (before after : List Event) (is : IsDelivered facts c old mid before after) where
   abbrev seat : Identity
