@@ -12,5 +12,7 @@ pub mod OwnCasts
 pub mod Staying
 pub mod Telling
 pub mod Ticks
+pub mod Receiving
+pub mod TakingIn
 pub mod Values
 pub mod Waiting

@@ -1,7 +1,7 @@
 -- One delivery of what waits, and none.
 use Rattle.std.proofs.Common.{◌≡◌, ℕ, ◌+◌, ◌-◌, ◌<◌, Bool, true, false, cond, List, [], ◌∷◌, ◌++◌, length, None, Some, refl, sym, ap, subst, ◌∙◌, arith}
 use Rattle.std.specs.FinMap as fin
-use Rattle.std.specs.Prelude.{is_some, IfNone, Option}
+use Rattle.std.specs.Prelude.{is_some, not, IfNone, Option}
 use Rattle.std.proofs.lemmas.List.FromFn.{length-map-range_with_len}
 use Rattle.cb_times.specs.Time.{IsRaised}
 use Rattle.cb_times.specs.declared.name.Name.{Name}
@@ -110,6 +110,6 @@ pub none_ready_of_none : (queue : Queue) (time : List ℕ) → fin.len queue.hel
 none_ready_of_none queue time none i has = none_is_held queue (fin.empty_of_len queue.held none) has.0 has.1
 
 -- where the queue names no sender
-pub none_named : (P : Type 0) (o : Option ℕ) → is_some o ≡ false → IfNone o P → P
-none_named P None none h = h
-none_named P (Some i) none h = absurd cc
+pub none_named : (P : Type 0) (o : Option ℕ) (named : Bool) → is_some o ≡ not named → named ≡ true → IfNone o P → P
+none_named P None named is none h = h
+none_named P (Some i) named is none h = absurd (let no : true ≡ false = is ∙ ap not none in cc)

@@ -4,7 +4,7 @@ use Rattle.cb_member.proofs.Waiting.{none_ready_of_none}
 use Rattle.cb_member.proofs.delivery.Delivery.leaves_waiting.Goals as goal
 
 pub returns-then-len-eq0-clause-leaves : goal.returns-then-len-eq0-clause-leaves
-returns-then-len-eq0-clause-leaves c yes =
+returns-then-len-eq0-clause-leaves c leaves =
     let none = sym c.len.ensures.len ∙ c.if-len-eq0.true in
     record {
       none = none_ready_of_none c.args.self.now.queue c.args.self.now.time none;
@@ -12,4 +12,4 @@ returns-then-len-eq0-clause-leaves c yes =
     }
 
 pub returns-else-len-eq0-clause-leaves : goal.returns-else-len-eq0-clause-leaves
-returns-else-len-eq0-clause-leaves c yes = record { none = c.leaves_waiting.ensures.none yes; none_then = c.leaves_waiting.ensures.none_next yes }
+returns-else-len-eq0-clause-leaves c leaves = record { none = c.leaves_waiting.ensures.none leaves; none_then = c.leaves_waiting.ensures.none_next leaves }
