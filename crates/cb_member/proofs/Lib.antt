@@ -16,3 +16,4 @@ pub mod Receiving
 pub mod TakingIn
 pub mod Values
 pub mod Waiting
+pub mod Rising

@@ -4,6 +4,7 @@ ghost use Rattle.std.specs.Prelude.{◌≡◌, ◌+◌, ◌≤◌, ◌++◌, ◌
 ghost use Rattle.std.specs.Vec.{vec_capacity, vec_len};
 ghost use Rattle.cb_frames.specs.declared.frame.TheConstants.{LAST_NUMBER};
 ghost use Rattle.cb_frames.specs.Fields.{cast_fields, CastFrame};
+ghost use Rattle.cb_frames.specs.Text.{RisesFrom};
 ghost use Rattle.cb_history.specs.Answers.{are_members};
 ghost use Rattle.cb_member.specs.State.{IsState};
 ghost use Rattle.cb_member.specs.Arriving.{own_verdict, other_verdict, JudgesCast, DeliversWith};
@@ -35,6 +36,7 @@ impl State {
     /// The first rule that the cast breaks, or what it does. How much room the history has is not asked.
     pub fn judge_cast(&self, cast: &Cast) -> Result<Judged, ArriveRefusal>
         requires state { IsState self.now }
+        requires rising { RisesFrom 0 cast.now.changes.items }
         requires numbered { 1 ≤ cast.now.number }
         requires numbers { cast.now.number ≤ LAST_NUMBER }
         ensures { JudgesCast self.now (cast_fields cast.now) result }
@@ -161,6 +163,7 @@ fn judge_other(admission: Admission) -> Result<Judged, ArriveRefusal>
 
 /// The sender and the fields are of the group.
 fn are_members(size: u32, cast: &Cast) -> bool
+    requires { RisesFrom 0 cast.now.changes.items }
     ensures { result ≡ are_members size (CastFrame (cast_fields cast.now)) }
 {
     cast.sender < size && are_fields(size, &cast.changes)

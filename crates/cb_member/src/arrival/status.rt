@@ -94,6 +94,7 @@ impl State {
 }
 
 fn are_members(size: u32, status: &Status) -> bool
+    requires { RisesFrom 0 status.now.values.items }
     ensures { result ≡ are_members size (StatusFrame (status_fields status.now)) }
 {
     status.sender < size && are_fields(size, &status.values)

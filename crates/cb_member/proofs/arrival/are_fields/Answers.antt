@@ -1,10 +1,6 @@
-use Rattle.std.proofs.Common.{ltb, rules, tests}
-use Rattle.std.proofs.lemmas.Iterator.{YieldsList-from_slice}
-use Rattle.std.proofs.lemmas.Iterator.Search.{all_from_yields_List}
-use Rattle.cb_frames.specs.declared.frame.Change.{Change}
+use Rattle.std.proofs.Common.{sym}
+use Rattle.cb_member.proofs.Rising.{all_by_last}
 use Rattle.cb_member.proofs.arrival.are_fields.Goals as goal
 
-pub returns : goal.returns
-returns c =
-    all_from_yields_List (λ (d : Change). ltb d.field c.args.size) _ _ c.all.result c.all.ensures.ran
-    (YieldsList-from_slice c.args.changes.now cc) (λ x b q k. search (rules, tests))
+pub returns-in-Some : goal.returns-in-Some
+returns-in-Some c = sym (all_by_last c.args.size 0 c.args.changes.now c.in-Some.change.now c.requires (sym c.in-Some.ensures.value))
