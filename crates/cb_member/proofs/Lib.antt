@@ -1,4 +1,5 @@
 pub mod Draining
+pub mod Passing
 pub mod Putting
 pub mod Receiving
 pub mod TakingIn
