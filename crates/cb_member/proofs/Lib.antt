@@ -3,6 +3,7 @@ pub mod Arriving
 pub mod Courses
 pub mod Draining
 pub mod JudgingCasts
+pub mod Passing
 pub mod Putting
 pub mod Reading
 pub mod Reading
