@@ -6,6 +6,7 @@ pub mod Draining
 pub mod Judging
 pub mod JudgingCasts
 pub mod OwnCasts
+pub mod Passing
 pub mod Putting
 pub mod Reading
 pub mod Receiving
