@@ -7,6 +7,7 @@ pub mod Hearing
 pub mod Judging
 pub mod JudgingCasts
 pub mod OwnCasts
+pub mod Passing
 pub mod Putting
 pub mod Reading
 pub mod Receiving
