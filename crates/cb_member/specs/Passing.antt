@@ -61,7 +61,6 @@ pub record TakesInOrder (c : CastFields) (old new : Reception) (message : Messag
 -- the queue can hold it next, it may be delivered, and nothing else may, then or before
 pub record IsAlone (message : Message) (d : Delivery) : Type 0 where
   pub turn : HasTurn d.queue message
-  pub is_queue : IsDelayQueue d.queue
   pub fits : length message.time ≡ length d.time
   pub sender : message.name.sender < length d.time
   pub ready : IsReady message.name.sender (field message.time) (field d.time)

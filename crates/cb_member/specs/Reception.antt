@@ -1,5 +1,5 @@
 -- What a member has received of the others' casts: what waits for those before it, and the times of what does not.
-use Rattle.std.specs.Prelude.{◌≡◌, ◌≢◌, ℕ, ◌+◌, ◌<◌, ◌≤◌, All, List, [], length, map, replicate, slice_get, Some}
+use Rattle.std.specs.Prelude.{◌≡◌, ◌≢◌, ℕ, ◌+◌, ◌<◌, ◌≤◌, All, List, [], length, map, replicate, slice_get, slice_index_or, Some}
 use Rattle.std.specs.FinMap as fin
 use Rattle.std.specs.Vec.{vec_capacity, vec_len}
 use Rattle.std.specs.declared.vec.Vec.{Vec}
@@ -15,6 +15,10 @@ use Rattle.cb_member.specs.declared.reception.Reception.{Reception}
 -- the spares as they lie in the reception: for each member some times
 abbrev pub spares_in : Reception → List (List (List ℕ))
 spares_in r = map (λ times. times.items) r.spares.items
+
+-- how many of them are of this sender
+abbrev pub spares_of : ℕ → Reception → ℕ
+spares_of sender r = length (slice_index_or (spares_in r) sender [])
 
 -- one for each cast that waits in the buffer, each with a field for each member of a group of this size
 pub record AreSparesOf (size : ℕ) (b : Buffer) (spares : List (List ℕ)) : Type 0 where
@@ -51,5 +55,7 @@ pub record IsAlike (old new : Reception) : Type 0 where
   pub spares : spares_in new ≡ spares_in old
 
 -- there is room for one spare more of this sender
-abbrev pub HasPlaceFor : ℕ → Reception → Type 0
-HasPlaceFor sender r = (times : Vec (List ℕ) Global) → slice_get r.spares.items sender ≡ Some times → vec_len times + 1 ≤ vec_capacity times
+pub record HasPlaceFor (sender : ℕ) (r : Reception) : Type 0 where
+  pub times : Vec (List ℕ) Global
+  pub at : slice_get r.spares.items sender ≡ Some times
+  pub room : vec_len times + 1 ≤ vec_capacity times

@@ -97,6 +97,8 @@ impl Delivery {
         ensures joins { events.new.items ≡ events.old.items ++ Deliver message ∷ [] }
         ensures one { vec_len events.new ≡ vec_len events.old + 1 }
     {
+        // asked for what is true of every queue
+        let _window = self.queue.window();
         let sender = message.name.sender;
         self.time.add_one(sender);
         push_within(events, Event::Deliver(message));

@@ -1,10 +1,10 @@
 //! The casts received from others, until the delay queue has them.
 
-ghost use Rattle.std.specs.Prelude.{◌≡◌, ◌<◌, true, IfOk, IfSome, IfNone, OnOk, length, map};
+ghost use Rattle.std.specs.Prelude.{◌≡◌, ◌<◌, ◌+◌, true, IfOk, IfSome, IfNone, OnOk, OnSome, length, map};
 ghost use Rattle.cb_times.specs.Group.{IsGroupSize, IsWindow};
 ghost use Rattle.cb_diffs.specs.Expansion.{IsGrown, IsNext, time_of};
 ghost use Rattle.cb_frames.specs.Fields.{cast_fields};
-ghost use Rattle.cb_member.specs.Reception.{IsNewReception, IsAlike, HasPlaceFor};
+ghost use Rattle.cb_member.specs.Reception.{IsNewReception, IsAlike, HasPlaceFor, spares_of};
 ghost use Rattle.cb_member.specs.Taking.{WouldExpand, CanKeep, KeepsCast, IsReceiving, ExpandsNext, HasNoNextOf, Tells};
 ghost use Rattle.cb_member.specs.Passing.{IsInOrder, TakesAt, TakesInOrder, message_at};
 
@@ -113,6 +113,7 @@ impl Reception {
         requires { IsReceiving sender self.old }
         ensures some { IfSome result (λ message. ExpandsNext sender self.old self.new message) }
         ensures none { IfNone result (HasNoNextOf sender self.old self.new) }
+        ensures fewer { OnSome result (spares_of sender self.new + 1 ≡ spares_of sender self.old) }
     {
         let cast = self.buffers[sender as usize].take_next()?;
         let Some(spare) = self.spares[sender as usize].pop() else {

@@ -1,0 +1,361 @@
+-- A received cast is kept, and the next one is taken out and told.
+use Rattle.std.proofs.Common.{◌≡◌, ◌≢◌, ℕ, ◌+◌, ◌-◌, ◌<◌, List, [], ◌∷◌, ◌++◌, Bool, true, false, cond, length, length-append, set, get_or, None, Some, refl, sym, ap, subst, ◌∙◌, arith, inl, inr, ◌⊎◌, All, slice_get}
+use Rattle.std.specs.Prelude.{is_some, option_map}
+use Rattle.std.specs.Vec.{vec_len}
+use Rattle.std.specs.declared.vec.Vec.{Vec}
+use Rattle.std.specs.declared.alloc.Global.{Global}
+use Rattle.std.specs.Ordering.{nat_cmp}
+use Rattle.std.specs.Cmp.{nat_cmp_total}
+use Rattle.std.specs.FinMap as map
+use Rattle.std.proofs.lemmas.Bool.{cases_eq, eq-eqb, ne_eqb, both_ways}
+use Rattle.std.proofs.lemmas.List.{length-map, length-set, get_or-set_same, get_or-set_other}
+use Rattle.std.proofs.lemmas.List.Elements.{All-push, All-pop}
+use Rattle.std.proofs.lemmas.Option.{slice_get_within, slice_get-get_or, slice_get-map, slice_get_read, get_or_from_slice_get}
+use Rattle.cb_frames.specs.Fields.{CastFields, last_number}
+use Rattle.cb_delay.specs.declared.message.Message.{Message}
+use Rattle.cb_diffs.specs.Expansion.{expanded_time, IsNext as IsNextCast}
+use Rattle.cb_gaps.specs.declared.buffer.Admission.{Admission}
+use Rattle.cb_gaps.specs.declared.buffer.Admission.TheVariants.{Kept, Repeat, TooFar}
+use Rattle.cb_gaps.specs.Buffer.{Buffer, Admits, IsAnswer, IsAfter, IsLacking, IsNext, Takes}
+use Rattle.cb_history.specs.Group.{Identity}
+use Rattle.cb_history.specs.Facts.{Fact, CastReceived, casts_in, messages_in}
+use Rattle.cb_history.specs.Known.{expanded_count}
+use Rattle.cb_history.specs.NameLaws.{IsOneOf}
+use Rattle.cb_history.specs.LegalFacts.{AreFactsOf}
+use Rattle.cb_history.specs.BufferLaws.{IsCastOf, HoldsWhatWaits}
+use Rattle.cb_history.specs.ExpanderLaws.{KeepsTimeOf}
+use Rattle.cb_history.proofs.Views.{casts_in-append}
+use Rattle.cb_history.proofs.Names.{message}
+use Rattle.cb_history.proofs.Runs.{expanded_up_to_the_count}
+use Rattle.cb_history.proofs.Buffers.{kept_cast_waits, others_do_not_wait, taken_cast_is_there, all_is_taken}
+use Rattle.cb_history.proofs.Expanders.{kept_times_stay, cast_behind_is_next, expander_tells_the_time, other_times_are_kept}
+use Rattle.cb_member.specs.declared.reception.Reception.{Reception}
+use Rattle.cb_member.specs.Reception.{AreSparesOf, HasReceived, HasReceivedAll, spares_in}
+use Rattle.cb_member.specs.Taking.{CanKeep, IsReceiving, one_more, IsNextMessage, HasNoNextOf, Tells, reported}
+
+-- ---- one element written over
+
+pub set_at : {A : Type 0} → (xs : List A) (s i : ℕ) (after b : A) → slice_get (set xs s after) i ≡ Some b → ((i ≡ s) × (b ≡ after)) ⊎ ((i ≢ s) × (slice_get xs i ≡ Some b))
+set_at xs s i after b at =
+    let lt : i < length xs = omega (arith, slice_get_within (set xs s after) i b at, length-set xs s after) in
+    let is : get_or (set xs s after) i b ≡ b = get_or_from_slice_get (set xs s after) i b b at in
+    elim (cases_eq i s) [
+      | inl e ↦ inl (e, sym is ∙ ap (λ (k : ℕ). get_or (set xs s after) k b) e ∙ get_or-set_same xs s after b (subst (λ (k : ℕ). k < length xs) e lt))
+      | inr ne ↦ inr (ne, slice_get-get_or xs i b lt ∙ ap (λ x. Some x) (sym (get_or-set_other xs s i after b ne) ∙ is))
+    ]
+
+pub one_value : {A : Type 0} → (a b : A) → Some a ≡ Some b → a ≡ b
+one_value a b e = cc
+
+pub one_buffer : (a b : Buffer) → Some a ≡ Some b → a ≡ b
+one_buffer a b e = cc
+
+set_to_same : (bs : List Buffer) (s i : ℕ) (before after b : Buffer) → slice_get bs s ≡ Some before → after ≡ before → slice_get (set bs s after) i ≡ Some b → slice_get bs i ≡ Some b
+set_to_same bs s i before after b was same at = elim (set_at bs s i after b at) [
+  | inl here ↦ ap (slice_get bs) here.0 ∙ was ∙ ap (λ (x : Buffer). Some x) (sym (here.1 ∙ same))
+  | inr elsewhere ↦ elsewhere.1
+]
+
+-- ---- the spares of a sender
+
+pub within_stacks : (seat : Identity) (facts : List Fact) (taken : ℕ → ℕ) (r : Reception) (sender : ℕ) → HasReceived seat facts taken r → sender < seat.group.size → sender < length r.spares.items
+within_stacks seat facts taken r sender received member =
+    let stacks = received.stacks in
+    omega (arith, stacks, member, length-map r.spares.items (λ (times : Vec (List ℕ) Global). times.items))
+
+pub stack_at : (r : Reception) (sender : ℕ) (times : Vec (List ℕ) Global) → slice_get r.spares.items sender ≡ Some times → slice_get (spares_in r) sender ≡ Some times.items
+stack_at r sender times at = slice_get-map (λ (v : Vec (List ℕ) Global). v.items) r.spares.items sender ∙ ap (option_map (λ (v : Vec (List ℕ) Global). v.items)) at
+
+pub vec_at : {A : Type 0} → (items : List A) (i : ℕ) (value : A) → i < length items → value ≡ get_or items i value → slice_get items i ≡ Some value
+vec_at items i value lt read = slice_get_read items (length items) i value refl lt read
+
+-- one was taken out
+pub one_spare_less : (sender : ℕ) (before now : List (List (List ℕ))) (stack rest : List (List ℕ)) (spare : List ℕ) → slice_get before sender ≡ Some stack → stack ≡ rest ++ spare ∷ []
+    → now ≡ set before sender rest → length (get_or now sender []) + 1 ≡ length (get_or before sender [])
+one_spare_less sender before now stack rest spare at popped is =
+    let was : length (get_or before sender []) ≡ length stack = ap length (get_or_from_slice_get before sender stack [] at) in
+    let left : length (get_or now sender []) ≡ length rest =
+    ap (λ (xs : List (List (List ℕ))). length (get_or xs sender [])) is ∙ ap length (get_or-set_same before sender rest [] (slice_get_within before sender stack at)) in
+    let longer : length stack ≡ length rest + 1 = ap length popped ∙ length-append rest (spare ∷ []) in
+    omega (arith, was, left, longer)
+
+-- ---- the cast is kept
+
+still_kept : (b : Buffer) (delivered : ℕ) (c : CastFields) (answer : Admission) (after : Buffer) → Admits b delivered c.number c.number Kept → IsAnswer b delivered c answer → IsAfter b c answer after → IsAfter b c Kept after
+still_kept b delivered c Kept after kept answered is = is
+still_kept b delivered c Repeat after kept answered is =
+    let above = kept.0.not_taken in
+    elim answered [
+      | inl le ↦ absurd (omega (arith, above, le))
+      | inr some ↦ absurd (both_ways (is_some (map.get b.kept c.number)) (ap is_some kept.0.not_kept) some)
+    ]
+still_kept b delivered c TooFar after kept answered is =
+    let near = kept.1 in
+    let far = answered.1 in
+    absurd (omega (arith, near, far))
+
+-- one cast more is kept
+kept_one_more : (before after : Buffer) (c : CastFields) → IsLacking before c.number → IsAfter before c Kept after → map.len after.kept ≡ map.len before.kept + 1
+kept_one_more before after c lacking is =
+    let none : map.contains_key before.kept c.number ≡ false = ap is_some lacking.not_kept in
+    ap (λ (b : Buffer). map.len b.kept) is ∙ map.len-insert nat_cmp_total before.kept c.number c
+    ∙ ap (λ (b : Bool). cond b (map.len before.kept) (map.len before.kept + 1)) none
+
+-- one buffer has the cast and its sender's spares one more
+pub record WithCast (c : CastFields) (spare : List ℕ) (before after : Buffer) (stack : List (List ℕ)) (old new : Reception) : Type 0 where
+  pub at : slice_get old.buffers.items c.sender ≡ Some before
+  pub buffers : new.buffers.items ≡ set old.buffers.items c.sender after
+  pub expander : new.expander ≡ old.expander
+  pub at_stack : slice_get (spares_in old) c.sender ≡ Some stack
+  pub spares : spares_in new ≡ set (spares_in old) c.sender (stack ++ spare ∷ [])
+
+module _ (c : CastFields) (spare : List ℕ) (before after : Buffer) (stack : List (List ℕ)) (old new : Reception) (w : WithCast c spare before after stack old new) (delivered : ℕ) (answer : Admission) (can : CanKeep delivered c old)
+    (answered : IsAnswer before delivered c answer) (becomes : IsAfter before c answer after) (seat : Identity) (facts : List Fact) (are : AreFactsOf seat (facts ++ CastReceived c ∷ []))
+    (all : HasReceivedAll seat facts old) (size : length spare ≡ seat.group.size) where
+  abbrev casts : List CastFields
+  casts = casts_in facts
+
+  now : casts_in (facts ++ CastReceived c ∷ []) ≡ casts ++ c ∷ []
+  now = casts_in-append facts (CastReceived c)
+
+  kept : Admits before delivered c.number c.number Kept
+  kept = subst (λ (b : Buffer). Admits b delivered c.number c.number Kept) (one_buffer can.buffer before (sym can.at ∙ w.at)) can.is_kept
+
+  is_after : IsAfter before c Kept after
+  is_after = still_kept before delivered c answer after kept answered becomes
+
+  at_now : (i : ℕ) (b : Buffer) → slice_get new.buffers.items i ≡ Some b → ((i ≡ c.sender) × (b ≡ after)) ⊎ ((i ≢ c.sender) × (slice_get old.buffers.items i ≡ Some b))
+  at_now i b at = set_at old.buffers.items c.sender i after b (ap (λ (bs : List Buffer). slice_get bs i) (sym w.buffers) ∙ at)
+
+  was_at : (i : ℕ) → i ≡ c.sender → slice_get old.buffers.items i ≡ Some before
+  was_at i e = ap (slice_get old.buffers.items) e ∙ w.at
+
+  spares_now : (i : ℕ) (spares : List (List ℕ)) → slice_get (spares_in new) i ≡ Some spares → ((i ≡ c.sender) × (spares ≡ stack ++ spare ∷ [])) ⊎ ((i ≢ c.sender) × (slice_get (spares_in old) i ≡ Some spares))
+  spares_now i spares at = set_at (spares_in old) c.sender i (stack ++ spare ∷ []) spares (ap (λ (xs : List (List (List ℕ))). slice_get xs i) (sym w.spares) ∙ at)
+
+  pub kept_cast : HasReceived seat (facts ++ CastReceived c ∷ []) (expanded_count (casts_in facts)) new
+  kept_cast = record {
+    senders = ap length w.buffers ∙ length-set old.buffers.items c.sender after ∙ all.senders;
+    waits = λ i b at other. subst (λ (cs : List CastFields). HoldsWhatWaits cs i b) (sym now) (elim (at_now i b at) [
+      | inl here ↦ subst (HoldsWhatWaits (casts ++ c ∷ []) i) (sym here.1) (kept_cast_waits casts i c before after (all.waits i before (was_at i here.0) other) (sym here.0) kept.0 is_after)
+      | inr elsewhere ↦ others_do_not_wait casts i c b (all.waits i b elsewhere.1 other) (λ e. elsewhere.0 (sym e))
+    ]);
+    taken_are = λ i b at other. elim (at_now i b at) [
+      | inl here ↦ ap (λ (x : Buffer). x.taken) here.1 ∙ ap (λ (x : Buffer). x.taken) is_after ∙ all.taken_are i before (was_at i here.0) other
+      | inr elsewhere ↦ all.taken_are i b elsewhere.1 other
+    ];
+    windows = λ i b at. elim (at_now i b at) [
+      | inl here ↦ ap (λ (x : Buffer). x.window) here.1 ∙ ap (λ (x : Buffer). x.window) is_after ∙ all.windows i before (was_at i here.0)
+      | inr elsewhere ↦ all.windows i b elsewhere.1
+    ];
+    times = λ i lt other. kept_times_stay seat facts (CastReceived c ∷ []) i (expanded_count casts i) new.expander are (omega arith) (subst (KeepsTimeOf seat facts i (expanded_count casts i)) (sym w.expander) (all.times i lt other));
+    stacks = ap length w.spares ∙ length-set (spares_in old) c.sender (stack ++ spare ∷ []) ∙ all.stacks;
+    spares = λ i b spares at at_spares. elim (at_now i b at) [
+      | inl here ↦ elim (spares_now i spares at_spares) [
+        | inl its ↦
+            let was = all.spares c.sender before stack w.at w.at_stack in
+            let longer = kept_one_more before after c kept.0 is_after in
+            let kept_now : map.len b.kept ≡ map.len after.kept = ap (λ (x : Buffer). map.len x.kept) here.1 in
+            let count = was.count in
+            let pushed = length-append stack (spare ∷ []) in
+            record {
+              count = ap length its.1 ∙ (let same : length (stack ++ spare ∷ []) ≡ map.len b.kept = omega (arith, longer, kept_now, count, pushed) in same);
+              sizes = subst (All (λ time. length time ≡ seat.group.size)) (sym its.1) (All-push (λ time. length time ≡ seat.group.size) stack spare was.sizes size);
+            }
+        | inr elsewhere ↦ absurd (elsewhere.0 here.0)
+      ]
+      | inr elsewhere ↦ elim (spares_now i spares at_spares) [
+        | inl its ↦ absurd (elsewhere.0 its.0)
+        | inr too ↦ all.spares i b spares elsewhere.1 too.1
+      ]
+    ];
+  }
+
+-- ---- the next one is taken out
+
+message_of_cast : (cs : List CastFields) (c : CastFields) → IsCastOf c cs → IsOneOf (message c) (messages_in cs)
+message_of_cast [] c there = there
+message_of_cast (d ∷ cs) c (inl same) = inl (ap message same)
+message_of_cast (d ∷ cs) c (inr later) = inr (message_of_cast cs c later)
+
+-- the buffer of the sender gives its next cast
+pub record GivesNext (c : CastFields) (sender : ℕ) (before after : Buffer) (old : Reception) : Type 0 where
+  pub at : slice_get old.buffers.items sender ≡ Some before
+  pub next : IsNext before c
+  pub takes : Takes before c after
+
+pub buffer_at : (sender : ℕ) (before : Buffer) (old : Reception) → IsReceiving sender old → before ≡ get_or old.buffers.items sender before → slice_get old.buffers.items sender ≡ Some before
+buffer_at sender before old r read =
+    let member = r.member in
+    let senders = r.received.senders in
+    slice_get_read old.buffers.items (length old.buffers.items) sender before refl (omega (arith, member, senders)) read
+
+some_entry : (es : List (ℕ × CastFields)) (n : ℕ) (c : CastFields) → map.find nat_cmp n es ≡ Some c → 0 < length es
+some_entry [] n c h = absurd cc
+some_entry (e ∷ es) n c h = omega arith
+
+pub some_are_kept : (before : Buffer) (c : CastFields) → IsNext before c → 0 < map.len before.kept
+some_are_kept before c next =
+    let some = some_entry (map.entries before.kept) c.number c (sym (map.get-entries before.kept c.number) ∙ next.kept) in
+    omega (arith, some, map.len-entries before.kept)
+
+-- so there is a spare for it
+pub some_spare_is_left : (size : ℕ) (before : Buffer) (c : CastFields) (times : Vec (List ℕ) Global) → IsNext before c → AreSparesOf size before times.items → 0 < vec_len times
+some_spare_is_left size before c times next are =
+    let some = some_are_kept before c next in
+    let count = are.count in
+    omega (arith, some, count, times.ok.0)
+
+-- one cast less is kept
+one_kept_less : (before after : Buffer) (c : CastFields) → IsNext before c → Takes before c after → map.len after.kept + 1 ≡ map.len before.kept
+one_kept_less before after c next takes =
+    let some : map.contains_key before.kept c.number ≡ true = ap is_some next.kept in
+    let fewer : map.len after.kept ≡ map.len before.kept - 1 = ap (λ (b : Buffer). map.len b.kept) takes ∙ map.len-remove nat_cmp_total before.kept c.number
+    ∙ ap (λ (b : Bool). cond b (map.len before.kept - 1) (map.len before.kept)) some in
+    let there = some_are_kept before c next in
+    omega (arith, fewer, there)
+
+-- a spare of the sender's is taken out, and the cast is reported
+pub record IsReported (c : CastFields) (sender : ℕ) (after : Buffer) (stack rest : List (List ℕ)) (spare : List ℕ) (old new : Reception) (message : Message) : Type 0 where
+  pub at_stack : slice_get (spares_in old) sender ≡ Some stack
+  pub popped : stack ≡ rest ++ spare ∷ []
+  pub spares : spares_in new ≡ set (spares_in old) sender rest
+  pub tells : Tells c old.expander new.expander message
+  pub buffers : new.buffers.items ≡ set old.buffers.items sender after
+
+module _ (c : CastFields) (sender : ℕ) (before after : Buffer) (old : Reception) (g : GivesNext c sender before after old)
+    (seat : Identity) (facts : List Fact) (taken : ℕ → ℕ) (are : AreFactsOf seat facts) (other : sender ≢ seat.me) (received : HasReceived seat facts taken old) where
+  abbrev size : ℕ
+  size = seat.group.size
+
+  abbrev all_casts : List CastFields
+  all_casts = casts_in facts
+
+  found : IsCastOf c all_casts × (c.sender ≡ sender) × HoldsWhatWaits all_casts sender after
+  found = taken_cast_is_there all_casts sender c before after (received.waits sender before g.at other) g.next g.takes
+
+  so_far : before.taken ≡ taken sender
+  so_far = received.taken_are sender before g.at other
+
+  behind : c.number ≡ taken sender + 1
+  behind = g.next.follows ∙ ap (λ (n : ℕ). n + 1) so_far
+
+  member : sender < size
+  member = omega (arith, slice_get_within old.buffers.items sender before g.at, received.senders)
+
+  -- the spares of the sender's, of which there is one at least
+  pub its_spares : (stack : List (List ℕ)) → slice_get (spares_in old) sender ≡ Some stack → AreSparesOf seat.group.size before stack
+  its_spares stack at = received.spares sender before stack g.at at
+
+  keeps : KeepsTimeOf seat facts c.sender (taken sender) old.expander
+  keeps = subst (λ (i : ℕ). KeepsTimeOf seat facts i (taken sender) old.expander) (sym found.1) (received.times sender member other)
+
+  pub its_turn : IsNextCast old.expander c
+  its_turn = cast_behind_is_next seat facts c (taken sender) old.expander are found.0 behind keeps
+
+  pub its_size : length old.expander ≡ size
+  its_size = keeps.senders
+
+  module _ (stack rest : List (List ℕ)) (spare : List ℕ) (new : Reception) (message_is : Message) (t : IsReported c sender after stack rest spare old new message_is) where
+    tells : (c.number ≡ taken sender + 1) × (t.tells.time ≡ expanded_time size all_casts c.sender c.number) × KeepsTimeOf seat facts c.sender (last_number c) new.expander
+    tells = expander_tells_the_time seat facts c (taken sender) t.tells.time old.expander new.expander are found.0 keeps t.tells.expands
+
+    at_new : (i : ℕ) (b : Buffer) → slice_get new.buffers.items i ≡ Some b → ((i ≡ sender) × (b ≡ after)) ⊎ ((i ≢ sender) × (slice_get old.buffers.items i ≡ Some b))
+    at_new i b at = set_at old.buffers.items sender i after b (ap (λ (bs : List Buffer). slice_get bs i) (sym t.buffers) ∙ at)
+
+    more_here : (i : ℕ) → i ≡ sender → one_more taken sender i ≡ c.number
+    more_here i e = rw (eq-eqb i sender e) (ap (λ (k : ℕ). taken k + 1) e ∙ sym behind)
+
+    same_there : (i : ℕ) → i ≢ sender → one_more taken sender i ≡ taken i
+    same_there i ne = rw (ne_eqb i sender ne) refl
+
+    spares_new : (i : ℕ) (spares : List (List ℕ)) → slice_get (spares_in new) i ≡ Some spares → ((i ≡ sender) × (spares ≡ rest)) ⊎ ((i ≢ sender) × (slice_get (spares_in old) i ≡ Some spares))
+    spares_new i spares at = set_at (spares_in old) sender i rest spares (ap (λ (xs : List (List (List ℕ))). slice_get xs i) (sym t.spares) ∙ at)
+
+    pub next_is_reported : IsNextMessage seat facts sender taken new message_is
+    next_is_reported = record {
+      carried = message c;
+      next = record {
+        there = message_of_cast all_casts c found.0;
+        expanded = (expanded_up_to_the_count all_casts (message c)).1 (
+            let upto = found.2.taken in
+            let is : after.taken ≡ c.number = ap (λ (b : Buffer). b.taken) g.takes in
+            let at : expanded_count all_casts c.sender ≡ expanded_count all_casts sender = ap (expanded_count all_casts) found.1 in
+            omega (arith, upto, is, at));
+        of_sender = found.1;
+        next = behind;
+      };
+      message_is = t.tells.message_is ∙ ap (λ (time : List ℕ). reported c time c.payload) tells.1;
+      received = record {
+        senders = ap length t.buffers ∙ length-set old.buffers.items sender after ∙ received.senders;
+        waits = λ i b at not_me. elim (at_new i b at) [
+          | inl here ↦ subst (λ (k : ℕ). HoldsWhatWaits all_casts k b) (sym here.0) (subst (HoldsWhatWaits all_casts sender) (sym here.1) found.2)
+          | inr elsewhere ↦ received.waits i b elsewhere.1 not_me
+        ];
+        taken_are = λ i b at not_me. elim (at_new i b at) [
+          | inl here ↦ ap (λ (x : Buffer). x.taken) here.1 ∙ ap (λ (x : Buffer). x.taken) g.takes ∙ sym (more_here i here.0)
+          | inr elsewhere ↦ received.taken_are i b elsewhere.1 not_me ∙ sym (same_there i elsewhere.0)
+        ];
+        windows = λ i b at. elim (at_new i b at) [
+          | inl here ↦ ap (λ (x : Buffer). x.window) here.1 ∙ ap (λ (x : Buffer). x.window) g.takes ∙ received.windows sender before g.at
+          | inr elsewhere ↦ received.windows i b elsewhere.1
+        ];
+        times = λ i lt not_me. elim (cases_eq i sender) [
+          | inl e ↦ subst (λ (n : ℕ). KeepsTimeOf seat facts i n new.expander) (sym (more_here i e)) (subst (λ (k : ℕ). KeepsTimeOf seat facts k c.number new.expander) (found.1 ∙ sym e) tells.2)
+          | inr ne ↦ subst (λ (n : ℕ). KeepsTimeOf seat facts i n new.expander) (sym (same_there i ne))
+              (other_times_are_kept seat facts c i (taken i) t.tells.time old.expander new.expander (λ h. ne (sym h ∙ found.1)) (received.times i lt not_me) t.tells.expands)
+        ];
+        stacks = ap length t.spares ∙ length-set (spares_in old) sender rest ∙ received.stacks;
+        spares = λ i b spares at at_spares. elim (at_new i b at) [
+          | inl here ↦ elim (spares_new i spares at_spares) [
+            | inl its ↦
+                let was = its_spares stack t.at_stack in
+                let less = one_kept_less before after c g.next g.takes in
+                let kept_now : map.len b.kept ≡ map.len after.kept = ap (λ (x : Buffer). map.len x.kept) here.1 in
+                let count = was.count in
+                let popped : length stack ≡ length rest + 1 = ap length t.popped ∙ length-append rest (spare ∷ []) in
+                record {
+                  count = ap length its.1 ∙ (let same : length rest ≡ map.len b.kept = omega (arith, less, kept_now, count, popped) in same);
+                  sizes = subst (All (λ time. length time ≡ seat.group.size)) (sym its.1) (All-pop (λ time. length time ≡ seat.group.size) stack rest (Some spare) t.popped was.sizes).0;
+                }
+            | inr elsewhere ↦ absurd (elsewhere.0 here.0)
+          ]
+          | inr elsewhere ↦ elim (spares_new i spares at_spares) [
+            | inl its ↦ absurd (elsewhere.0 its.0)
+            | inr too ↦ received.spares i b spares elsewhere.1 too.1
+          ]
+        ];
+      };
+    }
+
+-- ---- there is no next one
+
+pub none_is_next : (sender : ℕ) (before after : Buffer) (old new : Reception) → slice_get old.buffers.items sender ≡ Some before → map.get before.kept (before.taken + 1) ≡ None → after ≡ before
+    → new.buffers.items ≡ set old.buffers.items sender after → new.expander ≡ old.expander → spares_in new ≡ spares_in old → HasNoNextOf sender old new
+none_is_next sender before after old new was none same buffers expander spares seat facts taken are other received =
+    let was_there : (i : ℕ) (b : Buffer) → slice_get new.buffers.items i ≡ Some b → slice_get old.buffers.items i ≡ Some b = λ i b at.
+    set_to_same old.buffers.items sender i before after b was same (ap (λ (bs : List Buffer). slice_get bs i) (sym buffers) ∙ at) in (
+      sym (received.taken_are sender before was other) ∙ all_is_taken (casts_in facts) sender before (received.waits sender before was other) none,
+      record {
+        senders = ap length buffers ∙ length-set old.buffers.items sender after ∙ received.senders;
+        waits = λ i b at. received.waits i b (was_there i b at);
+        taken_are = λ i b at. received.taken_are i b (was_there i b at);
+        windows = λ i b at. received.windows i b (was_there i b at);
+        times = λ i lt not_me. subst (KeepsTimeOf seat facts i (taken i)) (sym expander) (received.times i lt not_me);
+        stacks = ap length spares ∙ received.stacks;
+        spares = λ i b times at at_times. received.spares i b times (was_there i b at) (ap (λ (xs : List (List (List ℕ))). slice_get xs i) (sym spares) ∙ at_times);
+      },
+    )
+
+-- ---- the same numbers
+
+pub received_alike : (seat : Identity) (facts : List Fact) (taken later : ℕ → ℕ) (r : Reception) → ((i : ℕ) → later i ≡ taken i) → HasReceived seat facts taken r → HasReceived seat facts later r
+received_alike seat facts taken later r same h = record {
+  senders = h.senders;
+  waits = h.waits;
+  taken_are = λ i b at other. h.taken_are i b at other ∙ sym (same i);
+  windows = h.windows;
+  times = λ i lt other. subst (λ (n : ℕ). KeepsTimeOf seat facts i n r.expander) (sym (same i)) (h.times i lt other);
+  stacks = h.stacks;
+  spares = h.spares;
+}
