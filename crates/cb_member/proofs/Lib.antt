@@ -1,8 +1,11 @@
 pub mod Alike
+pub mod Answering
 pub mod Arriving
 pub mod Casting
 pub mod Courses
 pub mod Draining
+pub mod Entering
+pub mod Hearing
 pub mod Judging
 pub mod JudgingCasts
 pub mod OwnCasts
