@@ -8,7 +8,9 @@ pub mod Reading
 pub mod Casting
 pub mod Judging
 pub mod OwnCasts
+pub mod Starting
 pub mod Entering
+pub mod Recording
 pub mod Staying
 pub mod Telling
 pub mod Ticks
