@@ -13,6 +13,12 @@ pub mod Passing
 pub mod Putting
 pub mod Reading
 pub mod Receiving
+pub mod Casting
+pub mod Judging
+pub mod OwnCasts
+pub mod Starting
+pub mod Entering
+pub mod Recording
 pub mod Staying
 pub mod TakingIn
 pub mod Telling
