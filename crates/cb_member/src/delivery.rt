@@ -124,7 +124,5 @@ pub fn push_within<T: Drop>(items: &mut Vec<T>, item: T)
     ensures len { vec_len items.new ≡ vec_len items.old + 1 }
     ensures capacity { vec_capacity items.old ≤ vec_capacity items.new }
 {
-    let Ok(()) = items.push(item) else {
-        unreachable!("there is room")
-    };
+    items.push_reserved(item);
 }

@@ -61,7 +61,7 @@ impl State {
         if status.sender == me {
             is_ahead(&self.delivery.time, &status.values)
         } else {
-            counted(&self.delivery.time, me) < value_in(&status.values, me)
+            counted(self.delivery.time.as_slice(), me) < value_in(&status.values, me)
         }
     }
 
@@ -101,19 +101,20 @@ fn are_members(size: u32, status: &Status) -> bool
 }
 
 /// The field of a time, 0 where it has none.
-fn counted(time: &VectorTime, k: u32) -> u32
-    ensures { result ≡ field time.now k }
+fn counted(counts: &[u32], k: u32) -> u32
+    ensures { result ≡ field counts.now k }
 {
-    if k < time.size() { time.get(k) } else { 0 }
+    counts.get(k as usize).copied().unwrap_or(0)
 }
 
 /// Some value is above what the time counts.
 fn is_ahead(time: &VectorTime, values: &[Change]) -> bool
     ensures { result ≡ list_any (λ d. nat_lt (field time.now d.field) d.amount) values.now }
 {
+    let counts = time.as_slice();
     values
         .iter()
-        .any(|value| counted(time, value.field) < value.amount)
+        .any(|value| counted(counts, value.field) < value.amount)
 }
 
 /// Some value says more of another sender's casts than was heard of. The values are of different members, so one
@@ -125,6 +126,8 @@ fn tells_of_casts(seat: Identity, known: &VectorTime, values: &[Change]) -> bool
         && nat_lt (field known.now k) (value_in values.now k))
         (range_with_len 0 seat.group.size) }
 {
-    let me = seat.me();
-    values.iter().any(|value| value.field != me && counted(known, value.field) < value.amount)
+    let (me, counts) = (seat.me(), known.as_slice());
+    values
+        .iter()
+        .any(|value| value.field != me && counted(counts, value.field) < value.amount)
 }

@@ -235,7 +235,9 @@ impl Named {
                 delivered.push_reserved(message.name);
             }
         }
-        delivered.shrink_to_fit();
+        if delivered.spilled() {
+            delivered.shrink_to_fit();
+        }
         Entry::Arrive { frame, delivered }
     }
 }
