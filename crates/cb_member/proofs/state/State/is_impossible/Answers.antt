@@ -29,6 +29,6 @@ returns-else-status-me c facts are keeps =
     let other : status.sender ≢ seat.me = omega (arith, c.if-status-me.false, c.me-me.ensures.me) in
     rw (ne_eqb status.sender seat.me other)
     (ap (λ (n : ℕ). ltb n c.value_in.result)
-    (c.counted.ensures ∙ ap (field state.delivery.time) c.me-me.ensures.me ∙ time_at seat facts state.delivery seat.me keeps.delivered are.member)
+    (c.counted.ensures ∙ ap (λ (time : List ℕ). field time c.me-me.result) c.as_slice.ensures.fields ∙ ap (field state.delivery.time) c.me-me.ensures.me ∙ time_at seat facts state.delivery seat.me keeps.delivered are.member)
     ∙ ap (ltb (delivered seat facts seat.me))
     (c.value_in.ensures ∙ ap (λ (vs : List Change). value_in vs c.me-me.result) c.deref-else-status-me.ensures.value ∙ ap (value_in status.values.items) c.me-me.ensures.me))
