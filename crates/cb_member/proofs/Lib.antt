@@ -1,3 +1,4 @@
+pub mod Acknowledging
 pub mod Draining
 pub mod Passing
 pub mod Putting
