@@ -94,6 +94,26 @@ alike_back old new same = record {
   sending = sym same.sending;
 }
 
+pub alike_again : (a b d : State) → IsAlike a b → IsAlike b d → IsAlike a d
+alike_again a b d first later = record {
+  seat = later.seat ∙ first.seat;
+  delivery = record {
+    time = later.delivery.time ∙ first.delivery.time;
+    queue = record {
+      size = later.delivery.queue.size ∙ first.delivery.queue.size;
+      window = later.delivery.queue.window ∙ first.delivery.queue.window;
+      now_held = later.delivery.queue.now_held ∙ first.delivery.queue.now_held;
+    };
+  };
+  reception = record {
+    buffers = later.reception.buffers ∙ first.reception.buffers;
+    expander = later.reception.expander ∙ first.reception.expander;
+    spares = later.reception.spares ∙ first.reception.spares;
+  };
+  knowledge = later.knowledge ∙ first.knowledge;
+  sending = later.sending ∙ first.sending;
+}
+
 settled_itself : (d : Delivery) → IsSettled d d
 settled_itself d = record { time = refl; queue = record { size = refl; window = refl; now_held = refl } }
 

@@ -3,6 +3,8 @@ pub mod Arriving
 pub mod Casting
 pub mod Courses
 pub mod Draining
+pub mod Foreseeing
+pub mod Going
 pub mod Judging
 pub mod JudgingCasts
 pub mod OwnCasts
