@@ -2,6 +2,7 @@ pub mod Alike
 pub mod Arriving
 pub mod Casting
 pub mod Courses
+pub mod Acknowledging
 pub mod Draining
 pub mod Foreseeing
 pub mod Going
