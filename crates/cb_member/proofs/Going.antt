@@ -25,10 +25,11 @@ use Rattle.cb_member.specs.Delivery.{Drains, NoneReady}
 use Rattle.cb_member.specs.Passing.{DeliversAlone, IsAlone, TakesInOrder, message_at}
 use Rattle.cb_member.specs.Taking.{CanFollow, HasTakenIn, HasTurn, Hears, TakesInCast}
 use Rattle.cb_member.proofs.Arriving.{is_delivered, no_fewer}
-use Rattle.cb_member.proofs.Courses.{is_in_group, time_is_long}
+use Rattle.cb_member.proofs.Courses.{time_is_long}
 use Rattle.cb_member.proofs.Draining.{is_drained, none_so_far}
 use Rattle.cb_member.proofs.Passing.{passing_has_turn, passing_takes_cast, ready_is_heard}
 use Rattle.cb_member.proofs.Putting.{held_then}
+use Rattle.cb_member.proofs.TakingIn.{sender_is_counted}
 use Rattle.cb_member.proofs.Waiting.{none_next}
 
 -- where nothing may be delivered a drain delivers nothing
@@ -114,7 +115,7 @@ module _ (c : CastFields) (time : List ℕ) (old : State) (goes : GoesAlone c ti
   is_alone = subst (λ (x : Message). IsAlone x old.delivery) (sym is) (record {
     turn = subst (HasTurn old.delivery.queue) is (passing_has_turn c old reception known_then message goes.has_time.can takes hears);
     fits = goes.has_time.size ∙ sym (time_is_long c old goes.has_time.can);
-    sender = is_in_group c old goes.has_time.can;
+    sender = sender_is_counted c old goes.has_time.can;
     ready = goes.ready;
     leaves = goes.leaves;
   })

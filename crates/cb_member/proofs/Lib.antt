@@ -1,8 +1,8 @@
+pub mod Acknowledging
 pub mod Alike
 pub mod Arriving
 pub mod Casting
 pub mod Courses
-pub mod Acknowledging
 pub mod Draining
 pub mod Foreseeing
 pub mod Going
