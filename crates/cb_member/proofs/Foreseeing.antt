@@ -8,7 +8,7 @@ use Rattle.cb_delay.specs.declared.message.Event.{Event}
 use Rattle.cb_delay.specs.declared.message.Event.TheVariants.{Deliver}
 use Rattle.cb_delay.specs.declared.message.Message.{Message}
 use Rattle.cb_history.specs.Answers.{deliveries}
-use Rattle.cb_history.specs.Facts.{Fact, CastReceived}
+use Rattle.cb_history.specs.Facts.{CastReceived}
 use Rattle.cb_history.specs.Group.{Identity}
 use Rattle.cb_member.specs.declared.state.State.{State}
 use Rattle.cb_member.specs.Arriving.{DeliversWith}

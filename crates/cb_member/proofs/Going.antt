@@ -1,15 +1,15 @@
 -- What each course does: as if the cast had been taken in, and what was ready had been delivered then.
-use Rattle.std.proofs.Common.{◌≡◌, ℕ, ◌+◌, ◌<◌, ◌≤◌, max, inl, inr, List, [], ◌∷◌, ◌++◌, length, None, Some, refl, sym, ap, subst, ◌∙◌, arith}
+use Rattle.std.proofs.Common.{◌≡◌, ℕ, ◌≤◌, max, inl, inr, List, [], ◌∷◌, ◌++◌, length, None, refl, sym, ap, subst, ◌∙◌, arith}
 use Rattle.std.specs.FinMap as fin
 use Rattle.cb_times.specs.Order.{field}
 use Rattle.cb_times.specs.Time.{IsRaised}
-use Rattle.cb_frames.specs.Fields.{Carried, CastFields, first_number}
+use Rattle.cb_frames.specs.Fields.{Carried, CastFields}
 use Rattle.cb_delay.specs.declared.message.Event.{Event}
 use Rattle.cb_delay.specs.declared.message.Message.{Message}
 use Rattle.cb_delay.specs.Message.{name_cmp}
 use Rattle.cb_delay.specs.Queue.{Queue, Holds, HasReady, IsDelayQueue}
 use Rattle.cb_delay.specs.Rule.{IsReady}
-use Rattle.cb_history.specs.Facts.{Fact, CastReceived, casts_in}
+use Rattle.cb_history.specs.Facts.{CastReceived, casts_in}
 use Rattle.cb_history.specs.Known.{expanded_count}
 use Rattle.cb_history.specs.QueueLaws.{HoldsUndelivered}
 use Rattle.cb_history.specs.View.{next_delivery, view}

@@ -1,7 +1,6 @@
-use Rattle.std.proofs.Common.{◌≡◌, ◌∙◌, List, length, ap, sym, subst}
+use Rattle.std.proofs.Common.{◌≡◌, ◌∙◌, length, ap, sym, subst}
 use Rattle.std.proofs.lemmas.List.{length-replicate}
 use Rattle.cb_frames.specs.Fields.{CastFields, cast_fields}
-use Rattle.cb_delay.specs.declared.message.Message.{Message}
 use Rattle.cb_history.specs.Group.{Parameters}
 use Rattle.cb_member.specs.Arriving.{DeliversWith}
 use Rattle.cb_member.specs.Course.{HoldsAtMost}
