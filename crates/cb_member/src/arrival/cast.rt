@@ -74,6 +74,7 @@ impl State {
         ensures takes { TakesAndDelivers (cast_fields cast) self.old self.new events.old.items
             events.new.items }
         ensures joins { JoinsEvents (cast_fields cast) course events.old.items events.new.items }
+        ensures grows { vec_len events.old ≤ vec_len events.new }
         ensures few { vec_len events.new ≤ vec_len events.old + most course }
     {
         match course {
@@ -127,6 +128,7 @@ impl State {
             × (vec_len events.old + count ≤ vec_capacity events.old) }
         ensures takes { TakesAndDelivers (cast_fields cast) self.old self.new events.old.items
             events.new.items }
+        ensures grows { vec_len events.old ≤ vec_len events.new }
         ensures few { (count : ℕ) → HoldsAtMost (cast_fields cast) self.old count
             → vec_len events.new ≤ vec_len events.old + count }
     {

@@ -1,0 +1,223 @@
+-- What is kept is so of the facts with a cast of another member, once it is taken in and delivered.
+use Rattle.std.proofs.Common.{◌≡◌, ℕ, ◌+◌, ◌-◌, ◌<◌, ◌≤◌, max, inl, inr, List, [], ◌∷◌, ◌++◌, length, length-append, map, drop, take, None, refl, sym, ap, subst, ◌∙◌, arith}
+use Rattle.std.specs.List.{All}
+use Rattle.std.proofs.lemmas.Bool.{cases_eq, eq-eqb, ne_eqb}
+use Rattle.std.proofs.lemmas.List.{drop_at, take_rest}
+use Rattle.std.proofs.lemmas.List.Elements.{All-cons, All-nil}
+use Rattle.std.proofs.lemmas.List.FromFn.{length-map-range_with_len}
+use Rattle.cb_times.specs.Order.{field}
+use Rattle.cb_frames.specs.Fields.{CastFields, CastFrame, Carried}
+use Rattle.cb_delay.specs.declared.message.Message.{Message}
+use Rattle.cb_delay.specs.declared.message.Event.{Event}
+use Rattle.cb_delay.specs.declared.message.Event.TheVariants.{Deliver}
+use Rattle.cb_diffs.specs.Expansion.{expanded_field}
+use Rattle.cb_stability.specs.Known as acks
+use Rattle.cb_history.specs.Group.{Identity}
+use Rattle.cb_history.specs.Facts.{Fact, CastReceived, casts_in}
+use Rattle.cb_history.specs.View.{view, time_of, drain, message_in}
+use Rattle.cb_history.specs.Known.{greatest_of, acknowledged, counted_by}
+use Rattle.cb_history.specs.Answers.{deliveries}
+use Rattle.cb_history.specs.LegalFacts.{AreFactsOf}
+use Rattle.cb_history.specs.NameLaws.{IsOneOf}
+use Rattle.cb_history.specs.StabilityLaws.{KnowsAcknowledged}
+use Rattle.cb_history.proofs.Views.{casts_in-append}
+use Rattle.cb_history.proofs.Walks.{view_received}
+use Rattle.cb_history.proofs.Delivering.{in_field}
+use Rattle.cb_history.proofs.Times.{upto_other}
+use Rattle.cb_history.proofs.RisingByCasts.{cast_is_acknowledged}
+use Rattle.cb_history.proofs.Statuses.{last_status_with_one_more}
+use Rattle.cb_member.specs.declared.arrival.course.Course.{Course}
+use Rattle.cb_member.specs.declared.arrival.course.Course.TheVariants.{Early, Waits as Waiting, Alone, LetsGo}
+use Rattle.cb_member.specs.declared.delivery.Delivery.{Delivery}
+use Rattle.cb_member.specs.declared.sending.Sending.{Sending}
+use Rattle.cb_member.specs.declared.state.State.{State}
+use Rattle.cb_member.specs.Arriving.{DeliversOn}
+use Rattle.cb_member.specs.Course.{CanGo, TakesAndDelivers}
+use Rattle.cb_member.specs.Delivery.{IsDrained, Waits, delivered_in}
+use Rattle.cb_member.specs.Knowledge.{HasTimeOf, KnowsFacts, LearnsAll, delivered_by, reported_in}
+use Rattle.cb_member.specs.Reception.{HasReceivedAll}
+use Rattle.cb_member.specs.Sending.{HasSent, TrimsToStable}
+use Rattle.cb_member.specs.State.{HasDelivered, Keeps}
+use Rattle.cb_member.specs.Taking.{CanFollow, HasTakenIn, OnlyTakesIn}
+use Rattle.cb_member.proofs.OwnCasts.{still_reported}
+
+-- whatever its course, the cast may follow some facts that are kept
+pub can_follow : (c : CastFields) (course : Course) (state : State) → CanGo c course state → CanFollow c state
+can_follow c (Early spare) state can = can.can.can
+can_follow c (Waiting time) state can = can.has_time.can
+can_follow c (Alone time) state can = can.has_time.can
+can_follow c (LetsGo spare count) state can = can.0.can
+
+-- the cast was taken in, and what was ready is delivered
+pub record IsDelivered (facts : List Fact) (c : CastFields) (old mid : State) (before after : List Event) : Type 0 where
+  pub waits : Delivery
+  pub legal : AreFactsOf old.seat (facts ++ CastReceived c ∷ [])
+  pub keeps : Keeps facts old
+  pub taken : HasTakenIn facts c old (record mid { delivery = waits })
+  pub only : OnlyTakesIn old (record mid { delivery = waits })
+  pub drained : IsDrained old.seat.group.size (casts_in (facts ++ CastReceived c ∷ [])) (view old.seat.group.size facts) waits mid.delivery before after
+
+pub is_delivered : (facts : List Fact) (c : CastFields) (old mid : State) (before after : List Event) → TakesAndDelivers c old mid before after → AreFactsOf old.seat (facts ++ CastReceived c ∷ []) → Keeps facts old
+    → IsDelivered facts c old mid before after
+is_delivered facts c old mid before after takes are keeps =
+    let taken = takes.takes_in.takes_in facts are keeps in
+    record {
+      waits = takes.waits;
+      legal = are;
+      keeps = keeps;
+      taken = taken;
+      only = takes.takes_in.only;
+      drained = takes.drains old.seat.group.size (casts_in (facts ++ CastReceived c ∷ [])) (view old.seat.group.size facts) taken.waits;
+    }
+
+delivered_as : (size : ℕ) (casts : List CastFields) (ms : List Carried) → delivered_in size casts ms ≡ map (λ m. Deliver m) (map (message_in size casts) ms)
+delivered_as size casts [] = refl
+delivered_as size casts (m ∷ ms) = ap (λ (es : List Event). Deliver (message_in size casts m) ∷ es) (delivered_as size casts ms)
+
+delivered_back : (size : ℕ) (casts : List CastFields) (ms : List Carried) → delivered_by (delivered_in size casts ms) ≡ map (message_in size casts) ms
+delivered_back size casts [] = refl
+delivered_back size casts (m ∷ ms) = ap (λ (messages : List Message). message_in size casts m ∷ messages) (delivered_back size casts ms)
+
+-- what is behind the first events
+pub since_then : (before after now : List Event) (n : ℕ) → now ≡ after → n ≡ length before → take (length now - n) (drop n now) ≡ drop (length before) after
+since_then before after now n same so_many = take_rest now n ∙ ap (λ (k : ℕ). drop k now) so_many ∙ ap (drop (length before)) same
+
+module _ (facts : List Fact) (c : CastFields) (old mid : State) (before after : List Event) (is : IsDelivered facts c old mid before after) where
+  abbrev seat : Identity
+  seat = old.seat
+
+  abbrev size : ℕ
+  size = old.seat.group.size
+
+  abbrev now : List Fact
+  now = facts ++ CastReceived c ∷ []
+
+  abbrev casts : List CastFields
+  casts = casts_in now
+
+  -- the messages that are delivered
+  abbrev messages : List Message
+  messages = map (message_in size casts) is.drained.more
+
+  casts_are : casts ≡ casts_in facts ++ c ∷ []
+  casts_are = casts_in-append facts (CastReceived c)
+
+  view_grows : view size now ≡ view size facts ++ is.drained.more
+  view_grows = view_received size facts c ∙ ap (λ (cs : List CastFields). drain size cs (view size facts)) (sym casts_are) ∙ is.drained.drained
+
+  pub are_deliveries : messages ≡ deliveries seat facts (CastFrame c)
+  are_deliveries = ap (map (message_in size casts)) (sym (ap (drop (length (view size facts))) view_grows ∙ drop_at (view size facts) is.drained.more (length (view size facts)) refl))
+
+  pub events_join : after ≡ before ++ map (λ m. Deliver m) (deliveries seat facts (CastFrame c))
+  events_join = is.drained.events ∙ ap (λ (es : List Event). before ++ es) (delivered_as size casts is.drained.more ∙ ap (map (λ m. Deliver m)) are_deliveries)
+
+  pub no_fewer : length before ≤ length after
+  no_fewer =
+      let long : length after ≡ length before + length (delivered_in size casts is.drained.more) = ap (λ (es : List Event). length es) is.drained.events ∙ length-append before (delivered_in size casts is.drained.more) in
+      omega (arith, long)
+
+  pub delivered_since : delivered_by (drop (length before) after) ≡ messages
+  delivered_since =
+      ap delivered_by (ap (drop (length before)) is.drained.events ∙ drop_at before (delivered_in size casts is.drained.more) (length before) refl)
+      ∙ delivered_back size casts is.drained.more
+
+  delivered_with_it : HasDelivered seat now mid.delivery
+  delivered_with_it = record {
+    waits = subst (λ (seen : List Carried). Waits size casts seen mid.delivery) (sym view_grows) is.drained.waits;
+    window = is.drained.window ∙ is.taken.window;
+  }
+
+  -- ---- what it acknowledges
+
+  reported_by_it : (ms : List Carried) (k : ℕ) → reported_in seat.me (map (message_in size casts) ms) k ≡ counted_by casts ms k seat.me
+  reported_by_it [] k = refl
+  reported_by_it (m ∷ ms) k = elim (cases_eq m.sender k) [
+    | inl e ↦ rw (eq-eqb m.sender k e, reported_by_it ms k, in_field size (expanded_field casts m.sender m.number) seat.me is.legal.member) refl
+    | inr ne ↦ rw (ne_eqb m.sender k ne) (reported_by_it ms k)
+  ]
+
+  acks_before : mid.knowledge.acks ≡ old.knowledge.acks
+  acks_before = is.only.acks
+
+  knows_acknowledged : (k : acks.Known) → LearnsAll seat.me messages mid.knowledge.acks k → KnowsAcknowledged seat now k
+  knows_acknowledged k learns = record {
+    of_size = learns.of_size ∙ ap (λ (known : acks.Known). known.size) acks_before ∙ is.keeps.knows.acknowledged.of_size;
+    learnt = λ j lt other.
+        learns.learnt j
+        ∙ ap (λ (known : acks.Known). max (acks.count known j seat.me) (greatest_of (reported_in seat.me messages j))) acks_before
+        ∙ ap (λ (n : ℕ). max n (greatest_of (reported_in seat.me messages j))) (is.keeps.knows.acknowledged.learnt j lt other)
+        ∙ ap (λ (ns : List ℕ). max (acknowledged seat facts j) (greatest_of ns)) (reported_by_it is.drained.more j)
+        ∙ ap (λ (cs : List CastFields). max (acknowledged seat facts j) (greatest_of (counted_by cs is.drained.more j seat.me))) casts_are
+        ∙ sym (cast_is_acknowledged seat facts c j is.drained.more is.legal view_grows);
+  }
+
+  -- ---- what may have to be sent again
+
+  sent_with_it : (k : acks.Known) (s : Sending) → LearnsAll seat.me messages mid.knowledge.acks k → TrimsToStable seat.me k mid.sending.window s.window → s ≡ record mid.sending { window = s.window } → HasSent seat now s
+  sent_with_it k s learns trims rest =
+      let before : HasSent seat facts mid.sending = subst (HasSent seat facts) (sym is.only.sending) is.keeps.sent in
+      let after : HasSent seat now (record mid.sending { window = s.window }) = record {
+        window = trims seat facts (CastReceived c) refl is.legal refl (knows_acknowledged k learns) before.window;
+        last_cast = before.last_cast ∙ ap (time_of size) (sym (upto_other facts (CastReceived c) tt));
+        fields = before.fields;
+        reported = still_reported seat facts now mid.sending.has_reported mid.sending.last_reported (last_status_with_one_more facts (CastReceived c) None) before.reported;
+      } in
+      subst (HasSent seat now) (sym rest) after
+
+  -- ---- the times of what is delivered
+
+  timed : (ms : List Carried) → ((m : Carried) → IsOneOf m ms → m.sender < size) → All (HasTimeOf size) (map (message_in size casts) ms)
+  timed [] members = All-nil (HasTimeOf size)
+  timed (m ∷ ms) members = All-cons (HasTimeOf size) (message_in size casts m) (map (message_in size casts) ms)
+      (record { sender = members m (inl refl); time = length-map-range_with_len (expanded_field casts m.sender m.number) 0 size })
+      (timed ms (λ n there. members n (inr there)))
+
+  later : (front ms : List Carried) (m : Carried) → IsOneOf m ms → IsOneOf m (front ++ ms)
+  later [] ms m there = there
+  later (n ∷ front) ms m there = inr (later front ms m there)
+
+  pub acks_size : mid.knowledge.acks.size ≡ size
+  acks_size = ap (λ (known : acks.Known). known.size) acks_before ∙ is.keeps.knows.acknowledged.of_size
+
+  pub have_times : All (HasTimeOf mid.knowledge.acks.size) (delivered_by (drop (length before) after))
+  have_times =
+      let way = is.drained.waits.way in
+      let each : All (HasTimeOf size) messages = timed is.drained.more (λ m there. way.members m (way.of_casts m (later (view size facts) is.drained.more m there))) in
+      subst (All (HasTimeOf mid.knowledge.acks.size)) (sym delivered_since) (subst (λ (n : ℕ). All (HasTimeOf n) messages) (sym acks_size) each)
+
+  -- ---- all of it
+
+  module _ (new : State) (same_seat : new.seat ≡ mid.seat) (same_delivery : new.delivery ≡ mid.delivery) (same_reception : new.reception ≡ mid.reception) (same_known : new.knowledge.known ≡ mid.knowledge.known)
+      (learns : LearnsAll mid.seat.me (delivered_by (drop (length before) after)) mid.knowledge.acks new.knowledge.acks)
+      (trims : TrimsToStable mid.seat.me new.knowledge.acks mid.sending.window new.sending.window)
+      (rest : new.sending ≡ record mid.sending { window = new.sending.window }) where
+    seat_is : new.seat ≡ seat
+    seat_is = same_seat ∙ is.only.seat
+
+    mid_seat : mid.seat ≡ seat
+    mid_seat = is.only.seat
+
+    learnt : LearnsAll seat.me messages mid.knowledge.acks new.knowledge.acks
+    learnt = subst (λ (me : ℕ). LearnsAll me messages mid.knowledge.acks new.knowledge.acks) (ap (λ (s : Identity). s.me) mid_seat)
+        (subst (λ (ms : List Message). LearnsAll mid.seat.me ms mid.knowledge.acks new.knowledge.acks) delivered_since learns)
+
+    trimmed : TrimsToStable seat.me new.knowledge.acks mid.sending.window new.sending.window
+    trimmed = subst (λ (me : ℕ). TrimsToStable me new.knowledge.acks mid.sending.window new.sending.window) (ap (λ (s : Identity). s.me) mid_seat) trims
+
+    knows_now : KnowsFacts seat now new.knowledge
+    knows_now = record {
+      fields = ap (λ (time : List ℕ). length time) same_known ∙ is.taken.fields;
+      heard = λ i lt other. ap (λ (time : List ℕ). field time i) same_known ∙ is.taken.heard i lt other;
+      acknowledged = knows_acknowledged new.knowledge.acks learnt;
+    }
+
+    pub all_delivered : DeliversOn facts c old new before after
+    all_delivered = record {
+      keeps = record {
+        delivered = subst (λ (s : Identity). HasDelivered s now new.delivery) (sym seat_is) (subst (HasDelivered seat now) (sym same_delivery) delivered_with_it);
+        received = subst (λ (s : Identity). HasReceivedAll s now new.reception) (sym seat_is) (subst (HasReceivedAll seat now) (sym same_reception) is.taken.received);
+        knows = subst (λ (s : Identity). KnowsFacts s now new.knowledge) (sym seat_is) knows_now;
+        sent = subst (λ (s : Identity). HasSent s now new.sending) (sym seat_is) (sent_with_it new.knowledge.acks new.sending learnt trimmed rest);
+      };
+      events = events_join;
+    }

@@ -1,0 +1,49 @@
+-- What is known of a cast that may follow, and comes in order.
+use Rattle.std.proofs.Common.{◌≡◌, ℕ, ◌<◌, List, length, sym, ap, subst, ◌∙◌, arith}
+use Rattle.std.proofs.lemmas.List.{length-map}
+use Rattle.cb_frames.specs.Fields.{CastFields, first_number}
+use Rattle.cb_diffs.specs.Expansion.{IsGrown, IsNext, time_of}
+use Rattle.cb_history.specs.Group.{Identity}
+use Rattle.cb_member.specs.declared.state.State.{State}
+use Rattle.cb_member.specs.State.{IsAlike}
+use Rattle.cb_member.specs.Passing.{IsInOrder}
+use Rattle.cb_member.specs.Taking.{CanFollow}
+use Rattle.cb_member.specs.Course.{HasTime}
+use Rattle.cb_member.proofs.Alike.{can_follow_alike, in_order_alike}
+use Rattle.cb_member.proofs.Passing.{in_order_is_next}
+use Rattle.cb_member.proofs.Reading.{time_long}
+use Rattle.cb_member.proofs.TakingIn.{of_member, of_other}
+
+module _ (c : CastFields) (state : State) (can : CanFollow c state) where
+  pub expander_long : length state.reception.expander ≡ state.seat.group.size
+  expander_long =
+      (can.keeps.received.times c.sender (of_member state.seat can.facts c can.legal) (of_other state.seat can.facts c can.legal)).senders
+
+  pub time_is_long : length state.delivery.time ≡ state.seat.group.size
+  time_is_long = time_long state.seat can.facts state.delivery can.keeps.delivered
+
+  pub time_fits_queue : length state.delivery.time ≡ state.delivery.queue.size
+  time_fits_queue = time_is_long ∙ sym can.keeps.delivered.waits.queue.of_size
+
+  pub has_stack : c.sender < length state.reception.spares.items
+  has_stack = omega (arith, of_member state.seat can.facts c can.legal, stacks)
+    where
+      stacks : length state.reception.spares.items ≡ state.seat.group.size
+      stacks = sym (length-map state.reception.spares.items (λ times. times.items)) ∙ can.keeps.received.stacks
+
+  -- its sender's next one, where it comes in order
+  pub is_next : IsInOrder c.sender (first_number c) state.reception → IsNext state.reception.expander c
+  is_next in_order = in_order_is_next c state.reception
+      (record { seat = state.seat; facts = can.facts; delivered = _; legal = can.legal; received = can.keeps.received; can_keep = can.can_keep; in_order = in_order })
+
+pub has_time_alike : (c : CastFields) (time : List ℕ) (old new : State) → IsAlike old new → HasTime c time old → HasTime c time new
+has_time_alike c time old new same has = record {
+  can = can_follow_alike c old new same has.can;
+  in_order = in_order_alike c.sender (first_number c) old.reception new.reception same.reception has.in_order;
+  grown = subst (λ (expander : List (List ℕ)). IsGrown (time_of expander c.sender) c time) (sym same.reception.expander) has.grown;
+  size = has.size ∙ ap (λ (seat : Identity). seat.group.size) (sym same.seat);
+}
+
+pub has_its_time : (c : CastFields) (time : List ℕ) (state : State) → CanFollow c state → IsInOrder c.sender (first_number c) state.reception → IsGrown (time_of state.reception.expander c.sender) c time → length time ≡ length state.reception.expander
+    → HasTime c time state
+has_its_time c time state can in_order grown long = record { can = can; in_order = in_order; grown = grown; size = long ∙ expander_long c state can }

@@ -1,0 +1,117 @@
+-- What is kept is so of the facts with an own cast.
+use Rattle.std.proofs.Common.{◌≡◌, ◌≢◌, ℕ, ◌+◌, Bool, true, false, List, ◌∷◌, [], ◌++◌, None, sym, ap, subst, ◌∙◌, arith}
+use Rattle.std.specs.FinMap as fin
+use Rattle.cb_frames.specs.Fields.{CastFields}
+use Rattle.cb_stability.specs.Sent as sent
+use Rattle.cb_stability.specs.Sent.{Sent}
+use Rattle.cb_history.specs.Group.{Identity}
+use Rattle.cb_history.specs.Facts.{Fact, OwnCast, casts_in}
+use Rattle.cb_history.specs.View.{counts, time_of}
+use Rattle.cb_history.specs.Known.{expanded_count}
+use Rattle.cb_history.specs.Answers.{next_cast, last_status}
+use Rattle.cb_history.specs.LegalFacts.{AreFactsOf}
+use Rattle.cb_history.specs.BufferLaws.{HoldsWhatWaits}
+use Rattle.cb_history.specs.ExpanderLaws.{KeepsTimeOf}
+use Rattle.cb_history.proofs.Views.{casts_in-append}
+use Rattle.cb_history.proofs.Walks.{view_own}
+use Rattle.cb_history.proofs.Delivering.{views_are_on_the_way}
+use Rattle.cb_history.proofs.Taking.{own_facts_leave_waiting}
+use Rattle.cb_history.proofs.Times.{upto_own}
+use Rattle.cb_history.proofs.Buffers.{others_do_not_wait}
+use Rattle.cb_history.proofs.Runs.{others_expand_nothing}
+use Rattle.cb_history.proofs.Expanders.{kept_times_stay}
+use Rattle.cb_history.proofs.RisingByCasts.{own_cast_tells_nothing}
+use Rattle.cb_history.proofs.Keeping.{put_is_own_cast}
+use Rattle.cb_history.proofs.Statuses.{last_status_with_one_more}
+use Rattle.cb_member.specs.declared.delivery.Delivery.{Delivery}
+use Rattle.cb_member.specs.declared.reception.Reception.{Reception}
+use Rattle.cb_member.specs.declared.knowledge.Knowledge.{Knowledge}
+use Rattle.cb_member.specs.declared.sending.Sending.{Sending}
+use Rattle.cb_member.specs.declared.state.State.{State}
+use Rattle.cb_member.specs.Reception.{HasReceivedAll}
+use Rattle.cb_member.specs.Knowledge.{KnowsFacts}
+use Rattle.cb_member.specs.Sending.{TellsLast, HasSent}
+use Rattle.cb_member.specs.State.{HasDelivered, Keeps}
+use Rattle.cb_member.specs.Casting.{next_time, next_text}
+
+abbrev with_cast : Identity → List Fact → List ℕ → List Fact
+with_cast seat facts payload = facts ++ OwnCast (next_cast seat facts payload) ∷ []
+
+casts_with : (seat : Identity) (facts : List Fact) (payload : List ℕ) → casts_in (with_cast seat facts payload) ≡ casts_in facts ++ next_cast seat facts payload ∷ []
+casts_with seat facts payload = casts_in-append facts (OwnCast (next_cast seat facts payload))
+
+-- the counts with the cast are the time after it
+time_with_cast : (seat : Identity) (facts : List Fact) (payload : List ℕ) → next_time seat facts payload ≡ time_of seat.group.size (with_cast seat facts payload)
+time_with_cast seat facts payload = ap (counts seat.group.size) (sym (view_own seat.group.size facts (next_cast seat facts payload)))
+
+delivered_with_cast : (seat : Identity) (facts : List Fact) (payload time : List ℕ) (d : Delivery) → AreFactsOf seat (with_cast seat facts payload) → HasDelivered seat facts d
+    → time ≡ next_time seat facts payload → HasDelivered seat (with_cast seat facts payload) (record d { time = time })
+delivered_with_cast seat facts payload time d are has at = record {
+  waits = record {
+    way = views_are_on_the_way seat (with_cast seat facts payload) are;
+    time = at ∙ time_with_cast seat facts payload;
+    queue = (own_facts_leave_waiting seat facts d.queue has.waits.queue).0 (next_cast seat facts payload) are;
+  };
+  window = has.window;
+}
+
+received_with_cast : (seat : Identity) (facts : List Fact) (payload : List ℕ) (r : Reception) → AreFactsOf seat (with_cast seat facts payload) → HasReceivedAll seat facts r
+    → HasReceivedAll seat (with_cast seat facts payload) r
+received_with_cast seat facts payload r are has =
+    let c = next_cast seat facts payload in
+    let others : (i : ℕ) → i ≢ seat.me → seat.me ≢ i = λ i other e. other (sym e) in
+    let count : (i : ℕ) → i ≢ seat.me → expanded_count (casts_in facts) i ≡ expanded_count (casts_in (with_cast seat facts payload)) i = λ i other.
+    sym (ap (λ (cs : List CastFields). expanded_count cs i) (casts_with seat facts payload) ∙ others_expand_nothing (casts_in facts) c i (others i other)) in
+    record {
+      senders = has.senders;
+      waits = λ i b at other. subst (λ (cs : List CastFields). HoldsWhatWaits cs i b) (sym (casts_with seat facts payload)) (others_do_not_wait (casts_in facts) i c b (has.waits i b at other) (others i other));
+      taken_are = λ i b at other. has.taken_are i b at other ∙ count i other;
+      windows = has.windows;
+      times = λ i lt other. subst (λ (n : ℕ). KeepsTimeOf seat (with_cast seat facts payload) i n r.expander) (count i other)
+          (kept_times_stay seat facts (OwnCast c ∷ []) i (expanded_count (casts_in facts) i) r.expander are (omega arith) (has.times i lt other));
+      stacks = has.stacks;
+      spares = has.spares;
+    }
+
+known_with_cast : (seat : Identity) (facts : List Fact) (payload : List ℕ) (k : Knowledge) → AreFactsOf seat (with_cast seat facts payload) → KnowsFacts seat facts k → KnowsFacts seat (with_cast seat facts payload) k
+known_with_cast seat facts payload k are has =
+    let tells = own_cast_tells_nothing seat facts (next_cast seat facts payload) in
+    record {
+      fields = has.fields;
+      heard = λ i lt other. has.heard i lt other ∙ sym (tells i are lt other).0;
+      acknowledged = record {
+        of_size = has.acknowledged.of_size;
+        learnt = λ i lt other. has.acknowledged.learnt i lt other ∙ sym (tells i are lt other).1;
+      };
+    }
+
+-- the last status stays the last one
+pub still_reported : (seat : Identity) (facts more : List Fact) (reported : Bool) (time : List ℕ) → last_status more None ≡ last_status facts None → TellsLast seat facts reported time → TellsLast seat more reported time
+still_reported seat facts more true time same t = record { before = t.before; last = same ∙ t.last; said = t.said }
+still_reported seat facts more false time same t = same ∙ t
+
+sent_with_cast : (seat : Identity) (facts : List Fact) (payload time : List ℕ) (s : Sending) (window : Sent) → AreFactsOf seat (with_cast seat facts payload) → HasSent seat facts s
+    → time ≡ next_time seat facts payload
+    → sent.Keeps s.window window (s.window.put + 1) (fin.insert s.window.kept (s.window.put + 1) (next_text seat facts payload))
+    → HasSent seat (with_cast seat facts payload) (record s { window = window; last_cast = time })
+sent_with_cast seat facts payload time s window are has at put =
+    let c = next_cast seat facts payload in
+    record {
+      window = put_is_own_cast seat facts c s.window window are has.window put;
+      last_cast = at ∙ time_with_cast seat facts payload ∙ ap (time_of seat.group.size) (sym (upto_own facts c));
+      fields = has.fields;
+      reported = still_reported seat facts (with_cast seat facts payload) s.has_reported s.last_reported (last_status_with_one_more facts (OwnCast c) None) has.reported;
+    }
+
+-- the state with the time and the frame of the next cast keeps that cast as well
+pub cast_keeps : (old : State) (facts : List Fact) (payload time last frame : List ℕ) (window : Sent) → AreFactsOf old.seat (facts ++ OwnCast (next_cast old.seat facts payload) ∷ []) → Keeps facts old
+    → time ≡ next_time old.seat facts payload → last ≡ next_time old.seat facts payload → frame ≡ next_text old.seat facts payload
+    → sent.Keeps old.sending.window window (old.sending.window.put + 1) (fin.insert old.sending.window.kept (old.sending.window.put + 1) frame)
+    → Keeps (facts ++ OwnCast (next_cast old.seat facts payload) ∷ []) (record old { delivery = record old.delivery { time = time }; sending = record old.sending { window = window; last_cast = last } })
+cast_keeps old facts payload time last frame window are keeps at last_at is put = record {
+  delivered = delivered_with_cast old.seat facts payload time old.delivery are keeps.delivered at;
+  received = received_with_cast old.seat facts payload old.reception are keeps.received;
+  knows = known_with_cast old.seat facts payload old.knowledge are keeps.knows;
+  sent = sent_with_cast old.seat facts payload last old.sending window are keeps.sent last_at
+      (subst (λ (t : List ℕ). sent.Keeps old.sending.window window (old.sending.window.put + 1) (fin.insert old.sending.window.kept (old.sending.window.put + 1) t)) is put);
+}

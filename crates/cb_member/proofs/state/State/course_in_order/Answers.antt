@@ -1,0 +1,57 @@
+use Rattle.std.proofs.Common.{ℕ, ◌∙◌, List, sym, ap, subst, true≢false, arith}
+use Rattle.cb_times.specs.Order.{field}
+use Rattle.cb_frames.specs.Fields.{cast_fields}
+use Rattle.cb_delay.specs.Rule.{IsReady}
+use Rattle.cb_member.specs.declared.state.State.{State}
+use Rattle.cb_member.proofs.Alike.{leaves_alike, none_ready_alike, with_settled}
+use Rattle.cb_member.proofs.Courses.{expander_long, has_its_time, has_time_alike, is_next, time_fits_queue, time_is_long}
+use Rattle.cb_member.proofs.TakingIn.{sender_is_counted}
+use Rattle.cb_member.proofs.state.State.course_in_order.Goals as goal
+use Rattle.cb_member.proofs.state.State.course_in_order.Goals.{then-is_ready+else-leaves_waiting, else-is_ready+else-has_none_ready}
+
+pub time_ahead-requires : goal.time_ahead-requires
+time_ahead-requires c = record { next = is_next (cast_fields c.args.cast.now) c.args.self.now c.requires.can c.requires.in_order }
+
+pub is_ready-requires-clause-sender : goal.is_ready-requires-clause-sender
+is_ready-requires-clause-sender c = sender_is_counted (cast_fields c.args.cast.now) c.args.self.now c.requires.can
+
+pub is_ready-requires-clause-time : goal.is_ready-requires-clause-time
+is_ready-requires-clause-time c =
+    c.in_ok-time.ensures.size ∙ expander_long (cast_fields c.args.cast.now) c.args.self.now c.requires.can ∙ sym (time_is_long (cast_fields c.args.cast.now) c.args.self.now c.requires.can)
+
+pub leaves_waiting-requires-clause-size : goal.leaves_waiting-requires-clause-size
+leaves_waiting-requires-clause-size c = time_fits_queue (cast_fields c.args.cast.now) c.args.self.now c.requires.can
+
+pub leaves_waiting-requires-clause-sender : goal.leaves_waiting-requires-clause-sender
+leaves_waiting-requires-clause-sender c =
+    let fits = time_fits_queue (cast_fields c.args.cast.now) c.args.self.now c.requires.can in
+    omega (arith, sender_is_counted (cast_fields c.args.cast.now) c.args.self.now c.requires.can, fits)
+
+pub returns-then-leaves_waiting-clause-course : goal.returns-then-leaves_waiting-clause-course
+returns-then-leaves_waiting-clause-course c =
+    let same = c.leaves_waiting.ensures.same in
+    record {
+      has_time = has_time_alike (cast_fields c.args.cast.now) c.in_ok-time.time c.args.self.now _ (with_settled c.args.self.now c.leaves_waiting.new.self same)
+          (has_its_time (cast_fields c.args.cast.now) c.in_ok-time.time c.args.self.now c.requires.can c.requires.in_order c.in_ok-time.ensures.time c.in_ok-time.ensures.size);
+      ready = subst (λ (time : List ℕ). IsReady c.args.cast.now.sender (field c.in_ok-time.time) (field time)) (sym same.time) (c.is_ready.ensures.0 c.if-is_ready.true);
+      leaves = leaves_alike c.args.cast.now.sender c.args.self.now.delivery c.leaves_waiting.new.self same (c.leaves_waiting.ensures.leaves c.if-leaves_waiting.true);
+    }
+
+pub has_none_ready-requires : goal.has_none_ready-requires
+has_none_ready-requires c = time_fits_queue (cast_fields c.args.cast.now) c.args.self.now c.requires.can
+
+pub returns-then-has_none_ready-clause-course : goal.returns-then-has_none_ready-clause-course
+returns-then-has_none_ready-clause-course c =
+    let same = c.has_none_ready.ensures.same in
+    record {
+      has_time = has_time_alike (cast_fields c.args.cast.now) c.in_ok-time.time c.args.self.now _ (with_settled c.args.self.now c.has_none_ready.new.self same)
+          (has_its_time (cast_fields c.args.cast.now) c.in_ok-time.time c.args.self.now c.requires.can c.requires.in_order c.in_ok-time.ensures.time c.in_ok-time.ensures.size);
+      not_ready = λ ready. true≢false (sym (c.is_ready.ensures.1 (subst (λ (time : List ℕ). IsReady c.args.cast.now.sender (field c.in_ok-time.time) (field time)) same.time ready)) ∙ c.if-is_ready.false);
+      none_ready = none_ready_alike c.args.self.now.delivery c.has_none_ready.new.self same (c.has_none_ready.ensures.none c.if-has_none_ready.true);
+    }
+
+pub letting_go-requires-clause-size : goal.letting_go-requires-clause-size
+letting_go-requires-clause-size c = elim c.if-is_ready.branch [
+  | then-is_ready+else-leaves_waiting w ↦ c.in_ok-time.ensures.size ∙ expander_long (cast_fields c.args.cast.now) c.args.self.now c.requires.can ∙ ap (λ (s : State). s.seat.group.size) (sym w.self-is)
+  | else-is_ready+else-has_none_ready w ↦ c.in_ok-time.ensures.size ∙ expander_long (cast_fields c.args.cast.now) c.args.self.now c.requires.can ∙ ap (λ (s : State). s.seat.group.size) (sym w.self-is)
+]

@@ -1,0 +1,34 @@
+use Rattle.std.proofs.Common.{◌∙◌, ℕ, List, drop, length, refl, sym, subst}
+use Rattle.std.specs.List.{All}
+use Rattle.cb_frames.specs.Fields.{cast_fields}
+use Rattle.cb_delay.specs.declared.message.Event.{Event}
+use Rattle.cb_member.specs.Knowledge.{HasTimeOf, LearnsAll, delivered_by}
+use Rattle.cb_member.specs.Sending.{TrimsToStable}
+use Rattle.cb_member.proofs.Arriving.{all_delivered, can_follow, have_times, is_delivered, since_then}
+use Rattle.cb_member.proofs.state.State.take_cast.Goals as goal
+
+pub acknowledge-requires-clause-senders : goal.acknowledge-requires-clause-senders
+acknowledge-requires-clause-senders c =
+    let cast = cast_fields c.args.cast in
+    let before = c.args.events.now.items in
+    let after = c.go.new.events.items in
+    let can = can_follow cast c.args.course c.args.self.now c.requires.can in
+    let is = is_delivered can.facts cast c.args.self.now c.go.new.self before after c.go.ensures.takes can.legal can.keeps in
+    let new = since_then before after c.deref.result.now c.len-before.result c.deref.ensures.value (c.len-before.ensures ∙ c.args.events.now.ok.0) in
+    subst (λ (es : List Event). All (HasTimeOf c.go.new.self.knowledge.acks.size) (delivered_by es)) (sym new) (have_times can.facts cast c.args.self.now c.go.new.self before after is)
+
+pub returns-clause-delivers : goal.returns-clause-delivers
+returns-clause-delivers c =
+    let cast = cast_fields c.args.cast in
+    let before = c.args.events.now.items in
+    let after = c.go.new.events.items in
+    let mid = c.go.new.self in
+    let new = since_then before after c.deref.result.now c.len-before.result c.deref.ensures.value (c.len-before.ensures ∙ c.args.events.now.ok.0) in
+    let learns = subst (λ (me : ℕ). LearnsAll me (delivered_by (drop (length before) after)) mid.knowledge.acks c.acknowledge.new.self.acks) c.me-me.ensures.me
+    (subst (λ (es : List Event). LearnsAll c.me-me.result (delivered_by es) mid.knowledge.acks c.acknowledge.new.self.acks) new c.acknowledge.ensures.acks) in
+    let trims = subst (λ (me : ℕ). TrimsToStable me c.acknowledge.new.self.acks mid.sending.window c.trim.new.self.window) c.me-me.ensures.me c.trim.ensures.window in
+    record {
+      seat = c.go.ensures.takes.takes_in.only.seat;
+      delivers = λ facts are keeps. all_delivered facts cast c.args.self.now mid before after
+          (is_delivered facts cast c.args.self.now mid before after c.go.ensures.takes are keeps) _ refl refl refl c.acknowledge.ensures.known learns trims c.trim.ensures.rest;
+    }
