@@ -1,3 +1,4 @@
+pub mod Acknowledging
 pub mod Alike
 pub mod Answering
 pub mod Arriving
@@ -6,6 +7,8 @@ pub mod Courses
 pub mod Draining
 pub mod Entering
 pub mod Hearing
+pub mod Foreseeing
+pub mod Going
 pub mod Judging
 pub mod JudgingCasts
 pub mod OwnCasts
