@@ -74,7 +74,7 @@ pub record Adds (old new : Recorder) (call : Call) (entry : Entry) (fact : Fact)
   pub joined : new.entries.items ≡ old.entries.items ++ entry ∷ []
 
 module _ (old new : Recorder) (call : Call) (entry : Entry) (fact : Fact) (a : Adds old new call entry fact) where
-  before : List EntryFields
+  abbrev before : List EntryFields
   before = map entry_fields old.entries.items
 
   fields_after : map entry_fields new.entries.items ≡ history_after old.state.seat old.limit before call

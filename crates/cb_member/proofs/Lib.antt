@@ -13,6 +13,8 @@ pub mod Passing
 pub mod Putting
 pub mod Reading
 pub mod Receiving
+pub mod Recording
+pub mod Starting
 pub mod Staying
 pub mod TakingIn
 pub mod Telling
