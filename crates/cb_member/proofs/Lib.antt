@@ -1,3 +1,4 @@
+pub mod Acknowledging
 pub mod Alike
 pub mod Answering
 pub mod Arriving

@@ -4,9 +4,9 @@ use Rattle.std.specs.FinMap as fin
 use Rattle.std.specs.declared.vec.Vec.{Vec}
 use Rattle.std.specs.declared.alloc.Global.{Global}
 use Rattle.std.proofs.lemmas.Bool.{cases_eq, cases_lt, eq-eqb}
-use Rattle.std.proofs.lemmas.List.{length-set, length-replicate, map-set, set-get_or, get_or-set_same, get_or-set_other}
+use Rattle.std.proofs.lemmas.List.{length-set, length-replicate, map-set, get_or-set_same, get_or-set_other}
 use Rattle.std.proofs.lemmas.List.FromFn.{length-map-range_with_len}
-use Rattle.std.proofs.lemmas.Option.{slice_get_within, slice_get-get_or, get_or_from_slice_get}
+use Rattle.std.proofs.lemmas.Option.{slice_get_within}
 use Rattle.cb_times.specs.Order.{field}
 use Rattle.cb_frames.specs.Fields.{CastFields, first_number}
 use Rattle.cb_delay.specs.declared.message.Message.{Message}
@@ -32,7 +32,7 @@ use Rattle.cb_member.specs.Reception.{HasReceived, spares_in}
 use Rattle.cb_member.specs.State.{Keeps}
 use Rattle.cb_member.specs.Taking.{KeepsCast, HasNoNextOf, Tells, HasTurn, Hears, OnlyTakesIn, TakesIn, IsTakingIn, TakesAll, HasTakenIn, TakesInCast, CanFollow, one_more, taken_with}
 use Rattle.cb_member.specs.Passing.{CanTakeInOrder, TakesInOrder, HoldsIt}
-use Rattle.cb_member.proofs.Receiving.{GivesNext, IsReported, one_buffer, kept_cast, next_is_reported, its_turn, its_size}
+use Rattle.cb_member.proofs.Receiving.{GivesNext, written_back, at_written, IsReported, one_buffer, kept_cast, next_is_reported, its_turn, its_size}
 use Rattle.cb_member.proofs.TakingIn.{of_other, of_member, TakesOne, expanded_then, takes_on, none_taken_yet, all_taken, begins, ends, only_alike, time_fits_known, message_has_turn, sender_is_heard_of}
 
 -- ---- lists that are written over
@@ -41,13 +41,6 @@ written_twice : {A : Type 0} → (xs : List A) (i : ℕ) (a b : A) → set (set 
 written_twice [] i a b = refl
 written_twice (x ∷ xs) zero a b = refl
 written_twice (x ∷ xs) (suc i) a b = ap (λ rest. x ∷ rest) (written_twice xs i a b)
-
-written_back : {A : Type 0} → (xs : List A) (i : ℕ) (a : A) → slice_get xs i ≡ Some a → set xs i a ≡ xs
-written_back xs i a at = ap (set xs i) (sym (get_or_from_slice_get xs i a a at)) ∙ set-get_or xs i a
-
-at_written : {A : Type 0} → (xs : List A) (i : ℕ) (a : A) → i < length xs → slice_get (set xs i a) i ≡ Some a
-at_written xs i a lt =
-    slice_get-get_or (set xs i a) i a (omega (arith, lt, length-set xs i a)) ∙ ap (λ x. Some x) (get_or-set_same xs i a a lt)
 
 found_at : {A : Type 0} → (xs : List A) (i : ℕ) → i < length xs → (a : A) × (slice_get xs i ≡ Some a)
 found_at [] i lt = absurd (omega (arith, lt))
