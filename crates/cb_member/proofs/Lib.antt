@@ -1,11 +1,14 @@
 pub mod Acknowledging
 pub mod Alike
+pub mod Answering
 pub mod Arriving
 pub mod Casting
 pub mod Courses
 pub mod Draining
 pub mod Foreseeing
 pub mod Going
+pub mod Entering
+pub mod Hearing
 pub mod Judging
 pub mod JudgingCasts
 pub mod OwnCasts
@@ -13,6 +16,8 @@ pub mod Passing
 pub mod Putting
 pub mod Reading
 pub mod Receiving
+pub mod Recording
+pub mod Starting
 pub mod Staying
 pub mod TakingIn
 pub mod Telling
