@@ -5,9 +5,9 @@ pub mod Arriving
 pub mod Casting
 pub mod Courses
 pub mod Draining
+pub mod Entering
 pub mod Foreseeing
 pub mod Going
-pub mod Entering
 pub mod Hearing
 pub mod Judging
 pub mod JudgingCasts
