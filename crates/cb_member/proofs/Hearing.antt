@@ -129,4 +129,3 @@ pub none_delivered : (seat : Identity) (facts : List Fact) (s : StatusFields) �
 none_delivered seat facts s =
     ap (map (message_in seat.group.size (casts_in (facts ++ StatusReceived s ∷ []))))
     (ap (drop (length (view seat.group.size facts))) (view_status seat.group.size facts s) ∙ drop_all (length (view seat.group.size facts)) (view seat.group.size facts) (omega arith))
-

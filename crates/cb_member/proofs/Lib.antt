@@ -6,9 +6,9 @@ pub mod Casting
 pub mod Courses
 pub mod Draining
 pub mod Entering
-pub mod Hearing
 pub mod Foreseeing
 pub mod Going
+pub mod Hearing
 pub mod Judging
 pub mod JudgingCasts
 pub mod OwnCasts
