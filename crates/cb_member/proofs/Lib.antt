@@ -11,6 +11,7 @@ pub mod OwnCasts
 pub mod Starting
 pub mod Entering
 pub mod Recording
+pub mod Accepting
 pub mod Staying
 pub mod Telling
 pub mod Ticks
