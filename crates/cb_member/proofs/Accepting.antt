@@ -136,7 +136,7 @@ stays wanted bytes r frame says taken k read so none said count delivered noted 
 
 -- ---- a cast that can be entered
 
-kept_alike : (old new : Recorder) → IsKept old → IsAlike old.state new.state → new.limit ≡ old.limit → new.entries.items ≡ old.entries.items → new.events.items ≡ old.events.items → IsKept new
+pub kept_alike : (old new : Recorder) → IsKept old → IsAlike old.state new.state → new.limit ≡ old.limit → new.entries.items ≡ old.entries.items → new.events.items ≡ old.events.items → IsKept new
 kept_alike old new k alike limit entries events = kept_over old new k alike.seat limit entries events (keeps_alike (facts_held old) old.state new.state alike k.keeps)
 
 -- the course was asked for, and room was made
@@ -149,9 +149,6 @@ pub record IsAsked (old mid new : Recorder) : Type 0 where
 
 pub kept_asked : (old mid new : Recorder) → IsKept old → IsAsked old mid new → IsKept new
 kept_asked old mid new k a = kept_with_room mid new a.same (kept_alike old mid k a.alike a.limit a.entries a.events)
-
-pub kept_alike_alone : (old new : Recorder) → IsKept old → IsAlike old.state new.state → new.limit ≡ old.limit → new.entries.items ≡ old.entries.items → new.events.items ≡ old.events.items → IsKept new
-kept_alike_alone old new k alike limit entries events = kept_alike old new k alike limit entries events
 
 is_new_alike : (c : CastFields) (old new : State) → IsAlike old new → IsNew c old → IsNew c new
 is_new_alike c old new alike is =
@@ -191,23 +188,30 @@ copies_are c (Waits time) state facts copies before after are keeps copied joins
 copies_are c (Alone time) state facts copies before after are keeps copied joins events = copied ∙ sym (one_of before after _ _ joins events)
 copies_are c (LetsGo spare count) state facts copies before after are keeps copied joins events = copied facts are keeps
 
+pub same_named : (o : Option Named) (a b : Named) → o ≡ Some a → o ≡ Some b → a ≡ b
+same_named o a b at there = cc
+
+pub no_named : (o : Option Named) (a : Named) → o ≡ None → o ≡ Some a → ⊥
+no_named o a none some = cc
+
 -- what was done to enter the cast
-pub record EntersSo (wanted : Wanted) (bytes : List ℕ) (arriving : Arriving) (old new : Recorder) (taken : Taken) (first : ℕ) (entry : Entry) : Type 0 where
+pub record EntersSo (wanted : Wanted) (bytes : List ℕ) (arriving : Arriving) (old new : Recorder) (taken : Taken) (seen : List Event) (first : ℕ) (entry : Entry) : Type 0 where
   pub can : CanEnter wanted bytes old arriving
   pub delivers : DeliversWith (cast_fields arriving.cast) old.state new.state old.events.items new.events.items
   pub joins : JoinsEvents (cast_fields arriving.cast) arriving.course old.events.items new.events.items
   pub limit : new.limit ≡ old.limit
   pub joined : new.entries.items ≡ old.entries.items ++ entry ∷ []
+  pub seen_is : seen ≡ new.events.items
   pub first_is : first ≡ length old.events.items
-  pub entry_is : entry_fields entry ≡ ArriveEntry arriving.entry.frame (names_of (take (length new.events.items - first) (drop first new.events.items)))
+  pub entry_is : entry_fields entry ≡ ArriveEntry arriving.entry.frame (names_of (take (length seen - first) (drop first seen)))
   pub noted_is : (named : Named) → arriving.noted ≡ Some named
-      → (noted : Entry) × (taken.noted ≡ Some noted) × (entry_fields noted ≡ ArriveEntry named.frame (names_of (take (length new.events.items - first) (drop first new.events.items))))
+      → (noted : Entry) × (taken.noted ≡ Some noted) × (entry_fields noted ≡ ArriveEntry named.frame (names_of (take (length seen - first) (drop first seen))))
   pub deliveries_are : taken.deliveries ≡ arriving.deliveries
   pub said : (messages : List Message) → received_says taken.received messages ≡ Accepted messages true []
   pub count : count_said taken.received ≡ length new.events.items - first
 
-pub entered : (wanted : Wanted) (bytes : List ℕ) (arriving : Arriving) (old new : Recorder) (taken : Taken) (first : ℕ) (entry : Entry) → EntersSo wanted bytes arriving old new taken first entry → IsEntered wanted bytes old new taken
-entered wanted bytes arriving old new taken first entry e =
+pub entered : (wanted : Wanted) (bytes : List ℕ) (arriving : Arriving) (old new : Recorder) (taken : Taken) (seen : List Event) (first : ℕ) (entry : Entry) → EntersSo wanted bytes arriving old new taken seen first entry → IsEntered wanted bytes old new taken
+entered wanted bytes arriving old new taken seen first entry e =
     let c = cast_fields arriving.cast in
     let seat = old.state.seat in
     let facts = facts_held old in
@@ -221,21 +225,21 @@ entered wanted bytes arriving old new taken first entry e =
     let many = fields_many old in
     let answer : answer_to_arrival (held_by old) bytes ≡ Ok (Accepted ms true []) =
     answered old bytes (CastFrame c) e.can.read ∙ (e.can.new.changes facts are keeps).taken old.limit fields (omega (arith, few, many)) in
-    let behind : take (length new.events.items - first) (drop first new.events.items) ≡ map (λ m. Deliver m) ms =
-    since_then old.events.items new.events.items new.events.items first refl e.first_is
+    let behind : take (length seen - first) (drop first seen) ≡ map (λ m. Deliver m) ms =
+    since_then old.events.items new.events.items seen first e.seen_is e.first_is
     ∙ ap (drop (length old.events.items)) on.events ∙ drop_at old.events.items (map (λ m. Deliver m) ms) (length old.events.items) refl in
-    let names : names_of (take (length new.events.items - first) (drop first new.events.items)) ≡ map (λ m. m.name) ms =
+    let names : names_of (take (length seen - first) (drop first seen)) ≡ map (λ m. m.name) ms =
     ap names_of behind ∙ ap (map (λ (m : Message). m.name)) (only_deliveries ms) in
-    let added : (x : Entry) (frame : List ℕ) → frame ≡ bytes → entry_fields x ≡ ArriveEntry frame (names_of (take (length new.events.items - first) (drop first new.events.items)))
+    let added : (x : Entry) (frame : List ℕ) → frame ≡ bytes → entry_fields x ≡ ArriveEntry frame (names_of (take (length seen - first) (drop first seen)))
         → entry_by (held_by old) (ToTake bytes) ≡ Some (entry_fields x) =
     λ x frame same is. ap (arrive_entry bytes) answer
-        ∙ ap (λ (e : EntryFields). Some e) (sym (is ∙ ap (λ (b : List ℕ). ArriveEntry b (names_of (take (length new.events.items - first) (drop first new.events.items)))) same ∙ ap (λ (ns : List Name). ArriveEntry bytes ns) names)) in
+        ∙ ap (λ (e : EntryFields). Some e) (sym (is ∙ ap (λ (b : List ℕ). ArriveEntry b (names_of (take (length seen - first) (drop first seen)))) same ∙ ap (λ (ns : List Name). ArriveEntry bytes ns) names)) in
     let adds : Adds old new (ToTake bytes) entry (CastReceived c) = record {
       kept = e.can.kept;
       bytes = e.can.bytes_are;
       few = few;
       by_call = added entry arriving.entry.frame e.can.entry.frame e.entry_is;
-      says = ap said_by (e.entry_is ∙ ap (λ (b : List ℕ). ArriveEntry b (names_of (take (length new.events.items - first) (drop first new.events.items)))) e.can.entry.frame) ∙ ap arrival_said e.can.read;
+      says = ap said_by (e.entry_is ∙ ap (λ (b : List ℕ). ArriveEntry b (names_of (take (length seen - first) (drop first seen)))) e.can.entry.frame) ∙ ap arrival_said e.can.read;
       seat = e.delivers.seat;
       limit = e.limit;
       joined = e.joined;
