@@ -1,19 +1,17 @@
 -- States that are alike keep the same facts, and what holds of the one holds of the other.
-use Rattle.std.proofs.Common.{◌≡◌, ℕ, ◌+◌, ◌≤◌, List, [], ◌∷◌, ◌++◌, length, map, Some, refl, sym, ap, subst, ◌∙◌, arith}
-use Rattle.std.specs.Prelude.{◌↔◌, slice_get, slice_set}
+use Rattle.std.proofs.Common.{◌≡◌, ℕ, ◌+◌, List, [], ◌∷◌, ◌++◌, length, Some, refl, sym, ap, subst, ◌∙◌, arith}
+use Rattle.std.specs.Prelude.{slice_get, slice_set}
 use Rattle.std.specs.FinMap as fin
 use Rattle.cb_times.specs.Order.{field}
-use Rattle.cb_frames.specs.Fields.{Carried, CastFields}
+use Rattle.cb_frames.specs.Fields.{CastFields}
 use Rattle.cb_delay.specs.declared.message.Message.{Message}
 use Rattle.cb_delay.specs.Message.{name_cmp}
 use Rattle.cb_delay.specs.Queue.{Queue, Holds, HasReady}
-use Rattle.cb_delay.specs.Rule.{IsReady}
 use Rattle.cb_gaps.specs.Buffer.{Buffer}
 use Rattle.cb_history.specs.Group.{Identity}
 use Rattle.cb_history.specs.Facts.{Fact, CastReceived}
 use Rattle.cb_history.specs.LegalFacts.{AreFactsOf}
 use Rattle.cb_history.specs.ExpanderLaws.{KeepsTimeOf}
-use Rattle.cb_history.specs.QueueLaws.{HoldsUndelivered, IsUndelivered}
 use Rattle.cb_member.specs.declared.delivery.Delivery.{Delivery}
 use Rattle.cb_member.specs.declared.reception.Reception.{Reception}
 use Rattle.cb_member.specs.declared.state.State.{State}
@@ -26,14 +24,9 @@ use Rattle.cb_member.specs.State.{HasDelivered, IsAlike, Keeps}
 use Rattle.cb_member.specs.Taking.{CanFollow, CanKeep, WouldExpand}
 use Rattle.cb_member.specs.Passing.{IsInOrder}
 use Rattle.cb_member.specs.Course.{HoldsAtMost}
+use Rattle.cb_member.proofs.Waiting.{held_alike}
 
 -- ---- a queue that holds the same
-
-pub queue_alike : (size : ℕ) (casts : List CastFields) (seen : List Carried) (old new : Queue) → Holds old new old.held → HoldsUndelivered size casts seen old → HoldsUndelivered size casts seen new
-queue_alike size casts seen old new same holds = record {
-  of_size = same.size ∙ holds.of_size;
-  holds = λ message. subst (λ (held : fin.FinMap name_cmp Message). (fin.get held message.name ≡ Some message) ↔ IsUndelivered size casts seen message) (sym same.now_held) (holds.holds message);
-}
 
 pub ready_alike : (old new : Queue) (now : List ℕ) (i : ℕ) → Holds old new old.held → HasReady new now i → HasReady old now i
 ready_alike old new now i same ready = (ready.0, sym (ap (λ (held : fin.FinMap name_cmp Message). fin.get held ready.0.name) same.now_held) ∙ ready.1, ready.2, ready.3)
@@ -42,7 +35,7 @@ ready_alike old new now i same ready = (ready.0, sym (ap (λ (held : fin.FinMap 
 
 pub delivered_alike : (seat : Identity) (facts : List Fact) (old new : Delivery) → IsSettled old new → HasDelivered seat facts old → HasDelivered seat facts new
 delivered_alike seat facts old new same has = record {
-  waits = record { way = has.waits.way; time = same.time ∙ has.waits.time; queue = queue_alike _ _ _ old.queue new.queue same.queue has.waits.queue };
+  waits = record { way = has.waits.way; time = same.time ∙ has.waits.time; queue = held_alike _ _ _ old.queue new.queue same.queue has.waits.queue };
   window = same.queue.window ∙ has.window;
 }
 
@@ -92,6 +85,26 @@ alike_back old new same = record {
   reception = reception_back old.reception new.reception same.reception;
   knowledge = sym same.knowledge;
   sending = sym same.sending;
+}
+
+pub alike_again : (a b d : State) → IsAlike a b → IsAlike b d → IsAlike a d
+alike_again a b d first later = record {
+  seat = later.seat ∙ first.seat;
+  delivery = record {
+    time = later.delivery.time ∙ first.delivery.time;
+    queue = record {
+      size = later.delivery.queue.size ∙ first.delivery.queue.size;
+      window = later.delivery.queue.window ∙ first.delivery.queue.window;
+      now_held = later.delivery.queue.now_held ∙ first.delivery.queue.now_held;
+    };
+  };
+  reception = record {
+    buffers = later.reception.buffers ∙ first.reception.buffers;
+    expander = later.reception.expander ∙ first.reception.expander;
+    spares = later.reception.spares ∙ first.reception.spares;
+  };
+  knowledge = later.knowledge ∙ first.knowledge;
+  sending = later.sending ∙ first.sending;
 }
 
 settled_itself : (d : Delivery) → IsSettled d d

@@ -84,7 +84,7 @@ it_or_before : (queue : Queue) (message other : Message) (b : Bool) → eq_by_cm
 it_or_before queue message other true e h = inl cc
 it_or_before queue message other false e h = inr h
 
-held_then : (queue : Queue) (message other : Message) → IsHeld (with_it queue message) other → (message ≡ other) ⊎ IsHeld queue other
+pub held_then : (queue : Queue) (message other : Message) → IsHeld (with_it queue message) other → (message ≡ other) ⊎ IsHeld queue other
 held_then queue message other h =
     it_or_before queue message other (eq_by_cmp name_cmp other.name message.name) refl (sym (fin.get-insert names_total queue.held message.name message other.name) ∙ h)
 

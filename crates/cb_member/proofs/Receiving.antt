@@ -8,7 +8,7 @@ use Rattle.std.specs.Ordering.{nat_cmp}
 use Rattle.std.specs.Cmp.{nat_cmp_total}
 use Rattle.std.specs.FinMap as map
 use Rattle.std.proofs.lemmas.Bool.{cases_eq, eq-eqb, ne_eqb, both_ways}
-use Rattle.std.proofs.lemmas.List.{length-map, length-set, get_or-set_same, get_or-set_other}
+use Rattle.std.proofs.lemmas.List.{length-map, length-set, set-get_or, get_or-set_same, get_or-set_other}
 use Rattle.std.proofs.lemmas.List.Elements.{All-push, All-pop}
 use Rattle.std.proofs.lemmas.Option.{slice_get_within, slice_get-get_or, slice_get-map, slice_get_read, get_or_from_slice_get}
 use Rattle.cb_frames.specs.Fields.{CastFields, last_number}
@@ -43,6 +43,13 @@ set_at xs s i after b at =
       | inl e ↦ inl (e, sym is ∙ ap (λ (k : ℕ). get_or (set xs s after) k b) e ∙ get_or-set_same xs s after b (subst (λ (k : ℕ). k < length xs) e lt))
       | inr ne ↦ inr (ne, slice_get-get_or xs i b lt ∙ ap (λ x. Some x) (sym (get_or-set_other xs s i after b ne) ∙ is))
     ]
+
+pub written_back : {A : Type 0} → (xs : List A) (i : ℕ) (a : A) → slice_get xs i ≡ Some a → set xs i a ≡ xs
+written_back xs i a at = ap (set xs i) (sym (get_or_from_slice_get xs i a a at)) ∙ set-get_or xs i a
+
+pub at_written : {A : Type 0} → (xs : List A) (i : ℕ) (a : A) → i < length xs → slice_get (set xs i a) i ≡ Some a
+at_written xs i a lt =
+    slice_get-get_or (set xs i a) i a (omega (arith, lt, length-set xs i a)) ∙ ap (λ x. Some x) (get_or-set_same xs i a a lt)
 
 pub one_value : {A : Type 0} → (a b : A) → Some a ≡ Some b → a ≡ b
 one_value a b e = cc

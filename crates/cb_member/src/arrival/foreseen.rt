@@ -66,8 +66,9 @@ fn messages_of(alloc: Global, events: Vec<Event>) -> Result<Vec<Message>, NoMemo
 {
     let mut messages = Vec::with_capacity(alloc, events.len())?;
     for event in events {
-        if let Event::Deliver(message) = event {
-            messages.push(message)?;
+        match event {
+            Event::Deliver(message) => messages.push(message)?,
+            Event::Cast(message) => drop(message),
         }
     }
     Ok(messages)

@@ -1,10 +1,11 @@
-use Rattle.std.proofs.Common.{◌≡◌, ℕ, ◌∙◌, ◌+◌, ◌<◌, List, length, refl, sym, ap, subst, true≢false, arith}
+use Rattle.std.proofs.Common.{ℕ, ◌∙◌, List, sym, ap, subst, true≢false, arith}
 use Rattle.cb_times.specs.Order.{field}
 use Rattle.cb_frames.specs.Fields.{cast_fields}
 use Rattle.cb_delay.specs.Rule.{IsReady}
 use Rattle.cb_member.specs.declared.state.State.{State}
 use Rattle.cb_member.proofs.Alike.{leaves_alike, none_ready_alike, with_settled}
-use Rattle.cb_member.proofs.Courses.{expander_long, has_its_time, has_time_alike, is_in_group, is_next, time_fits_queue, time_is_long}
+use Rattle.cb_member.proofs.Courses.{expander_long, has_its_time, has_time_alike, is_next, time_fits_queue, time_is_long}
+use Rattle.cb_member.proofs.TakingIn.{sender_is_counted}
 use Rattle.cb_member.proofs.state.State.course_in_order.Goals as goal
 use Rattle.cb_member.proofs.state.State.course_in_order.Goals.{then-is_ready+else-leaves_waiting, else-is_ready+else-has_none_ready}
 
@@ -12,7 +13,7 @@ pub time_ahead-requires : goal.time_ahead-requires
 time_ahead-requires c = record { next = is_next (cast_fields c.args.cast.now) c.args.self.now c.requires.can c.requires.in_order }
 
 pub is_ready-requires-clause-sender : goal.is_ready-requires-clause-sender
-is_ready-requires-clause-sender c = is_in_group (cast_fields c.args.cast.now) c.args.self.now c.requires.can
+is_ready-requires-clause-sender c = sender_is_counted (cast_fields c.args.cast.now) c.args.self.now c.requires.can
 
 pub is_ready-requires-clause-time : goal.is_ready-requires-clause-time
 is_ready-requires-clause-time c =
@@ -24,7 +25,7 @@ leaves_waiting-requires-clause-size c = time_fits_queue (cast_fields c.args.cast
 pub leaves_waiting-requires-clause-sender : goal.leaves_waiting-requires-clause-sender
 leaves_waiting-requires-clause-sender c =
     let fits = time_fits_queue (cast_fields c.args.cast.now) c.args.self.now c.requires.can in
-    omega (arith, is_in_group (cast_fields c.args.cast.now) c.args.self.now c.requires.can, fits)
+    omega (arith, sender_is_counted (cast_fields c.args.cast.now) c.args.self.now c.requires.can, fits)
 
 pub returns-then-leaves_waiting-clause-course : goal.returns-then-leaves_waiting-clause-course
 returns-then-leaves_waiting-clause-course c =

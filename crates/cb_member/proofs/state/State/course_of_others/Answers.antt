@@ -1,4 +1,4 @@
-use Rattle.std.proofs.Common.{◌≡◌, ℕ, ◌∙◌, ◌+◌, length, refl, sym, ap, subst}
+use Rattle.std.proofs.Common.{◌∙◌, length, ap, subst}
 use Rattle.std.proofs.lemmas.List.{length-replicate}
 use Rattle.cb_frames.specs.Fields.{cast_fields}
 use Rattle.cb_history.specs.Group.{Parameters}

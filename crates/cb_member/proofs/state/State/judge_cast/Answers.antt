@@ -7,7 +7,7 @@ use Rattle.cb_history.specs.Group.{Parameters}
 use Rattle.cb_history.specs.Answers.{are_members}
 use Rattle.cb_member.specs.Arriving.{own_verdict, JudgesCast}
 use Rattle.cb_member.proofs.Reading.{time_long}
-use Rattle.cb_member.proofs.JudgingCasts.{other_group, bad_member, is_member, judges_own, judges_other}
+use Rattle.cb_member.proofs.JudgingCasts.{is_member, judges_own, judges_other}
 use Rattle.cb_member.proofs.state.State.judge_cast.Goals as goal
 
 pub get-delivered-requires : goal.get-delivered-requires

@@ -1,7 +1,5 @@
-use Rattle.std.proofs.Common.{refl}
 use Rattle.cb_frames.specs.Fields.{cast_fields}
 use Rattle.cb_member.proofs.Alike.{can_follow_alike, with_room}
-use Rattle.cb_member.proofs.Courses.{has_stack}
 use Rattle.cb_member.proofs.state.State.letting_go.Goals as goal
 
 pub most_with-requires : goal.most_with-requires

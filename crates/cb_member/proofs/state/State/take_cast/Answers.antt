@@ -1,4 +1,4 @@
-use Rattle.std.proofs.Common.{◌≡◌, ◌∙◌, ℕ, List, drop, length, refl, sym, ap, subst}
+use Rattle.std.proofs.Common.{◌∙◌, ℕ, List, drop, length, refl, sym, subst}
 use Rattle.std.specs.List.{All}
 use Rattle.cb_frames.specs.Fields.{cast_fields}
 use Rattle.cb_delay.specs.declared.message.Event.{Event}

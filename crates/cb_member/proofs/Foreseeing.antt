@@ -1,0 +1,43 @@
+-- What a copy of a state delivers is what the state itself delivers.
+use Rattle.std.proofs.Common.{◌≡◌, ℕ, List, [], ◌∷◌, ◌++◌, length, map, Result, Ok, Err, refl, sym, ap, ◌∙◌}
+use Rattle.std.specs.Prelude.{IfOk}
+use Rattle.std.specs.declared.vec.Vec.{Vec}
+use Rattle.std.specs.declared.alloc.Global.{Global}
+use Rattle.cb_frames.specs.Fields.{CastFields, CastFrame}
+use Rattle.cb_delay.specs.declared.message.Event.{Event}
+use Rattle.cb_delay.specs.declared.message.Event.TheVariants.{Deliver}
+use Rattle.cb_delay.specs.declared.message.Message.{Message}
+use Rattle.cb_history.specs.Answers.{deliveries}
+use Rattle.cb_history.specs.Facts.{CastReceived}
+use Rattle.cb_history.specs.Group.{Identity}
+use Rattle.cb_member.specs.declared.state.State.{State}
+use Rattle.cb_member.specs.Arriving.{DeliversWith}
+use Rattle.cb_member.specs.Course.{CanLetGoAt, HoldsAtMost}
+use Rattle.cb_member.specs.Foreseen.{AreDeliveries}
+use Rattle.cb_member.specs.Knowledge.{delivered_by}
+use Rattle.cb_member.specs.Reception.{HasPlaceFor}
+use Rattle.cb_member.specs.State.{IsAlike}
+use Rattle.cb_member.specs.Taking.{CanTakeIn}
+use Rattle.cb_member.proofs.Alike.{can_follow_alike, holds_alike, keeps_alike, legal_alike}
+
+pub can_let_go : (c : CastFields) (count : ℕ) (spare : List ℕ) (old twin : State) → IsAlike old twin → CanLetGoAt c count old → length spare ≡ old.seat.group.size → HasPlaceFor c.sender twin.reception
+    → CanTakeIn c spare twin × HoldsAtMost c twin count
+can_let_go c count spare old twin same can long place = (
+  record { can = can_follow_alike c old twin same can.can; size = long ∙ ap (λ (seat : Identity). seat.group.size) (sym same.seat); place = place },
+  holds_alike c count old twin same can.holds,
+)
+
+delivered_alone : (messages : List Message) → delivered_by (map (λ m. Deliver m) messages) ≡ messages
+delivered_alone [] = refl
+delivered_alone (m ∷ messages) = ap (λ (rest : List Message). m ∷ rest) (delivered_alone messages)
+
+pub are_its_deliveries : (c : CastFields) (old twin new : State) (before after : List Event) (messages : List Message) → IsAlike old twin → DeliversWith c twin new before after → before ≡ [] → messages ≡ delivered_by after
+    → AreDeliveries c old messages
+are_its_deliveries c old twin new before after messages same delivers none is facts are keeps =
+    let there = delivers.delivers facts (legal_alike (facts ++ CastReceived c ∷ []) old twin same are) (keeps_alike facts old twin same keeps) in
+    is ∙ ap delivered_by (there.events ∙ ap (λ (es : List Event). es ++ map (λ m. Deliver m) (deliveries twin.seat facts (CastFrame c))) none)
+    ∙ delivered_alone (deliveries twin.seat facts (CastFrame c)) ∙ ap (λ (seat : Identity). deliveries seat facts (CastFrame c)) same.seat
+
+pub foretold : {E : Type 0} (P Q : List Message → Type 0) (r : Result (Vec Message Global) E) → ((messages : List Message) → P messages → Q messages) → IfOk r (λ copies. P copies.items) → IfOk r (λ copies. Q copies.items)
+foretold P Q (Ok copies) so is = so copies.items is
+foretold P Q (Err e) so is = tt

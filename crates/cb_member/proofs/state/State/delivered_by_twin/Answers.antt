@@ -1,0 +1,31 @@
+use Rattle.std.proofs.Common.{◌≡◌, ◌∙◌, length, ap, sym, subst}
+use Rattle.std.proofs.lemmas.List.{length-replicate}
+use Rattle.cb_frames.specs.Fields.{CastFields, cast_fields}
+use Rattle.cb_history.specs.Group.{Parameters}
+use Rattle.cb_member.specs.Arriving.{DeliversWith}
+use Rattle.cb_member.specs.Course.{HoldsAtMost}
+use Rattle.cb_member.specs.Foreseen.{AreDeliveries}
+use Rattle.cb_member.specs.Knowledge.{delivered_by}
+use Rattle.cb_member.specs.Taking.{CanTakeIn}
+use Rattle.cb_member.proofs.Alike.{alike_again, with_room}
+use Rattle.cb_member.proofs.Foreseeing.{are_its_deliveries, can_let_go, foretold}
+use Rattle.cb_member.proofs.state.State.delivered_by_twin.Goals as goal
+
+pub take_cast-requires-clause-can : goal.take_cast-requires-clause-can
+take_cast-requires-clause-can c =
+    let twin = record c.in_ok-twin.twin { reception = c.reserve.new.self } in
+    let same = alike_again c.args.self.now c.in_ok-twin.twin twin c.in_ok-twin.ensures (with_room c.in_ok-twin.twin c.reserve.new.self c.reserve.ensures.same) in
+    let long = ap length c.in_ok-spare.ensures ∙ length-replicate c.size.result 0 ∙ c.size.ensures.size ∙ ap (λ (g : Parameters). g.size) c.group.ensures.group in
+    subst (λ (cast : CastFields). CanTakeIn cast c.in_ok-spare.spare twin × HoldsAtMost cast twin c.args.most) (sym c.in_ok-copy_of.ensures)
+    (can_let_go (cast_fields c.args.cast.now) c.args.most c.in_ok-spare.spare c.args.self.now twin same c.requires long c.in_ok-reserve.ensures.place)
+
+pub returns : goal.returns
+returns c =
+    let cast = cast_fields c.args.cast.now in
+    let twin = record c.in_ok-twin.twin { reception = c.reserve.new.self } in
+    let before = c.in_ok-events.events.items in
+    let after = c.take_cast.new.events.items in
+    let same = alike_again c.args.self.now c.in_ok-twin.twin twin c.in_ok-twin.ensures (with_room c.in_ok-twin.twin c.reserve.new.self c.reserve.ensures.same) in
+    let delivers = subst (λ (copy : CastFields). DeliversWith copy twin c.take_cast.new.self before after) c.in_ok-copy_of.ensures c.take_cast.ensures.delivers in
+    foretold (λ messages. messages ≡ delivered_by after) (AreDeliveries cast c.args.self.now) c.messages_of.result
+    (λ messages is. are_its_deliveries cast c.args.self.now twin c.take_cast.new.self before after messages same delivers c.in_ok-events.ensures.items is) c.messages_of.ensures
