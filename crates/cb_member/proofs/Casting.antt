@@ -10,10 +10,8 @@ use Rattle.cb_frames.specs.declared.frame.Change.{Change}
 use Rattle.cb_varint.specs.Reading.{spelling}
 use Rattle.cb_frames.specs.Fields.{Carried, CastFields, CastFrame}
 use Rattle.cb_frames.specs.Text.{cast_kind, cast_numbers, text_of}
-use Rattle.cb_delay.specs.declared.message.Message.{Message}
 use Rattle.cb_diffs.specs.Differences.{differences}
 use Rattle.cb_stability.specs.Sent.{room_of}
-use Rattle.cb_history.specs.Group.{Identity}
 use Rattle.cb_history.specs.Facts.{Fact}
 use Rattle.cb_history.specs.View.{count, counts, view, time_of}
 use Rattle.cb_history.specs.Answers.{delivered, upto_last_cast, next_cast, is_window_full}

@@ -1,5 +1,5 @@
 -- Whether a payload can be cast.
-use Rattle.std.proofs.Common.{◌≡◌, ◌≢◌, ℕ, ◌<◌, ◌≤◌, inl, inr, true, false, List, length, Ok, Err, refl, sym, ap, subst, ◌∙◌, arith}
+use Rattle.std.proofs.Common.{◌≡◌, ℕ, ◌<◌, ◌≤◌, inl, inr, true, false, List, length, Ok, Err, refl, ap, ◌∙◌, arith}
 use Rattle.std.specs.Prelude.{IsOk, is_ok}
 use Rattle.std.proofs.lemmas.Bool.{both_ways, cases_lt, le-ltb, lt-leb, le-leb, lt-ltb}
 use Rattle.cb_frames.specs.declared.frame.TheConstants.{LONGEST_PAYLOAD}

@@ -1,11 +1,14 @@
 pub mod Acknowledging
 pub mod Alike
+pub mod Answering
 pub mod Arriving
 pub mod Casting
 pub mod Courses
 pub mod Draining
 pub mod Foreseeing
 pub mod Going
+pub mod Entering
+pub mod Hearing
 pub mod Judging
 pub mod JudgingCasts
 pub mod OwnCasts
@@ -13,7 +16,6 @@ pub mod Passing
 pub mod Putting
 pub mod Reading
 pub mod Starting
-pub mod Entering
 pub mod Recording
 pub mod Accepting
 pub mod Receiving

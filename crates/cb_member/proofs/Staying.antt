@@ -1,5 +1,5 @@
 -- What stays as it is where a fact is no cast.
-use Rattle.std.proofs.Common.{◌≡◌, ℕ, List, sym, ap, subst, ◌∙◌}
+use Rattle.std.proofs.Common.{◌≡◌, List, sym, ap, subst, ◌∙◌}
 use Rattle.cb_frames.specs.Fields.{CastFields, Carried}
 use Rattle.cb_diffs.specs.Expansion.{expanded_time}
 use Rattle.cb_history.specs.Group.{Identity}

@@ -10,7 +10,7 @@ use Rattle.cb_history.specs.declared.answer.CastRefusal.TheVariants as casts
 use Rattle.cb_history.specs.Group.{Identity}
 use Rattle.cb_history.specs.Facts.{EntryFields, Fact, OwnCast, facts_of}
 use Rattle.cb_history.specs.View.{counts, view}
-use Rattle.cb_history.specs.Answers.{cast_answer, delivered, is_window_full, next_cast}
+use Rattle.cb_history.specs.Answers.{cast_answer, delivered, next_cast}
 use Rattle.cb_history.specs.LegalFacts.{AreFactsOf}
 use Rattle.cb_history.specs.State.{MemberState, answer_to_cast}
 use Rattle.cb_member.specs.declared.own_cast.Casting.{Casting}

@@ -1,5 +1,5 @@
 -- What a member does with a received status.
-use Rattle.std.specs.Prelude.{◌≡◌, ℕ, ◌<◌, false, List, [], ◌∷◌, ◌++◌, Result, Ok, Err}
+use Rattle.std.specs.Prelude.{◌≡◌, ◌<◌, false, List, [], ◌∷◌, ◌++◌, Result, Ok, Err}
 use Rattle.cb_frames.specs.Fields.{StatusFields, StatusFrame}
 use Rattle.cb_history.specs.declared.answer.ArriveRefusal.{ArriveRefusal}
 use Rattle.cb_history.specs.Facts.{Fact, StatusReceived}

@@ -1,5 +1,5 @@
 -- What a member keeps of its history, and what each part is of the facts in it.
-use Rattle.std.specs.Prelude.{◌≡◌, ℕ, List}
+use Rattle.std.specs.Prelude.{◌≡◌, List}
 use Rattle.cb_history.specs.Group.{Identity}
 use Rattle.cb_history.specs.Facts.{Fact, casts_in}
 use Rattle.cb_history.specs.LegalFacts.{AreFactsOf}

@@ -1,8 +1,7 @@
-use Rattle.std.proofs.Common.{◌≡◌, ◌∙◌, ℕ, List, set, ◌+◌, length, sym, ap, subst, arith}
+use Rattle.std.proofs.Common.{◌≡◌, ◌∙◌, ℕ, List, set, ◌+◌, length, ap, arith}
 use Rattle.cb_times.specs.Order.{field}
 use Rattle.cb_delay.specs.declared.message.Message.{Message}
 use Rattle.cb_frames.specs.Fields.{CastFields}
-use Rattle.cb_member.specs.Casting.{next_message}
 use Rattle.cb_member.proofs.Casting.{time_has_me, own_left, message_is_next}
 use Rattle.cb_member.proofs.state.State.message_of.Goals as goal
 
