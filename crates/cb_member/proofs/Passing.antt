@@ -5,19 +5,18 @@ use Rattle.std.specs.declared.vec.Vec.{Vec}
 use Rattle.std.specs.declared.alloc.Global.{Global}
 use Rattle.std.proofs.lemmas.Bool.{cases_eq, cases_lt, eq-eqb}
 use Rattle.std.proofs.lemmas.List.{length-set, length-replicate, map-set, get_or-set_same, get_or-set_other}
-use Rattle.std.proofs.lemmas.List.FromFn.{length-map-range_with_len}
 use Rattle.std.proofs.lemmas.Option.{slice_get_within}
 use Rattle.cb_times.specs.Order.{field}
 use Rattle.cb_frames.specs.Fields.{CastFields, first_number}
 use Rattle.cb_delay.specs.declared.message.Message.{Message}
 use Rattle.cb_delay.specs.Rule.{IsReady}
-use Rattle.cb_diffs.specs.Expansion.{IsNext as IsNextCast, IsGrown, expanded_field, time_of}
+use Rattle.cb_diffs.specs.Expansion.{IsNext as IsNextCast}
 use Rattle.cb_gaps.specs.declared.buffer.Admission.TheVariants.{Kept}
 use Rattle.cb_gaps.specs.Buffer.{Buffer, Admits}
 use Rattle.cb_gaps.proofs.Passing.{with_cast, is_not_kept, passing_is_next, passing_takes}
 use Rattle.cb_history.specs.Facts.{Fact, CastReceived, casts_in}
 use Rattle.cb_history.specs.View.{count, view}
-use Rattle.cb_history.specs.Known.{known, expanded_count}
+use Rattle.cb_history.specs.Known.{expanded_count}
 use Rattle.cb_history.specs.LegalFacts.{AreFactsOf}
 use Rattle.cb_history.proofs.Buffers.{all_is_taken}
 use Rattle.cb_history.proofs.Delivering.{in_field, past_fields}
@@ -32,7 +31,7 @@ use Rattle.cb_member.specs.Reception.{HasReceived, spares_in}
 use Rattle.cb_member.specs.State.{Keeps}
 use Rattle.cb_member.specs.Taking.{KeepsCast, HasNoNextOf, Tells, HasTurn, Hears, OnlyTakesIn, TakesIn, IsTakingIn, TakesAll, HasTakenIn, TakesInCast, CanFollow, one_more, taken_with}
 use Rattle.cb_member.specs.Passing.{CanTakeInOrder, TakesInOrder, HoldsIt}
-use Rattle.cb_member.proofs.Receiving.{GivesNext, written_back, at_written, IsReported, one_buffer, kept_cast, next_is_reported, its_turn, its_size}
+use Rattle.cb_member.proofs.Receiving.{GivesNext, written_back, at_written, IsReported, one_buffer, kept_cast, next_is_reported, its_turn}
 use Rattle.cb_member.proofs.TakingIn.{of_other, of_member, TakesOne, expanded_then, takes_on, none_taken_yet, all_taken, begins, ends, only_alike, time_fits_known, message_has_turn, sender_is_heard_of}
 
 -- ---- lists that are written over
@@ -236,9 +235,6 @@ module _ (c : CastFields) (old : State) (reception : Reception) (known_then : Kn
 
 module _ (c : CastFields) (old : State) (known_then : Knowledge) (time : List ℕ) (can : CanFollow c old) (hears : Hears c.sender c.number old.knowledge known_then)
     (own : field time c.sender ≡ first_number c) (ready : IsReady c.sender (field time) (field old.delivery.time)) where
-  size : ℕ
-  size = old.seat.group.size
-
   upto_known : (i : ℕ) → i ≢ old.seat.me → i ≢ c.sender → field time i ≤ field old.knowledge.known i
   upto_known i not_me ne = elim (cases_lt i old.seat.group.size) [
     | inl lt ↦

@@ -1,5 +1,5 @@
 -- A message that is delivered alone, where nothing that waits may be: what that does is what holding, releasing and delivering it does.
-use Rattle.std.proofs.Common.{◌≡◌, ◌≢◌, ℕ, ◌+◌, ◌-◌, ◌<◌, ◌≤◌, List, [], ◌∷◌, ◌++◌, Bool, true, false, cond, length, max, set, Option, Some, None, refl, sym, ap, subst, ◌∙◌, arith, ◌⊎◌, inl, inr}
+use Rattle.std.proofs.Common.{◌≡◌, ℕ, ◌+◌, ◌-◌, ◌<◌, List, [], ◌∷◌, ◌++◌, Bool, true, false, cond, length, set, Option, Some, None, refl, sym, ap, subst, ◌∙◌, arith, ◌⊎◌, inl, inr}
 use Rattle.std.specs.FinMap as fin
 use Rattle.std.specs.Prelude.{IsSome}
 use Rattle.std.specs.Ordering.{eq_by_cmp}
@@ -13,9 +13,9 @@ use Rattle.cb_frames.specs.Fields.{CastFields, Carried}
 use Rattle.cb_delay.specs.declared.message.Message.{Message}
 use Rattle.cb_delay.specs.declared.message.Event.{Event}
 use Rattle.cb_delay.specs.declared.message.Event.TheVariants.{Deliver}
-use Rattle.cb_delay.specs.Message.{name_cmp, IsOfGroup}
+use Rattle.cb_delay.specs.Message.{name_cmp}
 use Rattle.cb_delay.specs.Rule.{IsReady}
-use Rattle.cb_delay.specs.Queue.{Queue, IsHeld, HasReady, IsDelayQueue, Releases, FollowsLast, count_of}
+use Rattle.cb_delay.specs.Queue.{Queue, IsHeld, HasReady, IsDelayQueue, FollowsLast, count_of}
 use Rattle.cb_delay.proofs.Names.{names_total, exact_names, eq_by_cmp-same, eq_by_cmp-true}
 use Rattle.cb_delay.proofs.Kept.{one_name}
 use Rattle.cb_history.specs.Facts.{messages_in}
@@ -25,7 +25,7 @@ use Rattle.cb_history.proofs.Names.{one_of_is_in}
 use Rattle.cb_history.proofs.Delivering.{readiness_is_the_delay_rule, rule_of_times, next_is_smallest_ready, one_message}
 use Rattle.cb_history.proofs.Queueing.{in_casts}
 use Rattle.cb_member.specs.declared.delivery.Delivery.{Delivery}
-use Rattle.cb_member.specs.Delivery.{Waits, DeliversNext, HasNoNext}
+use Rattle.cb_member.specs.Delivery.{Waits, HasNoNext}
 use Rattle.cb_member.specs.Passing.{IsAlone, DeliversAlone}
 use Rattle.cb_member.proofs.Waiting.{TakesOut, takes_next, none_next}
 use Rattle.cb_member.proofs.Draining.{none_so_far, goes_on, is_drained}

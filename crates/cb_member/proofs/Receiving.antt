@@ -250,7 +250,7 @@ module _ (c : CastFields) (sender : ℕ) (before after : Buffer) (old : Receptio
   member : sender < size
   member = omega (arith, slice_get_within old.buffers.items sender before g.at, received.senders)
 
-  -- the spares of the sender's, of which there is one at least
+  -- the spares of the sender: one for each of its casts that waits
   pub its_spares : (stack : List (List ℕ)) → slice_get (spares_in old) sender ≡ Some stack → AreSparesOf seat.group.size before stack
   its_spares stack at = received.spares sender before stack g.at at
 

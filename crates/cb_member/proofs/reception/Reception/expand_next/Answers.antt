@@ -1,12 +1,12 @@
-use Rattle.std.proofs.Common.{◌≡◌, ◌<◌, List, ℕ, length, Some, refl, sym, ap, ◌∙◌, slice_get, All}
+use Rattle.std.proofs.Common.{◌≡◌, List, ℕ, length, Some, refl, sym, ap, ◌∙◌}
 use Rattle.std.specs.Prelude.{is_some}
 use Rattle.std.specs.declared.vec.Vec.{Vec}
 use Rattle.std.specs.declared.alloc.Global.{Global}
 use Rattle.std.proofs.lemmas.List.{map-set}
 use Rattle.std.proofs.lemmas.List.Elements.{All-pop}
-use Rattle.cb_frames.specs.Fields.{CastFields, cast_fields}
+use Rattle.cb_frames.specs.Fields.{cast_fields}
 use Rattle.cb_member.specs.Reception.{spares_in}
-use Rattle.cb_member.proofs.Receiving.{GivesNext, IsReported, buffer_at, within_stacks, vec_at, stack_at, its_spares, its_turn, its_size, some_spare_is_left, one_spare_less, next_is_reported, none_is_next}
+use Rattle.cb_member.proofs.Receiving.{GivesNext, buffer_at, within_stacks, vec_at, stack_at, its_spares, its_turn, its_size, some_spare_is_left, one_spare_less, next_is_reported, none_is_next}
 use Rattle.cb_member.proofs.reception.Reception.expand_next.Goals as goal
 
 pub returns-in_err-cast-clause-none : goal.returns-in_err-cast-clause-none
