@@ -15,7 +15,7 @@ use Rattle.cb_history.specs.declared.answer.TickRefusal.{TickRefusal}
 use Rattle.cb_history.specs.Facts.{EntryFields, CastEntry, ArriveEntry, TickEntry}
 use Rattle.cb_history.specs.Legal.{ToCast, ToTake, ToTick}
 use Rattle.cb_history.specs.State.{MemberState, IsMemberState, HasCast, HasTaken, HasTicked, RefusesTick, answer_to_cast, answer_to_arrival, entry_by, state_after}
-use Rattle.cb_member.specs.AtOnce.{HasTakenToSend}
+use Rattle.cb_member.specs.Received.{HasTakenToSend}
 use Rattle.cb_lock.specs.Receipts.{SeatState, and_claim}
 
 -- ---- the entry that an answer reports, where it reports one

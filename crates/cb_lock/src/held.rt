@@ -5,7 +5,7 @@ ghost use Rattle.std.specs.Vec.{vec_capacity, vec_len};
 ghost use Rattle.cb_history.specs.Legal.{ToCast, ToTake, ToTick};
 ghost use Rattle.cb_history.specs.State.{IsMemberState, HasCast, HasTaken, HasTicked, entry_by};
 ghost use Rattle.cb_history.specs.Facts.{entry_fields};
-ghost use Rattle.cb_member.specs.AtOnce.{HasTakenToSend};
+ghost use Rattle.cb_member.specs.Received.{HasTakenToSend};
 ghost use Rattle.cb_lock.specs.Receipts.{receipt_fields, and_claim, entered};
 ghost use Rattle.cb_lock.specs.Calls.{MayRefuseCast, MayRefuseArrival, MayRefuseTick, and_receipt, reported_by_cast, reported_by_arrival, reported_by_tick};
 

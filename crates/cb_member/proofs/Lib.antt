@@ -8,6 +8,9 @@ pub mod Draining
 pub mod Entering
 pub mod Foreseeing
 pub mod Going
+pub mod Foreseeing
+pub mod Going
+pub mod Entering
 pub mod Hearing
 pub mod Judging
 pub mod JudgingCasts
@@ -19,6 +22,9 @@ pub mod Receiving
 pub mod Recording
 pub mod Rising
 pub mod Starting
+pub mod Recording
+pub mod Accepting
+pub mod Receiving
 pub mod Staying
 pub mod TakingIn
 pub mod Telling

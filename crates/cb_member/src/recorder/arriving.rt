@@ -8,7 +8,7 @@ ghost use Rattle.cb_history.specs.Facts.{ArriveEntry, entry_fields};
 ghost use Rattle.cb_member.specs.Answering.{RefusesBytes};
 ghost use Rattle.cb_member.specs.Arriving.{IsNew};
 ghost use Rattle.cb_member.specs.Recorder.{IsKept, held_by};
-ghost use Rattle.cb_member.specs.Received.{AnswersBytes, CanEnter, IsEntering, Enters, HasRoomForNames, names_of, received_says};
+ghost use Rattle.cb_member.specs.Received.{AnswersBytes, CanEnter, IsEntering, Enters, HasRoomForNames, count_said, names_of, received_says};
 ghost use Rattle.cb_history.specs.Answers.{Accepted};
 
 use crate::arrival::cast::Judged;
@@ -268,7 +268,8 @@ fn unchanged(alloc: Global, received: Received) -> Taken
 
 /// The answer to a frame that delivers nothing, and to which nothing is sent.
 fn nothing(alloc: Global, changed: bool) -> Received
-    ensures { received_says result [] ≡ Accepted [] changed [] }
+    ensures says { received_says result [] ≡ Accepted [] changed [] }
+    ensures none { count_said result ≡ 0 }
 {
     Received::Accepted {
         delivered: 0,

@@ -5,7 +5,7 @@ use Rattle.cb_history.specs.State.{entry_by}
 use Rattle.cb_lock.specs.Receipts.{receipt_fields}
 use Rattle.cb_lock.specs.Calls.{and_receipt}
 use Rattle.cb_lock.proofs.Entering.{seat_after}
-use Rattle.cb_member.specs.AtOnce.{HasTakenToSend}
+use Rattle.cb_member.specs.Received.{HasTakenToSend}
 use Rattle.cb_lock.proofs.held.Held.receive.Goals as goal
 
 pub returns-clause-receipt : goal.returns-clause-receipt
