@@ -13,7 +13,7 @@ cast_text-requires-clause-rules c =
     let state = c.requires.state in
     let is = c.in_ok-cast.ensures state.facts state.legal state.keeps c.args.payload.now in
     let next = subst (λ (x : CastFields). KeepsCastRules x) (sym is)
-        (next_keeps c.args.self.now.seat state.facts c.args.payload.now state.legal.group.size.at_most_sixty_four state.legal.member) in
+    (next_keeps c.args.self.now.seat state.facts c.args.payload.now state.legal.group.size.at_most_sixty_four state.legal.member) in
     record { sender = next.sender; number = next.number; changes = next.changes }
 
 pub payload_in-requires : goal.payload_in-requires
