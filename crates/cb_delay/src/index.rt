@@ -16,6 +16,9 @@ use cb_times::{NoMemory, VectorTime};
 use std::alloc::Global;
 use std::collections::VecDeque;
 
+/// So many fields of two times are compared at once.
+const EIGHT: u32 = 8;
+
 /// Where the candidates stand. All that it keeps is made in `new`.
 #[derive(Debug, Drop)]
 pub struct Index {
@@ -121,9 +124,35 @@ impl Index {
         ensures told { (lists : List (List Message)) → Tells lists self.old → Tells lists self.new }
         ensures looked { self.new.looked ≡ self.old.looked }
     {
-        for k in 0..now.size() {
+        let mut k = 0;
+        while k < now.size() {
+            k = self.go_on_to(now, k);
+        }
+    }
+
+    /// Makes the next eight fields those of this time, or what is left of them. It answers up to which member the fields are so.
+    ///
+    /// Where one message is delivered, all but one eight of them are the same, and these are compared at once.
+    fn go_on_to(&mut self, now: &VectorTime, first: u32) -> u32
+        requires shape { HasShape (length now.now) self.old }
+        requires member { first < length now.now }
+        ensures further { first < result }
+        ensures within { result ≤ length now.now }
+        ensures shape { HasShape (length now.now) self.new }
+        ensures same { ((k : ℕ) → k < first → field self.old.last k ≡ field now.now k)
+            → (k : ℕ) → k < result → field self.new.last k ≡ field now.now k }
+        ensures told { (lists : List (List Message)) → Tells lists self.old → Tells lists self.new }
+        ensures looked { self.new.looked ≡ self.old.looked }
+    {
+        let (end, size) = (first + EIGHT, now.size());
+        if end <= size && count_differing(self.last.as_slice(), now.as_slice(), first) == 0 {
+            return end;
+        }
+        let end = end.min(size);
+        for k in first..end {
             self.set_field(k, now.get(k));
         }
+        end
     }
 
     fn set_field(&mut self, k: u32, count: u32)
@@ -208,6 +237,21 @@ impl Index {
         self.places[sender as usize] = place;
         self.stale = members::without(self.stale, sender);
     }
+}
+
+/// In how many of the eight fields from `first` on the two differ. It looks at all, so that the compiler takes several at once.
+fn count_differing(before: &[u32], now: &[u32], first: u32) -> u32
+    requires size { length before.now ≡ length now.now }
+    requires within { first + 8 ≤ length now.now }
+    requires few { length now.now ≤ 64 }
+    ensures { result ≡ 0 → (k : ℕ) → first ≤ k → k < first + 8 → field before.now k ≡ field now.now k }
+{
+    let mut differing = 0;
+    for j in 0..EIGHT as usize {
+        let k = first as usize + j;
+        differing += u32::from(before[k] != now[k]);
+    }
+    differing
 }
 
 /// Whom a walk over those who wait for one member found.
