@@ -11,13 +11,10 @@ ghost use Rattle.cb_delay.specs.Lists.{list_of};
 
 use crate::members;
 use crate::message::Message;
-use crate::place::{Place, look};
+use crate::place::{EIGHT, Place, look};
 use cb_times::{NoMemory, VectorTime};
 use std::alloc::Global;
 use std::collections::VecDeque;
-
-/// So many fields of two times are compared at once.
-const EIGHT: u32 = 8;
 
 /// Where the candidates stand. All that it keeps is made in `new`.
 #[derive(Debug, Drop)]
@@ -130,9 +127,7 @@ impl Index {
         }
     }
 
-    /// Makes the next eight fields those of this time, or what is left of them. It answers up to which member the fields are so.
-    ///
-    /// Where one message is delivered, all but one eight of them are the same, and these are compared at once.
+    /// Makes the next eight fields that differ somewhere those of this time. It answers up to which member the fields are so.
     fn go_on_to(&mut self, now: &VectorTime, first: u32) -> u32
         requires shape { HasShape (length now.now) self.old }
         requires member { first < length now.now }
@@ -144,12 +139,9 @@ impl Index {
         ensures told { (lists : List (List Message)) → Tells lists self.old → Tells lists self.new }
         ensures looked { self.new.looked ≡ self.old.looked }
     {
-        let (end, size) = (first + EIGHT, now.size());
-        if end <= size && count_differing(self.last.as_slice(), now.as_slice(), first) == 0 {
-            return end;
-        }
-        let end = end.min(size);
-        for k in first..end {
+        let from = same_before(self.last.as_slice(), now.as_slice(), first as usize) as u32;
+        let end = now.size().min(from + EIGHT as u32);
+        for k in from..end {
             self.set_field(k, now.get(k));
         }
         end
@@ -239,16 +231,32 @@ impl Index {
     }
 }
 
+/// A member before whom all fields from `first` on are the same: it stops before the eight that differ somewhere, or the last few.
+fn same_before(before: &[u32], now: &[u32], first: usize) -> usize
+    requires size { length before.now ≡ length now.now }
+    requires few { length now.now ≤ 64 }
+    requires member { first ≤ length now.now }
+    ensures from { first ≤ result }
+    ensures within { result ≤ length now.now }
+    ensures same { (k : ℕ) → first ≤ k → k < result → field before.now k ≡ field now.now k }
+{
+    let mut k = first;
+    while k + EIGHT <= now.len() && count_differing(before, now, k) == 0 {
+        k += EIGHT;
+    }
+    k
+}
+
 /// In how many of the eight fields from `first` on the two differ. It looks at all, so that the compiler takes several at once.
-fn count_differing(before: &[u32], now: &[u32], first: u32) -> u32
+fn count_differing(before: &[u32], now: &[u32], first: usize) -> u32
     requires size { length before.now ≡ length now.now }
     requires within { first + 8 ≤ length now.now }
     requires few { length now.now ≤ 64 }
     ensures { result ≡ 0 → (k : ℕ) → first ≤ k → k < first + 8 → field before.now k ≡ field now.now k }
 {
     let mut differing = 0;
-    for j in 0..EIGHT as usize {
-        let k = first as usize + j;
+    for j in 0..EIGHT {
+        let k = first + j;
         differing += u32::from(before[k] != now[k]);
     }
     differing

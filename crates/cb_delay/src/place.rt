@@ -12,7 +12,7 @@ use cb_times::VectorTime;
 use std::collections::VecDeque;
 
 /// So many fields of two times are compared at once.
-const EIGHT: usize = 8;
+pub const EIGHT: usize = 8;
 
 /// Where the candidate of a sender stands.
 #[derive(Clone, Copy, Debug)]
