@@ -44,7 +44,7 @@ impl Place {
 /// Looks at the candidate of a sender: where it stands at this time.
 ///
 /// Only here is a held message compared with a time, and each comparison is counted, up to the greatest number.
-pub fn look(looked: &mut u64, list: &VecDeque<Message>, sender: u32, now: &VectorTime) -> Place
+pub fn place_at(looked: &mut u64, list: &VecDeque<Message>, sender: u32, now: &VectorTime) -> Place
     requires sender { sender < length now.now }
     requires run { IsRun (length now.now) sender list.now.items }
     ensures placed { IsPlaced sender list.now.items now.now result }
@@ -54,10 +54,11 @@ pub fn look(looked: &mut u64, list: &VecDeque<Message>, sender: u32, now: &Vecto
         return Place::Free;
     };
     *looked = looked.saturating_add(1);
-    stands(message, sender, now)
+    place_of_candidate(message, sender, now)
 }
 
-fn stands(message: &Message, sender: u32, now: &VectorTime) -> Place
+/// Where this candidate stands at this time.
+fn place_of_candidate(message: &Message, sender: u32, now: &VectorTime) -> Place
     requires group { IsOfGroup (length now.now) message.now }
     requires sender { message.now.name.sender ≡ sender }
     ensures { (list : List Message) → IsCandidate sender list now.now message.now

@@ -9,6 +9,6 @@ abbrev pub invariant-loop-k : goal.invariant-loop-k
 invariant-loop-k l = record {
   shape : HasShape (length l.now) l.self;
   same : ((j : ℕ) → j < l.first → field l.fn.self.last j ≡ field l.now j) → (j : ℕ) → j < l.k → field l.self.last j ≡ field l.now j;
-  told : (lists : List (List Message)) → Tells lists l.fn.self → Tells lists l.self;
+  placed : (lists : List (List Message)) → Tells lists l.fn.self → Tells lists l.self;
   looked : l.self.looked ≡ l.fn.self.looked;
 }

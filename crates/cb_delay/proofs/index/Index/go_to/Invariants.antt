@@ -13,6 +13,6 @@ invariant-loop-k l = record {
   within : l.k ≤ length l.now;
   shape : HasShape (length l.now) l.self;
   same : (j : ℕ) → j < l.k → field l.self.last j ≡ field l.now j;
-  told : (lists : List (List Message)) → Tells lists l.fn.self → Tells lists l.self;
+  placed : (lists : List (List Message)) → Tells lists l.fn.self → Tells lists l.self;
   looked : l.self.looked ≡ l.fn.self.looked;
 }
