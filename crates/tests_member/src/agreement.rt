@@ -12,7 +12,7 @@ use crate::agreement::forging::{Target, damaged, forged};
 use crate::agreement::world::World;
 use crate::examples::calls::{Call, Made, answer, group_of};
 use bytes::Bytes;
-use cb_history::{Entry, Event, Group, GroupMember, History};
+use cb_history::{Entry, Event, Group, GroupMember, History, Message};
 use cb_member::Member;
 use cb_reference::ReferenceMember;
 use std::alloc::Global;
@@ -74,20 +74,25 @@ fn says(rt: &impl Abort, said: Result<String, Fail>, expected: String) -> Result
     Ok(())
 }
 
-fn are_same_events(plain: &[Event], quick: &[Event]) -> bool {
+pub fn are_same_events(plain: &[Event], quick: &[Event]) -> bool {
     plain.len() == quick.len() && plain.iter().zip(quick).all(is_same)
 }
 
-/// The events are of one kind, with the same name, time and payload.
+/// The events are of one kind, with the same message.
 fn is_same(events: (&Event, &Event)) -> bool {
     match events {
         (Event::Cast(one), Event::Cast(other)) | (Event::Deliver(one), Event::Deliver(other)) => {
-            one.name == other.name
-                && one.time.as_slice() == other.time.as_slice()
-                && one.payload == other.payload
+            is_same_message(one, other)
         }
         (Event::Cast(_), Event::Deliver(_)) | (Event::Deliver(_), Event::Cast(_)) => false,
     }
+}
+
+/// The messages have the same name, time and payload.
+pub fn is_same_message(one: &Message, other: &Message) -> bool {
+    one.name == other.name
+        && one.time.as_slice() == other.time.as_slice()
+        && one.payload == other.payload
 }
 
 fn random_group(size: u32, dice: &mut Dice) -> Result<Group, Fail> {
