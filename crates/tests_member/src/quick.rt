@@ -129,7 +129,10 @@ const CUT: &[u8] = b"\x11\x07\x01";
 /// The first cast of member 1, forged so that it has a second cast of member 0.
 const AHEAD: &[u8] = b"\x11\x07\x01\x01\x01\x00\x02\x00";
 
-/// The first cast of member 2, which has two casts of member 1, and one that has nothing.
+/// The next one, which has no more.
+const NEXT: &[u8] = b"\x11\x07\x01\x02\x00\x00";
+
+/// The first cast of member 2, which has two casts of member 1, or has nothing.
 const LATE: &[u8] = b"\x11\x07\x02\x01\x01\x01\x02\x00";
 
 const NEW: &[u8] = b"\x11\x07\x02\x01\x00\x00";
@@ -223,7 +226,7 @@ const ORDERS: &[&[(Step, Said)]] = &[
         (Step::Take(AHEAD), WAITS),
         (Step::Cast, NOTHING),
         (Step::Take(LATE), DELIVERS_1),
-        (Step::Take(OK), DELIVERS_2),
+        (Step::Take(NEXT), DELIVERS_2),
     ],
     &[
         (Step::Take(AHEAD), WAITS),
