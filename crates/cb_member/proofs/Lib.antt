@@ -1,3 +1,4 @@
+pub mod Accepting
 pub mod Acknowledging
 pub mod Alike
 pub mod Answering
@@ -8,9 +9,6 @@ pub mod Draining
 pub mod Entering
 pub mod Foreseeing
 pub mod Going
-pub mod Foreseeing
-pub mod Going
-pub mod Entering
 pub mod Hearing
 pub mod Judging
 pub mod JudgingCasts
@@ -22,9 +20,6 @@ pub mod Receiving
 pub mod Recording
 pub mod Rising
 pub mod Starting
-pub mod Recording
-pub mod Accepting
-pub mod Receiving
 pub mod Staying
 pub mod TakingIn
 pub mod Telling

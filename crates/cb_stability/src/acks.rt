@@ -58,7 +58,7 @@ impl Acks {
         Ok(Acks { rows, minima })
     }
 
-    /// A second one of which the same is known. The only error is out of memory.
+    /// Acknowledgements of their own, by which the same is known. The only error is out of memory.
     pub fn copy(&self) -> Result<Acks, NoMemory>
         ensures { IfOk result (λ copy. copy ≡ self.now) }
     {

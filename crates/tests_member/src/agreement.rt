@@ -1,6 +1,7 @@
-//! Random calls: the plain member and the quick one answer each alike, whatever is received, and end with the same history.
+//! Random calls: the plain member and the quick one answer each alike, whatever is received, and end with the same history, as does
+//! a quick one that receives without copies.
 //!
-//! Each run is a member of a group of its own, twice, among some other members whose frames get lost, are copied and come in another
+//! Each run is a member of a group of its own, three times, among some other members whose frames get lost, are copied and come in another
 //! order, with forged and damaged ones between them. `checks/agreement.sh` runs the same with more and longer runs.
 
 mod dice;
@@ -12,8 +13,8 @@ use crate::agreement::forging::{Target, damaged, forged};
 use crate::agreement::world::World;
 use crate::examples::calls::{Call, Made, answer, group_of};
 use bytes::Bytes;
-use cb_history::{Entry, Event, Group, GroupMember, History};
-use cb_member::Member;
+use cb_history::{Entry, Event, Group, GroupMember, History, Message};
+use cb_member::{Member, Received};
 use cb_reference::ReferenceMember;
 use std::alloc::Global;
 use std::process::Abort;
@@ -29,11 +30,12 @@ const SEED: u32 = 1;
 /// A payload that has a byte too many.
 const TOO_LONG: &[u8] = &[0; 1_025];
 
-/// One member in both forms.
+/// One member in both forms, and once more the quick one, which receives what arrives at the others.
 #[derive(Drop)]
 struct Pair {
     plain: ReferenceMember,
     quick: Member,
+    reader: Member,
 }
 
 impl Pair {
@@ -41,13 +43,18 @@ impl Pair {
         Ok(Pair {
             plain: ReferenceMember::made(alloc, group, me, limit)?,
             quick: Member::made(alloc, group, me, limit)?,
+            reader: Member::made(alloc, group, me, limit)?,
         })
     }
 
     /// Both answer alike.
     fn call<R: Abort>(&mut self, rt: &R, alloc: Global, call: Call<'_>) -> Result<(), Fail> {
         let plain = answer(alloc, &mut self.plain, call)?;
-        says(rt, answer(alloc, &mut self.quick, call), plain)
+        says(rt, answer(alloc, &mut self.quick, call), plain)?;
+        let before = self.reader.events().len();
+        let count = events_by(alloc, &mut self.reader, call)?;
+        assert_eq!(rt; self.reader.events().len().saturating_sub(before), count);
+        Ok(())
     }
 
     /// The frame of the last entry, where the member sent it to all.
@@ -66,6 +73,26 @@ impl Pair {
     }
 }
 
+/// How many events the call says that it added, where what arrives is received.
+fn events_by(alloc: Global, member: &mut Member, call: Call<'_>) -> Result<usize, Fail> {
+    match call {
+        Call::Take(bytes) => Ok(received(member, &Bytes::copy_from_slice(alloc, bytes)?)),
+        Call::Cast(payload) => Ok(usize::from(member.cast(payload).is_ok())),
+        Call::Tick => {
+            drop(member.tick());
+            Ok(0)
+        }
+        _ => Ok(0),
+    }
+}
+
+fn received(member: &mut Member, bytes: &Bytes) -> usize {
+    match member.receive(bytes) {
+        Ok(Received::Accepted { delivered, .. }) => delivered,
+        Ok(Received::Repeat) | Err(_) => 0,
+    }
+}
+
 fn says(rt: &impl Abort, said: Result<String, Fail>, expected: String) -> Result<(), Fail> {
     let said = said?;
     assert_eq!(rt; said.as_str(), expected.as_str());
@@ -74,20 +101,25 @@ fn says(rt: &impl Abort, said: Result<String, Fail>, expected: String) -> Result
     Ok(())
 }
 
-fn are_same_events(plain: &[Event], quick: &[Event]) -> bool {
+pub fn are_same_events(plain: &[Event], quick: &[Event]) -> bool {
     plain.len() == quick.len() && plain.iter().zip(quick).all(is_same)
 }
 
-/// The events are of one kind, with the same name, time and payload.
+/// The events are of one kind, with the same message.
 fn is_same(events: (&Event, &Event)) -> bool {
     match events {
         (Event::Cast(one), Event::Cast(other)) | (Event::Deliver(one), Event::Deliver(other)) => {
-            one.name == other.name
-                && one.time.as_slice() == other.time.as_slice()
-                && one.payload == other.payload
+            is_same_message(one, other)
         }
         (Event::Cast(_), Event::Deliver(_)) | (Event::Deliver(_), Event::Cast(_)) => false,
     }
+}
+
+/// The messages have the same name, time and payload.
+pub fn is_same_message(one: &Message, other: &Message) -> bool {
+    one.name == other.name
+        && one.time.as_slice() == other.time.as_slice()
+        && one.payload == other.payload
 }
 
 fn random_group(size: u32, dice: &mut Dice) -> Result<Group, Fail> {
@@ -232,14 +264,21 @@ impl Trial {
             self.pair.call(rt, alloc, Call::Missing(member))?;
         }
         assert!(rt; self.pair.has_same_events()?);
+        assert!(rt; are_same_events(self.pair.reader.events(), self.pair.quick.events()));
         Ok(())
     }
 }
 
-/// The histories that both end with.
+/// The histories that all end with.
 fn end(rt: &impl Abort, pair: Pair) {
-    let Pair { plain, quick } = pair;
-    are_same_histories(rt, &quick.into_history(), &plain.into_history());
+    let Pair {
+        plain,
+        quick,
+        reader,
+    } = pair;
+    let quick = quick.into_history();
+    are_same_histories(rt, &quick, &plain.into_history());
+    are_same_histories(rt, &quick, &reader.into_history());
 }
 
 fn are_same_histories(rt: &impl Abort, quick: &History, plain: &History) {

@@ -4,10 +4,16 @@
 //! answer; what is read, by itself. Bytes are in hexadecimal.
 
 pub mod calls;
+mod courses;
 mod five;
 
 use crate::examples::calls::{Call, Script, group_of, hexadecimal, play};
 pub use crate::examples::calls::{Made, run_both};
+pub use crate::examples::courses::{
+    A_CAST_BEFORE_ITS_TURN_IS_KEPT, A_CAST_IN_ORDER_IS_DELIVERED_ALONE,
+    A_CAST_IN_ORDER_WAITS_FOR_WHAT_IT_FOLLOWS, A_CAST_LETS_GO_WHAT_AN_OWN_CAST_MADE_READY,
+    A_CAST_THAT_IS_DELIVERED_ALONE_ACKNOWLEDGES, FORGED_CASTS_THAT_WAIT_FOR_EACH_OTHER_STAY,
+};
 pub use crate::examples::five::{
     A_MEMBER_OF_FIVE_ASKS_FOR_WHAT_IT_LACKS, a_member_of_five_casts_and_tells_its_time,
     a_member_of_five_casts_behind_200_more,
@@ -381,6 +387,15 @@ pub const FORGED_TIMES_STAY_AT_THE_GREATEST_NUMBER: &[Script<'static>] = &[Scrip
                 number: 2,
             }),
             "[4294967295,2,0]",
+        ),
+        // one more, which says nothing of member 0
+        (Call::Take(b"\x11\x07\x01\x03\x00\x00"), "4: changed"),
+        (
+            Call::TimeOf(Name {
+                sender: 1,
+                number: 3,
+            }),
+            "[4294967295,3,0]",
         ),
     ],
 }];

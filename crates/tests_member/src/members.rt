@@ -304,6 +304,56 @@ fn a_filled_window_moves_with_the_deliveries(rt: HostRuntime) -> Result<(), Fail
 }
 
 #[test]
+fn a_cast_before_its_turn_is_kept(rt: HostRuntime) -> Result<(), Fail> {
+    examples::run_both(&rt, rt.alloc(), examples::A_CAST_BEFORE_ITS_TURN_IS_KEPT)
+}
+
+#[test]
+fn a_cast_in_order_waits_for_what_it_follows(rt: HostRuntime) -> Result<(), Fail> {
+    examples::run_both(
+        &rt,
+        rt.alloc(),
+        examples::A_CAST_IN_ORDER_WAITS_FOR_WHAT_IT_FOLLOWS,
+    )
+}
+
+#[test]
+fn a_cast_in_order_is_delivered_alone(rt: HostRuntime) -> Result<(), Fail> {
+    examples::run_both(
+        &rt,
+        rt.alloc(),
+        examples::A_CAST_IN_ORDER_IS_DELIVERED_ALONE,
+    )
+}
+
+#[test]
+fn a_cast_that_is_delivered_alone_acknowledges(rt: HostRuntime) -> Result<(), Fail> {
+    examples::run_both(
+        &rt,
+        rt.alloc(),
+        examples::A_CAST_THAT_IS_DELIVERED_ALONE_ACKNOWLEDGES,
+    )
+}
+
+#[test]
+fn a_cast_lets_go_what_an_own_cast_made_ready(rt: HostRuntime) -> Result<(), Fail> {
+    examples::run_both(
+        &rt,
+        rt.alloc(),
+        examples::A_CAST_LETS_GO_WHAT_AN_OWN_CAST_MADE_READY,
+    )
+}
+
+#[test]
+fn forged_casts_that_wait_for_each_other_stay(rt: HostRuntime) -> Result<(), Fail> {
+    examples::run_both(
+        &rt,
+        rt.alloc(),
+        examples::FORGED_CASTS_THAT_WAIT_FOR_EACH_OTHER_STAY,
+    )
+}
+
+#[test]
 fn a_member_of_five_casts_and_tells_its_time(rt: HostRuntime) -> Result<(), Fail> {
     examples::a_member_of_five_casts_and_tells_its_time::<ReferenceMember, _>(&rt, rt.alloc())?;
     examples::a_member_of_five_casts_and_tells_its_time::<Member, _>(&rt, rt.alloc())

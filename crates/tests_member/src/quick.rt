@@ -1,7 +1,11 @@
-//! A quick member that has done nothing yet, and its first call.
+//! A quick member that has done nothing yet, its first call, and its four calls that take received bytes.
 
+use crate::agreement::{are_same_events, is_same_message};
 use bytes::Bytes;
-use cb_member::{Arrival, ArriveRefusal, Entry, Group, Member, MissingFault, NewFault};
+use cb_member::{
+    Arrival, ArriveRefusal, Entry, Event, FrameFault, Group, Member, Message, MissingFault,
+    NewFault, Received,
+};
 use std::alloc::Global;
 use std::process::Abort;
 
@@ -122,6 +126,17 @@ const ASKED: &[u8] = b"\x13\x07\x02\x00\x01\x00\x00";
 /// No frame.
 const CUT: &[u8] = b"\x11\x07\x01";
 
+/// The first cast of member 1, forged so that it has a second cast of member 0.
+const AHEAD: &[u8] = b"\x11\x07\x01\x01\x01\x00\x02\x00";
+
+/// The next one, which has no more.
+const NEXT: &[u8] = b"\x11\x07\x01\x02\x00\x00";
+
+/// The first cast of member 2, which has two casts of member 1, or has nothing.
+const LATE: &[u8] = b"\x11\x07\x02\x01\x01\x01\x02\x00";
+
+const NEW: &[u8] = b"\x11\x07\x02\x01\x00\x00";
+
 /// Member 0, which has cast "no".
 fn speaker(rt: &impl Abort, alloc: Global) -> Member {
     let mut member = Member::new(alloc, group(rt), 0, 100).expect(rt, "a member");
@@ -129,66 +144,249 @@ fn speaker(rt: &impl Abort, alloc: Global) -> Member {
     member
 }
 
-/// What a member that receives sends, and whether it has an entry more, or why the bytes were refused.
-fn received(
-    rt: &impl Abort,
-    member: &mut Member,
-    bytes: &'static [u8],
-) -> Result<(usize, bool), ArriveRefusal> {
-    let (out, noted) = member.receive_noted(Bytes::from_static(bytes))?;
-    let sent = (out.len(), noted.is_some());
-    let is_last = noted.is_none() || noted.as_ref() == member.history().last();
-    drop(out);
-    drop(noted);
-    assert!(rt; is_last);
-    Ok(sent)
+/// What is done with a member.
+#[derive(Clone, Copy)]
+enum Step {
+    Cast,
+    Take(&'static [u8]),
 }
 
-/// In each order: a cast that waits for nothing, one that comes before its question, one that comes again, a status, a request.
-#[test]
-fn a_member_that_receives_does_what_one_does_at_which_frames_arrive(rt: HostRuntime) {
-    const ORDERS: &[&[&[u8]]] = &[
-        &[HI, YO, TOLD, ASKED, HI, CUT],
-        &[YO, HI, ASKED, TOLD, YO, TOLD],
-        &[TOLD, ASKED, YO, YO, HI, HI],
-        &[ASKED, HI, OK, YO, SO, OK],
-    ];
-    for order in ORDERS {
-        let (mut one, mut other) = (speaker(&rt, rt.alloc()), speaker(&rt, rt.alloc()));
-        let mut sent: usize = 0;
-        for bytes in *order {
-            let reported = arrived(&mut one, bytes);
-            assert_eq!(rt; received(&rt, &mut other, bytes), reported);
-            sent = sent.saturating_add(reported.map_or(0, |reported| reported.0));
+/// What a frame did: how many messages were delivered, whether there is an entry more, and how many frames are sent.
+type Said = Result<(usize, bool, usize), ArriveRefusal>;
+
+/// Nothing is to be done for a repeat.
+const NOTHING: Said = Ok((0, false, 0));
+
+const WAITS: Said = Ok((0, true, 0));
+
+const DELIVERS_1: Said = Ok((1, true, 0));
+
+const DELIVERS_2: Said = Ok((2, true, 0));
+
+const DELIVERS_4: Said = Ok((4, true, 0));
+
+const SENDS: Said = Ok((0, false, 1));
+
+const SHORT: Said = Err(ArriveRefusal::Malformed(FrameFault::Short));
+
+/// In each order: a cast that waits for nothing, one that comes before its question, one that comes again, a status, a request. Then
+/// gaps of two senders, and an own cast that makes a forged one ready, which goes at the next cast, whatever that is.
+const ORDERS: &[&[(Step, Said)]] = &[
+    &[
+        (Step::Take(HI), DELIVERS_1),
+        (Step::Take(YO), DELIVERS_1),
+        (Step::Take(TOLD), WAITS),
+        (Step::Take(ASKED), SENDS),
+        (Step::Take(HI), NOTHING),
+        (Step::Take(CUT), SHORT),
+    ],
+    &[
+        (Step::Take(YO), WAITS),
+        (Step::Take(HI), DELIVERS_2),
+        (Step::Take(ASKED), SENDS),
+        (Step::Take(TOLD), WAITS),
+        (Step::Take(YO), NOTHING),
+        (Step::Take(TOLD), NOTHING),
+    ],
+    &[
+        (Step::Take(TOLD), WAITS),
+        (Step::Take(ASKED), SENDS),
+        (Step::Take(YO), WAITS),
+        (Step::Take(YO), NOTHING),
+        (Step::Take(HI), DELIVERS_2),
+        (Step::Take(HI), NOTHING),
+    ],
+    &[
+        (Step::Take(ASKED), SENDS),
+        (Step::Take(HI), DELIVERS_1),
+        (Step::Take(OK), DELIVERS_1),
+        (Step::Take(YO), DELIVERS_1),
+        (Step::Take(SO), DELIVERS_1),
+        (Step::Take(OK), NOTHING),
+    ],
+    &[
+        (Step::Take(OK), WAITS),
+        (Step::Take(SO), WAITS),
+        (Step::Take(YO), WAITS),
+        (Step::Take(HI), DELIVERS_4),
+    ],
+    &[
+        (Step::Take(LATE), WAITS),
+        (Step::Take(HI), DELIVERS_1),
+        (Step::Take(OK), DELIVERS_2),
+    ],
+    &[
+        (Step::Take(AHEAD), WAITS),
+        (Step::Cast, NOTHING),
+        (Step::Take(TOLD), WAITS),
+        (Step::Take(SO), DELIVERS_1),
+        (Step::Take(NEW), DELIVERS_2),
+    ],
+    &[
+        (Step::Take(AHEAD), WAITS),
+        (Step::Cast, NOTHING),
+        (Step::Take(LATE), DELIVERS_1),
+        (Step::Take(NEXT), DELIVERS_2),
+    ],
+    &[
+        (Step::Take(AHEAD), WAITS),
+        (Step::Cast, NOTHING),
+        (Step::Take(NEW), DELIVERS_2),
+    ],
+];
+
+/// One member for each call that takes received bytes.
+#[derive(Drop)]
+struct Four {
+    receives: Member,
+    receives_noted: Member,
+    arrives: Member,
+    arrives_noted: Member,
+}
+
+impl Four {
+    fn new(rt: &impl Abort, alloc: Global) -> Four {
+        Four {
+            receives: speaker(rt, alloc),
+            receives_noted: speaker(rt, alloc),
+            arrives: speaker(rt, alloc),
+            arrives_noted: speaker(rt, alloc),
         }
-        assert_eq!(rt; sent, 1);
-        are_same(&rt, one, other);
+    }
+
+    /// Each does the step, and says what it did.
+    fn takes(&mut self, rt: &impl Abort, step: Step, said: Said) {
+        match step {
+            Step::Cast => self.cast(rt),
+            Step::Take(bytes) => self.take(rt, bytes, said),
+        }
+    }
+
+    fn cast(&mut self, rt: &impl Abort) {
+        drop(self.receives.cast(b"me").expect(rt, "a cast"));
+        drop(self.receives_noted.cast(b"me").expect(rt, "a cast"));
+        drop(self.arrives.cast(b"me").expect(rt, "a cast"));
+        drop(self.arrives_noted.cast(b"me").expect(rt, "a cast"));
+    }
+
+    fn take(&mut self, rt: &impl Abort, bytes: &'static [u8], said: Said) {
+        assert_eq!(rt; received(&mut self.receives, bytes), said);
+        assert_eq!(rt; arrived(rt, &mut self.arrives, bytes), said);
+        assert_eq!(rt; arrived_noted(rt, &mut self.arrives_noted, bytes), said);
+        let sent = received_noted(rt, &mut self.receives_noted, bytes);
+        assert_eq!(rt; sent, said.map(|(_, changed, sent)| (changed, sent)));
+    }
+
+    /// All have the same history and the same events.
+    fn end(self, rt: &impl Abort) {
+        let Four {
+            receives,
+            receives_noted,
+            arrives,
+            arrives_noted,
+        } = self;
+        are_same(rt, &receives, receives_noted);
+        are_same(rt, &receives, arrives);
+        are_same(rt, &receives, arrives_noted);
     }
 }
 
-/// How many frames a member sends in answer, and whether it changed, where the frame arrives at it.
-fn arrived(member: &mut Member, bytes: &'static [u8]) -> Result<(usize, bool), ArriveRefusal> {
-    let arrival = member.arrive(&Bytes::from_static(bytes))?;
-    let reported = match &arrival {
-        Arrival::Accepted {
-            deliveries: _,
+#[test]
+fn a_member_that_receives_does_what_one_does_at_which_frames_arrive(rt: HostRuntime) {
+    for order in ORDERS {
+        plays(&rt, rt.alloc(), order);
+    }
+}
+
+fn plays(rt: &impl Abort, alloc: Global, order: &[(Step, Said)]) {
+    let mut four = Four::new(rt, alloc);
+    for (step, said) in order {
+        four.takes(rt, *step, *said);
+    }
+    four.end(rt);
+}
+
+/// What the frame did, by the call that makes no copies.
+fn received(member: &mut Member, bytes: &'static [u8]) -> Said {
+    Ok(match member.receive(&Bytes::from_static(bytes))? {
+        Received::Accepted {
+            delivered,
             changed,
             out,
-        } => (out.len(), *changed),
-        Arrival::Repeat => (0, false),
-    };
-    drop(arrival);
-    Ok(reported)
+        } => (delivered, changed, out.len()),
+        Received::Repeat => (0, false, 0),
+    })
+}
+
+/// What a member that receives sends, and whether it has an entry more, of which it hands out a copy.
+fn received_noted(
+    rt: &impl Abort,
+    member: &mut Member,
+    bytes: &'static [u8],
+) -> Result<(bool, usize), ArriveRefusal> {
+    let (out, noted) = member.receive_noted(Bytes::from_static(bytes))?;
+    let sent = (noted.is_some(), out.len());
+    drop(out);
+    assert!(rt; is_last(noted, member));
+    Ok(sent)
+}
+
+fn is_last(noted: Option<Entry>, member: &Member) -> bool {
+    noted.is_none() || noted.as_ref() == member.history().last()
+}
+
+/// What the frame did, by the call that hands out copies of the deliveries.
+fn arrived(rt: &impl Abort, member: &mut Member, bytes: &'static [u8]) -> Said {
+    let arrival = member.arrive(&Bytes::from_static(bytes))?;
+    Ok(told(rt, arrival, member.events()))
+}
+
+fn arrived_noted(rt: &impl Abort, member: &mut Member, bytes: &'static [u8]) -> Said {
+    let (arrival, noted) = member.arrive_noted(&Bytes::from_static(bytes))?;
+    let told = told(rt, arrival, member.events());
+    assert_eq!(rt; noted.is_some(), told.1);
+    assert!(rt; is_last(noted, member));
+    Ok(told)
+}
+
+/// The deliveries are the last events.
+fn told(rt: &impl Abort, arrival: Arrival, events: &[Event]) -> (usize, bool, usize) {
+    match arrival {
+        Arrival::Accepted {
+            deliveries,
+            changed,
+            out,
+        } => {
+            let count = deliveries.len();
+            assert!(rt; are_last(&deliveries, events));
+            (count, changed, out.len())
+        }
+        Arrival::Repeat => (0, false, 0),
+    }
+}
+
+fn are_last(deliveries: &[Message], events: &[Event]) -> bool {
+    let before = events.len().saturating_sub(deliveries.len());
+    deliveries
+        .iter()
+        .zip(events.iter().skip(before))
+        .all(is_delivery_of)
+}
+
+fn is_delivery_of(both: (&Message, &Event)) -> bool {
+    match both {
+        (message, Event::Deliver(delivered)) => is_same_message(message, delivered),
+        (_, Event::Cast(_)) => false,
+    }
 }
 
 /// Both have the same history, and what is read of them is the same.
-fn are_same(rt: &impl Abort, one: Member, other: Member) {
+fn are_same(rt: &impl Abort, one: &Member, other: Member) {
     assert_eq!(rt; one.time().as_slice(), other.time().as_slice());
     assert_eq!(rt; one.stable(), other.stable());
-    assert_eq!(rt; one.events().len(), other.events().len());
-    let (one, other) = (one.into_history(), other.into_history());
-    let are_same = one.entries.as_slice() == other.entries.as_slice();
-    drop(one);
+    assert!(rt; are_same_events(one.events(), other.events()));
+    let other = other.into_history();
+    let are_same = one.history() == other.entries.as_slice();
     drop(other);
     assert!(rt; are_same);
 }
