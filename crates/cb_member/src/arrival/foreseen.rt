@@ -45,7 +45,8 @@ impl State {
 }
 
 fn alone(alloc: Global, cast: &Cast, time: &VectorTime) -> Result<Vec<Message>, NoMemory>
-    ensures { IfOk result (λ copies. copies.items ≡ message_at (cast_fields cast.now) time.now ∷ []) }
+    ensures { IfOk result (λ copies. copies.items
+        ≡ message_at (cast_fields cast.now) time.now ∷ []) }
 {
     let message = Message {
         name: Name {
