@@ -1,27 +1,24 @@
--- Received bytes: what they do to a recorder and how they are answered.
-use Rattle.std.proofs.Common.{◌≡◌, ℕ, zero, suc, ◌+◌, ◌-◌, ◌<◌, ◌≤◌, Bool, true, false, List, [], ◌∷◌, ◌++◌, append_assoc, length, map, drop, take, Option, Some, None, Result, Ok, Err, refl, sym, ap, subst, ◌∙◌, arith, inl, inr}
+-- A cast or a status that is entered, and how the bytes that brought it are answered.
+use Rattle.std.proofs.Common.{◌≡◌, ℕ, zero, suc, ◌+◌, ◌-◌, ◌<◌, ◌≤◌, true, List, [], ◌∷◌, ◌++◌, append_assoc, length, map, drop, take, Option, Some, None, Result, Ok, refl, sym, ap, subst, ◌∙◌, arith}
 use Rattle.std.specs.Prelude.{option_map}
 use Rattle.std.specs.List.{slice_index_or}
 use Rattle.std.proofs.lemmas.List.{append-nil, append_cancel_left, drop_all, drop_at, length-append, length-map}
 use Rattle.cb_times.specs.declared.name.Name.{Name}
-use Rattle.cb_frames.specs.declared.fault.FrameFault.{FrameFault}
-use Rattle.cb_frames.specs.Fields.{CastFields, CastFrame, FrameFields, StatusFields, StatusFrame, cast_fields}
+use Rattle.cb_frames.specs.Fields.{CastFields, CastFrame, StatusFields, StatusFrame, cast_fields}
 use Rattle.cb_frames.specs.Laws.{IsBytes}
 use Rattle.cb_frames.specs.Reading.{frame_at}
 use Rattle.cb_delay.specs.declared.message.Event.{Event}
 use Rattle.cb_delay.specs.declared.message.Event.TheVariants.{Cast, Deliver}
 use Rattle.cb_delay.specs.declared.message.Message.{Message}
 use Rattle.cb_history.specs.declared.answer.ArriveRefusal.{ArriveRefusal}
-use Rattle.cb_history.specs.declared.answer.ArriveRefusal.TheVariants as refusals
-use Rattle.cb_history.specs.declared.answer.Outgoing.{Outgoing}
 use Rattle.cb_history.specs.declared.history.Entry.{Entry}
 use Rattle.cb_history.specs.Group.{Identity}
 use Rattle.cb_history.specs.Facts.{ArriveEntry, CastReceived, EntryFields, Fact, StatusReceived, arrival_said, casts_in, entry_fields, said_by}
 use Rattle.cb_history.specs.View.{message_in, view}
-use Rattle.cb_history.specs.Answers.{Accepted, ArrivalSays, answer_to, arrive_answer, deliveries, frame_answer}
+use Rattle.cb_history.specs.Answers.{Accepted, ArrivalSays, deliveries}
 use Rattle.cb_history.specs.Legal.{ToTake, arrive_entry}
 use Rattle.cb_history.specs.LegalFacts.{AreFactsOf}
-use Rattle.cb_history.specs.State.{MemberState, RefusesArrival, answer_to_arrival, entry_by, state_after}
+use Rattle.cb_history.specs.State.{MemberState, answer_to_arrival, entry_by, state_after}
 use Rattle.cb_history.proofs.Walks.{view_status}
 use Rattle.cb_member.specs.declared.arrival.course.Course.{Course}
 use Rattle.cb_member.specs.declared.arrival.course.Course.TheVariants.{Early, Waits, Alone, LetsGo}
@@ -31,18 +28,17 @@ use Rattle.cb_member.specs.declared.recorder.arriving.Named.{Named}
 use Rattle.cb_member.specs.declared.recorder.taken.Taken.{Taken}
 use Rattle.cb_member.specs.declared.recorder.taken.Wanted.{Wanted}
 use Rattle.cb_member.specs.declared.state.State.{State}
-use Rattle.cb_member.specs.Answering.{RefusesBytes}
-use Rattle.cb_member.specs.Arriving.{Answers, Changes, DeliversOn, DeliversWith, IsNew}
-use Rattle.cb_member.specs.Course.{CanGo, most}
+use Rattle.cb_member.specs.Arriving.{Changes, DeliversWith, IsNew}
 use Rattle.cb_member.specs.Foreseen.{AreCopies, JoinsEvents}
 use Rattle.cb_member.specs.Hearing.{HasHeard}
 use Rattle.cb_member.specs.Knowledge.{delivered_by}
-use Rattle.cb_member.specs.Received.{AnswersBytes, CanEnter, HasReceivedFrame, HasRoomForNames, HasTakenFor, IsEntered, count_said, deliveries_in, names_of, received_says}
+use Rattle.cb_member.specs.Received.{AnswersBytes, CanEnter, IsEntered, count_said, names_of, received_says}
 use Rattle.cb_member.specs.Recorder.{IsKept, IsSame, facts_held, held_by}
 use Rattle.cb_member.specs.State.{IsAlike, Keeps, OnAll}
+use Rattle.cb_member.proofs.Answering.{answered_with_change}
 use Rattle.cb_member.proofs.Alike.{alike_back, can_follow_alike, keeps_alike, legal_alike}
 use Rattle.cb_member.proofs.Arriving.{since_then}
-use Rattle.cb_member.proofs.Entering.{Adds, after_entry, after_none, facts_kept, facts_may_follow, kept_over, kept_with_entry, kept_with_room}
+use Rattle.cb_member.proofs.Entering.{Adds, after_entry, facts_kept, facts_may_follow, kept_over, kept_with_entry, kept_with_room}
 
 -- ---- names
 
@@ -76,63 +72,6 @@ names_done events names i so_far past =
 only_deliveries : (ms : List Message) → delivered_by (map (λ m. Deliver m) ms) ≡ ms
 only_deliveries [] = refl
 only_deliveries (m ∷ ms) = ap (λ (rest : List Message). m ∷ rest) (only_deliveries ms)
-
--- ---- bytes that are refused, or that add no entry
-
-pub answered : (r : Recorder) (bytes : List ℕ) (frame : FrameFields) → frame_at bytes ≡ Ok frame
-    → answer_to_arrival (held_by r) bytes ≡ frame_answer r.state.seat r.limit (map entry_fields r.entries.items) (facts_held r) frame
-unfolding arrive_answer
-answered r bytes frame read = ap (answer_to r.state.seat r.limit (map entry_fields r.entries.items)) read
-
-answers_so : (r : Recorder) (bytes : List ℕ) (frame : FrameFields) (answer : Result ArrivalSays ArriveRefusal) → IsKept r → frame_at bytes ≡ Ok frame → OnAll r.state (λ facts. Answers r.state.seat facts frame answer)
-    → answer_to_arrival (held_by r) bytes ≡ answer
-answers_so r bytes frame answer k read says = answered r bytes frame read ∙ says (facts_held r) (facts_kept r k) k.keeps r.limit (map entry_fields r.entries.items)
-
-refuses : (wanted : Wanted) (bytes : List ℕ) (r : Recorder) (refusal : ArriveRefusal) → IsKept r → RefusesArrival (held_by r) bytes refusal → AnswersBytes wanted bytes r r (Err refusal)
-refuses wanted bytes r refusal k refused = record { kept = k; taken = tt; refused = refused; same = refl }
-
-pub refuses_frame : (wanted : Wanted) (bytes : List ℕ) (r : Recorder) (frame : FrameFields) (refusal : ArriveRefusal) → IsKept r → frame_at bytes ≡ Ok frame
-    → OnAll r.state (λ facts. Answers r.state.seat facts frame (Err refusal)) → AnswersBytes wanted bytes r r (Err refusal)
-refuses_frame wanted bytes r frame refusal k read says = refuses wanted bytes r refusal k (inl (answers_so r bytes frame (Err refusal) k read says))
-
-fields_many : (r : Recorder) → length (map entry_fields r.entries.items) ≡ length r.entries.items
-fields_many r = length-map r.entries.items entry_fields
-
-pub refuses_full : (wanted : Wanted) (bytes : List ℕ) (r : Recorder) (frame : FrameFields) → IsKept r → frame_at bytes ≡ Ok frame
-    → OnAll r.state (λ facts. Changes r.state.seat facts frame) → r.limit ≤ length r.entries.items → AnswersBytes wanted bytes r r (Err refusals.HistoryFull)
-refuses_full wanted bytes r frame k read changes full =
-    let many = fields_many r in
-    refuses wanted bytes r refusals.HistoryFull k
-    (inl (answered r bytes frame read ∙ (changes (facts_held r) (facts_kept r k) k.keeps).full r.limit (map entry_fields r.entries.items) (omega (arith, full, many))))
-
-pub refuses_memory : (wanted : Wanted) (bytes : List ℕ) (r : Recorder) (frame : FrameFields) (refusal : ArriveRefusal) → IsKept r → frame_at bytes ≡ Ok frame → refusal ≡ refusals.NoMemory
-    → AnswersBytes wanted bytes r r (Err refusal)
-refuses_memory wanted bytes r frame refusal k read is = refuses wanted bytes r refusal k (inr (is, rw read tt))
-
--- bytes that are no frame
-pub refuses_bytes : (wanted : Wanted) (bytes : List ℕ) (r : Recorder) (refusal : ArriveRefusal) → IsKept r → RefusesBytes bytes refusal → AnswersBytes wanted bytes r r (Err refusal)
-unfolding arrive_answer
-refuses_bytes wanted bytes r refusal k (inl none) =
-    refuses wanted bytes r refusal k (inl (ap (answer_to r.state.seat r.limit (map entry_fields r.entries.items)) none.1 ∙ ap (λ (x : ArriveRefusal). Err x) (sym none.2)))
-refuses_bytes wanted bytes r refusal k (inr memory) = refuses wanted bytes r refusal k (inr memory)
-
--- where no entry is added, nothing has changed
-pub stays : (wanted : Wanted) (bytes : List ℕ) (r : Recorder) (frame : FrameFields) (says : ArrivalSays) (taken : Taken) → IsKept r → frame_at bytes ≡ Ok frame
-    → OnAll r.state (λ facts. Answers r.state.seat facts frame (Ok says)) → arrive_entry bytes (Ok says) ≡ None → received_says taken.received (deliveries_in says) ≡ says
-    → count_said taken.received ≡ length (deliveries_in says) → taken.deliveries.items ≡ deliveries_in says → taken.noted ≡ None → AnswersBytes wanted bytes r r (Ok taken)
-stays wanted bytes r frame says taken k read so none said count delivered noted =
-    let answer = answers_so r bytes frame (Ok says) k read so in
-    let no_entry : entry_by (held_by r) (ToTake bytes) ≡ None = ap (arrive_entry bytes) answer ∙ none in
-    record {
-      kept = k;
-      taken = record {
-        received_it = record { says = says; answer = answer; said = said; count = count; after = after_none r (ToTake bytes) no_entry };
-        deliveries = λ on. delivered;
-        entry = λ on. no_entry ∙ ap (option_map entry_fields) (sym noted);
-      };
-      refused = tt;
-      same = tt;
-    }
 
 -- ---- a cast that can be entered
 
@@ -215,29 +154,25 @@ entered wanted bytes arriving old new taken seen first entry e =
     let c = cast_fields arriving.cast in
     let seat = old.state.seat in
     let facts = facts_held old in
-    let fields = map entry_fields old.entries.items in
     let are = facts_kept old e.can.kept in
     let keeps = e.can.kept.keeps in
     let legal = e.can.new.legal facts are keeps in
     let ms = deliveries seat facts (CastFrame c) in
     let on = e.delivers.delivers facts legal keeps in
-    let few = e.can.few in
-    let many = fields_many old in
-    let answer : answer_to_arrival (held_by old) bytes ≡ Ok (Accepted ms true []) =
-    answered old bytes (CastFrame c) e.can.read ∙ (e.can.new.changes facts are keeps).taken old.limit fields (omega (arith, few, many)) in
+    let answer : answer_to_arrival (held_by old) bytes ≡ Ok (Accepted ms true []) = answered_with_change old bytes (CastFrame c) e.can.kept e.can.read e.can.new.changes e.can.few in
     let behind : take (length seen - first) (drop first seen) ≡ map (λ m. Deliver m) ms =
     since_then old.events.items new.events.items seen first e.seen_is e.first_is
     ∙ ap (drop (length old.events.items)) on.events ∙ drop_at old.events.items (map (λ m. Deliver m) ms) (length old.events.items) refl in
     let names : names_of (take (length seen - first) (drop first seen)) ≡ map (λ m. m.name) ms =
     ap names_of behind ∙ ap (map (λ (m : Message). m.name)) (only_deliveries ms) in
     let added : (x : Entry) (frame : List ℕ) → frame ≡ bytes → entry_fields x ≡ ArriveEntry frame (names_of (take (length seen - first) (drop first seen)))
-        → entry_by (held_by old) (ToTake bytes) ≡ Some (entry_fields x) =
+    → entry_by (held_by old) (ToTake bytes) ≡ Some (entry_fields x) =
     λ x frame same is. ap (arrive_entry bytes) answer
-        ∙ ap (λ (e : EntryFields). Some e) (sym (is ∙ ap (λ (b : List ℕ). ArriveEntry b (names_of (take (length seen - first) (drop first seen)))) same ∙ ap (λ (ns : List Name). ArriveEntry bytes ns) names)) in
+    ∙ ap (λ (e : EntryFields). Some e) (sym (is ∙ ap (λ (b : List ℕ). ArriveEntry b (names_of (take (length seen - first) (drop first seen)))) same ∙ ap (λ (ns : List Name). ArriveEntry bytes ns) names)) in
     let adds : Adds old new (ToTake bytes) entry (CastReceived c) = record {
       kept = e.can.kept;
       bytes = e.can.bytes_are;
-      few = few;
+      few = e.can.few;
       by_call = added entry arriving.entry.frame e.can.entry.frame e.entry_is;
       says = ap said_by (e.entry_is ∙ ap (λ (b : List ℕ). ArriveEntry b (names_of (take (length seen - first) (drop first seen)))) e.can.entry.frame) ∙ ap arrival_said e.can.read;
       seat = e.delivers.seat;
@@ -318,17 +253,14 @@ pub heard_well : (wanted : Wanted) (bytes : List ℕ) (s : StatusFields) (old mi
 heard_well wanted bytes s old mid new taken entry h =
     let seat = old.state.seat in
     let facts = facts_held old in
-    let fields = map entry_fields old.entries.items in
-    let few = h.few in
-    let many = fields_many old in
     let answer : answer_to_arrival (held_by old) bytes ≡ Ok (Accepted [] true []) =
-    answered old bytes (StatusFrame s) h.read ∙ (h.changes facts (facts_kept old h.kept) h.kept.keeps).taken old.limit fields (omega (arith, few, many))
+    answered_with_change old bytes (StatusFrame s) h.kept h.read h.changes h.few
     ∙ ap (λ (ms : List Message). let r : Result ArrivalSays ArriveRefusal = Ok (Accepted ms true []) in r) (none_delivered seat facts s) in
     let some : entry_by (held_by old) (ToTake bytes) ≡ Some (ArriveEntry bytes []) = ap (arrive_entry bytes) answer in
     let adds : Adds old new (ToTake bytes) entry (StatusReceived s) = record {
       kept = h.kept;
       bytes = h.bytes_are;
-      few = few;
+      few = h.few;
       by_call = some ∙ ap (λ (e : EntryFields). Some e) (sym h.entry_is);
       says = ap said_by h.entry_is ∙ ap arrival_said h.read;
       seat = h.heard.seat ∙ ap (λ (state : State). state.seat) h.same.state;

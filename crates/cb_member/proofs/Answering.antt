@@ -1,5 +1,5 @@
 -- The answer to received bytes is that to their frame; where it says no change, no entry is added.
-use Rattle.std.proofs.Common.{◌≡◌, ℕ, ◌<◌, ◌≤◌, true, List, [], None, Result, Ok, Err, inl, inr, map, length, refl, sym, ap, ◌∙◌, arith}
+use Rattle.std.proofs.Common.{◌≡◌, ℕ, ◌<◌, ◌≤◌, true, List, [], None, Result, Ok, Err, inl, inr, map, length, sym, ap, ◌∙◌, arith}
 use Rattle.std.specs.Prelude.{option_map}
 use Rattle.std.proofs.lemmas.List.{length-map}
 use Rattle.cb_frames.specs.declared.fault.FrameFault.{FrameFault}
@@ -8,19 +8,16 @@ use Rattle.cb_frames.specs.Reading.{frame_at}
 use Rattle.cb_delay.specs.declared.message.Message.{Message}
 use Rattle.cb_history.specs.declared.answer.ArriveRefusal.{ArriveRefusal}
 use Rattle.cb_history.specs.declared.answer.ArriveRefusal.TheVariants as refusals
-use Rattle.cb_history.specs.declared.history.Entry.{Entry}
-use Rattle.cb_history.specs.Group.{Identity}
-use Rattle.cb_history.specs.Facts.{EntryFields, entry_fields}
+use Rattle.cb_history.specs.Facts.{entry_fields}
 use Rattle.cb_history.specs.Answers.{ArrivalSays, Accepted, answer_to, arrive_answer, deliveries, frame_answer}
 use Rattle.cb_history.specs.Legal.{ToTake, arrive_entry}
 use Rattle.cb_history.specs.State.{RefusesArrival, answer_to_arrival, entry_by}
-use Rattle.cb_member.specs.declared.recorder.taken.Received.{Received}
 use Rattle.cb_member.specs.declared.recorder.taken.Taken.{Taken}
 use Rattle.cb_member.specs.declared.recorder.taken.Wanted.{Wanted}
 use Rattle.cb_member.specs.declared.recorder.Recorder.{Recorder}
 use Rattle.cb_member.specs.Answering.{RefusesBytes}
 use Rattle.cb_member.specs.Arriving.{Answers, Changes}
-use Rattle.cb_member.specs.Received.{AnswersBytes, HasReceivedFrame, HasTakenFor, count_said, deliveries_in, received_says}
+use Rattle.cb_member.specs.Received.{AnswersBytes, HasTakenFor, count_said, deliveries_in, received_says}
 use Rattle.cb_member.specs.Recorder.{IsKept, facts_held, held_by}
 use Rattle.cb_member.specs.State.{OnAll}
 use Rattle.cb_member.proofs.Entering.{after_none, facts_kept}

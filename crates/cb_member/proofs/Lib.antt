@@ -9,6 +9,9 @@ pub mod Draining
 pub mod Entering
 pub mod Foreseeing
 pub mod Going
+pub mod Foreseeing
+pub mod Going
+pub mod Entering
 pub mod Hearing
 pub mod Judging
 pub mod JudgingCasts

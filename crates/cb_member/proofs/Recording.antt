@@ -1,10 +1,10 @@
 -- What the calls of a recorder make before anything changes, and what is kept after them: casts and ticks.
-use Rattle.std.proofs.Common.{◌≡◌, ℕ, ◌+◌, ◌<◌, ◌≤◌, Bool, true, false, cond, ◌&&◌, leb, List, [], ◌∷◌, ◌++◌, length, map, Option, Some, None, Result, Ok, Err, refl, sym, ap, subst, ◌∙◌, arith, inl, inr}
+use Rattle.std.proofs.Common.{◌≡◌, ℕ, ◌+◌, ◌<◌, ◌≤◌, Bool, true, false, ◌&&◌, leb, List, [], ◌∷◌, ◌++◌, length, map, Some, None, Result, Ok, refl, sym, ap, subst, ◌∙◌, arith, inl, inr}
 use Rattle.std.specs.Prelude.{option_map, IsOk, nat_le, if◌then◌else◌}
 use Rattle.std.proofs.lemmas.Bool.{leb-true, leb-false, lt-leb, le-leb}
 use Rattle.std.proofs.lemmas.List.{append-nil, length-map}
 use Rattle.std.proofs.lemmas.List.FromFn.{length-map-range_with_len}
-use Rattle.cb_frames.specs.Fields.{Carried, CastFields, CastFrame, StatusFrame}
+use Rattle.cb_frames.specs.Fields.{Carried, CastFields, StatusFrame}
 use Rattle.cb_frames.specs.Laws.{IsBytes}
 use Rattle.cb_frames.specs.Text.{text_of}
 use Rattle.cb_delay.specs.declared.message.Event.{Event}
@@ -12,23 +12,19 @@ use Rattle.cb_delay.specs.declared.message.Event.TheVariants.{Cast}
 use Rattle.cb_delay.specs.declared.message.Message.{Message}
 use Rattle.cb_diffs.specs.Expansion.{expanded_time}
 use Rattle.cb_stability.specs.Sent.{room_of}
-use Rattle.cb_history.specs.declared.answer.CastDone.{CastDone}
 use Rattle.cb_history.specs.declared.answer.CastRefusal.{CastRefusal}
 use Rattle.cb_history.specs.declared.answer.CastRefusal.TheVariants as casts
-use Rattle.cb_history.specs.declared.answer.Outgoing.{Outgoing}
-use Rattle.cb_history.specs.declared.answer.Ticked.{Ticked}
-use Rattle.cb_history.specs.declared.answer.TickRefusal.{TickRefusal}
 use Rattle.cb_history.specs.declared.answer.TickRefusal.TheVariants as ticks
 use Rattle.cb_history.specs.declared.history.Entry.{Entry}
 use Rattle.cb_history.specs.declared.history.Entry.TheVariants as entries
 use Rattle.cb_history.specs.Group.{Identity}
-use Rattle.cb_history.specs.Facts.{EntryFields, Fact, OwnCast, OwnStatus, CastEntry, TickEntry, cast_said, casts_in, entry_fields, facts_of, said_by, status_said}
-use Rattle.cb_history.specs.View.{count, counts, view}
-use Rattle.cb_history.specs.Answers.{delivered, is_full, is_new_status, next_cast, requests, status_of, tick_answer}
+use Rattle.cb_history.specs.Facts.{EntryFields, Fact, OwnCast, OwnStatus, CastEntry, TickEntry, cast_said, casts_in, entry_fields, said_by, status_said}
+use Rattle.cb_history.specs.View.{count, counts}
+use Rattle.cb_history.specs.Answers.{delivered, is_new_status, next_cast, requests, status_of, tick_answer}
 use Rattle.cb_history.specs.EventLaws.{new_events}
 use Rattle.cb_history.specs.Legal.{ToCast, ToTick, cast_entry, tick_entry}
 use Rattle.cb_history.specs.LegalFacts.{AreFactsOf}
-use Rattle.cb_history.specs.State.{MemberState, HasCast, HasTicked, RefusesTick, answer_to_cast, answer_to_tick, entry_by}
+use Rattle.cb_history.specs.State.{HasTicked, RefusesTick, answer_to_cast, answer_to_tick, entry_by}
 use Rattle.cb_history.proofs.ReadBack.{cast_read, status_read}
 use Rattle.cb_history.proofs.Requests.{own_frames_have_texts}
 use Rattle.cb_history.proofs.Times.{own_casts_tell_the_view}
@@ -40,13 +36,13 @@ use Rattle.cb_member.specs.declared.recorder.EnteringCast.{EnteringCast}
 use Rattle.cb_member.specs.declared.recorder.Recorder.{Recorder}
 use Rattle.cb_member.specs.declared.recorder.Telling.{Telling}
 use Rattle.cb_member.specs.declared.state.State.{State}
-use Rattle.cb_member.specs.Casting.{next_time, next_message, next_text, CanCast, CanKeepCast, HasKept, IsCasting, IsSameButBlock, MakesCasting, RefusesExactly, RefusesPayload}
+use Rattle.cb_member.specs.Casting.{next_time, next_message, CanCast, CanKeepCast, HasKept, IsCasting, IsSameButBlock, MakesCasting, RefusesExactly, RefusesPayload}
 use Rattle.cb_member.specs.Entering.{CanEnterCast, IsCastDone, Tells}
 use Rattle.cb_member.specs.Recorder.{HasRoom, IsKept, IsSame, facts_held, held_by}
 use Rattle.cb_member.specs.State.{Keeps, OnAll}
 use Rattle.cb_member.specs.Telling.{HasReported}
 use Rattle.cb_member.proofs.Casting.{number_kept}
-use Rattle.cb_member.proofs.Entering.{Adds, after_entry, after_none, facts_kept, facts_may_follow, held_with_room, kept_over, kept_with_entry, kept_with_room, same_facts, same_held, state_kept}
+use Rattle.cb_member.proofs.Entering.{Adds, after_entry, after_none, facts_kept, facts_may_follow, kept_over, kept_with_entry, kept_with_room, same_facts, state_kept}
 use Rattle.cb_member.proofs.Judging.{casts_next, refuses_history}
 
 -- ---- room for an entry
@@ -184,7 +180,6 @@ refused_tick r is_new on news full =
     let none : leb r.limit (length (map entry_fields r.entries.items)) ≡ true = le-leb r.limit _ (omega (arith, full, many)) in
     let new : is_new_status r.state.seat (facts_held r) ≡ true = sym news ∙ on in
     inl (rw (new, none) refl)
-
 
 pub tells_well : (old new : Recorder) (telling : Telling) (is_new : Bool) (bytes : List ℕ) → IsKept old → IsSame old new → HasRoom 0 new
     → is_new ≡ is_new_status old.state.seat (facts_held old) → (is_new ≡ true → length old.entries.items < old.limit) → bytes ≡ text_of (StatusFrame (status_of old.state.seat (facts_held old)))

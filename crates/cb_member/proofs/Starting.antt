@@ -11,7 +11,7 @@ use Rattle.cb_gaps.specs.Buffer as buffers
 use Rattle.cb_gaps.specs.Buffer.{Buffer}
 use Rattle.cb_history.specs.declared.history.Entry.{Entry}
 use Rattle.cb_history.specs.Group.{Identity, IsIdentity}
-use Rattle.cb_history.specs.Facts.{Fact, entry_fields, facts_of}
+use Rattle.cb_history.specs.Facts.{entry_fields, facts_of}
 use Rattle.cb_history.specs.View.{count, view, time_of}
 use Rattle.cb_history.specs.Events.{events}
 use Rattle.cb_history.specs.Legal.{longest_history, NoEntries}
@@ -28,7 +28,7 @@ use Rattle.cb_member.specs.declared.sending.Sending.{Sending}
 use Rattle.cb_member.specs.declared.state.State.{State}
 use Rattle.cb_member.specs.declared.recorder.Recorder.{Recorder}
 use Rattle.cb_member.specs.Delivery.{IsNewDelivery}
-use Rattle.cb_member.specs.Reception.{AreSparesOf, IsNewReception, HasReceivedAll, spares_in}
+use Rattle.cb_member.specs.Reception.{AreSparesOf, IsNewReception, HasReceivedAll}
 use Rattle.cb_member.specs.Knowledge.{IsNewKnowledge, KnowsFacts}
 use Rattle.cb_member.specs.Sending.{IsNewSending, HasSent}
 use Rattle.cb_member.specs.State.{HasDelivered, IsNewState, Keeps}

@@ -1,5 +1,5 @@
 -- Own casts and statuses that are ready to be entered, and what entering does.
-use Rattle.std.specs.Prelude.{◌≡◌, ℕ, ◌<◌, true, List, [], ◌∷◌, length, Option, Some, None, option_map, if◌then◌else◌}
+use Rattle.std.specs.Prelude.{◌≡◌, ℕ, ◌<◌, true, List, ◌∷◌, length, Some, None, option_map, if◌then◌else◌}
 use Rattle.cb_frames.specs.Fields.{StatusFrame}
 use Rattle.cb_frames.specs.Laws.{IsBytes}
 use Rattle.cb_frames.specs.Text.{text_of}

@@ -1,5 +1,5 @@
 -- What is answered to received bytes, and what is made for that before anything changes.
-use Rattle.std.specs.Prelude.{◌≡◌, ℕ, ◌+◌, ◌<◌, ◌≤◌, true, Bool, List, [], ◌∷◌, ◌++◌, length, map, Option, Some, option_map, Result, Ok, Err, IfOk, IfErr, OnErr}
+use Rattle.std.specs.Prelude.{◌≡◌, ℕ, ◌<◌, ◌≤◌, true, List, [], length, map, Option, Some, option_map, Result, Ok, IfOk, IfErr, OnErr}
 use Rattle.cb_frames.specs.Fields.{CastFrame, cast_fields}
 use Rattle.cb_frames.specs.Laws.{IsBytes}
 use Rattle.cb_frames.specs.Reading.{frame_at}
@@ -8,9 +8,8 @@ use Rattle.cb_delay.specs.declared.message.Event.{Event}
 use Rattle.cb_delay.specs.declared.message.Message.{Message}
 use Rattle.cb_history.specs.declared.answer.ArriveRefusal.{ArriveRefusal}
 use Rattle.cb_history.specs.declared.answer.Outgoing.{Outgoing}
-use Rattle.cb_history.specs.declared.history.Entry.{Entry}
 use Rattle.cb_history.specs.Answers.{ArrivalSays, Accepted, Repeat}
-use Rattle.cb_history.specs.Facts.{Fact, entry_fields}
+use Rattle.cb_history.specs.Facts.{entry_fields}
 use Rattle.cb_history.specs.Legal.{ToTake}
 use Rattle.cb_history.specs.State.{MemberState, RefusesArrival, answer_to_arrival, entry_by, state_after}
 use Rattle.cb_member.specs.declared.recorder.arriving.Arriving.{Arriving}

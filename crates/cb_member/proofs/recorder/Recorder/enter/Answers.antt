@@ -1,12 +1,11 @@
-use Rattle.std.proofs.Common.{◌≡◌, ◌-◌, ◌∙◌, true, ℕ, List, length, drop, take, Some, refl, sym, ap}
-use Rattle.cb_delay.specs.declared.message.Event.{Event}
+use Rattle.std.proofs.Common.{◌≡◌, ◌-◌, ◌∙◌, true, ℕ, List, length, drop, take, Some, refl, ap}
 use Rattle.cb_history.specs.declared.history.Entry.{Entry}
 use Rattle.cb_history.specs.declared.answer.Outgoing.{Outgoing}
 use Rattle.cb_history.specs.Answers.{Accepted}
 use Rattle.cb_history.specs.Facts.{ArriveEntry, entry_fields}
 use Rattle.cb_member.specs.declared.recorder.arriving.Named.{Named}
 use Rattle.cb_member.specs.Received.{names_of}
-use Rattle.cb_member.proofs.Accepting.{EntersSo, entered, same_named, no_named}
+use Rattle.cb_member.proofs.Accepting.{entered, same_named, no_named}
 use Rattle.cb_member.proofs.recorder.Recorder.enter.Goals as goal
 use Rattle.cb_member.proofs.recorder.Recorder.enter.Goals.{in-Some, in-None}
 

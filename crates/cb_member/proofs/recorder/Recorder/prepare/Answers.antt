@@ -1,7 +1,6 @@
 use Rattle.std.proofs.Common.{◌≡◌, ℕ, true, Some, refl, sym, ap, subst, rules, tests}
 use Rattle.cb_frames.specs.Fields.{cast_fields}
 use Rattle.cb_member.specs.declared.recorder.arriving.Named.{Named}
-use Rattle.cb_member.specs.declared.state.State.{State}
 use Rattle.cb_member.specs.Course.{CanGo}
 use Rattle.cb_member.specs.Foreseen.{AreCopies}
 use Rattle.cb_member.specs.Received.{HasRoomForNames, HasRoomForWanted}

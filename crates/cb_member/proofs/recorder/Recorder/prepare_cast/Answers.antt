@@ -1,4 +1,4 @@
-use Rattle.std.proofs.Common.{◌<◌, length, refl, subst, sym, arith}
+use Rattle.std.proofs.Common.{refl, arith}
 use Rattle.std.proofs.lemmas.Result.{err_from_is_err_and}
 use Rattle.cb_member.proofs.Entering.{state_kept}
 use Rattle.cb_member.proofs.Recording.{entries_full, entries_fit, refused_payload, refused_full, no_memory, can_enter_cast}

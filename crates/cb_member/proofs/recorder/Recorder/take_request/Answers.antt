@@ -1,9 +1,9 @@
-use Rattle.std.proofs.Common.{◌≡◌, false, [], None, refl, ap, inl, inr}
+use Rattle.std.proofs.Common.{false, [], Ok, refl, ap, inl, inr}
 use Rattle.cb_frames.specs.Fields.{request_fields, RequestFrame}
 use Rattle.cb_history.specs.Answers.{Accepted}
 use Rattle.cb_member.specs.Received.{count_said, received_says}
 use Rattle.cb_member.proofs.Entering.{state_kept}
-use Rattle.cb_member.proofs.Accepting.{refuses_frame, refuses_memory, stays}
+use Rattle.cb_member.proofs.Answering.{answered_on_all, answers_refusal, answers_unchanged, out_of_memory, refused}
 use Rattle.cb_member.proofs.recorder.Recorder.take_request.Goals as goal
 
 pub answer_request-requires : goal.answer_request-requires
@@ -11,14 +11,19 @@ answer_request-requires c = state_kept c.args.self.now c.requires.kept
 
 pub returns-in-Ok : goal.returns-in-Ok
 returns-in-Ok c =
+    let frame = RequestFrame (request_fields c.args.request.now) in
+    let r = c.args.self.now in
     let is = c.unchanged.ensures in
-    stays c.args.wanted c.args.bytes.now c.args.self.now (RequestFrame (request_fields c.args.request.now)) (Accepted [] false c.in-Ok.out.items) c.unchanged.result c.requires.kept c.requires.read c.in-Ok.ensures refl
-    (ap (λ r. received_says r []) is.0) (ap count_said is.0) is.1 is.2
+    answers_unchanged c.args.wanted c.args.bytes.now r (Accepted [] false c.in-Ok.out.items) c.unchanged.result c.requires.kept
+    (answered_on_all r c.args.bytes.now frame (Ok (Accepted [] false c.in-Ok.out.items)) c.requires.kept c.requires.read c.in-Ok.ensures)
+    (record { none = refl; no_deliveries = refl; said = ap (λ r. received_says r []) is.0; count = ap count_said is.0; empty = is.1; not_noted = is.2 })
 
 pub returns-in-Err : goal.returns-in-Err
 returns-in-Err c =
     let frame = RequestFrame (request_fields c.args.request.now) in
-    elim c.in-Err.ensures [
-      | inl says ↦ refuses_frame c.args.wanted c.args.bytes.now c.args.self.now frame c.in-Err.refusal c.requires.kept c.requires.read says
-      | inr memory ↦ refuses_memory c.args.wanted c.args.bytes.now c.args.self.now frame c.in-Err.refusal c.requires.kept c.requires.read memory
-    ]
+    let r = c.args.self.now in
+    answers_refusal c.args.wanted c.args.bytes.now r r c.in-Err.refusal c.requires.kept refl
+    (elim c.in-Err.ensures [
+      | inl says ↦ refused r c.args.bytes.now frame c.in-Err.refusal c.requires.kept c.requires.read says
+      | inr memory ↦ out_of_memory r c.args.bytes.now frame c.in-Err.refusal c.requires.read memory
+    ])

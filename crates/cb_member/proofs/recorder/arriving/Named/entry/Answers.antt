@@ -29,15 +29,15 @@ loop-event-preserved c =
     let room = c.loop-event.invariant.room in
     elim c.match-event.branch [
       | in-Deliver w ↦ record {
-          names = names_more events i c.event-item.result w.in-Deliver.message c.loop-event.delivered.items _ lt c.event-item.is w.in-Deliver.is (ap (λ d. d.items) w.delivered-is ∙ w.push_reserved.ensures.items) so_far;
-          few = (let added = ap (λ (ns : List Name). length ns) (ap (λ d. d.items) w.delivered-is ∙ w.push_reserved.ensures.items) ∙ length-append c.loop-event.delivered.items (w.in-Deliver.message.name ∷ []) in omega (arith, added, few));
-          room = (let same = ap (λ d. d.capacity) w.delivered-is ∙ w.push_reserved.ensures.capacity in omega (arith, same, room));
-        }
+        names = names_more events i c.event-item.result w.in-Deliver.message c.loop-event.delivered.items _ lt c.event-item.is w.in-Deliver.is (ap (λ d. d.items) w.delivered-is ∙ w.push_reserved.ensures.items) so_far;
+        few = (let added = ap (λ (ns : List Name). length ns) (ap (λ d. d.items) w.delivered-is ∙ w.push_reserved.ensures.items) ∙ length-append c.loop-event.delivered.items (w.in-Deliver.message.name ∷ []) in omega (arith, added, few));
+        room = (let same = ap (λ d. d.capacity) w.delivered-is ∙ w.push_reserved.ensures.capacity in omega (arith, same, room));
+      }
       | in_default w ↦ record {
-          names = names_same events i c.event-item.result w.in_default.field-0 c.loop-event.delivered.items _ lt c.event-item.is w.in_default.is (ap (λ d. d.items) w.delivered-is) so_far;
-          few = (let same = ap (λ d. length d.items) w.delivered-is in omega (arith, same, few));
-          room = (let same = ap (λ d. d.capacity) w.delivered-is in omega (arith, same, room));
-        }
+        names = names_same events i c.event-item.result w.in_default.field-0 c.loop-event.delivered.items _ lt c.event-item.is w.in_default.is (ap (λ d. d.items) w.delivered-is) so_far;
+        few = (let same = ap (λ d. length d.items) w.delivered-is in omega (arith, same, few));
+        room = (let same = ap (λ d. d.capacity) w.delivered-is in omega (arith, same, room));
+      }
     ]
 
 pub returns : goal.returns
