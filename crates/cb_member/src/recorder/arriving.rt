@@ -68,6 +68,8 @@ impl Recorder {
         requires read { frame_at bytes.now ≡ Ok (CastFrame (cast_fields cast)) }
         ensures { AnswersBytes wanted bytes.now self.old self.new result }
     {
+        // asked for what is true of every text
+        each_is_a_text_or_a_fault();
         match self.state.judge_cast(&cast) {
             Ok(Judged::Repeat) => return Ok(unchanged(self.state.alloc, Received::Repeat)),
             Ok(Judged::Taken) => {}
@@ -235,11 +237,21 @@ impl Named {
                 delivered.push_reserved(message.name);
             }
         }
-        if delivered.spilled() {
-            delivered.shrink_to_fit();
+        Entry::Arrive {
+            frame,
+            delivered: fitted(delivered),
         }
-        Entry::Arrive { frame, delivered }
     }
+}
+
+/// The names with no more room than they need.
+fn fitted(mut names: Names) -> Names
+    ensures { result.items ≡ names.items }
+{
+    if names.spilled() {
+        names.shrink_to_fit();
+    }
+    names
 }
 
 /// The frame of the bytes. What is no frame is refused without memory.

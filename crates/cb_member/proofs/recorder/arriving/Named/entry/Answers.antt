@@ -42,4 +42,4 @@ loop-event-preserved c =
 
 pub returns : goal.returns
 returns c =
-    ap (λ (ns : List Name). ArriveEntry c.args.self.frame ns) (c.shrink_to_fit.ensures.items ∙ names_done c.args.events.now c.loop-event.delivered.items c.loop-event.event-index c.loop-event.invariant.names (omega (arith, c.loop-event-test.false)))
+    ap (λ (ns : List Name). ArriveEntry c.args.self.frame ns) (c.fitted.ensures ∙ names_done c.args.events.now c.loop-event.delivered.items c.loop-event.event-index c.loop-event.invariant.names (omega (arith, c.loop-event-test.false)))
