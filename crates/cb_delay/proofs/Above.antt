@@ -30,14 +30,12 @@ counted_more p a (suc n) =
     omega (arith, more, fewer, counted_more p (a + 1) n, here)
 
 -- and so it goes on where one field after another is counted
-pub counted_so_far : (p : ℕ → Bool) (n above one : ℕ) → one ≡ one_if (p n) → above ≡ count_by p (range_with_len 0 n) → above ≤ n
-    → (above + one ≡ count_by p (range_with_len 0 (n + 1))) × (above + one ≤ n + 1)
-counted_so_far p n above one here so_far few =
+pub counted_so_far : (p : ℕ → Bool) (a n above one : ℕ) → one ≡ one_if (p (a + n)) → above ≡ count_by p (range_with_len a n) → above ≤ n
+    → (above + one ≡ count_by p (range_with_len a (n + 1))) × (above + one ≤ n + 1)
+counted_so_far p a n above one here so_far few =
     let after : n + 1 ≡ suc n = omega arith in
-    let next : count_by p (range_with_len 0 (n + 1)) ≡ count_by p (range_with_len 0 (suc n)) = ap (λ k. count_by p (range_with_len 0 k)) after in
-    let at : 0 + n ≡ n = omega arith in
-    let place : one_if (p (0 + n)) ≡ one_if (p n) = ap (λ k. one_if (p k)) at in
-    (omega (arith, here, so_far, next, place, counted_more p 0 n), omega (arith, here, few, one_at_most (p n)))
+    let next : count_by p (range_with_len a (n + 1)) ≡ count_by p (range_with_len a (suc n)) = ap (λ k. count_by p (range_with_len a k)) after in
+    (omega (arith, here, so_far, next, counted_more p a n), omega (arith, here, few, one_at_most (p (a + n))))
 
 both : (b : Bool) → (b ≡ true) ⊎ (b ≡ false)
 both true = inl refl
@@ -120,21 +118,33 @@ ready_counts_one stamp now own within ready =
     one_counted (is_above (field stamp) (field now)) 0 (length now) own (omega arith) (omega (arith, within)) (own_above stamp now own ready.next)
     (λ k from upto ne. le-ltb (field now k) (field stamp k) (ready.others k ne))
 
+-- the stamp is at most the other where it is not above
+at_most_of : (stamp now : List ℕ) (k : ℕ) → is_above (field stamp) (field now) k ≡ false → field stamp k ≤ field now k
+at_most_of stamp now k fails = elim (cases_lt (field now k) (field stamp k)) [
+  | inl below ↦ absurd (differ (sym (lt-ltb (field now k) (field stamp k) below) ∙ fails))
+  | inr at_most ↦ at_most
+]
+  where
+    differ : ¬ (true ≡ false)
+    differ e = absurd cc
+
+-- of some fields from this one on, where none is above, or one field alone that is known to be
+pub none_is_above : (stamp now : List ℕ) (a n k : ℕ) → count_by (is_above (field stamp) (field now)) (range_with_len a n) ≡ 0
+    → a ≤ k → k < a + n → field stamp k ≤ field now k
+none_is_above stamp now a n k none from upto = at_most_of stamp now k (counts_nobody (is_above (field stamp) (field now)) a n k none from upto)
+
+pub no_other_is_above : (stamp now : List ℕ) (a n own k : ℕ) → count_by (is_above (field stamp) (field now)) (range_with_len a n) ≡ 1
+    → a ≤ own → own < a + n → field now own < field stamp own → a ≤ k → k < a + n → k ≢ own → field stamp k ≤ field now k
+no_other_is_above stamp now a n own k one own_from own_upto is from upto other =
+    at_most_of stamp now k
+    (counts_nobody_else (is_above (field stamp) (field now)) a n own k one own_from own_upto (lt-ltb (field now own) (field stamp own) is) from upto other)
+
 pub counts_one_ready : (stamp now : List ℕ) (own : ℕ) → own < length now → length stamp ≡ length now → field stamp own ≡ field now own + 1
     → count_by (is_above (field stamp) (field now)) (range_with_len 0 (length now)) ≡ 1 → IsReady own (field stamp) (field now)
 counts_one_ready stamp now own within fits next is = record { next = next; others = others }
   where
-    not_above : (k : ℕ) → is_above (field stamp) (field now) k ≡ false → field stamp k ≤ field now k
-    not_above k fails = elim (cases_lt (field now k) (field stamp k)) [
-      | inl below ↦ absurd (differ (sym (lt-ltb (field now k) (field stamp k) below) ∙ fails))
-      | inr at_most ↦ at_most
-    ]
-      where
-        differ : ¬ (true ≡ false)
-        differ e = absurd cc
-
     others : (k : ℕ) → k ≢ own → field stamp k ≤ field now k
     others k ne = elim (cases_lt k (length now)) [
-      | inl lt ↦ not_above k (counts_nobody_else (is_above (field stamp) (field now)) 0 (length now) own k is (omega arith) (omega (arith, within)) (own_above stamp now own next) (omega arith) (omega (arith, lt)) ne)
+      | inl lt ↦ no_other_is_above stamp now 0 (length now) own k is (omega arith) (omega (arith, within)) (omega (arith, next)) (omega arith) (omega (arith, lt)) ne
       | inr past ↦ omega (arith, get_or_past stamp k 0 (omega (arith, past, fits)))
     ]

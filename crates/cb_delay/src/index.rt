@@ -11,7 +11,7 @@ ghost use Rattle.cb_delay.specs.Lists.{list_of};
 
 use crate::members;
 use crate::message::Message;
-use crate::place::{Place, look};
+use crate::place::{EIGHT, Place, place_at};
 use cb_times::{NoMemory, VectorTime};
 use std::alloc::Global;
 use std::collections::VecDeque;
@@ -80,9 +80,9 @@ impl Index {
         requires size { length lists.now ≡ length now.now }
         requires shape { HasShape (length now.now) self.old }
         requires runs { AreRuns (map (λ list. list.items) lists.now) }
-        requires told { Tells (map (λ list. list.items) lists.now) self.old }
+        requires placed { Tells (map (λ list. list.items) lists.now) self.old }
         ensures shape { HasShape (length now.now) self.new }
-        ensures told { Tells (map (λ list. list.items) lists.now) self.new }
+        ensures placed { Tells (map (λ list. list.items) lists.now) self.new }
         ensures last { self.new.last ≡ now.now }
         ensures stale { self.new.stale ≡ 0 }
         ensures free { self.old.stale ≡ 0 → self.old.last ≡ now.now
@@ -93,7 +93,7 @@ impl Index {
             return;
         }
         self.go_to(now);
-        self.look_at_the_stale(lists);
+        self.place_the_stale(lists);
     }
 
     /// Whether nobody is ready, nor reached once one more message of this member is delivered.
@@ -118,12 +118,33 @@ impl Index {
         requires { HasShape (length now.now) self.old }
         ensures shape { HasShape (length now.now) self.new }
         ensures last { self.new.last ≡ now.now }
-        ensures told { (lists : List (List Message)) → Tells lists self.old → Tells lists self.new }
+        ensures placed { (lists : List (List Message)) → Tells lists self.old → Tells lists self.new }
         ensures looked { self.new.looked ≡ self.old.looked }
     {
-        for k in 0..now.size() {
+        let mut k = 0;
+        while k < now.size() {
+            k = self.go_on_to(now, k);
+        }
+    }
+
+    /// Makes the next eight fields that differ somewhere those of this time. It answers up to which member the fields are so.
+    fn go_on_to(&mut self, now: &VectorTime, first: u32) -> u32
+        requires shape { HasShape (length now.now) self.old }
+        requires member { first < length now.now }
+        ensures further { first < result }
+        ensures within { result ≤ length now.now }
+        ensures shape { HasShape (length now.now) self.new }
+        ensures same { ((k : ℕ) → k < first → field self.old.last k ≡ field now.now k)
+            → (k : ℕ) → k < result → field self.new.last k ≡ field now.now k }
+        ensures placed { (lists : List (List Message)) → Tells lists self.old → Tells lists self.new }
+        ensures looked { self.new.looked ≡ self.old.looked }
+    {
+        let from = same_before(self.last.as_slice(), now.as_slice(), first as usize) as u32;
+        let end = now.size().min(from + EIGHT as u32);
+        for k in from..end {
             self.set_field(k, now.get(k));
         }
+        end
     }
 
     fn set_field(&mut self, k: u32, count: u32)
@@ -131,7 +152,7 @@ impl Index {
         requires shape { HasShape (length self.old.last) self.old }
         ensures shape { HasShape (length self.old.last) self.new }
         ensures last { self.new.last ≡ slice_set self.old.last k count }
-        ensures told { (lists : List (List Message)) → Tells lists self.old → Tells lists self.new }
+        ensures placed { (lists : List (List Message)) → Tells lists self.old → Tells lists self.new }
         ensures looked { self.new.looked ≡ self.old.looked }
     {
         let before = self.last.get(k);
@@ -152,7 +173,7 @@ impl Index {
         requires more { field self.old.last k < count }
         ensures shape { HasShape (length self.old.last) self.new }
         ensures last { self.new.last ≡ slice_set self.old.last k count }
-        ensures told { (lists : List (List Message)) → Tells lists self.old → Tells lists self.new }
+        ensures placed { (lists : List (List Message)) → Tells lists self.old → Tells lists self.new }
         ensures looked { self.new.looked ≡ self.old.looked }
     {
         let walk = walk_over(self.waiting[k as usize], &self.places, k, count);
@@ -167,26 +188,27 @@ impl Index {
         requires shape { HasShape (length self.old.last) self.old }
         ensures shape { HasShape (length self.old.last) self.new }
         ensures last { self.new.last ≡ slice_set self.old.last k count }
-        ensures told { (lists : List (List Message)) → Tells lists self.old → Tells lists self.new }
+        ensures placed { (lists : List (List Message)) → Tells lists self.old → Tells lists self.new }
         ensures looked { self.new.looked ≡ self.old.looked }
     {
         self.stale = members::all(self.places.len());
         self.last.set(k, count);
     }
 
-    fn look_at_the_stale(&mut self, lists: &[VecDeque<Message>])
+    /// Looks where the candidate of each stale sender stands, so that nobody is stale.
+    fn place_the_stale(&mut self, lists: &[VecDeque<Message>])
         requires shape { HasShape (length lists.now) self.old }
         requires runs { AreRuns (map (λ list. list.items) lists.now) }
-        requires told { Tells (map (λ list. list.items) lists.now) self.old }
+        requires placed { Tells (map (λ list. list.items) lists.now) self.old }
         ensures shape { HasShape (length lists.now) self.new }
-        ensures told { Tells (map (λ list. list.items) lists.now) self.new }
+        ensures placed { Tells (map (λ list. list.items) lists.now) self.new }
         ensures last { self.new.last ≡ self.old.last }
         ensures stale { self.new.stale ≡ 0 }
         ensures counts { self.old.looked ≤ self.new.looked }
     {
         while let Some(sender) = members::first(self.stale) {
             let list = &lists[sender as usize];
-            let place = look(&mut self.looked, list, sender, &self.last);
+            let place = place_at(&mut self.looked, list, sender, &self.last);
             self.put(sender, place);
         }
     }
@@ -197,7 +219,7 @@ impl Index {
         requires shape { HasShape (length self.old.last) self.old }
         requires within { (k value : ℕ) → place ≡ Waits k value → k < length self.old.last }
         ensures shape { HasShape (length self.old.last) self.new }
-        ensures told { (lists : List (List Message)) → Tells lists self.old
+        ensures placed { (lists : List (List Message)) → Tells lists self.old
             → IsPlaced sender (list_of lists sender) self.old.last place → Tells lists self.new }
         ensures last { self.new.last ≡ self.old.last }
         ensures less { bit_at self.old.stale sender ≡ 1 → self.new.stale < self.old.stale }
@@ -208,6 +230,37 @@ impl Index {
         self.places[sender as usize] = place;
         self.stale = members::without(self.stale, sender);
     }
+}
+
+/// A member before whom all fields from `first` on are the same: it stops before the eight that differ somewhere, or the last few.
+fn same_before(before: &[u32], now: &[u32], first: usize) -> usize
+    requires size { length before.now ≡ length now.now }
+    requires few { length now.now ≤ 64 }
+    requires member { first ≤ length now.now }
+    ensures from { first ≤ result }
+    ensures within { result ≤ length now.now }
+    ensures same { (k : ℕ) → first ≤ k → k < result → field before.now k ≡ field now.now k }
+{
+    let mut k = first;
+    while k + EIGHT <= now.len() && count_differing(before, now, k) == 0 {
+        k += EIGHT;
+    }
+    k
+}
+
+/// In how many of the eight fields from `first` on the two differ. It looks at all, so that the compiler takes several at once.
+fn count_differing(before: &[u32], now: &[u32], first: usize) -> u32
+    requires size { length before.now ≡ length now.now }
+    requires within { first + 8 ≤ length now.now }
+    requires few { length now.now ≤ 64 }
+    ensures { result ≡ 0 → (k : ℕ) → first ≤ k → k < first + 8 → field before.now k ≡ field now.now k }
+{
+    let mut differing = 0;
+    for j in 0..EIGHT {
+        let k = first + j;
+        differing += u32::from(before[k] != now[k]);
+    }
+    differing
 }
 
 /// Whom a walk over those who wait for one member found.

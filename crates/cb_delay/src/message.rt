@@ -1,7 +1,7 @@
 //! A message of the group, with the name and the time that its sender gave it, and what a member does with it.
 //!
 //! Birman, Schiper and Stephenson 1991, section 5.
-ghost use Rattle.std.specs.Prelude.{◌≡◌, ◌<◌, ◌≤◌, ◌↔◌, IfOk, IsTrue, length, count_by};
+ghost use Rattle.std.specs.Prelude.{◌≡◌, ◌+◌, ◌<◌, ◌≤◌, ◌↔◌, IfOk, IsTrue, length, count_by};
 ghost use Rattle.std.specs.List.{range_with_len};
 ghost use Rattle.cb_times.specs.Order.{field};
 ghost use Rattle.cb_delay.specs.Message.{IsOfGroup};
@@ -52,18 +52,21 @@ pub fn is_ready(sender: u32, time: &VectorTime, now: &VectorTime) -> bool
 {
     let (stamps, counts) = (time.as_slice(), now.as_slice());
     let own = sender as usize;
-    counts[own].checked_add(1) == Some(stamps[own]) && count_above(stamps, counts) == 1
+    counts[own].checked_add(1) == Some(stamps[own])
+        && count_above(stamps, counts, 0, counts.len()) == 1
 }
 
-/// In how many fields the first is above the second. It looks at all of them, so that the compiler takes many at a time.
-fn count_above(stamps: &[u32], counts: &[u32]) -> u32
+/// In how many of so many fields, from `first` on, the one is above the other. It looks at all, so that the compiler takes several at once.
+pub(crate) fn count_above(stamps: &[u32], counts: &[u32], first: usize, len: usize) -> u32
     requires size { length stamps.now ≡ length counts.now }
+    requires within { first + len ≤ length counts.now }
     requires few { length counts.now ≤ 64 }
     ensures { result ≡ count_by (is_above (field stamps.now) (field counts.now))
-        (range_with_len 0 (length counts.now)) }
+        (range_with_len first len) }
 {
     let mut above = 0;
-    for k in 0..counts.len() {
+    for j in 0..len {
+        let k = first + j;
         above += u32::from(stamps[k] > counts[k]);
     }
     above

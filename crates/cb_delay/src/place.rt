@@ -1,5 +1,5 @@
 //! Where a sender's candidate stands: the message held of it that comes next after what is delivered.
-ghost use Rattle.std.specs.Prelude.{◌≡◌, ◌≢◌, ◌+◌, ◌<◌, ◌≤◌, ℕ, List, length, All, Any, IfSome, IfNone, false};
+ghost use Rattle.std.specs.Prelude.{◌≡◌, ◌≢◌, ◌+◌, ◌<◌, ◌≤◌, ℕ, List, length, All, Any, IfSome, IfNone, true, false};
 ghost use Rattle.cb_times.specs.Order.{field};
 ghost use Rattle.cb_delay.specs.Message.{IsOfGroup};
 ghost use Rattle.cb_delay.specs.declared.message.Message.{Message};
@@ -7,9 +7,12 @@ ghost use Rattle.cb_delay.specs.Lists.{IsRun};
 ghost use Rattle.cb_delay.specs.declared.place.Place.TheVariants.{Waits};
 ghost use Rattle.cb_delay.specs.Index.{IsPlaced, LacksNext, IsCandidate};
 
-use crate::message::Message;
+use crate::message::{Message, count_above};
 use cb_times::VectorTime;
 use std::collections::VecDeque;
+
+/// So many fields of two times are compared at once.
+pub const EIGHT: usize = 8;
 
 /// Where the candidate of a sender stands.
 #[derive(Clone, Copy, Debug)]
@@ -41,7 +44,7 @@ impl Place {
 /// Looks at the candidate of a sender: where it stands at this time.
 ///
 /// Only here is a held message compared with a time, and each comparison is counted, up to the greatest number.
-pub fn look(looked: &mut u64, list: &VecDeque<Message>, sender: u32, now: &VectorTime) -> Place
+pub fn place_at(looked: &mut u64, list: &VecDeque<Message>, sender: u32, now: &VectorTime) -> Place
     requires sender { sender < length now.now }
     requires run { IsRun (length now.now) sender list.now.items }
     ensures placed { IsPlaced sender list.now.items now.now result }
@@ -51,10 +54,11 @@ pub fn look(looked: &mut u64, list: &VecDeque<Message>, sender: u32, now: &Vecto
         return Place::Free;
     };
     *looked = looked.saturating_add(1);
-    stands(message, sender, now)
+    place_of_candidate(message, sender, now)
 }
 
-fn stands(message: &Message, sender: u32, now: &VectorTime) -> Place
+/// Where this candidate stands at this time.
+fn place_of_candidate(message: &Message, sender: u32, now: &VectorTime) -> Place
     requires group { IsOfGroup (length now.now) message.now }
     requires sender { message.now.name.sender ≡ sender }
     ensures { (list : List Message) → IsCandidate sender list now.now message.now
@@ -92,10 +96,40 @@ fn first_missing(sender: u32, time: &VectorTime, now: &VectorTime) -> Option<u32
     ensures missing { IfSome result (λ k. field now.now k < field time.now k) }
 {
     let (stamps, counts) = (time.as_slice(), now.as_slice());
-    for k in 0..now.size() {
+    for k in before_missing(sender, stamps, counts)..now.size() {
         if counts[k as usize] < stamps[k as usize] && k != sender {
             return Some(k);
         }
     }
     None
+}
+
+/// Of so many members nothing is missing, but for the sender. It stops before the eight of whom something is, or before the last few.
+fn before_missing(sender: u32, stamps: &[u32], counts: &[u32]) -> u32
+    requires size { length stamps.now ≡ length counts.now }
+    requires few { length counts.now ≤ 64 }
+    ensures within { result ≤ length counts.now }
+    ensures none { (k : ℕ) → k < result → k ≢ sender → field stamps.now k ≤ field counts.now k }
+{
+    let mut k = 0;
+    while k + EIGHT <= counts.len() && lacks_none_of_eight(sender, stamps, counts, k) {
+        k += EIGHT;
+    }
+    k as u32
+}
+
+/// Whether nothing is missing of the eight members from this one on, but for the sender.
+fn lacks_none_of_eight(sender: u32, stamps: &[u32], counts: &[u32], first: usize) -> bool
+    requires size { length stamps.now ≡ length counts.now }
+    requires few { length counts.now ≤ 64 }
+    requires within { first + 8 ≤ length counts.now }
+    ensures { result ≡ true → (k : ℕ) → first ≤ k → k < first + 8 → k ≢ sender
+        → field stamps.now k ≤ field counts.now k }
+{
+    let above = count_above(stamps, counts, first, EIGHT);
+    let own = sender as usize;
+    if above != 1 || own < first || first + EIGHT <= own {
+        return above == 0;
+    }
+    counts[own] < stamps[own]
 }

@@ -79,6 +79,16 @@ impl Tracked {
     {
         self.queue.next_ready(now)
     }
+
+    fn leaves_waiting(&mut self, now: &VectorTime, sender: u32) -> bool
+        requires tracked { IsTracked self.old.queue self.old.next.items }
+        requires size { length now.now ≡ self.old.queue.size }
+        requires sender { sender < self.old.queue.size }
+        ensures tracked { IsTracked self.new.queue self.new.next.items }
+        ensures size { self.new.queue.size ≡ self.old.queue.size }
+    {
+        self.queue.leaves_waiting(now, sender)
+    }
 }
 
 /// The stamps of what is held, a list for each sender.
@@ -281,6 +291,25 @@ impl Pair {
         ready == self.plain.next_ready(&self.now)
     }
 
+    /// Whether nothing may be delivered where the queue leaves all waiting, at once and after one more message of this sender.
+    fn waits_rightly(&mut self, rt: &impl Abort, alloc: Global, sender: u32) -> bool
+        requires tracked { IsTracked self.old.tracked.queue self.old.tracked.next.items }
+        requires size { length self.old.now.items ≡ self.old.tracked.queue.size }
+        requires sender { sender < length self.old.now.items }
+        ensures tracked { IsTracked self.new.tracked.queue self.new.tracked.next.items }
+        ensures size { self.new.tracked.queue.size ≡ self.old.tracked.queue.size }
+        ensures now { length self.new.now.items ≡ length self.old.now.items }
+    {
+        let time = time_at(rt, alloc, &self.now);
+        let waits = self.tracked.leaves_waiting(&time, sender);
+        drop(time);
+        let none_now = self.plain.next_ready(&self.now).is_none();
+        self.count(sender, false);
+        let none_next = self.plain.next_ready(&self.now).is_none();
+        self.count(sender, true);
+        !waits || none_now && none_next
+    }
+
     /// One call of both queues, or a change of the time; then whether they answer alike.
     fn step(
         &mut self,
@@ -333,8 +362,10 @@ fn sequence(rt: &impl Abort, alloc: Global, numbers: &mut Numbers) -> bool {
         let agrees = pair.step(rt, alloc, numbers, stride, falls);
         alike = alike && agrees;
     }
+    let sender = numbers.below(pair.now.len() as u32);
+    let waits_rightly = pair.waits_rightly(rt, alloc, sender);
     drop(pair);
-    alike
+    alike && waits_rightly
 }
 
 #[test]
@@ -365,6 +396,25 @@ fn asked(
     let ready = queue.next_ready(&time);
     drop(time);
     (ready, queue.looked())
+}
+
+/// Whether the queue leaves all waiting at the time of 64 members with this in the first field, for a message of this sender.
+fn left_waiting(
+    rt: &impl Abort,
+    alloc: Global,
+    queue: &mut DelayQueue,
+    of_0: u32,
+    sender: u32,
+) -> bool
+    requires size { queue.old.size ≡ 64 }
+    requires sender { sender < 64 }
+    ensures { queue.new.size ≡ 64 }
+{
+    let mut time = VectorTime::zero(alloc, 64).expect(rt, "memory");
+    time.set(0, of_0);
+    let waits = queue.leaves_waiting(&time, sender);
+    drop(time);
+    waits
 }
 
 fn waits_for_member_0(rt: &impl Abort, alloc: Global, sender: u32) -> Message
@@ -419,6 +469,25 @@ fn a_queue_looks_at_those_alone_that_an_answer_may_have_changed(rt: HostRuntime)
         (again, (None, 62)),
         (other, (None, 62)),
         (grown, (Some(2), 124)),
+    ] {
+        same(&rt, found, expected);
+    }
+}
+
+#[test]
+fn all_is_left_waiting_but_for_the_message_that_it_waits_for(rt: HostRuntime) {
+    let alloc = rt.alloc();
+    let mut queue = all_wait_for_member_0(&rt, alloc);
+    let another = left_waiting(&rt, alloc, &mut queue, 0, 1);
+    let waited_for = left_waiting(&rt, alloc, &mut queue, 0, 0);
+    let held = left_waiting(&rt, alloc, &mut queue, 0, 2);
+    let come = left_waiting(&rt, alloc, &mut queue, 1, 1);
+    drop(queue);
+    for (found, expected) in [
+        (another, true),
+        (waited_for, false),
+        (held, false),
+        (come, false),
     ] {
         same(&rt, found, expected);
     }

@@ -5,8 +5,8 @@ use Rattle.cb_delay.specs.Rule.{is_above}
 use Rattle.cb_delay.proofs.message.count_above.Given as goal
 
 -- the fields so far are counted
-abbrev pub invariant-loop-k : goal.invariant-loop-k
-invariant-loop-k l = record {
-  counted : l.above ≡ count_by (is_above (field l.stamps) (field l.counts)) (range_with_len 0 l.k);
-  few : l.above ≤ l.k;
+abbrev pub invariant-loop-j : goal.invariant-loop-j
+invariant-loop-j l = record {
+  counted : l.above ≡ count_by (is_above (field l.stamps) (field l.counts)) (range_with_len l.first l.j);
+  few : l.above ≤ l.j;
 }

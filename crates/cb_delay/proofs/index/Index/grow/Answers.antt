@@ -5,8 +5,8 @@ use Rattle.cb_delay.specs.Index.{place_of}
 use Rattle.cb_delay.proofs.Telling.{grown, fresh_of}
 use Rattle.cb_delay.proofs.index.Index.grow.Goals as goal
 
-pub returns-clause-told : goal.returns-clause-told
-returns-clause-told c lists told =
+pub returns-clause-placed : goal.returns-clause-placed
+returns-clause-placed c lists told =
     let row : c.args.k < length c.args.self.now.waiting.items = omega (arith, c.requires.member, c.requires.shape.time_size, c.requires.shape.waiting_size) in
     let here : c.index.result.now ≡ slice_index c.args.self.now.waiting.items c.args.k =
     c.index.ensures ∙ get_or_default c.args.self.now.waiting.items c.args.k c.index.result.now 0 row in

@@ -5,8 +5,8 @@ use Rattle.cb_delay.specs.Index.{IsTold}
 use Rattle.cb_delay.proofs.Telling.{placed_anew, written}
 use Rattle.cb_delay.proofs.index.Index.put.Goals as goal
 
-pub returns-clause-told : goal.returns-clause-told
-returns-clause-told c lists told placed =
+pub returns-clause-placed : goal.returns-clause-placed
+returns-clause-placed c lists told placed =
     let within : c.args.sender < length c.args.self.now.places.items = omega (arith, c.requires.member, c.requires.shape.time_size, c.requires.shape.places_size) in
     let lasts : c.args.self.now.waiting.len ≡ length c.wait.new.waiting = omega (arith, c.args.self.now.waiting.ok.0, c.wait.auto.waiting, c.deref_mut.ensures.len) in
     let back = written c.args.self.now.waiting.len c.wait.new.waiting (drop (length c.wait.new.waiting) c.args.self.now.waiting.items) lasts in

@@ -15,7 +15,7 @@ settle-requires-clause-runs c = rw c.deref.ensures.value c.self.invariant.0.runs
 pub returns-clause-none : goal.returns-clause-none
 returns-clause-none c waits =
     let size = rw (← c.self.view_is) at c.requires.length in
-    let told = rw c.deref.ensures.value at c.settle.ensures.told in
+    let told = rw c.deref.ensures.value at c.settle.ensures.placed in
     rw (← c.self.view_is)
     (none_ready c.self.inside.window (lists_of c.self.inside.lists.items) c.self.invariant.0 c.settle.new.self
     (subst (λ (n : ℕ). HasShape n c.settle.new.self) size c.settle.ensures.shape) told c.settle.ensures.stale
@@ -30,7 +30,7 @@ pub returns-clause-none_next : goal.returns-clause-none_next
 returns-clause-none_next c waits =
     let size = rw (← c.self.view_is) at c.requires.length in
     let below = rw (← c.self.view_is) at c.requires.sender in
-    let told = rw c.deref.ensures.value at c.settle.ensures.told in
+    let told = rw c.deref.ensures.value at c.settle.ensures.placed in
     let deques = c.self.inside.lists.items in
     let within : c.args.sender < length deques = omega (arith, below, length-lists_of deques) in
     let none_held : deque_len c.index.result.now ≡ 0 = eqb-true (deque_len c.index.result.now) 0 (sym c.is_empty.ensures ∙ c.if-not-is_empty.false) in

@@ -11,7 +11,7 @@ settle-requires-clause-runs c = rw c.deref.ensures.value c.self.invariant.0.runs
 pub returns-clause-some : goal.returns-clause-some
 returns-clause-some c =
     let size = rw (← c.self.view_is) at c.requires in
-    let told = rw c.deref.ensures.value at c.settle.ensures.told in
+    let told = rw c.deref.ensures.value at c.settle.ensures.placed in
     rw (← c.self.view_is)
     (answers_some c.self.inside.window (lists_of c.self.inside.lists.items) c.self.invariant.0 c.settle.new.self
     (subst (λ (n : ℕ). HasShape n c.settle.new.self) size c.settle.ensures.shape) told c.settle.ensures.stale
@@ -21,7 +21,7 @@ returns-clause-some c =
 pub returns-clause-none : goal.returns-clause-none
 returns-clause-none c =
     let size = rw (← c.self.view_is) at c.requires in
-    let told = rw c.deref.ensures.value at c.settle.ensures.told in
+    let told = rw c.deref.ensures.value at c.settle.ensures.placed in
     rw (← c.self.view_is)
     (answers_none c.self.inside.window (lists_of c.self.inside.lists.items) c.self.invariant.0 c.settle.new.self
     (subst (λ (n : ℕ). HasShape n c.settle.new.self) size c.settle.ensures.shape) told c.settle.ensures.stale

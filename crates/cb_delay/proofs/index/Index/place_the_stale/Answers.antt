@@ -5,10 +5,10 @@ use Rattle.cb_delay.specs.Lists.{IsRun}
 use Rattle.cb_delay.specs.Index.{HasShape, IsPlaced}
 use Rattle.cb_delay.proofs.Deques.{lists_of, list_of-deques}
 use Rattle.cb_delay.proofs.Sets.{is_member}
-use Rattle.cb_delay.proofs.index.Index.look_at_the_stale.Goals as goal
+use Rattle.cb_delay.proofs.index.Index.place_the_stale.Goals as goal
 
-pub look-place-requires-clause-run : goal.look-place-requires-clause-run
-look-place-requires-clause-run c =
+pub place_at-place-requires-clause-run : goal.place_at-place-requires-clause-run
+place_at-place-requires-clause-run c =
     let within : c.in-Some.sender < length c.args.lists.now =
     is_member (length c.args.lists.now) c.loop-sender.self.stale c.in-Some.sender c.loop-sender.invariant.shape.members c.in-Some.ensures.member in
     let size : length (lists_of c.args.lists.now) ≡ length c.loop-sender.self.last =
@@ -26,8 +26,8 @@ loop-sender-preserved c =
     let was = c.loop-sender.invariant in
     record {
       shape = subst (λ (n : ℕ). HasShape n c.put.new.self) was.shape.time_size c.put.ensures.shape;
-      told = c.put.ensures.told (lists_of c.args.lists.now) was.told
-          (subst (λ (l : List Message). IsPlaced c.in-Some.sender l c.loop-sender.self.last c.look-place.result) (sym list) c.look-place.ensures.placed);
+      placed = c.put.ensures.placed (lists_of c.args.lists.now) was.placed
+          (subst (λ (l : List Message). IsPlaced c.in-Some.sender l c.loop-sender.self.last c.place_at-place.result) (sym list) c.place_at-place.ensures.placed);
       last = c.put.ensures.last ∙ was.last;
-      counts = omega (arith, c.put.ensures.looked, c.look-place.ensures.counted, was.counts);
+      counts = omega (arith, c.put.ensures.looked, c.place_at-place.ensures.counted, was.counts);
     }
