@@ -336,8 +336,7 @@ impl Pair {
             5 => self.count(member, falls),
             _ => self.count(member, false),
         }
-        let waits_rightly = self.waits_rightly(rt, alloc, member);
-        self.agrees(rt, alloc) && waits_rightly
+        self.agrees(rt, alloc)
     }
 
     fn release(&mut self, sender: u32)
@@ -363,8 +362,10 @@ fn sequence(rt: &impl Abort, alloc: Global, numbers: &mut Numbers) -> bool {
         let agrees = pair.step(rt, alloc, numbers, stride, falls);
         alike = alike && agrees;
     }
+    let sender = numbers.below(pair.now.len() as u32);
+    let waits_rightly = pair.waits_rightly(rt, alloc, sender);
     drop(pair);
-    alike
+    alike && waits_rightly
 }
 
 #[test]
