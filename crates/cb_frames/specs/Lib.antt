@@ -7,4 +7,5 @@ pub mod Stream
 pub mod Reader
 pub mod Parts
 pub mod Laws
+pub mod StreamLaws
 pub mod FaultText
