@@ -10,3 +10,4 @@ pub mod NeverMemory
 pub mod Streams
 pub mod Longest
 pub mod StreamFronts
+pub mod Splitting

@@ -33,7 +33,7 @@ pub right_bytes : (xs ys : List ℕ) → IsBytes (xs ++ ys) → IsBytes ys
 right_bytes xs ys fits i = subst (λ (n : ℕ). n < 256) (get_or-append-add xs ys i 0) (fits (length xs + i))
 
 -- the bytes that a length counts, and those behind them
-text_bytes : (text behind : List ℕ) → IsBytes (framed text ++ behind) → IsBytes text
+pub text_bytes : (text behind : List ℕ) → IsBytes (framed text ++ behind) → IsBytes text
 text_bytes text behind fits = right_bytes (spelling (length text)) text (left_bytes (framed text) behind fits)
 
 -- ---- what stands there
