@@ -11,3 +11,4 @@ pub mod Streams
 pub mod Longest
 pub mod StreamFronts
 pub mod Splitting
+pub mod Telling
