@@ -36,12 +36,12 @@ bytes_outcome text more n s =
     cond_both (eqb n 0) (Err BadLength) _ (TextOutcome (text ++ more))
     (λ zero. inr (inr (text, more, n, s, (λ is. let none = eqb-true n 0 zero in absurd (omega (arith, is.0, none))), refl)))
     (λ some. cond_both (ltb LONGEST_FRAME n) (Err BadLength) _ (TextOutcome (text ++ more))
-      (λ long. inr (inr (text, more, n, s, (λ is. let above = ltb-true LONGEST_FRAME n long in absurd (omega (arith, is.1, above))), refl)))
-      (λ fits.
-        let is : IsLength n = (let not_zero = eqb-false n 0 some in elim (cases_lt 0 n) [ inl h ↦ h | inr h ↦ absurd (not_zero (omega (arith, h))) ], ltb-false LONGEST_FRAME n fits) in
-        cond_both (ltb (length more) n) (Ok None) (Ok (Some (take n more, drop n more))) (TextOutcome (text ++ more))
-        (λ few. inr (text, more, n, s, is, refl, ltb-true (length more) n few))
-        (λ enough. counted text more n s is (ltb-false (length more) n enough))))
+    (λ long. inr (inr (text, more, n, s, (λ is. let above = ltb-true LONGEST_FRAME n long in absurd (omega (arith, is.1, above))), refl)))
+    (λ fits.
+    let is : IsLength n = (let not_zero = eqb-false n 0 some in elim (cases_lt 0 n) [ inl h ↦ h | inr h ↦ absurd (not_zero (omega (arith, h))) ], ltb-false LONGEST_FRAME n fits) in
+    cond_both (ltb (length more) n) (Ok None) (Ok (Some (take n more, drop n more))) (TextOutcome (text ++ more))
+    (λ few. inr (text, more, n, s, is, refl, ltb-true (length more) n few))
+    (λ enough. counted text more n s is (ltb-false (length more) n enough))))
 
 number_outcome : (rest : List ℕ) (r : Result (ℕ × ℕ) NumberFault) → number_at rest ≡ r → IsBytes rest → TextOutcome rest (behind_length rest r)
 number_outcome rest (Ok x) e fits =

@@ -90,7 +90,7 @@ bytes_end : (n : ℕ) (bytes : List ℕ) → Ends (bytes_at n bytes)
 bytes_end n bytes =
     cond_both (eqb n 0) (Err BadLength) _ Ends (λ _. refl)
     (λ _. cond_both (ltb LONGEST_FRAME n) (Err BadLength) _ Ends (λ _. refl)
-      (λ _. cond_both (ltb (length bytes) n) (Ok None) (Ok (Some (take n bytes, drop n bytes))) Ends (λ _. tt) (λ _. tt)))
+    (λ _. cond_both (ltb (length bytes) n) (Ok None) (Ok (Some (take n bytes, drop n bytes))) Ends (λ _. tt) (λ _. tt)))
 
 number_ends : (rest : List ℕ) (r : Result (ℕ × ℕ) NumberFault) → Ends (behind_length rest r)
 number_ends rest (Ok x) = bytes_end x.0 (drop x.1 rest)

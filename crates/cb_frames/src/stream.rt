@@ -138,7 +138,7 @@ fn first_frame(alloc: Global, rest: &[u8]) -> Result<Option<(Framed, usize)>, St
 fn text_at(rest: &[u8]) -> Result<Option<(&[u8], &[u8])>, StreamFault>
     ensures { MatchResult result
         (λ found. MatchOption found (text_at rest.now ≡ Ok None)
-            (λ x. text_at rest.now ≡ Ok (Some (x.0.now, x.1.now))))
+        (λ x. text_at rest.now ≡ Ok (Some (x.0.now, x.1.now))))
         (λ fault. text_at rest.now ≡ Err fault) }
 {
     let (length, size) = match cb_varint::take(rest) {
