@@ -75,12 +75,7 @@ fn two_frames_come_at_once_and_one_in_two_pieces(rt: HostRuntime) {
 fn a_frame_of_any_group_is_a_frame(rt: HostRuntime) {
     let mut reader = FrameReader::new(rt.alloc());
     feed(&rt, &mut reader, b"\x08\x11\x08\x00\x01\x00\x02hi");
-    gives(
-        &rt,
-        rt.alloc(),
-        &mut reader,
-        b"\x11\x08\x00\x01\x00\x02hi",
-    );
+    gives(&rt, rt.alloc(), &mut reader, b"\x11\x08\x00\x01\x00\x02hi");
     drop(reader);
 }
 
@@ -113,10 +108,7 @@ const FAULTS: [(&[u8], StreamFault); 8] = [
         b"\x09\x11\x07\x00\x01\x00\x02hi\x08",
         StreamFault::BadFrame(FrameFault::Trailing),
     ),
-    (
-        b"\x01\x14",
-        StreamFault::BadFrame(FrameFault::UnknownKind),
-    ),
+    (b"\x01\x14", StreamFault::BadFrame(FrameFault::UnknownKind)),
 ];
 
 #[test]
