@@ -1,12 +1,12 @@
 -- No frame's text is longer than the longest frame.
-use Rattle.std.proofs.Common.{◌≡◌, ℕ, suc, ◌+◌, ◌*◌, ◌-◌, ◌<◌, ◌≤◌, List, [], ◌∷◌, ◌++◌, length, ap, ◌∙◌, arith, inl, inr}
+use Rattle.std.proofs.Common.{◌≡◌, ℕ, ◌+◌, ◌*◌, ◌-◌, ◌<◌, ◌≤◌, List, [], ◌∷◌, ◌++◌, length, ap, ◌∙◌, arith, inl, inr}
 use Rattle.std.specs.List.{AllByRecursion}
 use Rattle.std.proofs.lemmas.Bool.{cases_lt}
 use Rattle.std.proofs.lemmas.List.{length-append}
 use Rattle.cb_varint.specs.Spelling.{Spells}
 use Rattle.cb_varint.proofs.Spelled.{spelling_is}
 use Rattle.cb_varint.proofs.Turns.{length_1, length_2}
-use Rattle.cb_frames.specs.declared.frame.TheConstants.{LAST_MEMBER, LONGEST_PAYLOAD, MOST_RANGES}
+use Rattle.cb_frames.specs.declared.frame.TheConstants.{LAST_MEMBER, LONGEST_PAYLOAD}
 use Rattle.cb_frames.specs.declared.frame.Change.{Change}
 use Rattle.cb_frames.specs.declared.frame.Range.{Range}
 use Rattle.cb_frames.specs.Fields.{CastFrame, StatusFrame, RequestFrame}

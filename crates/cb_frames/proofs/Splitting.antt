@@ -9,9 +9,9 @@ use Rattle.cb_frames.specs.declared.stream.Framed.{Framed}
 use Rattle.cb_frames.specs.Fields.{FrameFields, fields_of}
 use Rattle.cb_frames.specs.Text.{IsText, text_of}
 use Rattle.cb_frames.specs.Laws.{CanBeWritten}
-use Rattle.cb_frames.specs.Stream.{framed, stream_of, Front, Found, Partial, Bad, next_at, Stream, IsFaultOf, more_of, fed}
+use Rattle.cb_frames.specs.Stream.{framed, stream_of, Front, Found, Partial, Bad, next_at, Stream, IsFaultOf, more_of}
 use Rattle.cb_frames.specs.Reader.{IsNext, Takes}
-use Rattle.cb_frames.specs.StreamLaws.{IsEnd, Splits, OneSplit, HasRead, frames_in, CutsChangeNothing}
+use Rattle.cb_frames.specs.StreamLaws.{IsEnd, OneSplit, HasRead, frames_in, CutsChangeNothing}
 use Rattle.cb_frames.proofs.Unique.{one_text, some_text}
 use Rattle.cb_frames.proofs.StreamFronts.{left_bytes, right_bytes, text_bytes, frame_found, more_changes_nothing}
 

@@ -1,7 +1,7 @@
 -- The frame, or what else, at the front of a stream.
-use Rattle.std.proofs.Common.{◌≡◌, ℕ, ◌+◌, ◌<◌, ◌≤◌, ◌-◌, List, [], ◌∷◌, ◌++◌, length, take, drop, get_or, Option, Some, None, Result, Ok, Err, refl, sym, ap, subst, ◌∙◌, append_assoc, arith, inl, inr, ◌⊎◌}
+use Rattle.std.proofs.Common.{◌≡◌, ℕ, ◌+◌, ◌<◌, ◌≤◌, List, ◌∷◌, ◌++◌, length, Option, Some, None, Result, Ok, Err, refl, ap, subst, ◌∙◌, append_assoc, arith, inl, inr}
 use Rattle.std.proofs.lemmas.Bool.{cases_lt}
-use Rattle.std.proofs.lemmas.List.{length-append, get_or_append_left, get_or-append-add, get_or_past}
+use Rattle.std.proofs.lemmas.List.{get_or_append_left, get_or-append-add, get_or_past}
 use Rattle.cb_varint.specs.declared.fault.NumberFault.{NumberFault}
 use Rattle.cb_varint.specs.declared.fault.NumberFault.TheVariants as numbers
 use Rattle.cb_varint.specs.Spelling.{IsFault}

@@ -1,5 +1,5 @@
 -- What stands at the front of a stream.
-use Rattle.std.proofs.Common.{◌≡◌, ℕ, ◌+◌, ◌<◌, ◌≤◌, ◌-◌, true, false, cond, eqb, ltb, List, [], ◌∷◌, ◌++◌, length, take, drop, get_or, Option, Some, None, Result, Ok, Err, refl, sym, ap, subst, ◌∙◌, append_assoc, arith, inl, inr, ◌⊎◌, ◌↔◌}
+use Rattle.std.proofs.Common.{◌≡◌, ℕ, ◌<◌, ◌≤◌, false, eqb, ltb, List, ◌++◌, length, take, drop, Option, Some, None, Result, Ok, Err, refl, sym, ap, subst, ◌∙◌, append_assoc, arith, inl, inr}
 use Rattle.std.proofs.lemmas.Bool.{cond_both, eqb-true, eqb-false, eq-eqb, ne_eqb, ltb-true, ltb-false, le-ltb, lt-ltb, cases_eq, cases_lt}
 use Rattle.std.proofs.lemmas.List.{take-append-drop, length-append, length-take-le}
 use Rattle.std.proofs.Math.Seq.{drop-append_seam, take-append_seam}
@@ -10,7 +10,6 @@ use Rattle.cb_varint.specs.Reading.{number_at, spelling}
 use Rattle.cb_varint.proofs.Fronts.{IsBytes, number_is_read, read_is_spelled, fault_is_there, fault_is_answered}
 use Rattle.cb_varint.proofs.Spelled.{spelled, spelling_is}
 use Rattle.cb_frames.specs.declared.frame.TheConstants.{LONGEST_FRAME}
-use Rattle.cb_frames.specs.declared.fault.FrameFault.{FrameFault}
 use Rattle.cb_frames.specs.declared.fault.StreamFault.{StreamFault}
 use Rattle.cb_frames.specs.declared.fault.StreamFault.TheVariants.{BadLength, BadFrame, NoMemory}
 use Rattle.cb_frames.specs.Stream.{framed, bytes_at, behind_length, text_at}

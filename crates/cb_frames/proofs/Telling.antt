@@ -1,5 +1,5 @@
 -- What the reader tells of the front of a stream.
-use Rattle.std.proofs.Common.{◌≡◌, ℕ, ◌+◌, ◌-◌, ◌≤◌, eqb, ltb, take, List, [], ◌∷◌, ◌++◌, length, drop, Option, Some, None, MatchOption, Result, Ok, Err, refl, sym, ap, subst, ◌∙◌, arith, inl, inr, ◌⊎◌}
+use Rattle.std.proofs.Common.{◌≡◌, ℕ, ◌+◌, ◌-◌, eqb, ltb, take, List, ◌++◌, length, drop, Option, Some, None, MatchOption, Result, Ok, Err, refl, sym, ap, subst, ◌∙◌, arith, inl, inr, ◌⊎◌}
 use Rattle.std.proofs.lemmas.Bool.{cond_both}
 use Rattle.std.proofs.lemmas.List.{length-append, drop_at}
 use Rattle.cb_varint.specs.declared.fault.NumberFault.{NumberFault}
@@ -16,7 +16,7 @@ use Rattle.cb_frames.specs.NumberFaults.{as_stream_fault}
 use Rattle.cb_frames.specs.Fields.{FrameFields, fields_of}
 use Rattle.cb_frames.specs.Text.{IsText}
 use Rattle.cb_frames.specs.Reading.{frame_at, Fails}
-use Rattle.cb_frames.specs.Stream.{framed, Front, Found, Partial, Bad, bytes_at, behind_length, as_front, front_of, text_at, next_at, Stream, IsFaultOf}
+use Rattle.cb_frames.specs.Stream.{framed, Found, Partial, Bad, bytes_at, behind_length, as_front, front_of, text_at, next_at, Stream, IsFaultOf}
 use Rattle.cb_frames.specs.Reader.{IsWhole, Tells, IsNext}
 use Rattle.cb_frames.proofs.Streams.{TextOutcome, text_outcome, text_found}
 use Rattle.cb_frames.proofs.StreamFronts.{next_of}

@@ -1,6 +1,6 @@
 -- A stream of frames: of each its length and then its text.
-use Rattle.std.specs.Prelude.{◌≡◌, ℕ, List, [], ◌∷◌, ◌++◌, length, take, drop, Option, Some, None, Result, Ok, Err, OnOk, nat_lt, ◌==◌, if◌then◌else◌}
-use Rattle.std.specs.List.{All, flat_map}
+use Rattle.std.specs.Prelude.{◌≡◌, ℕ, List, [], ◌++◌, length, take, drop, Option, Some, None, Result, Ok, Err, nat_lt, ◌==◌, if◌then◌else◌}
+use Rattle.std.specs.List.{flat_map}
 use Rattle.cb_varint.specs.declared.fault.NumberFault.{NumberFault}
 use Rattle.cb_varint.specs.declared.fault.NumberFault.TheVariants as numbers
 use Rattle.cb_varint.specs.Reading.{number_at, spelling}
@@ -9,7 +9,7 @@ use Rattle.cb_frames.specs.declared.fault.FrameFault.{FrameFault}
 use Rattle.cb_frames.specs.declared.fault.StreamFault.{StreamFault}
 use Rattle.cb_frames.specs.declared.fault.StreamFault.TheVariants.{BadLength, BadFrame}
 use Rattle.cb_frames.specs.Fields.{FrameFields}
-use Rattle.cb_frames.specs.Text.{IsText, text_of}
+use Rattle.cb_frames.specs.Text.{text_of}
 use Rattle.cb_frames.specs.Reading.{frame_at}
 
 -- ---- what is written on a stream

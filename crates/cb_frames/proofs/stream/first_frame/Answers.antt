@@ -1,4 +1,4 @@
-use Rattle.std.proofs.Common.{◌≡◌, None, Some, Ok, sym, arith, length}
+use Rattle.std.proofs.Common.{◌≡◌, None, Some, Ok, arith}
 use Rattle.std.proofs.lemmas.Result.{err_from_is_err_and}
 use Rattle.cb_frames.specs.Stream.{text_at}
 use Rattle.cb_frames.proofs.Telling.{none_of, some_of, tells_bad, tells_none, tells_whole, tells_refused, tells_found}

@@ -1,4 +1,4 @@
-use Rattle.std.proofs.Common.{Some, Err, subst}
+use Rattle.std.proofs.Common.{Err, subst}
 use Rattle.cb_frames.specs.Stream.{Stream}
 use Rattle.cb_frames.specs.Reader.{IsNext}
 use Rattle.cb_frames.proofs.Telling.{answers_again}
