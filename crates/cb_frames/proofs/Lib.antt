@@ -7,3 +7,8 @@ pub mod Unique
 pub mod Decoding
 pub mod PairsWritten
 pub mod NeverMemory
+pub mod Streams
+pub mod Longest
+pub mod StreamFronts
+pub mod Splitting
+pub mod Telling

@@ -1,7 +1,9 @@
 -- How a fault is printed: by its name.
-use Rattle.std.specs.Prelude.{ℕ, List, codes}
+use Rattle.std.specs.Prelude.{ℕ, List, ◌++◌, codes}
 use Rattle.cb_frames.specs.declared.fault.FrameFault.{FrameFault}
 use Rattle.cb_frames.specs.declared.fault.FrameFault.TheVariants as faults
+use Rattle.cb_frames.specs.declared.fault.StreamFault.{StreamFault}
+use Rattle.cb_frames.specs.declared.fault.StreamFault.TheVariants as streams
 use Rattle.cb_frames.specs.declared.fault.EncodeFault.{EncodeFault}
 use Rattle.cb_frames.specs.declared.fault.EncodeFault.TheVariants as encodes
 
@@ -18,6 +20,11 @@ fault_text faults.BadRange = codes "BadRange"
 fault_text faults.PayloadTooLong = codes "PayloadTooLong"
 fault_text faults.Trailing = codes "Trailing"
 fault_text faults.NoMemory = codes "NoMemory"
+
+abbrev pub stream_fault_text : StreamFault → List ℕ
+stream_fault_text streams.BadLength = codes "BadLength"
+stream_fault_text (streams.BadFrame fault) = codes "BadFrame(" ++ fault_text fault ++ codes ")"
+stream_fault_text streams.NoMemory = codes "NoMemory"
 
 abbrev pub encode_fault_text : EncodeFault → List ℕ
 encode_fault_text encodes.PayloadTooLong = codes "PayloadTooLong"

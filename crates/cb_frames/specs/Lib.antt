@@ -3,6 +3,9 @@ pub mod Fields
 pub mod Text
 pub mod Fault
 pub mod Reading
+pub mod Stream
+pub mod Reader
 pub mod Parts
 pub mod Laws
+pub mod StreamLaws
 pub mod FaultText

@@ -3,8 +3,9 @@
 ghost use Rattle.std.specs.Prelude.{◌≡◌, Some};
 ghost use Rattle.cb_frames.specs.declared.fault.FrameFault.TheVariants.{NoMemory};
 ghost use Rattle.cb_frames.specs.declared.fault.EncodeFault.TheVariants.{NoMemory as EncodeNoMemory};
-ghost use Rattle.cb_frames.specs.FaultText.{encode_fault_text, fault_text};
-ghost use Rattle.cb_frames.specs.NumberFaults.{as_frame_fault};
+ghost use Rattle.cb_frames.specs.declared.fault.StreamFault.TheVariants.{NoMemory as StreamNoMemory};
+ghost use Rattle.cb_frames.specs.FaultText.{encode_fault_text, fault_text, stream_fault_text};
+ghost use Rattle.cb_frames.specs.NumberFaults.{as_frame_fault, as_stream_fault};
 
 use cb_varint::NumberFault;
 use std::alloc::{AllocError, AllocFailed};
@@ -37,6 +38,17 @@ pub enum FrameFault {
     /// Bytes follow the last field.
     Trailing,
     /// Out of memory. Only bytes that are a frame can meet it.
+    NoMemory,
+}
+
+/// Why a stream goes on with no frame.
+#[derive(Clone, Copy, Debug, PartialEq, Eq, Hash)]
+pub enum StreamFault {
+    /// The length of a frame is spelled longer than it has to be, or is 0 or above the longest frame's.
+    BadLength,
+    /// So many bytes as the length says are no frame. The fault is never `NoMemory`.
+    BadFrame(FrameFault),
+    /// Out of memory. Only a length with all its bytes can meet it.
     NoMemory,
 }
 
@@ -79,6 +91,25 @@ impl<T: Drop> From<AllocFailed<T>> for FrameFault {
     }
 }
 
+impl From<FrameFault> for StreamFault {
+    ghost from_gives = { λ fault e. e ≡ as_stream_fault fault };
+
+    fn from(fault: FrameFault) -> StreamFault {
+        match fault {
+            FrameFault::NoMemory => StreamFault::NoMemory,
+            _ => StreamFault::BadFrame(fault),
+        }
+    }
+}
+
+impl From<AllocError> for StreamFault {
+    ghost from_gives = { λ _ e. e ≡ StreamNoMemory };
+
+    fn from(_refused: AllocError) -> StreamFault {
+        StreamFault::NoMemory
+    }
+}
+
 impl From<AllocError> for EncodeFault {
     ghost from_gives = { λ _ e. e ≡ EncodeNoMemory };
 
@@ -117,6 +148,20 @@ impl fmt::Display for FrameFault {
 }
 
 impl Error for FrameFault {}
+
+impl fmt::Display for StreamFault {
+    ghost output = { λ fault. Some (stream_fault_text fault) };
+
+    fn fmt<W: fmt::Write>(&self, f: &mut fmt::Formatter<W>) -> fmt::Result {
+        match self {
+            StreamFault::BadLength => f.write_str("BadLength"),
+            StreamFault::BadFrame(fault) => write!(f, "BadFrame({fault})"),
+            StreamFault::NoMemory => f.write_str("NoMemory"),
+        }
+    }
+}
+
+impl Error for StreamFault {}
 
 impl fmt::Display for EncodeFault {
     ghost output = { λ fault. Some (encode_fault_text fault) };

@@ -11,6 +11,9 @@ pub const LAST_NUMBER: u32 = 4_294_967_295;
 /// The most bytes of a payload.
 pub const LONGEST_PAYLOAD: usize = 1024;
 
+/// The most bytes of a frame: those of a cast with 63 changes and the longest payload, each of its numbers as long as it can be.
+pub const LONGEST_FRAME: usize = 1417;
+
 /// The most ranges of a request.
 pub const MOST_RANGES: usize = 32;
 

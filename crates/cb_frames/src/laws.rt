@@ -1,6 +1,7 @@
 //! The laws of texts and faults, as contracts of functions that do nothing.
 
 ghost use Rattle.cb_frames.specs.Laws.{NoneBeginsAnother, OneText, SomeText, OneFault, TextHasNoFault, EachIsTextOrFault, ReadingIsExact, ReadingNeedsNoMemory};
+ghost use Rattle.cb_frames.specs.StreamLaws.{LongestFrame, FrontIsExact, MoreChangesNothing, OneSplit, CutsChangeNothing};
 
 /// Two frames never share a text, and the text of one never begins that of another. `text_of` names the text, which exists exactly
 /// where the rules are kept and no number is too large.
@@ -18,4 +19,18 @@ pub fn each_is_a_text_or_a_fault()
     ensures one { OneFault }
     ensures reading { ReadingIsExact }
     ensures memory { ReadingNeedsNoMemory }
+{}
+
+/// At the front of a stream stands just one of a frame behind its length, less than that, and something that is neither; and what was
+/// found there is the same, whatever follows. No frame is longer than a length may be.
+pub fn a_stream_begins_with_one_thing()
+    ensures longest { LongestFrame }
+    ensures exact { FrontIsExact }
+    ensures more { MoreChangesNothing }
+{}
+
+/// Two splits of one stream into frames and a rest are one, so the frames that a reader gives do not depend on how the stream is cut.
+pub fn one_split()
+    ensures one { OneSplit }
+    ensures cuts { CutsChangeNothing }
 {}

@@ -9,9 +9,6 @@ pub mod Draining
 pub mod Entering
 pub mod Foreseeing
 pub mod Going
-pub mod Foreseeing
-pub mod Going
-pub mod Entering
 pub mod Hearing
 pub mod Judging
 pub mod JudgingCasts

@@ -196,7 +196,7 @@ fn is_too_long(rt: &impl Abort, block: &mut FrameBlock, cast: &Cast, payload: Ve
 }
 
 /// So many times this byte.
-fn many(rt: &impl Abort, alloc: Global, byte: u8, count: usize) -> Vec<u8> {
+pub fn many(rt: &impl Abort, alloc: Global, byte: u8, count: usize) -> Vec<u8> {
     vec![in alloc; byte; count].expect(rt, "memory")
 }
 
@@ -292,7 +292,7 @@ fn the_longest_cast_has_1417_bytes(rt: HostRuntime) {
     drop(changes);
 }
 
-fn longest_text(rt: &impl Abort, alloc: Global, payload: &[u8]) -> Vec<u8> {
+pub fn longest_text(rt: &impl Abort, alloc: Global, payload: &[u8]) -> Vec<u8> {
     let begin = b"\x11\xff\xff\xff\xff\x0f\x3f\xff\xff\xff\xff\x0f\x3f".as_slice();
     let middle = b"\x00\xff\xff\xff\xff\x0f";
     let mut text = text_of(rt, alloc, [begin, middle, b"\x80\x08"], 63);

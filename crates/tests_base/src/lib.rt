@@ -1,4 +1,4 @@
-//! Tests of what the base crates offer to everybody: numbers, frames, vector times, their differences, and delay queues.
+//! Tests of what the base crates offer to everybody: numbers, frames, streams of them, vector times, their differences, and delay queues.
 //!
 //! They stand in a crate of their own, so that a crate is not proved once more for its tests. It has no program, and nothing stands
 //! on it.
@@ -16,5 +16,7 @@ mod index;
 mod numbers;
 #[cfg(test)]
 mod queues;
+#[cfg(test)]
+mod streams;
 #[cfg(test)]
 mod times;
