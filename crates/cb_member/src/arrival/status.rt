@@ -127,7 +127,5 @@ fn tells_of_casts(seat: Identity, known: &VectorTime, values: &[Change]) -> bool
         (range_with_len 0 seat.group.size) }
 {
     let (me, counts) = (seat.me(), known.as_slice());
-    values
-        .iter()
-        .any(|value| value.field != me && counted(counts, value.field) < value.amount)
+    values.iter().any(|value| value.field != me && counted(counts, value.field) < value.amount)
 }
