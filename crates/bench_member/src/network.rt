@@ -43,7 +43,7 @@ impl Network {
     pub fn send_all(&mut self, from: u32, out: Vec<Outgoing>) -> Result<(), NoMemory> {
         for Outgoing { to, bytes } in out {
             match to {
-                Some(to) => self.send(to, bytes)?,
+                Some(to) => self.send(to, &bytes)?,
                 None => self.send_to_others(from, &bytes)?,
             }
         }
@@ -53,13 +53,13 @@ impl Network {
     pub fn send_to_others(&mut self, from: u32, bytes: &Bytes) -> Result<(), NoMemory> {
         for to in 0..self.size {
             if to != from {
-                self.send(to, bytes.clone()?)?;
+                self.send(to, bytes)?;
             }
         }
         Ok(())
     }
 
-    fn send(&mut self, to: u32, bytes: Bytes) -> Result<(), NoMemory> {
+    fn send(&mut self, to: u32, bytes: &Bytes) -> Result<(), NoMemory> {
         if self.random.is_one_in(self.lost) {
             return Ok(());
         }
@@ -67,7 +67,7 @@ impl Network {
         let Some(queue) = self.queues.get_mut(to as usize) else {
             return Ok(());
         };
-        queue.push(bytes)?;
+        queue.push(bytes.clone()?)?;
         let count = queue.len();
         if is_early && count > 1 {
             queue.swap(count - 2, count - 1);

@@ -96,7 +96,9 @@ impl Run {
             match member.receive(bytes) {
                 Ok(Received::Accepted { delivered, out, .. }) => {
                     self.tally.add_last(me, delivered, member.events());
-                    self.network.send_all(me, out)?;
+                    if !out.is_empty() {
+                        self.network.send_all(me, out)?;
+                    }
                 }
                 Err(ArriveRefusal::NoMemory) => return Err(AllocError),
                 Ok(Received::Repeat) | Err(_) => {}

@@ -34,19 +34,20 @@ impl Tally {
 
     fn add(&mut self, me: u32, message: &Message) {
         self.deliveries = self.deliveries.wrapping_add(1);
-        self.mix(me, message.name.sender);
-        self.mix(message.name.number, 0);
+        let begun = mixed(self.digest, me, message.name.sender);
         let (pairs, last) = message.time.as_slice().as_chunks::<2>();
+        let mut digest = mixed(begun, message.name.number, 0);
         for [low, high] in pairs {
-            self.mix(*low, *high);
+            digest = mixed(digest, *low, *high);
         }
-        for field in last {
-            self.mix(*field, 0);
+        if let Some(field) = last.first() {
+            digest = mixed(digest, *field, 0);
         }
+        self.digest = digest;
     }
+}
 
-    fn mix(&mut self, low: u32, high: u32) {
-        let word = u64::from(low) | u64::from(high) << 32;
-        self.digest = (self.digest ^ word).wrapping_mul(PRIME);
-    }
+fn mixed(digest: u64, low: u32, high: u32) -> u64 {
+    let word = u64::from(low) | u64::from(high) << 32;
+    (digest ^ word).wrapping_mul(PRIME)
 }
