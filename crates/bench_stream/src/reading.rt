@@ -72,9 +72,12 @@ fn frames_of(reader: &mut FrameReader, new: usize) -> Result<u64, Fault> {
     Ok(frames)
 }
 
-/// Feeds the stream in pieces of so many bytes, and takes each frame as soon as it is whole.
+/// Feeds the stream in pieces of so many bytes, by 0 none of it, and takes each frame as soon as it is whole.
 fn read(alloc: Global, stream: &[u8], piece: usize) -> Result<Outcome, Fault> {
     let mut outcome = Outcome::default();
+    if piece == 0 {
+        return Ok(outcome);
+    }
     let mut reader = FrameReader::new(alloc);
     for bytes in stream.chunks(piece) {
         reader.feed(bytes)?;
@@ -86,14 +89,11 @@ fn read(alloc: Global, stream: &[u8], piece: usize) -> Result<Outcome, Fault> {
     Ok(outcome)
 }
 
-/// Makes the stream, and reads it if the pieces have any bytes.
+/// Makes the stream and reads it.
 pub fn outcome_of(alloc: Global, plan: Plan) -> Result<Outcome, Fault> {
     if plan.bytes > MOST_BYTES {
         return Err(Fault::Words);
     }
     let stream = stream_of(alloc, plan.bytes)?;
-    if plan.piece == 0 {
-        return Ok(Outcome::default());
-    }
     read(alloc, stream.as_slice(), plan.piece as usize)
 }
