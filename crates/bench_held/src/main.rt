@@ -8,7 +8,7 @@ mod fault;
 mod waiting;
 
 use crate::fault::Fault;
-use crate::waiting::{MOST_HELD, Outcome, Plan, WINDOW, outcome_of};
+use crate::waiting::{Outcome, Plan, outcome_of};
 use std::env;
 use std::process::ExitCode;
 
@@ -26,9 +26,7 @@ fn plan_in_words(rt: &HostRuntime) -> Result<Plan, Fault> {
     let (held, casts) = (number(words.as_slice(), 1), number(words.as_slice(), 2));
     drop(words);
     match (held, casts) {
-        (Some(held), Some(casts)) if held <= MOST_HELD && casts <= WINDOW => {
-            Ok(Plan { held, casts })
-        }
+        (Some(held), Some(casts)) => Ok(Plan { held, casts }),
         _ => Err(Fault::Words),
     }
 }

@@ -8,8 +8,7 @@ use std::alloc::Global;
 
 const SIZE: u32 = 64;
 
-/// So many casts may a sender send while none of them is known to be delivered.
-pub const WINDOW: u32 = 256;
+const WINDOW: u32 = 256;
 
 /// Whose first cast the receiver never gets.
 const LOST: u32 = 0;
@@ -18,9 +17,6 @@ const LOST: u32 = 0;
 const FREE: u32 = 62;
 
 const RECEIVER: u32 = 63;
-
-/// A window of each member but the three above.
-pub const MOST_HELD: u32 = 61 * WINDOW;
 
 /// So many messages wait, and so many more are delivered then.
 #[derive(Clone, Copy, Drop)]
