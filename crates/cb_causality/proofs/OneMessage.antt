@@ -9,7 +9,8 @@ use Rattle.cb_causality.specs.declared.event.CausalEvent.{CausalEvent}
 use Rattle.cb_causality.specs.Events.{name_of, payload_of}
 use Rattle.cb_causality.specs.HappenedBefore.{Lists, Place, IsCastAt}
 use Rattle.cb_causality.specs.CausalMachine.{Run}
-use Rattle.cb_causality.specs.StampedMachine.{StampedLists, StampedRun, StampedStep, message_of, without_time, erased, next_message}
+use Rattle.cb_causality.specs.StampedMachine.{StampedLists, StampedRun, StampedStep, without_time, erased, next_message}
+use Rattle.cb_delay.specs.Message.{message_of}
 use Rattle.cb_causality.specs.Lists.{Appends, StandsIn}
 use Rattle.cb_causality.specs.Laws.{OwnFieldIsNumber, OneNameOnePayload, OneNameOneMessage}
 use Rattle.cb_causality.proofs.Counting.{get_map, get_map_from}

@@ -13,7 +13,8 @@ use Rattle.cb_delay.specs.declared.message.Event.TheVariants as stamped
 use Rattle.cb_causality.specs.Events.{name_of, count, next_name}
 use Rattle.cb_causality.specs.HappenedBefore.{Lists, Place, IsCastAt}
 use Rattle.cb_causality.specs.CausalMachine.{MayDeliver, Casts, Delivers, Run, Start, Then}
-use Rattle.cb_causality.specs.StampedMachine.{StampedLists, counts_of, message_of, without_time, without_times, erased, next_message, IsTimeOfList, StampedStep, StampedRun, IsTimeOf, DelayRuleAllows}
+use Rattle.cb_causality.specs.StampedMachine.{StampedLists, counts_of, without_time, without_times, erased, next_message, IsTimeOfList, StampedStep, StampedRun, IsTimeOf, DelayRuleAllows}
+use Rattle.cb_delay.specs.Message.{message_of}
 use Rattle.cb_causality.specs.Laws.{IsInOrder, TimesTellOrder, TimesCountThePast, TimesHaveSize, DelayRuleIsExact}
 use Rattle.cb_causality.proofs.Counting.{get_map, get_map_from}
 use Rattle.cb_causality.proofs.Places.{old_or_new, new_stands, cast_stays, is_place}

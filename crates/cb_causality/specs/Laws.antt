@@ -9,7 +9,8 @@ use Rattle.cb_causality.specs.declared.event.CausalEvent.{CausalEvent}
 use Rattle.cb_causality.specs.Events.{name_of, payload_of, count, numbers_of, consecutive}
 use Rattle.cb_causality.specs.HappenedBefore.{Lists, Place, IsPlace, Path, HappenedBefore}
 use Rattle.cb_causality.specs.CausalMachine.{MayDeliver, Step, Run}
-use Rattle.cb_causality.specs.StampedMachine.{StampedLists, StampedRun, message_of, erased, IsTimeOf, DelayRuleAllows}
+use Rattle.cb_causality.specs.StampedMachine.{StampedLists, StampedRun, erased, IsTimeOf, DelayRuleAllows}
+use Rattle.cb_delay.specs.Message.{message_of}
 use Rattle.cb_causality.specs.Lists.{Agree, StandsIn}
 
 -- it holds of the lists of every run of the causal machine, for every size of the group

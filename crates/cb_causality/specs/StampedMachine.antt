@@ -17,11 +17,6 @@ use Rattle.cb_causality.specs.Lists.{Appends}
 abbrev pub StampedLists : Type 0
 StampedLists = ℕ → List Event
 
--- the message that an event casts or delivers
-abbrev pub message_of : Event → Message
-message_of (Cast message) = message
-message_of (Deliver message) = message
-
 -- the event without its time
 abbrev pub without_time : Event → CausalEvent
 without_time (Cast message) = causal.Cast message.name message.payload

@@ -7,7 +7,8 @@ ghost use Rattle.cb_causality.specs.Events.{casts_of, next_name};
 ghost use Rattle.cb_times.specs.Group.{IsGroupSize};
 ghost use Rattle.cb_causality.specs.Lists.{contents, lists_in, lists_of};
 ghost use Rattle.cb_causality.specs.StampedGroup.{IsStampedGroup, IsAllowed, IsAllowedAs, DeliversStamped, IsCastIn, IsStampAfter};
-ghost use Rattle.cb_causality.specs.StampedMachine.{message_of, without_times, counts_of, CastsStamped, StampedRun};
+ghost use Rattle.cb_causality.specs.StampedMachine.{without_times, counts_of, CastsStamped, StampedRun};
+ghost use Rattle.cb_delay.specs.Message.{message_of};
 
 use crate::fault::CastFault;
 use crate::lists::{append, empty_lists, list_of};
@@ -17,15 +18,6 @@ use cb_times::{Name, NoMemory, VectorTime};
 use std::alloc::Global;
 use std::marker::Model;
 
-/// The message that an event casts or delivers.
-fn message(event: &Event) -> &Message
-    ensures { result.now ≡ message_of event.now }
-{
-    match event {
-        Event::Cast(message) | Event::Deliver(message) => message,
-    }
-}
-
 /// How many messages of a member a list has, casts and deliveries.
 fn count(events: &[Event], member: usize) -> usize
     ensures counts { result ≡ counts_of events.now member }
@@ -33,7 +25,7 @@ fn count(events: &[Event], member: usize) -> usize
 {
     events
         .iter()
-        .filter(|event| message(event).name.sender as usize == member)
+        .filter(|event| event.message().name.sender as usize == member)
         .count()
 }
 

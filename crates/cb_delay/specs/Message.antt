@@ -5,6 +5,8 @@ use Rattle.std.specs.Ordering.{nat_cmp, ordering_then}
 use Rattle.cb_times.specs.Order.{field}
 use Rattle.cb_times.specs.declared.name.Name.{Name}
 use Rattle.cb_delay.specs.declared.message.Message.{Message}
+use Rattle.cb_delay.specs.declared.message.Event.{Event}
+use Rattle.cb_delay.specs.declared.message.Event.TheVariants.{Cast, Deliver}
 
 -- first by the sender, and then by the number
 abbrev pub name_cmp : Name → Name → Ordering
@@ -15,3 +17,8 @@ pub record IsOfGroup (size : ℕ) (message : Message) : Type 0 where
   pub sender : message.name.sender < size
   pub time : length message.time ≡ size
   pub own : field message.time message.name.sender ≡ message.name.number
+
+-- the message that an event casts or delivers
+abbrev pub message_of : Event → Message
+message_of (Cast message) = message
+message_of (Deliver message) = message

@@ -4,7 +4,7 @@
 ghost use Rattle.std.specs.Prelude.{◌≡◌, ◌+◌, ◌<◌, ◌≤◌, ◌↔◌, IfOk, IsTrue, length, count_by};
 ghost use Rattle.std.specs.List.{range_with_len};
 ghost use Rattle.cb_times.specs.Order.{field};
-ghost use Rattle.cb_delay.specs.Message.{IsOfGroup};
+ghost use Rattle.cb_delay.specs.Message.{IsOfGroup, message_of};
 ghost use Rattle.cb_delay.specs.Rule.{IsReady, is_above};
 
 use bytes::Bytes;
@@ -79,4 +79,37 @@ pub enum Event {
     Cast(Message),
     /// It delivered the message of another member.
     Deliver(Message),
+}
+
+impl Event {
+    /// The message that was cast or delivered.
+    pub fn message(&self) -> &Message
+        ensures { result.now ≡ message_of self.now }
+    {
+        match self {
+            Event::Cast(message) | Event::Deliver(message) => message,
+        }
+    }
+
+    /// A copy of the event; the payload is shared. The only error is out of memory.
+    pub fn copy(&self) -> Result<Event, NoMemory>
+        ensures { IfOk result (λ copy. copy ≡ self.now) }
+    {
+        Ok(match self {
+            Event::Cast(message) => Event::Cast(message.copy()?),
+            Event::Deliver(message) => Event::Deliver(message.copy()?),
+        })
+    }
+
+    /// Copies of these events, in order, in a list whose own events are freed first.
+    pub fn copies(room: Vec<Event>, events: &[Event]) -> Result<Vec<Event>, NoMemory>
+        ensures { IfOk result (λ copies. copies.items ≡ events.now) }
+    {
+        let mut copies = room;
+        copies.clear();
+        for event in events {
+            copies.push(event.copy()?)?;
+        }
+        Ok(copies)
+    }
 }

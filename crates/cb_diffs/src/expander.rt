@@ -87,7 +87,7 @@ impl Expander {
     pub fn copy(&self) -> Result<Expander, NoMemory>
         ensures { IfOk result (λ copy. copy ≡ self.now) }
     {
-        let times = copies(*self.times.allocator(), &self.times)?;
+        let times = VectorTime::copies(*self.times.allocator(), &self.times)?;
         Ok(Expander { times })
     }
 
@@ -193,16 +193,6 @@ impl Expander {
     {
         self.times[cast.sender as usize].copy_from(time);
     }
-}
-
-fn copies(alloc: Global, times: &[VectorTime]) -> Result<Vec<VectorTime>, NoMemory>
-    ensures { IfOk result (λ copies. copies.items ≡ times.now) }
-{
-    let mut copies = Vec::with_capacity(alloc, times.len())?;
-    for time in times {
-        copies.push(time.copy()?)?;
-    }
-    Ok(copies)
 }
 
 fn are_members(size: usize, cast: &Cast) -> bool

@@ -1,6 +1,10 @@
 //! What a frame says.
 
+ghost use Rattle.std.specs.Prelude.{◌≡◌, IfOk};
+ghost use Rattle.cb_frames.specs.Fields.{cast_fields};
+
 use bytes::Bytes;
+use std::alloc::AllocError;
 
 /// The greatest member number and index of a field: a group has at most 64 members.
 pub const LAST_MEMBER: u32 = 63;
@@ -48,6 +52,21 @@ pub struct Cast {
     pub changes: Vec<Change>,
     /// What the application sends, at most 1,024 bytes.
     pub payload: Bytes,
+}
+
+impl Cast {
+    /// A second cast that says the same; its payload shares the bytes. The only error is out of memory.
+    pub fn copy(&self) -> Result<Cast, AllocError>
+        ensures { IfOk result (λ copy. cast_fields copy ≡ cast_fields self.now) }
+    {
+        Ok(Cast {
+            group: self.group,
+            sender: self.sender,
+            number: self.number,
+            changes: Vec::from_slice(*self.changes.allocator(), &self.changes)?,
+            payload: self.payload.clone()?,
+        })
+    }
 }
 
 /// What a member has delivered, sent to all others.

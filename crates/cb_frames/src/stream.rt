@@ -115,7 +115,9 @@ impl FrameReader {
         ensures { self.new ≡ self.old }
     {
         if self.start >= self.bytes.len() - self.start {
-            drop(self.bytes.drain(..self.start));
+            let rest = self.bytes.len() - self.start;
+            self.bytes.copy_within(self.start.., 0);
+            self.bytes.truncate(rest);
             self.start = 0;
         }
     }

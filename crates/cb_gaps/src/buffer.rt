@@ -220,21 +220,9 @@ fn copies(casts: &VecDeque<Cast>, places: usize) -> Result<VecDeque<Cast>, NoMem
 {
     let mut copies = VecDeque::with_capacity(*casts.allocator(), places)?;
     for cast in casts {
-        copies.push_back(copy_of(cast)?)?;
+        copies.push_back(cast.copy()?)?;
     }
     Ok(copies)
-}
-
-fn copy_of(cast: &Cast) -> Result<Cast, NoMemory>
-    ensures { IfOk result (λ copy. cast_fields copy ≡ cast_fields cast.now) }
-{
-    Ok(Cast {
-        group: cast.group,
-        sender: cast.sender,
-        number: cast.number,
-        changes: Vec::from_slice(*cast.changes.allocator(), &cast.changes)?,
-        payload: cast.payload.clone()?,
-    })
 }
 
 fn follows(number: u32, taken: u32) -> bool

@@ -286,7 +286,8 @@ impl GroupMember for Member {
     }
 
     fn events(&self) -> Result<Vec<Event>, NoMemory> {
-        copies_of(self.recorder.state.alloc, Member::events(self))
+        let events = Member::events(self);
+        Event::copies(Vec::with_capacity(self.recorder.state.alloc, events.len())?, events)
     }
 
     fn missing(&self, i: u32) -> Result<Vec<Range>, MissingFault> {
@@ -300,24 +301,4 @@ impl GroupMember for Member {
     fn entries(&self) -> Result<Vec<Entry>, NoMemory> {
         Entry::copies(self.recorder.state.alloc, self.history())
     }
-}
-
-/// Copies of these events, in order.
-fn copies_of(alloc: Global, events: &[Event]) -> Result<Vec<Event>, NoMemory>
-    ensures { IfOk result (λ copies. copies.items ≡ events.now) }
-{
-    let mut copies = Vec::with_capacity(alloc, events.len())?;
-    for event in events {
-        copies.push(copy_of(event)?)?;
-    }
-    Ok(copies)
-}
-
-fn copy_of(event: &Event) -> Result<Event, NoMemory>
-    ensures { IfOk result (λ copy. copy ≡ event.now) }
-{
-    Ok(match event {
-        Event::Cast(message) => Event::Cast(message.copy()?),
-        Event::Deliver(message) => Event::Deliver(message.copy()?),
-    })
 }

@@ -157,17 +157,7 @@ fn spares_like(spares: &Vec<Vec<VectorTime>>) -> Result<Vec<Vec<VectorTime>>, No
 {
     let mut copies = Vec::with_capacity(*spares.allocator(), spares.len())?;
     for times in spares {
-        copies.push(times_like(times)?)?;
-    }
-    Ok(copies)
-}
-
-fn times_like(times: &Vec<VectorTime>) -> Result<Vec<VectorTime>, NoMemory>
-    ensures { IfOk result (λ copies. copies.items ≡ times.now.items) }
-{
-    let mut copies = Vec::with_capacity(*times.allocator(), times.len())?;
-    for time in times {
-        copies.push(time.copy()?)?;
+        copies.push(VectorTime::copies(*times.allocator(), times)?)?;
     }
     Ok(copies)
 }

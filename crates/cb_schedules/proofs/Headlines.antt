@@ -8,7 +8,8 @@ use Rattle.cb_frames.specs.Text.{text_of}
 use Rattle.cb_frames.specs.Reading.{frame_at}
 use Rattle.cb_diffs.specs.Expansion.{expanded_field}
 use Rattle.cb_causality.specs.declared.event.CausalEvent.TheVariants as causal
-use Rattle.cb_causality.specs.StampedMachine.{without_time, message_of, counts_of, IsTimeOf}
+use Rattle.cb_causality.specs.StampedMachine.{without_time, counts_of, IsTimeOf}
+use Rattle.cb_delay.specs.Message.{message_of}
 use Rattle.cb_causality.proofs.Counting.{get_map}
 use Rattle.cb_causality.proofs.Stamps.{stamped_is_causal, times_tell_order, name_stays}
 use Rattle.cb_causality.proofs.Extending.{extension_erases}

@@ -5,7 +5,8 @@ use Rattle.cb_frames.specs.Fields.{CastFields, StatusFields, RequestFields, Cast
 use Rattle.cb_frames.specs.Text.{text_of}
 use Rattle.cb_frames.specs.Reading.{frame_at}
 use Rattle.cb_delay.specs.declared.message.Event.{Event}
-use Rattle.cb_causality.specs.StampedMachine.{message_of, counts_of}
+use Rattle.cb_causality.specs.StampedMachine.{counts_of}
+use Rattle.cb_delay.specs.Message.{message_of}
 use Rattle.cb_history.specs.declared.answer.ArriveRefusal.{ArriveRefusal}
 use Rattle.cb_history.specs.declared.answer.ArriveRefusal.TheVariants.{HistoryFull}
 use Rattle.cb_history.specs.Facts.{casts_in}

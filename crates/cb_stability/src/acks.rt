@@ -62,7 +62,7 @@ impl Acks {
     pub fn copy(&self) -> Result<Acks, NoMemory>
         ensures { IfOk result (λ copy. copy ≡ self.now) }
     {
-        let rows = copies(*self.rows.allocator(), &self.rows)?;
+        let rows = VectorTime::copies(*self.rows.allocator(), &self.rows)?;
         let minima = Vec::from_slice(*self.minima.allocator(), &self.minima)?;
         Ok(Acks { rows, minima })
     }
@@ -102,16 +102,6 @@ impl Acks {
     {
         self.minima[sender as usize].least
     }
-}
-
-fn copies(alloc: Global, rows: &[VectorTime]) -> Result<Vec<VectorTime>, NoMemory>
-    ensures { IfOk result (λ copies. copies.items ≡ rows.now) }
-{
-    let mut copies = Vec::with_capacity(alloc, rows.len())?;
-    for row in rows {
-        copies.push(row.copy()?)?;
-    }
-    Ok(copies)
 }
 
 // Where all counts are 0, all others stand at 0.

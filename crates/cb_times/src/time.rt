@@ -151,6 +151,17 @@ impl VectorTime {
         };
         Ok(VectorTime { fields })
     }
+
+    /// Second times with the same fields as these, in order.
+    pub fn copies(alloc: Global, times: &[VectorTime]) -> Result<Vec<VectorTime>, NoMemory>
+        ensures { IfOk result (λ copies. copies.items ≡ times.now) }
+    {
+        let mut copies = Vec::with_capacity(alloc, times.len())?;
+        for time in times {
+            copies.push(time.copy()?)?;
+        }
+        Ok(copies)
+    }
 }
 
 impl fmt::Display for VectorTime {

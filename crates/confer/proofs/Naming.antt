@@ -8,7 +8,8 @@ use Rattle.cb_causality.specs.declared.event.CausalEvent.TheVariants.{Cast, Deli
 use Rattle.cb_causality.specs.Events.{name_of, next_name}
 use Rattle.cb_causality.specs.HappenedBefore.{Lists}
 use Rattle.cb_causality.specs.CausalMachine.{Run, Start, Then, Casts, Delivers}
-use Rattle.cb_causality.specs.StampedMachine.{message_of, without_time}
+use Rattle.cb_causality.specs.StampedMachine.{without_time}
+use Rattle.cb_delay.specs.Message.{message_of}
 use Rattle.cb_causality.proofs.Counting.{get_map}
 use Rattle.cb_causality.proofs.Places.{old_or_new}
 use Rattle.cb_causality.proofs.Stamps.{name_stays}

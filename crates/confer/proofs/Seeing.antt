@@ -5,7 +5,7 @@ use Rattle.std.proofs.lemmas.List.Elements.{filter-append}
 use Rattle.std.proofs.lemmas.List.Sums.{fold-append}
 use Rattle.cb_times.specs.declared.name.Name.{Name}
 use Rattle.cb_delay.specs.declared.message.Event.{Event}
-use Rattle.cb_causality.specs.StampedMachine.{message_of}
+use Rattle.cb_delay.specs.Message.{message_of}
 use Rattle.cb_rooms.specs.Conference.{held}
 use Rattle.cb_rooms.specs.View.{ViewLine, lines_after, showing}
 use Rattle.cb_rooms.specs.declared.shown.Showing.{Showing}

@@ -8,7 +8,8 @@ use Rattle.cb_delay.specs.declared.message.Event.{Event}
 use Rattle.cb_delay.specs.declared.message.Event.TheVariants.{Cast, Deliver}
 use Rattle.cb_causality.specs.declared.event.CausalEvent.{CausalEvent}
 use Rattle.cb_causality.specs.Events.{name_of, payload_of}
-use Rattle.cb_causality.specs.StampedMachine.{message_of, without_time, without_times}
+use Rattle.cb_causality.specs.StampedMachine.{without_time, without_times}
+use Rattle.cb_delay.specs.Message.{message_of}
 use Rattle.cb_history.specs.View.{view}
 use Rattle.cb_rooms.specs.Conference.{Held, held}
 use Rattle.cb_rooms.specs.declared.fault.ComposeFault.{ComposeFault}

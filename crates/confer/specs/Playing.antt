@@ -4,7 +4,7 @@ use Rattle.std.specs.List.{AllByRecursion}
 use Rattle.std.specs.Str.Lines.{lines}
 use Rattle.cb_delay.specs.declared.message.Event.{Event}
 use Rattle.cb_causality.specs.declared.event.CausalEvent.{CausalEvent}
-use Rattle.cb_causality.specs.StampedMachine.{message_of}
+use Rattle.cb_delay.specs.Message.{message_of}
 use Rattle.cb_rooms.specs.Line.{LineFields, fields_of, IsPayload}
 use Rattle.cb_rooms.specs.Compose.{compose_fault}
 use Rattle.cb_rooms.specs.Conference.{held}

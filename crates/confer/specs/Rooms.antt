@@ -6,7 +6,7 @@ use Rattle.cb_delay.specs.declared.message.Event.{Event}
 use Rattle.cb_causality.specs.declared.event.CausalEvent.{CausalEvent}
 use Rattle.cb_causality.specs.declared.event.CausalEvent.TheVariants.{Cast}
 use Rattle.cb_causality.specs.Events.{name_of, payload_of}
-use Rattle.cb_causality.specs.StampedMachine.{message_of}
+use Rattle.cb_delay.specs.Message.{message_of}
 use Rattle.cb_causality.specs.HappenedBefore.{Lists}
 use Rattle.cb_rooms.specs.declared.shown.Showing.TheVariants as showings
 use Rattle.cb_rooms.specs.Line.{LineFields, SayLine, AnswerLine, IsName, IsPayload}

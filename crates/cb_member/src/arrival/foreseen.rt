@@ -38,7 +38,7 @@ impl State {
         twin.reception.reserve(cast.sender)?;
         let spare = VectorTime::zero(self.alloc, self.seat.group().size())?;
         let mut events = Vec::with_capacity(self.alloc, most)?;
-        twin.take_cast(copy_of(cast)?, Course::LetsGo { spare, most }, &mut events);
+        twin.take_cast(cast.copy()?, Course::LetsGo { spare, most }, &mut events);
         drop(twin);
         messages_of(self.alloc, events)
     }
@@ -73,16 +73,4 @@ fn messages_of(alloc: Global, events: Vec<Event>) -> Result<Vec<Message>, NoMemo
         }
     }
     Ok(messages)
-}
-
-fn copy_of(cast: &Cast) -> Result<Cast, NoMemory>
-    ensures { IfOk result (λ copy. cast_fields copy ≡ cast_fields cast.now) }
-{
-    Ok(Cast {
-        group: cast.group,
-        sender: cast.sender,
-        number: cast.number,
-        changes: Vec::from_slice(*cast.changes.allocator(), &cast.changes)?,
-        payload: cast.payload.clone()?,
-    })
 }

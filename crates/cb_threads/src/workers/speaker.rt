@@ -279,25 +279,5 @@ fn news_in(member: &Member, seen: usize) -> &[Event]
 fn events_behind(room: Vec<Event>, member: &Member, seen: usize) -> Result<Vec<Event>, NoMemory>
     ensures { IfOk result (λ news. news.items ≡ drop seen (events_in member.now)) }
 {
-    copies(room, news_in(member, seen))
-}
-
-fn copies(room: Vec<Event>, events: &[Event]) -> Result<Vec<Event>, NoMemory>
-    ensures { IfOk result (λ copies. copies.items ≡ events.now) }
-{
-    let mut copies = room;
-    copies.clear();
-    for event in events {
-        copies.push(copy(event)?)?;
-    }
-    Ok(copies)
-}
-
-fn copy(event: &Event) -> Result<Event, NoMemory>
-    ensures { IfOk result (λ copy. copy ≡ event.now) }
-{
-    Ok(match event {
-        Event::Cast(message) => Event::Cast(message.copy()?),
-        Event::Deliver(message) => Event::Deliver(message.copy()?),
-    })
+    Event::copies(room, news_in(member, seen))
 }

@@ -5,7 +5,7 @@
 
 ghost use Rattle.std.specs.Prelude.{◌≡◌, ◌≢◌, ◌≤◌, ◌+◌, [], IfOk, OnOk, MatchOption, drop, length, string_bytes};
 ghost use Rattle.std.specs.List.{AllByRecursion};
-ghost use Rattle.cb_causality.specs.StampedMachine.{message_of};
+ghost use Rattle.cb_delay.specs.Message.{message_of};
 ghost use Rattle.cb_rooms.specs.declared.fault.ComposeFault.TheVariants as compose_faults;
 ghost use Rattle.cb_rooms.specs.Conference.{held};
 ghost use Rattle.cb_rooms.specs.Line.{fields_of};
@@ -200,19 +200,10 @@ fn show_all(conference: &mut Conference, events: &[Event]) -> Result<(), NoMemor
         ≡ held conference.old.screen (lines_with conference.old.lines events.now)) }
 {
     for event in events {
-        let message = message(event);
+        let message = event.message();
         conference.show(message.name, message.payload.as_slice())?;
     }
     Ok(())
-}
-
-/// The message that was cast or delivered.
-fn message(event: &Event) -> &Message
-    ensures { result.now ≡ message_of event.now }
-{
-    match event {
-        Event::Cast(message) | Event::Deliver(message) => message,
-    }
 }
 
 fn new_world(alloc: Global, setting: Setting) -> Result<World, NoMemory>

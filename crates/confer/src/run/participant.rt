@@ -2,7 +2,7 @@
 
 ghost use Rattle.std.specs.Prelude.{◌≡◌, ◌≢◌, ◌<◌, ◌++◌, Decides, IfOk, IfSome, OnOk, OnErr, drop, filter, [], ◌∷◌, vec_len};
 ghost use Rattle.std.specs.Vec.{vec_capacity};
-ghost use Rattle.cb_causality.specs.StampedMachine.{message_of};
+ghost use Rattle.cb_delay.specs.Message.{message_of};
 ghost use Rattle.cb_rooms.specs.Conference.{held};
 ghost use Rattle.cb_rooms.specs.Line.{IsName, IsPayload, fields_of};
 ghost use Rattle.confer.specs.Talking.{Begins, RoseBy, SawAll, SawFirst, SaysNext, TalksAbout, as_orphan, as_shown, as_shown_to, is_name as has_name, messages_of, question_of};
@@ -82,7 +82,7 @@ impl Participant {
     {
         let (_, left) = news.split_at(self.ahead.min(news.len()));
         for event in left {
-            self.show(message(event))?;
+            self.show(event.message())?;
             self.ahead += 1;
         }
         Ok(())
@@ -237,12 +237,4 @@ fn is_name(name: Name) -> bool
     ensures exact { result ≡ has_name name }
 {
     name.sender < MOST_MEMBERS && name.number >= 1
-}
-
-fn message(event: &Event) -> &Message
-    ensures { result.now ≡ message_of event.now }
-{
-    match event {
-        Event::Cast(message) | Event::Deliver(message) => message,
-    }
 }

@@ -1,5 +1,5 @@
 use Rattle.std.proofs.Common.{◌≡◌, take}
-use Rattle.cb_threads.proofs.workers.speaker.copies.Given as goal
+use Rattle.cb_delay.proofs.message.Event.copies.Given as goal
 
 -- the first ones are copied
 abbrev pub invariant-loop-event : goal.invariant-loop-event
