@@ -2,6 +2,7 @@
 -- with what its member has counted, and the delay rule alone decides on a delivery. Its events are those of a member.
 use Rattle.std.specs.Prelude.{◌≡◌, ◌≢◌, ℕ, ◌<◌, List, [], map, length, slice_get, Some}
 use Rattle.cb_times.specs.Order.{field}
+use Rattle.cb_delay.specs.Message.{message_of}
 use Rattle.cb_delay.specs.Rule.{IsReady}
 use Rattle.cb_times.specs.declared.name.Name.{Name}
 use Rattle.cb_delay.specs.declared.message.Message.{Message}

@@ -175,7 +175,7 @@ impl Expander {
     /// Makes `into` the time of the sender's next cast, which is not taken by that: `take` does it.
     ///
     /// A copy of any time of the group will do for `into`.
-    pub fn look_ahead(&self, cast: &Cast, into: &mut VectorTime)
+    fn look_ahead(&self, cast: &Cast, into: &mut VectorTime)
         requires next { IsNext self.now (cast_fields cast.now) }
         requires size { length into.old ≡ length self.now }
         ensures grown { IsGrown (time_of self.now cast.now.sender) (cast_fields cast.now) into.new }

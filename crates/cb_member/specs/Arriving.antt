@@ -55,7 +55,7 @@ JudgesCast state c (Err refusal) = OnAll state (λ facts. Answers state.seat fac
 
 -- ---- delivering
 
--- with the cast among these facts their events are kept, and what it delivers joined the events
+-- the new state is one of these facts and the cast, and what the definition says that the cast delivers joined the events
 pub record DeliversOn (facts : List Fact) (c : CastFields) (old new : State) (before after : List Event) : Type 0 where
   pub keeps : Keeps (facts ++ CastReceived c ∷ []) new
   pub events : after ≡ before ++ map (λ m. Deliver m) (deliveries old.seat facts (CastFrame c))

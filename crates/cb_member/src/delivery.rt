@@ -84,7 +84,7 @@ impl Delivery {
         ensures few { vec_len events.new ≤ vec_len events.old + map.len self.old.queue.held }
     {
         'deliveries: while let Some(message) = self.deliver_next() {
-            push_within(events, Event::Deliver(message));
+            events.push_reserved(Event::Deliver(message));
         }
     }
 
@@ -101,7 +101,7 @@ impl Delivery {
         let _window = self.queue.window();
         let sender = message.name.sender;
         self.time.add_one(sender);
-        push_within(events, Event::Deliver(message));
+        events.push_reserved(Event::Deliver(message));
     }
 }
 
@@ -115,14 +115,4 @@ pub fn hold_next(queue: &mut DelayQueue, message: Message)
     // asked for what is true of every queue
     let _window = queue.window();
     queue.hold(message);
-}
-
-/// Pushes where there is room.
-pub fn push_within<T: Drop>(items: &mut Vec<T>, item: T)
-    requires { vec_len items.old + 1 ≤ vec_capacity items.old }
-    ensures items { items.new.items ≡ items.old.items ++ item ∷ [] }
-    ensures len { vec_len items.new ≡ vec_len items.old + 1 }
-    ensures capacity { vec_capacity items.old ≤ vec_capacity items.new }
-{
-    items.push_reserved(item);
 }

@@ -8,7 +8,6 @@ ghost use Rattle.cb_member.specs.Reception.{IsNewReception, IsAlike, HasPlaceFor
 ghost use Rattle.cb_member.specs.Taking.{WouldExpand, CanKeep, KeepsCast, IsReceiving, ExpandsNext, HasNoNextOf, Tells};
 ghost use Rattle.cb_member.specs.Passing.{IsInOrder, TakesAt, TakesInOrder, message_at};
 
-use crate::delivery::push_within;
 use cb_delay::Message;
 use cb_diffs::Expander;
 use cb_frames::Cast;
@@ -80,7 +79,7 @@ impl Reception {
         ensures { KeepsCast (cast_fields cast) spare self.old self.new }
     {
         let sender = cast.sender as usize;
-        push_within(&mut self.spares[sender], spare);
+        self.spares[sender].push_reserved(spare);
         let _kept = self.buffers[sender].keep(delivered, cast);
     }
 

@@ -12,7 +12,6 @@ ghost use Rattle.cb_member.specs.Entering.{CanEnterCast, IsEnteringCast, EntersC
 mod arriving;
 mod taken;
 
-use crate::delivery::push_within;
 use crate::own_cast::Casting;
 use crate::state::State;
 use crate::text::another;
@@ -147,8 +146,8 @@ impl Recorder {
         let Casting { message, out, sent } = casting;
         let name = message.name;
         self.state.keep_cast(&time, sent);
-        push_within(&mut self.events, Event::Cast(message));
-        push_within(&mut self.entries, entry);
+        self.events.push_reserved(Event::Cast(message));
+        self.entries.push_reserved(entry);
         CastDone { name, time, out }
     }
 
@@ -215,7 +214,7 @@ impl Recorder {
             return Ticked { entered, out };
         };
         self.state.report();
-        push_within(&mut self.entries, entry);
+        self.entries.push_reserved(entry);
         let entered = true;
         Ticked { entered, out }
     }

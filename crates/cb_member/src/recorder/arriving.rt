@@ -1,6 +1,6 @@
 //! Received bytes: a frame is distinguished by its kind once; what is wanted of it is made before anything changes.
 
-ghost use Rattle.std.specs.Prelude.{◌≡◌, ◌<◌, IfOk, IfErr, Ok, None, [], length};
+ghost use Rattle.std.specs.Prelude.{◌≡◌, ◌<◌, ℕ, IfOk, IfErr, List, Ok, None, [], length};
 ghost use Rattle.cb_frames.specs.Fields.{cast_fields, fields_of, request_fields, status_fields, CastFrame, RequestFrame, StatusFrame};
 ghost use Rattle.cb_frames.specs.Laws.{IsBytes};
 ghost use Rattle.cb_frames.specs.Reading.{frame_at};
@@ -10,11 +10,11 @@ ghost use Rattle.cb_member.specs.Arriving.{IsNew};
 ghost use Rattle.cb_member.specs.Recorder.{IsKept, held_by};
 ghost use Rattle.cb_member.specs.Received.{AnswersBytes, CanEnter, IsEntering, Enters, HasRoomForNames, count_said, names_of, received_says};
 ghost use Rattle.cb_history.specs.Answers.{Accepted};
+ghost use Rattle.cb_member.specs.declared.recorder.taken.Wanted.{Wanted as Wants};
 
 use crate::arrival::cast::Judged;
 use crate::arrival::course::Course;
 use crate::arrival::status;
-use crate::delivery::push_within;
 use crate::recorder::Recorder;
 use crate::recorder::taken::{Received, Taken, Wanted};
 use crate::text::another;
@@ -52,7 +52,7 @@ impl Recorder {
         match read(self.state.alloc, bytes) {
             Ok(Frame::Cast(cast)) => self.take_cast(bytes, cast, wanted),
             Ok(Frame::Status(status)) => self.take_status(bytes, &status, wanted),
-            Ok(Frame::Request(request)) => self.take_request(bytes, &request, wanted),
+            Ok(Frame::Request(request)) => self.answer(&request),
             Err(refusal) => Err(refusal),
         }
     }
@@ -135,7 +135,7 @@ impl Recorder {
             None => None,
         };
         let entry = entry.entry(delivered);
-        push_within(&mut self.entries, entry);
+        self.entries.push_reserved(entry);
         let received = Received::Accepted {
             delivered: self.events.len() - first,
             changed: true,
@@ -180,7 +180,7 @@ impl Recorder {
         };
         self.reserve(0)?;
         self.state.hear(status);
-        push_within(&mut self.entries, entry);
+        self.entries.push_reserved(entry);
         Ok(Taken {
             received: nothing(self.state.alloc, true),
             deliveries: Vec::new(self.state.alloc),
@@ -188,15 +188,12 @@ impl Recorder {
         })
     }
 
-    fn take_request(
-        &self,
-        bytes: &Bytes,
-        request: &Request,
-        wanted: Wanted,
-    ) -> Result<Taken, ArriveRefusal>
-        requires kept { IsKept self.now }
-        requires read { frame_at bytes.now ≡ Ok (RequestFrame (request_fields request.now)) }
-        ensures { AnswersBytes wanted bytes.now self.now self.now result }
+    /// What is sent in answer to a request, which changes nothing.
+    fn answer(&self, request: &Request) -> Result<Taken, ArriveRefusal>
+        requires { IsKept self.now }
+        ensures { (wanted : Wants) (bytes : List ℕ)
+            → frame_at bytes ≡ Ok (RequestFrame (request_fields request.now))
+            → AnswersBytes wanted bytes self.now self.now result }
     {
         match self.state.answer_request(request) {
             Ok(out) => Ok(unchanged(

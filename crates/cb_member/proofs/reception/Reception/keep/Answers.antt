@@ -14,8 +14,8 @@ index_mut-requires c =
     let place = c.requires.place in
     omega (arith, slice_get_within c.args.self.now.spares.items c.args.cast.sender place.times place.at, c.args.self.now.spares.ok.0)
 
-pub push_within-requires : goal.push_within-requires
-push_within-requires c =
+pub push_reserved-requires : goal.push_reserved-requires
+push_reserved-requires c =
     let place = c.requires.place in
     let lt = slice_get_within c.args.self.now.spares.items c.args.cast.sender place.times place.at in
     let is : place.times ≡ c.index_mut.result.now =
@@ -50,7 +50,7 @@ returns c seat facts are all size =
       buffers = refl;
       expander = refl;
       at_stack = stack_at c.args.self.now sender c.index_mut.result.now (vec_at spares sender c.index_mut.result.now lt_too c.index_mut.ensures.value);
-      spares = map-set (λ (times : Vec (List ℕ) Global). times.items) spares sender c.push_within.new.items
-          ∙ ap (set (map (λ (times : Vec (List ℕ) Global). times.items) spares) sender) c.push_within.ensures.items;
+      spares = map-set (λ (times : Vec (List ℕ) Global). times.items) spares sender c.push_reserved.new.items
+          ∙ ap (set (map (λ (times : Vec (List ℕ) Global). times.items) spares) sender) c.push_reserved.ensures.items;
     })
     c.args.delivered c.keep-kept.result can c.keep-kept.ensures.answer c.keep-kept.ensures.after seat facts are all size

@@ -6,4 +6,4 @@ pub keep_cast-requires : goal.keep_cast-requires
 keep_cast-requires c = can_keep_cast c.args.self.now c.requires.payload c.args.entering c.requires.can
 
 pub returns : goal.returns
-returns c payload can = cast_done_well c.args.self.now _ payload c.args.entering can c.keep_cast.ensures refl c.push_within-2.ensures.items c.push_within.ensures.items
+returns c payload can = cast_done_well c.args.self.now _ payload c.args.entering can c.keep_cast.ensures refl c.push_reserved-2.ensures.items c.push_reserved.ensures.items

@@ -4,26 +4,26 @@ use Rattle.cb_history.specs.Answers.{Accepted}
 use Rattle.cb_member.specs.Received.{count_said, received_says}
 use Rattle.cb_member.proofs.Entering.{state_kept}
 use Rattle.cb_member.proofs.Answering.{answered_on_all, answers_refusal, answers_unchanged, out_of_memory, refused}
-use Rattle.cb_member.proofs.recorder.Recorder.take_request.Goals as goal
+use Rattle.cb_member.proofs.recorder.Recorder.answer.Goals as goal
 
 pub answer_request-requires : goal.answer_request-requires
-answer_request-requires c = state_kept c.args.self.now c.requires.kept
+answer_request-requires c = state_kept c.args.self.now c.requires
 
 pub returns-in-Ok : goal.returns-in-Ok
-returns-in-Ok c =
+returns-in-Ok c wanted bytes read =
     let frame = RequestFrame (request_fields c.args.request.now) in
     let r = c.args.self.now in
     let is = c.unchanged.ensures in
-    answers_unchanged c.args.wanted c.args.bytes.now r (Accepted [] false c.in-Ok.out.items) c.unchanged.result c.requires.kept
-    (answered_on_all r c.args.bytes.now frame (Ok (Accepted [] false c.in-Ok.out.items)) c.requires.kept c.requires.read c.in-Ok.ensures)
+    answers_unchanged wanted bytes r (Accepted [] false c.in-Ok.out.items) c.unchanged.result c.requires
+    (answered_on_all r bytes frame (Ok (Accepted [] false c.in-Ok.out.items)) c.requires read c.in-Ok.ensures)
     (record { none = refl; no_deliveries = refl; said = ap (λ r. received_says r []) is.0; count = ap count_said is.0; empty = is.1; not_noted = is.2 })
 
 pub returns-in-Err : goal.returns-in-Err
-returns-in-Err c =
+returns-in-Err c wanted bytes read =
     let frame = RequestFrame (request_fields c.args.request.now) in
     let r = c.args.self.now in
-    answers_refusal c.args.wanted c.args.bytes.now r r c.in-Err.refusal c.requires.kept refl
+    answers_refusal wanted bytes r r c.in-Err.refusal c.requires refl
     (elim c.in-Err.ensures [
-      | inl says ↦ refused r c.args.bytes.now frame c.in-Err.refusal c.requires.kept c.requires.read says
-      | inr memory ↦ out_of_memory r c.args.bytes.now frame c.in-Err.refusal c.requires.read memory
+      | inl says ↦ refused r bytes frame c.in-Err.refusal c.requires read says
+      | inr memory ↦ out_of_memory r bytes frame c.in-Err.refusal read memory
     ])
