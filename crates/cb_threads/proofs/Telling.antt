@@ -5,7 +5,7 @@ use Rattle.cb_history.specs.Facts.{EntryFields}
 use Rattle.cb_lock.specs.Receipts.{ReceiptFields, SeatState}
 use Rattle.cb_lock.specs.Claims.{receipts_of}
 use Rattle.cb_threads.specs.declared.report.Tally.{Tally}
-use Rattle.cb_threads.specs.Counts.{greatest, held}
+use Rattle.cb_links.specs.Counts.{greatest, held}
 use Rattle.cb_threads.specs.Reports.{casts_of, deliveries_of, entries_in, entries_reported, Adds, IsTally, no_tally}
 
 -- the counts with all of these entries

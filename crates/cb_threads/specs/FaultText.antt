@@ -2,16 +2,10 @@
 use Rattle.std.specs.Prelude.{ℕ, List, ◌++◌, codes}
 use Rattle.std.specs.Fmt.{decimal}
 use Rattle.cb_lock.specs.FaultText.{close_fault_text}
-use Rattle.cb_threads.specs.declared.link.LinkFault.{LinkFault}
-use Rattle.cb_threads.specs.declared.link.LinkFault.TheVariants as links
 use Rattle.cb_threads.specs.declared.report.WorkerFault.{WorkerFault}
 use Rattle.cb_threads.specs.declared.report.WorkerFault.TheVariants as workers
 use Rattle.cb_threads.specs.declared.group.GroupFault.{GroupFault}
 use Rattle.cb_threads.specs.declared.group.GroupFault.TheVariants as groups
-
-abbrev pub link_fault_text : LinkFault → List ℕ
-link_fault_text links.Device = codes "Device"
-link_fault_text links.NoMemory = codes "NoMemory"
 
 abbrev pub worker_fault_text : WorkerFault → List ℕ
 worker_fault_text workers.NoThread = codes "NoThread"

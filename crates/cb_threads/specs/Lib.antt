@@ -1,7 +1,5 @@
-pub mod Counts
 pub mod Offers
 pub mod FaultText
 pub mod Reports
 pub mod Groups
-pub mod Fitting
 pub mod Talking

@@ -1,31 +1,8 @@
--- What an outlet answered to the frames that it was offered, and which of them go to whom.
-use Rattle.std.specs.Prelude.{◌≡◌, ℕ, ◌+◌, ◌≤◌, List, [], ◌∷◌, Option, Some, None, Bool, true, ◌==◌, if◌then◌else◌, Result, Ok, Err}
-use Rattle.cb_history.specs.declared.answer.Outgoing.{Outgoing}
-use Rattle.cb_threads.specs.declared.link.LinkFault.{LinkFault}
-use Rattle.cb_threads.specs.declared.link.LinkFault.TheVariants as faults
-use Rattle.cb_threads.specs.declared.link.Unsent.{Unsent}
-use Rattle.cb_threads.specs.Counts.{held}
-
-abbrev pub nothing_offered : Unsent
-nothing_offered = record { offered = 0; failures = 0; refused = 0 }
-
--- how often the device has failed, and how often memory was refused, with one more fault
-abbrev pub failures_with : ℕ → LinkFault → ℕ
-failures_with n faults.Device = held (n + 1)
-failures_with n faults.NoMemory = n
-
-abbrev pub refused_with : ℕ → LinkFault → ℕ
-refused_with n faults.Device = n
-refused_with n faults.NoMemory = held (n + 1)
-
--- one more frame was offered, and got this answer
-abbrev pub with_answer : Unsent → Result Unit LinkFault → Unsent
-with_answer u (Ok taken) = record { offered = held (u.offered + 1); failures = u.failures; refused = u.refused }
-with_answer u (Err fault) = record { offered = held (u.offered + 1); failures = failures_with u.failures fault; refused = refused_with u.refused fault }
-
--- Frames that were lost: at each the device failed, which was counted, or memory was refused.
-abbrev pub lost_of : Unsent → ℕ
-lost_of u = held (u.failures + u.refused)
+-- What a sender loses of the frames that it offers.
+use Rattle.std.specs.Prelude.{◌≡◌, ℕ, ◌+◌, ◌≤◌}
+use Rattle.cb_links.specs.declared.link.Unsent.{Unsent}
+use Rattle.cb_links.specs.Counts.{held}
+use Rattle.cb_links.specs.Offers.{lost_of}
 
 -- each frame at which the device failed is among those that were lost
 abbrev pub FailuresAreLost : ℕ → ℕ → Type 0
@@ -34,13 +11,3 @@ FailuresAreLost failures lost = failures ≤ lost
 -- what was received of offering so many frames was added to what a sender has lost, and to its failures
 abbrev pub AddsUnsent : ℕ → ℕ → ℕ → ℕ → ℕ → Type 0
 AddsUnsent count lost failures lost' failures' = (u : Unsent) × (u.offered ≡ held count) × (lost' ≡ held (lost + lost_of u)) × (failures' ≡ held (failures + u.failures))
-
--- a frame goes to this member: it is for all, or for it
-abbrev pub is_for : ℕ → Option ℕ → Bool
-is_for member None = true
-is_for member (Some to) = to == member
-
--- the bytes of those of the frames that go to this member, in order
-abbrev pub bytes_for : ℕ → List Outgoing → List (List ℕ)
-bytes_for member [] = []
-bytes_for member (f ∷ frames) = if is_for member f.to then f.bytes ∷ bytes_for member frames else bytes_for member frames

@@ -11,7 +11,7 @@ use Rattle.cb_threads.specs.declared.report.MemberReport.{MemberReport}
 use Rattle.cb_threads.specs.declared.report.Tally.{Tally}
 use Rattle.cb_threads.specs.declared.report.Failures.{Failures}
 use Rattle.cb_threads.specs.declared.start.Parts.{Parts}
-use Rattle.cb_threads.specs.Counts.{held, MetAtMost}
+use Rattle.cb_links.specs.Counts.{held, MetAtMost}
 use Rattle.cb_threads.specs.Offers.{FailuresAreLost}
 
 -- The messages that a Cast entry's frame carries. Bytes that are no cast frame stand in no Cast entry of a history; they would count as one.

@@ -8,11 +8,11 @@ ghost use Rattle.cb_threads.specs.declared.group.GroupFault.TheVariants.{BadPlan
 
 use crate::life::{LifeFault, Lives, Setting, run_lives};
 use crate::limits::{Limits, Stop};
-use crate::link::{Inlet, Outlet};
 use crate::pace::Pace;
 use crate::report::MemberReport;
 use crate::start::Parts;
 use crate::talker::Talker;
+use cb_links::{Inlet, Outlet};
 use cb_lock::CloseFault;
 use cb_member::{Group, History, LONGEST_HISTORY};
 use std::alloc::{AllocError, Global};

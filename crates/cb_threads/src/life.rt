@@ -8,13 +8,13 @@ ghost use Rattle.cb_threads.specs.declared.report.Failures.{Failures};
 ghost use Rattle.cb_threads.specs.Reports.{EachHandsBack, HandsBack, TellFailures, TellsFailures, failures_in};
 
 use crate::limits::{Ending, Limits, Stop};
-use crate::link::{Inlet, Outlet};
 use crate::member::run_shared;
 use crate::pace::Pace;
 use crate::report::{Failures, MemberReport, Tally};
 use crate::start::{Parts, Seats};
 use crate::talker::Talker;
 use crate::workers::Desk;
+use cb_links::{Inlet, Outlet};
 use cb_lock::{CloseFault, CloseRefusal, Closed, Seat, SharedMember};
 use cb_member::{Group, History, Identity, Member};
 use std::alloc::{AllocError, AllocFailed, Global};

@@ -2,17 +2,17 @@
 
 ghost use Rattle.std.specs.Prelude.{◌≡◌, ◌≢◌, ◌+◌, ◌<◌, ◌≤◌, IfSome, MatchOption, None, Some};
 ghost use Rattle.std.specs.Vec.{vec_capacity, vec_len};
-ghost use Rattle.cb_threads.specs.Counts.{MetAtMost, held};
+ghost use Rattle.cb_links.specs.Counts.{MetAtMost, held};
 ghost use Rattle.cb_threads.specs.Offers.{FailuresAreLost};
 ghost use Rattle.cb_threads.specs.Reports.{HandsBack, Tells, entries_in, lost_in};
 
 use crate::limits::{Ending, Limits, Stop};
-use crate::link::{Inlet, Outlet};
 use crate::pace::Pace;
 use crate::report::{MemberReport, Tally, WorkerFault};
 use crate::start::{Ended, Ends, Parts, Seats, make_ends, make_jobs, run_workers};
 use crate::talker::Talker;
 use crate::workers::{Desk, Worked};
+use cb_links::{Inlet, Outlet};
 use cb_lock::{Seat, SharedMember};
 use std::alloc::{AllocError, Global};
 use std::sync::Wait;
@@ -145,7 +145,7 @@ fn listed<L: Ledger>(seats: Seats<L>, list: Vec<Seat<L>>) -> Vec<Seat<L>>
 }
 
 /// The report of a member whose workers' channel or lists could not be made.
-#[tactic(auto, using(crate::proofs::Rising::met_none))]
+#[tactic(auto, using(cb_links::proofs::Rising::met_none))]
 fn unstarted<I: Inlet, O: Outlet, P: Pace, T, L: Ledger>(
     ending: Ending<'_>,
     parts: Parts<I, O, P, T>,

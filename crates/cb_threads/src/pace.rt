@@ -1,7 +1,7 @@
 //! The pace at which a member ticks.
 
 ghost use Rattle.std.specs.Prelude.{◌≡◌, ℕ, ◌≤◌, OnErr, Some, codes};
-ghost use Rattle.cb_threads.specs.Counts.{HasCounted};
+ghost use Rattle.cb_links.specs.Counts.{HasCounted};
 
 use std::error::Error;
 use std::fmt;

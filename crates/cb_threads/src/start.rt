@@ -1,13 +1,11 @@
 //! The threads of a member's workers.
 
 ghost use Rattle.std.specs.Prelude.{◌≡◌, true, is_some, IfSome, MatchOption, None};
-ghost use Rattle.cb_threads.specs.Counts.{MetAtMost};
+ghost use Rattle.cb_links.specs.Counts.{MetAtMost};
 ghost use Rattle.cb_threads.specs.Offers.{FailuresAreLost};
 ghost use Rattle.cb_threads.specs.Reports.{failures_in};
 
 use crate::limits::Ending;
-use crate::link::{Inlet, Outlet};
-use crate::mailbox::{Mailbox, Slot, new_mailbox};
 use crate::pace::Pace;
 use crate::report::Failures;
 use crate::talker::Talker;
@@ -15,6 +13,7 @@ use crate::workers::{
     Desk, InletCounts, Job, OutletCounts, PaceCounts, Worked, send_all, take_all, talk_all,
     tick_all,
 };
+use cb_links::{Inlet, Mailbox, Outlet, Slot, new_mailbox};
 use cb_lock::Seat;
 use cb_member::Outgoing;
 use std::alloc::{AllocError, Global};

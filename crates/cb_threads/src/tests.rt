@@ -2,15 +2,11 @@
 
 ghost use Rattle.std.specs.Prelude.{◌≡◌, []};
 
-mod addressed;
 mod at_once;
-mod channel;
 mod closing;
 mod ending;
 mod faults;
 mod group;
-mod links;
-mod mailbox;
 mod naps;
 mod parts;
 mod plan;

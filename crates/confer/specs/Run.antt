@@ -6,16 +6,16 @@ use Rattle.cb_lock.specs.declared.closing.CloseFault.{CloseFault}
 use Rattle.cb_lock.specs.declared.closing.CloseFault.TheVariants as closings
 use Rattle.cb_threads.specs.declared.group.GroupFault.{GroupFault}
 use Rattle.cb_threads.specs.declared.group.GroupFault.TheVariants as groups
-use Rattle.cb_threads.specs.declared.link.LinkFault.{LinkFault}
-use Rattle.cb_threads.specs.declared.link.LinkFault.TheVariants as devices
+use Rattle.cb_links.specs.declared.link.LinkFault.{LinkFault}
+use Rattle.cb_links.specs.declared.link.LinkFault.TheVariants as devices
 use Rattle.cb_threads.specs.declared.report.WorkerFault.{WorkerFault}
 use Rattle.cb_threads.specs.declared.report.WorkerFault.TheVariants as workers
 use Rattle.cb_threads.specs.declared.report.MemberReport.{MemberReport}
 use Rattle.cb_threads.specs.declared.report.Tally.{Tally}
-use Rattle.cb_threads.specs.declared.channel.ChannelInlet.{ChannelInlet}
-use Rattle.cb_threads.specs.declared.channel.ChannelOutlet.{ChannelOutlet}
-use Rattle.cb_threads.specs.declared.udp.UdpInlet.{UdpInlet}
-use Rattle.cb_threads.specs.declared.udp.UdpOutlet.{UdpOutlet}
+use Rattle.cb_links.specs.declared.channel.ChannelInlet.{ChannelInlet}
+use Rattle.cb_links.specs.declared.channel.ChannelOutlet.{ChannelOutlet}
+use Rattle.cb_links.specs.declared.udp.UdpInlet.{UdpInlet}
+use Rattle.cb_links.specs.declared.udp.UdpOutlet.{UdpOutlet}
 use Rattle.cb_threads.specs.Groups.{tally_in}
 use Rattle.cb_threads.specs.Reports.{EachHandsBack, IsTally}
 use Rattle.cb_world.specs.World.{WorldState}

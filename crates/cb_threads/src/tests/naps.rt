@@ -1,14 +1,11 @@
-//! A device that fails at each call keeps no processor busy, nor does an inlet whose senders are
-//! gone. Sleeps are counted and not slept.
+//! A device that fails at each call keeps no processor busy. Sleeps are counted and not slept.
 
 ghost use Rattle.std.specs.Prelude.{◌≡◌};
 
 use super::parts::Broken;
 use crate::limits::{Ending, Limits, Stop};
-use crate::link::{Inlet, Received};
-use crate::mailbox::new_mailbox;
 use crate::workers::{Desk, Job, take_all, tick_all};
-use crate::{ChannelInlet, ChannelLink};
+use cb_links::new_mailbox;
 use cb_lock::{Seat, SharedMember};
 use cb_member::{Group, Member};
 use std::alloc::Global;
@@ -122,37 +119,4 @@ fn fail<L: Ledger + Send + Sync, R: Wait + Clock + Abort>(
     let failures = worked.failures;
     drop(worked);
     (failures, counted.sleeps.load(Ordering::SeqCst))
-}
-
-/// An inlet over channels whose sender is gone.
-fn forsaken(rt: &impl Abort, alloc: Global) -> ChannelInlet {
-    let mut links = ChannelLink::group(alloc, 2).expect(rt, "links");
-    let (inlet, outlet) = links.pop().expect(rt, "a link");
-    drop(outlet);
-    drop(links);
-    inlet
-}
-
-/// How often it finds nothing in ten looks.
-fn finds_nothing<R: Wait + Clock>(rt: &R, inlet: &mut ChannelInlet) -> u32 {
-    let mut times = 0u32;
-    for _look in 0..10u32 {
-        if matches!(inlet.receive(rt), Ok(Received::Nothing)) {
-            times = times.saturating_add(1);
-        }
-    }
-    times
-}
-
-#[test]
-fn an_inlet_whose_senders_are_gone_waits(rt: HostRuntime) {
-    let mut inlet = forsaken(&rt, rt.alloc());
-    let counted = Counted {
-        rt: &rt,
-        sleeps: AtomicU64::new(0),
-    };
-    let times = finds_nothing(&counted, &mut inlet);
-    drop(inlet);
-    let sleeps = counted.sleeps.load(Ordering::SeqCst);
-    assert_eq!(&rt; (times, sleeps), (10, 10));
 }

@@ -1,7 +1,7 @@
 //! Parts for tests: what waits for others, talks a little, or fails at a call.
 
 ghost use Rattle.std.specs.Prelude.{◌≡◌, ◌≤◌, IfErr, false};
-ghost use Rattle.cb_threads.specs.Counts.{HasCounted, LinkCounts};
+ghost use Rattle.cb_links.specs.Counts.{HasCounted, LinkCounts};
 
 use crate::{Inlet, LinkFault, Outlet, Pace, PaceFault, Received, Talk, Talker};
 use cb_member::{Event, NoMemory, Outgoing};

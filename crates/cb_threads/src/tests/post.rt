@@ -1,8 +1,8 @@
-//! What a worker hands over at once comes in its order.
+//! What a worker hands over at once comes in its order, or is lost.
 
-use crate::mailbox::{Mailbox, new_mailbox};
 use crate::workers::Post;
 use bytes::Bytes;
+use cb_links::{Mailbox, new_mailbox};
 use cb_member::Outgoing;
 use std::alloc::Global;
 use std::process::Abort;
@@ -49,4 +49,16 @@ fn what_is_handed_over_at_once_comes_in_its_order(rt: HostRuntime) {
     let count = in_order(&rt, &mailbox);
     drop(post);
     assert_eq!(&rt; count, 3);
+}
+
+#[test]
+fn frames_that_the_channel_does_not_take_are_lost(rt: HostRuntime) {
+    let (slot, mailbox) = new_mailbox(rt.alloc()).expect(&rt, "a mailbox");
+    drop(mailbox);
+    let mut post = Post::new(slot);
+    for _frame in 0..3u32 {
+        let bytes = Bytes::from_static(b"yo");
+        post.put(&rt, Outgoing { to: None, bytes });
+    }
+    assert_eq!(&rt; post.lost(), 3);
 }

@@ -2,10 +2,10 @@
 
 ghost use Rattle.std.specs.Prelude.{◌≡◌};
 
-use crate::mailbox::{Mailbox, new_mailbox};
 use crate::workers::{Job, send_all};
 use crate::{ChannelInlet, ChannelLink, ChannelOutlet, Inlet, Received};
 use bytes::Bytes;
+use cb_links::{Mailbox, new_mailbox};
 use cb_lock::{Seat, SharedMember};
 use cb_member::{Group, Member, Outgoing};
 use std::alloc::Global;

@@ -3,7 +3,7 @@
 ghost use Rattle.std.specs.Prelude.{◌≡◌};
 
 use crate::limits::Ending;
-use crate::mailbox::Slot;
+use cb_links::Slot;
 use cb_lock::{Seat, SharedMember};
 use cb_member::Outgoing;
 use std::alloc::Global;

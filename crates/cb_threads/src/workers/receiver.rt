@@ -1,13 +1,11 @@
 //! The worker that takes what is received.
 
 ghost use Rattle.std.specs.Prelude.{◌≡◌};
-ghost use Rattle.cb_threads.specs.Counts.{Counts, MetAtMost};
+ghost use Rattle.cb_links.specs.Counts.{Counts, MetAtMost};
 
-use crate::link::{Inlet, Received, and_fault};
-use crate::mailbox::Slot;
-use crate::waits::wait;
 use crate::workers::desk::{Desk, Job, Post, Worked};
 use bytes::Bytes;
+use cb_links::{Inlet, Received, Slot, and_fault, wait};
 use cb_lock::{Seat, SharedMember};
 use cb_member::Outgoing;
 use std::sync::Wait;

@@ -1,12 +1,11 @@
 //! The worker that sends.
 
 ghost use Rattle.std.specs.Prelude.{◌≡◌, length};
-ghost use Rattle.cb_threads.specs.Counts.{Counts, MetAtMost};
+ghost use Rattle.cb_links.specs.Counts.{Counts, MetAtMost};
 ghost use Rattle.cb_threads.specs.Offers.{AddsUnsent, FailuresAreLost};
 
-use crate::link::Outlet;
-use crate::mailbox::{MOST_AT_ONCE, Mailbox, Taken};
 use crate::workers::desk::{Job, Worked};
+use cb_links::{MOST_AT_ONCE, Mailbox, Outlet, Taken};
 use cb_member::Outgoing;
 use std::alloc::Global;
 use std::slice;

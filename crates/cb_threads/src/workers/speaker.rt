@@ -3,15 +3,14 @@
 ghost use Rattle.std.specs.Prelude.{◌≡◌, ◌≢◌, ◌+◌, Decides, IfErr, IfOk, MatchResult, None, OnErr, Some, drop, false, length};
 ghost use Rattle.cb_history.specs.State.{events_in};
 ghost use Rattle.cb_history.specs.declared.answer.CastRefusal.TheVariants.{PayloadTooLong};
-ghost use Rattle.cb_threads.specs.Counts.{held};
+ghost use Rattle.cb_links.specs.Counts.{held};
 ghost use Rattle.cb_threads.specs.Talking.{cast_of, turn_of};
 ghost use Rattle.cb_threads.specs.declared.workers.speaker.Turn.TheVariants.{Finished, Quiet};
 
-use crate::mailbox::Slot;
 use crate::talker::{Talk, Talker};
-use crate::waits::wait;
 use crate::workers::desk::{Desk, Job, Post, Worked};
 use bytes::Bytes;
+use cb_links::{Slot, wait};
 use cb_lock::Seat;
 use cb_member::{CastDone, CastRefusal, Event, Member, NoMemory, Outgoing};
 use std::mem;

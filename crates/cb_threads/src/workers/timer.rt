@@ -1,12 +1,11 @@
 //! The worker that ticks.
 
 ghost use Rattle.std.specs.Prelude.{◌≡◌};
-ghost use Rattle.cb_threads.specs.Counts.{Counts, MetAtMost};
+ghost use Rattle.cb_links.specs.Counts.{Counts, MetAtMost};
 
-use crate::mailbox::Slot;
 use crate::pace::Pace;
-use crate::waits;
 use crate::workers::desk::{Desk, Job, Post, Worked};
+use cb_links::{Slot, wait};
 use cb_member::Outgoing;
 use std::sync::Wait;
 use std::sync::ledger::Ledger;
@@ -54,6 +53,6 @@ fn wait_once<P: Pace, L: Ledger, R: Wait + Clock>(rt: &R, worked: &mut Worked<P,
 {
     if worked.part.wait(rt).is_err() {
         worked.failures = worked.failures.saturating_add(1);
-        waits::wait(rt);
+        wait(rt);
     }
 }

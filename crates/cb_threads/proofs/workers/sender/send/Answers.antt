@@ -1,5 +1,5 @@
 use Rattle.std.proofs.Common.{arith}
-use Rattle.cb_threads.proofs.Rising.{counts_some}
+use Rattle.cb_links.proofs.Rising.{counts_some}
 use Rattle.cb_threads.proofs.workers.sender.send.Goals as goal
 
 pub returns-clause-met : goal.returns-clause-met

@@ -1,4 +1,4 @@
-use Rattle.cb_threads.specs.Counts.{MetAtMost}
+use Rattle.cb_links.specs.Counts.{MetAtMost}
 use Rattle.cb_threads.specs.Offers.{FailuresAreLost}
 use Rattle.cb_threads.proofs.workers.sender.send_all.Given as goal
 

@@ -1,4 +1,4 @@
-use Rattle.cb_threads.specs.Counts.{MetAtMost}
+use Rattle.cb_links.specs.Counts.{MetAtMost}
 use Rattle.cb_threads.proofs.workers.timer.tick_all.Given as goal
 
 -- what was met so far was counted

@@ -1,0 +1,26 @@
+//! Links: where the frames of a member go, and where those of the others come from.
+//!
+//! A link is an `Outlet` for what a member sends and an `Inlet` for what it receives, and each counts
+//! its failures. The links here go over channels of one process or over UDP on the loopback address.
+//! Below the channels lies a mailbox, which also carries what the workers of a member hand over.
+//!
+//! Stands on `cb_history` for what is sent, on `cb_frames` for what a frame is and on
+//! `crossbeam_channel`. Nothing says that a frame arrives.
+#![tactic(auto)]
+
+mod channel;
+mod laws;
+mod link;
+mod mailbox;
+mod udp;
+mod waits;
+
+pub use channel::{ChannelInlet, ChannelLink, ChannelOutlet};
+pub use laws::each_frame_fits;
+pub use link::{Inlet, LONGEST_FRAME, LinkFault, Outlet, Received, Unsent, and_fault};
+pub use mailbox::{MOST_AT_ONCE, Mailbox, Slot, Taken, new_mailbox};
+pub use udp::{UdpInlet, UdpLink, UdpOutlet};
+pub use waits::{WAIT, wait};
+
+#[cfg(test)]
+mod tests;

@@ -1,0 +1,8 @@
+//! Links in one thread.
+
+ghost use Rattle.std.specs.Prelude.{◌≡◌};
+
+mod addressed;
+mod channel;
+mod links;
+mod mailbox;

@@ -1,6 +1,0 @@
-use Rattle.std.proofs.Common.{◌≡◌, length}
-use Rattle.cb_threads.proofs.channel.ChannelLink.group.Given as goal
-
--- there is a link for each member so far
-abbrev pub invariant-loop-member : goal.invariant-loop-member
-invariant-loop-member l = length l.links.items ≡ l._member

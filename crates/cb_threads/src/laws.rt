@@ -1,8 +1,0 @@
-//! A law that links rely on, as the contract of a function that does nothing.
-
-ghost use Rattle.cb_threads.specs.Fitting.{FramesFit};
-
-/// No frame has more than `LONGEST_FRAME` bytes, so that there is room for each in a datagram.
-pub fn each_frame_fits()
-    ensures { FramesFit }
-{}
