@@ -17,7 +17,6 @@ use cb_lock::Seat;
 use std::sync::ledger::Ledger;
 
 /// What is left where no worker was started.
-#[tactic(auto, using(cb_links::proofs::Rising::met_none))]
 pub fn unstarted<I: Inlet, O: Outlet, P: Pace, T, L: Ledger>(
     parts: Parts<I, O, P, T>,
     seats: Seats<L>,

@@ -1,6 +1,6 @@
 //! The members of a group, each from its first call to its history.
 
-ghost use Rattle.std.specs.Prelude.{◌≡◌, ◌<◌, [], ◌∷◌, ◌++◌, IfOk, IfSome, IsOkAnd, IsSomeAnd, length, map};
+ghost use Rattle.std.specs.Prelude.{◌≡◌, ◌<◌, [], ◌∷◌, ◌++◌, IfOk, length, map};
 ghost use Rattle.cb_history.specs.Group.{Parameters};
 ghost use Rattle.cb_threads.specs.Groups.{AreLives, AreMembers, IsLife};
 ghost use Rattle.cb_threads.specs.declared.life.LifeFault.TheVariants.{Close};
@@ -10,7 +10,7 @@ ghost use Rattle.cb_threads.specs.Reports.{HandsBack, TellsFailures, failures_in
 use crate::limits::Ending;
 use crate::member::run_at;
 use crate::pace::Pace;
-use crate::per_worker::{Parts, Seats};
+use crate::per_worker::{Parts, PerWorker, Seats};
 use crate::report::{Failures, GroupReport, MemberReport, Tally};
 use crate::talker::Talker;
 use crate::workers::Desk;
@@ -129,19 +129,19 @@ fn join_all<I: Inlet + Drop, O: Outlet + Drop, P: Pace + Drop, T: Drop, R: Threa
         histories: Vec::new(alloc),
     };
     for handle in handles {
-        report.add(handle.join(rt))?;
+        report.add(handle.join(rt)?)?;
     }
     Ok(report)
 }
 
 impl<I: Drop, O: Drop, P: Drop, T: Drop> GroupReport<I, O, P, T> {
     /// Adds what is kept of the next member.
-    fn add(&mut self, kept: Result<Kept<I, O, P, T>, LifeFault>) -> Result<(), LifeFault>
-        ensures { IfOk result (λ _. IsOkAnd kept (λ kept.
+    fn add(&mut self, kept: Kept<I, O, P, T>) -> Result<(), AllocError>
+        ensures { IfOk result (λ _.
             (self.new.reports.items ≡ self.old.reports.items ++ kept.report ∷ [])
-            × (self.new.histories.items ≡ self.old.histories.items ++ kept.history ∷ []))) }
+            × (self.new.histories.items ≡ self.old.histories.items ++ kept.history ∷ [])) }
     {
-        let Kept { report, history } = kept?;
+        let Kept { report, history } = kept;
         self.reports.push(report)?;
         self.histories.push(history)?;
         Ok(())
@@ -173,101 +173,89 @@ impl<'s> Setting<'s> {
         let mut handles = Vec::with_capacity(self.alloc, size as usize)?;
         let mut me = 0;
         for part in parts {
-            add_handle(&mut handles, self.start(scope, rt, me, part))?;
+            handles.push(part.start(scope, rt, self, me)?)?;
             me += 1;
         }
         Ok(handles)
     }
+}
 
-    fn start<
-        E,
-        I: Inlet + Send + Drop + 's,
-        O: Outlet + Send + Drop + 's,
-        P: Pace + Send + Drop + 's,
-        T: Talker + Send + Drop + 's,
-        R: Threads + Wait + Clock + Sync + 's,
-    >(
-        &'s self,
+impl<
+    I: Inlet + Send + Drop,
+    O: Outlet + Send + Drop,
+    P: Pace + Send + Drop,
+    T: Talker + Send + Drop,
+> PerWorker<I, P, T, O> {
+    /// Starts this member.
+    fn start<'s, E, R: Threads + Wait + Clock + Sync + 's>(
+        self,
         scope: &Scope<'s, E>,
         rt: &'s R,
+        setting: &'s Setting<'s>,
         me: u32,
-        parts: Parts<I, O, P, T>,
-    ) -> Option<PromisedHandle<Result<Kept<I, O, P, T>, LifeFault>, OfMember>>
-        requires { me < self.now.group.size }
-        ensures { IfSome result (λ handle. (handle.promise.group ≡ self.now.group)
+    ) -> Result<PromisedHandle<Result<Kept<I, O, P, T>, LifeFault>, OfMember>, LifeFault>
+    where
+        I: 's,
+        O: 's,
+        P: 's,
+        T: 's,
+        requires { me < setting.now.group.size }
+        ensures { IfOk result (λ handle. (handle.promise.group ≡ setting.now.group)
             × (handle.promise.me ≡ me)
-            × (handle.promise.before ≡ failures_in I.failed O.failed P.failed parts)) }
+            × (handle.promise.before ≡ failures_in I.failed O.failed P.failed self)) }
     {
         let promise = OfMember {
-            group: self.group,
+            group: setting.group,
             me,
-            before: parts.failures(),
+            before: self.failures(),
         };
-        scope
-            .spawn_with(promise, move || self.live(rt, me, parts))
-            .ok()
+        match scope.spawn_with(promise, move || self.live(rt, setting, me)) {
+            Ok(handle) => Ok(handle),
+            Err(_refused) => Err(LifeFault::NoThread),
+        }
     }
 
-    /// A member from its first call to its history.
-    fn live<
-        I: Inlet + Send + Drop,
-        O: Outlet + Send + Drop,
-        P: Pace + Send + Drop,
-        T: Talker + Send + Drop,
-        R: Threads + Wait + Clock + Sync,
-    >(&self, rt: &R, me: u32, parts: Parts<I, O, P, T>) -> Result<Kept<I, O, P, T>, LifeFault>
-        ensures { IfOk result (λ kept. IsLife I.failed O.failed P.failed self.now.group me
-            (failures_in I.failed O.failed P.failed parts) kept) }
+    /// This member from its first call to its history.
+    fn live<R: Threads + Wait + Clock + Sync>(
+        self,
+        rt: &R,
+        setting: &Setting<'_>,
+        me: u32,
+    ) -> Result<Kept<I, O, P, T>, LifeFault>
+        ensures { IfOk result (λ kept. IsLife I.failed O.failed P.failed setting.now.group me
+            (failures_in I.failed O.failed P.failed self) kept) }
     {
-        match Member::new(self.alloc, self.group, me, self.history_max) {
-            Ok(member) => self.share::<Brand, I, O, P, T, R>(rt, member, parts, Blank::new(4)),
+        match Member::new(setting.alloc, setting.group, me, setting.history_max) {
+            Ok(member) => self.share::<Brand, R>(rt, setting, member, Blank::new(4)),
             Err(_fault) => {
-                self.ending.give_up();
+                setting.ending.give_up();
                 Err(LifeFault::NoMemory)
             }
         }
     }
 
     /// The member behind a lock, with the ledger that the blank opens: it runs, and is closed.
-    fn share<
-        L: Ledger + Send + Sync,
-        I: Inlet + Send + Drop,
-        O: Outlet + Send + Drop,
-        P: Pace + Send + Drop,
-        T: Talker + Send + Drop,
-        R: Threads + Wait + Clock + Sync,
-    >(
-        &self,
+    fn share<L: Ledger + Send + Sync, R: Threads + Wait + Clock + Sync>(
+        self,
         rt: &R,
+        setting: &Setting<'_>,
         member: Member,
-        parts: Parts<I, O, P, T>,
         blank: Blank,
     ) -> Result<Kept<I, O, P, T>, LifeFault>
         requires ledger { (blank.name ≡ L.name) × (blank.parts ≡ L.parts) × (blank.parts ≡ 4) }
         requires fresh { member.entries ≡ [] }
         ensures { IfOk result (λ kept. IsLife I.failed O.failed P.failed member.seat.group
-            member.seat.me (failures_in I.failed O.failed P.failed parts) kept) }
+            member.seat.me (failures_in I.failed O.failed P.failed self) kept) }
     {
         let identity = member.seat();
-        let (shared, seat) = SharedMember::<L>::new(self.alloc, blank, member);
+        let (shared, seat) = SharedMember::<L>::new(setting.alloc, blank, member);
         let desk = Desk {
-            alloc: self.alloc,
+            alloc: setting.alloc,
             shared: &shared,
-            ending: self.ending,
+            ending: setting.ending,
         };
-        let (report, seats) = run_at(rt, &desk, split_in_four(seat), parts);
+        let (report, seats) = run_at(rt, &desk, split_in_four(seat), self);
         closed(identity, shared.close(seats), report)
-    }
-}
-
-/// Adds the handle of a thread that was started.
-fn add_handle<H: Drop>(handles: &mut Vec<H>, handle: Option<H>) -> Result<(), LifeFault>
-    ensures { IfOk result (λ _. IsSomeAnd handle (λ h.
-        handles.new.items ≡ handles.old.items ++ h ∷ [])) }
-{
-    match handle {
-        Some(handle) => Ok(handles.push(handle)?),
-        None => Err(LifeFault::NoThread),
     }
 }
 

@@ -1,6 +1,6 @@
 //! One for each of the four workers of a member.
 
-ghost use Rattle.std.specs.Prelude.{Decides};
+ghost use Rattle.std.specs.Prelude.{◌≡◌, Decides};
 ghost use Rattle.cb_threads.specs.Reports.{AreAllThere, failures_in};
 
 use crate::pace::Pace;

@@ -135,11 +135,11 @@ pub fn end_unless_all_run<A, B, C, D>(
 
 /// A promise: what is handed back is what this job hands back.
 #[derive(Drop)]
-pub struct Of<J> {
+pub struct OfJob<J> {
     pub job: Snapshot<J>,
 }
 
-impl<J: Job<L>, L: Ledger> Promise<Worked<J::Part, L>> for Of<J> {
+impl<J: Job<L>, L: Ledger> Promise<Worked<J::Part, L>> for OfJob<J> {
     ghost kept_by = { λ promise worked. J.kept promise.job.value worked };
 }
 
@@ -154,10 +154,10 @@ fn start<
     rt: &'s R,
     desk: &'s Desk<'s, L>,
     job: J,
-) -> Option<PromisedHandle<Worked<J::Part, L>, Of<J>>>
+) -> Option<PromisedHandle<Worked<J::Part, L>, OfJob<J>>>
     ensures { IfSome result (λ handle. handle.promise.job.value ≡ job) }
 {
-    let promise = Of {
+    let promise = OfJob {
         job: Snapshot::of(&job),
     };
     scope.spawn_with(promise, move || job.run(rt, desk)).ok()

@@ -26,14 +26,6 @@ struct Said {
     count: usize,
 }
 
-impl Said {
-    fn seen(turn: Turn, count: usize) -> Said
-        ensures { result ≡ record { turn = turn; count = count } }
-    {
-        Said { turn, count }
-    }
-}
-
 /// Casts what the talker says, at most one message in each turn, until it has finished: what it has
 /// seen of its member's events, and what it wants to cast.
 #[derive(Drop)]
@@ -92,7 +84,7 @@ impl<T: Talker> Talking<T> {
         if self.talker.is_quick() {
             return self.ask_in_place(rt, place);
         }
-        let (said, payload) = parted(self.ask_with_copies(rt, place));
+        let (said, payload) = self.ask_with_copies(rt, place);
         self.see(said);
         match payload {
             Some(payload) => self.cast(rt, place, payload),
@@ -107,7 +99,7 @@ impl<T: Talker> Talking<T> {
         let (said, cast) = place.desk.shared.cast_with(
             rt,
             &mut place.seat,
-            move |member| parted(asked(talker, news_in(member, seen))),
+            move |member| asked(talker, news_in(member, seen)),
         );
         self.see(said);
         match cast {
@@ -123,17 +115,20 @@ impl<T: Talker> Talking<T> {
         self.seen = self.seen.saturating_add(said.count);
     }
 
-    /// What the talker says to copies of the news, and how many they are, while the member works
-    /// on.
+    /// What the talker says to copies of the news, while the member works on.
     fn ask_with_copies<L: Ledger, R: Wait>(
         &mut self,
         rt: &R,
         place: &mut Place<'_, L>,
-    ) -> Result<(Talk, usize), NoMemory> {
-        let news = self.news(rt, place)?;
-        let answer = asked(&mut self.talker, &news);
-        self.keep_room(news);
-        answer
+    ) -> (Said, Option<Vec<u8>>) {
+        match self.news(rt, place) {
+            Ok(news) => {
+                let answer = asked(&mut self.talker, &news);
+                self.keep_room(news);
+                answer
+            }
+            Err(refused) => parted(Err(refused), 0),
+        }
     }
 
     /// The events that the talker has not seen.
@@ -147,7 +142,7 @@ impl<T: Talker> Talking<T> {
         place.desk.shared.with_state(
             rt,
             &mut place.seat,
-            move |member| events_behind(room, member, seen),
+            move |member| copies(room, news_in(member, seen)),
         )
     }
 
@@ -209,41 +204,29 @@ fn left_to_cast(payload: Vec<u8>, refusal: CastRefusal) -> Option<Vec<u8>>
     }
 }
 
-/// What becomes of the turn where nothing is cast, how many news the talker saw, and what it wants
-/// to cast. Out of memory it saw none, and is shown the same again.
-fn parted(answer: Result<(Talk, usize), NoMemory>) -> (Said, Option<Vec<u8>>)
-    ensures seen { MatchResult answer (λ reported. result.0.count ≡ reported.1)
-        (λ _. result.0.count ≡ 0) }
-    ensures turn { IfOk answer (λ reported. result.0.turn ≡ turn_of reported.0) }
-    ensures cast { IfOk answer (λ reported. result.1 ≡ cast_of reported.0) }
+/// What becomes of the turn where nothing is cast, how many of so many news the talker saw, and what
+/// it wants to cast. Out of memory it saw none, and is shown the same again.
+fn parted(answer: Result<Talk, NoMemory>, count: usize) -> (Said, Option<Vec<u8>>)
+    ensures seen { MatchResult answer (λ _. result.0.count ≡ count) (λ _. result.0.count ≡ 0) }
+    ensures turn { IfOk answer (λ talk. result.0.turn ≡ turn_of talk) }
+    ensures cast { IfOk answer (λ talk. result.1 ≡ cast_of talk) }
 {
-    match answer {
-        Ok((talk, count)) => wanted(talk, count),
-        Err(_refused) => (Said::seen(Turn::Idle, 0), None),
-    }
-}
-
-fn wanted(talk: Talk, count: usize) -> (Said, Option<Vec<u8>>)
-    ensures said { result.0 ≡ record { turn = turn_of talk; count = count } }
-    ensures cast { result.1 ≡ cast_of talk }
-{
-    match talk {
-        Talk::Cast(payload) => (Said::seen(Turn::Done, count), Some(payload)),
-        Talk::Idle => (Said::seen(Turn::Idle, count), None),
-        Talk::Finished => (Said::seen(Turn::Finished, count), None),
-    }
+    let (turn, count, payload) = match answer {
+        Ok(Talk::Cast(payload)) => (Turn::Done, count, Some(payload)),
+        Ok(Talk::Idle) => (Turn::Idle, count, None),
+        Ok(Talk::Finished) => (Turn::Finished, count, None),
+        Err(_refused) => (Turn::Idle, 0, None),
+    };
+    (Said { turn, count }, payload)
 }
 
 fn to_all(bytes: Bytes) -> Outgoing {
     Outgoing { to: None, bytes }
 }
 
-/// What the talker says to the news, and how many they are.
-fn asked<T: Talker>(talker: &mut T, news: &[Event]) -> Result<(Talk, usize), NoMemory>
-    ensures { IfOk result (λ reported. reported.1 ≡ length news.now) }
-{
-    let talk = talker.next(news)?;
-    Ok((talk, news.len()))
+/// What the talker says to the news.
+fn asked<T: Talker>(talker: &mut T, news: &[Event]) -> (Said, Option<Vec<u8>>) {
+    parted(talker.next(news), news.len())
 }
 
 /// The member's events behind the first `seen`.
@@ -255,13 +238,7 @@ fn news_in(member: &Member, seen: usize) -> &[Event]
     news
 }
 
-/// Copies of the same, in a list whose own events are freed.
-fn events_behind(room: Vec<Event>, member: &Member, seen: usize) -> Result<Vec<Event>, NoMemory>
-    ensures { IfOk result (λ news. news.items ≡ drop seen (events_in member.now)) }
-{
-    copies(room, news_in(member, seen))
-}
-
+/// Copies of events, in a list whose own events are freed.
 fn copies(room: Vec<Event>, events: &[Event]) -> Result<Vec<Event>, NoMemory>
     ensures { IfOk result (λ copies. copies.items ≡ events.now) }
 {

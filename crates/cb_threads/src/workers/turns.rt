@@ -95,7 +95,6 @@ impl Course {
 
     /// With one turn more. One that fails is counted, and a sleep follows it, so that what fails at
     /// each call keeps no processor busy.
-    #[tactic(auto, using(cb_links::proofs::Rising::counts_none, cb_links::proofs::Rising::counts_one))]
     fn and(self, outcome: Result<Turn, Failed>) -> Course
         ensures turn { MatchResult outcome (λ turn. result.last ≡ turn)
             (λ _. result.last ≡ Idle) }
