@@ -1,5 +1,5 @@
 -- The longest frame.
-use Rattle.std.proofs.Common.{◌≡◌, ◌≢◌, ℕ, suc, ◌+◌, ◌-◌, ◌*◌, ◌<◌, ◌≤◌, List, [], ◌∷◌, ◌++◌, length, length-append, ap, subst, sym, refl, ◌∙◌, arith, inl, inr}
+use Rattle.std.proofs.Common.{◌≡◌, ◌≢◌, ℕ, ◌+◌, ◌-◌, ◌*◌, ◌<◌, ◌≤◌, List, [], ◌∷◌, ◌++◌, length, length-append, ap, subst, sym, refl, ◌∙◌, arith, inl, inr}
 use Rattle.std.proofs.lemmas.Bool.{cases_lt}
 use Rattle.std.proofs.lemmas.List.{append-nil}
 use Rattle.std.specs.List.{AllByRecursion}
@@ -7,8 +7,8 @@ use Rattle.cb_varint.specs.Spelling.{Spells, HasTopBit, value_of}
 use Rattle.cb_varint.proofs.Worth.{value_of-top, value_of-pos}
 use Rattle.cb_frames.specs.declared.frame.Change.{Change}
 use Rattle.cb_frames.specs.declared.frame.Range.{Range}
-use Rattle.cb_frames.specs.Fields.{FrameFields, CastFrame, StatusFrame, RequestFrame}
-use Rattle.cb_frames.specs.Text.{SpellAll, pairs_from, ranges_from, RisesFrom, IsChange, IsValue, AreRanges, IsText}
+use Rattle.cb_frames.specs.Fields.{CastFrame, StatusFrame, RequestFrame}
+use Rattle.cb_frames.specs.Text.{SpellAll, pairs_from, ranges_from, RisesFrom, IsChange, IsValue}
 use Rattle.cb_links.specs.Fitting.{FramesFit}
 
 -- a number's spelling has at most five bytes

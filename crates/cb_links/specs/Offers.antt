@@ -1,5 +1,5 @@
 -- What an outlet answered to the frames that it was offered, and which of them go to whom.
-use Rattle.std.specs.Prelude.{◌≡◌, ℕ, ◌+◌, ◌≤◌, List, [], ◌∷◌, Option, Some, None, Bool, true, ◌==◌, if◌then◌else◌, Result, Ok, Err}
+use Rattle.std.specs.Prelude.{ℕ, ◌+◌, List, [], ◌∷◌, Option, Some, None, Bool, true, ◌==◌, if◌then◌else◌, Result, Ok, Err}
 use Rattle.cb_history.specs.declared.answer.Outgoing.{Outgoing}
 use Rattle.cb_links.specs.declared.link.LinkFault.{LinkFault}
 use Rattle.cb_links.specs.declared.link.LinkFault.TheVariants as faults
