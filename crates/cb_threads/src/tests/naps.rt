@@ -4,10 +4,10 @@ ghost use Rattle.std.specs.Prelude.{◌≡◌};
 
 use super::parts::Broken;
 use crate::limits::{Ending, Limits, Stop};
-use crate::workers::{Desk, Job, take_all, tick_all};
-use cb_links::new_mailbox;
+use crate::workers::{Desk, Job, Receiving, Ticking, Worked, Worker};
+use cb_links::{Slot, new_mailbox};
 use cb_lock::{Seat, SharedMember};
-use cb_member::{Group, Member};
+use cb_member::{Group, Member, Outgoing};
 use std::alloc::Global;
 use std::io;
 use std::marker::Brand;
@@ -45,20 +45,20 @@ impl<'a, R: Wait + Clock> Clock for Counted<'a, R> {
 
 /// Which worker has a device that fails.
 #[derive(Clone, Copy)]
-enum Worker {
+enum Who {
     Receiver,
     Timer,
 }
 
 #[test]
 fn a_receiver_sleeps_behind_each_fault(rt: HostRuntime) {
-    let found = work::<Brand, _>(&rt, rt.alloc(), Blank::new(4), Worker::Receiver);
+    let found = work::<Brand, _>(&rt, rt.alloc(), Blank::new(4), Who::Receiver);
     assert_eq!(&rt; found, (7, 7));
 }
 
 #[test]
 fn a_timer_sleeps_behind_each_fault(rt: HostRuntime) {
-    let found = work::<Brand, _>(&rt, rt.alloc(), Blank::new(4), Worker::Timer);
+    let found = work::<Brand, _>(&rt, rt.alloc(), Blank::new(4), Who::Timer);
     assert_eq!(&rt; found, (7, 7));
 }
 
@@ -67,14 +67,14 @@ fn work<L: Ledger + Send + Sync, R: Wait + Clock + Abort>(
     rt: &R,
     alloc: Global,
     blank: Blank,
-    worker: Worker,
+    who: Who,
 ) -> (u64, u64)
     requires { (blank.name ≡ L.name) × (blank.parts ≡ L.parts) × (blank.parts ≡ 4) }
 {
     let group = Group::new(7, 2, 4).expect(rt, "a group");
     let member = Member::new(alloc, group, 0, 100).expect(rt, "a member");
     let (shared, seat) = SharedMember::<L>::new(alloc, blank, member);
-    fail(rt, alloc, &shared, seat, worker)
+    fail(rt, alloc, &shared, seat, who)
 }
 
 /// Of a member whose workers make seven turns.
@@ -91,30 +91,42 @@ fn desk<'a, L: Ledger>(alloc: Global, shared: &'a SharedMember<L>, stop: &'a Sto
     }
 }
 
+/// A worker with a device that fails at each call.
+fn run<L: Ledger + Send + Sync, R: Wait + Clock>(
+    rt: &R,
+    desk: &Desk<'_, L>,
+    seat: Seat<L>,
+    end: Slot<Outgoing>,
+    who: Who,
+) -> Worked<Broken, L> {
+    let broken = Broken { failures: 0 };
+    match who {
+        Who::Receiver => {
+            let part = Receiving { inlet: broken };
+            Worker { part, seat, end }.run(rt, desk)
+        }
+        Who::Timer => {
+            let part = Ticking { pace: broken };
+            Worker { part, seat, end }.run(rt, desk)
+        }
+    }
+}
+
 fn fail<L: Ledger + Send + Sync, R: Wait + Clock + Abort>(
     rt: &R,
     alloc: Global,
     shared: &SharedMember<L>,
     seat: Seat<L>,
-    worker: Worker,
+    who: Who,
 ) -> (u64, u64) {
     let stop = Stop::new();
     let desk = desk(alloc, shared, &stop);
     let (slot, mailbox) = new_mailbox(alloc).expect(rt, "a mailbox");
-    let part = Broken { failures: 0 };
-    let job = Job {
-        part,
-        seat,
-        end: slot,
-    };
     let counted = Counted {
         rt,
         sleeps: AtomicU64::new(0),
     };
-    let worked = match worker {
-        Worker::Receiver => take_all(&counted, &desk, job),
-        Worker::Timer => tick_all(&counted, &desk, job),
-    };
+    let worked = run(&counted, &desk, seat, slot, who);
     drop(mailbox);
     let failures = worked.failures;
     drop(worked);
