@@ -2,16 +2,16 @@
 
 ghost use Rattle.std.specs.Prelude.{◌≡◌, ◌≤◌, ◌++◌, IfSome, drop, length};
 ghost use Rattle.clap.specs.Words.{kind_of};
-ghost use Rattle.confer.specs.Expand.Runs.{WritesPart};
+ghost use Rattle.confer_text.specs.Streams.{WritesPart};
 ghost use Rattle.confer.specs.Cli.Statuses.{words_said, lines_said, bad_line_said, script_said, trace_said, run_said, thread_said, said_of};
 ghost use Rattle.confer.specs.declared.cli.said.TheConstants.{LONGEST_BAD_LINE, LONGEST_END};
 
-use crate::audit::TraceInputFault;
 use crate::cli::fault::Fault;
-use crate::expand::{LinesFault, put_bytes, put_long_number, write_whole};
-use crate::play::ScriptFault;
-use crate::run::{RunFault, ThreadFault};
 use clap::error::ErrorKind;
+use confer_audit::TraceInputFault;
+use confer_play::ScriptFault;
+use confer_run::{RunFault, ThreadFault};
+use confer_text::{LinesFault, put_bytes, put_long_number, write_whole};
 use std::io::Write;
 
 /// The most bytes behind the number of a bad line.
