@@ -21,18 +21,6 @@ use std::alloc::AllocError;
 /// More frames than any answer sends: the frames that were asked for, or a status to all and a request to each other member.
 pub const MOST_SENT_OUT: usize = MOST_FRAMES + 1;
 
-/// Pushes where there is room.
-pub fn push_within<T: Drop>(items: &mut Vec<T>, item: T)
-    requires { vec_len items.old + 1 ≤ vec_capacity items.old }
-    ensures items { items.new.items ≡ items.old.items ++ item ∷ [] }
-    ensures len { vec_len items.new ≡ vec_len items.old + 1 }
-    ensures capacity { vec_capacity items.old ≤ vec_capacity items.new }
-{
-    let Ok(()) = items.push(item) else {
-        unreachable!("there is room")
-    };
-}
-
 /// The frames that a member sends join those that were sent.
 fn send(sent: &mut Vec<Sent>, from: u32, out: Vec<Outgoing>)
     requires { vec_len sent.old + vec_len out ≤ vec_capacity sent.old }
@@ -40,7 +28,7 @@ fn send(sent: &mut Vec<Sent>, from: u32, out: Vec<Outgoing>)
         ≡ map sent_fields sent.old.items ++ map (sent_by from) out.items }
 {
     for Outgoing { to, bytes } in out {
-        push_within(sent, Sent { from, to, bytes });
+        sent.push_reserved(Sent { from, to, bytes });
     }
 }
 
@@ -57,14 +45,11 @@ fn cast(member: &mut Member, payload: &[u8], sent: &mut Vec<Sent>) -> Result<Ans
     match member.cast(payload) {
         Ok(CastDone { name, time, out }) => {
             let to = None;
-            push_within(
-                sent,
-                Sent {
-                    from,
-                    to,
-                    bytes: out,
-                },
-            );
+            sent.push_reserved(Sent {
+                from,
+                to,
+                bytes: out,
+            });
             Ok(Answer::Cast { name, time })
         }
         Err(CastRefusal::NoMemory) => Err(AllocError),

@@ -16,7 +16,7 @@ ghost use Rattle.cb_world.specs.World.{AreNewMembers, HasRoom, and_step, member_
 use crate::outcome::{Outcome, Sent};
 use crate::run::Run;
 use crate::step::Step;
-use crate::taking::{MOST_SENT_OUT, push_within, take};
+use crate::taking::{MOST_SENT_OUT, take};
 use cb_member::{Entry, Event, Group, LONGEST_HISTORY, Member, NewFault, NoMemory};
 use std::alloc::{AllocError, Global};
 use std::error::Error;
@@ -158,8 +158,8 @@ impl World {
             first_frame,
             frame_count,
         };
-        push_within(&mut self.outcomes, outcome);
-        push_within(&mut self.steps, taken);
+        self.outcomes.push_reserved(outcome);
+        self.steps.push_reserved(taken);
         Ok(())
     }
 

@@ -701,3 +701,23 @@ fn a_fault_prints_its_name(rt: HostRuntime) {
         says(&rt, fault.to_string(rt.alloc()), name);
     }
 }
+
+#[test]
+fn a_copied_cast_says_the_same(rt: HostRuntime) {
+    let change = Change {
+        field: 3,
+        amount: 9,
+    };
+    let cast = Cast {
+        group: 7,
+        sender: 2,
+        number: 1,
+        changes: vec![in rt.alloc(); change; 2].expect(&rt, "memory"),
+        payload: Bytes::from_static(b"hello"),
+    };
+    let copy = cast.copy().expect(&rt, "memory");
+    let is_same = copy == cast;
+    drop(cast);
+    drop(copy);
+    assert!(rt; is_same);
+}

@@ -322,26 +322,6 @@ fn a_copy_goes_on_alike_and_what_one_takes_the_other_keeps(rt: HostRuntime) {
 }
 
 #[test]
-fn a_copied_cast_says_the_same(rt: HostRuntime) {
-    let change = Change {
-        field: 3,
-        amount: 9,
-    };
-    let cast = Cast {
-        group: 7,
-        sender: 2,
-        number: 1,
-        changes: vec![in rt.alloc(); change; 2].expect(&rt, "memory"),
-        payload: Bytes::from_static(b"hello"),
-    };
-    let copy = copy_of(&cast).expect(&rt, "memory");
-    let is_same = copy == cast;
-    drop(cast);
-    drop(copy);
-    assert!(rt; is_same);
-}
-
-#[test]
 fn each_gap_is_a_range(rt: HostRuntime) {
     const STEPS: &[(Call, &str)] = &[
         (Call::Keep(0, 9), "Kept"),

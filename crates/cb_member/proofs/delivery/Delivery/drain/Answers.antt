@@ -8,7 +8,7 @@ deliveries-preserved c =
     record {
       waits = still_waits c.deliveries.self c.deliver_next.new.self c.in-Some.message c.deliveries.invariant.waits next;
       way = goes_on c.args.self.now c.deliveries.self c.deliver_next.new.self c.in-Some.message
-          c.args.events.now.items c.deliveries.events.items c.push_reserved.new.items.items c.deliveries.invariant.way next c.push_reserved.ensures.items;
+          c.args.events.now.items c.deliveries.events.items c.push_reserved.new.self.items c.deliveries.invariant.way next c.push_reserved.ensures.items;
       few = omega (arith, c.deliveries.invariant.few, next.one_less, c.push_reserved.ensures.len);
       room = omega (arith, c.deliveries.invariant.room, next.one_less, c.push_reserved.ensures.len, c.push_reserved.ensures.capacity);
     }

@@ -20,7 +20,8 @@ push_reserved-requires c =
     let lt = slice_get_within c.args.self.now.spares.items c.args.cast.sender place.times place.at in
     let is : place.times ≡ c.index_mut.result.now =
     one_value place.times c.index_mut.result.now (sym place.at ∙ vec_at c.args.self.now.spares.items c.args.cast.sender c.index_mut.result.now lt c.index_mut.ensures.value) in
-    subst (λ (v : Vec (List ℕ) Global). vec_len v + 1 ≤ vec_capacity v) is place.room
+    let room : vec_len c.index_mut.result.now + 1 ≤ vec_capacity c.index_mut.result.now = subst (λ (v : Vec (List ℕ) Global). vec_len v + 1 ≤ vec_capacity v) is place.room in
+    omega (arith, room)
 
 pub index_mut-requires-2 : goal.index_mut-requires-2
 index_mut-requires-2 c =
@@ -50,7 +51,7 @@ returns c seat facts are all size =
       buffers = refl;
       expander = refl;
       at_stack = stack_at c.args.self.now sender c.index_mut.result.now (vec_at spares sender c.index_mut.result.now lt_too c.index_mut.ensures.value);
-      spares = map-set (λ (times : Vec (List ℕ) Global). times.items) spares sender c.push_reserved.new.items
+      spares = map-set (λ (times : Vec (List ℕ) Global). times.items) spares sender c.push_reserved.new.self
           ∙ ap (set (map (λ (times : Vec (List ℕ) Global). times.items) spares) sender) c.push_reserved.ensures.items;
     })
     c.args.delivered c.keep-kept.result can c.keep-kept.ensures.answer c.keep-kept.ensures.after seat facts are all size

@@ -10,7 +10,7 @@ pub report-requires : goal.report-requires
 report-requires c = state_kept c.args.self.now c.requires.kept
 
 is_ticked : (c : goal.After-push_reserved)
-    → IsTicked c.args.self.now (record { limit = c.args.self.now.limit; state = c.report.new.self; entries = c.push_reserved.new.items; events = c.args.self.now.events }) c.args.telling
+    → IsTicked c.args.self.now (record { limit = c.args.self.now.limit; state = c.report.new.self; entries = c.push_reserved.new.self; events = c.args.self.now.events }) c.args.telling
 is_ticked c = ticked c.args.self.now _ c.args.telling c.in-Some.entry c.requires c.in-Some.is c.report.ensures refl c.push_reserved.ensures.items refl
 
 pub returns-clause-kept : goal.returns-clause-kept

@@ -16,7 +16,7 @@ take_cast-requires-clause-can c =
     let twin = record c.in_ok-twin.twin { reception = c.reserve.new.self } in
     let same = alike_again c.args.self.now c.in_ok-twin.twin twin c.in_ok-twin.ensures (with_room c.in_ok-twin.twin c.reserve.new.self c.reserve.ensures.same) in
     let long = ap length c.in_ok-spare.ensures ∙ length-replicate c.size.result 0 ∙ c.size.ensures.size ∙ ap (λ (g : Parameters). g.size) c.group.ensures.group in
-    subst (λ (cast : CastFields). CanTakeIn cast c.in_ok-spare.spare twin × HoldsAtMost cast twin c.args.most) (sym c.in_ok-copy_of.ensures)
+    subst (λ (cast : CastFields). CanTakeIn cast c.in_ok-spare.spare twin × HoldsAtMost cast twin c.args.most) (sym c.in_ok-copy.ensures)
     (can_let_go (cast_fields c.args.cast.now) c.args.most c.in_ok-spare.spare c.args.self.now twin same c.requires long c.in_ok-reserve.ensures.place)
 
 pub returns : goal.returns
@@ -26,6 +26,6 @@ returns c =
     let before = c.in_ok-events.events.items in
     let after = c.take_cast.new.events.items in
     let same = alike_again c.args.self.now c.in_ok-twin.twin twin c.in_ok-twin.ensures (with_room c.in_ok-twin.twin c.reserve.new.self c.reserve.ensures.same) in
-    let delivers = subst (λ (copy : CastFields). DeliversWith copy twin c.take_cast.new.self before after) c.in_ok-copy_of.ensures c.take_cast.ensures.delivers in
+    let delivers = subst (λ (copy : CastFields). DeliversWith copy twin c.take_cast.new.self before after) c.in_ok-copy.ensures c.take_cast.ensures.delivers in
     foretold (λ messages. messages ≡ delivered_by after) (AreDeliveries cast c.args.self.now) c.messages_of.result
     (λ messages is. are_its_deliveries cast c.args.self.now twin c.take_cast.new.self before after messages same delivers c.in_ok-events.ensures.items is) c.messages_of.ensures

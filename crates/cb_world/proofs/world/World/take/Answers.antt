@@ -36,7 +36,7 @@ invariant_of-self-2 c =
     let stay = frames_stay w inside.members.items c.take.new.members.items room.sent.items c.take.new.sent.items room.outcomes.items step outcome world taken in
     let after = stepped w inside.members.items c.take.new.members.items room.sent.items c.take.new.sent.items room.outcomes.items step outcome world taken
     (omega (arith, c.len-first_frame.ensures, room.sent.ok.0)) (omega (arith, stay, c.len-first_frame.ensures, c.len.ensures, room.sent.ok.0, c.take.new.sent.ok.0)) in
-    let steps : map step_fields c.push_within-2.new.items.items ≡ w.steps ++ step ∷ [] =
-    ap (map step_fields) (c.push_within-2.ensures.items ∙ ap (λ (ss : List Step). ss ++ c.in_ok-taken.taken ∷ []) c.make_room.ensures.steps) ∙ steps_with inside.steps.items c.in_ok-taken.taken step c.in_ok-taken.ensures in
-    subst (λ (ss : List schedules.Step). IsWorld (record { setting = w.setting; steps = ss }) c.take.new.members.items c.take.new.sent.items c.push_within.new.items.items) (sym steps)
-    (subst (λ (os : List Outcome). IsWorld (and_step w step) c.take.new.members.items c.take.new.sent.items os) (sym c.push_within.ensures.items) after)
+    let steps : map step_fields c.push_reserved-2.new.self.items ≡ w.steps ++ step ∷ [] =
+    ap (map step_fields) (c.push_reserved-2.ensures.items ∙ ap (λ (ss : List Step). ss ++ c.in_ok-taken.taken ∷ []) c.make_room.ensures.steps) ∙ steps_with inside.steps.items c.in_ok-taken.taken step c.in_ok-taken.ensures in
+    subst (λ (ss : List schedules.Step). IsWorld (record { setting = w.setting; steps = ss }) c.take.new.members.items c.take.new.sent.items c.push_reserved.new.self.items) (sym steps)
+    (subst (λ (os : List Outcome). IsWorld (and_step w step) c.take.new.members.items c.take.new.sent.items os) (sym c.push_reserved.ensures.items) after)
