@@ -20,12 +20,12 @@ use Rattle.confer_text.specs.Streams.{IsWithinLimit, IsTooLong, WritesSome}
 -- ---- the script of a joint order
 
 -- a payload's digits, or a dash for none
-abbrev pub payload_text : List ℕ → List ℕ
-payload_text [] = codes "-"
-payload_text (byte ∷ bytes) = encode_lower (byte ∷ bytes)
+abbrev pub digits_text : List ℕ → List ℕ
+digits_text [] = codes "-"
+digits_text (byte ∷ bytes) = encode_lower (byte ∷ bytes)
 
 unfoldable pub step_text : Step → List ℕ
-step_text (CastStep i payload) = parameter_text (codes "cast ") i ++ codes " " ++ payload_text payload ++ codes "\n"
+step_text (CastStep i payload) = parameter_text (codes "cast ") i ++ codes " " ++ digits_text payload ++ codes "\n"
 step_text (ArriveStep j number) = parameter_text (codes "arrive ") j ++ parameter_text (codes " ") number ++ codes "\n"
 step_text (TickStep i) = parameter_text (codes "tick ") i ++ codes "\n"
 

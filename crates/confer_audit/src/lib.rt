@@ -11,7 +11,6 @@ mod text;
 
 pub use fault::TraceInputFault;
 pub use running::audit_trace;
-pub use text::put_refusal;
 
 #[cfg(test)]
 mod tests;

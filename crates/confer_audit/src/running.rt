@@ -6,10 +6,10 @@ ghost use Rattle.cb_trace.specs.Auditing.{IsJoint};
 ghost use Rattle.confer_audit.specs.Audit.{Answers, IsNoTrace, Prints, PrintsOf, StopsAuditing, refusal_text, script_text};
 
 use crate::fault::TraceInputFault;
-use crate::text::{put_refusal, script_of};
+use crate::text::script_of;
 use cb_member::{History, NoMemory};
 use cb_trace::{AuditFault, Joint, TraceFault, audit, read_trace};
-use confer_text::{LinesFault, read_whole, write_whole};
+use confer_text::{LinesFault, put_fault, read_whole, write_whole};
 use std::alloc::{AllocError, Global};
 use std::io::{Read, Write};
 
@@ -91,12 +91,13 @@ fn accepted(alloc: Global, histories: &[History], joint: &Joint) -> Result<Verdi
     })
 }
 
+#[tactic(auto, unfolding(crate::specs::Audit::refusal_text))]
 fn refused(alloc: Global, refusal: AuditFault) -> Result<Verdict, NoMemory>
     ensures refused { IfOk result (λ verdict. verdict.refused ≡ true) }
     ensures text { IfOk result (λ verdict. verdict.text.items ≡ refusal_text refusal) }
 {
     let mut text = Vec::new(alloc);
-    put_refusal(&mut text, refusal)?;
+    put_fault(&mut text, "no ", refusal)?;
     Ok(Verdict {
         refused: true,
         text,

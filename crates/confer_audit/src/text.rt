@@ -1,16 +1,16 @@
-//! What is printed of an audit: the script of a joint order, or a refusal.
+//! The script of a joint order.
 
 ghost use Rattle.std.specs.Prelude.{◌≡◌, ◌++◌, IfOk, OnOk, map};
 ghost use Rattle.std.specs.List.{flat_map};
 ghost use Rattle.cb_schedules.specs.Schedule.{CastStep, ArriveStep, TickStep};
 ghost use Rattle.cb_world.specs.Steps.{step_fields};
-ghost use Rattle.confer_audit.specs.Audit.{first_text, payload_text, refusal_text, script_text, step_text};
+ghost use Rattle.confer_audit.specs.Audit.{first_text, digits_text, script_text, step_text};
 
 use bytes::Bytes;
 use cb_member::{Group, NoMemory};
-use cb_trace::{AuditFault, Joint};
+use cb_trace::Joint;
 use cb_world::Step;
-use confer_text::put_parameter;
+use confer_text::{put_hex, put_parameter};
 use std::alloc::Global;
 
 /// The script of the joint order: run by `confer play`, it leaves each member with just its history.
@@ -64,7 +64,7 @@ fn put_cast(out: &mut Vec<u8>, i: u32, payload: &Bytes) -> Result<(), NoMemory>
 {
     put_parameter(out, b"cast ", i as usize)?;
     out.extend_from_slice(b" ")?;
-    put_payload(out, payload)?;
+    put_digits(out, payload)?;
     out.extend_from_slice(b"\n")
 }
 
@@ -86,23 +86,11 @@ fn put_tick(out: &mut Vec<u8>, i: u32) -> Result<(), NoMemory>
 }
 
 /// The digits of a payload, or a dash for none.
-fn put_payload(out: &mut Vec<u8>, payload: &Bytes) -> Result<(), NoMemory>
-    ensures { OnOk result (out.new.items ≡ out.old.items ++ payload_text payload.now) }
+fn put_digits(out: &mut Vec<u8>, payload: &Bytes) -> Result<(), NoMemory>
+    ensures { OnOk result (out.new.items ≡ out.old.items ++ digits_text payload.now) }
 {
     if payload.is_empty() {
         return out.extend_from_slice(b"-");
     }
-    let digits = hex::encode(*out.allocator(), payload.as_slice())?;
-    out.extend_from_slice(digits.as_bytes())
-}
-
-/// The line of a refusal.
-#[tactic(auto, unfolding(crate::specs::Audit::refusal_text))]
-pub fn put_refusal(out: &mut Vec<u8>, refusal: AuditFault) -> Result<(), NoMemory>
-    ensures { OnOk result (out.new.items ≡ out.old.items ++ refusal_text refusal) }
-{
-    let named = refusal.to_string(*out.allocator())?;
-    out.extend_from_slice(b"no ")?;
-    out.extend_from_slice(named.as_bytes())?;
-    out.extend_from_slice(b"\n")
+    put_hex(out, payload.as_slice())
 }

@@ -4,8 +4,7 @@ use Rattle.std.specs.Prelude.{Option, Some, None, IfSome, IfOk, IfErr, OnOk, OnE
 use Rattle.std.specs.Io.KnownBytes.{Appends, Consumes, IsAtEnd, Keeps}
 use Rattle.std.proofs.lemmas.List.{append-nil, length-append, length-take, take-append-le, take-take, take_all, take-append-drop}
 use Rattle.cb_diffs.specs.Laws.{IsKept}
-use Rattle.confer_text.specs.Streams.{WritesPart}
-use Rattle.confer_text.proofs.Parts.{appends_none, appends_more, appends_kept, appends_unchanged, consumes_none, consumes_more, consumes_kept}
+use Rattle.confer_text.proofs.Parts.{appends_none, appends_more, consumes_none, consumes_more, consumes_kept}
 use Rattle.confer_text.specs.declared.streams.TheConstants.{LONGEST_INPUT}
 use Rattle.confer_expand.specs.Lines.{ended, unended, last_line, lines_of, answers, any_refused, accepted_through, output_of, is_refused}
 use Rattle.confer_expand.specs.Progress.{Group, Said, Says, SaysAfter, SaysFirst, IsFresh, NothingSaid}

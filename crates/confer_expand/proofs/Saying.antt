@@ -9,12 +9,13 @@ use Rattle.cb_times.specs.Time.{text_of}
 use Rattle.cb_frames.specs.declared.frame.Cast.{Cast}
 use Rattle.cb_frames.specs.Fields.{CastFields}
 use Rattle.cb_diffs.specs.Laws.{IsKept}
-use Rattle.confer_expand.specs.Answers.{outcome, answer_text, payload_text, accepted_after}
+use Rattle.confer_expand.specs.Answers.{outcome, answer_text, accepted_after}
 use Rattle.confer_expand.specs.Lines.{line_feed, ended, unended, answers, any_refused, accepted_through}
 use Rattle.confer_expand.specs.declared.refusal.Refusal.{Refusal}
 use Rattle.confer_expand.specs.Refusals.{refusal_text}
 use Rattle.confer_expand.specs.Steps.{GivesAccepted}
-use Rattle.confer_text.specs.Texts.{accepted_text}
+use Rattle.confer_text.specs.Texts.{payload_text}
+use Rattle.confer_expand.specs.Texts.{accepted_text}
 use Rattle.confer_expand.specs.Progress.{Group, SameGroup, Said, Says, SaysAfter, SaysFirst}
 use Rattle.confer_expand.proofs.Cutting.{ended-line, unended-line, ended-no_feed, unended-no_feed, none_found}
 

@@ -3,37 +3,29 @@
 use crate::expansion::Expansion;
 use crate::fault::LineFault;
 use crate::refusal::Refusal;
-use cb_frames::Cast;
+use cb_frames::{Cast, LONGEST_PAYLOAD};
 use cb_times::{NoMemory, VectorTime};
-use confer_text::{
-    LONGEST_PAYLOAD_TEXT, LONGEST_TIME, put_byte, put_number, put_payload, put_time,
-};
+use confer_text::{LONGEST_TIME, put_fault, put_number, put_payload, put_time};
 use std::alloc::Global;
 use std::marker::Model;
 
-/// The most bytes of an answer with its line feed: the two numbers of a name, a time and a payload, and what
-/// stands between them.
-pub const LONGEST_ANSWER: usize = 24 + 705 + 2049;
+/// The most bytes of the answer to an accepted cast, with its line feed: a name, a time and a payload, which may
+/// take two bytes a byte and two more, and what stands behind each.
+const LONGEST_ANSWER: usize = 24 + LONGEST_TIME + 2 * LONGEST_PAYLOAD + 2;
 
 /// Answers to lines, one behind the other. A clause sees their text, and whether one of them is a refusal.
 #[derive(Drop)]
 pub struct Answers {
-    alloc: Global,
     text: Vec<u8>,
     refused: bool,
-    /// Where the answer to an accepted line is written before it joins the text: made once, and written over.
-    room: Vec<u8>,
 }
 
 impl Model for Answers {
-    ghost use Rattle.std.specs.Prelude.{◌≡◌, vec_len};
     ghost use Rattle.confer_expand.specs.Progress.{Said};
 
     ghost Value = { Said };
 
     ghost view = { λ a. record { text = a.text.items; refused = a.refused } };
-
-    ghost invariant = { λ a. vec_len a.room ≡ 2778 };
 }
 
 impl Answers {
@@ -42,15 +34,13 @@ impl Answers {
     ghost use Rattle.confer_expand.specs.Lines.{line_feed};
     ghost use Rattle.confer_expand.specs.Refusals.{refusal_text};
 
-    pub fn new(alloc: Global) -> Result<Answers, NoMemory>
-        ensures { IfOk result (λ answers. answers ≡ record { text = []; refused = false }) }
+    pub fn new(alloc: Global) -> Answers
+        ensures { result ≡ record { text = []; refused = false } }
     {
-        Ok(Answers {
-            alloc,
+        Answers {
             text: Vec::new(alloc),
             refused: false,
-            room: zeros(alloc, LONGEST_ANSWER)?,
-        })
+        }
     }
 
     /// The answers that were given since the last `clear`.
@@ -83,7 +73,7 @@ impl Answers {
         self.text.reserve(LONGEST_ANSWER)?;
         match expansion.accept(line) {
             Ok(cast) => {
-                show(cast, expansion.time(), &mut self.room, &mut self.text);
+                show(&mut self.text, &cast, expansion.time());
                 Ok(())
             }
             Err(LineFault::Refused(refusal)) => self.refuse(refusal),
@@ -98,50 +88,44 @@ impl Answers {
         }) }
         ensures err { OnErr result (self.new ≡ self.old) }
     {
-        let text = format!(in self.alloc; "refused {refusal}\n")?;
-        self.text.extend_from_slice(text.as_bytes())?;
+        put_fault(&mut self.text, "refused ", refusal)?;
         self.refused = true;
         Ok(())
     }
 }
 
-ghost use Rattle.std.specs.Prelude.{◌≡◌, ◌≤◌, ◌∷◌, ◌++◌, [], drop, codes, length, vec_len, vec_capacity, ◌+◌, IfOk};
+ghost use Rattle.std.specs.Prelude.{◌≡◌, ◌≤◌, ◌+◌, ◌∷◌, ◌++◌, [], OnOk, vec_capacity, vec_len, length};
 ghost use Rattle.cb_frames.specs.declared.frame.TheConstants.{LONGEST_PAYLOAD};
+ghost use Rattle.confer_text.specs.Texts.{PutsAtMost};
 ghost use Rattle.confer_expand.specs.declared.answers.TheConstants.{LONGEST_ANSWER};
 ghost use Rattle.confer_expand.specs.Lines.{line_feed};
 ghost use Rattle.confer_expand.specs.Texts.{accepted_text};
 
-fn zeros(alloc: Global, count: usize) -> Result<Vec<u8>, NoMemory>
-    ensures { IfOk result (λ bytes. vec_len bytes ≡ count) }
-{
-    vec![in alloc; 0; count]
-}
-
 /// Puts an accepted cast with its time behind the text, for which memory is reserved.
-fn show(cast: Cast, time: &VectorTime, room: &mut [u8], text: &mut Vec<u8>)
-    requires short { length cast.payload ≤ LONGEST_PAYLOAD }
-    requires room { length room.old ≡ LONGEST_ANSWER }
+fn show(text: &mut Vec<u8>, cast: &Cast, time: &VectorTime)
+    requires short { length cast.now.payload ≤ LONGEST_PAYLOAD }
     requires reserved { vec_len text.old + LONGEST_ANSWER ≤ vec_capacity text.old }
-    ensures { text.new.items ≡ text.old.items ++ (accepted_text cast time.now ++ line_feed ∷ []) }
+    ensures { text.new.items
+        ≡ text.old.items ++ (accepted_text cast.now time.now ++ line_feed ∷ []) }
 {
-    let start = put_accepted(&cast, time, room);
-    let Ok(()) = text.extend_from_slice(&room[start..]) else {
+    let Ok(()) = put_accepted(text, cast, time) else {
         unreachable!("memory is reserved");
     };
 }
 
-/// Writes the answer to an accepted cast at the end of the room, and says where it starts.
-fn put_accepted(cast: &Cast, time: &VectorTime, room: &mut [u8]) -> usize
-    requires short { length cast.now.payload ≤ LONGEST_PAYLOAD }
-    requires room { length room.old ≡ LONGEST_ANSWER }
-    ensures { drop result room.new ≡ accepted_text cast.now time.now ++ line_feed ∷ [] }
+/// Puts an accepted cast with its time behind the text.
+fn put_accepted(text: &mut Vec<u8>, cast: &Cast, time: &VectorTime) -> Result<(), NoMemory>
+    requires { length cast.now.payload ≤ LONGEST_PAYLOAD }
+    ensures line { OnOk result (text.new.items
+        ≡ text.old.items ++ (accepted_text cast.now time.now ++ line_feed ∷ [])) }
+    ensures room { PutsAtMost LONGEST_ANSWER text.old text.new result }
 {
-    let end = put_byte(b'\n', room, room.len());
-    let end = put_payload(&cast.payload, room, end);
-    let end = put_byte(b' ', room, end);
-    let end = put_time(time.as_slice(), room, end);
-    let end = put_byte(b' ', room, end);
-    let end = put_number(cast.number, room, end);
-    let end = put_byte(b'.', room, end);
-    put_number(cast.sender, room, end)
+    put_number(text, cast.sender)?;
+    text.extend_from_slice(b".")?;
+    put_number(text, cast.number)?;
+    text.extend_from_slice(b" ")?;
+    put_time(text, time)?;
+    text.extend_from_slice(b" ")?;
+    put_payload(text, &cast.payload)?;
+    text.extend_from_slice(b"\n")
 }

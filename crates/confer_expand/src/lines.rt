@@ -31,7 +31,7 @@ impl Lines {
     {
         Ok(Lines {
             expansion: Expansion::new(alloc, group, size)?,
-            answers: Answers::new(alloc)?,
+            answers: Answers::new(alloc),
             begun: Vec::new(alloc),
         })
     }

@@ -26,7 +26,7 @@ use Rattle.cb_schedules.proofs.GoingOn.{runs_go_on}
 use Rattle.cb_world.specs.Steps.{member_of}
 use Rattle.cb_world.specs.World.{WorldState, run_in, and_step}
 use Rattle.confer_play.specs.declared.rooms.Attendance.{Attendance}
-use Rattle.confer_play.specs.declared.rooms.TheConstants.{SCREEN}
+use Rattle.confer_text.specs.declared.conference.TheConstants.{SCREEN}
 use Rattle.confer_play.specs.Rooms.{messages_in, view_of}
 use Rattle.confer_play.specs.Playing.{Composes, ComesOf, new_group, events_in, view_in, IsShown, IsNew, AreShown, lines_with, CatchesUp, CatchUp}
 use Rattle.confer_play.proofs.Casting.{goes_on, others_stay}

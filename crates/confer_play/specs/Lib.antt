@@ -3,3 +3,4 @@ pub mod Play
 pub mod Playing
 pub mod Rooms
 pub mod ScriptText
+pub mod Transcript

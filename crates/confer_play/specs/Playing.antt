@@ -14,7 +14,7 @@ use Rattle.cb_schedules.specs.Messages.{causal_lists}
 use Rattle.cb_world.specs.Steps.{step_fields}
 use Rattle.cb_world.specs.World.{WorldState, run_in, and_step}
 use Rattle.confer_play.specs.declared.rooms.Attendance.{Attendance}
-use Rattle.confer_play.specs.declared.rooms.TheConstants.{SCREEN}
+use Rattle.confer_text.specs.declared.conference.TheConstants.{SCREEN}
 use Rattle.confer_play.specs.declared.script.Setting.{Setting as ScriptSetting}
 use Rattle.confer_play.specs.declared.script.ScriptStep.{ScriptStep}
 use Rattle.confer_play.specs.declared.script.ScriptStep.TheVariants as script

@@ -34,8 +34,9 @@ pub fn no_answer_before_its_question_over_lossy_links()
         → AgreeOnLines (causal_lists setting s)) }
 {}
 
-/// The same after every script whose plain casts carry no answer: what it says and answers is composed in the
-/// conference of the member that casts it, so the premise holds.
+/// No answer before its question, after every script whose plain casts carry no answer: each answer was composed
+/// where its question was shown, so no member's conference ever answers `Orphan`, each message that is a line has
+/// its line there, and all members who have the line of a message have the same.
 pub fn no_answer_before_its_question_in_a_script()
     ensures { EachScript (λ w. QuestionsComeFirst (events_in w)) }
 {}

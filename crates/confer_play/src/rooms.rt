@@ -5,7 +5,6 @@
 
 ghost use Rattle.std.specs.Prelude.{◌≡◌, ◌≢◌, ◌≤◌, ◌+◌, [], IfOk, OnOk, MatchOption, drop, length, string_bytes};
 ghost use Rattle.std.specs.List.{AllByRecursion};
-ghost use Rattle.cb_delay.specs.Message.{message_of};
 ghost use Rattle.cb_rooms.specs.declared.fault.ComposeFault.TheVariants as compose_faults;
 ghost use Rattle.cb_rooms.specs.Conference.{held};
 ghost use Rattle.cb_rooms.specs.Line.{fields_of};
@@ -18,14 +17,12 @@ ghost use Rattle.confer_play.specs.Playing.{setting_in, new_group, view_in, line
 
 use crate::script::Setting;
 use bytes::Bytes;
-use cb_member::{Event, Message};
-use cb_rooms::{ComposeFault, Conference, ConferenceFault, Line};
+use cb_member::Event;
+use cb_rooms::{ComposeFault, Conference, Line};
 use cb_times::NoMemory;
 use cb_world::{PlayFault, Step, World};
+use confer_text::{SCREEN, new_conference, show_message};
 use std::alloc::{AllocError, Global};
-
-/// The lines of each screen.
-const SCREEN: usize = 20;
 
 /// What became of a line that a member was to compose and cast.
 #[derive(Clone, Copy)]
@@ -200,8 +197,7 @@ fn show_all(conference: &mut Conference, events: &[Event]) -> Result<(), NoMemor
         ≡ held conference.old.screen (lines_with conference.old.lines events.now)) }
 {
     for event in events {
-        let message = event.message();
-        conference.show(message.name, message.payload.as_slice())?;
+        show_message(conference, event.message())?;
     }
     Ok(())
 }
@@ -241,14 +237,4 @@ fn add_attendance(alloc: Global, attendances: &mut Vec<Attendance>) -> Result<()
         shown: 0,
     };
     attendances.push(attendance).map_err(AllocError::from)
-}
-
-fn new_conference(alloc: Global) -> Result<Conference, NoMemory>
-    ensures { IfOk result (λ conference. conference ≡ held SCREEN []) }
-{
-    match Conference::new(alloc, SCREEN) {
-        Ok(conference) => Ok(conference),
-        Err(ConferenceFault::NoMemory) => Err(AllocError),
-        Err(ConferenceFault::BadScreen) => unreachable!("a screen may have 20 lines"),
-    }
 }

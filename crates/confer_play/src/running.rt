@@ -1,6 +1,6 @@
 //! From a reader to a writer, by way of a group.
 
-ghost use Rattle.std.specs.Prelude.{◌≡◌, [], OnOk, IfOk, IfErr, map, string_bytes};
+ghost use Rattle.std.specs.Prelude.{◌≡◌, [], OnOk, IfOk, IfErr, map};
 ghost use Rattle.confer_play.specs.ScriptText.{RunsScript, WritesRun};
 ghost use Rattle.confer_text.specs.Streams.{IsWithinLimit, WritesSome};
 ghost use Rattle.confer_play.specs.Play.{IsNoScript, StopsPlaying};
@@ -43,7 +43,7 @@ pub fn play_script<R: Read, W: Write>(
         Ok(transcript) => transcript,
         Err(fault) => return Err(fault),
     };
-    match write_whole(output, transcript.as_bytes()) {
+    match write_whole(output, &transcript) {
         Ok(()) => Ok(()),
         Err(fault) => Err(ScriptFault::Lines(fault)),
     }
@@ -51,8 +51,8 @@ pub fn play_script<R: Read, W: Write>(
 
 /// What is printed of a script.
 #[tactic(auto, using(crate::proofs::ScriptLines::runs_script))]
-fn transcript_of(alloc: Global, text: &[u8]) -> Result<String, ScriptFault>
-    ensures runs { IfOk result (λ printed. RunsScript text.now (string_bytes printed)) }
+fn transcript_of(alloc: Global, text: &[u8]) -> Result<Vec<u8>, ScriptFault>
+    ensures runs { IfOk result (λ printed. RunsScript text.now printed.items) }
     ensures fault { IfErr result IsNoScript }
 {
     let Script { setting, steps } = script_of(alloc, text)?;
@@ -67,12 +67,12 @@ pub fn run_text(
     alloc: Global,
     setting: Setting,
     steps: &[ScriptStep<'_>],
-) -> Result<String, NoMemory>
+) -> Result<Vec<u8>, NoMemory>
     ensures { IfOk result (λ text.
-        IsRunText (setting_in setting) (map order_of steps.now) (string_bytes text)) }
+        IsRunText (setting_in setting) (map order_of steps.now) text.items) }
 {
     let mut rooms = Rooms::new(alloc, setting)?;
-    let mut text = String::new(alloc);
+    let mut text = Vec::new(alloc);
     let put = put_run(&mut text, setting.group.size(), steps, &mut rooms);
     // A call of `drop` takes the prover less time than a value that is left to the end.
     drop(rooms);
@@ -87,27 +87,31 @@ pub fn run_text(
 
 /// Takes these steps and puts their lines, and those of all members behind them.
 fn put_run(
-    text: &mut String,
+    text: &mut Vec<u8>,
     size: u32,
     steps: &[ScriptStep<'_>],
     rooms: &mut Rooms,
 ) -> Result<(), NoMemory>
     ensures { OnOk result (AreShown rooms.old.world rooms.old.attendances.items
         → PutsRun rooms.old.world (map order_of steps.now) rooms.new.world
-        (string_bytes text.old) (string_bytes text.new)) }
+        text.old.items text.new.items) }
 {
     put_steps(text, steps, rooms)?;
     let members = text_of_members(*text.allocator(), size, rooms.world())?;
-    let put = text.push_str(&members);
+    let put = text.extend_from_slice(&members);
     drop(members);
     put
 }
 
 /// Takes these steps and puts their lines. What the group does is the outcome of the script's orders.
-fn put_steps(text: &mut String, steps: &[ScriptStep<'_>], rooms: &mut Rooms) -> Result<(), NoMemory>
+fn put_steps(
+    text: &mut Vec<u8>,
+    steps: &[ScriptStep<'_>],
+    rooms: &mut Rooms,
+) -> Result<(), NoMemory>
     ensures { OnOk result (AreShown rooms.old.world rooms.old.attendances.items
         → PutsSteps rooms.old.world 1 (map order_of steps.now) rooms.new.world
-        (string_bytes text.old) (string_bytes text.new)) }
+        text.old.items text.new.items) }
 {
     let mut number: usize = 0;
     for step in steps {
@@ -119,19 +123,19 @@ fn put_steps(text: &mut String, steps: &[ScriptStep<'_>], rooms: &mut Rooms) -> 
 
 /// Takes a step and puts its lines, under this number.
 fn put_part(
-    text: &mut String,
+    text: &mut Vec<u8>,
     number: usize,
     step: &ScriptStep<'_>,
     rooms: &mut Rooms,
 ) -> Result<(), NoMemory>
     ensures puts { OnOk result (AreShown rooms.old.world rooms.old.attendances.items
         → PutsStep number (order_of step.now) rooms.old.world rooms.new.world
-        (string_bytes text.old) (string_bytes text.new)) }
+        text.old.items text.new.items) }
     ensures shown { OnOk result (AreShown rooms.old.world rooms.old.attendances.items
         → AreShown rooms.new.world rooms.new.attendances.items) }
 {
     let part = text_of_step(*text.allocator(), number, step, rooms)?;
-    let put = text.push_str(&part);
+    let put = text.extend_from_slice(&part);
     drop(part);
     put
 }
@@ -142,15 +146,15 @@ fn text_of_step(
     number: usize,
     step: &ScriptStep<'_>,
     rooms: &mut Rooms,
-) -> Result<String, NoMemory>
+) -> Result<Vec<u8>, NoMemory>
     ensures comes { OnOk result (AreShown rooms.old.world rooms.old.attendances.items
         → ComesOf (order_of step.now) rooms.old.world rooms.new.world) }
     ensures shown { OnOk result (AreShown rooms.old.world rooms.old.attendances.items
         → AreShown rooms.new.world rooms.new.attendances.items) }
     ensures says { IfOk result (λ part. AreShown rooms.old.world rooms.old.attendances.items
-        → Says number (order_of step.now) rooms.old.world (string_bytes part)) }
+        → Says number (order_of step.now) rooms.old.world part.items) }
 {
-    let mut text = String::new(alloc);
+    let mut text = Vec::new(alloc);
     match put_step_of(&mut text, number, step, rooms) {
         Ok(()) => Ok(text),
         Err(refused) => {
@@ -162,18 +166,18 @@ fn text_of_step(
 
 /// Takes a step and puts its lines, under this number, into an empty text.
 fn put_step_of(
-    text: &mut String,
+    text: &mut Vec<u8>,
     number: usize,
     step: &ScriptStep<'_>,
     rooms: &mut Rooms,
 ) -> Result<(), NoMemory>
-    requires { string_bytes text.old ≡ [] }
+    requires { text.old.items ≡ [] }
     ensures comes { OnOk result (AreShown rooms.old.world rooms.old.attendances.items
         → ComesOf (order_of step.now) rooms.old.world rooms.new.world) }
     ensures shown { OnOk result (AreShown rooms.old.world rooms.old.attendances.items
         → AreShown rooms.new.world rooms.new.attendances.items) }
     ensures says { OnOk result (AreShown rooms.old.world rooms.old.attendances.items
-        → Says number (order_of step.now) rooms.old.world (string_bytes text.new)) }
+        → Says number (order_of step.now) rooms.old.world text.new.items) }
 {
     match step {
         ScriptStep::Take(step) => {
@@ -191,14 +195,14 @@ fn put_step_of(
 
 /// The lines of a step that asks for the screen of a member, in an empty text.
 fn put_screen_of(
-    text: &mut String,
+    text: &mut Vec<u8>,
     number: usize,
     member: u32,
     rooms: &Rooms,
 ) -> Result<(), NoMemory>
-    requires { string_bytes text.old ≡ [] }
+    requires { text.old.items ≡ [] }
     ensures { OnOk result (AreShown rooms.now.world rooms.now.attendances.items
-        → Says number (Shows member) rooms.now.world (string_bytes text.new)) }
+        → Says number (Shows member) rooms.now.world text.new.items) }
 {
     let Some(screen) = rooms.screen(member)? else {
         return put_no_member(text, number);
@@ -209,7 +213,7 @@ fn put_screen_of(
 }
 
 /// The lines of the step that was taken last, which has this number.
-fn put_last_step(text: &mut String, number: usize, world: &World) -> Result<(), NoMemory> {
+fn put_last_step(text: &mut Vec<u8>, number: usize, world: &World) -> Result<(), NoMemory> {
     let Some(outcome) = world.outcomes().last() else {
         return Ok(());
     };
@@ -218,8 +222,8 @@ fn put_last_step(text: &mut String, number: usize, world: &World) -> Result<(), 
 }
 
 /// The lines of all members.
-fn text_of_members(alloc: Global, size: u32, world: &World) -> Result<String, NoMemory> {
-    let mut text = String::new(alloc);
+fn text_of_members(alloc: Global, size: u32, world: &World) -> Result<Vec<u8>, NoMemory> {
+    let mut text = Vec::new(alloc);
     match put_members(&mut text, size, world) {
         Ok(()) => Ok(text),
         Err(refused) => {
@@ -229,7 +233,7 @@ fn text_of_members(alloc: Global, size: u32, world: &World) -> Result<String, No
     }
 }
 
-fn put_members(text: &mut String, size: u32, world: &World) -> Result<(), NoMemory> {
+fn put_members(text: &mut Vec<u8>, size: u32, world: &World) -> Result<(), NoMemory> {
     for number in 0..size {
         if let Some(member) = world.member(number) {
             put_member(text, number, member)?;

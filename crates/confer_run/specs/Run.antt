@@ -1,5 +1,5 @@
 -- What `confer run` prints of the histories of a conference in threads, and where it stops.
-use Rattle.std.specs.Prelude.{◌≡◌, ℕ, suc, Bool, true, false, List, [], ◌∷◌, ◌++◌, All, codes, map, Option, Some, None}
+use Rattle.std.specs.Prelude.{◌≡◌, ◌≢◌, ℕ, suc, Bool, true, false, List, [], ◌∷◌, ◌++◌, All, codes, map, Option, Some, None}
 use Rattle.std.specs.Io.KnownBytes.{Appends}
 use Rattle.cb_history.specs.Group.{Parameters}
 use Rattle.cb_lock.specs.declared.closing.CloseFault.{CloseFault}
@@ -22,7 +22,9 @@ use Rattle.cb_world.specs.World.{WorldState}
 use Rattle.cb_trace.specs.declared.fault.AuditFault.{AuditFault}
 use Rattle.cb_trace.specs.Text.{HistoryFields}
 use Rattle.cb_trace.specs.Bounds.{IsTextOf}
-use Rattle.cb_trace.specs.Auditing.{IsAudited, AreLegalHistories}
+use Rattle.cb_trace.specs.declared.fault.AuditFault.TheVariants as audits
+use Rattle.cb_trace.specs.FaultText.{audit_fault_text}
+use Rattle.cb_trace.specs.Auditing.{IsAudited, AreLegalHistories, SaysFault}
 use Rattle.confer_run.specs.declared.fault.RunFault.{RunFault}
 use Rattle.confer_run.specs.declared.fault.RunFault.TheVariants as faults
 use Rattle.confer_run.specs.declared.fault.ThreadFault.{ThreadFault}
@@ -33,7 +35,6 @@ use Rattle.confer_run.specs.declared.setting.LinkKind.{LinkKind}
 use Rattle.confer_run.specs.declared.setting.LinkKind.TheVariants as links
 use Rattle.confer_run.specs.declared.setting.RunSetting.{RunSetting}
 use Rattle.confer_text.specs.Texts.{parameter_text}
-use Rattle.confer_audit.specs.Audit.{Refuses, refusal_text}
 use Rattle.confer_text.specs.Streams.{WritesPart}
 
 -- the group of a conference
@@ -87,7 +88,8 @@ EachRan reports = All (λ report. report.fault ≡ None) reports
 -- what the audit of the histories said
 abbrev pub IsAuditLine : List HistoryFields → Bool → List ℕ → Type 0
 IsAuditLine histories false line = (line ≡ codes "audit yes\n") × ((w : WorldState) × IsAudited histories w)
-IsAuditLine histories true line = (refusal : AuditFault) × Refuses histories refusal × (line ≡ codes "audit " ++ refusal_text refusal)
+IsAuditLine histories true line =
+    (refusal : AuditFault) × SaysFault histories refusal × (refusal ≢ audits.NoMemory) × (line ≡ codes "audit no " ++ (audit_fault_text refusal ++ codes "\n"))
 
 -- behind these lines
 pub record EndsWithAudit (lines : List ℕ) (histories : List HistoryFields) (refused : Bool) (text : List ℕ) : Type 0 where

@@ -14,7 +14,7 @@ use Rattle.cb_rooms.specs.declared.shown.Showing.TheVariants as showings
 use Rattle.cb_threads.specs.declared.talker.Talk.{Talk}
 use Rattle.cb_threads.specs.declared.talker.Talk.TheVariants as talks
 use Rattle.confer_run.specs.declared.participant.Participant.{Participant}
-use Rattle.confer_run.specs.declared.participant.TheConstants.{SCREEN}
+use Rattle.confer_text.specs.declared.conference.TheConstants.{SCREEN}
 use Rattle.confer_run.specs.declared.setting.RunSetting.{RunSetting}
 
 -- ---- before all turns

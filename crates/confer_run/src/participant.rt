@@ -2,20 +2,16 @@
 
 ghost use Rattle.std.specs.Prelude.{◌≡◌, ◌≢◌, ◌<◌, ◌++◌, Decides, IfOk, IfSome, OnOk, OnErr, drop, filter, [], ◌∷◌, vec_len};
 ghost use Rattle.std.specs.Vec.{vec_capacity};
-ghost use Rattle.cb_delay.specs.Message.{message_of};
-ghost use Rattle.cb_rooms.specs.Conference.{held};
 ghost use Rattle.cb_rooms.specs.Line.{IsName, IsPayload, fields_of};
 ghost use Rattle.confer_run.specs.Talking.{Begins, RoseBy, SawAll, SawFirst, SaysNext, TalksAbout, as_orphan, as_shown, as_shown_to, is_name as has_name, messages_of, question_of};
 
 use crate::setting::RunSetting;
 use cb_member::{Event, Message, NoMemory};
-use cb_rooms::{ComposeFault, Conference, ConferenceFault, Line, Showing};
+use cb_rooms::{ComposeFault, Conference, Line, Showing};
 use cb_threads::{Talk, Talker};
 use cb_times::{MOST_MEMBERS, Name};
+use confer_text::{new_conference, show_message};
 use std::alloc::{AllocError, Global};
-
-/// The lines of each screen.
-const SCREEN: usize = 20;
 
 /// The room in which all is said.
 const ROOM: &str = "main";
@@ -105,9 +101,7 @@ impl Participant {
             return Ok(());
         }
         self.questions.reserve(1)?;
-        let showing = self
-            .conference
-            .show(message.name, message.payload.as_slice())?;
+        let showing = show_message(&mut self.conference, message)?;
         self.count(message.name, showing);
         Ok(())
     }
@@ -145,9 +139,7 @@ impl Participant {
     {
         self.shown = self.shown.saturating_add(1);
         if name.sender == 0 {
-            let Ok(()) = self.questions.push(name) else {
-                unreachable!("there is room for it");
-            };
+            self.questions.push_reserved(name);
         }
     }
 
@@ -218,16 +210,6 @@ impl Talker for Participant {
         }
         let is_done = self.cast >= self.to_cast && self.shown >= self.to_show;
         Ok(if is_done { Talk::Finished } else { Talk::Idle })
-    }
-}
-
-fn new_conference(alloc: Global) -> Result<Conference, NoMemory>
-    ensures { IfOk result (λ conference. conference ≡ held SCREEN []) }
-{
-    match Conference::new(alloc, SCREEN) {
-        Ok(conference) => Ok(conference),
-        Err(ConferenceFault::NoMemory) => Err(AllocError),
-        Err(ConferenceFault::BadScreen) => unreachable!("a screen may have 20 lines"),
     }
 }
 

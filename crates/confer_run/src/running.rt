@@ -8,7 +8,8 @@ ghost use Rattle.cb_threads.specs.declared.group.GroupFault.TheVariants.{BadPlan
 ghost use Rattle.cb_threads.specs.declared.report.WorkerFault.{WorkerFault};
 ghost use Rattle.cb_trace.specs.Bounds.{AreMixed};
 ghost use Rattle.cb_trace.specs.Text.{HistoryFields, history_fields};
-ghost use Rattle.confer_audit.specs.Audit.{Refuses};
+ghost use Rattle.cb_trace.specs.Auditing.{SaysFault};
+ghost use Rattle.cb_trace.specs.declared.fault.AuditFault.TheVariants as audits;
 ghost use Rattle.confer_run.specs.Run.{EachRan, EndsWithAudit, IsFaultOfGroup, PrintsRun, ShowsOver, ShowsReports, ShowsRun, StopsRun, IsTraceText, done_text, fault_of_worker, group_of, member_line, report_line, report_lines};
 ghost use Rattle.confer_run.specs.Settings.{IsRunSetting};
 ghost use Rattle.confer_run.specs.declared.fault.RunFault.TheVariants as run_faults;
@@ -25,8 +26,7 @@ use cb_threads::{
     UdpLink, run_group,
 };
 use cb_trace::{AuditFault, WriteFault, audit, write_trace};
-use confer_audit::put_refusal;
-use confer_text::{put_parameter, write_whole};
+use confer_text::{put_fault, put_parameter, write_whole};
 use std::alloc::{AllocError, Global};
 use std::io::Write;
 use std::net::Net;
@@ -383,14 +383,13 @@ fn accepted(lines: Vec<u8>) -> Result<RunText, ThreadFault>
 }
 
 fn refused(lines: Vec<u8>, refusal: AuditFault) -> Result<RunText, ThreadFault>
-    ensures text { (histories : List HistoryFields) → Refuses histories refusal
-        → IfOk result (λ answer. EndsWithAudit lines.items histories answer.refused
+    ensures text { (histories : List HistoryFields) → SaysFault histories refusal
+        → refusal ≢ audits.NoMemory → IfOk result (λ answer. EndsWithAudit lines.items histories answer.refused
         answer.text.items) }
     ensures fault { IfErr result (λ fault. fault ≡ OutOfMemory) }
 {
     let mut text = lines;
-    text.extend_from_slice(b"audit ")?;
-    put_refusal(&mut text, refusal)?;
+    put_fault(&mut text, "audit no ", refusal)?;
     Ok(RunText {
         refused: true,
         text,

@@ -1,78 +1,73 @@
-//! Text that is written from its end to its front, as the digits of a number come.
+//! How numbers, times and payloads are printed: each function puts a piece behind a text.
 //!
-//! Each function puts a piece in front of what stands from `end` on, and answers where that piece starts.
+//! The only error is out of memory. It comes only where the text lacked room for the piece, of which a beginning
+//! may stand there then.
 
-ghost use Rattle.std.specs.Prelude.{◌≡◌, ◌+◌, ◌*◌, ◌≤◌, ◌∷◌, ◌++◌, [], OnOk, length};
+ghost use Rattle.std.specs.Prelude.{◌≡◌, ◌≤◌, ◌+◌, ◌*◌, ◌∷◌, ◌++◌, IfSome, OnErr, OnOk, codes, length};
 ghost use Rattle.std.specs.List.{list_all};
 ghost use Rattle.std.specs.Fmt.{decimal};
 ghost use Rattle.hex.specs.Hex.{encode_lower};
+ghost use Rattle.cb_times.specs.Name.{name_text};
 ghost use Rattle.cb_times.specs.Time.{text_of};
-ghost use Rattle.cb_frames.specs.declared.frame.TheConstants.{LONGEST_PAYLOAD};
-ghost use Rattle.confer_text.specs.Texts.{HasRoom, Puts, is_plain, parameter_text, payload_text};
+ghost use Rattle.confer_text.specs.Texts.{PutsAtMost, is_plain, parameter_text, payload_text};
 
-use cb_times::NoMemory;
-use itoa::{Buffer, write_digits};
+use cb_times::{Name, NoMemory, VectorTime};
+use itoa::Buffer;
+use std::fmt::Display;
 
 /// The most bytes of a time: 64 fields of ten digits with commas between them, and brackets.
 pub const LONGEST_TIME: usize = 705;
 
-/// The most bytes of a payload of 1,024 bytes in hexadecimal, with its `x`.
-pub const LONGEST_PAYLOAD_TEXT: usize = 2049;
-
-/// One byte.
-pub fn put_byte(byte: u8, buffer: &mut [u8], end: usize) -> usize
-    requires { HasRoom 1 buffer.old end }
-    ensures { Puts buffer.old end buffer.new result (byte ∷ []) }
-{
-    buffer[end - 1] = byte;
-    end - 1
-}
-
 /// A number in decimal.
-pub fn put_number(number: u32, buffer: &mut [u8], end: usize) -> usize
-    requires { HasRoom 10 buffer.old end }
-    ensures text { Puts buffer.old end buffer.new result (decimal number) }
-    ensures least { end ≤ result + 10 }
+pub fn put_number(text: &mut Vec<u8>, number: u32) -> Result<(), NoMemory>
+    ensures digits { OnOk result (text.new.items ≡ text.old.items ++ decimal number) }
+    ensures room { PutsAtMost 10 text.old text.new result }
 {
-    write_digits(u64::from(number), buffer, end)
+    text.extend_from_slice(Buffer::new().format(number).as_bytes())
 }
 
-/// A number of up to 64 bits in decimal.
-pub fn put_long_number(number: u64, buffer: &mut [u8], end: usize) -> usize
-    requires { HasRoom 20 buffer.old end }
-    ensures text { Puts buffer.old end buffer.new result (decimal number) }
-    ensures least { end ≤ result + 20 }
+/// A number behind its words.
+#[tactic(auto, unfolding(crate::specs::Texts::parameter_text))]
+pub fn put_parameter(text: &mut Vec<u8>, words: &[u8], number: usize) -> Result<(), NoMemory>
+    ensures { OnOk result (text.new.items ≡ text.old.items ++ parameter_text words.now number) }
 {
-    write_digits(number, buffer, end)
+    text.extend_from_slice(words)?;
+    text.extend_from_slice(Buffer::new().format(number).as_bytes())
 }
 
-/// Bytes as they are.
-pub fn put_bytes(bytes: &[u8], buffer: &mut [u8], end: usize) -> usize
-    requires { HasRoom (length bytes.now) buffer.old end }
-    ensures { Puts buffer.old end buffer.new result bytes.now }
+/// The name of a message: its sender and its number, with a point between them.
+pub fn put_name(text: &mut Vec<u8>, name: Name) -> Result<(), NoMemory>
+    ensures name { OnOk result (text.new.items ≡ text.old.items ++ name_text name) }
+    ensures room { PutsAtMost 21 text.old text.new result }
 {
-    let start = end - bytes.len();
-    buffer[start..end].copy_from_slice(bytes);
-    start
+    put_number(text, name.sender)?;
+    text.extend_from_slice(b".")?;
+    put_number(text, name.number)
 }
 
 /// The fields of a time, with commas between them, in brackets.
-pub fn put_time(fields: &[u32], buffer: &mut [u8], end: usize) -> usize
-    requires some { 1 ≤ length fields.now }
-    requires few { length fields.now ≤ 64 }
-    requires room { HasRoom LONGEST_TIME buffer.old end }
-    ensures text { Puts buffer.old end buffer.new result (text_of fields.now) }
-    ensures least { end ≤ result + LONGEST_TIME }
+pub fn put_time(text: &mut Vec<u8>, time: &VectorTime) -> Result<(), NoMemory>
+    ensures fields { OnOk result (text.new.items ≡ text.old.items ++ text_of time.now) }
+    ensures room { PutsAtMost LONGEST_TIME text.old text.new result }
 {
-    let mut left = fields.len() - 1;
-    let mut start = put_byte(b']', buffer, end);
-    start = put_number(fields[left], buffer, start);
-    while left > 0 {
-        left -= 1;
-        start = put_byte(b',', buffer, start);
-        start = put_number(fields[left], buffer, start);
+    let Some((first, others)) = time.as_slice().split_first() else {
+        unreachable!("a group has two members or more");
+    };
+    text.extend_from_slice(b"[")?;
+    put_number(text, *first)?;
+    for field in others {
+        put_next(text, *field)?;
     }
-    put_byte(b'[', buffer, start)
+    text.extend_from_slice(b"]")
+}
+
+/// A further field of a time.
+fn put_next(text: &mut Vec<u8>, field: u32) -> Result<(), NoMemory>
+    ensures field { OnOk result (text.new.items ≡ text.old.items ++ (44 ∷ decimal field)) }
+    ensures room { PutsAtMost 11 text.old text.new result }
+{
+    text.extend_from_slice(b",")?;
+    put_number(text, field)
 }
 
 fn is_plain(byte: u8) -> bool
@@ -81,45 +76,52 @@ fn is_plain(byte: u8) -> bool
     matches!(byte, b' '..=b'~') && byte != b'"' && byte != b'\\'
 }
 
-pub fn is_plain_text(payload: &[u8]) -> bool
+fn is_plain_text(payload: &[u8]) -> bool
     ensures { result ≡ list_all is_plain payload.now }
 {
     payload.iter().all(|byte| is_plain(*byte))
 }
 
-/// A payload in quotation marks, or in hexadecimal where it is not plain.
-pub fn put_payload(payload: &[u8], buffer: &mut [u8], end: usize) -> usize
-    requires short { length payload.now ≤ LONGEST_PAYLOAD }
-    requires room { HasRoom LONGEST_PAYLOAD_TEXT buffer.old end }
-    ensures text { Puts buffer.old end buffer.new result (payload_text payload.now) }
-    ensures least { end ≤ result + LONGEST_PAYLOAD_TEXT }
+/// A payload in quotation marks, or in hexadecimal behind an `x` where not each byte is printed as itself.
+pub fn put_payload(text: &mut Vec<u8>, payload: &[u8]) -> Result<(), NoMemory>
+    ensures bytes { OnOk result (text.new.items ≡ text.old.items ++ payload_text payload.now) }
+    ensures room { PutsAtMost (2 * length payload.now + 2) text.old text.new result }
 {
     if is_plain_text(payload) {
-        let end = put_byte(b'"', buffer, end);
-        let end = put_bytes(payload, buffer, end);
-        return put_byte(b'"', buffer, end);
+        text.extend_from_slice(b"\"")?;
+        text.extend_from_slice(payload)?;
+        return text.extend_from_slice(b"\"");
     }
-    let end = put_hex(payload, buffer, end);
-    put_byte(b'x', buffer, end)
+    text.extend_from_slice(b"x")?;
+    put_hex(text, payload)
 }
 
 /// Bytes in hexadecimal, in lower case.
-fn put_hex(bytes: &[u8], buffer: &mut [u8], end: usize) -> usize
-    requires { HasRoom (2 * length bytes.now) buffer.old end }
-    ensures { Puts buffer.old end buffer.new result (encode_lower bytes.now) }
+pub fn put_hex(text: &mut Vec<u8>, bytes: &[u8]) -> Result<(), NoMemory>
+    ensures digits { OnOk result (text.new.items ≡ text.old.items ++ encode_lower bytes.now) }
+    ensures room { PutsAtMost (2 * length bytes.now) text.old text.new result }
 {
-    let start = end - 2 * bytes.len();
-    let Ok(()) = hex::encode_to_slice(bytes, &mut buffer[start..end]) else {
+    let start = text.len();
+    text.reserve(2 * bytes.len())?;
+    let Ok(()) = text.resize(start + 2 * bytes.len(), 0) else {
+        unreachable!("memory is reserved");
+    };
+    let Ok(()) = hex::encode_to_slice(bytes, &mut text[start..]) else {
         unreachable!("each byte has two digits");
     };
-    start
+    Ok(())
 }
 
-/// A number behind its words.
-#[tactic(auto, unfolding(crate::specs::Texts::parameter_text))]
-pub fn put_parameter(out: &mut Vec<u8>, words: &[u8], number: usize) -> Result<(), NoMemory>
-    ensures { OnOk result (out.new.items ≡ out.old.items ++ parameter_text words.now number) }
+/// A line of these words and the name of a fault. Out of memory leaves the text as it was.
+pub fn put_fault<F: Display + Copy + Drop>(
+    text: &mut Vec<u8>,
+    words: &str,
+    fault: F,
+) -> Result<(), NoMemory>
+    ensures line { OnOk result (IfSome (F.output fault) (λ name.
+        text.new.items ≡ text.old.items ++ (words.now ++ (name ++ codes "\n")))) }
+    ensures err { OnErr result (text.new.items ≡ text.old.items) }
 {
-    out.extend_from_slice(words)?;
-    out.extend_from_slice(Buffer::new().format(number).as_bytes())
+    let line = format!(in *text.allocator(); "{words}{fault}\n")?;
+    text.extend_from_slice(line.as_bytes())
 }

@@ -1,6 +1,5 @@
 use Rattle.std.proofs.Common.{◌+◌, arith, length, refl}
 use Rattle.std.proofs.lemmas.Option.{slice_get_read}
-use Rattle.std.specs.Prelude.{string_bytes}
 use Rattle.confer_play.proofs.Printing.{step_goes_on, steps_end}
 use Rattle.confer_play.proofs.running.put_steps.Goals as goal
 
@@ -11,11 +10,11 @@ loop-step-preserved c = record {
   puts = λ shown.
       let at : _ = slice_get_read c.args.steps.now (length c.args.steps.now) c.loop-step.step-index c.step-item.result refl c.loop-step-test.true c.step-item.is in
       step_goes_on c.args.rooms.now.world c.loop-step.rooms.world c.put_part.new.rooms.world c.args.steps.now c.loop-step.step-index c.loop-step.number (c.loop-step.number + 1) c.step-item.result
-      (string_bytes c.args.text.now) (string_bytes c.loop-step.text) (string_bytes c.put_part.new.text) at (omega arith) (c.loop-step.invariant.puts shown)
+      c.args.text.now.items c.loop-step.text.items c.put_part.new.text.items at (omega arith) (c.loop-step.invariant.puts shown)
       (c.in_ok-put_part.ensures.puts (c.loop-step.invariant.shown shown));
 }
 
 pub returns : goal.returns
 returns c = λ shown.
-    steps_end c.args.rooms.now.world c.loop-step.rooms.world c.args.steps.now c.loop-step.step-index c.loop-step.number (string_bytes c.args.text.now) (string_bytes c.loop-step.text)
+    steps_end c.args.rooms.now.world c.loop-step.rooms.world c.args.steps.now c.loop-step.step-index c.loop-step.number c.args.text.now.items c.loop-step.text.items
     (omega (arith, c.loop-step-test.false)) (c.loop-step.invariant.puts shown)

@@ -1,5 +1,4 @@
 use Rattle.std.proofs.Common.{◌≡◌, drop, map}
-use Rattle.std.specs.Prelude.{string_bytes}
 use Rattle.confer_play.specs.Playing.{AreShown, order_of}
 use Rattle.confer_play.proofs.Printing.{Continues}
 use Rattle.confer_play.proofs.running.put_steps.Given as goal
@@ -10,5 +9,5 @@ invariant-loop-step l = record {
   number : l.number ≡ l.step-index;
   shown : AreShown l.fn.rooms.world l.fn.rooms.attendances.items → AreShown l.rooms.world l.rooms.attendances.items;
   puts : AreShown l.fn.rooms.world l.fn.rooms.attendances.items
-      → Continues l.fn.rooms.world (map order_of l.steps) (string_bytes l.fn.text) l.number l.rooms.world (map order_of (drop l.step-index l.steps)) (string_bytes l.text);
+      → Continues l.fn.rooms.world (map order_of l.steps) l.fn.text.items l.number l.rooms.world (map order_of (drop l.step-index l.steps)) l.text.items;
 }

@@ -1,5 +1,4 @@
 use Rattle.std.proofs.Common.{map}
-use Rattle.std.specs.Prelude.{string_bytes}
 use Rattle.cb_schedules.specs.Schedule.{IsSetting}
 use Rattle.confer_play.specs.Playing.{order_of, setting_in}
 use Rattle.confer_play.proofs.Printing.{whole_run}
@@ -8,5 +7,5 @@ use Rattle.confer_play.proofs.running.run_text.Goals as goal
 pub returns-in-Ok : goal.returns-in-Ok
 returns-in-Ok c =
     let is : IsSetting (setting_in c.args.setting) = record { group = c.size.ensures.group; one_or_more = c.args.setting.is_limit.0; at_most = c.args.setting.is_limit.1 } in
-    whole_run (setting_in c.args.setting) (map order_of c.args.steps.now) c.in_ok-rooms.rooms.world c.put_run-put.new.rooms.world (string_bytes c.new-text.result) (string_bytes c.put_run-put.new.text)
+    whole_run (setting_in c.args.setting) (map order_of c.args.steps.now) c.in_ok-rooms.rooms.world c.put_run-put.new.rooms.world c.new-text.result.items c.put_run-put.new.text.items
     is c.in_ok-rooms.ensures.world c.new-text.ensures.bytes (c.in-Ok.ensures c.in_ok-rooms.ensures.shown)

@@ -1,41 +1,19 @@
-use Rattle.std.proofs.Common.{◌≡◌, ℕ, List, ◌+◌, ◌-◌, ◌<◌, ◌∷◌, [], ◌++◌, length, arith, sym, ap, subst, ◌∙◌}
-use Rattle.std.specs.Prelude.{slice_index}
+use Rattle.std.proofs.Common.{◌≡◌, ◌∙◌, ◌++◌, ◌∷◌, [], List, ℕ, sym, take, rules}
 use Rattle.std.specs.Fmt.{decimal}
-use Rattle.confer_text.specs.Texts.{Puts}
-use Rattle.confer_text.proofs.Putting.{put_more, fields_from, last_field, next_field, all_fields}
+use Rattle.std.specs.List.{flat_map}
+use Rattle.cb_times.specs.Time.{text_of}
+use Rattle.cb_times.proofs.Text.{text_of-fields}
+use Rattle.confer_text.proofs.Putting.{time_put, time_ends}
 use Rattle.confer_text.proofs.text.put_time.Goals as goal
 
-pub loop-left-init : goal.loop-left-init
-loop-left-init c = record {
-  in_fields = omega arith;
-  text =
-      let fields = c.args.fields.now in
-      let last : length fields ≡ (length fields - 1) + 1 = omega arith in
-      subst (λ (t : List ℕ). Puts c.args.buffer.now c.args.end c.put_number-start.new.buffer c.put_number-start.result t) (sym (last_field fields (length fields - 1) last))
-      (put_more _ _ _ _ _ _ _ _ c.put_byte-start.ensures c.put_number-start.ensures.text);
-  room = omega (arith, c.put_byte-start.ensures.room, c.put_number-start.ensures.least);
-}
-
-pub loop-left-preserved : goal.loop-left-preserved
-loop-left-preserved c =
-    let positive : 0 < c.loop-left.left = omega arith in
-    let step : (c.loop-left.left - 1) + 1 ≡ c.loop-left.left = omega arith in
-    record {
-      in_fields = omega arith;
-      text =
-          let fields = c.args.fields.now in
-          let k = c.loop-left.left - 1 in
-          let next : fields_from fields k ≡ decimal (slice_index fields k) ++ ((44 ∷ []) ++ fields_from fields c.loop-left.left) =
-          next_field fields k (omega (arith, c.loop-left.invariant.in_fields)) ∙ ap (λ (n : ℕ). decimal (slice_index fields k) ++ ((44 ∷ []) ++ fields_from fields n)) step in
-          subst (λ (t : List ℕ). Puts c.args.buffer.now c.args.end c.put_number-start-in-loop-left.new.buffer c.put_number-start-in-loop-left.result t) (sym next)
-          (put_more _ _ _ _ _ _ _ _ (put_more _ _ _ _ _ _ _ _ c.loop-left.invariant.text c.put_byte-start-in-loop-left.ensures) c.put_number-start-in-loop-left.ensures.text);
-      room = omega (arith, c.loop-left.invariant.room, c.put_byte-start-in-loop-left.ensures.room, c.put_number-start-in-loop-left.ensures.least);
-    }
-
-pub returns-clause-text : goal.returns-clause-text
-returns-clause-text c =
-    let fields = c.args.fields.now in
-    let none : c.loop-left.left ≡ 0 = omega arith in
-    let all : fields_from fields c.loop-left.left ≡ _ = ap (fields_from fields) none ∙ all_fields fields in
-    subst (λ (t : List ℕ). Puts c.args.buffer.now c.args.end c.put_byte.new.buffer c.put_byte.result (91 ∷ t)) all
-    (put_more _ _ _ _ _ _ _ _ c.loop-left.invariant.text c.put_byte.ensures)
+pub returns-clause-fields : goal.returns-clause-fields
+returns-clause-fields c =
+    let before : List ℕ = c.args.text.now.items in
+    let first : List ℕ = decimal c.in-Some.first.now in
+    let others : List ℕ = flat_map (λ x. 44 ∷ decimal x) (take c.loop-field.field-index c.in-Some.others.now) in
+    let put : List ℕ = c.loop-field.text.items in
+    let so_far : put ≡ ((before ++ 91 ∷ []) ++ first) ++ others = search rules in
+    let time : (91 ∷ first) ++ (others ++ 93 ∷ []) ≡ text_of c.args.time.now =
+    text_of-fields c.in-Some.first.now c.loop-field.field-index c.in-Some.others.now c.args.time.now (sym c.as_slice.ensures.fields ∙ c.in-Some.ensures.cases.0) c.loop-field-test.false in
+    time_ends c.extend_from_slice-2.result before (text_of c.args.time.now) put c.extend_from_slice-2.new.self.items
+    (time_put before first others (text_of c.args.time.now) put time so_far) c.extend_from_slice-2.ensures.items
