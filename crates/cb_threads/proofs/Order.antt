@@ -112,6 +112,12 @@ does_next {X} {Y} {Z} f g done done' rest rest' all x y inv e ed is =
     ∙ ap (λ (ys : List Y). map f done ++ map g ys) (sym e)
     ∙ inv
 
+-- there are as many parts as links
+pub as_many : {I O P T : Type 0} (ps : List (PerWorker I P T O)) (links : List (I × O)) → map (λ p. (p.receiver, p.sender)) ps ≡ links → length ps ≡ length links
+as_many {I} {O} {P} {T} ps links is =
+    let link_of : PerWorker I P T O → I × O = λ p. (p.receiver, p.sender) in
+    sym (length-map ps link_of) ∙ ap length is
+
 -- what is told of the failures of parts is told of their links and paces
 each_tells : {I O P T : Type 0} (inlet : I → ℕ) (outlet : O → ℕ) (pace : P → ℕ) (ps : List (PerWorker I P T O)) (rs : List (MemberReport I O P T)) → TellFailures inlet outlet pace (map (failures_in inlet outlet pace) ps) rs
     → EachTellsFailures inlet outlet pace (map (λ p. (p.receiver, p.sender)) ps) (map (λ p. p.timer) ps) rs

@@ -45,7 +45,8 @@ fn idle<D, L: Ledger>(part: D, seat: Seat<L>) -> Worked<D, L>
 
 /// Why not all workers ran.
 pub fn fault_of<I, O, P, T, L: Ledger>(ended: &Ended<I, O, P, T, L>) -> Option<WorkerFault>
-    ensures { result ≡ None → AreAllThere ended.now }
+    ensures there { result ≡ None → AreAllThere ended.now }
+    ensures none { AreAllThere ended.now → result ≡ None }
 {
     if ended.are_all_there() {
         None

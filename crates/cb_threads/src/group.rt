@@ -7,7 +7,7 @@ ghost use Rattle.cb_threads.specs.Reports.{EachHandsBack, EachTellsFailures};
 ghost use Rattle.cb_threads.specs.declared.group.GroupFault.TheVariants.{BadPlan};
 
 use crate::life::{LifeFault, Setting, run_lives};
-use crate::limits::{Ending, Limits, Stop};
+use crate::limits::{Limits, Stop};
 use crate::pace::Pace;
 use crate::per_worker::Parts;
 use crate::report::GroupReport;
@@ -95,16 +95,7 @@ pub fn run_group<
     };
     let stop = Stop::new();
     let talking = AtomicU64::new(u64::from(group.size()));
-    let setting = Setting {
-        alloc,
-        group,
-        history_max,
-        ending: Ending {
-            limits,
-            stop: &stop,
-            talking: Some(&talking),
-        },
-    };
+    let setting = Setting::new(alloc, (group, history_max), limits, &stop, &talking);
     match run_lives(rt, &setting, parts) {
         Ok(report) => Ok(report),
         Err(fault) => Err(group_fault(fault)),

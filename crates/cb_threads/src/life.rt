@@ -7,7 +7,7 @@ ghost use Rattle.cb_threads.specs.declared.life.LifeFault.TheVariants.{Close};
 ghost use Rattle.cb_threads.specs.declared.report.Failures.{Failures};
 ghost use Rattle.cb_threads.specs.Reports.{HandsBack, TellsFailures, failures_in};
 
-use crate::limits::Ending;
+use crate::limits::{Ending, Limits, Stop};
 use crate::member::run_at;
 use crate::pace::Pace;
 use crate::per_worker::{Parts, PerWorker, Seats};
@@ -20,6 +20,7 @@ use cb_member::{Group, History, Identity, Member};
 use std::alloc::{AllocError, AllocFailed, Global};
 use std::marker::Brand;
 use std::sync::Wait;
+use std::sync::atomic::AtomicU64;
 use std::sync::ledger::{Blank, Ledger};
 use std::thread;
 use std::thread::{Promise, PromisedHandle, Scope, Threads};
@@ -55,6 +56,30 @@ pub struct Setting<'a> {
     pub group: Group,
     pub history_max: usize,
     pub ending: Ending<'a>,
+}
+
+impl<'a> Setting<'a> {
+    pub fn new(
+        alloc: Global,
+        plan: (Group, usize),
+        limits: Limits,
+        stop: &'a Stop,
+        talking: &'a AtomicU64,
+    ) -> Setting<'a>
+        ensures { result.group ≡ plan.0 }
+    {
+        let (group, history_max) = plan;
+        Setting {
+            alloc,
+            group,
+            history_max,
+            ending: Ending {
+                limits,
+                stop,
+                talking: Some(talking),
+            },
+        }
+    }
 }
 
 /// What is kept of a member.
@@ -129,7 +154,8 @@ fn join_all<I: Inlet + Drop, O: Outlet + Drop, P: Pace + Drop, T: Drop, R: Threa
         histories: Vec::new(alloc),
     };
     for handle in handles {
-        report.add(handle.join(rt)?)?;
+        let kept = handle.join(rt)?;
+        report.add(kept)?;
     }
     Ok(report)
 }
@@ -173,7 +199,8 @@ impl<'s> Setting<'s> {
         let mut handles = Vec::with_capacity(self.alloc, size as usize)?;
         let mut me = 0;
         for part in parts {
-            handles.push(part.start(scope, rt, self, me)?)?;
+            let handle = part.start(scope, rt, self, me)?;
+            handles.push(handle)?;
             me += 1;
         }
         Ok(handles)

@@ -5,7 +5,7 @@ ghost use Rattle.std.specs.Prelude.{◌≡◌};
 use super::parts::Broken;
 use crate::limits::{Ending, Limits, Stop};
 use crate::workers::{Desk, Job, Receiving, Ticking, Worked, Worker};
-use cb_links::{Slot, new_mailbox};
+use cb_links::{LinkFault, Slot, new_mailbox};
 use cb_lock::{Seat, SharedMember};
 use cb_member::{Group, Member, Outgoing};
 use std::alloc::Global;
@@ -43,17 +43,26 @@ impl<'a, R: Wait + Clock> Clock for Counted<'a, R> {
     }
 }
 
-/// Which worker has a device that fails.
+/// Which worker has a device that fails, a receiver by which fault.
 #[derive(Clone, Copy)]
 enum Who {
-    Receiver,
+    Receiver(LinkFault),
     Timer,
 }
 
 #[test]
 fn a_receiver_sleeps_behind_each_fault(rt: HostRuntime) {
-    let found = work::<Brand, _>(&rt, rt.alloc(), Blank::new(4), Who::Receiver);
+    let who = Who::Receiver(LinkFault::Device);
+    let found = work::<Brand, _>(&rt, rt.alloc(), Blank::new(4), who);
     assert_eq!(&rt; found, (7, 7));
+}
+
+/// Memory that is refused is no failure of the device.
+#[test]
+fn a_receiver_sleeps_where_memory_is_refused(rt: HostRuntime) {
+    let who = Who::Receiver(LinkFault::NoMemory);
+    let found = work::<Brand, _>(&rt, rt.alloc(), Blank::new(4), who);
+    assert_eq!(&rt; found, (0, 7));
 }
 
 #[test]
@@ -91,6 +100,10 @@ fn desk<'a, L: Ledger>(alloc: Global, shared: &'a SharedMember<L>, stop: &'a Sto
     }
 }
 
+fn broken(fault: LinkFault) -> Broken {
+    Broken { fault, failures: 0 }
+}
+
 /// A worker with a device that fails at each call.
 fn run<L: Ledger + Send + Sync, R: Wait + Clock>(
     rt: &R,
@@ -99,14 +112,15 @@ fn run<L: Ledger + Send + Sync, R: Wait + Clock>(
     end: Slot<Outgoing>,
     who: Who,
 ) -> Worked<Broken, L> {
-    let broken = Broken { failures: 0 };
     match who {
-        Who::Receiver => {
-            let part = Receiving { inlet: broken };
+        Who::Receiver(fault) => {
+            let inlet = broken(fault);
+            let part = Receiving { inlet };
             Worker { part, seat, end }.run(rt, desk)
         }
         Who::Timer => {
-            let part = Ticking { pace: broken };
+            let pace = broken(LinkFault::Device);
+            let part = Ticking { pace };
             Worker { part, seat, end }.run(rt, desk)
         }
     }
