@@ -9,4 +9,4 @@ pub returns-in-Err : goal.returns-in-Err
 returns-in-Err c = answers_refusal c.args.wanted c.args.bytes.now c.args.self.now _ c.in-Err.refusal c.requires refl (refused_bytes c.args.self.now c.args.bytes.now c.in-Err.refusal c.in-Err.ensures.refused)
 
 pub returns-in-Ok-Request : goal.returns-in-Ok-Request
-returns-in-Ok-Request c = c.answer.ensures c.args.wanted c.args.bytes.now (c.in-Ok-Request.ensures.frame ∙ ap (λ (f : Frame). let read : Result FrameFields FrameFault = Ok (fields_of f) in read) c.in-Ok-Request.is)
+returns-in-Ok-Request c = c.answer.ensures c.args.wanted c.args.bytes.now (c.in-Ok-Request.ensures.frame ∙ ap (λ (f : Frame). let read : Result FrameFields FrameFault = Ok (fields_of f) in read) c.in-Ok-Request.field-0-is)
