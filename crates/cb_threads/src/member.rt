@@ -75,14 +75,15 @@ pub fn run_member<
         speaker: talker,
         sender: outlet,
     };
+    let ending = Ending {
+        limits,
+        stop,
+        talking: None,
+    };
     let desk = Desk {
         alloc,
         shared,
-        ending: Ending {
-            limits,
-            stop,
-            talking: None,
-        },
+        ending,
     };
     let (report, seats) = run_at(rt, &desk, seats, parts);
     let tally = Tally::of_seats(&seats);

@@ -104,11 +104,17 @@ pub fn run_workers<
             ensures { HaveMet I.failed O.failed P.failed
                 (failures_in I.failed O.failed P.failed (parts_of crew)) result }
         {
-            let sender = start(scope, rt, desk, crew.sender);
+            let PerWorker {
+                receiver,
+                timer,
+                speaker,
+                sender,
+            } = crew;
+            let sender = start(scope, rt, desk, sender);
             let running = PerWorker {
-                receiver: start(scope, rt, desk, crew.receiver),
-                timer: start(scope, rt, desk, crew.timer),
-                speaker: start(scope, rt, desk, crew.speaker),
+                receiver: start(scope, rt, desk, receiver),
+                timer: start(scope, rt, desk, timer),
+                speaker: start(scope, rt, desk, speaker),
                 sender,
             };
             end_unless_all_run(desk.ending, &running);

@@ -87,7 +87,11 @@ fn work<L: Ledger + Send + Sync, R: Wait + Clock + Abort>(
 }
 
 /// Of a member whose workers make seven turns.
-fn desk<'a, L: Ledger>(alloc: Global, shared: &'a SharedMember<L>, stop: &'a Stop) -> Desk<'a, L> {
+pub fn desk<'a, L: Ledger>(
+    alloc: Global,
+    shared: &'a SharedMember<L>,
+    stop: &'a Stop,
+) -> Desk<'a, L> {
     let ending = Ending {
         limits: Limits { turns: 7 },
         stop,

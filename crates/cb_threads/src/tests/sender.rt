@@ -2,8 +2,9 @@
 
 ghost use Rattle.std.specs.Prelude.{◌≡◌};
 
-use crate::limits::{Ending, Limits, Stop};
-use crate::workers::{Desk, Job, Worker};
+use super::naps::desk;
+use crate::limits::Stop;
+use crate::workers::{Job, Worker};
 use crate::{ChannelInlet, ChannelLink, ChannelOutlet, Inlet, Received};
 use bytes::Bytes;
 use cb_links::{Mailbox, new_mailbox};
@@ -70,16 +71,7 @@ fn send<L: Ledger + Send + Sync, R: Wait + Clock + Abort>(
     part: ChannelOutlet,
 ) -> (u64, u64) {
     let stop = Stop::new();
-    let ending = Ending {
-        limits: Limits { turns: 0 },
-        stop: &stop,
-        talking: None,
-    };
-    let desk = Desk {
-        alloc,
-        shared,
-        ending,
-    };
+    let desk = desk(alloc, shared, &stop);
     let end = waiting(rt, alloc);
     let worked = Worker { part, seat, end }.run(rt, &desk);
     let counts = (worked.lost, worked.failures);

@@ -1,7 +1,7 @@
 //! Workers that work in turns: the receiver, the timer and the speaker.
 
-ghost use Rattle.std.specs.Prelude.{◌≡◌, ◌≢◌, ℕ, ◌≤◌, Decides, MatchResult, OnErr, false};
-ghost use Rattle.cb_links.specs.Counts.{Counts, HasCounted, MetAtMost};
+ghost use Rattle.std.specs.Prelude.{◌≡◌, ◌≢◌, ℕ, ◌+◌, ◌≤◌, Decides, MatchResult, OnErr, false};
+ghost use Rattle.cb_links.specs.Counts.{Counts, HasCounted, MetAtMost, held};
 ghost use Rattle.cb_threads.specs.declared.workers.turns.Turn.TheVariants.{Finished, Idle};
 
 use crate::limits::Ending;
@@ -98,6 +98,8 @@ impl Course {
     fn and(self, outcome: Result<Turn, Failed>) -> Course
         ensures turn { MatchResult outcome (λ turn. result.last ≡ turn)
             (λ _. result.last ≡ Idle) }
+        ensures failures { MatchResult outcome (λ _. result.failures ≡ self.failures)
+            (λ _. result.failures ≡ held (self.failures + 1)) }
         ensures met { (old new : ℕ) → old ≤ new → OnErr outcome (HasCounted old new)
             → Counts self.failures old result.failures new }
     {
