@@ -1,6 +1,6 @@
 //! From a reader to a writer, by way of a group.
 
-ghost use Rattle.std.specs.Prelude.{◌≡◌, [], OnOk, IfOk, IfErr, map};
+ghost use Rattle.std.specs.Prelude.{◌≡◌, [], OnOk, IfOk, IfErr, map, ◌+◌, ◌<◌, ◌^◌, drop, length};
 ghost use Rattle.confer_play.specs.ScriptText.{RunsScript, WritesRun};
 ghost use Rattle.confer_text.specs.Streams.{IsWithinLimit, WritesSome};
 ghost use Rattle.confer_play.specs.Play.{IsNoScript, StopsPlaying};
@@ -12,7 +12,7 @@ use crate::rooms::{Composed, Rooms};
 use crate::script::{Script, ScriptStep, Setting};
 use crate::transcript::{put_member, put_no_member, put_not_composed, put_screen, put_step};
 use cb_times::NoMemory;
-use cb_world::World;
+use cb_world::{Sent, World};
 use confer_text::{read_whole, write_whole};
 use std::alloc::Global;
 use std::io::{Read, Write};
@@ -217,8 +217,21 @@ fn put_last_step(text: &mut Vec<u8>, number: usize, world: &World) -> Result<(),
     let Some(outcome) = world.outcomes().last() else {
         return Ok(());
     };
-    let frames = world.frames().get(outcome.first_frame..).unwrap_or(&[]);
+    let frames = frames_from(world.frames(), outcome.first_frame);
     put_step(text, number, outcome, frames)
+}
+
+/// The frames from this number on.
+fn frames_from(frames: &[Sent], first: usize) -> &[Sent]
+    ensures from { result.now ≡ drop first frames.now }
+    ensures few { first + length result.now < 2 ^ 64 }
+{
+    if first < frames.len() {
+        let (_, last) = frames.split_at(first);
+        last
+    } else {
+        &[]
+    }
 }
 
 /// The lines of all members.

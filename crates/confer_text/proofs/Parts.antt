@@ -68,22 +68,22 @@ wrote_part before now after bytes rest w a = record {
   appended = subst (Appends before after) (append-nil w.0) (appends_more before now after w.0 [] w.2 a);
 }
 
--- the piece that stands next was written too
-pub wrote_next : (before now after : Option (List ℕ)) (bytes whole piece rest : List ℕ) → WroteSoFar before now bytes whole → whole ≡ piece ++ rest → Appends now after piece
-    → WroteSoFar before after bytes rest
-wrote_next before now after bytes whole piece rest w cut a = (
-  w.0 ++ piece,
-  w.1 ∙ ap (λ (t : List ℕ). w.0 ++ t) cut ∙ sym (append_assoc w.0 piece rest),
-  appends_more before now after w.0 piece w.2 a,
-)
+-- ---- one text behind another
 
--- a beginning of it was
-pub wrote_piece : (before now after : Option (List ℕ)) (bytes whole piece rest : List ℕ) → WroteSoFar before now bytes whole → whole ≡ piece ++ rest → WritesPart now after piece
-    → WritesPart before after bytes
-wrote_piece before now after bytes whole piece rest w cut p = record {
-  part = w.0 ++ p.part;
-  rest = p.rest ++ rest;
-  parts = w.1 ∙ ap (λ (t : List ℕ). w.0 ++ t) (cut ∙ ap (λ (t : List ℕ). t ++ rest) p.parts ∙ append_assoc p.part p.rest rest)
-      ∙ sym (append_assoc w.0 p.part (p.rest ++ rest));
-  appended = appends_more before now after w.0 p.part w.2 p.appended;
+-- a beginning of the first one was written
+pub part_of_first : (before now : Option (List ℕ)) (first next : List ℕ) → WritesPart before now first → WritesPart before now (first ++ next)
+part_of_first before now first next p = record {
+  part = p.part;
+  rest = p.rest ++ next;
+  parts = ap (λ (t : List ℕ). t ++ next) p.parts ∙ append_assoc p.part p.rest next;
+  appended = p.appended;
+}
+
+-- the first one was written, and a beginning of the next
+pub part_of_next : (before now after : Option (List ℕ)) (first next : List ℕ) → Appends before now first → WritesPart now after next → WritesPart before after (first ++ next)
+part_of_next before now after first next a p = record {
+  part = first ++ p.part;
+  rest = p.rest;
+  parts = ap (λ (t : List ℕ). first ++ t) p.parts ∙ sym (append_assoc first p.part p.rest);
+  appended = appends_more before now after first p.part a p.appended;
 }

@@ -120,5 +120,6 @@ fn write_bad_line<E: Write>(line: u64, end: &[u8], errors: &mut E) -> Result<(),
 {
     write_whole(errors, b"confer: line ")?;
     write_whole(errors, Buffer::new().format(line).as_bytes())?;
-    write_whole(errors, end)
+    say_bytes(end, errors);
+    Ok(())
 }
