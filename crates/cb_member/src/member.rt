@@ -287,7 +287,10 @@ impl GroupMember for Member {
 
     fn events(&self) -> Result<Vec<Event>, NoMemory> {
         let events = Member::events(self);
-        Event::copies(Vec::with_capacity(self.recorder.state.alloc, events.len())?, events)
+        Event::copies(
+            Vec::with_capacity(self.recorder.state.alloc, events.len())?,
+            events,
+        )
     }
 
     fn missing(&self, i: u32) -> Result<Vec<Range>, MissingFault> {
