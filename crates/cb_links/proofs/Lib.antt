@@ -1,3 +1,4 @@
 pub mod Rising
 pub mod Longest
 pub mod Sending
+pub mod Goings

@@ -1,7 +1,8 @@
 //! Links: where the frames of a member go, and where those of the others come from.
 //!
 //! A link is an `Outlet` for what a member sends and an `Inlet` for what it receives, and each counts
-//! its failures. The links here go over channels of one process or over UDP on the loopback address.
+//! its failures. The links here go over channels of one process, or over UDP or TCP on the loopback
+//! address.
 //! Below the channels lies a mailbox, which also carries what the workers of a member hand over.
 //!
 //! Stands on `cb_history` for what is sent, on `cb_frames` for what a frame is and on
@@ -9,9 +10,12 @@
 #![tactic(auto)]
 
 mod channel;
+mod coming;
+mod going;
 mod laws;
 mod link;
 mod mailbox;
+mod tcp;
 mod udp;
 mod waits;
 
@@ -19,6 +23,7 @@ pub use channel::{ChannelInlet, ChannelLink, ChannelOutlet};
 pub use laws::each_frame_fits;
 pub use link::{Inlet, LONGEST_FRAME, LinkFault, Outlet, Received, Unsent, and_fault};
 pub use mailbox::{MOST_AT_ONCE, Mailbox, Slot, Taken, new_mailbox};
+pub use tcp::{TcpInlet, TcpLink, TcpOutlet};
 pub use udp::{UdpInlet, UdpLink, UdpOutlet};
 pub use waits::{WAIT, wait};
 

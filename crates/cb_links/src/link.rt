@@ -1,17 +1,19 @@
 //! Links: where the frames of a member go, and where those of the others come from.
 
-ghost use Rattle.std.specs.Prelude.{◌≡◌, ℕ, ◌+◌, ◌≤◌, ◌||◌, IfErr, Some, false, length, true};
+ghost use Rattle.std.specs.Prelude.{◌≡◌, ℕ, ◌+◌, ◌≤◌, ◌||◌, IfErr, MatchResult, Some, false, length, true};
 ghost use Rattle.cb_links.specs.Counts.{Counts, LinkCounts, MetAtMost, held};
 ghost use Rattle.cb_links.specs.Offers.{failures_with, lost_of, nothing_offered, refused_with, with_answer};
 ghost use Rattle.cb_links.specs.FaultText.{link_fault_text};
+ghost use Rattle.cb_links.specs.declared.link.LinkFault.TheVariants.{NoMemory};
 
 use bytes::Bytes;
 use cb_history::Outgoing;
 use std::alloc::{AllocError, AllocFailed};
 use std::error::Error;
-use std::fmt;
+use std::io::ErrorKind;
 use std::sync::Wait;
 use std::time::Clock;
+use std::{fmt, io};
 
 /// The most bytes of a frame: what a cast has with 63 changes, its greatest numbers and 1,024 bytes
 /// of payload.
@@ -49,14 +51,27 @@ impl fmt::Display for LinkFault {
 impl Error for LinkFault {}
 
 impl From<AllocError> for LinkFault {
+    ghost from_gives = { λ _ fault. fault ≡ NoMemory };
+
     fn from(_refused: AllocError) -> LinkFault {
         LinkFault::NoMemory
     }
 }
 
 impl<T: Drop> From<AllocFailed<T>> for LinkFault {
+    ghost from_gives = { λ _ fault. fault ≡ NoMemory };
+
     fn from(_refused: AllocFailed<T>) -> LinkFault {
         LinkFault::NoMemory
+    }
+}
+
+impl From<io::Error> for LinkFault {
+    fn from(error: io::Error) -> LinkFault {
+        match error.kind() {
+            ErrorKind::OutOfMemory => LinkFault::NoMemory,
+            _ => LinkFault::Device,
+        }
     }
 }
 
@@ -209,6 +224,18 @@ impl Offered {
         Offered {
             failures: 0,
             refused: false,
+        }
+    }
+
+    /// The outcome of offering it to one member.
+    pub fn of(answer: Result<(), LinkFault>) -> Offered
+        ensures { MatchResult answer (λ _. result.failures ≡ 0)
+            (λ fault. result.failures ≡ failures_with 0 fault) }
+    {
+        match answer {
+            Ok(()) => Offered::taken(),
+            Err(LinkFault::Device) => Offered::failed(),
+            Err(LinkFault::NoMemory) => Offered::refused(),
         }
     }
 

@@ -4,5 +4,9 @@ ghost use Rattle.std.specs.Prelude.{◌≡◌};
 
 mod addressed;
 mod channel;
+mod coming;
+mod fakes;
+mod going;
 mod links;
 mod mailbox;
+mod tcp;

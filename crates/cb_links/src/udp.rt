@@ -78,7 +78,7 @@ fn unlinked<N: Net>(
         socket: socket(net)?,
         failures: 0,
     };
-    addresses.push(address_of(&inlet)?)?;
+    addresses.push(inlet.socket.local_addr()?)?;
     let outlet = UdpOutlet {
         socket: socket(net)?,
         to: Vec::new(alloc),
@@ -86,13 +86,6 @@ fn unlinked<N: Net>(
         failures: 0,
     };
     Ok((inlet, outlet))
-}
-
-fn address_of(inlet: &UdpInlet) -> Result<SocketAddr, LinkFault> {
-    match inlet.socket.local_addr() {
-        Ok(address) => Ok(address),
-        Err(error) => Err(fault_of(&error)),
-    }
 }
 
 fn link_all(
@@ -106,24 +99,10 @@ fn link_all(
 }
 
 /// A socket that waits for nothing.
-fn socket<N: Net>(net: &N) -> Result<UdpSocket, LinkFault> {
-    match bound(net) {
-        Ok(socket) => Ok(socket),
-        Err(error) => Err(fault_of(&error)),
-    }
-}
-
-fn bound<N: Net>(net: &N) -> io::Result<UdpSocket> {
+fn socket<N: Net>(net: &N) -> io::Result<UdpSocket> {
     let socket = UdpSocket::bind(net, ANY_PORT)?;
     socket.set_nonblocking(true)?;
     Ok(socket)
-}
-
-fn fault_of(error: &io::Error) -> LinkFault {
-    match error.kind() {
-        ErrorKind::OutOfMemory => LinkFault::NoMemory,
-        _ => LinkFault::Device,
-    }
 }
 
 impl Inlet for UdpInlet {

@@ -20,7 +20,7 @@ mod workers;
 
 pub use cb_links::{
     ChannelInlet, ChannelLink, ChannelOutlet, Inlet, LONGEST_FRAME, LinkFault, Outlet, Received,
-    UdpInlet, UdpLink, UdpOutlet, Unsent, each_frame_fits,
+    TcpInlet, TcpLink, TcpOutlet, UdpInlet, UdpLink, UdpOutlet, Unsent, each_frame_fits,
 };
 pub use group::{GroupFault, GroupReport, run_group};
 pub use limits::{Limits, Stop};

@@ -1,8 +1,9 @@
-//! What every link is to do, over channels and over UDP.
+//! What every link is to do, over channels, UDP and TCP.
 
 use crate::link::LONGEST_FRAME;
-use crate::{ChannelLink, Inlet, LinkFault, Outlet, Received, UdpLink, UdpOutlet};
+use crate::{ChannelLink, Inlet, LinkFault, Outlet, Received, TcpLink, UdpLink, UdpOutlet};
 use bytes::Bytes;
+use cb_frames::{Cast, Change, Frame, encode};
 use cb_history::Outgoing;
 use std::alloc::Global;
 use std::process::Abort;
@@ -33,6 +34,29 @@ fn next<I: Inlet, R: Wait + Clock + Abort>(rt: &R, inlet: &mut I) -> Option<Byte
     None
 }
 
+/// The longest frame that there is: a cast with 63 changes.
+fn longest(rt: &impl Abort, alloc: Global) -> Bytes {
+    let mut changes = Vec::new(alloc);
+    for field in 1..64 {
+        let change = Change {
+            field,
+            amount: u32::MAX,
+        };
+        changes.push(change).expect(rt, "memory");
+    }
+    let payload = frame(rt, alloc, None, 1_024).bytes;
+    let cast = Frame::Cast(Cast {
+        group: u32::MAX,
+        sender: 0,
+        number: u32::MAX,
+        changes,
+        payload,
+    });
+    let bytes = encode(alloc, &cast).expect(rt, "a frame");
+    drop(cast);
+    bytes
+}
+
 /// The longest frame that there is comes from member 0 to member 1 as it was sent.
 fn the_longest_frame_crosses<I: Inlet + Drop, O: Outlet + Drop, R: Wait + Clock + Abort>(
     rt: &R,
@@ -42,7 +66,9 @@ fn the_longest_frame_crosses<I: Inlet + Drop, O: Outlet + Drop, R: Wait + Clock 
     let mut links = links;
     let (mut inlet, outlet) = links.pop().expect(rt, "a link");
     let (unread, mut from) = links.pop().expect(rt, "a link");
-    let sent = frame(rt, alloc, None, LONGEST_FRAME);
+    let bytes = longest(rt, alloc);
+    assert_eq!(rt; bytes.len(), LONGEST_FRAME);
+    let sent = Outgoing { to: None, bytes };
     assert!(rt; from.send(rt, &sent).is_ok());
     let came = next(rt, &mut inlet);
     assert!(rt; came == Some(sent.bytes), "it came whole");
@@ -53,6 +79,12 @@ fn the_longest_frame_crosses<I: Inlet + Drop, O: Outlet + Drop, R: Wait + Clock 
 #[test]
 fn the_longest_frame_crosses_channels(rt: HostRuntime) {
     let links = ChannelLink::group(rt.alloc(), 2).expect(&rt, "links");
+    the_longest_frame_crosses(&rt, rt.alloc(), links);
+}
+
+#[test]
+fn the_longest_frame_crosses_tcp(rt: HostRuntime) {
+    let links = TcpLink::group(&rt, rt.alloc(), 2).expect(&rt, "links");
     the_longest_frame_crosses(&rt, rt.alloc(), links);
 }
 

@@ -1,12 +1,12 @@
-//! Groups over both links.
+//! Groups over each kind of link.
 
 ghost use Rattle.std.specs.Prelude.{◌≡◌};
 
 use super::parts::{Counting, Millisecond};
 use super::reports::{hands_all_back, has_delivered, has_run_well};
 use crate::{
-    ChannelLink, GroupFault, GroupReport, Inlet, Limits, MemberReport, Outlet, Pace, UdpLink,
-    run_group,
+    ChannelLink, GroupFault, GroupReport, Inlet, Limits, MemberReport, Outlet, Pace, TcpLink,
+    UdpLink, run_group,
 };
 use cb_member::Group;
 use std::alloc::Global;
@@ -88,6 +88,12 @@ fn a_group_over_channels_delivers_all(rt: HostRuntime) {
 #[test]
 fn a_group_over_udp_delivers_all(rt: HostRuntime) {
     let links = UdpLink::group(&rt, rt.alloc(), 3).expect(&rt, "links");
+    all_casts(&rt, rt.alloc(), links);
+}
+
+#[test]
+fn a_group_over_tcp_delivers_all(rt: HostRuntime) {
+    let links = TcpLink::group(&rt, rt.alloc(), 3).expect(&rt, "links");
     all_casts(&rt, rt.alloc(), links);
 }
 
