@@ -31,7 +31,9 @@ import os, re, shutil, subprocess, sys, time
 plain, proved, how, divisor = sys.argv[1], sys.argv[2], sys.argv[3], int(sys.argv[4])
 links = [("channel", 64), ("udp", 16), ("tcp", 16)]
 sizes = [(3, 34_000), (8, 3_600), (16, 900)]
-cells = [(link, size, window, casts // divisor) for link, window in links for size, casts in sizes]
+if how == "count":
+    divisor *= 10
+cells = [(link, size, window, max(casts // divisor, 1)) for link, window in links for size, casts in sizes]
 MOST_SECONDS = 120
 INSTRUCTIONS = ["valgrind", "--tool=cachegrind", "--cache-sim=no", "--cachegrind-out-file=/dev/null"], r"I +refs: +([\d,]+)"
 CALLS = [
@@ -110,25 +112,27 @@ def count(counter, link, size, window, casts):
     return *least, least[1] / least[0]
 
 
-def print_counts():
-    counters = [(name, counter) for name, counter in counters_here() if counter is not None]
-    print(" " * 21 + "".join(f"{name:28}" for name, _ in counters))
-    print("link     size window" + "    plain   proved  ratio   " * len(counters))
-    for link, size, window, casts in cells:
-        line = f"{link:8} {size:4} {window:6}"
-        for _, counter in counters:
-            theirs, ours, ratio = count(counter, link, size, window, casts // 10)
-            line += f" {theirs:8.2f} {ours:8.2f} {ratio:6.2f}   "
-        print(line, flush=True)
-
-
 def counters_here():
-    """What can be counted on this machine, and by what."""
+    """What can be counted on this machine, with how many places behind the point, and by what."""
     calls = next((counter for counter in CALLS if count_once(counter, ["true"]) is not None), None)
     instructions = INSTRUCTIONS if count_once(INSTRUCTIONS, ["true"]) is not None else None
-    for name, counter in [("instructions", instructions), ("system calls", calls)]:
+    for name, places, counter in [("instructions", 0, instructions), ("system calls", 2, calls)]:
         print(f"{name} are counted by {counter[0][0]}" if counter else f"{name} are left out: nothing counts them here")
-        yield f"{name} of a delivery", counter
+        if counter:
+            yield f"{name} of a delivery", places, counter
+
+
+def print_counts():
+    counters = list(counters_here())
+    print(" " * 23 + "".join(f"{name:29}" for name, _, _ in counters))
+    print("link     size window" + "    plain   proved  ratio    " * len(counters))
+    for cell in cells:
+        link, size, window, _ = cell
+        line = f"{link:8} {size:4} {window:6}"
+        for _, places, counter in counters:
+            theirs, ours, ratio = count(counter, *cell)
+            line += f" {theirs:8.{places}f} {ours:8.{places}f} {ratio:6.2f}    "
+        print(line, flush=True)
 
 
 print_counts() if how == "count" else print_times()
