@@ -1,5 +1,5 @@
 //! A group of causal broadcast members in threads, in plain Rust with std alone and no proof: what the proved group (`crates/bench_group`) is
-//! measured against. Words: SIZE WINDOW PAYLOAD CASTS LINK, CASTS of each member, LINK `channel` or `udp`.
+//! measured against. Words: SIZE WINDOW PAYLOAD CASTS LINK, CASTS of each member, LINK `channel`, `udp` or `tcp`.
 //!
 //! A sixth word, whatever it is, has it do what the proved group does for its callers beside the protocol: each worker keeps a receipt of every
 //! entry that it made, and at the end the receipts of all are compared with the history; a talker is shown a copy of every event of its
@@ -9,7 +9,9 @@
 //! may, and one sends what the others answer. The group ends when each member has seen every message.
 
 use std::env;
-use std::net::{SocketAddr, UdpSocket};
+use std::io::{ErrorKind, Read, Write};
+use std::net::{SocketAddr, TcpListener, TcpStream, UdpSocket};
+use std::ops::Range;
 use std::process::ExitCode;
 use std::sync::Arc as Shared;
 use std::sync::Mutex;
@@ -23,6 +25,10 @@ mod member;
 use member::{Arrival, CastRefusal, Entry, Frame, LONGEST_HISTORY, Member, Name, Outgoing};
 
 const TICK: Duration = Duration::from_millis(1);
+
+/// The most bytes of a frame, and how many are read at once from a stream.
+const LONGEST_FRAME: usize = 1417;
+const PIECE: usize = 4096;
 
 trait Inlet: Send {
     /// A frame, where one comes within a millisecond.
@@ -67,7 +73,7 @@ struct UdpInlet(UdpSocket);
 
 impl Inlet for UdpInlet {
     fn receive(&mut self) -> Option<Frame> {
-        let mut room = [0; 1418];
+        let mut room = [0; LONGEST_FRAME + 1];
         match self.0.recv(&mut room) {
             Ok(count) => Some(Frame::from(&room[..count])),
             Err(_) => {
@@ -89,6 +95,131 @@ impl Outlet for UdpOutlet {
         for (member, to) in self.to.iter().enumerate() {
             if member != self.me && out.to.is_none_or(|only| only == member) {
                 let _ = self.socket.send_to(&out.frame, to);
+            }
+        }
+    }
+}
+
+/// A connection on which frames come from one member, each behind its length. It is closed for good where it ends or fails.
+struct Coming {
+    stream: Option<TcpStream>,
+    /// What came and was not given: a piece and a half frame more find room behind it.
+    bytes: Box<[u8; 2 * PIECE]>,
+    rest: Range<usize>,
+}
+
+impl Coming {
+    fn new(stream: TcpStream) -> Coming {
+        Coming { stream: Some(stream), bytes: Box::new([0; 2 * PIECE]), rest: 0..0 }
+    }
+
+    /// The next frame, for which at most one piece is read.
+    fn take(&mut self) -> Option<Frame> {
+        self.stream.as_ref()?;
+        self.next().or_else(|| self.read().and_then(|()| self.next()))
+    }
+
+    /// The next frame of what came.
+    fn next(&mut self) -> Option<Frame> {
+        let bytes = &self.bytes[self.rest.clone()];
+        let (length, behind) = match *bytes {
+            [low, ref behind @ ..] if low < 0x80 => (usize::from(low), behind),
+            [low, high, ref behind @ ..] => (usize::from(low & 0x7f) | usize::from(high) << 7, behind),
+            _ => return None,
+        };
+        if length == 0 || length > LONGEST_FRAME {
+            self.stream = None;
+            return None;
+        }
+        let frame = Frame::from(behind.get(..length)?);
+        self.rest.start = self.rest.end - (behind.len() - length);
+        Some(frame)
+    }
+
+    /// Reads a piece, where one has come.
+    fn read(&mut self) -> Option<()> {
+        if self.rest.end > PIECE {
+            self.bytes.copy_within(self.rest.clone(), 0);
+            self.rest = 0..self.rest.len();
+        }
+        match self.stream.as_mut()?.read(&mut self.bytes[self.rest.end..][..PIECE]) {
+            Ok(count @ 1..) => {
+                self.rest.end += count;
+                return Some(());
+            }
+            Err(error) if matches!(error.kind(), ErrorKind::WouldBlock | ErrorKind::Interrupted) => {}
+            _ => self.stream = None,
+        }
+        None
+    }
+}
+
+struct TcpInlet {
+    from: Vec<Coming>,
+    /// The connection that is looked at first: that behind the one that last gave a frame.
+    first: usize,
+}
+
+impl Inlet for TcpInlet {
+    fn receive(&mut self) -> Option<Frame> {
+        let count = self.from.len();
+        for number in (self.first..count).chain(0..self.first) {
+            if let Some(frame) = self.from[number].take() {
+                self.first = (number + 1) % count;
+                return Some(frame);
+            }
+        }
+        thread::sleep(TICK);
+        None
+    }
+}
+
+/// A connection on which frames go to one member.
+struct Going {
+    stream: TcpStream,
+    /// What was not taken yet of the frame that was taken last.
+    rest: Vec<u8>,
+}
+
+impl Going {
+    /// Offers the frame where nothing is left of the one before it. It is taken where a byte of it is.
+    fn send(&mut self, frame: &Frame) {
+        self.write();
+        if !self.rest.is_empty() {
+            return;
+        }
+        let length = frame.len();
+        if length < 0x80 {
+            self.rest.push(length as u8);
+        } else {
+            self.rest.extend([length as u8 | 0x80, (length >> 7) as u8]);
+        }
+        self.rest.extend_from_slice(frame);
+        let whole = self.rest.len();
+        self.write();
+        if self.rest.len() == whole {
+            self.rest.clear();
+        }
+    }
+
+    fn write(&mut self) {
+        if !self.rest.is_empty() {
+            let count = self.stream.write(&self.rest).unwrap_or(0);
+            self.rest.drain(..count);
+        }
+    }
+}
+
+struct TcpOutlet {
+    /// The connections to the others, in the order of their numbers, with none at the member's own.
+    to: Vec<Option<Going>>,
+}
+
+impl Outlet for TcpOutlet {
+    fn send(&mut self, out: &Outgoing) {
+        for (member, to) in self.to.iter_mut().enumerate() {
+            if let (Some(to), true) = (to, out.to.is_none_or(|only| only == member)) {
+                to.send(&out.frame);
             }
         }
     }
@@ -119,6 +250,31 @@ fn sockets(size: usize) -> std::io::Result<Vec<Link>> {
         links.push((Box::new(UdpInlet(from)) as Box<dyn Inlet>, Box::new(outlet) as Box<dyn Outlet>));
     }
     Ok(links)
+}
+
+/// One connection each way for each two members.
+fn connections(size: usize) -> std::io::Result<Vec<Link>> {
+    let mut to: Vec<Vec<Option<Going>>> = (0..size).map(|_| Vec::new()).collect();
+    let mut from: Vec<Vec<Coming>> = (0..size).map(|_| Vec::new()).collect();
+    for (me, from) in from.iter_mut().enumerate() {
+        let listener = TcpListener::bind("127.0.0.1:0")?;
+        for (other, to) in to.iter_mut().enumerate() {
+            if other == me {
+                to.push(None);
+                continue;
+            }
+            let going = TcpStream::connect(listener.local_addr()?)?;
+            let (coming, peer) = listener.accept()?;
+            assert_eq!(peer, going.local_addr()?, "a stranger has connected");
+            going.set_nodelay(true)?;
+            going.set_nonblocking(true)?;
+            coming.set_nonblocking(true)?;
+            to.push(Some(Going { stream: going, rest: Vec::with_capacity(LONGEST_FRAME + 2) }));
+            from.push(Coming::new(coming));
+        }
+    }
+    let link = |(from, to)| (Box::new(TcpInlet { from, first: 0 }) as Box<dyn Inlet>, Box::new(TcpOutlet { to }) as Box<dyn Outlet>);
+    Ok(from.into_iter().zip(to).map(link).collect())
 }
 
 /// A message as it is handed out: an event, or a delivery.
@@ -361,6 +517,7 @@ fn main() -> ExitCode {
     };
     let links = match words.get(4).map(String::as_str) {
         Some("udp") => sockets(size).expect("sockets"),
+        Some("tcp") => connections(size).expect("connections"),
         _ => channels(size),
     };
     let (plan, has_duties) = ([size, window, payload, casts], words.len() > 5);

@@ -6,13 +6,21 @@ use cb_history::Group;
 /// The number of the group, which only the frames say.
 const NUMBER: u32 = 7;
 
-/// What is run: a group over channels or UDP, of which each member casts so many messages of so many bytes.
+/// What carries the frames from member to member.
+#[derive(Clone, Copy, Drop)]
+pub enum LinkKind {
+    Channel,
+    Udp,
+    Tcp,
+}
+
+/// What is run: a group of which each member casts so many messages of so many bytes.
 #[derive(Clone, Copy, Drop)]
 pub struct Plan {
     pub group: Group,
     pub payload: usize,
     pub casts: u32,
-    pub is_udp: bool,
+    pub link: LinkKind,
 }
 
 /// The plan that the words say, of which the first is the program's name.
@@ -27,8 +35,17 @@ pub fn plan_of(words: &[String]) -> Option<Plan> {
         group,
         payload,
         casts: number(words, 4)?,
-        is_udp: words.get(5)?.as_str() == "udp",
+        link: link_kind(words.get(5)?.as_str())?,
     })
+}
+
+fn link_kind(word: &str) -> Option<LinkKind> {
+    match word {
+        "channel" => Some(LinkKind::Channel),
+        "udp" => Some(LinkKind::Udp),
+        "tcp" => Some(LinkKind::Tcp),
+        _ => None,
+    }
 }
 
 fn number(words: &[String], place: usize) -> Option<u32> {

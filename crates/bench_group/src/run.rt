@@ -2,13 +2,13 @@
 
 use crate::fault::Fault;
 use crate::parts::{Caster, Counting, Millisecond};
-use crate::plan::Plan;
+use crate::plan::{LinkKind, Plan};
 use cb_member::LONGEST_HISTORY;
 use cb_threads::{
-    ChannelLink, GroupReport, Inlet, Limits, MemberReport, Outlet, UdpLink, run_group,
+    ChannelLink, GroupReport, Inlet, Limits, MemberReport, Outlet, TcpLink, UdpLink, run_group,
 };
 use std::alloc::Global;
-use std::net::Net;
+use std::net::{Net, TcpListener, TcpStream};
 use std::sync::Wait;
 use std::thread::Threads;
 use std::time::Clock;
@@ -23,17 +23,24 @@ pub struct Ran {
 }
 
 /// Runs the group until each member has seen every message.
-pub fn run<R: Threads + Wait + Clock + Net + Sync>(
+pub fn run<R: Threads + Wait + Clock + Net<Listener = TcpListener, Stream = TcpStream> + Sync>(
     rt: &R,
     alloc: Global,
     plan: Plan,
 ) -> Result<Ran, Fault> {
-    if plan.is_udp {
-        let links = UdpLink::group(rt, alloc, plan.group.size())?;
-        run_over(rt, alloc, plan, links)
-    } else {
-        let links = ChannelLink::group(alloc, plan.group.size())?;
-        run_over(rt, alloc, plan, links)
+    match plan.link {
+        LinkKind::Channel => {
+            let links = ChannelLink::group(alloc, plan.group.size())?;
+            run_over(rt, alloc, plan, links)
+        }
+        LinkKind::Udp => {
+            let links = UdpLink::group(rt, alloc, plan.group.size())?;
+            run_over(rt, alloc, plan, links)
+        }
+        LinkKind::Tcp => {
+            let links = TcpLink::group(rt, alloc, plan.group.size())?;
+            run_over(rt, alloc, plan, links)
+        }
     }
 }
 
