@@ -1,4 +1,4 @@
-use Rattle.std.proofs.Common.{rules, ◌≡◌, ◌≢◌, List, ℕ, length, subst, sym, ap, ◌∙◌}
+use Rattle.std.proofs.Common.{◌≡◌, ◌≢◌, List, ℕ, length, subst, sym, ap, arith, ◌∙◌}
 use Rattle.cb_frames.specs.Stream.{framed}
 use Rattle.cb_links.specs.Streams.{Writes}
 use Rattle.cb_links.proofs.Goings.{goes_on}
