@@ -34,7 +34,7 @@ ends 1 "$work/refusal" '' "${expand[@]}" < "$work/refused"
 ends 2 "$work/nothing" 'Usage:' "$confer" < "$work/accepted"
 ends 2 "$work/nothing" '--group <G>' "$confer" expand --help < "$work/accepted"
 ends 2 "$work/nothing" "'more'" "$confer" audit more < "$work/accepted"
-ends 2 "$work/nothing" '[possible values: channel, udp]' "$confer" run --link tcp < "$work/accepted"
+ends 2 "$work/nothing" '[possible values: channel, udp, tcp]' "$confer" run --link pipe < "$work/accepted"
 ends 2 "$work/nothing" "'more'" "$confer" play more < "$work/accepted"
 ends 2 "$work/nothing" "'65'" "$confer" expand --group 7 --size 65 < "$work/accepted"
 ends 2 "$work/nothing" 'confer: a word of the command line is not UTF-8' "${expand[@]}" $'\xff' < "$work/accepted"
@@ -74,7 +74,7 @@ found=0
 "$confer" audit < "$work/trace" > /dev/full 2> "$work/said" || found=$?
 [ "$found" = 3 ] && [ "$(cat "$work/said")" = 'confer: write fault' ] || { echo "an audit to a full device: status $found"; exit 1; }
 # conferences in threads: each ends with a yes, and so does the audit of its trace
-for link in channel udp; do
+for link in channel udp tcp; do
     "$confer" run --size 3 --questions 2 --link $link > "$work/written"
     [ "$(tail -n 1 "$work/written")" = 'audit yes' ] || { echo "run over $link: no yes"; exit 1; }
     [ "$(grep -c '^member [012] casts 2 deliveries 4 entries .* orphans 0$' "$work/written")" = 3 ] || { echo "run over $link: not all was said"; exit 1; }

@@ -5,7 +5,7 @@ _confer() {
         words='expand play run audit help --help'
     else
         case $subcommand:$previous in
-            run:--link) words='channel udp' ;;
+            run:--link) words='channel udp tcp' ;;
             run:--size | run:--window | run:--questions | run:--turns | expand:--group | expand:--size) ;;
             expand:*) words='--group --size --help' ;;
             run:*) words='--size --window --questions --turns --link --trace --help' ;;

@@ -12,5 +12,5 @@ complete -c confer -n '__fish_seen_subcommand_from run' -l size -x -d 'How many 
 complete -c confer -n '__fish_seen_subcommand_from run' -l window -x -d 'How many casts a member may be ahead, 1 to 256 (4)'
 complete -c confer -n '__fish_seen_subcommand_from run' -l questions -x -d 'How many questions member 0 asks, 1 to 100 (3)'
 complete -c confer -n '__fish_seen_subcommand_from run' -l turns -x -d 'How many turns each worker makes, 1 to 10000000 (1000000)'
-complete -c confer -n '__fish_seen_subcommand_from run' -l link -x -a 'channel udp' -d 'What carries the frames (channel)'
+complete -c confer -n '__fish_seen_subcommand_from run' -l link -x -a 'channel udp tcp' -d 'What carries the frames (channel)'
 complete -c confer -n '__fish_seen_subcommand_from run' -l trace -d 'Print the trace of the histories in place of all else'

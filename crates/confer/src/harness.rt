@@ -4,7 +4,7 @@ use crate::cli::{run_plain, run_words};
 use confer_fakes::{Sink, writing};
 use std::alloc::Global;
 use std::io::Read;
-use std::net::Net;
+use std::net::{Net, TcpListener, TcpStream};
 use std::process::Abort;
 use std::sync::Wait;
 use std::thread::Threads;
@@ -63,13 +63,10 @@ pub fn run_into<R: Read>(
 }
 
 /// Runs the words on this input as the program does, with what they print going to this writer.
-pub fn run_whole<H: Threads + Wait + Clock + Net + Sync, R: Read>(
-    rt: &H,
-    alloc: Global,
-    words: &[&str],
-    input: &mut R,
-    mut output: Sink,
-) -> Outcome {
+pub fn run_whole<
+    H: Threads + Wait + Clock + Net<Listener = TcpListener, Stream = TcpStream> + Sync,
+    R: Read,
+>(rt: &H, alloc: Global, words: &[&str], input: &mut R, mut output: Sink) -> Outcome {
     let mut errors = writing(alloc);
     let status = run_words(rt, alloc, words, input, &mut output, &mut errors);
     Outcome {

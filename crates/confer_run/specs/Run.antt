@@ -14,6 +14,9 @@ use Rattle.cb_threads.specs.declared.report.MemberReport.{MemberReport}
 use Rattle.cb_threads.specs.declared.report.Tally.{Tally}
 use Rattle.cb_links.specs.declared.channel.ChannelInlet.{ChannelInlet}
 use Rattle.cb_links.specs.declared.channel.ChannelOutlet.{ChannelOutlet}
+use Rattle.cb_links.specs.declared.tcp.TcpInlet.{TcpInlet}
+use Rattle.cb_links.specs.declared.tcp.TcpOutlet.{TcpOutlet}
+use Rattle.std.specs.declared.net.tcp.TcpStream.{TcpStream}
 use Rattle.cb_links.specs.declared.udp.UdpInlet.{UdpInlet}
 use Rattle.cb_links.specs.declared.udp.UdpOutlet.{UdpOutlet}
 use Rattle.cb_threads.specs.Groups.{tally_in}
@@ -126,6 +129,7 @@ ShowsOver {I} {O} links setting refused text = (reports : List (Report I O)) × 
 abbrev pub ShowsBy : LinkKind → RunSetting → Bool → List ℕ → Type 0
 ShowsBy links.Channel setting refused text = (reports : List (Report ChannelInlet ChannelOutlet)) × ShowsReports setting reports refused text
 ShowsBy links.Udp setting refused text = (reports : List (Report UdpInlet UdpOutlet)) × ShowsReports setting reports refused text
+ShowsBy links.Tcp setting refused text = (reports : List (Report (TcpInlet TcpStream) (TcpOutlet TcpStream))) × ShowsReports setting reports refused text
 
 abbrev pub ShowsRun : RunSetting → Bool → List ℕ → Type 0
 ShowsRun setting refused text = ShowsBy setting.link setting refused text

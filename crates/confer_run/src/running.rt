@@ -23,13 +23,13 @@ use crate::setting::{LinkKind, MOST_QUESTIONS, MOST_WORKING, RunSetting};
 use cb_member::{Group, History};
 use cb_threads::{
     ChannelLink, GroupFault, GroupReport, Inlet, Limits, MemberReport, Outlet, Pace, PaceFault,
-    UdpLink, run_group,
+    TcpLink, UdpLink, run_group,
 };
 use cb_trace::{AuditFault, WriteFault, audit, write_trace};
 use confer_text::{put_fault, put_parameter, write_whole};
 use std::alloc::{AllocError, Global};
 use std::io::Write;
-use std::net::Net;
+use std::net::{Net, TcpListener, TcpStream};
 use std::sync::Wait;
 use std::thread::{Threads, sleep};
 use std::time::{Clock, Duration};
@@ -81,12 +81,10 @@ struct RunText {
 /// It ends once each participant has cast and seen all, or after the setting's turns; the lines say which.
 /// Its faults are those of `RunFault`: after a write fault a beginning of the text stands written, after each
 /// other fault nothing.
-pub fn run_conference<R: Threads + Wait + Clock + Net + Sync, W: Write>(
-    rt: &R,
-    alloc: Global,
-    setting: RunSetting,
-    output: &mut W,
-) -> Result<bool, RunFault>
+pub fn run_conference<
+    R: Threads + Wait + Clock + Net<Listener = TcpListener, Stream = TcpStream> + Sync,
+    W: Write,
+>(rt: &R, alloc: Global, setting: RunSetting, output: &mut W) -> Result<bool, RunFault>
     requires { IsRunSetting setting }
     ensures ok { IfOk result (λ refused. PrintsRun setting refused (W.contents output.old)
         (W.contents output.new)) }
@@ -134,7 +132,7 @@ fn write_answer<W: Write>(answer: RunText, output: &mut W) -> Result<bool, RunFa
 }
 
 /// What is printed of a conference over the links of its setting.
-fn run_linked<R: Threads + Wait + Clock + Net + Sync>(
+fn run_linked<R: Threads + Wait + Clock + Net<Listener = TcpListener, Stream = TcpStream> + Sync>(
     rt: &R,
     alloc: Global,
     setting: RunSetting,
@@ -149,6 +147,10 @@ fn run_linked<R: Threads + Wait + Clock + Net + Sync>(
         }
         LinkKind::Udp => {
             let links = UdpLink::group(rt, alloc, setting.size)?;
+            run_over(rt, alloc, setting, links)
+        }
+        LinkKind::Tcp => {
+            let links = TcpLink::group(rt, alloc, setting.size)?;
             run_over(rt, alloc, setting, links)
         }
     }

@@ -21,6 +21,8 @@ pub enum LinkKind {
     Channel,
     /// UDP on the loopback address.
     Udp,
+    /// TCP on the loopback address.
+    Tcp,
 }
 
 /// What a conference in threads is to be.

@@ -11,7 +11,7 @@ use cb_threads::{MemberReport, Talk, Talker, WorkerFault};
 use cb_times::{Name, VectorTime};
 use confer_fakes::writing;
 use std::alloc::Global;
-use std::net::Net;
+use std::net::{Net, TcpListener, TcpStream};
 use std::process::Abort;
 use std::slice;
 use std::sync::Wait;
@@ -29,11 +29,9 @@ const SETTING: RunSetting = RunSetting {
 };
 
 /// What a conference prints of which the audit says yes.
-fn printed<R: Threads + Wait + Clock + Net + Abort + Sync>(
-    rt: &R,
-    alloc: Global,
-    setting: RunSetting,
-) -> String {
+fn printed<
+    R: Threads + Wait + Clock + Net<Listener = TcpListener, Stream = TcpStream> + Abort + Sync,
+>(rt: &R, alloc: Global, setting: RunSetting) -> String {
     let mut output = writing(alloc);
     let ended = run_conference(rt, alloc, setting, &mut output);
     assert!(rt; matches!(ended, Ok(false)));
@@ -75,12 +73,9 @@ fn is_line(rt: &impl Abort, alloc: Global, line: &str, member: usize, part: &str
 }
 
 /// The conference prints a line for each member, which says this.
-fn tells<R: Threads + Wait + Clock + Net + Abort + Sync>(
-    rt: &R,
-    alloc: Global,
-    setting: RunSetting,
-    part: &str,
-) {
+fn tells<
+    R: Threads + Wait + Clock + Net<Listener = TcpListener, Stream = TcpStream> + Abort + Sync,
+>(rt: &R, alloc: Global, setting: RunSetting, part: &str) {
     let text = printed(rt, alloc, setting);
     is_reported(rt, alloc, &text, setting.size as usize, part);
     drop(text);
@@ -94,6 +89,11 @@ fn a_conference_ends_with_all_cast_and_delivered(rt: HostRuntime) {
         ..SETTING
     };
     tells(&rt, rt.alloc(), over_udp, "casts 2 deliveries 4");
+    let over_tcp = RunSetting {
+        link: LinkKind::Tcp,
+        ..SETTING
+    };
+    tells(&rt, rt.alloc(), over_tcp, "casts 2 deliveries 4");
 }
 
 #[test]

@@ -39,7 +39,7 @@ expand_app = with_rule (with_rule (new_app (codes "expand")) group_rule) size_ru
 
 -- the names of the links, wherever they lie in memory
 abbrev pub AreLinks : ValueParser → Type 0
-AreLinks (parsers.Names names) = map (λ name. name.now) names.now ≡ codes "channel" ∷ codes "udp" ∷ []
+AreLinks (parsers.Names names) = map (λ name. name.now) names.now ≡ codes "channel" ∷ codes "udp" ∷ codes "tcp" ∷ []
 AreLinks parser = ⊥
 
 -- what carries the frames: one of these, channels where none is named

@@ -60,6 +60,7 @@ pub record HasFlag (option : Text) (rows : List Row) (given : Bool) : Type 0 whe
 abbrev pub IsNamed : Text → LinkKind → Type 0
 IsNamed name links.Channel = name ≡ codes "channel"
 IsNamed name links.Udp = name ≡ codes "udp"
+IsNamed name links.Tcp = name ≡ codes "tcp"
 
 -- the option names this link
 abbrev pub HasLink : List Row → LinkKind → Type 0

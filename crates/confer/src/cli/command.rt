@@ -29,8 +29,11 @@ pub const CHANNEL: &str = "channel";
 /// The name of the link over UDP.
 pub const UDP: &str = "udp";
 
+/// The name of the link over TCP.
+pub const TCP: &str = "tcp";
+
 /// The names of the links.
-pub const LINKS: &[&str] = &[CHANNEL, UDP];
+pub const LINKS: &[&str] = &[CHANNEL, UDP, TCP];
 
 /// The words of `confer`, where the links have these names.
 pub fn command<'a>(alloc: Global, links: &'a [&'a str]) -> Result<Command<'a>, AllocError>
@@ -230,7 +233,9 @@ fn link_option<'a>(alloc: Global, links: &'a [&'a str]) -> Arg<'a>
         .action(ArgAction::Set)
         .value_parser(links)
         .default_value("channel")
-        .help("What carries the frames: channels in the process, or UDP on the loopback address")
+        .help(
+            "What carries the frames: channels in the process, UDP or TCP on the loopback address",
+        )
 }
 
 fn trace_option<'a>(alloc: Global) -> Arg<'a>

@@ -6,7 +6,7 @@ ghost use Rattle.clap.specs.Walk.{rows_of};
 ghost use Rattle.cb_times.specs.Group.{IsGroupSize};
 ghost use Rattle.confer.specs.Cli.Orders.{Finds, HasFlag, HasLink, HasNumber, HasSetting, IsNamed, NamesSubcommand, Orders, RefusesWords};
 
-use crate::cli::command::{CHANNEL, LINKS, UDP, command};
+use crate::cli::command::{CHANNEL, LINKS, TCP, UDP, command};
 use crate::cli::fault::Fault;
 use cb_times::{FEWEST_MEMBERS, MOST_MEMBERS};
 use clap::ArgMatches;
@@ -132,6 +132,8 @@ fn link_named(name: &str) -> Option<LinkKind>
         Some(LinkKind::Channel)
     } else if name == UDP {
         Some(LinkKind::Udp)
+    } else if name == TCP {
+        Some(LinkKind::Tcp)
     } else {
         None
     }

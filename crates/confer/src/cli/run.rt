@@ -16,7 +16,7 @@ use confer_run::{RunSetting, run_conference};
 use std::alloc::Global;
 use std::convert::AsStr;
 use std::io::{Read, Write};
-use std::net::Net;
+use std::net::{Net, TcpListener, TcpStream};
 use std::sync::Wait;
 use std::thread::Threads;
 use std::time::Clock;
@@ -116,14 +116,13 @@ pub fn run_plain<S: AsStr, R: Read, W: Write, E: Write>(
 
 /// Does what the words say, of which the first is the program's name, and answers the exit status. A
 /// conference in threads may wait for ever.
-pub fn run_words<S: AsStr, R: Read, W: Write, E: Write, H: Threads + Wait + Clock + Net + Sync>(
-    rt: &H,
-    alloc: Global,
-    words: &[S],
-    input: &mut R,
-    output: &mut W,
-    errors: &mut E,
-) -> u8
+pub fn run_words<
+    S: AsStr,
+    R: Read,
+    W: Write,
+    E: Write,
+    H: Threads + Wait + Clock + Net<Listener = TcpListener, Stream = TcpStream> + Sync,
+>(rt: &H, alloc: Global, words: &[S], input: &mut R, output: &mut W, errors: &mut E) -> u8
     ensures { EndsAny (map S.text words.now) result
         (R.remaining input.old) (R.remaining input.new)
         (W.contents output.old) (W.contents output.new)
@@ -137,13 +136,11 @@ pub fn run_words<S: AsStr, R: Read, W: Write, E: Write, H: Threads + Wait + Cloc
 }
 
 /// Runs a conference in threads, and answers the exit status.
-fn run_in_threads<W: Write, E: Write, H: Threads + Wait + Clock + Net + Sync>(
-    rt: &H,
-    alloc: Global,
-    setting: RunSetting,
-    output: &mut W,
-    errors: &mut E,
-) -> u8
+fn run_in_threads<
+    W: Write,
+    E: Write,
+    H: Threads + Wait + Clock + Net<Listener = TcpListener, Stream = TcpStream> + Sync,
+>(rt: &H, alloc: Global, setting: RunSetting, output: &mut W, errors: &mut E) -> u8
     requires { IsRunSetting setting }
     ensures { EndsRun setting result (W.contents output.old) (W.contents output.new)
         (E.contents errors.old) (E.contents errors.new) }

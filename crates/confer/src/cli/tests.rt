@@ -13,14 +13,14 @@ use confer_run::{RunFault, ThreadFault};
 use confer_text::LinesFault;
 use std::alloc::Global;
 use std::io::ErrorKind;
-use std::net::Net;
+use std::net::{Net, TcpListener, TcpStream};
 use std::process::Abort;
 use std::sync::Wait;
 use std::thread::Threads;
 use std::time::Clock;
 
 /// What is said of words that are no command: nothing is read and nothing is printed.
-fn says<H: Threads + Wait + Clock + Net + Abort + Sync>(
+fn says<H: Threads + Wait + Clock + Net<Listener = TcpListener, Stream = TcpStream> + Abort + Sync>(
     rt: &H,
     alloc: Global,
     words: &[&str],
@@ -120,7 +120,7 @@ const RUN_OPTIONS: &[(&str, &str)] = &[
     ("--questions=101", "'101'"),
     ("--turns=0", "'0'"),
     ("--turns=10000001", "'10000001'"),
-    ("--link=tcp", "[possible values: channel, udp]"),
+    ("--link=pipe", "[possible values: channel, udp, tcp]"),
     ("--trace=yes", "--trace"),
     ("--help", "--questions <Q>"),
     (
@@ -228,11 +228,9 @@ fn each_command_ends_with_its_status_and_says_its_faults_apart(rt: HostRuntime) 
     }
 }
 
-fn ends_so<H: Threads + Wait + Clock + Net + Abort + Sync>(
-    rt: &H,
-    alloc: Global,
-    run: &ProgramRun,
-) {
+fn ends_so<
+    H: Threads + Wait + Clock + Net<Listener = TcpListener, Stream = TcpStream> + Abort + Sync,
+>(rt: &H, alloc: Global, run: &ProgramRun) {
     let mut input = reading(run.input.as_bytes());
     let outcome = run_whole(rt, alloc, run.words, &mut input, writing(alloc));
     drop(input);
@@ -254,11 +252,9 @@ fn a_failing_stream_is_said_on_standard_error(rt: HostRuntime) {
     }
 }
 
-fn fails_to_read<H: Threads + Wait + Clock + Net + Abort + Sync>(
-    rt: &H,
-    alloc: Global,
-    words: &[&str],
-) {
+fn fails_to_read<
+    H: Threads + Wait + Clock + Net<Listener = TcpListener, Stream = TcpStream> + Abort + Sync,
+>(rt: &H, alloc: Global, words: &[&str]) {
     let mut input = reading(b"11");
     input.good = 1;
     input.fault = ErrorKind::OutOfMemory;
@@ -268,11 +264,9 @@ fn fails_to_read<H: Threads + Wait + Clock + Net + Abort + Sync>(
 }
 
 /// The writer takes three bytes and then no more: those stay, where anything is printed.
-fn fails_to_write<H: Threads + Wait + Clock + Net + Abort + Sync>(
-    rt: &H,
-    alloc: Global,
-    run: &ProgramRun,
-) {
+fn fails_to_write<
+    H: Threads + Wait + Clock + Net<Listener = TcpListener, Stream = TcpStream> + Abort + Sync,
+>(rt: &H, alloc: Global, run: &ProgramRun) {
     let Some(first) = run.printed.as_bytes().get(..3) else {
         return;
     };

@@ -3,18 +3,16 @@
 use crate::cli::{run_plain, run_words};
 use confer_fakes::{reading, writing};
 use std::alloc::Global;
-use std::net::Net;
+use std::net::{Net, TcpListener, TcpStream};
 use std::process::Abort;
 use std::sync::Wait;
 use std::thread::Threads;
 use std::time::Clock;
 
 /// What the words print, which end with status 0.
-fn printed<R: Threads + Wait + Clock + Net + Abort + Sync>(
-    rt: &R,
-    alloc: Global,
-    words: &[&str],
-) -> String {
+fn printed<
+    R: Threads + Wait + Clock + Net<Listener = TcpListener, Stream = TcpStream> + Abort + Sync,
+>(rt: &R, alloc: Global, words: &[&str]) -> String {
     let mut output = writing(alloc);
     let mut errors = writing(alloc);
     let mut input = reading(b"not read");
@@ -70,13 +68,9 @@ fn is_line(rt: &impl Abort, alloc: Global, line: &str, member: usize, part: &str
 }
 
 /// The words print the lines of so many members, each of which says this.
-fn tells<R: Threads + Wait + Clock + Net + Abort + Sync>(
-    rt: &R,
-    alloc: Global,
-    words: &[&str],
-    members: usize,
-    part: &str,
-) {
+fn tells<
+    R: Threads + Wait + Clock + Net<Listener = TcpListener, Stream = TcpStream> + Abort + Sync,
+>(rt: &R, alloc: Global, words: &[&str], members: usize, part: &str) {
     let text = printed(rt, alloc, words);
     is_reported(rt, alloc, &text, members, part);
     drop(text);
@@ -99,6 +93,21 @@ fn a_conference_over_udp_ends_with_all_cast_and_delivered(rt: HostRuntime) {
         "2",
         "--link",
         "udp",
+    ];
+    tells(&rt, rt.alloc(), &words, 3, "casts 2 deliveries 4");
+}
+
+#[test]
+fn a_conference_over_tcp_ends_with_all_cast_and_delivered(rt: HostRuntime) {
+    let words = [
+        "confer",
+        "run",
+        "--size",
+        "3",
+        "--questions",
+        "2",
+        "--link",
+        "tcp",
     ];
     tells(&rt, rt.alloc(), &words, 3, "casts 2 deliveries 4");
 }

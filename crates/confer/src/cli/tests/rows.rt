@@ -4,7 +4,7 @@ use super::{AUDIT, EXPAND, PLAY};
 use crate::harness::run_whole;
 use confer_fakes::{reading, writing};
 use std::alloc::Global;
-use std::net::Net;
+use std::net::{Net, TcpListener, TcpStream};
 use std::process::Abort;
 use std::sync::Wait;
 use std::thread::Threads;
@@ -49,13 +49,9 @@ member 2 time [1,1,0] stable 0 entries 2
 ";
 
 /// The words print this text of the input, say nothing, and end with this status.
-fn prints<H: Threads + Wait + Clock + Net + Abort + Sync>(
-    rt: &H,
-    alloc: Global,
-    words: &[&str],
-    input: &str,
-    wanted: (u8, &str),
-) {
+fn prints<
+    H: Threads + Wait + Clock + Net<Listener = TcpListener, Stream = TcpStream> + Abort + Sync,
+>(rt: &H, alloc: Global, words: &[&str], input: &str, wanted: (u8, &str)) {
     let (status, printed) = wanted;
     let mut input = reading(input.as_bytes());
     let outcome = run_whole(rt, alloc, words, &mut input, writing(alloc));

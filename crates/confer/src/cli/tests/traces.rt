@@ -8,7 +8,7 @@ use cb_world::World;
 use confer_fakes::{reading, writing};
 use confer_play::{Script, ScriptStep, script_of};
 use std::alloc::Global;
-use std::net::Net;
+use std::net::{Net, TcpListener, TcpStream};
 use std::process::Abort;
 use std::sync::Wait;
 use std::test::Fail;
@@ -67,11 +67,9 @@ fn the_worked_trace_comes_back(rt: HostRuntime) -> Result<(), Fail> {
 }
 
 /// The trace of a conference in threads.
-fn traced<H: Threads + Wait + Clock + Net + Abort + Sync>(
-    rt: &H,
-    alloc: Global,
-    link: &str,
-) -> Vec<u8> {
+fn traced<
+    H: Threads + Wait + Clock + Net<Listener = TcpListener, Stream = TcpStream> + Abort + Sync,
+>(rt: &H, alloc: Global, link: &str) -> Vec<u8> {
     let mut output = writing(alloc);
     let mut errors = writing(alloc);
     output.most = 4096;
