@@ -1,8 +1,6 @@
 -- Members of a group, one after another.
-use Rattle.std.proofs.Common.{◌≡◌, ℕ, suc, ◌+◌, List, [], ◌∷◌, ◌++◌, length, length-append, map, drop, get_or, subst, sym, ap, ◌∙◌, arith, Option, Some, None, Result, Ok, Err, IfSome, IsSomeAnd, IfOk, IsOkAnd}
+use Rattle.std.proofs.Common.{◌≡◌, ℕ, suc, ◌+◌, List, [], ◌∷◌, ◌++◌, length, length-append, map, drop, get_or, subst, sym, ap, ◌∙◌, arith}
 use Rattle.std.proofs.lemmas.List.{append_assoc, append-nil, drop-drop, length-map, map-append}
-use Rattle.std.specs.declared.vec.Vec.{Vec}
-use Rattle.std.specs.declared.alloc.Global.{Global}
 use Rattle.std.proofs.lemmas.List.Elements.{All-append, All-cons, All-nil}
 use Rattle.cb_history.specs.Group.{Parameters}
 use Rattle.cb_history.specs.declared.history.History.{History}
@@ -10,9 +8,9 @@ use Rattle.cb_threads.specs.declared.report.Tally.{Tally}
 use Rattle.cb_threads.specs.declared.life.Kept.{Kept}
 use Rattle.cb_threads.specs.declared.life.OfMember.{OfMember}
 use Rattle.cb_threads.specs.declared.report.MemberReport.{MemberReport}
-use Rattle.cb_threads.specs.Groups.{IsKept, AreKept, AreMembers, tally_in}
+use Rattle.cb_threads.specs.Groups.{IsKept, IsLife, AreKept, AreMembers, tally_in}
 use Rattle.cb_threads.specs.declared.report.Failures.{Failures}
-use Rattle.cb_threads.specs.declared.start.Parts.{Parts}
+use Rattle.cb_threads.specs.declared.per_worker.PerWorker.{PerWorker}
 use Rattle.cb_threads.specs.Reports.{EachHandsBack, EachTellsFailures, HandsBack, TellFailures, TellsFailures, failures_in}
 
 pub members_more : (group : Parameters) (me : ℕ) (ps : List OfMember) (p : OfMember) → AreMembers group me ps → p.group ≡ group → p.me ≡ me + length ps → AreMembers group me (ps ++ p ∷ [])
@@ -68,20 +66,13 @@ one_more_back {I} {O} {P} {T} rs rs' r each one is =
     let Q : MemberReport I O P T → Type 0 = λ report. HandsBack report in
     subst (λ (all : List (MemberReport I O P T)). EachHandsBack all) (sym is) (All-append Q rs (r ∷ []) each (All-cons Q r [] one (All-nil Q)))
 
--- so where its thread was started
-pub starts_next : {H P : Type 0} (promise : H → OfMember) (group : Parameters) (me size : ℕ) (hs hs' : List H) (rest rest' : List P) (o : Option H) (p : P) → (me ≡ length hs) × (me + length rest ≡ size) × AreMembers group 0 (map promise hs) → rest ≡ p ∷ rest'
-    → (before : Failures) → IfSome o (λ (h : H). ((promise h).group ≡ group) × ((promise h).me ≡ me) × ((promise h).before ≡ before)) → IsSomeAnd o (λ (h : H). hs' ≡ hs ++ h ∷ []) → (me + 1 ≡ length hs') × (me + 1 + length rest' ≡ size) × AreMembers group 0 (map promise hs')
-starts_next promise group me size hs hs' rest rest' None p inv e before is added = absurd added
-starts_next promise group me size hs hs' rest rest' (Some h) p inv e before is added = starts promise group me size hs hs' rest rest' h p inv e added is.0 is.1
-
--- one more member has ended, where something is kept of it
-pub ends_next : {I O P T E H : Type 0} (inlet : I → ℕ) (outlet : O → ℕ) (pace : P → ℕ) (promise : H → OfMember) (n : ℕ) (all : List OfMember) (hs hs' : List History) (rs rs' : List (MemberReport I O P T)) (rest rest' : List H) (h : H) (r : Result (Kept I O P T) E)
+-- one more member has ended
+pub ends_next : {I O P T H : Type 0} (inlet : I → ℕ) (outlet : O → ℕ) (pace : P → ℕ) (promise : H → OfMember) (n : ℕ) (all : List OfMember) (hs hs' : List History) (rs rs' : List (MemberReport I O P T)) (rest rest' : List H) (h : H) (kept : Kept I O P T)
     → (length hs + length rest ≡ n) × ((group : Parameters) → AreMembers group 0 all → AreKept group 0 hs (map tally_in rs) × AreMembers group (length hs) (map promise rest)) → EachHandsBack rs → rest ≡ h ∷ rest'
-    → IfOk r (λ (kept : Kept I O P T). IsKept (promise h).group (promise h).me kept.history (tally_in kept.report) × HandsBack kept.report × TellsFailures inlet outlet pace (promise h).before kept.report) → IsOkAnd r (λ (kept : Kept I O P T). (rs' ≡ rs ++ kept.report ∷ []) × (hs' ≡ hs ++ kept.history ∷ []))
+    → IsLife inlet outlet pace (promise h).group (promise h).me (promise h).before kept → (rs' ≡ rs ++ kept.report ∷ []) × (hs' ≡ hs ++ kept.history ∷ [])
     → ((length hs' + length rest' ≡ n) × ((group : Parameters) → AreMembers group 0 all → AreKept group 0 hs' (map tally_in rs') × AreMembers group (length hs') (map promise rest'))) × EachHandsBack rs'
-ends_next inlet outlet pace promise n all hs hs' rs rs' rest rest' h (Err e) inv back is_h is added = absurd added
-ends_next inlet outlet pace promise n all hs hs' rs rs' rest rest' h (Ok kept) inv back is_h is added =
-    (goes promise tally_in n all hs hs' rs rs' rest rest' h kept.report kept.history inv is_h is.0 added.1 added.0, one_more_back rs rs' kept.report back is.1 added.0)
+ends_next inlet outlet pace promise n all hs hs' rs rs' rest rest' h kept inv back is_h is added =
+    (goes promise tally_in n all hs hs' rs rs' rest rest' h kept.report kept.history inv is_h is.history added.1 added.0, one_more_back rs rs' kept.report back is.parts added.0)
 
 -- ---- failures
 
@@ -101,17 +92,15 @@ drop_next {X} xs x rest ys y at =
     let long : length (ys ++ y ∷ []) ≡ length ys + 1 = length-append ys (y ∷ []) in
     ap (λ (n : ℕ). drop n xs) long ∙ sym (drop-drop 1 (length ys) xs) ∙ ap (λ (l : List X). drop 1 l) at
 
--- so where one more member has ended, and something is kept of it
-pub tells_next : {I O P T E H : Type 0} (inlet : I → ℕ) (outlet : O → ℕ) (pace : P → ℕ) (promise : H → OfMember) (bs : List Failures) (hs hs' : List History) (rs rs' : List (MemberReport I O P T)) (rest rest' : List H) (h : H) (r : Result (Kept I O P T) E)
+-- so where one more member has ended
+pub tells_next : {I O P T H : Type 0} (inlet : I → ℕ) (outlet : O → ℕ) (pace : P → ℕ) (promise : H → OfMember) (bs : List Failures) (hs hs' : List History) (rs rs' : List (MemberReport I O P T)) (rest rest' : List H) (h : H) (kept : Kept I O P T)
     → (drop (length rs) bs ≡ map (λ x. (promise x).before) rest) × TellFailures inlet outlet pace bs rs → rest ≡ h ∷ rest'
-    → IfOk r (λ (kept : Kept I O P T). IsKept (promise h).group (promise h).me kept.history (tally_in kept.report) × HandsBack kept.report × TellsFailures inlet outlet pace (promise h).before kept.report)
-    → IsOkAnd r (λ (kept : Kept I O P T). (rs' ≡ rs ++ kept.report ∷ []) × (hs' ≡ hs ++ kept.history ∷ []))
+    → IsLife inlet outlet pace (promise h).group (promise h).me (promise h).before kept → (rs' ≡ rs ++ kept.report ∷ []) × (hs' ≡ hs ++ kept.history ∷ [])
     → (drop (length rs') bs ≡ map (λ x. (promise x).before) rest') × TellFailures inlet outlet pace bs rs'
-tells_next inlet outlet pace promise bs hs hs' rs rs' rest rest' h (Err e) inv is_h is added = absurd added
-tells_next {I} {O} {P} {T} {E} {H} inlet outlet pace promise bs hs hs' rs rs' rest rest' h (Ok kept) inv is_h is added =
+tells_next {I} {O} {P} {T} {H} inlet outlet pace promise bs hs hs' rs rs' rest rest' h kept inv is_h is added =
     let at : drop (length rs) bs ≡ (promise h).before ∷ map (λ (x : H). (promise x).before) rest' = inv.0 ∙ ap (map (λ (x : H). (promise x).before)) is_h in (
       subst (λ (xs : List (MemberReport I O P T)). drop (length xs) bs ≡ map (λ (x : H). (promise x).before) rest') (sym added.0) (drop_next bs (promise h).before (map (λ (x : H). (promise x).before) rest') rs kept.report at),
-      subst (λ (xs : List (MemberReport I O P T)). TellFailures inlet outlet pace bs xs) (sym added.0) (tells_more inlet outlet pace bs (promise h).before (map (λ (x : H). (promise x).before) rest') rs kept.report inv.1 at is.2),
+      subst (λ (xs : List (MemberReport I O P T)). TellFailures inlet outlet pace bs xs) (sym added.0) (tells_more inlet outlet pace bs (promise h).before (map (λ (x : H). (promise x).before) rest') rs kept.report inv.1 at is.failures),
     )
 
 -- one more of them was done
@@ -123,25 +112,23 @@ does_next {X} {Y} {Z} f g done done' rest rest' all x y inv e ed is =
     ∙ ap (λ (ys : List Y). map f done ++ map g ys) (sym e)
     ∙ inv
 
--- so where the thread of one more member was started
-pub before_next : {H X : Type 0} (promise : H → OfMember) (failures : X → Failures) (group : Parameters) (me : ℕ) (hs hs' : List H) (rest rest' : List X) (all : List Failures) (o : Option H) (x : X) → map (λ h. (promise h).before) hs ++ map failures rest ≡ all → rest ≡ x ∷ rest'
-    → IfSome o (λ (h : H). ((promise h).group ≡ group) × ((promise h).me ≡ me) × ((promise h).before ≡ failures x)) → IsSomeAnd o (λ (h : H). hs' ≡ hs ++ h ∷ []) → map (λ h. (promise h).before) hs' ++ map failures rest' ≡ all
-before_next promise failures group me hs hs' rest rest' all None x inv e is added = absurd added
-before_next {H} promise failures group me hs hs' rest rest' all (Some h) x inv e is added = does_next (λ (i : H). (promise i).before) failures hs hs' rest rest' all h x inv e added is.2
+-- there are as many parts as links
+pub as_many : {I O P T : Type 0} (ps : List (PerWorker I P T O)) (links : List (I × O)) → map (λ p. (p.receiver, p.sender)) ps ≡ links → length ps ≡ length links
+as_many {I} {O} {P} {T} ps links is =
+    let link_of : PerWorker I P T O → I × O = λ p. (p.receiver, p.sender) in
+    sym (length-map ps link_of) ∙ ap length is
 
 -- what is told of the failures of parts is told of their links and paces
-each_tells : {I O P T : Type 0} (inlet : I → ℕ) (outlet : O → ℕ) (pace : P → ℕ) (ps : List (Parts I O P T)) (rs : List (MemberReport I O P T)) → TellFailures inlet outlet pace (map (failures_in inlet outlet pace) ps) rs
-    → EachTellsFailures inlet outlet pace (map (λ p. (p.inlet, p.outlet)) ps) (map (λ p. p.pace) ps) rs
+each_tells : {I O P T : Type 0} (inlet : I → ℕ) (outlet : O → ℕ) (pace : P → ℕ) (ps : List (PerWorker I P T O)) (rs : List (MemberReport I O P T)) → TellFailures inlet outlet pace (map (failures_in inlet outlet pace) ps) rs
+    → EachTellsFailures inlet outlet pace (map (λ p. (p.receiver, p.sender)) ps) (map (λ p. p.timer) ps) rs
 each_tells inlet outlet pace [] [] all = tt
 each_tells inlet outlet pace [] (r ∷ rs) all = absurd all
 each_tells inlet outlet pace (p ∷ ps) [] all = tt
 each_tells inlet outlet pace (p ∷ ps) (r ∷ rs) all = (all.0, each_tells inlet outlet pace ps rs all.1)
 
 -- so where the parts were made of these links and paces
-pub tells_all : {I O P T E : Type 0} (inlet : I → ℕ) (outlet : O → ℕ) (pace : P → ℕ) (parts : Result (Vec (Parts I O P T) Global) E) (links : List (I × O)) (paces : List P) (rs : List (MemberReport I O P T))
-    → IsOkAnd parts (λ (ps : Vec (Parts I O P T) Global). TellFailures inlet outlet pace (map (failures_in inlet outlet pace) ps.items) rs) → IfOk parts (λ (ps : Vec (Parts I O P T) Global). map (λ p. (p.inlet, p.outlet)) ps.items ≡ links) → IfOk parts (λ (ps : Vec (Parts I O P T) Global). map (λ p. p.pace) ps.items ≡ paces)
-    → EachTellsFailures inlet outlet pace links paces rs
-tells_all inlet outlet pace (Err e) links paces rs all are_links are_paces = absurd all
-tells_all {I} {O} {P} {T} inlet outlet pace (Ok ps) links paces rs all are_links are_paces =
+pub tells_all : {I O P T : Type 0} (inlet : I → ℕ) (outlet : O → ℕ) (pace : P → ℕ) (ps : List (PerWorker I P T O)) (links : List (I × O)) (paces : List P) (rs : List (MemberReport I O P T))
+    → TellFailures inlet outlet pace (map (failures_in inlet outlet pace) ps) rs → map (λ p. (p.receiver, p.sender)) ps ≡ links → map (λ p. p.timer) ps ≡ paces → EachTellsFailures inlet outlet pace links paces rs
+tells_all {I} {O} {P} {T} inlet outlet pace ps links paces rs all are_links are_paces =
     subst (λ (ls : List (I × O)). EachTellsFailures inlet outlet pace ls paces rs) are_links
-    (subst (λ (qs : List P). EachTellsFailures inlet outlet pace (map (λ (p : Parts I O P T). (p.inlet, p.outlet)) ps.items) qs rs) are_paces (each_tells inlet outlet pace ps.items rs all))
+    (subst (λ (qs : List P). EachTellsFailures inlet outlet pace (map (λ (p : PerWorker I P T O). (p.receiver, p.sender)) ps) qs rs) are_paces (each_tells inlet outlet pace ps rs all))

@@ -1,5 +1,5 @@
 -- What a report says of a history, or of the receipts of seats.
-use Rattle.std.specs.Prelude.{◌≡◌, ℕ, ◌+◌, List, [], ◌∷◌, length, map, is_some, true, Option, None, Some, Result, Ok, Err, MatchOption}
+use Rattle.std.specs.Prelude.{◌≡◌, ℕ, ◌+◌, List, [], ◌∷◌, length, map, is_some, true, Option, None, Some, Result, Ok, Err, IfSome, MatchOption}
 use Rattle.std.specs.List.{All}
 use Rattle.cb_frames.specs.declared.fault.FrameFault.{FrameFault}
 use Rattle.cb_frames.specs.Fields.{FrameFields, CastFrame, StatusFrame, RequestFrame, messages_of}
@@ -10,7 +10,12 @@ use Rattle.cb_lock.specs.Claims.{receipts_of}
 use Rattle.cb_threads.specs.declared.report.MemberReport.{MemberReport}
 use Rattle.cb_threads.specs.declared.report.Tally.{Tally}
 use Rattle.cb_threads.specs.declared.report.Failures.{Failures}
-use Rattle.cb_threads.specs.declared.start.Parts.{Parts}
+use Rattle.cb_threads.specs.declared.per_worker.PerWorker.{PerWorker}
+use Rattle.cb_threads.specs.declared.workers.desk.Worked.{Worked}
+use Rattle.cb_threads.specs.declared.workers.desk.Worker.{Worker}
+use Rattle.cb_threads.specs.declared.workers.receiver.Receiving.{Receiving}
+use Rattle.cb_threads.specs.declared.workers.speaker.Talking.{Talking}
+use Rattle.cb_threads.specs.declared.workers.timer.Ticking.{Ticking}
 use Rattle.cb_links.specs.Counts.{held, MetAtMost}
 use Rattle.cb_threads.specs.Offers.{FailuresAreLost}
 
@@ -86,7 +91,18 @@ HandsBack report = report.fault ≡ None → HandsAllBack report
 abbrev pub EachHandsBack : {I O P T : Type 0} → List (MemberReport I O P T) → Type 0
 EachHandsBack reports = All (λ r. HandsBack r) reports
 
--- ---- frames that were lost
+-- ---- the workers
+
+-- there is something for each
+pub record AreAllThere {R T S D : Type 0} (each : PerWorker (Option R) (Option T) (Option S) (Option D)) : Type 0 where
+  pub receiver : is_some each.receiver ≡ true
+  pub timer : is_some each.timer ≡ true
+  pub speaker : is_some each.speaker ≡ true
+  pub sender : is_some each.sender ≡ true
+
+-- what workers work with
+abbrev pub parts_of : {I O P T E F L : Type 0} → PerWorker (Worker (Receiving I) E L) (Worker (Ticking P) E L) (Worker (Talking T) E L) (Worker O F L) → PerWorker I P T O
+parts_of crew = record { receiver = crew.receiver.part.inlet; timer = crew.timer.part.pace; speaker = crew.speaker.part.talker; sender = crew.sender.part }
 
 -- what a worker lost: nothing, where its thread could not be started
 abbrev pub lost_in : {W : Type 0} → Option W → (W → ℕ) → ℕ
@@ -96,8 +112,16 @@ lost_in (Some w) lost = lost w
 -- ---- failures
 
 -- how often the inlet, the outlet and the pace of a member have failed
-abbrev pub failures_in : {I O P T : Type 0} → (I → ℕ) → (O → ℕ) → (P → ℕ) → Parts I O P T → Failures
-failures_in inlet outlet pace parts = record { inlet = inlet parts.inlet; outlet = outlet parts.outlet; pace = pace parts.pace }
+abbrev pub failures_in : {I O P T : Type 0} → (I → ℕ) → (O → ℕ) → (P → ℕ) → PerWorker I P T O → Failures
+failures_in inlet outlet pace parts = record { inlet = inlet parts.receiver; outlet = outlet parts.sender; pace = pace parts.timer }
+
+-- Workers that ended met at most as many failures as were counted since what they work with had counted these.
+-- At each failure to send a frame was lost.
+pub record HaveMet {I O P T L : Type 0} (inlet_failed : I → ℕ) (outlet_failed : O → ℕ) (pace_failed : P → ℕ) (before : Failures) (ended : PerWorker (Option (Worked I L)) (Option (Worked P L)) (Option (Worked T L)) (Option (Worked O L))) : Type 0 where
+  pub inlet : IfSome ended.receiver (λ w. MetAtMost w.failures before.inlet (inlet_failed w.part))
+  pub outlet : IfSome ended.sender (λ w. MetAtMost w.failures before.outlet (outlet_failed w.part))
+  pub pace : IfSome ended.timer (λ w. MetAtMost w.failures before.pace (pace_failed w.part))
+  pub lost : IfSome ended.sender (λ w. FailuresAreLost w.failures w.lost)
 
 -- Of what is handed back a report names at most as many failures as were counted since it had counted these, of what is not of none.
 -- At each failure to send a frame was lost.

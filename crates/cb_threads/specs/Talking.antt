@@ -4,8 +4,8 @@ use Rattle.std.specs.declared.vec.Vec.{Vec}
 use Rattle.std.specs.declared.alloc.Global.{Global}
 use Rattle.cb_threads.specs.declared.talker.Talk.{Talk}
 use Rattle.cb_threads.specs.declared.talker.Talk.TheVariants as talks
-use Rattle.cb_threads.specs.declared.workers.speaker.Turn.{Turn}
-use Rattle.cb_threads.specs.declared.workers.speaker.Turn.TheVariants as turns
+use Rattle.cb_threads.specs.declared.workers.turns.Turn.{Turn}
+use Rattle.cb_threads.specs.declared.workers.turns.Turn.TheVariants as turns
 
 -- the payload that it wants to cast
 abbrev pub cast_of : Talk → Option (Vec ℕ Global)
@@ -15,6 +15,6 @@ cast_of talks.Finished = None
 
 -- the turn in which it says so
 abbrev pub turn_of : Talk → Turn
-turn_of (talks.Cast payload) = turns.Cast
-turn_of talks.Idle = turns.Quiet
+turn_of (talks.Cast payload) = turns.Done
+turn_of talks.Idle = turns.Idle
 turn_of talks.Finished = turns.Finished

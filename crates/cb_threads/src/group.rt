@@ -1,20 +1,20 @@
 //! A group, of which each member runs in a thread of its own.
 
-ghost use Rattle.std.specs.Prelude.{◌≡◌, ◌≢◌, ◌↔◌, Decides, IfOk, IsOkAnd, Err, Some, length, map};
+ghost use Rattle.std.specs.Prelude.{◌≡◌, ◌≢◌, ◌↔◌, Decides, IfOk, Err, Some, length, map};
 ghost use Rattle.cb_threads.specs.FaultText.{group_fault_text};
 ghost use Rattle.cb_threads.specs.Groups.{IsPlan, AreKept, tally_in};
-ghost use Rattle.cb_threads.specs.Reports.{EachHandsBack, EachTellsFailures, TellFailures, failures_in};
+ghost use Rattle.cb_threads.specs.Reports.{EachHandsBack, EachTellsFailures};
 ghost use Rattle.cb_threads.specs.declared.group.GroupFault.TheVariants.{BadPlan};
 
-use crate::life::{LifeFault, Lives, Setting, run_lives};
+use crate::life::{LifeFault, Setting, run_lives};
 use crate::limits::{Limits, Stop};
 use crate::pace::Pace;
-use crate::report::MemberReport;
-use crate::start::Parts;
+use crate::per_worker::Parts;
+use crate::report::GroupReport;
 use crate::talker::Talker;
 use cb_links::{Inlet, Outlet};
 use cb_lock::CloseFault;
-use cb_member::{Group, History, LONGEST_HISTORY};
+use cb_member::{Group, LONGEST_HISTORY};
 use std::alloc::{AllocError, Global};
 use std::error::Error;
 use std::fmt;
@@ -51,13 +51,6 @@ impl fmt::Display for GroupFault {
 }
 
 impl Error for GroupFault {}
-
-/// What became of each member, in the order of their numbers.
-#[derive(Drop)]
-pub struct GroupReport<I, O, P, T> {
-    pub reports: Vec<MemberReport<I, O, P, T>>,
-    pub histories: Vec<History>,
-}
 
 /// Runs a group of new members, each in a thread of its own, behind a lock and with a ledger of its
 /// own, with four workers.
@@ -96,9 +89,15 @@ pub fn run_group<
     if !is_plan(group, history_max, lengths) {
         return Err(GroupFault::BadPlan);
     }
-    let parts = parts(alloc, links, paces, talkers);
-    match run_parts(rt, alloc, (group, history_max), parts, limits) {
-        Ok(Lives { reports, histories }) => Ok(GroupReport { reports, histories }),
+    let parts = match parts(alloc, links, paces, talkers) {
+        Ok(parts) => parts,
+        Err(AllocError) => return Err(GroupFault::NoMemory),
+    };
+    let stop = Stop::new();
+    let talking = AtomicU64::new(u64::from(group.size()));
+    let setting = Setting::new(alloc, (group, history_max), limits, &stop, &talking);
+    match run_lives(rt, &setting, parts) {
+        Ok(report) => Ok(report),
         Err(fault) => Err(group_fault(fault)),
     }
 }
@@ -135,8 +134,8 @@ fn parts<I: Drop, O: Drop, P: Drop, T: Drop>(
     requires { (length links.items ≡ length paces.items)
         × (length links.items ≡ length talkers.items) }
     ensures links { IfOk result (λ parts.
-        map (λ part. (part.inlet, part.outlet)) parts.items ≡ links.items) }
-    ensures paces { IfOk result (λ parts. map (λ part. part.pace) parts.items ≡ paces.items) }
+        map (λ part. (part.receiver, part.sender)) parts.items ≡ links.items) }
+    ensures paces { IfOk result (λ parts. map (λ part. part.timer) parts.items ≡ paces.items) }
 {
     let mut parts = Vec::new(alloc);
     let mut paces = paces.into_iter();
@@ -146,40 +145,11 @@ fn parts<I: Drop, O: Drop, P: Drop, T: Drop>(
             unreachable!("there is one for each link");
         };
         parts.push(Parts {
-            inlet,
-            outlet,
-            pace,
-            talker,
+            receiver: inlet,
+            timer: pace,
+            speaker: talker,
+            sender: outlet,
         })?;
     }
     Ok(parts)
-}
-
-fn run_parts<
-    I: Inlet + Send + Drop,
-    O: Outlet + Send + Drop,
-    P: Pace + Send + Drop,
-    T: Talker + Send + Drop,
-    R: Threads + Wait + Clock + Sync,
->(
-    rt: &R,
-    alloc: Global,
-    plan: (Group, usize),
-    parts: Result<Vec<Parts<I, O, P, T>>, AllocError>,
-    limits: Limits,
-) -> Result<Lives<I, O, P, T>, LifeFault>
-    requires size { IfOk parts (λ parts. length parts.items ≡ plan.0.size) }
-    ensures members { IfOk result (λ r. length r.histories.items ≡ plan.0.size) }
-    ensures kept { IfOk result (λ r. AreKept plan.0 0 r.histories.items
-        (map tally_in r.reports.items)) }
-    ensures parts { IfOk result (λ r. EachHandsBack r.reports.items) }
-    ensures failures { IfOk result (λ r. IsOkAnd parts (λ parts.
-        TellFailures I.failed O.failed P.failed
-        (map (failures_in I.failed O.failed P.failed) parts.items) r.reports.items)) }
-{
-    let parts = parts?;
-    let stop = Stop::new();
-    let talking = AtomicU64::new(u64::from(plan.0.size()));
-    let setting = Setting::new(alloc, plan, limits, &stop, &talking);
-    run_lives(rt, &setting, parts)
 }

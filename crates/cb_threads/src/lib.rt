@@ -8,25 +8,27 @@
 //! says that a frame arrives or that a worker gets on; `docs/GUIDE.md` says what a user may rely on.
 #![tactic(auto)]
 
+mod ended;
 mod group;
 mod life;
 mod limits;
 mod member;
 mod pace;
+mod per_worker;
 mod report;
-mod start;
 mod talker;
+mod threads;
 mod workers;
 
 pub use cb_links::{
     ChannelInlet, ChannelLink, ChannelOutlet, Inlet, LONGEST_FRAME, LinkFault, Outlet, Received,
     TcpInlet, TcpLink, TcpOutlet, UdpInlet, UdpLink, UdpOutlet, Unsent, each_frame_fits,
 };
-pub use group::{GroupFault, GroupReport, run_group};
+pub use group::{GroupFault, run_group};
 pub use limits::{Limits, Stop};
 pub use member::run_member;
 pub use pace::{Pace, PaceFault};
-pub use report::{MemberReport, WorkerFault};
+pub use report::{GroupReport, MemberReport, WorkerFault};
 pub use talker::{Talk, Talker};
 
 #[cfg(test)]

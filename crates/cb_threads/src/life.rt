@@ -1,17 +1,17 @@
 //! The members of a group, each from its first call to its history.
 
-ghost use Rattle.std.specs.Prelude.{◌≡◌, ◌<◌, [], ◌∷◌, ◌++◌, IfOk, IfSome, IsOkAnd, IsSomeAnd, length, map};
+ghost use Rattle.std.specs.Prelude.{◌≡◌, ◌<◌, [], ◌∷◌, ◌++◌, IfOk, length, map};
 ghost use Rattle.cb_history.specs.Group.{Parameters};
-ghost use Rattle.cb_threads.specs.Groups.{AreKept, AreMembers, IsKept, tally_in};
+ghost use Rattle.cb_threads.specs.Groups.{AreLives, AreMembers, IsLife};
 ghost use Rattle.cb_threads.specs.declared.life.LifeFault.TheVariants.{Close};
 ghost use Rattle.cb_threads.specs.declared.report.Failures.{Failures};
-ghost use Rattle.cb_threads.specs.Reports.{EachHandsBack, HandsBack, TellFailures, TellsFailures, failures_in};
+ghost use Rattle.cb_threads.specs.Reports.{HandsBack, TellsFailures, failures_in};
 
 use crate::limits::{Ending, Limits, Stop};
-use crate::member::run_shared;
+use crate::member::run_at;
 use crate::pace::Pace;
-use crate::report::{Failures, MemberReport, Tally};
-use crate::start::{Parts, Seats};
+use crate::per_worker::{Parts, PerWorker, Seats};
+use crate::report::{Failures, GroupReport, MemberReport, Tally};
 use crate::talker::Talker;
 use crate::workers::Desk;
 use cb_links::{Inlet, Outlet};
@@ -89,15 +89,7 @@ pub struct Kept<I, O, P, T> {
     pub history: History,
 }
 
-/// What is kept of all members, in the order of their numbers.
-#[derive(Drop)]
-pub struct Lives<I, O, P, T> {
-    pub reports: Vec<MemberReport<I, O, P, T>>,
-    pub histories: Vec<History>,
-}
-
-/// A promise: what is kept is a legal history of this member, with its counts, what its workers
-/// worked with, and the failures that they met since it had failed so often.
+/// A promise: what is kept is the life of this member, whose parts had failed so often.
 #[derive(Clone, Copy)]
 pub struct OfMember {
     pub group: Group,
@@ -106,9 +98,8 @@ pub struct OfMember {
 }
 
 impl<I: Inlet, O: Outlet, P: Pace, T> Promise<Result<Kept<I, O, P, T>, LifeFault>> for OfMember {
-    ghost kept_by = { λ p r. IfOk r (λ kept. IsKept p.group p.me kept.history
-        (tally_in kept.report) × HandsBack kept.report
-        × TellsFailures I.failed O.failed P.failed p.before kept.report) };
+    ghost kept_by = { λ p r. IfOk r (λ kept. IsLife I.failed O.failed P.failed p.group p.me
+        p.before kept) };
 }
 
 /// Runs the members, one in each thread, and waits for all of them.
@@ -122,135 +113,30 @@ pub fn run_lives<
     rt: &R,
     setting: &Setting<'_>,
     parts: Vec<Parts<I, O, P, T>>,
-) -> Result<Lives<I, O, P, T>, LifeFault>
+) -> Result<GroupReport<I, O, P, T>, LifeFault>
     requires size { length parts.items ≡ setting.now.group.size }
-    ensures members { IfOk result (λ r. length r.histories.items ≡ setting.now.group.size) }
-    ensures kept { IfOk result (λ r. AreKept setting.now.group 0 r.histories.items
-        (map tally_in r.reports.items)) }
-    ensures parts { IfOk result (λ r. EachHandsBack r.reports.items) }
-    ensures failures { IfOk result (λ r. TellFailures I.failed O.failed P.failed
-        (map (failures_in I.failed O.failed P.failed) parts.items) r.reports.items) }
+    ensures { IfOk result (λ r. AreLives I.failed O.failed P.failed setting.now.group
+        (map (failures_in I.failed O.failed P.failed) parts.items) r) }
 {
     thread::scope(
         thread::scope_env(),
         rt,
-        |scope| -> Result<Lives<I, O, P, T>, LifeFault>
+        |scope| -> Result<GroupReport<I, O, P, T>, LifeFault>
             requires size { length parts.items ≡ setting.now.group.size }
-            ensures members { IfOk result (λ r.
-                length r.histories.items ≡ setting.entry.now.group.size) }
-            ensures kept { IfOk result (λ r. AreKept setting.entry.now.group 0 r.histories.items
-                (map tally_in r.reports.items)) }
-            ensures parts { IfOk result (λ r. EachHandsBack r.reports.items) }
-            ensures failures { IfOk result (λ r. TellFailures I.failed O.failed P.failed
-                (map (failures_in I.failed O.failed P.failed) parts.items) r.reports.items) }
-        { run_in(scope, rt, setting, parts) },
+            ensures { IfOk result (λ r. AreLives I.failed O.failed P.failed
+                setting.entry.now.group
+                (map (failures_in I.failed O.failed P.failed) parts.items) r) }
+        {
+            match setting.start_all(scope, rt, parts) {
+                Ok(handles) => join_all(rt, setting.alloc, handles),
+                Err(fault) => {
+                    // Those that have begun are not to wait for the others.
+                    setting.ending.stop.set();
+                    Err(fault)
+                }
+            }
+        },
     )
-}
-
-fn run_in<
-    's,
-    E,
-    I: Inlet + Send + Drop + 's,
-    O: Outlet + Send + Drop + 's,
-    P: Pace + Send + Drop + 's,
-    T: Talker + Send + Drop + 's,
-    R: Threads + Wait + Clock + Sync + 's,
->(
-    scope: &Scope<'s, E>,
-    rt: &'s R,
-    setting: &'s Setting<'s>,
-    parts: Vec<Parts<I, O, P, T>>,
-) -> Result<Lives<I, O, P, T>, LifeFault>
-    requires size { length parts.items ≡ setting.now.group.size }
-    ensures members { IfOk result (λ r. length r.histories.items ≡ setting.now.group.size) }
-    ensures kept { IfOk result (λ r. AreKept setting.now.group 0 r.histories.items
-        (map tally_in r.reports.items)) }
-    ensures parts { IfOk result (λ r. EachHandsBack r.reports.items) }
-    ensures failures { IfOk result (λ r. TellFailures I.failed O.failed P.failed
-        (map (failures_in I.failed O.failed P.failed) parts.items) r.reports.items) }
-{
-    match start_all(scope, rt, setting, parts) {
-        Ok(handles) => join_all(rt, setting.alloc, handles),
-        Err(fault) => {
-            // Those that have begun are not to wait for the others.
-            setting.ending.stop.set();
-            Err(fault)
-        }
-    }
-}
-
-/// Starts the members in the order of their numbers.
-fn start_all<
-    's,
-    E,
-    I: Inlet + Send + Drop + 's,
-    O: Outlet + Send + Drop + 's,
-    P: Pace + Send + Drop + 's,
-    T: Talker + Send + Drop + 's,
-    R: Threads + Wait + Clock + Sync + 's,
->(
-    scope: &Scope<'s, E>,
-    rt: &'s R,
-    setting: &'s Setting<'s>,
-    parts: Vec<Parts<I, O, P, T>>,
-) -> Result<Vec<PromisedHandle<Result<Kept<I, O, P, T>, LifeFault>, OfMember>>, LifeFault>
-    requires size { length parts.items ≡ setting.now.group.size }
-    ensures members { IfOk result (λ handles.
-        length handles.items ≡ setting.now.group.size) }
-    ensures promises { IfOk result (λ handles.
-        AreMembers setting.now.group 0 (map (λ h. h.promise) handles.items)) }
-    ensures failures { IfOk result (λ handles. map (λ h. h.promise.before) handles.items
-        ≡ map (failures_in I.failed O.failed P.failed) parts.items) }
-{
-    let size = setting.group.size();
-    let mut handles = Vec::with_capacity(setting.alloc, size as usize)?;
-    let mut me = 0;
-    for part in parts {
-        add_handle(&mut handles, start(scope, rt, setting, me, part))?;
-        me += 1;
-    }
-    Ok(handles)
-}
-
-/// Adds the handle of a thread that was started.
-fn add_handle<H: Drop>(handles: &mut Vec<H>, handle: Option<H>) -> Result<(), LifeFault>
-    ensures { IfOk result (λ _. IsSomeAnd handle (λ h.
-        handles.new.items ≡ handles.old.items ++ h ∷ [])) }
-{
-    match handle {
-        Some(handle) => Ok(handles.push(handle)?),
-        None => Err(LifeFault::NoThread),
-    }
-}
-
-fn start<
-    's,
-    E,
-    I: Inlet + Send + Drop + 's,
-    O: Outlet + Send + Drop + 's,
-    P: Pace + Send + Drop + 's,
-    T: Talker + Send + Drop + 's,
-    R: Threads + Wait + Clock + Sync + 's,
->(
-    scope: &Scope<'s, E>,
-    rt: &'s R,
-    setting: &'s Setting<'s>,
-    me: u32,
-    parts: Parts<I, O, P, T>,
-) -> Option<PromisedHandle<Result<Kept<I, O, P, T>, LifeFault>, OfMember>>
-    requires { me < setting.now.group.size }
-    ensures { IfSome result (λ handle. (handle.promise.group ≡ setting.now.group)
-        × (handle.promise.me ≡ me)
-        × (handle.promise.before ≡ failures_in I.failed O.failed P.failed parts)) }
-{
-    let promise = OfMember {
-        group: setting.group,
-        me,
-        before: parts.failures(),
-    };
-    scope
-        .spawn_with(promise, move || live(rt, setting, me, parts))
-        .ok()
 }
 
 /// Waits for the members in order, and keeps what they leave. The first fault is answered.
@@ -258,111 +144,175 @@ fn join_all<I: Inlet + Drop, O: Outlet + Drop, P: Pace + Drop, T: Drop, R: Threa
     rt: &R,
     alloc: Global,
     handles: Vec<PromisedHandle<Result<Kept<I, O, P, T>, LifeFault>, OfMember>>,
-) -> Result<Lives<I, O, P, T>, LifeFault>
-    ensures members { IfOk result (λ r. length r.histories.items ≡ length handles.items) }
-    ensures kept { (group : Parameters) → AreMembers group 0 (map (λ h. h.promise) handles.items)
-        → IfOk result (λ r. AreKept group 0 r.histories.items (map tally_in r.reports.items)) }
-    ensures parts { IfOk result (λ r. EachHandsBack r.reports.items) }
-    ensures failures { IfOk result (λ r. TellFailures I.failed O.failed P.failed
-        (map (λ h. h.promise.before) handles.items) r.reports.items) }
+) -> Result<GroupReport<I, O, P, T>, LifeFault>
+    ensures { (group : Parameters) → AreMembers group 0 (map (λ h. h.promise) handles.items)
+        → IfOk result (λ r. AreLives I.failed O.failed P.failed group
+        (map (λ h. h.promise.before) handles.items) r) }
 {
-    let mut lives = Lives {
+    let mut report = GroupReport {
         reports: Vec::new(alloc),
         histories: Vec::new(alloc),
     };
     for handle in handles {
-        lives.add(handle.join(rt))?;
+        let kept = handle.join(rt)?;
+        report.add(kept)?;
     }
-    Ok(lives)
+    Ok(report)
 }
 
-impl<I: Drop, O: Drop, P: Drop, T: Drop> Lives<I, O, P, T> {
+impl<I: Drop, O: Drop, P: Drop, T: Drop> GroupReport<I, O, P, T> {
     /// Adds what is kept of the next member.
-    fn add(&mut self, kept: Result<Kept<I, O, P, T>, LifeFault>) -> Result<(), LifeFault>
-        ensures { IfOk result (λ _. IsOkAnd kept (λ kept.
+    fn add(&mut self, kept: Kept<I, O, P, T>) -> Result<(), AllocError>
+        ensures { IfOk result (λ _.
             (self.new.reports.items ≡ self.old.reports.items ++ kept.report ∷ [])
-            × (self.new.histories.items ≡ self.old.histories.items ++ kept.history ∷ []))) }
+            × (self.new.histories.items ≡ self.old.histories.items ++ kept.history ∷ [])) }
     {
-        let Kept { report, history } = kept?;
+        let Kept { report, history } = kept;
         self.reports.push(report)?;
         self.histories.push(history)?;
         Ok(())
     }
 }
 
-/// A member from its first call to its history.
-fn live<
-    I: Inlet + Send + Drop,
-    O: Outlet + Send + Drop,
-    P: Pace + Send + Drop,
-    T: Talker + Send + Drop,
-    R: Threads + Wait + Clock + Sync,
->(
-    rt: &R,
-    setting: &Setting<'_>,
-    me: u32,
-    parts: Parts<I, O, P, T>,
-) -> Result<Kept<I, O, P, T>, LifeFault>
-    ensures { IfOk result (λ kept. IsKept setting.now.group me kept.history
-        (tally_in kept.report) × HandsBack kept.report
-        × TellsFailures I.failed O.failed P.failed (failures_in I.failed O.failed P.failed parts)
-        kept.report) }
-{
-    match Member::new(setting.alloc, setting.group, me, setting.history_max) {
-        Ok(member) => share::<Brand, I, O, P, T, R>(rt, setting, member, parts, Blank::new(4)),
-        Err(_fault) => {
-            setting.ending.give_up();
-            Err(LifeFault::NoMemory)
+impl<'s> Setting<'s> {
+    /// Starts the members in the order of their numbers.
+    fn start_all<
+        E,
+        I: Inlet + Send + Drop + 's,
+        O: Outlet + Send + Drop + 's,
+        P: Pace + Send + Drop + 's,
+        T: Talker + Send + Drop + 's,
+        R: Threads + Wait + Clock + Sync + 's,
+    >(
+        &'s self,
+        scope: &Scope<'s, E>,
+        rt: &'s R,
+        parts: Vec<Parts<I, O, P, T>>,
+    ) -> Result<Vec<PromisedHandle<Result<Kept<I, O, P, T>, LifeFault>, OfMember>>, LifeFault>
+        requires size { length parts.items ≡ self.now.group.size }
+        ensures promises { IfOk result (λ handles.
+            AreMembers self.now.group 0 (map (λ h. h.promise) handles.items)) }
+        ensures failures { IfOk result (λ handles. map (λ h. h.promise.before) handles.items
+            ≡ map (failures_in I.failed O.failed P.failed) parts.items) }
+    {
+        let size = self.group.size();
+        let mut handles = Vec::with_capacity(self.alloc, size as usize)?;
+        let mut me = 0;
+        for part in parts {
+            let handle = part.start(scope, rt, self, me)?;
+            handles.push(handle)?;
+            me += 1;
         }
+        Ok(handles)
     }
 }
 
-/// The member behind a lock, with the ledger that the blank opens: it runs, and is closed.
-fn share<
-    L: Ledger + Send + Sync,
+impl<
     I: Inlet + Send + Drop,
     O: Outlet + Send + Drop,
     P: Pace + Send + Drop,
     T: Talker + Send + Drop,
-    R: Threads + Wait + Clock + Sync,
->(
-    rt: &R,
-    setting: &Setting<'_>,
-    member: Member,
-    parts: Parts<I, O, P, T>,
-    blank: Blank,
-) -> Result<Kept<I, O, P, T>, LifeFault>
-    requires ledger { (blank.name ≡ L.name) × (blank.parts ≡ L.parts) × (blank.parts ≡ 4) }
-    requires fresh { member.entries ≡ [] }
-    ensures { IfOk result (λ kept. IsKept member.seat.group member.seat.me kept.history
-        (tally_in kept.report) × HandsBack kept.report
-        × TellsFailures I.failed O.failed P.failed (failures_in I.failed O.failed P.failed parts)
-        kept.report) }
+> PerWorker<I, P, T, O> {
+    /// Starts this member.
+    fn start<'s, E, R: Threads + Wait + Clock + Sync + 's>(
+        self,
+        scope: &Scope<'s, E>,
+        rt: &'s R,
+        setting: &'s Setting<'s>,
+        me: u32,
+    ) -> Result<PromisedHandle<Result<Kept<I, O, P, T>, LifeFault>, OfMember>, LifeFault>
+    where
+        I: 's,
+        O: 's,
+        P: 's,
+        T: 's,
+        requires { me < setting.now.group.size }
+        ensures { IfOk result (λ handle. (handle.promise.group ≡ setting.now.group)
+            × (handle.promise.me ≡ me)
+            × (handle.promise.before ≡ failures_in I.failed O.failed P.failed self)) }
+    {
+        let promise = OfMember {
+            group: setting.group,
+            me,
+            before: self.failures(),
+        };
+        match scope.spawn_with(promise, move || self.live(rt, setting, me)) {
+            Ok(handle) => Ok(handle),
+            Err(_refused) => Err(LifeFault::NoThread),
+        }
+    }
+
+    /// This member from its first call to its history.
+    fn live<R: Threads + Wait + Clock + Sync>(
+        self,
+        rt: &R,
+        setting: &Setting<'_>,
+        me: u32,
+    ) -> Result<Kept<I, O, P, T>, LifeFault>
+        ensures { IfOk result (λ kept. IsLife I.failed O.failed P.failed setting.now.group me
+            (failures_in I.failed O.failed P.failed self) kept) }
+    {
+        match Member::new(setting.alloc, setting.group, me, setting.history_max) {
+            Ok(member) => self.share::<Brand, R>(rt, setting, member, Blank::new(4)),
+            Err(_fault) => {
+                setting.ending.give_up();
+                Err(LifeFault::NoMemory)
+            }
+        }
+    }
+
+    /// The member behind a lock, with the ledger that the blank opens: it runs, and is closed.
+    fn share<L: Ledger + Send + Sync, R: Threads + Wait + Clock + Sync>(
+        self,
+        rt: &R,
+        setting: &Setting<'_>,
+        member: Member,
+        blank: Blank,
+    ) -> Result<Kept<I, O, P, T>, LifeFault>
+        requires ledger { (blank.name ≡ L.name) × (blank.parts ≡ L.parts) × (blank.parts ≡ 4) }
+        requires fresh { member.entries ≡ [] }
+        ensures { IfOk result (λ kept. IsLife I.failed O.failed P.failed member.seat.group
+            member.seat.me (failures_in I.failed O.failed P.failed self) kept) }
+    {
+        let identity = member.seat();
+        let (shared, seat) = SharedMember::<L>::new(setting.alloc, blank, member);
+        let desk = Desk {
+            alloc: setting.alloc,
+            shared: &shared,
+            ending: setting.ending,
+        };
+        let (report, seats) = run_at(rt, &desk, split_in_four(seat), self);
+        closed(identity, shared.close(seats), report)
+    }
+}
+
+/// A seat for each worker, of one part each.
+fn split_in_four<L: Ledger>(seat: Seat<L>) -> Seats<L>
+    requires { seat.parts ≡ 4 }
 {
-    let identity = member.seat();
-    let (shared, seat) = SharedMember::<L>::new(setting.alloc, blank, member);
-    let desk = Desk {
-        alloc: setting.alloc,
-        shared: &shared,
-        ending: setting.ending,
-    };
-    let (report, seats) = run_shared(rt, &desk, split_in_four(seat), parts);
-    ended(identity, shared.close(seats), report)
+    let mut seat = seat;
+    let timer = seat.split();
+    let speaker = seat.split();
+    let sender = seat.split();
+    Seats {
+        receiver: seat,
+        timer,
+        speaker,
+        sender,
+    }
 }
 
 /// The outcome of closing this member.
-fn ended<I: Inlet + Drop, O: Outlet + Drop, P: Pace + Drop, T: Drop>(
+fn closed<I: Inlet + Drop, O: Outlet + Drop, P: Pace + Drop, T: Drop>(
     identity: Identity,
     closed: Result<Closed, CloseRefusal>,
     report: MemberReport<I, O, P, T>,
 ) -> Result<Kept<I, O, P, T>, LifeFault>
     requires seat { IfOk closed (λ closed. closed.member.seat ≡ identity) }
     requires parts { HandsBack report }
-    ensures kept { IfOk result (λ kept. IsKept identity.group identity.me kept.history
-        (tally_in kept.report) × HandsBack kept.report) }
-    ensures failures { IfOk result (λ kept. (before : Failures)
-        → TellsFailures I.failed O.failed P.failed before report
-        → TellsFailures I.failed O.failed P.failed before kept.report) }
+    ensures { (before : Failures) → TellsFailures I.failed O.failed P.failed before report
+        → IfOk result (λ kept. IsLife I.failed O.failed P.failed identity.group identity.me
+        before kept) }
 {
     match closed {
         Ok(Closed { member }) => Ok(keep(report, member)),
@@ -388,33 +338,14 @@ fn not_closed<I: Drop, O: Drop, P: Drop, T: Drop>(
     }
 }
 
-/// A seat for each worker, of one part each.
-fn split_in_four<L: Ledger>(seat: Seat<L>) -> Seats<L>
-    requires { seat.parts ≡ 4 }
-{
-    let mut seat = seat;
-    let timer = seat.split();
-    let speaker = seat.split();
-    let sender = seat.split();
-    Seats {
-        receiver: seat,
-        timer,
-        speaker,
-        sender,
-    }
-}
-
 /// The history of a member that was closed, and its counts in the report.
 fn keep<I: Inlet + Drop, O: Outlet + Drop, P: Pace + Drop, T: Drop>(
     report: MemberReport<I, O, P, T>,
     member: Member,
 ) -> Kept<I, O, P, T>
     requires { HandsBack report }
-    ensures kept { IsKept member.seat.group member.seat.me result.history (tally_in result.report) }
-    ensures parts { HandsBack result.report }
-    ensures failures { (before : Failures)
-        → TellsFailures I.failed O.failed P.failed before report
-        → TellsFailures I.failed O.failed P.failed before result.report }
+    ensures { (before : Failures) → TellsFailures I.failed O.failed P.failed before report
+        → IsLife I.failed O.failed P.failed member.seat.group member.seat.me before result }
 {
     let tally = Tally::of_history(member.history());
     Kept {

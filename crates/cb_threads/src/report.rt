@@ -7,7 +7,7 @@ ghost use Rattle.cb_threads.specs.FaultText.{worker_fault_text};
 ghost use Rattle.cb_threads.specs.Reports.{Adds, IsTally, entries_in, entries_reported, no_tally};
 
 use cb_lock::{Receipt, Seat};
-use cb_member::Entry;
+use cb_member::{Entry, History};
 use std::error::Error;
 use std::fmt;
 use std::sync::ledger::Ledger;
@@ -75,6 +75,13 @@ impl<I, O, P, T> MemberReport<I, O, P, T> {
         report.entries = tally.entries;
         report
     }
+}
+
+/// What became of each member, in the order of their numbers.
+#[derive(Drop)]
+pub struct GroupReport<I, O, P, T> {
+    pub reports: Vec<MemberReport<I, O, P, T>>,
+    pub histories: Vec<History>,
 }
 
 /// How often the inlet, the outlet and the pace of a member have failed.

@@ -2,13 +2,15 @@
 //! back.
 
 mod desk;
+mod post;
 mod receiver;
 mod sender;
 mod speaker;
 mod timer;
+mod turns;
 
-pub use desk::{Desk, Job, Post, Worked};
-pub use receiver::{InletCounts, take_all};
-pub use sender::{OutletCounts, send_all};
-pub use speaker::talk_all;
-pub use timer::{PaceCounts, tick_all};
+pub use desk::{Desk, Job, Worked, Worker};
+pub use post::Post;
+pub use receiver::Receiving;
+pub use speaker::Talking;
+pub use timer::Ticking;

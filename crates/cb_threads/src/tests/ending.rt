@@ -1,12 +1,13 @@
 //! What ends a group.
 
 use crate::limits::{Ending, Limits, Stop};
-use crate::start::end_without;
+use crate::per_worker::PerWorker;
+use crate::threads::end_unless_all_run;
 use std::sync::atomic::AtomicU64;
 use std::test::*;
 
 /// Whether the stop of a group of three is set, where a worker of one of them may not run.
-fn ends(speaker_runs: bool, others_run: bool) -> bool {
+fn ends(speaker: Option<()>, timer: Option<()>) -> bool {
     let stop = Stop::new();
     let talking = AtomicU64::new(3);
     let ending = Ending {
@@ -14,14 +15,20 @@ fn ends(speaker_runs: bool, others_run: bool) -> bool {
         stop: &stop,
         talking: Some(&talking),
     };
-    end_without(ending, speaker_runs, others_run);
+    let running = PerWorker {
+        receiver: Some(()),
+        timer,
+        speaker,
+        sender: Some(()),
+    };
+    end_unless_all_run(ending, &running);
     stop.is_set()
 }
 
 /// The others would wait for what its talker says, to their last turn.
 #[test]
 fn a_group_ends_where_a_worker_does_not_run(rt: HostRuntime) {
-    assert!(&rt; !ends(true, true));
-    assert!(&rt; ends(false, true));
-    assert!(&rt; ends(true, false));
+    assert!(&rt; !ends(Some(()), Some(())));
+    assert!(&rt; ends(None, Some(())));
+    assert!(&rt; ends(Some(()), None));
 }

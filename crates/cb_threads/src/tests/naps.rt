@@ -4,10 +4,10 @@ ghost use Rattle.std.specs.Prelude.{◌≡◌};
 
 use super::parts::Broken;
 use crate::limits::{Ending, Limits, Stop};
-use crate::workers::{Desk, Job, take_all, tick_all};
-use cb_links::new_mailbox;
+use crate::workers::{Desk, Job, Receiving, Ticking, Worked, Worker};
+use cb_links::{LinkFault, Slot, new_mailbox};
 use cb_lock::{Seat, SharedMember};
-use cb_member::{Group, Member};
+use cb_member::{Group, Member, Outgoing};
 use std::alloc::Global;
 use std::io;
 use std::marker::Brand;
@@ -43,22 +43,31 @@ impl<'a, R: Wait + Clock> Clock for Counted<'a, R> {
     }
 }
 
-/// Which worker has a device that fails.
+/// Which worker has a device that fails, a receiver by which fault.
 #[derive(Clone, Copy)]
-enum Worker {
-    Receiver,
+enum Who {
+    Receiver(LinkFault),
     Timer,
 }
 
 #[test]
 fn a_receiver_sleeps_behind_each_fault(rt: HostRuntime) {
-    let found = work::<Brand, _>(&rt, rt.alloc(), Blank::new(4), Worker::Receiver);
+    let who = Who::Receiver(LinkFault::Device);
+    let found = work::<Brand, _>(&rt, rt.alloc(), Blank::new(4), who);
     assert_eq!(&rt; found, (7, 7));
+}
+
+/// Memory that is refused is no failure of the device.
+#[test]
+fn a_receiver_sleeps_where_memory_is_refused(rt: HostRuntime) {
+    let who = Who::Receiver(LinkFault::NoMemory);
+    let found = work::<Brand, _>(&rt, rt.alloc(), Blank::new(4), who);
+    assert_eq!(&rt; found, (0, 7));
 }
 
 #[test]
 fn a_timer_sleeps_behind_each_fault(rt: HostRuntime) {
-    let found = work::<Brand, _>(&rt, rt.alloc(), Blank::new(4), Worker::Timer);
+    let found = work::<Brand, _>(&rt, rt.alloc(), Blank::new(4), Who::Timer);
     assert_eq!(&rt; found, (7, 7));
 }
 
@@ -67,18 +76,22 @@ fn work<L: Ledger + Send + Sync, R: Wait + Clock + Abort>(
     rt: &R,
     alloc: Global,
     blank: Blank,
-    worker: Worker,
+    who: Who,
 ) -> (u64, u64)
     requires { (blank.name ≡ L.name) × (blank.parts ≡ L.parts) × (blank.parts ≡ 4) }
 {
     let group = Group::new(7, 2, 4).expect(rt, "a group");
     let member = Member::new(alloc, group, 0, 100).expect(rt, "a member");
     let (shared, seat) = SharedMember::<L>::new(alloc, blank, member);
-    fail(rt, alloc, &shared, seat, worker)
+    fail(rt, alloc, &shared, seat, who)
 }
 
 /// Of a member whose workers make seven turns.
-fn desk<'a, L: Ledger>(alloc: Global, shared: &'a SharedMember<L>, stop: &'a Stop) -> Desk<'a, L> {
+pub fn desk<'a, L: Ledger>(
+    alloc: Global,
+    shared: &'a SharedMember<L>,
+    stop: &'a Stop,
+) -> Desk<'a, L> {
     let ending = Ending {
         limits: Limits { turns: 7 },
         stop,
@@ -91,30 +104,47 @@ fn desk<'a, L: Ledger>(alloc: Global, shared: &'a SharedMember<L>, stop: &'a Sto
     }
 }
 
+fn broken(fault: LinkFault) -> Broken {
+    Broken { fault, failures: 0 }
+}
+
+/// A worker with a device that fails at each call.
+fn run<L: Ledger + Send + Sync, R: Wait + Clock>(
+    rt: &R,
+    desk: &Desk<'_, L>,
+    seat: Seat<L>,
+    end: Slot<Outgoing>,
+    who: Who,
+) -> Worked<Broken, L> {
+    match who {
+        Who::Receiver(fault) => {
+            let inlet = broken(fault);
+            let part = Receiving { inlet };
+            Worker { part, seat, end }.run(rt, desk)
+        }
+        Who::Timer => {
+            let pace = broken(LinkFault::Device);
+            let part = Ticking { pace };
+            Worker { part, seat, end }.run(rt, desk)
+        }
+    }
+}
+
 fn fail<L: Ledger + Send + Sync, R: Wait + Clock + Abort>(
     rt: &R,
     alloc: Global,
     shared: &SharedMember<L>,
     seat: Seat<L>,
-    worker: Worker,
+    who: Who,
 ) -> (u64, u64) {
     let stop = Stop::new();
     let desk = desk(alloc, shared, &stop);
     let (slot, mailbox) = new_mailbox(alloc).expect(rt, "a mailbox");
-    let part = Broken { failures: 0 };
-    let job = Job {
-        part,
-        seat,
-        end: slot,
-    };
     let counted = Counted {
         rt,
         sleeps: AtomicU64::new(0),
     };
-    let worked = match worker {
-        Worker::Receiver => take_all(&counted, &desk, job),
-        Worker::Timer => tick_all(&counted, &desk, job),
-    };
+    let worked = run(&counted, &desk, seat, slot, who);
     drop(mailbox);
     let failures = worked.failures;
     drop(worked);

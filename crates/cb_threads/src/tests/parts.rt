@@ -305,9 +305,10 @@ impl Pace for Uneven {
     }
 }
 
-/// What fails at each call, at once.
+/// What fails at each call, at once, an inlet by this fault.
 #[derive(Drop)]
 pub struct Broken {
+    pub fault: LinkFault,
     pub failures: u64,
 }
 
@@ -319,8 +320,11 @@ impl Inlet for Broken {
     }
 
     fn receive<R: Wait + Clock>(&mut self, _rt: &R) -> Result<Received, LinkFault> {
-        self.failures = self.failures.saturating_add(1);
-        Err(LinkFault::Device)
+        match self.fault {
+            LinkFault::Device => self.failures = self.failures.saturating_add(1),
+            LinkFault::NoMemory => {}
+        }
+        Err(self.fault)
     }
 }
 

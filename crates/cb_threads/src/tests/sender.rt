@@ -2,7 +2,9 @@
 
 ghost use Rattle.std.specs.Prelude.{◌≡◌};
 
-use crate::workers::{Job, send_all};
+use super::naps::desk;
+use crate::limits::Stop;
+use crate::workers::{Job, Worker};
 use crate::{ChannelInlet, ChannelLink, ChannelOutlet, Inlet, Received};
 use bytes::Bytes;
 use cb_links::{Mailbox, new_mailbox};
@@ -45,7 +47,7 @@ fn in_order<R: Wait + Clock + Abort>(rt: &R, inlet: &mut ChannelInlet) -> u8 {
 }
 
 /// What a sender counts for whom all these frames wait.
-fn work<L: Ledger + Send + Sync, R: Wait + Abort>(
+fn work<L: Ledger + Send + Sync, R: Wait + Clock + Abort>(
     rt: &R,
     alloc: Global,
     blank: Blank,
@@ -56,19 +58,22 @@ fn work<L: Ledger + Send + Sync, R: Wait + Abort>(
     let group = Group::new(7, 2, 4).expect(rt, "a group");
     let member = Member::new(alloc, group, 0, 100).expect(rt, "a member");
     let (shared, seat) = SharedMember::<L>::new(alloc, blank, member);
-    let counts = send(rt, alloc, seat, outlet);
+    let counts = send(rt, alloc, &shared, seat, outlet);
     drop(shared);
     counts
 }
 
-fn send<L: Ledger + Send + Sync, R: Wait + Abort>(
+fn send<L: Ledger + Send + Sync, R: Wait + Clock + Abort>(
     rt: &R,
     alloc: Global,
+    shared: &SharedMember<L>,
     seat: Seat<L>,
     part: ChannelOutlet,
 ) -> (u64, u64) {
+    let stop = Stop::new();
+    let desk = desk(alloc, shared, &stop);
     let end = waiting(rt, alloc);
-    let worked = send_all(rt, alloc, Job { part, seat, end });
+    let worked = Worker { part, seat, end }.run(rt, &desk);
     let counts = (worked.lost, worked.failures);
     drop(worked);
     counts

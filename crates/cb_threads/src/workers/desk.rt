@@ -1,14 +1,13 @@
-//! What every worker has: the member that it works at, and where it hands what the member sends.
+//! What a worker is: what it works with, where it works, and what it hands back.
 
-ghost use Rattle.std.specs.Prelude.{◌≡◌};
+ghost use Rattle.cb_threads.specs.declared.workers.desk.Worked.{Worked};
 
 use crate::limits::Ending;
-use cb_links::Slot;
 use cb_lock::{Seat, SharedMember};
-use cb_member::Outgoing;
 use std::alloc::Global;
 use std::sync::Wait;
 use std::sync::ledger::Ledger;
+use std::time::Clock;
 
 /// The member that its workers work at, and what ends them.
 #[derive(Drop)]
@@ -19,9 +18,9 @@ pub struct Desk<'a, L: Ledger> {
     pub ending: Ending<'a>,
 }
 
-/// What a worker works with, its seat, and its end of the workers' channel.
+/// A worker: what it works with, its seat, and its end of the workers' channel.
 #[derive(Drop)]
-pub struct Job<D, E, L: Ledger> {
+pub struct Worker<D, E, L: Ledger> {
     pub part: D,
     pub seat: Seat<L>,
     pub end: E,
@@ -38,82 +37,14 @@ pub struct Worked<D, L: Ledger> {
     pub failures: u64,
 }
 
-impl<D, L: Ledger> Worked<D, L> {
-    /// Before the first turn.
-    pub fn new(part: D, seat: Seat<L>) -> Worked<D, L>
-        ensures part { result.part ≡ part }
-        ensures failures { result.failures ≡ 0 }
-        ensures lost { result.lost ≡ 0 }
-    {
-        Worked {
-            part,
-            seat,
-            lost: 0,
-            failures: 0,
-        }
-    }
+/// What a thread runs: a worker, from its first turn to its last.
+pub trait Job<L: Ledger> {
+    type Part: Send + Drop;
 
-    /// Behind the last turn: what the workers' channel did not take was lost.
-    pub fn ended(self, post: &Post) -> Worked<D, L>
-        ensures part { result.part ≡ self.part }
-        ensures failures { result.failures ≡ self.failures }
-        ensures lost { result.lost ≡ post.now.lost }
-    {
-        let mut worked = self;
-        worked.lost = post.lost();
-        worked
-    }
-}
+    /// What holds of what it hands back.
+    ghost kept: { Self → Worked Self.Part L → Type 0 };
 
-/// Where a worker hands what is to be sent. The sender ends once every worker has let its own go.
-///
-/// The sender is woken once for all that was put, by `wake`: a worker calls it before it waits.
-#[derive(Drop)]
-pub struct Post {
-    out: Slot<Outgoing>,
-    /// Something was put that the sender was not woken for.
-    has_put: bool,
-    lost: u64,
-}
-
-impl Post {
-    pub fn new(out: Slot<Outgoing>) -> Post {
-        Post {
-            out,
-            has_put: false,
-            lost: 0,
-        }
-    }
-
-    /// How many frames the channel did not take.
-    pub fn lost(&self) -> u64
-        ensures { result ≡ self.now.lost }
-    {
-        self.lost
-    }
-
-    /// Hands a frame to the sender, which finds it within about a millisecond where it is not
-    /// woken.
-    pub fn put(&mut self, rt: &impl Wait, out: Outgoing) {
-        self.has_put = true;
-        if self.out.add(rt, out).is_err() {
-            self.lost = self.lost.saturating_add(1);
-        }
-    }
-
-    /// Hands frames to the sender, in order, and wakes it.
-    pub fn put_all(&mut self, rt: &impl Wait, out: Vec<Outgoing>) {
-        for frame in out {
-            self.put(rt, frame);
-        }
-        self.wake();
-    }
-
-    /// Wakes the sender for what was put, where it sleeps.
-    pub fn wake(&mut self) {
-        if self.has_put {
-            self.has_put = false;
-            self.out.wake();
-        }
-    }
+    /// Works at this desk.
+    fn run<R: Wait + Clock>(self, rt: &R, desk: &Desk<'_, L>) -> Worked<Self::Part, L>
+        ensures { kept self result };
 }

@@ -4,108 +4,106 @@ ghost use Rattle.std.specs.Prelude.{◌≡◌, length};
 ghost use Rattle.cb_links.specs.Counts.{Counts, MetAtMost};
 ghost use Rattle.cb_threads.specs.Offers.{AddsUnsent, FailuresAreLost};
 
-use crate::workers::desk::{Job, Worked};
+use crate::workers::desk::{Desk, Job, Worked, Worker};
 use cb_links::{MOST_AT_ONCE, Mailbox, Outlet, Taken};
 use cb_member::Outgoing;
-use std::alloc::Global;
 use std::slice;
 use std::sync::Wait;
 use std::sync::ledger::Ledger;
-use std::thread::Promise;
+use std::time::Clock;
 
-/// A promise: the failures that were met are those that an outlet counted since it had counted
-/// this, and at each a frame was lost.
-#[derive(Clone, Copy)]
-pub struct OutletCounts {
-    pub before: u64,
-}
+impl<O: Outlet + Send + Drop, L: Ledger + Send + Sync> Job<L> for Worker<O, Mailbox<Outgoing>, L> {
+    type Part = O;
 
-impl<O: Outlet, L: Ledger> Promise<Worked<O, L>> for OutletCounts {
-    ghost kept_by = { λ p r. MetAtMost r.failures p.before (O.failed r.part)
-        × FailuresAreLost r.failures r.lost };
-}
+    ghost kept = { λ worker worked. MetAtMost worked.failures (O.failed worker.part)
+        (O.failed worked.part) × FailuresAreLost worked.failures worked.lost };
 
-/// Sends what the other workers hand over, until all of them have ended.
-pub fn send_all<O: Outlet, L: Ledger, R: Wait>(
-    rt: &R,
-    alloc: Global,
-    job: Job<O, Mailbox<Outgoing>, L>,
-) -> Worked<O, L>
-    ensures met { MetAtMost result.failures (O.failed job.part) (O.failed result.part) }
-    ensures lost { FailuresAreLost result.failures result.lost }
-{
-    let Job { part, seat, end } = job;
-    let mut worked = Worked::new(part, seat);
-    let mut list = Vec::with_capacity(alloc, MOST_AT_ONCE).unwrap_or(Vec::new(alloc));
-    for _ in rt.forever() {
-        let Some(frame) = next(rt, &end) else {
-            break;
+    /// Sends what the other workers hand over, until all of them have ended.
+    fn run<R: Wait + Clock>(self, rt: &R, desk: &Desk<'_, L>) -> Worked<O, L> {
+        let Worker { part, seat, end } = self;
+        let list = Vec::with_capacity(desk.alloc, MOST_AT_ONCE).unwrap_or(Vec::new(desk.alloc));
+        let mut batch = Batch { frames: end, list };
+        let mut worked = Worked {
+            part,
+            seat,
+            lost: 0,
+            failures: 0,
         };
-        send_with_more(rt, &end, frame, &mut list, &mut worked);
+        for _ in rt.forever() {
+            let Some(frame) = batch.next(rt) else {
+                break;
+            };
+            worked.send_with_more(rt, &mut batch, frame);
+        }
+        worked
     }
-    worked
 }
 
-/// The next frame, or none where all workers have ended.
-fn next<R: Wait>(rt: &R, frames: &Mailbox<Outgoing>) -> Option<Outgoing> {
-    for _ in rt.forever() {
-        match frames.take_at_once(rt) {
-            Taken::Message(frame) => return Some(frame),
-            Taken::Nothing => {}
-            Taken::Closed => return None,
+/// The frames that wait to be sent, and those of them that are sent at once.
+#[derive(Drop)]
+struct Batch {
+    frames: Mailbox<Outgoing>,
+    list: Vec<Outgoing>,
+}
+
+impl Batch {
+    /// The next frame, or none where all workers have ended.
+    fn next<R: Wait>(&self, rt: &R) -> Option<Outgoing> {
+        for _ in rt.forever() {
+            match self.frames.take_at_once(rt) {
+                Taken::Message(frame) => return Some(frame),
+                Taken::Nothing => {}
+                Taken::Closed => return None,
+            }
+        }
+        unreachable!("the loop has no end")
+    }
+
+    /// Adds frames that are there already, as long as the list has room for them.
+    fn add_more<R: Wait>(&mut self, rt: &R) {
+        for _ in 1..MOST_AT_ONCE {
+            if self.list.len() >= self.list.capacity() {
+                break;
+            }
+            let Some(frame) = self.frames.more(rt) else {
+                break;
+            };
+            let Ok(()) = self.list.push(frame) else {
+                unreachable!("there is room")
+            };
         }
     }
-    unreachable!("the loop has no end")
 }
 
-/// Sends a frame, and with it what else is there, as far as the list has room. The list is empty
-/// before and behind it.
-#[tactic(auto, using(crate::proofs::Sending::stay_lost))]
-fn send_with_more<O: Outlet, L: Ledger, R: Wait>(
-    rt: &R,
-    frames: &Mailbox<Outgoing>,
-    frame: Outgoing,
-    list: &mut Vec<Outgoing>,
-    worked: &mut Worked<O, L>,
-)
-    ensures met { Counts (worked.old.failures) (O.failed worked.old.part)
-        (worked.new.failures) (O.failed worked.new.part) }
-    ensures lost { FailuresAreLost worked.old.failures worked.old.lost
-        → FailuresAreLost worked.new.failures worked.new.lost }
-{
-    match list.push(frame) {
-        Ok(()) => {
-            add_more(rt, frames, list);
-            send(rt, list, worked);
-            list.clear();
+impl<O: Outlet, L: Ledger> Worked<O, L> {
+    /// Sends a frame, and with it what else is there, as far as the list has room. The list is empty
+    /// before and behind it.
+    #[tactic(auto, using(crate::proofs::Sending::stay_lost))]
+    fn send_with_more<R: Wait>(&mut self, rt: &R, batch: &mut Batch, frame: Outgoing)
+        ensures met { Counts self.old.failures (O.failed self.old.part)
+            self.new.failures (O.failed self.new.part) }
+        ensures lost { FailuresAreLost self.old.failures self.old.lost
+            → FailuresAreLost self.new.failures self.new.lost }
+    {
+        match batch.list.push(frame) {
+            Ok(()) => {
+                batch.add_more(rt);
+                self.send(rt, &batch.list);
+                batch.list.clear();
+            }
+            Err(alone) => self.send(rt, slice::from_ref(&alone.value)),
         }
-        Err(alone) => send(rt, slice::from_ref(&alone.value), worked),
     }
-}
 
-/// Adds frames that are there already, as long as the list has room for them.
-fn add_more<R: Wait>(rt: &R, frames: &Mailbox<Outgoing>, list: &mut Vec<Outgoing>) {
-    for _ in 1..MOST_AT_ONCE {
-        if list.len() >= list.capacity() {
-            break;
-        }
-        let Some(frame) = frames.more(rt) else {
-            break;
-        };
-        let Ok(()) = list.push(frame) else {
-            unreachable!("there is room")
-        };
+    /// Sends frames. One that the outlet does not take is lost.
+    fn send<R: Wait>(&mut self, rt: &R, frames: &[Outgoing])
+        ensures met { Counts self.old.failures (O.failed self.old.part)
+            self.new.failures (O.failed self.new.part) }
+        ensures lost { AddsUnsent (length frames.now) self.old.lost self.old.failures
+            self.new.lost self.new.failures }
+    {
+        let unsent = self.part.send_all(rt, frames);
+        self.lost = self.lost.saturating_add(unsent.lost());
+        self.failures = self.failures.saturating_add(unsent.failures);
     }
-}
-
-/// Sends frames. One that the outlet does not take is lost.
-fn send<O: Outlet, L: Ledger, R: Wait>(rt: &R, frames: &[Outgoing], worked: &mut Worked<O, L>)
-    ensures met { Counts (worked.old.failures) (O.failed worked.old.part)
-        (worked.new.failures) (O.failed worked.new.part) }
-    ensures lost { AddsUnsent (length frames.now) worked.old.lost worked.old.failures
-        worked.new.lost worked.new.failures }
-{
-    let unsent = worked.part.send_all(rt, frames);
-    worked.lost = worked.lost.saturating_add(unsent.lost());
-    worked.failures = worked.failures.saturating_add(unsent.failures);
 }

@@ -1,30 +1,22 @@
 //! The worker that casts what the talker says.
 
-ghost use Rattle.std.specs.Prelude.{◌≡◌, ◌≢◌, ◌+◌, Decides, IfErr, IfOk, MatchResult, None, OnErr, Some, drop, false, length};
+ghost use Rattle.std.specs.Prelude.{◌≡◌, ◌≢◌, ◌+◌, IfErr, IfOk, MatchResult, None, OnErr, Some, drop, length};
 ghost use Rattle.cb_history.specs.State.{events_in};
 ghost use Rattle.cb_history.specs.declared.answer.CastRefusal.TheVariants.{PayloadTooLong};
 ghost use Rattle.cb_links.specs.Counts.{held};
 ghost use Rattle.cb_threads.specs.Talking.{cast_of, turn_of};
-ghost use Rattle.cb_threads.specs.declared.workers.speaker.Turn.TheVariants.{Finished, Quiet};
+ghost use Rattle.cb_threads.specs.declared.workers.turns.Turn.TheVariants.{Idle};
 
+use crate::limits::Ending;
 use crate::talker::{Talk, Talker};
-use crate::workers::desk::{Desk, Job, Post, Worked};
+use crate::workers::turns::{Failed, Place, Role, Turn};
 use bytes::Bytes;
-use cb_links::{Slot, wait};
-use cb_lock::Seat;
 use cb_member::{CastDone, CastRefusal, Event, Member, NoMemory, Outgoing};
+use std::alloc::Global;
 use std::mem;
 use std::sync::Wait;
 use std::sync::ledger::Ledger;
 use std::time::Clock;
-
-/// The outcome of a turn.
-#[derive(Clone, Copy)]
-pub enum Turn {
-    Cast,
-    Quiet,
-    Finished,
-}
 
 /// What a talker said, where it casts nothing.
 #[derive(Clone, Copy)]
@@ -34,21 +26,11 @@ struct Said {
     count: usize,
 }
 
-impl Said {
-    fn seen(turn: Turn, count: usize) -> Said
-        ensures { result ≡ record { turn = turn; count = count } }
-    {
-        Said { turn, count }
-    }
-}
-
-/// A talker at work: what it has seen of its member's events, and what it wants to cast.
+/// Casts what the talker says, at most one message in each turn, until it has finished: what it has
+/// seen of its member's events, and what it wants to cast.
 #[derive(Drop)]
-struct Speech<'a, T, L: Ledger> {
-    desk: &'a Desk<'a, L>,
+pub struct Talking<T> {
     talker: T,
-    seat: Seat<L>,
-    post: Post,
     /// How many events it has seen.
     seen: usize,
     /// What the news are copied into, kept from one time to the next.
@@ -57,82 +39,71 @@ struct Speech<'a, T, L: Ledger> {
     waiting: Option<Vec<u8>>,
 }
 
-/// Casts what the talker says, at most one message in each turn, until it has finished. A turn
-/// without a cast is followed by a millisecond's sleep.
-pub fn talk_all<T: Talker, L: Ledger, R: Wait + Clock>(
-    rt: &R,
-    desk: &Desk<'_, L>,
-    job: Job<T, Slot<Outgoing>, L>,
-) -> Worked<T, L> {
-    let ending = desk.ending;
-    let Job { part, seat, end } = job;
-    let mut speech = Speech {
-        desk,
-        talker: part,
-        seat,
-        post: Post::new(end),
-        seen: 0,
-        room: Vec::new(desk.alloc),
-        waiting: None,
-    };
-    let mut last = Turn::Cast;
-    for _turn in 0..ending.limits.turns {
-        if !goes_on(ending.has_come(), last) {
-            break;
-        }
-        last = speech.turn(rt);
-        if matches!(last, Turn::Quiet) {
-            speech.post.wake();
-            wait(rt);
-        }
-    }
-    ending.talker_ended();
-    speech.ended()
-}
+impl<T: Talker + Send + Drop> Role for Talking<T> {
+    type Part = T;
 
-/// Whether another turn is begun: until the stop is set or the talker has finished, whatever waits
-/// to be cast.
-fn goes_on(is_stopped: bool, last: Turn) -> bool
-    ensures { Decides result ((is_stopped ≡ false) × (last ≢ Finished)) }
-{
-    !is_stopped && !matches!(last, Turn::Finished)
-}
+    ghost part = { λ talking. talking.talker };
 
-impl<'a, T: Talker, L: Ledger> Speech<'a, T, L> {
+    ghost failed = { λ _. 0 };
+
     /// What waits is cast before the talker is asked again.
-    fn turn<R: Wait>(&mut self, rt: &R) -> Turn {
-        match self.waiting.take() {
-            Some(payload) => self.cast(rt, payload),
-            None => self.ask(rt),
-        }
+    fn turn<L: Ledger, R: Wait + Clock>(
+        &mut self,
+        rt: &R,
+        place: &mut Place<'_, L>,
+    ) -> Result<Turn, Failed> {
+        Ok(match self.waiting.take() {
+            Some(payload) => self.cast(rt, place, payload),
+            None => self.ask(rt, place),
+        })
     }
 
+    fn end(self, ending: Ending<'_>) -> T {
+        ending.talker_ended();
+        self.talker
+    }
+}
+
+impl<T> Talking<T> {
+    pub fn new(alloc: Global, talker: T) -> Talking<T>
+        ensures { result.talker ≡ talker }
+    {
+        Talking {
+            talker,
+            seen: 0,
+            room: Vec::new(alloc),
+            waiting: None,
+        }
+    }
+}
+
+impl<T: Talker> Talking<T> {
     /// Shows the talker the news, and does what it says. Where memory is refused it has not seen
     /// them.
-    fn ask<R: Wait>(&mut self, rt: &R) -> Turn {
+    fn ask<L: Ledger, R: Wait>(&mut self, rt: &R, place: &mut Place<'_, L>) -> Turn {
         if self.talker.is_quick() {
-            return self.ask_in_place(rt);
+            return self.ask_in_place(rt, place);
         }
-        let (said, payload) = parted(self.ask_with_copies(rt));
+        let (said, payload) = self.ask_with_copies(rt, place);
         self.see(said);
         match payload {
-            Some(payload) => self.cast(rt, payload),
+            Some(payload) => self.cast(rt, place, payload),
             None => said.turn,
         }
     }
 
     /// Asks the talker while the member waits for it: what the talker says is cast before the lock
     /// is dropped.
-    fn ask_in_place<R: Wait>(&mut self, rt: &R) -> Turn {
+    fn ask_in_place<L: Ledger, R: Wait>(&mut self, rt: &R, place: &mut Place<'_, L>) -> Turn {
         let (talker, seen) = (&mut self.talker, self.seen);
-        let (said, cast) = self.desk.shared.cast_with(
+        let (said, cast) = place.desk.shared.cast_with(
             rt,
-            &mut self.seat,
-            move |member| parted(asked(talker, news_in(member, seen))),
+            &mut place.seat,
+            move |member| asked(talker, news_in(member, seen)),
         );
         self.see(said);
         match cast {
-            Some((payload, cast)) => self.hand_on(rt, payload, cast),
+            Some((payload, cast)) => self.hand_on(rt, place, payload, cast),
             None => said.turn,
         }
     }
@@ -144,23 +115,34 @@ impl<'a, T: Talker, L: Ledger> Speech<'a, T, L> {
         self.seen = self.seen.saturating_add(said.count);
     }
 
-    /// What the talker says to copies of the news, and how many they are, while the member works
-    /// on.
-    fn ask_with_copies<R: Wait>(&mut self, rt: &R) -> Result<(Talk, usize), NoMemory> {
-        let news = self.news(rt)?;
-        let answer = asked(&mut self.talker, &news);
-        self.keep_room(news);
-        answer
+    /// What the talker says to copies of the news, while the member works on.
+    fn ask_with_copies<L: Ledger, R: Wait>(
+        &mut self,
+        rt: &R,
+        place: &mut Place<'_, L>,
+    ) -> (Said, Option<Vec<u8>>) {
+        match self.news(rt, place) {
+            Ok(news) => {
+                let answer = asked(&mut self.talker, &news);
+                self.keep_room(news);
+                answer
+            }
+            Err(refused) => parted(Err(refused), 0),
+        }
     }
 
     /// The events that the talker has not seen.
-    fn news<R: Wait>(&mut self, rt: &R) -> Result<Vec<Event>, NoMemory> {
-        let room = mem::replace(&mut self.room, Vec::new(self.desk.alloc));
+    fn news<L: Ledger, R: Wait>(
+        &mut self,
+        rt: &R,
+        place: &mut Place<'_, L>,
+    ) -> Result<Vec<Event>, NoMemory> {
+        let room = mem::replace(&mut self.room, Vec::new(place.desk.alloc));
         let seen = self.seen;
-        self.desk.shared.with_state(
+        place.desk.shared.with_state(
             rt,
-            &mut self.seat,
-            move |member| events_behind(room, member, seen),
+            &mut place.seat,
+            move |member| copies(room, news_in(member, seen)),
         )
     }
 
@@ -171,16 +153,22 @@ impl<'a, T: Talker, L: Ledger> Speech<'a, T, L> {
         self.room = room;
     }
 
-    fn cast<R: Wait>(&mut self, rt: &R, payload: Vec<u8>) -> Turn {
-        let cast = self.desk.shared.cast(rt, &mut self.seat, &payload);
-        self.hand_on(rt, payload, cast)
+    fn cast<L: Ledger, R: Wait>(
+        &mut self,
+        rt: &R,
+        place: &mut Place<'_, L>,
+        payload: Vec<u8>,
+    ) -> Turn {
+        let cast = place.desk.shared.cast(rt, &mut place.seat, &payload);
+        self.hand_on(rt, place, payload, cast)
     }
 
     /// Hands a cast to the sender. A payload that the window, the history or memory has no room for
     /// waits; one that is too long is dropped.
-    fn hand_on<R: Wait>(
+    fn hand_on<L: Ledger, R: Wait>(
         &mut self,
         rt: &R,
+        place: &mut Place<'_, L>,
         payload: Vec<u8>,
         cast: Result<CastDone, CastRefusal>,
     ) -> Turn
@@ -189,29 +177,17 @@ impl<'a, T: Talker, L: Ledger> Speech<'a, T, L> {
             → self.new.waiting ≡ Some payload) }
         ensures dropped { IfErr cast (λ refusal. refusal ≡ PayloadTooLong
             → self.new.waiting ≡ None) }
-        ensures quiet { OnErr cast (result ≡ Quiet) }
+        ensures quiet { OnErr cast (result ≡ Idle) }
     {
         match cast {
             Ok(done) => {
-                self.post.put(rt, to_all(done.out));
-                Turn::Cast
+                place.post.put(rt, to_all(done.out));
+                Turn::Done
             }
             Err(refusal) => {
                 self.waiting = left_to_cast(payload, refusal);
-                Turn::Quiet
+                Turn::Idle
             }
-        }
-    }
-
-    fn ended(self) -> Worked<T, L>
-        ensures { result.lost ≡ self.entry.post.lost }
-    {
-        let lost = self.post.lost();
-        Worked {
-            part: self.talker,
-            seat: self.seat,
-            lost,
-            failures: 0,
         }
     }
 }
@@ -228,41 +204,29 @@ fn left_to_cast(payload: Vec<u8>, refusal: CastRefusal) -> Option<Vec<u8>>
     }
 }
 
-/// What becomes of the turn where nothing is cast, how many news the talker saw, and what it wants
-/// to cast. Out of memory it saw none, and is shown the same again.
-fn parted(answer: Result<(Talk, usize), NoMemory>) -> (Said, Option<Vec<u8>>)
-    ensures seen { MatchResult answer (λ reported. result.0.count ≡ reported.1)
-        (λ _. result.0.count ≡ 0) }
-    ensures turn { IfOk answer (λ reported. result.0.turn ≡ turn_of reported.0) }
-    ensures cast { IfOk answer (λ reported. result.1 ≡ cast_of reported.0) }
+/// What becomes of the turn where nothing is cast, how many of so many news the talker saw, and what
+/// it wants to cast. Out of memory it saw none, and is shown the same again.
+fn parted(answer: Result<Talk, NoMemory>, count: usize) -> (Said, Option<Vec<u8>>)
+    ensures seen { MatchResult answer (λ _. result.0.count ≡ count) (λ _. result.0.count ≡ 0) }
+    ensures turn { IfOk answer (λ talk. result.0.turn ≡ turn_of talk) }
+    ensures cast { IfOk answer (λ talk. result.1 ≡ cast_of talk) }
 {
-    match answer {
-        Ok((talk, count)) => wanted(talk, count),
-        Err(_refused) => (Said::seen(Turn::Quiet, 0), None),
-    }
-}
-
-fn wanted(talk: Talk, count: usize) -> (Said, Option<Vec<u8>>)
-    ensures said { result.0 ≡ record { turn = turn_of talk; count = count } }
-    ensures cast { result.1 ≡ cast_of talk }
-{
-    match talk {
-        Talk::Cast(payload) => (Said::seen(Turn::Cast, count), Some(payload)),
-        Talk::Idle => (Said::seen(Turn::Quiet, count), None),
-        Talk::Finished => (Said::seen(Turn::Finished, count), None),
-    }
+    let (turn, count, payload) = match answer {
+        Ok(Talk::Cast(payload)) => (Turn::Done, count, Some(payload)),
+        Ok(Talk::Idle) => (Turn::Idle, count, None),
+        Ok(Talk::Finished) => (Turn::Finished, count, None),
+        Err(_refused) => (Turn::Idle, 0, None),
+    };
+    (Said { turn, count }, payload)
 }
 
 fn to_all(bytes: Bytes) -> Outgoing {
     Outgoing { to: None, bytes }
 }
 
-/// What the talker says to the news, and how many they are.
-fn asked<T: Talker>(talker: &mut T, news: &[Event]) -> Result<(Talk, usize), NoMemory>
-    ensures { IfOk result (λ reported. reported.1 ≡ length news.now) }
-{
-    let talk = talker.next(news)?;
-    Ok((talk, news.len()))
+/// What the talker says to the news.
+fn asked<T: Talker>(talker: &mut T, news: &[Event]) -> (Said, Option<Vec<u8>>) {
+    parted(talker.next(news), news.len())
 }
 
 /// The member's events behind the first `seen`.
@@ -274,13 +238,7 @@ fn news_in(member: &Member, seen: usize) -> &[Event]
     news
 }
 
-/// Copies of the same, in a list whose own events are freed.
-fn events_behind(room: Vec<Event>, member: &Member, seen: usize) -> Result<Vec<Event>, NoMemory>
-    ensures { IfOk result (λ news. news.items ≡ drop seen (events_in member.now)) }
-{
-    copies(room, news_in(member, seen))
-}
-
+/// Copies of events, in a list whose own events are freed.
 fn copies(room: Vec<Event>, events: &[Event]) -> Result<Vec<Event>, NoMemory>
     ensures { IfOk result (λ copies. copies.items ≡ events.now) }
 {

@@ -6,5 +6,5 @@ abbrev pub invariant-loop-inlet : goal.invariant-loop-inlet
 invariant-loop-inlet g l =
     (length l.inlet-iterator.rest.items ≡ length l.paces.rest.items)
     × (length l.inlet-iterator.rest.items ≡ length l.talkers.rest.items)
-    × (map (λ p. (p.inlet, p.outlet)) l.parts.items ++ l.inlet-iterator.rest.items ≡ l.fn.links.items)
-    × (map (λ p. p.pace) l.parts.items ++ l.paces.rest.items ≡ l.fn.paces.items)
+    × (map (λ p. (p.receiver, p.sender)) l.parts.items ++ l.inlet-iterator.rest.items ≡ l.fn.links.items)
+    × (map (λ p. p.timer) l.parts.items ++ l.paces.rest.items ≡ l.fn.paces.items)

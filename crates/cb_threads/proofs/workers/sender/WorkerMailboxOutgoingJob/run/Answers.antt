@@ -1,4 +1,4 @@
-use Rattle.cb_threads.proofs.workers.sender.send_all.Goals as goal
+use Rattle.cb_threads.proofs.workers.sender.WorkerMailboxOutgoingJob.run.Goals as goal
 
 pub loop-preserved : goal.loop-preserved
 loop-preserved g c = (c.send_with_more.ensures.met _ c.loop.invariant.0, c.send_with_more.ensures.lost c.loop.invariant.1)

@@ -3,7 +3,7 @@ use Rattle.std.specs.Prelude.{IfOk}
 use Rattle.cb_history.specs.Group.{Identity}
 use Rattle.cb_threads.specs.Groups.{IsKept}
 use Rattle.cb_threads.specs.Groups.{tally_in}
-use Rattle.cb_threads.proofs.life.share.Goals as goal
+use Rattle.cb_threads.proofs.life.PerWorker.share.Goals as goal
 
 -- what holds of the value by two clauses, taken together
 both_of : {A E : Type 0} (r : Result A E) (P Q R : A → Type 0) → IfOk r P → IfOk r Q → ((x : A) → P x → Q x → R x) → IfOk r R

@@ -1,0 +1,6 @@
+use Rattle.cb_links.specs.Counts.{MetAtMost}
+use Rattle.cb_threads.proofs.workers.turns.WorkerSlotOutgoingJob.run.Given as goal
+
+-- what was met so far was counted
+abbrev pub invariant-loop-turn : goal.invariant-loop-turn
+invariant-loop-turn g l = MetAtMost l.course.failures (g.W.Role.failed (g.W.Role.part l.fn.self.part)) (g.W.Role.failed (g.W.Role.part l.role))
