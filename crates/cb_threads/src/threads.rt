@@ -104,17 +104,13 @@ pub fn run_workers<
             ensures { HaveMet I.failed O.failed P.failed
                 (failures_in I.failed O.failed P.failed (parts_of crew)) result }
         {
-            let PerWorker {
-                receiver,
-                timer,
-                speaker,
-                sender,
-            } = crew;
-            let sender = start(scope, rt, desk, sender);
+            // Taken whole: the clause speaks of it.
+            let workers = crew;
+            let sender = start(scope, rt, desk, workers.sender);
             let running = PerWorker {
-                receiver: start(scope, rt, desk, receiver),
-                timer: start(scope, rt, desk, timer),
-                speaker: start(scope, rt, desk, speaker),
+                receiver: start(scope, rt, desk, workers.receiver),
+                timer: start(scope, rt, desk, workers.timer),
+                speaker: start(scope, rt, desk, workers.speaker),
                 sender,
             };
             end_unless_all_run(desk.ending, &running);

@@ -1,4 +1,4 @@
-use Rattle.cb_threads.proofs.life.PerWorker.live.Given as goal
+use Rattle.cb_threads.proofs.per_worker.PerWorker.live.Given as goal
 
 abbrev pub ghosts-share : goal.ghosts-share
 ghosts-share g a = record { name = a.blank.name; parts = a.blank.parts }
