@@ -1,6 +1,6 @@
 #!/usr/bin/env bash
 # Runs `confer play` on all schedules with one of its growths refused, every STEPth one in turn, by the kit's own switch: a run prints its whole text, or
-# ends with status 5, says so, and has printed nothing. The program is refused_play/main.txt over the sources of confer; it becomes a crate
+# ends with status 5, says so, and has printed nothing. The program is refused_play/main.txt over the sources of confer and the texts of confer_play; it becomes a crate
 # of a scratch copy of the repository, and is not proved there. How the refused growth moves stands in refuse-calls.sh. `refuse-memory.sh` refuses each one, of the built program.
 set -eu
 top=$(cd "$(dirname "$0")/.." && pwd)
@@ -13,9 +13,10 @@ step=${STEP:-7}
 mkdir -p "$work/whole" "$work/cases"
 (cd "$top" && tar -c --exclude=out --exclude=.git .) | tar -x -C "$work/whole"
 crate=$work/whole/crates/confer
-rm -rf "$crate/proofs" "$crate/must-fail" "$crate/src/main.rt" "$crate/src/laws.rt" "$crate"/src/*/tests.rt "$crate/src/play/tests"
+rm -rf "$crate/proofs" "$crate/src/harness.rt" "$crate/src/cli/tests.rt" "$crate/src/cli/tests"
+cp -r "$top/crates/confer_play/src/schedules" "$top/crates/confer_play/src/schedules.rt" "$crate/src"
 cp "$top/checks/refused_play/main.txt" "$crate/src/main.rt"
-perl -0pi -e 's/#\[cfg\(test\)\]\nmod tests;\n//; s/#\[cfg\(test\)\]\npub use tests::WORKED;\n//; s/#\[cfg\(test\)\]\nmod schedules;\n/mod schedules;\n\npub use schedules::parts;\n/' "$crate"/src/*.rt
+perl -0pi -e 's/#\[cfg\(test\)\]\nmod tests;\n//' "$crate/src/cli.rt"
 for ((bytes = 0; bytes < most; bytes += step)); do
     name=$(printf '%04d' "$bytes")
     head -c "$bytes" /dev/zero > "$work/cases/$name"

@@ -1,12 +1,12 @@
 #!/usr/bin/env python3
-"""The texts of schedules/ as files of confer's tests, which can read no file: --write writes them. Without it, says whether the files are up to
+"""The texts of schedules/ as files of the tests of confer_play, which can read no file: --write writes them. Without it, says whether the files are up to
 date, and runs the built program on each script, if it was built."""
 import os
 import subprocess
 import sys
 
 TOP = os.path.join(os.path.dirname(os.path.abspath(__file__)), "..")
-COPY = os.path.join(TOP, "crates/confer/src/play")
+COPY = os.path.join(TOP, "crates/confer_play/src")
 PROGRAM = os.path.join(TOP, "crates/confer/out/confer")
 # Each schedule in a file with those of its theme: the module of the file, what it is about, and its schedules.
 THEMES = [
@@ -51,7 +51,7 @@ def row(name):
 
 
 def theme_of(about, names):
-    first = f"//! {about}.\n//!\n//! Texts of the folder `schedules/`, {COPIED}\n\nuse crate::play::schedules::Schedule;\n"
+    first = f"//! {about}.\n//!\n//! Texts of the folder `schedules/`, {COPIED}\n\nuse crate::schedules::Schedule;\n"
     listed = "".join(f"    {it.upper()},\n" for it in names)
     last = f"const ALL: &[Schedule] = &[\n{listed}];\n"
     call = "/// A function, since a constant would be looked through in the proof of the loop.\npub fn schedules() -> &'static [Schedule] {\n    ALL\n}\n"

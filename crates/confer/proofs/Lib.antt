@@ -1,14 +1,1 @@
-pub mod Expanding
 pub mod CommandLine
-pub mod Views
-pub mod Asking
-pub mod Arriving
-pub mod Naming
-pub mod Auditing
-pub mod Conferring
-pub mod Casting
-pub mod Scripts
-pub mod Seeing
-pub mod Shown
-pub mod Printing
-pub mod ScriptLines

@@ -1,10 +1,1 @@
-pub mod Expand
-pub mod Streams
-pub mod Play
-pub mod Playing
-pub mod Audit
-pub mod Run
-pub mod Talking
 pub mod Cli
-pub mod Rooms
-pub mod ScriptText

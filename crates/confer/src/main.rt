@@ -1,20 +1,20 @@
 //! `confer`: causal broadcast at the command line.
 //!
-//! `cli` reads the words, by `clap`, and runs what they order. Each subcommand has a module of its own:
-//! `expand` stands on `cb_frames` and `cb_diffs`, `play` on `cb_world`, `audit` on `cb_trace`, `run` on
-//! `cb_threads` and `cb_trace`.
+//! `cli` reads the words, by `clap`, and runs what they order: each subcommand is a library of its own,
+//! `confer_expand`, `confer_play`, `confer_audit` and `confer_run`, over `confer_text`, which they share. What
+//! these offer is offered here too.
 #![tactic(auto)]
 
-mod audit;
 mod cli;
-mod expand;
 #[cfg(test)]
-mod fakes;
-pub mod laws;
-mod play;
-mod run;
+mod harness;
 
-use crate::cli::{Fault, report, run_words};
+pub use crate::cli::{Fault, report, run_plain, run_words};
+pub use confer_audit::{TraceInputFault, audit_trace};
+pub use confer_expand::expand_lines;
+pub use confer_play::{ScriptFault, laws, play_script};
+pub use confer_run::{LinkKind, RunFault, RunSetting, ThreadFault, run_conference};
+pub use confer_text::LinesFault;
 use std::env;
 use std::io::ErrorKind;
 use std::process::ExitCode;

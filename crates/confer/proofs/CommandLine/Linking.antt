@@ -4,7 +4,7 @@ use Rattle.std.specs.Prelude.{IfSome}
 use Rattle.clap.specs.Words.{Text, first_value, one_text, rows_of}
 use Rattle.clap.specs.declared.parser.matches.Found.{Found}
 use Rattle.clap.proofs.WalkLemmas.{first_value-rows, one_text-rows}
-use Rattle.confer.specs.declared.run.setting.LinkKind.{LinkKind}
+use Rattle.confer_run.specs.declared.setting.LinkKind.{LinkKind}
 use Rattle.confer.specs.Cli.Orders.{HasFlag, HasLink, IsNamed}
 
 -- a link is named

@@ -1,16 +1,15 @@
 -- What the words order.
-use Rattle.std.specs.Prelude.{◌≡◌, ℕ, ◌≤◌, Bool, true, false, List, [], codes, None, Some}
+use Rattle.std.specs.Prelude.{◌≡◌, ℕ, Bool, true, false, List, [], codes, None, Some}
 use Rattle.std.specs.Str.Parse.{digits_value, without_leading_plus}
 use Rattle.clap.specs.Words.{Row, Text, first_of, one_of, subcommand_of, fault_of, HasKind, Kinds}
 use Rattle.clap.specs.declared.builder.value_parser.ValueParser.{ValueParser}
 use Rattle.cb_times.specs.Group.{IsGroupSize}
-use Rattle.cb_times.specs.declared.group.TheConstants.{FEWEST_MEMBERS, WIDEST_WINDOW}
 use Rattle.confer.specs.declared.cli.invocation.Invocation.{Invocation}
 use Rattle.confer.specs.declared.cli.invocation.Invocation.TheVariants as invocations
-use Rattle.confer.specs.declared.run.setting.LinkKind.{LinkKind}
-use Rattle.confer.specs.declared.run.setting.LinkKind.TheVariants as links
-use Rattle.confer.specs.declared.run.setting.RunSetting.{RunSetting}
-use Rattle.confer.specs.declared.run.setting.TheConstants.{MOST_WORKING, MOST_QUESTIONS, MOST_TURNS}
+use Rattle.confer_run.specs.declared.setting.LinkKind.{LinkKind}
+use Rattle.confer_run.specs.declared.setting.LinkKind.TheVariants as links
+use Rattle.confer_run.specs.declared.setting.RunSetting.{RunSetting}
+use Rattle.confer_run.specs.Settings.{IsRunSetting}
 use Rattle.confer.specs.declared.cli.fault.Fault.{Fault}
 use Rattle.confer.specs.declared.cli.fault.Fault.TheVariants as faults
 use Rattle.confer.specs.Cli.Commands.{AreLinks, confer_app}
@@ -65,25 +64,6 @@ IsNamed name links.Udp = name ≡ codes "udp"
 -- the option names this link
 abbrev pub HasLink : List Row → LinkKind → Type 0
 HasLink rows link = (text : Text) × (first_of (codes "link") rows ≡ Some text) × IsNamed text link
-
--- within the bounds of a group in threads
-pub record IsRunGroup (setting : RunSetting) : Type 0 where
-  pub size_from : FEWEST_MEMBERS ≤ setting.size
-  pub size_to : setting.size ≤ MOST_WORKING
-  pub window_from : 1 ≤ setting.window
-  pub window_to : setting.window ≤ WIDEST_WINDOW
-
--- within those of what is asked, and of turns
-pub record IsRunTalk (setting : RunSetting) : Type 0 where
-  pub questions_from : 1 ≤ setting.questions
-  pub questions_to : setting.questions ≤ MOST_QUESTIONS
-  pub turns_from : 1 ≤ setting.turns
-  pub turns_to : setting.turns ≤ MOST_TURNS
-
--- within its bounds
-pub record IsRunSetting (setting : RunSetting) : Type 0 where
-  pub group : IsRunGroup setting
-  pub talk : IsRunTalk setting
 
 -- the options are these; one that is not given has its default among the rows
 pub record HasSetting (rows : List Row) (setting : RunSetting) : Type 0 where

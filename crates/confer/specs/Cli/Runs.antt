@@ -4,15 +4,16 @@ use Rattle.std.specs.Io.KnownBytes.{Appends}
 use Rattle.clap.specs.Words.{Text}
 use Rattle.confer.specs.declared.cli.fault.Fault.{Fault}
 use Rattle.confer.specs.declared.cli.fault.Fault.TheVariants as faults
-use Rattle.confer.specs.declared.run.setting.RunSetting.{RunSetting}
-use Rattle.confer.specs.Expand.Lines.{output_of, is_refused}
-use Rattle.confer.specs.Expand.Runs.{WritesPart, Stops}
-use Rattle.confer.specs.Streams.{IsWithinLimit}
-use Rattle.confer.specs.ScriptText.{WritesRun}
-use Rattle.confer.specs.Play.{StopsPlaying}
-use Rattle.confer.specs.Audit.{Answers, StopsAuditing}
-use Rattle.confer.specs.Run.{PrintsRun, StopsRun}
-use Rattle.confer.specs.declared.run.fault.RunFault.{RunFault}
+use Rattle.confer_run.specs.declared.setting.RunSetting.{RunSetting}
+use Rattle.confer_expand.specs.Lines.{output_of, is_refused}
+use Rattle.confer_expand.specs.Runs.{Stops}
+use Rattle.confer_text.specs.Streams.{WritesPart}
+use Rattle.confer_text.specs.Streams.{IsWithinLimit}
+use Rattle.confer_play.specs.ScriptText.{WritesRun}
+use Rattle.confer_play.specs.Play.{StopsPlaying}
+use Rattle.confer_audit.specs.Audit.{Answers, StopsAuditing}
+use Rattle.confer_run.specs.Run.{PrintsRun, StopsRun}
+use Rattle.confer_run.specs.declared.fault.RunFault.{RunFault}
 use Rattle.confer.specs.declared.cli.run.Carried.{Carried}
 use Rattle.confer.specs.declared.cli.run.Carried.TheVariants as carried
 use Rattle.confer.specs.Cli.Orders.{OrdersExpand, OrdersPlay, OrdersAudit, OrdersRun, RefusesWords}

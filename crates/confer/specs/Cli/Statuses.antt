@@ -4,16 +4,16 @@ use Rattle.std.specs.Fmt.{decimal}
 use Rattle.clap.specs.Words.{kind_of}
 use Rattle.clap.specs.declared.error.kind.ErrorKind.{ErrorKind}
 use Rattle.clap.specs.declared.error.kind.ErrorKind.TheVariants as kinds
-use Rattle.confer.specs.declared.expand.fault.LinesFault.{LinesFault}
-use Rattle.confer.specs.declared.expand.fault.LinesFault.TheVariants as lines
-use Rattle.confer.specs.declared.play.fault.ScriptFault.{ScriptFault}
-use Rattle.confer.specs.declared.play.fault.ScriptFault.TheVariants as scripts
-use Rattle.confer.specs.declared.audit.fault.TraceInputFault.{TraceInputFault}
-use Rattle.confer.specs.declared.audit.fault.TraceInputFault.TheVariants as traces
-use Rattle.confer.specs.declared.run.fault.RunFault.{RunFault}
-use Rattle.confer.specs.declared.run.fault.RunFault.TheVariants as runs
-use Rattle.confer.specs.declared.run.fault.ThreadFault.{ThreadFault}
-use Rattle.confer.specs.declared.run.fault.ThreadFault.TheVariants as threads
+use Rattle.confer_text.specs.declared.fault.LinesFault.{LinesFault}
+use Rattle.confer_text.specs.declared.fault.LinesFault.TheVariants as lines
+use Rattle.confer_play.specs.declared.fault.ScriptFault.{ScriptFault}
+use Rattle.confer_play.specs.declared.fault.ScriptFault.TheVariants as scripts
+use Rattle.confer_audit.specs.declared.fault.TraceInputFault.{TraceInputFault}
+use Rattle.confer_audit.specs.declared.fault.TraceInputFault.TheVariants as traces
+use Rattle.confer_run.specs.declared.fault.RunFault.{RunFault}
+use Rattle.confer_run.specs.declared.fault.RunFault.TheVariants as runs
+use Rattle.confer_run.specs.declared.fault.ThreadFault.{ThreadFault}
+use Rattle.confer_run.specs.declared.fault.ThreadFault.TheVariants as threads
 use Rattle.confer.specs.declared.cli.fault.Fault.{Fault}
 use Rattle.confer.specs.declared.cli.fault.Fault.TheVariants as faults
 

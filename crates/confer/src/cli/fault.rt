@@ -4,12 +4,12 @@ ghost use Rattle.std.specs.Prelude.{◌≡◌};
 ghost use Rattle.confer.specs.Cli.Statuses.{words_status, lines_status, script_status, trace_status, run_status, thread_status, status_of};
 ghost use Rattle.confer.specs.declared.cli.fault.Fault.TheVariants.{NoMemory as OutOfMemory};
 
-use crate::audit::TraceInputFault;
-use crate::expand::LinesFault;
-use crate::play::ScriptFault;
-use crate::run::{RunFault, ThreadFault};
 use cb_times::NoMemory;
 use clap::error::ErrorKind;
+use confer_audit::TraceInputFault;
+use confer_play::ScriptFault;
+use confer_run::{RunFault, ThreadFault};
+use confer_text::LinesFault;
 use thiserror::Error;
 
 /// A fault in the words, or a call for help.

@@ -8,9 +8,9 @@ ghost use Rattle.confer.specs.Cli.Orders.{Finds, HasFlag, HasLink, HasNumber, Ha
 
 use crate::cli::command::{CHANNEL, LINKS, UDP, command};
 use crate::cli::fault::Fault;
-use crate::run::{LinkKind, RunSetting};
 use cb_times::{FEWEST_MEMBERS, MOST_MEMBERS};
 use clap::ArgMatches;
+use confer_run::{LinkKind, RunSetting};
 use std::alloc::Global;
 use std::convert::AsStr;
 

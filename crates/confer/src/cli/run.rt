@@ -1,18 +1,18 @@
 //! What the words order, done.
 
 ghost use Rattle.std.specs.Prelude.{◌≡◌, if◌then◌else◌, map, IfOk, IfErr, IfSome, MatchOption};
-ghost use Rattle.confer.specs.Expand.Runs.{WritesPart};
+ghost use Rattle.confer_text.specs.Streams.{WritesPart};
 ghost use Rattle.confer.specs.Cli.Statuses.{status_of, said_of};
-ghost use Rattle.confer.specs.Cli.Orders.{IsRunSetting};
+ghost use Rattle.confer_run.specs.Settings.{IsRunSetting};
 ghost use Rattle.confer.specs.Cli.Runs.{CarriesOut, StoppedBy, Ends, EndsAny, EndsRun, LeavesToThreads};
 
-use crate::audit::audit_trace;
 use crate::cli::fault::Fault;
 use crate::cli::invocation::{Invocation, invocation_of};
 use crate::cli::said::say;
-use crate::expand::expand_lines;
-use crate::play::play_script;
-use crate::run::{RunSetting, run_conference};
+use confer_audit::audit_trace;
+use confer_expand::expand_lines;
+use confer_play::play_script;
+use confer_run::{RunSetting, run_conference};
 use std::alloc::Global;
 use std::convert::AsStr;
 use std::io::{Read, Write};

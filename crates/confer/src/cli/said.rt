@@ -1,24 +1,18 @@
 //! What is said on standard error of a run that stops.
 
-ghost use Rattle.std.specs.Prelude.{◌≡◌, ◌≤◌, ◌++◌, IfSome, drop, length};
+ghost use Rattle.std.specs.Prelude.{◌≡◌, IfSome};
 ghost use Rattle.clap.specs.Words.{kind_of};
-ghost use Rattle.confer.specs.Expand.Runs.{WritesPart};
+ghost use Rattle.confer_text.specs.Streams.{WritesPart};
 ghost use Rattle.confer.specs.Cli.Statuses.{words_said, lines_said, bad_line_said, script_said, trace_said, run_said, thread_said, said_of};
-ghost use Rattle.confer.specs.declared.cli.said.TheConstants.{LONGEST_BAD_LINE, LONGEST_END};
 
-use crate::audit::TraceInputFault;
 use crate::cli::fault::Fault;
-use crate::expand::{LinesFault, put_bytes, put_long_number, write_whole};
-use crate::play::ScriptFault;
-use crate::run::{RunFault, ThreadFault};
 use clap::error::ErrorKind;
+use confer_audit::TraceInputFault;
+use confer_play::ScriptFault;
+use confer_run::{RunFault, ThreadFault};
+use confer_text::{LinesFault, write_whole};
+use itoa::Buffer;
 use std::io::Write;
-
-/// The most bytes behind the number of a bad line.
-const LONGEST_END: usize = 12;
-
-/// The most bytes of what is said of a bad line, whose number has at most 20 digits.
-const LONGEST_BAD_LINE: usize = 13 + 20 + LONGEST_END;
 
 /// Says what ended a run. Nobody is left to be told where even this can't be written.
 pub fn say<E: Write>(fault: &Fault, errors: &mut E)
@@ -113,22 +107,19 @@ fn say_trace<E: Write>(fault: &TraceInputFault, errors: &mut E)
 }
 
 fn say_bad_line<E: Write>(line: u64, end: &[u8], errors: &mut E)
-    requires { length end.now ≤ LONGEST_END }
     ensures { WritesPart (E.contents errors.old) (E.contents errors.new)
         (bad_line_said line end.now) }
 {
-    let mut room = [0; LONGEST_BAD_LINE];
-    let start = put_bad_line(line, end, &mut room);
-    say_bytes(&room[start..], errors);
+    let _ = write_bad_line(line, end, errors);
 }
 
-/// What is said of a bad line, at the end of the room. Where it starts.
-fn put_bad_line(line: u64, end: &[u8], room: &mut [u8]) -> usize
-    requires short { length end.now ≤ LONGEST_END }
-    requires room { length room.old ≡ LONGEST_BAD_LINE }
-    ensures { drop result room.new ≡ bad_line_said line end.now }
+/// Writes what is said of a bad line, without memory.
+fn write_bad_line<E: Write>(line: u64, end: &[u8], errors: &mut E) -> Result<(), LinesFault>
+    ensures { WritesPart (E.contents errors.old) (E.contents errors.new)
+        (bad_line_said line end.now) }
 {
-    let start = put_bytes(end, room, room.len());
-    let start = put_long_number(line, room, start);
-    put_bytes(b"confer: line ", room, start)
+    write_whole(errors, b"confer: line ")?;
+    write_whole(errors, Buffer::new().format(line).as_bytes())?;
+    say_bytes(end, errors);
+    Ok(())
 }

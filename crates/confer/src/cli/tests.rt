@@ -1,11 +1,16 @@
 //! What the words order, and how a run ends.
 
-use crate::audit::TraceInputFault;
+mod conferences;
+mod rows;
+mod traces;
+
 use crate::cli::{Fault, report};
-use crate::expand::LinesFault;
-use crate::fakes::{Outcome, reading, run_on, run_whole, writing};
-use crate::play::ScriptFault;
-use crate::run::{RunFault, ThreadFault};
+use crate::harness::{Outcome, run_on, run_whole};
+use confer_audit::TraceInputFault;
+use confer_fakes::{reading, writing};
+use confer_play::ScriptFault;
+use confer_run::{RunFault, ThreadFault};
+use confer_text::LinesFault;
 use std::alloc::Global;
 use std::io::ErrorKind;
 use std::net::Net;

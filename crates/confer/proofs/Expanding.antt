@@ -1,6 +1,0 @@
--- Lemmas on `confer expand`.
-pub mod Accepting
-pub mod Putting
-pub mod Cutting
-pub mod Saying
-pub mod Running

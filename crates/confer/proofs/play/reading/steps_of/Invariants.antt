@@ -1,8 +1,0 @@
-use Rattle.std.proofs.Common.{map, take}
-use Rattle.confer.specs.Playing.{order_of}
-use Rattle.confer.specs.ScriptText.{EachOrders}
-use Rattle.confer.proofs.play.reading.steps_of.Given as goal
-
--- the lines read so far
-abbrev pub invariant-loop-line : goal.invariant-loop-line
-invariant-loop-line l = EachOrders (map (λ line. line.now) (take l.line-index l.lines)) (map order_of l.steps.items)

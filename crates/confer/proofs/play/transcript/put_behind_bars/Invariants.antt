@@ -1,9 +1,0 @@
-use Rattle.std.proofs.Common.{◌≡◌, ◌++◌, drop, map, flat_map}
-use Rattle.std.specs.Prelude.{string_bytes}
-use Rattle.confer.specs.Playing.{behind_bar}
-use Rattle.confer.proofs.play.transcript.put_behind_bars.Given as goal
-
--- the lines put so far, in front of those still to come
-abbrev pub invariant-loop-line : goal.invariant-loop-line
-invariant-loop-line l =
-    string_bytes l.text ++ flat_map behind_bar (map (λ line. line.now) (drop l.line-index l.lines)) ≡ string_bytes l.fn.text ++ flat_map behind_bar (map (λ line. line.now) l.lines)

@@ -1,0 +1,9 @@
+pub mod Views
+pub mod Asking
+pub mod Arriving
+pub mod Naming
+pub mod Casting
+pub mod Scripts
+pub mod Shown
+pub mod Printing
+pub mod ScriptLines

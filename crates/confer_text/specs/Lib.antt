@@ -1,0 +1,3 @@
+-- What the subcommands share.
+pub mod Streams
+pub mod Texts
