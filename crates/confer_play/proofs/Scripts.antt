@@ -9,7 +9,7 @@ use Rattle.cb_causality.proofs.Counting.{take_whole}
 use Rattle.cb_history.specs.View.{view}
 use Rattle.cb_rooms.specs.Line.{LineFields, IsPayload}
 use Rattle.cb_rooms.specs.Compose.{compose_fault}
-use Rattle.cb_schedules.specs.Schedule.{Setting, IsSetting, Step, CastStep, GroupState, run_from, run, step_after}
+use Rattle.cb_schedules.specs.Schedule.{Setting, IsSetting, Step, CastStep, GroupState, run_from, step_after}
 use Rattle.cb_schedules.specs.Messages.{stamped_lists, causal_lists}
 use Rattle.cb_schedules.specs.Consistent.{IsConsistent}
 use Rattle.cb_schedules.proofs.Courses.{runs_are_consistent}

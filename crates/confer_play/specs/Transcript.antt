@@ -1,15 +1,12 @@
 -- What is printed of the steps of a script and of the members behind them.
 use Rattle.std.specs.Prelude.{ℕ, suc, List, [], ◌∷◌, ◌++◌, Bool, true, false, codes, Option, Some, None, flat_map, length}
 use Rattle.std.specs.Fmt.{decimal}
-use Rattle.std.specs.Str.Lines.{lines}
 use Rattle.hex.specs.Hex.{encode_lower}
 use Rattle.cb_times.specs.Name.{name_text}
 use Rattle.cb_times.specs.Time.{text_of}
 use Rattle.cb_delay.specs.declared.message.Message.{Message}
 use Rattle.cb_history.specs.Refusals.{arrive_refusal_text, cast_refusal_text, tick_refusal_text}
 use Rattle.cb_history.specs.State.{MemberState, time_in, stable_in}
-use Rattle.cb_rooms.specs.FaultText.{compose_fault_text}
-use Rattle.cb_rooms.specs.declared.fault.ComposeFault.{ComposeFault}
 use Rattle.cb_world.specs.declared.outcome.Answer.{Answer}
 use Rattle.cb_world.specs.declared.outcome.Answer.TheVariants as answers
 use Rattle.cb_world.specs.declared.outcome.Outcome.{Outcome}
