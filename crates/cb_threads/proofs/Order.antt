@@ -1,6 +1,6 @@
 -- Members of a group, one after another.
 use Rattle.std.proofs.Common.{◌≡◌, ℕ, suc, ◌+◌, List, [], ◌∷◌, ◌++◌, length, length-append, map, drop, get_or, subst, sym, ap, ◌∙◌, arith}
-use Rattle.std.proofs.lemmas.List.{append_assoc, append-nil, drop-drop, length-map, map-append}
+use Rattle.std.proofs.lemmas.List.{append_assoc, drop-drop, length-map, map-append}
 use Rattle.std.proofs.lemmas.List.Elements.{All-append, All-cons, All-nil}
 use Rattle.cb_history.specs.Group.{Parameters}
 use Rattle.cb_history.specs.declared.history.History.{History}

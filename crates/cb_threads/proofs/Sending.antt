@@ -1,5 +1,5 @@
 -- Frames that a sender offers.
-use Rattle.std.proofs.Common.{ℕ, ◌≤◌, arith}
+use Rattle.std.proofs.Common.{ℕ, arith}
 use Rattle.cb_threads.specs.Offers.{AddsUnsent, FailuresAreLost}
 
 -- what failed before was lost, and so is what failed now
