@@ -156,7 +156,8 @@ fn inlet<'a, 'b>(
     streams: &'a mut [Dripping<'b>],
 ) -> TcpInlet<&'a mut Dripping<'b>> {
     let mut from = Vec::new(alloc);
-    for stream in streams {
+    let each = streams.iter_mut();
+    for stream in each {
         from.push(Coming::new(alloc, stream)).expect(rt, "memory");
     }
     TcpInlet::new(from)

@@ -76,10 +76,10 @@ fn a_stream_has_the_frames_that_were_taken_whole_and_in_order(rt: HostRuntime) {
 fn answers(rt: &impl Abort, alloc: Global, turns: &[Turn], expected: &[bool], held: &[u8]) {
     let mut stream = Trickle::new(Vec::new(alloc), turns);
     let mut going = Going::new(alloc, &mut stream).expect(rt, "memory");
-    let mut number = 7;
+    let mut number = 7_u8;
     for is_taken in expected {
         assert_eq!(rt; going.send(&frame(number)).is_ok(), *is_taken);
-        number += 1;
+        number = number.wrapping_add(1);
     }
     drop(going);
     assert!(rt; stream.held.as_slice() == held);
@@ -149,10 +149,19 @@ fn outlet<'a, 'b>(
     TcpOutlet::new(to)
 }
 
-/// Sends a frame of one byte, and whether it was taken.
-fn sends<R: Wait, O: Outlet>(rt: &R, outlet: &mut O, to: Option<u32>, text: &'static str) -> bool {
-    let bytes = Bytes::from_static(text.as_bytes());
+/// Sends a frame, and whether it was taken.
+fn sends<R: Wait>(
+    rt: &R,
+    outlet: &mut TcpOutlet<&mut Trickle<'_>>,
+    to: Option<u32>,
+    bytes: Bytes,
+) -> bool {
     outlet.send(rt, &Outgoing { to, bytes }).is_ok()
+}
+
+/// A frame of this one byte.
+fn of_one(byte: &'static [u8]) -> Bytes {
+    Bytes::from_static(byte)
 }
 
 #[test]
@@ -162,15 +171,15 @@ fn each_frame_is_offered_to_whom_it_is_to(rt: HostRuntime) {
     let mut last = Trickle::new(Vec::new(rt.alloc()), &[]);
     let mut outlet = outlet(&rt, rt.alloc(), &mut first, &mut last);
     // The first stream takes nothing twice; the last one is offered its own all the same.
-    assert!(&rt; !sends(&rt, &mut outlet, None, "a"));
+    assert!(&rt; !sends(&rt, &mut outlet, None, of_one(b"a")));
     assert_eq!(&rt; outlet.failures(), 1);
-    assert!(&rt; !sends(&rt, &mut outlet, Some(0), "b"));
-    assert!(&rt; sends(&rt, &mut outlet, Some(2), "c"));
-    assert!(&rt; sends(&rt, &mut outlet, None, "d"));
+    assert!(&rt; !sends(&rt, &mut outlet, Some(0), of_one(b"b")));
+    assert!(&rt; sends(&rt, &mut outlet, Some(2), of_one(b"c")));
+    assert!(&rt; sends(&rt, &mut outlet, None, of_one(b"d")));
     assert_eq!(&rt; outlet.failures(), 2);
     // The member's own number, and one that is no member's.
-    assert!(&rt; !sends(&rt, &mut outlet, Some(1), "e"));
-    assert!(&rt; !sends(&rt, &mut outlet, Some(3), "f"));
+    assert!(&rt; !sends(&rt, &mut outlet, Some(1), of_one(b"e")));
+    assert!(&rt; !sends(&rt, &mut outlet, Some(3), of_one(b"f")));
     assert_eq!(&rt; outlet.failures(), 4);
     drop(outlet);
     assert!(&rt; first.held.as_slice() == b"\x01d".as_slice());

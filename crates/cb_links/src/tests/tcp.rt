@@ -215,7 +215,7 @@ fn a_full_connection_loses_no_frame_that_it_took(rt: HostRuntime) {
     assert!(&rt; refused < FIRST + MANY);
     assert_eq!(&rt; of_0.1.failures(), 1);
     let next = drains(&rt, rt.alloc(), &mut of_1.0, FIRST);
-    assert!(&rt; next == refused || next + 1 == refused);
+    assert!(&rt; next == refused || next.checked_add(1) == Some(refused));
     let bytes = numbered(&rt, rt.alloc(), refused);
     assert!(&rt; of_0.1.send(&rt, &Outgoing { to: Some(1), bytes }).is_ok());
     assert_eq!(&rt; drains(&rt, rt.alloc(), &mut of_1.0, next), refused + 1);
