@@ -1,5 +1,7 @@
 //! Conferences in threads, and the lines of their members.
 
+ghost use Rattle.confer_run.specs.Settings.{IsRunSetting};
+
 use crate::fault::ThreadFault;
 use crate::participant::Participant;
 use crate::run_conference;
@@ -31,7 +33,9 @@ const SETTING: RunSetting = RunSetting {
 /// What a conference prints of which the audit says yes.
 fn printed<
     R: Threads + Wait + Clock + Net<Listener = TcpListener, Stream = TcpStream> + Abort + Sync,
->(rt: &R, alloc: Global, setting: RunSetting) -> String {
+>(rt: &R, alloc: Global, setting: RunSetting) -> String
+    requires { IsRunSetting setting }
+{
     let mut output = writing(alloc);
     let ended = run_conference(rt, alloc, setting, &mut output);
     assert!(rt; matches!(ended, Ok(false)));
@@ -75,7 +79,9 @@ fn is_line(rt: &impl Abort, alloc: Global, line: &str, member: usize, part: &str
 /// The conference prints a line for each member, which says this.
 fn tells<
     R: Threads + Wait + Clock + Net<Listener = TcpListener, Stream = TcpStream> + Abort + Sync,
->(rt: &R, alloc: Global, setting: RunSetting, part: &str) {
+>(rt: &R, alloc: Global, setting: RunSetting, part: &str)
+    requires { IsRunSetting setting }
+{
     let text = printed(rt, alloc, setting);
     is_reported(rt, alloc, &text, setting.size as usize, part);
     drop(text);
