@@ -1,8 +1,8 @@
 //! `confer`: causal broadcast at the command line.
 //!
 //! `cli` reads the words, by `clap`, and runs what they order: each subcommand is a library of its own,
-//! `confer_expand`, `confer_play`, `confer_audit` and `confer_run`, over `confer_text`, which they share. What
-//! these offer is offered here too.
+//! `confer_expand`, `confer_play`, `confer_audit` and `confer_run`, over `confer_text`, which they share. Their
+//! calls and faults are offered here too.
 #![tactic(auto)]
 
 mod cli;

@@ -1,4 +1,4 @@
-//! Readers and writers for tests, which fail where they are told to, and what became of a subcommand over them.
+//! Readers and writers for tests, which fail where they are told to, and what became of a subcommand over them, or of a conference.
 //!
 //! Only tests of `confer` and of its subcommands stand on it.
 #![tactic(auto)]
@@ -121,6 +121,25 @@ impl<F: Display + Drop> Outcome<F> {
 fn has_text<F: Display>(alloc: Global, fault: &F, wanted: &str) -> bool {
     match format!(in alloc; "{fault}") {
         Ok(text) => text.as_str() == wanted,
+        Err(_) => false,
+    }
+}
+
+/// Whether the text is the report of a conference in which each of so many members did this part, counted in casts and deliveries, and saw
+/// no answer before its question, and of which the audit says yes.
+pub fn is_report(alloc: Global, text: &str, members: usize, part: &str) -> bool {
+    text.ends_with("\naudit yes\n")
+        && text.lines().count() == members.saturating_add(1)
+        && (0..members).all(|member| is_line(alloc, line_at(text, member), member, part))
+}
+
+fn line_at(text: &str, place: usize) -> &str {
+    text.lines().nth(place).unwrap_or("")
+}
+
+fn is_line(alloc: Global, line: &str, member: usize, part: &str) -> bool {
+    match format!(in alloc; "member {member} {part} entries ") {
+        Ok(start) => line.starts_with(start.as_str()) && line.ends_with(" orphans 0"),
         Err(_) => false,
     }
 }

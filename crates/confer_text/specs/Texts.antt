@@ -1,5 +1,5 @@
 -- How numbers and payloads are printed, and how much memory that takes.
-use Rattle.std.specs.Prelude.{ℕ, ◌+◌, ◌<◌, ◌≤◌, Bool, not, ◌&&◌, nat_le, ◌==◌, if◌then◌else◌, List, [], ◌∷◌, ◌++◌, Result, Ok, Err}
+use Rattle.std.specs.Prelude.{◌≡◌, ℕ, ◌+◌, ◌<◌, ◌≤◌, Bool, not, ◌&&◌, nat_le, ◌==◌, if◌then◌else◌, List, [], ◌∷◌, ◌++◌, drop, length, Result, Ok, Err}
 use Rattle.std.specs.List.{list_all}
 use Rattle.std.specs.Fmt.{decimal}
 use Rattle.std.specs.Vec.{vec_capacity, vec_len}
@@ -23,3 +23,15 @@ payload_text payload =
 abbrev pub PutsAtMost : {T A E : Type 0} → ℕ → Vec T A → Vec T A → Result (Unit {0}) E → Type 0
 PutsAtMost most old new (Ok done) = (vec_len new ≤ vec_len old + most) × (vec_capacity old ≤ vec_capacity new)
 PutsAtMost most old new (Err refused) = vec_capacity old < vec_len old + most
+
+-- ---- a text that is written from its end to its front
+
+-- the piece stands in front of what stood from `end` on
+pub record Precedes (old : List ℕ) (end : ℕ) (new : List ℕ) (start : ℕ) (piece : List ℕ) : Type 0 where
+  pub room : start + length piece ≡ end
+  pub written : drop start new ≡ piece ++ drop end old
+
+-- there is room for so many bytes
+pub record HasRoomBefore (count : ℕ) (room : List ℕ) (end : ℕ) : Type 0 where
+  pub bytes : count ≤ end
+  pub within : end ≤ length room

@@ -1,18 +1,18 @@
-//! How numbers, times and payloads are printed: each function puts a piece behind a text.
+//! How numbers, times and payloads are printed: each public function puts a piece behind a text.
 //!
 //! The only error is out of memory. It comes only where the text lacked room for the piece, of which a beginning
 //! may stand there then.
 
-ghost use Rattle.std.specs.Prelude.{◌≡◌, ◌≤◌, ◌+◌, ◌*◌, ◌∷◌, ◌++◌, IfSome, OnErr, OnOk, codes, length};
+ghost use Rattle.std.specs.Prelude.{◌≡◌, ◌≤◌, ◌+◌, ◌*◌, ◌∷◌, ◌++◌, [], IfSome, OnErr, OnOk, codes, drop, length};
 ghost use Rattle.std.specs.List.{list_all};
 ghost use Rattle.std.specs.Fmt.{decimal};
 ghost use Rattle.hex.specs.Hex.{encode_lower};
 ghost use Rattle.cb_times.specs.Name.{name_text};
 ghost use Rattle.cb_times.specs.Time.{text_of};
-ghost use Rattle.confer_text.specs.Texts.{PutsAtMost, is_plain, parameter_text, payload_text};
+ghost use Rattle.confer_text.specs.Texts.{HasRoomBefore, Precedes, PutsAtMost, is_plain, parameter_text, payload_text};
 
 use cb_times::{Name, NoMemory, VectorTime};
-use itoa::Buffer;
+use itoa::{Buffer, write_digits};
 use std::fmt::Display;
 
 /// The most bytes of a time: 64 fields of ten digits with commas between them, and brackets.
@@ -45,29 +45,51 @@ pub fn put_name(text: &mut Vec<u8>, name: Name) -> Result<(), NoMemory>
     put_number(text, name.number)
 }
 
-/// The fields of a time, with commas between them, in brackets.
+/// The fields of a time, with commas between them, in brackets. They are written from the last digit to the first, as the digits of a number
+/// come, and copied once.
 pub fn put_time(text: &mut Vec<u8>, time: &VectorTime) -> Result<(), NoMemory>
     ensures fields { OnOk result (text.new.items ≡ text.old.items ++ text_of time.now) }
     ensures room { PutsAtMost LONGEST_TIME text.old text.new result }
 {
-    let Some((first, others)) = time.as_slice().split_first() else {
-        unreachable!("a group has two members or more");
-    };
-    text.extend_from_slice(b"[")?;
-    put_number(text, *first)?;
-    for field in others {
-        put_next(text, *field)?;
-    }
-    text.extend_from_slice(b"]")
+    let mut room = [0; LONGEST_TIME];
+    let start = write_time(time.as_slice(), &mut room);
+    text.extend_from_slice(&room[start..])
 }
 
-/// A further field of a time.
-fn put_next(text: &mut Vec<u8>, field: u32) -> Result<(), NoMemory>
-    ensures field { OnOk result (text.new.items ≡ text.old.items ++ (44 ∷ decimal field)) }
-    ensures room { PutsAtMost 11 text.old text.new result }
+/// Writes a time at the end of the room, and answers where it starts.
+fn write_time(fields: &[u32], room: &mut [u8]) -> usize
+    requires some { 1 ≤ length fields.now }
+    requires few { length fields.now ≤ 64 }
+    requires room { length room.old ≡ LONGEST_TIME }
+    ensures { drop result room.new ≡ text_of fields.now }
 {
-    text.extend_from_slice(b",")?;
-    put_number(text, field)
+    let mut left = fields.len() - 1;
+    let mut start = write_byte(b']', room, LONGEST_TIME);
+    start = write_number(fields[left], room, start);
+    while left > 0 {
+        left -= 1;
+        start = write_byte(b',', room, start);
+        start = write_number(fields[left], room, start);
+    }
+    write_byte(b'[', room, start)
+}
+
+/// Writes a byte in front of what stands from `end` on, and answers where it stands.
+fn write_byte(byte: u8, room: &mut [u8], end: usize) -> usize
+    requires { HasRoomBefore 1 room.old end }
+    ensures { Precedes room.old end room.new result (byte ∷ []) }
+{
+    room[end - 1] = byte;
+    end - 1
+}
+
+/// Writes a number in front of what stands from `end` on, and answers where it starts.
+fn write_number(number: u32, room: &mut [u8], end: usize) -> usize
+    requires { HasRoomBefore 10 room.old end }
+    ensures text { Precedes room.old end room.new result (decimal number) }
+    ensures least { end ≤ result + 10 }
+{
+    write_digits(u64::from(number), room, end)
 }
 
 fn is_plain(byte: u8) -> bool

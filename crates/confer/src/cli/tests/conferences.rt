@@ -1,7 +1,7 @@
 //! Conferences in threads, by the program's words.
 
 use crate::cli::{run_plain, run_words};
-use confer_fakes::{reading, writing};
+use confer_fakes::{is_report, reading, writing};
 use std::alloc::Global;
 use std::net::{Net, TcpListener, TcpStream};
 use std::process::Abort;
@@ -40,39 +40,12 @@ fn text_in(rt: &impl Abort, bytes: Vec<u8>) -> String {
     text
 }
 
-/// Every member's line says this of its casts and deliveries, and that it saw no answer before its question;
-/// the last line is the audit's.
-fn is_reported(rt: &impl Abort, alloc: Global, text: &str, members: usize, part: &str) {
-    is_ended(rt, text, members.saturating_add(1));
-    for member in 0..members {
-        is_line(rt, alloc, line_at(text, member), member, part);
-    }
-}
-
-fn is_ended(rt: &impl Abort, text: &str, lines: usize) {
-    let is_ended = text.ends_with("\naudit yes\n") && text.lines().count() == lines;
-    assert!(rt; is_ended, "{text}");
-}
-
-fn line_at(text: &str, place: usize) -> &str {
-    text.lines().nth(place).unwrap_or("")
-}
-
-fn is_line(rt: &impl Abort, alloc: Global, line: &str, member: usize, part: &str) {
-    let start = format!(in alloc; "member {member} {part} entries ").expect(rt, "memory");
-    let is_started = line.starts_with(start.as_str());
-    drop(start);
-    if !is_started || !line.ends_with(" orphans 0") {
-        panic!(rt; "{line}");
-    }
-}
-
 /// The words print the lines of so many members, each of which says this.
 fn tells<
     R: Threads + Wait + Clock + Net<Listener = TcpListener, Stream = TcpStream> + Abort + Sync,
 >(rt: &R, alloc: Global, words: &[&str], members: usize, part: &str) {
     let text = printed(rt, alloc, words);
-    is_reported(rt, alloc, &text, members, part);
+    assert!(rt; is_report(alloc, &text, members, part), "{text}");
     drop(text);
 }
 
