@@ -1,4 +1,3 @@
 pub mod Rising
-pub mod Longest
 pub mod Sending
 pub mod Goings

@@ -1,5 +1,4 @@
 pub mod Counts
 pub mod Offers
 pub mod FaultText
-pub mod Fitting
 pub mod Streams

@@ -2,7 +2,8 @@
 use Rattle.std.specs.Prelude.{◌≡◌, ◌⊎◌, ℕ, ◌<◌, ◌≤◌, List, [], ◌++◌, length, Option, Some, None, Result, Ok, Err}
 use Rattle.std.specs.Io.KnownBytes.{Appends, Consumes}
 use Rattle.cb_frames.specs.Fields.{FrameFields}
-use Rattle.cb_frames.specs.Stream.{Front, Found, Partial, Bad, Stream, framed, next_at}
+use Rattle.cb_frames.specs.Stream.{Found, Partial, Bad, Stream, framed, next_at}
+use Rattle.cb_frames.specs.declared.fault.StreamFault.{StreamFault}
 use Rattle.cb_links.specs.declared.link.LinkFault.{LinkFault}
 use Rattle.cb_links.specs.declared.link.LinkFault.TheVariants as faults
 
@@ -17,7 +18,8 @@ pub record Writes (had has : Option (List ℕ)) (due rest : List ℕ) : Type 0 w
 -- A frame that was taken goes behind what was left, and was begun: all that was left went. One that was not goes nowhere.
 abbrev pub Sends : Option (List ℕ) → Option (List ℕ) → List ℕ → List ℕ → List ℕ → Result Unit LinkFault → Type 0
 Sends had has left rest frame (Ok taken) = Writes had has (left ++ framed frame) rest × (length rest < length (framed frame))
-Sends had has left rest frame (Err fault) = Writes had has left rest
+Sends had has left rest frame (Err faults.Device) = Writes had has left rest
+Sends had has left rest frame (Err faults.NoMemory) = Writes had has left [] × (rest ≡ [])
 
 -- ---- what comes: the bytes that a connection will give, where they are known, and those that came and were not given as frames yet
 
@@ -34,22 +36,20 @@ abbrev pub Gives : Option (List ℕ) → Option (List ℕ) → List ℕ → List
 Gives had has left rest (Some text) = (came : List ℕ) × Reads had has left came × ((frame : FrameFields) × (next_at came ≡ Found frame text rest))
 Gives had has left rest None = Reads had has left rest × (next_at rest ≡ Partial)
 
--- there is no frame at the front
-abbrev pub HasNone : Front → Type 0
-HasNone (Found frame text behind) = ⊥
-HasNone Partial = Unit {0}
-HasNone (Bad fault) = Unit {0}
+-- what stands at the front is no frame, whatever follows
+abbrev pub IsBad : List ℕ → Type 0
+IsBad rest = (fault : StreamFault) × (next_at rest ≡ Bad fault)
 
 -- what is found of the bytes that came: the frame at the front is given, and else nothing changes but that a fault is noted
 abbrev pub Finds : Stream → Stream → Result (Option (List ℕ)) LinkFault → Type 0
 Finds old new (Ok (Some text)) = (frame : FrameFields) × (next_at old.rest ≡ Found frame text new.rest)
 Finds old new (Ok None) = (next_at old.rest ≡ Partial) × (new ≡ old) × (old.fault ≡ None)
-Finds old new (Err faults.Device) = HasNone (next_at old.rest)
+Finds old new (Err faults.Device) = IsBad old.rest
 Finds old new (Err faults.NoMemory) = Unit {0}
 
--- what came brings no frame, or memory was refused
+-- nothing more came where no frame is whole, or what came is no frame; or memory was refused
 abbrev pub Breaks : Option (List ℕ) → Option (List ℕ) → List ℕ → LinkFault → Type 0
-Breaks had has left faults.Device = (came : List ℕ) × Reads had has left came × HasNone (next_at came)
+Breaks had has left faults.Device = (came : List ℕ) × Reads had has left came × (((came ≡ left) × (next_at came ≡ Partial)) ⊎ IsBad came)
 Breaks had has left faults.NoMemory = Unit {0}
 
 -- one look at an open connection

@@ -1,10 +1,12 @@
 //! A connection on which frames go to one member.
 
 ghost use Rattle.std.specs.Prelude.{◌≡◌, ◌≤◌, [], ◌++◌, IfOk, OnErr, OnOk, length};
+ghost use Rattle.cb_frames.specs.declared.frame.TheConstants.{LONGEST_FRAME};
 ghost use Rattle.cb_frames.specs.Stream.{framed};
 ghost use Rattle.cb_links.specs.Streams.{Sends, Writes};
 
-use crate::link::{LONGEST_FRAME, LinkFault};
+use crate::link::LinkFault;
+use cb_frames::LONGEST_FRAME;
 use std::alloc::{AllocError, Global};
 use std::io::Write;
 
@@ -35,7 +37,7 @@ impl<S: Write + Drop> Going<S> {
     /// what is left of it then goes with the next call.
     ///
     /// `Device` where it is not taken, and for bytes that no frame can be, which are not offered.
-    /// `NoMemory` is not met: there is room.
+    /// `NoMemory` with nothing left, where memory for the frame is refused: there is room for one.
     pub fn send(&mut self, frame: &[u8]) -> Result<(), LinkFault>
         ensures { Sends (S.contents self.old.stream) (S.contents self.new.stream)
             self.old.rest.items self.new.rest.items frame.now result }

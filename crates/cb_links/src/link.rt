@@ -15,9 +15,8 @@ use std::sync::Wait;
 use std::time::Clock;
 use std::{fmt, io};
 
-/// The most bytes of a frame: what a cast has with 63 changes, its greatest numbers and 1,024 bytes
-/// of payload.
-pub const LONGEST_FRAME: usize = 1_417;
+/// Any port of the loopback address, which the system chooses.
+pub const ANY_PORT: &str = "127.0.0.1:0";
 
 /// What an inlet found.
 #[derive(Debug, PartialEq, Eq, Drop)]

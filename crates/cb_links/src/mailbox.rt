@@ -121,7 +121,7 @@ impl<M: Drop> Mailbox<M> {
     ///
     /// Where a mailbox has become empty, what is on its way gathers for a part of that time first.
     /// One that is closed is not waited for: nothing more comes.
-    pub fn take<R: Wait>(&self, rt: &R) -> Taken<M> {
+    pub(crate) fn take<R: Wait>(&self, rt: &R) -> Taken<M> {
         match self.look(rt) {
             Taken::Nothing => self.gather_and_sleep(rt),
             taken => taken,
@@ -159,7 +159,7 @@ impl<M: Drop> Mailbox<M> {
 
     /// Lets messages gather for a while, or until there are enough. Those that were put in before
     /// the reader said that it lets them gather woke nobody, so it looks once more behind that.
-    pub fn gather<R: Wait>(&self, rt: &R) {
+    pub(crate) fn gather<R: Wait>(&self, rt: &R) {
         self.reader.gathers.store(true, Ordering::SeqCst);
         if self.from.len() < ENOUGH_GATHERED {
             self.park(rt, GATHERING);

@@ -3,11 +3,13 @@
 //! Each frame stands behind its length. What a connection has not taken of one waits for the next
 //! call, so that a frame comes whole or, where the connection is closed before, not at all.
 
-ghost use Rattle.std.specs.Prelude.{◌≡◌, IfOk, length};
+ghost use Rattle.std.specs.Prelude.{◌≡◌, ◌≤◌, IfErr, IfOk, MatchResult, length};
+ghost use Rattle.cb_links.specs.Counts.{LinkCounts};
+ghost use Rattle.cb_links.specs.Offers.{failures_with};
 
 use crate::coming::{Coming, ROOM};
 use crate::going::Going;
-use crate::link::{Inlet, LinkFault, Offered, Outlet, Received, and_fault};
+use crate::link::{ANY_PORT, Inlet, LinkFault, Offered, Outlet, Received, and_fault};
 use crate::waits::wait;
 use bytes::Bytes;
 use cb_history::Outgoing;
@@ -17,9 +19,6 @@ use std::io::{ErrorKind, Read, Write};
 use std::net::{Net, SocketAddr, TcpListener, TcpStream};
 use std::sync::Wait;
 use std::time::Clock;
-
-/// Any port of the loopback address, which the system chooses.
-const ANY_PORT: &str = "127.0.0.1:0";
 
 /// So many connections are accepted before that of a member: strangers may come first.
 const STRANGERS: u32 = 16;
@@ -156,7 +155,7 @@ impl Door {
 }
 
 impl<S: Read + Drop> TcpInlet<S> {
-    pub fn new(from: Vec<Coming<S>>) -> TcpInlet<S> {
+    pub(crate) fn new(from: Vec<Coming<S>>) -> TcpInlet<S> {
         TcpInlet {
             from,
             first: 0,
@@ -189,7 +188,13 @@ impl<S: Read + Drop> Inlet for TcpInlet<S> {
         self.failures
     }
 
-    fn receive<R: Wait + Clock>(&mut self, rt: &R) -> Result<Received, LinkFault> {
+    fn receive<R: Wait + Clock>(&mut self, rt: &R) -> Result<Received, LinkFault>
+        ensures rises { self.old.failures ≤ self.new.failures }
+        ensures fault { IfErr result (λ fault. LinkCounts fault self.old.failures
+            self.new.failures) }
+        ensures counted { MatchResult result (λ _. self.new.failures ≡ self.old.failures)
+            (λ fault. self.new.failures ≡ failures_with self.old.failures fault) }
+    {
         match self.look() {
             Ok(Some(frame)) => Ok(Received::Frame(frame)),
             Ok(None) => {
@@ -205,7 +210,7 @@ impl<S: Read + Drop> Inlet for TcpInlet<S> {
 }
 
 impl<S: Write + Drop> TcpOutlet<S> {
-    pub fn new(to: Vec<Option<Going<S>>>) -> TcpOutlet<S> {
+    pub(crate) fn new(to: Vec<Option<Going<S>>>) -> TcpOutlet<S> {
         TcpOutlet { to, failures: 0 }
     }
 }

@@ -4,9 +4,10 @@
 
 ghost use Rattle.std.specs.Prelude.{◌≡◌, IfOk, MatchResult, false, length};
 
-use crate::link::{Inlet, LONGEST_FRAME, LinkFault, Offered, Outlet, Received};
+use crate::link::{ANY_PORT, Inlet, LinkFault, Offered, Outlet, Received};
 use crate::waits::wait;
 use bytes::Bytes;
+use cb_frames::LONGEST_FRAME;
 use cb_history::Outgoing;
 use std::alloc::{AllocError, Global};
 use std::io;
@@ -20,9 +21,6 @@ use std::time::Clock;
 const ROOM: usize = 1_418;
 
 const _: () = prove!(ROOM == LONGEST_FRAME + 1);
-
-/// Any port of the loopback address, which the system chooses.
-const ANY_PORT: &str = "127.0.0.1:0";
 
 /// Links over UDP.
 #[derive(Clone, Copy, Debug)]

@@ -1,7 +1,8 @@
 //! What every link is to do, over channels, UDP and TCP.
 
-use crate::link::LONGEST_FRAME;
-use crate::{ChannelLink, Inlet, LinkFault, Outlet, Received, TcpLink, UdpLink, UdpOutlet};
+use crate::{
+    ChannelLink, Inlet, LONGEST_FRAME, LinkFault, Outlet, Received, TcpLink, UdpLink, UdpOutlet,
+};
 use bytes::Bytes;
 use cb_frames::{Cast, Change, Frame, encode};
 use cb_history::Outgoing;

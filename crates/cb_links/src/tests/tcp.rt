@@ -167,6 +167,21 @@ fn a_member_that_is_gone_is_one_failure(rt: HostRuntime) {
     assert_eq!(&rt; of_0.0.failures(), 1);
 }
 
+/// The system takes the first frame, and finds that nobody is there.
+#[test]
+fn a_frame_to_a_member_that_is_gone_is_refused(rt: HostRuntime) {
+    let (mut of_0, of_1, mut of_2) = three(&rt, rt.alloc(), &rt);
+    drop(of_1);
+    assert!(&rt; send(&rt, &mut of_0.1, Some(1), ALL).is_ok());
+    assert!(&rt; send(&rt, &mut of_0.1, Some(1), ONE) == Err(LinkFault::Device));
+    assert!(&rt; send(&rt, &mut of_0.1, Some(1), ONE) == Err(LinkFault::Device));
+    assert_eq!(&rt; of_0.1.failures(), 2);
+    // One to all goes to the others all the same.
+    assert!(&rt; next(&rt, &mut of_2.0) == Err(LinkFault::Device));
+    assert!(&rt; send(&rt, &mut of_0.1, None, ALL) == Err(LinkFault::Device));
+    came(&rt, &mut of_2.0, &[ALL]);
+}
+
 /// The first of the numbers that have 3 bytes on the wire.
 const FIRST: u32 = 16_384;
 
