@@ -1,7 +1,10 @@
 #!/usr/bin/env bash
-# Counts the instructions (callgrind) of a delivery at a member of a group of 64 while messages wait: of the proved member
-# (`crates/bench_held`: the cast and its arrival), and of a queue in plain Rust that looks at all that it holds. What is told is the
-# difference between 200 deliveries and 100.
+# Counts the instructions (callgrind) of deliveries at a member of a group of 64 while messages wait: of the proved member
+# (`crates/bench_held`), and of a queue in plain Rust that looks at all that it holds. What is told is the difference between 200
+# deliveries and 100, for one cast and its arrival where each is delivered alone, and for two where the later one comes first, so that
+# the other lets it go; these are taken by `receive`, and by `arrive`.
+# Then the most memory that the proved program has at once (dhat, bytes), for 200 deliveries where most wait: with fewer it is that of
+# making the casts, where it has two members.
 # It wants rustc, python3, valgrind, and the proved program: `rt run` in crates/bench_held leaves it in crates/bench_held/out.
 # PROVED=FILE measures another build.
 set -eu
@@ -9,29 +12,51 @@ here=$(cd "$(dirname "$0")" && pwd)
 work=$(mktemp -d)
 trap 'rm -rf "$work"' EXIT
 proved=${PROVED:-$here/../crates/bench_held/out/bench_held}
-[ -x "$proved" ] || (cd "$here/../crates/bench_held" && rt run -- 1000 100 > /dev/null)
+[ -x "$proved" ] || (cd "$here/../crates/bench_held" && rt run -- 1000 100 alone > /dev/null)
 rustc -O -o "$work/plain" "$here/plain_held.rs"
 python3 - "$proved" "$work/plain" <<'END'
 import concurrent.futures, os, re, subprocess, sys
 
-programs = sys.argv[1:3]
+proved, plain = sys.argv[1:3]
 held = [1, 10, 100, 1_000, 4_000, 15_616]
+# its name, the program, its last words, and how many deliveries are told together
+rows = [
+    ("alone", proved, ["alone"], 1),
+    ("two, receive", proved, ["receive"], 2),
+    ("two, arrive", proved, ["arrive"], 2),
+    ("looks at all", plain, [], 1),
+]
 
 
-def counted(program, waiting, deliveries):
-    words = [program, str(waiting), str(deliveries)]
-    done = subprocess.run(["valgrind", "--tool=callgrind", "--callgrind-out-file=/dev/null", *words], capture_output=True, text=True)
+def told(tool, row, waiting, deliveries):
+    """What valgrind says of a run that prints what it should."""
+    name, program, words, _ = row
+    command = ["valgrind", *tool, program, str(waiting), str(deliveries), *words]
+    done = subprocess.run(command, capture_output=True, text=True)
     if done.returncode != 0 or done.stdout != f"held {waiting} delivered {deliveries}\n":
-        sys.exit(f"{' '.join(words)}: {done.stdout}{done.stderr}")
-    return int(re.search(r"Collected : (\d+)", done.stderr)[1])
+        sys.exit(f"{name}, {waiting}: {done.stdout}{done.stderr}")
+    return done.stderr
+
+
+def instructions(row, waiting):
+    callgrind = ["--tool=callgrind", "--callgrind-out-file=/dev/null"]
+    fewer, more = [int(re.search(r"Collected : (\d+)", told(callgrind, row, waiting, deliveries))[1]) for deliveries in [100, 200]]
+    return (more - fewer) / 100 * row[3]
+
+
+def peak(row, waiting):
+    said = told(["--tool=dhat", "--dhat-out-file=/dev/null"], row, waiting, 200)
+    return int(re.search(r"At t-gmax: ([\d,]+) bytes", said)[1].replace(",", ""))
+
+
+def table(pool, what, measure, rows, held):
+    found = {row[0]: [pool.submit(measure, row, waiting) for waiting in held] for row in rows}
+    print(f"{what:18}" + "".join(f"{waiting:12}" for waiting in held))
+    for name, cells in found.items():
+        print(f"{name:18}" + "".join(f"{cell.result():12.0f}" for cell in cells), flush=True)
 
 
 with concurrent.futures.ThreadPoolExecutor(os.cpu_count()) as pool:
-    runs = {(program, waiting, deliveries): pool.submit(counted, program, waiting, deliveries)
-            for program in programs for waiting in held for deliveries in [100, 200]}
-print("instructions of a delivery")
-print("  held   member   queue that looks at all")
-for waiting in held:
-    member, queue = [(runs[program, waiting, 200].result() - runs[program, waiting, 100].result()) / 100 for program in programs]
-    print(f"{waiting:6} {member:8.0f} {queue:9.0f}")
+    table(pool, "instructions", instructions, rows, held)
+    table(pool, "most memory, bytes", peak, rows[:3], held[-1:])
 END

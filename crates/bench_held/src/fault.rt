@@ -1,6 +1,5 @@
 //! Why there was no run.
 
-use cb_history::{ArriveRefusal, BadGroup, CastRefusal, NewFault};
 use cb_times::NoMemory;
 use std::io;
 use thiserror::Error;
@@ -8,18 +7,10 @@ use thiserror::Error;
 /// Why there was no run.
 #[derive(Debug, Drop, Error)]
 pub enum Fault {
-    #[error("the words are HELD DELIVERIES, at most 15616 and 256")]
+    #[error("the words are HELD DELIVERIES alone|receive|arrive, the numbers at most 15616 and 256")]
     Words,
     #[error("out of memory")]
     NoMemory,
-    #[error("{0}")]
-    Group(BadGroup),
-    #[error("{0}")]
-    New(NewFault),
-    #[error("{0}")]
-    Cast(CastRefusal),
-    #[error("{0}")]
-    Arrive(ArriveRefusal),
     #[error("{0}")]
     Stream(io::Error),
 }
@@ -30,7 +21,6 @@ impl Fault {
         match self {
             Fault::Words => 2,
             Fault::Stream(_) => 3,
-            Fault::Group(_) | Fault::New(_) | Fault::Cast(_) | Fault::Arrive(_) => 4,
             Fault::NoMemory => 5,
         }
     }
@@ -39,30 +29,6 @@ impl Fault {
 impl From<NoMemory> for Fault {
     fn from(_refused: NoMemory) -> Fault {
         Fault::NoMemory
-    }
-}
-
-impl From<BadGroup> for Fault {
-    fn from(fault: BadGroup) -> Fault {
-        Fault::Group(fault)
-    }
-}
-
-impl From<NewFault> for Fault {
-    fn from(fault: NewFault) -> Fault {
-        Fault::New(fault)
-    }
-}
-
-impl From<CastRefusal> for Fault {
-    fn from(refusal: CastRefusal) -> Fault {
-        Fault::Cast(refusal)
-    }
-}
-
-impl From<ArriveRefusal> for Fault {
-    fn from(refusal: ArriveRefusal) -> Fault {
-        Fault::Arrive(refusal)
     }
 }
 
