@@ -1,5 +1,5 @@
-//! Random calls: the plain member and the quick one answer each alike, whatever is received, and end with the same history, as does
-//! a quick one that receives without copies.
+//! Random calls: the plain member, the quick one and a quick one that receives without copies answer each alike, whatever is received,
+//! and end with the same history.
 //!
 //! Each run is a member of a group of its own, three times, among some other members whose frames get lost, are copied and come in another
 //! order, with forged and damaged ones between them. `checks/agreement.sh` runs the same with more and longer runs.
@@ -11,9 +11,9 @@ mod world;
 use crate::agreement::dice::Dice;
 use crate::agreement::forging::{Target, damaged, forged};
 use crate::agreement::world::World;
-use crate::examples::calls::{Call, Made, answer, group_of};
+use crate::examples::calls::{Call, Made, answer, arrival_text, counted, group_of};
 use bytes::Bytes;
-use cb_history::{Entry, Event, Group, GroupMember, History, Message};
+use cb_history::{ArriveRefusal, Entry, Event, Group, GroupMember, History, Message};
 use cb_member::{Member, Received};
 use cb_reference::ReferenceMember;
 use std::alloc::Global;
@@ -47,13 +47,15 @@ impl Pair {
         })
     }
 
-    /// Both answer alike.
+    /// All answer alike.
     fn call<R: Abort>(&mut self, rt: &R, alloc: Global, call: Call<'_>) -> Result<(), Fail> {
         let plain = answer(alloc, &mut self.plain, call)?;
-        says(rt, answer(alloc, &mut self.quick, call), plain)?;
-        let before = self.reader.events().len();
-        let count = events_by(alloc, &mut self.reader, call)?;
-        assert_eq!(rt; self.reader.events().len().saturating_sub(before), count);
+        let plain = says(rt, answer(alloc, &mut self.quick, call), plain)?;
+        drop(says(
+            rt,
+            answer_without_copies(alloc, &mut self.reader, call),
+            plain,
+        )?);
         Ok(())
     }
 
@@ -73,32 +75,58 @@ impl Pair {
     }
 }
 
-/// How many events the call says that it added, where what arrives is received.
-fn events_by(alloc: Global, member: &mut Member, call: Call<'_>) -> Result<usize, Fail> {
+/// What the member answers, where what arrives is received.
+fn answer_without_copies(
+    alloc: Global,
+    member: &mut Member,
+    call: Call<'_>,
+) -> Result<String, Fail> {
     match call {
-        Call::Take(bytes) => Ok(received(member, &Bytes::copy_from_slice(alloc, bytes)?)),
-        Call::Cast(payload) => Ok(usize::from(member.cast(payload).is_ok())),
-        Call::Tick => {
-            drop(member.tick());
-            Ok(0)
+        Call::Take(bytes) => {
+            let received = member.receive(&Bytes::copy_from_slice(alloc, bytes)?);
+            let text = received_text(alloc, received, member.events())?;
+            counted(alloc, member, text)
         }
-        _ => Ok(0),
+        _ => answer(alloc, member, call),
     }
 }
 
-fn received(member: &mut Member, bytes: &Bytes) -> usize {
-    match member.receive(bytes) {
-        Ok(Received::Accepted { delivered, .. }) => delivered,
-        Ok(Received::Repeat) | Err(_) => 0,
+/// The text of an arrival of which so many messages were delivered as it is said, the last ones of the events.
+fn received_text(
+    alloc: Global,
+    received: Result<Received, ArriveRefusal>,
+    events: &[Event],
+) -> Result<String, Fail> {
+    match received {
+        Ok(received) => {
+            let deliveries = last_messages(alloc, count_said(&received), events)?;
+            arrival_text(alloc, &Ok(received.arrival(deliveries)))
+        }
+        Err(refusal) => arrival_text(alloc, &Err(refusal)),
     }
 }
 
-fn says(rt: &impl Abort, said: Result<String, Fail>, expected: String) -> Result<(), Fail> {
+fn count_said(received: &Received) -> usize {
+    match received {
+        Received::Accepted { delivered, .. } => *delivered,
+        Received::Repeat => 0,
+    }
+}
+
+fn last_messages(alloc: Global, count: usize, events: &[Event]) -> Result<Vec<Message>, Fail> {
+    let mut messages = Vec::new(alloc);
+    for event in events.iter().skip(events.len().saturating_sub(count)) {
+        messages.push(event.message().copy()?)?;
+    }
+    Ok(messages)
+}
+
+/// Gives back what was expected.
+fn says(rt: &impl Abort, said: Result<String, Fail>, expected: String) -> Result<String, Fail> {
     let said = said?;
     assert_eq!(rt; said.as_str(), expected.as_str());
     drop(said);
-    drop(expected);
-    Ok(())
+    Ok(expected)
 }
 
 pub fn are_same_events(plain: &[Event], quick: &[Event]) -> bool {

@@ -4,7 +4,7 @@ use crate::agreement::{are_same_events, is_same_message};
 use bytes::Bytes;
 use cb_member::{
     Arrival, ArriveRefusal, Entry, Event, FrameFault, Group, Member, Message, MissingFault,
-    NewFault, Received,
+    NewFault, Outgoing, Received,
 };
 use std::alloc::Global;
 use std::process::Abort;
@@ -137,6 +137,9 @@ const LATE: &[u8] = b"\x11\x07\x02\x01\x01\x01\x02\x00";
 
 const NEW: &[u8] = b"\x11\x07\x02\x01\x00\x00";
 
+/// What member 0 is asked for.
+const NO: &[u8] = b"\x11\x07\x00\x01\x00\x02no";
+
 /// Member 0, which has cast "no".
 fn speaker(rt: &impl Abort, alloc: Global) -> Member {
     let mut member = Member::new(alloc, group(rt), 0, 100).expect(rt, "a member");
@@ -151,21 +154,29 @@ enum Step {
     Take(&'static [u8]),
 }
 
-/// What a frame did: how many messages were delivered, whether there is an entry more, and how many frames are sent.
-type Said = Result<(usize, bool, usize), ArriveRefusal>;
+/// What a frame did.
+#[derive(Clone, Copy, Debug, PartialEq, Eq)]
+enum Did {
+    /// How many messages were delivered, whether there is an entry more, and how many frames are sent.
+    Accepted(usize, bool, usize),
+    Repeat,
+}
 
-/// Nothing is to be done for a repeat.
-const NOTHING: Said = Ok((0, false, 0));
+type Said = Result<Did, ArriveRefusal>;
 
-const WAITS: Said = Ok((0, true, 0));
+const REPEATS: Said = Ok(Did::Repeat);
 
-const DELIVERS_1: Said = Ok((1, true, 0));
+const NOTHING: Said = Ok(Did::Accepted(0, false, 0));
 
-const DELIVERS_2: Said = Ok((2, true, 0));
+const WAITS: Said = Ok(Did::Accepted(0, true, 0));
 
-const DELIVERS_4: Said = Ok((4, true, 0));
+const DELIVERS_1: Said = Ok(Did::Accepted(1, true, 0));
 
-const SENDS: Said = Ok((0, false, 1));
+const DELIVERS_2: Said = Ok(Did::Accepted(2, true, 0));
+
+const DELIVERS_4: Said = Ok(Did::Accepted(4, true, 0));
+
+const SENDS: Said = Ok(Did::Accepted(0, false, 1));
 
 const SHORT: Said = Err(ArriveRefusal::Malformed(FrameFault::Short));
 
@@ -177,7 +188,7 @@ const ORDERS: &[&[(Step, Said)]] = &[
         (Step::Take(YO), DELIVERS_1),
         (Step::Take(TOLD), WAITS),
         (Step::Take(ASKED), SENDS),
-        (Step::Take(HI), NOTHING),
+        (Step::Take(HI), REPEATS),
         (Step::Take(CUT), SHORT),
     ],
     &[
@@ -185,16 +196,16 @@ const ORDERS: &[&[(Step, Said)]] = &[
         (Step::Take(HI), DELIVERS_2),
         (Step::Take(ASKED), SENDS),
         (Step::Take(TOLD), WAITS),
-        (Step::Take(YO), NOTHING),
+        (Step::Take(YO), REPEATS),
         (Step::Take(TOLD), NOTHING),
     ],
     &[
         (Step::Take(TOLD), WAITS),
         (Step::Take(ASKED), SENDS),
         (Step::Take(YO), WAITS),
-        (Step::Take(YO), NOTHING),
+        (Step::Take(YO), REPEATS),
         (Step::Take(HI), DELIVERS_2),
-        (Step::Take(HI), NOTHING),
+        (Step::Take(HI), REPEATS),
     ],
     &[
         (Step::Take(ASKED), SENDS),
@@ -202,7 +213,7 @@ const ORDERS: &[&[(Step, Said)]] = &[
         (Step::Take(OK), DELIVERS_1),
         (Step::Take(YO), DELIVERS_1),
         (Step::Take(SO), DELIVERS_1),
-        (Step::Take(OK), NOTHING),
+        (Step::Take(OK), REPEATS),
     ],
     &[
         (Step::Take(OK), WAITS),
@@ -270,11 +281,11 @@ impl Four {
     }
 
     fn take(&mut self, rt: &impl Abort, bytes: &'static [u8], said: Said) {
-        assert_eq!(rt; received(&mut self.receives, bytes), said);
+        assert_eq!(rt; received(rt, &mut self.receives, bytes), said);
         assert_eq!(rt; arrived(rt, &mut self.arrives, bytes), said);
         assert_eq!(rt; arrived_noted(rt, &mut self.arrives_noted, bytes), said);
         let sent = received_noted(rt, &mut self.receives_noted, bytes);
-        assert_eq!(rt; sent, said.map(|(_, changed, sent)| (changed, sent)));
+        assert_eq!(rt; sent, said.map(entered_and_sent));
     }
 
     /// All have the same history and the same events.
@@ -306,15 +317,33 @@ fn plays(rt: &impl Abort, alloc: Global, order: &[(Step, Said)]) {
     four.end(rt);
 }
 
+/// What is left of an answer for who sends only.
+fn entered_and_sent(did: Did) -> (bool, usize) {
+    match did {
+        Did::Accepted(_, changed, sent) => (changed, sent),
+        Did::Repeat => (false, 0),
+    }
+}
+
+/// How many frames are sent: each is what member 2 asks for.
+fn sent(rt: &impl Abort, out: &[Outgoing]) -> usize {
+    assert!(rt; out.iter().all(is_asked_for));
+    out.len()
+}
+
+fn is_asked_for(frame: &Outgoing) -> bool {
+    frame.to == Some(2) && frame.bytes.as_slice() == NO
+}
+
 /// What the frame did, by the call that makes no copies.
-fn received(member: &mut Member, bytes: &'static [u8]) -> Said {
+fn received(rt: &impl Abort, member: &mut Member, bytes: &'static [u8]) -> Said {
     Ok(match member.receive(&Bytes::from_static(bytes))? {
         Received::Accepted {
             delivered,
             changed,
             out,
-        } => (delivered, changed, out.len()),
-        Received::Repeat => (0, false, 0),
+        } => Did::Accepted(delivered, changed, sent(rt, &out)),
+        Received::Repeat => Did::Repeat,
     })
 }
 
@@ -325,7 +354,7 @@ fn received_noted(
     bytes: &'static [u8],
 ) -> Result<(bool, usize), ArriveRefusal> {
     let (out, noted) = member.receive_noted(Bytes::from_static(bytes))?;
-    let sent = (noted.is_some(), out.len());
+    let sent = (noted.is_some(), sent(rt, &out));
     drop(out);
     assert!(rt; is_last(noted, member));
     Ok(sent)
@@ -344,13 +373,13 @@ fn arrived(rt: &impl Abort, member: &mut Member, bytes: &'static [u8]) -> Said {
 fn arrived_noted(rt: &impl Abort, member: &mut Member, bytes: &'static [u8]) -> Said {
     let (arrival, noted) = member.arrive_noted(&Bytes::from_static(bytes))?;
     let told = told(rt, arrival, member.events());
-    assert_eq!(rt; noted.is_some(), told.1);
+    assert_eq!(rt; noted.is_some(), entered_and_sent(told).0);
     assert!(rt; is_last(noted, member));
     Ok(told)
 }
 
 /// The deliveries are the last events.
-fn told(rt: &impl Abort, arrival: Arrival, events: &[Event]) -> (usize, bool, usize) {
+fn told(rt: &impl Abort, arrival: Arrival, events: &[Event]) -> Did {
     match arrival {
         Arrival::Accepted {
             deliveries,
@@ -359,9 +388,9 @@ fn told(rt: &impl Abort, arrival: Arrival, events: &[Event]) -> (usize, bool, us
         } => {
             let count = deliveries.len();
             assert!(rt; are_last(&deliveries, events));
-            (count, changed, out.len())
+            Did::Accepted(count, changed, sent(rt, &out))
         }
-        Arrival::Repeat => (0, false, 0),
+        Arrival::Repeat => Did::Repeat,
     }
 }
 

@@ -124,7 +124,10 @@ fn cast_text(alloc: Global, answer: &Result<CastDone, CastRefusal>) -> Result<St
     }
 }
 
-fn arrival_text(alloc: Global, answer: &Result<Arrival, ArriveRefusal>) -> Result<String, Fail> {
+pub fn arrival_text(
+    alloc: Global,
+    answer: &Result<Arrival, ArriveRefusal>,
+) -> Result<String, Fail> {
     match answer {
         Ok(
             Arrival::Accepted {
@@ -166,7 +169,7 @@ pub fn answer<M: Made>(alloc: Global, member: &mut M, call: Call<'_>) -> Result<
 }
 
 /// The answer, behind how many entries there are then.
-fn counted<M: Made>(alloc: Global, member: &M, text: String) -> Result<String, Fail> {
+pub fn counted<M: Made>(alloc: Global, member: &M, text: String) -> Result<String, Fail> {
     let entries = member.entries()?.len();
     Ok(format!(in alloc; "{entries}: {text}")?)
 }
