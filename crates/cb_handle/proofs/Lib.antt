@@ -1,0 +1,5 @@
+mod HandleValues
+mod HeldDrop
+pub mod Placing
+pub mod Showing
+mod Examples

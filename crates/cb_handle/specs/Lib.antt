@@ -1,0 +1,7 @@
+pub mod Owning
+pub mod Copies
+pub mod Frames
+pub mod Events
+pub mod Entries
+pub mod Opening
+pub mod Calling

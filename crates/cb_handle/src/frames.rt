@@ -1,0 +1,72 @@
+//! The frames of a call.
+
+ghost use Rattle.std.specs.Prelude.{◌≡◌, [], ◌∷◌, None};
+ghost use Rattle.cb_handle.specs.Frames.{frames_of, frame_head, ShowsFrame, ShowsFrames};
+
+use crate::copies::{copy_at, copy_front};
+use crate::rows::FrameHead;
+use bytes::Bytes;
+use cb_member::Outgoing;
+use std::slice;
+
+/// The frames of a call that are to be sent. The one frame of a cast takes no memory for a list.
+#[derive(Drop)]
+pub enum Frames {
+    Cast(Outgoing),
+    Several(Vec<Outgoing>),
+}
+
+impl Frames {
+    /// The frame of a cast, to all others.
+    pub fn of_cast(bytes: Bytes) -> Frames
+        ensures { frames_of result ≡ record { to = None; bytes = bytes } ∷ [] }
+    {
+        Frames::Cast(Outgoing { to: None, bytes })
+    }
+
+    pub fn as_slice(&self) -> &[Outgoing]
+        ensures { result.now ≡ frames_of self.now }
+    {
+        match self {
+            Frames::Cast(frame) => slice::from_ref(frame),
+            Frames::Several(frames) => frames.as_slice(),
+        }
+    }
+}
+
+pub fn head_of(frame: &Outgoing) -> FrameHead
+    ensures { result ≡ frame_head frame.now }
+{
+    FrameHead {
+        to_all: frame.to.is_none(),
+        to: frame.to.unwrap_or(0),
+        length: frame.bytes.len(),
+    }
+}
+
+/// Shows a frame: its head, and its bytes as far as they fit.
+pub fn show_frame(frame: &Outgoing, head: &mut FrameHead, bytes: &mut [u8])
+    ensures { ShowsFrame frame.now head.new bytes.old bytes.new }
+{
+    *head = head_of(frame);
+    copy_front(bytes, frame.bytes.as_slice());
+}
+
+/// Shows the first frames, as many as fit, and tells how many.
+pub fn show_frames(frames: &[Outgoing], heads: &mut [FrameHead], bytes: &mut [u8]) -> usize
+    ensures { ShowsFrames frames.now heads.old heads.new bytes.old bytes.new result }
+{
+    let mut end = 0;
+    for count in 0..frames.len() {
+        let frame = &frames[count];
+        if count == heads.len() {
+            return count;
+        }
+        if bytes.len() - end < frame.bytes.len() {
+            return count;
+        }
+        heads[count] = head_of(frame);
+        end = copy_at(bytes, end, frame.bytes.as_slice());
+    }
+    frames.len()
+}

@@ -1,0 +1,78 @@
+-- The codes as the header has them.
+use Rattle.std.proofs.Common.{◌≡◌, refl}
+use Rattle.std.specs.Prelude.{Ok, Err}
+use Rattle.cb_frames.specs.declared.fault.FrameFault.TheVariants.{Short}
+use Rattle.cb_history.specs.declared.answer.NewFault.TheVariants as news
+use Rattle.cb_history.specs.declared.answer.CastRefusal.TheVariants as casts
+use Rattle.cb_history.specs.declared.answer.ArriveRefusal.TheVariants as arrivals
+use Rattle.cb_history.specs.declared.answer.TickRefusal.TheVariants as ticks
+use Rattle.cb_history.specs.declared.answer.MissingFault.TheVariants as missings
+use Rattle.cb_handle.specs.declared.held.OpenFault.TheVariants as opens
+use Rattle.jolunza.specs.declared.code.TheConstants.{CLOSED, NONE_THERE}
+use Rattle.jolunza.specs.Codes.{open_code, cast_code, arrive_code, tick_code, missing_code, answer_code}
+
+done : answer_code cast_code (Ok tt) ≡ 0
+done = refl
+
+closed : CLOSED ≡ 1
+closed = refl
+
+no_memory_to_open : open_code (opens.BadNew news.NoMemory) ≡ 2
+no_memory_to_open = refl
+
+no_memory_to_cast : cast_code casts.NoMemory ≡ 2
+no_memory_to_cast = refl
+
+no_memory_to_receive : arrive_code arrivals.NoMemory ≡ 2
+no_memory_to_receive = refl
+
+no_memory_to_tick : tick_code ticks.NoMemory ≡ 2
+no_memory_to_tick = refl
+
+no_memory_to_look : missing_code missings.NoMemory ≡ 2
+no_memory_to_look = refl
+
+bad_group : open_code opens.BadGroup ≡ 3
+bad_group = refl
+
+bad_member_to_open : open_code (opens.BadNew news.BadMember) ≡ 4
+bad_member_to_open = refl
+
+bad_member_in_a_frame : arrive_code arrivals.BadMember ≡ 4
+bad_member_in_a_frame = refl
+
+bad_member_to_look_at : missing_code missings.BadMember ≡ 4
+bad_member_to_look_at = refl
+
+bad_limit : open_code (opens.BadNew news.BadLimit) ≡ 5
+bad_limit = refl
+
+payload_too_long : cast_code casts.PayloadTooLong ≡ 6
+payload_too_long = refl
+
+window_full : answer_code cast_code (Err casts.WindowFull) ≡ 7
+window_full = refl
+
+history_full_at_a_cast : cast_code casts.HistoryFull ≡ 8
+history_full_at_a_cast = refl
+
+history_full_at_an_arrival : arrive_code arrivals.HistoryFull ≡ 8
+history_full_at_an_arrival = refl
+
+history_full_at_a_tick : tick_code ticks.HistoryFull ≡ 8
+history_full_at_a_tick = refl
+
+other_group : arrive_code arrivals.OtherGroup ≡ 9
+other_group = refl
+
+impossible : arrive_code arrivals.Impossible ≡ 10
+impossible = refl
+
+too_far : arrive_code arrivals.TooFar ≡ 11
+too_far = refl
+
+malformed : arrive_code (arrivals.Malformed Short) ≡ 12
+malformed = refl
+
+none_there : NONE_THERE ≡ 13
+none_there = refl

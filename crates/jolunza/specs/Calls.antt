@@ -1,0 +1,69 @@
+-- What a call by a handle does.
+use Rattle.std.specs.Prelude.{◌≡◌, ◌≢◌, ◌⊎◌, ℕ, ◌≤◌, List, length, map, Option, Some, None}
+use Rattle.cb_history.specs.declared.answer.CastRefusal.{CastRefusal}
+use Rattle.cb_history.specs.declared.answer.ArriveRefusal.{ArriveRefusal}
+use Rattle.cb_history.specs.declared.answer.TickRefusal.{TickRefusal}
+use Rattle.cb_history.specs.Group.{Parameters}
+use Rattle.cb_history.specs.Known.{ranges_of}
+use Rattle.cb_history.specs.State.{missing_in, RefusesTick}
+use Rattle.cb_member.specs.Casting.{RefusesExactly}
+use Rattle.cb_handle.specs.declared.held.Held.{Held}
+use Rattle.cb_handle.specs.declared.held.OpenFault.{OpenFault}
+use Rattle.cb_handle.specs.declared.rows.Range.{Range}
+use Rattle.cb_handle.specs.declared.rows.Received.{Received}
+use Rattle.cb_handle.specs.Copies.{copied}
+use Rattle.cb_handle.specs.Entries.{range_row}
+use Rattle.cb_handle.specs.Opening.{RefusesToOpen, IsNewOf}
+use Rattle.cb_handle.specs.Calling.{HasCastToSend, HasReceivedToSend, HasTickedToSend, RefusesBytes}
+use Rattle.jolunza.specs.declared.code.TheConstants.{DONE, CLOSED, NO_MEMORY, BAD_MEMBER, NONE_THERE}
+use Rattle.jolunza.specs.Codes.{open_code, cast_code, arrive_code, tick_code}
+
+-- a closed handle stays closed and answers so; an open one stays open, and what it holds does this
+abbrev pub Calls : (Held → Held → ℕ → Type 0) → Option Held → Option Held → ℕ → Type 0
+Calls Does None None code = code ≡ CLOSED
+Calls Does None (Some after) code = ⊥
+Calls Does (Some before) None code = ⊥
+Calls Does (Some before) (Some after) code = Does before after code
+
+-- it is done, or refused with the code of the refusal, and then nothing has changed
+pub record IsDoneOr (Done : Type 0) (R : Type 0) (code_of : R → ℕ) (Refuses : R → Type 0) (before after : Held) (code : ℕ) : Type 0 where
+  pub done : code ≡ DONE → Done
+  pub refused : code ≢ DONE → (refusal : R) × ((code ≡ code_of refusal) × (Refuses refusal × (after ≡ before)))
+
+abbrev pub Casts : List ℕ → Held → Held → ℕ → Type 0
+Casts payload before after code =
+    IsDoneOr (HasCastToSend before after payload) CastRefusal cast_code (RefusesExactly before.member payload) before after code
+
+abbrev pub Receives : List ℕ → Received → Held → Held → ℕ → Type 0
+Receives bytes received before after code =
+    IsDoneOr (HasReceivedToSend before after bytes received) ArriveRefusal arrive_code (RefusesBytes before.member bytes) before after code
+
+abbrev pub Ticks : Held → Held → ℕ → Type 0
+Ticks before after code =
+    IsDoneOr (HasTickedToSend before after) TickRefusal tick_code (RefusesTick before.member) before after code
+
+-- a reading changes nothing
+abbrev pub Reads : (Held → ℕ → Type 0) → Held → Held → ℕ → Type 0
+Reads Shows before after code = (after ≡ before) × Shows before code
+
+-- it is always done
+abbrev pub IsDone : (Held → Type 0) → Held → ℕ → Type 0
+IsDone Shows held code = (code ≡ DONE) × Shows held
+
+-- what is there is shown, or there is nothing
+abbrev pub ShowsAt : {X : Type 0} → (X → Type 0) → Option X → ℕ → Type 0
+ShowsAt Shows None code = code ≡ NONE_THERE
+ShowsAt Shows (Some x) code = (code ≡ DONE) × Shows x
+
+-- the missing casts of another member are shown; out of memory stands only in place of them
+pub record ShowsMissing (member : ℕ) (ranges new_ranges : List Range) (count : ℕ) (held : Held) (code : ℕ) : Type 0 where
+  pub done : code ≡ DONE → (count ≡ length (ranges_of (missing_in held.member member)))
+      × (new_ranges ≡ copied (map range_row (ranges_of (missing_in held.member member))) ranges)
+  pub bad_member : code ≡ BAD_MEMBER → (held.member.seat.group.size ≤ member) ⊎ (member ≡ held.member.seat.me)
+  pub other_code : code ≢ BAD_MEMBER → ¬ ((held.member.seat.group.size ≤ member) ⊎ (member ≡ held.member.seat.me))
+  pub codes : (code ≡ DONE) ⊎ ((code ≡ BAD_MEMBER) ⊎ (code ≡ NO_MEMORY))
+
+-- the handle holds the new member, or nothing, and the code tells why
+abbrev pub Opens : Parameters → ℕ → ℕ → Option Held → ℕ → Type 0
+Opens group me limit (Some held) code = (code ≡ DONE) × IsNewOf group me limit held
+Opens group me limit None code = (fault : OpenFault) × ((code ≡ open_code fault) × RefusesToOpen group me limit fault)

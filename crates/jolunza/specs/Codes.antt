@@ -1,0 +1,52 @@
+-- The code of each refusal.
+use Rattle.std.specs.Prelude.{ℕ, Result, Ok, Err}
+use Rattle.cb_history.specs.declared.answer.NewFault.TheVariants as news
+use Rattle.cb_history.specs.declared.answer.CastRefusal.{CastRefusal}
+use Rattle.cb_history.specs.declared.answer.CastRefusal.TheVariants as casts
+use Rattle.cb_history.specs.declared.answer.ArriveRefusal.{ArriveRefusal}
+use Rattle.cb_history.specs.declared.answer.ArriveRefusal.TheVariants as arrivals
+use Rattle.cb_history.specs.declared.answer.TickRefusal.{TickRefusal}
+use Rattle.cb_history.specs.declared.answer.TickRefusal.TheVariants as ticks
+use Rattle.cb_history.specs.declared.answer.MissingFault.{MissingFault}
+use Rattle.cb_history.specs.declared.answer.MissingFault.TheVariants as missings
+use Rattle.cb_handle.specs.declared.held.NoneThere.{NoneThere}
+use Rattle.cb_handle.specs.declared.held.OpenFault.{OpenFault}
+use Rattle.cb_handle.specs.declared.held.OpenFault.TheVariants as opens
+use Rattle.jolunza.specs.declared.code.TheConstants.{DONE, NO_MEMORY, BAD_GROUP, BAD_MEMBER, BAD_LIMIT, PAYLOAD_TOO_LONG, WINDOW_FULL, HISTORY_FULL, OTHER_GROUP, IMPOSSIBLE, TOO_FAR, MALFORMED, NONE_THERE}
+
+abbrev pub open_code : OpenFault → ℕ
+open_code opens.BadGroup = BAD_GROUP
+open_code (opens.BadNew news.BadMember) = BAD_MEMBER
+open_code (opens.BadNew news.BadLimit) = BAD_LIMIT
+open_code (opens.BadNew news.NoMemory) = NO_MEMORY
+
+abbrev pub cast_code : CastRefusal → ℕ
+cast_code casts.PayloadTooLong = PAYLOAD_TOO_LONG
+cast_code casts.WindowFull = WINDOW_FULL
+cast_code casts.HistoryFull = HISTORY_FULL
+cast_code casts.NoMemory = NO_MEMORY
+
+abbrev pub arrive_code : ArriveRefusal → ℕ
+arrive_code (arrivals.Malformed fault) = MALFORMED
+arrive_code arrivals.OtherGroup = OTHER_GROUP
+arrive_code arrivals.BadMember = BAD_MEMBER
+arrive_code arrivals.Impossible = IMPOSSIBLE
+arrive_code arrivals.TooFar = TOO_FAR
+arrive_code arrivals.HistoryFull = HISTORY_FULL
+arrive_code arrivals.NoMemory = NO_MEMORY
+
+abbrev pub tick_code : TickRefusal → ℕ
+tick_code ticks.HistoryFull = HISTORY_FULL
+tick_code ticks.NoMemory = NO_MEMORY
+
+abbrev pub missing_code : MissingFault → ℕ
+missing_code missings.BadMember = BAD_MEMBER
+missing_code missings.NoMemory = NO_MEMORY
+
+abbrev pub reading_code : NoneThere → ℕ
+reading_code fault = NONE_THERE
+
+-- what is answered where nothing is told but that it is done
+abbrev pub answer_code : {R : Type 0} → (R → ℕ) → Result (Unit {0}) R → ℕ
+answer_code code_of (Ok done) = DONE
+answer_code code_of (Err refusal) = code_of refusal

@@ -1,0 +1,102 @@
+//! The codes that the calls answer.
+
+ghost use Rattle.std.specs.Prelude.{◌≡◌};
+ghost use Rattle.jolunza.specs.Codes.{answer_code, open_code, cast_code, arrive_code, tick_code, missing_code, reading_code};
+
+use cb_handle::{NoneThere, OpenFault};
+use cb_member::{ArriveRefusal, CastRefusal, MissingFault, NewFault, TickRefusal};
+
+pub const DONE: u32 = 0;
+
+/// The handle holds no member.
+pub const CLOSED: u32 = 1;
+
+pub const NO_MEMORY: u32 = 2;
+
+pub const BAD_GROUP: u32 = 3;
+
+pub const BAD_MEMBER: u32 = 4;
+
+pub const BAD_LIMIT: u32 = 5;
+
+pub const PAYLOAD_TOO_LONG: u32 = 6;
+
+pub const WINDOW_FULL: u32 = 7;
+
+pub const HISTORY_FULL: u32 = 8;
+
+pub const OTHER_GROUP: u32 = 9;
+
+pub const IMPOSSIBLE: u32 = 10;
+
+pub const TOO_FAR: u32 = 11;
+
+pub const MALFORMED: u32 = 12;
+
+/// There is no frame, event or entry of this index.
+pub const NONE_THERE: u32 = 13;
+
+pub fn of_open(fault: OpenFault) -> u32
+    ensures { result ≡ open_code fault }
+{
+    match fault {
+        OpenFault::BadGroup => BAD_GROUP,
+        OpenFault::BadNew(NewFault::BadMember) => BAD_MEMBER,
+        OpenFault::BadNew(NewFault::BadLimit) => BAD_LIMIT,
+        OpenFault::BadNew(NewFault::NoMemory) => NO_MEMORY,
+    }
+}
+
+pub fn of_cast(answer: Result<(), CastRefusal>) -> u32
+    ensures { result ≡ answer_code cast_code answer }
+{
+    match answer {
+        Ok(()) => DONE,
+        Err(CastRefusal::PayloadTooLong) => PAYLOAD_TOO_LONG,
+        Err(CastRefusal::WindowFull) => WINDOW_FULL,
+        Err(CastRefusal::HistoryFull) => HISTORY_FULL,
+        Err(CastRefusal::NoMemory) => NO_MEMORY,
+    }
+}
+
+pub fn of_arrival(refusal: ArriveRefusal) -> u32
+    ensures { result ≡ arrive_code refusal }
+{
+    match refusal {
+        ArriveRefusal::Malformed(_) => MALFORMED,
+        ArriveRefusal::OtherGroup => OTHER_GROUP,
+        ArriveRefusal::BadMember => BAD_MEMBER,
+        ArriveRefusal::Impossible => IMPOSSIBLE,
+        ArriveRefusal::TooFar => TOO_FAR,
+        ArriveRefusal::HistoryFull => HISTORY_FULL,
+        ArriveRefusal::NoMemory => NO_MEMORY,
+    }
+}
+
+pub fn of_tick(answer: Result<(), TickRefusal>) -> u32
+    ensures { result ≡ answer_code tick_code answer }
+{
+    match answer {
+        Ok(()) => DONE,
+        Err(TickRefusal::HistoryFull) => HISTORY_FULL,
+        Err(TickRefusal::NoMemory) => NO_MEMORY,
+    }
+}
+
+pub fn of_missing(fault: MissingFault) -> u32
+    ensures { result ≡ missing_code fault }
+{
+    match fault {
+        MissingFault::BadMember => BAD_MEMBER,
+        MissingFault::NoMemory => NO_MEMORY,
+    }
+}
+
+pub fn of_reading(answer: Result<(), NoneThere>) -> u32
+    ensures { result ≡ answer_code reading_code answer }
+{
+    match answer {
+        Ok(()) => DONE,
+        Err(NoneThere) => NONE_THERE,
+    }
+}

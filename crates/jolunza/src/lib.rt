@@ -1,0 +1,291 @@
+//! One member of a group, for C: the functions of `bindings/c/jolunza.h`.
+//!
+//! Each takes what the handle holds, calls a method of `Held`, which `cb_handle` defines, and puts it back. A closed handle answers
+//! `CLOSED`; after any code but `DONE` the member is as it was, and so is what the call would have filled.
+#![tactic(auto)]
+
+ghost use Rattle.std.specs.Prelude.{◌≡◌, ◌≢◌, None, drop, slice_get};
+ghost use Rattle.cb_history.specs.State.{time_in, events_in, stable_in};
+ghost use Rattle.cb_handle.specs.Copies.{copied};
+ghost use Rattle.cb_handle.specs.Frames.{frames_of, ShowsFrame, ShowsFrames};
+ghost use Rattle.cb_handle.specs.Events.{ShowsEvent, ShowsEvents};
+ghost use Rattle.cb_handle.specs.Entries.{ShowsEntry};
+ghost use Rattle.cb_handle.specs.Calling.{counts_of};
+ghost use Rattle.jolunza.specs.declared.code.TheConstants.{DONE};
+ghost use Rattle.jolunza.specs.Calls.{Calls, Casts, Receives, Ticks, Reads, IsDone, ShowsAt, ShowsMissing, Opens};
+
+mod code;
+#[cfg(test)]
+mod tests;
+mod told;
+
+use crate::code::{CLOSED, DONE, NO_MEMORY};
+use crate::told::{tell_missing, tell_received};
+use cb_handle::{
+    Counts, EntryHead, EventHead, FrameHead, Handle, Held, Name, Range, Received, put, take,
+};
+use std::alloc::Global;
+
+/// Opens a member. A handle that is open is closed first.
+#[unsafe(no_mangle)]
+pub extern "C" fn jolunza_open(
+    alloc: Global,
+    handle: &mut Handle,
+    group: u32,
+    size: u32,
+    window: u32,
+    me: u32,
+    history_max: usize,
+) -> u32
+    ensures { Opens (record { number = group; size = size; window = window }) me history_max
+        handle.new.held result }
+{
+    jolunza_close(alloc, handle);
+    let held = match Held::new(alloc, group, size, window, me, history_max) {
+        Ok(held) => held,
+        Err(fault) => return code::of_open(fault),
+    };
+    let Ok(boxed) = Box::new(alloc, held) else {
+        return NO_MEMORY;
+    };
+    put(handle, boxed);
+    DONE
+}
+
+/// Frees the member, if there is one.
+#[unsafe(no_mangle)]
+pub extern "C" fn jolunza_close(alloc: Global, handle: &mut Handle)
+    ensures { handle.new.held ≡ None }
+{
+    drop(take(alloc, handle));
+}
+
+/// Casts a message. Its frame, to all others, is the one that is to be sent.
+#[unsafe(no_mangle)]
+pub extern "C" fn jolunza_cast(alloc: Global, handle: &mut Handle, payload: &[u8]) -> u32
+    ensures { Calls (Casts payload.now) handle.old.held handle.new.held result }
+{
+    let Some(mut held) = take(alloc, handle) else {
+        return CLOSED;
+    };
+    let answer = held.cast(payload);
+    put(handle, held);
+    code::of_cast(answer)
+}
+
+/// Takes received bytes. The frames that are to be sent answer a request; what is delivered joins the events.
+#[unsafe(no_mangle)]
+pub extern "C" fn jolunza_receive(
+    alloc: Global,
+    handle: &mut Handle,
+    bytes: &[u8],
+    received: &mut Received,
+) -> u32
+    ensures does { Calls (Receives bytes.now received.new) handle.old.held handle.new.held result }
+    ensures same { result ≢ DONE → received.new ≡ received.old }
+{
+    let Some(mut held) = take(alloc, handle) else {
+        return CLOSED;
+    };
+    let answer = held.receive(alloc, bytes);
+    put(handle, held);
+    tell_received(answer, received)
+}
+
+/// Reports the status to all others, and asks each for what is missing of it.
+#[unsafe(no_mangle)]
+pub extern "C" fn jolunza_tick(alloc: Global, handle: &mut Handle) -> u32
+    ensures { Calls Ticks handle.old.held handle.new.held result }
+{
+    let Some(mut held) = take(alloc, handle) else {
+        return CLOSED;
+    };
+    let answer = held.tick();
+    put(handle, held);
+    code::of_tick(answer)
+}
+
+/// How many frames, events and entries there are.
+#[unsafe(no_mangle)]
+pub extern "C" fn jolunza_count(alloc: Global, handle: &mut Handle, counts: &mut Counts) -> u32
+    ensures shows { Calls (Reads (IsDone (λ held. counts.new ≡ counts_of held)))
+        handle.old.held handle.new.held result }
+    ensures same { result ≢ DONE → counts.new ≡ counts.old }
+{
+    let Some(held) = take(alloc, handle) else {
+        return CLOSED;
+    };
+    *counts = held.counts();
+    put(handle, held);
+    DONE
+}
+
+/// Frame `index` of the last call: its head, and its bytes as far as they fit.
+#[unsafe(no_mangle)]
+pub extern "C" fn jolunza_frame(
+    alloc: Global,
+    handle: &mut Handle,
+    index: usize,
+    head: &mut FrameHead,
+    bytes: &mut [u8],
+) -> u32
+    ensures shows { Calls (Reads (λ held. ShowsAt (λ frame. ShowsFrame frame head.new bytes.old
+        bytes.new) (slice_get (frames_of held.frames) index))) handle.old.held handle.new.held
+        result }
+    ensures same { result ≢ DONE → (head.new ≡ head.old) × (bytes.new ≡ bytes.old) }
+{
+    let Some(held) = take(alloc, handle) else {
+        return CLOSED;
+    };
+    let answer = held.frame(index, head, bytes);
+    put(handle, held);
+    code::of_reading(answer)
+}
+
+/// The frames of the last call from `first` on, as many as fit.
+#[unsafe(no_mangle)]
+pub extern "C" fn jolunza_frames(
+    alloc: Global,
+    handle: &mut Handle,
+    first: usize,
+    heads: &mut [FrameHead],
+    bytes: &mut [u8],
+    count: &mut usize,
+) -> u32
+    ensures shows { Calls (Reads (IsDone (λ held. ShowsFrames (drop first (frames_of held.frames))
+        heads.old heads.new bytes.old bytes.new count.new))) handle.old.held handle.new.held
+        result }
+    ensures same { result ≢ DONE → (heads.new ≡ heads.old) × (bytes.new ≡ bytes.old)
+        × (count.new ≡ count.old) }
+{
+    let Some(held) = take(alloc, handle) else {
+        return CLOSED;
+    };
+    *count = held.frames(first, heads, bytes);
+    put(handle, held);
+    DONE
+}
+
+/// Event `index`: its head, and its payload and its time as far as they fit.
+#[unsafe(no_mangle)]
+pub extern "C" fn jolunza_event(
+    alloc: Global,
+    handle: &mut Handle,
+    index: usize,
+    head: &mut EventHead,
+    payload: &mut [u8],
+    time: &mut [u32],
+) -> u32
+    ensures shows { Calls (Reads (λ held. ShowsAt (λ event. ShowsEvent event head.new payload.old
+        payload.new time.old time.new) (slice_get (events_in held.member) index)))
+        handle.old.held handle.new.held result }
+    ensures same { result ≢ DONE → (head.new ≡ head.old) × (payload.new ≡ payload.old)
+        × (time.new ≡ time.old) }
+{
+    let Some(held) = take(alloc, handle) else {
+        return CLOSED;
+    };
+    let answer = held.event(index, head, payload, time);
+    put(handle, held);
+    code::of_reading(answer)
+}
+
+/// The events from `first` on, as many as fit.
+#[unsafe(no_mangle)]
+pub extern "C" fn jolunza_events(
+    alloc: Global,
+    handle: &mut Handle,
+    first: usize,
+    heads: &mut [EventHead],
+    payloads: &mut [u8],
+    times: &mut [u32],
+    count: &mut usize,
+) -> u32
+    ensures shows { Calls (Reads (IsDone (λ held. ShowsEvents (drop first (events_in held.member))
+        heads.old heads.new payloads.old payloads.new times.old times.new count.new)))
+        handle.old.held handle.new.held result }
+    ensures same { result ≢ DONE → (heads.new ≡ heads.old) × (payloads.new ≡ payloads.old)
+        × (times.new ≡ times.old) × (count.new ≡ count.old) }
+{
+    let Some(held) = take(alloc, handle) else {
+        return CLOSED;
+    };
+    *count = held.events(first, heads, payloads, times);
+    put(handle, held);
+    DONE
+}
+
+/// Entry `index` of the history: its head, and its frame and the names of what it delivered as far as they fit.
+#[unsafe(no_mangle)]
+pub extern "C" fn jolunza_entry(
+    alloc: Global,
+    handle: &mut Handle,
+    index: usize,
+    head: &mut EntryHead,
+    frame: &mut [u8],
+    delivered: &mut [Name],
+) -> u32
+    ensures shows { Calls (Reads (λ held. ShowsAt (λ entry. ShowsEntry entry head.new frame.old
+        frame.new delivered.old delivered.new) (slice_get held.member.entries index)))
+        handle.old.held handle.new.held result }
+    ensures same { result ≢ DONE → (head.new ≡ head.old) × (frame.new ≡ frame.old)
+        × (delivered.new ≡ delivered.old) }
+{
+    let Some(held) = take(alloc, handle) else {
+        return CLOSED;
+    };
+    let answer = held.entry(index, head, frame, delivered);
+    put(handle, held);
+    code::of_reading(answer)
+}
+
+/// How many messages of each member are delivered, as far as they fit.
+#[unsafe(no_mangle)]
+pub extern "C" fn jolunza_time(alloc: Global, handle: &mut Handle, time: &mut [u32]) -> u32
+    ensures shows { Calls (Reads (IsDone (λ held. time.new
+        ≡ copied (time_in held.member) time.old))) handle.old.held handle.new.held result }
+    ensures same { result ≢ DONE → time.new ≡ time.old }
+{
+    let Some(held) = take(alloc, handle) else {
+        return CLOSED;
+    };
+    held.time(time);
+    put(handle, held);
+    DONE
+}
+
+/// How many own casts every other member is known to have delivered.
+#[unsafe(no_mangle)]
+pub extern "C" fn jolunza_stable(alloc: Global, handle: &mut Handle, count: &mut u32) -> u32
+    ensures shows { Calls (Reads (IsDone (λ held. count.new ≡ stable_in held.member)))
+        handle.old.held handle.new.held result }
+    ensures same { result ≢ DONE → count.new ≡ count.old }
+{
+    let Some(held) = take(alloc, handle) else {
+        return CLOSED;
+    };
+    *count = held.member.stable();
+    put(handle, held);
+    DONE
+}
+
+/// The casts of another member that are missing, as far as they fit.
+#[unsafe(no_mangle)]
+pub extern "C" fn jolunza_missing(
+    alloc: Global,
+    handle: &mut Handle,
+    member: u32,
+    ranges: &mut [Range],
+    count: &mut usize,
+) -> u32
+    ensures shows { Calls (Reads (ShowsMissing member ranges.old ranges.new count.new))
+        handle.old.held handle.new.held result }
+    ensures same { result ≢ DONE → (ranges.new ≡ ranges.old) × (count.new ≡ count.old) }
+{
+    let Some(held) = take(alloc, handle) else {
+        return CLOSED;
+    };
+    let answer = held.missing(member, ranges);
+    put(handle, held);
+    tell_missing(answer, count)
+}

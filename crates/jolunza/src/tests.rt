@@ -1,0 +1,38 @@
+//! The calls of the library by one member, with what they answer and fill. The bytes and the answers are those of the protocol's worked
+//! examples.
+
+mod bulk;
+mod codes;
+mod reading;
+
+use crate::code::DONE;
+use crate::{jolunza_cast, jolunza_open, jolunza_receive};
+use cb_handle::{Handle, Received, closed};
+use std::alloc::Global;
+use std::process::Abort;
+
+/// "hi" by member 0 of group 7.
+pub const HI: &[u8] = b"\x11\x07\x00\x01\x00\x02hi";
+
+/// Of member 0 as well: its first cast, "a", and its fourth, "d".
+pub const FIRST: &[u8] = b"\x11\x07\x00\x01\x00\x01a";
+
+pub const FOURTH: &[u8] = b"\x11\x07\x00\x04\x00\x01d";
+
+/// A member of the group of three with number 7, in which the window is 4.
+pub fn member_of_three(rt: &impl Abort, alloc: Global, me: u32) -> Handle {
+    let mut handle = closed();
+    assert_eq!(rt; jolunza_open(alloc, &mut handle, 7, 3, 4, me, 100), DONE);
+    handle
+}
+
+pub fn cast(rt: &impl Abort, alloc: Global, handle: &mut Handle, payload: &[u8]) {
+    assert_eq!(rt; jolunza_cast(alloc, handle, payload), DONE);
+}
+
+/// Takes bytes that are not refused, and hands out what they did.
+pub fn receive(rt: &impl Abort, alloc: Global, handle: &mut Handle, bytes: &[u8]) -> Received {
+    let mut received = Received::default();
+    assert_eq!(rt; jolunza_receive(alloc, handle, bytes, &mut received), DONE);
+    received
+}

@@ -1,0 +1,37 @@
+//! What a call that is done fills besides its code.
+
+ghost use Rattle.std.specs.Prelude.{◌≡◌, MatchResult};
+ghost use Rattle.jolunza.specs.Codes.{arrive_code, missing_code};
+ghost use Rattle.jolunza.specs.declared.code.TheConstants.{DONE};
+
+use crate::code::{self, DONE};
+use cb_handle::Received;
+use cb_member::{ArriveRefusal, MissingFault};
+
+/// Fills in what received bytes did, where they were not refused.
+pub fn tell_received(answer: Result<Received, ArriveRefusal>, received: &mut Received) -> u32
+    ensures { MatchResult answer (λ told. (result ≡ DONE) × (received.new ≡ told))
+        (λ refusal. (result ≡ arrive_code refusal) × (received.new ≡ received.old)) }
+{
+    match answer {
+        Ok(told) => {
+            *received = told;
+            DONE
+        }
+        Err(refusal) => code::of_arrival(refusal),
+    }
+}
+
+/// Fills in how many ranges there are, where the member is another one.
+pub fn tell_missing(answer: Result<usize, MissingFault>, count: &mut usize) -> u32
+    ensures { MatchResult answer (λ told. (result ≡ DONE) × (count.new ≡ told))
+        (λ fault. (result ≡ missing_code fault) × (count.new ≡ count.old)) }
+{
+    match answer {
+        Ok(told) => {
+            *count = told;
+            DONE
+        }
+        Err(fault) => code::of_missing(fault),
+    }
+}
