@@ -1,0 +1,556 @@
+/*
+ * Each function of the header, with each code that it can answer but NO_MEMORY (see refused.c): what a call fills, and that it
+ * fills nothing and changes nothing where it answers another code than DONE. Prints how many checks passed and how many failed.
+ */
+#include <pthread.h>
+#include <stdio.h>
+#include <string.h>
+
+#include "jolunza.h"
+
+static unsigned passed, failed;
+
+static void check(bool holds, const char *what, int line)
+{
+    passed += holds;
+    failed += !holds;
+    if (!holds)
+        printf("calls.c:%d: not so: %s\n", line, what);
+}
+
+#define CHECK(holds) check((holds), #holds, __LINE__)
+
+#define BYTES(...) ((const uint8_t[]){__VA_ARGS__}), sizeof((const uint8_t[]){__VA_ARGS__})
+
+/* What stands in memory that a call leaves alone. */
+enum { UNTOUCHED = 0xa5 };
+
+static bool is_untouched(const void *memory, size_t length)
+{
+    const unsigned char *bytes = memory;
+
+    for (size_t i = 0; i < length; i++)
+        if (bytes[i] != UNTOUCHED)
+            return false;
+    return true;
+}
+
+#define IS_UNTOUCHED(place) is_untouched(&(place), sizeof(place))
+
+/* All memory that a call can fill. */
+struct filled {
+    jolunza_received received;
+    jolunza_counts counts;
+    jolunza_frame_head frames[4];
+    jolunza_event_head events[4];
+    jolunza_entry_head entry;
+    jolunza_name names[4];
+    jolunza_range ranges[4];
+    uint32_t times[16];
+    uint8_t bytes[JOLUNZA_LONGEST_FRAME];
+    size_t count;
+};
+
+static struct filled filled;
+
+static void untouched(void)
+{
+    memset(&filled, UNTOUCHED, sizeof filled);
+}
+
+enum { GROUP = 7, SIZE = 3, WINDOW = 4, LIMIT = 100 };
+
+/* A member of a group of three, newly opened. */
+static void open_new(jolunza_handle *handle, uint32_t me)
+{
+    CHECK(jolunza_open(handle, GROUP, SIZE, WINDOW, me, LIMIT) == JOLUNZA_DONE);
+    untouched();
+}
+
+static uint32_t cast(jolunza_handle *handle, const char *text)
+{
+    return jolunza_cast(handle, (const uint8_t *)text, strlen(text));
+}
+
+static uint32_t receive(jolunza_handle *handle, const uint8_t *bytes, size_t length)
+{
+    return jolunza_receive(handle, bytes, length, &filled.received);
+}
+
+static jolunza_counts counts_of(jolunza_handle *handle)
+{
+    jolunza_counts counts = {0, 0, 0};
+
+    CHECK(jolunza_count(handle, &counts) == JOLUNZA_DONE);
+    return counts;
+}
+
+static bool counts(jolunza_handle *handle, size_t frames, size_t events, size_t entries)
+{
+    jolunza_counts found = counts_of(handle);
+
+    return found.frames == frames && found.events == events && found.entries == entries;
+}
+
+/* Whether frame `index` of the last call goes to all, or to this member, and has these bytes. */
+static bool is_frame(jolunza_handle *handle, size_t index, int to, const uint8_t *bytes, size_t length)
+{
+    jolunza_frame_head head;
+    uint8_t found[JOLUNZA_LONGEST_FRAME];
+
+    CHECK(jolunza_frame(handle, index, &head, found, sizeof found) == JOLUNZA_DONE);
+    return head.to_all == (to < 0) && head.to == (to < 0 ? 0 : (uint32_t)to) && head.length == length
+        && memcmp(found, bytes, length) == 0;
+}
+
+enum { TO_ALL = -1 };
+
+/* A closed handle answers CLOSED to every call, and nothing is filled. */
+static void test_closed(jolunza_handle *handle)
+{
+    struct filled *f = &filled;
+
+    untouched();
+    CHECK(cast(handle, "hi") == JOLUNZA_CLOSED);
+    CHECK(receive(handle, BYTES(0x11, 7, 1, 1, 0, 0)) == JOLUNZA_CLOSED);
+    CHECK(jolunza_tick(handle) == JOLUNZA_CLOSED);
+    CHECK(jolunza_count(handle, &f->counts) == JOLUNZA_CLOSED);
+    CHECK(jolunza_frame(handle, 0, f->frames, f->bytes, sizeof f->bytes) == JOLUNZA_CLOSED);
+    CHECK(jolunza_frames(handle, 0, f->frames, 4, f->bytes, sizeof f->bytes, &f->count) == JOLUNZA_CLOSED);
+    CHECK(jolunza_event(handle, 0, f->events, f->bytes, sizeof f->bytes, f->times, 16) == JOLUNZA_CLOSED);
+    CHECK(jolunza_events(handle, 0, f->events, 4, f->bytes, sizeof f->bytes, f->times, 16, &f->count) == JOLUNZA_CLOSED);
+    CHECK(jolunza_entry(handle, 0, &f->entry, f->bytes, sizeof f->bytes, f->names, 4) == JOLUNZA_CLOSED);
+    CHECK(jolunza_time(handle, f->times, 16) == JOLUNZA_CLOSED);
+    CHECK(jolunza_stable(handle, f->times) == JOLUNZA_CLOSED);
+    CHECK(jolunza_missing(handle, 1, f->ranges, 4, &f->count) == JOLUNZA_CLOSED);
+    CHECK(IS_UNTOUCHED(filled));
+    CHECK(!handle->is_open);
+    jolunza_close(handle);
+    CHECK(!handle->is_open);
+}
+
+static void test_handles(void)
+{
+    jolunza_handle never = JOLUNZA_CLOSED_HANDLE, handle = JOLUNZA_CLOSED_HANDLE;
+
+    test_closed(&never);
+    open_new(&handle, 0);
+    CHECK(handle.is_open);
+    CHECK(counts(&handle, 0, 0, 0));
+    CHECK(cast(&handle, "hi") == JOLUNZA_DONE);
+    jolunza_close(&handle);
+    test_closed(&handle);
+    /* opened anew it has nothing of the member before, and opening an open one closes that first */
+    open_new(&handle, 1);
+    CHECK(counts(&handle, 0, 0, 0));
+    CHECK(cast(&handle, "yo") == JOLUNZA_DONE);
+    open_new(&handle, 2);
+    CHECK(counts(&handle, 0, 0, 0));
+    jolunza_close(&handle);
+}
+
+/* Opens with these words an open handle, which is closed then where the code is another than DONE. */
+static void opens(uint32_t size, uint32_t window, uint32_t me, size_t limit, uint32_t code)
+{
+    jolunza_handle handle = JOLUNZA_CLOSED_HANDLE;
+
+    open_new(&handle, 0);
+    CHECK(jolunza_open(&handle, UINT32_MAX, size, window, me, limit) == code);
+    CHECK(handle.is_open == (code == JOLUNZA_DONE));
+    CHECK(jolunza_count(&handle, &filled.counts) == (code == JOLUNZA_DONE ? JOLUNZA_DONE : JOLUNZA_CLOSED));
+    jolunza_close(&handle);
+}
+
+static void test_open(void)
+{
+    opens(2, 1, 0, 1, JOLUNZA_DONE);
+    opens(64, 256, 63, 16777216, JOLUNZA_DONE);
+    opens(0, 4, 0, 1, JOLUNZA_BAD_GROUP);
+    opens(1, 4, 0, 1, JOLUNZA_BAD_GROUP);
+    opens(65, 4, 0, 1, JOLUNZA_BAD_GROUP);
+    opens(UINT32_MAX, 4, 0, 1, JOLUNZA_BAD_GROUP);
+    opens(3, 0, 0, 1, JOLUNZA_BAD_GROUP);
+    opens(3, 257, 0, 1, JOLUNZA_BAD_GROUP);
+    opens(3, 4, 3, 1, JOLUNZA_BAD_MEMBER);
+    opens(3, 4, UINT32_MAX, 1, JOLUNZA_BAD_MEMBER);
+    opens(3, 4, 2, 0, JOLUNZA_BAD_LIMIT);
+    opens(3, 4, 2, 16777217, JOLUNZA_BAD_LIMIT);
+    opens(3, 4, 2, SIZE_MAX, JOLUNZA_BAD_LIMIT);
+    /* the first fault counts */
+    opens(65, 4, 65, 0, JOLUNZA_BAD_GROUP);
+    opens(3, 4, 3, 0, JOLUNZA_BAD_MEMBER);
+}
+
+static void test_cast(void)
+{
+    static const uint8_t payload[JOLUNZA_LONGEST_PAYLOAD + 1];
+    jolunza_handle handle = JOLUNZA_CLOSED_HANDLE;
+
+    open_new(&handle, 0);
+    CHECK(cast(&handle, "hi") == JOLUNZA_DONE);
+    CHECK(counts(&handle, 1, 1, 1));
+    CHECK(is_frame(&handle, 0, TO_ALL, BYTES(0x11, 7, 0, 1, 0, 2, 'h', 'i')));
+    CHECK(jolunza_cast(&handle, payload, sizeof payload) == JOLUNZA_PAYLOAD_TOO_LONG);
+    CHECK(counts(&handle, 1, 1, 1));
+    CHECK(is_frame(&handle, 0, TO_ALL, BYTES(0x11, 7, 0, 1, 0, 2, 'h', 'i')));
+    CHECK(jolunza_cast(&handle, payload, JOLUNZA_LONGEST_PAYLOAD) == JOLUNZA_DONE);
+    CHECK(jolunza_cast(&handle, payload, 0) == JOLUNZA_DONE);
+    CHECK(is_frame(&handle, 0, TO_ALL, BYTES(0x11, 7, 0, 3, 0, 0)));
+    CHECK(cast(&handle, "4") == JOLUNZA_DONE);
+    CHECK(cast(&handle, "5") == JOLUNZA_WINDOW_FULL);
+    CHECK(jolunza_cast(&handle, payload, sizeof payload) == JOLUNZA_PAYLOAD_TOO_LONG);
+    CHECK(counts(&handle, 1, 4, 4));
+    CHECK(is_frame(&handle, 0, TO_ALL, BYTES(0x11, 7, 0, 4, 0, 1, '4')));
+    /* the others' statuses open the window */
+    CHECK(receive(&handle, BYTES(0x12, 7, 1, 1, 0, 1)) == JOLUNZA_DONE);
+    CHECK(cast(&handle, "5") == JOLUNZA_WINDOW_FULL);
+    CHECK(receive(&handle, BYTES(0x12, 7, 2, 1, 0, 1)) == JOLUNZA_DONE);
+    CHECK(cast(&handle, "5") == JOLUNZA_DONE);
+    jolunza_close(&handle);
+}
+
+static bool has_received(bool is_repeat, bool is_entered, size_t delivered)
+{
+    return filled.received.is_repeat == is_repeat && filled.received.is_entered == is_entered
+        && filled.received.delivered == delivered;
+}
+
+/* The bytes are refused with this code: nothing is filled, and all is as it was. */
+static void refuses(jolunza_handle *handle, uint32_t code, const uint8_t *bytes, size_t length)
+{
+    jolunza_counts before = counts_of(handle);
+
+    untouched();
+    CHECK(receive(handle, bytes, length) == code);
+    CHECK(IS_UNTOUCHED(filled));
+    CHECK(counts(handle, before.frames, before.events, before.entries));
+}
+
+static void test_receive(void)
+{
+    jolunza_handle handle = JOLUNZA_CLOSED_HANDLE;
+
+    open_new(&handle, 0);
+    CHECK(cast(&handle, "hi") == JOLUNZA_DONE);
+    refuses(&handle, JOLUNZA_IMPOSSIBLE, BYTES(0x11, 7, 0, 9, 0, 0));
+    refuses(&handle, JOLUNZA_IMPOSSIBLE, BYTES(0x12, 7, 1, 1, 0, 2));
+    refuses(&handle, JOLUNZA_IMPOSSIBLE, BYTES(0x13, 7, 0, 0, 1, 0, 0));
+    refuses(&handle, JOLUNZA_OTHER_GROUP, BYTES(0x11, 8, 1, 1, 0, 0));
+    refuses(&handle, JOLUNZA_BAD_MEMBER, BYTES(0x11, 7, 3, 1, 0, 0));
+    refuses(&handle, JOLUNZA_MALFORMED, BYTES(0x11, 7, 0x40));
+    refuses(&handle, JOLUNZA_MALFORMED, filled.bytes, 0);
+    refuses(&handle, JOLUNZA_TOO_FAR, BYTES(0x11, 7, 1, 5, 0, 0));
+    CHECK(is_frame(&handle, 0, TO_ALL, BYTES(0x11, 7, 0, 1, 0, 2, 'h', 'i')));
+    /* what the member has cast itself is a repeat, and then there is nothing to send */
+    CHECK(receive(&handle, BYTES(0x11, 7, 0, 1, 0, 2, 'h', 'i')) == JOLUNZA_DONE);
+    CHECK(has_received(true, false, 0));
+    CHECK(counts(&handle, 0, 1, 1));
+    CHECK(receive(&handle, BYTES(0x11, 7, 1, 2, 0, 2, 'o', 'k')) == JOLUNZA_DONE);
+    CHECK(has_received(false, true, 0));
+    CHECK(receive(&handle, BYTES(0x11, 7, 1, 1, 1, 0, 1, 2, 'y', 'o')) == JOLUNZA_DONE);
+    CHECK(has_received(false, true, 2));
+    CHECK(counts(&handle, 0, 3, 3));
+    CHECK(receive(&handle, BYTES(0x12, 7, 0, 1, 0, 1)) == JOLUNZA_DONE);
+    CHECK(has_received(false, false, 0));
+    /* a request is answered with what it asks for, to the one who asks */
+    CHECK(receive(&handle, BYTES(0x13, 7, 2, 0, 1, 0, 0)) == JOLUNZA_DONE);
+    CHECK(has_received(false, false, 0));
+    CHECK(counts(&handle, 1, 3, 3));
+    CHECK(is_frame(&handle, 0, 2, BYTES(0x11, 7, 0, 1, 0, 2, 'h', 'i')));
+    jolunza_close(&handle);
+}
+
+static void test_full_history(void)
+{
+    jolunza_handle handle = JOLUNZA_CLOSED_HANDLE;
+
+    CHECK(jolunza_open(&handle, GROUP, SIZE, WINDOW, 0, 1) == JOLUNZA_DONE);
+    CHECK(cast(&handle, "hi") == JOLUNZA_DONE);
+    refuses(&handle, JOLUNZA_HISTORY_FULL, BYTES(0x11, 7, 1, 1, 0, 0));
+    refuses(&handle, JOLUNZA_HISTORY_FULL, BYTES(0x12, 7, 1, 1, 2, 5));
+    CHECK(jolunza_tick(&handle) == JOLUNZA_HISTORY_FULL);
+    CHECK(cast(&handle, "") == JOLUNZA_HISTORY_FULL);
+    CHECK(counts(&handle, 1, 1, 1));
+    CHECK(is_frame(&handle, 0, TO_ALL, BYTES(0x11, 7, 0, 1, 0, 2, 'h', 'i')));
+    CHECK(receive(&handle, BYTES(0x12, 7, 1, 0)) == JOLUNZA_DONE);
+    CHECK(counts(&handle, 0, 1, 1));
+    jolunza_close(&handle);
+}
+
+/* A member that has 0.2 and 0.4 and so misses 0.1 and 0.3, and that has ticked. */
+static void open_with_gaps(jolunza_handle *handle)
+{
+    open_new(handle, 2);
+    CHECK(receive(handle, BYTES(0x11, 7, 0, 2, 0, 1, 'b')) == JOLUNZA_DONE);
+    CHECK(receive(handle, BYTES(0x11, 7, 0, 4, 0, 1, 'd')) == JOLUNZA_DONE);
+    CHECK(jolunza_tick(handle) == JOLUNZA_DONE);
+    untouched();
+}
+
+static void test_tick_and_frame(void)
+{
+    jolunza_handle handle = JOLUNZA_CLOSED_HANDLE;
+    struct filled *f = &filled;
+
+    open_with_gaps(&handle);
+    CHECK(counts(&handle, 2, 0, 3));
+    CHECK(is_frame(&handle, 0, TO_ALL, BYTES(0x12, 7, 2, 0)));
+    CHECK(is_frame(&handle, 1, 0, BYTES(0x13, 7, 2, 0, 2, 0, 0, 0, 0)));
+    CHECK(jolunza_frame(&handle, 2, f->frames, f->bytes, 9) == JOLUNZA_NONE_THERE);
+    CHECK(jolunza_frame(&handle, SIZE_MAX, f->frames, f->bytes, 9) == JOLUNZA_NONE_THERE);
+    CHECK(IS_UNTOUCHED(filled));
+    /* just as many bytes as fit are written */
+    for (size_t capacity = 0; capacity <= 10; capacity++) {
+        untouched();
+        CHECK(jolunza_frame(&handle, 1, f->frames, f->bytes, capacity) == JOLUNZA_DONE);
+        CHECK(f->frames[0].length == 9);
+        CHECK(memcmp(f->bytes, (const uint8_t[]){0x13, 7, 2, 0, 2, 0, 0, 0, 0}, capacity < 9 ? capacity : 9) == 0);
+        CHECK(is_untouched(f->bytes + (capacity < 9 ? capacity : 9), 10));
+    }
+    jolunza_close(&handle);
+}
+
+/* Copies frames into so much room, and says how many came. */
+static size_t copy_frames(jolunza_handle *handle, size_t first, size_t heads, size_t bytes)
+{
+    untouched();
+    CHECK(jolunza_frames(handle, first, filled.frames, heads, filled.bytes, bytes, &filled.count) == JOLUNZA_DONE);
+    return filled.count;
+}
+
+static void test_frames(void)
+{
+    static const uint8_t both[] = {0x12, 7, 2, 0, 0x13, 7, 2, 0, 2, 0, 0, 0, 0};
+    jolunza_handle handle = JOLUNZA_CLOSED_HANDLE;
+    struct filled *f = &filled;
+
+    open_with_gaps(&handle);
+    CHECK(copy_frames(&handle, 0, 2, 13) == 2);
+    CHECK(f->frames[0].to_all && f->frames[0].to == 0 && f->frames[0].length == 4);
+    CHECK(!f->frames[1].to_all && f->frames[1].to == 0 && f->frames[1].length == 9);
+    CHECK(memcmp(f->bytes, both, 13) == 0 && is_untouched(f->bytes + 13, 9));
+    CHECK(IS_UNTOUCHED(f->frames[2]));
+    CHECK(copy_frames(&handle, 0, 4, sizeof f->bytes) == 2);
+    CHECK(copy_frames(&handle, 0, 2, 12) == 1);
+    CHECK(memcmp(f->bytes, both, 4) == 0 && is_untouched(f->bytes + 4, 9) && IS_UNTOUCHED(f->frames[1]));
+    CHECK(copy_frames(&handle, 0, 1, 13) == 1);
+    CHECK(is_untouched(f->bytes + 4, 9) && IS_UNTOUCHED(f->frames[1]));
+    CHECK(copy_frames(&handle, 0, 2, 3) == 0);
+    CHECK(copy_frames(&handle, 0, 0, 13) == 0);
+    CHECK(is_untouched(f->bytes, 13) && IS_UNTOUCHED(f->frames));
+    CHECK(copy_frames(&handle, 1, 2, 9) == 1);
+    CHECK(memcmp(f->bytes, both + 4, 9) == 0 && f->frames[0].length == 9);
+    CHECK(copy_frames(&handle, 2, 2, 13) == 0);
+    CHECK(copy_frames(&handle, SIZE_MAX, 2, 13) == 0);
+    CHECK(is_untouched(f->bytes, 13) && IS_UNTOUCHED(f->frames));
+    jolunza_close(&handle);
+}
+
+/* Member 1, which has delivered 0.1, "hi", and cast 1.1, "noon". */
+static void open_with_events(jolunza_handle *handle)
+{
+    open_new(handle, 1);
+    CHECK(receive(handle, BYTES(0x11, 7, 0, 1, 0, 2, 'h', 'i')) == JOLUNZA_DONE);
+    CHECK(cast(handle, "noon") == JOLUNZA_DONE);
+    untouched();
+}
+
+static bool is_event(size_t index, bool is_own, uint32_t sender, uint32_t number, size_t length)
+{
+    const jolunza_event_head *head = &filled.events[index];
+
+    return head->is_own == is_own && head->sender == sender && head->number == number && head->length == length;
+}
+
+static bool is_time(size_t first, uint32_t of_0, uint32_t of_1, uint32_t of_2)
+{
+    const uint32_t *time = filled.times + first;
+
+    return time[0] == of_0 && time[1] == of_1 && time[2] == of_2;
+}
+
+static void test_event(void)
+{
+    jolunza_handle handle = JOLUNZA_CLOSED_HANDLE;
+    struct filled *f = &filled;
+
+    open_with_events(&handle);
+    CHECK(jolunza_event(&handle, 2, f->events, f->bytes, 4, f->times, 3) == JOLUNZA_NONE_THERE);
+    CHECK(IS_UNTOUCHED(filled));
+    CHECK(jolunza_event(&handle, 0, f->events, f->bytes, 2, f->times, 3) == JOLUNZA_DONE);
+    CHECK(is_event(0, false, 0, 1, 2) && is_time(0, 1, 0, 0));
+    CHECK(memcmp(f->bytes, "hi", 2) == 0 && is_untouched(f->bytes + 2, 9) && IS_UNTOUCHED(f->times[3]));
+    untouched();
+    CHECK(jolunza_event(&handle, 1, f->events, f->bytes, 4, f->times, 3) == JOLUNZA_DONE);
+    CHECK(is_event(0, true, 1, 1, 4) && is_time(0, 1, 1, 0) && memcmp(f->bytes, "noon", 4) == 0);
+    /* as far as they fit */
+    untouched();
+    CHECK(jolunza_event(&handle, 1, f->events, f->bytes, 3, f->times, 2) == JOLUNZA_DONE);
+    CHECK(is_event(0, true, 1, 1, 4) && memcmp(f->bytes, "noo", 3) == 0 && is_untouched(f->bytes + 3, 9));
+    CHECK(f->times[0] == 1 && f->times[1] == 1 && IS_UNTOUCHED(f->times[2]));
+    untouched();
+    CHECK(jolunza_event(&handle, 1, f->events, f->bytes, 0, f->times, 0) == JOLUNZA_DONE);
+    CHECK(is_event(0, true, 1, 1, 4) && IS_UNTOUCHED(f->bytes) && IS_UNTOUCHED(f->times));
+    jolunza_close(&handle);
+}
+
+/* Copies events into so much room, and says how many came. */
+static size_t copy_events(jolunza_handle *handle, size_t first, size_t heads, size_t bytes, size_t times)
+{
+    struct filled *f = &filled;
+
+    untouched();
+    CHECK(jolunza_events(handle, first, f->events, heads, f->bytes, bytes, f->times, times, &f->count) == JOLUNZA_DONE);
+    return f->count;
+}
+
+static void test_events(void)
+{
+    jolunza_handle handle = JOLUNZA_CLOSED_HANDLE;
+    struct filled *f = &filled;
+
+    open_with_events(&handle);
+    CHECK(copy_events(&handle, 0, 2, 6, 6) == 2);
+    CHECK(is_event(0, false, 0, 1, 2) && is_event(1, true, 1, 1, 4) && IS_UNTOUCHED(f->events[2]));
+    CHECK(is_time(0, 1, 0, 0) && is_time(3, 1, 1, 0) && IS_UNTOUCHED(f->times[6]));
+    CHECK(memcmp(f->bytes, "hinoon", 6) == 0 && is_untouched(f->bytes + 6, 9));
+    CHECK(copy_events(&handle, 0, 4, sizeof f->bytes, 16) == 2);
+    /* one less of each */
+    CHECK(copy_events(&handle, 0, 1, 6, 6) == 1);
+    CHECK(copy_events(&handle, 0, 2, 5, 6) == 1);
+    CHECK(copy_events(&handle, 0, 2, 6, 5) == 1);
+    CHECK(is_event(0, false, 0, 1, 2) && IS_UNTOUCHED(f->events[1]) && is_time(0, 1, 0, 0));
+    CHECK(is_untouched(f->bytes + 2, 9) && IS_UNTOUCHED(f->times[3]));
+    CHECK(copy_events(&handle, 0, 0, 6, 6) == 0);
+    CHECK(copy_events(&handle, 0, 2, 1, 6) == 0);
+    CHECK(copy_events(&handle, 0, 2, 6, 2) == 0);
+    CHECK(IS_UNTOUCHED(f->events) && IS_UNTOUCHED(f->times) && IS_UNTOUCHED(f->bytes));
+    CHECK(copy_events(&handle, 1, 2, 4, 3) == 1);
+    CHECK(is_event(0, true, 1, 1, 4) && is_time(0, 1, 1, 0) && memcmp(f->bytes, "noon", 4) == 0);
+    CHECK(copy_events(&handle, 2, 2, 6, 6) == 0);
+    CHECK(copy_events(&handle, SIZE_MAX, 2, 6, 6) == 0);
+    jolunza_close(&handle);
+}
+
+static bool is_entry(uint32_t kind, size_t length, size_t delivered)
+{
+    return filled.entry.kind == kind && filled.entry.length == length && filled.entry.delivered == delivered;
+}
+
+static uint32_t copy_entry(jolunza_handle *handle, size_t index, size_t bytes, size_t names)
+{
+    untouched();
+    return jolunza_entry(handle, index, &filled.entry, filled.bytes, bytes, filled.names, names);
+}
+
+static void test_entry(void)
+{
+    static const uint8_t last[] = {0x11, 7, 1, 1, 1, 0, 1, 2, 'y', 'o'};
+    jolunza_handle handle = JOLUNZA_CLOSED_HANDLE;
+    struct filled *f = &filled;
+
+    open_new(&handle, 0);
+    CHECK(cast(&handle, "hi") == JOLUNZA_DONE);
+    CHECK(jolunza_tick(&handle) == JOLUNZA_DONE);
+    CHECK(receive(&handle, BYTES(0x11, 7, 1, 2, 0, 2, 'o', 'k')) == JOLUNZA_DONE);
+    CHECK(receive(&handle, last, sizeof last) == JOLUNZA_DONE);
+    CHECK(copy_entry(&handle, 0, 8, 0) == JOLUNZA_DONE && is_entry(JOLUNZA_CAST, 8, 0));
+    CHECK(memcmp(f->bytes, (const uint8_t[]){0x11, 7, 0, 1, 0, 2, 'h', 'i'}, 8) == 0);
+    CHECK(copy_entry(&handle, 1, 6, 0) == JOLUNZA_DONE && is_entry(JOLUNZA_TICK, 6, 0));
+    CHECK(memcmp(f->bytes, (const uint8_t[]){0x12, 7, 0, 1, 0, 1}, 6) == 0);
+    CHECK(copy_entry(&handle, 2, 8, 4) == JOLUNZA_DONE && is_entry(JOLUNZA_ARRIVE, 8, 0) && IS_UNTOUCHED(f->names));
+    CHECK(copy_entry(&handle, 3, sizeof last, 2) == JOLUNZA_DONE && is_entry(JOLUNZA_ARRIVE, sizeof last, 2));
+    CHECK(memcmp(f->bytes, last, sizeof last) == 0 && is_untouched(f->bytes + sizeof last, 9));
+    CHECK(f->names[0].sender == 1 && f->names[0].number == 1 && f->names[1].sender == 1 && f->names[1].number == 2);
+    CHECK(IS_UNTOUCHED(f->names[2]));
+    CHECK(copy_entry(&handle, 3, 9, 1) == JOLUNZA_DONE && is_entry(JOLUNZA_ARRIVE, sizeof last, 2));
+    CHECK(memcmp(f->bytes, last, 9) == 0 && is_untouched(f->bytes + 9, 9) && IS_UNTOUCHED(f->names[1]));
+    CHECK(copy_entry(&handle, 3, 0, 0) == JOLUNZA_DONE && IS_UNTOUCHED(f->bytes) && IS_UNTOUCHED(f->names));
+    CHECK(copy_entry(&handle, 4, 9, 4) == JOLUNZA_NONE_THERE && IS_UNTOUCHED(filled));
+    jolunza_close(&handle);
+}
+
+static void test_time_and_stable(void)
+{
+    jolunza_handle handle = JOLUNZA_CLOSED_HANDLE;
+    struct filled *f = &filled;
+
+    open_with_events(&handle);
+    CHECK(jolunza_time(&handle, f->times, 3) == JOLUNZA_DONE && is_time(0, 1, 1, 0) && IS_UNTOUCHED(f->times[3]));
+    untouched();
+    CHECK(jolunza_time(&handle, f->times, 2) == JOLUNZA_DONE && f->times[1] == 1 && IS_UNTOUCHED(f->times[2]));
+    untouched();
+    CHECK(jolunza_time(&handle, f->times, 0) == JOLUNZA_DONE && IS_UNTOUCHED(f->times));
+    CHECK(jolunza_stable(&handle, f->times) == JOLUNZA_DONE && f->times[0] == 0 && IS_UNTOUCHED(f->times[1]));
+    CHECK(receive(&handle, BYTES(0x12, 7, 0, 2, 0, 1, 0, 1)) == JOLUNZA_DONE);
+    CHECK(jolunza_stable(&handle, f->times) == JOLUNZA_DONE && f->times[0] == 0);
+    CHECK(receive(&handle, BYTES(0x12, 7, 2, 2, 0, 1, 0, 1)) == JOLUNZA_DONE);
+    CHECK(jolunza_stable(&handle, f->times) == JOLUNZA_DONE && f->times[0] == 1);
+    jolunza_close(&handle);
+}
+
+static void test_missing(void)
+{
+    jolunza_handle handle = JOLUNZA_CLOSED_HANDLE;
+    struct filled *f = &filled;
+
+    open_with_gaps(&handle);
+    CHECK(jolunza_missing(&handle, 3, f->ranges, 4, &f->count) == JOLUNZA_BAD_MEMBER);
+    CHECK(jolunza_missing(&handle, 2, f->ranges, 4, &f->count) == JOLUNZA_BAD_MEMBER);
+    CHECK(IS_UNTOUCHED(filled));
+    CHECK(jolunza_missing(&handle, 1, f->ranges, 4, &f->count) == JOLUNZA_DONE && f->count == 0);
+    CHECK(IS_UNTOUCHED(f->ranges));
+    CHECK(jolunza_missing(&handle, 0, f->ranges, 2, &f->count) == JOLUNZA_DONE && f->count == 2);
+    CHECK(f->ranges[0].first == 1 && f->ranges[0].last == 1 && f->ranges[1].first == 3 && f->ranges[1].last == 3);
+    CHECK(IS_UNTOUCHED(f->ranges[2]));
+    untouched();
+    CHECK(jolunza_missing(&handle, 0, f->ranges, 1, &f->count) == JOLUNZA_DONE && f->count == 2);
+    CHECK(f->ranges[0].first == 1 && f->ranges[0].last == 1 && IS_UNTOUCHED(f->ranges[1]));
+    untouched();
+    CHECK(jolunza_missing(&handle, 0, f->ranges, 0, &f->count) == JOLUNZA_DONE && f->count == 2);
+    CHECK(IS_UNTOUCHED(f->ranges));
+    jolunza_close(&handle);
+}
+
+static void *cast_elsewhere(void *handle)
+{
+    return cast(handle, "noon") == JOLUNZA_DONE ? handle : NULL;
+}
+
+/* An open handle may be moved, and may go to another thread and come back. */
+static void test_moves(void)
+{
+    jolunza_handle handle = JOLUNZA_CLOSED_HANDLE, moved;
+    pthread_t thread;
+    void *answer;
+
+    open_new(&handle, 1);
+    CHECK(cast(&handle, "hi") == JOLUNZA_DONE);
+    moved = handle;
+    memset(&handle, 0, sizeof handle);
+    CHECK(pthread_create(&thread, NULL, cast_elsewhere, &moved) == 0);
+    CHECK(pthread_join(thread, &answer) == 0);
+    CHECK(answer == &moved);
+    CHECK(counts(&moved, 1, 2, 2));
+    CHECK(is_frame(&moved, 0, TO_ALL, BYTES(0x11, 7, 1, 2, 0, 4, 'n', 'o', 'o', 'n')));
+    jolunza_close(&moved);
+}
+
+int main(void)
+{
+    test_handles();
+    test_open();
+    test_cast();
+    test_receive();
+    test_full_history();
+    test_tick_and_frame();
+    test_frames();
+    test_event();
+    test_events();
+    test_entry();
+    test_time_and_stable();
+    test_missing();
+    test_moves();
+    printf("%u passed, %u failed\n", passed, failed);
+    return failed > 0;
+}

@@ -1,0 +1,171 @@
+/*
+ * One member of a causal group (CBCAST of Birman, Schiper and Stephenson, 1991), proved. C99 or later, x86-64 Linux.
+ *
+ * A member is a machine without clock, thread or socket: the caller hands it what was received, sends the frames that it
+ * answers, and ticks it now and then. Each call answers a code; JOLUNZA_DONE is 0, and after any other code the member, its
+ * events, its history and the frames of the last call that was done are as they were, and what the call would have filled is
+ * as it was.
+ *
+ * What the caller has to uphold, since no check can:
+ *  1. A handle begins as JOLUNZA_CLOSED_HANDLE (all bytes 0), and only these functions write to it.
+ *  2. An open handle is never copied, and its memory stays until it is closed. It may be moved while no call runs.
+ *  3. One call at a time on a handle. It may go to another thread where the two threads agree on when (a mutex, a join).
+ *  4. A pointer is never NULL, not for a length of 0 either, is aligned as its type asks, and has as many readable (const) or
+ *     writable elements behind it as its length or capacity says.
+ *  5. What a call is given does not overlap what it fills or the handle, and nobody else touches either during the call.
+ *  6. Of the same group number, size and window each member number is held by one handle in the world, opened once: a
+ *     member that begins anew is ignored by the others. Who wants to come back replays what it did (see the guide).
+ */
+#ifndef JOLUNZA_H
+#define JOLUNZA_H
+
+#include <stdbool.h>
+#include <stddef.h>
+#include <stdint.h>
+
+#ifdef __cplusplus
+extern "C" {
+#endif
+
+#define JOLUNZA_VERSION 1
+
+/* The longest payload and the longest frame, in bytes, and the most members. */
+#define JOLUNZA_LONGEST_PAYLOAD 1024
+#define JOLUNZA_LONGEST_FRAME 1417
+#define JOLUNZA_MOST_MEMBERS 64
+
+/* What the calls answer. */
+enum jolunza_code {
+    JOLUNZA_DONE = 0,
+    JOLUNZA_CLOSED = 1,           /* the handle holds no member */
+    JOLUNZA_NO_MEMORY = 2,        /* try again */
+    JOLUNZA_BAD_GROUP = 3,        /* open: the size is not 2 to 64, or the window not 1 to 256 */
+    JOLUNZA_BAD_MEMBER = 4,       /* open, receive, missing: a number that no member of the group has; missing: its own too */
+    JOLUNZA_BAD_LIMIT = 5,        /* open: the limit of the history is not 1 to 16,777,216 */
+    JOLUNZA_PAYLOAD_TOO_LONG = 6, /* cast: more than 1,024 bytes */
+    JOLUNZA_WINDOW_FULL = 7,      /* cast: wait for the others' statuses, keep the payload, try again */
+    JOLUNZA_HISTORY_FULL = 8,     /* cast, receive, tick: as many entries as the limit; begin a new group number */
+    JOLUNZA_OTHER_GROUP = 9,      /* receive: drop the frame */
+    JOLUNZA_IMPOSSIBLE = 10,      /* receive: it says of this member what it never did; drop the frame */
+    JOLUNZA_TOO_FAR = 11,         /* receive: beyond the window; drop the frame, it comes again */
+    JOLUNZA_MALFORMED = 12,       /* receive: no frame; drop the bytes */
+    JOLUNZA_NONE_THERE = 13       /* frame, event, entry: the index is not below the count */
+};
+
+/* A member, or nothing. */
+typedef struct jolunza_handle {
+    void *at;
+    bool is_open;
+} jolunza_handle;
+
+#define JOLUNZA_CLOSED_HANDLE { NULL, false }
+
+/* How many there are to be read. */
+typedef struct jolunza_counts {
+    size_t frames;  /* of the last call of cast, receive or tick that was done */
+    size_t events;  /* since the member was opened */
+    size_t entries; /* of its history */
+} jolunza_counts;
+
+/* What a frame that was taken did. */
+typedef struct jolunza_received {
+    bool is_repeat;   /* the member had this cast already: nothing changed, and there is nothing to send */
+    bool is_entered;  /* the history has one entry more, its last */
+    size_t delivered; /* how many events there are more, the last ones */
+} jolunza_received;
+
+/* Of a frame that is to be sent: to whom, and how many bytes it has. */
+typedef struct jolunza_frame_head {
+    bool to_all;   /* to all others; then `to` is 0 */
+    uint32_t to;
+    size_t length;
+} jolunza_frame_head;
+
+/* Of a cast or a delivery: whether the member cast the message itself, its name, and how many bytes its payload has. */
+typedef struct jolunza_event_head {
+    bool is_own;
+    uint32_t sender;
+    uint32_t number; /* the sender's first message has 1 */
+    size_t length;
+} jolunza_event_head;
+
+enum jolunza_kind { JOLUNZA_CAST = 0, JOLUNZA_ARRIVE = 1, JOLUNZA_TICK = 2 };
+
+/* Of an entry of the history: what was done, how many bytes its frame has, and how many messages an arrival delivered. */
+typedef struct jolunza_entry_head {
+    uint32_t kind; /* an enum jolunza_kind */
+    size_t length;
+    size_t delivered;
+} jolunza_entry_head;
+
+typedef struct jolunza_name {
+    uint32_t sender;
+    uint32_t number;
+} jolunza_name;
+
+/* The numbers from first to last, both included. */
+typedef struct jolunza_range {
+    uint32_t first;
+    uint32_t last;
+} jolunza_range;
+
+/*
+ * Opens a member; a handle that is open is closed first. After another code than JOLUNZA_DONE the handle is closed.
+ * BAD_GROUP before BAD_MEMBER before BAD_LIMIT, or NO_MEMORY.
+ */
+uint32_t jolunza_open(jolunza_handle *handle, uint32_t group, uint32_t size, uint32_t window, uint32_t me,
+                      size_t history_max);
+
+/* Frees the member, if there is one. */
+void jolunza_close(jolunza_handle *handle);
+
+/* Casts a message. The one frame to be sent goes to all others; the last event is the message. */
+uint32_t jolunza_cast(jolunza_handle *handle, const uint8_t *payload, size_t length);
+
+/*
+ * Takes received bytes: one frame, whole. The frames to be sent answer a request: there are none where it is a repeat or entered.
+ * What is delivered joins the events.
+ */
+uint32_t jolunza_receive(jolunza_handle *handle, const uint8_t *bytes, size_t length, jolunza_received *received);
+
+/* The frames to be sent are the status, to all others, and a request to each member of whom something is missing. */
+uint32_t jolunza_tick(jolunza_handle *handle);
+
+uint32_t jolunza_count(jolunza_handle *handle, jolunza_counts *counts);
+
+/* Frame `index` of the last call, from 0. Its first `capacity` bytes are copied; head->length tells how many it has. */
+uint32_t jolunza_frame(jolunza_handle *handle, size_t index, jolunza_frame_head *head, uint8_t *bytes, size_t capacity);
+
+/*
+ * Copies the frames of the last call from `first` on, as many as fit: their heads, and their bytes, one after another.
+ * `count` tells how many; it is 0 where there are none from `first` on, or where the next does not fit.
+ */
+uint32_t jolunza_frames(jolunza_handle *handle, size_t first, jolunza_frame_head *heads, size_t heads_capacity,
+                        uint8_t *bytes, size_t capacity, size_t *count);
+
+/* Event `index`, from 0: its payload and its time, a number for each member, as far as they fit. */
+uint32_t jolunza_event(jolunza_handle *handle, size_t index, jolunza_event_head *head, uint8_t *payload, size_t capacity,
+                       uint32_t *time, size_t time_capacity);
+
+/* Copies the events from `first` on, as many as fit: their heads, their payloads and their times, one after another. */
+uint32_t jolunza_events(jolunza_handle *handle, size_t first, jolunza_event_head *heads, size_t heads_capacity,
+                        uint8_t *payloads, size_t capacity, uint32_t *times, size_t times_capacity, size_t *count);
+
+/* Entry `index` of the history, from 0: its frame and the names of what it delivered, as far as they fit. */
+uint32_t jolunza_entry(jolunza_handle *handle, size_t index, jolunza_entry_head *head, uint8_t *frame, size_t capacity,
+                       jolunza_name *delivered, size_t delivered_capacity);
+
+/* How many messages of each member are delivered, own casts included, as far as they fit. */
+uint32_t jolunza_time(jolunza_handle *handle, uint32_t *time, size_t capacity);
+
+/* How many own casts every other member is known to have delivered. */
+uint32_t jolunza_stable(jolunza_handle *handle, uint32_t *count);
+
+/* The casts of another member that are missing, as rising ranges, as far as they fit; `count` tells how many there are. */
+uint32_t jolunza_missing(jolunza_handle *handle, uint32_t member, jolunza_range *ranges, size_t capacity, size_t *count);
+
+#ifdef __cplusplus
+}
+#endif
+
+#endif

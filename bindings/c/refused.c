@@ -1,0 +1,241 @@
+/*
+ * Each allocation of a run refused in turn. The call that asked for it answers NO_MEMORY or does without it; after NO_MEMORY the
+ * member is as it was, and the same call then succeeds. Each run ends as the one that had all its memory, and frees what it took.
+ * Linked with -Wl,--wrap=malloc,--wrap=realloc,--wrap=free, so that the library's calls come here.
+ */
+#include <stdio.h>
+#include <stdlib.h>
+#include <string.h>
+
+#include "jolunza.h"
+
+void *__real_malloc(size_t length);
+void *__real_realloc(void *block, size_t length);
+void __real_free(void *block);
+void *__wrap_malloc(size_t length);
+void *__wrap_realloc(void *block, size_t length);
+void __wrap_free(void *block);
+
+enum { ALL = -1 };
+
+static long granted = ALL; /* how many allocations more; then one is refused, and then all are granted */
+static long blocks;        /* how many are not freed */
+static bool is_refused;    /* one was */
+static long out_of_memory; /* how many calls were */
+
+static bool refuse(void)
+{
+    if (granted == 0)
+        is_refused = true;
+    return granted != ALL && granted-- == 0;
+}
+
+void *__wrap_malloc(size_t length)
+{
+    void *block = refuse() ? NULL : __real_malloc(length);
+
+    blocks += block != NULL;
+    return block;
+}
+
+void *__wrap_realloc(void *block, size_t length)
+{
+    return refuse() ? NULL : __real_realloc(block, length);
+}
+
+void __wrap_free(void *block)
+{
+    blocks -= block != NULL;
+    __real_free(block);
+}
+
+static void must(bool holds, const char *what, int line)
+{
+    if (!holds) {
+        printf("refused.c:%d: not so: %s\n", line, what);
+        exit(1);
+    }
+}
+
+#define MUST(holds) must((holds), #holds, __LINE__)
+
+/* All that can be read of a member, in 64 bits (the hash of Fowler, Noll and Vo). */
+static uint64_t digest;
+
+static void add(const void *memory, size_t length)
+{
+    const unsigned char *bytes = memory;
+
+    for (size_t i = 0; i < length; i++)
+        digest = (digest ^ bytes[i]) * 0x100000001b3u;
+}
+
+static void add_number(uint64_t number)
+{
+    add(&number, sizeof number);
+}
+
+enum { GROUP = 7, SIZE = 2, WINDOW = 64, LIMIT = 1000, CASTS = 40, MOST_FRAMES = 64 };
+
+struct frame {
+    jolunza_frame_head head;
+    uint8_t bytes[JOLUNZA_LONGEST_FRAME];
+};
+
+/* Reads the frames of the last call. */
+static size_t frames_of(jolunza_handle *handle, struct frame *frames)
+{
+    size_t i = 0;
+
+    while (i < MOST_FRAMES && jolunza_frame(handle, i, &frames[i].head, frames[i].bytes, sizeof frames[i].bytes) == JOLUNZA_DONE)
+        i++;
+    return i;
+}
+
+static void add_frames(jolunza_handle *handle)
+{
+    static struct frame frames[MOST_FRAMES];
+    size_t count = frames_of(handle, frames);
+
+    for (size_t i = 0; i < count; i++) {
+        add_number(frames[i].head.to_all ? SIZE : frames[i].head.to);
+        add(frames[i].bytes, frames[i].head.length);
+    }
+}
+
+static void add_events(jolunza_handle *handle)
+{
+    jolunza_event_head head;
+    uint8_t payload[JOLUNZA_LONGEST_PAYLOAD];
+    uint32_t time[SIZE];
+
+    for (size_t i = 0; jolunza_event(handle, i, &head, payload, sizeof payload, time, SIZE) == JOLUNZA_DONE; i++) {
+        add_number(head.is_own);
+        add_number(head.sender);
+        add_number(head.number);
+        add(payload, head.length);
+        add(time, sizeof time);
+    }
+}
+
+static void add_entries(jolunza_handle *handle)
+{
+    jolunza_entry_head head;
+    uint8_t frame[JOLUNZA_LONGEST_FRAME];
+    jolunza_name names[CASTS];
+
+    for (size_t i = 0; jolunza_entry(handle, i, &head, frame, sizeof frame, names, CASTS) == JOLUNZA_DONE; i++) {
+        add_number(head.kind);
+        add(frame, head.length);
+        add(names, head.delivered * sizeof names[0]);
+    }
+}
+
+static uint64_t digest_of(jolunza_handle *handle)
+{
+    uint32_t time[SIZE] = {0, 0}, stable = 0;
+
+    digest = 0xcbf29ce484222325u;
+    add_frames(handle);
+    add_events(handle);
+    add_entries(handle);
+    add_number(jolunza_time(handle, time, SIZE));
+    add(time, sizeof time);
+    add_number(jolunza_stable(handle, &stable));
+    add_number(stable);
+    return digest;
+}
+
+/* Makes the call. Where it is out of memory nothing has changed, and the same call succeeds. */
+#define TRY(handle, call)                              \
+    do {                                               \
+        uint64_t before = digest_of(handle);           \
+        uint32_t code = (call);                        \
+        if (code == JOLUNZA_NO_MEMORY) {               \
+            out_of_memory++;                           \
+            MUST(digest_of(handle) == before);         \
+            code = (call);                             \
+        }                                              \
+        MUST(code == JOLUNZA_DONE);                    \
+    } while (0)
+
+static void receive_all(jolunza_handle *handle, const struct frame *frames, size_t count)
+{
+    jolunza_received received;
+
+    for (size_t i = 0; i < count; i++)
+        TRY(handle, jolunza_receive(handle, frames[i].bytes, frames[i].head.length, &received));
+}
+
+/* Member 0 casts; every fifth frame is lost, the others come in pairs, the later one first. */
+static void cast_some(jolunza_handle *of_0, jolunza_handle *of_1)
+{
+    static const uint8_t payload[20] = "twenty bytes of text";
+    static struct frame frames[MOST_FRAMES];
+    jolunza_received received;
+
+    for (int i = 0; i < CASTS; i++) {
+        TRY(of_0, jolunza_cast(of_0, payload, sizeof payload));
+        MUST(frames_of(of_0, &frames[i]) == 1);
+        if (i % 2 == 0)
+            continue;
+        TRY(of_1, jolunza_receive(of_1, frames[i].bytes, frames[i].head.length, &received));
+        if (i % 5 != 0)
+            TRY(of_1, jolunza_receive(of_1, frames[i - 1].bytes, frames[i - 1].head.length, &received));
+    }
+}
+
+/* Member 1 tells what it has and asks for what it misses, and member 0 sends it again. */
+static void repair(jolunza_handle *of_0, jolunza_handle *of_1)
+{
+    static struct frame asked[MOST_FRAMES], sent[MOST_FRAMES];
+    jolunza_range ranges[WINDOW];
+    jolunza_received received;
+    size_t count;
+
+    TRY(of_1, jolunza_missing(of_1, 0, ranges, WINDOW, &count));
+    MUST(count > 1);
+    TRY(of_1, jolunza_tick(of_1));
+    count = frames_of(of_1, asked);
+    for (size_t i = 0; i < count; i++) {
+        TRY(of_0, jolunza_receive(of_0, asked[i].bytes, asked[i].head.length, &received));
+        receive_all(of_1, sent, frames_of(of_0, sent));
+    }
+    TRY(of_1, jolunza_tick(of_1));
+    receive_all(of_0, sent, frames_of(of_1, sent));
+}
+
+/* A run in which this many allocations are granted before one is refused: a digest of how both members end. */
+static uint64_t run(long before_the_refusal)
+{
+    jolunza_handle of_0 = JOLUNZA_CLOSED_HANDLE, of_1 = JOLUNZA_CLOSED_HANDLE;
+    uint64_t ends;
+    uint32_t stable;
+
+    granted = before_the_refusal;
+    is_refused = false;
+    TRY(&of_0, jolunza_open(&of_0, GROUP, SIZE, WINDOW, 0, LIMIT));
+    TRY(&of_1, jolunza_open(&of_1, GROUP, SIZE, WINDOW, 1, LIMIT));
+    cast_some(&of_0, &of_1);
+    repair(&of_0, &of_1);
+    MUST(jolunza_stable(&of_0, &stable) == JOLUNZA_DONE && stable == CASTS);
+    ends = digest_of(&of_0) ^ 3 * digest_of(&of_1);
+    jolunza_close(&of_0);
+    jolunza_close(&of_1);
+    MUST(blocks == 0);
+    return ends;
+}
+
+int main(void)
+{
+    uint64_t whole = run(ALL);
+    long allocations = 0;
+
+    do {
+        MUST(run(allocations) == whole);
+        allocations += is_refused;
+    } while (is_refused);
+    MUST(allocations > 2 * CASTS && out_of_memory > CASTS);
+    printf("%ld allocations, each refused in turn: %ld calls were out of memory, and then succeeded\n", allocations, out_of_memory);
+    return 0;
+}
