@@ -1,0 +1,109 @@
+//! What a parley is, but for the world around it: the same records make the same state.
+
+use crate::journal::Record;
+use crate::lines::Conference;
+use jolunza::{Member, Refusal, Settings};
+use std::collections::VecDeque;
+
+#[derive(Debug)]
+pub struct State {
+    pub member: Member,
+    pub conference: Conference,
+    /// Payloads that wait to be cast.
+    pub waiting: VecDeque<Vec<u8>>,
+    pub room: String,
+    /// The group numbers that the member had, with the one that it has.
+    pub groups: Vec<u32>,
+}
+
+impl State {
+    pub fn new(settings: Settings) -> Result<State, Refusal> {
+        Ok(State {
+            member: Member::open(settings)?,
+            conference: Conference::default(),
+            waiting: VecDeque::new(),
+            room: "main".into(),
+            groups: vec![settings.group],
+        })
+    }
+
+    /// Does what a record says. Refused, it has changed nothing.
+    pub fn apply(&mut self, record: &Record) -> Result<(), Refusal> {
+        match record {
+            Record::Group(number) => self.begin(*number)?,
+            Record::Room(name) => self.room.clone_from(name),
+            Record::Say(payload) => self.waiting.push_back(payload.clone()),
+            Record::Cast => {
+                let payload = self.waiting.front().ok_or(Refusal::NoneThere)?;
+                self.member.cast(payload)?;
+                self.waiting.pop_front();
+            }
+            Record::Arrive(bytes) => drop(self.member.receive(bytes)?),
+            Record::Tick => self.member.tick()?,
+        }
+        Ok(())
+    }
+
+    fn begin(&mut self, number: u32) -> Result<(), Refusal> {
+        let settings = Settings { group: number, ..self.member.settings() };
+        let room = self.room.clone();
+        let groups = [self.groups.clone(), vec![number]].concat();
+        *self = State { room, groups, ..State::new(settings)? };
+        Ok(())
+    }
+
+    pub fn own_casts(&self) -> u32 {
+        self.member.time()[self.member.settings().me as usize]
+    }
+
+    /// Everybody is known to have what this member said.
+    pub fn is_everywhere(&self) -> bool {
+        self.waiting.is_empty() && self.member.stable() == self.own_casts()
+    }
+
+    pub fn misses_something(&self) -> bool {
+        let others = 0..self.member.settings().size;
+        others.filter_map(|other| self.member.missing(other).ok()).any(|ranges| !ranges.is_empty())
+    }
+}
+
+#[cfg(test)]
+mod tests {
+    use super::*;
+
+    fn state() -> State {
+        State::new(Settings { group: 7, size: 2, window: 1, me: 0, history_max: 100 }).unwrap()
+    }
+
+    fn say(text: &str) -> Record {
+        Record::Say(format!("\x01\x04main{text}").into())
+    }
+
+    #[test]
+    fn what_is_said_waits_until_it_is_cast() {
+        let mut state = state();
+        assert_eq!(state.apply(&Record::Cast), Err(Refusal::NoneThere));
+        for record in [say("a"), say("b"), Record::Cast] {
+            assert_eq!(state.apply(&record), Ok(()));
+        }
+        assert_eq!(state.apply(&Record::Cast), Err(Refusal::WindowFull));
+        assert_eq!((state.waiting.len(), state.own_casts(), state.is_everywhere()), (1, 1, false));
+        state.apply(&Record::Arrive(b"\x12\x07\x01\x01\x00\x01".to_vec())).unwrap();
+        state.apply(&Record::Cast).unwrap();
+        let payloads: Vec<_> = state.member.new_events().map(|event| event.payload.to_vec()).collect();
+        assert_eq!(payloads, [b"\x01\x04maina", b"\x01\x04mainb"]);
+    }
+
+    #[test]
+    fn a_new_group_has_a_new_member_in_the_same_room() {
+        let mut state = state();
+        let records = [Record::Room("plan".into()), say("a"), Record::Cast, say("b"), Record::Group(8), say("c")];
+        for record in records {
+            state.apply(&record).unwrap();
+        }
+        assert_eq!((state.member.settings().group, state.groups.clone()), (8, vec![7, 8]));
+        assert_eq!((state.own_casts(), state.waiting.len(), state.room.as_str()), (0, 1, "plan"));
+        let records = [Record::Group(7), Record::Arrive(vec![0x13])];
+        assert_eq!(records.map(|record| state.apply(&record)), [Ok(()), Err(Refusal::Malformed)]);
+    }
+}

@@ -1,0 +1,83 @@
+//! The frames of a call, copied out of the library at once.
+
+use crate::refusal::answered;
+use crate::{sys, LONGEST_FRAME};
+use std::slice;
+
+/// A frame that is to be sent.
+#[derive(Clone, Copy, Debug, PartialEq, Eq)]
+pub struct Frame<'a> {
+    /// To whom; `None` is to all others.
+    pub to: Option<u32>,
+    pub bytes: &'a [u8],
+}
+
+/// The frames of a call, in the order in which they are to be sent.
+#[derive(Clone, Debug, Default)]
+pub struct Frames<'a> {
+    heads: slice::Iter<'a, sys::jolunza_frame_head>,
+    bytes: &'a [u8],
+}
+
+impl<'a> Iterator for Frames<'a> {
+    type Item = Frame<'a>;
+
+    #[inline]
+    fn next(&mut self) -> Option<Frame<'a>> {
+        let head = self.heads.next()?;
+        let (bytes, rest) = self.bytes.split_at(head.length);
+        self.bytes = rest;
+        Some(Frame { to: (!head.to_all).then_some(head.to), bytes })
+    }
+
+    fn size_hint(&self) -> (usize, Option<usize>) {
+        self.heads.size_hint()
+    }
+}
+
+impl ExactSizeIterator for Frames<'_> {}
+
+/// What is copied goes here: so many frames, each as long as can be. It grows to what the longest answer so far needed,
+/// and stays.
+pub(crate) struct FrameBuffer {
+    heads: Vec<sys::jolunza_frame_head>,
+    bytes: Vec<u8>,
+}
+
+impl FrameBuffer {
+    pub fn new() -> FrameBuffer {
+        let heads = vec![sys::jolunza_frame_head::default(); 4];
+        FrameBuffer { bytes: vec![0; heads.len() * LONGEST_FRAME], heads }
+    }
+
+    /// Copies all frames of the last call. The handle is open, and no other call runs on it.
+    #[inline]
+    pub unsafe fn fill(&mut self, handle: *mut sys::jolunza_handle) -> Frames<'_> {
+        let mut frames = self.copy(handle, 0, 0);
+        while frames == self.heads.len() {
+            frames = self.copy_more(handle, frames);
+        }
+        Frames { heads: self.heads[..frames].iter(), bytes: &self.bytes }
+    }
+
+    /// The buffer is full: it becomes longer.
+    #[cold]
+    unsafe fn copy_more(&mut self, handle: *mut sys::jolunza_handle, frames: usize) -> usize {
+        let used = self.heads.iter().map(|head| head.length).sum();
+        self.heads.resize(2 * frames, Default::default());
+        self.bytes.resize(2 * frames * LONGEST_FRAME, 0);
+        frames + self.copy(handle, frames, used)
+    }
+
+    /// Copies those that fit behind what is there, and answers how many.
+    #[inline]
+    unsafe fn copy(&mut self, handle: *mut sys::jolunza_handle, frames: usize, used: usize) -> usize {
+        let (heads, bytes) = (&mut self.heads[frames..], &mut self.bytes[used..]);
+        let (heads_capacity, capacity) = (heads.len(), bytes.len());
+        let (heads, bytes) = (heads.as_mut_ptr(), bytes.as_mut_ptr());
+        let mut count = 0;
+        let code = sys::jolunza_frames(handle, frames, heads, heads_capacity, bytes, capacity, &mut count);
+        answered(code).expect("an open member shows its frames");
+        count
+    }
+}

@@ -1,0 +1,236 @@
+//! One member.
+
+use crate::entries::{Entry, EntryBuffer};
+use crate::events::{EventBuffer, Events};
+use crate::frames::{FrameBuffer, Frames};
+use crate::refusal::{answered, Refusal};
+use crate::sys;
+use std::cell::UnsafeCell;
+use std::fmt;
+use std::ops::{Bound, RangeBounds, RangeInclusive};
+use std::ptr;
+
+/// Which member is opened. Group number, size and window are the same at each member of a group.
+#[derive(Clone, Copy, Debug, PartialEq, Eq)]
+pub struct Settings {
+    pub group: u32,
+    /// How many members there are: 2 to 64.
+    pub size: u32,
+    /// How many own casts a member may have that are not known to be delivered by all: 1 to 256.
+    pub window: u32,
+    /// The member's own number, from 0.
+    pub me: u32,
+    /// The most entries of its history: 1 to 16,777,216.
+    pub history_max: usize,
+}
+
+/// The name of a message: its sender, and the how many-th cast of it, from 1. It is printed as `0.1`.
+#[derive(Clone, Copy, Debug, PartialEq, Eq, PartialOrd, Ord, Hash)]
+pub struct Name {
+    pub sender: u32,
+    pub number: u32,
+}
+
+impl fmt::Display for Name {
+    fn fmt(&self, f: &mut fmt::Formatter<'_>) -> fmt::Result {
+        write!(f, "{}.{}", self.sender, self.number)
+    }
+}
+
+/// What a frame that was taken did.
+#[derive(Clone, Copy, Debug, PartialEq, Eq)]
+pub struct Received {
+    /// The member had this cast already: nothing changed, and there is nothing to send.
+    pub is_repeat: bool,
+    /// The history has one entry more.
+    pub is_entered: bool,
+    /// How many events there are more.
+    pub delivered: usize,
+}
+
+/// How many there are to be read.
+#[derive(Clone, Copy, Debug, PartialEq, Eq)]
+pub struct Counts {
+    /// Of the last call of `cast`, `receive` or `tick` that was done.
+    pub frames: usize,
+    /// Since the member was opened.
+    pub events: usize,
+    /// Of the history.
+    pub entries: usize,
+}
+
+/// One member of a group.
+///
+/// Of one group each member number is opened once in the world. Who begins anew under an old number is ignored by the
+/// others: to come back, make the calls of the history again before anything is sent.
+pub struct Member {
+    /// Open from `open` to `drop`, which all `unsafe` here rests on, as on this: pointers come from references and
+    /// slices that do not overlap, and a `Member` is called by one thread at a time. Readings take the handle by a
+    /// pointer that may write, too.
+    handle: UnsafeCell<sys::jolunza_handle>,
+    settings: Settings,
+    /// How many events `new_events` has handed out, and how many it has not.
+    shown: usize,
+    unshown: usize,
+    /// Whether the last call that was done may have frames.
+    may_have_frames: bool,
+    frames: FrameBuffer,
+    events: EventBuffer,
+    entry: EntryBuffer,
+}
+
+// An open handle may go to another thread, as is proved of the library. Two calls at once it may not take, and the cell
+// keeps a `Member` from being `Sync`.
+unsafe impl Send for Member {}
+
+impl Member {
+    /// A member that has done nothing. The first that holds: `BadGroup`, `BadMember`, `BadLimit`; or `NoMemory`.
+    pub fn open(settings: Settings) -> Result<Member, Refusal> {
+        let Settings { group, size, window, me, history_max } = settings;
+        let mut handle = sys::jolunza_handle { at: ptr::null_mut(), is_open: false };
+        answered(unsafe { sys::jolunza_open(&mut handle, group, size, window, me, history_max) })?;
+        Ok(Member {
+            handle: UnsafeCell::new(handle),
+            settings,
+            shown: 0,
+            unshown: 0,
+            may_have_frames: false,
+            frames: FrameBuffer::new(),
+            events: EventBuffer::new(size as usize),
+            entry: EntryBuffer::new(),
+        })
+    }
+
+    pub fn settings(&self) -> Settings {
+        self.settings
+    }
+
+    /// Casts a message: the last event is the message, and the one frame is for all others.
+    #[inline]
+    pub fn cast(&mut self, payload: &[u8]) -> Result<(), Refusal> {
+        answered(unsafe { sys::jolunza_cast(self.handle.get(), payload.as_ptr(), payload.len()) })?;
+        self.unshown += 1;
+        self.may_have_frames = true;
+        Ok(())
+    }
+
+    /// Takes received bytes: one frame, whole. What is delivered joins the events; the frames answer a request.
+    #[inline]
+    pub fn receive(&mut self, bytes: &[u8]) -> Result<Received, Refusal> {
+        let mut received = sys::jolunza_received::default();
+        let code = unsafe { sys::jolunza_receive(self.handle.get(), bytes.as_ptr(), bytes.len(), &mut received) };
+        answered(code)?;
+        let sys::jolunza_received { is_repeat, is_entered, delivered } = received;
+        self.unshown += delivered;
+        // frames answer a request, which is never entered
+        self.may_have_frames = !is_repeat && !is_entered;
+        Ok(Received { is_repeat, is_entered, delivered })
+    }
+
+    /// The frames are the member's status, for all others, and a request to each member of whom something is missing.
+    #[inline]
+    pub fn tick(&mut self) -> Result<(), Refusal> {
+        answered(unsafe { sys::jolunza_tick(self.handle.get()) })?;
+        self.may_have_frames = true;
+        Ok(())
+    }
+
+    /// The frames of the last call of `cast`, `receive` or `tick` that was done.
+    #[inline]
+    pub fn frames(&mut self) -> Frames<'_> {
+        if self.may_have_frames {
+            unsafe { self.frames.fill(self.handle.get()) }
+        } else {
+            Frames::default()
+        }
+    }
+
+    /// The events that this function has not handed out yet. They count as handed out, also where a loop over them ends
+    /// early.
+    #[inline]
+    pub fn new_events(&mut self) -> Events<'_> {
+        let events = unsafe { self.events.fill(self.handle.get(), self.shown, self.unshown) };
+        self.shown += events.len();
+        self.unshown -= events.len();
+        events
+    }
+
+    /// The events of these indexes, from 0, as far as there are: `events(..)` has all. They are copied at once, so a
+    /// long history is read in pieces: `events(0..1000)`.
+    pub fn events(&mut self, indexes: impl RangeBounds<usize>) -> Events<'_> {
+        let first = first_of(&indexes);
+        let most = end_of(&indexes).saturating_sub(first);
+        unsafe { self.events.fill(self.handle.get(), first, most) }
+    }
+
+    /// An entry of the history, from 0.
+    pub fn entry(&mut self, index: usize) -> Option<Entry<'_>> {
+        unsafe { self.entry.fill(self.handle.get(), index) }
+    }
+
+    pub fn counts(&self) -> Counts {
+        let mut counts = sys::jolunza_counts::default();
+        let code = unsafe { sys::jolunza_count(self.handle.get(), &mut counts) };
+        answered(code).expect("an open member has its counts");
+        let sys::jolunza_counts { frames, events, entries } = counts;
+        Counts { frames, events, entries }
+    }
+
+    /// How many messages of each member are delivered, own casts included.
+    pub fn time(&self) -> Vec<u32> {
+        let mut time = vec![0; self.settings.size as usize];
+        let code = unsafe { sys::jolunza_time(self.handle.get(), time.as_mut_ptr(), time.len()) };
+        answered(code).expect("an open member has its time");
+        time
+    }
+
+    /// How many own casts every other member is known to have delivered.
+    pub fn stable(&self) -> u32 {
+        let mut count = 0;
+        let code = unsafe { sys::jolunza_stable(self.handle.get(), &mut count) };
+        answered(code).expect("an open member has its stable number");
+        count
+    }
+
+    /// The casts of another member that are missing, as rising ranges. `BadMember` of this one and of who is none.
+    pub fn missing(&self, member: u32) -> Result<Vec<RangeInclusive<u32>>, Refusal> {
+        let mut ranges = [sys::jolunza_range::default(); MOST_RANGES];
+        let mut count = 0;
+        let (at, capacity) = (ranges.as_mut_ptr(), ranges.len());
+        answered(unsafe { sys::jolunza_missing(self.handle.get(), member, at, capacity, &mut count) })?;
+        Ok(ranges[..count].iter().map(|range| range.first..=range.last).collect())
+    }
+}
+
+/// At most as many numbers as the window are missing, and a number lies between two ranges.
+const MOST_RANGES: usize = 128;
+
+impl Drop for Member {
+    fn drop(&mut self) {
+        unsafe { sys::jolunza_close(self.handle.get()) }
+    }
+}
+
+impl fmt::Debug for Member {
+    fn fmt(&self, f: &mut fmt::Formatter<'_>) -> fmt::Result {
+        let (settings, counts) = (self.settings, self.counts());
+        f.debug_struct("Member").field("settings", &settings).field("counts", &counts).finish()
+    }
+}
+
+fn first_of(indexes: &impl RangeBounds<usize>) -> usize {
+    match indexes.start_bound() {
+        Bound::Included(first) => *first,
+        Bound::Excluded(before) => before.saturating_add(1),
+        Bound::Unbounded => 0,
+    }
+}
+
+/// The index behind the last one.
+fn end_of(indexes: &impl RangeBounds<usize>) -> usize {
+    match indexes.end_bound() {
+        Bound::Included(last) => last.saturating_add(1),
+        Bound::Excluded(end) => *end,
+        Bound::Unbounded => usize::MAX,
+    }
+}

@@ -1,0 +1,98 @@
+//! Why a call was not done.
+
+use crate::sys;
+use std::error::Error;
+use std::fmt;
+
+/// Why a call was not done. The member, its events, its history and the frames of its last call are as they were.
+#[derive(Clone, Copy, Debug, PartialEq, Eq, Hash)]
+#[repr(u32)]
+pub enum Refusal {
+    /// The handle holds no member. No `Member` answers this, since it is open as long as there is one.
+    Closed = sys::JOLUNZA_CLOSED,
+    /// Memory was refused. Try again.
+    NoMemory = sys::JOLUNZA_NO_MEMORY,
+    /// `open`: the size is not 2 to 64, or the window not 1 to 256.
+    BadGroup = sys::JOLUNZA_BAD_GROUP,
+    /// `open`, `receive`, `missing`: a member's number that the group does not have.
+    BadMember = sys::JOLUNZA_BAD_MEMBER,
+    /// `open`: the limit of the history is not 1 to 16,777,216.
+    BadLimit = sys::JOLUNZA_BAD_LIMIT,
+    /// `cast`: more than 1,024 bytes.
+    PayloadTooLong = sys::JOLUNZA_PAYLOAD_TOO_LONG,
+    /// `cast`: wait for the others' statuses, keep the payload, try again.
+    WindowFull = sys::JOLUNZA_WINDOW_FULL,
+    /// `cast`, `receive`, `tick`: as many entries as the limit. Begin a new group number.
+    HistoryFull = sys::JOLUNZA_HISTORY_FULL,
+    /// `receive`: drop the frame.
+    OtherGroup = sys::JOLUNZA_OTHER_GROUP,
+    /// `receive`: it says of this member what it never did. Drop the frame.
+    Impossible = sys::JOLUNZA_IMPOSSIBLE,
+    /// `receive`: beyond the window. Drop the frame, it comes again.
+    TooFar = sys::JOLUNZA_TOO_FAR,
+    /// `receive`: no frame. Drop the bytes.
+    Malformed = sys::JOLUNZA_MALFORMED,
+    /// An index that is not below the count. No `Member` answers this: it answers `None`.
+    NoneThere = sys::JOLUNZA_NONE_THERE,
+}
+
+impl Refusal {
+    const ALL: [Refusal; 13] = [
+        Refusal::Closed,
+        Refusal::NoMemory,
+        Refusal::BadGroup,
+        Refusal::BadMember,
+        Refusal::BadLimit,
+        Refusal::PayloadTooLong,
+        Refusal::WindowFull,
+        Refusal::HistoryFull,
+        Refusal::OtherGroup,
+        Refusal::Impossible,
+        Refusal::TooFar,
+        Refusal::Malformed,
+        Refusal::NoneThere,
+    ];
+
+    /// The code in jolunza.h.
+    pub fn code(self) -> u32 {
+        self as u32
+    }
+
+    #[cold]
+    fn of(code: u32) -> Refusal {
+        let found = Refusal::ALL.into_iter().find(|refusal| refusal.code() == code);
+        found.unwrap_or_else(|| panic!("libjolunza.a answers {code}, which this crate does not know"))
+    }
+}
+
+/// What a call answered.
+#[inline]
+pub(crate) fn answered(code: u32) -> Result<(), Refusal> {
+    if code == sys::JOLUNZA_DONE {
+        Ok(())
+    } else {
+        Err(Refusal::of(code))
+    }
+}
+
+impl fmt::Display for Refusal {
+    fn fmt(&self, f: &mut fmt::Formatter<'_>) -> fmt::Result {
+        f.write_str(match self {
+            Refusal::Closed => "the handle holds no member",
+            Refusal::NoMemory => "out of memory: try again",
+            Refusal::BadGroup => "a group has 2 to 64 members and a window of 1 to 256",
+            Refusal::BadMember => "the group has no member of this number",
+            Refusal::BadLimit => "a history has a limit of 1 to 16,777,216 entries",
+            Refusal::PayloadTooLong => "a payload has at most 1,024 bytes",
+            Refusal::WindowFull => "the window is full: wait for the others' statuses and try again",
+            Refusal::HistoryFull => "the history is full: begin a new group number",
+            Refusal::OtherGroup => "the frame is of another group: drop it",
+            Refusal::Impossible => "the frame says of this member what it never did: drop it",
+            Refusal::TooFar => "the frame is beyond the window: drop it, it comes again",
+            Refusal::Malformed => "the bytes are no frame: drop them",
+            Refusal::NoneThere => "the index is not below the count",
+        })
+    }
+}
+
+impl Error for Refusal {}

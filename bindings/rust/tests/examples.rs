@@ -1,0 +1,282 @@
+//! The worked examples of one member.
+
+mod text;
+
+use jolunza::{Entry, Frame, Member, Name, Refusal, Settings, LONGEST_FRAME, LONGEST_PAYLOAD};
+use text::{bytes_of, hexadecimal, printed_time};
+
+const EXAMPLES: &str = include_str!("worked_examples.txt");
+
+fn open(group: u32, size: u32, window: u32, me: u32, history_max: usize) -> Member {
+    Member::open(Settings { group, size, window, me, history_max }).unwrap()
+}
+
+/// `member 0 of 3 group 7 window 4 history 100`
+fn member_of(line: &str) -> Member {
+    let numbers: Vec<u32> = line.split(' ').filter_map(|word| word.parse().ok()).collect();
+    let [me, size, group, window, history] = numbers[..] else { panic!("{line}") };
+    open(group, size, window, me, history as usize)
+}
+
+/// What a call answers, as the rows have it.
+fn answer(member: &mut Member, call: &str) -> String {
+    let (word, rest) = call.split_once(' ').unwrap_or((call, ""));
+    match word {
+        "cast" => counted(member, |member| cast(member, &bytes_of(rest))),
+        "take" => counted(member, |member| take(member, &bytes_of(rest))),
+        "tick" => counted(member, tick),
+        "time" => printed_time(&member.time()),
+        "stable" => member.stable().to_string(),
+        "missing" => missing(member, rest.parse().unwrap()),
+        "events" => events(member),
+        "entries" => entries(member),
+        _ => panic!("{call}"),
+    }
+}
+
+/// Behind how many entries there are then.
+fn counted(member: &mut Member, call: impl Fn(&mut Member) -> Result<String, Refusal>) -> String {
+    let text = call(member).unwrap_or_else(|refusal| format!("{refusal:?}"));
+    format!("{}: {text}", member.counts().entries)
+}
+
+fn cast(member: &mut Member, payload: &[u8]) -> Result<String, Refusal> {
+    member.cast(payload)?;
+    let events = member.counts().events;
+    let event = member.events(events - 1..).next().unwrap();
+    assert_eq!((event.is_own, event.payload), (true, payload));
+    let name = format!("{} {}", event.name, printed_time(event.time));
+    let frames: Vec<Frame> = member.frames().collect();
+    let [Frame { to: None, bytes }] = frames[..] else { panic!("{frames:?}") };
+    Ok(format!("{name} {}", hexadecimal(bytes)))
+}
+
+fn take(member: &mut Member, bytes: &[u8]) -> Result<String, Refusal> {
+    let before = member.counts();
+    let received = member.receive(bytes)?;
+    let after = member.counts();
+    assert_eq!(after.events - before.events, received.delivered);
+    assert_eq!(after.entries - before.entries, usize::from(received.is_entered));
+    if received.is_repeat {
+        assert_eq!(after.frames, 0);
+        return Ok("repeat".into());
+    }
+    let changed = if received.is_entered { "changed" } else { "unchanged" };
+    let mut text = changed.to_string();
+    for event in member.events(before.events..) {
+        assert!(!event.is_own);
+        text += &format!(", {} {} ({})", event.name, printed_time(event.time), hexadecimal(event.payload));
+    }
+    Ok(text + &frames(member))
+}
+
+fn tick(member: &mut Member) -> Result<String, Refusal> {
+    let before = member.counts().entries;
+    member.tick()?;
+    let entered = if member.counts().entries > before { "entered" } else { "not entered" };
+    Ok(entered.to_string() + &frames(member))
+}
+
+fn frames(member: &mut Member) -> String {
+    let count = member.counts().frames;
+    let frames = member.frames();
+    assert_eq!(frames.len(), count);
+    let to = |to: Option<u32>| to.map_or("all".into(), |member| member.to_string());
+    frames.map(|frame| format!(", to {}: {}", to(frame.to), hexadecimal(frame.bytes))).collect()
+}
+
+fn missing(member: &Member, other: u32) -> String {
+    match member.missing(other) {
+        Ok(ranges) => ranges.iter().map(|range| format!("{}-{};", range.start(), range.end())).collect(),
+        Err(refusal) => format!("{refusal:?}"),
+    }
+}
+
+fn events(member: &mut Member) -> String {
+    let kind = |is_own| if is_own { "cast" } else { "deliver" };
+    member
+        .events(..)
+        .map(|event| format!("{} {} {};", kind(event.is_own), event.name, printed_time(event.time)))
+        .collect()
+}
+
+fn entries(member: &mut Member) -> String {
+    let mut text = String::new();
+    for index in 0..member.counts().entries {
+        text += &match member.entry(index).unwrap() {
+            Entry::Cast { frame } => format!("cast {};", hexadecimal(frame)),
+            Entry::Tick { status } => format!("tick {};", hexadecimal(status)),
+            Entry::Arrive { frame, delivered } => {
+                let names: String = delivered.iter().map(|name| format!(" {name}")).collect();
+                format!("arrive {}{names};", hexadecimal(frame))
+            }
+        };
+    }
+    assert_eq!(member.entry(member.counts().entries), None);
+    text
+}
+
+#[test]
+fn each_call_of_the_table_has_its_answer() {
+    let (mut member, mut rows) = (None, 0);
+    for line in EXAMPLES.lines().filter(|line| !line.is_empty() && !line.starts_with('#')) {
+        if line.starts_with("member ") {
+            member = Some(member_of(line));
+            continue;
+        }
+        let (call, expected) = line.split_once(" ->").unwrap();
+        assert_eq!(answer(member.as_mut().unwrap(), call), expected.trim_start(), "{line}");
+        rows += 1;
+    }
+    assert!(rows > 200, "{rows} rows");
+}
+
+#[test]
+fn a_member_of_five_casts_behind_200_more() {
+    let mut member = open(300, 5, 4, 2, 1_000);
+    let casts = (1..=3).map(|number| (0, number)).chain([(4, 1), (4, 2), (1, 1)]);
+    for (sender, number) in casts {
+        member.receive(&[0x11, 0xac, 0x02, sender, number, 0, 0]).unwrap();
+    }
+    assert_eq!(answer(&mut member, "cast -"), "7: 2.1 [3,1,1,0,2] 11ac0202010300030001020200");
+    for number in 4..=203 {
+        let spelled: &[u8] = if number < 128 { &[number] } else { &[number, 1] };
+        let frame = [&[0x11, 0xac, 0x02, 0x00], spelled, &[0, 0]].concat();
+        let said = format!("{}: changed, 0.{number} [{number},0,0,0,0] ()", number as usize + 4);
+        assert_eq!(counted(&mut member, |member| take(member, &frame)), said);
+    }
+    assert_eq!(answer(&mut member, "cast -"), "208: 2.2 [203,1,2,0,2] 11ac0202020100c80100");
+    assert_eq!(answer(&mut member, "tick"), "209: entered, to all: 12ac02020400cb01000100020102");
+    assert_eq!(answer(&mut member, "time"), "[203,1,2,0,2]");
+}
+
+#[test]
+fn a_payload_has_at_most_1024_bytes() {
+    let mut sender = open(7, 3, 1, 0, 1);
+    sender.cast(b"x").unwrap();
+    assert_eq!(sender.cast(&[b'x'; LONGEST_PAYLOAD + 1]), Err(Refusal::PayloadTooLong));
+    assert_eq!(sender.cast(b"x"), Err(Refusal::WindowFull));
+    let (mut sender, mut receiver) = (open(7, 3, 4, 0, 100), open(7, 3, 4, 1, 100));
+    sender.cast(&[b'x'; LONGEST_PAYLOAD]).unwrap();
+    let frame = [&[17, 7, 0, 1, 0, 128, 8][..], &[b'x'; LONGEST_PAYLOAD]].concat();
+    assert_eq!(sender.frames().next().unwrap().bytes, frame);
+    receiver.receive(&frame).unwrap();
+    assert_eq!(receiver.new_events().next().unwrap().payload, [b'x'; LONGEST_PAYLOAD]);
+    let longer = [&[17, 7, 0, 1, 0, 129, 8][..], &[b'x'; LONGEST_PAYLOAD + 1]].concat();
+    assert_eq!(receiver.receive(&longer), Err(Refusal::Malformed));
+}
+
+/// More than fit at once into what the wrapper begins with.
+#[test]
+fn at_most_64_frames_are_sent_again_at_once() {
+    let mut member = open(7, 3, 100, 0, 100);
+    for number in 1..=66 {
+        member.cast(&[number; LONGEST_PAYLOAD]).unwrap();
+    }
+    member.receive(b"\x13\x07\x02\x00\x01\x01\x40").unwrap();
+    assert_eq!(member.counts().frames, 64);
+    let frames = member.frames();
+    assert_eq!(frames.len(), 64);
+    for (number, frame) in (2..).zip(frames) {
+        let bytes = [&[17, 7, 0, number, 0, 128, 8][..], &[number; LONGEST_PAYLOAD]].concat();
+        assert_eq!(frame, Frame { to: Some(2), bytes: &bytes });
+    }
+}
+
+/// A cast of member 0 of group 4,294,967,295, whose payload and whose changes are the longest.
+fn longest_cast(number: &[u8]) -> Vec<u8> {
+    let greatest = [0xff, 0xff, 0xff, 0xff, 0x0f];
+    let change = |gap| [&[gap][..], &greatest].concat();
+    let changes: Vec<Vec<u8>> = (0..63).map(|place| change(u8::from(place == 0))).collect();
+    [&[0x11][..], &greatest, &[0], number, &[63], &changes.concat(), &[0x80, 0x08], &[7; LONGEST_PAYLOAD]].concat()
+}
+
+#[test]
+fn the_longest_frame_has_1417_bytes() {
+    let mut member = open(u32::MAX, 64, 1, 1, 100);
+    let longest = longest_cast(&[0xff, 0xff, 0xff, 0xff, 0x0f]);
+    assert_eq!((longest.len(), member.receive(&longest)), (LONGEST_FRAME, Err(Refusal::TooFar)));
+    let first = longest_cast(&[1]);
+    assert_eq!(member.receive(&first).map(|received| received.is_entered), Ok(true));
+    assert_eq!(member.entry(0), Some(Entry::Arrive { frame: &first, delivered: &[] }));
+}
+
+/// The events are read in pieces, each at once, and from anywhere.
+#[test]
+fn events_are_the_same_in_pieces_of_any_length() {
+    let mut member = open(7, 2, 256, 0, 1_000);
+    for number in 0..200u8 {
+        member.cast(&vec![number; usize::from(number) * 5]).unwrap();
+    }
+    let own = |member: &mut Member, first: usize, last: usize| {
+        let events: Vec<_> = member.events(first..last).map(|event| (event.name.number, event.payload.len())).collect();
+        events
+    };
+    let all: Vec<_> = (0..200).map(|index: usize| (index as u32 + 1, index * 5)).collect();
+    for length in [1, 3, 7, 64, 199, 200, 1_000] {
+        let pieces = (0..200).step_by(length).flat_map(|first| own(&mut member, first, first + length));
+        assert_eq!(pieces.collect::<Vec<_>>(), all, "by {length}");
+    }
+    assert_eq!(own(&mut member, 200, 300), []);
+    assert_eq!(member.events(7..=7).next().unwrap().name, Name { sender: 0, number: 8 });
+    assert_eq!(member.events(..).len(), 200);
+    assert_eq!(member.events(5..5).len(), 0);
+    assert_eq!((member.new_events().len(), member.new_events().len()), (200, 0));
+}
+
+#[test]
+fn each_refusal_of_opening_comes_before_the_next() {
+    let fault =
+        |size, window, me, history_max| Member::open(Settings { group: 7, size, window, me, history_max }).err();
+    let rows = [
+        (fault(1, 4, 9, 0), Some(Refusal::BadGroup)),
+        (fault(65, 4, 9, 0), Some(Refusal::BadGroup)),
+        (fault(3, 0, 9, 0), Some(Refusal::BadGroup)),
+        (fault(3, 257, 9, 0), Some(Refusal::BadGroup)),
+        (fault(3, 4, 3, 0), Some(Refusal::BadMember)),
+        (fault(3, 4, 2, 0), Some(Refusal::BadLimit)),
+        (fault(3, 4, 2, 16_777_217), Some(Refusal::BadLimit)),
+        (fault(2, 1, 1, 1), None),
+        (fault(64, 256, 63, 16_777_216), None),
+    ];
+    for (found, expected) in rows {
+        assert_eq!(found, expected);
+    }
+}
+
+/// The rows of the protocol's page that no frame has.
+#[test]
+fn bytes_that_are_no_frame_are_malformed() {
+    let page = include_str!("../../../docs/PROTOCOL.md");
+    let faults = "Short UnknownKind NotMinimal TooLarge BadIndex ZeroNumber ZeroDifference OwnField BadRange \
+                  PayloadTooLong Trailing";
+    let mut member = open(7, 3, 4, 0, 100);
+    let mut rows = 0;
+    for line in page.lines().filter(|line| line.starts_with("| `1")) {
+        let cells: Vec<&str> = line.split(" | ").collect();
+        let fault = cells[1].strip_prefix("`refused ").map(|rest| rest.trim_end_matches(['`', ' ', '|']));
+        if fault.is_some_and(|fault| faults.split(' ').any(|word| word == fault)) {
+            let bytes = bytes_of(&cells[0].replace(['|', '`', ' '], ""));
+            assert_eq!(member.receive(&bytes), Err(Refusal::Malformed), "{line}");
+            rows += 1;
+        }
+    }
+    assert_eq!(member.receive(&[]), Err(Refusal::Malformed));
+    assert!(rows > 30, "{rows} rows");
+}
+
+#[test]
+fn a_refusal_is_an_error_with_its_code() {
+    let mut member = open(7, 3, 4, 0, 100);
+    let refusal = member.receive(b"?").unwrap_err();
+    let error: Box<dyn std::error::Error> = refusal.into();
+    assert_eq!((refusal.code(), error.to_string()), (12, "the bytes are no frame: drop them".into()));
+}
+
+#[test]
+fn a_member_goes_to_another_thread() {
+    let mut member = open(7, 2, 4, 0, 100);
+    member.cast(b"x").unwrap();
+    let (member, time) = std::thread::spawn(move || (member.stable(), member.time())).join().unwrap();
+    assert_eq!((member, time), (0, vec![1, 0]));
+}

@@ -1,0 +1,220 @@
+//! Three members over a network that loses, repeats and reorders frames.
+
+mod network;
+
+use jolunza::{Member, Name, Refusal, Settings};
+use network::{Dice, Network};
+use std::collections::{HashMap, HashSet};
+
+const SIZE: u32 = 3;
+const MESSAGES: usize = 10_000;
+
+/// A cast or a delivery, as a member's list has it.
+#[derive(Clone, Copy, Debug, PartialEq, Eq)]
+struct Seen {
+    is_own: bool,
+    name: Name,
+}
+
+struct Group {
+    members: Vec<Member>,
+    logs: Vec<Vec<Seen>>,
+    network: Network,
+    left: usize,
+}
+
+impl Group {
+    fn new(seed: u64) -> Group {
+        let settings = |me| Settings { group: 7, size: SIZE, window: 16, me, history_max: 1_000_000 };
+        Group {
+            members: (0..SIZE).map(|me| Member::open(settings(me)).unwrap()).collect(),
+            logs: vec![Vec::new(); SIZE as usize],
+            network: Network::new(SIZE, seed),
+            left: MESSAGES,
+        }
+    }
+
+    /// Sends and notes what the last call of a member left.
+    fn note(&mut self, me: u32) {
+        let (member, log) = (&mut self.members[me as usize], &mut self.logs[me as usize]);
+        member.frames().for_each(|frame| self.network.send(me, frame));
+        for event in member.new_events() {
+            let text = format!("{} of {}", event.name.number, event.name.sender);
+            assert_eq!(event.payload, text.as_bytes());
+            log.push(Seen { is_own: event.is_own, name: event.name });
+        }
+    }
+
+    fn cast(&mut self, me: u32) {
+        let member = &mut self.members[me as usize];
+        let number = member.time()[me as usize] + 1;
+        match member.cast(format!("{number} of {me}").as_bytes()) {
+            Ok(()) => {
+                self.left -= 1;
+                self.note(me);
+            }
+            Err(refusal) => assert_eq!(refusal, Refusal::WindowFull),
+        }
+    }
+
+    fn tick(&mut self, me: u32) {
+        self.members[me as usize].tick().unwrap();
+        self.note(me);
+    }
+
+    /// Brings one frame, whichever.
+    fn bring(&mut self) {
+        if let Some((to, bytes)) = self.network.take() {
+            match self.members[to as usize].receive(&bytes) {
+                Ok(_) => self.note(to),
+                Err(refusal) => assert_eq!(refusal, Refusal::TooFar),
+            }
+        }
+    }
+
+    /// Everybody ticks, and all that is sent then arrives.
+    fn quiet_round(&mut self) {
+        (0..SIZE).for_each(|me| self.tick(me));
+        while !self.network.is_empty() {
+            self.bring();
+        }
+    }
+
+    fn is_settled(&self) -> bool {
+        let casts: Vec<u32> = self.members.iter().enumerate().map(|(me, member)| member.time()[me]).collect();
+        let has_all = |member: &Member| member.time() == casts;
+        self.members.iter().all(has_all)
+            && self.members.iter().zip(&casts).all(|(member, count)| member.stable() == *count)
+    }
+}
+
+/// Whether each list has every message once, and behind all messages that happened before it.
+///
+/// What happened before what is found by the casts and deliveries alone: an event happened before what stands below it
+/// in its list, and a cast before each delivery of it. The vector times are not looked at.
+fn is_causal(logs: &[Vec<Seen>]) -> bool {
+    let names: HashSet<Name> = logs.iter().flatten().filter(|seen| seen.is_own).map(|seen| seen.name).collect();
+    let places: HashMap<Name, usize> = names.iter().enumerate().map(|(place, name)| (*name, place)).collect();
+    let mut pasts: Vec<Option<Bits>> = vec![None; places.len()];
+    let mut lists: Vec<(usize, Bits)> = vec![(0, Bits::new(places.len())); logs.len()];
+    let mut moved = 1;
+    while moved > 0 {
+        moved = 0;
+        for (log, (next, seen)) in logs.iter().zip(&mut lists) {
+            let Some(count) = go_on(&log[*next..], seen, &places, &mut pasts) else { return false };
+            *next += count;
+            moved += count;
+        }
+    }
+    lists.iter().zip(logs).all(|((next, seen), log)| *next == log.len() && seen.count() == places.len())
+}
+
+/// Judges the first events of a list, up to a delivery whose cast was not judged yet; None where one stands above what
+/// happened before it, or twice.
+fn go_on(log: &[Seen], seen: &mut Bits, places: &HashMap<Name, usize>, pasts: &mut [Option<Bits>]) -> Option<usize> {
+    for (index, event) in log.iter().enumerate() {
+        let place = *places.get(&event.name)?;
+        if event.is_own {
+            pasts[place] = Some(seen.clone());
+        }
+        let Some(past) = &pasts[place] else { return Some(index) };
+        if seen.has(place) || !seen.has_all(past) {
+            return None;
+        }
+        seen.put(place);
+    }
+    Some(log.len())
+}
+
+/// A set of messages.
+#[derive(Clone, Debug)]
+struct Bits(Vec<u64>);
+
+impl Bits {
+    fn new(length: usize) -> Bits {
+        Bits(vec![0; length.div_ceil(64)])
+    }
+
+    fn put(&mut self, place: usize) {
+        self.0[place / 64] |= 1 << (place % 64);
+    }
+
+    fn has(&self, place: usize) -> bool {
+        self.0[place / 64] >> (place % 64) & 1 == 1
+    }
+
+    fn has_all(&self, other: &Bits) -> bool {
+        self.0.iter().zip(&other.0).all(|(mine, others)| others & !mine == 0)
+    }
+
+    fn count(&self) -> usize {
+        self.0.iter().map(|word| word.count_ones() as usize).sum()
+    }
+}
+
+/// All cast, tick and are brought frames by chance, until all is cast; then in quiet rounds nothing is lost.
+fn held(seed: u64) -> (Group, usize) {
+    let (mut group, mut dice) = (Group::new(seed), Dice(seed));
+    while group.left > 0 {
+        let me = dice.below(SIZE.into()) as u32;
+        match dice.below(10) {
+            0 => group.tick(me),
+            1 | 2 => group.cast(me),
+            _ => group.bring(),
+        }
+    }
+    group.network.is_good = true;
+    let mut rounds = 0;
+    while !group.is_settled() {
+        assert!(rounds < 6, "it does not settle");
+        group.quiet_round();
+        rounds += 1;
+    }
+    (group, rounds)
+}
+
+#[test]
+fn ten_thousand_messages_are_delivered_in_causal_order() {
+    let (group, rounds) = held(1);
+    let network = &group.network;
+    assert!(rounds > 0 && network.lost > 1_000 && network.repeated > 1_000 && network.overtaken > 1_000, "{network:?}");
+    for log in &group.logs {
+        assert_eq!(log.len(), MESSAGES);
+    }
+    assert!(is_causal(&group.logs));
+    let pair = group.logs[0].windows(2).position(|pair| pair[0].name.sender == pair[1].name.sender).unwrap();
+    assert!(!is_causal(&exchanged(&group.logs, 0, pair, pair + 1)), "two casts of one member exchanged");
+}
+
+/// A list with two events exchanged.
+fn exchanged(logs: &[Vec<Seen>], member: usize, one: usize, other: usize) -> Vec<Vec<Seen>> {
+    let mut logs = logs.to_vec();
+    logs[member].swap(one, other);
+    logs
+}
+
+#[test]
+fn the_check_sees_what_is_not_causal() {
+    let name = |sender, number| Name { sender, number };
+    let own = |sender, number| Seen { is_own: true, name: name(sender, number) };
+    let other = |sender, number| Seen { is_own: false, name: name(sender, number) };
+    // 0.1 before 1.1 before 1.2; 2.1 after 0.1 and beside the others
+    let logs = vec![
+        vec![own(0, 1), other(1, 1), other(2, 1), other(1, 2)],
+        vec![other(0, 1), own(1, 1), own(1, 2), other(2, 1)],
+        vec![other(0, 1), own(2, 1), other(1, 1), other(1, 2)],
+    ];
+    assert!(is_causal(&logs));
+    assert!(is_causal(&exchanged(&logs, 0, 1, 2)), "these two are concurrent");
+    assert!(!is_causal(&exchanged(&logs, 0, 1, 3)), "1.2 before 1.1");
+    assert!(!is_causal(&exchanged(&logs, 2, 0, 2)), "1.1 before 0.1");
+    let mut lacking = logs.clone();
+    lacking[0].pop();
+    assert!(!is_causal(&lacking), "0 lacks 1.2");
+    let mut twice = logs.clone();
+    twice[0].push(other(1, 2));
+    assert!(!is_causal(&twice), "0 has 1.2 twice");
+    // none of them could have delivered what the other cast later
+    let circle = vec![vec![other(1, 1), own(0, 1)], vec![other(0, 1), own(1, 1)]];
+    assert!(!is_causal(&circle), "each before the other");
+}

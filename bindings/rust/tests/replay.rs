@@ -1,0 +1,171 @@
+//! A member is killed and comes back by the file in which it wrote each call before anything of it was sent.
+
+#[allow(dead_code)]
+mod network;
+#[allow(dead_code)]
+mod text;
+
+use jolunza::{Entry, Member, Refusal, Settings};
+use network::{Dice, Network};
+use std::env;
+use std::fs::{self, File};
+use std::io::Write;
+use std::path::{Path, PathBuf};
+use std::process;
+use text::{bytes_of, hexadecimal};
+
+const SIZE: u32 = 3;
+const KILLED: u32 = 1;
+
+fn open(me: u32) -> Member {
+    Member::open(Settings { group: 7, size: SIZE, window: 8, me, history_max: 100_000 }).unwrap()
+}
+
+fn call(member: &mut Member, line: &str) -> Result<(), Refusal> {
+    match line.split_once(' ') {
+        Some(("cast", word)) => member.cast(&bytes_of(word)),
+        Some(("receive", word)) => member.receive(&bytes_of(word)).map(drop),
+        None if line == "tick" => member.tick(),
+        _ => panic!("{line}"),
+    }
+}
+
+/// To whom each frame of the last call goes, and its bytes.
+fn frames(member: &mut Member) -> Vec<(Option<u32>, Vec<u8>)> {
+    member.frames().map(|frame| (frame.to, frame.bytes.to_vec())).collect()
+}
+
+/// All that can be read of a member, as text.
+fn reading(member: &mut Member) -> Vec<String> {
+    let mut lines = vec![format!("{:?} {} {:?}", member.time(), member.stable(), member.counts())];
+    lines.extend((0..SIZE).map(|other| format!("{:?}", member.missing(other))));
+    lines.extend(member.events(..).map(|event| format!("{event:?}")));
+    for index in 0..member.counts().entries {
+        lines.push(match member.entry(index).unwrap() {
+            Entry::Arrive { frame, delivered } => format!("arrive {frame:?} {delivered:?}"),
+            entry => format!("{entry:?}"),
+        });
+    }
+    lines
+}
+
+/// A member that writes each call down, and what it sent by then.
+struct Journaled {
+    member: Member,
+    file: File,
+    sent: Vec<Vec<(Option<u32>, Vec<u8>)>>,
+}
+
+impl Journaled {
+    fn new(path: &Path) -> Journaled {
+        Journaled { member: open(KILLED), file: File::create(path).unwrap(), sent: Vec::new() }
+    }
+
+    /// A refused call changes nothing, so it is not written down.
+    fn call(&mut self, line: &str) -> Result<(), Refusal> {
+        call(&mut self.member, line)?;
+        writeln!(self.file, "{line}").unwrap();
+        self.sent.push(frames(&mut self.member));
+        Ok(())
+    }
+
+    /// Another member makes the calls that stand in the file: it sends the same, and reads the same.
+    fn come_back(&mut self, path: &Path) {
+        let mut member = open(KILLED);
+        let journal = fs::read_to_string(path).unwrap();
+        for (line, sent) in journal.lines().zip(&self.sent) {
+            call(&mut member, line).unwrap();
+            assert_eq!(frames(&mut member), *sent, "{line}");
+        }
+        assert_eq!(journal.lines().count(), self.sent.len());
+        assert_eq!(reading(&mut member), reading(&mut self.member));
+        self.member = member;
+    }
+}
+
+struct Group {
+    journaled: Journaled,
+    others: Vec<Member>,
+    network: Network,
+}
+
+impl Group {
+    /// A call of a member, the one that is written down or another.
+    fn call(&mut self, me: u32, line: &str) {
+        let done = if me == KILLED { self.journaled.call(line) } else { call(&mut self.others[me as usize / 2], line) };
+        match done {
+            Ok(()) => self.member(me, |member, network| member.frames().for_each(|frame| network.send(me, frame))),
+            Err(refusal) => assert!(matches!(refusal, Refusal::WindowFull | Refusal::TooFar), "{refusal}"),
+        }
+    }
+
+    fn member<T>(&mut self, me: u32, act: impl Fn(&mut Member, &mut Network) -> T) -> T {
+        let member = if me == KILLED { &mut self.journaled.member } else { &mut self.others[me as usize / 2] };
+        act(member, &mut self.network)
+    }
+
+    fn bring(&mut self) {
+        if let Some((to, bytes)) = self.network.take() {
+            self.call(to, &format!("receive {}", hexadecimal(&bytes)));
+        }
+    }
+
+    fn act(&mut self, dice: &mut Dice) {
+        let me = dice.below(SIZE.into()) as u32;
+        match dice.below(10) {
+            0 => self.call(me, "tick"),
+            1 => self.call(me, &format!("cast {}", hexadecimal(&dice.0.to_le_bytes()))),
+            _ => self.bring(),
+        }
+    }
+
+    fn quiet_round(&mut self) {
+        (0..SIZE).for_each(|me| self.call(me, "tick"));
+        while !self.network.is_empty() {
+            self.bring();
+        }
+    }
+}
+
+fn journal() -> PathBuf {
+    env::temp_dir().join(format!("jolunza-replay-{}", process::id()))
+}
+
+#[test]
+fn a_member_comes_back_by_its_journal_and_the_group_goes_on() {
+    let path = journal();
+    let others = vec![open(0), open(2)];
+    let mut group = Group { journaled: Journaled::new(&path), others, network: Network::new(SIZE, 3) };
+    let mut dice = Dice(3);
+    for turn in 1..=3_000 {
+        group.act(&mut dice);
+        if turn % 500 == 0 {
+            group.journaled.come_back(&path);
+        }
+    }
+    group.network.is_good = true;
+    (0..5).for_each(|_| group.quiet_round());
+    let time = group.journaled.member.time();
+    assert!(time.iter().all(|count| *count > 50), "{time:?}");
+    for me in 0..SIZE {
+        let (found, stable) = group.member(me, |member, _| (member.time(), member.stable()));
+        assert_eq!((found, stable), (time.clone(), time[me as usize]));
+    }
+    fs::remove_file(path).unwrap();
+}
+
+/// One that begins anew is silently ignored, and refuses what the others say of it.
+#[test]
+fn a_member_without_its_journal_is_ignored() {
+    let (mut before, mut other) = (open(KILLED), open(0));
+    before.cast(b"a").unwrap();
+    other.receive(before.frames().next().unwrap().bytes).unwrap();
+    drop(before);
+    let mut anew = open(KILLED);
+    anew.cast(b"b").unwrap();
+    let received = other.receive(anew.frames().next().unwrap().bytes).unwrap();
+    assert!(received.is_repeat);
+    anew = open(KILLED);
+    other.tick().unwrap();
+    assert_eq!(anew.receive(other.frames().next().unwrap().bytes), Err(Refusal::Impossible));
+}

@@ -1,0 +1,172 @@
+//! The schedules of the repository, played over this crate: what is printed is what `confer play` prints.
+
+#[path = "../examples/parley/lines.rs"]
+#[allow(dead_code)]
+mod lines;
+mod text;
+
+use jolunza::{Member, Name, Refusal, Settings};
+use lines::{Conference, Showing};
+use std::fmt::Write;
+use std::fs;
+use std::path::Path;
+use text::{bytes_of, hexadecimal, printed_time};
+
+/// A member with its conference and all lines that were shown.
+struct Player {
+    member: Member,
+    conference: Conference,
+    screen: Vec<String>,
+}
+
+struct Play {
+    players: Vec<Player>,
+    frames: Vec<Vec<u8>>,
+    out: String,
+}
+
+/// As `confer` prints it.
+fn printed_payload(payload: &[u8]) -> String {
+    let is_plain = payload.iter().all(|byte| (0x20..=0x7e).contains(byte) && !b"\"\\".contains(byte));
+    match std::str::from_utf8(payload) {
+        Ok(text) if is_plain => format!("\"{text}\""),
+        _ => format!("x{}", hexadecimal(payload)),
+    }
+}
+
+impl Player {
+    /// Shows what is new, and prints the deliveries.
+    fn show_news(&mut self, out: &mut String) {
+        for event in self.member.new_events() {
+            if !event.is_own {
+                let (time, payload) = (printed_time(event.time), printed_payload(event.payload));
+                writeln!(out, " = {} {time} {payload}", event.name).unwrap();
+            }
+            if let Showing::Shown(shown) = self.conference.show(event.name, event.payload) {
+                self.screen.push(shown.to_string());
+            }
+        }
+    }
+}
+
+impl Play {
+    fn new(line: &str) -> Play {
+        let numbers: Vec<u32> = line.split(' ').filter_map(|word| word.parse().ok()).collect();
+        let [group, size, window, history] = numbers[..] else { panic!("{line}") };
+        let settings = |me| Settings { group, size, window, me, history_max: history as usize };
+        let player = |me| Player {
+            member: Member::open(settings(me)).unwrap(),
+            conference: Conference::default(),
+            screen: Vec::new(),
+        };
+        Play { players: (0..size).map(player).collect(), frames: Vec::new(), out: String::new() }
+    }
+
+    fn step(&mut self, step: usize, line: &str) {
+        let words: Vec<&str> = line.splitn(4, ' ').collect();
+        let place: usize = words[1].parse().unwrap();
+        write!(self.out, "{step} ").unwrap();
+        let Some(player) = self.players.get_mut(place) else {
+            writeln!(self.out, "refused NoSuchMember").unwrap();
+            return;
+        };
+        let payload = match words[0] {
+            "cast" => Ok(bytes_of(words[2])),
+            "say" => player.conference.say(words[2], words[3]),
+            "answer" => player.conference.answer(name_of(words[2]), words[3]),
+            "arrive" => return self.arrive(place, words[2]),
+            "tick" => return self.tick(place),
+            "screen" => return self.screen(place),
+            _ => panic!("{line}"),
+        };
+        match payload {
+            Ok(payload) => self.cast(place, &payload),
+            Err(fault) => writeln!(self.out, "refused {fault:?}").unwrap(),
+        }
+    }
+
+    fn cast(&mut self, place: usize, payload: &[u8]) {
+        let member = &mut self.players[place].member;
+        let done = member.cast(payload);
+        let time = member.time();
+        self.answered(place, done, |_| format!("cast {place}.{} {}", time[place], printed_time(&time)));
+    }
+
+    fn arrive(&mut self, place: usize, frame: &str) {
+        let Some(bytes) = frame.parse().ok().and_then(|number: usize| self.frames.get(number)) else {
+            return writeln!(self.out, "refused NoSuchFrame").unwrap();
+        };
+        let done = self.players[place].member.receive(bytes);
+        self.answered(place, done, |received| match (received.is_repeat, received.is_entered) {
+            (true, _) => "arrive repeat".into(),
+            (false, true) => "arrive accepted changed".into(),
+            (false, false) => "arrive accepted same".into(),
+        });
+    }
+
+    fn tick(&mut self, place: usize) {
+        let member = &mut self.players[place].member;
+        let before = member.counts().entries;
+        let done = member.tick();
+        let entered = if member.counts().entries > before { "entered" } else { "same" };
+        self.answered(place, done, |_| format!("tick {entered}"));
+    }
+
+    fn screen(&mut self, place: usize) {
+        writeln!(self.out, "screen {place}").unwrap();
+        let screen = &self.players[place].screen;
+        for line in &screen[screen.len().saturating_sub(20)..] {
+            writeln!(self.out, " | {line}").unwrap();
+        }
+    }
+
+    fn answered<T>(&mut self, place: usize, done: Result<T, Refusal>, text: impl Fn(T) -> String) {
+        match done {
+            Err(refusal) => return writeln!(self.out, "refused {refusal:?}").unwrap(),
+            Ok(done) => writeln!(self.out, "{}", text(done)).unwrap(),
+        }
+        let player = &mut self.players[place];
+        player.show_news(&mut self.out);
+        for frame in player.member.frames() {
+            let to = frame.to.map_or("all".into(), |member| member.to_string());
+            writeln!(self.out, " > {} {to} {}", self.frames.len(), hexadecimal(frame.bytes)).unwrap();
+            self.frames.push(frame.bytes.to_vec());
+        }
+    }
+
+    fn end(mut self) -> String {
+        for (place, player) in self.players.iter().enumerate() {
+            let (time, stable) = (printed_time(&player.member.time()), player.member.stable());
+            let entries = player.member.counts().entries;
+            writeln!(self.out, "member {place} time {time} stable {stable} entries {entries}").unwrap();
+        }
+        self.out
+    }
+}
+
+fn name_of(word: &str) -> Name {
+    let (sender, number) = word.split_once('.').unwrap();
+    Name { sender: sender.parse().unwrap(), number: number.parse().unwrap() }
+}
+
+fn played(script: &str) -> String {
+    let mut lines = script.lines();
+    let mut play = Play::new(lines.next().unwrap());
+    for (step, line) in (1..).zip(lines) {
+        play.step(step, line);
+    }
+    play.end()
+}
+
+#[test]
+fn each_schedule_prints_what_confer_prints() {
+    let folder = Path::new(env!("CARGO_MANIFEST_DIR")).join("../../schedules");
+    let files = fs::read_dir(folder).unwrap().map(|file| file.unwrap().path());
+    let scripts: Vec<_> = files.filter(|path| path.extension().is_some_and(|end| end == "script")).collect();
+    for path in &scripts {
+        let (script, out) =
+            (fs::read_to_string(path).unwrap(), fs::read_to_string(path.with_extension("out")).unwrap());
+        assert_eq!(played(&script), out, "{}", path.display());
+    }
+    assert!(scripts.len() >= 16, "{} scripts", scripts.len());
+}
