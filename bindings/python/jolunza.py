@@ -1,0 +1,430 @@
+"""One member of a causal group (CBCAST of Birman, Schiper and Stephenson, 1991), proved: a shell of ctypes over libjolunza.so.
+
+A member is a machine without clock, thread or socket. The program hands it what was received, sends the frames that it answers, and
+ticks it now and then. Each call does what the header `bindings/c/jolunza.h` says; a code other than DONE is raised as a `Refusal`,
+after which the member is as it was.
+
+    with Member(group=7, size=3, window=16, me=0) as member:
+        member.cast(b"when?")
+        for frame in member.frames():
+            send(frame.to, frame.bytes)  # `to` is None for all others
+
+Linux on x86-64, Python 3.9 or later, the standard library alone.
+"""
+
+from __future__ import annotations
+
+import ctypes
+import enum
+import functools
+import os
+import pathlib
+import threading
+from ctypes import POINTER, Structure, byref, c_bool, c_char_p, c_size_t, c_uint8, c_uint32, c_void_p
+from types import TracebackType
+from typing import Any, Iterator, NamedTuple, Optional, Union
+
+LONGEST_PAYLOAD = 1024
+LONGEST_FRAME = 1417
+MOST_MEMBERS = 64
+
+Given = Union[bytes, bytearray, memoryview]
+
+
+class Code(enum.IntEnum):
+    """What the calls answer: the names of the header without `JOLUNZA_`, which tells what each means and what to do."""
+
+    DONE = 0
+    CLOSED = 1
+    NO_MEMORY = 2
+    BAD_GROUP = 3
+    BAD_MEMBER = 4
+    BAD_LIMIT = 5
+    PAYLOAD_TOO_LONG = 6
+    WINDOW_FULL = 7
+    HISTORY_FULL = 8
+    OTHER_GROUP = 9
+    IMPOSSIBLE = 10
+    TOO_FAR = 11
+    MALFORMED = 12
+    NONE_THERE = 13
+
+
+class Kind(enum.IntEnum):
+    """What an entry of the history did."""
+
+    CAST = 0
+    ARRIVE = 1
+    TICK = 2
+
+
+class Refusal(Exception):
+    """A call was refused, and nothing has changed."""
+
+    def __init__(self, code: Code) -> None:
+        super().__init__(code)
+        self.code = code
+
+    def __str__(self) -> str:
+        return self.code.name
+
+
+class Name(NamedTuple):
+    """Of a message: its sender, and the how manieth cast of that sender it is, from 1."""
+
+    sender: int
+    number: int
+
+    def __str__(self) -> str:
+        return f"{self.sender}.{self.number}"
+
+
+class Counts(NamedTuple):
+    """How many there are: frames of the last call that was done, events since the member was opened, entries of its history."""
+
+    frames: int
+    events: int
+    entries: int
+
+
+class Received(NamedTuple):
+    """What a frame that was taken did. A repeat changed nothing."""
+
+    is_repeat: bool
+    is_entered: bool
+    delivered: int
+
+
+class Frame(NamedTuple):
+    """Bytes to be sent, to one member or, where `to` is None, to all others."""
+
+    to: Optional[int]
+    bytes: bytes
+
+
+class Event(NamedTuple):
+    """A message that the member cast itself, or that was delivered to it."""
+
+    is_own: bool
+    name: Name
+    time: tuple[int, ...]
+    payload: bytes
+
+
+class Entry(NamedTuple):
+    """What was done, the frame of it, and the names of the messages that an arrival delivered."""
+
+    kind: Kind
+    frame: bytes
+    delivered: tuple[Name, ...]
+
+
+# The structures and functions of the header, with its names. `bindings/check_header.py` compares them with it.
+
+
+class jolunza_handle(Structure):
+    _fields_ = [("at", c_void_p), ("is_open", c_bool)]
+
+
+class jolunza_counts(Structure):
+    _fields_ = [("frames", c_size_t), ("events", c_size_t), ("entries", c_size_t)]
+
+
+class jolunza_received(Structure):
+    _fields_ = [("is_repeat", c_bool), ("is_entered", c_bool), ("delivered", c_size_t)]
+
+
+class jolunza_frame_head(Structure):
+    _fields_ = [("to_all", c_bool), ("to", c_uint32), ("length", c_size_t)]
+
+
+class jolunza_event_head(Structure):
+    _fields_ = [("is_own", c_bool), ("sender", c_uint32), ("number", c_uint32), ("length", c_size_t)]
+
+
+class jolunza_entry_head(Structure):
+    _fields_ = [("kind", c_uint32), ("length", c_size_t), ("delivered", c_size_t)]
+
+
+class jolunza_name(Structure):
+    _fields_ = [("sender", c_uint32), ("number", c_uint32)]
+
+
+class jolunza_range(Structure):
+    _fields_ = [("first", c_uint32), ("last", c_uint32)]
+
+
+HANDLE = ("handle", POINTER(jolunza_handle))
+
+# Of each function what it answers, and its parameters. `c_char_p` is bytes that are only read, and never NULL here.
+FUNCTIONS: dict[str, tuple[Any, list[tuple[str, Any]]]] = {
+    "jolunza_open": (
+        c_uint32,
+        [HANDLE, ("group", c_uint32), ("size", c_uint32), ("window", c_uint32), ("me", c_uint32), ("history_max", c_size_t)],
+    ),
+    "jolunza_close": (None, [HANDLE]),
+    "jolunza_cast": (c_uint32, [HANDLE, ("payload", c_char_p), ("length", c_size_t)]),
+    "jolunza_receive": (
+        c_uint32,
+        [HANDLE, ("bytes", c_char_p), ("length", c_size_t), ("received", POINTER(jolunza_received))],
+    ),
+    "jolunza_tick": (c_uint32, [HANDLE]),
+    "jolunza_count": (c_uint32, [HANDLE, ("counts", POINTER(jolunza_counts))]),
+    "jolunza_frame": (
+        c_uint32,
+        [
+            HANDLE,
+            ("index", c_size_t),
+            ("head", POINTER(jolunza_frame_head)),
+            ("bytes", POINTER(c_uint8)),
+            ("capacity", c_size_t),
+        ],
+    ),
+    "jolunza_frames": (
+        c_uint32,
+        [
+            HANDLE,
+            ("first", c_size_t),
+            ("heads", POINTER(jolunza_frame_head)),
+            ("heads_capacity", c_size_t),
+            ("bytes", POINTER(c_uint8)),
+            ("capacity", c_size_t),
+            ("count", POINTER(c_size_t)),
+        ],
+    ),
+    "jolunza_event": (
+        c_uint32,
+        [
+            HANDLE,
+            ("index", c_size_t),
+            ("head", POINTER(jolunza_event_head)),
+            ("payload", POINTER(c_uint8)),
+            ("capacity", c_size_t),
+            ("time", POINTER(c_uint32)),
+            ("time_capacity", c_size_t),
+        ],
+    ),
+    "jolunza_events": (
+        c_uint32,
+        [
+            HANDLE,
+            ("first", c_size_t),
+            ("heads", POINTER(jolunza_event_head)),
+            ("heads_capacity", c_size_t),
+            ("payloads", POINTER(c_uint8)),
+            ("capacity", c_size_t),
+            ("times", POINTER(c_uint32)),
+            ("times_capacity", c_size_t),
+            ("count", POINTER(c_size_t)),
+        ],
+    ),
+    "jolunza_entry": (
+        c_uint32,
+        [
+            HANDLE,
+            ("index", c_size_t),
+            ("head", POINTER(jolunza_entry_head)),
+            ("frame", POINTER(c_uint8)),
+            ("capacity", c_size_t),
+            ("delivered", POINTER(jolunza_name)),
+            ("delivered_capacity", c_size_t),
+        ],
+    ),
+    "jolunza_time": (c_uint32, [HANDLE, ("time", POINTER(c_uint32)), ("capacity", c_size_t)]),
+    "jolunza_stable": (c_uint32, [HANDLE, ("count", POINTER(c_uint32))]),
+    "jolunza_missing": (
+        c_uint32,
+        [
+            HANDLE,
+            ("member", c_uint32),
+            ("ranges", POINTER(jolunza_range)),
+            ("capacity", c_size_t),
+            ("count", POINTER(c_size_t)),
+        ],
+    ),
+}
+
+
+def library_path() -> str:
+    """Where the library is: in the folder JOLUNZA_LIB, else in bindings/out, else where the system's loader looks."""
+    folder = os.environ.get("JOLUNZA_LIB")
+    if folder:
+        return os.path.join(os.path.abspath(folder), "libjolunza.so")
+    built = pathlib.Path(__file__).resolve().parent.parent / "out" / "libjolunza.so"
+    return str(built) if built.exists() else "libjolunza.so.1"
+
+
+@functools.lru_cache(maxsize=None)
+def library() -> ctypes.CDLL:
+    """The library, with the types of its functions."""
+    path = library_path()
+    try:
+        opened = ctypes.CDLL(path)
+    except OSError as fault:
+        raise OSError(f"no library: {fault}. bindings/build.sh makes it; JOLUNZA_LIB names another folder for it.") from fault
+    for name, (answer, parameters) in FUNCTIONS.items():
+        function = getattr(opened, name)
+        function.restype, function.argtypes = answer, [kind for _, kind in parameters]
+    return opened
+
+
+def _given(given: Given) -> bytes:
+    return given if isinstance(given, bytes) else bytes(memoryview(given))
+
+
+def _number(value: int, bits: int) -> int:
+    """The value, where it has as many bits: ctypes would cut it."""
+    if not 0 <= value < 1 << bits:
+        raise OverflowError(f"{value} is no number of {bits} bits")
+    return value
+
+
+class Member:
+    """Opens a member; `close`, the end of a `with`, or its last use frees it. It may be used by several threads, one call after another.
+
+    Of the same group number, size and window each member number is opened once in the world, and so not in a forked process as well.
+    Who wants to come back opens it anew and repeats the calls that changed it.
+    """
+
+    # Room for so many at a time; one of the longest fits at least, so a bulk copy answers 0 only at the end.
+    _MANY = 16
+
+    def __init__(self, group: int, size: int, window: int, me: int, history_max: int = 1_000_000) -> None:
+        self._handle = byref(jolunza_handle())
+        self._lock = threading.Lock()
+        self._library = library()
+        numbers = [_number(value, 32) for value in (group, size, window, me)]
+        self._call("open", *numbers, _number(history_max, 64))
+        self._size = size
+        self._bytes = (c_uint8 * (self._MANY * LONGEST_FRAME))()
+        self._view = memoryview(self._bytes)
+
+    def __enter__(self) -> Member:
+        return self
+
+    def __exit__(
+        self, kind: Optional[type[BaseException]], raised: Optional[BaseException], trace: Optional[TracebackType]
+    ) -> None:
+        self.close()
+
+    def __del__(self) -> None:
+        if hasattr(self, "_library"):
+            self.close()
+
+    def close(self) -> None:
+        """Frees the member, if it is open. Every other call is refused as CLOSED from then on."""
+        with self._lock:
+            self._library.jolunza_close(self._handle)
+
+    def cast(self, payload: Given) -> None:
+        """Casts a message. The one frame to be sent goes to all others; the last event is the message."""
+        given = _given(payload)
+        with self._lock:
+            self._call("cast", given, len(given))
+
+    def receive(self, frame: Given) -> Received:
+        """Takes received bytes: one frame, whole. The last `delivered` events are new, and frames to be sent answer a request."""
+        given, received = _given(frame), jolunza_received()
+        with self._lock:
+            self._call("receive", given, len(given), byref(received))
+        return Received(received.is_repeat, received.is_entered, received.delivered)
+
+    def tick(self) -> None:
+        """The frames to be sent are the status, to all others, and a request to each member of whom something is missing."""
+        with self._lock:
+            self._call("tick")
+
+    def counts(self) -> Counts:
+        counts = jolunza_counts()
+        with self._lock:
+            self._call("count", byref(counts))
+        return Counts(counts.frames, counts.events, counts.entries)
+
+    def frames(self) -> list[Frame]:
+        """The frames to be sent of the last call of `cast`, `receive` or `tick` that was done."""
+        with self._lock:
+            frames: list[Frame] = []
+            more = self._frames(0)
+            while more:
+                frames.extend(more)
+                more = self._frames(len(frames))
+            return frames
+
+    def events(self, first: int = 0) -> Iterator[Event]:
+        """The casts and deliveries in their order, from the one that has `first` before it."""
+        with self._lock:
+            more = self._events(_number(first, 64))
+        while more:
+            yield from more
+            first += len(more)
+            with self._lock:
+                more = self._events(first)
+
+    def entries(self, first: int = 0) -> Iterator[Entry]:
+        """The history in its order, from the entry that has `first` before it."""
+        for index in range(_number(first, 64), self.counts().entries):
+            with self._lock:
+                entry = self._entry(index, self._MANY)
+            yield entry
+
+    def time(self) -> tuple[int, ...]:
+        """How many messages of each member are delivered, own casts included."""
+        time = (c_uint32 * MOST_MEMBERS)()
+        with self._lock:
+            self._call("time", time, MOST_MEMBERS)
+        return tuple(time[: self._size])
+
+    def stable(self) -> int:
+        """How many own casts every other member is known to have delivered."""
+        count = c_uint32()
+        with self._lock:
+            self._call("stable", byref(count))
+        return count.value
+
+    def missing(self, member: int) -> list[range]:
+        """The numbers of the casts of another member that are missing, in rising ranges."""
+        with self._lock:
+            return self._missing(_number(member, 32), self._MANY)
+
+    def _call(self, name: str, *given: Any) -> None:
+        code = getattr(self._library, f"jolunza_{name}")(self._handle, *given)
+        if code:
+            raise Refusal(Code(code))
+
+    def _frames(self, first: int) -> list[Frame]:
+        heads, count = (jolunza_frame_head * self._MANY)(), c_size_t()
+        self._call("frames", first, heads, self._MANY, self._bytes, len(self._bytes), byref(count))
+        frames, at = [], 0
+        for head in heads[: count.value]:
+            frames.append(Frame(None if head.to_all else head.to, self._view[at : at + head.length].tobytes()))
+            at += head.length
+        return frames
+
+    def _events(self, first: int) -> list[Event]:
+        heads, count = (jolunza_event_head * self._MANY)(), c_size_t()
+        times = (c_uint32 * (self._MANY * self._size))()
+        self._call(
+            "events", first, heads, self._MANY, self._bytes, len(self._bytes), times, len(times), byref(count)
+        )
+        events, at = [], 0
+        for index, head in enumerate(heads[: count.value]):
+            time = tuple(times[index * self._size : (index + 1) * self._size])
+            payload = self._view[at : at + head.length].tobytes()
+            events.append(Event(head.is_own, Name(head.sender, head.number), time, payload))
+            at += head.length
+        return events
+
+    def _entry(self, index: int, room: int) -> Entry:
+        head, names = jolunza_entry_head(), (jolunza_name * room)()
+        self._call("entry", index, byref(head), self._bytes, len(self._bytes), names, room)
+        if head.delivered > room:
+            return self._entry(index, head.delivered)
+        delivered = tuple(Name(name.sender, name.number) for name in names[: head.delivered])
+        return Entry(Kind(head.kind), self._view[: head.length].tobytes(), delivered)
+
+    def _missing(self, member: int, room: int) -> list[range]:
+        ranges, count = (jolunza_range * room)(), c_size_t()
+        self._call("missing", member, ranges, room, byref(count))
+        if count.value > room:
+            return self._missing(member, count.value)
+        return [range(found.first, found.last + 1) for found in ranges[: count.value]]

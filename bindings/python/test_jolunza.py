@@ -1,0 +1,613 @@
+"""Tests of the module, of the journal, and of what redis_group.py says of screens: python3 -m unittest"""
+
+from __future__ import annotations
+
+import contextlib
+import copy
+import doctest
+import io
+import os
+import random
+import resource
+import tempfile
+import threading
+import time
+import unittest
+from typing import Callable, Iterator, Optional
+from unittest import mock
+
+import jolunza
+import redis_group
+import three_members
+from jolunza import Code, Counts, Entry, Event, Frame, Kind, Member, Name, Received, Refusal
+from journal import Journal, Record, make, records
+
+HI = bytes.fromhex("11 07 00 01 00 02 68 69")
+YO = bytes.fromhex("11 07 01 01 01 00 01 02 79 6f")
+CHANGED, UNCHANGED = Received(False, True, 0), Received(False, False, 0)
+
+
+def opened(me: int, window: int = 4, history_max: int = 100_000) -> Member:
+    return Member(7, 3, window, me, history_max)
+
+
+def after(me: int, *frames: bytes, window: int = 4) -> Member:
+    """A member that took these."""
+    member = opened(me, window)
+    for frame in frames:
+        member.receive(frame)
+    return member
+
+
+def that_cast(me: int, *payloads: bytes, window: int = 4) -> tuple[Member, list[bytes]]:
+    """A member, and the frames of its casts."""
+    member, frames = opened(me, window), []
+    for payload in payloads:
+        member.cast(payload)
+        frames += [frame.bytes for frame in member.frames()]
+    return member, frames
+
+
+def calls(member: Member) -> tuple[Callable[[], object], ...]:
+    """Each call of a member that is open."""
+    return (
+        lambda: member.cast(b"hi"),
+        lambda: member.receive(YO),
+        member.tick,
+        member.counts,
+        member.frames,
+        lambda: list(member.events()),
+        lambda: list(member.entries()),
+        member.time,
+        member.stable,
+        lambda: member.missing(1),
+    )
+
+
+class Slow:
+    """Stands for the library: counts its calls, and how many of them ran at once at most."""
+
+    calls = inside = most = 0
+
+    def __getattr__(self, name: str) -> Callable[..., int]:
+        return self._call
+
+    def _call(self, *given: object) -> int:
+        self.calls, self.inside = self.calls + 1, self.inside + 1
+        self.most = max(self.most, self.inside)
+        time.sleep(0.005)
+        self.inside -= 1
+        return 0
+
+
+class Case(unittest.TestCase):
+    def refuses(self, code: Code, member: Member, record: Record) -> None:
+        """The call is refused just so, and changes nothing."""
+        before = state(member)
+        with self.assertRaises(Refusal) as raised:
+            make(member, record)
+        self.assertEqual(raised.exception.code, code)
+        self.assertEqual(state(member), before)
+
+    def answers(self, member: Member, given: str, answer: object) -> None:
+        record = Record(Kind.ARRIVE, bytes.fromhex(given))
+        if isinstance(answer, Code):
+            self.refuses(answer, member, record)
+        else:
+            self.assertEqual(make(member, record), answer, given)
+
+
+def state(member: Member) -> tuple[object, ...]:
+    """All that can be read of it."""
+    read = (member.counts(), member.frames(), list(member.events()), list(member.entries()))
+    return (*read, member.time(), member.stable(), missing(member))
+
+
+def missing(member: Member) -> list[list[range]]:
+    """Of each other member of a group of three."""
+    found = []
+    for other in range(3):
+        try:
+            found.append(member.missing(other))
+        except Refusal:
+            pass  # itself
+    return found
+
+
+class WorkedExamples(Case):
+    """Of docs/PROTOCOL.md, section 12: one member of group 7, of three members, with a window of 4."""
+
+    def test_a_cast(self) -> None:
+        member = opened(0)
+        self.assertEqual(state(member), (Counts(0, 0, 0), [], [], [], (0, 0, 0), 0, [[], []]))
+        member.cast(b"hi")
+        event = Event(True, Name(0, 1), (1, 0, 0), b"hi")
+        entry = Entry(Kind.CAST, HI, ())
+        self.assertEqual(state(member), (Counts(1, 1, 1), [Frame(None, HI)], [event], [entry], (1, 0, 0), 0, [[], []]))
+
+    def test_a_payload_without_bytes(self) -> None:
+        member = opened(0)
+        for given in (b"", bytearray(), memoryview(b"")):
+            member.cast(given)
+        self.assertEqual(member.frames(), [Frame(None, bytes.fromhex("11 07 00 03 00 00"))])
+        self.assertEqual([event.payload for event in member.events()], [b"", b"", b""])
+
+    def test_an_answer_waits_for_its_question(self) -> None:
+        member = opened(2)
+        self.assertEqual(member.receive(YO), CHANGED)
+        self.assertEqual((list(member.events()), member.missing(0), member.missing(1)), ([], [range(1, 2)], []))
+        self.assertEqual(member.receive(HI), Received(False, True, 2))
+        events = [Event(False, Name(0, 1), (1, 0, 0), b"hi"), Event(False, Name(1, 1), (1, 1, 0), b"yo")]
+        self.assertEqual(list(member.events()), events)
+        self.assertEqual([str(event.name) for event in events], ["0.1", "1.1"])
+        entries = [Entry(Kind.ARRIVE, YO, ()), Entry(Kind.ARRIVE, HI, (Name(0, 1), Name(1, 1)))]
+        self.assertEqual(list(member.entries()), entries)
+        self.assertEqual((list(member.events(1)), list(member.entries(1))), (events[1:], entries[1:]))
+
+    def test_what_arrives_is_refused_by_the_first_rule_that_it_breaks(self) -> None:
+        member, _ = that_cast(0, b"hi")
+        rows: list[tuple[str, object]] = [
+            ("11 07 00 01 00 02 68 69", Received(True, False, 0)),
+            ("12 07 00 01 00 01", UNCHANGED),
+            ("11 07 00 09 00 00", Code.IMPOSSIBLE),
+            ("12 07 01 01 00 02", Code.IMPOSSIBLE),
+            ("13 07 00 00 01 00 00", Code.IMPOSSIBLE),
+            ("12 07 00 01 00 02", Code.IMPOSSIBLE),
+            ("11 08 01 01 00 00", Code.OTHER_GROUP),
+            ("11 07 03 01 00 00", Code.BAD_MEMBER),
+            ("11 07 40", Code.MALFORMED),
+            ("", Code.MALFORMED),
+            ("11 07 01 02 00 02 6f 6b", CHANGED),
+            ("11 07 01 01 01 00 01 02 79 6f", Received(False, True, 2)),
+        ]
+        for given, answer in rows:
+            self.answers(member, given, answer)
+        self.assertEqual((member.time(), member.stable()), ((1, 2, 0), 0))
+        self.answers(member, "12 07 02 01 00 01", CHANGED)
+        self.assertEqual(member.stable(), 1)
+        self.answers(member, "13 07 02 00 01 00 00", UNCHANGED)
+        self.assertEqual(member.frames(), [])
+
+    def test_a_tick_says_a_status_and_asks_for_what_is_missing(self) -> None:
+        member = opened(2)
+        for entries in (1, 1):
+            member.tick()
+            self.assertEqual(member.frames(), [Frame(None, bytes.fromhex("12 07 02 00"))])
+            self.assertEqual(member.counts(), Counts(1, 0, entries))
+        _, (first, second, _, fourth) = that_cast(0, b"a", b"b", b"c", b"d")
+        for frames, status, request in (
+            ((first, fourth), "12 07 02 01 00 01", "13 07 02 00 01 01 01"),
+            ((second, fourth), "12 07 02 00", "13 07 02 00 02 00 00 00 00"),
+        ):
+            member = after(2, *frames)
+            member.tick()
+            self.assertEqual(member.frames(), [Frame(None, bytes.fromhex(status)), Frame(0, bytes.fromhex(request))])
+        self.assertEqual(list(member.entries())[-1], Entry(Kind.TICK, bytes.fromhex("12 07 02 00"), ()))
+
+    def test_a_request_is_answered_by_the_asked_member(self) -> None:
+        member, _ = that_cast(0, b"a", b"b", b"c", b"d")
+        self.answers(member, "13 07 02 00 01 01 01", UNCHANGED)
+        again = ["11 07 00 02 00 01 62", "11 07 00 03 00 01 63"]
+        self.assertEqual(member.frames(), [Frame(2, bytes.fromhex(text)) for text in again])
+        member = opened(1)
+        self.answers(member, "13 07 02 00 01 01 01", UNCHANGED)
+        self.assertEqual(member.frames(), [])
+
+    def test_a_cast_beyond_the_window(self) -> None:
+        member = opened(2)
+        self.answers(member, "11 07 00 05 00 00", Code.TOO_FAR)
+        self.answers(member, "11 07 00 04 00 00", CHANGED)
+
+    def test_a_history_of_one_entry(self) -> None:
+        member = opened(0, history_max=1)
+        member.cast(b"hi")
+        for given, answer in (
+            ("11 07 01 01 00 00", Code.HISTORY_FULL),
+            ("11 07 00 01 00 02 68 69", Received(True, False, 0)),
+            ("12 07 01 00", UNCHANGED),
+            ("12 07 01 01 02 05", Code.HISTORY_FULL),
+        ):
+            self.answers(member, given, answer)
+        self.refuses(Code.HISTORY_FULL, member, Record(Kind.TICK, b""))
+        self.refuses(Code.HISTORY_FULL, member, Record(Kind.CAST, b""))
+
+
+class Refusals(Case):
+    """Each code that no worked example answers."""
+
+    def test_of_opening(self) -> None:
+        for given, code in (
+            ((7, 1, 4, 0, 10), Code.BAD_GROUP),
+            ((7, 65, 4, 0, 10), Code.BAD_GROUP),
+            ((7, 3, 0, 9, 0), Code.BAD_GROUP),
+            ((7, 3, 257, 0, 10), Code.BAD_GROUP),
+            ((7, 3, 4, 3, 0), Code.BAD_MEMBER),
+            ((7, 3, 4, 0, 0), Code.BAD_LIMIT),
+            ((7, 3, 4, 0, 16_777_217), Code.BAD_LIMIT),
+        ):
+            with self.assertRaises(Refusal) as raised:
+                Member(*given)
+            self.assertEqual(raised.exception.code, code)
+        for group, limit in ((0, 1), (0xFFFF_FFFF, 16_777_216)):
+            Member(group, 64, 256, 63, limit).close()
+
+    def test_of_casting(self) -> None:
+        member, _ = that_cast(0, b"a" * 1024, b"b", b"c")
+        self.refuses(Code.PAYLOAD_TOO_LONG, member, Record(Kind.CAST, b"a" * 1025))
+        member.cast(b"d")
+        self.refuses(Code.WINDOW_FULL, member, Record(Kind.CAST, b"e"))
+        self.refuses(Code.PAYLOAD_TOO_LONG, member, Record(Kind.CAST, b"a" * 1025))
+
+    def test_of_missing(self) -> None:
+        for member in (1, 3, 0xFFFF_FFFF):
+            with self.assertRaises(Refusal) as raised:
+                opened(1).missing(member)
+            self.assertEqual(raised.exception.code, Code.BAD_MEMBER)
+
+    def test_of_a_closed_member(self) -> None:
+        with opened(0) as member:
+            member.cast(b"hi")
+        for call in calls(member):
+            with self.assertRaises(Refusal) as raised:
+                call()
+            self.assertEqual((raised.exception.code, str(raised.exception)), (Code.CLOSED, "CLOSED"))
+
+    def test_without_memory(self) -> None:
+        """Members are opened until there is no memory. What nobody holds is freed, and then the same call succeeds."""
+        limits = resource.getrlimit(resource.RLIMIT_AS)
+        with open("/proc/self/statm", encoding="ascii") as file:
+            used = int(file.read().split()[0]) * resource.getpagesize()
+        self.addCleanup(resource.setrlimit, resource.RLIMIT_AS, limits)
+        resource.setrlimit(resource.RLIMIT_AS, (used + (64 << 20), limits[1]))
+        held: list[Member] = []
+        with self.assertRaises(Refusal) as raised:
+            held.extend(Member(7, 64, 256, 0) for _ in range(100))
+        self.assertEqual(raised.exception.code, Code.NO_MEMORY)
+        self.assertGreater(len(held), 0)
+        held.clear()
+        for _ in range(100):
+            Member(7, 64, 256, 0).tick()
+
+    def test_of_an_index_that_is_not_there(self) -> None:
+        """The module asks for no such entry, but the call below it."""
+        with self.assertRaises(Refusal) as raised:
+            opened(0)._entry(0, 1)
+        self.assertEqual(raised.exception.code, Code.NONE_THERE)
+
+
+class Copies(Case):
+    """More than one buffer of the module holds."""
+
+    def test_of_events(self) -> None:
+        payloads = [bytes([place]) * (place * 41 % 1025) for place in range(100)]
+        member, _ = that_cast(1, *payloads, window=256)
+        events = list(member.events())
+        self.assertEqual([event.payload for event in events], payloads)
+        self.assertEqual([event.time for event in events], [(0, number, 0) for number in range(1, 101)])
+        self.assertEqual([event.name for event in events], [Name(1, number) for number in range(1, 101)])
+        for first in (1, 16, 99, 100, 1000):
+            self.assertEqual(list(member.events(first)), events[first:])
+
+    def test_of_events_that_come_while_they_are_read(self) -> None:
+        member, _ = that_cast(1, *[b"a"] * 40, window=256)
+        events = member.events()
+        next(events)
+        member.cast(b"last")
+        self.assertEqual([event.payload for event in events], [b"a"] * 39 + [b"last"])
+
+    def test_of_frames_and_missing_ranges(self) -> None:
+        payloads = [bytes([place]) * (1024 - place) for place in range(64)]
+        member, frames = that_cast(0, *payloads, window=64)
+        other = after(2, *frames[1::2], window=64)
+        self.assertEqual(other.missing(0), [range(number, number + 1) for number in range(1, 65, 2)])
+        other.tick()
+        member.receive(other.frames()[1].bytes)
+        self.assertEqual(member.frames(), [Frame(2, frame) for frame in frames[::2]])
+
+    def test_of_the_names_that_one_arrival_delivered(self) -> None:
+        _, frames = that_cast(0, *[b"a"] * 40, window=64)
+        member = after(2, *frames[:0:-1], frames[0], window=64)
+        *_, last = member.entries()
+        self.assertEqual(last, Entry(Kind.ARRIVE, frames[0], tuple(Name(0, number) for number in range(1, 41))))
+
+
+class Values(Case):
+    def test_numbers_that_ctypes_would_cut(self) -> None:
+        for given in ((1 << 32, 3, 4, 0), (-1, 3, 4, 0), (7, (1 << 32) + 3, 4, 0), (7, 3, 4, 0, 1 << 64)):
+            with self.assertRaises(OverflowError):
+                Member(*given)
+        with self.assertRaises(OverflowError):
+            opened(0).missing((1 << 32) + 1)
+        for read in (opened(0).events, opened(0).entries):
+            with self.assertRaises(OverflowError):
+                list(read(-1))
+
+    def test_payloads_are_bytes(self) -> None:
+        member = opened(0)
+        for given in ("hi", 5, None):
+            for call in (member.cast, member.receive):
+                with self.assertRaises(TypeError):
+                    call(given)  # type: ignore[arg-type]
+        self.assertEqual(member.counts(), Counts(0, 0, 0))
+
+    def test_a_member_has_no_copy(self) -> None:
+        with self.assertRaises((TypeError, ValueError)):
+            copy.deepcopy(opened(0))
+
+    def test_threads_take_turns(self) -> None:
+        for call in calls(member := opened(0)):
+            library = Slow()
+            with mock.patch.object(member, "_library", library):
+                threads = [threading.Thread(target=call) for _ in range(3)]
+                for thread in threads:
+                    thread.start()
+                for thread in threads:
+                    thread.join()
+            self.assertEqual((library.most, library.calls % 3), (1, 0))
+            self.assertGreater(library.calls, 0)
+
+    def test_no_library(self) -> None:
+        with mock.patch.dict(os.environ, JOLUNZA_LIB="/nowhere"):
+            with self.assertRaisesRegex(OSError, "/nowhere/libjolunza.so.*bindings/build.sh"):
+                jolunza.library.__wrapped__()
+
+
+def pasts(order: list[Name], logs: list[list[Name]]) -> dict[Name, set[Name]]:
+    """Of each message, in the order of the casts, what happened before it: what stands before its cast in its sender's log, and what
+    happened before that. No time is read."""
+    past: dict[Name, set[Name]] = {}
+    gathered: list[set[Name]] = [set() for _ in logs]
+    places = [0 for _ in logs]
+    for name in order:
+        me = name.sender
+        place = logs[me].index(name)
+        gathered[me].update(*({one} | past[one] for one in logs[me][places[me] : place]))
+        past[name] = set(gathered[me])
+        places[me] = place
+    return past
+
+
+def too_early(order: list[Name], logs: list[list[Name]]) -> Iterator[tuple[int, Name]]:
+    """Who has a message in its log before something that happened before it."""
+    past = pasts(order, logs)
+    for me, log in enumerate(logs):
+        seen: set[Name] = set()
+        for name in log:
+            if not past[name] <= seen:
+                yield me, name
+            seen.add(name)
+
+
+class Network:
+    """Loses, repeats and reorders frames, as its seed says."""
+
+    def __init__(self, seed: int, size: int) -> None:
+        self.dice, self._size = random.Random(seed), size
+        self.on_its_way: list[tuple[int, bytes]] = []
+        self.lost = self.repeated = self.overtaken = 0
+
+    def send(self, me: int, frames: list[Frame]) -> None:
+        for frame in frames:
+            for to in range(self._size) if frame.to is None else [frame.to]:
+                copies = 0 if to == me else self.dice.choice((0, 1, 1, 1, 2))
+                self.lost += to != me and copies == 0
+                self.repeated += copies == 2
+                self.on_its_way += [(to, frame.bytes)] * copies
+
+    def take(self) -> Optional[tuple[int, bytes]]:
+        """Any of the frames that are on their way."""
+        if not self.on_its_way:
+            return None
+        place = self.dice.randrange(len(self.on_its_way))
+        self.overtaken += place > 0
+        return self.on_its_way.pop(place)
+
+
+class Group:
+    """Members over such a network. A member with a journal writes what it did."""
+
+    def __init__(self, seed: int, messages: int, window: int = 8) -> None:
+        self.members = [Member(7, 3, window, me) for me in range(3)]
+        self.network, self.left, self.order = Network(seed, 3), messages, [Name(0, 0)][:0]
+        self.journals: dict[int, Journal] = {}
+        self.sent: dict[int, list[list[Frame]]] = {me: [] for me in range(3)}
+
+    def call(self, me: int, record: Record) -> None:
+        before = self.members[me].counts().entries
+        self.journals[me].call(record) if me in self.journals else make(self.members[me], record)
+        frames = self.members[me].frames()
+        if self.members[me].counts().entries > before:
+            self.sent[me].append(frames)
+        self.network.send(me, frames)
+
+    def cast(self, me: int) -> None:
+        if not self.left:
+            return
+        try:
+            self.call(me, Record(Kind.CAST, b"message %d" % self.left))
+        except Refusal as refusal:
+            if refusal.code != Code.WINDOW_FULL:
+                raise
+        else:
+            self.left -= 1
+            self.order.append(Name(me, self.members[me].time()[me]))
+
+    def step(self) -> None:
+        """A frame arrives, or somebody casts or ticks."""
+        dice = self.network.dice
+        taken = self.network.take() if dice.random() < 0.7 else None
+        if taken:
+            self.call(taken[0], Record(Kind.ARRIVE, taken[1]))
+        elif dice.random() < 0.7:
+            self.cast(dice.randrange(3))
+        else:
+            self.call(dice.randrange(3), Record(Kind.TICK, b""))
+
+    def run(self, steps: int) -> int:
+        """Until all is said, delivered and known to be, or for so many steps; says how many."""
+        for step in range(steps):
+            if not self.left and all(self.members[name.sender].stable() >= name.number for name in self.order[-50:]):
+                return step
+            self.step()
+        return steps
+
+    def logs(self) -> list[list[Name]]:
+        return [[event.name for event in member.events()] for member in self.members]
+
+
+THREE_MEMBERS = """\
+member 0 casts 0.1 when?
+member 1 shows 0.1 when?
+member 1 casts 1.1 noon
+member 0 shows 1.1 noon
+member 2 shows 0.1 when?
+member 2 shows 1.1 noon
+all have 1 cast of member 0
+"""
+
+
+class Example(Case):
+    def test_three_members(self) -> None:
+        printed = io.StringIO()
+        with contextlib.redirect_stdout(printed):
+            three_members.main()
+        self.assertEqual(printed.getvalue(), THREE_MEMBERS)
+
+
+class Lossy(Case):
+    MESSAGES = 1_000
+
+    def test_three_members(self) -> None:
+        group = Group(5, self.MESSAGES)
+        self.assertLess(group.run(200_000), 200_000)
+        logs = group.logs()
+        self.assertEqual([sorted(log) for log in logs], [sorted(group.order)] * 3)
+        self.assertEqual(len(set(group.order)), self.MESSAGES)
+        self.assertEqual(list(too_early(group.order, logs)), [])
+        spoken = {event.name: event.payload for event in group.members[0].events()}
+        self.assertEqual({spoken[name] for name in group.order}, {b"message %d" % left for left in range(1, 1001)})
+        for member in group.members:
+            self.assertEqual({event.name: event.payload for event in member.events()}, spoken)
+        for count in (group.network.lost, group.network.repeated, group.network.overtaken):
+            self.assertGreater(count, self.MESSAGES)
+
+    def test_a_message_that_is_too_early_is_found(self) -> None:
+        group = Group(6, 60)
+        group.run(20_000)
+        order, logs = group.order, group.logs()
+        self.assertEqual(list(too_early(order, logs)), [])
+        past, log = pasts(order, logs), logs[2]
+        own = {name for name in log if name.sender == 2}
+        pairs = [place for place in range(len(log) - 1) if log[place] in past[log[place + 1]] and not own & {*log[place : place + 2]}]
+        self.assertGreater(len(pairs), 10)
+        for place in pairs:
+            swapped = log[:place] + [log[place + 1], log[place]] + log[place + 2 :]
+            self.assertIn((2, log[place + 1]), list(too_early(order, [logs[0], logs[1], swapped])))
+
+
+class Comeback(Case):
+    def setUp(self) -> None:
+        folder = tempfile.TemporaryDirectory()
+        self.addCleanup(folder.cleanup)
+        self.path = os.path.join(folder.name, "journal")
+
+    def test_a_member_comes_back_by_its_journal(self) -> None:
+        group = Group(9, 200)
+        group.journals[1] = Journal(self.path, group.members[1])
+        for _ in range(5):
+            group.run(200)
+            before = state(group.members[1])
+            frames = self.replayed(group)
+            self.assertEqual(frames, group.sent[1])
+            self.assertEqual(state(group.members[1])[2:], before[2:])
+        self.assertLess(group.run(50_000), 50_000)
+        self.assertEqual(list(too_early(group.order, group.logs())), [])
+        self.assertEqual([len(log) for log in group.logs()], [200] * 3)
+        group.journals[1].close()
+
+    def replayed(self, group: Group) -> list[list[Frame]]:
+        """Member 1 begins anew: by the file, and once more to see the frames of each call."""
+        group.journals[1].close()
+        group.members[1] = Member(7, 3, 8, 1)
+        group.journals[1] = Journal(self.path, group.members[1])
+        frames = []
+        with Member(7, 3, 8, 1) as other, open(self.path, "rb") as file:
+            for record in records(file.read()):
+                make(other, record)
+                frames.append(other.frames())
+            self.assertEqual(state(other), state(group.members[1]))
+        return frames
+
+    def test_what_changes_nothing_is_not_written(self) -> None:
+        member, _ = that_cast(0)
+        journal = Journal(self.path, member)
+        for record in (Record(Kind.CAST, b"hi"), Record(Kind.TICK, b""), Record(Kind.TICK, b""), Record(Kind.ARRIVE, HI)):
+            journal.call(record)
+        with self.assertRaises(Refusal):
+            journal.call(Record(Kind.ARRIVE, b"\xff"))
+        with open(self.path, "rb") as file:
+            self.assertEqual(list(records(file.read())), [Record(Kind.CAST, b"hi"), Record(Kind.TICK, b"")])
+        journal.close()
+
+    def test_nobody_else_has_the_journal(self) -> None:
+        journal = Journal(self.path, opened(0))
+        with self.assertRaises(BlockingIOError):
+            Journal(self.path, opened(0))
+        journal.close()
+        Journal(self.path, opened(0)).close()
+
+    def test_a_record_that_is_cut_off(self) -> None:
+        whole = [Record(Kind.CAST, b"one"), Record(Kind.TICK, b""), Record(Kind.CAST, b"two")]
+        text = b"".join(record.text() for record in whole)
+        last = len(whole[2].text())
+        for length in range(len(text) - last, len(text)):
+            with open(self.path, "wb") as file:
+                file.write(text[:length])
+            member = opened(0)
+            journal = Journal(self.path, member)
+            self.assertEqual([event.payload for event in member.events()], [b"one"])
+            journal.call(Record(Kind.CAST, b"three"))
+            journal.close()
+            with open(self.path, "rb") as file:
+                self.assertEqual(list(records(file.read())), [*whole[:2], Record(Kind.CAST, b"three")])
+
+    def test_a_journal_that_is_damaged(self) -> None:
+        text = Record(Kind.CAST, b"one").text() + Record(Kind.CAST, b"two").text()
+        for place in range(len(text)):
+            damaged = text[:place] + bytes([text[place] ^ 1]) + text[place + 1 :]
+            with self.subTest(place), self.assertRaises(ValueError):
+                if len(list(records(damaged))) < 2:
+                    raise ValueError("it seems to be cut off")
+
+
+class Screens(Case):
+    """What redis_group.py finds wrong."""
+
+    def screens(self) -> list[list[str]]:
+        lines = [f"{me}.{number} line" for number in range(1, redis_group.LINES_OF_EACH + 1) for me in range(3)]
+        lines[5] = "2.2 re 1.2 line"
+        return [list(lines) for _ in range(3)]
+
+    def test_that_are_right(self) -> None:
+        self.assertEqual(list(redis_group.faults(self.screens(), self.screens()[1][:7])), [])
+
+    def test_that_are_wrong(self) -> None:
+        lacks, twice, other, orphan, past = (self.screens() for _ in range(5))
+        del lacks[2][-1]
+        twice[0].append(twice[0][3])
+        other[1][3] += "!"
+        orphan[2][4], orphan[2][5] = orphan[2][5], orphan[2][4]
+        for screens, said in ((lacks, "screen 2 has not"), (twice, "screen 0 has not"), (other, "screen 1 has not")):
+            self.assertIn(said, next(redis_group.faults(screens, [])))
+        self.assertEqual(list(redis_group.faults(orphan, [])), ["screen 2 has an orphan: 2.2 re 1.2 line"])
+        self.assertEqual(list(redis_group.faults(past, ["1.1 line"])), ["the member that came back has another past"])
+
+
+def load_tests(loader: unittest.TestLoader, tests: unittest.TestSuite, pattern: Optional[str]) -> unittest.TestSuite:
+    """The page's example is a test too."""
+    tests.addTests(doctest.DocFileSuite("README.md"))
+    return tests
+
+
+if __name__ == "__main__":
+    unittest.main()
