@@ -1,0 +1,198 @@
+/*
+ * The run of crates/bench_member through the library for C: a whole group in one thread, each member in its turn takes all that the
+ * others sent, and casts. Prints the same: how many messages were delivered, and a digest of their names and times. Words: SIZE WINDOW
+ * PAYLOAD CASTS. Nothing is lost.
+ */
+#include <inttypes.h>
+#include <stdio.h>
+#include <stdlib.h>
+#include <string.h>
+
+#include "../bindings/c/jolunza.h"
+
+enum { GROUP = 7, LIMIT = 16777216 };
+
+/* A frame on its way; once the last to whom it goes has it, it is one of the free ones. */
+struct frame {
+    struct frame *next;
+    size_t owners, length;
+    uint8_t bytes[JOLUNZA_LONGEST_FRAME];
+};
+
+struct queue {
+    struct frame **frames;
+    size_t count, room;
+};
+
+struct member {
+    jolunza_handle handle;
+    size_t seen; /* events */
+    struct queue queue;
+};
+
+static struct member members[JOLUNZA_MOST_MEMBERS];
+static struct frame *free_frames;
+static uint32_t size, window;
+static size_t payload_length;
+static uint64_t casts, made, deliveries, digest = 0xcbf29ce484222325u;
+static uint8_t payload[JOLUNZA_LONGEST_PAYLOAD];
+
+static void must(bool holds)
+{
+    if (!holds) {
+        fprintf(stderr, "bindings: out of memory, or a code that this run never has\n");
+        exit(1);
+    }
+}
+
+static void put(uint32_t to, struct frame *frame)
+{
+    struct queue *queue = &members[to].queue;
+
+    if (queue->count == queue->room) {
+        queue->room = queue->room ? 2 * queue->room : 16;
+        queue->frames = realloc(queue->frames, queue->room * sizeof *queue->frames);
+        must(queue->frames != NULL);
+    }
+    queue->frames[queue->count++] = frame;
+}
+
+static struct frame *take_free(void)
+{
+    struct frame *frame = free_frames;
+
+    if (frame == NULL)
+        frame = malloc(sizeof *frame);
+    else
+        free_frames = frame->next;
+    must(frame != NULL);
+    return frame;
+}
+
+static void release(struct frame *frame)
+{
+    if (--frame->owners == 0) {
+        frame->next = free_frames;
+        free_frames = frame;
+    }
+}
+
+static void post(uint32_t from, const jolunza_frame_head *head, struct frame *frame)
+{
+    frame->owners = head->to_all ? size - 1 : 1;
+    frame->length = head->length;
+    for (uint32_t to = 0; to < size; to++)
+        if (head->to_all ? to != from : to == head->to)
+            put(to, frame);
+}
+
+/* Sends the frames of the member's last call. */
+static void send_frames(uint32_t me)
+{
+    jolunza_frame_head head;
+    struct frame *frame = take_free();
+
+    for (size_t i = 0; jolunza_frame(&members[me].handle, i, &head, frame->bytes, sizeof frame->bytes) == JOLUNZA_DONE; i++) {
+        post(me, &head, frame);
+        frame = take_free();
+    }
+    frame->owners = 1;
+    release(frame);
+}
+
+static void mix(uint32_t low, uint32_t high)
+{
+    digest = (digest ^ (low | (uint64_t)high << 32)) * 0x100000001b3u;
+}
+
+static void tally(uint32_t me, const jolunza_event_head *head, const uint32_t *time)
+{
+    deliveries++;
+    mix(me, head->sender);
+    mix(head->number, 0);
+    for (uint32_t i = 0; i + 1 < size; i += 2)
+        mix(time[i], time[i + 1]);
+    if (size % 2 == 1)
+        mix(time[size - 1], 0);
+}
+
+/* Reads the events that are new, so many deliveries. */
+static void read_events(uint32_t me, size_t count)
+{
+    struct member *member = &members[me];
+    jolunza_event_head head;
+    uint8_t bytes[JOLUNZA_LONGEST_PAYLOAD];
+    uint32_t time[JOLUNZA_MOST_MEMBERS];
+
+    for (size_t end = member->seen + count; member->seen < end; member->seen++) {
+        must(jolunza_event(&member->handle, member->seen, &head, bytes, sizeof bytes, time, size) == JOLUNZA_DONE);
+        tally(me, &head, time);
+    }
+}
+
+static void take_all(uint32_t me)
+{
+    static struct queue inbox;
+    struct member *member = &members[me];
+    struct queue taken = member->queue;
+
+    member->queue = inbox;
+    for (size_t i = 0; i < taken.count; i++) {
+        jolunza_received received;
+
+        must(jolunza_receive(&member->handle, taken.frames[i]->bytes, taken.frames[i]->length, &received) == JOLUNZA_DONE);
+        release(taken.frames[i]);
+        read_events(me, received.delivered);
+        if (!received.is_entered && !received.is_repeat)
+            send_frames(me);
+    }
+    taken.count = 0;
+    inbox = taken;
+}
+
+/* The member casts as often as a fourth of the window, as long as it may. */
+static void cast_some(uint32_t me)
+{
+    for (uint32_t i = 0; i < (window / 4 ? window / 4 : 1) && made < casts; i++) {
+        if (jolunza_cast(&members[me].handle, payload, payload_length) != JOLUNZA_DONE)
+            return;
+        made++;
+        members[me].seen++;
+        send_frames(me);
+    }
+}
+
+static void tick_all(void)
+{
+    for (uint32_t me = 0; me < size; me++) {
+        must(jolunza_tick(&members[me].handle) == JOLUNZA_DONE);
+        send_frames(me);
+    }
+}
+
+static void run_round(void)
+{
+    for (uint32_t me = 0; me < size; me++) {
+        take_all(me);
+        cast_some(me);
+    }
+    tick_all();
+}
+
+int main(int count, char **words)
+{
+    must(count == 5);
+    size = (uint32_t)atol(words[1]);
+    window = (uint32_t)atol(words[2]);
+    payload_length = (size_t)atol(words[3]);
+    casts = (uint64_t)atol(words[4]);
+    memset(payload, 'a', sizeof payload);
+    for (uint32_t me = 0; me < size; me++)
+        must(jolunza_open(&members[me].handle, GROUP, size, window, me, LIMIT) == JOLUNZA_DONE);
+    while (deliveries < casts * (size - 1))
+        run_round();
+    for (uint32_t me = 0; me < size; me++)
+        jolunza_close(&members[me].handle);
+    printf("deliveries %" PRIu64 " digest %016" PRIx64 "\n", deliveries, digest);
+    return 0;
+}
