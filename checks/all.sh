@@ -1,0 +1,28 @@
+#!/usr/bin/env bash
+# All that has to pass: the gate (`rt ci`), and then the library and what stands over it (bindings/check.sh). Ends with another status
+# than 0 where either fails. The last line counts what passed and failed in both.
+set -u -o pipefail
+cd "$(dirname "$0")/.." || exit 2
+work=$(mktemp -d)
+trap 'rm -rf "$work"' EXIT
+passed=0 failed=0
+
+# add COMMAND..: runs it, shows what it prints, and counts by its last line. Where that has no count, or hides a failure, one failed.
+add() {
+    local status=0 count
+    "$@" | tee "$work/printed" || status=1
+    count=$(tail -n 1 "$work/printed")
+    if [[ $count =~ ^([0-9]+)\ passed,\ ([0-9]+)\ failed ]]; then
+        passed=$((passed + BASH_REMATCH[1]))
+        failed=$((failed + BASH_REMATCH[2]))
+        [ "${BASH_REMATCH[2]}" = 0 ] || status=0
+    else
+        status=1
+    fi
+    failed=$((failed + status))
+}
+
+add rt ci
+add bindings/check.sh
+echo "$passed passed, $failed failed"
+[ "$failed" = 0 ]
