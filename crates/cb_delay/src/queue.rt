@@ -27,7 +27,7 @@ use std::marker::Model;
 /// ```
 ///
 /// A message may be delivered where it is its sender's next one and its sender had delivered nothing that is missing
-/// here. Only `new` takes memory: it reserves the places for all messages that may be held at once.
+/// here. Only `new` and `copy` take memory: they reserve the places for all messages that may be held at once.
 #[derive(Debug, Drop)]
 pub struct DelayQueue {
     window: u32,
@@ -179,7 +179,7 @@ impl DelayQueue {
         self.held
     }
 
-    /// How many comparisons of a held message with a time `next_ready` has made, up to the greatest number.
+    /// How many comparisons of a held message with a time `next_ready` and `leaves_waiting` have made, up to the greatest number.
     ///
     /// To ask again at the time of the last answer adds none where nothing was held or released in between.
     pub fn looked(&self) -> u64

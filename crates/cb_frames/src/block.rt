@@ -13,7 +13,7 @@ use std::alloc::{AllocError, Global};
 /// So many bytes are taken at once, where no frame is longer.
 const BLOCK: usize = 4096;
 
-/// A block of memory into which the frames of a member's casts go, one behind the other.
+/// A block of memory into which frames go, one behind the other: those of a member's casts, or received ones.
 ///
 /// The frames share the block's bytes: it is given back once all of them are freed. Where one does not fit any more, the next block
 /// is taken.
@@ -47,6 +47,13 @@ impl FrameBlock {
         self.text.clear();
         encode_cast_into(&mut self.text, cast, payload)?;
         Ok(lodged(&self.text, &mut self.rest)?)
+    }
+
+    /// A handle of a copy of these bytes, for a caller to whom they do not belong.
+    pub fn lodge(&mut self, bytes: &[u8]) -> Result<Bytes, AllocError>
+        ensures { IfOk result (λ handle. handle ≡ bytes.now) }
+    {
+        lodged(bytes, &mut self.rest)
     }
 }
 

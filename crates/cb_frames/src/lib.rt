@@ -22,4 +22,4 @@ pub use frame::{
 pub use laws::{a_stream_begins_with_one_thing, each_is_a_text_or_a_fault, one_split, one_text};
 pub use reading::decode;
 pub use stream::{FrameReader, Framed};
-pub use writing::encode;
+pub use writing::{encode, frame_text};

@@ -3,13 +3,14 @@
 ghost use Rattle.std.specs.Prelude.{◌≡◌, ◌≤◌, ◌<◌, ◌+◌, ◌++◌, ◌↔◌, ◌⊎◌, [], ◌∷◌, List, ℕ, length, Option, IsTrue, IfOk, OnOk, MatchResult};
 ghost use Rattle.cb_varint.specs.Spelling.{Spells};
 ghost use Rattle.cb_frames.specs.Fields.{FrameFields, CastFrame, StatusFrame, RequestFrame, fields_of, cast_fields, status_fields, request_fields};
-ghost use Rattle.cb_frames.specs.Text.{SpellAll, AppendsNumbers, HasLongPayload, BreaksRule, pairs_from, ranges_from, cast_numbers, status_numbers, request_numbers, AreRanges, KeepsCastRules, KeepsStatusRules, KeepsRequestRules, KeepsRules, payload_of, with_payload, IsText};
+ghost use Rattle.cb_frames.specs.Text.{SpellAll, AppendsNumbers, HasLongPayload, BreaksRule, pairs_from, ranges_from, cast_numbers, status_numbers, request_numbers, AreRanges, KeepsCastRules, KeepsStatusRules, KeepsRequestRules, KeepsRules, payload_of, with_payload, IsText, text_of};
 ghost use Rattle.cb_frames.specs.Parts.{AreChangesBut};
 
 use crate::fault::EncodeFault;
 use crate::frame::{
     Cast, Change, Frame, LAST_MEMBER, LONGEST_PAYLOAD, MOST_RANGES, Range, Request, Status,
 };
+use crate::laws::one_text;
 use crate::reading::{CAST, REQUEST, STATUS};
 use bytes::Bytes;
 use std::alloc::{AllocError, Global};
@@ -272,4 +273,19 @@ pub fn encode(alloc: Global, frame: &Frame) -> Result<Bytes, EncodeFault>
         return Err(EncodeFault::BadField);
     }
     Ok(Bytes::from_vec(text(alloc, frame)?)?)
+}
+
+/// The text of a frame that keeps the rules and whose payload is not too long, so that only memory can be wanting.
+pub fn frame_text(alloc: Global, frame: &Frame) -> Result<Bytes, AllocError>
+    requires rules { KeepsRules (fields_of frame.now) }
+    requires payload { length (payload_of (fields_of frame.now)) ≤ LONGEST_PAYLOAD }
+    ensures { IfOk result (λ bytes. bytes ≡ text_of (fields_of frame.now)) }
+{
+    one_text();
+    match encode(alloc, frame) {
+        Ok(bytes) => Ok(bytes),
+        Err(EncodeFault::NoMemory) => Err(AllocError),
+        Err(EncodeFault::PayloadTooLong) => unreachable!("the payload is not too long"),
+        Err(EncodeFault::BadField) => unreachable!("the frame keeps the rules"),
+    }
 }

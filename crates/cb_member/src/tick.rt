@@ -9,9 +9,8 @@ ghost use Rattle.cb_member.specs.State.{IsState, OnAll};
 ghost use Rattle.cb_member.specs.Telling.{values_saying, HasReported};
 
 use crate::state::State;
-use crate::text::frame_text;
 use bytes::Bytes;
-use cb_frames::{Change, Frame, Status};
+use cb_frames::{Change, Frame, Status, frame_text};
 use cb_gaps::request_of;
 use cb_history::Outgoing;
 use cb_times::{NoMemory, VectorTime};

@@ -2,7 +2,7 @@
 
 ghost use Rattle.std.specs.Prelude.{◌≡◌, ◌⊎◌, ◌+◌, ◌<◌, ◌≤◌, ◌++◌, Ok, Err, IfOk, IfErr, map, length};
 ghost use Rattle.cb_times.specs.Group.{IsGroupSize};
-ghost use Rattle.cb_frames.specs.Fields.{cast_fields, fields_of, messages_of, CastFrame};
+ghost use Rattle.cb_frames.specs.Fields.{cast_fields, messages_of, CastFrame};
 ghost use Rattle.cb_frames.specs.Text.{KeepsRules, payload_of, text_of};
 ghost use Rattle.cb_diffs.specs.Differences.{differences};
 ghost use Rattle.cb_history.specs.Facts.{entry_fields, CastEntry};
@@ -19,10 +19,10 @@ use crate::member::ReferenceMember;
 use crate::past::Past;
 use crate::view::{Message, count, counts, message_of, view};
 use bytes::Bytes;
-use cb_frames::{Cast, Change, EncodeFault, Frame, LAST_NUMBER, LONGEST_PAYLOAD, encode, one_text};
+use cb_frames::{Cast, Change, Frame, LAST_NUMBER, LONGEST_PAYLOAD, frame_text};
 use cb_history::{CastDone, CastRefusal, Entry};
 use cb_times::{Name, NoMemory, VectorTime};
-use std::alloc::{AllocError, Global};
+use std::alloc::Global;
 
 fn is_own_cast(fact: &Fact) -> bool
     ensures { result ≡ is_own_cast (fact_of fact.now) }
@@ -95,21 +95,6 @@ fn next_cast(past: &Past<'_>, payload: &[u8]) -> Result<Cast, NoMemory>
         changes,
         payload,
     })
-}
-
-/// The text of a frame that keeps the rules.
-pub fn frame_text(alloc: Global, frame: &Frame) -> Result<Bytes, NoMemory>
-    requires rules { KeepsRules (fields_of frame.now) }
-    requires payload { length (payload_of (fields_of frame.now)) ≤ LONGEST_PAYLOAD }
-    ensures { IfOk result (λ bytes. bytes ≡ text_of (fields_of frame.now)) }
-{
-    one_text();
-    match encode(alloc, frame) {
-        Ok(bytes) => Ok(bytes),
-        Err(EncodeFault::NoMemory) => Err(AllocError),
-        Err(EncodeFault::PayloadTooLong) => unreachable!("the payload is not too long"),
-        Err(EncodeFault::BadField) => unreachable!("the frame keeps the rules"),
-    }
 }
 
 /// A cast that was made, and the entry that it adds.

@@ -16,14 +16,13 @@ ghost use Rattle.cb_reference.specs.Facts.{fact_of, as_status};
 ghost use Rattle.cb_reference.specs.Messages.{carried_of};
 ghost use Rattle.cb_reference.specs.Requests.{request_sent};
 
-use crate::cast::frame_text;
 use crate::facts::{Fact, facts_of};
 use crate::known::{missing, value_in};
 use crate::member::ReferenceMember;
 use crate::past::Past;
 use crate::view::{Message, count};
 use bytes::Bytes;
-use cb_frames::{Change, Frame, MOST_RANGES, Range, Request, Status};
+use cb_frames::{Change, Frame, MOST_RANGES, Range, Request, Status, frame_text};
 use cb_history::{Entry, Identity, Outgoing, TickRefusal, Ticked};
 use cb_times::NoMemory;
 use std::alloc::Global;
