@@ -21,14 +21,14 @@ use Rattle.cb_history.specs.declared.answer.Outgoing.{Outgoing}
 use Rattle.cb_history.specs.Group.{Identity}
 use Rattle.cb_history.specs.Facts.{EntryFields, CastEntry, ArriveEntry, TickEntry, Fact, OwnCast, CastReceived, StatusReceived, OwnStatus, cast_said, status_said, facts_of, casts_in, messages_in, is_there}
 use Rattle.cb_history.specs.Answers.{is_full, is_window_full, delivered, next_cast, cast_answer, group_of, are_members, is_impossible, is_repeat, is_too_far, is_change, deliveries, sent_in_answer, own_casts, ArrivalSays, Accepted, Repeat, frame_answer, answer_to, arrive_answer, status_of, is_new_status, requests, tick_answer}
-use Rattle.cb_history.specs.Legal.{Call, ToCast, ToTake, ToTick, cast_entry, arrive_entry, tick_entry, and_entry, history_after, IsLegal}
+use Rattle.cb_history.specs.Legal.{Call, ToCast, ToTake, ToTick, cast_entry, arrive_entry, tick_entry, and_entry, history_after, AreEntriesOf}
 use Rattle.cb_history.specs.LegalFacts.{AreFactsOf}
 use Rattle.cb_history.proofs.Views.{IsIn, casts_in-append}
 use Rattle.cb_history.proofs.Lists.{in_back, in_push, messages_in-push}
 use Rattle.cb_history.proofs.Walks.{own_casts-own, own_casts-other}
 use Rattle.cb_history.proofs.Names.{message}
 use Rattle.cb_history.proofs.Histories.{said_facts}
-use Rattle.cb_history.proofs.Calls.{calls_keep_legal}
+use Rattle.cb_history.proofs.Calls.{calls_keep_entries}
 use Rattle.cb_history.proofs.Buffers.{cast_of_is_in, in_is_cast_of}
 use Rattle.cb_history.proofs.ReadBack.{cast_read as cast_reads, status_read}
 use Rattle.cb_history.proofs.Requests.{own_frames_have_texts}
@@ -86,7 +86,7 @@ module _ (setting : Setting) (is : IsSetting setting) (s : GroupState) (inv : Is
     cast = next_cast (seat_at setting i) (facts_of (s.histories i)) payload
 
     abbrev CastGood : Result CastFields CastRefusal → Type 0
-    CastGood r = IsLegal (seat_at setting i) (and_entry now (cast_entry r)) → IsGood setting is s inv i lt (ToCast payload) (and_entry now (cast_entry r)) (CastAnswer r)
+    CastGood r = AreEntriesOf (seat_at setting i) (and_entry now (cast_entry r)) → IsGood setting is s inv i lt (ToCast payload) (and_entry now (cast_entry r)) (CastAnswer r)
 
     brings_itself : received_by i (Calls i (ToCast payload)) (CastAnswer (Ok cast)) ≡ messages_of cast
     brings_itself = rw (eq-eqb i i refl) refl
@@ -127,7 +127,7 @@ module _ (setting : Setting) (is : IsSetting setting) (s : GroupState) (inv : Is
         (λ short. cond_both (is_window_full me said) _ _ CastGood (λ _ _. same_history (ToCast payload) (CastAnswer (Err casts.WindowFull)) tt nothing_received)
         (λ free. cond_both (is_full setting.limit now) _ _ CastGood (λ _ _. same_history (ToCast payload) (CastAnswer (Err casts.HistoryFull)) tt nothing_received)
         (λ _. made (number_left me said free) (ltb-false LONGEST_PAYLOAD (length payload) short))))
-        (calls_keep_legal me setting.limit now (ToCast payload) is.at_most (inv.legal i lt) bytes)
+        (calls_keep_entries me setting.limit now (ToCast payload) (inv.legal i lt) bytes)
 
   -- ---- a tick
 
@@ -138,12 +138,12 @@ module _ (setting : Setting) (is : IsSetting setting) (s : GroupState) (inv : Is
   outs = record { to = None; bytes = text_of (StatusFrame status) } ∷ requests (seat_at setting i) (facts_of (s.histories i))
 
   abbrev TickGood : Result (Bool × List Outgoing) TickRefusal → Type 0
-  TickGood r = IsLegal (seat_at setting i) (and_entry now (tick_entry (text_of (StatusFrame status)) r)) → IsGood setting is s inv i lt ToTick (and_entry now (tick_entry (text_of (StatusFrame status)) r)) (TickAnswer r)
+  TickGood r = AreEntriesOf (seat_at setting i) (and_entry now (tick_entry (text_of (StatusFrame status)) r)) → IsGood setting is s inv i lt ToTick (and_entry now (tick_entry (text_of (StatusFrame status)) r)) (TickAnswer r)
 
   goes_out : AllByRecursion (λ out. IsHonest setting.group (facts_at s) out.bytes) outs
   goes_out = (status_is_honest setting.group (facts_at s) i are, requests_are_honest setting.group (facts_at s) i are)
 
-  reported : (b : Bool) → IsLegal (seat_at setting i) (now ++ TickEntry (text_of (StatusFrame status)) ∷ []) → IsGood setting is s inv i lt ToTick (now ++ TickEntry (text_of (StatusFrame status)) ∷ []) (TickAnswer (Ok (b, outs)))
+  reported : (b : Bool) → AreEntriesOf (seat_at setting i) (now ++ TickEntry (text_of (StatusFrame status)) ∷ []) → IsGood setting is s inv i lt ToTick (now ++ TickEntry (text_of (StatusFrame status)) ∷ []) (TickAnswer (Ok (b, outs)))
   reported b legal =
       good setting is s inv i lt ToTick with_status (TickAnswer (Ok (b, outs))) legal (inr (OwnStatus status, push, tt))
       (all_weaken (λ out. IsHonest setting.group (facts_at s) out.bytes) (λ out. IsHonest setting.group (after setting is s inv i lt ToTick with_status (TickAnswer (Ok (b, outs)))) out.bytes) outs
@@ -162,15 +162,15 @@ module _ (setting : Setting) (is : IsSetting setting) (s : GroupState) (inv : Is
   tick_is_good =
       cond_both (is_new_status me said && is_full setting.limit now) _ _ TickGood (λ _ _. same_history ToTick (TickAnswer (Err ticks.HistoryFull)) tt nothing_received)
       (λ _. cond_both (is_new_status me said) (Some (TickEntry (text_of (StatusFrame status)))) None
-      (λ (o : Option EntryFields). IsLegal (seat_at setting i) (and_entry now o) → IsGood setting is s inv i lt ToTick (and_entry now o) (TickAnswer (Ok (is_new_status me said, outs))))
+      (λ (o : Option EntryFields). AreEntriesOf (seat_at setting i) (and_entry now o) → IsGood setting is s inv i lt ToTick (and_entry now o) (TickAnswer (Ok (is_new_status me said, outs))))
       (λ _. reported (is_new_status me said)) (λ _ _. same_history ToTick (TickAnswer (Ok (is_new_status me said, outs))) goes_out nothing_received))
-      (calls_keep_legal me setting.limit now ToTick is.at_most (inv.legal i lt) tt)
+      (calls_keep_entries me setting.limit now ToTick (inv.legal i lt) tt)
 
   -- ---- an arrival
 
   module _ (bytes : List ℕ) (honest : IsHonest setting.group (facts_at s) bytes) where
     abbrev ArrivalGood : Result ArrivalSays ArriveRefusal → Type 0
-    ArrivalGood r = IsLegal (seat_at setting i) (and_entry now (arrive_entry bytes r)) → IsGood setting is s inv i lt (ToTake bytes) (and_entry now (arrive_entry bytes r)) (ArrivalAnswer r)
+    ArrivalGood r = AreEntriesOf (seat_at setting i) (and_entry now (arrive_entry bytes r)) → IsGood setting is s inv i lt (ToTake bytes) (and_entry now (arrive_entry bytes r)) (ArrivalAnswer r)
 
     refused : (e : ArriveRefusal) → ArrivalGood (Err e)
     refused e _ = same_history (ToTake bytes) (ArrivalAnswer (Err e)) tt nothing_received
@@ -237,4 +237,4 @@ module _ (setting : Setting) (is : IsSetting setting) (s : GroupState) (inv : Is
     unfolding arrive_answer
     arrival_is_good =
         subst (λ (r : Result FrameFields FrameFault). ArrivalGood (answer_to me setting.limit now r)) (sym honest.read) (by_frame honest.frame honest.read honest.so)
-        (calls_keep_legal me setting.limit now (ToTake bytes) is.at_most (inv.legal i lt) honest.are_bytes)
+        (calls_keep_entries me setting.limit now (ToTake bytes) (inv.legal i lt) honest.are_bytes)

@@ -14,11 +14,11 @@ use Rattle.cb_history.specs.declared.answer.Outgoing.{Outgoing}
 use Rattle.cb_history.specs.Group.{Identity}
 use Rattle.cb_history.specs.Facts.{EntryFields, Fact, said_by, facts_of, casts_in, is_there}
 use Rattle.cb_history.specs.Answers.{own_casts}
-use Rattle.cb_history.specs.Legal.{Call, ToCast, ToTake, ToTick, IsLegal}
+use Rattle.cb_history.specs.Legal.{Call, ToCast, ToTake, ToTick, AreEntriesOf}
 use Rattle.cb_history.specs.LegalFacts.{AreFactsOf}
 use Rattle.cb_history.proofs.Views.{IsIn}
 use Rattle.cb_history.proofs.Lists.{flat_map-append, in_front, in_back}
-use Rattle.cb_history.proofs.Histories.{legal_histories_say_legal_facts}
+use Rattle.cb_history.proofs.Histories.{entries_say_legal_facts}
 use Rattle.cb_history.proofs.Buffers.{cast_of_is_in, in_is_cast_of}
 use Rattle.cb_schedules.specs.Schedule.{Setting, IsSetting, seat_at, SentFrame, Calls, Answer, CastAnswer, ArrivalAnswer, TickAnswer, NoSuchMember, NoSuchFrame, NoBytes, frames_sent, sent_by, GroupState, with_history}
 use Rattle.cb_schedules.specs.Messages.{facts_at, stamped_lists, received_by, arrived_at, has_arrived, cast_read, sent_casts}
@@ -130,9 +130,9 @@ module _ (setting : Setting) (is : IsSetting setting) (s : GroupState) (inv : Is
     unchanged : now ≡ entries → facts_at s ≡ after
     unchanged e = fun_ext (at_member (λ k es. facts_of (s.histories k) ≡ facts_of es) (ap facts_of (sym e)) (λ k ne. refl))
 
-    module _ (legal : IsLegal (seat_at setting i) now) (effect : Effect now) where
+    module _ (legal : AreEntriesOf (seat_at setting i) now) (effect : Effect now) where
       legal_facts : (f : Fact) → facts_of now ≡ facts ++ f ∷ [] → AreFactsOf seat (facts ++ f ∷ [])
-      legal_facts f e = subst (AreFactsOf seat) e (legal_histories_say_legal_facts (seat_at setting i) now legal)
+      legal_facts f e = subst (AreFactsOf seat) e (entries_say_legal_facts (seat_at setting i) now legal).0
 
       together : AreTogether setting.group after
       together = elim effect [
@@ -159,7 +159,7 @@ module _ (setting : Setting) (is : IsSetting setting) (s : GroupState) (inv : Is
           → IsGood now answer
       good out own news = (
         record {
-          legal = λ k lt_k. at_member (λ k es. k < setting.group.size → IsLegal (seat_at setting k) es) (λ _. legal) (λ k ne. inv.legal k) k lt_k;
+          legal = λ k lt_k. at_member (λ k es. k < setting.group.size → AreEntriesOf (seat_at setting k) es) (λ _. legal) (λ k ne. inv.legal k) k lt_k;
           nobody = λ k le. at_member (λ k es. setting.group.size ≤ k → es ≡ []) (λ le. absurd (omega (arith, lt, le))) (λ k ne. inv.nobody k) k le;
           together = together;
           honest = all_both (λ frame. IsHonest setting.group after frame.bytes) s.sent (map (sent_by i) (frames_sent answer))

@@ -13,7 +13,7 @@ use Rattle.cb_history.specs.Group.{Parameters}
 use Rattle.cb_history.specs.View.{view, next_delivery}
 use Rattle.cb_history.specs.Legal.{Call, ToCast, ToTake, ToTick, NoEntries}
 use Rattle.cb_history.proofs.Lists.{flat_map-append}
-use Rattle.cb_history.proofs.Histories.{legal_histories_say_legal_facts}
+use Rattle.cb_history.proofs.Histories.{entries_say_legal_facts}
 use Rattle.cb_schedules.specs.Schedule.{Setting, IsSetting, Step, CastStep, ArriveStep, TickStep, Schedule, SentFrame, Asked, Calls, OfNoMember, OfNoFrame, OfNoBytes, Answer, NoSuchMember, NoSuchFrame, NoBytes, GroupState, seat_at, are_bytes, handed_over, asked_by, and_nothing, after_asked, step_after, nothing_yet, run_from, run}
 use Rattle.cb_schedules.specs.Messages.{facts_at, stamped_lists, arrived_at, has_arrived, received_by}
 use Rattle.cb_schedules.specs.Honest.{IsHonest, events_of}
@@ -34,10 +34,10 @@ nothing_happened group k = refl
 
 pub starts : (setting : Setting) → IsSetting setting → IsConsistent setting nothing_yet
 starts setting is = record {
-  legal = λ k lt. record { group = is.group; member = lt; entries_are = NoEntries; few = omega arith };
+  legal = λ k lt. record { group = is.group; member = lt; entries_are = NoEntries };
   nobody = λ k le. refl;
   together = record {
-    legal = λ k lt. legal_histories_say_legal_facts (seat_at setting k) [] (record { group = is.group; member = lt; entries_are = NoEntries; few = omega arith });
+    legal = λ k lt. (entries_say_legal_facts (seat_at setting k) [] (record { group = is.group; member = lt; entries_are = NoEntries })).0;
     nobody = λ k le. refl;
     so = λ k. tt;
     settled = λ k. nothing_next setting.group.size;

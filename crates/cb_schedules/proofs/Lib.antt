@@ -1,5 +1,6 @@
 mod Rows
 mod RoundRows
+mod ForgettingRows
 pub mod GoingOn
 pub mod Lists
 pub mod Members
@@ -27,3 +28,7 @@ pub mod Ending
 pub mod RoundLaws
 pub mod Once
 pub mod Room
+pub mod Within
+pub mod Forgetting
+pub mod Cores
+pub mod CoreRounds

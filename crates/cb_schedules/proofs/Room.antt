@@ -87,11 +87,11 @@ asked_not_full setting s OfNoMember room = tt
 asked_not_full setting s OfNoFrame room = tt
 asked_not_full setting s OfNoBytes room = tt
 
-step_adds : (setting : Setting) (s : GroupState) (step : Step) (k : ℕ) → length ((step_after setting s step).histories k) ≤ length (s.histories k) + 1
+pub step_adds : (setting : Setting) (s : GroupState) (step : Step) (k : ℕ) → length ((step_after setting s step).histories k) ≤ length (s.histories k) + 1
 unfolding step_after
 step_adds setting s step k = asked_adds setting s (asked_by setting s.sent step) k
 
-none_full : (setting : Setting) (s : GroupState) (steps : Schedule) → ((k : ℕ) → length (s.histories k) + length steps ≤ setting.limit) → FindNoneFullFrom setting s steps
+pub none_full : (setting : Setting) (s : GroupState) (steps : Schedule) → ((k : ℕ) → length (s.histories k) + length steps ≤ setting.limit) → FindNoneFullFrom setting s steps
 none_full setting s [] room = tt
 none_full setting s (step ∷ steps) room = (
   asked_not_full setting s (asked_by setting s.sent step) (λ k. let left = room k in omega (arith, left)),

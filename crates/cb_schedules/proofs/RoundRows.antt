@@ -121,7 +121,6 @@ the_setting = record {
     number_fits = omega arith;
   };
   one_or_more = omega arith;
-  at_most = omega arith;
 }
 
 -- the casts and three rounds are 40 steps, so histories of 100 entries are never full

@@ -169,7 +169,6 @@ the_setting = record {
     number_fits = omega arith;
   };
   one_or_more = omega arith;
-  at_most = omega arith;
 }
 
 -- so after each of them the headline holds

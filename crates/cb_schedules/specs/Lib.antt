@@ -1,5 +1,6 @@
 pub mod Schedule
 pub mod RunLaws
+pub mod LimitLaws
 pub mod Messages
 pub mod Honest
 pub mod Consistent
@@ -8,3 +9,6 @@ pub mod Headline
 pub mod StepLaws
 pub mod Rounds
 pub mod RoundLaws
+pub mod Forgetting
+pub mod ForgettingLaws
+pub mod ForgettingRounds

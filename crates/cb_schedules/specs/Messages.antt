@@ -43,7 +43,8 @@ abbrev pub messages_read : Result FrameFields FrameFault → List Carried
 messages_read (Ok (CastFrame c)) = messages_of c
 messages_read other = []
 
--- what was received to member j by a call of member i: its own cast, or a cast frame that was accepted or was a repeat
+-- what arrived at member j by a call of member i, where these are one: its own cast, or what a cast frame carries that was accepted
+-- or was a repeat
 abbrev pub received_by : ℕ → Asked → Answer → List Carried
 received_by j (Calls i (ToCast payload)) (CastAnswer (Ok c)) = if i == j then messages_of c else []
 received_by j (Calls i (ToTake bytes)) (ArrivalAnswer (Ok says)) = if i == j then messages_read (frame_at bytes) else []

@@ -17,10 +17,14 @@ pub record Setting : Type 0 where
   pub group : Parameters
   pub limit : ℕ
 
--- what is true of every one
+-- what is true of every one; runs rest on it alone, whatever the limit is
 pub record IsSetting (setting : Setting) : Type 0 where
   pub group : AreParameters setting.group
   pub one_or_more : 1 ≤ setting.limit
+
+-- one whose members keep their histories: the limit is one that a history can have
+pub record IsSettingOfHistories (setting : Setting) : Type 0 where
+  pub is_setting : IsSetting setting
   pub at_most : setting.limit ≤ longest_history
 
 -- member i of the group

@@ -1,5 +1,6 @@
 //! What is proved of every schedule, as contracts of functions that do nothing: a file for each subject.
 
+mod forgetting;
 mod frames;
 mod headline;
 mod invariant;
@@ -7,10 +8,15 @@ mod knowledge;
 mod rounds;
 mod runs;
 
+pub use forgetting::{
+    a_few_rounds_of_cores_repair_whatever_was_lost, causal_broadcast_without_histories,
+    cores_run_as_members_do, what_cores_know_is_so,
+};
 pub use frames::sent_frames_say_what_is_so;
 pub use headline::causal_broadcast_over_lossy_links;
 pub use invariant::{
-    each_step_goes_on_at_the_ends, runs_are_consistent, steps_extend_the_machines,
+    each_step_goes_on_at_the_ends, histories_stay_within_their_limit, runs_are_consistent,
+    steps_extend_the_machines,
 };
 pub use knowledge::{
     arrivals_are_welcome, what_is_heard_of_is_cast, what_is_stable_is_delivered_everywhere,

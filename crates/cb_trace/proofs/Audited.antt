@@ -105,7 +105,7 @@ module _ (group : Parameters) (histories : List HistoryFields) (are : AreLegalHi
   limit_is = (at_least_one histories, longest_most histories longest_history (omega arith) few_entries)
 
   pub is_setting : IsSetting (setting_of group histories)
-  is_setting = record { group = are.each.parameters; one_or_more = limit_is.0; at_most = limit_is.1 }
+  is_setting = record { group = are.each.parameters; one_or_more = limit_is.0 }
 
   pub legal_within : AreLegalWithin (setting_of group histories) (entries_at histories)
   legal_within = record { legal = are.legal; nobody = beyond; few = at_most_longest histories }
@@ -185,7 +185,7 @@ module _ (group : Parameters) (histories : List HistoryFields) (are : AreLegalHi
       audited_run : IsAudited histories (record { setting = setting_of group histories; steps = j.world.steps })
       audited_run = record {
         joint = is_joint;
-        run = run_has_the_histories (setting_of group histories) (entries_at histories) order j.world.steps is_setting legal_within joint_is joined.joining.steps_are;
+        run = run_has_the_histories (setting_of group histories) (entries_at histories) order j.world.steps legal_within joint_is joined.joining.steps_are;
         headline = each_schedule Headline headline_holds (setting_of group histories) j.world.steps is_setting;
       }
 

@@ -18,7 +18,7 @@ use Rattle.cb_history.proofs.Views.{IsIn}
 use Rattle.cb_history.proofs.Lists.{in_front, in_back}
 use Rattle.cb_history.proofs.Prefixes.{prefix_is_legal}
 use Rattle.cb_history.proofs.Replays.{one_more_is_decided, entries_of_bytes_tell_bytes}
-use Rattle.cb_schedules.specs.Schedule.{Setting, IsSetting, seat_at, Step, Schedule, SentFrame, Asked, Calls, OfNoMember, OfNoBytes, are_bytes, handed_over, asked_by, answer_of, frames_sent, sent_by, GroupState, after_asked, step_after, nothing_yet, run_from, run}
+use Rattle.cb_schedules.specs.Schedule.{Setting, seat_at, Step, Schedule, SentFrame, Asked, Calls, OfNoMember, OfNoBytes, are_bytes, handed_over, asked_by, answer_of, frames_sent, sent_by, GroupState, after_asked, step_after, nothing_yet, run_from, run}
 use Rattle.cb_schedules.proofs.GoingOn.{runs_go_on}
 use Rattle.cb_schedules.proofs.Lists.{all_weaken, all_both, in_map}
 use Rattle.cb_world.proofs.Taken.{bytes_are_bytes}
@@ -62,7 +62,7 @@ starts histories = record {
   only = tt;
 }
 
-module _ (setting : Setting) (is : IsSetting setting) (histories : Histories) (are : AreLegalWithin setting histories) (order : List ℕ) (k : ℕ) (e : EntryFields) (next : next_entry histories order k ≡ Some e) where
+module _ (setting : Setting) (histories : Histories) (are : AreLegalWithin setting histories) (order : List ℕ) (k : ℕ) (e : EntryFields) (next : next_entry histories order k ≡ Some e) where
   abbrev count : ℕ
   count = gone order k
 
@@ -97,7 +97,7 @@ module _ (setting : Setting) (is : IsSetting setting) (histories : Histories) (a
   room : is_full setting.limit before ≡ is_full longest_history before
   room =
       let few = are.few k in
-      let most = is.at_most in
+      let most = (are.legal k is_member).few in
       lt-leb setting.limit (length before) (omega (arith, long, inside, few)) ∙ sym (lt-leb longest_history (length before) (omega (arith, long, inside, few, most)))
 
   entry_is : entry_of me setting.limit before (call_of e) ≡ Some e
@@ -219,15 +219,15 @@ module _ (setting : Setting) (is : IsSetting setting) (histories : Histories) (a
 
 -- ---- runs
 
-pub run_follows : (setting : Setting) → IsSetting setting → (histories : Histories) → AreLegalWithin setting histories → (order : List ℕ) (steps : Schedule) → AreStepsOf setting histories order steps → Follows histories order (run setting steps)
+pub run_follows : (setting : Setting) (histories : Histories) → AreLegalWithin setting histories → (order : List ℕ) (steps : Schedule) → AreStepsOf setting histories order steps → Follows histories order (run setting steps)
 unfolding run_from
-run_follows setting is histories are _ _ NoStep = starts histories
-run_follows setting is histories are _ _ (OneStepMore order steps k e step before next of) =
+run_follows setting histories are _ _ NoStep = starts histories
+run_follows setting histories are _ _ (OneStepMore order steps k e step before next of) =
     subst (Follows histories (order ++ k ∷ [])) (sym (runs_go_on setting steps step))
-    (step_follows setting is histories are order k e next (run setting steps) (run_follows setting is histories are order steps before) step of)
+    (step_follows setting histories are order k e next (run setting steps) (run_follows setting histories are order steps before) step of)
 
 pub run_has_the_histories : RunHasTheHistories
-run_has_the_histories setting histories order steps is are joint so k =
-    (run_follows setting is histories are order steps so).histories_are k
+run_has_the_histories setting histories order steps are joint so k =
+    (run_follows setting histories are order steps so).histories_are k
     ∙ ap (λ (n : ℕ). take n (histories k)) (joint.all k)
     ∙ take-length (histories k)

@@ -5,7 +5,8 @@ use Rattle.std.proofs.lemmas.Bool.{cases_lt, eqb-true, eqb-false}
 use Rattle.std.proofs.lemmas.List.{map-append, append-nil, length-map, length-set, get_or-set_same, get_or-set_other, take-map}
 use Rattle.std.proofs.lemmas.Option.{slice_get_within, slice_get_past}
 use Rattle.cb_history.specs.Facts.{EntryFields}
-use Rattle.cb_schedules.specs.Schedule.{Setting, IsSetting, SentFrame, Asked, Calls, OfNoMember, OfNoFrame, OfNoBytes, GroupState, asked_by, after_asked, step_after, run}
+use Rattle.cb_history.specs.Legal.{longest_history}
+use Rattle.cb_schedules.specs.Schedule.{Setting, SentFrame, Asked, Calls, OfNoMember, OfNoFrame, OfNoBytes, GroupState, asked_by, after_asked, step_after, run}
 use Rattle.cb_schedules.specs.Schedule as schedules
 use Rattle.cb_schedules.proofs.GoingOn.{runs_go_on}
 use Rattle.cb_world.specs.declared.outcome.Sent.{Sent}
@@ -112,7 +113,7 @@ counts_more size order counts k are inside = record {
 
 -- ---- one more step
 
-module _ (setting : Setting) (is : IsSetting setting) (histories : List HistoryFields) (are : AreLegalWithin setting (entries_at histories)) (old : Joining) (so : IsJoining setting histories old) where
+module _ (setting : Setting) (histories : List HistoryFields) (are : AreLegalWithin setting (entries_at histories)) (old : Joining) (so : IsJoining setting histories old) where
   abbrev now : GroupState
   now = run setting old.world.steps
 
@@ -120,13 +121,13 @@ module _ (setting : Setting) (is : IsSetting setting) (histories : List HistoryF
   sent_is = ap (λ (st : Setting). (run st old.world.steps).sent) so.setting_is
 
   follows : Follows (entries_at histories) so.order now
-  follows = run_follows setting is (entries_at histories) are so.order old.world.steps so.steps_are
+  follows = run_follows setting (entries_at histories) are so.order old.world.steps so.steps_are
 
   pub joined : SaysFirstStep (entries_at histories) old.gone.items (run_in old.world).sent None → IsJoined setting histories old
   joined says = record {
     joining = so;
     stuck =
-        none_goes setting is (entries_at histories) are so.order now follows (length histories) old.gone.items so.counts
+        none_goes setting (entries_at histories) are so.order now follows (length histories) old.gone.items so.counts
         (subst (λ (sent : List SentFrame). SaysFirstStep (entries_at histories) old.gone.items sent None) sent_is says);
   }
 
@@ -140,11 +141,13 @@ module _ (setting : Setting) (is : IsSetting setting) (histories : List HistoryF
         let many = so.counts.many in
         omega (arith, within, many)
 
-    pub few : get_or old.gone.items k 0 < setting.limit
+    pub few : get_or old.gone.items k 0 < longest_history
     few =
         let lt = slice_get_within (entries_at histories k) (get_or old.gone.items k 0) says.0 says.1 in
-        let most = are.few k in
-        omega (arith, lt, most)
+        elim (cases_lt k setting.group.size) [
+          | inl member ↦ let most = (are.legal k member).few in omega (arith, lt, most)
+          | inr nobody ↦ absurd (let none : length (entries_at histories k) ≡ 0 = ap length (are.nobody k nobody) in omega (arith, lt, none))
+        ]
 
     pub joining_on : TakesStep old new step → IsJoining setting histories new
     joining_on takes = record {
@@ -152,7 +155,7 @@ module _ (setting : Setting) (is : IsSetting setting) (histories : List HistoryF
       order = so.order ++ k ∷ [];
       greedy =
           SmallestTaken so.order k so.greedy
-          (first_goes setting is (entries_at histories) are so.order now follows (length histories) old.gone.items so.counts step (subst (λ (sent : List SentFrame). SaysFirstStep (entries_at histories) old.gone.items sent (Some step)) sent_is says));
+          (first_goes setting (entries_at histories) are so.order now follows (length histories) old.gone.items so.counts step (subst (λ (sent : List SentFrame). SaysFirstStep (entries_at histories) old.gone.items sent (Some step)) sent_is says));
       steps_are =
           subst (AreStepsOf setting (entries_at histories) (so.order ++ k ∷ [])) (sym (ap (λ (w : WorldState). w.steps) takes.world))
           (OneStepMore so.order old.world.steps k says.0 (step_fields step) so.steps_are

@@ -16,7 +16,7 @@ use Rattle.cb_history.specs.Legal.{longest_history, arrive_entry, IsLegal}
 use Rattle.cb_history.specs.HistoryLaws.{SaysItsText}
 use Rattle.cb_history.specs.ReplayLaws.{IsAdded}
 use Rattle.cb_history.proofs.Histories.{entries_say_their_texts}
-use Rattle.cb_schedules.specs.Schedule.{Setting, IsSetting, seat_at, SentFrame, GroupState}
+use Rattle.cb_schedules.specs.Schedule.{Setting, seat_at, SentFrame, GroupState}
 use Rattle.cb_schedules.specs.Schedule as schedules
 use Rattle.cb_schedules.proofs.Lists.{all_at_index, index_of}
 use Rattle.cb_world.specs.declared.step.Step.{Step}
@@ -81,7 +81,7 @@ no_request seat before bytes names legal is asks =
 
 -- ---- steps
 
-module _ (setting : Setting) (is : IsSetting setting) (histories : Histories) (are : AreLegalWithin setting histories) (order : List ℕ) (s : GroupState) (so : Follows histories order s) where
+module _ (setting : Setting) (histories : Histories) (are : AreLegalWithin setting histories) (order : List ℕ) (s : GroupState) (so : Follows histories order s) where
   may_go : (k : ℕ) (e : EntryFields) (step : schedules.Step) → next_entry histories order k ≡ Some e → IsStepOf s.sent k e step → MayGo histories order e
   may_go k (CastEntry frame) step next of = tt
   may_go k (TickEntry status) step next of = tt
@@ -91,7 +91,7 @@ module _ (setting : Setting) (is : IsSetting setting) (histories : Histories) (a
         | inl put ↦ subst (AreSentOut histories order) first.bytes_are put
         | inr asks ↦
             let e : EntryFields = ArriveEntry frame names in
-            absurd (no_request (seat_at setting k) _ frame names (legal_before setting is histories are order k e next).1 (added setting is histories are order k e next) (subst IsRequest first.bytes_are asks))
+            absurd (no_request (seat_at setting k) _ frame names (legal_before setting histories are order k e next).1 (added setting histories are order k e next) (subst IsRequest first.bytes_are asks))
       ]
 
   -- a step stands for an entry that may go

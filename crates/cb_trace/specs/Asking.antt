@@ -4,7 +4,7 @@ use Rattle.cb_times.specs.declared.name.Name.{Name}
 use Rattle.cb_delay.specs.declared.message.Message.{Message}
 use Rattle.cb_delay.specs.declared.message.Event.{Event}
 use Rattle.cb_delay.specs.declared.message.Event.TheVariants.{Cast}
-use Rattle.cb_schedules.specs.Schedule.{Setting, IsSetting, GroupState}
+use Rattle.cb_schedules.specs.Schedule.{Setting, IsSettingOfHistories, GroupState}
 use Rattle.cb_schedules.specs.Messages.{WasCast, time_from_bytes}
 use Rattle.cb_world.specs.declared.step.Step.{Step}
 use Rattle.cb_world.specs.Steps.{step_fields}
@@ -12,7 +12,7 @@ use Rattle.cb_world.specs.World.{WorldState}
 
 -- the steps are those that the world took, and the limit is that of its histories
 pub record IsOfWorld (w : WorldState) (steps : List Step) (history_max : ℕ) : Type 0 where
-  pub setting_is : IsSetting w.setting
+  pub setting_is : IsSettingOfHistories w.setting
   pub steps_are : map step_fields steps ≡ w.steps
   pub limit_is : history_max ≡ w.setting.limit
 

@@ -1,6 +1,6 @@
 -- The laws of joint orders.
 use Rattle.std.specs.Prelude.{◌≡◌, ℕ, List}
-use Rattle.cb_schedules.specs.Schedule.{Setting, IsSetting, Schedule, run}
+use Rattle.cb_schedules.specs.Schedule.{Setting, Schedule, run}
 use Rattle.cb_trace.specs.JointOrder.{Histories, IsOrder, IsJointOrder, IsGreedy, IsStuck}
 use Rattle.cb_trace.specs.JointRun.{AreStepsOf, AreLegalWithin}
 
@@ -21,5 +21,5 @@ OneGreedyOrder = (histories : Histories) (order other : List ℕ)
 -- The run of a joint order's steps has exactly these histories.
 abbrev pub RunHasTheHistories : Type 0
 RunHasTheHistories = (setting : Setting) (histories : Histories) (order : List ℕ) (steps : Schedule)
-    → IsSetting setting → AreLegalWithin setting histories → IsJointOrder histories order → AreStepsOf setting histories order steps
+    → AreLegalWithin setting histories → IsJointOrder histories order → AreStepsOf setting histories order steps
     → (k : ℕ) → (run setting steps).histories k ≡ histories k

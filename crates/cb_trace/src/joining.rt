@@ -4,7 +4,7 @@ ghost use Rattle.std.specs.Prelude.{◌≡◌, ◌<◌, ◌≤◌, ℕ, List, le
 ghost use Rattle.std.specs.Prelude.{IfOk, OnOk, MatchOption};
 ghost use Rattle.cb_history.specs.Facts.{entry_fields};
 ghost use Rattle.cb_history.specs.Legal.{longest_history};
-ghost use Rattle.cb_schedules.specs.Schedule.{SentFrame, IsSetting};
+ghost use Rattle.cb_schedules.specs.Schedule.{SentFrame};
 ghost use Rattle.cb_world.specs.Outcomes.{sent_fields};
 ghost use Rattle.cb_world.specs.Steps.{member_of, step_fields};
 ghost use Rattle.cb_world.specs.World.{run_in};
@@ -161,7 +161,6 @@ fn take(joining: &mut Joining, step: Step) -> Result<(), NoMemory>
 /// Goes on as long as any entry may go.
 pub fn join(alloc: Global, histories: &[History], joining: &mut Joining) -> Result<(), NoMemory>
     requires few { length histories.now ≤ 64 }
-    requires setting { IsSetting joining.old.world.setting }
     requires legal { AreLegalWithin joining.old.world.setting
         (entries_at (map history_fields histories.now)) }
     requires joining { IsJoining joining.old.world.setting (map history_fields histories.now)

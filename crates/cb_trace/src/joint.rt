@@ -5,7 +5,7 @@ ghost use Rattle.std.specs.Bool.{Decides};
 ghost use Rattle.cb_delay.specs.declared.message.Message.{Message as MessageOf};
 ghost use Rattle.cb_causality.specs.HappenedBefore.{HappenedBefore};
 ghost use Rattle.cb_schedules.specs.Messages.{WasCast, causal_lists};
-ghost use Rattle.cb_schedules.specs.Schedule.{IsSetting};
+ghost use Rattle.cb_schedules.specs.Schedule.{IsSettingOfHistories};
 ghost use Rattle.cb_world.specs.Steps.{step_fields};
 ghost use Rattle.cb_world.specs.World.{run_in};
 ghost use Rattle.cb_trace.specs.Asking.{HasCastOf, HasNoCastOf, IsCastAtTime};
@@ -72,7 +72,7 @@ impl Joint {
     fn time_of(&self, name: Name) -> Option<&VectorTime>
         ensures time { MatchOption result (¬ WasCast self.now.setting (run_in self.now) name)
             (λ time. IsCastAtTime self.now.setting (run_in self.now) name time.now) }
-        ensures setting { IsSetting self.now.setting }
+        ensures setting { IsSettingOfHistories self.now.setting }
     {
         match self.world.events(name.sender) {
             Some(events) => cast_time(events, name),

@@ -37,7 +37,7 @@ pub starts : (setting : Setting) (members : List MemberState) (sent : List Sent)
     → sent ≡ [] → outcomes ≡ [] → steps ≡ [] → IsWorld (record { setting = setting; steps = map step_fields steps }) members sent outcomes
 starts setting members sent outcomes steps low high new none_sent none_reported none_taken =
     subst (λ (ss : List Step). IsWorld (record { setting = setting; steps = map step_fields ss }) members sent outcomes) (sym none_taken) (record {
-      setting_is = record { group = new.group; one_or_more = low; at_most = high };
+      setting_is = record { is_setting = record { group = new.group; one_or_more = low }; at_most = high };
       stands = record {
         many = new.many;
         members_are = λ i m at. new.new i m at ∙ ap (λ (s : GroupState). member_at setting s i) (sym (none_run setting));

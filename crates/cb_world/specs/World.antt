@@ -5,7 +5,7 @@ use Rattle.std.specs.Vec.{vec_capacity, vec_len}
 use Rattle.std.specs.declared.alloc.Global.{Global}
 use Rattle.cb_history.specs.Group.{AreParameters}
 use Rattle.cb_history.specs.State.{MemberState}
-use Rattle.cb_schedules.specs.Schedule.{Setting, IsSetting, Schedule, GroupState, seat_at, run}
+use Rattle.cb_schedules.specs.Schedule.{Setting, IsSettingOfHistories, Schedule, GroupState, seat_at, run}
 use Rattle.cb_schedules.specs.Schedule as schedules
 use Rattle.cb_world.specs.declared.step.Step.{Step}
 use Rattle.cb_world.specs.declared.taking.TheConstants.{MOST_SENT_OUT}
@@ -36,7 +36,7 @@ member_in w i = member_at w.setting (run_in w) i
 
 -- the members, the frames and the outcomes are those of the run
 pub record IsWorld (w : WorldState) (members : List MemberState) (sent : List Sent) (outcomes : List Outcome) : Type 0 where
-  pub setting_is : IsSetting w.setting
+  pub setting_is : IsSettingOfHistories w.setting
   pub stands : Stands w.setting (run_in w) members sent
   pub outcomes_are : AreOutcomes w.setting w.steps outcomes
 

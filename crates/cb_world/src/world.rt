@@ -5,7 +5,7 @@ ghost use Rattle.cb_history.specs.Facts.{entry_fields};
 ghost use Rattle.cb_history.specs.Legal.{longest_history, IsLegal};
 ghost use Rattle.cb_schedules.specs.Headline.{DeliversClosedArrivals, IsCausalBroadcast, TimesTellHappenedBefore};
 ghost use Rattle.cb_schedules.specs.Messages.{stamped_lists};
-ghost use Rattle.cb_schedules.specs.Schedule.{IsSetting, seat_at};
+ghost use Rattle.cb_schedules.specs.Schedule.{IsSettingOfHistories, seat_at};
 ghost use Rattle.cb_schedules.specs.SentLaws.{ArrivalsAreWelcome, EventsHaveTimesFromBytes, OneNameSameBytes, StableIsDeliveredEverywhere, StableStandsInEvents};
 ghost use Rattle.cb_schedules.specs.StepLaws.{ListsGoOn};
 ghost use Rattle.cb_world.specs.FaultText.{play_fault_text};
@@ -138,7 +138,7 @@ impl World {
         ensures times { TimesTellHappenedBefore self.new.setting (run_in self.new) }
         ensures stable { StableStandsInEvents self.new.setting (run_in self.new) }
         ensures goes_on { ListsGoOn self.old.setting (run_in self.old) (run_in self.new) }
-        ensures setting { IsSetting self.new.setting }
+        ensures setting { IsSettingOfHistories self.new.setting }
     {
         self.take(step)
     }
@@ -146,7 +146,7 @@ impl World {
     fn take(&mut self, step: &Step) -> Result<(), NoMemory>
         ensures step { OnOk result (self.new ≡ and_step self.old (step_fields step.now)) }
         ensures same { OnErr result (self.new ≡ self.old) }
-        ensures setting { IsSetting self.new.setting }
+        ensures setting { IsSettingOfHistories self.new.setting }
     {
         make_room(&mut self.steps, &mut self.outcomes, &mut self.sent)?;
         let taken = step.copy()?;
@@ -166,7 +166,7 @@ impl World {
     /// The group takes no more steps.
     pub fn finish(self) -> Run
         ensures run { result ≡ self }
-        ensures setting { IsSetting result.setting }
+        ensures setting { IsSettingOfHistories result.setting }
     {
         Run { world: self }
     }
@@ -177,7 +177,7 @@ impl World {
         ensures member { MatchOption result (self.now.setting.group.size ≤ j) (λ member. member.now
             ≡ member_in self.now j) }
         ensures stable { StableIsDeliveredEverywhere self.now.setting (run_in self.now) }
-        ensures setting { IsSetting self.now.setting }
+        ensures setting { IsSettingOfHistories self.now.setting }
     {
         self.members.get(j as usize)
     }

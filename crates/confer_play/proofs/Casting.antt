@@ -26,13 +26,13 @@ use Rattle.cb_history.specs.Facts.{EntryFields, CastEntry, ArriveEntry, TickEntr
 use Rattle.cb_history.specs.Answers.{is_full, is_window_full, delivered, next_cast, cast_answer, ArrivalSays, Accepted, Repeat, arrive_answer, tick_answer}
 use Rattle.cb_history.specs.Events.{events}
 use Rattle.cb_history.specs.EventLaws.{new_events}
-use Rattle.cb_history.specs.Legal.{Call, ToCast, ToTake, ToTick, cast_entry, arrive_entry, tick_entry, entry_of, and_entry, history_after, IsLegal}
+use Rattle.cb_history.specs.Legal.{Call, ToCast, ToTake, ToTick, cast_entry, arrive_entry, tick_entry, entry_of, and_entry, history_after, AreEntriesOf}
 use Rattle.cb_history.specs.LegalFacts.{AreFactsOf}
 use Rattle.cb_history.proofs.Counts.{number_left}
 use Rattle.cb_history.proofs.Lists.{flat_map-append}
 use Rattle.cb_history.proofs.Happening.{events_with_one_more}
-use Rattle.cb_history.proofs.Histories.{legal_histories_say_legal_facts}
-use Rattle.cb_history.proofs.Calls.{calls_keep_legal}
+use Rattle.cb_history.proofs.Histories.{entries_say_legal_facts}
+use Rattle.cb_history.proofs.Calls.{calls_keep_entries}
 use Rattle.cb_history.proofs.ReadBack.{cast_read}
 use Rattle.cb_history.proofs.Requests.{own_frames_have_texts}
 use Rattle.cb_schedules.specs.Schedule.{Setting, IsSetting, Step, CastStep, ArriveStep, TickStep, SentFrame, seat_at, Asked, Calls, OfNoMember, OfNoFrame, OfNoBytes, are_bytes, asked_by, handed_over, after_asked, step_after, with_history, GroupState}
@@ -99,14 +99,14 @@ by_facts call seat facts [] are said = ([], ap (events seat) (append-nil facts) 
 by_facts call seat facts (f ∷ []) are said = (new_events seat facts f, events_with_one_more seat facts f are, makes call seat facts f said)
 by_facts call seat facts (f ∷ g ∷ more) are said = absurd said
 
-by_entry : (call : Call) (seat : Identity) (entries : List EntryFields) (o : Option EntryFields) → IsLegal seat (and_entry entries o)
+by_entry : (call : Call) (seat : Identity) (entries : List EntryFields) (o : Option EntryFields) → AreEntriesOf seat (and_entry entries o)
     → ((e : EntryFields) → o ≡ Some e → SaysOne call (said_by e)) → GoOn call (events seat (facts_of entries)) (events seat (facts_of (and_entry entries o)))
 by_entry call seat entries None legal said = ([], sym (append-nil (events seat (facts_of entries))), tt)
 by_entry call seat entries (Some e) legal said =
     let facts : facts_of (entries ++ e ∷ []) ≡ facts_of entries ++ said_by e =
     flat_map-append said_by entries (e ∷ []) ∙ ap (λ (fs : List Fact). facts_of entries ++ fs) (append-nil (said_by e)) in
     subst (λ (fs : List Fact). GoOn call (events seat (facts_of entries)) (events seat fs)) (sym facts)
-    (by_facts call seat (facts_of entries) (said_by e) (subst (AreFactsOf seat) facts (legal_histories_say_legal_facts seat (entries ++ e ∷ []) legal)) (said e refl))
+    (by_facts call seat (facts_of entries) (said_by e) (subst (AreFactsOf seat) facts (entries_say_legal_facts seat (entries ++ e ∷ []) legal).0) (said e refl))
 
 -- ---- one call
 
@@ -176,13 +176,13 @@ module _ (setting : Setting) (is : IsSetting setting) (s : GroupState) (inv : Is
   call_goes_on : (call : Call) → IsFair setting s call → GoOn call (events seat (facts_of now)) (events seat (facts_of (history_after seat setting.limit now call)))
   call_goes_on (ToCast payload) fair =
       by_entry (ToCast payload) seat now (cast_entry (cast_answer seat setting.limit now payload))
-      (calls_keep_legal seat setting.limit now (ToCast payload) is.at_most (inv.legal i lt) fair) (cast_adds payload)
+      (calls_keep_entries seat setting.limit now (ToCast payload) (inv.legal i lt) fair) (cast_adds payload)
   call_goes_on (ToTake bytes) fair =
       by_entry (ToTake bytes) seat now (arrive_entry bytes (arrive_answer seat setting.limit now bytes))
-      (calls_keep_legal seat setting.limit now (ToTake bytes) is.at_most (inv.legal i lt) fair.are_bytes) (arrival_adds bytes (arrive_answer seat setting.limit now bytes))
+      (calls_keep_entries seat setting.limit now (ToTake bytes) (inv.legal i lt) fair.are_bytes) (arrival_adds bytes (arrive_answer seat setting.limit now bytes))
   call_goes_on ToTick fair =
       by_entry ToTick seat now (entry_of seat setting.limit now ToTick)
-      (calls_keep_legal seat setting.limit now ToTick is.at_most (inv.legal i lt) tt) (tick_adds _ (tick_answer seat setting.limit now))
+      (calls_keep_entries seat setting.limit now ToTick (inv.legal i lt) tt) (tick_adds _ (tick_answer seat setting.limit now))
 
 -- ---- one step
 

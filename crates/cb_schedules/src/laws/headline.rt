@@ -6,8 +6,8 @@ ghost use Rattle.cb_schedules.specs.Headline.{DeliversClosedArrivals, EachSchedu
 /// Each member has delivered just the messages that reached it together with their whole past. And the times
 /// of any two messages that were cast, read from the bytes of the frames, compare as happened-before does.
 ///
-/// It holds after each step, for every group of 2 to 64 members with a window of 1 to 256, and every history
-/// limit of 1 to 16,777,216.
+/// It holds after each step, for every group of 2 to 64 members with a window of 1 to 256, however many
+/// entries histories may have.
 pub fn causal_broadcast_over_lossy_links()
     ensures causal { EachSchedule IsCausalBroadcast }
     ensures delivered { EachSchedule DeliversClosedArrivals }

@@ -3,16 +3,23 @@
 ghost use Rattle.cb_schedules.specs.Consistent.{IsConsistent};
 ghost use Rattle.cb_schedules.specs.Headline.{EachSchedule, StepsExtendTheCausal, StepsExtendTheStamped};
 ghost use Rattle.cb_schedules.specs.SentLaws.{CastsThereAreOwn, EventsHaveTimesFromBytes, NothingReadyIsLeftAnywhere};
+ghost use Rattle.cb_schedules.specs.LimitLaws.{HistoriesAreLegal, HistoriesStayWithin};
 ghost use Rattle.cb_schedules.specs.StepLaws.{EachStepGoesOn};
 
-/// After every schedule the histories, the frames that were sent and the outcomes belong together: each history is legal, every frame says
-/// what is so, and what arrived is there. So every cast that is there with a member is an own cast of its sender, the time of each event is
+/// After every schedule the histories, the frames that were sent and the outcomes belong together: what each member entered is legal,
+/// however much it is, every frame says what is so, and what arrived is there. So every cast that is there with a member is an own cast of its sender, the time of each event is
 /// the time from the bytes, and no member has a ready message left, whatever is received last.
 pub fn runs_are_consistent()
     ensures invariant { EachSchedule IsConsistent }
     ensures casts { EachSchedule CastsThereAreOwn }
     ensures times { EachSchedule EventsHaveTimesFromBytes }
     ensures ready { EachSchedule NothingReadyIsLeftAnywhere }
+{}
+
+/// No member enters more than the limit. So with a limit that histories can have, 1 to 16,777,216, each has a legal history.
+pub fn histories_stay_within_their_limit()
+    ensures within { HistoriesStayWithin }
+    ensures legal { HistoriesAreLegal }
 {}
 
 /// Each step of a schedule extends the members' events, with their times, by steps of the stamped machine, and without their times by steps of

@@ -5,7 +5,7 @@ use Rattle.cb_world.specs.World.{run_in}
 use Rattle.cb_world.proofs.run.play.Goals as goal
 
 headline_of : (c : goal.After-finish) → Headline c.finish.result.setting (run_in c.finish.result)
-headline_of c = each_schedule Headline headline_holds _ _ c.finish.ensures.setting
+headline_of c = each_schedule Headline headline_holds _ _ c.finish.ensures.setting.is_setting
 
 pub returns-in-Ok-run_on-clause-causal : goal.returns-in-Ok-run_on-clause-causal
 returns-in-Ok-run_on-clause-causal c = (headline_of c).causal
@@ -17,4 +17,4 @@ pub returns-in-Ok-run_on-clause-times : goal.returns-in-Ok-run_on-clause-times
 returns-in-Ok-run_on-clause-times c = (headline_of c).times
 
 pub returns-in-Ok-run_on-clause-stable : goal.returns-in-Ok-run_on-clause-stable
-returns-in-Ok-run_on-clause-stable c = each_schedule StableStandsInEvents stable_stands_in_events _ _ c.finish.ensures.setting
+returns-in-Ok-run_on-clause-stable c = each_schedule StableStandsInEvents stable_stands_in_events _ _ c.finish.ensures.setting.is_setting

@@ -3,4 +3,4 @@ use Rattle.cb_schedules.proofs.Headlines.{each_schedule, stable_is_delivered_eve
 use Rattle.cb_world.proofs.world.World.member.Goals as goal
 
 pub returns-clause-stable : goal.returns-clause-stable
-returns-clause-stable c = rw (← c.self.view_is) (each_schedule StableIsDeliveredEverywhere stable_is_delivered_everywhere _ _ c.self.invariant.setting_is)
+returns-clause-stable c = rw (← c.self.view_is) (each_schedule StableIsDeliveredEverywhere stable_is_delivered_everywhere _ _ c.self.invariant.setting_is.is_setting)

@@ -7,7 +7,7 @@ use Rattle.cb_world.proofs.Stepping.{lists_go_on_by}
 use Rattle.cb_world.proofs.world.World.step.Goals as goal
 
 headline_of : (c : goal.After-take) → Headline c.take.new.self.setting (run_in c.take.new.self)
-headline_of c = each_schedule Headline headline_holds _ _ c.take.ensures.setting
+headline_of c = each_schedule Headline headline_holds _ _ c.take.ensures.setting.is_setting
 
 pub returns-clause-causal : goal.returns-clause-causal
 returns-clause-causal c = (headline_of c).causal
@@ -19,10 +19,10 @@ pub returns-clause-times : goal.returns-clause-times
 returns-clause-times c = (headline_of c).times
 
 pub returns-clause-stable : goal.returns-clause-stable
-returns-clause-stable c = each_schedule StableStandsInEvents stable_stands_in_events _ _ c.take.ensures.setting
+returns-clause-stable c = each_schedule StableStandsInEvents stable_stands_in_events _ _ c.take.ensures.setting.is_setting
 
 pub returns-clause-goes_on : goal.returns-clause-goes_on
-returns-clause-goes_on c = lists_go_on_by c.take.result c.args.self.now c.take.new.self (step_fields c.args.step.now) c.take.ensures.setting c.take.ensures.step c.take.ensures.same
+returns-clause-goes_on c = lists_go_on_by c.take.result c.args.self.now c.take.new.self (step_fields c.args.step.now) c.take.ensures.setting.is_setting c.take.ensures.step c.take.ensures.same
 
 pub returns-clause-setting : goal.returns-clause-setting
 returns-clause-setting c = c.take.ensures.setting
