@@ -1,5 +1,5 @@
 -- The values of a status name each member once: one look at each of them finds what a look for each member would.
-use Rattle.std.proofs.Common.{◌≡◌, ℕ, zero, suc, ◌+◌, ◌-◌, ◌<◌, ◌≤◌, max, Bool, true, false, not, eqb, ltb, ◌&&◌, ◌||◌, List, [], ◌∷◌, length, set, refl, sym, ap, ◌∙◌, arith, inl, inr}
+use Rattle.std.proofs.Common.{◌≡◌, ◌≢◌, ℕ, zero, suc, ◌+◌, ◌-◌, ◌<◌, ◌≤◌, max, Bool, true, false, not, eqb, ltb, ◌&&◌, ◌||◌, List, [], ◌∷◌, length, set, refl, sym, ap, ◌∙◌, arith, inl, inr}
 use Rattle.std.specs.List.{list_all, list_any, range_with_len}
 use Rattle.std.proofs.lemmas.Bool.{cases_eq, eq-eqb, le-ltb, ne_eqb, ltb-true}
 use Rattle.std.proofs.lemmas.List.{get_or-set_other, get_or-set_same}
@@ -98,11 +98,57 @@ told_by_values me size heard values rises small =
     let all : size ≡ size - 0 = omega arith in
     ap (λ (n : ℕ). list_any (tells_more me heard values) (range_with_len 0 n)) all ∙ told_from me size 0 heard values (omega arith) rises small
 
--- ---- one value more is kept
+-- ---- the search over the values, on the way
 
--- what is left of the values rises from some member on
-abbrev pub RisesSomewhere : List Change → Type 0
-RisesSomewhere values = (least : ℕ) × RisesFrom least values
+pub own_is_no_more : (me : ℕ) (heard : List ℕ) (d : Change) → d.field ≡ me → is_more me heard d ≡ false
+own_is_no_more me heard d own = rw (eq-eqb d.field me own) refl
+
+pub other_is_more : (me : ℕ) (heard : List ℕ) (d : Change) → d.field ≢ me → is_more me heard d ≡ ltb (field heard d.field) d.amount
+other_is_more me heard d other = rw (ne_eqb d.field me other) refl
+
+-- of the first value it does not hold: the search goes on behind it
+pub any_skips : (p : Change → Bool) (d : Change) (rest : List Change) (so_far all : Bool) → p d ≡ false → (so_far || list_any p (d ∷ rest)) ≡ all → (so_far || list_any p rest) ≡ all
+any_skips p d rest so_far all fails h = ap (λ (b : Bool). so_far || (b || list_any p rest)) (sym fails) ∙ h
+
+-- it holds of the first value: the search is at its end
+pub any_finds : (p : Change → Bool) (d : Change) (rest : List Change) (so_far all : Bool) → p d ≡ true → (so_far || list_any p (d ∷ rest)) ≡ all → true ≡ all
+any_finds p d rest true all holds h = h
+any_finds p d rest false all holds h = ap (λ (b : Bool). b || list_any p rest) (sym holds) ∙ h
+
+pub any_ends : (p : Change → Bool) (so_far all : Bool) → (so_far || list_any p []) ≡ all → so_far ≡ all
+any_ends p true all h = h
+any_ends p false all h = h
+
+-- ---- the value of one member, on the way
+
+-- so much was found of member k before the rest of all values: nothing, where the rest may still name it
+pub record IsFound (k found : ℕ) (rest all : List Change) : Type 0 where
+  pub least : ℕ
+  pub rising : RisesFrom least rest
+  pub none_before : least ≤ k → found ≡ 0
+  pub value : max found (value_in rest k) ≡ value_in all k
+
+pub found_here : (k found : ℕ) (d : Change) (rest all : List Change) → d.field ≡ k → IsFound k found (d ∷ rest) all → IsFound k d.amount rest all
+found_here k found d rest all own f =
+    let none : value_in rest k ≡ 0 = nothing_said (d.field + 1) k rest f.rising.1 (omega (arith, own)) in
+    let said : value_in (d ∷ rest) k ≡ d.amount = ap (value_in (d ∷ rest)) (sym own) ∙ own_value d rest in
+    let before : found ≡ 0 = f.none_before (omega (arith, own, f.rising.0)) in
+    record { least = d.field + 1; rising = f.rising.1; none_before = λ lt. omega (arith, lt, own); value = omega (arith, none, said, before, f.value) }
+
+pub found_elsewhere : (k found : ℕ) (d : Change) (rest all : List Change) → d.field ≢ k → IsFound k found (d ∷ rest) all → IsFound k found rest all
+found_elsewhere k found d rest all other f =
+    let said : value_in (d ∷ rest) k ≡ value_in rest k = rw (ne_eqb d.field k other) refl in
+    record {
+      least = d.field + 1;
+      rising = f.rising.1;
+      none_before = λ lt. f.none_before (omega (arith, lt, f.rising.0));
+      value = ap (max found) (sym said) ∙ f.value;
+    }
+
+pub found_at_the_end : (k found : ℕ) (all : List Change) → IsFound k found [] all → found ≡ value_in all k
+found_at_the_end k found all f = omega (arith, f.value)
+
+-- ---- one value more is kept
 
 -- the field of the first value was raised to it, and what is left gives the rest
 pub raised_by_one : (d : Change) (values : List Change) (old new : List ℕ) (k : ℕ) → RisesFrom (d.field + 1) values → d.field < length old → new ≡ set old d.field (max (field old d.field) d.amount)

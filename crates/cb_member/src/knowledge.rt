@@ -75,31 +75,24 @@ impl Knowledge {
         requires values { AreValuesOf (length self.old.known) status.now.values.items }
         ensures { HearsStatus me (status_fields status.now) self.old self.new }
     {
-        raise_by(&mut self.known, &status.values);
-        self.acks
-            .learn(status.sender, me, value_in(&status.values, me));
+        let of_me = raise_by(&mut self.known, me, &status.values);
+        self.acks.learn(status.sender, me, of_me);
     }
 }
 
-/// The value of a field in a status, 0 where it says none.
-pub fn value_in(values: &[Change], k: u32) -> u32
-    ensures { result ≡ value_in values.now k }
-{
-    for value in values {
-        if value.field == k {
-            return value.amount;
-        }
-    }
-    0
-}
-
-/// Each field becomes the greater of what it was and the value.
-fn raise_by(known: &mut VectorTime, values: &[Change])
+/// Each field becomes the greater of what it was and the value. Answers the value of member me, 0 where none is said.
+fn raise_by(known: &mut VectorTime, me: u32, values: &[Change]) -> u32
     requires { AreValuesOf (length known.old) values.now }
-    ensures { IsRaisedBy values.now known.old known.new }
+    ensures raised { IsRaisedBy values.now known.old known.new }
+    ensures of_me { result ≡ value_in values.now me }
 {
+    let mut of_me = 0;
     for value in values {
         let heard = known.get(value.field);
         known.set(value.field, heard.max(value.amount));
+        if value.field == me {
+            of_me = value.amount;
+        }
     }
+    of_me
 }

@@ -1,18 +1,16 @@
 //! A received status.
 
-ghost use Rattle.std.specs.Prelude.{◌≡◌, ◌<◌, ◌==◌, ◌&&◌, not, true, nat_lt, length};
-ghost use Rattle.std.specs.List.{list_any, range_with_len};
+ghost use Rattle.std.specs.Prelude.{◌≡◌, ◌≢◌, true, nat_lt, length};
+ghost use Rattle.std.specs.List.{list_any};
 ghost use Rattle.cb_times.specs.Order.{field};
 ghost use Rattle.cb_frames.specs.Fields.{status_fields, StatusFrame};
 ghost use Rattle.cb_frames.specs.Text.{RisesFrom};
-ghost use Rattle.cb_history.specs.Known.{value_in};
-ghost use Rattle.cb_history.specs.Answers.{are_members, is_impossible, is_news};
-ghost use Rattle.cb_member.specs.State.{IsState, OnAll};
-ghost use Rattle.cb_member.specs.Hearing.{CanHear, HasHeard, JudgesStatus};
+ghost use Rattle.cb_history.specs.Answers.{are_members};
+ghost use Rattle.cb_member.specs.State.{IsState};
+ghost use Rattle.cb_member.specs.Hearing.{CanHear, HasHeard, IsSaid, JudgesStatus, Weighs};
 ghost use Rattle.cb_member.specs.Knowledge.{AreValuesOf};
 
 use crate::arrival::are_fields;
-use crate::knowledge::value_in;
 use crate::state::State;
 use cb_frames::{Change, Status};
 use cb_history::{ArriveRefusal, Identity};
@@ -24,6 +22,22 @@ pub enum Judged {
     /// It changes the state, where the history has room for one more entry.
     News,
     NoNews,
+}
+
+/// What the definitions say of a status of this group.
+#[derive(Clone, Copy, Drop)]
+pub struct Verdict {
+    pub is_impossible: bool,
+    pub is_news: bool,
+}
+
+/// What the values of a status say to a member.
+#[derive(Clone, Copy, Drop)]
+pub struct Said {
+    /// How many of its casts the status' sender delivered.
+    pub of_me: u32,
+    /// Whether they say more of another sender's casts than was heard of.
+    pub tells_of_casts: bool,
 }
 
 impl State {
@@ -39,47 +53,61 @@ impl State {
         if !are_members(self.seat.group().size(), status) {
             return Err(ArriveRefusal::BadMember);
         }
-        if self.is_impossible(status) {
+        let verdict = self.weigh(status);
+        if verdict.is_impossible {
             return Err(ArriveRefusal::Impossible);
         }
-        if self.is_news(status) {
+        if verdict.is_news {
             Ok(Judged::News)
         } else {
             Ok(Judged::NoNews)
         }
     }
 
-    /// It would be a time of the member itself that it has not reached, or more deliveries of its casts than it made.
-    fn is_impossible(&self, status: &Status) -> bool
-        requires state { IsState self.now }
-        requires members { are_members self.now.seat.group.size
-            (StatusFrame (status_fields status.now)) ≡ true }
-        ensures { OnAll self.now (λ facts. result ≡ is_impossible self.now.seat facts
-            (StatusFrame (status_fields status.now))) }
-    {
-        let me = self.seat.me();
-        if status.sender == me {
-            is_ahead(&self.delivery.time, &status.values)
-        } else {
-            counted(self.delivery.time.as_slice(), me) < value_in(&status.values, me)
-        }
-    }
-
-    /// A status of another that raises what is known.
-    fn is_news(&self, status: &Status) -> bool
+    /// Reads the values of a status of this group once.
+    fn weigh(&self, status: &Status) -> Verdict
         requires state { IsState self.now }
         requires members { are_members self.now.seat.group.size
             (StatusFrame (status_fields status.now)) ≡ true }
         requires rising { RisesFrom 0 status.now.values.items }
-        ensures { OnAll self.now (λ facts. result
-            ≡ is_news self.now.seat facts (status_fields status.now)) }
+        ensures { Weighs self.now (status_fields status.now) result }
+    {
+        if status.sender == self.seat.me() {
+            self.weigh_own(status)
+        } else {
+            self.weigh_other(status)
+        }
+    }
+
+    /// The member's own status tells it nothing, and may tell of a time that it has not reached.
+    fn weigh_own(&self, status: &Status) -> Verdict
+        requires own { status.now.sender ≡ self.now.seat.me }
+        requires members { are_members self.now.seat.group.size
+            (StatusFrame (status_fields status.now)) ≡ true }
+        ensures { Weighs self.now (status_fields status.now) result }
+    {
+        Verdict {
+            is_impossible: is_ahead(&self.delivery.time, &status.values),
+            is_news: false,
+        }
+    }
+
+    /// The status of another may raise what is known, and may count more of the member's casts than it made.
+    fn weigh_other(&self, status: &Status) -> Verdict
+        requires state { IsState self.now }
+        requires other { status.now.sender ≢ self.now.seat.me }
+        requires members { are_members self.now.seat.group.size
+            (StatusFrame (status_fields status.now)) ≡ true }
+        requires rising { RisesFrom 0 status.now.values.items }
+        ensures { Weighs self.now (status_fields status.now) result }
     {
         let me = self.seat.me();
-        if status.sender == me {
-            return false;
+        let said = said_by(self.seat, &self.knowledge.known, &status.values);
+        let acknowledges = self.knowledge.acks.learnt(status.sender, me) < said.of_me;
+        Verdict {
+            is_impossible: counted(self.delivery.time.as_slice(), me) < said.of_me,
+            is_news: said.tells_of_casts | acknowledges,
         }
-        tells_of_casts(self.seat, &self.knowledge.known, &status.values)
-            || self.knowledge.acks.learnt(status.sender, me) < value_in(&status.values, me)
     }
 
     /// Keeps what the status says. This takes no memory.
@@ -117,15 +145,23 @@ fn is_ahead(time: &VectorTime, values: &[Change]) -> bool
         .any(|value| counted(counts, value.field) < value.amount)
 }
 
-/// Some value says more of another sender's casts than was heard of. The values are of different members, so one
-/// look at each will do.
-fn tells_of_casts(seat: Identity, known: &VectorTime, values: &[Change]) -> bool
+/// What the values say to this member.
+fn said_by(seat: Identity, known: &VectorTime, values: &[Change]) -> Said
     requires known { length known.now ≡ seat.group.size }
     requires values { AreValuesOf seat.group.size values.now }
-    ensures { result ≡ list_any (λ k. not (k == seat.me)
-        && nat_lt (field known.now k) (value_in values.now k))
-        (range_with_len 0 seat.group.size) }
+    ensures { IsSaid seat known.now values.now result }
 {
     let (me, counts) = (seat.me(), known.as_slice());
-    values.iter().any(|value| value.field != me && counted(counts, value.field) < value.amount)
+    let (mut of_me, mut tells_of_casts) = (0, false);
+    for value in values {
+        if value.field == me {
+            of_me = value.amount;
+        } else if counted(counts, value.field) < value.amount {
+            tells_of_casts = true;
+        }
+    }
+    Said {
+        of_me,
+        tells_of_casts,
+    }
 }
