@@ -1,18 +1,20 @@
--- Own casts and statuses that are ready to be entered, and what entering does.
-use Rattle.std.specs.Prelude.{◌≡◌, ℕ, ◌<◌, true, List, ◌∷◌, length, Some, None, option_map, if◌then◌else◌}
+-- Own casts and statuses: what is ready to be entered, what entering does, and how the call is answered.
+use Rattle.std.specs.Prelude.{◌≡◌, ℕ, ◌<◌, true, List, ◌∷◌, length, Some, None, option_map, if◌then◌else◌, Result, Ok, IfOk, IfErr, OnErr}
 use Rattle.cb_frames.specs.Fields.{StatusFrame}
 use Rattle.cb_frames.specs.Laws.{IsBytes}
 use Rattle.cb_frames.specs.Text.{text_of}
 use Rattle.cb_history.specs.declared.answer.CastDone.{CastDone}
+use Rattle.cb_history.specs.declared.answer.CastRefusal.{CastRefusal}
+use Rattle.cb_history.specs.declared.answer.Ticked.{Ticked}
+use Rattle.cb_history.specs.declared.answer.TickRefusal.{TickRefusal}
 use Rattle.cb_history.specs.Facts.{CastEntry, TickEntry, entry_fields}
 use Rattle.cb_history.specs.Answers.{is_new_status, next_cast, requests, status_of}
 use Rattle.cb_history.specs.Legal.{ToCast}
-use Rattle.cb_history.specs.State.{HasCast, answer_to_cast, entry_by}
-use Rattle.std.specs.Prelude.{Ok}
+use Rattle.cb_history.specs.State.{HasCast, HasTicked, RefusesTick, answer_to_cast, entry_by}
 use Rattle.cb_member.specs.declared.recorder.EnteringCast.{EnteringCast}
 use Rattle.cb_member.specs.declared.recorder.Recorder.{Recorder}
 use Rattle.cb_member.specs.declared.recorder.Telling.{Telling}
-use Rattle.cb_member.specs.Casting.{CanCast, IsCasting, next_text}
+use Rattle.cb_member.specs.Casting.{CanCast, IsCasting, RefusesExactly, next_text}
 use Rattle.cb_member.specs.Recorder.{HasRoom, IsKept, facts_held, held_by}
 
 -- the next cast of this payload is made, and there is room for it
@@ -48,3 +50,19 @@ pub record Tells (r : Recorder) (telling : Telling) : Type 0 where
       ≡ (if is_new_status r.state.seat (facts_held r) then Some (TickEntry (text_of (StatusFrame (status_of r.state.seat (facts_held r))))) else None)
   pub few : is_new_status r.state.seat (facts_held r) ≡ true → length r.entries.items < r.limit
   pub room : HasRoom 0 r
+
+-- ---- what is answered
+
+-- what a cast of this payload does and how it is answered, where the answer has this in what is handed out
+pub record AnswersCast {A : Type 0} (done_in : A → CastDone) (payload : List ℕ) (old new : Recorder) (result : Result A CastRefusal) : Type 0 where
+  pub kept : IsKept new
+  pub done : IfOk result (λ a. HasCast (held_by old) (held_by new) payload (done_in a))
+  pub refused : IfErr result (RefusesExactly (held_by old) payload)
+  pub same : OnErr result (held_by new ≡ held_by old)
+
+-- the same of a tick
+pub record AnswersTick {A : Type 0} (ticked_in : A → Ticked) (old new : Recorder) (result : Result A TickRefusal) : Type 0 where
+  pub kept : IsKept new
+  pub done : IfOk result (λ a. HasTicked (held_by old) (held_by new) (ticked_in a))
+  pub refused : IfErr result (RefusesTick (held_by old))
+  pub same : OnErr result (held_by new ≡ held_by old)

@@ -164,11 +164,7 @@ impl Member {
         ensures refused { IfErr result (RefusesArrival self.old bytes.now) }
         ensures same { OnErr result (self.new ≡ self.old) }
     {
-        let wanted = Wanted {
-            deliveries: false,
-            entry: false,
-        };
-        let taken = self.recorder.take(bytes, wanted)?;
+        let taken = self.recorder.take(bytes, Wanted::NOTHING)?;
         Ok(taken.received)
     }
 
@@ -184,11 +180,7 @@ impl Member {
         ensures refused { IfErr result (RefusesArrival self.old bytes) }
         ensures same { OnErr result (self.new ≡ self.old) }
     {
-        let wanted = Wanted {
-            deliveries: false,
-            entry: true,
-        };
-        let taken = self.recorder.take(&bytes, wanted)?;
+        let taken = self.recorder.take(&bytes, Wanted::ENTRY)?;
         let Taken {
             received,
             deliveries: _,
@@ -203,11 +195,7 @@ impl Member {
         ensures refused { IfErr result (RefusesArrival self.old bytes.now) }
         ensures same { OnErr result (self.new ≡ self.old) }
     {
-        let wanted = Wanted {
-            deliveries: true,
-            entry: false,
-        };
-        let taken = self.recorder.take(bytes, wanted)?;
+        let taken = self.recorder.take(bytes, Wanted::DELIVERIES)?;
         Ok(taken.received.arrival(taken.deliveries))
     }
 
@@ -219,11 +207,7 @@ impl Member {
         ensures refused { IfErr result (RefusesArrival self.old bytes.now) }
         ensures same { OnErr result (self.new ≡ self.old) }
     {
-        let wanted = Wanted {
-            deliveries: true,
-            entry: true,
-        };
-        let taken = self.recorder.take(bytes, wanted)?;
+        let taken = self.recorder.take(bytes, Wanted::ALL)?;
         Ok((taken.received.arrival(taken.deliveries), taken.noted))
     }
 

@@ -1,13 +1,13 @@
 //! A member's state with its history: each call that changes the state adds its entry, and what it casts or delivers to the events.
 
-ghost use Rattle.std.specs.Prelude.{◌≡◌, ◌≤◌, IfOk, IfErr, OnErr, OnOk, Some, None, length, nat_le, option_map, if◌then◌else◌};
+ghost use Rattle.std.specs.Prelude.{◌≡◌, ◌≤◌, IfOk, IfErr, OnOk, Some, None, length, nat_le, option_map, if◌then◌else◌};
 ghost use Rattle.cb_history.specs.Facts.{entry_fields, TickEntry};
 ghost use Rattle.cb_history.specs.Group.{IsIdentity};
 ghost use Rattle.cb_history.specs.Legal.{longest_history, ToCast, ToTick};
-ghost use Rattle.cb_history.specs.State.{entry_by, HasCast, HasTicked, RefusesTick};
+ghost use Rattle.cb_history.specs.State.{entry_by, HasTicked, RefusesTick};
 ghost use Rattle.cb_member.specs.Casting.{RefusesExactly};
 ghost use Rattle.cb_member.specs.Recorder.{IsKept, IsNewRecorder, IsSame, HasRoom, held_by};
-ghost use Rattle.cb_member.specs.Entering.{CanEnterCast, IsEnteringCast, EntersCast, Tells};
+ghost use Rattle.cb_member.specs.Entering.{AnswersCast, AnswersTick, CanEnterCast, IsEnteringCast, EntersCast, Tells};
 
 mod arriving;
 mod taken;
@@ -83,10 +83,7 @@ impl Recorder {
     /// Casts a message of this payload.
     pub fn cast(&mut self, payload: &[u8]) -> Result<CastDone, CastRefusal>
         requires { IsKept self.old }
-        ensures kept { IsKept self.new }
-        ensures done { IfOk result (HasCast (held_by self.old) (held_by self.new) payload.now) }
-        ensures refused { IfErr result (RefusesExactly (held_by self.old) payload.now) }
-        ensures same { OnErr result (held_by self.new ≡ held_by self.old) }
+        ensures { AnswersCast (λ done. done) payload.now self.old self.new result }
     {
         let entering = self.prepare_cast(payload)?;
         Ok(self.enter_cast(entering))
@@ -95,13 +92,9 @@ impl Recorder {
     /// Casts a message of this payload, and hands out a copy of the entry that it adds.
     pub fn cast_noted(&mut self, payload: &[u8]) -> Result<(CastDone, Entry), CastRefusal>
         requires { IsKept self.old }
-        ensures kept { IsKept self.new }
-        ensures done { IfOk result (λ noted. HasCast (held_by self.old) (held_by self.new)
-            payload.now noted.0) }
+        ensures answers { AnswersCast (λ noted. noted.0) payload.now self.old self.new result }
         ensures entry { IfOk result (λ noted. entry_by (held_by self.old)
             (ToCast payload.now) ≡ Some (entry_fields noted.1)) }
-        ensures refused { IfErr result (RefusesExactly (held_by self.old) payload.now) }
-        ensures same { OnErr result (held_by self.new ≡ held_by self.old) }
     {
         let entering = self.prepare_cast(payload)?;
         let noted = entering.entry.copy()?;
@@ -154,10 +147,7 @@ impl Recorder {
     /// Reports the status to all, and asks for what is missing.
     pub fn tick(&mut self) -> Result<Ticked, TickRefusal>
         requires { IsKept self.old }
-        ensures kept { IsKept self.new }
-        ensures done { IfOk result (HasTicked (held_by self.old) (held_by self.new)) }
-        ensures refused { IfErr result (RefusesTick (held_by self.old)) }
-        ensures same { OnErr result (held_by self.new ≡ held_by self.old) }
+        ensures { AnswersTick (λ ticked. ticked) self.old self.new result }
     {
         let telling = self.prepare_tick()?;
         Ok(self.enter_tick(telling))
@@ -166,13 +156,9 @@ impl Recorder {
     /// Ticks as `tick` does, and hands out a copy of the entry, where one is added.
     pub fn tick_noted(&mut self) -> Result<(Ticked, Option<Entry>), TickRefusal>
         requires { IsKept self.old }
-        ensures kept { IsKept self.new }
-        ensures done { IfOk result (λ noted. HasTicked (held_by self.old) (held_by self.new)
-            noted.0) }
+        ensures answers { AnswersTick (λ noted. noted.0) self.old self.new result }
         ensures entry { IfOk result (λ noted. entry_by (held_by self.old) ToTick
             ≡ option_map entry_fields noted.1) }
-        ensures refused { IfErr result (RefusesTick (held_by self.old)) }
-        ensures same { OnErr result (held_by self.new ≡ held_by self.old) }
     {
         let telling = self.prepare_tick()?;
         let noted = match &telling.entry {

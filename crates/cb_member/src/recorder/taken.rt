@@ -33,6 +33,28 @@ pub struct Wanted {
     pub entry: bool,
 }
 
+impl Wanted {
+    pub const NOTHING: Wanted = Wanted {
+        deliveries: false,
+        entry: false,
+    };
+
+    pub const ENTRY: Wanted = Wanted {
+        deliveries: false,
+        entry: true,
+    };
+
+    pub const DELIVERIES: Wanted = Wanted {
+        deliveries: true,
+        entry: false,
+    };
+
+    pub const ALL: Wanted = Wanted {
+        deliveries: true,
+        entry: true,
+    };
+}
+
 /// What is answered, with what was wanted; nothing where it was not.
 #[derive(Drop)]
 pub struct Taken {
