@@ -74,7 +74,8 @@ fill() {
 tests_of() {
     case $1 in
         cb_varint | cb_frames | cb_times | cb_diffs | cb_delay) echo tests_base ;;
-        cb_member | cb_reference) echo tests_member ;;
+        cb_member) echo tests_member cb_member ;;
+        cb_reference) echo tests_member ;;
         cb_causality | cb_history | cb_rooms | cb_world | cb_trace) echo tests_group ;;
         cb_handle) echo jolunza ;;
         confer_text) echo confer_text confer_expand confer_play ;;

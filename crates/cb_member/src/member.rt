@@ -289,3 +289,6 @@ impl GroupMember for Member {
         Entry::copies(self.recorder.state.alloc, self.history())
     }
 }
+
+#[cfg(test)]
+mod tests;

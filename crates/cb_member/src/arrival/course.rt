@@ -1,4 +1,6 @@
-//! The course of a received cast, told before anything changes.
+//! The course of a received cast: one of four ways, told before anything changes, with what is made for it.
+//!
+//! `LetsGo` would do for every cast. The others are for what comes most, and cost less.
 
 ghost use Rattle.std.specs.Prelude.{◌≡◌, IfOk, length};
 ghost use Rattle.cb_frames.specs.Fields.{cast_fields};

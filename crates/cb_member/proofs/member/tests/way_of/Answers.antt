@@ -1,0 +1,20 @@
+use Rattle.std.proofs.Common.{Ok, subst}
+use Rattle.cb_frames.specs.Fields.{CastFrame, cast_fields}
+use Rattle.cb_history.proofs.ReadBack.{frame_numbered}
+use Rattle.cb_member.specs.declared.arrival.cast.Judged.{Judged}
+use Rattle.cb_member.specs.Arriving.{JudgesCast}
+use Rattle.cb_member.proofs.Entering.{state_kept}
+use Rattle.cb_member.proofs.member.tests.way_of.Goals as goal
+
+pub judge_cast-requires-clause-state : goal.judge_cast-requires-clause-state
+judge_cast-requires-clause-state c = state_kept c.args.recorder c.requires.kept
+
+pub judge_cast-requires-clause-numbered : goal.judge_cast-requires-clause-numbered
+judge_cast-requires-clause-numbered c = frame_numbered c.args.bytes.now (cast_fields c.args.cast) c.requires.read
+
+pub course_of-requires : goal.course_of-requires
+course_of-requires c = (subst (λ (j : Judged). JudgesCast c.args.recorder.state (cast_fields c.args.cast) (Ok j)) c.in-Ok-Taken.field-0-is c.in-Ok-Taken.ensures).can
+
+pub judge_cast-requires-clause-rising : goal.judge_cast-requires-clause-rising
+judge_cast-requires-clause-rising c =
+    ((c.each_is_a_text_or_a_fault.ensures.reading.text c.args.bytes.now (CastFrame (cast_fields c.args.cast)) c.requires.bytes).0 c.requires.read).0.changes.rising
