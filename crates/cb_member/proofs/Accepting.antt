@@ -69,7 +69,7 @@ pub names_done : (events : List Event) (names : List Name) (i : ℕ) → names +
 names_done events names i so_far past =
     sym (append-nil names) ∙ sym (ap (λ (es : List Event). names ++ names_of es) (drop_all i events past)) ∙ so_far
 
-only_deliveries : (ms : List Message) → delivered_by (map (λ m. Deliver m) ms) ≡ ms
+pub only_deliveries : (ms : List Message) → delivered_by (map (λ m. Deliver m) ms) ≡ ms
 only_deliveries [] = refl
 only_deliveries (m ∷ ms) = ap (λ (rest : List Message). m ∷ rest) (only_deliveries ms)
 
@@ -89,7 +89,7 @@ pub record IsAsked (old mid new : Recorder) : Type 0 where
 pub kept_asked : (old mid new : Recorder) → IsKept old → IsAsked old mid new → IsKept new
 kept_asked old mid new k a = kept_with_room mid new a.same (kept_alike old mid k a.alike a.limit a.entries a.events)
 
-is_new_alike : (c : CastFields) (old new : State) → IsAlike old new → IsNew c old → IsNew c new
+pub is_new_alike : (c : CastFields) (old new : State) → IsAlike old new → IsNew c old → IsNew c new
 is_new_alike c old new alike is =
     let back = alike_back old new alike in
     record {
@@ -227,7 +227,7 @@ taken_before wanted bytes old mid new taken same is =
 -- ---- a status that was heard
 
 -- it delivers nothing
-none_delivered : (seat : Identity) (facts : List Fact) (s : StatusFields) → deliveries seat facts (StatusFrame s) ≡ []
+pub none_delivered : (seat : Identity) (facts : List Fact) (s : StatusFields) → deliveries seat facts (StatusFrame s) ≡ []
 none_delivered seat facts s =
     ap (map (message_in seat.group.size (casts_in (facts ++ StatusReceived s ∷ []))))
     (ap (drop (length (view seat.group.size facts))) (view_status seat.group.size facts s) ∙ drop_all (length (view seat.group.size facts)) (view seat.group.size facts) (omega arith))

@@ -21,7 +21,7 @@ too_long : (seat : Identity) (limit : ℕ) (entries : List EntryFields) (payload
 unfolding cast_answer
 too_long seat limit entries payload long = rw (lt-ltb LONGEST_PAYLOAD (length payload) long) refl
 
-window_full : (seat : Identity) (limit : ℕ) (entries : List EntryFields) (payload : List ℕ) → length payload ≤ LONGEST_PAYLOAD → is_window_full seat (facts_of entries) ≡ true
+pub window_full : (seat : Identity) (limit : ℕ) (entries : List EntryFields) (payload : List ℕ) → length payload ≤ LONGEST_PAYLOAD → is_window_full seat (facts_of entries) ≡ true
     → cast_answer seat limit entries payload ≡ Err casts.WindowFull
 unfolding cast_answer
 window_full seat limit entries payload short full = rw (le-ltb LONGEST_PAYLOAD (length payload) short, full) refl

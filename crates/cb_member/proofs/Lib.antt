@@ -4,6 +4,11 @@ pub mod Alike
 pub mod Answering
 pub mod Arriving
 pub mod Casting
+pub mod CoreArrivals
+pub mod CoreCalls
+pub mod CoreRows
+pub mod CoreRuns
+pub mod Cores
 pub mod Courses
 pub mod Draining
 pub mod Entering
@@ -12,6 +17,7 @@ pub mod Going
 pub mod Hearing
 pub mod Judging
 pub mod JudgingCasts
+pub mod NeverFull
 pub mod OwnCasts
 pub mod Passing
 pub mod Putting

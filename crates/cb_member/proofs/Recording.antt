@@ -73,7 +73,7 @@ cast_next r payload k can few =
     let many = fields_many r in
     casts_next r.state r.limit (map entry_fields r.entries.items) payload (facts_kept r k) k.keeps can (omega (arith, few, many))
 
-is_ok_of : (a : Result CastFields CastRefusal) (c : CastFields) → a ≡ Ok c → IsOk a
+pub is_ok_of : (a : Result CastFields CastRefusal) (c : CastFields) → a ≡ Ok c → IsOk a
 is_ok_of a c is = rw is refl
 
 pub no_memory : (r : Recorder) (payload : List ℕ) (refusal : CastRefusal) → IsKept r → CanCast r.state payload → length r.entries.items < r.limit → refusal ≡ casts.NoMemory → RefusesExactly (held_by r) payload refusal
@@ -119,7 +119,7 @@ can_enter_cast old mid new payload frame time casting k bytes can few makes bloc
 
 -- ---- a cast that was entered
 
-counts_long : (size : ℕ) (seen : List Carried) → length (counts size seen) ≡ size
+pub counts_long : (size : ℕ) (seen : List Carried) → length (counts size seen) ≡ size
 counts_long size seen = length-map-range_with_len (count seen) 0 size
 
 pub can_keep_cast : (r : Recorder) (payload : List ℕ) (entering : EnteringCast) → CanEnterCast payload r entering → CanKeepCast entering.time entering.casting.sent r.state
@@ -198,11 +198,11 @@ tells_well old new telling is_new bytes k same room news few text out entry =
       room = room;
     }
 
-no_entry_not_new : (b : Bool) (e : EntryFields) → None ≡ (if b then Some e else None) → b ≡ false
+pub no_entry_not_new : (b : Bool) (e : EntryFields) → None ≡ (if b then Some e else None) → b ≡ false
 no_entry_not_new true e h = absurd cc
 no_entry_not_new false e h = refl
 
-entry_is_new : (b : Bool) (x e : EntryFields) → Some x ≡ (if b then Some e else None) → (b ≡ true) × (x ≡ e)
+pub entry_is_new : (b : Bool) (x e : EntryFields) → Some x ≡ (if b then Some e else None) → (b ≡ true) × (x ≡ e)
 entry_is_new true x e h = (refl, cc)
 entry_is_new false x e h = absurd cc
 

@@ -124,7 +124,7 @@ nothing_sent seat s is new = record {
 }
 
 -- a new state keeps what no facts say
-new_keeps : (seat : Identity) (state : State) → IsIdentity seat → IsNewState seat state → Keeps [] state
+pub new_keeps : (seat : Identity) (state : State) → IsIdentity seat → IsNewState seat state → Keeps [] state
 new_keeps seat state is new = record {
   delivered = subst (λ (s : Identity). HasDelivered s [] state.delivery) (sym new.of_seat) (nothing_delivered seat state.delivery is new.delivery);
   received = subst (λ (s : Identity). HasReceivedAll s [] state.reception) (sym new.of_seat) (nothing_received seat state.reception is new.reception);

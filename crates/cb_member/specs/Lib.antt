@@ -1,6 +1,9 @@
 pub mod Answering
 pub mod Arriving
 pub mod Casting
+pub mod CoreCalls
+pub mod CoreMember
+pub mod CoreRuns
 pub mod Course
 pub mod Delivery
 pub mod Entering

@@ -9,8 +9,10 @@
 #![tactic(auto)]
 
 mod arrival;
+mod core_member;
 mod delivery;
 mod knowledge;
+mod laws;
 mod member;
 mod own_cast;
 mod reception;
@@ -28,5 +30,7 @@ pub use cb_history::{
     TickRefusal, Ticked,
 };
 pub use cb_times::{NoMemory, TimeOrder, VectorTime};
+pub use core_member::CoreMember;
+pub use laws::cores_answer_by_their_history;
 pub use member::Member;
 pub use recorder::Received;

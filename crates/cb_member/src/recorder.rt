@@ -9,7 +9,7 @@ ghost use Rattle.cb_member.specs.Casting.{RefusesExactly};
 ghost use Rattle.cb_member.specs.Recorder.{IsKept, IsNewRecorder, IsSame, HasRoom, held_by};
 ghost use Rattle.cb_member.specs.Entering.{AnswersCast, AnswersTick, CanEnterCast, IsEnteringCast, EntersCast, Tells};
 
-mod arriving;
+pub mod arriving;
 mod taken;
 
 use crate::own_cast::Casting;
@@ -222,7 +222,7 @@ impl Recorder {
     }
 }
 
-fn entry_if(is_new: bool, status: &Bytes) -> Result<Option<Entry>, NoMemory>
+pub fn entry_if(is_new: bool, status: &Bytes) -> Result<Option<Entry>, NoMemory>
     ensures { IfOk result (λ entry. option_map entry_fields entry
         ≡ if is_new then Some (TickEntry status.now) else None) }
 {

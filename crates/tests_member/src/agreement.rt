@@ -1,8 +1,8 @@
-//! Random calls: the plain member, the quick one and a quick one that receives without copies answer each alike, whatever is received,
-//! and end with the same history.
+//! Random calls: the plain member, the quick one, a quick one that receives without copies, and where histories have room two that keep
+//! none answer each alike, whatever is received, and end with the same history, of which one without history handed out each entry.
 //!
-//! Each run is a member of a group of its own, three times, among some other members whose frames get lost, are copied and come in another
-//! order, with forged and damaged ones between them. `checks/agreement.sh` runs the same with more and longer runs.
+//! Each run is a member of a group of its own, so many times, among some other members whose frames get lost, are copied and come in
+//! another order, with forged and damaged ones between them. `checks/agreement.sh` runs the same with more and longer runs.
 
 mod dice;
 mod forging;
@@ -12,9 +12,10 @@ use crate::agreement::dice::Dice;
 use crate::agreement::forging::{Target, damaged, forged};
 use crate::agreement::world::World;
 use crate::examples::calls::{Call, Made, answer, arrival_text, counted, group_of};
+use crate::examples::cores::{self, Noting, core_of};
 use bytes::Bytes;
 use cb_history::{ArriveRefusal, Entry, Event, Group, GroupMember, History, Message};
-use cb_member::{Member, Received};
+use cb_member::{CoreMember, Member, Received};
 use cb_reference::ReferenceMember;
 use std::alloc::Global;
 use std::process::Abort;
@@ -27,23 +28,77 @@ const CALLS: u32 = 40;
 
 const SEED: u32 = 1;
 
+/// No run has as many entries.
+const ROOM: usize = 100_000;
+
 /// A payload that has a byte too many.
 const TOO_LONG: &[u8] = &[0; 1_025];
 
-/// One member in both forms, and once more the quick one, which receives what arrives at the others.
+/// A member without history, by the calls that hand out entries and by the others.
 #[derive(Drop)]
-struct Pair {
+struct Cores {
+    noting: Noting,
+    silent: CoreMember,
+}
+
+impl Cores {
+    fn new(alloc: Global, group: Group, me: u32) -> Result<Cores, Fail> {
+        Ok(Cores {
+            noting: Noting::made(alloc, group, me)?,
+            silent: core_of(alloc, group, me)?,
+        })
+    }
+
+    /// Where histories have room.
+    fn within(alloc: Global, group: Group, me: u32, limit: usize) -> Result<Option<Cores>, Fail> {
+        if limit < ROOM {
+            return Ok(None);
+        }
+        Ok(Some(Cores::new(alloc, group, me)?))
+    }
+
+    /// Both answer as expected.
+    fn call<R: Abort>(
+        &mut self,
+        rt: &R,
+        alloc: Global,
+        call: Call<'_>,
+        expected: String,
+    ) -> Result<(), Fail> {
+        if matches!(call, Call::Entries) {
+            drop(says(rt, self.noting.answer(alloc, call), expected)?);
+            return Ok(());
+        }
+        let expected = says(rt, self.noting.answer(alloc, call), expected)?;
+        drop(says(rt, self.silent_answer(alloc, call), expected)?);
+        Ok(())
+    }
+
+    fn silent_answer(&mut self, alloc: Global, call: Call<'_>) -> Result<String, Fail> {
+        let text = cores::answer(alloc, &mut self.silent, call)?;
+        match call {
+            Call::Cast(_) | Call::Take(_) | Call::Tick => self.noting.counted(alloc, text),
+            _ => Ok(text),
+        }
+    }
+}
+
+/// One member in each form. The reader is a quick one once more, which receives what arrives at the other.
+#[derive(Drop)]
+struct Forms {
     plain: ReferenceMember,
     quick: Member,
     reader: Member,
+    cores: Option<Cores>,
 }
 
-impl Pair {
-    fn new(alloc: Global, group: Group, me: u32, limit: usize) -> Result<Pair, Fail> {
-        Ok(Pair {
+impl Forms {
+    fn new(alloc: Global, group: Group, me: u32, limit: usize) -> Result<Forms, Fail> {
+        Ok(Forms {
             plain: ReferenceMember::made(alloc, group, me, limit)?,
             quick: Member::made(alloc, group, me, limit)?,
             reader: Member::made(alloc, group, me, limit)?,
+            cores: Cores::within(alloc, group, me, limit)?,
         })
     }
 
@@ -51,12 +106,12 @@ impl Pair {
     fn call<R: Abort>(&mut self, rt: &R, alloc: Global, call: Call<'_>) -> Result<(), Fail> {
         let plain = answer(alloc, &mut self.plain, call)?;
         let plain = says(rt, answer(alloc, &mut self.quick, call), plain)?;
-        drop(says(
-            rt,
-            answer_without_copies(alloc, &mut self.reader, call),
-            plain,
-        )?);
-        Ok(())
+        let reader = answer_without_copies(alloc, &mut self.reader, call);
+        let plain = says(rt, reader, plain)?;
+        match &mut self.cores {
+            Some(cores) => cores.call(rt, alloc, call, plain),
+            None => Ok(()),
+        }
     }
 
     /// The frame of the last entry, where the member sent it to all.
@@ -73,6 +128,12 @@ impl Pair {
         let plain = GroupMember::events(&self.plain)?;
         Ok(are_same_events(&plain, self.quick.events()))
     }
+}
+
+/// What was handed out is the history and the events.
+fn are_as_handed_out(cores: &Cores, member: &Member) -> bool {
+    cores.noting.entries() == member.history()
+        && are_same_events(cores.noting.events(), member.events())
 }
 
 /// What the member answers, where what arrives is received.
@@ -161,14 +222,14 @@ fn random_limit(dice: &mut Dice) -> usize {
     if dice.one_in(4) {
         dice.place(20).saturating_add(1)
     } else {
-        100_000
+        ROOM
     }
 }
 
 /// A member under test, among others.
 #[derive(Drop)]
 struct Trial {
-    pair: Pair,
+    forms: Forms,
     world: World,
     group: Group,
     me: u32,
@@ -185,24 +246,24 @@ impl Trial {
         let world = World::new(alloc, group, me)?;
         Trial::with(
             world,
-            Pair::new(alloc, group, me, limit),
+            Forms::new(alloc, group, me, limit),
             group,
             me,
             honesty,
         )
     }
 
-    /// Takes the pair as it was made, so that no other exit has one to drop.
+    /// Takes the forms as they were made, so that no other exit has them to drop.
     fn with(
         world: World,
-        pair: Result<Pair, Fail>,
+        forms: Result<Forms, Fail>,
         group: Group,
         me: u32,
         honesty: u32,
     ) -> Result<Trial, Fail> {
-        match pair {
-            Ok(pair) => Ok(Trial {
-                pair,
+        match forms {
+            Ok(forms) => Ok(Trial {
+                forms,
                 world,
                 group,
                 me,
@@ -218,7 +279,7 @@ impl Trial {
             let target = Target {
                 group: self.group,
                 me: self.me,
-                time: self.pair.quick.time().as_slice(),
+                time: self.forms.quick.time().as_slice(),
             };
             return forged(alloc, &target, dice);
         }
@@ -234,25 +295,25 @@ impl Trial {
     fn call<R: Abort>(&mut self, rt: &R, alloc: Global, dice: &mut Dice) -> Result<(), Fail> {
         match dice.below(32) {
             0..=3 => self.send(rt, alloc, Call::Cast(&[dice.byte()])),
-            4 => self.pair.call(rt, alloc, Call::Cast(TOO_LONG)),
+            4 => self.forms.call(rt, alloc, Call::Cast(TOO_LONG)),
             5 | 6 => self.send(rt, alloc, Call::Tick),
             7 | 8 => {
                 let member = dice.below(self.group.size());
-                self.pair.call(rt, alloc, Call::Missing(member))
+                self.forms.call(rt, alloc, Call::Missing(member))
             }
-            9 => self.pair.call(rt, alloc, Call::Stable),
-            10 => self.pair.call(rt, alloc, Call::Time),
+            9 => self.forms.call(rt, alloc, Call::Stable),
+            10 => self.forms.call(rt, alloc, Call::Time),
             _ => {
                 let frame = self.frame(alloc, dice)?;
-                self.pair.call(rt, alloc, Call::Take(&frame))
+                self.forms.call(rt, alloc, Call::Take(&frame))
             }
         }
     }
 
     /// A call that sends a frame to the others.
     fn send<R: Abort>(&mut self, rt: &R, alloc: Global, call: Call<'_>) -> Result<(), Fail> {
-        self.pair.call(rt, alloc, call)?;
-        match self.pair.sent()? {
+        self.forms.call(rt, alloc, call)?;
+        match self.forms.sent()? {
             Some(frame) => self.world.keep(frame),
             None => Ok(()),
         }
@@ -279,31 +340,36 @@ impl Trial {
         self.compare(rt, alloc)
     }
 
-    fn into_pair(self) -> Pair {
-        self.pair
+    fn into_forms(self) -> Forms {
+        self.forms
     }
 
     /// All that is read of both is the same in the end.
     fn compare<R: Abort>(&mut self, rt: &R, alloc: Global) -> Result<(), Fail> {
         for call in [Call::Time, Call::Stable, Call::Entries] {
-            self.pair.call(rt, alloc, call)?;
+            self.forms.call(rt, alloc, call)?;
         }
         for member in 0..=self.group.size() {
-            self.pair.call(rt, alloc, Call::Missing(member))?;
+            self.forms.call(rt, alloc, Call::Missing(member))?;
         }
-        assert!(rt; self.pair.has_same_events()?);
-        assert!(rt; are_same_events(self.pair.reader.events(), self.pair.quick.events()));
+        assert!(rt; self.forms.has_same_events()?);
+        assert!(rt; are_same_events(self.forms.reader.events(), self.forms.quick.events()));
+        if let Some(cores) = &self.forms.cores {
+            assert!(rt; are_as_handed_out(cores, &self.forms.quick));
+        }
         Ok(())
     }
 }
 
 /// The histories that all end with.
-fn end(rt: &impl Abort, pair: Pair) {
-    let Pair {
+fn end(rt: &impl Abort, forms: Forms) {
+    let Forms {
         plain,
         quick,
         reader,
-    } = pair;
+        cores,
+    } = forms;
+    drop(cores);
     let quick = quick.into_history();
     are_same_histories(rt, &quick, &plain.into_history());
     are_same_histories(rt, &quick, &reader.into_history());
@@ -319,7 +385,7 @@ fn play<R: Abort>(rt: &R, alloc: Global, size: u32, seed: u32) -> Result<(), Fai
     let mut dice = Dice::new(seed);
     let mut trial = Trial::new(alloc, size, &mut dice)?;
     trial.calls_compared(rt, alloc, &mut dice)?;
-    end(rt, trial.into_pair());
+    end(rt, trial.into_forms());
     Ok(())
 }
 

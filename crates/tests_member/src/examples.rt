@@ -4,11 +4,12 @@
 //! answer; what is read, by itself. Bytes are in hexadecimal.
 
 pub mod calls;
+pub mod cores;
 mod courses;
 mod five;
 
 use crate::examples::calls::{Call, Script, group_of, hexadecimal, play};
-pub use crate::examples::calls::{Made, run_both};
+pub use crate::examples::calls::{Made, run_each};
 pub use crate::examples::courses::{
     A_CAST_BEFORE_ITS_TURN_IS_KEPT, A_CAST_IN_ORDER_IS_DELIVERED_ALONE,
     A_CAST_IN_ORDER_WAITS_FOR_WHAT_IT_FOLLOWS, A_CAST_LETS_GO_WHAT_AN_OWN_CAST_MADE_READY,

@@ -1,4 +1,4 @@
-//! The worked examples by the plain member and by the quick one, and a few more by the plain one.
+//! The worked examples by the plain member, by the quick one and by the one without history, and a few more by the plain one.
 
 use crate::examples;
 use bytes::Bytes;
@@ -139,12 +139,12 @@ fn a_noted_call_that_adds_nothing_hands_out_no_entry(rt: HostRuntime) -> Result<
 
 #[test]
 fn a_cast_is_a_frame_and_an_entry(rt: HostRuntime) -> Result<(), Fail> {
-    examples::run_both(&rt, rt.alloc(), examples::A_CAST_IS_A_FRAME_AND_AN_ENTRY)
+    examples::run_each(&rt, rt.alloc(), examples::A_CAST_IS_A_FRAME_AND_AN_ENTRY)
 }
 
 #[test]
 fn a_cast_is_refused_by_the_first_rule_that_it_breaks(rt: HostRuntime) -> Result<(), Fail> {
-    examples::run_both(
+    examples::run_each(
         &rt,
         rt.alloc(),
         examples::A_CAST_IS_REFUSED_BY_THE_FIRST_RULE_THAT_IT_BREAKS,
@@ -153,12 +153,12 @@ fn a_cast_is_refused_by_the_first_rule_that_it_breaks(rt: HostRuntime) -> Result
 
 #[test]
 fn a_status_says_the_time(rt: HostRuntime) -> Result<(), Fail> {
-    examples::run_both(&rt, rt.alloc(), examples::A_STATUS_SAYS_THE_TIME)
+    examples::run_each(&rt, rt.alloc(), examples::A_STATUS_SAYS_THE_TIME)
 }
 
 #[test]
 fn a_new_status_is_refused_where_the_history_is_full(rt: HostRuntime) -> Result<(), Fail> {
-    examples::run_both(
+    examples::run_each(
         &rt,
         rt.alloc(),
         examples::A_NEW_STATUS_IS_REFUSED_WHERE_THE_HISTORY_IS_FULL,
@@ -167,17 +167,17 @@ fn a_new_status_is_refused_where_the_history_is_full(rt: HostRuntime) -> Result<
 
 #[test]
 fn a_question_and_its_answer(rt: HostRuntime) -> Result<(), Fail> {
-    examples::run_both(&rt, rt.alloc(), examples::A_QUESTION_AND_ITS_ANSWER)
+    examples::run_each(&rt, rt.alloc(), examples::A_QUESTION_AND_ITS_ANSWER)
 }
 
 #[test]
 fn an_answer_that_overtakes_waits(rt: HostRuntime) -> Result<(), Fail> {
-    examples::run_both(&rt, rt.alloc(), examples::AN_ANSWER_THAT_OVERTAKES_WAITS)
+    examples::run_each(&rt, rt.alloc(), examples::AN_ANSWER_THAT_OVERTAKES_WAITS)
 }
 
 #[test]
 fn casts_of_one_member_are_delivered_in_order(rt: HostRuntime) -> Result<(), Fail> {
-    examples::run_both(
+    examples::run_each(
         &rt,
         rt.alloc(),
         examples::CASTS_OF_ONE_MEMBER_ARE_DELIVERED_IN_ORDER,
@@ -186,7 +186,7 @@ fn casts_of_one_member_are_delivered_in_order(rt: HostRuntime) -> Result<(), Fai
 
 #[test]
 fn a_full_window_waits_for_all_others(rt: HostRuntime) -> Result<(), Fail> {
-    examples::run_both(
+    examples::run_each(
         &rt,
         rt.alloc(),
         examples::A_FULL_WINDOW_WAITS_FOR_ALL_OTHERS,
@@ -195,7 +195,7 @@ fn a_full_window_waits_for_all_others(rt: HostRuntime) -> Result<(), Fail> {
 
 #[test]
 fn a_tick_tells_a_status_and_enters_a_new_one(rt: HostRuntime) -> Result<(), Fail> {
-    examples::run_both(
+    examples::run_each(
         &rt,
         rt.alloc(),
         examples::A_TICK_TELLS_A_STATUS_AND_ENTERS_A_NEW_ONE,
@@ -204,12 +204,12 @@ fn a_tick_tells_a_status_and_enters_a_new_one(rt: HostRuntime) -> Result<(), Fai
 
 #[test]
 fn a_tick_asks_for_what_is_missing(rt: HostRuntime) -> Result<(), Fail> {
-    examples::run_both(&rt, rt.alloc(), examples::A_TICK_ASKS_FOR_WHAT_IS_MISSING)
+    examples::run_each(&rt, rt.alloc(), examples::A_TICK_ASKS_FOR_WHAT_IS_MISSING)
 }
 
 #[test]
 fn a_request_is_answered_by_the_asked_member(rt: HostRuntime) -> Result<(), Fail> {
-    examples::run_both(
+    examples::run_each(
         &rt,
         rt.alloc(),
         examples::A_REQUEST_IS_ANSWERED_BY_THE_ASKED_MEMBER,
@@ -218,7 +218,7 @@ fn a_request_is_answered_by_the_asked_member(rt: HostRuntime) -> Result<(), Fail
 
 #[test]
 fn a_cast_beyond_the_window_is_refused(rt: HostRuntime) -> Result<(), Fail> {
-    examples::run_both(
+    examples::run_each(
         &rt,
         rt.alloc(),
         examples::A_CAST_BEYOND_THE_WINDOW_IS_REFUSED,
@@ -227,7 +227,7 @@ fn a_cast_beyond_the_window_is_refused(rt: HostRuntime) -> Result<(), Fail> {
 
 #[test]
 fn a_history_of_one_entry_is_soon_full(rt: HostRuntime) -> Result<(), Fail> {
-    examples::run_both(
+    examples::run_each(
         &rt,
         rt.alloc(),
         examples::A_HISTORY_OF_ONE_ENTRY_IS_SOON_FULL,
@@ -236,7 +236,7 @@ fn a_history_of_one_entry_is_soon_full(rt: HostRuntime) -> Result<(), Fail> {
 
 #[test]
 fn a_frame_is_refused_by_the_first_rule_that_it_breaks(rt: HostRuntime) -> Result<(), Fail> {
-    examples::run_both(
+    examples::run_each(
         &rt,
         rt.alloc(),
         examples::A_FRAME_IS_REFUSED_BY_THE_FIRST_RULE_THAT_IT_BREAKS,
@@ -245,12 +245,12 @@ fn a_frame_is_refused_by_the_first_rule_that_it_breaks(rt: HostRuntime) -> Resul
 
 #[test]
 fn an_empty_payload_is_cast(rt: HostRuntime) -> Result<(), Fail> {
-    examples::run_both(&rt, rt.alloc(), examples::AN_EMPTY_PAYLOAD_IS_CAST)
+    examples::run_each(&rt, rt.alloc(), examples::AN_EMPTY_PAYLOAD_IS_CAST)
 }
 
 #[test]
 fn forged_times_stay_at_the_greatest_number(rt: HostRuntime) -> Result<(), Fail> {
-    examples::run_both(
+    examples::run_each(
         &rt,
         rt.alloc(),
         examples::FORGED_TIMES_STAY_AT_THE_GREATEST_NUMBER,
@@ -259,17 +259,17 @@ fn forged_times_stay_at_the_greatest_number(rt: HostRuntime) -> Result<(), Fail>
 
 #[test]
 fn a_delivered_time_acknowledges(rt: HostRuntime) -> Result<(), Fail> {
-    examples::run_both(&rt, rt.alloc(), examples::A_DELIVERED_TIME_ACKNOWLEDGES)
+    examples::run_each(&rt, rt.alloc(), examples::A_DELIVERED_TIME_ACKNOWLEDGES)
 }
 
 #[test]
 fn the_history_says_what_was_done(rt: HostRuntime) -> Result<(), Fail> {
-    examples::run_both(&rt, rt.alloc(), examples::THE_HISTORY_SAYS_WHAT_WAS_DONE)
+    examples::run_each(&rt, rt.alloc(), examples::THE_HISTORY_SAYS_WHAT_WAS_DONE)
 }
 
 #[test]
 fn of_several_ready_ones_the_smallest_sender_goes_first(rt: HostRuntime) -> Result<(), Fail> {
-    examples::run_both(
+    examples::run_each(
         &rt,
         rt.alloc(),
         examples::OF_SEVERAL_READY_ONES_THE_SMALLEST_SENDER_GOES_FIRST,
@@ -278,7 +278,7 @@ fn of_several_ready_ones_the_smallest_sender_goes_first(rt: HostRuntime) -> Resu
 
 #[test]
 fn a_gap_is_asked_for_until_it_is_filled(rt: HostRuntime) -> Result<(), Fail> {
-    examples::run_both(
+    examples::run_each(
         &rt,
         rt.alloc(),
         examples::A_GAP_IS_ASKED_FOR_UNTIL_IT_IS_FILLED,
@@ -287,7 +287,7 @@ fn a_gap_is_asked_for_until_it_is_filled(rt: HostRuntime) -> Result<(), Fail> {
 
 #[test]
 fn a_sender_sends_again_what_is_not_stable(rt: HostRuntime) -> Result<(), Fail> {
-    examples::run_both(
+    examples::run_each(
         &rt,
         rt.alloc(),
         examples::A_SENDER_SENDS_AGAIN_WHAT_IS_NOT_STABLE,
@@ -296,7 +296,7 @@ fn a_sender_sends_again_what_is_not_stable(rt: HostRuntime) -> Result<(), Fail> 
 
 #[test]
 fn a_filled_window_moves_with_the_deliveries(rt: HostRuntime) -> Result<(), Fail> {
-    examples::run_both(
+    examples::run_each(
         &rt,
         rt.alloc(),
         examples::A_FILLED_WINDOW_MOVES_WITH_THE_DELIVERIES,
@@ -305,12 +305,12 @@ fn a_filled_window_moves_with_the_deliveries(rt: HostRuntime) -> Result<(), Fail
 
 #[test]
 fn a_cast_before_its_turn_is_kept(rt: HostRuntime) -> Result<(), Fail> {
-    examples::run_both(&rt, rt.alloc(), examples::A_CAST_BEFORE_ITS_TURN_IS_KEPT)
+    examples::run_each(&rt, rt.alloc(), examples::A_CAST_BEFORE_ITS_TURN_IS_KEPT)
 }
 
 #[test]
 fn a_cast_in_order_waits_for_what_it_follows(rt: HostRuntime) -> Result<(), Fail> {
-    examples::run_both(
+    examples::run_each(
         &rt,
         rt.alloc(),
         examples::A_CAST_IN_ORDER_WAITS_FOR_WHAT_IT_FOLLOWS,
@@ -319,7 +319,7 @@ fn a_cast_in_order_waits_for_what_it_follows(rt: HostRuntime) -> Result<(), Fail
 
 #[test]
 fn a_cast_in_order_is_delivered_alone(rt: HostRuntime) -> Result<(), Fail> {
-    examples::run_both(
+    examples::run_each(
         &rt,
         rt.alloc(),
         examples::A_CAST_IN_ORDER_IS_DELIVERED_ALONE,
@@ -328,7 +328,7 @@ fn a_cast_in_order_is_delivered_alone(rt: HostRuntime) -> Result<(), Fail> {
 
 #[test]
 fn a_cast_that_is_delivered_alone_acknowledges(rt: HostRuntime) -> Result<(), Fail> {
-    examples::run_both(
+    examples::run_each(
         &rt,
         rt.alloc(),
         examples::A_CAST_THAT_IS_DELIVERED_ALONE_ACKNOWLEDGES,
@@ -337,7 +337,7 @@ fn a_cast_that_is_delivered_alone_acknowledges(rt: HostRuntime) -> Result<(), Fa
 
 #[test]
 fn a_cast_lets_go_what_an_own_cast_made_ready(rt: HostRuntime) -> Result<(), Fail> {
-    examples::run_both(
+    examples::run_each(
         &rt,
         rt.alloc(),
         examples::A_CAST_LETS_GO_WHAT_AN_OWN_CAST_MADE_READY,
@@ -346,7 +346,7 @@ fn a_cast_lets_go_what_an_own_cast_made_ready(rt: HostRuntime) -> Result<(), Fai
 
 #[test]
 fn forged_casts_that_wait_for_each_other_stay(rt: HostRuntime) -> Result<(), Fail> {
-    examples::run_both(
+    examples::run_each(
         &rt,
         rt.alloc(),
         examples::FORGED_CASTS_THAT_WAIT_FOR_EACH_OTHER_STAY,
@@ -367,7 +367,7 @@ fn a_member_of_five_casts_behind_200_more(rt: HostRuntime) -> Result<(), Fail> {
 
 #[test]
 fn a_member_of_five_asks_for_what_it_lacks(rt: HostRuntime) -> Result<(), Fail> {
-    examples::run_both(
+    examples::run_each(
         &rt,
         rt.alloc(),
         examples::A_MEMBER_OF_FIVE_ASKS_FOR_WHAT_IT_LACKS,

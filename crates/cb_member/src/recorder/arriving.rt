@@ -211,7 +211,7 @@ impl Recorder {
 
 impl Named {
     /// Without names, with room for so many.
-    fn with_room(alloc: Global, bytes: &Bytes, room: usize) -> Result<Named, NoMemory>
+    pub fn with_room(alloc: Global, bytes: &Bytes, room: usize) -> Result<Named, NoMemory>
         ensures { IfOk result (HasRoomForNames bytes.now room) }
     {
         Ok(Named {
@@ -221,7 +221,7 @@ impl Named {
     }
 
     /// The entry with the names of what is delivered by these events. It keeps no more room than they need.
-    fn entry(self, events: &[Event]) -> Entry
+    pub fn entry(self, events: &[Event]) -> Entry
         requires { HasRoomForNames self.frame (length events.now) self }
         ensures { entry_fields result ≡ ArriveEntry self.frame (names_of events.now) }
     {
@@ -252,7 +252,7 @@ fn fitted(mut names: Names) -> Names
 }
 
 /// The frame of the bytes. What is no frame is refused without memory.
-fn read(alloc: Global, bytes: &Bytes) -> Result<Frame, ArriveRefusal>
+pub fn read(alloc: Global, bytes: &Bytes) -> Result<Frame, ArriveRefusal>
     ensures frame { IfOk result (λ frame. frame_at bytes.now ≡ Ok (fields_of frame)) }
     ensures refused { IfErr result (RefusesBytes bytes.now) }
     ensures bytes { IsBytes bytes.now }
@@ -288,7 +288,7 @@ fn nothing(alloc: Global, changed: bool) -> Received
 }
 
 /// The entry of a received status. It delivers nothing.
-fn heard_in(alloc: Global, bytes: &Bytes) -> Result<Entry, NoMemory>
+pub fn heard_in(alloc: Global, bytes: &Bytes) -> Result<Entry, NoMemory>
     ensures { IfOk result (λ entry. entry_fields entry ≡ ArriveEntry bytes.now []) }
 {
     Ok(Entry::Arrive {

@@ -1,5 +1,6 @@
 //! Calls of a member, whichever it is, and what they did as texts.
 
+use crate::examples::cores;
 use bytes::Bytes;
 use cb_frames::{Cast, Frame, Range, decode};
 use cb_history::{
@@ -114,7 +115,7 @@ fn frame_text(alloc: Global, frame: &Outgoing) -> Result<String, Fail> {
     }
 }
 
-fn cast_text(alloc: Global, answer: &Result<CastDone, CastRefusal>) -> Result<String, Fail> {
+pub fn cast_text(alloc: Global, answer: &Result<CastDone, CastRefusal>) -> Result<String, Fail> {
     match answer {
         Ok(CastDone { name, time, out }) => {
             let out = hexadecimal(alloc, out.as_slice())?;
@@ -146,7 +147,7 @@ pub fn arrival_text(
     }
 }
 
-fn tick_text(alloc: Global, answer: &Result<Ticked, TickRefusal>) -> Result<String, Fail> {
+pub fn tick_text(alloc: Global, answer: &Result<Ticked, TickRefusal>) -> Result<String, Fail> {
     match answer {
         Ok(Ticked { entered, out }) => {
             let out = frames(alloc, out)?;
@@ -250,10 +251,11 @@ pub fn run<M: Made, R: Abort>(rt: &R, alloc: Global, scripts: &[Script<'_>]) -> 
     Ok(())
 }
 
-/// Runs the scripts on the reference member, and then on the fast one.
-pub fn run_both<R: Abort>(rt: &R, alloc: Global, scripts: &[Script<'_>]) -> Result<(), Fail> {
+/// Runs the scripts on the reference member, on the fast one, and on one that keeps no history.
+pub fn run_each<R: Abort>(rt: &R, alloc: Global, scripts: &[Script<'_>]) -> Result<(), Fail> {
     run::<ReferenceMember, R>(rt, alloc, scripts)?;
-    run::<Member, R>(rt, alloc, scripts)
+    run::<Member, R>(rt, alloc, scripts)?;
+    cores::run(rt, alloc, scripts)
 }
 
 /// The names of the messages that were delivered then.
@@ -266,7 +268,7 @@ fn names(alloc: Global, delivered: &[Name]) -> Result<String, Fail> {
 }
 
 /// The entries of the history, one after another.
-fn entries(alloc: Global, entries: &[Entry]) -> Result<String, Fail> {
+pub fn entries(alloc: Global, entries: &[Entry]) -> Result<String, Fail> {
     let mut text = String::new(alloc);
     for entry in entries {
         add(&mut text, entry_text(alloc, entry)?)?;
@@ -288,7 +290,7 @@ fn entry_of(alloc: Global, kind: &str, frame: &Bytes, delivered: &[Name]) -> Res
     Ok(format!(in alloc; "{kind} {frame}{delivered};")?)
 }
 
-fn missing(alloc: Global, answer: &Result<Vec<Range>, MissingFault>) -> Result<String, Fail> {
+pub fn missing(alloc: Global, answer: &Result<Vec<Range>, MissingFault>) -> Result<String, Fail> {
     match answer {
         Ok(found) => ranges(alloc, found),
         Err(fault) => Ok(format!(in alloc; "{fault}")?),
@@ -308,7 +310,7 @@ fn ranges(alloc: Global, ranges: &[Range]) -> Result<String, Fail> {
 }
 
 /// The events, one after another.
-fn events(alloc: Global, events: &[Event]) -> Result<String, Fail> {
+pub fn events(alloc: Global, events: &[Event]) -> Result<String, Fail> {
     let mut text = String::new(alloc);
     for event in events {
         add(&mut text, event_text(alloc, event)?)?;
@@ -324,7 +326,7 @@ fn event_text(alloc: Global, event: &Event) -> Result<String, Fail> {
     Ok(format!(in alloc; "{kind} {name} {time};")?)
 }
 
-fn time_of(alloc: Global, entries: &[Entry], name: Name) -> Result<String, Fail> {
+pub fn time_of(alloc: Global, entries: &[Entry], name: Name) -> Result<String, Fail> {
     let first = field_of(alloc, entries, name, 0);
     let second = field_of(alloc, entries, name, 1);
     let third = field_of(alloc, entries, name, 2);

@@ -1,0 +1,191 @@
+-- What a core answers to its own calls: casts and ticks.
+use Rattle.std.proofs.Common.{◌≡◌, ℕ, ◌+◌, ◌<◌, Bool, true, false, ◌&&◌, leb, List, [], ◌∷◌, ◌++◌, length, Option, Some, None, Ok, Err, refl, sym, ap, subst, ◌∙◌, arith, inl, inr}
+use Rattle.std.specs.Prelude.{option_map, if◌then◌else◌}
+use Rattle.std.proofs.lemmas.Bool.{lt-leb}
+use Rattle.cb_frames.specs.Fields.{StatusFrame}
+use Rattle.cb_frames.specs.Laws.{IsBytes}
+use Rattle.cb_frames.specs.Text.{text_of}
+use Rattle.cb_delay.specs.declared.message.Message.{Message}
+use Rattle.cb_history.specs.declared.answer.CastDone.{CastDone}
+use Rattle.cb_history.specs.declared.answer.CastRefusal.{CastRefusal}
+use Rattle.cb_history.specs.declared.answer.CastRefusal.TheVariants as casts
+use Rattle.cb_history.specs.declared.answer.Outgoing.{Outgoing}
+use Rattle.cb_history.specs.declared.answer.TickRefusal.{TickRefusal}
+use Rattle.cb_history.specs.declared.answer.TickRefusal.TheVariants as ticks
+use Rattle.cb_history.specs.declared.answer.Ticked.{Ticked}
+use Rattle.cb_history.specs.declared.history.Entry.{Entry}
+use Rattle.cb_history.specs.declared.history.Entry.TheVariants as entries
+use Rattle.cb_history.specs.Group.{Identity}
+use Rattle.cb_history.specs.Facts.{EntryFields, Fact, OwnCast, OwnStatus, CastEntry, TickEntry, cast_said, entry_fields, facts_of, status_said}
+use Rattle.cb_history.specs.Answers.{is_new_status, next_cast, requests, status_of, tick_answer}
+use Rattle.cb_history.specs.Legal.{ToCast, ToTick, cast_entry, room_for_one, tick_entry}
+use Rattle.cb_history.specs.State.{MemberState, RefusesTick, answer_to_cast, answer_to_tick, entry_by}
+use Rattle.cb_history.proofs.ReadBack.{cast_read, status_read}
+use Rattle.cb_history.proofs.Requests.{own_frames_have_texts}
+use Rattle.cb_history.proofs.Written.{cast_can}
+use Rattle.cb_member.specs.declared.own_cast.Casting.{Casting}
+use Rattle.cb_member.specs.declared.state.State.{State}
+use Rattle.cb_member.specs.Casting.{CanCast, CanKeepCast, HasKept, IsCasting, IsSameButBlock, MakesCasting, RefusesExactly, RefusesPayload, next_text, next_time}
+use Rattle.cb_member.specs.CoreCalls.{AnswersCastOnEach, AnswersTickOnEach, CastsOnEach, TicksOnEach}
+use Rattle.cb_member.specs.CoreMember.{Core, GoesOn, IsCore, OnEach, StandsFor, core_of, unlimited}
+use Rattle.cb_member.specs.State.{Keeps, OnAll}
+use Rattle.cb_member.specs.Telling.{HasReported}
+use Rattle.cb_member.proofs.Casting.{number_kept}
+use Rattle.cb_member.proofs.Cores.{Grows, core_goes_on, facts_follow, facts_stand, goes_on_none, keeps_of, one_is_left, stands_then}
+use Rattle.cb_member.proofs.Judging.{casts_next}
+use Rattle.cb_member.proofs.Recording.{counts_long, is_ok_of}
+
+-- ---- casts that are refused
+
+pub refuses_cast : (payload : List ℕ) (old new : Core) (refusal : CastRefusal) → IsCore old → new ≡ old → OnEach old (λ m. RefusesExactly m payload refusal) → AnswersCastOnEach payload old new (Err refusal)
+refuses_cast payload old new refusal is same refuses = record { core = subst IsCore (sym same) is; casts = tt; refused = refuses; same = same }
+
+pub refused_payload : (core : State) (payload : List ℕ) (refusal : CastRefusal) → OnAll core (λ facts. RefusesPayload core.seat facts payload refusal) → OnEach (core_of core) (λ m. RefusesExactly m payload refusal)
+refused_payload core payload refusal refuses entries s = inl (refuses (facts_of entries) (facts_stand core entries s) (keeps_of core entries s) (room_for_one entries) entries refl)
+
+cast_next : (core : State) (payload : List ℕ) (entries : List EntryFields) → CanCast core payload → StandsFor entries (core_of core)
+    → answer_to_cast (unlimited core.seat entries) payload ≡ Ok (next_cast core.seat (facts_of entries) payload)
+cast_next core payload entries can s = casts_next core (room_for_one entries) entries payload (facts_stand core entries s) (keeps_of core entries s) can (one_is_left entries)
+
+pub no_memory : (core : State) (payload : List ℕ) (refusal : CastRefusal) → CanCast core payload → refusal ≡ casts.NoMemory → OnEach (core_of core) (λ m. RefusesExactly m payload refusal)
+no_memory core payload refusal can is entries s =
+    inr (is, is_ok_of (answer_to_cast (unlimited core.seat entries) payload) (next_cast core.seat (facts_of entries) payload) (cast_next core payload entries can s))
+
+-- ---- a cast that is made
+
+-- but for the block it is the same
+with_block : (old mid : State) → IsSameButBlock old mid → (facts : List Fact) → Keeps facts old → Keeps facts (record old { block = mid.block })
+with_block old mid block facts k = record { delivered = k.delivered; received = k.received; knows = k.knows; sent = k.sent }
+
+pub can_keep : (old mid : State) (payload : List ℕ) (casting : Casting) → IsCore (core_of old) → CanCast old payload → MakesCasting old payload casting → IsSameButBlock old mid → CanKeepCast casting.message.time casting.sent mid
+can_keep old mid payload casting is can makes block =
+    let keeps = keeps_of old is.entries is.stands in
+    let are = facts_stand old is.entries is.stands in
+    let made = makes (facts_of is.entries) are keeps in
+    subst (λ (state : State). CanKeepCast casting.message.time casting.sent state) (sym block) (record {
+      state_is = record { facts = facts_of is.entries; legal = are; keeps = with_block old mid block (facts_of is.entries) keeps };
+      room = can.room;
+      size = ap (λ (m : Message). length m.time) made.message ∙ counts_long old.seat.group.size _;
+    })
+
+-- what was done to cast the payload
+pub record CastsSo (payload : List ℕ) (old mid new : State) (casting : Casting) (frame : List ℕ) : Type 0 where
+  pub core : IsCore (core_of old)
+  pub bytes : IsBytes payload
+  pub can : CanCast old payload
+  pub makes : MakesCasting old payload casting
+  pub block : IsSameButBlock old mid
+  pub copied : frame ≡ casting.out
+  pub keeps : HasKept casting.message.time casting.sent mid new
+
+module _ (payload : List ℕ) (old mid new : State) (casting : Casting) (frame : List ℕ) (c : CastsSo payload old mid new casting frame) where
+  module _ (es : List EntryFields) (s : StandsFor es (core_of old)) where
+    made : IsCasting old.seat (facts_of es) payload casting
+    made = c.makes (facts_of es) (facts_stand old es s) (keeps_of old es s)
+
+    answer : answer_to_cast (unlimited old.seat es) payload ≡ Ok (next_cast old.seat (facts_of es) payload)
+    answer = cast_next old payload es c.can s
+
+    grows : Grows (core_of old) es (ToCast payload) (CastEntry (next_text old.seat (facts_of es) payload)) (OwnCast (next_cast old.seat (facts_of es) payload))
+    grows =
+        let are = facts_stand old es s in
+        let written = cast_can old.seat (facts_of es) payload are.group are.member are.facts_are (number_kept old (facts_of es) are (keeps_of old es s) c.can.room) c.can.short in
+        record { stands = s; bytes = c.bytes; by_call = ap cast_entry answer; says = ap cast_said (cast_read (next_cast old.seat (facts_of es) payload) written) }
+
+    kept : HasKept casting.message.time casting.sent (record old { block = mid.block }) new
+    kept = subst (λ (state : State). HasKept casting.message.time casting.sent state new) c.block c.keeps
+
+    time : casting.message.time ≡ next_time old.seat (facts_of es) payload
+    time = ap (λ (m : Message). m.time) made.message
+
+    stands_after : Keeps (facts_of es ++ OwnCast (next_cast old.seat (facts_of es) payload) ∷ []) new
+    stands_after =
+        kept.keeps (facts_of es) payload (facts_follow (core_of old) es (ToCast payload) _ _ grows) (with_block old mid c.block (facts_of es) (keeps_of old es s)) time made.sent
+
+  seat_after : new.seat ≡ old.seat
+  seat_after = c.keeps.seat ∙ ap (λ (s : State). s.seat) c.block
+
+  goes_on : GoesOn (ToCast payload) (core_of old) (core_of new)
+  goes_on = record {
+    seat = seat_after;
+    stands = λ es s. stands_then (core_of old) es (ToCast payload) _ _ (grows es s) new seat_after (stands_after es s);
+  }
+
+  pub casts_so : AnswersCastOnEach payload (core_of old) (core_of new) (Ok (record { name = casting.message.name; time = casting.message.time; out = casting.out }, entries.Cast frame))
+  casts_so = record {
+    core = core_goes_on (ToCast payload) (core_of old) (core_of new) c.core goes_on;
+    casts = record {
+      goes_on = goes_on;
+      done = λ es s. record { answer = answer es s; reported = rw (ap (λ (m : Message). m.name) (made es s).message, time es s, (made es s).out) refl; after = refl };
+      entry = λ es s. ap cast_entry (answer es s) ∙ ap (λ (text : List ℕ). Some (CastEntry text)) (sym (made es s).out ∙ sym c.copied);
+    };
+    refused = tt;
+    same = tt;
+  }
+
+-- ---- ticks
+
+pub refuses_tick : (core : Core) (refusal : TickRefusal) → IsCore core → refusal ≡ ticks.NoMemory → AnswersTickOnEach core core (Err refusal)
+refuses_tick core refusal is memory = record { core = is; ticks = tt; refused = λ es s. inr memory; same = refl }
+
+fits : (is_new : Bool) (es : List EntryFields) → (is_new && leb (room_for_one es) (length es)) ≡ false
+fits true es = lt-leb (room_for_one es) (length es) (one_is_left es)
+fits false es = refl
+
+-- what was told on each history
+pub record TellsSo (old : State) (is_new : Bool) (bytes : List ℕ) (out : List Outgoing) (entry : Option Entry) : Type 0 where
+  pub core : IsCore (core_of old)
+  pub news : OnAll old (λ facts. is_new ≡ is_new_status old.seat facts)
+  pub text : OnAll old (λ facts. bytes ≡ text_of (StatusFrame (status_of old.seat facts)))
+  pub asks : OnAll old (λ facts. out ≡ record { to = None; bytes = bytes } ∷ requests old.seat facts)
+  pub entry_is : option_map entry_fields entry ≡ (if is_new then Some (TickEntry bytes) else None)
+
+module _ (old : State) (is_new : Bool) (bytes : List ℕ) (out : List Outgoing) (entry : Option Entry) (t : TellsSo old is_new bytes out entry) where
+  module _ (es : List EntryFields) (s : StandsFor es (core_of old)) where
+    status_text : bytes ≡ text_of (StatusFrame (status_of old.seat (facts_of es)))
+    status_text = t.text (facts_of es) (facts_stand old es s) (keeps_of old es s)
+
+    tick_answered : answer_to_tick (unlimited old.seat es) ≡ Ok (is_new, out)
+    unfolding tick_answer
+    tick_answered =
+        rw (
+          sym (t.news (facts_of es) (facts_stand old es s) (keeps_of old es s)),
+          fits is_new es,
+          t.asks (facts_of es) (facts_stand old es s) (keeps_of old es s) ∙ ap (λ (b : List ℕ). record { to = None; bytes = b } ∷ requests old.seat (facts_of es)) status_text,
+        ) refl
+
+    tick_entered : entry_by (unlimited old.seat es) ToTick ≡ option_map entry_fields entry
+    tick_entered =
+        ap (tick_entry (text_of (StatusFrame (status_of old.seat (facts_of es))))) tick_answered
+        ∙ ap (λ (b : List ℕ). if is_new then Some (TickEntry b) else None) (sym status_text) ∙ sym t.entry_is
+
+    tick_grows : is_new ≡ true → Grows (core_of old) es ToTick (TickEntry (text_of (StatusFrame (status_of old.seat (facts_of es))))) (OwnStatus (status_of old.seat (facts_of es)))
+    tick_grows on = record {
+      stands = s;
+      bytes = tt;
+      by_call = tick_entered ∙ t.entry_is ∙ ap (λ (b : Bool). if b then Some (TickEntry bytes) else None) on ∙ ap (λ (b : List ℕ). Some (TickEntry b)) status_text;
+      says = ap status_said (status_read (status_of old.seat (facts_of es)) (own_frames_have_texts old.seat (facts_of es) (facts_stand old es s)).1);
+    }
+
+  pub goes_on_reported : (new : State) → is_new ≡ true → HasReported old new → GoesOn ToTick (core_of old) (core_of new)
+  goes_on_reported new on reported = record {
+    seat = reported.seat;
+    stands = λ es s. stands_then (core_of old) es ToTick _ _ (tick_grows es s on) new reported.seat
+        (reported.keeps (facts_of es) (facts_follow (core_of old) es ToTick _ _ (tick_grows es s on)) (keeps_of old es s));
+  }
+
+  pub goes_on_silent : is_new ≡ false → GoesOn ToTick (core_of old) (core_of old)
+  goes_on_silent off =
+      goes_on_none ToTick (core_of old) (λ es s. tick_entered es s ∙ t.entry_is ∙ ap (λ (b : Bool). if b then Some (TickEntry bytes) else None) off)
+
+  pub ticks_so : (new : State) (ticked : Ticked) → ticked.entered ≡ is_new → ticked.out.items ≡ out → GoesOn ToTick (core_of old) (core_of new) → AnswersTickOnEach (core_of old) (core_of new) (Ok (ticked, entry))
+  ticks_so new ticked entered sent goes = record {
+    core = core_goes_on ToTick (core_of old) (core_of new) t.core goes;
+    ticks = record {
+      goes_on = goes;
+      done = λ es s. record { answer = rw (entered, sent) (tick_answered es s); after = refl };
+      entry = tick_entered;
+    };
+    refused = tt;
+    same = tt;
+  }

@@ -1,0 +1,89 @@
+-- The calls of a core from its first one on, and what the definitions answer to them one by one.
+use Rattle.std.specs.Prelude.{◌≡◌, ℕ, ◌≤◌, List, [], ◌∷◌, length, Result, Ok, Err}
+use Rattle.cb_frames.specs.declared.frame.TheConstants.{LONGEST_PAYLOAD, LAST_NUMBER}
+use Rattle.cb_times.specs.Order.{field}
+use Rattle.cb_history.specs.declared.answer.Arrival.{Arrival}
+use Rattle.cb_history.specs.declared.answer.ArriveRefusal.{ArriveRefusal}
+use Rattle.cb_history.specs.declared.answer.CastDone.{CastDone}
+use Rattle.cb_history.specs.declared.answer.CastRefusal.{CastRefusal}
+use Rattle.cb_history.specs.declared.answer.CastRefusal.TheVariants as casts
+use Rattle.cb_history.specs.declared.answer.Ticked.{Ticked}
+use Rattle.cb_history.specs.declared.answer.TickRefusal.{TickRefusal}
+use Rattle.cb_history.specs.Group.{Identity}
+use Rattle.cb_history.specs.Facts.{EntryFields}
+use Rattle.cb_history.specs.Legal.{Call, ToCast, ToTake, ToTick}
+use Rattle.cb_history.specs.State.{MemberState, HasCast, HasTaken, HasTicked, RefusesArrival, RefusesTick, state_after}
+use Rattle.cb_member.specs.Casting.{RefusesExactly}
+use Rattle.cb_member.specs.CoreMember.{Core, GoesOn, IsCore, OnEach, StandsFor, grown_by, unlimited}
+
+-- a call, and what was answered to it
+pub data AnsweredCall : Type 0 where
+  Cast : List ℕ → Result CastDone CastRefusal → AnsweredCall
+  Take : List ℕ → Result Arrival ArriveRefusal → AnsweredCall
+  Tick : Result Ticked TickRefusal → AnsweredCall
+
+-- ---- by the definitions
+
+-- the answer is the definition's for this member, or there was no memory for it
+abbrev pub IsAnswered : MemberState → AnsweredCall → Type 0
+IsAnswered m (Cast payload (Ok done)) = HasCast m (state_after m (ToCast payload)) payload done
+IsAnswered m (Cast payload (Err refusal)) = RefusesExactly m payload refusal
+IsAnswered m (Take bytes (Ok arrival)) = HasTaken m (state_after m (ToTake bytes)) bytes arrival
+IsAnswered m (Take bytes (Err refusal)) = RefusesArrival m bytes refusal
+IsAnswered m (Tick (Ok ticked)) = HasTicked m (state_after m ToTick) ticked
+IsAnswered m (Tick (Err refusal)) = RefusesTick m refusal
+
+-- the history with a call, to which a refused one adds nothing
+abbrev pub history_with : Identity → List EntryFields → AnsweredCall → List EntryFields
+history_with seat entries (Cast payload (Ok done)) = grown_by seat entries (ToCast payload)
+history_with seat entries (Cast payload (Err refusal)) = entries
+history_with seat entries (Take bytes (Ok arrival)) = grown_by seat entries (ToTake bytes)
+history_with seat entries (Take bytes (Err refusal)) = entries
+history_with seat entries (Tick (Ok ticked)) = grown_by seat entries ToTick
+history_with seat entries (Tick (Err refusal)) = entries
+
+-- the history after these calls on one that has these entries
+abbrev pub history_after_all : Identity → List EntryFields → List AnsweredCall → List EntryFields
+history_after_all seat entries [] = entries
+history_after_all seat entries (a ∷ calls) = history_after_all seat (history_with seat entries a) calls
+
+-- each call is answered on the history of the calls before it
+abbrev pub AreAnswered : Identity → List EntryFields → List AnsweredCall → Type 0
+AreAnswered seat entries [] = Unit {0}
+AreAnswered seat entries (a ∷ calls) = IsAnswered (unlimited seat entries) a × AreAnswered seat (history_with seat entries a) calls
+
+-- ---- by a core
+
+-- what the core is after a call that is answered so, and after a refused one
+abbrev pub GoesOnOrStays : AnsweredCall → Core → Core → Type 0
+GoesOnOrStays (Cast payload (Ok done)) old new = GoesOn (ToCast payload) old new
+GoesOnOrStays (Cast payload (Err refusal)) old new = new ≡ old
+GoesOnOrStays (Take bytes (Ok arrival)) old new = GoesOn (ToTake bytes) old new
+GoesOnOrStays (Take bytes (Err refusal)) old new = new ≡ old
+GoesOnOrStays (Tick (Ok ticked)) old new = GoesOn ToTick old new
+GoesOnOrStays (Tick (Err refusal)) old new = new ≡ old
+
+-- what a call of a core promises
+pub record IsCall (a : AnsweredCall) (old new : Core) : Type 0 where
+  pub answered : OnEach old (λ m. IsAnswered m a)
+  pub goes : GoesOnOrStays a old new
+
+-- these calls lead from one core to the other
+pub data Calls : List AnsweredCall → Core → Core → Type 0 where
+  NoCall : (core : Core) → Calls [] core core
+  OneCall : (a : AnsweredCall) (calls : List AnsweredCall) (old mid new : Core) → IsCall a old mid → Calls calls mid new → Calls (a ∷ calls) old new
+
+-- ---- what follows
+
+-- After any calls of a new core the answers are the definition's, one by one, each on the history of the calls before it; and the core
+-- stands for the history of them all.
+abbrev pub CoresAnswerByTheirHistory : Type 0
+CoresAnswerByTheirHistory =
+    (calls : List AnsweredCall) (first last : Core) → StandsFor [] first → Calls calls first last
+    → AreAnswered first.seat [] calls × StandsFor (history_after_all first.seat [] calls) last
+
+-- once a core has cast as often as there are numbers, each further cast of a payload that is not too long finds the window full
+abbrev pub NoNumberIsLeft : Type 0
+NoNumberIsLeft =
+    (payload : List ℕ) (result : Result CastDone CastRefusal) (old new : Core) → IsCore old → field old.time old.seat.me ≡ LAST_NUMBER → length payload ≤ LONGEST_PAYLOAD
+    → IsCall (Cast payload result) old new → result ≡ Err casts.WindowFull

@@ -1,0 +1,228 @@
+//! A member that keeps no history: what it knows is all that it needs of one.
+
+ghost use Rattle.std.specs.Prelude.{◌≡◌, ◌≢◌, ◌↔◌, ◌⊎◌, ◌≤◌, ◌<◌, [], IfOk, IfErr, OnErr, OnOk, Some, Err, option_map};
+ghost use Rattle.cb_history.specs.Group.{IsIdentity};
+ghost use Rattle.cb_history.specs.Legal.{ToCast, ToTake, ToTick};
+ghost use Rattle.cb_history.specs.Facts.{entry_fields};
+ghost use Rattle.cb_history.specs.Known.{ranges_of};
+ghost use Rattle.cb_history.specs.State.{time_in, stable_in, missing_in, entry_by, state_after, HasCast, HasTaken, RefusesArrival, HasTicked, RefusesTick};
+ghost use Rattle.cb_member.specs.Casting.{RefusesExactly};
+ghost use Rattle.cb_member.specs.CoreMember.{GoesOn, OnEach, StandsFor};
+ghost use Rattle.cb_member.specs.CoreRuns.{Cast, IsCall, Take, Tick};
+
+mod arriving;
+mod casting;
+mod ticking;
+
+use crate::state::State;
+use arriving::Heard;
+use bytes::Bytes;
+use cb_frames::Range;
+use cb_history::{
+    Arrival, ArriveRefusal, CastDone, CastRefusal, Entry, Group, Identity, MissingFault, NewFault,
+    TickRefusal, Ticked,
+};
+use cb_times::{NoMemory, VectorTime};
+use std::alloc::Global;
+use std::marker::Model;
+
+/// One member of a group that keeps no history, for sessions without an end.
+///
+/// It stands for the history of all calls so far, and answers each call as the definitions in
+/// `cb_history` say of that history without a limit; so it never answers `HistoryFull`. Its memory
+/// is bounded by the group's size and window. After any refusal, out of memory too, the member is
+/// as it was.
+#[derive(Drop)]
+pub struct CoreMember {
+    state: State,
+}
+
+impl Model for CoreMember {
+    ghost use Rattle.cb_member.specs.CoreMember.{Core, IsCore, core_code, core_of};
+
+    ghost Value = { Core };
+
+    ghost coded = { core_code };
+
+    ghost view = { λ m. core_of m.state };
+
+    ghost invariant = { λ m. IsCore (core_of m.state) };
+}
+
+impl CoreMember {
+    /// A member that did nothing yet.
+    pub fn new(alloc: Global, group: Group, me: u32) -> Result<CoreMember, NewFault>
+        ensures seat { IfOk result (λ core. core.seat ≡ record { group = group; me = me }) }
+        ensures empty { IfOk result (StandsFor []) }
+        ensures bad_member { (result ≡ Err NewFault.BadMember) ↔ (group.size ≤ me) }
+        ensures no_limit { result ≢ Err NewFault.BadLimit }
+    {
+        let Some(seat) = Identity::new(group, me) else {
+            return Err(NewFault::BadMember);
+        };
+        match CoreMember::at(alloc, seat) {
+            Ok(core) => Ok(core),
+            Err(_refused) => Err(NewFault::NoMemory),
+        }
+    }
+
+    fn at(alloc: Global, seat: Identity) -> Result<CoreMember, NoMemory>
+        requires { IsIdentity seat }
+        ensures seat { IfOk result (λ core. core.seat ≡ seat) }
+        ensures empty { IfOk result (StandsFor []) }
+    {
+        let state = State::new(alloc, seat)?;
+        Ok(CoreMember { state })
+    }
+
+    /// The group, and which of its members this is.
+    pub fn seat(&self) -> Identity
+        ensures { result ≡ self.now.seat }
+    {
+        self.state.seat
+    }
+
+    /// How many messages of each member are delivered, own casts included.
+    pub fn time(&self) -> &VectorTime
+        ensures { OnEach self.now (λ m. result.now ≡ time_in m) }
+    {
+        &self.state.delivery.time
+    }
+
+    /// How many own casts are known to be delivered by every other member.
+    pub fn stable(&self) -> u32
+        ensures { OnEach self.now (λ m. result ≡ stable_in m) }
+    {
+        self.state.knowledge.acks.stable(self.state.seat.me())
+    }
+
+    /// The casts of member i that are missing, as rising ranges that neither touch nor overlap.
+    pub fn missing(&self, i: u32) -> Result<Vec<Range>, MissingFault>
+        ensures ranges { IfOk result (λ ranges. OnEach self.now (λ m. ranges.items
+            ≡ ranges_of (missing_in m i))) }
+        ensures bad_member { (result ≡ Err MissingFault.BadMember)
+            ↔ ((self.now.seat.group.size ≤ i) ⊎ (i ≡ self.now.seat.me)) }
+    {
+        let seat = self.seat();
+        if i >= seat.group().size() || i == seat.me() {
+            return Err(MissingFault::BadMember);
+        }
+        let ranges = self.missing_of(i)?;
+        Ok(ranges)
+    }
+
+    fn missing_of(&self, i: u32) -> Result<Vec<Range>, NoMemory>
+        requires of_group { i < self.now.seat.group.size }
+        requires other { i ≢ self.now.seat.me }
+        ensures { IfOk result (λ ranges. OnEach self.now (λ m. ranges.items
+            ≡ ranges_of (missing_in m i))) }
+    {
+        self.state.missing(i)
+    }
+
+    /// Casts a message of this payload, of up to 1,024 bytes, and answers its name, its time and
+    /// the frame that goes to all others.
+    ///
+    /// A refusal is the definition's, in the order of `CastRefusal`; `NoMemory` stands only in
+    /// place of a cast.
+    pub fn cast(&mut self, payload: &[u8]) -> Result<CastDone, CastRefusal>
+        ensures done { IfOk result (λ done. OnEach self.old (λ m.
+            HasCast m (state_after m (ToCast payload.now)) payload.now done)) }
+        ensures goes_on { OnOk result (GoesOn (ToCast payload.now) self.old self.new) }
+        ensures refused { IfErr result (λ refusal. OnEach self.old (λ m.
+            RefusesExactly m payload.now refusal)) }
+        ensures no_limit { result ≢ Err CastRefusal.HistoryFull }
+        ensures same { OnErr result (self.new ≡ self.old) }
+        ensures call { IsCall (Cast payload.now result) self.old self.new }
+    {
+        let (done, _entry) = self.cast_noted(payload)?;
+        Ok(done)
+    }
+
+    /// Casts a payload as `cast` does, and hands out the entry that a history would have of it.
+    pub fn cast_noted(&mut self, payload: &[u8]) -> Result<(CastDone, Entry), CastRefusal>
+        ensures done { IfOk result (λ noted. OnEach self.old (λ m.
+            HasCast m (state_after m (ToCast payload.now)) payload.now noted.0)) }
+        ensures entry { IfOk result (λ noted. OnEach self.old (λ m.
+            entry_by m (ToCast payload.now) ≡ Some (entry_fields noted.1))) }
+        ensures goes_on { OnOk result (GoesOn (ToCast payload.now) self.old self.new) }
+        ensures refused { IfErr result (λ refusal. OnEach self.old (λ m.
+            RefusesExactly m payload.now refusal)) }
+        ensures no_limit { result ≢ Err CastRefusal.HistoryFull }
+        ensures same { OnErr result (self.new ≡ self.old) }
+    {
+        self.state.cast_unlimited(payload)
+    }
+
+    /// Takes received bytes: hands out what they make ready, which the caller owns then, or answers
+    /// a request.
+    ///
+    /// A refusal is the definition's, in the order of `ArriveRefusal`; a repeat is reported before
+    /// a cast that is too far ahead. `NoMemory` may stand in place of any answer for bytes that are
+    /// a frame; what is no frame is refused without memory.
+    pub fn receive(&mut self, bytes: &Bytes) -> Result<Arrival, ArriveRefusal>
+        ensures taken { IfOk result (λ arrival. OnEach self.old (λ m.
+            HasTaken m (state_after m (ToTake bytes.now)) bytes.now arrival)) }
+        ensures goes_on { OnOk result (GoesOn (ToTake bytes.now) self.old self.new) }
+        ensures refused { IfErr result (λ refusal. OnEach self.old (λ m.
+            RefusesArrival m bytes.now refusal)) }
+        ensures no_limit { result ≢ Err ArriveRefusal.HistoryFull }
+        ensures same { OnErr result (self.new ≡ self.old) }
+        ensures call { IsCall (Take bytes.now result) self.old self.new }
+    {
+        let heard = self.state.receive_unlimited(bytes, false)?;
+        Ok(heard.arrival)
+    }
+
+    /// Takes received bytes as `receive` does, and hands out the entry that a history would have of
+    /// them, if any.
+    pub fn receive_noted(
+        &mut self,
+        bytes: &Bytes,
+    ) -> Result<(Arrival, Option<Entry>), ArriveRefusal>
+        ensures taken { IfOk result (λ noted. OnEach self.old (λ m.
+            HasTaken m (state_after m (ToTake bytes.now)) bytes.now noted.0)) }
+        ensures entry { IfOk result (λ noted. OnEach self.old (λ m.
+            entry_by m (ToTake bytes.now) ≡ option_map entry_fields noted.1)) }
+        ensures goes_on { OnOk result (GoesOn (ToTake bytes.now) self.old self.new) }
+        ensures refused { IfErr result (λ refusal. OnEach self.old (λ m.
+            RefusesArrival m bytes.now refusal)) }
+        ensures no_limit { result ≢ Err ArriveRefusal.HistoryFull }
+        ensures same { OnErr result (self.new ≡ self.old) }
+    {
+        let heard = self.state.receive_unlimited(bytes, true)?;
+        let Heard { arrival, noted } = heard;
+        Ok((arrival, noted))
+    }
+
+    /// Reports the status to all others, and asks each for what is missing of it.
+    ///
+    /// `NoMemory` may stand in place of any answer, and nothing else is refused.
+    pub fn tick(&mut self) -> Result<Ticked, TickRefusal>
+        ensures done { IfOk result (λ done. OnEach self.old (λ m.
+            HasTicked m (state_after m ToTick) done)) }
+        ensures goes_on { OnOk result (GoesOn ToTick self.old self.new) }
+        ensures refused { IfErr result (λ refusal. OnEach self.old (λ m. RefusesTick m refusal)) }
+        ensures no_limit { result ≢ Err TickRefusal.HistoryFull }
+        ensures same { OnErr result (self.new ≡ self.old) }
+        ensures call { IsCall (Tick result) self.old self.new }
+    {
+        let (ticked, _entry) = self.tick_noted()?;
+        Ok(ticked)
+    }
+
+    /// Ticks as `tick` does, and hands out the entry that a history would have of the status, where
+    /// it is new.
+    pub fn tick_noted(&mut self) -> Result<(Ticked, Option<Entry>), TickRefusal>
+        ensures done { IfOk result (λ noted. OnEach self.old (λ m.
+            HasTicked m (state_after m ToTick) noted.0)) }
+        ensures entry { IfOk result (λ noted. OnEach self.old (λ m.
+            entry_by m ToTick ≡ option_map entry_fields noted.1)) }
+        ensures goes_on { OnOk result (GoesOn ToTick self.old self.new) }
+        ensures refused { IfErr result (λ refusal. OnEach self.old (λ m. RefusesTick m refusal)) }
+        ensures no_limit { result ≢ Err TickRefusal.HistoryFull }
+        ensures same { OnErr result (self.new ≡ self.old) }
+    {
+        self.state.tick_unlimited()
+    }
+}

@@ -1,0 +1,11 @@
+//! What follows of cores, as contracts of functions that do nothing.
+
+ghost use Rattle.cb_member.specs.CoreRuns.{CoresAnswerByTheirHistory, NoNumberIsLeft};
+
+/// After any calls of a new core the answers are the definition's, one by one, each on the history
+/// of the calls before it, and the core stands for the history of them all. Its session ends with
+/// its 4,294,967,295th own cast.
+pub fn cores_answer_by_their_history()
+    ensures history { CoresAnswerByTheirHistory }
+    ensures numbers { NoNumberIsLeft }
+{}

@@ -1,0 +1,198 @@
+//! Calls of a member that keeps no history, whose texts are those of a member whose history has room.
+
+use crate::examples::calls::{
+    Call, Script, arrival_text, cast_text, entries, events, group_of, missing, tick_text, time_of,
+};
+use bytes::Bytes;
+use cb_history::{
+    Arrival, ArriveRefusal, CastDone, CastRefusal, Entry, Event, Group, Message, TickRefusal,
+    Ticked,
+};
+use cb_member::CoreMember;
+use std::alloc::Global;
+use std::process::Abort;
+use std::test::Fail;
+
+/// A script with a smaller limit has a history that gets full.
+const ROOM: usize = 100;
+
+pub fn core_of(alloc: Global, group: Group, me: u32) -> Result<CoreMember, Fail> {
+    let made = CoreMember::new(alloc, group, me);
+    Ok(made.ok().ok_or("a core")?)
+}
+
+/// What a core answers.
+pub fn answer(alloc: Global, core: &mut CoreMember, call: Call<'_>) -> Result<String, Fail> {
+    match call {
+        Call::Cast(payload) => cast_text(alloc, &core.cast(payload)),
+        Call::Take(bytes) => taken_text(alloc, core, bytes),
+        Call::Tick => tick_text(alloc, &core.tick()),
+        _ => reading(alloc, core, call),
+    }
+}
+
+fn taken_text(alloc: Global, core: &mut CoreMember, bytes: &[u8]) -> Result<String, Fail> {
+    let bytes = Bytes::copy_from_slice(alloc, bytes)?;
+    arrival_text(alloc, &core.receive(&bytes))
+}
+
+fn reading(alloc: Global, core: &CoreMember, call: Call<'_>) -> Result<String, Fail> {
+    match call {
+        Call::Time => Ok(core.time().to_string(alloc)?),
+        Call::Stable => Ok(core.stable().to_string(alloc)?),
+        Call::Missing(i) => missing(alloc, &core.missing(i)),
+        _ => Err(Fail::new("a call that a core knows")),
+    }
+}
+
+/// A core, and beside it all that it hands out.
+#[derive(Drop)]
+pub struct Noting {
+    core: CoreMember,
+    entries: Vec<Entry>,
+    events: Vec<Event>,
+}
+
+impl Noting {
+    pub fn made(alloc: Global, group: Group, me: u32) -> Result<Noting, Fail> {
+        Ok(Noting {
+            core: core_of(alloc, group, me)?,
+            entries: Vec::new(alloc),
+            events: Vec::new(alloc),
+        })
+    }
+
+    /// What the call did: of one that changes something also how many entries were handed out until then.
+    pub fn answer(&mut self, alloc: Global, call: Call<'_>) -> Result<String, Fail> {
+        match call {
+            Call::Cast(_) | Call::Take(_) | Call::Tick => {
+                let text = self.changing(alloc, call)?;
+                self.counted(alloc, text)
+            }
+            Call::Entries => entries(alloc, &self.entries),
+            Call::Events => events(alloc, &self.events),
+            Call::TimeOf(name) => time_of(alloc, &self.entries, name),
+            _ => reading(alloc, &self.core, call),
+        }
+    }
+
+    /// The answer, behind how many entries were handed out.
+    pub fn counted(&self, alloc: Global, text: String) -> Result<String, Fail> {
+        let entries = self.entries.len();
+        Ok(format!(in alloc; "{entries}: {text}")?)
+    }
+
+    fn changing(&mut self, alloc: Global, call: Call<'_>) -> Result<String, Fail> {
+        match call {
+            Call::Cast(payload) => cast_text(alloc, &self.cast(alloc, payload)?),
+            Call::Take(bytes) => self.taken_text(alloc, bytes),
+            Call::Tick => tick_text(alloc, &self.tick()?),
+            _ => Err(Fail::new("a call that reads")),
+        }
+    }
+
+    fn cast(
+        &mut self,
+        alloc: Global,
+        payload: &[u8],
+    ) -> Result<Result<CastDone, CastRefusal>, Fail> {
+        match self.core.cast_noted(payload) {
+            Ok((done, entry)) => {
+                self.entries.push(entry)?;
+                self.events.push(cast_event(alloc, &done, payload)?)?;
+                Ok(Ok(done))
+            }
+            Err(refusal) => Ok(Err(refusal)),
+        }
+    }
+
+    fn taken_text(&mut self, alloc: Global, bytes: &[u8]) -> Result<String, Fail> {
+        let arrival = self.take(&Bytes::copy_from_slice(alloc, bytes)?)?;
+        let text = arrival_text(alloc, &arrival)?;
+        self.keep_deliveries(arrival)?;
+        Ok(text)
+    }
+
+    fn take(&mut self, bytes: &Bytes) -> Result<Result<Arrival, ArriveRefusal>, Fail> {
+        match self.core.receive_noted(bytes) {
+            Ok((arrival, entry)) => {
+                self.keep_entry(entry)?;
+                Ok(Ok(arrival))
+            }
+            Err(refusal) => Ok(Err(refusal)),
+        }
+    }
+
+    fn tick(&mut self) -> Result<Result<Ticked, TickRefusal>, Fail> {
+        match self.core.tick_noted() {
+            Ok((ticked, entry)) => {
+                self.keep_entry(entry)?;
+                Ok(Ok(ticked))
+            }
+            Err(refusal) => Ok(Err(refusal)),
+        }
+    }
+
+    fn keep_entry(&mut self, entry: Option<Entry>) -> Result<(), Fail> {
+        match entry {
+            Some(entry) => Ok(self.entries.push(entry)?),
+            None => Ok(()),
+        }
+    }
+
+    fn keep_deliveries(&mut self, arrival: Result<Arrival, ArriveRefusal>) -> Result<(), Fail> {
+        match arrival {
+            Ok(Arrival::Accepted { deliveries, .. }) => self.keep_messages(deliveries),
+            Ok(Arrival::Repeat) | Err(_) => Ok(()),
+        }
+    }
+
+    fn keep_messages(&mut self, deliveries: Vec<Message>) -> Result<(), Fail> {
+        for message in deliveries {
+            self.events.push(Event::Deliver(message))?;
+        }
+        Ok(())
+    }
+
+    pub fn entries(&self) -> &[Entry] {
+        self.entries.as_slice()
+    }
+
+    pub fn events(&self) -> &[Event] {
+        self.events.as_slice()
+    }
+}
+
+fn cast_event(alloc: Global, done: &CastDone, payload: &[u8]) -> Result<Event, Fail> {
+    Ok(Event::Cast(Message {
+        name: done.name,
+        time: done.time.copy()?,
+        payload: Bytes::copy_from_slice(alloc, payload)?,
+    }))
+}
+
+/// Each call has the answer that stands beside it.
+fn play<R: Abort>(
+    rt: &R,
+    alloc: Global,
+    core: &mut Noting,
+    calls: &[(Call<'_>, &str)],
+) -> Result<(), Fail> {
+    for (call, expected) in calls {
+        let text = core.answer(alloc, *call)?;
+        assert_eq!(rt; text.as_str(), *expected);
+    }
+    Ok(())
+}
+
+/// Plays each script with a core of its own, but those in which a history gets full.
+pub fn run<R: Abort>(rt: &R, alloc: Global, scripts: &[Script<'_>]) -> Result<(), Fail> {
+    for script in scripts {
+        if script.limit >= ROOM {
+            let group = group_of(script.number, script.size, script.window)?;
+            let mut core = Noting::made(alloc, group, script.me)?;
+            play(rt, alloc, &mut core, script.calls)?;
+        }
+    }
+    Ok(())
+}
