@@ -2,9 +2,10 @@
 //! against, in one thread (`plain_member.rs`) and in many (`plain_group.rs`). Its parent module says what counts the owners of a frame, as
 //! `Shared`: `Rc` in one thread, `Arc` in many.
 //!
-//! A member keeps what the proved one keeps: every entry of its history with its frame and the names that were delivered then,
-//! and every event with its name, time and payload. Frames are shared, and an event's payload is a part of its frame. Names and
-//! times lie one after another in vectors. Nothing is worked out again from the history.
+//! With a `History` a member keeps what the proved one keeps: every entry with its frame and the names that were delivered then,
+//! and every event with its name, time and payload. With `Latest` it keeps what the last call delivered alone, as the proved core does.
+//! Frames are shared, and an event's payload is a part of its frame. Names and times lie one after another in vectors. Nothing is
+//! worked out again from the history.
 
 use super::Shared;
 use std::ops::Range;
@@ -189,6 +190,7 @@ fn next_ahead<const FIELDS: usize>(
 }
 
 /// Reads pairs of a gap and a value. Says how many fields the group must have for them.
+#[inline(always)]
 fn read_values<const FIELDS: usize>(bytes: &mut &[u8], values: &mut [u32; FIELDS]) -> Result<usize, Fault> {
     let mut rest = *bytes;
     let count = number(&mut rest)?;
@@ -291,6 +293,151 @@ pub struct Event {
     pub payload: u32,
 }
 
+/// What is kept of what a member does.
+pub trait Record {
+    /// Room for no entry more.
+    fn is_full(&self) -> bool;
+
+    /// What is delivered from now on belongs to one arrival.
+    fn begin(&mut self) -> Delivered;
+
+    fn add_cast(&mut self, event: Event, time: &[u32]);
+
+    /// Adds the time of the next delivery.
+    fn add_time(&mut self, time: &[u32]);
+
+    /// Adds a delivery, whose time is added.
+    fn add_delivery(&mut self, event: Event);
+
+    /// Adds the arrival of a frame, by which all was delivered from there on.
+    fn add_arrival(&mut self, frame: &Frame, from: &Delivered);
+
+    fn add_tick(&mut self, status: &Frame);
+
+    /// The deliveries with their times, where each has so many fields.
+    fn delivered(&self, deliveries: Range<usize>, size: usize) -> impl Iterator<Item = (&Event, &[u32])>;
+
+    /// How many events there are.
+    fn count(&self) -> usize;
+}
+
+/// How many events, and how many names of entries, stand before the deliveries of an arrival.
+pub struct Delivered {
+    events: usize,
+    names: u32,
+}
+
+/// All entries, of which there may be so many, and all events.
+#[allow(dead_code)]
+pub struct History {
+    limit: usize,
+    pub entries: Vec<Entry>,
+    names: Vec<Name>,
+    pub events: Vec<Event>,
+    pub times: Vec<u32>,
+}
+
+impl History {
+    #[allow(dead_code)]
+    pub fn new(limit: usize) -> History {
+        History { limit, entries: Vec::new(), names: Vec::new(), events: Vec::new(), times: Vec::new() }
+    }
+
+    /// The names in an entry.
+    #[allow(dead_code)]
+    pub fn names_in(&self, delivered: &Range<u32>) -> &[Name] {
+        &self.names[delivered.start as usize..delivered.end as usize]
+    }
+}
+
+impl Record for History {
+    fn is_full(&self) -> bool {
+        self.entries.len() >= self.limit
+    }
+
+    fn begin(&mut self) -> Delivered {
+        Delivered { events: self.events.len(), names: self.names.len() as u32 }
+    }
+
+    fn add_cast(&mut self, event: Event, time: &[u32]) {
+        self.times.extend_from_slice(time);
+        let frame = event.frame.clone();
+        self.events.push(event);
+        self.entries.push(Entry::Cast { frame });
+    }
+
+    fn add_time(&mut self, time: &[u32]) {
+        self.times.extend_from_slice(time);
+    }
+
+    fn add_delivery(&mut self, event: Event) {
+        self.names.push(event.name);
+        self.events.push(event);
+    }
+
+    #[inline(always)]
+    fn add_arrival(&mut self, frame: &Frame, from: &Delivered) {
+        let delivered = from.names..self.names.len() as u32;
+        self.entries.push(Entry::Arrive { frame: frame.clone(), delivered });
+    }
+
+    fn add_tick(&mut self, status: &Frame) {
+        self.entries.push(Entry::Tick { status: status.clone() });
+    }
+
+    fn delivered(&self, deliveries: Range<usize>, size: usize) -> impl Iterator<Item = (&Event, &[u32])> {
+        let times = &self.times[deliveries.start * size..deliveries.end * size];
+        self.events[deliveries].iter().zip(times.chunks_exact(size))
+    }
+
+    fn count(&self) -> usize {
+        self.events.len()
+    }
+}
+
+/// What the last arrival delivered.
+#[allow(dead_code)]
+#[derive(Default)]
+pub struct Latest {
+    events: Vec<Event>,
+    times: Vec<u32>,
+}
+
+impl Record for Latest {
+    fn is_full(&self) -> bool {
+        false
+    }
+
+    fn begin(&mut self) -> Delivered {
+        self.events.clear();
+        self.times.clear();
+        Delivered { events: 0, names: 0 }
+    }
+
+    fn add_cast(&mut self, _: Event, _: &[u32]) {}
+
+    fn add_time(&mut self, time: &[u32]) {
+        self.times.extend_from_slice(time);
+    }
+
+    fn add_delivery(&mut self, event: Event) {
+        self.events.push(event);
+    }
+
+    fn add_arrival(&mut self, _: &Frame, _: &Delivered) {}
+
+    fn add_tick(&mut self, _: &Frame) {}
+
+    fn delivered(&self, deliveries: Range<usize>, size: usize) -> impl Iterator<Item = (&Event, &[u32])> {
+        let times = &self.times[deliveries.start * size..deliveries.end * size];
+        self.events[deliveries].iter().zip(times.chunks_exact(size))
+    }
+
+    fn count(&self) -> usize {
+        self.events.len()
+    }
+}
+
 /// A message that is expanded and not delivered.
 struct Waiting {
     number: u32,
@@ -337,15 +484,11 @@ pub struct Outgoing {
 }
 
 /// `FIELDS` is the size or a little more: the fields above stay 0.
-pub struct Member<const FIELDS: usize> {
+pub struct Member<const FIELDS: usize, R: Record> {
     pub size: usize,
     window: u32,
     me: usize,
-    limit: usize,
-    pub entries: Vec<Entry>,
-    names: Vec<Name>,
-    pub events: Vec<Event>,
-    pub times: Vec<u32>,
+    pub record: R,
     /// How many messages of each member are delivered, own casts included.
     now: [u32; FIELDS],
     /// Of each sender the time of its last expanded message; its own field is that message's number.
@@ -370,17 +513,13 @@ pub struct Member<const FIELDS: usize> {
     text: Vec<u8>,
 }
 
-impl<const FIELDS: usize> Member<FIELDS> {
-    pub fn new(size: usize, window: u32, me: usize, limit: usize) -> Member<FIELDS> {
+impl<const FIELDS: usize, R: Record> Member<FIELDS, R> {
+    pub fn new(size: usize, window: u32, me: usize, record: R) -> Member<FIELDS, R> {
         Member {
             size,
             window,
             me,
-            limit,
-            entries: Vec::new(),
-            names: Vec::new(),
-            events: Vec::new(),
-            times: Vec::new(),
+            record,
             now: [0; FIELDS],
             expanded: vec![Counts::ZERO; size],
             kept: vec![None; size * window as usize],
@@ -398,16 +537,6 @@ impl<const FIELDS: usize> Member<FIELDS> {
             last_told: None,
             text: Vec::new(),
         }
-    }
-
-    fn is_full(&self) -> bool {
-        self.entries.len() >= self.limit
-    }
-
-    /// The names in an entry.
-    #[allow(dead_code)]
-    pub fn names_in(&self, delivered: &Range<u32>) -> &[Name] {
-        &self.names[delivered.start as usize..delivered.end as usize]
     }
 
     /// How many own casts every other member is known to have delivered. Lets go of these.
@@ -435,7 +564,7 @@ impl<const FIELDS: usize> Member<FIELDS> {
         if self.trim() + self.window <= own {
             return Err(CastRefusal::WindowFull);
         }
-        if self.is_full() {
+        if self.record.is_full() {
             return Err(CastRefusal::HistoryFull);
         }
         self.head(0x11);
@@ -459,10 +588,8 @@ impl<const FIELDS: usize> Member<FIELDS> {
         self.now[self.me] = own + 1;
         self.last_cast = self.now;
         self.sent.push_back(frame.clone());
-        self.times.extend_from_slice(&self.now[..self.size]);
         let name = Name { sender: self.me as u32, number: own + 1 };
-        self.events.push(Event { name, frame: frame.clone(), payload: start });
-        self.entries.push(Entry::Cast { frame: frame.clone() });
+        self.record.add_cast(Event { name, frame: frame.clone(), payload: start }, &self.now[..self.size]);
         Ok(frame)
     }
 
@@ -502,11 +629,11 @@ impl<const FIELDS: usize> Member<FIELDS> {
         if number > taken + 1 && self.kept[place].is_some() {
             return Ok(Arrival::Repeat);
         }
-        if self.is_full() {
+        if self.record.is_full() {
             return Err(Refusal::HistoryFull);
         }
         self.known[sender] = self.known[sender].max(number);
-        let (first_event, first_name) = (self.events.len(), self.names.len() as u32);
+        let from = self.record.begin();
         if number == taken + 1 {
             time.fields[sender] = number;
             time.bound = time.bound.max(number);
@@ -524,9 +651,8 @@ impl<const FIELDS: usize> Member<FIELDS> {
             self.kept[place] = Some(frame.clone());
             self.kept_counts[sender] += 1;
         }
-        let delivered = first_name..self.names.len() as u32;
-        self.entries.push(Entry::Arrive { frame: frame.clone(), delivered });
-        Ok(Arrival::Accepted(first_event..self.events.len(), true))
+        self.record.add_arrival(frame, &from);
+        Ok(Arrival::Accepted(from.events..self.record.count(), true))
     }
 
     /// The sender's last expanded message is delivered at once where nothing else waits and it is ready; else it waits.
@@ -545,7 +671,7 @@ impl<const FIELDS: usize> Member<FIELDS> {
             self.wait(sender, number, frame, payload);
         } else if self.ready == 0 && self.kept_counts[sender] == 0 {
             self.acknowledged[sender] = self.acknowledged[sender].max(time.fields[self.me]);
-            self.times.extend_from_slice(&time.fields[..self.size]);
+            self.record.add_time(&time.fields[..self.size]);
             self.enter(Name { sender: sender as u32, number }, frame.clone(), payload);
         } else {
             self.ready |= 1 << sender;
@@ -601,7 +727,7 @@ impl<const FIELDS: usize> Member<FIELDS> {
         };
         let time = &self.rows[row];
         self.acknowledged[sender] = self.acknowledged[sender].max(time[self.me]);
-        self.times.extend_from_slice(&time[..self.size]);
+        self.record.add_time(&time[..self.size]);
         self.free_rows.push(row);
         self.enter(Name { sender: sender as u32, number }, frame, payload);
         self.judge(sender, 0);
@@ -611,8 +737,7 @@ impl<const FIELDS: usize> Member<FIELDS> {
     fn enter(&mut self, name: Name, frame: Frame, payload: u32) {
         let sender = name.sender as usize;
         self.now[sender] = name.number;
-        self.names.push(name);
-        self.events.push(Event { name, frame, payload });
+        self.record.add_delivery(Event { name, frame, payload });
         let mut blocked = std::mem::take(&mut self.blocked[sender]);
         while blocked != 0 {
             self.judge(blocked.trailing_zeros() as usize, sender);
@@ -653,7 +778,8 @@ impl<const FIELDS: usize> Member<FIELDS> {
         if sender >= self.size || fields > self.size {
             return Err(Refusal::BadMember);
         }
-        let at = self.events.len();
+        let from = self.record.begin();
+        let at = from.events;
         if sender == self.me {
             let is_ahead = values.iter().zip(&self.now).any(|(value, now)| value > now);
             return if is_ahead { Err(Refusal::Impossible) } else { Ok(Arrival::Accepted(at..at, false)) };
@@ -666,14 +792,14 @@ impl<const FIELDS: usize> Member<FIELDS> {
         if !tells && own <= self.acknowledged[sender] {
             return Ok(Arrival::Accepted(at..at, false));
         }
-        if self.is_full() {
+        if self.record.is_full() {
             return Err(Refusal::HistoryFull);
         }
         for (known, value) in self.known.iter_mut().zip(&values) {
             *known = (*known).max(*value);
         }
         self.acknowledged[sender] = self.acknowledged[sender].max(own);
-        self.entries.push(Entry::Arrive { frame: frame.clone(), delivered: 0..0 });
+        self.record.add_arrival(frame, &from);
         Ok(Arrival::Accepted(at..at, true))
     }
 
@@ -722,14 +848,15 @@ impl<const FIELDS: usize> Member<FIELDS> {
                 }
             }
         }
-        let at = self.events.len();
+        let from = self.record.begin();
+        let at = from.events;
         Ok(Arrival::Accepted(at..at, false))
     }
 
     /// The status to all others, and a request to each of which casts are missing.
     pub fn tick(&mut self, out: &mut Vec<Outgoing>) -> Result<bool, Refusal> {
         let is_new = self.last_told.as_ref() != Some(&self.now);
-        if is_new && self.is_full() {
+        if is_new && self.record.is_full() {
             return Err(Refusal::HistoryFull);
         }
         self.head(0x12);
@@ -746,7 +873,7 @@ impl<const FIELDS: usize> Member<FIELDS> {
         let status: Frame = Shared::from(&self.text[..]);
         if is_new {
             self.last_told = Some(self.now);
-            self.entries.push(Entry::Tick { status: status.clone() });
+            self.record.add_tick(&status);
         }
         out.push(Outgoing { to: None, frame: status });
         for asked in 0..self.size {

@@ -1,27 +1,33 @@
 #!/usr/bin/env bash
-# Measures a group of proved members in one thread (`crates/bench_member`) against the same run of a plain Rust program that is written
+# Measures a group of proved members in one thread (`crates/bench_member`, and `bench_core` without history) against the same run of a plain Rust program that is written
 # for speed, at some sizes, in order and with frames that are lost or come early. Both must print the same deliveries and digest.
 #   member.sh count      instructions (callgrind), allocations (dhat) and peak memory of a delivery: these repeat from run to run
 #   member.sh count 10   the same with a tenth of the casts
 #   member.sh            processor time, the best of three; a number as the first word divides the casts
-# It wants rustc, python3, for counts valgrind, and the proved program: `rt run` in crates/bench_member leaves it in
-# crates/bench_member/out. PROVED=FILE measures another build.
+#   member.sh core ..    the same of members that keep no history, on both sides; how their memory grows is told by soak.sh
+# It wants rustc, python3, for counts valgrind, and the proved program: `rt run` in crates/bench_member or bench_core leaves it in
+# out there. PROVED=FILE measures another build.
 set -eu
 here=$(cd "$(dirname "$0")" && pwd)
 work=$(mktemp -d)
 trap 'rm -rf "$work"' EXIT
+kind= crate=bench_member
+if [ "${1:-}" = core ]; then
+    kind=core crate=bench_core
+    shift
+fi
 how=time
 if [ "${1:-}" = count ]; then
     how=count
     shift
 fi
-proved=${PROVED:-$here/../crates/bench_member/out/bench_member}
-[ -x "$proved" ] || (cd "$here/../crates/bench_member" && rt run -- 3 4 2 12 0 0 > /dev/null)
+proved=${PROVED:-$here/../crates/$crate/out/$crate}
+[ -x "$proved" ] || (cd "$here/../crates/$crate" && rt run -- 3 4 2 12 0 0 > /dev/null)
 rustc -O -o "$work/plain" "$here/plain_member.rs"
-python3 - "$work/plain" "$proved" "$how" "${1:-1}" "$work" <<'END'
+python3 - "$work/plain" "$proved" "$how" "${1:-1}" "$kind" <<'END'
 import concurrent.futures, os, re, subprocess, sys
 
-plain, proved, how, divisor, work = sys.argv[1], sys.argv[2], sys.argv[3], int(sys.argv[4]), sys.argv[5]
+plain, proved, how, divisor, kind = sys.argv[1], sys.argv[2], sys.argv[3], int(sys.argv[4]), sys.argv[5].split()
 window, payload = 64, 32
 losses = [(0, 0), (50, 10)]
 sizes = {3: 200_000, 8: 96_000, 16: 48_000, 64: 12_800}
@@ -44,9 +50,13 @@ def same(words, said, proved_said):
     return int(said.split()[1])
 
 
+def command_of(program, words):
+    return [program, *words, *(kind if program == plain else [])]
+
+
 def once(program, words):
     """What it prints, its processor time in seconds and its peak of memory in bytes."""
-    process = subprocess.Popen([program, *words], stdout=subprocess.PIPE)
+    process = subprocess.Popen(command_of(program, words), stdout=subprocess.PIPE)
     printed = process.stdout.read().decode()
     _, status, usage = os.wait4(process.pid, 0)
     process.returncode = os.waitstatus_to_exitcode(status)
@@ -57,8 +67,8 @@ def once(program, words):
 
 def counted(program, words):
     """What it prints, its instructions and its allocations."""
-    calls = run(["valgrind", "--tool=callgrind", "--callgrind-out-file=/dev/null", program, *words])
-    memory = run(["valgrind", "--tool=dhat", "--dhat-out-file=/dev/null", program, *words])
+    calls = run(["valgrind", "--tool=callgrind", "--callgrind-out-file=/dev/null", *command_of(program, words)])
+    memory = run(["valgrind", "--tool=dhat", "--dhat-out-file=/dev/null", *command_of(program, words)])
     instructions = int(re.search(r"Collected : (\d+)", calls.stderr)[1])
     allocations = int(re.search(r"Total: .* in ([\d,]+) blocks", memory.stderr)[1].replace(",", ""))
     return calls.stdout, instructions, allocations

@@ -22,7 +22,9 @@ use std::time::Duration;
 
 mod member;
 
-use member::{Arrival, CastRefusal, Entry, Frame, LONGEST_HISTORY, Member, Name, Outgoing};
+use member::{Arrival, CastRefusal, Entry, Frame, History, LONGEST_HISTORY, Name, Outgoing};
+
+type Member<const FIELDS: usize> = member::Member<FIELDS, History>;
 
 const TICK: Duration = Duration::from_millis(1);
 
@@ -288,8 +290,8 @@ struct Message<const FIELDS: usize> {
 
 /// Copies of the events from this one on, behind those in the list.
 fn copy_events<const FIELDS: usize>(member: &Member<FIELDS>, from: usize, to: &mut Vec<Message<FIELDS>>) {
-    let times = member.times[from * member.size..].chunks_exact(member.size);
-    for (event, fields) in member.events[from..].iter().zip(times) {
+    let times = member.record.times[from * member.size..].chunks_exact(member.size);
+    for (event, fields) in member.record.events[from..].iter().zip(times) {
         let mut time = [0; FIELDS];
         time[..member.size].copy_from_slice(fields);
         to.push(Message { name: event.name, time, frame: event.frame.clone(), payload: event.payload });
@@ -337,25 +339,25 @@ impl Seat {
     /// Keeps a receipt of the last entry.
     fn record<const FIELDS: usize>(&mut self, member: &Member<FIELDS>) {
         let Some(receipts) = &mut self.receipts else { return };
-        let Some(entry) = member.entries.last() else { return };
+        let Some(entry) = member.record.entries.last() else { return };
         let (frame, names) = parts_of(member, entry);
-        receipts.push(Receipt { place: member.entries.len(), frame: frame.clone(), delivered: Names::of(names) });
+        receipts.push(Receipt { place: member.record.entries.len(), frame: frame.clone(), delivered: Names::of(names) });
     }
 }
 
 fn parts_of<'a, const FIELDS: usize>(member: &'a Member<FIELDS>, entry: &'a Entry) -> (&'a Frame, &'a [Name]) {
     match entry {
         Entry::Cast { frame } | Entry::Tick { status: frame } => (frame, &[]),
-        Entry::Arrive { frame, delivered } => (frame, member.names_in(delivered)),
+        Entry::Arrive { frame, delivered } => (frame, member.record.names_in(delivered)),
     }
 }
 
 /// Each entry has just one receipt, which says the same.
 fn close<const FIELDS: usize>(member: &Member<FIELDS>, seats: &[Seat]) {
-    let mut seen = vec![false; member.entries.len()];
+    let mut seen = vec![false; member.record.entries.len()];
     for receipts in seats.iter().filter_map(|seat| seat.receipts.as_ref()) {
         for receipt in receipts {
-            let (frame, names) = parts_of(member, &member.entries[receipt.place - 1]);
+            let (frame, names) = parts_of(member, &member.record.entries[receipt.place - 1]);
             assert!(*frame == receipt.frame && receipt.delivered.are(names), "a receipt that is no entry");
             assert!(!std::mem::replace(&mut seen[receipt.place - 1], true), "two receipts of one entry");
         }
@@ -450,7 +452,7 @@ fn speak<const FIELDS: usize>(group: &Group, member: &Mutex<Member<FIELDS>>, out
             }
         } else {
             is_refused = false;
-            if member.lock().unwrap().events.len() == group.all {
+            if member.lock().unwrap().record.events.len() == group.all {
                 break;
             }
         }
@@ -464,7 +466,7 @@ fn speak<const FIELDS: usize>(group: &Group, member: &Mutex<Member<FIELDS>>, out
 
 /// Runs the member, and answers how many cast frames came and how many messages of others were delivered.
 fn run_member<const FIELDS: usize>(group: &Group, size: usize, window: u32, me: usize, link: Link) -> (u64, u64) {
-    let member = Mutex::new(Member::<FIELDS>::new(size, window, me, LONGEST_HISTORY));
+    let member = Mutex::new(Member::<FIELDS>::new(size, window, me, History::new(LONGEST_HISTORY)));
     let (inlet, mut outlet) = link;
     let (out, frames) = channel();
     let (came, seats) = thread::scope(|scope| {
@@ -487,7 +489,7 @@ fn run_member<const FIELDS: usize>(group: &Group, size: usize, window: u32, me: 
     });
     let member = member.into_inner().unwrap();
     close(&member, &seats);
-    (came, (member.events.len() - group.casts) as u64)
+    (came, (member.record.events.len() - group.casts) as u64)
 }
 
 fn run<const FIELDS: usize>([size, window, payload, casts]: [usize; 4], links: Vec<Link>, has_duties: bool) -> (u64, u64) {

@@ -1,5 +1,6 @@
 //! A group of causal broadcast members in one thread, in plain Rust with std alone and no proof, written for speed: what the proved
-//! member is measured against. Words: SIZE WINDOW PAYLOAD CASTS LOST EXCHANGED, the last two as one frame in so many, 0 for none.
+//! member is measured against. Words: SIZE WINDOW PAYLOAD CASTS LOST EXCHANGED, the last two as one frame in so many, 0 for none, and
+//! `core` for members without history.
 
 use std::env;
 use std::process::ExitCode;
@@ -7,7 +8,7 @@ use std::rc::Rc as Shared;
 
 mod member;
 
-use member::{Arrival, Frame, LONGEST_HISTORY, Member, Name, Outgoing};
+use member::{Arrival, Frame, History, LONGEST_HISTORY, Latest, Member, Name, Outgoing, Record};
 
 // ---- a group in one thread
 
@@ -35,6 +36,7 @@ struct Network {
 }
 
 impl Network {
+    #[inline(always)]
     fn send(&mut self, to: usize, frame: Frame) {
         if self.random.is_one_in(self.lost) {
             return;
@@ -96,8 +98,8 @@ struct Words {
     exchanged: u32,
 }
 
-struct Run<const FIELDS: usize> {
-    members: Vec<Member<FIELDS>>,
+struct Run<const FIELDS: usize, R: Record> {
+    members: Vec<Member<FIELDS, R>>,
     network: Network,
     tally: Tally,
     out: Vec<Outgoing>,
@@ -107,16 +109,14 @@ struct Run<const FIELDS: usize> {
     made: u32,
 }
 
-impl<const FIELDS: usize> Run<FIELDS> {
+impl<const FIELDS: usize, R: Record> Run<FIELDS, R> {
     /// The member takes all that is on its way to it.
     fn take_all(&mut self, me: usize) {
         std::mem::swap(&mut self.inbox, &mut self.network.queues[me]);
         for frame in self.inbox.drain(..) {
             let member = &mut self.members[me];
             if let Ok(Arrival::Accepted(deliveries, _)) = member.arrive(&frame, &mut self.out) {
-                let size = member.size;
-                let times = &member.times[deliveries.start * size..deliveries.end * size];
-                for (event, time) in member.events[deliveries].iter().zip(times.chunks_exact(size)) {
+                for (event, time) in member.record.delivered(deliveries, member.size) {
                     self.tally.add(me, event.name, time);
                 }
             }
@@ -163,10 +163,10 @@ impl<const FIELDS: usize> Run<FIELDS> {
     }
 }
 
-fn run<const FIELDS: usize>(words: Words) -> Tally {
+fn run<const FIELDS: usize, R: Record>(words: Words, record: fn() -> R) -> Tally {
     let size = words.size as usize;
-    let mut run = Run::<FIELDS> {
-        members: (0..size).map(|me| Member::new(size, words.window, me, LONGEST_HISTORY)).collect(),
+    let mut run = Run::<FIELDS, R> {
+        members: (0..size).map(|me| Member::new(size, words.window, me, record())).collect(),
         network: Network {
             queues: vec![Vec::new(); size],
             lost: words.lost,
@@ -184,18 +184,24 @@ fn run<const FIELDS: usize>(words: Words) -> Tally {
     run.tally
 }
 
+fn run_of<R: Record>(words: Words, record: fn() -> R) -> Tally {
+    match words.size {
+        ..=4 => run::<4, R>(words, record),
+        ..=16 => run::<16, R>(words, record),
+        _ => run::<64, R>(words, record),
+    }
+}
+
 fn main() -> ExitCode {
-    let words: Vec<u32> = env::args().skip(1).filter_map(|word| word.parse().ok()).collect();
+    let mut words: Vec<String> = env::args().skip(1).collect();
+    let is_core = words.pop_if(|word| word == "core").is_some();
+    let words: Vec<u32> = words.iter().filter_map(|word| word.parse().ok()).collect();
     let &[size @ 2..=64, window @ 1..=256, payload @ 0..=1024, casts, lost, exchanged] = &words[..] else {
-        eprintln!("plain_member SIZE WINDOW PAYLOAD CASTS LOST EXCHANGED");
+        eprintln!("plain_member SIZE WINDOW PAYLOAD CASTS LOST EXCHANGED [core]");
         return ExitCode::from(2);
     };
     let words = Words { size, window, payload, casts, lost, exchanged };
-    let tally = match size {
-        ..=4 => run::<4>(words),
-        ..=16 => run::<16>(words),
-        _ => run::<64>(words),
-    };
+    let tally = if is_core { run_of(words, Latest::default) } else { run_of(words, || History::new(LONGEST_HISTORY)) };
     println!("deliveries {} digest {:016x}", tally.deliveries, tally.digest);
     ExitCode::SUCCESS
 }

@@ -1,19 +1,11 @@
-//! A whole group of members in one thread: each in its turn takes all that the others sent and casts. Prints how many messages were
-//! delivered, and a digest of their names and times.
+//! A whole group of members with their histories, in one thread: each in its turn takes all that the others sent and casts. Prints how many
+//! messages were delivered, and a digest of their names and times. The run is that of `bench_run`.
 //!
 //! `bench/plain_member.rs` is the same program in plain Rust, and both print the same: `bench/member.sh` compares them and measures.
 #![tactic(auto)]
 
-mod fault;
-mod network;
-mod plan;
-mod random;
-mod run;
-mod tally;
-
-use crate::fault::Fault;
-use crate::plan::{Plan, plan_of};
-use crate::run::tally_of;
+use bench_run::{Fault, tally_in_words};
+use cb_member::Member;
 use std::env;
 use std::process::ExitCode;
 
@@ -21,16 +13,8 @@ fn words_of(rt: &HostRuntime) -> Result<Vec<String>, Fault> {
     Ok(env::args(rt)?.collect(rt.alloc())?)
 }
 
-fn plan_in_words(rt: &HostRuntime) -> Result<Plan, Fault> {
-    let words = words_of(rt)?;
-    let plan = plan_of(words.as_slice());
-    drop(words);
-    plan.ok_or(Fault::Words)
-}
-
 fn print_run(rt: &HostRuntime) -> Result<(), Fault> {
-    let plan = plan_in_words(rt)?;
-    let tally = tally_of(rt.alloc(), plan)?;
+    let tally = tally_in_words::<Member>(rt.alloc(), words_of(rt)?)?;
     println!(rt;
         "deliveries {} digest {:016x}",
         tally.deliveries, tally.digest

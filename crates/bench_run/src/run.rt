@@ -2,20 +2,20 @@
 
 use crate::network::Network;
 use crate::plan::Plan;
+use crate::speaker::Speaker;
 use crate::tally::Tally;
 use bytes::Bytes;
-use cb_history::{ArriveRefusal, CastRefusal, Group, LONGEST_HISTORY, TickRefusal};
-use cb_member::{Member, Received};
+use cb_history::Group;
 use cb_times::NoMemory;
-use std::alloc::{AllocError, Global};
+use std::alloc::Global;
 
 /// A run ends after so many rounds, whatever is delivered.
 const MOST_ROUNDS: u64 = 1_000_000_000;
 
 #[derive(Drop)]
-struct Run {
+struct Run<M: Speaker> {
     plan: Plan,
-    members: Vec<Member>,
+    members: Vec<M>,
     network: Network,
     tally: Tally,
     payload: Vec<u8>,
@@ -24,21 +24,17 @@ struct Run {
     made: u64,
 }
 
-fn members_of(alloc: Global, group: Group) -> Result<Vec<Member>, NoMemory> {
+fn members_of<M: Speaker>(alloc: Global, group: Group) -> Result<Vec<M>, NoMemory> {
     let mut members = Vec::with_capacity(alloc, group.size() as usize)?;
     for me in 0..group.size() {
-        // member and limit are in range, so that only memory can be wanting
-        let Ok(member) = Member::new(alloc, group, me, LONGEST_HISTORY) else {
-            return Err(AllocError);
-        };
-        members.push(member)?;
+        members.push(M::made(alloc, group, me)?)?;
     }
     Ok(members)
 }
 
 /// Runs the plan, and answers what was delivered.
-pub fn tally_of(alloc: Global, plan: Plan) -> Result<Tally, NoMemory> {
-    let mut run = Run::new(alloc, plan)?;
+pub fn tally_of<M: Speaker>(alloc: Global, plan: Plan) -> Result<Tally, NoMemory> {
+    let mut run = Run::<M>::new(alloc, plan)?;
     let ended = run.go();
     let tally = run.tally;
     drop(run);
@@ -46,13 +42,13 @@ pub fn tally_of(alloc: Global, plan: Plan) -> Result<Tally, NoMemory> {
     Ok(tally)
 }
 
-impl Run {
-    fn new(alloc: Global, plan: Plan) -> Result<Run, NoMemory> {
+impl<M: Speaker> Run<M> {
+    fn new(alloc: Global, plan: Plan) -> Result<Run<M>, NoMemory> {
         let payload = vec![in alloc; b'a'; plan.payload]?;
         Run::with_payload(alloc, plan, payload)
     }
 
-    fn with_payload(alloc: Global, plan: Plan, payload: Vec<u8>) -> Result<Run, NoMemory> {
+    fn with_payload(alloc: Global, plan: Plan, payload: Vec<u8>) -> Result<Run<M>, NoMemory> {
         let members = members_of(alloc, plan.group)?;
         let network = Network::new(alloc, plan.group.size(), plan.lost, plan.exchanged)?;
         Ok(Run {
@@ -93,15 +89,10 @@ impl Run {
             return Ok(());
         };
         for bytes in self.inbox.iter() {
-            match member.receive(bytes) {
-                Ok(Received::Accepted { delivered, out, .. }) => {
-                    self.tally.add_last(me, delivered, member.events());
-                    if !out.is_empty() {
-                        self.network.send_all(me, out)?;
-                    }
+            if let Some(out) = member.take(bytes, &mut self.tally)? {
+                if !out.is_empty() {
+                    self.network.send_all(me, out)?;
                 }
-                Err(ArriveRefusal::NoMemory) => return Err(AllocError),
-                Ok(Received::Repeat) | Err(_) => {}
             }
         }
         self.inbox.clear();
@@ -117,10 +108,9 @@ impl Run {
             if self.made >= self.plan.casts {
                 return Ok(());
             }
-            match member.cast(&self.payload) {
-                Ok(done) => self.network.send_to_others(me, &done.out)?,
-                Err(CastRefusal::NoMemory) => return Err(AllocError),
-                Err(_) => return Ok(()),
+            match member.cast(&self.payload)? {
+                Some(bytes) => self.network.send_to_others(me, &bytes)?,
+                None => return Ok(()),
             }
             self.made = self.made.saturating_add(1);
         }
@@ -132,10 +122,8 @@ impl Run {
             let Some(member) = self.members.get_mut(me as usize) else {
                 return Ok(());
             };
-            match member.tick() {
-                Ok(ticked) => self.network.send_all(me, ticked.out)?,
-                Err(TickRefusal::NoMemory) => return Err(AllocError),
-                Err(TickRefusal::HistoryFull) => {}
+            if let Some(out) = member.tick()? {
+                self.network.send_all(me, out)?;
             }
         }
         Ok(())

@@ -1,0 +1,111 @@
+//! The members that a run can have: with a history, or without one.
+
+use crate::tally::Tally;
+use bytes::Bytes;
+use cb_history::{
+    Arrival, ArriveRefusal, CastRefusal, Group, LONGEST_HISTORY, Outgoing, TickRefusal,
+};
+use cb_member::{CoreMember, Member, Received};
+use cb_times::NoMemory;
+use std::alloc::{AllocError, Global};
+
+/// What a run asks of a member. A call that a rule refuses answers `None`.
+pub trait Speaker: Drop + Sized {
+    fn made(alloc: Global, group: Group, me: u32) -> Result<Self, NoMemory>;
+
+    /// The frame of one more cast.
+    fn cast(&mut self, payload: &[u8]) -> Result<Option<Bytes>, NoMemory>;
+
+    /// Takes a received frame, and tallies what it delivers: what is sent.
+    fn take(&mut self, bytes: &Bytes, tally: &mut Tally) -> Result<Option<Vec<Outgoing>>, NoMemory>;
+
+    fn tick(&mut self) -> Result<Option<Vec<Outgoing>>, NoMemory>;
+}
+
+impl Speaker for Member {
+    fn made(alloc: Global, group: Group, me: u32) -> Result<Member, NoMemory> {
+        // member and limit are in range, so that only memory can be wanting
+        let Ok(member) = Member::new(alloc, group, me, LONGEST_HISTORY) else {
+            return Err(AllocError);
+        };
+        Ok(member)
+    }
+
+    fn cast(&mut self, payload: &[u8]) -> Result<Option<Bytes>, NoMemory> {
+        match self.cast(payload) {
+            Ok(done) => Ok(Some(done.out)),
+            Err(CastRefusal::NoMemory) => Err(AllocError),
+            Err(_) => Ok(None),
+        }
+    }
+
+    fn take(
+        &mut self,
+        bytes: &Bytes,
+        tally: &mut Tally,
+    ) -> Result<Option<Vec<Outgoing>>, NoMemory> {
+        match self.receive(bytes) {
+            Ok(Received::Accepted { delivered, out, .. }) => {
+                tally.add_last(self.seat().me(), delivered, self.events());
+                Ok(Some(out))
+            }
+            Err(ArriveRefusal::NoMemory) => Err(AllocError),
+            Ok(Received::Repeat) | Err(_) => Ok(None),
+        }
+    }
+
+    fn tick(&mut self) -> Result<Option<Vec<Outgoing>>, NoMemory> {
+        match self.tick() {
+            Ok(ticked) => Ok(Some(ticked.out)),
+            Err(TickRefusal::NoMemory) => Err(AllocError),
+            Err(TickRefusal::HistoryFull) => Ok(None),
+        }
+    }
+}
+
+impl Speaker for CoreMember {
+    fn made(alloc: Global, group: Group, me: u32) -> Result<CoreMember, NoMemory> {
+        // the member is in range, so that only memory can be wanting
+        let Ok(core) = CoreMember::new(alloc, group, me) else {
+            return Err(AllocError);
+        };
+        Ok(core)
+    }
+
+    fn cast(&mut self, payload: &[u8]) -> Result<Option<Bytes>, NoMemory> {
+        match self.cast(payload) {
+            Ok(done) => Ok(Some(done.out)),
+            Err(CastRefusal::NoMemory) => Err(AllocError),
+            Err(_) => Ok(None),
+        }
+    }
+
+    fn take(
+        &mut self,
+        bytes: &Bytes,
+        tally: &mut Tally,
+    ) -> Result<Option<Vec<Outgoing>>, NoMemory> {
+        match self.receive(bytes) {
+            Ok(
+                Arrival::Accepted {
+                    deliveries,
+                    out,
+                    ..
+                },
+            ) => {
+                tally.add_all(self.seat().me(), &deliveries);
+                Ok(Some(out))
+            }
+            Err(ArriveRefusal::NoMemory) => Err(AllocError),
+            Ok(Arrival::Repeat) | Err(_) => Ok(None),
+        }
+    }
+
+    fn tick(&mut self) -> Result<Option<Vec<Outgoing>>, NoMemory> {
+        match self.tick() {
+            Ok(ticked) => Ok(Some(ticked.out)),
+            Err(TickRefusal::NoMemory) => Err(AllocError),
+            Err(TickRefusal::HistoryFull) => Ok(None),
+        }
+    }
+}
