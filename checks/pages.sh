@@ -1,7 +1,7 @@
 #!/usr/bin/env bash
 # Looks at the pages: ends with 1, and a line for each fault, where
 #   - a line of README.md or docs/GUIDE.md has more than 120 characters, or a paragraph of either more than five lines; a line of text of any
-#     page in docs/ but that of the mutants has more than 120; README.md more than 150 lines, docs/PERFORMANCE.md more than 110;
+#     page in docs/ but that of the mutants has more than 120; README.md more than 150 lines, docs/PERFORMANCE.md more than 120;
 #   - a page has a word that was exchanged for a better one;
 #   - a measured figure of the README or the guide does not stand in docs/PERFORMANCE.md;
 #   - a link leads nowhere, to a file or to a heading, or a comment or script names a page of docs/ that is not there;
@@ -25,7 +25,7 @@ import concurrent.futures, os, re, shutil, subprocess, sys, tempfile, time
 
 top, what, jobs = sys.argv[1], sys.argv[2], int(sys.argv[3])
 NARROW = ["README.md", "docs/GUIDE.md"]
-MOST_LINES = {"README.md": 150, "docs/PERFORMANCE.md": 110}
+MOST_LINES = {"README.md": 150, "docs/PERFORMANCE.md": 120}
 WIDE = ["docs/WRONG_BODIES.md", "schedules/README.md"]
 OLD_WORDS = r"\b(puts? out|lets? go of|told|(?:seen|shown) twice|beside the gate|by turns)\b"
 RUN = ["README.md", "docs/GUIDE.md", "docs/PROGRAM.md"]

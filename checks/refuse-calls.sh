@@ -1,15 +1,15 @@
 #!/usr/bin/env bash
-# Refuses each growth of each call of the quick member in turn, by the kit's own switch: the call answers that there is no memory,
-# nothing has changed, and the same call then answers as its example. Refusals by a rule and of bytes that are no frame come all the
-# same. The program is refused_calls/main.txt; it becomes a crate of a scratch copy of the repository, and is not proved there.
+# Refuses each growth of each call of the quick member in turn, and of one that keeps no history, by the kit's own switch: the call
+# answers that there is no memory, nothing has changed, and the same call then answers as its example. Refusals by a rule and of bytes
+# that are no frame come all the same. The program is refused_calls/main.txt; it becomes a crate of a scratch copy of the repository, and is not proved there.
 # The switch refuses the growth of one number in all runs: a run on an input of n bytes first takes memory n times, and so has another
-# growth of its calls refused. Some two minutes.
+# growth of its calls refused. Some ten minutes.
 set -eu
 top=$(cd "$(dirname "$0")/.." && pwd)
 work=$(mktemp -d)
 trap 'rm -rf "$work"' EXIT
 # more growths than the program asks for
-most=170
+most=600
 
 mkdir -p "$work/whole" "$work/cases"
 (cd "$top" && tar -c --exclude=out --exclude=.git .) | tar -x -C "$work/whole"
@@ -49,9 +49,32 @@ done << 'END'
 111 cast in a window of one
 113 a status that is news, as the first entry
 114 an arrival that delivers a message, as the first entry
+115 cast before what comes early
+116 an arrival that comes early
+117 a received cast that comes early
+119 a received status that is news
+120 a received request that is answered
+200 new, without history
+202 cast, without history
+203 an arrival that waits, without history
+204 an arrival that delivers two messages, without history
+205 a status that is news, without history
+206 missing, without history
+207 a tick with a request, without history
+208 a request that is answered, without history
+211 cast in a window of one, without history
+213 a status that is news first, without history
+214 an arrival that delivers a message first, without history
+215 cast before what comes early, without history
+216 an arrival that comes early, without history
+217 a received cast that comes early, without history
+218 a received cast that lets another go, without history
+219 a received status that is news, without history
+220 a received request that is answered, without history
 END
-# a payload too long, bytes that are no frame, a full history and a full window take no memory
-for status in 101 109 110 112; do
+# a payload too long, bytes that are no frame, a full history and a full window take no memory, nor does a cast for which all room is
+# there; a member without history makes room for each call's deliveries
+for status in 101 109 110 112 118 121 201 209 212 221; do
     [ -z "${refused[$status]:-}" ] || { echo "row $status wants memory"; exit 1; }
 done
 [ $((total + ${refused[0]:-0})) = "$most" ] || { echo "a status that no row has"; exit 1; }
