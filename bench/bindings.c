@@ -10,7 +10,7 @@
 
 #include "../bindings/c/jolunza.h"
 
-enum { GROUP = 7, LIMIT = 16777216 };
+enum { GROUP = 7, LIMIT = 16777216, AT_ONCE = 64 };
 
 /* A frame on its way; once the last to whom it goes has it, it is one of the free ones. */
 struct frame {
@@ -86,18 +86,24 @@ static void post(uint32_t from, const jolunza_frame_head *head, struct frame *fr
             put(to, frame);
 }
 
-/* Sends the frames of the member's last call. */
-static void send_frames(uint32_t me)
+/* Sends the frames of the member's last call, of which there are so many. */
+static void send_frames(uint32_t me, size_t count)
 {
-    jolunza_frame_head head;
-    struct frame *frame = take_free();
+    for (size_t i = 0; i < count; i++) {
+        jolunza_frame_head head;
+        struct frame *frame = take_free();
 
-    for (size_t i = 0; jolunza_frame(&members[me].handle, i, &head, frame->bytes, sizeof frame->bytes) == JOLUNZA_DONE; i++) {
+        must(jolunza_frame(&members[me].handle, i, &head, frame->bytes, sizeof frame->bytes) == JOLUNZA_DONE);
         post(me, &head, frame);
-        frame = take_free();
     }
-    frame->owners = 1;
-    release(frame);
+}
+
+static size_t count_frames(uint32_t me)
+{
+    jolunza_counts counts;
+
+    must(jolunza_count(&members[me].handle, &counts) == JOLUNZA_DONE);
+    return counts.frames;
 }
 
 static void mix(uint32_t low, uint32_t high)
@@ -116,18 +122,22 @@ static void tally(uint32_t me, const jolunza_event_head *head, const uint32_t *t
         mix(time[size - 1], 0);
 }
 
-/* Reads the events that are new, so many deliveries. */
-static void read_events(uint32_t me, size_t count)
+/* Reads the events that are new, all of them deliveries. */
+static void read_events(uint32_t me)
 {
+    static jolunza_event_head heads[AT_ONCE];
+    static uint8_t payloads[AT_ONCE * JOLUNZA_LONGEST_PAYLOAD];
+    static uint32_t times[AT_ONCE * JOLUNZA_MOST_MEMBERS];
     struct member *member = &members[me];
-    jolunza_event_head head;
-    uint8_t bytes[JOLUNZA_LONGEST_PAYLOAD];
-    uint32_t time[JOLUNZA_MOST_MEMBERS];
+    size_t count;
 
-    for (size_t end = member->seen + count; member->seen < end; member->seen++) {
-        must(jolunza_event(&member->handle, member->seen, &head, bytes, sizeof bytes, time, size) == JOLUNZA_DONE);
-        tally(me, &head, time);
-    }
+    do {
+        must(jolunza_events(&member->handle, member->seen, heads, AT_ONCE, payloads, sizeof payloads, times,
+                            AT_ONCE * size, &count) == JOLUNZA_DONE);
+        for (size_t i = 0; i < count; i++)
+            tally(me, &heads[i], times + i * size);
+        member->seen += count;
+    } while (count == AT_ONCE);
 }
 
 static void take_all(uint32_t me)
@@ -142,10 +152,10 @@ static void take_all(uint32_t me)
 
         must(jolunza_receive(&member->handle, taken.frames[i]->bytes, taken.frames[i]->length, &received) == JOLUNZA_DONE);
         release(taken.frames[i]);
-        read_events(me, received.delivered);
         if (!received.is_entered && !received.is_repeat)
-            send_frames(me);
+            send_frames(me, count_frames(me));
     }
+    read_events(me);
     taken.count = 0;
     inbox = taken;
 }
@@ -158,7 +168,7 @@ static void cast_some(uint32_t me)
             return;
         made++;
         members[me].seen++;
-        send_frames(me);
+        send_frames(me, 1);
     }
 }
 
@@ -166,7 +176,7 @@ static void tick_all(void)
 {
     for (uint32_t me = 0; me < size; me++) {
         must(jolunza_tick(&members[me].handle) == JOLUNZA_DONE);
-        send_frames(me);
+        send_frames(me, count_frames(me));
     }
 }
 

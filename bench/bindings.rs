@@ -28,11 +28,47 @@ impl Tally {
     }
 }
 
+/// A frame on its way. Its bytes are those of an earlier frame that all to whom it went have taken.
+type Frame = Rc<Vec<u8>>;
+
+/// What was sent and not yet taken, for each member, and frames whose memory is used again.
+struct Network {
+    queues: Vec<Vec<Frame>>,
+    free: Vec<Frame>,
+}
+
+impl Network {
+    fn send(&mut self, me: usize, frame: jolunza::Frame) {
+        let mut copy = self.free.pop().unwrap_or_default();
+        let bytes = Rc::get_mut(&mut copy).expect("nobody has a free frame");
+        bytes.clear();
+        bytes.extend_from_slice(frame.bytes);
+        match frame.to {
+            Some(to) => self.queues[to as usize].push(copy),
+            None => self.send_to_others(me, copy),
+        }
+    }
+
+    fn send_to_others(&mut self, me: usize, frame: Frame) {
+        let last = if me + 1 == self.queues.len() { me - 1 } else { self.queues.len() - 1 };
+        for to in (0..last).filter(|to| *to != me) {
+            self.queues[to].push(frame.clone());
+        }
+        self.queues[last].push(frame);
+    }
+
+    fn release(&mut self, mut frame: Frame) {
+        if Rc::get_mut(&mut frame).is_some() {
+            self.free.push(frame);
+        }
+    }
+}
+
 struct Run {
     members: Vec<Member>,
-    /// How many events of each member were read.
+    /// How many events of each member were read, own casts not looked at.
     seen: Vec<usize>,
-    queues: Vec<Vec<Rc<[u8]>>>,
+    network: Network,
     tally: Tally,
     window: u32,
     payload: Vec<u8>,
@@ -44,26 +80,23 @@ impl Run {
     /// Sends the frames of the member's last call.
     fn send_frames(&mut self, me: usize) {
         for frame in self.members[me].frames() {
-            let bytes: Rc<[u8]> = frame.bytes.into();
-            match frame.to {
-                Some(to) => self.queues[to as usize].push(bytes),
-                None => send_to_others(&mut self.queues, me, &bytes),
-            }
+            self.network.send(me, frame);
         }
     }
 
-    fn take_all(&mut self, me: usize, inbox: &mut Vec<Rc<[u8]>>) -> Result<(), Refusal> {
-        mem::swap(inbox, &mut self.queues[me]);
-        for bytes in inbox.drain(..) {
-            let received = self.members[me].receive(&bytes)?;
-            let end = self.seen[me] + received.delivered;
-            for event in self.members[me].events(self.seen[me]..end) {
-                self.tally.add(me as u32, &event);
-            }
-            self.seen[me] = end;
+    fn take_all(&mut self, me: usize, inbox: &mut Vec<Frame>) -> Result<(), Refusal> {
+        mem::swap(inbox, &mut self.network.queues[me]);
+        for frame in inbox.drain(..) {
+            let received = self.members[me].receive(&frame)?;
+            self.network.release(frame);
             if !received.is_entered && !received.is_repeat {
                 self.send_frames(me);
             }
+        }
+        let events = self.members[me].events(self.seen[me]..);
+        self.seen[me] += events.len();
+        for event in events {
+            self.tally.add(me as u32, &event);
         }
         Ok(())
     }
@@ -101,14 +134,6 @@ impl Run {
     }
 }
 
-fn send_to_others(queues: &mut [Vec<Rc<[u8]>>], me: usize, bytes: &Rc<[u8]>) {
-    for (to, queue) in queues.iter_mut().enumerate() {
-        if to != me {
-            queue.push(bytes.clone());
-        }
-    }
-}
-
 fn main() -> Result<(), Refusal> {
     let words: Vec<u32> = env::args().skip(1).filter_map(|word| word.parse().ok()).collect();
     let &[size, window, payload, casts] = &words[..] else {
@@ -118,7 +143,7 @@ fn main() -> Result<(), Refusal> {
     let mut run = Run {
         members: (0..size).map(open).collect::<Result<_, _>>()?,
         seen: vec![0; size as usize],
-        queues: vec![Vec::new(); size as usize],
+        network: Network { queues: vec![Vec::new(); size as usize], free: Vec::new() },
         tally: Tally { deliveries: 0, digest: 0xcbf2_9ce4_8422_2325 },
         window,
         payload: vec![b'a'; payload as usize],

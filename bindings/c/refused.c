@@ -235,7 +235,7 @@ int main(void)
         MUST(run(allocations) == whole);
         allocations += is_refused;
     } while (is_refused);
-    MUST(allocations > 2 * CASTS && out_of_memory > CASTS);
+    MUST(allocations > CASTS && out_of_memory > CASTS);
     printf("%ld allocations, each refused in turn: %ld calls were out of memory, and then succeeded\n", allocations, out_of_memory);
     return 0;
 }

@@ -50,6 +50,15 @@ impl FrameBuffer {
         FrameBuffer { bytes: vec![0; heads.len() * LONGEST_FRAME], heads }
     }
 
+    /// Copies the first frame of the last call, which has one. The handle is open, and no other call runs on it.
+    #[inline]
+    pub unsafe fn fill_one(&mut self, handle: *mut sys::jolunza_handle) -> Frames<'_> {
+        let (heads, bytes) = (&mut self.heads[..1], &mut self.bytes[..LONGEST_FRAME]);
+        answered(sys::jolunza_frame(handle, 0, heads.as_mut_ptr(), bytes.as_mut_ptr(), bytes.len()))
+            .expect("a cast has its frame");
+        Frames { heads: heads.iter(), bytes }
+    }
+
     /// Copies all frames of the last call. The handle is open, and no other call runs on it.
     #[inline]
     pub unsafe fn fill(&mut self, handle: *mut sys::jolunza_handle) -> Frames<'_> {

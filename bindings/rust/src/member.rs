@@ -72,11 +72,19 @@ pub struct Member {
     /// How many events `new_events` has handed out, and how many it has not.
     shown: usize,
     unshown: usize,
-    /// Whether the last call that was done may have frames.
-    may_have_frames: bool,
+    /// What is known of the frames of the last call that was done.
+    left: Left,
     frames: FrameBuffer,
     events: EventBuffer,
     entry: EntryBuffer,
+}
+
+/// The frames that a call left: none, the one of a cast, or any number.
+#[derive(Clone, Copy)]
+enum Left {
+    NoFrame,
+    OneFrame,
+    Frames,
 }
 
 // An open handle may go to another thread, as is proved of the library. Two calls at once it may not take, and the cell
@@ -94,7 +102,7 @@ impl Member {
             settings,
             shown: 0,
             unshown: 0,
-            may_have_frames: false,
+            left: Left::NoFrame,
             frames: FrameBuffer::new(),
             events: EventBuffer::new(size as usize),
             entry: EntryBuffer::new(),
@@ -110,7 +118,7 @@ impl Member {
     pub fn cast(&mut self, payload: &[u8]) -> Result<(), Refusal> {
         answered(unsafe { sys::jolunza_cast(self.handle.get(), payload.as_ptr(), payload.len()) })?;
         self.unshown += 1;
-        self.may_have_frames = true;
+        self.left = Left::OneFrame;
         Ok(())
     }
 
@@ -123,7 +131,7 @@ impl Member {
         let sys::jolunza_received { is_repeat, is_entered, delivered } = received;
         self.unshown += delivered;
         // frames answer a request, which is never entered
-        self.may_have_frames = !is_repeat && !is_entered;
+        self.left = if is_repeat || is_entered { Left::NoFrame } else { Left::Frames };
         Ok(Received { is_repeat, is_entered, delivered })
     }
 
@@ -131,17 +139,17 @@ impl Member {
     #[inline]
     pub fn tick(&mut self) -> Result<(), Refusal> {
         answered(unsafe { sys::jolunza_tick(self.handle.get()) })?;
-        self.may_have_frames = true;
+        self.left = Left::Frames;
         Ok(())
     }
 
     /// The frames of the last call of `cast`, `receive` or `tick` that was done.
     #[inline]
     pub fn frames(&mut self) -> Frames<'_> {
-        if self.may_have_frames {
-            unsafe { self.frames.fill(self.handle.get()) }
-        } else {
-            Frames::default()
+        match self.left {
+            Left::NoFrame => Frames::default(),
+            Left::OneFrame => unsafe { self.frames.fill_one(self.handle.get()) },
+            Left::Frames => unsafe { self.frames.fill(self.handle.get()) },
         }
     }
 

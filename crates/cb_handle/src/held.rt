@@ -14,8 +14,8 @@ ghost use Rattle.cb_handle.specs.Calling.{HasCastToSend, HasReceivedToSend, HasT
 use crate::copies::copy_front;
 use crate::frames::{Frames, show_frame, show_frames};
 use crate::reading::{show_entry, show_event, show_events, show_ranges};
+use crate::received::ReceivedBlock;
 use crate::rows::{Counts, EntryHead, EventHead, FrameHead, Name, Range, Received};
-use bytes::Bytes;
 use cb_member::{ArriveRefusal, CastRefusal, Group, Member, MissingFault, NewFault, TickRefusal};
 use std::alloc::Global;
 
@@ -24,6 +24,7 @@ use std::alloc::Global;
 pub struct Held {
     pub member: Member,
     pub frames: Frames,
+    received: ReceivedBlock,
 }
 
 /// Why no member was opened.
@@ -61,6 +62,7 @@ impl Held {
             Ok(member) => Ok(Held {
                 member,
                 frames: Frames::Several(Vec::new(alloc)),
+                received: ReceivedBlock::new(alloc),
             }),
             Err(fault) => Err(OpenFault::BadNew(fault)),
         }
@@ -87,7 +89,7 @@ impl Held {
         ensures refused { IfErr result (RefusesBytes self.old.member bytes.now) }
         ensures same { OnErr result (self.new ≡ self.old) }
     {
-        let Ok(bytes) = Bytes::copy_from_slice(alloc, bytes) else {
+        let Ok(bytes) = self.received.copied(alloc, bytes) else {
             return Err(ArriveRefusal::NoMemory);
         };
         match self.member.receive(&bytes) {

@@ -10,6 +10,7 @@ mod frames;
 mod handle;
 mod held;
 mod reading;
+mod received;
 mod rows;
 
 pub use frames::Frames;
