@@ -10,13 +10,16 @@ use crate::writing::encode_cast_into;
 use bytes::{Bytes, BytesMut};
 use std::alloc::{AllocError, Global};
 
-/// So many bytes are taken at once, where no frame is longer.
-const BLOCK: usize = 4096;
+/// So many bytes are taken at once.
+const BLOCK: usize = 2016;
 
-/// A block of memory into which frames go, one behind the other: those of a member's casts, or received ones.
+/// A longer frame gets memory of its own, so that at most a fourth of a block is left over.
+const LONGEST_IN_BLOCK: usize = BLOCK / 4;
+
+/// A block of memory into which short frames go, one behind the other: those of a member's casts, or received ones.
 ///
 /// The frames share the block's bytes: it is given back once all of them are freed. Where one does not fit any more, the next block
-/// is taken.
+/// is taken. A long frame has memory of its own.
 #[derive(Drop)]
 pub struct FrameBlock {
     /// Where a text is made; its room is kept from one to the next.
@@ -61,9 +64,12 @@ impl FrameBlock {
 fn lodged(text: &[u8], rest: &mut BytesMut) -> Result<Bytes, AllocError>
     ensures { IfOk result (λ bytes. bytes ≡ text.now) }
 {
+    if text.len() > LONGEST_IN_BLOCK {
+        return Bytes::copy_from_slice(*rest.allocator(), text);
+    }
     rest.clear();
     if rest.capacity() < text.len() {
-        *rest = BytesMut::with_capacity(*rest.allocator(), BLOCK.max(text.len()))?;
+        *rest = BytesMut::with_capacity(*rest.allocator(), BLOCK)?;
     }
     rest.extend_from_slice(text)?;
     rest.freeze_to(text.len())

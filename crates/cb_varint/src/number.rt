@@ -59,7 +59,18 @@ pub fn take(bytes: &[u8]) -> Result<(u32, usize), NumberFault>
     ensures fault { (fault : Fault) → (result ≡ Err fault) ↔ IsFault fault bytes.now }
     ensures exact { result ≡ number_at bytes.now }
 {
-    first_number(bytes)
+    number_at_front(bytes)
+}
+
+/// Most numbers have one byte.
+#[tactic(auto, unfolding(crate::specs::Reading::number_at))]
+fn number_at_front(bytes: &[u8]) -> Result<(u32, usize), NumberFault>
+    ensures { result ≡ number_at bytes.now }
+{
+    match bytes.split_first() {
+        Some((&byte, _)) if byte < 0x80 => Ok((u32::from(byte), 1)),
+        _ => first_number(bytes),
+    }
 }
 
 fn first_number(bytes: &[u8]) -> Result<(u32, usize), NumberFault>

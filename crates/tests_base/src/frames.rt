@@ -200,12 +200,12 @@ pub fn many(rt: &impl Abort, alloc: Global, byte: u8, count: usize) -> Vec<u8> {
     vec![in alloc; byte; count].expect(rt, "memory")
 }
 
-/// More than go into one block, each of which stays as it was made.
+/// More than go into one block, and long ones between them, each of which stays as it was made.
 #[test]
 fn frames_in_one_block_and_in_the_next_stay_as_they_are(rt: HostRuntime) {
     let mut block = FrameBlock::new(rt.alloc());
     let mut frames = Vec::new(rt.alloc());
-    for number in 1..=9 {
+    for number in 1..=12 {
         let frame = numbered(&rt, rt.alloc(), &mut block, number);
         frames.push(frame).expect(&rt, "memory");
     }
@@ -216,8 +216,16 @@ fn frames_in_one_block_and_in_the_next_stay_as_they_are(rt: HostRuntime) {
     drop(block);
 }
 
+/// Each third is long.
+fn payload_length(number: usize) -> usize {
+    if number % 3 == 0 { 999 } else { 399 }
+}
+
 fn is_numbered(frame: &[u8], number: usize) -> bool {
-    frame.len() == 1_006 && is_at(frame.get(3), number) && is_at(frame.last(), number)
+    let length = if number % 3 == 0 { 1_006 } else { 406 };
+    frame.len() == length
+        && is_at(frame.get(3), number)
+        && is_at(frame.last(), number)
 }
 
 fn is_at(byte: Option<&u8>, number: usize) -> bool {
@@ -227,7 +235,7 @@ fn is_at(byte: Option<&u8>, number: usize) -> bool {
 /// A cast of this number, whose payload is made of it.
 fn numbered(rt: &impl Abort, alloc: Global, block: &mut FrameBlock, number: u8) -> Bytes {
     let cast = cast(rt, alloc, [7, 1, u32::from(number)], &[], b"");
-    let payload = many(rt, alloc, number, 999);
+    let payload = many(rt, alloc, number, payload_length(usize::from(number)));
     let frame = block.encode_cast(&cast, &payload);
     drop(cast);
     drop(payload);
