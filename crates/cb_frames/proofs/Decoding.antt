@@ -1,15 +1,15 @@
 -- What decoding answers, from what reading gives.
 use Rattle.std.proofs.Common.{◌≡◌, ℕ, ◌+◌, ◌-◌, ◌≤◌, List, [], ◌∷◌, ◌++◌, length, drop, Result, Ok, Err, MatchResult, refl, sym, ap, subst, ◌∙◌, arith, inl, inr, ◌⊎◌, suc, get_or, ◌<◌}
 use Rattle.std.specs.Prelude.{IfOk, IfErr}
-use Rattle.std.proofs.lemmas.Bool.{eq-eqb}
-use Rattle.std.proofs.lemmas.List.{length-append, drop_at, append-nil}
+use Rattle.std.proofs.lemmas.Bool.{eq-eqb, le-ltb}
+use Rattle.std.proofs.lemmas.List.{length-append, length-drop, drop_at, append-nil}
 use Rattle.cb_frames.specs.declared.frame.Frame.{Frame}
 use Rattle.cb_frames.specs.declared.fault.FrameFault.{FrameFault}
-use Rattle.cb_frames.specs.declared.fault.FrameFault.TheVariants.{NoMemory}
+use Rattle.cb_frames.specs.declared.fault.FrameFault.TheVariants.{Trailing, NoMemory}
 use Rattle.cb_frames.specs.Fields.{CastFields, FrameFields, fields_of}
 use Rattle.cb_frames.specs.Text.{cast_kind, status_kind, request_kind, IsText}
 use Rattle.cb_frames.specs.Fault.{FirstFault}
-use Rattle.cb_frames.specs.Reading.{cast_at, status_at, request_at, frame_at, Gives, Fails}
+use Rattle.cb_frames.specs.Reading.{end_at, payload_at, cast_at, status_at, request_at, frame_at, Gives, Fails}
 use Rattle.cb_frames.specs.Laws.{EachIsTextOrFault, MayFail, ReadingIsExact}
 use Rattle.cb_varint.proofs.Fronts.{IsBytes}
 use Rattle.cb_frames.proofs.Outcome.{CastOutcome, cast_outcome, FrameOutcome, frame_outcome}
@@ -95,6 +95,16 @@ answers_refused bytes (Ok frame) fits given = tt
 answers_refused bytes (Err e) fits given = refused_is bytes e (frame_at bytes) refl fits given
 
 -- ---- the payload is the end of the bytes
+
+no_end : (bytes : List ℕ) → 0 < length bytes → end_at bytes ≡ Err Trailing
+no_end [] some = absurd (omega (arith, some))
+no_end (b ∷ bytes) some = refl
+
+pub longer_payload : (n : ℕ) (bytes : List ℕ) → n < length bytes → payload_at n bytes ≡ Err Trailing
+longer_payload n bytes longer =
+    let enough = le-ltb (length bytes) n (omega (arith, longer)) in
+    let behind = no_end (drop n bytes) (omega (arith, length-drop n bytes, longer)) in
+    rw (enough, behind) refl
 
 pub payload_is_end : (bytes : List ℕ) (c : CastFields) → IsBytes bytes → cast_at bytes ≡ Ok c → (front : List ℕ) × (bytes ≡ front ++ c.payload)
 payload_is_end bytes c fits e =

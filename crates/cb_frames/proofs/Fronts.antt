@@ -1,17 +1,17 @@
 -- Fields at the front of bytes: what is read there is there, and what is there is the one thing that is.
-use Rattle.std.proofs.Common.{◌≡◌, ℕ, ◌+◌, List, [], ◌∷◌, ◌++◌, length, take, drop, Option, Some, None, Result, Ok, Err, refl, sym, ap, subst, ◌∙◌, append_assoc, arith, inl, inr, ltb, cond}
-use Rattle.std.proofs.lemmas.List.{take-append-drop, get_or-drop}
+use Rattle.std.proofs.Common.{◌≡◌, ℕ, ◌+◌, List, [], ◌∷◌, ◌++◌, length, take, drop, Option, Some, None, Result, Ok, Err, refl, sym, ap, subst, ◌∙◌, append_assoc, inl, inr, ltb}
+use Rattle.std.proofs.lemmas.List.{take-append-drop, length-take-le, get_or-drop}
 use Rattle.std.proofs.lemmas.Bool.{cond_both, ltb-true, ltb-false}
 use Rattle.cb_varint.specs.declared.fault.NumberFault.{NumberFault}
 use Rattle.cb_varint.specs.Spelling.{Spells}
 use Rattle.cb_varint.specs.Reading.{number_at as number_and_length}
 use Rattle.cb_varint.proofs.Fronts.{IsBytes, read_is_spelled, fault_is_there}
 use Rattle.cb_frames.specs.declared.fault.FrameFault.{FrameFault}
-use Rattle.cb_frames.specs.declared.fault.FrameFault.TheVariants.{Short, Trailing}
+use Rattle.cb_frames.specs.declared.fault.FrameFault.TheVariants.{Short}
 use Rattle.cb_frames.specs.NumberFaults.{as_frame_fault}
 use Rattle.cb_frames.specs.Text.{SpellAll}
-use Rattle.cb_frames.specs.Fault.{Field, Number, Payload, Accepts, IsWrong, FirstFaultOf}
-use Rattle.cb_frames.specs.Reading.{◌>>=◌, behind_number, unless, field_at, payload_at}
+use Rattle.cb_frames.specs.Fault.{Field, Number, Run, Accepts, IsWrong, FirstFaultOf}
+use Rattle.cb_frames.specs.Reading.{◌>>=◌, behind_number, unless, field_at, run_at}
 
 pub IsBytes-drop : (n : ℕ) (bytes : List ℕ) → IsBytes bytes → IsBytes (drop n bytes)
 IsBytes-drop n bytes h i = rw get_or-drop (h (n + i))
@@ -54,24 +54,32 @@ field_outcome rule bytes fits =
     (λ f broken. inr (take x.1 bytes, drop x.1 bytes, x.0, s.1, parts, broken)))
     (λ f e. inl (f, fault_is_there bytes f fits e, refl))
 
-pub payload_outcome : (n : ℕ) (bytes : List ℕ) (P : Result (List ℕ) FrameFault → Type 0) → (length bytes ≡ n → P (Ok bytes)) → ((e : FrameFault) → IsWrong (Payload n) bytes e → P (Err e)) → P (payload_at n bytes)
-payload_outcome n bytes P ok err =
-    cond_both (ltb (length bytes) n) (Err Short) (cond (ltb n (length bytes)) (Err Trailing) (Ok bytes)) P
-    (λ less. err Short (inl (ltb-true _ _ less, refl)))
-    (λ not_less. cond_both (ltb n (length bytes)) (Err Trailing) (Ok bytes) P
-    (λ more. err Trailing (inr (ltb-true _ _ more, refl)))
-    (λ not_more. ok (omega (arith, ltb-false _ _ not_less, ltb-false _ _ not_more))))
+-- ---- a run
+
+-- what reading a run gives
+pub record RunFound (n : ℕ) (bytes run rest : List ℕ) : Type 0 where
+  pub parts : bytes ≡ run ++ rest
+  pub whole : length run ≡ n
+  pub rest_fits : IsBytes rest
+
+-- a run that is read, by what stands there
+pub run_cases : {A : Type 0} (n : ℕ) (bytes : List ℕ) (f : List ℕ × List ℕ → Result A FrameFault) (P : Result A FrameFault → Type 0) → IsBytes bytes
+    → ((x : List ℕ × List ℕ) → RunFound n bytes x.0 x.1 → P (f x)) → ((e : FrameFault) → IsWrong (Run n) bytes e → P (Err e)) → P (run_at n bytes >>= f)
+run_cases n bytes f P fits ok err =
+    cond_both (ltb (length bytes) n) (Err Short) (Ok (take n bytes, drop n bytes)) (λ r. P (r >>= f))
+    (λ less. err Short (ltb-true _ _ less, refl))
+    (λ enough. ok (take n bytes, drop n bytes) (record { parts = sym (take-append-drop n bytes); whole = length-take-le n bytes (ltb-false _ _ enough); rest_fits = IsBytes-drop n bytes fits }))
 
 -- ---- the first fault, field by field
 
 pub fault_here : (fields : List ℕ → Field) (bytes : List ℕ) (e : FrameFault) → IsWrong (fields []) bytes e → FirstFaultOf fields bytes e
 fault_here fields bytes e wrong = record { values = []; rest = bytes; good = refl; wrong = wrong }
 
-pub fault_later : (fields : List ℕ → Field) (n : ℕ) (text more bytes : List ℕ) (e : FrameFault) → Accepts (fields []) n → Spells text n → bytes ≡ text ++ more → FirstFaultOf (λ before. fields (n ∷ before)) more e → FirstFaultOf fields bytes e
-fault_later fields n text more bytes e accepts spelled parts f = record {
+pub fault_later : (fields : List ℕ → Field) (n : ℕ) (text more bytes : List ℕ) (e : FrameFault) → Accepts (fields []) text n → bytes ≡ text ++ more → FirstFaultOf (λ before. fields (n ∷ before)) more e → FirstFaultOf fields bytes e
+fault_later fields n text more bytes e accepts parts f = record {
   values = n ∷ f.values;
   rest = f.rest;
-  good = (accepts, (text, more, spelled, parts, f.good));
+  good = (text, more, accepts, parts, f.good);
   wrong = f.wrong;
 }
 

@@ -1,5 +1,5 @@
 -- Reading bytes never finds that memory is out.
-use Rattle.std.proofs.Common.{◌≢◌, ℕ, zero, suc, ◌+◌, Bool, true, false, cond, eqb, ltb, List, [], ◌∷◌, length, Option, Some, None, Result, Ok, Err}
+use Rattle.std.proofs.Common.{◌≢◌, ℕ, zero, suc, ◌+◌, Bool, true, false, cond, eqb, ltb, List, [], ◌∷◌, length, take, drop, Option, Some, None, Result, Ok, Err}
 use Rattle.cb_varint.specs.declared.fault.NumberFault.{NumberFault}
 use Rattle.cb_varint.specs.declared.fault.NumberFault.TheVariants as numbers
 use Rattle.cb_varint.specs.Reading.{number_at as number_and_length}
@@ -9,7 +9,7 @@ use Rattle.cb_frames.specs.declared.fault.FrameFault.TheVariants as faults
 use Rattle.cb_frames.specs.Fields.{FrameFields, CastFrame, StatusFrame, RequestFrame}
 use Rattle.cb_frames.specs.Fault.{any_number, member_rule, message_rule, length_rule, ranges_rule, Pairs, change_pairs, value_pairs, range_pairs}
 use Rattle.cb_frames.specs.Text.{cast_kind, status_kind, request_kind}
-use Rattle.cb_frames.specs.Reading.{◌>>=◌, behind_number, number_at, unless, field_at, pair_at, pairs_at, payload_at, end_at, cast_at, status_at, request_at, frame_at}
+use Rattle.cb_frames.specs.Reading.{◌>>=◌, behind_number, number_at, unless, field_at, pair_at, pairs_at, run_at, end_at, payload_at, cast_at, status_at, request_at, frame_at}
 
 -- a fault, where there is one, that the bytes have
 abbrev IsOfBytes : FrameFault → Type 0
@@ -88,17 +88,23 @@ pairs_read pairs (suc count) least bytes h =
     then (pair_at pairs least bytes) _ (pair_reads pairs least bytes h)
     (λ first. then (pairs_at pairs count (pairs.next first.0.0 first.0.1) first.1) _ (pairs_read pairs count (pairs.next first.0.0 first.0.1) first.1 h) (λ others. tt))
 
-payload_reads : (n : ℕ) (bytes : List ℕ) → Reads (payload_at n bytes)
-payload_reads n bytes = sized (ltb (length bytes) n) (ltb n (length bytes)) bytes
-  where
-    sized : (a b : Bool) (bytes : List ℕ) → Reads {A = List ℕ} (cond a (Err faults.Short) (cond b (Err faults.Trailing) (Ok bytes)))
-    sized true b bytes = λ e. absurd cc
-    sized false true bytes = λ e. absurd cc
-    sized false false bytes = tt
-
 end_reads : (bytes : List ℕ) → Reads (end_at bytes)
 end_reads [] = tt
 end_reads (b ∷ bytes) = λ e. absurd cc
+
+-- ---- payloads
+
+run_reads : (n : ℕ) (bytes : List ℕ) → Reads (run_at n bytes)
+run_reads n bytes = sized (ltb (length bytes) n) (take n bytes, drop n bytes)
+  where
+    sized : (short : Bool) (x : List ℕ × List ℕ) → Reads (cond short (Err faults.Short) (Ok x))
+    sized true x = λ e. absurd cc
+    sized false x = tt
+
+payload_reads : (n : ℕ) (bytes : List ℕ) → Reads (payload_at n bytes)
+payload_reads n bytes =
+    then (run_at n bytes) _ (run_reads n bytes)
+    (λ run. then (end_at run.1) _ (end_reads run.1) (λ end. tt))
 
 -- ---- frames
 
@@ -116,7 +122,7 @@ cast_reads bytes =
     (λ sender. then (field_at message_rule sender.1) _ (field_reads message_rule sender.1 (λ n. one_rule (eqb n 0) faults.ZeroNumber (λ e. absurd cc)))
     (λ number. then (field_at any_number number.1) _ (field_reads any_number number.1 any_rule)
     (λ count. then (pairs_at (change_pairs sender.0) count.0 0 count.1) _ (pairs_read (change_pairs sender.0) count.0 0 count.1 (changes_read sender.0))
-    (λ changes. then (field_at length_rule changes.1) _ (field_reads length_rule changes.1 (λ n. one_rule (ltb LONGEST_PAYLOAD n) faults.PayloadTooLong (λ e. absurd cc)))
+    (λ changes. then (field_at (length_rule 0) changes.1) _ (field_reads (length_rule 0) changes.1 (λ n. one_rule (ltb LONGEST_PAYLOAD (0 + n)) faults.PayloadTooLong (λ e. absurd cc)))
     (λ size. then (payload_at size.0 size.1) _ (payload_reads size.0 size.1) (λ payload. tt)))))))
 
 status_reads : (bytes : List ℕ) → Reads (status_at bytes)

@@ -1,5 +1,5 @@
 -- What reading gives: the frame whose text the bytes are, or their first fault.
-use Rattle.std.proofs.Common.{◌≡◌, ℕ, zero, suc, ◌+◌, ◌≤◌, false, cond, eqb, List, [], ◌∷◌, ◌++◌, length, Option, Result, Ok, Err, refl, sym, ap, subst, ◌∙◌, arith, inr}
+use Rattle.std.proofs.Common.{◌≡◌, ℕ, zero, suc, ◌+◌, ◌≤◌, false, cond, eqb, List, [], ◌∷◌, ◌++◌, length, Option, Result, Ok, Err, refl, sym, ap, subst, ◌∙◌, arith}
 use Rattle.std.proofs.lemmas.Bool.{cond_both, eqb-true}
 use Rattle.std.proofs.lemmas.List.{append-nil}
 use Rattle.cb_frames.specs.declared.frame.TheConstants.{LAST_MEMBER, LONGEST_PAYLOAD}
@@ -11,7 +11,7 @@ use Rattle.cb_frames.specs.Text.{cast_kind, status_kind, request_kind, SpellAll,
 use Rattle.cb_frames.specs.Fault.{Field, Number, any_number, member_rule, message_rule, length_rule, ranges_rule, Pairs, change_pairs, value_pairs, range_pairs, pairs_field, payload_field, end_field, cast_field, status_field, request_field, IsWrong, FirstFaultOf, FirstFault}
 use Rattle.cb_frames.specs.Reading.{◌>>=◌, field_at, pair_at, pairs_at, payload_at, end_at, cast_at, status_at, request_at, frame_at}
 use Rattle.cb_varint.proofs.Fronts.{IsBytes}
-use Rattle.cb_frames.proofs.Fronts.{bind_cases, Found, FieldOutcome, field_outcome, payload_outcome, fault_here, fault_later, Opens, Opens-none, Opens-one, Opens-append}
+use Rattle.cb_frames.proofs.Fronts.{bind_cases, Found, FieldOutcome, field_outcome, run_cases, fault_here, fault_later, Opens, Opens-none, Opens-one, Opens-append}
 use Rattle.cb_frames.proofs.SaidPairs.{member_kept, message_kept, length_kept, ranges_kept, Says, are_changes, are_values, are_ranges}
 
 -- a field that reads as a number, by what stands there
@@ -45,8 +45,8 @@ one_more p behind count least bytes distance n between after f s ds rest others 
   count_is = ap suc others.count_is;
   opens = Opens-one distance (n ∷ others.numbers) f.text between bytes rest f.spelled f.parts (Opens-one n others.numbers s.text after between rest s.spelled s.parts others.opens);
   rest_fits = others.rest_fits;
-  through = λ e x. fault_later (pairs_field p behind (suc count) least) distance f.text between bytes e f.kept f.spelled f.parts
-      (fault_later (λ before. pairs_field p behind (suc count) least (distance ∷ before)) n s.text after between e s.kept s.spelled s.parts (others.through e x));
+  through = λ e x. fault_later (pairs_field p behind (suc count) least) distance f.text between bytes e (f.spelled, f.kept) f.parts
+      (fault_later (λ before. pairs_field p behind (suc count) least (distance ∷ before)) n s.text after between e (s.spelled, s.kept) s.parts (others.through e x));
 }
 
 bind_assoc : {A B C : Type 0} (r : Result A FrameFault) (g : A → Result B FrameFault) (f : B → Result C FrameFault) → ((r >>= g) >>= f) ≡ (r >>= λ x. g x >>= f)
@@ -67,7 +67,7 @@ pair_cases p behind count least bytes f P fits ok err =
     (λ distance g. subst P (sym (bind_assoc (field_at (p.second (least + distance.0)) distance.1) (λ n. Ok ((least + distance.0, n.0), n.1)) f))
     (field_cases (p.second (least + distance.0)) distance.1 (λ n. f ((least + distance.0, n.0), n.1)) P g.rest_fits
     (λ n s. ok distance.0 n.0 distance.1 n.1 g s)
-    (λ e wrong. err e (fault_later (pairs_field p behind (suc count) least) distance.0 g.text distance.1 bytes e g.kept g.spelled g.parts (fault_here _ distance.1 e wrong)))))
+    (λ e wrong. err e (fault_later (pairs_field p behind (suc count) least) distance.0 g.text distance.1 bytes e (g.spelled, g.kept) g.parts (fault_here _ distance.1 e wrong)))))
     (λ e wrong. err e (fault_here (pairs_field p behind (suc count) least) bytes e wrong)))
 
 pairs_outcome : {A : Type 0} (p : Pairs A) (behind : List ℕ → Field) (count least : ℕ) (bytes : List ℕ) → IsBytes bytes → PairsOutcome p behind count least bytes (pairs_at p count least bytes)
@@ -87,8 +87,8 @@ pairs_outcome p behind (suc count) least bytes fits =
     bind_cases (pairs_at p count next after) (λ others. Ok (p.said (least + distance) n ∷ others.0, others.1)) (PairsOutcome p behind (suc count) least bytes)
     (λ others e. one_more p behind count least bytes distance n between after f s others.0 others.1
     (subst (PairsOutcome p behind count next after) e (pairs_outcome p behind count next after s.rest_fits)))
-    (λ fault e. fault_later (pairs_field p behind (suc count) least) distance f.text between bytes fault f.kept f.spelled f.parts
-    (fault_later (λ before. pairs_field p behind (suc count) least (distance ∷ before)) n s.text after between fault s.kept s.spelled s.parts
+    (λ fault e. fault_later (pairs_field p behind (suc count) least) distance f.text between bytes fault (f.spelled, f.kept) f.parts
+    (fault_later (λ before. pairs_field p behind (suc count) least (distance ∷ before)) n s.text after between fault (s.spelled, s.kept) s.parts
     (subst (PairsOutcome p behind count next after) e (pairs_outcome p behind count next after s.rest_fits)))))
     (λ e f. f)
 
@@ -103,7 +103,20 @@ pairs_cases p behind count least bytes f P fits ok err =
 -- the end of a frame, by what stands there
 end_cases : {B : Type 0} (bytes : List ℕ) (f : Unit {0} → Result B FrameFault) (P : Result B FrameFault → Type 0) → (bytes ≡ [] → P (f tt)) → ((e : FrameFault) → FirstFaultOf end_field bytes e → P (Err e)) → P (end_at bytes >>= f)
 end_cases [] f P ok err = ok refl
-end_cases (b ∷ bytes) f P ok err = err Trailing (fault_here end_field (b ∷ bytes) Trailing (inr (omega arith, refl)))
+end_cases (b ∷ bytes) f P ok err = err Trailing (fault_here end_field (b ∷ bytes) Trailing (omega arith, refl))
+
+-- the one payload, by what stands there
+payload_cases : (n : ℕ) (bytes : List ℕ) (P : Result (List ℕ) FrameFault → Type 0) → IsBytes bytes
+    → (length bytes ≡ n → P (Ok bytes)) → ((e : FrameFault) → FirstFaultOf (λ before. payload_field (n ∷ before)) bytes e → P (Err e)) → P (payload_at n bytes)
+payload_cases n bytes P fits ok err =
+    let fields : List ℕ → Field = λ before. payload_field (n ∷ before) in
+    run_cases n bytes (λ run. end_at run.1 >>= λ end. Ok run.0) P fits
+    (λ run r. end_cases run.1 (λ end. Ok run.0) P
+    (λ nothing.
+    let all : bytes ≡ run.0 = r.parts ∙ ap (λ (t : List ℕ). run.0 ++ t) nothing ∙ append-nil run.0 in
+    subst (λ (t : List ℕ). P (Ok t)) all (ok (ap length all ∙ r.whole)))
+    (λ e f. err e (fault_later fields n run.0 run.1 bytes e (r.whole, refl) r.parts f)))
+    (λ e wrong. err e (fault_here fields bytes e wrong))
 
 -- ---- a cast frame
 
@@ -135,16 +148,16 @@ head bytes group sender number count g s n k = record {
       (Opens-one number.0 _ n.text number.1 sender.1 end n.spelled n.parts
       (Opens-one count.0 ns k.text count.1 number.1 end k.spelled k.parts o)));
   later = λ e f.
-      fault_later cast_field group.0 g.text group.1 bytes e g.kept g.spelled g.parts
-      (fault_later _ sender.0 s.text sender.1 group.1 e s.kept s.spelled s.parts
-      (fault_later _ number.0 n.text number.1 sender.1 e n.kept n.spelled n.parts
-      (fault_later _ count.0 k.text count.1 number.1 e k.kept k.spelled k.parts f)));
+      fault_later cast_field group.0 g.text group.1 bytes e (g.spelled, g.kept) g.parts
+      (fault_later _ sender.0 s.text sender.1 group.1 e (s.spelled, s.kept) s.parts
+      (fault_later _ number.0 n.text number.1 sender.1 e (n.spelled, n.kept) n.parts
+      (fault_later _ count.0 k.text count.1 number.1 e (k.spelled, k.kept) k.parts f)));
   rest_fits = k.rest_fits;
 }
 
 -- the frame that was read, where its payload is all of the rest
 whole_cast : (bytes : List ℕ) (group sender number count : ℕ) (rest : List ℕ) (changes : List Change) (after : List ℕ) (size : ℕ) (payload : List ℕ)
-    → Head bytes group sender number count rest → PairsRead (change_pairs sender) payload_field count 0 rest changes after → Found length_rule after size payload → length payload ≡ size
+    → Head bytes group sender number count rest → PairsRead (change_pairs sender) payload_field count 0 rest changes after → Found (length_rule 0) after size payload → length payload ≡ size
     → IsCastText (record { group = group; sender = sender; number = number; changes = changes; payload = payload }) bytes
 whole_cast bytes group sender number count rest changes after size payload h d l whole =
     let are = are_changes sender 0 changes d.numbers d.says in
@@ -154,18 +167,19 @@ whole_cast bytes group sender number count rest changes after size payload h d l
     let numbers : SpellAll (group ∷ sender ∷ number ∷ length changes ∷ (pairs_from 0 changes ++ length payload ∷ [])) o.text =
     rw (d.count_is, whole) o.spelled in (
       record { sender = h.sender_kept; number = h.number_kept; changes = are.0 },
-      omega (arith, whole, length_kept size l.kept),
+      omega (arith, whole, length_kept 0 size l.kept),
       (o.text, numbers, o.parts),
     )
 
 -- the rest of a cast frame behind its changes
 cast_tail : (bytes : List ℕ) (group sender number count : ℕ) (rest : List ℕ) (changes : List Change) (after : List ℕ) → Head bytes group sender number count rest → PairsRead (change_pairs sender) payload_field count 0 rest changes after
-    → CastOutcome bytes (field_at length_rule after >>= λ size. payload_at size.0 size.1 >>= λ payload. Ok (record { group = group; sender = sender; number = number; changes = changes; payload = payload }))
+    → CastOutcome bytes (field_at (length_rule 0) after >>= λ size. payload_at size.0 size.1 >>= λ payload. Ok (record { group = group; sender = sender; number = number; changes = changes; payload = payload }))
 cast_tail bytes group sender number count rest changes after h d =
-    field_cases length_rule after (λ size. payload_at size.0 size.1 >>= λ payload. Ok (record { group = group; sender = sender; number = number; changes = changes; payload = payload })) (CastOutcome bytes) d.rest_fits
-    (λ size l. payload_outcome size.0 size.1 (λ r. CastOutcome bytes (r >>= λ payload. Ok (record { group = group; sender = sender; number = number; changes = changes; payload = payload })))
+    field_cases (length_rule 0) after (λ size. payload_at size.0 size.1 >>= λ payload. Ok (record { group = group; sender = sender; number = number; changes = changes; payload = payload })) (CastOutcome bytes) d.rest_fits
+    (λ size l. payload_cases size.0 size.1 (λ r. CastOutcome bytes (r >>= λ payload. Ok (record { group = group; sender = sender; number = number; changes = changes; payload = payload })))
+    l.rest_fits
     (λ whole. whole_cast bytes group sender number count rest changes after size.0 size.1 h d l whole)
-    (λ e wrong. h.later e (d.through e (fault_later payload_field size.0 l.text size.1 after e l.kept l.spelled l.parts (fault_here _ size.1 e wrong)))))
+    (λ e f. h.later e (d.through e (fault_later payload_field size.0 l.text size.1 after e (l.spelled, l.kept) l.parts f))))
     (λ e wrong. h.later e (d.through e (fault_here payload_field after e wrong)))
 
 pub cast_outcome : (bytes : List ℕ) → IsBytes bytes → CastOutcome bytes (cast_at bytes)
@@ -173,10 +187,10 @@ unfolding cast_at
 cast_outcome bytes fits =
     field_cases any_number bytes _ (CastOutcome bytes) fits
     (λ group g.
-    let at_group : (e : FrameFault) → FirstFaultOf (λ before. cast_field (group.0 ∷ before)) group.1 e → FirstFaultOf cast_field bytes e = λ e f. fault_later cast_field group.0 g.text group.1 bytes e g.kept g.spelled g.parts f in
+    let at_group : (e : FrameFault) → FirstFaultOf (λ before. cast_field (group.0 ∷ before)) group.1 e → FirstFaultOf cast_field bytes e = λ e f. fault_later cast_field group.0 g.text group.1 bytes e (g.spelled, g.kept) g.parts f in
     field_cases member_rule group.1 _ (CastOutcome bytes) g.rest_fits
     (λ sender s.
-    let at_sender : (e : FrameFault) → FirstFaultOf (λ before. cast_field (group.0 ∷ sender.0 ∷ before)) sender.1 e → FirstFaultOf cast_field bytes e = λ e f. at_group e (fault_later _ sender.0 s.text sender.1 group.1 e s.kept s.spelled s.parts f) in
+    let at_sender : (e : FrameFault) → FirstFaultOf (λ before. cast_field (group.0 ∷ sender.0 ∷ before)) sender.1 e → FirstFaultOf cast_field bytes e = λ e f. at_group e (fault_later _ sender.0 s.text sender.1 group.1 e (s.spelled, s.kept) s.parts f) in
     field_cases message_rule sender.1 _ (CastOutcome bytes) s.rest_fits
     (λ number n.
     field_cases any_number number.1 _ (CastOutcome bytes) n.rest_fits
@@ -185,7 +199,7 @@ cast_outcome bytes fits =
     pairs_cases (change_pairs sender.0) payload_field count.0 0 count.1 _ (CastOutcome bytes) k.rest_fits
     (λ changes d. cast_tail bytes group.0 sender.0 number.0 count.0 count.1 changes.0 changes.1 h d)
     (λ fault f. h.later fault f))
-    (λ e wrong. at_sender e (fault_later _ number.0 n.text number.1 sender.1 e n.kept n.spelled n.parts (fault_here _ number.1 e wrong))))
+    (λ e wrong. at_sender e (fault_later _ number.0 n.text number.1 sender.1 e (n.spelled, n.kept) n.parts (fault_here _ number.1 e wrong))))
     (λ e wrong. at_sender e (fault_here _ sender.1 e wrong)))
     (λ e wrong. at_group e (fault_here _ group.1 e wrong)))
     (λ e wrong. fault_here cast_field bytes e wrong)
@@ -208,13 +222,13 @@ unfolding status_at
 status_outcome bytes fits =
     field_cases any_number bytes _ (StatusOutcome bytes) fits
     (λ group g.
-    let at_group : (e : FrameFault) → FirstFaultOf (λ before. status_field (group.0 ∷ before)) group.1 e → FirstFaultOf status_field bytes e = λ e f. fault_later status_field group.0 g.text group.1 bytes e g.kept g.spelled g.parts f in
+    let at_group : (e : FrameFault) → FirstFaultOf (λ before. status_field (group.0 ∷ before)) group.1 e → FirstFaultOf status_field bytes e = λ e f. fault_later status_field group.0 g.text group.1 bytes e (g.spelled, g.kept) g.parts f in
     field_cases member_rule group.1 _ (StatusOutcome bytes) g.rest_fits
     (λ sender s.
-    let at_sender : (e : FrameFault) → FirstFaultOf (λ before. status_field (group.0 ∷ sender.0 ∷ before)) sender.1 e → FirstFaultOf status_field bytes e = λ e f. at_group e (fault_later _ sender.0 s.text sender.1 group.1 e s.kept s.spelled s.parts f) in
+    let at_sender : (e : FrameFault) → FirstFaultOf (λ before. status_field (group.0 ∷ sender.0 ∷ before)) sender.1 e → FirstFaultOf status_field bytes e = λ e f. at_group e (fault_later _ sender.0 s.text sender.1 group.1 e (s.spelled, s.kept) s.parts f) in
     field_cases any_number sender.1 _ (StatusOutcome bytes) s.rest_fits
     (λ count k.
-    let at_count : (e : FrameFault) → FirstFaultOf (pairs_field value_pairs end_field count.0 0) count.1 e → FirstFaultOf status_field bytes e = λ e f. at_sender e (fault_later _ count.0 k.text count.1 sender.1 e k.kept k.spelled k.parts f) in
+    let at_count : (e : FrameFault) → FirstFaultOf (pairs_field value_pairs end_field count.0 0) count.1 e → FirstFaultOf status_field bytes e = λ e f. at_sender e (fault_later _ count.0 k.text count.1 sender.1 e (k.spelled, k.kept) k.parts f) in
     pairs_cases value_pairs end_field count.0 0 count.1 _ (StatusOutcome bytes) k.rest_fits
     (λ values d.
     end_cases values.1 _ (StatusOutcome bytes)
@@ -245,16 +259,16 @@ unfolding request_at
 request_outcome bytes fits =
     field_cases any_number bytes _ (RequestOutcome bytes) fits
     (λ group g.
-    let at_group : (e : FrameFault) → FirstFaultOf (λ before. request_field (group.0 ∷ before)) group.1 e → FirstFaultOf request_field bytes e = λ e f. fault_later request_field group.0 g.text group.1 bytes e g.kept g.spelled g.parts f in
+    let at_group : (e : FrameFault) → FirstFaultOf (λ before. request_field (group.0 ∷ before)) group.1 e → FirstFaultOf request_field bytes e = λ e f. fault_later request_field group.0 g.text group.1 bytes e (g.spelled, g.kept) g.parts f in
     field_cases member_rule group.1 _ (RequestOutcome bytes) g.rest_fits
     (λ requester q.
-    let at_requester : (e : FrameFault) → FirstFaultOf (λ before. request_field (group.0 ∷ requester.0 ∷ before)) requester.1 e → FirstFaultOf request_field bytes e = λ e f. at_group e (fault_later _ requester.0 q.text requester.1 group.1 e q.kept q.spelled q.parts f) in
+    let at_requester : (e : FrameFault) → FirstFaultOf (λ before. request_field (group.0 ∷ requester.0 ∷ before)) requester.1 e → FirstFaultOf request_field bytes e = λ e f. at_group e (fault_later _ requester.0 q.text requester.1 group.1 e (q.spelled, q.kept) q.parts f) in
     field_cases member_rule requester.1 _ (RequestOutcome bytes) q.rest_fits
     (λ asked a.
-    let at_asked : (e : FrameFault) → FirstFaultOf (λ before. request_field (group.0 ∷ requester.0 ∷ asked.0 ∷ before)) asked.1 e → FirstFaultOf request_field bytes e = λ e f. at_requester e (fault_later _ asked.0 a.text asked.1 requester.1 e a.kept a.spelled a.parts f) in
+    let at_asked : (e : FrameFault) → FirstFaultOf (λ before. request_field (group.0 ∷ requester.0 ∷ asked.0 ∷ before)) asked.1 e → FirstFaultOf request_field bytes e = λ e f. at_requester e (fault_later _ asked.0 a.text asked.1 requester.1 e (a.spelled, a.kept) a.parts f) in
     field_cases ranges_rule asked.1 _ (RequestOutcome bytes) a.rest_fits
     (λ count k.
-    let at_count : (e : FrameFault) → FirstFaultOf (pairs_field range_pairs end_field count.0 1) count.1 e → FirstFaultOf request_field bytes e = λ e f. at_asked e (fault_later _ count.0 k.text count.1 asked.1 e k.kept k.spelled k.parts f) in
+    let at_count : (e : FrameFault) → FirstFaultOf (pairs_field range_pairs end_field count.0 1) count.1 e → FirstFaultOf request_field bytes e = λ e f. at_asked e (fault_later _ count.0 k.text count.1 asked.1 e (k.spelled, k.kept) k.parts f) in
     pairs_cases range_pairs end_field count.0 1 count.1 _ (RequestOutcome bytes) k.rest_fits
     (λ ranges d.
     end_cases ranges.1 _ (RequestOutcome bytes)

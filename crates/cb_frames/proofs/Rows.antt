@@ -1,10 +1,13 @@
 -- The worked frames, and bytes that are none.
-use Rattle.std.proofs.Common.{◌≡◌, [], ◌∷◌, Ok, Err, refl}
+use Rattle.std.proofs.Common.{◌≡◌, ℕ, List, [], ◌∷◌, Some, None, Ok, Err, refl, arith, inl}
+use Rattle.cb_varint.specs.declared.fault.NumberFault.TheVariants as numbers
+use Rattle.cb_varint.specs.Spelling.{Spells}
 use Rattle.cb_frames.specs.declared.fault.FrameFault.TheVariants as faults
 use Rattle.cb_frames.specs.Fields.{CastFields, StatusFields, RequestFields, CastFrame, StatusFrame, RequestFrame}
 use Rattle.cb_varint.specs.Reading.{number_at, spelling}
-use Rattle.cb_frames.specs.Reading.{frame_at, cast_at, status_at, request_at, pairs_at, pair_at}
+use Rattle.cb_frames.specs.Reading.{run_at, payload_at, frame_at, cast_at, status_at, request_at, pairs_at, pair_at}
 use Rattle.cb_frames.specs.Text.{text_of}
+use Rattle.cb_frames.specs.Fault.{Field, Number, Run, End, length_rule, cast_field, status_field, request_field, FirstFaultOf}
 
 -- the first cast of member 0 of group 7, "hi"
 abbrev hi : CastFields
@@ -127,3 +130,94 @@ a_value_of_nothing = refl
 a_byte_behind_a_status : frame_at (0x12 ∷ 7 ∷ 2 ∷ 0 ∷ 0 ∷ []) ≡ Err faults.Trailing
 unfolding frame_at cast_at status_at request_at pairs_at pair_at number_at
 a_byte_behind_a_status = refl
+
+-- ---- which field follows
+
+a_length_behind_the_changes : cast_field (7 ∷ 1 ∷ 1 ∷ 1 ∷ 0 ∷ 3 ∷ []) ≡ Number (length_rule 0)
+a_length_behind_the_changes = refl
+
+as_many_bytes_as_it_says : cast_field (7 ∷ 0 ∷ 1 ∷ 0 ∷ 2 ∷ []) ≡ Run 2
+as_many_bytes_as_it_says = refl
+
+nothing_behind_a_payload : cast_field (7 ∷ 0 ∷ 1 ∷ 0 ∷ 2 ∷ 2 ∷ []) ≡ End
+nothing_behind_a_payload = refl
+
+nothing_behind_the_values : status_field (7 ∷ 2 ∷ 1 ∷ 0 ∷ 3 ∷ []) ≡ End
+nothing_behind_the_values = refl
+
+nothing_behind_the_ranges : request_field (7 ∷ 2 ∷ 0 ∷ 1 ∷ 1 ∷ 1 ∷ []) ≡ End
+nothing_behind_the_ranges = refl
+
+the_longest_payload : length_rule 0 1024 ≡ None
+the_longest_payload = refl
+
+a_longer_payload : length_rule 0 1025 ≡ Some faults.PayloadTooLong
+a_longer_payload = refl
+
+as_long_together : length_rule 1000 24 ≡ None
+as_long_together = refl
+
+longer_together : length_rule 1000 25 ≡ Some faults.PayloadTooLong
+longer_together = refl
+
+-- ---- runs, and what stands behind them
+
+a_run_and_more : run_at 2 (0x68 ∷ 0x69 ∷ 7 ∷ []) ≡ Ok (0x68 ∷ 0x69 ∷ [], 7 ∷ [])
+a_run_and_more = refl
+
+a_run_of_nothing : run_at 0 (7 ∷ []) ≡ Ok ([], 7 ∷ [])
+a_run_of_nothing = refl
+
+a_run_that_lacks_a_byte : run_at 2 (0x68 ∷ []) ≡ Err faults.Short
+a_run_that_lacks_a_byte = refl
+
+a_payload_and_no_more : payload_at 2 (0x68 ∷ 0x69 ∷ []) ≡ Ok (0x68 ∷ 0x69 ∷ [])
+a_payload_and_no_more = refl
+
+a_payload_and_more : payload_at 2 (0x68 ∷ 0x69 ∷ 7 ∷ []) ≡ Err faults.Trailing
+a_payload_and_more = refl
+
+-- two runs, each behind its length
+
+abbrev two_runs : List ℕ → Field
+two_runs [] = Number (length_rule 0)
+two_runs (n ∷ []) = Run n
+two_runs (n ∷ run ∷ []) = Number (length_rule run)
+two_runs (n ∷ run ∷ m ∷ []) = Run m
+two_runs (n ∷ run ∷ m ∷ other ∷ more) = End
+
+one : Spells (1 ∷ []) 1
+one = record { front = []; last = 1; parts = refl; more = tt; ends = omega arith; at_most_five = omega arith; shortest = λ h. absurd (omega (arith, h)); worth = refl; fits = omega arith }
+
+two : Spells (2 ∷ []) 2
+two = record { front = []; last = 2; parts = refl; more = tt; ends = omega arith; at_most_five = omega arith; shortest = λ h. absurd (omega (arith, h)); worth = refl; fits = omega arith }
+
+-- the first run lacks a byte
+the_first_is_short : FirstFaultOf two_runs (2 ∷ 0x68 ∷ []) faults.Short
+the_first_is_short = record { values = 2 ∷ []; rest = 0x68 ∷ []; good = (2 ∷ [], 0x68 ∷ [], (two, refl), refl, refl); wrong = (omega arith, refl) }
+
+-- the second one lacks a byte; the byte of the first is no length
+the_second_is_short : FirstFaultOf two_runs (1 ∷ 2 ∷ 2 ∷ 1 ∷ []) faults.Short
+the_second_is_short = record {
+  values = 1 ∷ 1 ∷ 2 ∷ [];
+  rest = 1 ∷ [];
+  good = (1 ∷ [], 2 ∷ 2 ∷ 1 ∷ [], (one, refl), refl, (2 ∷ [], 2 ∷ 1 ∷ [], (refl, refl), refl, (2 ∷ [], 1 ∷ [], (two, refl), refl, refl)));
+  wrong = (omega arith, refl);
+}
+
+-- behind the first stands no length
+no_second_length : FirstFaultOf two_runs (1 ∷ 0x68 ∷ []) faults.Short
+no_second_length = record {
+  values = 1 ∷ 1 ∷ [];
+  rest = [];
+  good = (1 ∷ [], 0x68 ∷ [], (one, refl), refl, (0x68 ∷ [], [], (refl, refl), refl, refl));
+  wrong = inl (numbers.Short, (omega arith, tt), refl);
+}
+
+a_byte_behind_both : FirstFaultOf two_runs (1 ∷ 0x68 ∷ 1 ∷ 0x69 ∷ 0 ∷ []) faults.Trailing
+a_byte_behind_both = record {
+  values = 1 ∷ 1 ∷ 1 ∷ 1 ∷ [];
+  rest = 0 ∷ [];
+  good = (1 ∷ [], 0x68 ∷ 1 ∷ 0x69 ∷ 0 ∷ [], (one, refl), refl, (0x68 ∷ [], 1 ∷ 0x69 ∷ 0 ∷ [], (refl, refl), refl, (1 ∷ [], 0x69 ∷ 0 ∷ [], (one, refl), refl, (0x69 ∷ [], 0 ∷ [], (refl, refl), refl, refl))));
+  wrong = (omega arith, refl);
+}

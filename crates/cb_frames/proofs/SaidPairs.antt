@@ -29,8 +29,8 @@ amount_kept n h =
     let ne = eqb-false n 0 (kept_test (eqb n 0) ZeroDifference None h).0 in
     omega (arith, ne)
 
-pub length_kept : (n : ℕ) → length_rule n ≡ None → n ≤ LONGEST_PAYLOAD
-length_kept n h = ltb-false LONGEST_PAYLOAD n (kept_test (ltb LONGEST_PAYLOAD n) PayloadTooLong None h).0
+pub length_kept : (before n : ℕ) → length_rule before n ≡ None → before + n ≤ LONGEST_PAYLOAD
+length_kept before n h = ltb-false LONGEST_PAYLOAD (before + n) (kept_test (ltb LONGEST_PAYLOAD (before + n)) PayloadTooLong None h).0
 
 pub ranges_kept : (n : ℕ) → ranges_rule n ≡ None → (1 ≤ n) × (n ≤ MOST_RANGES)
 ranges_kept n h =
@@ -62,8 +62,8 @@ keeps_message n h = cond-false (eqb n 0) (Some ZeroNumber) None (ne_eqb n 0 (λ 
 keeps_amount : (n : ℕ) → 1 ≤ n → amount_rule n ≡ None
 keeps_amount n h = cond-false (eqb n 0) (Some ZeroDifference) None (ne_eqb n 0 (λ e. omega (arith, e, h)))
 
-pub keeps_length : (n : ℕ) → n ≤ LONGEST_PAYLOAD → length_rule n ≡ None
-keeps_length n h = cond-false (ltb LONGEST_PAYLOAD n) (Some PayloadTooLong) None (le-ltb LONGEST_PAYLOAD n h)
+pub keeps_length : (before n : ℕ) → before + n ≤ LONGEST_PAYLOAD → length_rule before n ≡ None
+keeps_length before n h = cond-false (ltb LONGEST_PAYLOAD (before + n)) (Some PayloadTooLong) None (le-ltb LONGEST_PAYLOAD (before + n) h)
 
 pub keeps_ranges : (n : ℕ) → 1 ≤ n → n ≤ MOST_RANGES → ranges_rule n ≡ None
 keeps_ranges n some few = rw (ne_eqb n 0 (λ e. omega (arith, e, some)), le-ltb MOST_RANGES n few) refl

@@ -1,7 +1,7 @@
 -- Bytes are the text of one frame, or have one first fault.
-use Rattle.std.proofs.Common.{◌≡◌, ℕ, suc, ◌+◌, ◌<◌, ◌≤◌, ◌^◌, List, [], ◌∷◌, ◌++◌, length, Option, Some, None, MatchOption, Ok, Err, refl, sym, ap, subst, ◌∙◌, arith, inl, inr, append_assoc}
+use Rattle.std.proofs.Common.{◌≡◌, ℕ, suc, ◌+◌, ◌<◌, ◌≤◌, ◌^◌, List, [], ◌∷◌, ◌++◌, length, drop, Option, Some, None, MatchOption, Ok, Err, refl, sym, ap, subst, ◌∙◌, arith, inl, inr, append_assoc}
 use Rattle.std.specs.List.{AllByRecursion, flat_map}
-use Rattle.std.proofs.lemmas.List.{append-nil, length-append, nil_from_length}
+use Rattle.std.proofs.lemmas.List.{append-nil, length-append, drop_at}
 use Rattle.cb_varint.specs.declared.fault.NumberFault.{NumberFault}
 use Rattle.cb_varint.specs.Spelling.{Spells, IsFault}
 use Rattle.cb_varint.specs.Reading.{number_at as number_and_length, spelling}
@@ -15,7 +15,7 @@ use Rattle.cb_frames.specs.declared.fault.FrameFault.TheVariants.{UnknownKind}
 use Rattle.cb_frames.specs.NumberFaults.{as_frame_fault}
 use Rattle.cb_frames.specs.Fields.{CastFields, StatusFields, RequestFields, CastFrame, StatusFrame, RequestFrame}
 use Rattle.cb_frames.specs.Text.{cast_kind, status_kind, request_kind, SpellAll, pairs_from, ranges_from, cast_numbers, status_numbers, request_numbers, KeepsCastRules, KeepsStatusRules, KeepsRequestRules, text_of}
-use Rattle.cb_frames.specs.Fault.{Field, Number, Payload, Pairs, change_pairs, value_pairs, range_pairs, pairs_field, payload_field, end_field, cast_field, status_field, request_field, kind_fields, Accepts, Follows, IsWrong, FirstFaultOf, FirstFault}
+use Rattle.cb_frames.specs.Fault.{Field, Number, Run, End, Pairs, change_pairs, value_pairs, range_pairs, pairs_field, payload_field, end_field, cast_field, status_field, request_field, kind_fields, Accepts, Follows, IsWrong, FirstFaultOf, FirstFault}
 use Rattle.cb_frames.proofs.SaidPairs.{keeps_member, keeps_message, keeps_length, keeps_ranges, Says, says_changes, says_values, says_ranges, says_one}
 use Rattle.cb_frames.specs.Laws.{NoneBeginsAnother, OneText, SomeText, OneFault, TextHasNoFault}
 
@@ -33,35 +33,44 @@ one_fault bytes e d p q =
     let b : number_and_length bytes ≡ Err d = fault_is_answered bytes d q in
     cc
 
--- ---- the values at the front of bytes
+-- ---- what stands at the front of bytes
 
--- no number that the field takes stands at the front
+-- a field that stands there was read as one thing, and one rest follows
+one_way : (field : Field) (text other more rest : List ℕ) (v w : ℕ) → Accepts field text v → Accepts field other w → text ++ more ≡ other ++ rest → (v ≡ w) × (more ≡ rest)
+one_way (Number rule) text other more rest v w a b e =
+    let same = apart text other more rest v w a.0 b.0 e in
+    (same.1, same.2)
+one_way (Run size) text other more rest v w a b e = (a.1 ∙ sym b.1, sym (drop_at text more size a.0) ∙ ap (drop size) e ∙ drop_at other rest size b.0)
+one_way End text other more rest v w a b e = absurd a
+
+-- no text of the field stands at the front
 abbrev IsStuck : Field → List ℕ → Type 0
-IsStuck field bytes = (text more : List ℕ) (n : ℕ) → Accepts field n → Spells text n → bytes ≡ text ++ more → ⊥
+IsStuck field bytes = (text more : List ℕ) (n : ℕ) → Accepts field text n → bytes ≡ text ++ more → ⊥
 
-stuck_at_payload : (size : ℕ) (bytes : List ℕ) → IsStuck (Payload size) bytes
-stuck_at_payload size bytes text more n accepts spelled parts = accepts
+stuck_at_end : (bytes : List ℕ) → IsStuck End bytes
+stuck_at_end bytes text more n accepts parts = accepts
 
 stuck_if_wrong : (field : Field) (bytes : List ℕ) (e : FrameFault) → IsWrong field bytes e → IsStuck field bytes
-stuck_if_wrong (Number rule) bytes e (inl w) text more n accepts spelled parts = not_both bytes text more n w.0 w.1 spelled parts
-stuck_if_wrong (Number rule) bytes e (inr w) text more n accepts spelled parts =
-    let same = apart w.0 text w.1 more w.2 n w.3 spelled (sym w.4 ∙ parts) in
-    let kept : rule w.2 ≡ None = ap rule same.1 ∙ accepts in
+stuck_if_wrong (Number rule) bytes e (inl w) text more n accepts parts = not_both bytes text more n w.0 w.1 accepts.0 parts
+stuck_if_wrong (Number rule) bytes e (inr w) text more n accepts parts =
+    let same = apart w.0 text w.1 more w.2 n w.3 accepts.0 (sym w.4 ∙ parts) in
+    let kept : rule w.2 ≡ None = ap rule same.1 ∙ accepts.1 in
     let broken : rule w.2 ≡ Some e = w.5 in
     cc
-stuck_if_wrong (Payload size) bytes e w text more n accepts spelled parts = accepts
+stuck_if_wrong (Run size) bytes e w text more n accepts parts = omega (arith, w.0, accepts.0, ap length parts, length-append text more)
+stuck_if_wrong End bytes e w text more n accepts parts = accepts
 
 -- good fields go on as far as they can in one way only
 same_values : (fields : List ℕ → Field) (vs ws bytes rest end : List ℕ) → Follows fields vs bytes rest → IsStuck (fields vs) rest → Follows fields ws bytes end → IsStuck (fields ws) end → (vs ≡ ws) × (rest ≡ end)
 same_values fields [] [] bytes rest end f stuck g stuck' = (refl, sym f ∙ g)
-same_values fields [] (w ∷ ws) bytes rest end f stuck g stuck' = absurd (stuck g.1.0 g.1.1 w g.0 g.1.2 (sym f ∙ g.1.3))
-same_values fields (v ∷ vs) [] bytes rest end f stuck g stuck' = absurd (stuck' f.1.0 f.1.1 v f.0 f.1.2 (sym g ∙ f.1.3))
+same_values fields [] (w ∷ ws) bytes rest end f stuck g stuck' = absurd (stuck g.0 g.1 w g.2 (sym f ∙ g.3))
+same_values fields (v ∷ vs) [] bytes rest end f stuck g stuck' = absurd (stuck' f.0 f.1 v f.2 (sym g ∙ f.3))
 same_values fields (v ∷ vs) (w ∷ ws) bytes rest end f stuck g stuck' =
-    let same = apart f.1.0 g.1.0 f.1.1 g.1.1 v w f.1.2 g.1.2 (sym f.1.3 ∙ g.1.3) in
-    let follows : Follows (λ before. fields (v ∷ before)) ws f.1.1 end = subst (λ (n : ℕ). Follows (λ before. fields (n ∷ before)) ws f.1.1 end) (sym same.1) (subst (λ (t : List ℕ). Follows (λ before. fields (w ∷ before)) ws t end) (sym same.2) g.1.4) in
-    let end_stuck : IsStuck (fields (v ∷ ws)) end = subst (λ (n : ℕ). IsStuck (fields (n ∷ ws)) end) (sym same.1) stuck' in
-    let tail = same_values (λ before. fields (v ∷ before)) vs ws f.1.1 rest end f.1.4 stuck follows end_stuck in
-    (ap (λ (n : ℕ). n ∷ vs) same.1 ∙ ap (λ (ns : List ℕ). w ∷ ns) tail.0, tail.1)
+    let same = one_way (fields []) f.0 g.0 f.1 g.1 v w f.2 g.2 (sym f.3 ∙ g.3) in
+    let follows : Follows (λ before. fields (v ∷ before)) ws f.1 end = subst (λ (n : ℕ). Follows (λ before. fields (n ∷ before)) ws f.1 end) (sym same.0) (subst (λ (t : List ℕ). Follows (λ before. fields (w ∷ before)) ws t end) (sym same.1) g.4) in
+    let end_stuck : IsStuck (fields (v ∷ ws)) end = subst (λ (n : ℕ). IsStuck (fields (n ∷ ws)) end) (sym same.0) stuck' in
+    let tail = same_values (λ before. fields (v ∷ before)) vs ws f.1 rest end f.4 stuck follows end_stuck in
+    (ap (λ (n : ℕ). n ∷ vs) same.0 ∙ ap (λ (ns : List ℕ). w ∷ ns) tail.0, tail.1)
 
 wrong_once : (field : Field) (bytes : List ℕ) (e d : FrameFault) → IsWrong field bytes e → IsWrong field bytes d → e ≡ d
 wrong_once (Number rule) bytes e d (inl a) (inl b) = a.2 ∙ ap as_frame_fault (one_fault bytes a.0 b.0 a.1 b.1) ∙ sym b.2
@@ -72,10 +81,8 @@ wrong_once (Number rule) bytes e d (inr a) (inr b) =
     let one : rule b.2 ≡ Some e = ap rule (sym same.1) ∙ a.5 in
     let two : rule b.2 ≡ Some d = b.5 in
     cc
-wrong_once (Payload size) bytes e d (inl a) (inl b) = a.1 ∙ sym b.1
-wrong_once (Payload size) bytes e d (inl a) (inr b) = absurd (omega (arith, a.0, b.0))
-wrong_once (Payload size) bytes e d (inr a) (inl b) = absurd (omega (arith, a.0, b.0))
-wrong_once (Payload size) bytes e d (inr a) (inr b) = a.1 ∙ sym b.1
+wrong_once (Run size) bytes e d a b = a.1 ∙ sym b.1
+wrong_once End bytes e d a b = a.1 ∙ sym b.1
 
 one_fault_of : (fields : List ℕ → Field) (bytes : List ℕ) (e d : FrameFault) → FirstFaultOf fields bytes e → FirstFaultOf fields bytes d → e ≡ d
 one_fault_of fields bytes e d a b =
@@ -85,111 +92,106 @@ one_fault_of fields bytes e d a b =
 
 -- ---- whole texts
 
--- the values are all the number fields, and the payload that they announce is all of the rest
-record IsWhole (fields : List ℕ → Field) (values bytes payload : List ℕ) : Type 0 where
-  follows : Follows fields values bytes payload
-  ends : fields values ≡ Payload (length payload)
+-- good fields are all of the bytes, and the end follows them
+record IsWhole (fields : List ℕ → Field) (values bytes : List ℕ) : Type 0 where
+  follows : Follows fields values bytes []
+  ends : fields values ≡ End
 
-whole_stuck : (fields : List ℕ → Field) (values bytes payload : List ℕ) → IsWhole fields values bytes payload → IsStuck (fields values) payload
-whole_stuck fields values bytes payload w = subst (λ (f : Field). IsStuck f payload) (sym w.ends) (stuck_at_payload (length payload) payload)
+whole_stuck : (fields : List ℕ → Field) (values bytes rest : List ℕ) → IsWhole fields values bytes → IsStuck (fields values) rest
+whole_stuck fields values bytes rest w = subst (λ (f : Field). IsStuck f rest) (sym w.ends) (stuck_at_end rest)
 
-whole_has_no_fault : (fields : List ℕ → Field) (values bytes payload : List ℕ) (e : FrameFault) → IsWhole fields values bytes payload → FirstFaultOf fields bytes e → ⊥
-whole_has_no_fault fields values bytes payload e w f =
-    let same = same_values fields values f.values bytes payload f.rest w.follows (whole_stuck fields values bytes payload w) f.good (stuck_if_wrong _ f.rest e f.wrong) in
-    let wrong : IsWrong (fields values) payload e = subst (λ (t : List ℕ). IsWrong (fields values) t e) (sym same.1) (subst (λ (vs : List ℕ). IsWrong (fields vs) f.rest e) (sym same.0) f.wrong) in
-    let at_payload : IsWrong (Payload (length payload)) payload e = subst (λ (g : Field). IsWrong g payload e) w.ends wrong in
-    elim at_payload [ inl less ↦ absurd (omega (arith, less.0)) | inr more ↦ absurd (omega (arith, more.0)) ]
+whole_has_no_fault : (fields : List ℕ → Field) (values bytes : List ℕ) (e : FrameFault) → IsWhole fields values bytes → FirstFaultOf fields bytes e → ⊥
+whole_has_no_fault fields values bytes e w f =
+    let same = same_values fields values f.values bytes [] f.rest w.follows (whole_stuck fields values bytes [] w) f.good (stuck_if_wrong _ f.rest e f.wrong) in
+    let wrong : IsWrong (fields values) [] e = subst (λ (t : List ℕ). IsWrong (fields values) t e) (sym same.1) (subst (λ (vs : List ℕ). IsWrong (fields vs) f.rest e) (sym same.0) f.wrong) in
+    let at_end : IsWrong End [] e = subst (λ (g : Field). IsWrong g [] e) w.ends wrong in
+    omega (arith, at_end.0)
 
--- more bytes behind the payload change nothing before it
+-- more bytes behind change nothing before
 follows_longer : (fields : List ℕ → Field) (values bytes rest more : List ℕ) → Follows fields values bytes rest → Follows fields values (bytes ++ more) (rest ++ more)
 follows_longer fields [] bytes rest more f = ap (λ (t : List ℕ). t ++ more) f
 follows_longer fields (v ∷ vs) bytes rest more f =
-    (f.0, (f.1.0, f.1.1 ++ more, f.1.2, ap (λ (t : List ℕ). t ++ more) f.1.3 ∙ append_assoc f.1.0 f.1.1 more, follows_longer (λ before. fields (v ∷ before)) vs f.1.1 rest more f.1.4))
-
--- ---- a frame's numbers are good fields
-
--- the values of the pairs, and then those behind them
-pairs_whole : {A : Type 0} (p : Pairs A) (behind : List ℕ → Field) (least : ℕ) (ds : List A) (numbers tail text payload : List ℕ) → Says p least ds numbers → SpellAll (numbers ++ tail) text
-    → ((rest : List ℕ) → SpellAll tail rest → IsWhole behind tail (rest ++ payload) payload)
-    → IsWhole (pairs_field p behind (length ds) least) (numbers ++ tail) (text ++ payload) payload
-pairs_whole p behind least [] numbers tail text payload says spelled whole =
-    let none : numbers ++ tail ≡ tail = ap (λ (ns : List ℕ). ns ++ tail) says in
-    subst (λ (ns : List ℕ). IsWhole behind ns (text ++ payload) payload) (sym none) (whole text (subst (λ (ns : List ℕ). SpellAll ns text) none spelled))
-pairs_whole p behind least (d ∷ ds) numbers tail text payload says spelled whole =
-    let here : numbers ++ tail ≡ says.0 ∷ says.1 ∷ (says.2 ++ tail) = ap (λ (ns : List ℕ). ns ++ tail) says.4 in
-    let first : SpellAll (says.0 ∷ says.1 ∷ (says.2 ++ tail)) text = subst (λ (ns : List ℕ). SpellAll ns text) here spelled in
-    let second = first.3 in
-    let others = pairs_whole p behind (p.next (least + says.0) says.1) ds says.2 tail second.1 payload says.5 second.3 whole in
-    let all : IsWhole (pairs_field p behind (suc (length ds)) least) (says.0 ∷ says.1 ∷ (says.2 ++ tail)) (text ++ payload) payload = record {
-      follows = (
-        says.3.first,
-        (
-          first.0,
-          first.1 ++ payload,
-          first.2,
-          ap (λ (t : List ℕ). t ++ payload) first.4 ∙ append_assoc first.0 first.1 payload,
-          (says.3.second, (second.0, second.1 ++ payload, second.2, ap (λ (t : List ℕ). t ++ payload) second.4 ∙ append_assoc second.0 second.1 payload, others.follows)),
-        ),
-      );
-      ends = others.ends;
-    } in
-    subst (λ (ns : List ℕ). IsWhole (pairs_field p behind (suc (length ds)) least) ns (text ++ payload) payload) (sym here) all
-
-payload_whole : (payload rest : List ℕ) → length payload ≤ LONGEST_PAYLOAD → SpellAll (length payload ∷ []) rest → IsWhole payload_field (length payload ∷ []) (rest ++ payload) payload
-payload_whole payload rest small spelled =
-    let parts : rest ++ payload ≡ spelled.0 ++ (spelled.1 ++ payload) = ap (λ (t : List ℕ). t ++ payload) spelled.4 ∙ append_assoc spelled.0 spelled.1 payload in
-    record {
-      follows = (keeps_length (length payload) small, (spelled.0, spelled.1 ++ payload, spelled.2, parts, ap (λ (t : List ℕ). t ++ payload) spelled.3));
-      ends = refl;
-    }
-
-end_whole : (rest : List ℕ) → SpellAll [] rest → IsWhole end_field [] (rest ++ []) []
-end_whole rest spelled = record { follows = append-nil rest ∙ spelled; ends = refl }
+    (f.0, f.1 ++ more, f.2, ap (λ (t : List ℕ). t ++ more) f.3 ∙ append_assoc f.0 f.1 more, follows_longer (λ before. fields (v ∷ before)) vs f.1 rest more f.4)
 
 -- one more field in front
-field_whole : (fields : List ℕ → Field) (n : ℕ) (ns text payload : List ℕ) → Accepts (fields []) n → (spelled : SpellAll (n ∷ ns) text) → IsWhole (λ before. fields (n ∷ before)) ns (spelled.1 ++ payload) payload
-    → IsWhole fields (n ∷ ns) (text ++ payload) payload
-field_whole fields n ns text payload accepts spelled rest = record {
-  follows = (accepts, (spelled.0, spelled.1 ++ payload, spelled.2, ap (λ (t : List ℕ). t ++ payload) spelled.4 ∙ append_assoc spelled.0 spelled.1 payload, rest.follows));
+field_whole : (fields : List ℕ → Field) (n : ℕ) (ns text more bytes : List ℕ) → Accepts (fields []) text n → bytes ≡ text ++ more → IsWhole (λ before. fields (n ∷ before)) ns more → IsWhole fields (n ∷ ns) bytes
+field_whole fields n ns text more bytes accepts parts rest = record {
+  follows = (text, more, accepts, parts, rest.follows);
   ends = rest.ends;
 }
 
-cast_whole : (c : CastFields) (numbers : List ℕ) → KeepsCastRules c → length c.payload ≤ LONGEST_PAYLOAD → SpellAll (cast_numbers c) numbers → IsWhole cast_field (cast_numbers c) (numbers ++ c.payload) c.payload
+-- ---- the fields of a frame's text are good
+
+-- a number in front of others, and of what stands behind these
+number_whole : (fields : List ℕ → Field) (n : ℕ) (values text first rest behind : List ℕ) → Accepts (fields []) first n → text ≡ first ++ rest → IsWhole (λ before. fields (n ∷ before)) values (rest ++ behind)
+    → IsWhole fields (n ∷ values) (text ++ behind)
+number_whole fields n values text first rest behind accepts parts whole =
+    field_whole fields n values first (rest ++ behind) (text ++ behind) accepts (ap (λ (t : List ℕ). t ++ behind) parts ∙ append_assoc first rest behind) whole
+
+-- the numbers of the pairs, and then what stands behind them
+pairs_whole : {A : Type 0} (p : Pairs A) (behind : List ℕ → Field) (least : ℕ) (ds : List A) (numbers tail values text payload : List ℕ) → Says p least ds numbers → SpellAll (numbers ++ tail) text
+    → ((rest : List ℕ) → SpellAll tail rest → IsWhole behind values (rest ++ payload))
+    → IsWhole (pairs_field p behind (length ds) least) (numbers ++ values) (text ++ payload)
+pairs_whole p behind least [] numbers tail values text payload says spelled whole =
+    let none : numbers ++ tail ≡ tail = ap (λ (ns : List ℕ). ns ++ tail) says in
+    subst (λ (ns : List ℕ). IsWhole behind (ns ++ values) (text ++ payload)) (sym says) (whole text (subst (λ (ns : List ℕ). SpellAll ns text) none spelled))
+pairs_whole p behind least (d ∷ ds) numbers tail values text payload says spelled whole =
+    let here : numbers ++ tail ≡ says.0 ∷ says.1 ∷ (says.2 ++ tail) = ap (λ (ns : List ℕ). ns ++ tail) says.4 in
+    let first : SpellAll (says.0 ∷ says.1 ∷ (says.2 ++ tail)) text = subst (λ (ns : List ℕ). SpellAll ns text) here spelled in
+    let others = pairs_whole p behind (p.next (least + says.0) says.1) ds says.2 tail values first.3.1 payload says.5 first.3.3 whole in
+    let second = number_whole (λ before. pairs_field p behind (suc (length ds)) least (says.0 ∷ before)) says.1 (says.2 ++ values) first.1 first.3.0 first.3.1 payload (first.3.2, says.3.second) first.3.4 others in
+    let all = number_whole (pairs_field p behind (suc (length ds)) least) says.0 (says.1 ∷ (says.2 ++ values)) text first.0 first.1 payload (first.2, says.3.first) first.4 second in
+    subst (λ (ns : List ℕ). IsWhole (pairs_field p behind (suc (length ds)) least) (ns ++ values) (text ++ payload)) (sym says.4) all
+
+payload_whole : (payload rest : List ℕ) → length payload ≤ LONGEST_PAYLOAD → SpellAll (length payload ∷ []) rest → IsWhole payload_field (length payload ∷ length payload ∷ []) (rest ++ payload)
+payload_whole payload rest small spells =
+    let parts : spells.1 ++ payload ≡ payload ++ [] = ap (λ (t : List ℕ). t ++ payload) spells.3 ∙ sym (append-nil payload) in
+    number_whole payload_field (length payload) (length payload ∷ []) rest spells.0 spells.1 payload (spells.2, keeps_length 0 (length payload) (omega (arith, small))) spells.4
+    (field_whole (λ before. payload_field (length payload ∷ before)) (length payload) [] payload [] (spells.1 ++ payload) (refl, refl) parts (record { follows = refl; ends = refl }))
+
+end_whole : (rest : List ℕ) → SpellAll [] rest → IsWhole end_field [] (rest ++ [])
+end_whole rest spelled = record { follows = append-nil rest ∙ spelled; ends = refl }
+
+-- what a cast frame is read as, field by field: its numbers, and the payload as so many bytes
+abbrev cast_values : CastFields → List ℕ
+cast_values c = c.group ∷ c.sender ∷ c.number ∷ length c.changes ∷ (pairs_from 0 c.changes ++ length c.payload ∷ length c.payload ∷ [])
+
+cast_whole : (c : CastFields) (numbers : List ℕ) → KeepsCastRules c → length c.payload ≤ LONGEST_PAYLOAD → SpellAll (cast_numbers c) numbers → IsWhole cast_field (cast_values c) (numbers ++ c.payload)
 cast_whole c numbers rules small spelled =
     let sender = spelled.3 in
     let number = sender.3 in
     let count = number.3 in
-    let tail = pairs_whole (change_pairs c.sender) payload_field 0 c.changes (pairs_from 0 c.changes) (length c.payload ∷ []) count.1 c.payload (says_changes c.sender 0 c.changes rules.changes) count.3 (λ rest s. payload_whole c.payload rest small s) in
-    field_whole cast_field c.group _ numbers c.payload refl spelled
-    (field_whole _ c.sender _ spelled.1 c.payload (keeps_member c.sender rules.sender) sender
-    (field_whole _ c.number _ sender.1 c.payload (keeps_message c.number rules.number) number
-    (field_whole _ (length c.changes) _ number.1 c.payload refl count tail)))
+    let tail = pairs_whole (change_pairs c.sender) payload_field 0 c.changes (pairs_from 0 c.changes) (length c.payload ∷ []) (length c.payload ∷ length c.payload ∷ []) count.1 c.payload (says_changes c.sender 0 c.changes rules.changes) count.3 (λ rest s. payload_whole c.payload rest small s) in
+    number_whole cast_field c.group _ numbers spelled.0 spelled.1 c.payload (spelled.2, refl) spelled.4
+    (number_whole _ c.sender _ spelled.1 sender.0 sender.1 c.payload (sender.2, keeps_member c.sender rules.sender) sender.4
+    (number_whole _ c.number _ sender.1 number.0 number.1 c.payload (number.2, keeps_message c.number rules.number) number.4
+    (number_whole _ (length c.changes) _ number.1 count.0 count.1 c.payload (count.2, refl) count.4 tail)))
 
-status_whole : (s : StatusFields) (numbers : List ℕ) → KeepsStatusRules s → SpellAll (status_numbers s) numbers → IsWhole status_field (status_numbers s) (numbers ++ []) []
+status_whole : (s : StatusFields) (numbers : List ℕ) → KeepsStatusRules s → SpellAll (status_numbers s) numbers → IsWhole status_field (status_numbers s) (numbers ++ [])
 status_whole s numbers rules spelled =
     let sender = spelled.3 in
     let count = sender.3 in
     let pairs : SpellAll (pairs_from 0 s.values ++ []) count.1 = rw append-nil count.3 in
-    let behind = pairs_whole value_pairs end_field 0 s.values (pairs_from 0 s.values) [] count.1 [] (says_values 0 s.values rules.values) pairs end_whole in
-    let tail : IsWhole (pairs_field value_pairs end_field (length s.values) 0) (pairs_from 0 s.values) (count.1 ++ []) [] =
-    subst (λ (ns : List ℕ). IsWhole (pairs_field value_pairs end_field (length s.values) 0) ns (count.1 ++ []) []) (append-nil (pairs_from 0 s.values)) behind in
-    field_whole status_field s.group _ numbers [] refl spelled
-    (field_whole _ s.sender _ spelled.1 [] (keeps_member s.sender rules.sender) sender
-    (field_whole _ (length s.values) _ sender.1 [] refl count tail))
+    let behind = pairs_whole value_pairs end_field 0 s.values (pairs_from 0 s.values) [] [] count.1 [] (says_values 0 s.values rules.values) pairs end_whole in
+    let tail : IsWhole (pairs_field value_pairs end_field (length s.values) 0) (pairs_from 0 s.values) (count.1 ++ []) =
+    subst (λ (ns : List ℕ). IsWhole (pairs_field value_pairs end_field (length s.values) 0) ns (count.1 ++ [])) (append-nil (pairs_from 0 s.values)) behind in
+    number_whole status_field s.group _ numbers spelled.0 spelled.1 [] (spelled.2, refl) spelled.4
+    (number_whole _ s.sender _ spelled.1 sender.0 sender.1 [] (sender.2, keeps_member s.sender rules.sender) sender.4
+    (number_whole _ (length s.values) _ sender.1 count.0 count.1 [] (count.2, refl) count.4 tail))
 
-request_whole : (r : RequestFields) (numbers : List ℕ) → KeepsRequestRules r → SpellAll (request_numbers r) numbers → IsWhole request_field (request_numbers r) (numbers ++ []) []
+request_whole : (r : RequestFields) (numbers : List ℕ) → KeepsRequestRules r → SpellAll (request_numbers r) numbers → IsWhole request_field (request_numbers r) (numbers ++ [])
 request_whole r numbers rules spelled =
     let requester = spelled.3 in
     let asked = requester.3 in
     let count = asked.3 in
     let pairs : SpellAll (ranges_from 1 r.ranges ++ []) count.1 = rw append-nil count.3 in
-    let behind = pairs_whole range_pairs end_field 1 r.ranges (ranges_from 1 r.ranges) [] count.1 [] (says_ranges 1 r.ranges rules.ranges) pairs end_whole in
-    let tail : IsWhole (pairs_field range_pairs end_field (length r.ranges) 1) (ranges_from 1 r.ranges) (count.1 ++ []) [] =
-    subst (λ (ns : List ℕ). IsWhole (pairs_field range_pairs end_field (length r.ranges) 1) ns (count.1 ++ []) []) (append-nil (ranges_from 1 r.ranges)) behind in
-    field_whole request_field r.group _ numbers [] refl spelled
-    (field_whole _ r.requester _ spelled.1 [] (keeps_member r.requester rules.requester) requester
-    (field_whole _ r.asked _ requester.1 [] (keeps_member r.asked rules.asked) asked
-    (field_whole _ (length r.ranges) _ asked.1 [] (keeps_ranges (length r.ranges) rules.some rules.few) count tail)))
+    let behind = pairs_whole range_pairs end_field 1 r.ranges (ranges_from 1 r.ranges) [] [] count.1 [] (says_ranges 1 r.ranges rules.ranges) pairs end_whole in
+    let tail : IsWhole (pairs_field range_pairs end_field (length r.ranges) 1) (ranges_from 1 r.ranges) (count.1 ++ []) =
+    subst (λ (ns : List ℕ). IsWhole (pairs_field range_pairs end_field (length r.ranges) 1) ns (count.1 ++ [])) (append-nil (ranges_from 1 r.ranges)) behind in
+    number_whole request_field r.group _ numbers spelled.0 spelled.1 [] (spelled.2, refl) spelled.4
+    (number_whole _ r.requester _ spelled.1 requester.0 requester.1 [] (requester.2, keeps_member r.requester rules.requester) requester.4
+    (number_whole _ r.asked _ requester.1 asked.0 asked.1 [] (asked.2, keeps_member r.asked rules.asked) asked.4
+    (number_whole _ (length r.ranges) _ asked.1 count.0 count.1 [] (count.2, keeps_ranges (length r.ranges) rules.some rules.few) count.4 tail)))
 
 -- ---- its numbers and its payload determine a frame
 
@@ -218,27 +220,20 @@ request_is r s g q a k =
     ∙ ap (λ (x : ℕ). record { group = s.group; requester = s.requester; asked = x; ranges = r.ranges }) a
     ∙ ap (λ (x : List Range). record { group = s.group; requester = s.requester; asked = s.asked; ranges = x }) k
 
-same_cast : (c d : CastFields) → KeepsCastRules c → KeepsCastRules d → cast_numbers c ≡ cast_numbers d → c.payload ≡ d.payload → c ≡ d
-same_cast c d r s e payload =
+-- all but the payloads themselves
+same_cast : (c d : CastFields) → KeepsCastRules c → KeepsCastRules d → cast_values c ≡ cast_values d → (length c.payload ≡ length d.payload) × (c.payload ≡ d.payload → c ≡ d)
+same_cast c d r s e =
     let group : c.group ≡ d.group = cc in
     let sender : c.sender ≡ d.sender = cc in
     let number : c.number ≡ d.number = cc in
     let count : length c.changes ≡ length d.changes = cc in
-    let tail : pairs_from 0 c.changes ++ length c.payload ∷ [] ≡ pairs_from 0 d.changes ++ length d.payload ∷ [] = cc in
+    let x = length c.payload ∷ length c.payload ∷ [] in
+    let y = length d.payload ∷ length d.payload ∷ [] in
+    let tail : pairs_from 0 c.changes ++ x ≡ pairs_from 0 d.changes ++ y = cc in
     let says = says_changes c.sender 0 c.changes r.changes in
     let says' : Says (change_pairs c.sender) 0 d.changes (pairs_from 0 d.changes) = subst (λ (n : ℕ). Says (change_pairs n) 0 d.changes (pairs_from 0 d.changes)) (sym sender) (says_changes d.sender 0 d.changes s.changes) in
-    let pairs = says_one (change_pairs c.sender) 0 c.changes d.changes (pairs_from 0 c.changes) (pairs_from 0 d.changes) (length c.payload ∷ []) (length d.payload ∷ []) says says' count tail in
-    cast_is c d group sender number pairs.0 payload
-
-same_length : (c d : CastFields) → KeepsCastRules c → KeepsCastRules d → cast_numbers c ≡ cast_numbers d → length c.payload ≡ length d.payload
-same_length c d r s e =
-    let sender : c.sender ≡ d.sender = cc in
-    let count : length c.changes ≡ length d.changes = cc in
-    let tail : pairs_from 0 c.changes ++ length c.payload ∷ [] ≡ pairs_from 0 d.changes ++ length d.payload ∷ [] = cc in
-    let says = says_changes c.sender 0 c.changes r.changes in
-    let says' : Says (change_pairs c.sender) 0 d.changes (pairs_from 0 d.changes) = subst (λ (n : ℕ). Says (change_pairs n) 0 d.changes (pairs_from 0 d.changes)) (sym sender) (says_changes d.sender 0 d.changes s.changes) in
-    let pairs = says_one (change_pairs c.sender) 0 c.changes d.changes (pairs_from 0 c.changes) (pairs_from 0 d.changes) (length c.payload ∷ []) (length d.payload ∷ []) says says' count tail in
-    ap head_of pairs.1
+    let pairs = says_one (change_pairs c.sender) 0 c.changes d.changes (pairs_from 0 c.changes) (pairs_from 0 d.changes) x y says says' count tail in
+    (ap head_of pairs.1, cast_is c d group sender number pairs.0)
 
 same_status : (s t : StatusFields) → KeepsStatusRules s → KeepsStatusRules t → status_numbers s ≡ status_numbers t → s ≡ t
 same_status s t p q e =
@@ -259,23 +254,22 @@ same_request r s p q e =
     let pairs = says_one range_pairs 1 r.ranges s.ranges (ranges_from 1 r.ranges) (ranges_from 1 s.ranges) [] [] (says_ranges 1 r.ranges p.ranges) (says_ranges 1 s.ranges q.ranges) count (ap (λ (ns : List ℕ). ns ++ []) tail) in
     request_is r s group requester asked pairs.0
 
-longer_by_none : (a b more : List ℕ) → length a ≡ length b → a ++ more ≡ b → (a ≡ b) × (more ≡ [])
-longer_by_none a b more len e =
-    let none : more ≡ [] = nil_from_length more (omega (arith, ap length e, length-append a more, len)) in
-    (sym (append-nil a) ∙ ap (λ (t : List ℕ). a ++ t) (sym none) ∙ e, none)
+same_end : (a b p q : List ℕ) → length p ≡ length q → a ++ p ≡ b ++ q → p ≡ q
+same_end a b p q len e =
+    let fronts : length a ≡ length b = omega (arith, len, ap length e, length-append a p, length-append b q) in
+    sym (drop_at a p (length a) refl) ∙ ap (drop (length a)) e ∙ drop_at b q (length a) (sym fronts)
 
 abbrev tail_after : List ℕ → List ℕ
 tail_after [] = []
 tail_after (x ∷ xs) = xs
 
--- one kind's texts: what is read of the longer bytes are the numbers and the payload of either
-one_kind : (fields : List ℕ → Field) (kind : ℕ) (ms ns bytes more text text' p q : List ℕ) → bytes ≡ kind ∷ text ++ p → bytes ++ more ≡ kind ∷ text' ++ q → IsWhole fields ms (text ++ p) p → IsWhole fields ns (text' ++ q) q
-    → (ms ≡ ns) × (p ++ more ≡ q)
-one_kind fields kind ms ns bytes more text text' p q f g one two =
-    let parts : (text ++ p) ++ more ≡ text' ++ q = ap tail_after (ap (λ (t : List ℕ). t ++ more) (sym f) ∙ g) in
-    let longer : Follows fields ms (text' ++ q) (p ++ more) = subst (λ (t : List ℕ). Follows fields ms t (p ++ more)) parts (follows_longer fields ms (text ++ p) p more one.follows) in
-    let stuck : IsStuck (fields ms) (p ++ more) = subst (λ (k : Field). IsStuck k (p ++ more)) (sym one.ends) (stuck_at_payload (length p) (p ++ more)) in
-    same_values fields ms ns (text' ++ q) (p ++ more) q longer stuck two.follows (whole_stuck fields ns _ q two)
+-- one kind's texts: what stands in the longer bytes are the fields of either
+one_kind : (fields : List ℕ → Field) (kind : ℕ) (ms ns bytes more text other : List ℕ) → bytes ≡ kind ∷ text → bytes ++ more ≡ kind ∷ other → IsWhole fields ms text → IsWhole fields ns other → (ms ≡ ns) × (more ≡ []) × (text ≡ other)
+one_kind fields kind ms ns bytes more text other f g one two =
+    let parts : text ++ more ≡ other = ap tail_after (ap (λ (t : List ℕ). t ++ more) (sym f) ∙ g) in
+    let longer : Follows fields ms other more = subst (λ (t : List ℕ). Follows fields ms t more) parts (follows_longer fields ms text [] more one.follows) in
+    let same = same_values fields ms ns other more [] longer (whole_stuck fields ms text more one) two.follows (whole_stuck fields ns other [] two) in
+    (same.0, same.1, sym (append-nil text) ∙ ap (λ (t : List ℕ). text ++ t) (sym same.1) ∙ parts)
 
 -- a frame without payload
 without : (kind : ℕ) (text bytes : List ℕ) → bytes ≡ kind ∷ text → bytes ≡ kind ∷ text ++ []
@@ -287,15 +281,14 @@ other_kind a b bytes more text text' f g = ap head_of (ap (λ (t : List ℕ). t 
 
 pub none_begins_another : NoneBeginsAnother
 none_begins_another (CastFrame c) (CastFrame d) bytes more f g =
-    let same = one_kind cast_field cast_kind (cast_numbers c) (cast_numbers d) bytes more f.2.0 g.2.0 c.payload d.payload f.2.2 g.2.2 (cast_whole c f.2.0 f.0 f.1 f.2.1) (cast_whole d g.2.0 g.0 g.1 g.2.1) in
-    let len : length c.payload ≡ length d.payload = same_length c d f.0 g.0 same.0 in
-    let end = longer_by_none c.payload d.payload more len same.1 in
-    (ap CastFrame (same_cast c d f.0 g.0 same.0 end.0), end.1)
+    let same = one_kind cast_field cast_kind (cast_values c) (cast_values d) bytes more (f.2.0 ++ c.payload) (g.2.0 ++ d.payload) f.2.2 g.2.2 (cast_whole c f.2.0 f.0 f.1 f.2.1) (cast_whole d g.2.0 g.0 g.1 g.2.1) in
+    let but = same_cast c d f.0 g.0 same.0 in
+    (ap CastFrame (but.1 (same_end f.2.0 g.2.0 c.payload d.payload but.0 same.2)), same.1)
 none_begins_another (StatusFrame s) (StatusFrame t) bytes more f g =
-    let same = one_kind status_field status_kind (status_numbers s) (status_numbers t) bytes more f.1.0 g.1.0 [] [] (without _ _ _ f.1.2) (without _ _ _ g.1.2) (status_whole s f.1.0 f.0 f.1.1) (status_whole t g.1.0 g.0 g.1.1) in
+    let same = one_kind status_field status_kind (status_numbers s) (status_numbers t) bytes more (f.1.0 ++ []) (g.1.0 ++ []) (without _ _ _ f.1.2) (without _ _ _ g.1.2) (status_whole s f.1.0 f.0 f.1.1) (status_whole t g.1.0 g.0 g.1.1) in
     (ap StatusFrame (same_status s t f.0 g.0 same.0), same.1)
 none_begins_another (RequestFrame r) (RequestFrame s) bytes more f g =
-    let same = one_kind request_field request_kind (request_numbers r) (request_numbers s) bytes more f.1.0 g.1.0 [] [] (without _ _ _ f.1.2) (without _ _ _ g.1.2) (request_whole r f.1.0 f.0 f.1.1) (request_whole s g.1.0 g.0 g.1.1) in
+    let same = one_kind request_field request_kind (request_numbers r) (request_numbers s) bytes more (f.1.0 ++ []) (g.1.0 ++ []) (without _ _ _ f.1.2) (without _ _ _ g.1.2) (request_whole r f.1.0 f.0 f.1.1) (request_whole s g.1.0 g.0 g.1.1) in
     (ap RequestFrame (same_request r s f.0 g.0 same.0), same.1)
 none_begins_another (CastFrame c) (StatusFrame t) bytes more f g = absurd (omega (arith, other_kind _ _ _ more _ _ f.2.2 g.1.2))
 none_begins_another (CastFrame c) (RequestFrame s) bytes more f g = absurd (omega (arith, other_kind _ _ _ more _ _ f.2.2 g.1.2))
@@ -307,13 +300,13 @@ none_begins_another (RequestFrame r) (StatusFrame s) bytes more f g = absurd (om
 pub text_has_no_fault : TextHasNoFault
 text_has_no_fault (CastFrame c) bytes e f fault =
     let at : FirstFault (cast_kind ∷ f.2.0 ++ c.payload) e = subst (λ (t : List ℕ). FirstFault t e) f.2.2 fault in
-    whole_has_no_fault cast_field (cast_numbers c) (f.2.0 ++ c.payload) c.payload e (cast_whole c f.2.0 f.0 f.1 f.2.1) at
+    whole_has_no_fault cast_field (cast_values c) (f.2.0 ++ c.payload) e (cast_whole c f.2.0 f.0 f.1 f.2.1) at
 text_has_no_fault (StatusFrame s) bytes e f fault =
     let at : FirstFault (status_kind ∷ f.1.0 ++ []) e = subst (λ (t : List ℕ). FirstFault t e) (without _ _ _ f.1.2) fault in
-    whole_has_no_fault status_field (status_numbers s) (f.1.0 ++ []) [] e (status_whole s f.1.0 f.0 f.1.1) at
+    whole_has_no_fault status_field (status_numbers s) (f.1.0 ++ []) e (status_whole s f.1.0 f.0 f.1.1) at
 text_has_no_fault (RequestFrame r) bytes e f fault =
     let at : FirstFault (request_kind ∷ f.1.0 ++ []) e = subst (λ (t : List ℕ). FirstFault t e) (without _ _ _ f.1.2) fault in
-    whole_has_no_fault request_field (request_numbers r) (f.1.0 ++ []) [] e (request_whole r f.1.0 f.0 f.1.1) at
+    whole_has_no_fault request_field (request_numbers r) (f.1.0 ++ []) e (request_whole r f.1.0 f.0 f.1.1) at
 
 same_kind_fault : (o : Option (List ℕ → Field)) (bytes : List ℕ) (e d : FrameFault) → MatchOption o (e ≡ UnknownKind) (λ fields. FirstFaultOf fields bytes e) → MatchOption o (d ≡ UnknownKind) (λ fields. FirstFaultOf fields bytes d) → e ≡ d
 same_kind_fault None bytes e d p q = p ∙ sym q

@@ -1,7 +1,7 @@
 -- What is wrong with bytes that no frame is written as, seen from the left.
 --
--- What may stand in a field depends on the numbers before it. So a kind of frame is a function from the numbers
--- that were read to the field that follows them.
+-- What may stand in a field depends on what stands before it. So a kind of frame is a function from what was read,
+-- of a number its value and of a run its length, to the field that follows.
 use Rattle.std.specs.Prelude.{◌≡◌, ℕ, zero, suc, ◌+◌, ◌<◌, List, [], ◌∷◌, ◌++◌, ◌⊎◌, length, Option, Some, None, MatchOption, nat_lt, ◌==◌, if◌then◌else◌}
 use Rattle.cb_varint.specs.declared.fault.NumberFault.{NumberFault}
 use Rattle.cb_varint.specs.Spelling.{Spells, IsFault}
@@ -13,10 +13,11 @@ use Rattle.cb_frames.specs.declared.fault.FrameFault.TheVariants.{Short, Unknown
 use Rattle.cb_frames.specs.NumberFaults.{as_frame_fault}
 use Rattle.cb_frames.specs.Text.{cast_kind, status_kind, request_kind}
 
--- a field: a number with what is wrong with a value of it, or so many bytes of payload, which end the frame (0 in a frame that has none)
+-- a field: a number with what is wrong with a value of it, a run of so many bytes, whatever they are, or the end of the frame
 pub data Field : Type 0 where
   Number : (ℕ → Option FrameFault) → Field
-  Payload : ℕ → Field
+  Run : ℕ → Field
+  End : Field
 
 -- ---- the rules of the fields
 
@@ -38,8 +39,9 @@ index_rule sender least gap =
 abbrev pub amount_rule : ℕ → Option FrameFault
 amount_rule n = if n == 0 then Some ZeroDifference else None
 
-abbrev pub length_rule : ℕ → Option FrameFault
-length_rule n = if nat_lt LONGEST_PAYLOAD n then Some PayloadTooLong else None
+-- the length of a payload, where those before it have so many bytes
+abbrev pub length_rule : ℕ → ℕ → Option FrameFault
+length_rule before n = if nat_lt LONGEST_PAYLOAD (before + n) then Some PayloadTooLong else None
 
 -- the index of a value in a status, likewise as a distance
 abbrev pub value_rule : ℕ → ℕ → Option FrameFault
@@ -98,14 +100,15 @@ range_pairs = record {
 
 -- ---- which field follows
 
--- the length of the payload, and the payload
-abbrev pub payload_field : List ℕ → Field
-payload_field [] = Number length_rule
-payload_field (n ∷ more) = Payload n
-
--- no payload
+-- nothing more
 abbrev pub end_field : List ℕ → Field
-end_field before = Payload 0
+end_field before = End
+
+-- the length of the one payload, and the payload
+abbrev pub payload_field : List ℕ → Field
+payload_field [] = Number (length_rule 0)
+payload_field (n ∷ []) = Run n
+payload_field (n ∷ run ∷ more) = end_field more
 
 -- so many pairs, whose places rise from `least` on, and then what stands behind them
 abbrev pub pairs_field : {A : Type 0} → Pairs A → (List ℕ → Field) → ℕ → ℕ → List ℕ → Field
@@ -150,24 +153,25 @@ kind_fields kind =
 
 -- ---- the longest front of whole good fields, and what is wrong behind it
 
--- a value that the field takes
-abbrev pub Accepts : Field → ℕ → Type 0
-Accepts (Number rule) n = rule n ≡ None
-Accepts (Payload length) n = ⊥
+-- the field is this text, and was read as this
+abbrev pub Accepts : Field → List ℕ → ℕ → Type 0
+Accepts (Number rule) text n = Spells text n × (rule n ≡ None)
+Accepts (Run size) text n = (length text ≡ size) × (n ≡ size)
+Accepts End text n = ⊥
 
--- At the front of the bytes whole good fields are spelled, which have these values; the rest is what follows.
+-- At the front of the bytes whole good fields stand, which were read as these; the rest is what follows.
 abbrev pub Follows : (List ℕ → Field) → List ℕ → List ℕ → List ℕ → Type 0
 Follows fields [] bytes rest = bytes ≡ rest
-Follows fields (n ∷ ns) bytes rest = Accepts (fields []) n
-    × ((text more : List ℕ) × Spells text n × (bytes ≡ text ++ more) × Follows (λ before. fields (n ∷ before)) ns more rest)
+Follows fields (n ∷ ns) bytes rest = (text more : List ℕ) × Accepts (fields []) text n × (bytes ≡ text ++ more)
+    × Follows (λ before. fields (n ∷ before)) ns more rest
 
--- what is wrong where this field stands: a number's own fault comes before its rule's
+-- what is wrong where this field stands: a number's own fault comes before its rule's; a run wants bytes, and the end has some
 abbrev pub IsWrong : Field → List ℕ → FrameFault → Type 0
 IsWrong (Number rule) bytes fault =
     ((number_fault : NumberFault) × IsFault number_fault bytes × (fault ≡ as_frame_fault number_fault))
     ⊎ ((text more : List ℕ) × (n : ℕ) × Spells text n × (bytes ≡ text ++ more) × (rule n ≡ Some fault))
-IsWrong (Payload n) bytes fault =
-    ((length bytes < n) × (fault ≡ Short)) ⊎ ((n < length bytes) × (fault ≡ Trailing))
+IsWrong (Run size) bytes fault = (length bytes < size) × (fault ≡ Short)
+IsWrong End bytes fault = (0 < length bytes) × (fault ≡ Trailing)
 
 -- the fault of the field that follows the good ones
 pub record FirstFaultOf (fields : List ℕ → Field) (bytes : List ℕ) (fault : FrameFault) : Type 0 where

@@ -1,5 +1,5 @@
 -- Reading from left to right as a function, for definitions of the layers above. The laws tie it to the texts and their faults.
-use Rattle.std.specs.Prelude.{◌≡◌, ℕ, zero, suc, ◌+◌, List, [], ◌∷◌, ◌⊎◌, length, drop, Option, Some, None, Result, Ok, Err, nat_lt, ◌==◌, if◌then◌else◌}
+use Rattle.std.specs.Prelude.{◌≡◌, ℕ, zero, suc, ◌+◌, List, [], ◌∷◌, ◌⊎◌, length, take, drop, Option, Some, None, Result, Ok, Err, nat_lt, ◌==◌, if◌then◌else◌}
 use Rattle.cb_varint.specs.declared.fault.NumberFault.{NumberFault}
 use Rattle.cb_varint.specs.Reading.{number_at as number_and_length}
 use Rattle.cb_frames.specs.declared.fault.FrameFault.{FrameFault}
@@ -45,14 +45,21 @@ pairs_at pairs (suc count) least bytes = do
   others ← pairs_at pairs count (pairs.next first.0.0 first.0.1) first.1
   Ok (pairs.said first.0.0 first.0.1 ∷ others.0, others.1)
 
--- so many bytes, and no more
-abbrev pub payload_at : ℕ → List ℕ → Result (List ℕ) FrameFault
-payload_at n bytes = if nat_lt (length bytes) n then Err faults.Short else if nat_lt n (length bytes) then Err faults.Trailing else Ok bytes
+-- so many bytes, and those behind them
+abbrev pub run_at : ℕ → List ℕ → Result (List ℕ × List ℕ) FrameFault
+run_at n bytes = if nat_lt (length bytes) n then Err faults.Short else Ok (take n bytes, drop n bytes)
 
 -- no byte more
 abbrev pub end_at : List ℕ → Result (Unit {0}) FrameFault
 end_at [] = Ok tt
 end_at (b ∷ bytes) = Err faults.Trailing
+
+-- so many bytes, and no more
+abbrev pub payload_at : ℕ → List ℕ → Result (List ℕ) FrameFault
+payload_at n bytes = do
+  run ← run_at n bytes
+  end ← end_at run.1
+  Ok run.0
 
 unfoldable pub cast_at : List ℕ → Result CastFields FrameFault
 cast_at bytes = do
@@ -61,7 +68,7 @@ cast_at bytes = do
   number ← field_at message_rule sender.1
   count ← field_at any_number number.1
   changes ← pairs_at (change_pairs sender.0) count.0 0 count.1
-  length ← field_at length_rule changes.1
+  length ← field_at (length_rule 0) changes.1
   payload ← payload_at length.0 length.1
   Ok (record { group = group.0; sender = sender.0; number = number.0; changes = changes.0; payload = payload })
 

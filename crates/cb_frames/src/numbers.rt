@@ -34,7 +34,7 @@ pub fn message_number(bytes: &[u8]) -> Result<(u32, &[u8]), FrameFault>
 }
 
 pub fn payload_length(bytes: &[u8]) -> Result<(usize, &[u8]), FrameFault>
-    ensures { Answers (λ x. (x.0, x.1.now)) result (field_at length_rule bytes.now) }
+    ensures { Answers (λ x. (x.0, x.1.now)) result (field_at (length_rule 0) bytes.now) }
 {
     let (length, rest) = number(bytes)?;
     let length = length as usize;

@@ -1,7 +1,7 @@
 -- Frames that were written are read back.
 use Rattle.std.proofs.Common.{◌≡◌, ℕ, suc, ◌+◌, ◌<◌, ◌≤◌, ◌^◌, List, [], ◌∷◌, ◌++◌, length, drop, Option, Some, None, Result, Ok, refl, sym, ap, subst, ◌∙◌, append_assoc, arith, eqb}
 use Rattle.std.specs.List.{AllByRecursion, flat_map}
-use Rattle.std.proofs.lemmas.List.{drop_at, append-nil}
+use Rattle.std.proofs.lemmas.List.{drop_at, append-nil, take_all, drop_all}
 use Rattle.std.proofs.lemmas.Bool.{cond_both, le-ltb}
 use Rattle.cb_varint.specs.Reading.{number_at as number_and_length, spelling}
 use Rattle.cb_varint.proofs.Fronts.{number_is_read}
@@ -58,7 +58,11 @@ cast_text : (c : CastFields) → flat_map spelling (cast_numbers c) ++ c.payload
 cast_text c = simp (flat_map-append, append_assoc)
 
 all_bytes : (bytes : List ℕ) → payload_at (length bytes) bytes ≡ Ok bytes
-all_bytes bytes = let same = le-ltb (length bytes) (length bytes) (omega arith) in rw same refl
+all_bytes bytes =
+    let same = le-ltb (length bytes) (length bytes) (omega arith) in
+    let all = take_all (length bytes) bytes (omega arith) in
+    let none = drop_all (length bytes) bytes (omega arith) in
+    rw (same, all, none) refl
 
 cast_at_read : (c : CastFields) → CanBeWritten (CastFrame c) → cast_at (flat_map spelling (cast_numbers c) ++ c.payload) ≡ Ok c
 unfolding cast_at
@@ -75,7 +79,7 @@ cast_at_read c can =
     let number = field_read message_rule c.number count_text small.1.1.0 (keeps_message c.number can.0.number) in
     let count = field_read any_number (length c.changes) pairs_text small.1.1.1.0 refl in
     let changes = pairs_read (change_pairs c.sender) 0 c.changes (pairs_from 0 c.changes) payload_text (says_changes c.sender 0 c.changes can.0.changes) (small_front (pairs_from 0 c.changes) (length c.payload ∷ []) pairs) in
-    let size = field_read length_rule (length c.payload) c.payload (small_back (pairs_from 0 c.changes) (length c.payload ∷ []) pairs).0 (keeps_length (length c.payload) can.1) in
+    let size = field_read (length_rule 0) (length c.payload) c.payload (small_back (pairs_from 0 c.changes) (length c.payload ∷ []) pairs).0 (keeps_length 0 (length c.payload) (omega (arith, can.1))) in
     let payload = all_bytes c.payload in
     rw (cast_text c, group, sender, number, count, changes, size, payload) refl
 
@@ -117,7 +121,7 @@ cast_numbered bytes c =
     (λ sender e. bind_cases (field_at message_rule sender.1) _ (λ (r : Result CastFields FrameFault). r ≡ Ok c → 1 ≤ c.number)
     (λ number e. bind_cases (field_at any_number number.1) _ (λ (r : Result CastFields FrameFault). r ≡ Ok c → 1 ≤ c.number)
     (λ count e'. bind_cases (pairs_at (change_pairs sender.0) count.0 0 count.1) _ (λ (r : Result CastFields FrameFault). r ≡ Ok c → 1 ≤ c.number)
-    (λ changes e'. bind_cases (field_at length_rule changes.1) _ (λ (r : Result CastFields FrameFault). r ≡ Ok c → 1 ≤ c.number)
+    (λ changes e'. bind_cases (field_at (length_rule 0) changes.1) _ (λ (r : Result CastFields FrameFault). r ≡ Ok c → 1 ≤ c.number)
     (λ size e'. bind_cases (payload_at size.0 size.1) _ (λ (r : Result CastFields FrameFault). r ≡ Ok c → 1 ≤ c.number)
     (λ payload e' h. let same : number.0 ≡ c.number = cc in subst (λ (n : ℕ). 1 ≤ n) same (number_kept sender.1 number e))
     (λ f e' h. absurd cc))
