@@ -6,7 +6,8 @@ use Rattle.std.proofs.lemmas.List.Sums.{sum_by_more}
 use Rattle.cb_times.specs.Order.{field}
 use Rattle.cb_times.specs.Time.{IsTime}
 use Rattle.cb_frames.specs.declared.frame.Change.{Change}
-use Rattle.cb_frames.specs.Fields.{CastFields, first_number, growth_in}
+use Rattle.cb_frames.specs.Fields.{CastFields, first_number, growth_in, last_number}
+use Rattle.cb_frames.proofs.Carried.{carries_some, carries_no_more}
 use Rattle.cb_diffs.specs.Expansion.{greatest, AreMembers, IsGrown, Expands, time_of, kept_time}
 
 -- what the loop knows after some changes
@@ -63,7 +64,9 @@ read_there times i read lt e = e ∙ get_or_default times i read [] lt
 
 -- a cast has one message, so what is kept of its time is its time
 pub kept_is_given : (c : CastFields) (time : List ℕ) → field time c.sender ≡ first_number c → kept_time c time ≡ time
-kept_is_given c time own = ap (set time c.sender) (sym own) ∙ set-get_or time c.sender 0
+kept_is_given c time own =
+    let last : last_number c ≡ first_number c = omega (arith, carries_some c, carries_no_more c) in
+    ap (set time c.sender) (last ∙ sym own) ∙ set-get_or time c.sender 0
 
 -- the time that was given and the one that is kept, which grew apart, are one
 pub expands : (times : List (List ℕ)) (c : CastFields) (before given kept grown grown' : List ℕ) → AreMembers (length times) c

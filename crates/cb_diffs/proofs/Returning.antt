@@ -98,7 +98,7 @@ expands_back size sender number previous time c kept member ready later tells =
         sender = omega (arith, tells.sent_by, ready.senders);
         changes = rw (tells.changes, ready.senders, ← later.has_size) (are_fields previous time sender);
       };
-      next = rw (last, tells.sent_by) (tells.numbered ∙ ready.next);
+      next = tells.numbered ∙ ready.next ∙ ap (λ (j : ℕ). field previous j + 1) (sym tells.sent_by) ∙ ap (λ (t : List ℕ). field t c.sender + 1) (sym last);
       grown = rw last (record {
         size = later.has_size ∙ sym ready.fields;
         own = own;
@@ -151,7 +151,7 @@ at_each : (size : ℕ) (all : List CastFields) (sender number : ℕ) (previous :
 at_each size all sender number previous [] casts tell sums s at lt is = absurd (omega arith)
 at_each size all sender number previous (time ∷ times) [] tell sums s at lt is = absurd tell
 at_each size all sender number previous (time ∷ times) (c ∷ casts) tell sums zero at lt is =
-    ap (λ (n : ℕ). expanded_time size all sender n) (omega (arith, tell.0.numbered)) ∙ ap (λ (j : ℕ). expanded_time size all j c.number) (sym tell.0.sent_by) ∙ sym sums.0
+    ap (λ (n : ℕ). expanded_time size all sender n) (omega (arith, tell.0.numbered)) ∙ ap (λ (j : ℕ). expanded_time size all j (first_number c)) (sym tell.0.sent_by) ∙ sym sums.0
 at_each size all sender number previous (time ∷ times) (c ∷ casts) tell sums (suc s) at lt is =
     at_each size all sender (number + 1) time times casts tell.1 sums.1 s at (omega arith) (omega arith)
 

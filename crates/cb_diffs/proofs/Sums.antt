@@ -7,6 +7,7 @@ use Rattle.std.proofs.lemmas.List.Sums.{sum_by-cons, sum_by-append, sum_by_push}
 use Rattle.std.proofs.lemmas.List.FromFn.{get_or-map-range_with_len, length-map-range_with_len}
 use Rattle.cb_times.specs.Order.{field}
 use Rattle.cb_frames.specs.Fields.{CastFields, first_number, last_number, growth_in}
+use Rattle.cb_frames.proofs.Carried.{carries_some, carries_no_more}
 use Rattle.cb_diffs.specs.Expansion.{greatest, growth_of, expanded_field, expanded_time, last_in, time_of, ExpandsAll}
 use Rattle.cb_diffs.proofs.Growing.{kept_is_given}
 use Rattle.cb_diffs.specs.Laws.{IsKept, NothingIsKept, ExpandingIsSumming, TimesAreSums}
@@ -59,7 +60,7 @@ total_past (c ∷ casts) j n m k ln lm =
       | inl e ↦
           let is : last_in (c ∷ casts) j ≡ max (last_number c) (last_in casts j) = rw (eq-eqb c.sender j e) refl in
           let others = total_past casts j n m k (omega (arith, is, ln)) (omega (arith, is, lm)) in
-          omega (arith, a, b, others, growth_of-own j n k c e (omega (arith, is, ln)), growth_of-own j m k c e (omega (arith, is, lm)))
+          omega (arith, a, b, others, growth_of-own j n k c e (omega (arith, is, ln, carries_some c)), growth_of-own j m k c e (omega (arith, is, lm, carries_some c)))
       | inr ne ↦
           let is : last_in (c ∷ casts) j ≡ last_in casts j = rw (ne_eqb c.sender j ne) refl in
           let others = total_past casts j n m k (omega (arith, is, ln)) (omega (arith, is, lm)) in
@@ -100,7 +101,7 @@ expanding_is_summing size casts c time old new s e =
     ∙ min_of_min (total casts c.sender (last_in casts c.sender) k) (growth_in c.changes k) ∙ ap (min greatest) (sym up_to) in
     let there : time_of new c.sender ≡ time = ap (λ (ts : List (List ℕ)). time_of ts c.sender) kept_there ∙ get_or-set_same old c.sender time [] (omega (arith, s.senders)) in
     let elsewhere : (j : ℕ) → c.sender ≢ j → time_of new j ≡ time_of old j = λ j ne. ap (λ (ts : List (List ℕ)). time_of ts j) kept_there ∙ get_or-set_other old c.sender j time [] (λ h. ne (sym h)) in
-    let last : last_in (casts ++ c ∷ []) c.sender ≡ first_number c = last_in-own casts c ∙ omega (arith, next) in
+    let last : last_in (casts ++ c ∷ []) c.sender ≡ first_number c = last_in-own casts c ∙ omega (arith, next, carries_some c, carries_no_more c) in
     record {
       next = next;
       sum = ext_get_or 0 time (expanded_time size (casts ++ c ∷ []) c.sender (first_number c)) (time_size ∙ sym (length-map-range_with_len (expanded_field (casts ++ c ∷ []) c.sender (first_number c)) 0 size)) (λ k lt.
@@ -165,7 +166,7 @@ all_are_sums size done (c ∷ casts) [] old new kept all = absurd all
 all_are_sums size done (c ∷ casts) (time ∷ times) old new kept all =
     let step = expanding_is_summing size done c time old all.0 kept all.1 in
     let regrouped : (done ++ c ∷ []) ++ casts ≡ done ++ c ∷ casts = append_assoc done (c ∷ []) casts in
-    let last : first_number c ≤ last_in (done ++ c ∷ []) c.sender = omega (arith, last_in-own done c) in
+    let last : first_number c ≤ last_in (done ++ c ∷ []) c.sender = omega (arith, last_in-own done c, carries_some c) in
     let here = step.sum ∙ sym (same_expanded size (done ++ c ∷ []) casts c.sender (first_number c) (λ k. later_add_nothing size (done ++ c ∷ []) casts times all.0 new step.kept all.2 c.sender (first_number c) k last)) in
     let others = all_are_sums size (done ++ c ∷ []) casts times all.0 new step.kept all.2 in
     subst (λ (cs : List CastFields). (time ≡ expanded_time size cs c.sender (first_number c)) × AllByRecursion (λ given. given.1 ≡ expanded_time size cs given.0.sender (first_number given.0)) (zip casts times)) regrouped (here, others)

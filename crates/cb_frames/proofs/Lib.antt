@@ -12,3 +12,4 @@ pub mod Longest
 pub mod StreamFronts
 pub mod Splitting
 pub mod Telling
+pub mod Carried

@@ -3,7 +3,8 @@ use Rattle.std.proofs.Common.{◌≡◌, ℕ, List, [], ◌∷◌, Some, None, O
 use Rattle.cb_varint.specs.declared.fault.NumberFault.TheVariants as numbers
 use Rattle.cb_varint.specs.Spelling.{Spells}
 use Rattle.cb_frames.specs.declared.fault.FrameFault.TheVariants as faults
-use Rattle.cb_frames.specs.Fields.{CastFields, StatusFields, RequestFields, CastFrame, StatusFrame, RequestFrame}
+use Rattle.cb_frames.specs.Fields.{CastFields, StatusFields, RequestFields, CastFrame, StatusFrame, RequestFrame, messages_of, first_number, last_number}
+use Rattle.cb_frames.specs.Carrying.{AreNumberedFrom}
 use Rattle.cb_varint.specs.Reading.{number_at, spelling}
 use Rattle.cb_frames.specs.Reading.{run_at, payload_at, frame_at, cast_at, status_at, request_at, pairs_at, pair_at}
 use Rattle.cb_frames.specs.Text.{text_of}
@@ -16,6 +17,26 @@ hi = record { group = 7; sender = 0; number = 1; changes = []; payload = 0x68 �
 -- the first cast of member 2 of group 300, after three of member 0, one of member 1 and two of member 4
 abbrev after_six : CastFields
 after_six = record { group = 300; sender = 2; number = 1; changes = record { field = 0; amount = 3 } ∷ record { field = 1; amount = 1 } ∷ record { field = 4; amount = 2 } ∷ []; payload = [] }
+
+-- it carries one message, numbered from 1 to 1
+carries_hi : messages_of hi ≡ record { sender = 0; number = 1; payload = 0x68 ∷ 0x69 ∷ [] } ∷ []
+carries_hi = refl
+
+numbers_hi : AreNumberedFrom 0 1 (messages_of hi)
+numbers_hi = (refl, refl, tt)
+
+-- messages of member 2 that are numbered from 5 on, and the same ones in the wrong order
+numbers_two : AreNumberedFrom 2 5 (record { sender = 2; number = 5; payload = 0x68 ∷ [] } ∷ record { sender = 2; number = 6; payload = [] } ∷ [])
+numbers_two = (refl, refl, (refl, refl, tt))
+
+not_in_order : AreNumberedFrom 2 5 (record { sender = 2; number = 6; payload = [] } ∷ record { sender = 2; number = 5; payload = 0x68 ∷ [] } ∷ []) → ⊥
+not_in_order row = let first = row.1 in absurd cc
+
+begins_at_one : first_number hi ≡ 1
+begins_at_one = refl
+
+ends_at_one : last_number hi ≡ 1
+ends_at_one = refl
 
 reads_hi : frame_at (0x11 ∷ 7 ∷ 0 ∷ 1 ∷ 0 ∷ 2 ∷ 0x68 ∷ 0x69 ∷ []) ≡ Ok (CastFrame hi)
 unfolding frame_at cast_at status_at request_at pairs_at pair_at number_at

@@ -7,5 +7,6 @@ pub mod Stream
 pub mod Reader
 pub mod Parts
 pub mod Laws
+pub mod Carrying
 pub mod StreamLaws
 pub mod FaultText

@@ -1,6 +1,7 @@
 //! The laws of texts and faults, as contracts of functions that do nothing.
 
 ghost use Rattle.cb_frames.specs.Laws.{NoneBeginsAnother, OneText, SomeText, OneFault, TextHasNoFault, EachIsTextOrFault, ReadingIsExact, ReadingNeedsNoMemory};
+ghost use Rattle.cb_frames.specs.Carrying.{CarriedInOrder, CarriedUpToTheLast, CarriesSome, CarriesNoMore};
 ghost use Rattle.cb_frames.specs.StreamLaws.{LongestFrame, FrontIsExact, MoreChangesNothing, OneSplit, CutsChangeNothing};
 
 /// Two frames never share a text, and the text of one never begins that of another. `text_of` names the text, which exists exactly
@@ -19,6 +20,14 @@ pub fn each_is_a_text_or_a_fault()
     ensures one { OneFault }
     ensures reading { ReadingIsExact }
     ensures memory { ReadingNeedsNoMemory }
+{}
+
+/// The messages of a cast are of its sender, and numbered one after another from its first number to its last. There is one.
+pub fn messages_are_numbered()
+    ensures order { CarriedInOrder }
+    ensures last { CarriedUpToTheLast }
+    ensures some { CarriesSome }
+    ensures alone { CarriesNoMore }
 {}
 
 /// At the front of a stream stands just one of a frame behind its length, less than that, and something that is neither; and what was

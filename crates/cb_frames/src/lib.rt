@@ -19,7 +19,10 @@ pub use frame::{
     Cast, Change, Frame, LAST_MEMBER, LAST_NUMBER, LONGEST_FRAME, LONGEST_PAYLOAD, MOST_FRAMES,
     MOST_RANGES, Range, Request, Status,
 };
-pub use laws::{a_stream_begins_with_one_thing, each_is_a_text_or_a_fault, one_split, one_text};
+pub use laws::{
+    a_stream_begins_with_one_thing, each_is_a_text_or_a_fault, messages_are_numbered, one_split,
+    one_text,
+};
 pub use reading::decode;
 pub use stream::{FrameReader, Framed};
 pub use writing::{encode, frame_text};

@@ -14,7 +14,8 @@ use Rattle.cb_history.specs.KnowledgeLaws.{AcknowledgedIsDelivered}
 use Rattle.cb_history.proofs.Views.{test_true, not_true}
 use Rattle.cb_history.proofs.Lists.{flat_map-append, in_is_among}
 use Rattle.cb_history.proofs.Rising.{greatest_append, all_at_most}
-use Rattle.cb_history.proofs.Times.{count_grows, times_are_reached}
+use Rattle.cb_history.proofs.Times.{count_grows}
+use Rattle.cb_history.proofs.InTime.{times_are_reached}
 
 -- what a status that was taken says of this member's casts
 status_below : (seat : Identity) (facts : List Fact) (s : StatusFields) → IsTaken seat facts (StatusFrame s) → value_in s.values seat.me ≤ delivered seat facts seat.me

@@ -1,107 +1,111 @@
 -- Members that have the same frames of a sender tell the same times of its messages.
-use Rattle.std.proofs.Common.{◌≡◌, ◌≢◌, ℕ, zero, suc, ◌+◌, ◌-◌, ◌≤◌, Bool, true, false, ◌&&◌, ◌||◌, cond, eqb, List, [], ◌∷◌, min, refl, sym, ap, subst, ◌∙◌, arith, inl, inr}
-use Rattle.std.specs.List.{AllByRecursion}
-use Rattle.std.proofs.lemmas.Bool.{cases_eq, cases_lt, eq-eqb, ne_eqb, and_left, and_right}
+use Rattle.std.proofs.Common.{◌≡◌, ◌≢◌, ℕ, zero, suc, ◌+◌, ◌-◌, ◌≤◌, true, false, ◌&&◌, cond, eqb, List, [], ◌∷◌, min, refl, sym, ap, subst, ◌∙◌, arith, inl, inr}
+use Rattle.std.specs.List.{AllByRecursion, list_any}
+use Rattle.std.proofs.lemmas.Bool.{cases_eq, cases_lt, both_ways}
 use Rattle.std.proofs.lemmas.List.Sums.{sum_by-cons}
-use Rattle.cb_frames.specs.Fields.{CastFields, Carried, growth_in}
+use Rattle.cb_frames.specs.Fields.{CastFields, Carried, messages_of, first_number, last_number, growth_in}
+use Rattle.cb_frames.proofs.Carried.{carries_some, carries_no_more, carried_is_of_cast, each_number_is_carried, first_is_carried}
 use Rattle.cb_diffs.specs.Expansion.{greatest, growth_of}
 use Rattle.cb_history.specs.Facts.{casts_in, messages_in, is_there}
+use Rattle.cb_history.specs.View.{is_among}
 use Rattle.cb_history.specs.NameLaws.{NamesDiffer}
 use Rattle.cb_history.specs.TimeLaws.{SameFrames, TimesAgree}
 use Rattle.cb_history.proofs.Views.{IsIn, all_in_range}
-use Rattle.cb_history.proofs.Names.{all_stand, message}
+use Rattle.cb_history.proofs.Lists.{in_front, in_back, carried_there, carrier, names_apart, names_behind, in_is_among, among_is}
+use Rattle.cb_history.proofs.Names.{all_stand}
 use Rattle.cb_diffs.proofs.Sums.{total, growth_of-other, growth_of-later, growth_of-own}
 
--- a cast of another message adds as much to the next message's time as to the one before
-same_growth : (sender n k : ℕ) (c : CastFields) → (c.sender ≡ sender → c.number ≡ n + 1 → ⊥) → growth_of sender (n + 1) k c ≡ growth_of sender n k c
+-- ---- casts that begin at a number
+
+-- of casts with different messages no later one has a message of the first
+pub apart : (c d : CastFields) (casts : List CastFields) (n : ℕ) → NamesDiffer (messages_in (c ∷ casts)) → IsIn d casts → c.sender ≡ d.sender
+    → first_number c ≤ n → n ≤ last_number c → first_number d ≤ n → n ≤ last_number d → ⊥
+apart c d casts n differ there sender low high from upto =
+    let m = each_number_is_carried c n low high in
+    let w = each_number_is_carried d n from upto in
+    let none : is_among (messages_of c) w.found ≡ false = names_apart (messages_of c) (messages_in casts) w.found differ (carried_there casts d w.found there w.there) in
+    let here : is_among (messages_of c) m.found ≡ true = in_is_among (messages_of c) m.found m.there in
+    let again : is_among (messages_of c) w.found ≡ true =
+    subst (λ (i : ℕ). list_any (λ y. eqb y.sender i && eqb y.number w.found.number) (messages_of c) ≡ true) (m.sender_is ∙ sender ∙ sym w.sender_is)
+    (subst (λ (k : ℕ). list_any (λ y. eqb y.sender m.found.sender && eqb y.number k) (messages_of c) ≡ true) (m.number_is ∙ sym w.number_is) here) in
+    both_ways (is_among (messages_of c) w.found) none again
+
+-- a cast that begins elsewhere adds as much to the next message's time as to the one before
+same_growth : (sender n k : ℕ) (c : CastFields) → (c.sender ≡ sender → first_number c ≡ n + 1 → ⊥) → growth_of sender (n + 1) k c ≡ growth_of sender n k c
 same_growth sender n k c other =
     elim (cases_eq c.sender sender) [
       | inr ne ↦ growth_of-other sender (n + 1) k c ne ∙ sym (growth_of-other sender n k c ne)
-      | inl e ↦ elim (cases_lt n c.number) [
+      | inl e ↦ elim (cases_lt n (first_number c)) [
         | inl lt ↦
-            let ne : c.number ≢ n + 1 = other e in
+            let ne : first_number c ≢ n + 1 = other e in
             growth_of-later sender (n + 1) k c (omega (arith, lt, ne)) ∙ sym (growth_of-later sender n k c lt)
         | inr le ↦ growth_of-own sender (n + 1) k c e (omega (arith, le)) ∙ sym (growth_of-own sender n k c e le)
       ]
     ]
 
-not_both : (a b : ℕ) (x y : ℕ) (rest : Bool) → ((eqb a x && eqb b y) || rest) ≡ false → (a ≡ x → b ≡ y → ⊥) × (rest ≡ false)
-not_both a b x y rest h = parts (eqb a x && eqb b y) rest refl h
-  where
-    parts : (t r : Bool) → (eqb a x && eqb b y) ≡ t → (t || r) ≡ false → (a ≡ x → b ≡ y → ⊥) × (r ≡ false)
-    parts true r e h = absurd cc
-    parts false r e h = (λ p q. let yes : (eqb a x && eqb b y) ≡ true = rw (eq-eqb a x p, eq-eqb b y q) refl in let none : true ≡ false = sym yes ∙ e in absurd cc, h)
+-- where none begins at the next number the sums are one
+none_begins : (casts : List CastFields) (sender n k : ℕ) → ((d : CastFields) → IsIn d casts → d.sender ≡ sender → first_number d ≡ n + 1 → ⊥) → total casts sender (n + 1) k ≡ total casts sender n k
+none_begins [] sender n k none = refl
+none_begins (c ∷ casts) sender n k none =
+    omega (arith, sum_by-cons (growth_of sender (n + 1) k) c casts, sum_by-cons (growth_of sender n k) c casts, same_growth sender n k c (none c (inl refl)), none_begins casts sender n k (λ d later. none d (inr later)))
 
--- without the next message the sums are one
-none_more : (casts : List CastFields) (sender n k : ℕ) → is_there casts sender (n + 1) ≡ false → total casts sender (n + 1) k ≡ total casts sender n k
-none_more [] sender n k none = refl
-none_more (c ∷ casts) sender n k none =
-    let both = not_both c.sender c.number sender (n + 1) (is_there casts sender (n + 1)) none in
-    omega (arith, sum_by-cons (growth_of sender (n + 1) k) c casts, sum_by-cons (growth_of sender n k) c casts, same_growth sender n k c both.0, none_more casts sender n k both.1)
+-- and where one does, it adds what it tells
+pub one_begins : (casts : List CastFields) (c : CastFields) (sender n k : ℕ) → NamesDiffer (messages_in casts) → IsIn c casts → c.sender ≡ sender → first_number c ≡ n + 1
+    → total casts sender (n + 1) k ≡ total casts sender n k + growth_in c.changes k
+one_begins [] c sender n k differ there e at = absurd there
+one_begins (x ∷ casts) c sender n k differ (inl same) e at =
+    let now : growth_of sender (n + 1) k x ≡ growth_in c.changes k = ap (growth_of sender (n + 1) k) (sym same) ∙ growth_of-own sender (n + 1) k c e (omega (arith, at)) in
+    let before : growth_of sender n k x ≡ 0 = ap (growth_of sender n k) (sym same) ∙ growth_of-later sender n k c (omega (arith, at)) in
+    let first : first_number x ≡ n + 1 = ap first_number (sym same) ∙ at in
+    let from : x.sender ≡ sender = ap (λ (y : CastFields). y.sender) (sym same) ∙ e in
+    let others = none_begins casts sender n k (λ d later of begins.
+    apart x d casts (n + 1) differ later (from ∙ sym of) (omega (arith, first)) (omega (arith, first, carries_some x)) (omega (arith, begins)) (omega (arith, begins, carries_some d))) in
+    omega (arith, sum_by-cons (growth_of sender (n + 1) k) x casts, sum_by-cons (growth_of sender n k) x casts, now, before, others)
+one_begins (x ∷ casts) c sender n k differ (inr later) e at =
+    let other = same_growth sender n k x (λ of begins. apart x c casts (n + 1) differ later (of ∙ sym e) (omega (arith, begins)) (omega (arith, begins, carries_some x)) (omega (arith, at)) (omega (arith, at, carries_some c))) in
+    let rest = one_begins casts c sender n k (names_behind (messages_of x) (messages_in casts) differ) later e at in
+    omega (arith, sum_by-cons (growth_of sender (n + 1) k) x casts, sum_by-cons (growth_of sender n k) x casts, other, rest)
 
 -- the cast of the next message, and what it adds
 pub record Adds (casts : List CastFields) (sender n k : ℕ) : Type 0 where
   pub cast : CastFields
   pub there : IsIn cast casts
   pub sender_is : cast.sender ≡ sender
-  pub number_is : cast.number ≡ n + 1
+  pub number_is : first_number cast ≡ n + 1
   pub adds : total casts sender (n + 1) k ≡ total casts sender n k + growth_in cast.changes k
 
-adds_here : (c : CastFields) (casts : List CastFields) (sender n k : ℕ) → is_there casts c.sender c.number ≡ false → c.sender ≡ sender → c.number ≡ n + 1 → Adds (c ∷ casts) sender n k
-adds_here c casts sender n k new e at =
-    let none : is_there casts sender (n + 1) ≡ false = subst (λ (s : ℕ). is_there casts s (n + 1) ≡ false) e (subst (λ (i : ℕ). is_there casts c.sender i ≡ false) at new) in
-    let now = growth_of-own sender (n + 1) k c e (omega (arith, at)) in
-    let before = growth_of-later sender n k c (omega (arith, at)) in
-    record {
-      cast = c;
-      there = inl refl;
-      sender_is = e;
-      number_is = at;
-      adds = omega (arith, sum_by-cons (growth_of sender (n + 1) k) c casts, sum_by-cons (growth_of sender n k) c casts, now, before, none_more casts sender n k none);
-    }
-
-adds_later : (c : CastFields) (casts : List CastFields) (sender n k : ℕ) → (c.sender ≡ sender → c.number ≡ n + 1 → ⊥) → Adds casts sender n k → Adds (c ∷ casts) sender n k
-adds_later c casts sender n k other a = record {
-  cast = a.cast;
-  there = inr a.there;
-  sender_is = a.sender_is;
-  number_is = a.number_is;
-  adds = omega (arith, sum_by-cons (growth_of sender (n + 1) k) c casts, sum_by-cons (growth_of sender n k) c casts, same_growth sender n k c other, a.adds);
-}
-
-false_or : (b r : Bool) → b ≡ false → (b || r) ≡ true → r ≡ true
-false_or true r e h = absurd cc
-false_or false r e h = h
-
+-- a cast that carries a message begins with it, as it carries no other
 pub one_adds : (casts : List CastFields) (sender n k : ℕ) → NamesDiffer (messages_in casts) → is_there casts sender (n + 1) ≡ true → Adds casts sender n k
-one_adds [] sender n k differ there = absurd cc
-one_adds (c ∷ casts) sender n k differ there =
-    elim (cases_eq c.sender sender) [
-      | inr ne ↦ adds_later c casts sender n k (λ e _. ne e)
-          (one_adds casts sender n k differ.1 (false_or (eqb c.sender sender && eqb c.number (n + 1)) (is_there casts sender (n + 1)) (and_left (eqb c.sender sender) (eqb c.number (n + 1)) (ne_eqb c.sender sender ne)) there))
-      | inl e ↦ elim (cases_eq c.number (n + 1)) [
-        | inl at ↦ adds_here c casts sender n k differ.0 e at
-        | inr far ↦ adds_later c casts sender n k (λ _ at. far at)
-            (one_adds casts sender n k differ.1 (false_or (eqb c.sender sender && eqb c.number (n + 1)) (is_there casts sender (n + 1)) (and_right (eqb c.sender sender) (eqb c.number (n + 1)) (ne_eqb c.number (n + 1) far)) there))
-      ]
-    ]
+one_adds casts sender n k differ there =
+    let name : Carried = record { sender = sender; number = n + 1; payload = [] } in
+    let m = among_is (messages_in casts) name there in
+    let found = carrier casts m.0 m.1 in
+    let c : CastFields = found.0 in
+    let of = carried_is_of_cast c m.0 found.2 in
+    let low = of.low in
+    let high = of.high in
+    let e : c.sender ≡ sender = sym of.sender_is ∙ m.2 in
+    let at : first_number c ≡ n + 1 = omega (arith, low, high, m.3, carries_no_more c) in
+    record { cast = c; there = found.1; sender_is = e; number_is = at; adds = one_begins casts c sender n k differ found.1 e at }
 
--- casts are numbered from 1
+-- messages are numbered from 1
 pub nothing_at_zero : (casts : List CastFields) (sender k : ℕ) → ((m : Carried) → IsIn m (messages_in casts) → 1 ≤ m.number) → total casts sender 0 k ≡ 0
 nothing_at_zero [] sender k positive = refl
 nothing_at_zero (c ∷ casts) sender k positive =
-    let here : 1 ≤ c.number = positive (message c) (inl refl) in
-    omega (arith, sum_by-cons (growth_of sender 0 k) c casts, growth_of-later sender 0 k c (omega (arith, here)), nothing_at_zero casts sender k (λ m there. positive m (inr there)))
+    let first = first_is_carried c in
+    let number = first.number_is in
+    let here = positive first.found (in_front first.found (messages_of c) (messages_in casts) first.there) in
+    omega (arith, sum_by-cons (growth_of sender 0 k) c casts, growth_of-later sender 0 k c (omega (arith, here, number)), nothing_at_zero casts sender k (λ m there. positive m (in_back m (messages_of c) (messages_in casts) there)))
 
 pub all_at : {A : Type 0} (P : A → Type 0) (xs : List A) (a : A) → AllByRecursion P xs → IsIn a xs → P a
 all_at P [] a all there = absurd there
 all_at P (x ∷ xs) a all (inl same) = subst P (sym same) all.0
 all_at P (x ∷ xs) a all (inr later) = all_at P xs a all.1 later
 
-same_changes : (casts others : List CastFields) (sender : ℕ) (c d : CastFields) → SameFrames casts others sender → IsIn c casts → IsIn d others → c.sender ≡ sender → d.sender ≡ sender → c.number ≡ d.number → c.changes ≡ d.changes
+same_changes : (casts others : List CastFields) (sender : ℕ) (c d : CastFields) → SameFrames casts others sender → IsIn c casts → IsIn d others → c.sender ≡ sender → d.sender ≡ sender → first_number c ≡ first_number d → c.changes ≡ d.changes
 same_changes casts others sender c d same in_casts in_others e f at =
-    all_at (λ (y : CastFields). c.sender ≡ sender → y.sender ≡ sender → c.number ≡ y.number → c.changes ≡ y.changes) others d
-    (all_at (λ (x : CastFields). AllByRecursion (λ (y : CastFields). x.sender ≡ sender → y.sender ≡ sender → x.number ≡ y.number → x.changes ≡ y.changes) others) casts c same in_casts) in_others e f at
+    all_at (λ (y : CastFields). c.sender ≡ sender → y.sender ≡ sender → first_number c ≡ first_number y → c.changes ≡ y.changes) others d
+    (all_at (λ (x : CastFields). AllByRecursion (λ (y : CastFields). x.sender ≡ sender → y.sender ≡ sender → first_number x ≡ first_number y → x.changes ≡ y.changes) others) casts c same in_casts) in_others e f at
 
 totals_agree : (casts others : List CastFields) (sender n k : ℕ) → NamesDiffer (messages_in casts) → NamesDiffer (messages_in others)
     → ((m : Carried) → IsIn m (messages_in casts) → 1 ≤ m.number) → ((m : Carried) → IsIn m (messages_in others) → 1 ≤ m.number) → SameFrames casts others sender

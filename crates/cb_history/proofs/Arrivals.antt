@@ -1,26 +1,28 @@
 -- Which casts are there after one came.
 use Rattle.std.proofs.Common.{◌≡◌, ℕ, true, not, ◌↔◌, eqb, ltb, List, [], ◌∷◌, ◌++◌, Result, Ok, Err, refl, sym, ap, subst, ◌∙◌, arith, inl, inr}
 use Rattle.std.specs.Prelude.{IsOk}
-use Rattle.std.proofs.lemmas.Bool.{cond_both, eq-eqb, eqb-true, ltb-true, and_parts, and_from, both_ways, not_from_true}
+use Rattle.std.proofs.lemmas.Bool.{cond_both, eq-eqb, eqb-true, ltb-true, and_parts, both_ways, not_from_true}
 use Rattle.cb_times.specs.declared.name.Name.{Name}
 use Rattle.cb_frames.specs.declared.fault.FrameFault.{FrameFault}
-use Rattle.cb_frames.specs.Fields.{CastFields, FrameFields, CastFrame}
+use Rattle.cb_frames.specs.Fields.{CastFields, FrameFields, CastFrame, messages_of, last_number}
+use Rattle.cb_frames.proofs.Carried.{last_is_carried}
 use Rattle.cb_frames.specs.Reading.{frame_at}
 use Rattle.cb_history.specs.declared.answer.ArriveRefusal.{ArriveRefusal}
 use Rattle.cb_history.specs.declared.answer.ArriveRefusal.TheVariants as arrivals
 use Rattle.cb_history.specs.Group.{Identity, IsIdentity}
-use Rattle.cb_history.specs.Facts.{EntryFields, ArriveEntry, Fact, OwnCast, CastReceived, StatusReceived, OwnStatus, facts_of, casts_in, cast_in, is_there}
+use Rattle.cb_history.specs.Facts.{EntryFields, ArriveEntry, Fact, OwnCast, CastReceived, StatusReceived, OwnStatus, facts_of, casts_in, cast_in, messages_in, is_there}
+use Rattle.cb_history.specs.View.{is_among}
 use Rattle.cb_history.specs.Answers.{is_full, delivered, are_members, is_impossible, is_repeat, is_too_far, ArrivalSays, frame_answer, answer_to, arrive_answer}
 use Rattle.cb_history.specs.Legal.{arrive_entry, and_entry}
 use Rattle.cb_history.specs.LegalFacts.{IsStep, AreLegalFacts, NoFacts, OneFactMore, AreFactsOf}
 use Rattle.cb_history.specs.OwnFrameLaws.{IsOfTheGroup}
 use Rattle.cb_history.specs.ArrivalLaws.{AreThere, AcceptedIsThere, ThereStays, CastsAreOfTheGroup}
 use Rattle.cb_history.proofs.Views.{IsIn, casts_in-append}
-use Rattle.cb_history.proofs.Lists.{flat_map-append, in_back, in_append, in_one}
+use Rattle.cb_history.proofs.Lists.{flat_map-append, in_append, in_one, in_casts_back, all_of, each_of, in_is_among}
 use Rattle.cb_history.proofs.Rising.{there_more}
 use Rattle.cb_history.proofs.Histories.{said_facts}
 use Rattle.cb_history.proofs.OwnFrames.{own_casts_are_of_the_group}
-use Rattle.cb_history.proofs.Buffers.{cast_is_there, cast_of_is_in}
+use Rattle.cb_history.proofs.Buffers.{cast_of_is_in}
 use Rattle.cb_history.proofs.Runs.{own_is_delivered}
 
 pub there_stays : ThereStays
@@ -41,16 +43,18 @@ taken_is_there entries bytes names c read =
     let facts : facts_of (entries ++ ArriveEntry bytes names ∷ []) ≡ facts_of entries ++ CastReceived c ∷ [] = said_facts entries bytes names (CastFrame c) read in
     let casts : casts_in (facts_of (entries ++ ArriveEntry bytes names ∷ [])) ≡ casts_in (facts_of entries) ++ c ∷ [] = ap casts_in facts ∙ casts_in-append (facts_of entries) (CastReceived c) in
     subst (λ (cs : List CastFields). AreThere cs c) (sym casts)
-    (and_from (is_there (casts_in (facts_of entries) ++ c ∷ []) c.sender c.number) true
-    (cast_is_there (casts_in (facts_of entries) ++ c ∷ []) c c.sender c.number (in_back c (casts_in (facts_of entries)) (c ∷ []) (inl refl)) refl refl) refl)
+    (all_of (is_among (messages_in (casts_in (facts_of entries) ++ c ∷ []))) (messages_of c) (λ m there. in_is_among (messages_in (casts_in (facts_of entries) ++ c ∷ [])) m (in_casts_back (casts_in (facts_of entries)) c m there)))
 
 impossible_is_not_there : (seat : Identity) (facts : List Fact) (c : CastFields) → AreFactsOf seat facts → is_impossible seat facts (CastFrame c) ≡ true → AreThere (casts_in facts) c → ⊥
 impossible_is_not_there seat facts c are impossible there =
-    let both = and_parts (eqb c.sender seat.me) (ltb (delivered seat facts seat.me) c.number) impossible in
-    let above = ltb-true (delivered seat facts seat.me) c.number both.1 in
-    let here = (and_parts (is_there (casts_in facts) c.sender c.number) true there).0 in
-    let bound = own_is_delivered seat facts c.number are (subst (λ (i : ℕ). is_there (casts_in facts) i c.number ≡ true) (eqb-true c.sender seat.me both.0) here) in
-    omega (arith, above, bound)
+    let last = last_is_carried c in
+    let number = last.number_is in
+    let both = and_parts (eqb c.sender seat.me) (ltb (delivered seat facts seat.me) (last_number c)) impossible in
+    let above = ltb-true (delivered seat facts seat.me) (last_number c) both.1 in
+    let here : is_there (casts_in facts) last.found.sender last.found.number ≡ true = each_of (is_among (messages_in (casts_in facts))) (messages_of c) last.found there last.there in
+    let own : last.found.sender ≡ seat.me = last.sender_is ∙ eqb-true c.sender seat.me both.0 in
+    let bound = own_is_delivered seat facts last.found.number are (subst (λ (i : ℕ). is_there (casts_in facts) i last.found.number ≡ true) own here) in
+    omega (arith, above, bound, number)
 
 answer_is_right : (seat : Identity) (limit : ℕ) (entries : List EntryFields) (bytes : List ℕ) (c : CastFields) → AreFactsOf seat (facts_of entries) → frame_at bytes ≡ Ok (CastFrame c) → IsOfTheGroup seat.group (CastFrame c)
     → IsRight entries bytes c (frame_answer seat limit entries (facts_of entries) (CastFrame c))

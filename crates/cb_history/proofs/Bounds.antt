@@ -1,8 +1,9 @@
 -- A view has at most as many messages as there are facts.
-use Rattle.std.proofs.Common.{◌≡◌, ℕ, zero, suc, ◌+◌, ◌≤◌, Bool, true, false, List, [], ◌∷◌, ◌++◌, length, Option, Some, None, cond, eqb, refl, ap, arith}
+use Rattle.std.proofs.Common.{◌≡◌, ℕ, zero, suc, ◌+◌, ◌≤◌, Bool, true, false, List, [], ◌∷◌, ◌++◌, length, Option, Some, None, cond, eqb, refl, ap, subst, append_assoc, arith}
 use Rattle.std.proofs.lemmas.List.{append-nil, length-append}
 use Rattle.cb_frames.specs.Fields.{CastFields, Carried, messages_of}
-use Rattle.cb_history.specs.Facts.{Fact, OwnCast, CastReceived, StatusReceived, OwnStatus, messages_in}
+use Rattle.cb_frames.proofs.Carried.{carried_up_to_the_last, carries_no_more}
+use Rattle.cb_history.specs.Facts.{Fact, OwnCast, CastReceived, StatusReceived, OwnStatus, casts_in, messages_in}
 use Rattle.cb_history.specs.View.{count, is_among, next_delivery, with_next, drained, seen_from, view}
 use Rattle.cb_history.proofs.Lists.{messages_in-push}
 use Rattle.cb_history.proofs.Views.{left, left_more, left_shrinks, one_unless, unless_more, among_itself, next_is, expanded_is_there, ready_is_new}
@@ -31,31 +32,38 @@ unfolding drained
 drained_within size casts zero seen h = h
 drained_within size casts (suc budget) seen h = drained_on size casts budget seen (next_delivery size casts seen) refl h (λ more k. drained_within size casts budget more k)
 
-own_within : (casts : List CastFields) (seen : List Carried) (c : CastFields) → IsWithin (messages_in casts) seen → IsWithin (messages_in (casts ++ c ∷ [])) (seen ++ messages_of c)
-own_within casts seen c h =
-    let m : Carried = record { sender = c.sender; number = c.number; payload = c.payload } in
-    let ms = messages_in casts in
-    let more = left_more ms seen m in
+-- with more messages that were seen, and with more that were not
+seen_within : (ms seen more : List Carried) → IsWithin ms seen → IsWithin (ms ++ more) (seen ++ more)
+seen_within ms seen [] h = rw (append-nil ms, append-nil seen) h
+seen_within ms seen (m ∷ more) h =
     let itself : one_unless (is_among (seen ++ m ∷ []) m) ≡ 0 = ap one_unless (among_itself seen m) in
-    rw (messages_in-push casts c)
-    (omega (arith, h, more, itself, left_append ms (seen ++ m ∷ []) m, length-append seen (m ∷ []), length-append ms (m ∷ [])))
+    let one : IsWithin (ms ++ m ∷ []) (seen ++ m ∷ []) =
+    omega (arith, h, left_more ms seen m, itself, left_append ms (seen ++ m ∷ []) m, length-append seen (m ∷ []), length-append ms (m ∷ [])) in
+    subst (λ (xs : List Carried). IsWithin xs (seen ++ m ∷ more)) (append_assoc ms (m ∷ []) more)
+    (subst (IsWithin ((ms ++ m ∷ []) ++ more)) (append_assoc seen (m ∷ []) more) (seen_within (ms ++ m ∷ []) (seen ++ m ∷ []) more one))
+
+unseen_within : (ms seen more : List Carried) → IsWithin ms seen → IsWithin (ms ++ more) seen
+unseen_within ms seen [] h = rw (append-nil ms) h
+unseen_within ms seen (m ∷ more) h =
+    let least : one_unless (is_among seen m) ≤ 1 = unless_more false (is_among seen m) (λ e. absurd cc) in
+    let one : IsWithin (ms ++ m ∷ []) seen = omega (arith, h, least, left_append ms seen m, length-append ms (m ∷ [])) in
+    subst (λ (xs : List Carried). IsWithin xs seen) (append_assoc ms (m ∷ []) more) (unseen_within (ms ++ m ∷ []) seen more one)
+
+own_within : (casts : List CastFields) (seen : List Carried) (c : CastFields) → IsWithin (messages_in casts) seen → IsWithin (messages_in (casts ++ c ∷ [])) (seen ++ messages_of c)
+own_within casts seen c h = rw (messages_in-push casts c) (seen_within (messages_in casts) seen (messages_of c) h)
 
 received_within : (casts : List CastFields) (seen : List Carried) (c : CastFields) → IsWithin (messages_in casts) seen → IsWithin (messages_in (casts ++ c ∷ [])) seen
-received_within casts seen c h =
-    let m : Carried = record { sender = c.sender; number = c.number; payload = c.payload } in
-    let ms = messages_in casts in
-    let one : one_unless (is_among seen m) ≤ 1 = unless_more false (is_among seen m) (λ e. absurd cc) in
-    rw (messages_in-push casts c) (omega (arith, h, one, left_append ms seen m, length-append ms (m ∷ [])))
+received_within casts seen c h = rw (messages_in-push casts c) (unseen_within (messages_in casts) seen (messages_of c) h)
 
-seen_from_at_most : (size : ℕ) (casts : List CastFields) (seen : List Carried) (facts : List Fact) → IsWithin (messages_in casts) seen → length (seen_from size casts seen facts) ≤ length (messages_in casts) + length facts
+seen_from_at_most : (size : ℕ) (casts : List CastFields) (seen : List Carried) (facts : List Fact) → IsWithin (messages_in casts) seen → length (seen_from size casts seen facts) ≤ length (messages_in casts) + length (messages_in (casts_in facts))
 seen_from_at_most size casts seen [] h = omega (arith, h)
 seen_from_at_most size casts seen (OwnCast c ∷ facts) h =
     let others = seen_from_at_most size (casts ++ c ∷ []) (seen ++ messages_of c) facts (own_within casts seen c h) in
-    omega (arith, others, ap (λ (ms : List Carried). length ms) (messages_in-push casts c), length-append (messages_in casts) (messages_of c))
+    omega (arith, others, ap (λ (ms : List Carried). length ms) (messages_in-push casts c), length-append (messages_in casts) (messages_of c), length-append (messages_of c) (messages_in (casts_in facts)))
 seen_from_at_most size casts seen (CastReceived c ∷ facts) h =
     let all = casts ++ c ∷ [] in
     let others = seen_from_at_most size all (drained size all (length (messages_in all)) seen) facts (drained_within size all (length (messages_in all)) seen (received_within casts seen c h)) in
-    omega (arith, others, ap (λ (ms : List Carried). length ms) (messages_in-push casts c), length-append (messages_in casts) (messages_of c))
+    omega (arith, others, ap (λ (ms : List Carried). length ms) (messages_in-push casts c), length-append (messages_in casts) (messages_of c), length-append (messages_of c) (messages_in (casts_in facts)))
 seen_from_at_most size casts seen (StatusReceived s ∷ facts) h =
     let others = seen_from_at_most size casts seen facts h in
     rw (append-nil casts) (omega (arith, others))
@@ -63,9 +71,21 @@ seen_from_at_most size casts seen (OwnStatus s ∷ facts) h =
     let others = seen_from_at_most size casts seen facts h in
     rw (append-nil casts) (omega (arith, others))
 
-pub view_at_most : (size : ℕ) (facts : List Fact) → length (view size facts) ≤ length facts
+-- a view has at most as many messages as the casts carry
+view_of_casts : (size : ℕ) (facts : List Fact) → length (view size facts) ≤ length (messages_in (casts_in facts))
 unfolding view
-view_at_most size facts = let h = seen_from_at_most size [] [] facts (omega arith) in omega (arith, h)
+view_of_casts size facts = let h = seen_from_at_most size [] [] facts (omega arith) in omega (arith, h)
+
+-- these are at most as many as the facts, as a fact has one cast at most, and a cast one message
+carried_at_most : (facts : List Fact) → length (messages_in (casts_in facts)) ≤ length facts
+carried_at_most [] = omega arith
+carried_at_most (OwnCast c ∷ facts) = omega (arith, length-append (messages_of c) (messages_in (casts_in facts)), carried_up_to_the_last c, carries_no_more c, carried_at_most facts)
+carried_at_most (CastReceived c ∷ facts) = omega (arith, length-append (messages_of c) (messages_in (casts_in facts)), carried_up_to_the_last c, carries_no_more c, carried_at_most facts)
+carried_at_most (StatusReceived s ∷ facts) = let others = carried_at_most facts in omega (arith, others)
+carried_at_most (OwnStatus s ∷ facts) = let others = carried_at_most facts in omega (arith, others)
+
+pub view_at_most : (size : ℕ) (facts : List Fact) → length (view size facts) ≤ length facts
+view_at_most size facts = omega (arith, view_of_casts size facts, carried_at_most facts)
 
 one_or_none : (b : Bool) → cond b 1 0 ≤ 1
 one_or_none true = omega arith

@@ -1,11 +1,12 @@
 -- Counts and numbers of messages stay in the range of numbers.
-use Rattle.std.proofs.Common.{◌≡◌, ℕ, zero, suc, ◌+◌, ◌<◌, ◌≤◌, ◌^◌, Bool, true, false, ◌||◌, cond, eqb, leb, List, [], ◌∷◌, ◌++◌, max, Ok, refl, sym, ap, subst, ◌∙◌, arith, inl, inr}
+use Rattle.std.proofs.Common.{◌≡◌, ℕ, zero, suc, ◌+◌, ◌<◌, ◌≤◌, ◌^◌, Bool, true, false, ◌||◌, cond, eqb, leb, List, [], ◌∷◌, ◌++◌, max, Ok, refl, ap, subst, ◌∙◌, arith, inl, inr}
 use Rattle.std.specs.List.{AllByRecursion, flat_map}
 use Rattle.std.proofs.lemmas.Bool.{leb-false, le-leb, lt-leb}
 use Rattle.std.proofs.lemmas.List.{append-nil}
 use Rattle.cb_frames.specs.declared.frame.TheConstants.{LAST_NUMBER}
 use Rattle.cb_frames.specs.declared.frame.Change.{Change}
-use Rattle.cb_frames.specs.Fields.{CastFields, FrameFields, CastFrame, StatusFrame, RequestFrame, Carried}
+use Rattle.cb_frames.specs.Fields.{CastFields, FrameFields, CastFrame, StatusFrame, RequestFrame, Carried, first_number, last_number}
+use Rattle.cb_frames.proofs.Carried.{carries_no_more, carried_is_of_cast}
 use Rattle.cb_frames.specs.Text.{pairs_from}
 use Rattle.cb_frames.specs.Reading.{frame_at}
 use Rattle.cb_frames.specs.Laws.{IsBytes, CanBeWritten}
@@ -21,8 +22,8 @@ use Rattle.cb_history.specs.Answers.{delivered, is_window_full}
 use Rattle.cb_history.specs.LegalFacts.{SaysNumbers, IsStep, AreLegalFacts, NoFacts, OneFactMore}
 use Rattle.cb_history.specs.CountLaws.{OwnCastsHaveNumbers, MessagesHaveNumbers, CountsAreNumbers, KnownAreNumbers, NoNumberIsFull, HistoriesLeaveNumbers}
 use Rattle.cb_history.proofs.Views.{IsIn, or_right, casts_in-append}
-use Rattle.cb_history.proofs.Lists.{flat_map-append, messages_in-push, in_push, or_false, among_is, among_by_order}
-use Rattle.cb_history.proofs.Names.{message, all_stand}
+use Rattle.cb_history.proofs.Lists.{flat_map-append, in_casts_push, or_false, among_is, among_by_order}
+use Rattle.cb_history.proofs.Names.{all_stand}
 use Rattle.cb_history.proofs.Bounds.{count_below}
 use Rattle.cb_history.proofs.Rising.{greatest_append, all_at_most, known_parts}
 
@@ -48,21 +49,20 @@ histories_leave_numbers seat facts few =
 
 pub own_casts_have_numbers : OwnCastsHaveNumbers
 own_casts_have_numbers seat facts c own =
-    let number : c.number ≡ delivered seat facts seat.me + 1 = ap (λ (x : CastFields). x.number) own.next in
-    omega (arith, number, number_left seat facts own.window)
+    let first : first_number c ≡ delivered seat facts seat.me + 1 = ap first_number own.next in
+    omega (arith, first, carries_no_more c, number_left seat facts own.window)
 
 -- ---- messages that are there
 
 abbrev HaveNumbers : List Fact → Type 0
 HaveNumbers facts = (m : Carried) → IsIn m (messages_in (casts_in facts)) → m.number ≤ LAST_NUMBER
 
-numbers_push : (facts : List Fact) (f : Fact) (c : CastFields) → cast_in f ≡ c ∷ [] → HaveNumbers facts → c.number ≤ LAST_NUMBER → HaveNumbers (facts ++ f ∷ [])
+numbers_push : (facts : List Fact) (f : Fact) (c : CastFields) → cast_in f ≡ c ∷ [] → HaveNumbers facts → last_number c ≤ LAST_NUMBER → HaveNumbers (facts ++ f ∷ [])
 numbers_push facts f c is have here m there =
     let casts : casts_in (facts ++ f ∷ []) ≡ casts_in facts ++ c ∷ [] = casts_in-append facts f ∙ ap (λ (cs : List CastFields). casts_in facts ++ cs) is in
-    let messages : messages_in (casts_in (facts ++ f ∷ [])) ≡ messages_in (casts_in facts) ++ message c ∷ [] = ap messages_in casts ∙ messages_in-push (casts_in facts) c in
-    elim (in_push m (message c) (messages_in (casts_in facts)) (subst (IsIn m) messages there)) [
+    elim (in_casts_push (casts_in facts) c m (subst (λ (cs : List CastFields). IsIn m (messages_in cs)) casts there)) [
       | inl old ↦ have m old
-      | inr new ↦ subst (λ (x : Carried). x.number ≤ LAST_NUMBER) (sym new) here
+      | inr late ↦ let high = (carried_is_of_cast c m late).high in omega (arith, high, here)
     ]
 
 numbers_same : (facts : List Fact) (f : Fact) → cast_in f ≡ [] → HaveNumbers facts → HaveNumbers (facts ++ f ∷ [])
@@ -112,7 +112,7 @@ counts_are_numbers seat facts k are = count_at_most_last seat facts k are.member
 
 reported_small : (seat : Identity) (facts : List Fact) (f : Fact) (i : ℕ) → IsStep seat facts f → greatest_of (reported_of i f ++ []) ≤ LAST_NUMBER
 reported_small seat facts (OwnCast c) i step = omega arith
-reported_small seat facts (CastReceived c) i step = one_small (eqb c.sender i) c.number step.taken.numbers
+reported_small seat facts (CastReceived c) i step = one_small (eqb c.sender i) (last_number c) step.taken.numbers
   where
     one_small : (b : Bool) (n : ℕ) → n ≤ LAST_NUMBER → greatest_of (cond b (n ∷ []) [] ++ []) ≤ LAST_NUMBER
     one_small true n small = omega (arith, small)

@@ -142,17 +142,17 @@ smallest_is_least (x ∷ ms) m n h there = by_rest x ms m n (of_smallest_sender 
     by_rest : (x : Carried) (ms : List Carried) (m n : Carried) (o : Option Carried) → of_smallest_sender ms ≡ o → Some (lesser_sender x o) ≡ Some m → IsIn n (x ∷ ms)
         → ((y : Carried) → of_smallest_sender ms ≡ Some y → IsIn n ms → y.sender ≤ n.sender) → m.sender ≤ n.sender
     by_rest x ms m n None e h (inl same) go =
-        let is : x.sender ≡ m.sender = ap (λ (c : Carried). c.sender) (some_same x m h) in
-        let name : n.sender ≡ x.sender = ap (λ (c : Carried). c.sender) same in
+        let is : x.sender ≡ m.sender = ap (λ (y : Carried). y.sender) (some_same x m h) in
+        let name : n.sender ≡ x.sender = ap (λ (y : Carried). y.sender) same in
         omega (arith, is, name)
     by_rest x ms m n None e h (inr later) go = absurd (none_of_some ms n e later)
     by_rest x ms m n (Some y) e h (inl same) go =
-        let is : (lesser_sender x (Some y)).sender ≡ m.sender = ap (λ (c : Carried). c.sender) (some_same (lesser_sender x (Some y)) m h) in
+        let is : (lesser_sender x (Some y)).sender ≡ m.sender = ap (λ (y : Carried). y.sender) (some_same (lesser_sender x (Some y)) m h) in
         let least = lesser_is_least x y in
-        let name : n.sender ≡ x.sender = ap (λ (c : Carried). c.sender) same in
+        let name : n.sender ≡ x.sender = ap (λ (y : Carried). y.sender) same in
         subst (λ (s : ℕ). s ≤ n.sender) is (subst (λ (s : ℕ). (lesser_sender x (Some y)).sender ≤ s) (sym name) least.0)
     by_rest x ms m n (Some y) e h (inr later) go =
-        let is : (lesser_sender x (Some y)).sender ≡ m.sender = ap (λ (c : Carried). c.sender) (some_same (lesser_sender x (Some y)) m h) in
+        let is : (lesser_sender x (Some y)).sender ≡ m.sender = ap (λ (y : Carried). y.sender) (some_same (lesser_sender x (Some y)) m h) in
         let least = lesser_is_least x y in
         let rest = go y e later in
         subst (λ (s : ℕ). s ≤ n.sender) is (le_then (lesser_sender x (Some y)).sender y.sender n.sender least.1 rest)
@@ -177,11 +177,11 @@ pub one_message : (ms : List Carried) (a b : Carried) → NamesDiffer ms → IsI
 one_message [] a b differ there there' s n = absurd there
 one_message (x ∷ ms) a b differ (inl same) (inl same') s n = same ∙ sym same'
 one_message (x ∷ ms) a b differ (inl same) (inr later) s n =
-    let among : is_among ms x ≡ true = named_among ms x b (ap (λ (c : Carried). c.sender) (sym same) ∙ s) (ap (λ (c : Carried). c.number) (sym same) ∙ n) later in
+    let among : is_among ms x ≡ true = named_among ms x b (ap (λ (y : Carried). y.sender) (sym same) ∙ s) (ap (λ (y : Carried). y.number) (sym same) ∙ n) later in
     let none = differ.0 in
     absurd cc
 one_message (x ∷ ms) a b differ (inr later) (inl same) s n =
-    let among : is_among ms x ≡ true = named_among ms x a (ap (λ (c : Carried). c.sender) (sym same) ∙ sym s) (ap (λ (c : Carried). c.number) (sym same) ∙ sym n) later in
+    let among : is_among ms x ≡ true = named_among ms x a (ap (λ (y : Carried). y.sender) (sym same) ∙ sym s) (ap (λ (y : Carried). y.number) (sym same) ∙ sym n) later in
     let none = differ.0 in
     absurd cc
 one_message (x ∷ ms) a b differ (inr later) (inr later') s n = one_message ms a b differ.1 later later' s n

@@ -1,54 +1,56 @@
 -- The expander's sums are those over all facts.
 use Rattle.std.proofs.Common.{◌≡◌, ◌≢◌, ℕ, zero, suc, ◌+◌, ◌<◌, ◌≤◌, true, cond, eqb, ltb, List, [], ◌∷◌, ◌++◌, length, set, min, replicate, refl, sym, ap, subst, ◌∙◌, arith, inl, inr}
 use Rattle.std.specs.List.{AllByRecursion, list_all, All}
-use Rattle.std.proofs.lemmas.Bool.{cases_eq, eq-eqb, ne_eqb, ltb-true, and_parts, both_ways}
+use Rattle.std.proofs.lemmas.Bool.{cases_eq, eq-eqb, ne_eqb, ltb-true, and_parts}
 use Rattle.std.proofs.lemmas.List.{length-set, get_or-set_same, get_or-set_other, get_or-replicate, length-replicate, ext_get_or}
 use Rattle.std.proofs.lemmas.List.Elements.{All-nil, All-cons}
 use Rattle.std.proofs.lemmas.List.Sums.{sum_by-cons}
 use Rattle.std.proofs.lemmas.List.FromFn.{get_or-map-range_with_len, length-map-range_with_len}
 use Rattle.cb_times.specs.Order.{field}
 use Rattle.cb_frames.specs.declared.frame.Change.{Change}
-use Rattle.cb_frames.specs.Fields.{CastFields, Carried, growth_in, last_number}
+use Rattle.cb_frames.specs.Fields.{CastFields, Carried, messages_of, growth_in, first_number, last_number}
+use Rattle.cb_frames.proofs.Carried.{carries_some, carries_no_more}
 use Rattle.cb_diffs.specs.Expansion.{greatest, growth_of, expanded_field, expanded_time, AreMembers, Expands}
 use Rattle.cb_diffs.specs.Expansion as expander
 use Rattle.cb_diffs.proofs.Growing.{kept_is_given}
 use Rattle.cb_diffs.proofs.Sums.{growth_of-later, growth_of-own, min_of_min}
 use Rattle.cb_history.specs.Group.{Identity}
-use Rattle.cb_history.specs.Facts.{Fact, casts_in, messages_in, is_there}
+use Rattle.cb_history.specs.Facts.{Fact, casts_in, messages_in}
 use Rattle.cb_history.specs.NameLaws.{NamesDiffer, NumberedFrom}
 use Rattle.cb_history.specs.LegalFacts.{AreFactsOf}
 use Rattle.cb_history.specs.BufferLaws.{IsCastOf}
 use Rattle.cb_history.specs.ExpanderLaws.{NewExpanderKeepsNothing, CastBehindIsNext, ExpanderTellsTheTime, OtherTimesAreKept, KeptTimesStay, OrderChangesNoTime}
 use Rattle.cb_history.proofs.Views.{IsIn}
+use Rattle.cb_history.proofs.Lists.{names_behind}
 use Rattle.cb_history.proofs.Names.{all_stand}
 use Rattle.cb_history.proofs.Times.{same_over_range, times_stay}
-use Rattle.cb_history.proofs.Agreement.{one_adds, nothing_at_zero}
+use Rattle.cb_history.proofs.Agreement.{apart, one_begins, nothing_at_zero}
 use Rattle.cb_diffs.proofs.Sums.{total}
 use Rattle.cb_history.proofs.Runs.{expanded_up_to_the_count}
-use Rattle.cb_history.proofs.Buffers.{cast_is_there, cast_of_is_in}
+use Rattle.cb_history.proofs.Buffers.{cast_of_is_in}
 use Rattle.cb_history.proofs.Arrivals.{casts_are_of_the_group}
 
 -- ---- one cast more in the sums
 
--- of two casts that are there and have one name both are the same
-pub one_of_a_name : (casts : List CastFields) (c d : CastFields) → NamesDiffer (messages_in casts) → IsIn c casts → IsIn d casts → c.sender ≡ d.sender → c.number ≡ d.number → c ≡ d
-one_of_a_name [] c d differ there there' sender number = absurd there
-one_of_a_name (x ∷ casts) c d differ (inl here) (inl here') sender number = here ∙ sym here'
-one_of_a_name (x ∷ casts) c d differ (inl here) (inr later) sender number =
-    absurd (both_ways (is_there casts x.sender x.number) differ.0
-    (cast_is_there casts d x.sender x.number later (sym sender ∙ ap (λ (y : CastFields). y.sender) here) (sym number ∙ ap (λ (y : CastFields). y.number) here)))
-one_of_a_name (x ∷ casts) c d differ (inr later) (inl here) sender number =
-    absurd (both_ways (is_there casts x.sender x.number) differ.0
-    (cast_is_there casts c x.sender x.number later (sender ∙ ap (λ (y : CastFields). y.sender) here) (number ∙ ap (λ (y : CastFields). y.number) here)))
-one_of_a_name (x ∷ casts) c d differ (inr later) (inr later') sender number = one_of_a_name casts c d differ.1 later later' sender number
+-- of two casts that are there and have a message of one name both are the same
+pub one_of_a_message : (casts : List CastFields) (c d : CastFields) (n : ℕ) → NamesDiffer (messages_in casts) → IsIn c casts → IsIn d casts → c.sender ≡ d.sender
+    → first_number c ≤ n → n ≤ last_number c → first_number d ≤ n → n ≤ last_number d → c ≡ d
+one_of_a_message [] c d n differ there there' sender low high from upto = absurd there
+one_of_a_message (x ∷ casts) c d n differ (inl here) (inl here') sender low high from upto = here ∙ sym here'
+one_of_a_message (x ∷ casts) c d n differ (inl here) (inr later) sender low high from upto =
+    absurd (apart c d casts n (subst (λ (y : CastFields). NamesDiffer (messages_in (y ∷ casts))) (sym here) differ) later sender low high from upto)
+one_of_a_message (x ∷ casts) c d n differ (inr later) (inl here) sender low high from upto =
+    absurd (apart d c casts n (subst (λ (y : CastFields). NamesDiffer (messages_in (y ∷ casts))) (sym here) differ) later (sym sender) from upto low high)
+one_of_a_message (x ∷ casts) c d n differ (inr later) (inr later') sender low high from upto =
+    one_of_a_message casts c d n (names_behind (messages_of x) (messages_in casts) differ) later later' sender low high from upto
 
-one_more : (casts : List CastFields) (c : CastFields) (n k : ℕ) → NamesDiffer (messages_in casts) → IsIn c casts → c.number ≡ n + 1 → total casts c.sender (n + 1) k ≡ total casts c.sender n k + growth_in c.changes k
-one_more casts c n k differ there number =
-    let a = one_adds casts c.sender n k differ (cast_is_there casts c c.sender (n + 1) there refl number) in
-    let same = one_of_a_name casts a.cast c differ a.there there a.sender_is (a.number_is ∙ sym number) in
-    let growth : growth_in a.cast.changes k ≡ growth_in c.changes k = ap (λ (x : CastFields). growth_in x.changes k) same in
-    let adds = a.adds in
-    omega (arith, adds, growth)
+pub one_of_a_name : (casts : List CastFields) (c d : CastFields) → NamesDiffer (messages_in casts) → IsIn c casts → IsIn d casts → c.sender ≡ d.sender → first_number c ≡ first_number d → c ≡ d
+one_of_a_name casts c d differ there there' sender first =
+    one_of_a_message casts c d (first_number c) differ there there' sender (omega arith) (carries_some c) (omega (arith, first)) (omega (arith, first, carries_some d))
+
+-- the first and the last number are one, as a cast carries one message
+begins_with_the_last : (c : CastFields) → first_number c ≡ last_number c
+begins_with_the_last c = omega (arith, carries_some c, carries_no_more c)
 
 -- ---- what the expander keeps
 
@@ -97,12 +99,12 @@ cast_behind_is_next seat facts c n kept are there behind keeps =
     }
 
 -- the time that is reported, field by field
-reported_field : (size : ℕ) (casts : List CastFields) (c : CastFields) (n k : ℕ) → NamesDiffer (messages_in casts) → IsIn c casts → c.number ≡ n + 1 → k < size → k ≢ c.sender
-    → min greatest (field (expanded_time size casts c.sender n) k + growth_in c.changes k) ≡ expanded_field casts c.sender c.number k
+reported_field : (size : ℕ) (casts : List CastFields) (c : CastFields) (n k : ℕ) → NamesDiffer (messages_in casts) → IsIn c casts → first_number c ≡ n + 1 → k < size → k ≢ c.sender
+    → min greatest (field (expanded_time size casts c.sender n) k + growth_in c.changes k) ≡ expanded_field casts c.sender (first_number c) k
 reported_field size casts c n k differ there behind lt ne =
     let before : field (expanded_time size casts c.sender n) k ≡ min greatest (total casts c.sender n k) = field_at size casts c.sender n k lt ∙ rw (ne_eqb k c.sender ne) refl in
-    let after : expanded_field casts c.sender c.number k ≡ min greatest (total casts c.sender (n + 1) k) = ap (λ (m : ℕ). expanded_field casts c.sender m k) behind ∙ rw (ne_eqb k c.sender ne) refl in
-    let more = one_more casts c n k differ there behind in
+    let after : expanded_field casts c.sender (first_number c) k ≡ min greatest (total casts c.sender (n + 1) k) = ap (λ (m : ℕ). expanded_field casts c.sender m k) behind ∙ rw (ne_eqb k c.sender ne) refl in
+    let more = one_begins casts c c.sender n k differ there refl behind in
     ap (λ (v : ℕ). min greatest (v + growth_in c.changes k)) before ∙ min_of_min (total casts c.sender n k) (growth_in c.changes k) ∙ ap (min greatest) (sym more) ∙ sym after
 
 pub expander_tells_the_time : ExpanderTellsTheTime
@@ -111,16 +113,16 @@ expander_tells_the_time seat facts c n time old new are there keeps e =
     let casts = casts_in facts in
     let s = all_stand seat facts are.member are.facts_are in
     let member : c.sender < size = (cast_of_members seat facts c are there).sender in
-    let behind : c.number ≡ n + 1 = e.next ∙ ap (λ (m : ℕ). m + 1) (ap (λ (t : List ℕ). field t c.sender) keeps.time ∙ own_is_number size casts c.sender n member) in
+    let behind : first_number c ≡ n + 1 = e.next ∙ ap (λ (m : ℕ). m + 1) (ap (λ (t : List ℕ). field t c.sender) keeps.time ∙ own_is_number size casts c.sender n member) in
     let old_size : length (expander.time_of old c.sender) ≡ size = ap length keeps.time ∙ length_of size casts c.sender n in
     let time_size : length time ≡ size = e.grown.size ∙ old_size in
-    let reported : time ≡ expanded_time size casts c.sender c.number = ext_get_or 0 time (expanded_time size casts c.sender c.number) (time_size ∙ sym (length_of size casts c.sender c.number)) (λ k below.
+    let reported : time ≡ expanded_time size casts c.sender (first_number c) = ext_get_or 0 time (expanded_time size casts c.sender (first_number c)) (time_size ∙ sym (length_of size casts c.sender (first_number c))) (λ k below.
     let lt : k < size = omega (arith, below, time_size) in
     elim (cases_eq k c.sender) [
-      | inl is ↦ ap (field time) is ∙ e.grown.own ∙ sym (ap (field (expanded_time size casts c.sender c.number)) is ∙ own_is_number size casts c.sender c.number member)
+      | inl is ↦ ap (field time) is ∙ e.grown.own ∙ sym (ap (field (expanded_time size casts c.sender (first_number c))) is ∙ own_is_number size casts c.sender (first_number c) member)
       | inr ne ↦
           e.grown.others k (omega (arith, lt, old_size)) ne ∙ ap (λ (t : List ℕ). min greatest (field t k + growth_in c.changes k)) keeps.time
-          ∙ reported_field size casts c n k s.names (cast_of_is_in c casts there) behind lt ne ∙ sym (field_at size casts c.sender c.number k lt)
+          ∙ reported_field size casts c n k s.names (cast_of_is_in c casts there) behind lt ne ∙ sym (field_at size casts c.sender (first_number c) k lt)
     ]) in
     let kept : new ≡ set old c.sender time = e.kept ∙ ap (set old c.sender) (kept_is_given c time e.grown.own) in
     let senders = keeps.senders in (
@@ -128,7 +130,7 @@ expander_tells_the_time seat facts c n time old new are there keeps e =
       reported,
       record {
         senders = ap length kept ∙ length-set old c.sender time ∙ senders;
-        time = ap (λ (ts : List (List ℕ)). expander.time_of ts c.sender) kept ∙ get_or-set_same old c.sender time [] (omega (arith, senders, member)) ∙ reported;
+        time = ap (λ (ts : List (List ℕ)). expander.time_of ts c.sender) kept ∙ get_or-set_same old c.sender time [] (omega (arith, senders, member)) ∙ reported ∙ ap (expanded_time size casts c.sender) (begins_with_the_last c);
       },
     )
 
@@ -151,7 +153,7 @@ none_yet : (i a b k : ℕ) (taken : List CastFields) → NumberedFrom i b taken 
 none_yet i a b k [] numbered lt = refl
 none_yet i a b k (c ∷ taken) numbered lt =
     let number = numbered.1 in
-    let later = none_yet i a (last_number c + 1) k taken numbered.2 (omega (arith, number, lt)) in
+    let later = none_yet i a (last_number c + 1) k taken numbered.2 (omega (arith, number, lt, carries_some c)) in
     omega (arith, sum_by-cons (growth_of i a k) c taken, growth_of-later i a k c (omega (arith, number, lt)), later)
 
 -- what the casts of a sender behind number a add up to, up to the number m
@@ -165,10 +167,10 @@ in_order casts taken i a zero m k differ numbered are few is =
 in_order casts [] i a (suc n) m k differ numbered are few is = absurd (omega (arith, few))
 in_order casts (c ∷ taken) i a (suc n) m k differ numbered are few is =
     let number = numbered.1 in
-    let rest : NumberedFrom i (a + 1 + 1) taken = subst (λ (j : ℕ). NumberedFrom i (j + 1) taken) number numbered.2 in
+    let rest : NumberedFrom i (a + 1 + 1) taken = subst (λ (j : ℕ). NumberedFrom i (j + 1) taken) (sym (begins_with_the_last c) ∙ number) numbered.2 in
     let later = in_order casts taken i (a + 1) n m k differ rest are.1 (omega (arith, few)) (omega (arith, is)) in
     let here : total casts i (a + 1) k ≡ total casts i a k + growth_in c.changes k =
-    subst (λ (j : ℕ). total casts j (a + 1) k ≡ total casts j a k + growth_in c.changes k) numbered.0 (one_more casts c a k differ (cast_of_is_in c casts are.0) number) in
+    subst (λ (j : ℕ). total casts j (a + 1) k ≡ total casts j a k + growth_in c.changes k) numbered.0 (one_begins casts c c.sender a k differ (cast_of_is_in c casts are.0) refl number) in
     omega (arith, later, here, sum_by-cons (growth_of i m k) c taken, growth_of-own i m k c numbered.0 (omega (arith, number, is)))
 
 pub order_changes_no_time : OrderChangesNoTime

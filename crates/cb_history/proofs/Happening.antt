@@ -3,7 +3,9 @@ use Rattle.std.proofs.Common.{◌≡◌, ◌≢◌, ℕ, ◌+◌, ◌<◌, ◌�
 use Rattle.std.proofs.lemmas.Bool.{cases_lt, cases_eq, eq-eqb, ne_eqb, false_from_ne_true}
 use Rattle.std.proofs.lemmas.List.{append-nil, map-append, drop_at}
 use Rattle.cb_times.specs.Order.{field}
-use Rattle.cb_frames.specs.Fields.{CastFields, CastFrame, Carried, messages_of}
+use Rattle.cb_frames.specs.Fields.{CastFields, CastFrame, Carried, messages_of, first_number, last_number}
+use Rattle.cb_frames.specs.Carrying.{AreNumberedFrom}
+use Rattle.cb_frames.proofs.Carried.{carried_in_order}
 use Rattle.cb_delay.specs.declared.message.Message.{Message}
 use Rattle.cb_delay.specs.declared.message.Event.{Event}
 use Rattle.cb_delay.specs.declared.message.Event.TheVariants.{Cast, Deliver}
@@ -16,10 +18,10 @@ use Rattle.cb_history.specs.Events.{event_in, events}
 use Rattle.cb_history.specs.LegalFacts.{AreLegalFacts, NoFacts, OneFactMore, AreFactsOf}
 use Rattle.cb_history.specs.DeliveryLaws.{MeetsRule}
 use Rattle.cb_history.specs.EventLaws.{new_events, EventsWithOneMore, carried_in, casts_among, EventsCastTheOwn, OwnCastMakesReady}
-use Rattle.cb_history.proofs.Views.{IsIn, filter_in, casts_in-append, among_more, expanded_is_there}
-use Rattle.cb_history.proofs.Lists.{flat_map-append, count-append, count_own, count_other}
+use Rattle.cb_history.proofs.Views.{IsIn, filter_in, casts_in-append, among_front, expanded_is_there}
+use Rattle.cb_history.proofs.Lists.{flat_map-append, count-append, count_of_others, count_to_the_last}
 use Rattle.cb_history.proofs.Walks.{view_grows, view_own, view_status, view_reported, own_casts-own, own_casts-other}
-use Rattle.cb_history.proofs.Names.{StandsAt, all_stand, message, one_of_is_in}
+use Rattle.cb_history.proofs.Names.{StandsAt, all_stand, one_of_is_in}
 use Rattle.cb_history.proofs.Prefixes.{prefix_of_facts_is_legal, last_fact_is_a_step}
 use Rattle.cb_history.proofs.Times.{seen_is_expanded, stays, same_over_range}
 use Rattle.cb_history.proofs.Delivering.{readiness_is_the_delay_rule, in_field, past_fields, nothing_above}
@@ -78,18 +80,25 @@ delivered_of_others seat facts c more are grown =
     let before = prefix_of_facts_is_legal seat facts (CastReceived c ∷ []) are in
     let s = all_stand seat facts before.member before.facts_are in
     let after = all_stand seat (facts ++ CastReceived c ∷ []) are.member are.facts_are in
-    let own : length (own_casts (facts ++ CastReceived c ∷ [])) ≡ length (own_casts facts) = ap length (own_casts-other facts (CastReceived c) tt) in
+    let own : length (messages_in (own_casts (facts ++ CastReceived c ∷ []))) ≡ length (messages_in (own_casts facts)) = ap (λ (cs : List CastFields). length (messages_in cs)) (own_casts-other facts (CastReceived c) tt) in
     let counted : count (view seat.group.size (facts ++ CastReceived c ∷ [])) seat.me ≡ count (view seat.group.size facts) seat.me + count more seat.me =
     ap (λ (ms : List Carried). count ms seat.me) grown ∙ count-append (view seat.group.size facts) more seat.me in
     omega (arith, counted, s.own_count, after.own_count, own)
+
+-- the member's own messages are cast
+own_are_cast : (seat : Identity) (casts : List CastFields) (n : ℕ) (ms : List Carried) → AreNumberedFrom seat.me n ms → map (event_in seat casts) ms ≡ map (λ m. Cast (message_in seat.group.size casts m)) ms
+own_are_cast seat casts n [] row = refl
+own_are_cast seat casts n (m ∷ ms) row =
+    rw (eq-eqb m.sender seat.me row.0) (ap (λ (es : List Event). Cast (message_in seat.group.size casts m) ∷ es) (own_are_cast seat casts (n + 1) ms row.2))
 
 pub events_with_one_more : EventsWithOneMore
 events_with_one_more seat facts (OwnCast c) are =
     let step = last_fact_is_a_step seat facts (OwnCast c) are in
     let sender : c.sender ≡ seat.me = ap (λ (x : CastFields). x.sender) step.next in
-    with_more seat facts (OwnCast c) (message c ∷ []) are (view_own seat.group.size facts c)
-    ∙ ap (λ (es : List Event). events seat facts ++ es) (rw (eq-eqb c.sender seat.me sender)
-    (ap (λ (cs : List CastFields). Cast (message_in seat.group.size cs (message c)) ∷ []) (casts_in-append facts (OwnCast c))))
+    let row = subst (λ (i : ℕ). AreNumberedFrom i (first_number c) (messages_of c)) sender (carried_in_order c) in
+    with_more seat facts (OwnCast c) (messages_of c) are (view_own seat.group.size facts c)
+    ∙ ap (λ (es : List Event). events seat facts ++ es) (own_are_cast seat (casts_in (facts ++ OwnCast c ∷ [])) (first_number c) (messages_of c) row
+    ∙ ap (λ (cs : List CastFields). map (λ m. Cast (message_in seat.group.size cs m)) (messages_of c)) (casts_in-append facts (OwnCast c)))
 events_with_one_more seat facts (CastReceived c) are =
     let grown = view_grows seat.group.size facts (CastReceived c) in
     let casts = casts_in (facts ++ CastReceived c ∷ []) in
@@ -113,8 +122,12 @@ none_cast : (messages : List Message) → casts_among (map (λ (message : Messag
 none_cast [] = refl
 none_cast (message ∷ messages) = none_cast messages
 
+each_cast : (size : ℕ) (casts : List CastFields) (ms : List Carried) → casts_among (map (λ m. Cast (message_in size casts m)) ms) ≡ ms
+each_cast size casts [] = refl
+each_cast size casts (m ∷ ms) = ap (λ (xs : List Carried). m ∷ xs) (each_cast size casts ms)
+
 new_casts : (seat : Identity) (facts : List Fact) (f : Fact) → casts_among (new_events seat facts f) ≡ messages_in (own_casts (f ∷ []))
-new_casts seat facts (OwnCast c) = refl
+new_casts seat facts (OwnCast c) = each_cast seat.group.size (casts_in facts ++ c ∷ []) (messages_of c) ∙ sym (append-nil (messages_of c))
 new_casts seat facts (CastReceived c) = none_cast (deliveries seat facts (CastFrame c))
 new_casts seat facts (StatusReceived s) = refl
 new_casts seat facts (OwnStatus s) = refl
@@ -143,16 +156,15 @@ events_cast_the_own seat facts are = cast_the_own seat facts are are.facts_are
 
 -- ---- what an own cast makes ready
 
-between : (n stamp : ℕ) → (stamp ≤ n → ⊥) → stamp ≤ n + 1 → (n + 1 ≤ stamp) × (stamp ≤ n + 1)
-between n stamp above upto =
+between : (n first stamp : ℕ) → first ≡ n + 1 → (stamp ≤ n → ⊥) → first ≤ stamp
+between n first stamp next above =
     elim (cases_lt n stamp) [
-      | inl lt ↦ (omega (arith, lt), upto)
+      | inl lt ↦ omega (arith, lt, next)
       | inr le ↦ absurd (above le)
     ]
 
 pub own_cast_makes_ready : OwnCastMakesReady
-own_cast_makes_ready seat facts c m are expanded not_ready ready =
-    subst (λ (n : ℕ). (n ≤ stamp seat.me) × (stamp seat.me ≤ n)) (sym number) (between counted (stamp seat.me) above upto)
+own_cast_makes_ready seat facts c m are expanded not_ready ready = (between counted (first_number c) (stamp seat.me) first above, upto)
   where
     size : ℕ
     size = seat.group.size
@@ -166,8 +178,8 @@ own_cast_makes_ready seat facts c m are expanded not_ready ready =
     counted : ℕ
     counted = count seen seat.me
 
-    number : c.number ≡ counted + 1
-    number = ap (λ (x : CastFields). x.number) (last_fact_is_a_step seat facts (OwnCast c) are).next
+    first : first_number c ≡ counted + 1
+    first = ap first_number (last_fact_is_a_step seat facts (OwnCast c) are).next
 
     sender : c.sender ≡ seat.me
     sender = ap (λ (x : CastFields). x.sender) (last_fact_is_a_step seat facts (OwnCast c) are).next
@@ -187,12 +199,12 @@ own_cast_makes_ready seat facts c m are expanded not_ready ready =
     same : (k : ℕ) → expanded_field (casts_in (facts ++ OwnCast c ∷ [])) m.sender m.number k ≡ stamp k
     same k = stays seat facts (OwnCast c) m k (all_stand seat (facts ++ OwnCast c ∷ []) are.member are.facts_are) (filter_in (is_expanded (casts_in facts)) (messages_in (casts_in facts)) m there).0
 
-    after : (is_among (seen ++ message c ∷ []) m ≡ false) × MeetsRule size (casts_in (facts ++ OwnCast c ∷ [])) (seen ++ message c ∷ []) m
-    after = (readiness_is_the_delay_rule size (casts_in (facts ++ OwnCast c ∷ [])) (seen ++ message c ∷ []) m member).0
+    after : (is_among (seen ++ messages_of c) m ≡ false) × MeetsRule size (casts_in (facts ++ OwnCast c ∷ [])) (seen ++ messages_of c) m
+    after = (readiness_is_the_delay_rule size (casts_in (facts ++ OwnCast c ∷ [])) (seen ++ messages_of c) m member).0
         (subst (λ (ms : List Carried). is_ready size (casts_in (facts ++ OwnCast c ∷ [])) ms m ≡ true) (view_own size facts c) ready)
 
     new : is_among seen m ≡ false
-    new = false_from_ne_true (is_among seen m) (λ yes. let more = among_more seen (message c) m yes in let no = after.0 in cc)
+    new = false_from_ne_true (is_among seen m) (λ yes. let more = among_front seen (messages_of c) m yes in let no = after.0 in cc)
 
     other : m.sender ≢ seat.me
     other e = let yes = stands.own_seen m in_casts e in let no = new in cc
@@ -201,18 +213,18 @@ own_cast_makes_ready seat facts c m are expanded not_ready ready =
     time_at : (k : ℕ) → k < size → field (expanded_time size (casts_in (facts ++ OwnCast c ∷ [])) m.sender m.number) k ≡ stamp k
     time_at k lt = in_field size (expanded_field (casts_in (facts ++ OwnCast c ∷ [])) m.sender m.number) k lt ∙ same k
 
-    upto : stamp seat.me ≤ counted + 1
+    upto : stamp seat.me ≤ last_number c
     upto =
-        subst (λ (n : ℕ). stamp seat.me ≤ n) (count_own seen (message c) seat.me sender)
-        (subst (λ (n : ℕ). n ≤ count (seen ++ message c ∷ []) seat.me) (time_at seat.me are.member) (after.1.others seat.me (λ e. other (sym e))))
+        subst (λ (n : ℕ). stamp seat.me ≤ n) (count_to_the_last seen c seat.me sender first)
+        (subst (λ (n : ℕ). n ≤ count (seen ++ messages_of c) seat.me) (time_at seat.me are.member) (after.1.others seat.me (λ e. other (sym e))))
 
     before : stamp seat.me ≤ counted → MeetsRule size (casts_in facts) seen m
     before low = record {
-      next = in_field size stamp m.sender member ∙ sym (time_at m.sender member) ∙ after.1.next ∙ ap (λ (n : ℕ). n + 1) (count_other seen (message c) m.sender (λ e. other (sym e ∙ sender)));
+      next = in_field size stamp m.sender member ∙ sym (time_at m.sender member) ∙ after.1.next ∙ ap (λ (n : ℕ). n + 1) (count_of_others seen c m.sender (λ e. other (sym e ∙ sender)));
       others = λ k ne. elim (cases_lt k size) [
         | inl lt ↦ subst (λ (n : ℕ). n ≤ count seen k) (sym (in_field size stamp k lt)) (elim (cases_eq k seat.me) [
           | inl e ↦ subst (λ (j : ℕ). stamp j ≤ count seen j) (sym e) low
-          | inr ne_me ↦ subst (λ (n : ℕ). stamp k ≤ n) (count_other seen (message c) k (λ e. ne_me (sym e ∙ sender))) (subst (λ (n : ℕ). n ≤ count (seen ++ message c ∷ []) k) (time_at k lt) (after.1.others k ne))
+          | inr ne_me ↦ subst (λ (n : ℕ). stamp k ≤ n) (count_of_others seen c k (λ e. ne_me (sym e ∙ sender))) (subst (λ (n : ℕ). n ≤ count (seen ++ messages_of c) k) (time_at k lt) (after.1.others k ne))
         ])
         | inr le ↦ nothing_above (field (expanded_time size (casts_in facts) m.sender m.number) k) (count seen k) (past_fields size stamp k le)
       ];

@@ -23,7 +23,7 @@ use Rattle.cb_history.specs.LegalFacts.{AreFactsOf}
 use Rattle.cb_history.specs.NameLaws.{NumberedFrom}
 use Rattle.cb_history.specs.StabilityLaws.{LeastKnownIsStable, numbered_frame, KeepsOwnCasts, NoRoomIsFull, sent_to, FramesInAreSentInAnswer, PutIsOwnCast, TrimIsStable}
 use Rattle.cb_history.proofs.Views.{IsIn, filter_in, in_filter, or_left, or_right}
-use Rattle.cb_history.proofs.Lists.{count_own}
+use Rattle.cb_history.proofs.Lists.{length_messages, count_own}
 use Rattle.cb_history.proofs.Walks.{view_own, own_casts-own, own_casts-other, IsNotOwn}
 use Rattle.cb_history.proofs.Names.{all_stand, message}
 use Rattle.cb_history.proofs.Counts.{counts_are_numbers}
@@ -134,7 +134,7 @@ abbrev frames_above : ℕ → List Fact → List (List ℕ)
 frames_above s facts = map (λ c. text_of (CastFrame c)) (drop s (own_casts facts))
 
 counted : (seat : Identity) (facts : List Fact) → AreFactsOf seat facts → length (own_casts facts) ≡ delivered seat facts seat.me
-counted seat facts are = sym (all_stand seat facts are.member are.facts_are).own_count
+counted seat facts are = sym (length_messages (own_casts facts)) ∙ sym (all_stand seat facts are.member are.facts_are).own_count
 
 window_is : (seat : Identity) (facts : List Fact) → AreFactsOf seat facts → map numbered_frame (window seat facts) ≡ enumerate_from (stable seat facts + 1) (frames_above (stable seat facts) facts)
 window_is seat facts are =

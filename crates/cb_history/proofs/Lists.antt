@@ -1,9 +1,11 @@
 -- Elements, names and counts of lists of messages.
-use Rattle.std.proofs.Common.{◌≡◌, ◌≢◌, ℕ, suc, length, ◌+◌, ◌<◌, ◌≤◌, Bool, true, false, cond, ◌&&◌, ◌||◌, eqb, List, [], ◌∷◌, ◌++◌, refl, sym, ap, ◌∙◌, append_assoc, arith, inl, inr, ◌⊎◌}
-use Rattle.std.specs.List.{flat_map}
-use Rattle.std.proofs.lemmas.Bool.{eqb-true, eq-eqb, ne_eqb, cases_eq}
+use Rattle.std.proofs.Common.{◌≡◌, ◌≢◌, ℕ, suc, length, ◌+◌, ◌<◌, ◌≤◌, Bool, true, false, cond, ◌&&◌, ◌||◌, eqb, List, [], ◌∷◌, ◌++◌, refl, sym, ap, ◌∙◌, subst, append_assoc, arith, inl, inr, ◌⊎◌}
+use Rattle.std.specs.List.{flat_map, list_all}
+use Rattle.std.proofs.lemmas.Bool.{eqb-true, eq-eqb, ne_eqb, cases_eq, and_right}
 use Rattle.std.proofs.lemmas.List.{append-nil}
-use Rattle.cb_frames.specs.Fields.{CastFields, Carried, messages_of}
+use Rattle.cb_frames.specs.Fields.{CastFields, Carried, messages_of, first_number, last_number}
+use Rattle.cb_frames.specs.Carrying.{AreNumberedFrom}
+use Rattle.cb_frames.proofs.Carried.{row_within, carried_in_order, carried_up_to_the_last}
 use Rattle.cb_history.specs.Facts.{messages_in}
 use Rattle.cb_history.specs.View.{count, is_among}
 use Rattle.cb_history.specs.NameLaws.{InOrderAfter, NamesDiffer}
@@ -46,6 +48,39 @@ in_push a x xs h = elim (in_append a xs (x ∷ []) h) [
   | inr back ↦ inr (in_one a x back)
 ]
 
+-- a test that all pass
+pub all_of : {A : Type 0} (p : A → Bool) (xs : List A) → ((a : A) → IsIn a xs → p a ≡ true) → list_all p xs ≡ true
+all_of p [] each = refl
+all_of p (x ∷ xs) each = rw (each x (inl refl), all_of p xs (λ a later. each a (inr later))) refl
+
+pub each_of : {A : Type 0} (p : A → Bool) (xs : List A) (a : A) → list_all p xs ≡ true → IsIn a xs → p a ≡ true
+each_of p [] a all there = absurd there
+each_of p (x ∷ xs) a all (inl same) = ap p same ∙ (test_true (p x) (list_all p xs) all).0
+each_of p (x ∷ xs) a all (inr later) = each_of p xs a (test_true (p x) (list_all p xs) all).1 later
+
+-- a message of the casts before, or of the new one
+pub in_casts_push : (casts : List CastFields) (c : CastFields) (m : Carried) → IsIn m (messages_in (casts ++ c ∷ [])) → IsIn m (messages_in casts) ⊎ IsIn m (messages_of c)
+in_casts_push casts c m h = in_append m (messages_in casts) (messages_of c) (subst (IsIn m) (messages_in-push casts c) h)
+
+pub in_casts_front : (casts : List CastFields) (c : CastFields) (m : Carried) → IsIn m (messages_in casts) → IsIn m (messages_in (casts ++ c ∷ []))
+in_casts_front casts c m h = subst (IsIn m) (sym (messages_in-push casts c)) (in_front m (messages_in casts) (messages_of c) h)
+
+pub in_casts_back : (casts : List CastFields) (c : CastFields) (m : Carried) → IsIn m (messages_of c) → IsIn m (messages_in (casts ++ c ∷ []))
+in_casts_back casts c m h = subst (IsIn m) (sym (messages_in-push casts c)) (in_back m (messages_in casts) (messages_of c) h)
+
+-- the message of a cast that is there, and the cast of a message that is there
+pub carried_there : (casts : List CastFields) (c : CastFields) (m : Carried) → IsIn c casts → IsIn m (messages_of c) → IsIn m (messages_in casts)
+carried_there [] c m there of = absurd there
+carried_there (x ∷ casts) c m (inl same) of = in_front m (messages_of x) (messages_in casts) (subst (λ (y : CastFields). IsIn m (messages_of y)) same of)
+carried_there (x ∷ casts) c m (inr later) of = in_back m (messages_of x) (messages_in casts) (carried_there casts c m later of)
+
+pub carrier : (casts : List CastFields) (m : Carried) → IsIn m (messages_in casts) → (c : CastFields) × IsIn c casts × IsIn m (messages_of c)
+carrier [] m there = absurd there
+carrier (x ∷ casts) m there = elim (in_append m (messages_of x) (messages_in casts) there) [
+  | inl here ↦ (x, inl refl, here)
+  | inr later ↦ let found = carrier casts m later in (found.0, inr found.1, found.2)
+]
+
 -- ---- names
 
 pub or_false : (b c : Bool) → (b || c) ≡ false → (b ≡ false) × (c ≡ false)
@@ -66,6 +101,62 @@ not_among_more [] m x none new = both_false (eqb m.sender x.sender && eqb m.numb
 not_among_more (y ∷ ms) m x none new =
     let both = or_false (eqb y.sender x.sender && eqb y.number x.number) (is_among ms x) none in
     both_false (eqb y.sender x.sender && eqb y.number x.number) (is_among (ms ++ m ∷ []) x) both.0 (not_among_more ms m x both.1 new)
+
+-- no message of a list has the name of another one
+pub none_among : (ms : List Carried) (m : Carried) → ((x : Carried) → IsIn x ms → (eqb x.sender m.sender && eqb x.number m.number) ≡ false) → is_among ms m ≡ false
+none_among [] m each = refl
+none_among (x ∷ ms) m each = both_false (eqb x.sender m.sender && eqb x.number m.number) (is_among ms m) (each x (inl refl)) (none_among ms m (λ y later. each y (inr later)))
+
+not_among_each : (ms : List Carried) (m x : Carried) → is_among ms m ≡ false → IsIn x ms → (eqb x.sender m.sender && eqb x.number m.number) ≡ false
+not_among_each [] m x none there = absurd there
+not_among_each (y ∷ ms) m x none (inl same) =
+    subst (λ (z : Carried). (eqb z.sender m.sender && eqb z.number m.number) ≡ false) (sym same) (or_false (eqb y.sender m.sender && eqb y.number m.number) (is_among ms m) none).0
+not_among_each (y ∷ ms) m x none (inr later) = not_among_each ms m x (or_false (eqb y.sender m.sender && eqb y.number m.number) (is_among ms m) none).1 later
+
+pub not_among_append : (xs ys : List Carried) (m : Carried) → is_among xs m ≡ false → is_among ys m ≡ false → is_among (xs ++ ys) m ≡ false
+not_among_append [] ys m none others = others
+not_among_append (x ∷ xs) ys m none others =
+    let both = or_false (eqb x.sender m.sender && eqb x.number m.number) (is_among xs m) none in
+    both_false (eqb x.sender m.sender && eqb x.number m.number) (is_among (xs ++ ys) m) both.0 (not_among_append xs ys m both.1 others)
+
+not_among_behind : (xs ys : List Carried) (m : Carried) → is_among (xs ++ ys) m ≡ false → is_among ys m ≡ false
+not_among_behind [] ys m none = none
+not_among_behind (x ∷ xs) ys m none = not_among_behind xs ys m (or_false (eqb x.sender m.sender && eqb x.number m.number) (is_among (xs ++ ys) m) none).1
+
+differs_back : (m x : Carried) → (eqb m.sender x.sender && eqb m.number x.number) ≡ false → (eqb x.sender m.sender && eqb x.number m.number) ≡ false
+differs_back m x h = rw (flipped x.sender m.sender, flipped x.number m.number) h
+
+pub names_append : (ms more : List Carried) → NamesDiffer ms → NamesDiffer more → ((m : Carried) → IsIn m more → is_among ms m ≡ false) → NamesDiffer (ms ++ more)
+names_append [] more differ others new = others
+names_append (x ∷ ms) more differ others new = (
+  not_among_append ms more x differ.0 (none_among more x (λ m there. differs_back x m (or_false (eqb x.sender m.sender && eqb x.number m.number) (is_among ms m) (new m there)).0)),
+  names_append ms more differ.1 others (λ m there. (or_false (eqb x.sender m.sender && eqb x.number m.number) (is_among ms m) (new m there)).1),
+)
+
+-- and the other way round: what stands behind has other names
+pub names_apart : (ms more : List Carried) (m : Carried) → NamesDiffer (ms ++ more) → IsIn m more → is_among ms m ≡ false
+names_apart [] more m differ there = refl
+names_apart (x ∷ ms) more m differ there =
+    both_false (eqb x.sender m.sender && eqb x.number m.number) (is_among ms m)
+    (differs_back m x (not_among_each more x m (not_among_behind ms more x differ.0) there)) (names_apart ms more m differ.1 there)
+
+pub names_behind : (ms more : List Carried) → NamesDiffer (ms ++ more) → NamesDiffer more
+names_behind [] more differ = differ
+names_behind (x ∷ ms) more differ = names_behind ms more differ.1
+
+row_names : (sender n : ℕ) (ms : List Carried) → AreNumberedFrom sender n ms → NamesDiffer ms
+row_names sender n [] row = tt
+row_names sender n (x ∷ ms) row = (none_among ms x (λ y there. and_right (eqb y.sender x.sender) (eqb y.number x.number) (ne_eqb y.number x.number (above y there))), row_names sender (n + 1) ms row.2)
+  where
+    above : (y : Carried) → IsIn y ms → y.number ≢ x.number
+    above y there same =
+        let low = (row_within sender (n + 1) ms y row.2 there).low in
+        let here = row.1 in
+        omega (arith, low, same, here)
+
+-- the messages of a cast have different names
+pub carried_names : (c : CastFields) → NamesDiffer (messages_of c)
+carried_names c = row_names c.sender (first_number c) (messages_of c) (carried_in_order c)
 
 pub names_push : (ms : List Carried) (m : Carried) → NamesDiffer ms → is_among ms m ≡ false → NamesDiffer (ms ++ m ∷ [])
 names_push [] m differ new = (refl, tt)
@@ -100,6 +191,50 @@ count_own xs m k e = count-append xs (m ∷ []) k ∙ rw (eq-eqb m.sender k e) (
 
 pub count_other : (xs : List Carried) (m : Carried) (k : ℕ) → m.sender ≢ k → count (xs ++ m ∷ []) k ≡ count xs k
 count_other xs m k ne = count-append xs (m ∷ []) k ∙ rw (ne_eqb m.sender k ne) (omega arith)
+
+count_of_row : (sender n : ℕ) (ms : List Carried) → AreNumberedFrom sender n ms → count ms sender ≡ length ms
+count_of_row sender n [] row = refl
+count_of_row sender n (x ∷ ms) row =
+    let one : cond {A = ℕ} (eqb x.sender sender) 1 0 ≡ 1 = rw (eq-eqb x.sender sender row.0) refl in
+    let others = count_of_row sender (n + 1) ms row.2 in
+    omega (arith, one, others)
+
+count_off_row : (sender n k : ℕ) (ms : List Carried) → sender ≢ k → AreNumberedFrom sender n ms → count ms k ≡ 0
+count_off_row sender n k [] ne row = refl
+count_off_row sender n k (x ∷ ms) ne row =
+    let none : cond {A = ℕ} (eqb x.sender k) 1 0 ≡ 0 = rw (ne_eqb x.sender k (λ e. ne (sym row.0 ∙ e))) refl in
+    let others = count_off_row sender (n + 1) k ms ne row.2 in
+    omega (arith, none, others)
+
+-- how many messages of a member there are with those of a cast
+pub count_of_messages : (xs : List Carried) (c : CastFields) (k : ℕ) → c.sender ≡ k → count (xs ++ messages_of c) k ≡ count xs k + length (messages_of c)
+count_of_messages xs c k e =
+    count-append xs (messages_of c) k ∙ ap (λ (n : ℕ). count xs k + n) (ap (count (messages_of c)) (sym e) ∙ count_of_row c.sender (first_number c) (messages_of c) (carried_in_order c))
+
+pub count_of_others : (xs : List Carried) (c : CastFields) (k : ℕ) → c.sender ≢ k → count (xs ++ messages_of c) k ≡ count xs k
+count_of_others xs c k ne =
+    let none = count_off_row c.sender (first_number c) k (messages_of c) ne (carried_in_order c) in
+    omega (arith, count-append xs (messages_of c) k, none)
+
+-- with the messages of its sender's next cast there are as many as the cast's last number
+pub count_to_the_last : (xs : List Carried) (c : CastFields) (k : ℕ) → c.sender ≡ k → first_number c ≡ count xs k + 1 → count (xs ++ messages_of c) k ≡ last_number c
+count_to_the_last xs c k e next = omega (arith, count_of_messages xs c k e, carried_up_to_the_last c, next)
+
+pub order_append : (before ms more : List Carried) → InOrderAfter before ms → InOrderAfter (before ++ ms) more → InOrderAfter before (ms ++ more)
+order_append before [] more order next = subst (λ (seen : List Carried). InOrderAfter seen more) (append-nil before) next
+order_append before (x ∷ ms) more order next =
+    (order.0, order_append (before ++ x ∷ []) ms more order.1 (subst (λ (seen : List Carried). InOrderAfter seen more) (sym (append_assoc before (x ∷ []) ms)) next))
+
+row_order : (before : List Carried) (sender n : ℕ) (ms : List Carried) → AreNumberedFrom sender n ms → n ≡ count before sender + 1 → InOrderAfter before ms
+row_order before sender n [] row next = tt
+row_order before sender n (x ∷ ms) row next = (
+  row.1 ∙ next ∙ ap (λ (k : ℕ). count before k + 1) (sym row.0),
+  row_order (before ++ x ∷ []) sender (n + 1) ms row.2 (omega (arith, next, count_own before x sender row.0)),
+)
+
+-- the messages of a sender's next cast stand in order behind those before it
+pub carried_order : (before : List Carried) (c : CastFields) → first_number c ≡ count before c.sender + 1 → InOrderAfter before (messages_of c)
+carried_order before c next = row_order before c.sender (first_number c) (messages_of c) (carried_in_order c) next
 
 pub order_push : (before ms : List Carried) (m : Carried) → InOrderAfter before ms → m.number ≡ count (before ++ ms) m.sender + 1 → InOrderAfter before (ms ++ m ∷ [])
 order_push before [] m order next = (next ∙ ap (λ (seen : List Carried). count seen m.sender + 1) (append-nil before), tt)
@@ -139,7 +274,7 @@ order_bound before (x ∷ ms) m order (inr later) =
     let both = count-append before (x ∷ []) m.sender in
     omega (arith, others, both)
 
--- a cast has one message
+-- the messages of the casts are as many as the casts, as long as each cast has one
 pub length_messages : (casts : List CastFields) → length (messages_in casts) ≡ length casts
 length_messages [] = refl
 length_messages (c ∷ casts) = ap (λ (n : ℕ). suc n) (length_messages casts)

@@ -1,16 +1,18 @@
 -- Names and order in the views of legal facts.
 use Rattle.std.proofs.Common.{◌≡◌, ◌≢◌, ℕ, ◌+◌, ◌<◌, ◌≤◌, Bool, true, false, ◌&&◌, eqb, ltb, List, [], ◌∷◌, ◌++◌, length, Some, refl, sym, ap, subst, ◌∙◌, arith, inl, inr}
+use Rattle.std.specs.List.{list_all}
 use Rattle.std.proofs.lemmas.Bool.{false_from_ne_true, eq-eqb, ltb-true, ltb-false}
 use Rattle.std.proofs.lemmas.List.{append-nil, length-append}
-use Rattle.cb_frames.specs.Fields.{CastFields, Carried, last_number}
+use Rattle.cb_frames.specs.Fields.{CastFields, CastFrame, Carried, messages_of, first_number, last_number}
+use Rattle.cb_frames.proofs.Carried.{carried_up_to_the_last, carries_some, carried_is_of_cast, carried_alone, first_is_carried}
 use Rattle.cb_history.specs.Group.{Identity}
 use Rattle.cb_history.specs.Facts.{Fact, OwnCast, CastReceived, StatusReceived, OwnStatus, casts_in, messages_in, is_there}
 use Rattle.cb_history.specs.View.{count, is_among, next_delivery, drain, view}
-use Rattle.cb_history.specs.Answers.{own_casts, delivered}
+use Rattle.cb_history.specs.Answers.{own_casts, delivered, is_repeat}
 use Rattle.cb_history.specs.LegalFacts.{IsCastTaken, IsStep, AreLegalFacts, NoFacts, OneFactMore}
 use Rattle.cb_history.specs.NameLaws.{InOrderAfter, NamesDiffer, NumberedFrom, ReceivedFromOthers, NamesStandOnce, OwnCastsAreNumbered, OwnMessagesAreOwn, ViewIsInOrder, ViewHoldsTheFirst, ViewIsOfCasts, IsOneOf, ViewIsAsCast}
-use Rattle.cb_history.proofs.Views.{IsIn, next_is, next_is_the_only_candidate, ready_is_new, expanded_is_there, casts_in-append, test_true, among_more, among_itself}
-use Rattle.cb_history.proofs.Lists.{length_messages, messages_in-push, in_front, in_back, in_push, names_push, in_is_among, among_is, count_own, count_other, order_push, among_by_order, order_bound}
+use Rattle.cb_history.proofs.Views.{IsIn, next_is, next_is_the_only_candidate, ready_is_new, expanded_is_there, casts_in-append, test_true, among_more, among_front, among_back}
+use Rattle.cb_history.proofs.Lists.{messages_in-push, in_append, in_push, in_casts_push, in_casts_front, in_casts_back, names_append, carried_names, in_is_among, among_is, count_of_messages, count_other, order_append, carried_order, order_push, among_by_order, order_bound}
 use Rattle.cb_history.proofs.Walks.{drain_keeps, view_own, view_received, view_status, view_reported, own_casts-own, own_casts-other}
 
 -- what is true of the casts, the view and the own casts
@@ -21,63 +23,59 @@ pub record Stands (seat : Identity) (casts : List CastFields) (seen : List Carri
   pub order : InOrderAfter [] seen
   pub own_seen : (m : Carried) → IsIn m (messages_in casts) → m.sender ≡ seat.me → is_among seen m ≡ true
   pub names : NamesDiffer (messages_in casts)
-  pub own_count : count seen seat.me ≡ length own
+  pub own_count : count seen seat.me ≡ length (messages_in own)
   pub own_numbers : NumberedFrom seat.me 1 own
 
 -- the message of a cast
 abbrev pub message : CastFields → Carried
 message c = record { sender = c.sender; number = c.number; payload = c.payload }
 
-in_message : (casts : List CastFields) (c : CastFields) (m : Carried) → IsIn m (messages_in (casts ++ c ∷ [])) → IsIn m (messages_in casts ++ message c ∷ [])
-in_message casts c m h = subst (IsIn m) (messages_in-push casts c) h
-
-message_in : (casts : List CastFields) (c : CastFields) (m : Carried) → IsIn m (messages_in casts ++ message c ∷ []) → IsIn m (messages_in (casts ++ c ∷ []))
-message_in casts c m h = subst (IsIn m) (sym (messages_in-push casts c)) h
-
-numbered_push : (me n at : ℕ) (own : List CastFields) (c : CastFields) → NumberedFrom me n own → c.sender ≡ me → c.number ≡ at → at ≡ n + length own → NumberedFrom me n (own ++ c ∷ [])
-numbered_push me n at [] c numbered sender number is = (sender, number ∙ omega (arith, is), tt)
-numbered_push me n at (d ∷ own) c numbered sender number is = (numbered.0, numbered.1, numbered_push me (last_number d + 1) at own c numbered.2 sender number (omega (arith, is, numbered.1)))
+numbered_push : (me n : ℕ) (own : List CastFields) (c : CastFields) → NumberedFrom me n own → c.sender ≡ me → first_number c ≡ n + length (messages_in own) → NumberedFrom me n (own ++ c ∷ [])
+numbered_push me n [] c numbered sender number = (sender, number ∙ omega arith, tt)
+numbered_push me n (d ∷ own) c numbered sender number =
+    (numbered.0, numbered.1, numbered_push me (last_number d + 1) own c numbered.2 sender (omega (arith, number, numbered.1, carried_up_to_the_last d, length-append (messages_of d) (messages_in own))))
 
 -- ---- an own cast
 
-own_stands : (seat : Identity) (casts : List CastFields) (seen : List Carried) (own : List CastFields) (c : CastFields) → seat.me < seat.group.size → Stands seat casts seen own
-    → c.sender ≡ seat.me → c.number ≡ count seen seat.me + 1 → Stands seat (casts ++ c ∷ []) (seen ++ message c ∷ []) (own ++ c ∷ [])
-own_stands seat casts seen own c member s sender number = record {
-  small = λ m h. elim (in_push m (message c) (messages_in casts) (in_message casts c m h)) [
-    | inl old ↦ s.small m old
-    | inr new ↦ let same : m.sender ≡ c.sender = ap (λ (y : Carried). y.sender) new in omega (arith, same, sender, member)
-  ];
-  positive = λ m h. elim (in_push m (message c) (messages_in casts) (in_message casts c m h)) [
-    | inl old ↦ s.positive m old
-    | inr new ↦ let same : m.number ≡ c.number = ap (λ (y : Carried). y.number) new in omega (arith, same, number)
-  ];
-  there = λ m h. message_in casts c m (elim (in_push m (message c) seen h) [
-    | inl old ↦ in_front m (messages_in casts) (message c ∷ []) (s.there m old)
-    | inr new ↦ in_back m (messages_in casts) (message c ∷ []) (inl new)
-  ]);
-  order = order_push [] seen (message c) s.order (number ∙ ap (λ (k : ℕ). count seen k + 1) (sym sender));
-  own_seen = λ m h e. elim (in_push m (message c) (messages_in casts) (in_message casts c m h)) [
-    | inl old ↦ among_more seen (message c) m (s.own_seen m old e)
-    | inr new ↦ subst (λ (y : Carried). is_among (seen ++ message c ∷ []) y ≡ true) (sym new) (among_itself seen (message c))
-  ];
-  names = subst NamesDiffer (sym (messages_in-push casts c)) (names_push (messages_in casts) (message c) s.names (new_name seat casts seen own c s sender number));
-  own_count = count_own seen (message c) seat.me sender ∙ ap (λ (n : ℕ). n + 1) s.own_count ∙ sym (length-append own (c ∷ []));
-  own_numbers = numbered_push seat.me 1 c.number own c s.own_numbers sender refl (omega (arith, number, s.own_count));
-}
-  where
-    none_above : (seat : Identity) (casts : List CastFields) (seen : List Carried) (own : List CastFields) (c : CastFields) → Stands seat casts seen own → c.sender ≡ seat.me → c.number ≡ count seen seat.me + 1 → is_among (messages_in casts) (message c) ≡ true → ⊥
-    none_above seat casts seen own c s sender number h =
-        let found = among_is (messages_in casts) (message c) h in
-        let n : Carried = found.0 in
-        let own_one : n.sender ≡ seat.me = found.2 ∙ sender in
-        let seen_one = among_is seen n (s.own_seen n found.1 own_one) in
-        let bound = order_bound [] seen seen_one.0 s.order seen_one.1 in
-        let at : count seen seen_one.0.sender ≡ count seen seat.me = ap (count seen) (seen_one.2 ∙ own_one) in
-        let same : seen_one.0.number ≡ c.number = seen_one.3 ∙ found.3 in
-        omega (arith, bound, at, same, number)
+-- the own casts have the first numbers, so that a message of the next one is new
+own_is_new : (seat : Identity) (casts : List CastFields) (seen : List Carried) (own : List CastFields) (m : Carried) → Stands seat casts seen own → m.sender ≡ seat.me → count seen seat.me < m.number → is_among (messages_in casts) m ≡ false
+own_is_new seat casts seen own m s sender above = false_from_ne_true (is_among (messages_in casts) m) (λ h.
+    let found = among_is (messages_in casts) m h in
+    let n : Carried = found.0 in
+    let own_one : n.sender ≡ seat.me = found.2 ∙ sender in
+    let seen_one = among_is seen n (s.own_seen n found.1 own_one) in
+    let bound = order_bound [] seen seen_one.0 s.order seen_one.1 in
+    let at : count seen seen_one.0.sender ≡ count seen seat.me = ap (count seen) (seen_one.2 ∙ own_one) in
+    let same : seen_one.0.number ≡ m.number = seen_one.3 ∙ found.3 in
+    omega (arith, bound, at, same, above))
 
-    new_name : (seat : Identity) (casts : List CastFields) (seen : List Carried) (own : List CastFields) (c : CastFields) → Stands seat casts seen own → c.sender ≡ seat.me → c.number ≡ count seen seat.me + 1 → is_among (messages_in casts) (message c) ≡ false
-    new_name seat casts seen own c s sender number = false_from_ne_true (is_among (messages_in casts) (message c)) (none_above seat casts seen own c s sender number)
+own_stands : (seat : Identity) (casts : List CastFields) (seen : List Carried) (own : List CastFields) (c : CastFields) → seat.me < seat.group.size → Stands seat casts seen own
+    → c.sender ≡ seat.me → first_number c ≡ count seen seat.me + 1 → Stands seat (casts ++ c ∷ []) (seen ++ messages_of c) (own ++ c ∷ [])
+own_stands seat casts seen own c member s sender number = record {
+  small = λ m h. elim (in_casts_push casts c m h) [
+    | inl old ↦ s.small m old
+    | inr new ↦ let same = (carried_is_of_cast c m new).sender_is in omega (arith, same, sender, member)
+  ];
+  positive = λ m h. elim (in_casts_push casts c m h) [
+    | inl old ↦ s.positive m old
+    | inr new ↦ let low = (carried_is_of_cast c m new).low in omega (arith, low, number)
+  ];
+  there = λ m h. elim (in_append m seen (messages_of c) h) [
+    | inl old ↦ in_casts_front casts c m (s.there m old)
+    | inr new ↦ in_casts_back casts c m new
+  ];
+  order = order_append [] seen (messages_of c) s.order (carried_order seen c (number ∙ ap (λ (k : ℕ). count seen k + 1) (sym sender)));
+  own_seen = λ m h e. elim (in_casts_push casts c m h) [
+    | inl old ↦ among_front seen (messages_of c) m (s.own_seen m old e)
+    | inr new ↦ among_back seen (messages_of c) m (in_is_among (messages_of c) m new)
+  ];
+  names = subst NamesDiffer (sym (messages_in-push casts c)) (names_append (messages_in casts) (messages_of c) s.names (carried_names c) (λ m there.
+      let of = carried_is_of_cast c m there in
+      let low = of.low in
+      own_is_new seat casts seen own m s (of.sender_is ∙ sender) (omega (arith, low, number))));
+  own_count = count_of_messages seen c seat.me sender ∙ ap (λ (n : ℕ). n + length (messages_of c)) s.own_count ∙ sym (length-append (messages_in own) (messages_of c)) ∙ ap length (sym (messages_in-push own c));
+  own_numbers = numbered_push seat.me 1 own c s.own_numbers sender (omega (arith, number, s.own_count));
+}
 
 -- ---- a received cast
 
@@ -106,31 +104,31 @@ goes_on seat casts n small seen m g e =
     }
 
 received_stands : (seat : Identity) (casts : List CastFields) (seen : List Carried) (own : List CastFields) (c : CastFields) → Stands seat casts seen own
-    → c.sender < seat.group.size → 1 ≤ c.number → c.sender ≢ seat.me → is_among (messages_in casts) (message c) ≡ false → Stands seat (casts ++ c ∷ []) (drain seat.group.size (casts ++ c ∷ []) seen) own
+    → c.sender < seat.group.size → 1 ≤ first_number c → c.sender ≢ seat.me → ((m : Carried) → IsIn m (messages_of c) → is_among (messages_in casts) m ≡ false) → Stands seat (casts ++ c ∷ []) (drain seat.group.size (casts ++ c ∷ []) seen) own
 received_stands seat casts seen own c s member positive other new =
-    let small : (m : Carried) → IsIn m (messages_in (casts ++ c ∷ [])) → m.sender < seat.group.size = λ m h. elim (in_push m (message c) (messages_in casts) (in_message casts c m h)) [
+    let small : (m : Carried) → IsIn m (messages_in (casts ++ c ∷ [])) → m.sender < seat.group.size = λ m h. elim (in_casts_push casts c m h) [
       | inl old ↦ s.small m old
-      | inr same ↦ subst (λ (y : Carried). y.sender < seat.group.size) (sym same) member
+      | inr late ↦ let same = (carried_is_of_cast c m late).sender_is in omega (arith, same, member)
     ] in
-    let g : Goes seat (casts ++ c ∷ []) (length own) (drain seat.group.size (casts ++ c ∷ []) seen) = drain_keeps seat.group.size (casts ++ c ∷ []) (Goes seat (casts ++ c ∷ []) (length own)) (goes_on seat (casts ++ c ∷ []) (length own) small) seen (record {
-      there = λ m h. message_in casts c m (in_front m (messages_in casts) (message c ∷ []) (s.there m h));
+    let g : Goes seat (casts ++ c ∷ []) (length (messages_in own)) (drain seat.group.size (casts ++ c ∷ []) seen) = drain_keeps seat.group.size (casts ++ c ∷ []) (Goes seat (casts ++ c ∷ []) (length (messages_in own))) (goes_on seat (casts ++ c ∷ []) (length (messages_in own)) small) seen (record {
+      there = λ m h. in_casts_front casts c m (s.there m h);
       order = s.order;
-      own_seen = λ m h e. elim (in_push m (message c) (messages_in casts) (in_message casts c m h)) [
+      own_seen = λ m h e. elim (in_casts_push casts c m h) [
         | inl old ↦ s.own_seen m old e
-        | inr same ↦ absurd (other (ap (λ (y : Carried). y.sender) (sym same) ∙ e))
+        | inr late ↦ absurd (other (sym (carried_is_of_cast c m late).sender_is ∙ e))
       ];
       own_count = s.own_count;
     }) in
     record {
       small = small;
-      positive = λ m h. elim (in_push m (message c) (messages_in casts) (in_message casts c m h)) [
+      positive = λ m h. elim (in_casts_push casts c m h) [
         | inl old ↦ s.positive m old
-        | inr same ↦ subst (λ (y : Carried). 1 ≤ y.number) (sym same) positive
+        | inr late ↦ let low = (carried_is_of_cast c m late).low in omega (arith, low, positive)
       ];
       there = g.there;
       order = g.order;
       own_seen = g.own_seen;
-      names = subst NamesDiffer (sym (messages_in-push casts c)) (names_push (messages_in casts) (message c) s.names new);
+      names = subst NamesDiffer (sym (messages_in-push casts c)) (names_append (messages_in casts) (messages_of c) s.names (carried_names c) new);
       own_count = g.own_count;
       own_numbers = s.own_numbers;
     }
@@ -140,24 +138,39 @@ received_stands seat casts seen own c s member positive other new =
 abbrev pub StandsAt : Identity → List Fact → Type 0
 StandsAt seat facts = Stands seat (casts_in facts) (view seat.group.size facts) (own_casts facts)
 
-not_there : (b : Bool) → (b && true) ≡ false → b ≡ false
-not_there true h = absurd cc
-not_there false h = refl
-
 possible_own : (a b : Bool) → (a && b) ≡ false → a ≡ true → b ≡ false
 possible_own true b h e = h
 possible_own false b h e = absurd cc
 
+-- some message fails the test
+failing : (p : Carried → Bool) (ms : List Carried) → list_all p ms ≡ false → (m : Carried) × IsIn m ms × (p m ≡ false)
+failing p [] h = absurd cc
+failing p (x ∷ ms) h = either_fails p x ms (p x) refl h (λ later. failing p ms later)
+  where
+    either_fails : (p : Carried → Bool) (x : Carried) (ms : List Carried) (b : Bool) → p x ≡ b → (b && list_all p ms) ≡ false → (list_all p ms ≡ false → (m : Carried) × IsIn m ms × (p m ≡ false)) → (m : Carried) × IsIn m (x ∷ ms) × (p m ≡ false)
+    either_fails p x ms true e h go = let later = go h in (later.0, inr later.1, later.2)
+    either_fails p x ms false e h go = (x, inl refl, e)
+
+-- of the messages of a cast that is no repeat none is there: one is not, and a cast carries no other
+pub none_is_there : (facts : List Fact) (c : CastFields) → is_repeat facts (CastFrame c) ≡ false → (m : Carried) → IsIn m (messages_of c) → is_among (messages_in (casts_in facts)) m ≡ false
+none_is_there facts c new m there =
+    let one = failing (is_among (messages_in (casts_in facts))) (messages_of c) new in
+    subst (λ (x : Carried). is_among (messages_in (casts_in facts)) x ≡ false) (carried_alone c one.0 m one.1 there) one.2
+
 -- a received cast is of another member: one of its own would be a repeat
 pub received_is_others : (seat : Identity) (facts : List Fact) (c : CastFields) → StandsAt seat facts → IsCastTaken seat facts c → c.sender ≢ seat.me
 received_is_others seat facts c s came own =
-    let bound = ltb-false (delivered seat facts seat.me) c.number (possible_own (eqb c.sender seat.me) (ltb (delivered seat facts seat.me) c.number) came.taken.possible (eq-eqb c.sender seat.me own)) in
-    let high : c.number ≤ count (view seat.group.size facts) c.sender = subst (λ (k : ℕ). c.number ≤ count (view seat.group.size facts) k) (sym own) bound in
-    let among : is_among (view seat.group.size facts) (message c) ≡ true = among_by_order [] (view seat.group.size facts) (message c) s.order (omega (arith, came.numbered)) (omega (arith, high)) in
-    let found = among_is (view seat.group.size facts) (message c) among in
+    let seen = view seat.group.size facts in
+    let first = first_is_carried c in
+    let m : Carried = first.found in
+    let bound = ltb-false (delivered seat facts seat.me) (last_number c) (possible_own (eqb c.sender seat.me) (ltb (delivered seat facts seat.me) (last_number c)) came.taken.possible (eq-eqb c.sender seat.me own)) in
+    let at : count seen m.sender ≡ count seen seat.me = ap (count seen) (first.sender_is ∙ own) in
+    let number = first.number_is in
+    let among : is_among seen m ≡ true = among_by_order [] seen m s.order (omega (arith, number, came.numbered)) (omega (arith, number, at, bound, carries_some c)) in
+    let found = among_is seen m among in
     let there : is_among (messages_in (casts_in facts)) found.0 ≡ true = in_is_among (messages_in (casts_in facts)) found.0 (s.there found.0 found.1) in
-    let again : is_there (casts_in facts) c.sender c.number ≡ true = subst (λ (k : ℕ). is_there (casts_in facts) k c.number ≡ true) found.2 (subst (λ (n : ℕ). is_there (casts_in facts) found.0.sender n ≡ true) found.3 there) in
-    let none : is_there (casts_in facts) c.sender c.number ≡ false = not_there (is_there (casts_in facts) c.sender c.number) came.taken.new in
+    let again : is_there (casts_in facts) m.sender m.number ≡ true = subst (λ (k : ℕ). is_there (casts_in facts) k m.number ≡ true) found.2 (subst (λ (n : ℕ). is_there (casts_in facts) found.0.sender n ≡ true) found.3 there) in
+    let none : is_there (casts_in facts) m.sender m.number ≡ false = none_is_there facts c came.taken.new m first.there in
     cc
 
 status_stands : (seat : Identity) (casts casts' : List CastFields) (seen seen' : List Carried) (own own' : List CastFields) → casts' ≡ casts → seen' ≡ seen → own' ≡ own → Stands seat casts seen own → Stands seat casts' seen' own'
@@ -166,12 +179,12 @@ status_stands seat casts casts' seen seen' own own' a b d s =
 
 step_stands : (seat : Identity) (facts : List Fact) (f : Fact) → seat.me < seat.group.size → IsStep seat facts f → StandsAt seat facts → StandsAt seat (facts ++ f ∷ [])
 step_stands seat facts (OwnCast c) member step s =
-    status_stands seat (casts_in facts ++ c ∷ []) _ (view seat.group.size facts ++ message c ∷ []) _ (own_casts facts ++ c ∷ []) _ (casts_in-append facts (OwnCast c)) (view_own seat.group.size facts c) (own_casts-own facts c)
-    (own_stands seat (casts_in facts) (view seat.group.size facts) (own_casts facts) c member s (ap (λ (x : CastFields). x.sender) step.next) (ap (λ (x : CastFields). x.number) step.next))
+    status_stands seat (casts_in facts ++ c ∷ []) _ (view seat.group.size facts ++ messages_of c) _ (own_casts facts ++ c ∷ []) _ (casts_in-append facts (OwnCast c)) (view_own seat.group.size facts c) (own_casts-own facts c)
+    (own_stands seat (casts_in facts) (view seat.group.size facts) (own_casts facts) c member s (ap (λ (x : CastFields). x.sender) step.next) (ap first_number step.next))
 step_stands seat facts (CastReceived c) member step s =
     status_stands seat (casts_in facts ++ c ∷ []) _ (drain seat.group.size (casts_in facts ++ c ∷ []) (view seat.group.size facts)) _ (own_casts facts) _ (casts_in-append facts (CastReceived c)) (view_received seat.group.size facts c) (own_casts-other facts (CastReceived c) tt)
     (received_stands seat (casts_in facts) (view seat.group.size facts) (own_casts facts) c s
-    (ltb-true c.sender seat.group.size (test_true (ltb c.sender seat.group.size) _ step.taken.members).0) step.numbered (received_is_others seat facts c s step) (not_there (is_there (casts_in facts) c.sender c.number) step.taken.new))
+    (ltb-true c.sender seat.group.size (test_true (ltb c.sender seat.group.size) _ step.taken.members).0) step.numbered (received_is_others seat facts c s step) (none_is_there facts c step.taken.new))
 step_stands seat facts (StatusReceived t) member step s =
     status_stands seat (casts_in facts) _ (view seat.group.size facts) _ (own_casts facts) _ (casts_in-append facts (StatusReceived t) ∙ append-nil (casts_in facts)) (view_status seat.group.size facts t) (own_casts-other facts (StatusReceived t) tt) s
 step_stands seat facts (OwnStatus t) member step s =
@@ -217,7 +230,7 @@ pub names_stand_once : NamesStandOnce
 names_stand_once seat facts are = (all_stand seat facts are.member are.facts_are).names
 
 pub own_casts_are_numbered : OwnCastsAreNumbered
-own_casts_are_numbered seat facts are = let s = all_stand seat facts are.member are.facts_are in (s.own_numbers, s.own_count ∙ sym (length_messages (own_casts facts)))
+own_casts_are_numbered seat facts are = let s = all_stand seat facts are.member are.facts_are in (s.own_numbers, s.own_count)
 
 pub own_messages_are_own : OwnMessagesAreOwn
 own_messages_are_own seat facts are = all_others seat facts are.member are.facts_are

@@ -7,7 +7,7 @@ use Rattle.cb_varint.specs.Reading.{number_at as number_and_length, spelling}
 use Rattle.cb_varint.proofs.Fronts.{number_is_read}
 use Rattle.cb_varint.proofs.Spelled.{spelled}
 use Rattle.cb_frames.specs.declared.fault.FrameFault.{FrameFault}
-use Rattle.cb_frames.specs.Fields.{CastFields, StatusFields, FrameFields, CastFrame, StatusFrame}
+use Rattle.cb_frames.specs.Fields.{CastFields, StatusFields, FrameFields, CastFrame, StatusFrame, first_number}
 use Rattle.cb_frames.specs.Text.{cast_kind, status_kind, request_kind, pairs_from, cast_numbers, status_numbers, text_of}
 use Rattle.cb_frames.specs.Fault.{any_number, member_rule, message_rule, length_rule, Pairs, change_pairs, value_pairs}
 use Rattle.cb_frames.specs.Reading.{number_at, unless, field_at, pair_at, pairs_at, payload_at, cast_at, status_at, request_at, frame_at}
@@ -113,16 +113,16 @@ rule_kept : {A : Type 0} (o : Option FrameFault) (x y : A) → unless o x ≡ Ok
 rule_kept None x y h = (refl, cc)
 rule_kept (Some e) x y h = absurd cc
 
-cast_numbered : (bytes : List ℕ) (c : CastFields) → cast_at bytes ≡ Ok c → 1 ≤ c.number
+cast_numbered : (bytes : List ℕ) (c : CastFields) → cast_at bytes ≡ Ok c → 1 ≤ first_number c
 unfolding cast_at
 cast_numbered bytes c =
-    bind_cases (field_at any_number bytes) _ (λ (r : Result CastFields FrameFault). r ≡ Ok c → 1 ≤ c.number)
-    (λ group e. bind_cases (field_at member_rule group.1) _ (λ (r : Result CastFields FrameFault). r ≡ Ok c → 1 ≤ c.number)
-    (λ sender e. bind_cases (field_at message_rule sender.1) _ (λ (r : Result CastFields FrameFault). r ≡ Ok c → 1 ≤ c.number)
-    (λ number e. bind_cases (field_at any_number number.1) _ (λ (r : Result CastFields FrameFault). r ≡ Ok c → 1 ≤ c.number)
-    (λ count e'. bind_cases (pairs_at (change_pairs sender.0) count.0 0 count.1) _ (λ (r : Result CastFields FrameFault). r ≡ Ok c → 1 ≤ c.number)
-    (λ changes e'. bind_cases (field_at (length_rule 0) changes.1) _ (λ (r : Result CastFields FrameFault). r ≡ Ok c → 1 ≤ c.number)
-    (λ size e'. bind_cases (payload_at size.0 size.1) _ (λ (r : Result CastFields FrameFault). r ≡ Ok c → 1 ≤ c.number)
+    bind_cases (field_at any_number bytes) _ (λ (r : Result CastFields FrameFault). r ≡ Ok c → 1 ≤ first_number c)
+    (λ group e. bind_cases (field_at member_rule group.1) _ (λ (r : Result CastFields FrameFault). r ≡ Ok c → 1 ≤ first_number c)
+    (λ sender e. bind_cases (field_at message_rule sender.1) _ (λ (r : Result CastFields FrameFault). r ≡ Ok c → 1 ≤ first_number c)
+    (λ number e. bind_cases (field_at any_number number.1) _ (λ (r : Result CastFields FrameFault). r ≡ Ok c → 1 ≤ first_number c)
+    (λ count e'. bind_cases (pairs_at (change_pairs sender.0) count.0 0 count.1) _ (λ (r : Result CastFields FrameFault). r ≡ Ok c → 1 ≤ first_number c)
+    (λ changes e'. bind_cases (field_at (length_rule 0) changes.1) _ (λ (r : Result CastFields FrameFault). r ≡ Ok c → 1 ≤ first_number c)
+    (λ size e'. bind_cases (payload_at size.0 size.1) _ (λ (r : Result CastFields FrameFault). r ≡ Ok c → 1 ≤ first_number c)
     (λ payload e' h. let same : number.0 ≡ c.number = cc in subst (λ (n : ℕ). 1 ≤ n) same (number_kept sender.1 number e))
     (λ f e' h. absurd cc))
     (λ f e' h. absurd cc))
@@ -138,20 +138,20 @@ cast_numbered bytes c =
         (λ n e h. let kept = rule_kept (message_rule n.0) n x h in subst (λ (y : ℕ × List ℕ). 1 ≤ y.0) kept.1 (message_kept n.0 kept.0))
         (λ f e h. absurd cc)
 
-pub frame_numbered : (bytes : List ℕ) (c : CastFields) → frame_at bytes ≡ Ok (CastFrame c) → 1 ≤ c.number
+pub frame_numbered : (bytes : List ℕ) (c : CastFields) → frame_at bytes ≡ Ok (CastFrame c) → 1 ≤ first_number c
 unfolding frame_at
 frame_numbered [] c = λ h. absurd cc
 frame_numbered (kind ∷ bytes) c =
-    cond_both (eqb kind cast_kind) _ _ (λ (r : Result FrameFields FrameFault). r ≡ Ok (CastFrame c) → 1 ≤ c.number)
-    (λ _. bind_cases (cast_at bytes) _ (λ (r : Result FrameFields FrameFault). r ≡ Ok (CastFrame c) → 1 ≤ c.number)
+    cond_both (eqb kind cast_kind) _ _ (λ (r : Result FrameFields FrameFault). r ≡ Ok (CastFrame c) → 1 ≤ first_number c)
+    (λ _. bind_cases (cast_at bytes) _ (λ (r : Result FrameFields FrameFault). r ≡ Ok (CastFrame c) → 1 ≤ first_number c)
     (λ d e h. let same : d ≡ c = cc in cast_numbered bytes c (e ∙ ap (λ (x : CastFields). Ok x) same))
     (λ f e h. absurd cc))
-    (λ _. cond_both (eqb kind status_kind) _ _ (λ (r : Result FrameFields FrameFault). r ≡ Ok (CastFrame c) → 1 ≤ c.number)
-    (λ _. bind_cases (status_at bytes) _ (λ (r : Result FrameFields FrameFault). r ≡ Ok (CastFrame c) → 1 ≤ c.number)
+    (λ _. cond_both (eqb kind status_kind) _ _ (λ (r : Result FrameFields FrameFault). r ≡ Ok (CastFrame c) → 1 ≤ first_number c)
+    (λ _. bind_cases (status_at bytes) _ (λ (r : Result FrameFields FrameFault). r ≡ Ok (CastFrame c) → 1 ≤ first_number c)
     (λ s e h. absurd cc)
     (λ f e h. absurd cc))
-    (λ _. cond_both (eqb kind request_kind) _ _ (λ (r : Result FrameFields FrameFault). r ≡ Ok (CastFrame c) → 1 ≤ c.number)
-    (λ _. bind_cases (request_at bytes) _ (λ (r : Result FrameFields FrameFault). r ≡ Ok (CastFrame c) → 1 ≤ c.number)
+    (λ _. cond_both (eqb kind request_kind) _ _ (λ (r : Result FrameFields FrameFault). r ≡ Ok (CastFrame c) → 1 ≤ first_number c)
+    (λ _. bind_cases (request_at bytes) _ (λ (r : Result FrameFields FrameFault). r ≡ Ok (CastFrame c) → 1 ≤ first_number c)
     (λ q e h. absurd cc)
     (λ f e h. absurd cc))
     (λ _ h. absurd cc)))

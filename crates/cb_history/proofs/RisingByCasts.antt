@@ -1,10 +1,12 @@
 -- What a cast says of what is known and acknowledged.
-use Rattle.std.proofs.Common.{◌≡◌, ◌≢◌, ℕ, zero, suc, ◌<◌, ◌≤◌, Bool, true, false, not, cond, eqb, List, [], ◌∷◌, ◌++◌, map, max, refl, sym, ap, subst, ◌∙◌, arith, inl, inr}
+use Rattle.std.proofs.Common.{◌≡◌, ◌≢◌, ℕ, zero, suc, ◌+◌, ◌<◌, ◌≤◌, Bool, true, false, not, cond, eqb, List, [], ◌∷◌, ◌++◌, map, max, refl, sym, ap, subst, ◌∙◌, arith, inl, inr}
 use Rattle.std.specs.List.{filter}
-use Rattle.std.proofs.lemmas.Bool.{cond_both, cases_eq, eq-eqb, ne_eqb}
+use Rattle.std.proofs.lemmas.Bool.{cond_both, cases_eq, ne_eqb}
 use Rattle.std.proofs.lemmas.List.{map-append}
 use Rattle.std.proofs.lemmas.List.Elements.{filter-append}
-use Rattle.cb_frames.specs.Fields.{CastFields, Carried, messages_of, last_number}
+use Rattle.cb_frames.specs.Fields.{CastFields, Carried, messages_of, first_number, last_number}
+use Rattle.cb_frames.specs.Carrying.{AreNumberedFrom}
+use Rattle.cb_frames.proofs.Carried.{carried_in_order, carried_is_of_cast}
 use Rattle.cb_diffs.specs.Expansion.{expanded_field}
 use Rattle.cb_history.specs.Group.{Identity}
 use Rattle.cb_history.specs.Facts.{Fact, OwnCast, CastReceived, casts_in, messages_in, is_there, numbers_between}
@@ -14,12 +16,13 @@ use Rattle.cb_history.specs.Answers.{own_casts, delivered}
 use Rattle.cb_history.specs.LegalFacts.{AreFactsOf}
 use Rattle.cb_history.specs.KnowledgeLaws.{newly_expanded, CastIsKnown, CastIsAcknowledged, OwnCastTellsNothing, DeliveredIsKnown}
 use Rattle.cb_history.proofs.Views.{IsIn, filter_in, casts_in-append, not_true}
-use Rattle.cb_history.proofs.Lists.{messages_in-push, in_push, in_is_among, among_is, among_by_order, count_other}
-use Rattle.cb_history.proofs.Names.{StandsAt, all_stand, message}
+use Rattle.cb_history.proofs.Lists.{in_casts_push, in_is_among, among_is, among_by_order, count_of_others}
+use Rattle.cb_history.proofs.Names.{StandsAt, all_stand}
 use Rattle.cb_history.proofs.Prefixes.{prefix_of_facts_is_legal}
 use Rattle.cb_history.proofs.Walks.{view_own}
 use Rattle.cb_history.proofs.Growth.{same_field}
-use Rattle.cb_history.proofs.Times.{IsNew, is_new, own_number, seen_is_expanded, times_are_reached}
+use Rattle.cb_history.proofs.Times.{IsNew, is_new, first_is_new, own_number, own_field, seen_is_expanded}
+use Rattle.cb_history.proofs.InTime.{times_are_reached}
 use Rattle.cb_history.proofs.Rising.{greatest_append, all_at_most, all_weaker, times_rise, known_parts, known_more, counted_at, acknowledged_parts, acknowledged_more}
 use Rattle.cb_history.proofs.GapsLater.{there_below}
 
@@ -53,13 +56,14 @@ time_with casts c i m = expanded_field (casts ++ c ∷ []) m.sender m.number i
 -- a message that could be told before says what it said
 reported_before : (casts : List CastFields) (c : CastFields) (i : ℕ) (m : Carried) → IsNew casts c → IsIn m (messages_in (casts ++ c ∷ [])) → is_expanded casts m ≡ true → time_with casts c i m ≤ greatest_of (counted_in_times casts i)
 reported_before casts c i m new there expanded =
-    let same : time_with casts c i m ≡ expanded_field casts m.sender m.number i = same_field casts c m i new.new new.positive expanded in
-    elim (in_push m (message c) (messages_in casts) (subst (IsIn m) (messages_in-push casts c) there)) [
+    let same : time_with casts c i m ≡ expanded_field casts m.sender m.number i = same_field casts c m i (first_is_new casts c new) new.positive expanded in
+    elim (in_casts_push casts c m there) [
       | inl old ↦ let most = one_at_most (is_expanded casts) (λ x. expanded_field casts x.sender x.number i) (messages_in casts) m old expanded in omega (arith, same, most)
-      | inr is ↦
-          let here : is_there casts c.sender c.number ≡ true =
-          subst (λ (x : Carried). is_there casts x.sender x.number ≡ true) is (there_below casts m m.number expanded (let number : m.number ≡ c.number = ap (λ (x : Carried). x.number) is in let positive = new.positive in omega (arith, number, positive)) (omega arith)) in
-          let none = new.new in
+      | inr late ↦
+          let low = (carried_is_of_cast c m late).low in
+          let positive = new.positive in
+          let here : is_there casts m.sender m.number ≡ true = there_below casts m m.number expanded (omega (arith, low, positive)) (omega arith) in
+          let none : is_there casts m.sender m.number ≡ false = new.new m late in
           absurd cc
     ]
 
@@ -91,7 +95,7 @@ cast_is_known seat facts c i are =
 counted_same : (casts : List CastFields) (c : CastFields) (seen : List Carried) (k me : ℕ) → IsNew casts c → ((m : Carried) → IsIn m seen → is_expanded casts m ≡ true) → counted_by (casts ++ c ∷ []) seen k me ≡ counted_by casts seen k me
 counted_same casts c [] k me new expanded = refl
 counted_same casts c (m ∷ seen) k me new expanded =
-    let here : expanded_field (casts ++ c ∷ []) m.sender m.number me ≡ expanded_field casts m.sender m.number me = same_field casts c m me new.new new.positive (expanded m (inl refl)) in
+    let here : expanded_field (casts ++ c ∷ []) m.sender m.number me ≡ expanded_field casts m.sender m.number me = same_field casts c m me (first_is_new casts c new) new.positive (expanded m (inl refl)) in
     let others = counted_same casts c seen k me new (λ x there. expanded x (inr there)) in
     with_one (eqb m.sender k) here others
   where
@@ -127,9 +131,6 @@ cast_is_acknowledged seat facts c k later are grown =
 
 -- ---- what is delivered is known
 
-own_field : (casts : List CastFields) (sender number : ℕ) → expanded_field casts sender number sender ≡ number
-own_field casts sender number = rw (eq-eqb sender sender refl) refl
-
 known_from : (seat : Identity) (facts : List Fact) (i n : ℕ) → StandsAt seat facts → count (view seat.group.size facts) i ≡ n → n ≤ known facts i
 known_from seat facts i zero s is = omega arith
 known_from seat facts i (suc n) s is =
@@ -152,11 +153,11 @@ there_other : (casts : List CastFields) (c : CastFields) (sender n : ℕ) → se
 there_other casts c sender n other there =
     let name : Carried = record { sender = sender; number = n; payload = [] } in
     let found = among_is (messages_in (casts ++ c ∷ [])) name there in
-    elim (in_push found.0 (message c) (messages_in casts) (subst (IsIn found.0) (messages_in-push casts c) found.1)) [
+    elim (in_casts_push casts c found.0 found.1) [
       | inl old ↦
           let among : is_among (messages_in casts) found.0 ≡ true = in_is_among (messages_in casts) found.0 old in
           subst (λ (k : ℕ). is_there casts k n ≡ true) found.2 (subst (λ (j : ℕ). is_there casts found.0.sender j ≡ true) found.3 among)
-      | inr is ↦ absurd (other (sym found.2 ∙ ap (λ (x : Carried). x.sender) is))
+      | inr late ↦ absurd (other (sym found.2 ∙ (carried_is_of_cast c found.0 late).sender_is))
     ]
 
 expanded_other : (casts : List CastFields) (c : CastFields) (m : Carried) → m.sender ≢ c.sender → is_expanded (casts ++ c ∷ []) m ≡ true → is_expanded casts m ≡ true
@@ -174,7 +175,7 @@ own_cast_newly seat facts c k are member other own m there newly =
           let reached = times_are_reached seat (facts ++ OwnCast c ∷ []) m k are (s.own_seen m in_casts (same ∙ own)) member in
           let time : time_with (casts_in facts) c k m ≡ expanded_field (casts_in (facts ++ OwnCast c ∷ [])) m.sender m.number k = ap (λ (cs : List CastFields). expanded_field cs m.sender m.number k) (sym casts) in
           let seen : delivered seat (facts ++ OwnCast c ∷ []) k ≡ delivered seat facts k =
-          ap (λ (ms : List Carried). count ms k) (view_own seat.group.size facts c) ∙ count_other (view seat.group.size facts) (message c) k (λ e. other (sym e ∙ own)) in
+          ap (λ (ms : List Carried). count ms k) (view_own seat.group.size facts c) ∙ count_of_others (view seat.group.size facts) c k (λ e. other (sym e ∙ own)) in
           omega (arith, reached, time, seen)
       | inr ne ↦
           let old : is_expanded (casts_in facts) m ≡ true = expanded_other (casts_in facts) c m ne both.0 in
@@ -193,6 +194,11 @@ own_cast_known seat facts c k are member other own =
     let least = delivered_is_known seat facts k before in
     omega (arith, more, parts, times, newly, least)
 
+-- the messages of a cast say nothing of what another than its sender delivered
+none_counted_by : (casts : List CastFields) (sender n k me : ℕ) (ms : List Carried) → AreNumberedFrom sender n ms → sender ≢ k → counted_by casts ms k me ≡ []
+none_counted_by casts sender n k me [] row ne = refl
+none_counted_by casts sender n k me (m ∷ ms) row ne = rw (ne_eqb m.sender k (λ e. ne (sym row.0 ∙ e))) (none_counted_by casts sender (n + 1) k me ms row.2 ne)
+
 own_cast_acknowledged : (seat : Identity) (facts : List Fact) (c : CastFields) (k : ℕ) → AreFactsOf seat (facts ++ OwnCast c ∷ []) → k ≢ seat.me → c.sender ≡ seat.me → acknowledged seat (facts ++ OwnCast c ∷ []) k ≡ acknowledged seat facts k
 own_cast_acknowledged seat facts c k are other own =
     let before = prefix_of_facts_is_legal seat facts (OwnCast c ∷ []) are in
@@ -201,7 +207,8 @@ own_cast_acknowledged seat facts c k are other own =
     let parts = acknowledged_parts seat facts k in
     let seen : counted_at seat (casts_in facts ++ c ∷ []) (view seat.group.size (facts ++ OwnCast c ∷ [])) k ≡ counted_at seat (casts_in facts ++ c ∷ []) (view seat.group.size facts ++ messages_of c) k = ap (λ (ms : List Carried). counted_at seat (casts_in facts ++ c ∷ []) ms k) (view_own seat.group.size facts c) in
     let counted = acknowledged_by seat facts c (messages_of c) k (is_new seat facts (OwnCast c) c s refl) (all_stand seat facts before.member before.facts_are) in
-    let none : greatest_of (counted_by (casts_in facts ++ c ∷ []) (messages_of c) k seat.me) ≡ 0 = rw (ne_eqb c.sender k (λ e. other (sym e ∙ own))) refl in
+    let none : greatest_of (counted_by (casts_in facts ++ c ∷ []) (messages_of c) k seat.me) ≡ 0 =
+    ap greatest_of (none_counted_by (casts_in facts ++ c ∷ []) c.sender (first_number c) k seat.me (messages_of c) (carried_in_order c) (λ e. other (sym e ∙ own))) in
     omega (arith, more, parts, seen, counted, none)
 
 pub own_cast_tells_nothing : OwnCastTellsNothing

@@ -2,7 +2,8 @@
 use Rattle.std.proofs.Common.{◌≡◌, ℕ, zero, suc, ◌+◌, ◌-◌, ◌<◌, ◌≤◌, Bool, true, false, not, eqb, List, [], ◌∷◌, ◌++◌, map, refl, sym, ap, subst, ◌∙◌, arith, inl, inr, ◌⊎◌}
 use Rattle.std.specs.List.{filter}
 use Rattle.std.proofs.lemmas.Bool.{cases_eq, cases_lt, eq-eqb, eqb-true, false_from_ne_true, both_ways, not-true, not_from_false}
-use Rattle.cb_frames.specs.Fields.{CastFields, Carried}
+use Rattle.cb_frames.specs.Fields.{CastFields, Carried, first_number, last_number}
+use Rattle.cb_frames.proofs.Carried.{carries_no_more, carried_is_of_cast}
 use Rattle.cb_history.specs.Group.{Identity}
 use Rattle.cb_history.specs.Facts.{Fact, casts_in, messages_in, is_there, numbers_between}
 use Rattle.cb_history.specs.View.{count, is_expanded, expanded_in, view}
@@ -13,8 +14,8 @@ use Rattle.cb_history.specs.KnowledgeLaws.{newly_expanded}
 use Rattle.cb_history.specs.GapLaws.{Has}
 use Rattle.cb_history.specs.ExpansionLaws.{ExpandedAreThere, NextIsNotThere, RunIsExpanded, ExpandedUpToTheCount, DeliveredIsExpanded, OthersExpandNothing, AfterAGapNothingExpands, TheRunIsNewlyExpanded, GreatestOfTheRun}
 use Rattle.cb_history.proofs.Views.{IsIn, filter_in, in_filter}
-use Rattle.cb_history.proofs.Lists.{messages_in-push, in_push, in_is_among, among_is, order_bound}
-use Rattle.cb_history.proofs.Names.{message, all_stand, one_of_is_in, in_is_one_of}
+use Rattle.cb_history.proofs.Lists.{in_casts_push, in_is_among, among_is, order_bound}
+use Rattle.cb_history.proofs.Names.{all_stand, one_of_is_in, in_is_one_of}
 use Rattle.cb_history.proofs.Times.{all_from_range, seen_is_there}
 use Rattle.cb_history.proofs.Rising.{there_more, all_at_most}
 use Rattle.cb_history.proofs.RisingByCasts.{one_at_most}
@@ -62,12 +63,17 @@ message_is_there casts m i n there sender number =
     subst (λ (k : ℕ). is_there casts k n ≡ true) sender (subst (λ (j : ℕ). is_there casts m.sender j ≡ true) number (in_is_among (messages_in casts) m there))
 
 -- with one more cast: it was there, or is this one
-pub there_push : (casts : List CastFields) (c : CastFields) (i n : ℕ) → is_there (casts ++ c ∷ []) i n ≡ true → (is_there casts i n ≡ true) ⊎ ((c.sender ≡ i) × (c.number ≡ n))
+pub there_push : (casts : List CastFields) (c : CastFields) (i n : ℕ) → is_there (casts ++ c ∷ []) i n ≡ true → (is_there casts i n ≡ true) ⊎ ((c.sender ≡ i) × (first_number c ≤ n) × (n ≤ last_number c))
 there_push casts c i n h =
     let m = message_there (casts ++ c ∷ []) i n h in
-    elim (in_push m.found (message c) (messages_in casts) (subst (IsIn m.found) (messages_in-push casts c) m.there)) [
+    let number = m.number_is in
+    elim (in_casts_push casts c m.found m.there) [
       | inl old ↦ inl (message_is_there casts m.found i n old m.sender_is m.number_is)
-      | inr new ↦ inr (ap (λ (x : Carried). x.sender) (sym new) ∙ m.sender_is, ap (λ (x : Carried). x.number) (sym new) ∙ m.number_is)
+      | inr late ↦
+          let of = carried_is_of_cast c m.found late in
+          let low = of.low in
+          let high = of.high in
+          inr (sym of.sender_is ∙ m.sender_is, omega (arith, low, number), omega (arith, high, number))
     ]
 
 -- ---- the count
@@ -148,21 +154,21 @@ delivered_is_expanded seat facts are =
 
 -- ---- one more cast
 
--- where the next number is not this cast's, the run is as it was
-same_run : (casts : List CastFields) (c : CastFields) (i : ℕ) → (c.sender ≡ i → c.number ≡ expanded_count casts i + 1 → ⊥) → expanded_count (casts ++ c ∷ []) i ≡ expanded_count casts i
+-- where the next number is none of this cast's, the run is as it was
+same_run : (casts : List CastFields) (c : CastFields) (i : ℕ) → (c.sender ≡ i → first_number c ≤ expanded_count casts i + 1 → expanded_count casts i + 1 ≤ last_number c → ⊥) → expanded_count (casts ++ c ∷ []) i ≡ expanded_count casts i
 same_run casts c i other =
     run_is_expanded (casts ++ c ∷ []) i (expanded_count casts i)
     (λ k low high. there_more casts (c ∷ []) i k (expanded_are_there casts i k low high))
     (false_from_ne_true (is_there (casts ++ c ∷ []) i (expanded_count casts i + 1)) (λ there. elim (there_push casts c i (expanded_count casts i + 1) there) [
       | inl old ↦ both_ways (is_there casts i (expanded_count casts i + 1)) (next_is_not_there casts i) old
-      | inr new ↦ other new.0 new.1
+      | inr late ↦ other late.0 late.1 late.2
     ]))
 
 pub others_expand_nothing : OthersExpandNothing
-others_expand_nothing casts c i ne = same_run casts c i (λ e _. ne e)
+others_expand_nothing casts c i ne = same_run casts c i (λ e _ _. ne e)
 
 pub after_a_gap_nothing_expands : AfterAGapNothingExpands
-after_a_gap_nothing_expands casts c ne = same_run casts c c.sender (λ _ e. ne e)
+after_a_gap_nothing_expands casts c ne = same_run casts c c.sender (λ _ low high. ne (omega (arith, low, high, carries_no_more c)))
 
 pub count_rises : (casts more : List CastFields) (i : ℕ) → expanded_count casts i ≤ expanded_count (casts ++ more) i
 count_rises casts more i = run_at_most (casts ++ more) i (expanded_count casts i) (λ k low high. there_more casts more i k (expanded_are_there casts i k low high))

@@ -7,6 +7,7 @@ use Rattle.std.proofs.lemmas.List.{append-nil}
 use Rattle.std.proofs.lemmas.List.FromFn.{length-map-range_with_len}
 use Rattle.cb_times.specs.declared.name.Name.{Name}
 use Rattle.cb_frames.specs.Fields.{CastFields, StatusFields, Carried, messages_of}
+use Rattle.cb_frames.proofs.Carried.{carried_is_of_cast}
 use Rattle.cb_delay.specs.declared.message.Message.{Message}
 use Rattle.cb_delay.specs.Message.{name_cmp, IsOfGroup}
 use Rattle.cb_delay.specs.Queue.{Queue, IsHeld, FollowsLast, count_of}
@@ -22,10 +23,10 @@ use Rattle.cb_history.specs.LegalFacts.{AreFactsOf}
 use Rattle.cb_history.specs.DeliveryLaws.{IsOnTheWay}
 use Rattle.cb_history.specs.QueueLaws.{IsUndelivered, HoldsUndelivered}
 use Rattle.cb_history.specs.WaitingLaws.{HoldsWaiting, OwnFactsLeaveWaiting, IsTakenOf, HoldsTakenOf, CastWaitsForItsTurn, NextTakenCanBeHeld, HoldingTakesOneMore, AllTakenIsWaiting}
-use Rattle.cb_history.proofs.Views.{IsIn, filter_in, in_filter, among_more, among_itself, casts_in-append}
-use Rattle.cb_history.proofs.Lists.{messages_in-push, in_front, in_push, among_is, order_bound, not_among_more}
+use Rattle.cb_history.proofs.Views.{IsIn, filter_in, in_filter, among_front, among_back, casts_in-append}
+use Rattle.cb_history.proofs.Lists.{messages_in-push, in_front, in_casts_push, in_is_among, among_is, order_bound, none_among, not_among_append}
 use Rattle.cb_history.proofs.Walks.{view_own, view_status, view_reported}
-use Rattle.cb_history.proofs.Names.{StandsAt, all_stand, message, one_of_is_in, in_is_one_of}
+use Rattle.cb_history.proofs.Names.{StandsAt, all_stand, one_of_is_in, in_is_one_of}
 use Rattle.cb_history.proofs.Prefixes.{prefix_of_facts_is_legal, last_fact_is_a_step}
 use Rattle.cb_history.proofs.Rising.{expanded_more}
 use Rattle.cb_history.proofs.Times.{IsNew, is_new, stays}
@@ -45,7 +46,7 @@ still_expanded casts c m there =
     (subst (IsIn m) (sym (messages_in-push casts c)) (in_front m (messages_in casts) (messages_of c) found.1)))
 
 -- and one that is was, where it is not the new cast's, nor of its sender behind what was expanded
-was_expanded : (casts : List CastFields) (c : CastFields) (m : Carried) → IsOneOf m (expanded_in (casts ++ c ∷ [])) → (m ≡ message c → ⊥) → (m.sender ≡ c.sender → m.number ≤ expanded_count casts m.sender)
+was_expanded : (casts : List CastFields) (c : CastFields) (m : Carried) → IsOneOf m (expanded_in (casts ++ c ∷ [])) → (IsIn m (messages_of c) → ⊥) → (m.sender ≡ c.sender → m.number ≤ expanded_count casts m.sender)
     → IsOneOf m (expanded_in casts)
 was_expanded casts c m there other upto =
     in_is_one_of m (expanded_in casts) (in_filter (is_expanded casts) (messages_in casts) m expanded old)
@@ -54,9 +55,9 @@ was_expanded casts c m there other upto =
     found = filter_in (is_expanded (casts ++ c ∷ [])) (messages_in (casts ++ c ∷ [])) m (one_of_is_in m (expanded_in (casts ++ c ∷ [])) there)
 
     old : IsIn m (messages_in casts)
-    old = elim (in_push m (message c) (messages_in casts) (subst (IsIn m) (messages_in-push casts c) found.1)) [
+    old = elim (in_casts_push casts c m found.1) [
       | inl before ↦ before
-      | inr new ↦ absurd (other new)
+      | inr late ↦ absurd (other late)
     ]
 
     expanded : is_expanded casts m ≡ true
@@ -73,17 +74,17 @@ same_time seat facts f c m are is there =
     ap (λ (cs : List CastFields). message_in seat.group.size cs m) (sym is)
     ∙ same_message seat.group.size (casts_in facts) (casts_in (facts ++ f ∷ [])) m (λ k. stays seat facts f m k (all_stand seat (facts ++ f ∷ []) are.member are.facts_are) found.0)
 
--- a new cast is of no message that is there
-not_there_yet : (casts : List CastFields) (c : CastFields) (m : Carried) → IsNew casts c → IsIn m (messages_in casts) → m.sender ≡ c.sender → m.number ≡ c.number → ⊥
-not_there_yet casts c m new there sender number =
-    let yes = message_is_there casts m c.sender c.number there sender number in
-    let no = new.new in
+-- a new cast has no message that is there
+not_there_yet : (casts : List CastFields) (c : CastFields) (m x : Carried) → IsNew casts c → IsIn m (messages_in casts) → IsIn x (messages_of c) → m.sender ≡ x.sender → m.number ≡ x.number → ⊥
+not_there_yet casts c m x new there late sender number =
+    let yes = message_is_there casts m x.sender x.number there sender number in
+    let no = new.new x late in
     absurd cc
 
 -- ---- own facts
 
 own_leaves : (seat : Identity) (facts : List Fact) (c : CastFields) (queue : Queue) → AreFactsOf seat (facts ++ OwnCast c ∷ []) → HoldsWaiting seat facts queue
-    → HoldsUndelivered seat.group.size (casts_in facts ++ c ∷ []) (view seat.group.size facts ++ message c ∷ []) queue
+    → HoldsUndelivered seat.group.size (casts_in facts ++ c ∷ []) (view seat.group.size facts ++ messages_of c) queue
 own_leaves seat facts c queue are waits = record { of_size = waits.of_size; holds = λ x. (held_then x, then_held x) }
   where
     size : ℕ
@@ -107,27 +108,27 @@ own_leaves seat facts c queue are waits = record { of_size = waits.of_size; hold
     in_casts : (m : Carried) → IsOneOf m (expanded_in casts) → IsIn m (messages_in casts)
     in_casts m there = (filter_in (is_expanded casts) (messages_in casts) m (one_of_is_in m (expanded_in casts) there)).1
 
-    held_then : (x : Message) → IsHeld queue x → IsUndelivered size (casts ++ c ∷ []) (seen ++ message c ∷ []) x
+    held_then : (x : Message) → IsHeld queue x → IsUndelivered size (casts ++ c ∷ []) (seen ++ messages_of c) x
     held_then x h =
         let u = (waits.holds x).0 h in
         let m = u.carried in
-        let other : (eqb c.sender m.sender && eqb c.number m.number) ≡ false = false_from_ne_true (eqb c.sender m.sender && eqb c.number m.number) (λ yes.
-        let both = same_names (message c) m yes in
-        not_there_yet casts c m new (in_casts m u.expanded) (sym both.0) (sym both.1)) in
+        let other : is_among (messages_of c) m ≡ false = none_among (messages_of c) m (λ x late. false_from_ne_true (eqb x.sender m.sender && eqb x.number m.number) (λ yes.
+        let both = same_names x m yes in
+        not_there_yet casts c m x new (in_casts m u.expanded) late (sym both.0) (sym both.1))) in
         record {
           carried = m;
           expanded = still_expanded casts c m u.expanded;
-          unseen = not_among_more seen (message c) m u.unseen other;
+          unseen = not_among_append seen (messages_of c) m u.unseen other;
           timed = u.timed ∙ sym (same_time seat facts (OwnCast c) c m are (casts_in-append facts (OwnCast c)) u.expanded);
         }
 
-    then_held : (x : Message) → IsUndelivered size (casts ++ c ∷ []) (seen ++ message c ∷ []) x → IsHeld queue x
+    then_held : (x : Message) → IsUndelivered size (casts ++ c ∷ []) (seen ++ messages_of c) x → IsHeld queue x
     then_held x u =
         let m = u.carried in
-        let unseen : is_among seen m ≡ false = false_from_ne_true (is_among seen m) (λ yes. let more = among_more seen (message c) m yes in let no = u.unseen in cc) in
-        let not_new : m ≡ message c → ⊥ = λ e. let itself : is_among (seen ++ message c ∷ []) m ≡ true = subst (λ (y : Carried). is_among (seen ++ message c ∷ []) y ≡ true) (sym e) (among_itself seen (message c)) in let no = u.unseen in absurd cc in
-        let there : IsIn m (messages_in casts) = elim (in_push m (message c) (messages_in casts) (subst (IsIn m) (messages_in-push casts c)
-        (filter_in (is_expanded (casts ++ c ∷ [])) (messages_in (casts ++ c ∷ [])) m (one_of_is_in m (expanded_in (casts ++ c ∷ [])) u.expanded)).1)) [ inl before ↦ before | inr e ↦ absurd (not_new e) ] in
+        let unseen : is_among seen m ≡ false = false_from_ne_true (is_among seen m) (λ yes. let more = among_front seen (messages_of c) m yes in let no = u.unseen in cc) in
+        let not_new : IsIn m (messages_of c) → ⊥ = λ late. let itself = among_back seen (messages_of c) m (in_is_among (messages_of c) m late) in let no = u.unseen in absurd cc in
+        let there : IsIn m (messages_in casts) =
+        elim (in_casts_push casts c m (filter_in (is_expanded (casts ++ c ∷ [])) (messages_in (casts ++ c ∷ [])) m (one_of_is_in m (expanded_in (casts ++ c ∷ [])) u.expanded)).1) [ inl before ↦ before | inr late ↦ absurd (not_new late) ] in
         let old = was_expanded casts c m u.expanded not_new (λ e. absurd (let yes = stands.own_seen m there (e ∙ sender) in let no = unseen in cc)) in
         (waits.holds x).1 (record { carried = m; expanded = old; unseen = unseen; timed = u.timed ∙ same_time seat facts (OwnCast c) c m are (casts_in-append facts (OwnCast c)) old })
 
@@ -140,7 +141,7 @@ waits_alike size casts now seen then_seen queue a b waits =
 
 pub own_facts_leave_waiting : OwnFactsLeaveWaiting
 own_facts_leave_waiting seat facts queue waits = (
-  (λ c are. waits_alike seat.group.size (casts_in facts ++ c ∷ []) (casts_in (facts ++ OwnCast c ∷ [])) (view seat.group.size facts ++ message c ∷ []) (view seat.group.size (facts ++ OwnCast c ∷ [])) queue
+  (λ c are. waits_alike seat.group.size (casts_in facts ++ c ∷ []) (casts_in (facts ++ OwnCast c ∷ [])) (view seat.group.size facts ++ messages_of c) (view seat.group.size (facts ++ OwnCast c ∷ [])) queue
       (casts_in-append facts (OwnCast c)) (view_own seat.group.size facts c) (own_leaves seat facts c queue are waits)),
   (λ s. waits_alike seat.group.size (casts_in facts) (casts_in (facts ++ StatusReceived s ∷ [])) (view seat.group.size facts) (view seat.group.size (facts ++ StatusReceived s ∷ [])) queue
       (no_cast facts s).0 (view_status seat.group.size facts s) waits),
@@ -190,14 +191,12 @@ received_waits seat facts c queue are waits = record { of_size = waits.of_size; 
         let most = t.upto (named ∙ e) in
         let at : expanded_count casts m.sender ≡ expanded_count casts c.sender = ap (expanded_count casts) e in
         omega (arith, most, number, at) in
-        let not_new : m ≡ message c → ⊥ = λ e.
-        let sender : m.sender ≡ c.sender = ap (λ (y : Carried). y.sender) e in
-        let same : m.number ≡ c.number = ap (λ (y : Carried). y.number) e in
-        let most = upto sender in
-        let at : expanded_count casts m.sender ≡ expanded_count casts c.sender = ap (expanded_count casts) sender in
+        let not_new : IsIn m (messages_of c) → ⊥ = λ late.
+        let of = carried_is_of_cast c m late in
+        let low = of.low in
         let positive = new.positive in
-        let yes = expanded_are_there casts c.sender c.number positive (omega (arith, most, same, at)) in
-        let no = new.new in
+        let yes = expanded_are_there casts m.sender m.number (omega (arith, low, positive)) (upto of.sender_is) in
+        let no = new.new m late in
         absurd cc in
         let old = was_expanded casts c m u.expanded not_new upto in
         (waits.holds x).1 (record { carried = m; expanded = old; unseen = u.unseen; timed = u.timed ∙ same_time seat facts (CastReceived c) c m are (casts_in-append facts (CastReceived c)) old })

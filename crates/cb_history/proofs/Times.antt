@@ -1,24 +1,25 @@
 -- The times of messages, and the views that they were cast in.
-use Rattle.std.proofs.Common.{◌≡◌, ◌≢◌, ℕ, zero, suc, ◌+◌, ◌-◌, ◌<◌, ◌≤◌, Bool, true, false, ◌&&◌, ◌||◌, cond, eqb, leb, List, [], ◌∷◌, ◌++◌, length, map, Some, refl, sym, ap, subst, ◌∙◌, append_assoc, arith, inl, inr}
+use Rattle.std.proofs.Common.{◌≡◌, ◌≢◌, ℕ, zero, suc, ◌+◌, ◌-◌, ◌<◌, ◌≤◌, Bool, true, false, ◌||◌, cond, eqb, leb, List, [], ◌∷◌, ◌++◌, length, map, refl, sym, ap, subst, ◌∙◌, append_assoc, arith, inl, inr}
 use Rattle.std.specs.List.{list_any, list_all, range_with_len, sum_by}
 use Rattle.std.proofs.lemmas.Bool.{cases_eq, eq-eqb, ne_eqb, eqb-true, leb-true}
 use Rattle.std.proofs.lemmas.List.{append-nil, length-append}
 use Rattle.std.proofs.lemmas.List.Sums.{sum_by_push}
 use Rattle.std.proofs.lemmas.List.FromFn.{length-map-range_with_len, get_or-map-range_with_len}
 use Rattle.cb_times.specs.Order.{field}
-use Rattle.cb_frames.specs.Fields.{CastFields, Carried, growth_in, last_number}
+use Rattle.cb_frames.specs.Fields.{CastFields, Carried, messages_of, growth_in, first_number, last_number}
+use Rattle.cb_frames.proofs.Carried.{carried_up_to_the_last, carries_some, carries_no_more, HasNumber, first_is_carried}
 use Rattle.cb_diffs.specs.Expansion.{growth_of, expanded_field}
 use Rattle.cb_history.specs.Group.{Identity}
 use Rattle.cb_history.specs.Facts.{Fact, OwnCast, CastReceived, StatusReceived, OwnStatus, cast_in, casts_in, messages_in, is_there}
-use Rattle.cb_history.specs.View.{count, is_among, is_expanded, is_in_time, next_delivery, drain, view, time_of}
-use Rattle.cb_history.specs.Answers.{own_casts, delivered, is_own_cast, upto_last_cast}
+use Rattle.cb_history.specs.View.{count, is_among, is_expanded, is_in_time, view, time_of}
+use Rattle.cb_history.specs.Answers.{own_casts, is_own_cast, upto_last_cast}
 use Rattle.cb_history.specs.LegalFacts.{IsOwnCast, IsStep, AreLegalFacts, NoFacts, OneFactMore, AreFactsOf}
 use Rattle.cb_history.specs.NameLaws.{NamesDiffer, NumberedFrom}
-use Rattle.cb_history.specs.TimeLaws.{TimesStay, OwnCastsTellTheView, TimesAreReached}
-use Rattle.cb_history.proofs.Views.{IsIn, next_is, casts_in-append, test_true, all_in_range, or_right}
-use Rattle.cb_history.proofs.Lists.{messages_in-push, in_push, in_is_among, among_is, count-append, count_own, count_other, among_by_order, order_bound, or_false, both_false, flipped}
-use Rattle.cb_history.proofs.Walks.{drain_keeps, view_grows, view_own, view_received, view_status, view_reported, own_casts-own, IsNotOwn}
-use Rattle.cb_history.proofs.Names.{Stands, StandsAt, all_stand, message, received_is_others}
+use Rattle.cb_history.specs.TimeLaws.{TimesStay, OwnCastsTellTheView}
+use Rattle.cb_history.proofs.Views.{IsIn, casts_in-append, or_right}
+use Rattle.cb_history.proofs.Lists.{messages_in-push, in_front, in_back, names_apart, in_is_among, among_is, count-append, count_own, count_of_messages, count_of_others, among_by_order, order_bound}
+use Rattle.cb_history.proofs.Walks.{view_grows, view_own, own_casts-own, own_casts-other, IsNotOwn}
+use Rattle.cb_history.proofs.Names.{Stands, StandsAt, all_stand, received_is_others}
 use Rattle.cb_history.proofs.Counts.{count_at_most_last}
 use Rattle.cb_history.proofs.Prefixes.{prefix_of_facts_is_legal}
 use Rattle.cb_history.proofs.Rising.{expanded_more}
@@ -47,38 +48,37 @@ seen_is_expanded seat casts seen own m s there =
 
 -- ---- a new cast
 
-names_last : (ms : List Carried) (m : Carried) → NamesDiffer (ms ++ m ∷ []) → is_among ms m ≡ false
-names_last [] m differ = refl
-names_last (x ∷ ms) m differ =
-    let other : is_among (ms ++ m ∷ []) x ≡ false = differ.0 in
-    both_false _ (is_among ms m) (rw (flipped x.sender m.sender, flipped x.number m.number) (last_differs ms m x other)) (names_last ms m differ.1)
-  where
-    last_differs : (ms : List Carried) (m x : Carried) → is_among (ms ++ m ∷ []) x ≡ false → (eqb m.sender x.sender && eqb m.number x.number) ≡ false
-    last_differs [] m x h = (or_false (eqb m.sender x.sender && eqb m.number x.number) false h).0
-    last_differs (y ∷ ms) m x h = last_differs ms m x (or_false (eqb y.sender x.sender && eqb y.number x.number) (is_among (ms ++ m ∷ []) x) h).1
-
 pub last_is_in : (ms : List Carried) (m : Carried) → IsIn m (ms ++ m ∷ [])
 last_is_in [] m = inl refl
 last_is_in (x ∷ ms) m = inr (last_is_in ms m)
 
+-- no message of the cast is there
 pub record IsNew (casts : List CastFields) (c : CastFields) : Type 0 where
-  pub new : is_there casts c.sender c.number ≡ false
-  pub positive : 1 ≤ c.number
+  pub new : (m : Carried) → IsIn m (messages_of c) → is_among (messages_in casts) m ≡ false
+  pub positive : 1 ≤ first_number c
+
+pub first_is_new : (casts : List CastFields) (c : CastFields) → IsNew casts c → is_there casts c.sender (first_number c) ≡ false
+first_is_new casts c n =
+    let first = first_is_carried c in
+    subst (λ (i : ℕ). is_there casts i (first_number c) ≡ false) first.sender_is (subst (λ (k : ℕ). is_there casts first.found.sender k ≡ false) first.number_is (n.new first.found first.there))
 
 pub is_new : (seat : Identity) (facts : List Fact) (f : Fact) (c : CastFields) → StandsAt seat (facts ++ f ∷ []) → cast_in f ≡ c ∷ [] → IsNew (casts_in facts) c
 is_new seat facts f c s is =
     let casts : casts_in (facts ++ f ∷ []) ≡ casts_in facts ++ c ∷ [] = casts_in-append facts f ∙ ap (λ (cs : List CastFields). casts_in facts ++ cs) is in
-    let messages : messages_in (casts_in (facts ++ f ∷ [])) ≡ messages_in (casts_in facts) ++ message c ∷ [] = ap messages_in casts ∙ messages_in-push (casts_in facts) c in
+    let messages : messages_in (casts_in (facts ++ f ∷ [])) ≡ messages_in (casts_in facts) ++ messages_of c = ap messages_in casts ∙ messages_in-push (casts_in facts) c in
+    let first = first_is_carried c in
+    let number = first.number_is in
+    let positive = s.positive first.found (subst (IsIn first.found) (sym messages) (in_back first.found (messages_in (casts_in facts)) (messages_of c) first.there)) in
     record {
-      new = names_last (messages_in (casts_in facts)) (message c) (subst NamesDiffer messages s.names);
-      positive = s.positive (message c) (subst (IsIn (message c)) (sym messages) (last_is_in (messages_in (casts_in facts)) (message c)));
+      new = λ m there. names_apart (messages_in (casts_in facts)) (messages_of c) m (subst NamesDiffer messages s.names) there;
+      positive = omega (arith, number, positive);
     }
 
 one_cast_more : (facts : List Fact) (f : Fact) (c : CastFields) (m : Carried) (k : ℕ) → cast_in f ≡ c ∷ [] → IsNew (casts_in facts) c → is_expanded (casts_in facts) m ≡ true
     → expanded_field (casts_in (facts ++ f ∷ [])) m.sender m.number k ≡ expanded_field (casts_in facts) m.sender m.number k
 one_cast_more facts f c m k is n expanded =
     ap (λ (cs : List CastFields). expanded_field cs m.sender m.number k) (casts_in-append facts f ∙ ap (λ (cs : List CastFields). casts_in facts ++ cs) is)
-    ∙ same_field (casts_in facts) c m k n.new n.positive expanded
+    ∙ same_field (casts_in facts) c m k (first_is_new (casts_in facts) c n) n.positive expanded
 
 no_cast_more : (facts : List Fact) (f : Fact) (m : Carried) (k : ℕ) → cast_in f ≡ [] → expanded_field (casts_in (facts ++ f ∷ [])) m.sender m.number k ≡ expanded_field (casts_in facts) m.sender m.number k
 no_cast_more facts f m k is = ap (λ (cs : List CastFields). expanded_field cs m.sender m.number k) (casts_in-append facts f ∙ ap (λ (cs : List CastFields). casts_in facts ++ cs) is ∙ append-nil (casts_in facts))
@@ -157,8 +157,19 @@ upto_below seat _ k (OneFactMore facts f before step) = upto_below_step seat.gro
 
 -- ---- the increments of own casts sum up
 
+-- no own cast begins above the number
+abbrev BeginUpto : List Fact → ℕ → Type 0
+BeginUpto facts number = (d : CastFields) → IsIn d (own_casts facts) → first_number d ≤ number
+
 abbrev OwnSum : Identity → List Fact → ℕ → Type 0
-OwnSum seat facts k = (number : ℕ) → count (view seat.group.size facts) seat.me ≤ number → sum_by (growth_of seat.me number k) (casts_in facts) ≡ count (view seat.group.size (upto_last_cast facts)) k
+OwnSum seat facts k = (number : ℕ) → BeginUpto facts number → sum_by (growth_of seat.me number k) (casts_in facts) ≡ count (view seat.group.size (upto_last_cast facts)) k
+
+begin_before : (facts : List Fact) (f : Fact) (number : ℕ) → IsNotOwn f → BeginUpto (facts ++ f ∷ []) number → BeginUpto facts number
+begin_before facts f number other upto d there = upto d (subst (IsIn d) (sym (own_casts-other facts f other)) there)
+
+-- an own cast leaves the counts of the others
+own_cast_counts : (seat : Identity) (facts : List Fact) (c : CastFields) (k : ℕ) → c.sender ≡ seat.me → k ≢ seat.me → count (view seat.group.size (facts ++ OwnCast c ∷ [])) k ≡ count (view seat.group.size facts) k
+own_cast_counts seat facts c k sender other = ap (λ (ms : List Carried). count ms k) (view_own seat.group.size facts c) ∙ count_of_others (view seat.group.size facts) c k (λ e. other (sym e ∙ sender))
 
 pub time_at : (size : ℕ) (facts : List Fact) (k : ℕ) → k < size → field (time_of size facts) k ≡ count (view size facts) k
 time_at size facts k lt = get_or-map-range_with_len (count (view size facts)) 0 size k k 0 lt (omega arith)
@@ -180,25 +191,23 @@ sum_push facts f c sender number k is =
 own_sum_status : (seat : Identity) (facts : List Fact) (f : Fact) (k : ℕ) → cast_in f ≡ [] → IsNotOwn f → OwnSum seat facts k → OwnSum seat (facts ++ f ∷ []) k
 own_sum_status seat facts f k is other sum number le =
     ap (sum_by (growth_of seat.me number k)) (casts_in-append facts f ∙ ap (λ (cs : List CastFields). casts_in facts ++ cs) is ∙ append-nil (casts_in facts))
-    ∙ sum number (omega (arith, le, count_grows seat.group.size facts f seat.me))
+    ∙ sum number (begin_before facts f number other le)
     ∙ ap (λ (fs : List Fact). count (view seat.group.size fs) k) (sym (upto_other facts f other))
 
 own_sum_step : (seat : Identity) (facts : List Fact) (f : Fact) (k : ℕ) → k < seat.group.size → k ≢ seat.me → AreLegalFacts seat facts → StandsAt seat facts → IsStep seat facts f → OwnSum seat facts k → OwnSum seat (facts ++ f ∷ []) k
 own_sum_step seat facts (OwnCast c) k lt other legal s step sum number le =
     let sender : c.sender ≡ seat.me = ap (λ (x : CastFields). x.sender) step.next in
-    let at : c.number ≡ count (view seat.group.size facts) seat.me + 1 = ap (λ (x : CastFields). x.number) step.next in
-    let own : count (view seat.group.size (facts ++ OwnCast c ∷ [])) seat.me ≡ count (view seat.group.size facts) seat.me + 1 = ap (λ (ms : List Carried). count ms seat.me) (view_own seat.group.size facts c) ∙ count_own (view seat.group.size facts) (message c) seat.me sender in
-    let same : count (view seat.group.size (facts ++ OwnCast c ∷ [])) k ≡ count (view seat.group.size facts) k = ap (λ (ms : List Carried). count ms k) (view_own seat.group.size facts c) ∙ count_other (view seat.group.size facts) (message c) k (λ e. other (sym e ∙ sender)) in
+    let own : own_casts (facts ++ OwnCast c ∷ []) ≡ own_casts facts ++ c ∷ [] = own_casts-own facts c in
     let upto : count (view seat.group.size (upto_last_cast (facts ++ OwnCast c ∷ []))) k ≡ count (view seat.group.size (facts ++ OwnCast c ∷ [])) k = ap (λ (fs : List Fact). count (view seat.group.size fs) k) (upto_own facts c) in
-    let before = sum number (omega (arith, le, own)) in
-    let added = growth_of-own seat.me number k c sender (omega (arith, at, le, own)) in
+    let before = sum number (λ d there. le d (subst (IsIn d) (sym own) (in_front d (own_casts facts) (c ∷ []) there))) in
+    let added = growth_of-own seat.me number k c sender (le c (subst (IsIn c) (sym own) (in_back c (own_casts facts) (c ∷ []) (inl refl)))) in
     let growth = own_growth seat facts c k step lt other in
     let below = upto_below seat facts k legal in
-    omega (arith, sum_push facts (OwnCast c) c seat.me number k refl, before, added, growth, below, same, upto)
+    omega (arith, sum_push facts (OwnCast c) c seat.me number k refl, before, added, growth, below, own_cast_counts seat facts c k sender other, upto)
 own_sum_step seat facts (CastReceived c) k lt other legal s step sum number le =
     let none = growth_of-other seat.me number k c (received_is_others seat facts c s step) in
     let upto : count (view seat.group.size (upto_last_cast (facts ++ CastReceived c ∷ []))) k ≡ count (view seat.group.size (upto_last_cast facts)) k = ap (λ (fs : List Fact). count (view seat.group.size fs) k) (upto_other facts (CastReceived c) tt) in
-    let before = sum number (omega (arith, le, count_grows seat.group.size facts (CastReceived c) seat.me)) in
+    let before = sum number (begin_before facts (CastReceived c) number tt le) in
     omega (arith, sum_push facts (CastReceived c) c seat.me number k refl, before, none, upto)
 own_sum_step seat facts (StatusReceived t) k lt other legal s step sum number le = own_sum_status seat facts (StatusReceived t) k refl tt sum number le
 own_sum_step seat facts (OwnStatus t) k lt other legal s step sum number le = own_sum_status seat facts (OwnStatus t) k refl tt sum number le
@@ -213,58 +222,102 @@ own_sum seat _ k member lt other (OneFactMore facts f before step) = own_sum_ste
 
 -- ---- an own cast tells the view
 
-numbered_last : (me n : ℕ) (own : List CastFields) (c : CastFields) → NumberedFrom me n (own ++ c ∷ []) → (c.sender ≡ me) × (c.number ≡ n + length own)
+numbered_last : (me n : ℕ) (own : List CastFields) (c : CastFields) → NumberedFrom me n (own ++ c ∷ []) → (c.sender ≡ me) × (first_number c ≡ n + length (messages_in own))
 numbered_last me n [] c numbered = (numbered.0, omega (arith, numbered.1))
-numbered_last me n (d ∷ own) c numbered = let last = numbered_last me (last_number d + 1) own c numbered.2 in (last.0, omega (arith, last.1, numbered.1))
+numbered_last me n (d ∷ own) c numbered =
+    let last = numbered_last me (last_number d + 1) own c numbered.2 in
+    (last.0, omega (arith, last.1, numbered.1, carried_up_to_the_last d, length-append (messages_of d) (messages_in own)))
 
-pub own_number : (seat : Identity) (facts : List Fact) (c : CastFields) → StandsAt seat (facts ++ OwnCast c ∷ []) → (c.sender ≡ seat.me) × (c.number ≡ count (view seat.group.size (facts ++ OwnCast c ∷ [])) seat.me)
+-- the last one begins with the greatest number
+numbered_upto : (me n : ℕ) (own : List CastFields) (c d : CastFields) → NumberedFrom me n (own ++ c ∷ []) → IsIn d (own ++ c ∷ []) → first_number d ≤ first_number c
+numbered_upto me n [] c d numbered (inl same) = let is = ap first_number same in omega (arith, is)
+numbered_upto me n [] c d numbered (inr none) = absurd none
+numbered_upto me n (e ∷ own) c d numbered (inl same) = let is = ap first_number same in omega (arith, is, numbered.1, (numbered_last me n (e ∷ own) c numbered).1)
+numbered_upto me n (e ∷ own) c d numbered (inr later) = numbered_upto me (last_number e + 1) own c d numbered.2 later
+
+-- an own cast has the last number, and its first message the next one
+pub own_number : (seat : Identity) (facts : List Fact) (c : CastFields) → StandsAt seat (facts ++ OwnCast c ∷ []) → (c.sender ≡ seat.me) × (last_number c ≡ count (view seat.group.size (facts ++ OwnCast c ∷ [])) seat.me)
 own_number seat facts c s =
     let own : own_casts (facts ++ OwnCast c ∷ []) ≡ own_casts facts ++ c ∷ [] = own_casts-own facts c in
     let last = numbered_last seat.me 1 (own_casts facts) c (subst (NumberedFrom seat.me 1) own s.own_numbers) in
-    let as_many : length (own_casts (facts ++ OwnCast c ∷ [])) ≡ length (own_casts facts) + 1 = ap length own ∙ length-append (own_casts facts) (c ∷ []) in
-    (last.0, omega (arith, last.1, s.own_count, as_many))
+    let as_many : length (messages_in (own_casts (facts ++ OwnCast c ∷ []))) ≡ length (messages_in (own_casts facts)) + length (messages_of c) =
+    ap (λ (cs : List CastFields). length (messages_in cs)) own ∙ ap length (messages_in-push (own_casts facts) c) ∙ length-append (messages_in (own_casts facts)) (messages_of c) in
+    (last.0, omega (arith, last.1, s.own_count, as_many, carried_up_to_the_last c))
 
-pub tells : (seat : Identity) (facts : List Fact) (c : CastFields) (k : ℕ) → seat.me < seat.group.size → AreLegalFacts seat (facts ++ OwnCast c ∷ []) → k < seat.group.size
-    → expanded_field (casts_in (facts ++ OwnCast c ∷ [])) seat.me c.number k ≡ count (view seat.group.size (facts ++ OwnCast c ∷ [])) k
-tells seat facts c k member legal lt =
-    let last = own_number seat facts c (all_stand seat (facts ++ OwnCast c ∷ []) member legal) in
-    elim (cases_eq k seat.me) [
-      | inl e ↦ rw (eq-eqb k seat.me e) (last.1 ∙ ap (count (view seat.group.size (facts ++ OwnCast c ∷ []))) (sym e))
-      | inr ne ↦
-          let sum = own_sum seat (facts ++ OwnCast c ∷ []) k member lt ne legal c.number (omega (arith, last.1)) in
-          let upto : count (view seat.group.size (upto_last_cast (facts ++ OwnCast c ∷ []))) k ≡ count (view seat.group.size (facts ++ OwnCast c ∷ [])) k = ap (λ (fs : List Fact). count (view seat.group.size fs) k) (upto_own facts c) in
-          let small = count_at_most_last seat (facts ++ OwnCast c ∷ []) k member legal in
-          rw (ne_eqb k seat.me ne) (omega (arith, sum, upto, small))
-    ]
+pub own_first : (seat : Identity) (facts : List Fact) (c : CastFields) → StandsAt seat (facts ++ OwnCast c ∷ []) → first_number c ≡ count (view seat.group.size facts) seat.me + 1
+own_first seat facts c s =
+    let number = own_number seat facts c s in
+    let counted : count (view seat.group.size (facts ++ OwnCast c ∷ [])) seat.me ≡ count (view seat.group.size facts) seat.me + length (messages_of c) =
+    ap (λ (ms : List Carried). count ms seat.me) (view_own seat.group.size facts c) ∙ count_of_messages (view seat.group.size facts) c seat.me number.0 in
+    omega (arith, number.1, counted, carried_up_to_the_last c)
+
+-- what the messages of an own cast say of the others: what the view counts
+pub tells : (seat : Identity) (facts : List Fact) (c : CastFields) (number k : ℕ) → seat.me < seat.group.size → AreLegalFacts seat (facts ++ OwnCast c ∷ []) → k < seat.group.size → k ≢ seat.me → first_number c ≤ number
+    → expanded_field (casts_in (facts ++ OwnCast c ∷ [])) seat.me number k ≡ count (view seat.group.size facts) k
+tells seat facts c number k member legal lt ne le =
+    let s = all_stand seat (facts ++ OwnCast c ∷ []) member legal in
+    let own : own_casts (facts ++ OwnCast c ∷ []) ≡ own_casts facts ++ c ∷ [] = own_casts-own facts c in
+    let numbered = subst (NumberedFrom seat.me 1) own s.own_numbers in
+    let sum = own_sum seat (facts ++ OwnCast c ∷ []) k member lt ne legal number (λ d there. let first = numbered_upto seat.me 1 (own_casts facts) c d numbered (subst (IsIn d) own there) in omega (arith, first, le)) in
+    let upto : count (view seat.group.size (upto_last_cast (facts ++ OwnCast c ∷ []))) k ≡ count (view seat.group.size (facts ++ OwnCast c ∷ [])) k = ap (λ (fs : List Fact). count (view seat.group.size fs) k) (upto_own facts c) in
+    let small = count_at_most_last seat (facts ++ OwnCast c ∷ []) k member legal in
+    rw (ne_eqb k seat.me ne) (omega (arith, sum, upto, small, own_cast_counts seat facts c k (own_number seat facts c s).0 ne))
+
+pub own_field : (casts : List CastFields) (sender number : ℕ) → expanded_field casts sender number sender ≡ number
+own_field casts sender number = rw (eq-eqb sender sender refl) refl
 
 pub same_over_range : (f g : ℕ → ℕ) (a n : ℕ) → ((k : ℕ) → k < a + n → f k ≡ g k) → map f (range_with_len a n) ≡ map g (range_with_len a n)
 same_over_range f g a zero same = refl
 same_over_range f g a (suc n) same =
     ap (λ (x : ℕ). x ∷ map f (range_with_len (a + 1) n)) (same a (omega arith)) ∙ ap (λ (xs : List ℕ). g a ∷ xs) (same_over_range f g (a + 1) n (λ k lt. same k (omega arith)))
 
-own_is_expanded : (seat : Identity) (facts : List Fact) (c : CastFields) → StandsAt seat (facts ++ OwnCast c ∷ []) → is_expanded (casts_in (facts ++ OwnCast c ∷ [])) (message c) ≡ true
-own_is_expanded seat facts c s =
-    seen_is_expanded seat (casts_in (facts ++ OwnCast c ∷ [])) (view seat.group.size (facts ++ OwnCast c ∷ [])) (own_casts (facts ++ OwnCast c ∷ [])) (message c) s
-    (subst (IsIn (message c)) (sym (view_own seat.group.size facts c)) (last_is_in (view seat.group.size facts) (message c)))
+own_is_expanded : (seat : Identity) (facts : List Fact) (c : CastFields) (m : Carried) → StandsAt seat (facts ++ OwnCast c ∷ []) → IsIn m (messages_of c) → is_expanded (casts_in (facts ++ OwnCast c ∷ [])) m ≡ true
+own_is_expanded seat facts c m s there =
+    seen_is_expanded seat (casts_in (facts ++ OwnCast c ∷ [])) (view seat.group.size (facts ++ OwnCast c ∷ [])) (own_casts (facts ++ OwnCast c ∷ [])) m s
+    (subst (IsIn m) (sym (view_own seat.group.size facts c)) (in_back m (view seat.group.size facts) (messages_of c) there))
 
 pub own_casts_tell_the_view : OwnCastsTellTheView
 own_casts_tell_the_view seat facts more c are =
-    let regrouped : (facts ++ OwnCast c ∷ []) ++ more ≡ facts ++ OwnCast c ∷ more = append_assoc facts (OwnCast c ∷ []) more in
-    let all : AreFactsOf seat ((facts ++ OwnCast c ∷ []) ++ more) = subst (AreFactsOf seat) (sym regrouped) are in
-    let now = prefix_of_facts_is_legal seat (facts ++ OwnCast c ∷ []) more all in
-    let s = all_stand seat (facts ++ OwnCast c ∷ []) now.member now.facts_are in
-    let sender = (own_number seat facts c s).0 in
-    let stay : (k : ℕ) → expanded_field (casts_in (facts ++ OwnCast c ∷ more)) seat.me c.number k ≡ expanded_field (casts_in (facts ++ OwnCast c ∷ [])) seat.me c.number k = λ k.
-    subst (λ (i : ℕ). expanded_field (casts_in (facts ++ OwnCast c ∷ more)) i c.number k ≡ expanded_field (casts_in (facts ++ OwnCast c ∷ [])) i c.number k) sender
-    (subst (λ (fs : List Fact). expanded_field (casts_in fs) c.sender c.number k ≡ expanded_field (casts_in (facts ++ OwnCast c ∷ [])) c.sender c.number k) regrouped
-    (times_stay seat (facts ++ OwnCast c ∷ []) more (message c) k all (own_is_expanded seat facts c s))) in
-    same_over_range (expanded_field (casts_in (facts ++ OwnCast c ∷ more)) seat.me c.number) (count (view seat.group.size (facts ++ OwnCast c ∷ []))) 0 seat.group.size
-    (λ k lt. stay k ∙ tells seat facts c k now.member now.facts_are (omega (arith, lt)))
+    same_over_range (expanded_field (casts_in (facts ++ OwnCast c ∷ more)) seat.me (first_number c)) (count (view seat.group.size (facts ++ OwnCast c ∷ []))) 0 seat.group.size
+    (λ k lt. stay k ∙ now_tells k (omega (arith, lt)))
+  where
+    regrouped : (facts ++ OwnCast c ∷ []) ++ more ≡ facts ++ OwnCast c ∷ more
+    regrouped = append_assoc facts (OwnCast c ∷ []) more
 
--- ---- the times of what was delivered
+    all : AreFactsOf seat ((facts ++ OwnCast c ∷ []) ++ more)
+    all = subst (AreFactsOf seat) (sym regrouped) are
 
-abbrev Reached : ℕ → List CastFields → List Carried → Type 0
-Reached size casts seen = (m : Carried) → IsIn m seen → (k : ℕ) → k < size → expanded_field casts m.sender m.number k ≤ count seen k
+    now : AreFactsOf seat (facts ++ OwnCast c ∷ [])
+    now = prefix_of_facts_is_legal seat (facts ++ OwnCast c ∷ []) more all
+
+    s : StandsAt seat (facts ++ OwnCast c ∷ [])
+    s = all_stand seat (facts ++ OwnCast c ∷ []) now.member now.facts_are
+
+    number : (c.sender ≡ seat.me) × (last_number c ≡ count (view seat.group.size (facts ++ OwnCast c ∷ [])) seat.me)
+    number = own_number seat facts c s
+
+    first : HasNumber (messages_of c) c.sender (first_number c)
+    first = first_is_carried c
+
+    -- the time of the first message stays
+    stay : (k : ℕ) → expanded_field (casts_in (facts ++ OwnCast c ∷ more)) seat.me (first_number c) k ≡ expanded_field (casts_in (facts ++ OwnCast c ∷ [])) seat.me (first_number c) k
+    stay k =
+        subst (λ (i : ℕ). expanded_field (casts_in (facts ++ OwnCast c ∷ more)) i (first_number c) k ≡ expanded_field (casts_in (facts ++ OwnCast c ∷ [])) i (first_number c) k) (first.sender_is ∙ number.0)
+        (subst (λ (n : ℕ). expanded_field (casts_in (facts ++ OwnCast c ∷ more)) first.found.sender n k ≡ expanded_field (casts_in (facts ++ OwnCast c ∷ [])) first.found.sender n k) first.number_is
+        (subst (λ (fs : List Fact). expanded_field (casts_in fs) first.found.sender first.found.number k ≡ expanded_field (casts_in (facts ++ OwnCast c ∷ [])) first.found.sender first.found.number k) regrouped
+        (times_stay seat (facts ++ OwnCast c ∷ []) more first.found k all (own_is_expanded seat facts c first.found s first.there))))
+
+    -- and is the view's with it, since no other message is cast with it
+    now_tells : (k : ℕ) → k < seat.group.size → expanded_field (casts_in (facts ++ OwnCast c ∷ [])) seat.me (first_number c) k ≡ count (view seat.group.size (facts ++ OwnCast c ∷ [])) k
+    now_tells k lt = elim (cases_eq k seat.me) [
+      | inl e ↦
+          let own : expanded_field (casts_in (facts ++ OwnCast c ∷ [])) seat.me (first_number c) k ≡ first_number c = ap (expanded_field (casts_in (facts ++ OwnCast c ∷ [])) seat.me (first_number c)) e ∙ own_field (casts_in (facts ++ OwnCast c ∷ [])) seat.me (first_number c) in
+          let at : count (view seat.group.size (facts ++ OwnCast c ∷ [])) k ≡ count (view seat.group.size (facts ++ OwnCast c ∷ [])) seat.me = ap (count (view seat.group.size (facts ++ OwnCast c ∷ []))) e in
+          omega (arith, own, at, number.1, carries_some c, carries_no_more c)
+      | inr ne ↦ tells seat facts c (first_number c) k now.member now.facts_are lt ne (omega arith) ∙ sym (own_cast_counts seat facts c k number.0 ne)
+    ]
+
+-- ---- the delay rule at one field
 
 pub pick_true : (b x y : Bool) → b ≡ true → cond b x y ≡ true → x ≡ true
 pick_true true x y e h = h
@@ -289,65 +342,3 @@ in_time_reached casts seen m k h =
   where
     le_trans : (a b d : ℕ) → a ≤ b → b ≤ d → a ≤ d
     le_trans a b d p q = omega (arith, p, q)
-
-le_more : (a b d e : ℕ) → a ≤ b → d ≡ b + e → a ≤ d
-le_more a b d e p q = omega (arith, p, q)
-
-reached_push : (size : ℕ) (casts : List CastFields) (seen : List Carried) (m : Carried) → Reached size casts seen → ((k : ℕ) → k < size → expanded_field casts m.sender m.number k ≤ count (seen ++ m ∷ []) k) → Reached size casts (seen ++ m ∷ [])
-reached_push size casts seen m reached here x there k lt =
-    elim (in_push x m seen there) [
-      | inl old ↦ le_more (expanded_field casts x.sender x.number k) (count seen k) (count (seen ++ m ∷ []) k) (count (m ∷ []) k) (reached x old k lt) (count-append seen (m ∷ []) k)
-      | inr new ↦ subst (λ (y : Carried). expanded_field casts y.sender y.number k ≤ count (seen ++ m ∷ []) k) (sym new) (here k lt)
-    ]
-
-reached_next : (size : ℕ) (casts : List CastFields) (seen : List Carried) (m : Carried) → Reached size casts seen → next_delivery size casts seen ≡ Some m → Reached size casts (seen ++ m ∷ [])
-reached_next size casts seen m reached e =
-    let next = next_is size casts seen m e in
-    let rule = test_true _ (list_all (is_in_time casts seen m) (range_with_len 0 size)) next.0 in
-    reached_push size casts seen m reached (λ k lt. in_time_reached casts seen m k (all_in_range (is_in_time casts seen m) 0 size k rule.1 (omega arith) (omega (arith, lt))))
-
--- what was seen before keeps its times
-reached_stays : (seat : Identity) (facts : List Fact) (f : Fact) → StandsAt seat facts → StandsAt seat (facts ++ f ∷ []) → Reached seat.group.size (casts_in facts) (view seat.group.size facts) → Reached seat.group.size (casts_in (facts ++ f ∷ [])) (view seat.group.size facts)
-reached_stays seat facts f s after reached m there k lt =
-    subst (λ (n : ℕ). n ≤ count (view seat.group.size facts) k) (sym (stays seat facts f m k after (seen_is_expanded seat (casts_in facts) (view seat.group.size facts) (own_casts facts) m s there))) (reached m there k lt)
-
-abbrev ReachedAt : Identity → List Fact → Type 0
-ReachedAt seat facts = Reached seat.group.size (casts_in facts) (view seat.group.size facts)
-
-reached_step : (seat : Identity) (facts : List Fact) (f : Fact) → seat.me < seat.group.size → AreLegalFacts seat (facts ++ f ∷ []) → StandsAt seat facts → ReachedAt seat facts → ReachedAt seat (facts ++ f ∷ [])
-reached_step seat facts (OwnCast c) member legal s reached =
-    let after = all_stand seat (facts ++ OwnCast c ∷ []) member legal in
-    let number = own_number seat facts c after in
-    subst (Reached seat.group.size (casts_in (facts ++ OwnCast c ∷ []))) (sym (view_own seat.group.size facts c))
-    (reached_push seat.group.size (casts_in (facts ++ OwnCast c ∷ [])) (view seat.group.size facts) (message c) (reached_stays seat facts (OwnCast c) s after reached)
-    (λ k lt.
-    let reported = tells seat facts c k member legal lt in
-    let at : expanded_field (casts_in (facts ++ OwnCast c ∷ [])) c.sender c.number k ≡ count (view seat.group.size facts ++ message c ∷ []) k =
-    ap (λ (i : ℕ). expanded_field (casts_in (facts ++ OwnCast c ∷ [])) i c.number k) number.0 ∙ reported ∙ ap (λ (ms : List Carried). count ms k) (view_own seat.group.size facts c) in
-    subst (λ (n : ℕ). n ≤ count (view seat.group.size facts ++ message c ∷ []) k) (sym at) (omega arith)))
-reached_step seat facts (CastReceived c) member legal s reached =
-    let after = all_stand seat (facts ++ CastReceived c ∷ []) member legal in
-    let old : Reached seat.group.size (casts_in facts ++ c ∷ []) (view seat.group.size facts) = subst (λ (cs : List CastFields). Reached seat.group.size cs (view seat.group.size facts)) (casts_in-append facts (CastReceived c)) (reached_stays seat facts (CastReceived c) s after reached) in
-    let drained : Reached seat.group.size (casts_in facts ++ c ∷ []) (drain seat.group.size (casts_in facts ++ c ∷ []) (view seat.group.size facts)) =
-    drain_keeps seat.group.size (casts_in facts ++ c ∷ []) (Reached seat.group.size (casts_in facts ++ c ∷ [])) (reached_next seat.group.size (casts_in facts ++ c ∷ [])) (view seat.group.size facts) old in
-    subst (Reached seat.group.size (casts_in (facts ++ CastReceived c ∷ []))) (sym (view_received seat.group.size facts c))
-    (subst (λ (cs : List CastFields). Reached seat.group.size cs (drain seat.group.size (casts_in facts ++ c ∷ []) (view seat.group.size facts))) (sym (casts_in-append facts (CastReceived c))) drained)
-reached_step seat facts (StatusReceived t) member legal s reached =
-    subst (Reached seat.group.size (casts_in (facts ++ StatusReceived t ∷ []))) (sym (view_status seat.group.size facts t)) (reached_stays seat facts (StatusReceived t) s (all_stand seat (facts ++ StatusReceived t ∷ []) member legal) reached)
-reached_step seat facts (OwnStatus t) member legal s reached =
-    subst (Reached seat.group.size (casts_in (facts ++ OwnStatus t ∷ []))) (sym (view_reported seat.group.size facts t)) (reached_stays seat facts (OwnStatus t) s (all_stand seat (facts ++ OwnStatus t ∷ []) member legal) reached)
-
-none_reached : (seat : Identity) → ReachedAt seat []
-unfolding view
-none_reached seat m there k lt = absurd there
-
-all_reached : (seat : Identity) (facts : List Fact) → seat.me < seat.group.size → AreLegalFacts seat facts → ReachedAt seat facts
-all_reached seat _ member NoFacts = none_reached seat
-all_reached seat _ member (OneFactMore facts f before step) =
-    reached_step seat facts f member (OneFactMore facts f before step) (all_stand seat facts member before) (all_reached seat facts member before)
-
-pub times_are_reached : TimesAreReached
-times_are_reached seat facts m k are among lt =
-    let found = among_is (view seat.group.size facts) m among in
-    let reached = all_reached seat facts are.member are.facts_are found.0 found.1 k lt in
-    subst (λ (s : ℕ). expanded_field (casts_in facts) s m.number k ≤ delivered seat facts k) found.2 (subst (λ (n : ℕ). expanded_field (casts_in facts) found.0.sender n k ≤ delivered seat facts k) found.3 reached)

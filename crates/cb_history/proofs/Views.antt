@@ -1,10 +1,11 @@
 -- The view, fact by fact, and its deliveries.
-use Rattle.std.proofs.Common.{◌≡◌, ℕ, zero, suc, ◌+◌, ◌<◌, ◌≤◌, Bool, true, false, not, cond, ◌&&◌, ◌||◌, eqb, leb, List, [], ◌∷◌, ◌++◌, length, Option, Some, None, refl, sym, ap, subst, ◌∙◌, append_assoc, arith, inl, inr, ◌⊎◌}
+use Rattle.std.proofs.Common.{◌≡◌, ℕ, zero, suc, ◌+◌, ◌<◌, ◌≤◌, Bool, true, false, not, cond, ◌&&◌, ◌||◌, eqb, leb, List, [], ◌∷◌, ◌++◌, length, Option, Some, None, refl, sym, ap, subst, ◌∙◌, append_assoc, arith, inl, inr}
 use Rattle.std.specs.List.{filter, list_all, range_with_len}
 use Rattle.std.proofs.Math.Nat.{eq-or-lt_of_le}
 use Rattle.std.proofs.lemmas.Bool.{cond_both, eqb-true, eq-eqb}
 use Rattle.std.proofs.lemmas.List.{append-nil}
 use Rattle.cb_frames.specs.Fields.{CastFields, Carried}
+pub use Rattle.cb_frames.proofs.Carried.{IsIn}
 use Rattle.cb_history.specs.Facts.{Fact, cast_in, casts_in, messages_in}
 use Rattle.cb_history.specs.View.{count, expanded_in, is_expanded, is_among, is_in_time, is_ready, of_smallest_sender, lesser_sender, next_delivery, with_next, drained, seen_after, seen_from, view}
 use Rattle.cb_history.specs.ViewLaws.{ViewWithOneMore, NothingReadyIsLeft, NextIsTheOnlyCandidate}
@@ -28,11 +29,6 @@ view_with_one_more size facts f =
     seen_from-append size [] [] facts f ∙ ap (λ (cs : List CastFields). seen_after size cs (seen_from size [] [] facts) f) (sym (casts_in-append facts f))
 
 -- ---- elements
-
--- an element of a list
-abbrev pub IsIn : {A : Type 0} → A → List A → Type 0
-IsIn a [] = ⊥
-IsIn a (x ∷ xs) = (a ≡ x) ⊎ IsIn a xs
 
 pub test_true : (b c : Bool) → (b && c) ≡ true → (b ≡ true) × (c ≡ true)
 test_true true c h = (refl, h)
@@ -76,6 +72,14 @@ among_more_at false b c h more = more h
 pub among_more : (seen : List Carried) (n m : Carried) → is_among seen m ≡ true → is_among (seen ++ n ∷ []) m ≡ true
 among_more [] n m h = absurd cc
 among_more (x ∷ seen) n m h = among_more_at (eqb x.sender m.sender && eqb x.number m.number) (is_among seen m) (is_among (seen ++ n ∷ []) m) h (among_more seen n m)
+
+pub among_front : (xs ys : List Carried) (m : Carried) → is_among xs m ≡ true → is_among (xs ++ ys) m ≡ true
+among_front [] ys m h = absurd cc
+among_front (x ∷ xs) ys m h = among_more_at (eqb x.sender m.sender && eqb x.number m.number) (is_among xs m) (is_among (xs ++ ys) m) h (among_front xs ys m)
+
+pub among_back : (xs ys : List Carried) (m : Carried) → is_among ys m ≡ true → is_among (xs ++ ys) m ≡ true
+among_back [] ys m h = h
+among_back (x ∷ xs) ys m h = or_right (eqb x.sender m.sender && eqb x.number m.number) (is_among (xs ++ ys) m) (among_back xs ys m h)
 
 pub among_itself : (seen : List Carried) (m : Carried) → is_among (seen ++ m ∷ []) m ≡ true
 among_itself [] m = rw (eq-eqb m.sender m.sender refl, eq-eqb m.number m.number refl) refl

@@ -1,9 +1,10 @@
 -- The bounds that the windows keep.
-use Rattle.std.proofs.Common.{◌≡◌, ◌+◌, ◌<◌, ◌≤◌, leb, List, [], ◌∷◌, ◌++◌, length, refl, sym, ap, subst, ◌∙◌, arith, inl, inr}
+use Rattle.std.proofs.Common.{◌≡◌, ◌+◌, ◌<◌, ◌≤◌, leb, List, [], ◌∷◌, ◌++◌, length, refl, ap, subst, ◌∙◌, arith, inl, inr}
 use Rattle.std.proofs.lemmas.Bool.{ltb-false, leb-false}
 use Rattle.std.proofs.lemmas.List.{append-nil}
 use Rattle.cb_frames.specs.declared.frame.TheConstants.{LAST_NUMBER}
-use Rattle.cb_frames.specs.Fields.{CastFields, Carried}
+use Rattle.cb_frames.specs.Fields.{CastFields, Carried, messages_of, last_number}
+use Rattle.cb_frames.proofs.Carried.{carried_up_to_the_last, carries_no_more, carried_is_of_cast}
 use Rattle.cb_history.specs.Group.{Identity}
 use Rattle.cb_history.specs.Facts.{Fact, OwnCast, CastReceived, StatusReceived, OwnStatus, cast_in, casts_in, messages_in}
 use Rattle.cb_history.specs.View.{count, view}
@@ -12,9 +13,9 @@ use Rattle.cb_history.specs.Answers.{own_casts, delivered}
 use Rattle.cb_history.specs.LegalFacts.{IsStep, AreLegalFacts, NoFacts, OneFactMore}
 use Rattle.cb_history.specs.WindowLaws.{CastsAreNear, OwnCastsAreNearStable}
 use Rattle.cb_history.proofs.Views.{IsIn, casts_in-append}
-use Rattle.cb_history.proofs.Lists.{messages_in-push, in_push, or_false, count_own}
+use Rattle.cb_history.proofs.Lists.{in_casts_push, or_false, count_of_messages}
 use Rattle.cb_history.proofs.Walks.{view_own, own_casts-other, IsNotOwn}
-use Rattle.cb_history.proofs.Names.{message, StandsAt, all_stand}
+use Rattle.cb_history.proofs.Names.{StandsAt, all_stand}
 use Rattle.cb_history.proofs.Times.{count_grows, own_number}
 use Rattle.cb_history.proofs.Rising.{nothing_falls}
 use Rattle.cb_history.proofs.Runs.{message_there}
@@ -28,13 +29,16 @@ near_still : (seat : Identity) (facts : List Fact) (f : Fact) (m : Carried) → 
 near_still seat facts f m near there = let before = near m there in omega (arith, before, count_grows seat.group.size facts f m.sender)
 
 -- with one more cast, which is near
-near_push : (seat : Identity) (facts : List Fact) (f : Fact) (c : CastFields) → cast_in f ≡ c ∷ [] → AreNear seat facts → c.number ≤ count (view seat.group.size (facts ++ f ∷ [])) c.sender + seat.group.window → AreNear seat (facts ++ f ∷ [])
+near_push : (seat : Identity) (facts : List Fact) (f : Fact) (c : CastFields) → cast_in f ≡ c ∷ [] → AreNear seat facts → last_number c ≤ count (view seat.group.size (facts ++ f ∷ [])) c.sender + seat.group.window → AreNear seat (facts ++ f ∷ [])
 near_push seat facts f c is near here m there =
     let casts : casts_in (facts ++ f ∷ []) ≡ casts_in facts ++ c ∷ [] = casts_in-append facts f ∙ ap (λ (cs : List CastFields). casts_in facts ++ cs) is in
-    let messages : messages_in (casts_in (facts ++ f ∷ [])) ≡ messages_in (casts_in facts) ++ message c ∷ [] = ap messages_in casts ∙ messages_in-push (casts_in facts) c in
-    elim (in_push m (message c) (messages_in (casts_in facts)) (subst (IsIn m) messages there)) [
+    elim (in_casts_push (casts_in facts) c m (subst (λ (cs : List CastFields). IsIn m (messages_in cs)) casts there)) [
       | inl old ↦ near_still seat facts f m near old
-      | inr new ↦ subst (λ (x : Carried). x.number ≤ count (view seat.group.size (facts ++ f ∷ [])) x.sender + seat.group.window) (sym new) here
+      | inr late ↦
+          let of = carried_is_of_cast c m late in
+          let high = of.high in
+          let at : count (view seat.group.size (facts ++ f ∷ [])) m.sender ≡ count (view seat.group.size (facts ++ f ∷ [])) c.sender = ap (count (view seat.group.size (facts ++ f ∷ []))) of.sender_is in
+          omega (arith, high, at, here)
     ]
 
 near_same : (seat : Identity) (facts : List Fact) (f : Fact) → cast_in f ≡ [] → AreNear seat facts → AreNear seat (facts ++ f ∷ [])
@@ -48,7 +52,7 @@ near_step seat facts (OwnCast c) s step near =
     let at : count (view seat.group.size (facts ++ OwnCast c ∷ [])) c.sender ≡ count (view seat.group.size (facts ++ OwnCast c ∷ [])) seat.me = ap (count (view seat.group.size (facts ++ OwnCast c ∷ []))) number.0 in
     near_push seat facts (OwnCast c) c refl near (omega (arith, number.1, at))
 near_step seat facts (CastReceived c) s step near =
-    let near_enough = ltb-false (delivered seat facts c.sender + seat.group.window) c.number step.taken.near in
+    let near_enough = ltb-false (delivered seat facts c.sender + seat.group.window) (last_number c) step.taken.near in
     near_push seat facts (CastReceived c) c refl near (omega (arith, near_enough, count_grows seat.group.size facts (CastReceived c) c.sender))
 near_step seat facts (StatusReceived t) s step near = near_same seat facts (StatusReceived t) refl near
 near_step seat facts (OwnStatus t) s step near = near_same seat facts (OwnStatus t) refl near
@@ -72,7 +76,7 @@ IsNearStable seat facts = count (view seat.group.size facts) seat.me ≤ stable 
 
 other_near_stable : (seat : Identity) (facts : List Fact) (f : Fact) → IsNotOwn f → StandsAt seat facts → StandsAt seat (facts ++ f ∷ []) → IsNearStable seat facts → IsNearStable seat (facts ++ f ∷ [])
 other_near_stable seat facts f other s after near =
-    let as_many : length (own_casts (facts ++ f ∷ [])) ≡ length (own_casts facts) = ap length (own_casts-other facts f other) in
+    let as_many : length (messages_in (own_casts (facts ++ f ∷ []))) ≡ length (messages_in (own_casts facts)) = ap (λ (cs : List CastFields). length (messages_in cs)) (own_casts-other facts f other) in
     let before = s.own_count in
     let now = after.own_count in
     omega (arith, as_many, before, now, near, (nothing_falls seat facts f).2)
@@ -81,9 +85,9 @@ near_stable_step : (seat : Identity) (facts : List Fact) (f : Fact) → StandsAt
 near_stable_step seat facts (OwnCast c) s after step near =
     let by_stable = leb (stable seat facts + seat.group.window) (delivered seat facts seat.me) in
     let open_window = leb-false (stable seat facts + seat.group.window) (delivered seat facts seat.me) (or_false by_stable (leb LAST_NUMBER (delivered seat facts seat.me)) step.window).0 in
-    let one_more : count (view seat.group.size (facts ++ OwnCast c ∷ [])) seat.me ≡ count (view seat.group.size facts) seat.me + 1 =
-    ap (λ (ms : List Carried). count ms seat.me) (view_own seat.group.size facts c) ∙ count_own (view seat.group.size facts) (message c) seat.me (own_number seat facts c after).0 in
-    omega (arith, open_window, one_more, (nothing_falls seat facts (OwnCast c)).2)
+    let more : count (view seat.group.size (facts ++ OwnCast c ∷ [])) seat.me ≡ count (view seat.group.size facts) seat.me + length (messages_of c) =
+    ap (λ (ms : List Carried). count ms seat.me) (view_own seat.group.size facts c) ∙ count_of_messages (view seat.group.size facts) c seat.me (own_number seat facts c after).0 in
+    omega (arith, open_window, more, carried_up_to_the_last c, carries_no_more c, (nothing_falls seat facts (OwnCast c)).2)
 near_stable_step seat facts (CastReceived c) s after step near = other_near_stable seat facts (CastReceived c) tt s after near
 near_stable_step seat facts (StatusReceived t) s after step near = other_near_stable seat facts (StatusReceived t) tt s after near
 near_stable_step seat facts (OwnStatus t) s after step near = other_near_stable seat facts (OwnStatus t) tt s after near

@@ -16,7 +16,8 @@ use Rattle.cb_history.specs.View.{count, view, is_among, is_expanded, expanded_i
 use Rattle.cb_history.specs.Answers.{delivered, own_casts}
 use Rattle.cb_history.specs.DeliveryLaws.{MeetsRule}
 use Rattle.cb_history.proofs.Names.{message, view_holds_the_first}
-use Rattle.cb_history.proofs.Times.{all_from_range, seen_is_there, times_are_reached}
+use Rattle.cb_history.proofs.Times.{all_from_range, seen_is_there}
+use Rattle.cb_history.proofs.InTime.{times_are_reached}
 use Rattle.cb_history.proofs.Delivering.{in_field, past_fields, nothing_above, nothing_is_next, readiness_is_the_delay_rule}
 use Rattle.cb_history.proofs.Views.{in_filter}
 use Rattle.cb_history.proofs.Names.{in_is_one_of}

@@ -14,7 +14,8 @@ use Rattle.cb_history.specs.OwnFrameLaws.{IsOfTheGroup}
 use Rattle.cb_history.proofs.Views.{IsIn, filter_in, in_filter}
 use Rattle.cb_history.proofs.Lists.{in_is_among}
 use Rattle.cb_history.proofs.Names.{message}
-use Rattle.cb_history.proofs.Times.{seen_is_expanded, times_are_reached}
+use Rattle.cb_history.proofs.Times.{seen_is_expanded}
+use Rattle.cb_history.proofs.InTime.{times_are_reached}
 use Rattle.cb_history.proofs.Rising.{greatest_append, all_at_most}
 use Rattle.cb_history.proofs.Windows.{own_casts_are_near_stable}
 use Rattle.cb_history.proofs.Runs.{own_is_delivered}

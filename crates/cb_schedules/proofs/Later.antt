@@ -11,7 +11,7 @@ use Rattle.cb_history.specs.declared.answer.ArriveRefusal.{ArriveRefusal}
 use Rattle.cb_history.specs.declared.answer.TickRefusal.{TickRefusal}
 use Rattle.cb_history.specs.declared.answer.Outgoing.{Outgoing}
 use Rattle.cb_history.specs.Group.{Identity}
-use Rattle.cb_history.specs.Facts.{EntryFields, ArriveEntry, TickEntry, Fact, OwnCast, CastReceived, StatusReceived, OwnStatus, arrival_said, status_said, said_by, facts_of, casts_in, cast_in, is_there}
+use Rattle.cb_history.specs.Facts.{EntryFields, ArriveEntry, TickEntry, Fact, OwnCast, CastReceived, StatusReceived, OwnStatus, arrival_said, status_said, said_by, facts_of, casts_in, messages_in, cast_in, is_there}
 use Rattle.cb_history.specs.Known.{known, expanded_count, acknowledged}
 use Rattle.cb_history.specs.Answers.{delivered, own_casts, ArrivalSays, Accepted, Repeat, arrive_answer, tick_answer}
 use Rattle.cb_history.specs.Legal.{Call, ToCast, ToTake, ToTick, arrive_entry, tick_entry, and_entry, history_after}
@@ -199,4 +199,4 @@ module _ (s t : GroupState) (later : IsLater s t) where
 pub cast_count_later : (setting : Setting) (s t : GroupState) → IsConsistent setting s → IsConsistent setting t → IsLater s t → (i : ℕ) → i < setting.group.size
     → delivered (seat_at setting i) (facts_at t i) i ≡ delivered (seat_at setting i) (facts_at s i) i
 cast_count_later setting s t inv inv_t later i lt =
-    (stands_at setting.group (facts_at t) inv_t.together i lt).own_count ∙ ap length (own_casts_later s t later i) ∙ sym (stands_at setting.group (facts_at s) inv.together i lt).own_count
+    (stands_at setting.group (facts_at t) inv_t.together i lt).own_count ∙ ap (λ (cs : List CastFields). length (messages_in cs)) (own_casts_later s t later i) ∙ sym (stands_at setting.group (facts_at s) inv.together i lt).own_count

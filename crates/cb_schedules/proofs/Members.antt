@@ -18,7 +18,8 @@ use Rattle.cb_history.specs.TimeLaws.{SameFrames}
 use Rattle.cb_history.proofs.Views.{IsIn}
 use Rattle.cb_history.proofs.Lists.{among_is, in_is_among}
 use Rattle.cb_history.proofs.Names.{Stands, all_stand, message, view_holds_the_first}
-use Rattle.cb_history.proofs.Times.{seen_is_expanded, times_are_reached}
+use Rattle.cb_history.proofs.Times.{seen_is_expanded}
+use Rattle.cb_history.proofs.InTime.{times_are_reached}
 use Rattle.cb_history.proofs.Agreement.{times_agree}
 use Rattle.cb_history.proofs.Delivering.{one_message}
 use Rattle.cb_history.proofs.Buffers.{cast_of_is_in, cast_is_there}

@@ -1,6 +1,6 @@
-use Rattle.cb_history.proofs.InTime.{view_is_in_time}
+use Rattle.cb_history.proofs.InTime.{view_is_in_time, times_are_reached}
 use Rattle.cb_history.proofs.Agreement.{times_agree}
-use Rattle.cb_history.proofs.Times.{times_stay, own_casts_tell_the_view, times_are_reached}
+use Rattle.cb_history.proofs.Times.{times_stay, own_casts_tell_the_view}
 use Rattle.cb_history.proofs.laws.times.times_of_messages.Goals as goal
 
 pub returns-clause-stay : goal.returns-clause-stay

@@ -1,0 +1,113 @@
+-- The messages of a cast: one for each number from its first to its last.
+use Rattle.std.proofs.Common.{◌≡◌, ℕ, ◌+◌, ◌<◌, ◌≤◌, List, [], ◌∷◌, length, refl, sym, ap, ◌∙◌, arith, inl, inr, ◌⊎◌}
+use Rattle.std.proofs.lemmas.Bool.{cases_eq}
+use Rattle.cb_frames.specs.Fields.{CastFields, Carried, messages_of, first_number, last_number}
+use Rattle.cb_frames.specs.Carrying.{AreNumberedFrom, CarriedInOrder, CarriedUpToTheLast, CarriesSome, CarriesNoMore}
+
+pub carried_in_order : CarriedInOrder
+carried_in_order c = (refl, refl, tt)
+
+pub carried_up_to_the_last : CarriedUpToTheLast
+carried_up_to_the_last c = omega arith
+
+pub carries_some : CarriesSome
+carries_some c = omega arith
+
+pub carries_no_more : CarriesNoMore
+carries_no_more c = omega arith
+
+-- ---- messages that are numbered one after another
+
+-- an element of a list
+abbrev pub IsIn : {A : Type 0} → A → List A → Type 0
+IsIn a [] = ⊥
+IsIn a (x ∷ xs) = (a ≡ x) ⊎ IsIn a xs
+
+-- a message among those of the sender that are numbered from n up to before `end`
+pub record IsWithin (sender n end : ℕ) (m : Carried) : Type 0 where
+  pub sender_is : m.sender ≡ sender
+  pub low : n ≤ m.number
+  pub high : m.number < end
+
+pub row_within : (sender n : ℕ) (ms : List Carried) (m : Carried) → AreNumberedFrom sender n ms → IsIn m ms → IsWithin sender n (n + length ms) m
+row_within sender n [] m row there = absurd there
+row_within sender n (x ∷ ms) m row (inl same) =
+    let number : m.number ≡ n = ap (λ (y : Carried). y.number) same ∙ row.1 in
+    record { sender_is = ap (λ (y : Carried). y.sender) same ∙ row.0; low = omega (arith, number); high = omega (arith, number) }
+row_within sender n (x ∷ ms) m row (inr later) =
+    let rest = row_within sender (n + 1) ms m row.2 later in
+    let low = rest.low in
+    let high = rest.high in
+    record { sender_is = rest.sender_is; low = omega (arith, low); high = omega (arith, high) }
+
+-- the message with a number
+pub record HasNumber (ms : List Carried) (sender number : ℕ) : Type 0 where
+  pub found : Carried
+  pub there : IsIn found ms
+  pub sender_is : found.sender ≡ sender
+  pub number_is : found.number ≡ number
+
+pub row_has : (sender n : ℕ) (ms : List Carried) (number : ℕ) → AreNumberedFrom sender n ms → n ≤ number → number < n + length ms → HasNumber ms sender number
+row_has sender n [] number row low high = absurd (omega arith)
+row_has sender n (x ∷ ms) number row low high =
+    elim (cases_eq number n) [
+      | inl e ↦ record { found = x; there = inl refl; sender_is = row.0; number_is = row.1 ∙ sym e }
+      | inr ne ↦
+          let rest = row_has sender (n + 1) ms number row.2 (omega (arith, low, ne)) (omega (arith, high)) in
+          record { found = rest.found; there = inr rest.there; sender_is = rest.sender_is; number_is = rest.number_is }
+    ]
+
+-- no two have one number
+pub row_once : (sender n : ℕ) (ms : List Carried) (m x : Carried) → AreNumberedFrom sender n ms → IsIn m ms → IsIn x ms → m.number ≡ x.number → m ≡ x
+row_once sender n [] m x row there here same = absurd there
+row_once sender n (y ∷ ms) m x row (inl a) (inl b) same = a ∙ sym b
+row_once sender n (y ∷ ms) m x row (inl a) (inr later) same =
+    let number : m.number ≡ n = ap (λ (z : Carried). z.number) a ∙ row.1 in
+    let low = (row_within sender (n + 1) ms x row.2 later).low in
+    absurd (omega (arith, number, low, same))
+row_once sender n (y ∷ ms) m x row (inr later) (inl b) same =
+    let number : x.number ≡ n = ap (λ (z : Carried). z.number) b ∙ row.1 in
+    let low = (row_within sender (n + 1) ms m row.2 later).low in
+    absurd (omega (arith, number, low, same))
+row_once sender n (y ∷ ms) m x row (inr a) (inr b) same = row_once sender (n + 1) ms m x row.2 a b same
+
+-- ---- the messages of a cast
+
+-- a message of a cast is of its sender, and its number lies between the first and the last
+pub record IsOfCast (c : CastFields) (m : Carried) : Type 0 where
+  pub sender_is : m.sender ≡ c.sender
+  pub low : first_number c ≤ m.number
+  pub high : m.number ≤ last_number c
+
+pub carried_is_of_cast : (c : CastFields) (m : Carried) → IsIn m (messages_of c) → IsOfCast c m
+carried_is_of_cast c m there =
+    let within = row_within c.sender (first_number c) (messages_of c) m (carried_in_order c) there in
+    let high = within.high in
+    record { sender_is = within.sender_is; low = within.low; high = omega (arith, high, carried_up_to_the_last c) }
+
+-- each number from the first to the last has a message
+pub each_number_is_carried : (c : CastFields) (number : ℕ) → first_number c ≤ number → number ≤ last_number c → HasNumber (messages_of c) c.sender number
+each_number_is_carried c number low high =
+    row_has c.sender (first_number c) (messages_of c) number (carried_in_order c) low (omega (arith, high, carried_up_to_the_last c))
+
+-- and only one
+pub carried_once : (c : CastFields) (m x : Carried) → IsIn m (messages_of c) → IsIn x (messages_of c) → m.number ≡ x.number → m ≡ x
+carried_once c m x there here same = row_once c.sender (first_number c) (messages_of c) m x (carried_in_order c) there here same
+
+-- the first message, and the last
+pub first_is_carried : (c : CastFields) → HasNumber (messages_of c) c.sender (first_number c)
+first_is_carried c = each_number_is_carried c (first_number c) (omega arith) (carries_some c)
+
+pub last_is_carried : (c : CastFields) → HasNumber (messages_of c) c.sender (last_number c)
+last_is_carried c = each_number_is_carried c (last_number c) (carries_some c) (omega arith)
+
+-- where a cast carries no second message, each of them is the same one
+pub carried_alone : (c : CastFields) (m x : Carried) → IsIn m (messages_of c) → IsIn x (messages_of c) → m ≡ x
+carried_alone c m x there here =
+    let a = carried_is_of_cast c m there in
+    let b = carried_is_of_cast c x here in
+    let low = a.low in
+    let high = a.high in
+    let from = b.low in
+    let upto = b.high in
+    carried_once c m x there here (omega (arith, low, high, from, upto, carries_no_more c))
