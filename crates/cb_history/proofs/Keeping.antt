@@ -1,18 +1,17 @@
 -- The least of what is known, and the frames that are kept.
-use Rattle.std.proofs.Common.{◌≡◌, ◌≢◌, ℕ, zero, suc, ◌+◌, ◌-◌, ◌<◌, ◌≤◌, ◌||◌, Bool, true, false, not, cond, eqb, leb, ltb, List, [], ◌∷◌, ◌++◌, length, map, take, drop, refl, sym, ap, subst, ◌∙◌, arith, inl, inr}
-use Rattle.std.specs.FinMap as fin
-use Rattle.std.specs.Ordering.{nat_cmp}
-use Rattle.std.specs.List.{filter, enumerate_from, range_with_len}
+use Rattle.std.proofs.Common.{◌≡◌, ◌≢◌, ℕ, zero, suc, ◌+◌, ◌<◌, ◌≤◌, ◌||◌, Bool, true, false, not, cond, eqb, leb, ltb, List, [], ◌∷◌, ◌++◌, length, map, take, refl, sym, ap, subst, ◌∙◌, arith, inl, inr}
+use Rattle.std.specs.List.{filter, range_with_len}
 use Rattle.std.proofs.Math.Bool.{or-false}
-use Rattle.std.proofs.lemmas.Bool.{cases_eq, cases_lt, eq-eqb, ne_eqb, le-leb, lt-leb, leb-true, le-ltb, lt-ltb}
-use Rattle.std.proofs.lemmas.List.{length-map, length-drop, drop-append-le, drop-map, map-append}
+use Rattle.std.proofs.lemmas.Bool.{cases_eq, cases_lt, eq-eqb, ne_eqb, lt-leb, leb-false, le-ltb, lt-ltb}
+use Rattle.std.proofs.lemmas.List.{map-append}
+use Rattle.std.proofs.lemmas.List.Elements.{filter-append, filter_agree}
 use Rattle.cb_frames.specs.declared.frame.TheConstants.{LAST_NUMBER, MOST_FRAMES}
 use Rattle.cb_frames.specs.declared.frame.Range.{Range}
-use Rattle.cb_frames.specs.Fields.{CastFields, CastFrame, first_number, last_number}
+use Rattle.cb_frames.specs.Fields.{CastFields, CastFrame, messages_of, first_number, last_number}
 use Rattle.cb_frames.specs.Text.{text_of}
 use Rattle.cb_stability.specs.Ranges.{is_in_some}
-use Rattle.cb_stability.specs.Sent.{Sent, room_of}
-use Rattle.cb_stability.proofs.Windows.{kept_from, entries-kept, len-kept, push_kept, trim_kept}
+use Rattle.cb_stability.specs.Sent.{Spanned, spanned, is_in_ranges, room_of}
+use Rattle.cb_stability.proofs.Found.{one_in_ranges}
 use Rattle.cb_history.specs.declared.answer.Outgoing.{Outgoing}
 use Rattle.cb_history.specs.Group.{Identity}
 use Rattle.cb_history.specs.Facts.{Fact, OwnCast, CastReceived, StatusReceived, OwnStatus}
@@ -20,13 +19,12 @@ use Rattle.cb_history.specs.View.{count, view}
 use Rattle.cb_history.specs.Known.{acknowledged, stable, least_of}
 use Rattle.cb_history.specs.Answers.{delivered, own_casts, window, is_own_cast, is_window_full, is_asked_for}
 use Rattle.cb_history.specs.LegalFacts.{AreFactsOf}
-use Rattle.cb_history.specs.NameLaws.{NumberedFrom}
-use Rattle.cb_history.specs.StabilityLaws.{LeastKnownIsStable, numbered_frame, KeepsOwnCasts, NoRoomIsFull, sent_to, FramesInAreSentInAnswer, PutIsOwnCast, TrimIsStable}
-use Rattle.cb_history.proofs.Views.{IsIn, filter_in, in_filter, or_left, or_right}
-use Rattle.cb_history.proofs.Lists.{length_messages, count_own}
+use Rattle.cb_history.specs.StabilityLaws.{LeastKnownIsStable, spanned_frame, NoRoomIsFull, sent_to, FramesInAreSentInAnswer, PutIsOwnCast, TrimIsStable}
+use Rattle.cb_history.proofs.Views.{IsIn, filter_in, in_filter}
+use Rattle.cb_history.proofs.Lists.{count_own, length_messages}
 use Rattle.cb_history.proofs.Walks.{view_own, own_casts-own, own_casts-other, IsNotOwn}
 use Rattle.cb_history.proofs.Names.{all_stand, message}
-use Rattle.cb_history.proofs.Counts.{counts_are_numbers}
+use Rattle.cb_history.proofs.Counts.{number_left}
 use Rattle.cb_history.proofs.Prefixes.{prefix_of_facts_is_legal, last_fact_is_a_step}
 use Rattle.cb_history.proofs.Acknowledged.{acknowledged_is_delivered}
 use Rattle.cb_history.proofs.Rising.{nothing_falls}
@@ -95,68 +93,33 @@ least_known_is_stable seat facts known n knows is_stable reached =
 
 -- ---- the own casts above a number
 
-all_above : (me n s : ℕ) (own : List CastFields) → NumberedFrom me n own → s < n → map numbered_frame (filter (λ c. ltb s (last_number c)) own) ≡ enumerate_from n (map (λ c. text_of (CastFrame c)) own)
-all_above me n s [] numbered above = refl
-all_above me n s (c ∷ own) numbered above =
-    let number : c.number ≡ n = numbered.1 in
-    let later : ltb s c.number ≡ true = lt-ltb s c.number (omega (arith, number, above)) in
-    let rest = all_above me (c.number + 1) s own numbered.2 (omega (arith, number, above)) in
-    rw later (ap (λ (k : ℕ). (k, text_of (CastFrame c)) ∷ map numbered_frame (filter (λ c. ltb s (last_number c)) own)) number
-    ∙ ap (λ (es : List (ℕ × List ℕ)). (n, text_of (CastFrame c)) ∷ es) (rest ∙ ap (λ (k : ℕ). enumerate_from (k + 1) (map (λ c. text_of (CastFrame c)) own)) number))
+filter_of_map : {A B : Type 0} (f : A → B) (p : B → Bool) (xs : List A) → filter p (map f xs) ≡ map f (filter (λ x. p (f x)) xs)
+filter_of_map f p [] = refl
+filter_of_map {B = B} f p (x ∷ xs) = picked (p (f x)) (filter_of_map f p xs)
+  where
+    picked : (b : Bool) → filter p (map f xs) ≡ map f (filter (λ x. p (f x)) xs)
+        → cond b (f x ∷ filter p (map f xs)) (filter p (map f xs)) ≡ map f (cond b (x ∷ filter (λ x. p (f x)) xs) (filter (λ x. p (f x)) xs))
+    picked true rest = ap (λ (ys : List B). f x ∷ ys) rest
+    picked false rest = rest
 
-drop_none : {A : Type 0} (k : ℕ) → drop {A = A} k [] ≡ []
-drop_none zero = refl
-drop_none (suc k) = refl
+abbrev above : ℕ → List CastFields → List CastFields
+above s casts = filter (λ c. ltb s (last_number c)) casts
 
-pub those_above : (me n s : ℕ) (own : List CastFields) → NumberedFrom me n own → n ≤ s + 1 → s + 1 ≤ n + length own
-    → map numbered_frame (filter (λ c. ltb s (last_number c)) own) ≡ enumerate_from (s + 1) (map (λ c. text_of (CastFrame c)) (drop (s + 1 - n) own))
-those_above me n s [] numbered low high = ap (λ (own : List CastFields). enumerate_from (s + 1) (map (λ c. text_of (CastFrame c)) own)) (sym (drop_none (s + 1 - n)))
-those_above me n s (c ∷ own) numbered low high =
-    elim (cases_lt s n) [
+-- above a number are those above a smaller one that are above it
+above_more : (s t : ℕ) (casts : List CastFields) → s ≤ t → above t (above s casts) ≡ above t casts
+above_more s t [] le = refl
+above_more s t (c ∷ casts) le =
+    elim (cases_lt s (last_number c)) as (λ _. above t (above s (c ∷ casts)) ≡ above t (c ∷ casts)) [
       | inl lt ↦
-          let same : s + 1 ≡ n = omega (arith, lt, low) in
-          let none : s + 1 - n ≡ 0 = omega (arith, lt, low) in
-          all_above me n s (c ∷ own) numbered lt
-          ∙ ap (λ (k : ℕ). enumerate_from k (map (λ c. text_of (CastFrame c)) (c ∷ own))) (sym same)
-          ∙ ap (λ (k : ℕ). enumerate_from (s + 1) (map (λ c. text_of (CastFrame c)) (drop k (c ∷ own)))) (sym none)
-      | inr le ↦
-          let number : c.number ≡ n = numbered.1 in
-          let gone : ltb s c.number ≡ false = le-ltb s c.number (omega (arith, number, le)) in
-          let one_more : s + 1 - n ≡ suc (s + 1 - (c.number + 1)) = omega (arith, number, le) in
-          rw gone (those_above me (c.number + 1) s own numbered.2 (omega (arith, number, le)) (omega (arith, number, high))
-          ∙ ap (λ (k : ℕ). enumerate_from (s + 1) (map (λ c. text_of (CastFrame c)) (drop k (c ∷ own)))) (sym one_more))
+          rw (lt-ltb s (last_number c) lt)
+          (ap (λ (cs : List CastFields). cond (ltb t (last_number c)) (c ∷ cs) cs) (above_more s t casts le))
+      | inr small ↦ rw (le-ltb s (last_number c) small, le-ltb t (last_number c) (omega (arith, small, le))) (above_more s t casts le)
     ]
 
--- ---- what is kept
-
--- the frames of the own casts above a number
-abbrev frames_above : ℕ → List Fact → List (List ℕ)
-frames_above s facts = map (λ c. text_of (CastFrame c)) (drop s (own_casts facts))
-
-counted : (seat : Identity) (facts : List Fact) → AreFactsOf seat facts → length (own_casts facts) ≡ delivered seat facts seat.me
-counted seat facts are = sym (length_messages (own_casts facts)) ∙ sym (all_stand seat facts are.member are.facts_are).own_count
-
-window_is : (seat : Identity) (facts : List Fact) → AreFactsOf seat facts → map numbered_frame (window seat facts) ≡ enumerate_from (stable seat facts + 1) (frames_above (stable seat facts) facts)
-window_is seat facts are =
-    let s = stable seat facts in
-    let below = (acknowledged_is_delivered seat facts are).1 in
-    let many = counted seat facts are in
-    let same : s + 1 - 1 ≡ s = omega arith in
-    those_above seat.me 1 s (own_casts facts) (all_stand seat facts are.member are.facts_are).own_numbers (omega arith) (omega (arith, below, many))
-    ∙ ap (λ (k : ℕ). enumerate_from (s + 1) (frames_above k facts)) same
-
-length_above : (seat : Identity) (facts : List Fact) → AreFactsOf seat facts → length (frames_above (stable seat facts) facts) ≡ delivered seat facts seat.me - stable seat facts
-length_above seat facts are =
-    length-map (drop (stable seat facts) (own_casts facts)) (λ c. text_of (CastFrame c)) ∙ length-drop (stable seat facts) (own_casts facts) ∙ ap (λ (n : ℕ). n - stable seat facts) (counted seat facts are)
-
--- the map that is kept
-kept_is : (seat : Identity) (facts : List Fact) (sent : Sent) → AreFactsOf seat facts → KeepsOwnCasts seat facts sent → sent.kept ≡ kept_from (stable seat facts + 1) (frames_above (stable seat facts) facts)
-kept_is seat facts sent are keeps =
-    fin.same_entries_map sent.kept (kept_from (stable seat facts + 1) (frames_above (stable seat facts) facts))
-    (keeps.kept ∙ window_is seat facts are ∙ sym (entries-kept (stable seat facts + 1) (frames_above (stable seat facts) facts)))
+-- ---- whether there is room
 
 pub no_room_is_full : NoRoomIsFull
-no_room_is_full seat facts sent are keeps = (full, none)
+no_room_is_full seat facts sent are keeps = (free, some)
   where
     s : ℕ
     s = stable seat facts
@@ -167,54 +130,37 @@ no_room_is_full seat facts sent are keeps = (full, none)
     below : s ≤ d
     below = (acknowledged_is_delivered seat facts are).1
 
-    len : fin.len sent.kept ≡ d - s
-    len = ap (λ (m : fin.FinMap nat_cmp (List ℕ)). fin.len m) (kept_is seat facts sent are keeps) ∙ len-kept (s + 1) (frames_above s facts) ∙ length_above seat facts are
+    neither : (a b : Bool) → a ≡ false → b ≡ false → (a || b) ≡ false
+    neither a b first second = rw (first, second) refl
 
-    most : d ≤ LAST_NUMBER
-    most = counts_are_numbers seat facts seat.me are
+    free : 1 ≤ room_of sent → is_window_full seat facts ≡ false
+    free room =
+        let near : d < s + seat.group.window = omega (arith, room, keeps.width, keeps.put, keeps.trimmed, below) in
+        let left : d < LAST_NUMBER = omega (arith, room, keeps.put) in
+        neither (leb (s + seat.group.window) d) (leb LAST_NUMBER d) (lt-leb (s + seat.group.window) d near) (lt-leb LAST_NUMBER d left)
 
-    no_number : d ≡ LAST_NUMBER → room_of sent ≡ 0
-    no_number e = rw (eq-eqb sent.put LAST_NUMBER (keeps.put ∙ e)) refl
+    near_stable : (a b : Bool) → (a || b) ≡ false → a ≡ false
+    near_stable true b h = absurd cc
+    near_stable false b h = refl
 
-    room : d ≢ LAST_NUMBER → room_of sent ≡ seat.group.window - (d - s)
-    room left = rw (ne_eqb sent.put LAST_NUMBER (λ e. left (sym keeps.put ∙ e))) (ap (λ (w : ℕ). w - fin.len sent.kept) keeps.width ∙ ap (λ (n : ℕ). seat.group.window - n) len)
-
-    full : room_of sent ≡ 0 → is_window_full seat facts ≡ true
-    full h = elim (cases_eq d LAST_NUMBER) [
-      | inl e ↦ or_right (leb (s + seat.group.window) d) (leb LAST_NUMBER d) (le-leb LAST_NUMBER d (omega (arith, e)))
-      | inr left ↦ or_left (leb (s + seat.group.window) d) (leb LAST_NUMBER d) (le-leb (s + seat.group.window) d (omega (arith, room left, h, below)))
-    ]
-
-    by_stable : (a b : Bool) → b ≡ false → (a || b) ≡ true → a ≡ true
-    by_stable true b none h = refl
-    by_stable false b none h = absurd cc
-
-    none : is_window_full seat facts ≡ true → room_of sent ≡ 0
-    none h = elim (cases_eq d LAST_NUMBER) [
-      | inl e ↦ no_number e
-      | inr left ↦
-          let some : leb LAST_NUMBER d ≡ false = lt-leb LAST_NUMBER d (omega (arith, most, left)) in
-          let reached = leb-true (s + seat.group.window) d (by_stable (leb (s + seat.group.window) d) (leb LAST_NUMBER d) some h) in
-          room left ∙ omega (arith, reached)
-    ]
+    some : is_window_full seat facts ≡ false → 1 ≤ room_of sent
+    some h =
+        let near = leb-false (s + seat.group.window) d (near_stable (leb (s + seat.group.window) d) (leb LAST_NUMBER d) h) in
+        let left : d < LAST_NUMBER = number_left seat facts h in
+        omega (arith, near, left, keeps.width, keeps.put, keeps.trimmed, below)
 
 -- ---- what is sent again
 
-asked_as_numbers : (ranges : List Range) (c : CastFields) → is_asked_for ranges c ≡ is_in_some ranges (first_number c)
-asked_as_numbers ranges c = or-false (is_in_some ranges (first_number c))
+asked_as_spans : (ranges : List Range) (c : CastFields) → is_asked_for ranges c ≡ is_in_ranges ranges (spanned_frame c)
+asked_as_spans ranges c = or-false (is_in_some ranges (first_number c)) ∙ sym (one_in_ranges ranges (first_number c) (text_of (CastFrame c)))
 
-filter_frames : (ranges : List Range) (casts : List CastFields) → filter (λ e. is_in_some ranges e.0) (map numbered_frame casts) ≡ map numbered_frame (filter (is_asked_for ranges) casts)
-filter_frames ranges [] = refl
-filter_frames ranges (c ∷ casts) =
-    rw (asked_as_numbers ranges c) (picked (is_in_some ranges (first_number c)) (filter_frames ranges casts))
-  where
-    picked : (b : Bool) → filter (λ e. is_in_some ranges e.0) (map numbered_frame casts) ≡ map numbered_frame (filter (is_asked_for ranges) casts)
-        → cond b (numbered_frame c ∷ filter (λ e. is_in_some ranges e.0) (map numbered_frame casts)) (filter (λ e. is_in_some ranges e.0) (map numbered_frame casts))
-        ≡ map numbered_frame (cond b (c ∷ filter (is_asked_for ranges) casts) (filter (is_asked_for ranges) casts))
-    picked true h = ap (λ (es : List (ℕ × List ℕ)). numbered_frame c ∷ es) h
-    picked false h = h
+spans_asked : (ranges : List Range) (casts : List CastFields) → map spanned_frame (filter (is_asked_for ranges) casts) ≡ filter (is_in_ranges ranges) (map spanned_frame casts)
+spans_asked ranges casts =
+    ap (map spanned_frame) (filter_agree (is_asked_for ranges) (λ c. is_in_ranges ranges (spanned_frame c)) (asked_as_spans ranges) casts)
+    ∙ sym (filter_of_map spanned_frame (is_in_ranges ranges) casts)
 
-take_frames : (n : ℕ) (casts : List CastFields) (requester : ℕ) → map (λ c. sent_to requester (text_of (CastFrame c))) (take n casts) ≡ map (sent_to requester) (map (λ e. e.1) (take n (map numbered_frame casts)))
+take_frames : (n : ℕ) (casts : List CastFields) (requester : ℕ)
+    → map (λ c. sent_to requester (text_of (CastFrame c))) (take n casts) ≡ map (sent_to requester) (map (λ frame. frame.bytes) (take n (map spanned_frame casts)))
 take_frames zero casts requester = refl
 take_frames (suc n) [] requester = refl
 take_frames (suc n) (c ∷ casts) requester = ap (λ (os : List Outgoing). sent_to requester (text_of (CastFrame c)) ∷ os) (take_frames n casts requester)
@@ -223,8 +169,8 @@ pub frames_in_are_sent_in_answer : FramesInAreSentInAnswer
 frames_in_are_sent_in_answer seat facts sent r keeps asked =
     rw (eq-eqb r.asked seat.me asked)
     (take_frames MOST_FRAMES (filter (is_asked_for r.ranges) (window seat facts)) r.requester
-    ∙ ap (λ (es : List (ℕ × List ℕ)). map (sent_to r.requester) (map (λ e. e.1) (take MOST_FRAMES es)))
-    (sym (filter_frames r.ranges (window seat facts)) ∙ ap (filter (λ e. is_in_some r.ranges e.0)) (sym keeps.kept)))
+    ∙ ap (λ (frames : List Spanned). map (sent_to r.requester) (map (λ frame. frame.bytes) (take MOST_FRAMES frames)))
+    (spans_asked r.ranges (window seat facts) ∙ ap (filter (is_in_ranges r.ranges)) (sym keeps.kept)))
 
 -- ---- one more own cast
 
@@ -236,14 +182,15 @@ others_same seat facts c are = ap least_of (same_over (others_of seat) (λ k the
     same_over (k ∷ ks) same = ap (λ (n : ℕ). n ∷ map (acknowledged seat (facts ++ OwnCast c ∷ [])) ks) (same k (inl refl)) ∙ ap (λ (ns : List ℕ). acknowledged seat facts k ∷ ns) (same_over ks (λ j later. same j (inr later)))
 
 pub put_is_own_cast : PutIsOwnCast
-put_is_own_cast seat facts c sent after are keeps kept =
+put_is_own_cast seat facts c sent after are keeps puts =
     record {
-      width = kept.window ∙ keeps.width;
-      put = kept.now_put ∙ ap (λ (n : ℕ). n + 1) keeps.put ∙ sym (ap (λ (ms : _). count ms seat.me) (view_own seat.group.size facts c) ∙ count_own (view seat.group.size facts) (message c) seat.me sender);
-      kept = ap (λ (m : fin.FinMap nat_cmp (List ℕ)). fin.entries m) (kept.now_kept ∙ pushed) ∙ entries-kept (s + 1) (frames_above s facts ++ text_of (CastFrame c) ∷ [])
-          ∙ ap (enumerate_from (s + 1)) (sym grown)
-          ∙ ap (λ (k : ℕ). enumerate_from (k + 1) (frames_above k (facts ++ OwnCast c ∷ []))) (sym (others_same seat facts c are))
-          ∙ sym (window_is seat (facts ++ OwnCast c ∷ []) are);
+      width = puts.window ∙ keeps.width;
+      put = puts.now_put ∙ ap (λ (n : ℕ). n + 1) keeps.put ∙ sym (ap (λ (ms : _). count ms seat.me) (view_own seat.group.size facts c) ∙ count_own (view seat.group.size facts) (message c) seat.me sender);
+      trimmed = puts.trimmed ∙ keeps.trimmed ∙ sym (others_same seat facts c are);
+      kept = puts.now_kept
+          ∙ ap (λ (frames : List Spanned). frames ++ spanned (sent.put + 1) (sent.put + length (messages_of c)) (text_of (CastFrame c)) ∷ []) keeps.kept
+          ∙ ap (λ (n : ℕ). map spanned_frame (window seat facts) ++ spanned n n (text_of (CastFrame c)) ∷ []) number
+          ∙ sym (ap (map spanned_frame) grown ∙ map-append spanned_frame (window seat facts) (c ∷ []));
     }
   where
     s : ℕ
@@ -258,20 +205,15 @@ put_is_own_cast seat facts c sent after are keeps kept =
     sender : c.sender ≡ seat.me
     sender = ap (λ (x : CastFields). x.sender) (last_fact_is_a_step seat facts (OwnCast c) are).next
 
-    number : sent.put + 1 ≡ s + 1 + length (frames_above s facts)
-    number = let put = keeps.put in let len = length_above seat facts before in let le = below in omega (arith, put, len, le)
+    number : sent.put + 1 ≡ c.number
+    number = ap (λ (n : ℕ). n + 1) keeps.put ∙ sym (ap (λ (x : CastFields). x.number) (last_fact_is_a_step seat facts (OwnCast c) are).next)
 
-    pushed : fin.insert sent.kept (sent.put + 1) (text_of (CastFrame c)) ≡ kept_from (s + 1) (frames_above s facts ++ text_of (CastFrame c) ∷ [])
-    pushed =
-        ap (λ (m : fin.FinMap nat_cmp (List ℕ)). fin.insert m (sent.put + 1) (text_of (CastFrame c))) (kept_is seat facts sent before keeps)
-        ∙ ap (λ (k : ℕ). fin.insert (kept_from (s + 1) (frames_above s facts)) k (text_of (CastFrame c))) number
-        ∙ sym (push_kept (s + 1) (frames_above s facts) (text_of (CastFrame c)))
-
-    grown : frames_above s (facts ++ OwnCast c ∷ []) ≡ frames_above s facts ++ text_of (CastFrame c) ∷ []
+    grown : window seat (facts ++ OwnCast c ∷ []) ≡ window seat facts ++ c ∷ []
     grown =
-        ap (λ (own : List CastFields). map (λ c. text_of (CastFrame c)) (drop s own)) (own_casts-own facts c)
-        ∙ ap (map (λ c. text_of (CastFrame c))) (drop-append-le s (own_casts facts) (c ∷ []) (let le = below in omega (arith, le, counted seat facts before)))
-        ∙ map-append (λ c. text_of (CastFrame c)) (drop s (own_casts facts)) (c ∷ [])
+        ap (λ (n : ℕ). above n (own_casts (facts ++ OwnCast c ∷ []))) (others_same seat facts c are)
+        ∙ ap (above s) (own_casts-own facts c)
+        ∙ filter-append (λ c. ltb s (last_number c)) (own_casts facts) (c ∷ [])
+        ∙ ap (λ (b : Bool). window seat facts ++ cond b (c ∷ []) []) (lt-ltb s (last_number c) (let put = keeps.put in let at = number in let le = below in omega (arith, put, at, le)))
 
 -- ---- trimmed after another fact
 
@@ -281,19 +223,18 @@ not_own_is (CastReceived c) h = tt
 not_own_is (StatusReceived s) h = tt
 not_own_is (OwnStatus s) h = tt
 
-drop_more_of : {A : Type 0} (a b : ℕ) (xs : List A) → drop a (drop b xs) ≡ drop (b + a) xs
-drop_more_of a zero xs = ap (λ (k : ℕ). drop k xs) (let e : a ≡ 0 + a = omega arith in e)
-drop_more_of a (suc b) [] = drop_none a ∙ sym (drop_none (suc b + a))
-drop_more_of a (suc b) (x ∷ xs) = drop_more_of a b xs ∙ ap (λ (k : ℕ). drop k (x ∷ xs)) (let e : suc (b + a) ≡ suc b + a = omega arith in e)
-
 pub trim_is_stable : TrimIsStable
-trim_is_stable seat facts f sent after are other keeps kept =
+trim_is_stable seat facts f sent after are other keeps trims =
     record {
-      width = kept.window ∙ keeps.width;
-      put = kept.now_put ∙ keeps.put ∙ sym same_count;
-      kept = ap (λ (m : fin.FinMap nat_cmp (List ℕ)). fin.entries m) (kept.now_kept ∙ trimmed) ∙ entries-kept (s' + 1) (frames_above s' facts)
-          ∙ ap (λ (own : List CastFields). enumerate_from (s' + 1) (map (λ c. text_of (CastFrame c)) (drop s' own))) (sym own)
-          ∙ sym (window_is seat (facts ++ f ∷ []) are);
+      width = trims.window ∙ keeps.width;
+      put = trims.put ∙ keeps.put ∙ sym same_count;
+      trimmed = now_stable;
+      kept = trims.now_kept
+          ∙ ap (λ (t : ℕ). filter (λ frame. ltb t frame.last) sent.kept) now_stable
+          ∙ ap (filter (λ frame. ltb s' frame.last)) keeps.kept
+          ∙ filter_of_map spanned_frame (λ frame. ltb s' frame.last) (window seat facts)
+          ∙ ap (map spanned_frame) (above_more s s' (own_casts facts) rises)
+          ∙ ap (λ (own : List CastFields). map spanned_frame (above s' own)) (sym own);
     }
   where
     s : ℕ
@@ -308,8 +249,11 @@ trim_is_stable seat facts f sent after are other keeps kept =
     own : own_casts (facts ++ f ∷ []) ≡ own_casts facts
     own = own_casts-other facts f (not_own_is f other)
 
+    counted : (facts : List Fact) → AreFactsOf seat facts → length (own_casts facts) ≡ delivered seat facts seat.me
+    counted facts are = sym (length_messages (own_casts facts)) ∙ sym (all_stand seat facts are.member are.facts_are).own_count
+
     same_count : delivered seat (facts ++ f ∷ []) seat.me ≡ delivered seat facts seat.me
-    same_count = sym (counted seat (facts ++ f ∷ []) are) ∙ ap length own ∙ counted seat facts before
+    same_count = sym (counted (facts ++ f ∷ []) are) ∙ ap length own ∙ counted facts before
 
     rises : s ≤ s'
     rises = (nothing_falls seat facts f).2
@@ -317,27 +261,5 @@ trim_is_stable seat facts f sent after are other keeps kept =
     below : s' ≤ sent.put
     below = let le = (acknowledged_is_delivered seat (facts ++ f ∷ []) are).1 in let put = keeps.put in let same = same_count in omega (arith, le, put, same)
 
-    xs : List (List ℕ)
-    xs = frames_above s facts
-
-    len : length xs ≡ sent.put - s
-    len = length_above seat facts before ∙ ap (λ (n : ℕ). n - s) (sym keeps.put)
-
-    behind : drop (s' - s) xs ≡ frames_above s' facts
-    behind =
-        drop-map (λ c. text_of (CastFrame c)) (s' - s) (drop s (own_casts facts))
-        ∙ ap (map (λ c. text_of (CastFrame c))) (drop_more_of (s' - s) s (own_casts facts))
-        ∙ ap (λ (k : ℕ). frames_above k facts) (let le = rises in let e : s + (s' - s) ≡ s' = omega (arith, le) in e)
-
-    from : sent.put - length xs + 1 ≡ s + 1
-    from = let at = len in let le = rises in let put = below in omega (arith, at, le, put)
-
-    from' : sent.put - length (drop (s' - s) xs) + 1 ≡ s' + 1
-    from' = let at = len in let le = rises in let put = below in let shorter = length-drop (s' - s) xs in omega (arith, at, le, put, shorter)
-
-    trimmed : fin.retain_keys sent.kept (λ number. ltb s' number) ≡ kept_from (s' + 1) (frames_above s' facts)
-    trimmed =
-        ap (λ (m : fin.FinMap nat_cmp (List ℕ)). fin.retain_keys m (λ number. ltb s' number)) (kept_is seat facts sent before keeps ∙ ap (λ (k : ℕ). kept_from k xs) (sym from))
-        ∙ sym (trim_kept sent.put s' (s' - s) xs (let at = len in omega (arith, at)) (let at = from in let le = rises in omega (arith, at, le)))
-        ∙ ap (λ (k : ℕ). kept_from k (drop (s' - s) xs)) from'
-        ∙ ap (kept_from (s' + 1)) behind
+    now_stable : after.trimmed ≡ s'
+    now_stable = let now = trims.now_trimmed in let was = keeps.trimmed in let le = below in let more = rises in omega (arith, now, was, le, more)

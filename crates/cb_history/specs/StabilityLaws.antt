@@ -1,10 +1,9 @@
 -- Acknowledgements and the sent window, and what they are of a member's history.
-use Rattle.std.specs.Prelude.{◌≡◌, ◌≢◌, ℕ, ◌+◌, ◌<◌, ◌↔◌, true, false, nat_lt, List, [], ◌∷◌, ◌++◌, Some, map}
-use Rattle.std.specs.FinMap as fin
-use Rattle.cb_frames.specs.Fields.{CastFields, RequestFields, CastFrame, RequestFrame, first_number}
+use Rattle.std.specs.Prelude.{◌≡◌, ◌≢◌, ℕ, ◌<◌, ◌≤◌, ◌↔◌, false, List, [], ◌∷◌, ◌++◌, length, Some, map}
+use Rattle.cb_frames.specs.Fields.{CastFields, RequestFields, CastFrame, RequestFrame, messages_of, first_number, last_number}
 use Rattle.cb_frames.specs.Text.{text_of}
 use Rattle.cb_stability.specs.Known as acks
-use Rattle.cb_stability.specs.Sent.{Sent, Keeps, room_of, frames_in}
+use Rattle.cb_stability.specs.Sent.{Sent, Spanned, spanned, Puts, Trims, room_of, frames_in}
 use Rattle.cb_history.specs.declared.answer.Outgoing.{Outgoing}
 use Rattle.cb_history.specs.Group.{Identity}
 use Rattle.cb_history.specs.Facts.{Fact, OwnCast}
@@ -27,21 +26,23 @@ LeastKnownIsStable =
 
 -- ---- the sent window
 
--- the number and the frame of a cast
-abbrev pub numbered_frame : CastFields → ℕ × List ℕ
-numbered_frame c = (first_number c, text_of (CastFrame c))
+-- the frame of a cast, with the numbers of its first and of its last message
+abbrev pub spanned_frame : CastFields → Spanned
+spanned_frame c = spanned (first_number c) (last_number c) (text_of (CastFrame c))
 
--- the window is the group's, as many frames were put as the member cast, and it keeps the own casts above stable
+-- the window is the group's, as many numbers were put as the member cast, those that are stable are trimmed, and it keeps
+-- the own casts above them
 pub record KeepsOwnCasts (seat : Identity) (facts : List Fact) (sent : Sent) : Type 0 where
   pub width : sent.window ≡ seat.group.window
   pub put : sent.put ≡ delivered seat facts seat.me
-  pub kept : fin.entries sent.kept ≡ map numbered_frame (window seat facts)
+  pub trimmed : sent.trimmed ≡ stable seat facts
+  pub kept : sent.kept ≡ map spanned_frame (window seat facts)
 
--- there is no room in it exactly where the member's window is full
+-- there is room in it for one more exactly where the member's window is not full
 abbrev pub NoRoomIsFull : Type 0
 NoRoomIsFull =
     (seat : Identity) (facts : List Fact) (sent : Sent) → AreFactsOf seat facts → KeepsOwnCasts seat facts sent
-    → (room_of sent ≡ 0) ↔ (is_window_full seat facts ≡ true)
+    → (1 ≤ room_of sent) ↔ (is_window_full seat facts ≡ false)
 
 -- what is sent again
 abbrev pub sent_to : ℕ → List ℕ → Outgoing
@@ -57,13 +58,12 @@ FramesInAreSentInAnswer =
 abbrev pub PutIsOwnCast : Type 0
 PutIsOwnCast =
     (seat : Identity) (facts : List Fact) (c : CastFields) (sent after : Sent) → AreFactsOf seat (facts ++ OwnCast c ∷ [])
-    → KeepsOwnCasts seat facts sent → Keeps sent after (sent.put + 1) (fin.insert sent.kept (sent.put + 1) (text_of (CastFrame c)))
+    → KeepsOwnCasts seat facts sent → Puts sent after (length (messages_of c)) (text_of (CastFrame c))
     → KeepsOwnCasts seat (facts ++ OwnCast c ∷ []) after
 
 -- to trim up to what is stable after another fact is to keep the own casts above it
 abbrev pub TrimIsStable : Type 0
 TrimIsStable =
     (seat : Identity) (facts : List Fact) (f : Fact) (sent after : Sent) → AreFactsOf seat (facts ++ f ∷ []) → is_own_cast f ≡ false
-    → KeepsOwnCasts seat facts sent
-    → Keeps sent after sent.put (fin.retain_keys sent.kept (λ number. nat_lt (stable seat (facts ++ f ∷ [])) number))
+    → KeepsOwnCasts seat facts sent → Trims sent after (stable seat (facts ++ f ∷ []))
     → KeepsOwnCasts seat (facts ++ f ∷ []) after

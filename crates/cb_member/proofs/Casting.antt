@@ -1,7 +1,7 @@
 -- The next cast, made from what is kept.
 use Rattle.std.proofs.Common.{◌≡◌, ◌≢◌, ℕ, false, ◌+◌, ◌<◌, inl, inr, List, [], ◌∷◌, ◌++◌, length, set, refl, sym, ap, subst, ◌∙◌, arith}
 use Rattle.std.specs.List.{flat_map}
-use Rattle.std.proofs.lemmas.Bool.{cases_Bool, cases_eq, cases_lt}
+use Rattle.std.proofs.lemmas.Bool.{cases_eq, cases_lt}
 use Rattle.std.proofs.lemmas.List.{length-set, get_or-set_same, get_or-set_other, get_or_past, ext_get_or}
 use Rattle.std.proofs.lemmas.List.FromFn.{length-map-range_with_len}
 use Rattle.cb_times.specs.Order.{field, AtMost}
@@ -43,10 +43,7 @@ own_delivered state facts are k = time_at state.seat facts state.delivery state.
 
 -- while there is room in the window it is not full, and a number is left
 pub is_free : (state : State) (facts : List Fact) → AreFactsOf state.seat facts → Keeps facts state → room_of state.sending.window ≢ 0 → is_window_full state.seat facts ≡ false
-is_free state facts are k some = elim (cases_Bool (is_window_full state.seat facts)) [
-  | inl full ↦ absurd (some ((no_room_is_full state.seat facts state.sending.window are k.sent.window).1 full))
-  | inr free ↦ free
-]
+is_free state facts are k some = (no_room_is_full state.seat facts state.sending.window are k.sent.window).0 (omega (arith, some))
 
 pub number_kept : (state : State) (facts : List Fact) → AreFactsOf state.seat facts → Keeps facts state → 0 < room_of state.sending.window → delivered state.seat facts state.seat.me < LAST_NUMBER
 number_kept state facts are k some = number_left state.seat facts (is_free state facts are k (λ e. omega (arith, e, some)))

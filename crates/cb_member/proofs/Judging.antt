@@ -1,7 +1,7 @@
 -- Whether a payload can be cast.
 use Rattle.std.proofs.Common.{◌≡◌, ℕ, ◌<◌, ◌≤◌, inl, inr, true, false, List, length, Ok, Err, refl, ap, ◌∙◌, arith}
 use Rattle.std.specs.Prelude.{IsOk, is_ok}
-use Rattle.std.proofs.lemmas.Bool.{both_ways, cases_lt, le-ltb, lt-leb, le-leb, lt-ltb}
+use Rattle.std.proofs.lemmas.Bool.{both_ways, cases_Bool, cases_lt, le-ltb, lt-leb, le-leb, lt-ltb}
 use Rattle.cb_frames.specs.declared.frame.TheConstants.{LONGEST_PAYLOAD}
 use Rattle.cb_stability.specs.Sent.{room_of}
 use Rattle.cb_history.specs.declared.answer.CastRefusal.{CastRefusal}
@@ -42,7 +42,12 @@ refuses_long seat facts payload long limit entries same = too_long seat limit en
 pub refuses_window : (state : State) (facts : List Fact) (payload : List ℕ) → AreFactsOf state.seat facts → Keeps facts state → length payload ≤ LONGEST_PAYLOAD → room_of state.sending.window ≡ 0
     → RefusesPayload state.seat facts payload casts.WindowFull
 refuses_window state facts payload are k short none limit entries same =
-    window_full state.seat limit entries payload short (ap (is_window_full state.seat) same ∙ (no_room_is_full state.seat facts state.sending.window are k.sent.window).0 none)
+    let room = (no_room_is_full state.seat facts state.sending.window are k.sent.window).1 in
+    let full : is_window_full state.seat facts ≡ true = elim (cases_Bool (is_window_full state.seat facts)) [
+      | inl full ↦ full
+      | inr free ↦ absurd (let some = room free in omega (arith, some, none))
+    ] in
+    window_full state.seat limit entries payload short (ap (is_window_full state.seat) same ∙ full)
 
 -- what may be cast is refused only where the history is full
 free_for : (state : State) (entries : List EntryFields) (payload : List ℕ) → AreFactsOf state.seat (facts_of entries) → Keeps (facts_of entries) state → CanCast state payload → is_window_full state.seat (facts_of entries) ≡ false

@@ -1,9 +1,7 @@
 -- What is kept is so of the facts with an own cast.
 use Rattle.std.proofs.Common.{◌≡◌, ◌≢◌, ℕ, ◌+◌, Bool, true, false, List, ◌∷◌, [], ◌++◌, None, sym, ap, subst, ◌∙◌, arith}
-use Rattle.std.specs.FinMap as fin
 use Rattle.cb_frames.specs.Fields.{CastFields}
-use Rattle.cb_stability.specs.Sent as sent
-use Rattle.cb_stability.specs.Sent.{Sent}
+use Rattle.cb_stability.specs.Sent.{Sent, Puts}
 use Rattle.cb_history.specs.Group.{Identity}
 use Rattle.cb_history.specs.Facts.{Fact, OwnCast, casts_in}
 use Rattle.cb_history.specs.View.{counts, time_of}
@@ -92,7 +90,7 @@ still_reported seat facts more false time same t = same ∙ t
 
 sent_with_cast : (seat : Identity) (facts : List Fact) (payload time : List ℕ) (s : Sending) (window : Sent) → AreFactsOf seat (with_cast seat facts payload) → HasSent seat facts s
     → time ≡ next_time seat facts payload
-    → sent.Keeps s.window window (s.window.put + 1) (fin.insert s.window.kept (s.window.put + 1) (next_text seat facts payload))
+    → Puts s.window window 1 (next_text seat facts payload)
     → HasSent seat (with_cast seat facts payload) (record s { window = window; last_cast = time })
 sent_with_cast seat facts payload time s window are has at put =
     let c = next_cast seat facts payload in
@@ -106,12 +104,12 @@ sent_with_cast seat facts payload time s window are has at put =
 -- the state with the time and the frame of the next cast keeps that cast as well
 pub cast_keeps : (old : State) (facts : List Fact) (payload time last frame : List ℕ) (window : Sent) → AreFactsOf old.seat (facts ++ OwnCast (next_cast old.seat facts payload) ∷ []) → Keeps facts old
     → time ≡ next_time old.seat facts payload → last ≡ next_time old.seat facts payload → frame ≡ next_text old.seat facts payload
-    → sent.Keeps old.sending.window window (old.sending.window.put + 1) (fin.insert old.sending.window.kept (old.sending.window.put + 1) frame)
+    → Puts old.sending.window window 1 frame
     → Keeps (facts ++ OwnCast (next_cast old.seat facts payload) ∷ []) (record old { delivery = record old.delivery { time = time }; sending = record old.sending { window = window; last_cast = last } })
 cast_keeps old facts payload time last frame window are keeps at last_at is put = record {
   delivered = delivered_with_cast old.seat facts payload time old.delivery are keeps.delivered at;
   received = received_with_cast old.seat facts payload old.reception are keeps.received;
   knows = known_with_cast old.seat facts payload old.knowledge are keeps.knows;
   sent = sent_with_cast old.seat facts payload last old.sending window are keeps.sent last_at
-      (subst (λ (t : List ℕ). sent.Keeps old.sending.window window (old.sending.window.put + 1) (fin.insert old.sending.window.kept (old.sending.window.put + 1) t)) is put);
+      (subst (Puts old.sending.window window 1) is put);
 }

@@ -17,7 +17,7 @@ use Rattle.cb_history.specs.Events.{events}
 use Rattle.cb_history.specs.Legal.{longest_history, NoEntries}
 use Rattle.cb_history.specs.LegalFacts.{AreFactsOf, NoFacts}
 use Rattle.cb_history.specs.QueueLaws.{HoldsUndelivered}
-use Rattle.cb_stability.proofs.Windows.{none_kept, entries-kept}
+use Rattle.cb_history.proofs.Acknowledged.{acknowledged_is_delivered}
 use Rattle.cb_history.proofs.Delivering.{views_are_on_the_way}
 use Rattle.cb_history.proofs.Buffers.{new_buffer_holds}
 use Rattle.cb_history.proofs.Expanders.{new_expander_keeps_nothing}
@@ -116,7 +116,8 @@ nothing_sent seat s is new = record {
   window = record {
     width = new.fresh.of_window;
     put = new.fresh.none_put;
-    kept = ap (λ held. fin.entries held) (new.fresh.empty ∙ sym (none_kept 1 [] refl)) ∙ entries-kept 1 [];
+    trimmed = let most = (acknowledged_is_delivered seat [] (no_facts seat is)).1 in let none = new.fresh.none_trimmed in omega (arith, most, none);
+    kept = new.fresh.empty;
   };
   last_cast = new.no_cast ∙ sym (no_time seat.group.size);
   fields = ap length new.fields ∙ length-replicate seat.group.size 0;

@@ -9,7 +9,7 @@ use Rattle.cb_history.specs.Facts.{Fact, OwnStatus, casts_in}
 use Rattle.cb_history.specs.View.{count, time_of}
 use Rattle.cb_history.specs.Known.{acknowledged, stable, least_of}
 use Rattle.cb_history.specs.Answers.{own_casts, status_of, is_new_status, says_the_time}
-use Rattle.cb_history.specs.StabilityLaws.{KeepsOwnCasts, numbered_frame}
+use Rattle.cb_history.specs.StabilityLaws.{KeepsOwnCasts, spanned_frame}
 use Rattle.cb_history.proofs.Rising.{own_status_tells_nothing}
 use Rattle.cb_history.proofs.Statuses.{last_status_with_one_more, new_status_is_a_new_time}
 use Rattle.cb_history.proofs.Times.{upto_other}
@@ -66,9 +66,10 @@ window_stays : (seat : Identity) (facts : List Fact) (s : StatusFields) (sent : 
 window_stays seat facts s sent keeps = record {
   width = keeps.width;
   put = keeps.put ∙ ap (λ (ms : List Carried). count ms seat.me) (sym (view_reported seat.group.size facts s));
+  trimmed = keeps.trimmed ∙ sym (stable_stays seat facts s);
   kept = keeps.kept
-      ∙ ap (λ (n : ℕ). map numbered_frame (filter (λ (c : CastFields). ltb n c.number) (own_casts facts))) (sym (stable_stays seat facts s))
-      ∙ ap (λ (cs : List CastFields). map numbered_frame (filter (λ (c : CastFields). ltb (stable seat (facts ++ OwnStatus s ∷ [])) c.number) cs)) (sym (own_casts-other facts (OwnStatus s) tt));
+      ∙ ap (λ (n : ℕ). map spanned_frame (filter (λ (c : CastFields). ltb n c.number) (own_casts facts))) (sym (stable_stays seat facts s))
+      ∙ ap (λ (cs : List CastFields). map spanned_frame (filter (λ (c : CastFields). ltb (stable seat (facts ++ OwnStatus s ∷ [])) c.number) cs)) (sym (own_casts-other facts (OwnStatus s) tt));
 }
 
 knows_stays : (seat : Identity) (facts : List Fact) (s : StatusFields) (k : Knowledge) → KnowsFacts seat facts k → KnowsFacts seat (facts ++ OwnStatus s ∷ []) k

@@ -1,6 +1,6 @@
 pub mod Minima
 pub mod Unknown
-pub mod Entries
 pub mod Windows
 pub mod Found
 pub mod Learning
+pub mod WindowRows

@@ -1,54 +1,91 @@
 -- What a sent window keeps.
-use Rattle.std.specs.Prelude.{◌≡◌, ℕ, ◌+◌, ◌-◌, ◌==◌, ◌<◌, ◌≤◌, ◌↔◌, if◌then◌else◌, List, IsSome, filter, map, take, refl}
+use Rattle.std.specs.Prelude.{◌≡◌, ℕ, ◌+◌, ◌-◌, ◌<◌, ◌≤◌, Bool, List, [], ◌∷◌, ◌++◌, filter, map, take, min, max, nat_lt, refl}
+use Rattle.std.specs.List.{list_any}
 use Rattle.std.specs.Coded.{Coded, code_by, coded×, coded_list, coded_ℕ}
-use Rattle.std.specs.FinMap as fin
-use Rattle.std.specs.Ordering.{nat_cmp}
 use Rattle.cb_times.specs.Group.{IsWindow}
 use Rattle.cb_frames.specs.declared.frame.TheConstants.{LAST_NUMBER, MOST_FRAMES}
 use Rattle.cb_frames.specs.declared.frame.Range.{Range}
-use Rattle.cb_stability.specs.Ranges.{is_in_some}
+use Rattle.cb_stability.specs.Ranges.{meets}
 
--- how many frames there is room for, how many were put so far, and the frames kept, each by its number
+-- a frame, and the numbers of the first and of the last message in it
+pub record Spanned : Type 0 where
+  pub first : ℕ
+  pub last : ℕ
+  pub bytes : List ℕ
+
+-- for how many numbers there is room, the last number put, the last number trimmed, and the frames kept
 pub record Sent : Type 0 where
   pub window : ℕ
   pub put : ℕ
-  pub kept : fin.FinMap nat_cmp (List ℕ)
+  pub trimmed : ℕ
+  pub kept : List Spanned
 
 -- a window that was just made
 pub record IsFresh (window : ℕ) (sent : Sent) : Type 0 where
   pub of_window : sent.window ≡ window
   pub none_put : sent.put ≡ 0
-  pub empty : sent.kept ≡ fin.empty
+  pub none_trimmed : sent.trimmed ≡ 0
+  pub empty : sent.kept ≡ []
 
--- so many frames were put, the window keeps just these now, and nothing else has changed that a caller can see
-pub record Keeps (old new : Sent) (put : ℕ) (kept : fin.FinMap nat_cmp (List ℕ)) : Type 0 where
+abbrev pub spanned : ℕ → ℕ → List ℕ → Spanned
+spanned first last bytes = record { first = first; last = last; bytes = bytes }
+
+-- a frame of so many messages, which have the next numbers, is kept behind the others, and nothing else has changed
+pub record Puts (old new : Sent) (count : ℕ) (bytes : List ℕ) : Type 0 where
   pub window : new.window ≡ old.window
-  pub now_put : new.put ≡ put
-  pub now_kept : new.kept ≡ kept
+  pub now_put : new.put ≡ old.put + count
+  pub trimmed : new.trimmed ≡ old.trimmed
+  pub now_kept : new.kept ≡ old.kept ++ spanned (old.put + 1) (old.put + count) bytes ∷ []
 
--- how many places are left: none once the greatest number was given
+-- the numbers up to this one are trimmed, as far as they were put; a frame is kept while it has a number above them
+pub record Trims (old new : Sent) (number : ℕ) : Type 0 where
+  pub window : new.window ≡ old.window
+  pub put : new.put ≡ old.put
+  pub now_trimmed : new.trimmed ≡ max old.trimmed (min number old.put)
+  pub now_kept : new.kept ≡ filter (λ frame. nat_lt new.trimmed frame.last) old.kept
+
+-- how many more numbers can be put: as many as the window has beside those not trimmed, up to the greatest number
 abbrev pub room_of : Sent → ℕ
-room_of sent = if sent.put == LAST_NUMBER then 0 else sent.window - fin.len sent.kept
+room_of sent = min (sent.window - (sent.put - sent.trimmed)) (LAST_NUMBER - sent.put)
 
--- the frames kept whose numbers lie in some range, in rising order of the number, the first 64 where there are more
+-- some range asks for one of the frame's numbers
+abbrev pub is_in_ranges : List Range → Spanned → Bool
+is_in_ranges ranges frame = list_any (meets frame.first frame.last) ranges
+
+-- the frames with a number in some range, each once and in their order, the first 64 where there are more
+abbrev pub first_in : List Range → List Spanned → List (List ℕ)
+first_in ranges frames = map (λ frame. frame.bytes) (take MOST_FRAMES (filter (is_in_ranges ranges) frames))
+
 abbrev pub frames_in : List Range → Sent → List (List ℕ)
-frames_in ranges sent = map (λ e. e.1) (take MOST_FRAMES (filter (λ e. is_in_some ranges e.0) (fin.entries sent.kept)))
+frames_in ranges sent = first_in ranges sent.kept
 
--- the numbers kept are those after the last one trimmed, up to the last one put
-abbrev pub AreInARow : Sent → Type 0
-AreInARow sent =
-    (trimmed : ℕ) × (trimmed + fin.len sent.kept ≡ sent.put)
-    × ((number : ℕ) → IsSome (fin.get sent.kept number) ↔ ((trimmed < number) × (number ≤ sent.put)))
+-- each frame begins behind the one before it, and the last one ends at this number
+abbrev pub FollowUpTo : ℕ → ℕ → List Spanned → Type 0
+FollowUpTo put before [] = before ≡ put
+FollowUpTo put before (frame ∷ frames) = (frame.first ≡ before + 1) × (frame.first ≤ frame.last) × FollowUpTo put frame.last frames
+
+-- the frames have the numbers from trimmed on up to put; of the first one some numbers may be trimmed, but not the last
+abbrev pub AreInARow : ℕ → ℕ → List Spanned → Type 0
+AreInARow trimmed put [] = trimmed ≡ put
+AreInARow trimmed put (frame ∷ frames) =
+    (1 ≤ frame.first) × (frame.first ≤ trimmed + 1) × (trimmed < frame.last) × FollowUpTo put frame.last frames
 
 -- what is true of every window
 pub record IsSentWindow (sent : Sent) : Type 0 where
   pub width : IsWindow sent.window
-  pub room : fin.len sent.kept ≤ sent.window
+  pub room : sent.put - sent.trimmed ≤ sent.window
+  pub trimmed_at_most : sent.trimmed ≤ sent.put
   pub put_at_most : sent.put ≤ LAST_NUMBER
-  pub in_a_row : AreInARow sent
+  pub in_a_row : AreInARow sent.trimmed sent.put sent.kept
 
--- how a window is stored: its fields as pairs
+-- how it is stored: the fields as pairs
+abbrev pub spanned_code : Coded Spanned
+spanned_code =
+    code_by (ℕ × (ℕ × List ℕ)) (coded× coded_ℕ (coded× coded_ℕ (coded_list coded_ℕ)))
+    (λ s. (s.first, (s.last, s.bytes))) (λ p. record { first = p.0; last = p.1.0; bytes = p.1.1 }) (λ _. refl)
+
 abbrev pub sent_code : Coded Sent
 sent_code =
-    code_by (ℕ × (ℕ × fin.FinMap nat_cmp (List ℕ))) (coded× coded_ℕ (coded× coded_ℕ (fin.code coded_ℕ (coded_list coded_ℕ))))
-    (λ s. (s.window, (s.put, s.kept))) (λ p. record { window = p.0; put = p.1.0; kept = p.1.1 }) (λ _. refl)
+    code_by (ℕ × (ℕ × (ℕ × List Spanned))) (coded× coded_ℕ (coded× coded_ℕ (coded× coded_ℕ (coded_list spanned_code))))
+    (λ s. (s.window, (s.put, (s.trimmed, s.kept))))
+    (λ p. record { window = p.0; put = p.1.0; trimmed = p.1.1.0; kept = p.1.1.1 }) (λ _. refl)

@@ -1,10 +1,9 @@
 //! The window of a member's own frames that are not stable yet: a ring in the order of their numbers.
-ghost use Rattle.std.specs.Prelude.{◌≡◌, ◌+◌, ◌^◌, ◌<◌, ◌≤◌, [], ◌∷◌, ◌++◌, length, nat_lt, if◌then◌else◌, IfOk, OnOk};
-ghost use Rattle.std.specs.FinMap as map;
+ghost use Rattle.std.specs.Prelude.{◌≡◌, ◌+◌, ◌^◌, ◌<◌, ◌≤◌, [], ◌∷◌, ◌++◌, length, if◌then◌else◌, IfOk, OnOk};
 ghost use Rattle.cb_times.specs.Group.{IsWindow};
 ghost use Rattle.cb_stability.specs.Ranges.{is_in_some};
-ghost use Rattle.cb_stability.specs.Sent.{IsFresh, IsSentWindow, Keeps, room_of, frames_in};
-ghost use Rattle.cb_stability.specs.Numbered.{numbered_after, first_in};
+ghost use Rattle.cb_stability.specs.Sent.{IsFresh, IsSentWindow, Puts, Trims, room_of, first_in, frames_in};
+ghost use Rattle.cb_stability.specs.Numbered.{singles_after};
 
 use bytes::Bytes;
 use cb_frames::{MOST_FRAMES, Range};
@@ -76,8 +75,7 @@ impl SentWindow {
     /// There must be `room`.
     pub fn put(&mut self, frame: Bytes)
         requires { 0 < room_of self.old }
-        ensures { let number = self.old.put + 1 in
-            Keeps self.old self.new number (map.insert self.old.kept number frame) }
+        ensures { Puts self.old self.new 1 frame }
     {
         self.frames.push_back(frame);
         self.put += 1;
@@ -88,8 +86,7 @@ impl SentWindow {
     /// Numbers that were trimmed before or never put are no fault: past the end it empties the window, and the next frame
     /// put still gets the number after the last one put.
     pub fn trim(&mut self, last: u32)
-        ensures { let later = map.retain_keys self.old.kept (λ number. nat_lt last number) in
-            Keeps self.old self.new self.old.put later }
+        ensures { Trims self.old self.new last }
     {
         let trimmed = self.put - self.frames.len() as u32;
         let count = last.saturating_sub(trimmed) as usize;
@@ -108,18 +105,15 @@ impl SentWindow {
         copies_in(*self.frames.allocator(), &self.frames, trimmed, ranges)
     }
 
-    /// How many places are left: the window less the frames kept, but 0 once number 4,294,967,295 was given.
+    /// How many places are left: the window less the frames kept, and no more than numbers are left up to 4,294,967,295.
     ///
     /// A frame can be put where this is not 0.
     pub fn room(&self) -> u32
         ensures room { result ≡ room_of self.now }
         ensures window { IsSentWindow self.now }
     {
-        if self.put == u32::MAX {
-            0
-        } else {
-            self.window - self.frames.len() as u32
-        }
+        let places = self.window - self.frames.len() as u32;
+        places.min(u32::MAX - self.put)
     }
 }
 
@@ -143,7 +137,7 @@ fn copies_in(
 ) -> Result<Vec<Bytes>, NoMemory>
     requires { trimmed + length frames.now.items < 2 ^ 32 }
     ensures { IfOk result (λ copies.
-        copies.items ≡ first_in ranges.now (numbered_after trimmed frames.now.items)) }
+        copies.items ≡ first_in ranges.now (singles_after trimmed frames.now.items)) }
 {
     let mut copies = Vec::new(alloc);
     for (k, frame) in frames.iter().enumerate() {

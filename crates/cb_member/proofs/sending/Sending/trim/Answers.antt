@@ -1,7 +1,6 @@
-use Rattle.std.proofs.Common.{◌≡◌, ◌∷◌, [], ◌++◌, ℕ, ltb, sym, subst}
-use Rattle.std.specs.FinMap as fin
+use Rattle.std.proofs.Common.{◌≡◌, ◌∷◌, [], ◌++◌, ℕ, sym, subst}
 use Rattle.cb_stability.specs.Known.{IsStable, IsCountOfOther}
-use Rattle.cb_stability.specs.Sent.{Keeps}
+use Rattle.cb_stability.specs.Sent.{Trims}
 use Rattle.cb_history.specs.Known.{stable}
 use Rattle.cb_history.proofs.Keeping.{least_known_is_stable, trim_is_stable}
 use Rattle.cb_member.proofs.sending.Sending.trim.Goals as goal
@@ -15,4 +14,4 @@ returns-clause-window c seat facts f same are other knows keeps =
     (subst (λ (i : ℕ). IsStable known i c.stable.result) (sym same) c.stable.ensures.stable)
     (subst (λ (i : ℕ). IsCountOfOther known i c.stable.result) (sym same) c.stable.ensures.reached) in
     trim_is_stable seat facts f sent c.trim.new.self are other keeps
-    (subst (λ (n : ℕ). Keeps sent c.trim.new.self sent.put (fin.retain_keys sent.kept (λ number. ltb n number))) at c.trim.ensures)
+    (subst (Trims sent c.trim.new.self) at c.trim.ensures)

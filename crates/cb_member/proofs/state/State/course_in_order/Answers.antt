@@ -3,7 +3,8 @@ use Rattle.cb_times.specs.Order.{field}
 use Rattle.cb_frames.specs.Fields.{cast_fields}
 use Rattle.cb_delay.specs.Rule.{IsReady}
 use Rattle.cb_member.specs.declared.state.State.{State}
-use Rattle.cb_member.proofs.Alike.{leaves_alike, none_ready_alike, with_settled}
+use Rattle.cb_member.specs.Taking.{CanFollow}
+use Rattle.cb_member.proofs.Alike.{can_follow_alike, leaves_alike, none_ready_alike, with_settled}
 use Rattle.cb_member.proofs.Courses.{expander_long, has_its_time, has_time_alike, is_next, time_fits_queue, time_is_long}
 use Rattle.cb_member.proofs.TakingIn.{sender_is_counted}
 use Rattle.cb_member.proofs.state.State.course_in_order.Goals as goal
@@ -49,6 +50,19 @@ returns-then-has_none_ready-clause-course c =
       not_ready = λ ready. true≢false (sym (c.is_ready.ensures.1 (subst (λ (time : List ℕ). IsReady c.args.cast.now.sender (field c.in_ok-time.time) (field time)) same.time ready)) ∙ c.if-is_ready.false);
       none_ready = none_ready_alike c.args.self.now.delivery c.has_none_ready.new.self same (c.has_none_ready.ensures.none c.if-has_none_ready.true);
     }
+
+pub letting_go-requires-clause-can : goal.letting_go-requires-clause-can
+letting_go-requires-clause-can c =
+    let cast = cast_fields c.args.cast.now in
+    let state = c.args.self.now in
+    elim c.if-is_ready.branch [
+      | then-is_ready+else-leaves_waiting w ↦
+          subst (CanFollow cast) (sym w.self-is)
+          (can_follow_alike cast state _ (with_settled state w.leaves_waiting.new.self w.leaves_waiting.ensures.same) c.requires.can)
+      | else-is_ready+else-has_none_ready w ↦
+          subst (CanFollow cast) (sym w.self-is)
+          (can_follow_alike cast state _ (with_settled state w.has_none_ready.new.self w.has_none_ready.ensures.same) c.requires.can)
+    ]
 
 pub letting_go-requires-clause-size : goal.letting_go-requires-clause-size
 letting_go-requires-clause-size c = elim c.if-is_ready.branch [
