@@ -1,80 +1,151 @@
--- What keeping and taking do to how many casts come out.
-use Rattle.std.proofs.Common.{◌≡◌, ◌≢◌, ℕ, ◌+◌, ◌-◌, ◌≤◌, ◌⊎◌, Bool, true, false, cond, inl, inr, None, Some, refl, sym, ◌∙◌, ap, subst, arith}
-use Rattle.std.specs.Prelude.{Option, IsSome}
+-- What keeping and taking do to how many messages come out.
+use Rattle.std.proofs.Common.{◌≡◌, ◌≢◌, ℕ, ◌+◌, ◌-◌, ◌≤◌, Bool, true, false, cond, inl, inr, None, Some, refl, sym, ◌∙◌, ap, subst, arith}
 use Rattle.std.specs.Ordering.{nat_cmp, eq_by_cmp}
 use Rattle.std.specs.Cmp.{nat_cmp_total}
 use Rattle.std.specs.FinMap as fin
-use Rattle.std.proofs.lemmas.Bool.{cases_lt}
-use Rattle.cb_frames.specs.Fields.{CastFields, first_number}
-use Rattle.cb_times.proofs.Entries.{equal_numbers, other_numbers, numbers_equal}
-use Rattle.cb_gaps.specs.Buffer.{Buffer, IsKept, IsKeptWith, ComeOut}
-use Rattle.cb_gaps.specs.Laws.{KeptComeOut, TakingLeavesOneLess, NoneIsLeft}
+use Rattle.std.proofs.lemmas.Bool.{cases_eq, cases_lt}
+use Rattle.cb_frames.specs.Fields.{CastFields, first_number, last_number}
+use Rattle.cb_times.proofs.Entries.{equal_numbers, other_numbers}
+use Rattle.cb_gaps.specs.Buffer.{Buffer, Covers, IsKept, IsKeptWith, IsNext, ComeOut}
+use Rattle.cb_gaps.specs.Laws.{KeptComeOut, TakingLeavesTheRest, NoneIsLeft}
+use Rattle.cb_gaps.proofs.Spans.{as_many, one_message}
 use Rattle.cb_gaps.proofs.Rows.{row_same}
 
--- a map with one entry more, and with one less
-module _ (kept : fin.FinMap nat_cmp CastFields) (number : ℕ) where
-  with_entry : (cast : CastFields) (n : ℕ) → IsSome (fin.get kept n) ⊎ (n ≡ number) → IsSome (fin.get (fin.insert kept number cast) n)
-  with_entry cast n (inl some) =
-      rw (fin.get-insert nat_cmp_total kept number cast n)
-      (elim (eq_by_cmp nat_cmp n number) as (λ b. IsSome (cond b (Some cast) (fin.get kept n))) [
-        | true ↦ refl
-        | false ↦ some
-      ])
-  with_entry cast n (inr same) = rw (fin.get-insert nat_cmp_total kept number cast n, equal_numbers n number same) refl
+-- ---- a cast is kept
 
-  had_entry : (cast : CastFields) (n : ℕ) → IsSome (fin.get (fin.insert kept number cast) n) → IsSome (fin.get kept n) ⊎ (n ≡ number)
-  had_entry cast n some = which (eq_by_cmp nat_cmp n number) refl (rw (fin.get-insert nat_cmp_total kept number cast n) at some)
+module _ (old : Buffer) (cast : CastFields) where
+  abbrev with_cast : Buffer
+  with_cast = record old { kept = fin.insert old.kept (first_number cast) cast }
+
+  at_number : (n : ℕ) (b : Bool) → eq_by_cmp nat_cmp n (first_number cast) ≡ b → fin.get with_cast.kept n ≡ cond b (Some cast) (fin.get old.kept n)
+  at_number n b e =
+      fin.get-insert nat_cmp_total old.kept (first_number cast) cast n ∙ ap (λ (x : Bool). cond x (Some cast) (fin.get old.kept n)) e
+
+  -- casts with one message that begin at one number cover the same
+  covers_too : (d : CastFields) (n : ℕ) → first_number d ≡ first_number cast → Covers d n → Covers cast n
+  covers_too d n begins covers = (
+    omega (arith, begins, covers.0),
+    omega (arith, begins, covers.1, one_message d, one_message cast),
+  )
+
+  new_kept : (n : ℕ) → Covers cast n → IsKept with_cast n
+  new_kept n covers = record {
+    cast = cast;
+    kept = at_number (first_number cast) true (equal_numbers (first_number cast) (first_number cast) refl);
+    covers = covers;
+  }
+
+  kept_with : (n : ℕ) → IsKeptWith old (first_number cast) (last_number cast) n → IsKept with_cast n
+  kept_with n (inr covers) = new_kept n covers
+  kept_with n (inl is) =
+      elim (cases_eq (first_number is.cast) (first_number cast)) as (λ _. IsKept with_cast n) [
+        | inl same ↦ new_kept n (covers_too is.cast n same is.covers)
+        | inr other ↦ record {
+          cast = is.cast;
+          kept = at_number (first_number is.cast) false (other_numbers (first_number is.cast) (first_number cast) other) ∙ is.kept;
+          covers = is.covers;
+        }
+      ]
+
+  was_kept_with : (n : ℕ) → IsKept with_cast n → IsKeptWith old (first_number cast) (last_number cast) n
+  was_kept_with n is = which (eq_by_cmp nat_cmp (first_number is.cast) (first_number cast)) refl
     where
-      which : (b : Bool) → eq_by_cmp nat_cmp n number ≡ b → IsSome (cond b (Some cast) (fin.get kept n)) → IsSome (fin.get kept n) ⊎ (n ≡ number)
-      which true same found = inr (numbers_equal n number same)
-      which false differs found = inl found
-
-  entry_stays : (n : ℕ) → n ≢ number → fin.get (fin.remove kept number) n ≡ fin.get kept n
-  entry_stays n other =
-      fin.get-remove nat_cmp_total kept number n
-      ∙ ap (λ (b : Bool). cond b None (fin.get kept n)) (other_numbers n number other)
+      which : (b : Bool) → eq_by_cmp nat_cmp (first_number is.cast) (first_number cast) ≡ b → IsKeptWith old (first_number cast) (last_number cast) n
+      which true e =
+          let this : cast ≡ is.cast = let here = sym (at_number (first_number is.cast) true e) ∙ is.kept in cc in
+          inr (subst (λ (c : CastFields). Covers c n) (sym this) is.covers)
+      which false e = inl (record {
+        cast = is.cast;
+        kept = sym (at_number (first_number is.cast) false e) ∙ is.kept;
+        covers = is.covers;
+      })
 
 pub kept_come_out : KeptComeOut
 kept_come_out old new cast count row after =
     subst (λ (buffer : Buffer). ComeOut buffer count) (sym after)
-    (row_same (IsKeptWith old (first_number cast))
-    (λ n. IsSome (fin.get (fin.insert old.kept (first_number cast) cast) n)) old.taken (old.taken + count)
-    (with_entry old.kept (first_number cast) cast) (had_entry old.kept (first_number cast) cast) row)
+    (row_same (IsKeptWith old (first_number cast) (last_number cast)) (IsKept (with_cast old cast)) old.taken (old.taken + count)
+    (kept_with old cast) (was_kept_with old cast) row)
 
--- some come out where the next one is kept
-some_come_out : (buffer : Buffer) (count : ℕ) → ComeOut buffer count → IsKept buffer (buffer.taken + 1) → 1 ≤ count
-some_come_out buffer count row next =
-    elim (cases_lt 0 count) as (λ _. 1 ≤ count) [
-      | inl some ↦ some
-      | inr none ↦
-          let here : buffer.taken + 1 ≡ buffer.taken + count + 1 = omega (arith, none) in
-          absurd (row.ends (subst (IsKept buffer) here next))
-    ]
+-- ---- a cast is taken
 
-pub taking_leaves_one_less : TakingLeavesOneLess
-taking_leaves_one_less old new cast count row next takes = (
-  count - 1,
-  omega (arith, some),
-  subst (λ (buffer : Buffer). ComeOut buffer (count - 1)) (sym takes) (record {
+module _ (old : Buffer) (cast : CastFields) (count : ℕ) (row : ComeOut old count) (next : IsNext old cast) where
+  abbrev without_cast : Buffer
+  without_cast = record old { taken = last_number cast; kept = fin.remove old.kept (first_number cast) }
+
+  without_number : (n : ℕ) → fin.get without_cast.kept n ≡ cond (eq_by_cmp nat_cmp n (first_number cast)) None (fin.get old.kept n)
+  without_number n = fin.get-remove nat_cmp_total old.kept (first_number cast) n
+
+  -- what is kept beyond it still is
+  kept_beyond : (n : ℕ) → last_number cast + 1 ≤ n → IsKept old n → IsKept without_cast n
+  kept_beyond n beyond is =
+      let other : first_number is.cast ≢ first_number cast = λ e.
+      let this : is.cast ≡ cast = let here = sym is.kept ∙ ap (fin.get old.kept) e ∙ next.kept in cc in
+      let upto : n ≤ last_number cast = subst (λ (c : CastFields). n ≤ last_number c) this is.covers.1 in
+      omega (arith, beyond, upto) in
+      record {
+        cast = is.cast;
+        kept = without_number (first_number is.cast)
+            ∙ ap (λ (b : Bool). cond b None (fin.get old.kept (first_number is.cast))) (other_numbers (first_number is.cast) (first_number cast) other)
+            ∙ is.kept;
+        covers = is.covers;
+      }
+
+  -- and no other is
+  was_kept : (n : ℕ) → IsKept without_cast n → IsKept old n
+  was_kept n is = which (eq_by_cmp nat_cmp (first_number is.cast) (first_number cast)) refl
+    where
+      which : (b : Bool) → eq_by_cmp nat_cmp (first_number is.cast) (first_number cast) ≡ b → IsKept old n
+      which true e =
+          let none = sym is.kept ∙ without_number (first_number is.cast)
+          ∙ ap (λ (b : Bool). cond b None (fin.get old.kept (first_number is.cast))) e in
+          cc
+      which false e = record {
+        cast = is.cast;
+        kept = sym (without_number (first_number is.cast)
+            ∙ ap (λ (b : Bool). cond b None (fin.get old.kept (first_number is.cast))) e) ∙ is.kept;
+        covers = is.covers;
+      }
+
+  -- all its messages come out
+  comes_out : last_number cast ≤ old.taken + count
+  comes_out =
+      elim (cases_lt (old.taken + count) (last_number cast)) as (λ _. last_number cast ≤ old.taken + count) [
+        | inr whole ↦ whole
+        | inl cut ↦ absurd (row.ends (record {
+          cast = cast;
+          kept = next.kept;
+          covers = (omega (arith, next.follows), omega (arith, cut));
+        }))
+      ]
+
+  rest_comes_out : (left : ℕ) → old.taken + count ≡ last_number cast + left → ComeOut without_cast left
+  rest_comes_out left end = record {
     begins = omega arith;
-    each = λ n after upto.
-        let other : n ≢ first_number cast = λ e. absurd (omega (arith, e, after)) in
-        rw (entry_stays old.kept (first_number cast) n other) (row.each n (omega (arith, after, next.follows)) (omega (arith, upto, next.follows, some)));
-    ends = λ kept.
-        let end : first_number cast + (count - 1) + 1 ≡ old.taken + count + 1 = omega (arith, some, next.follows) in
-        let other : first_number cast + (count - 1) + 1 ≢ first_number cast = λ e. absurd (omega (arith, e)) in
-        row.ends (subst (IsKept old) end (rw (entry_stays old.kept (first_number cast) (first_number cast + (count - 1) + 1) other) at kept));
-  }),
-)
-  where
-    some : 1 ≤ count
-    some =
-        some_come_out old count row
-        (subst (IsKept old) next.follows (subst (λ (o : Option CastFields). IsSome o) (sym next.kept) refl))
+    each = λ n after upto. kept_beyond n (omega (arith, after)) (row.each n (omega (arith, after, next.follows, as_many cast)) (omega (arith, upto, end)));
+    ends = λ is.
+        let same : last_number cast + left + 1 ≡ old.taken + count + 1 = omega (arith, end) in
+        row.ends (subst (IsKept old) same (was_kept (last_number cast + left + 1) is));
+  }
 
+pub taking_leaves_the_rest : TakingLeavesTheRest
+taking_leaves_the_rest old new cast count row next takes =
+    let whole : last_number cast ≤ old.taken + count = comes_out old cast count row next in
+    let left = old.taken + count - last_number cast in (
+      left,
+      omega (arith, whole, next.follows, as_many cast),
+      subst (λ (buffer : Buffer). ComeOut buffer left) (sym takes) (rest_comes_out old cast count row next left (omega (arith, whole))),
+    )
+
+-- ---- none is left
+
+-- a cast with one message that covers a number begins there
 pub none_is_left : NoneIsLeft
 none_is_left buffer count row none =
     elim (cases_lt 0 count) as (λ _. count ≡ 0) [
-      | inl some ↦ let kept = row.each (buffer.taken + 1) (omega arith) (omega (arith, some)) in cc
       | inr least ↦ omega (arith, least)
+      | inl some ↦
+          let is : IsKept buffer (buffer.taken + 1) = row.each (buffer.taken + 1) (omega arith) (omega (arith, some)) in
+          let begins : first_number is.cast ≡ buffer.taken + 1 = omega (arith, is.covers.0, is.covers.1, one_message is.cast) in
+          let kept = sym (ap (fin.get buffer.kept) begins) ∙ is.kept in
+          cc
     ]

@@ -1,20 +1,20 @@
 -- The gaps between casts of rising numbers.
-use Rattle.std.proofs.Common.{◌≡◌, ◌≢◌, ℕ, zero, suc, ◌+◌, ◌-◌, ◌<◌, ◌≤◌, ◌⊎◌, true, false, cond, ltb, min, List, [], ◌∷◌, ◌++◌, length, sym, ◌∙◌, subst, arith, None, append-nil, refl, inl, inr, All, Any}
-use Rattle.std.proofs.lemmas.Bool.{cases_lt}
+use Rattle.std.proofs.Common.{◌≡◌, ℕ, zero, suc, ◌+◌, ◌-◌, ◌<◌, ◌≤◌, ◌⊎◌, true, false, cond, ltb, min, List, [], ◌∷◌, ◌++◌, length, sym, ◌∙◌, subst, arith, append-nil, refl, inl, inr, All, Any}
 use Rattle.std.proofs.lemmas.Bool.Decides.{nat_tests}
 use Rattle.std.proofs.lemmas.List.Elements.{All-cons, All-weaker}
 use Rattle.std.proofs.lemmas.List.Kept.{AllPairs-cons}
 use Rattle.cb_frames.specs.declared.frame.Cast.{Cast}
 use Rattle.cb_frames.specs.declared.frame.Range.{Range}
+use Rattle.cb_frames.specs.Fields.{cast_fields}
 use Rattle.cb_gaps.specs.Ranges.{IsWithin, AreRangesOf, gap_between}
-use Rattle.cb_gaps.specs.Lists.{Rise, IsGap}
-use Rattle.cb_times.proofs.Entries.{equal_numbers, other_numbers}
-use Rattle.cb_gaps.proofs.Entries.{found, found-before}
+use Rattle.cb_gaps.specs.Lists.{first_of, last_of, Rise, IsGap}
+use Rattle.cb_gaps.proofs.Spans.{cases_covers}
+use Rattle.cb_gaps.proofs.Entries.{none_before}
 
 -- the gaps from above `before`, up to `last`
 abbrev pub gaps_from : ℕ → ℕ → List Cast → List Range
 gaps_from before last [] = gap_between before last
-gaps_from before last (c ∷ casts) = gap_between before (min last (c.number - 1)) ++ gaps_from c.number last casts
+gaps_from before last (c ∷ casts) = gap_between before (min last (first_of c - 1)) ++ gaps_from (last_of c) last casts
 
 -- what the gaps are, over how a gap in front of ranges changes them
 record AreGaps (numbers : ℕ → Type 0) (before : ℕ) (ranges : List Range) : Type 0 where
@@ -100,38 +100,36 @@ no_gaps middle = record {
   later = λ k d below. absurd (omega (arith, below));
 }
 
-not_this : (n : ℕ) (c : Cast) (casts : List Cast) → found n (c ∷ casts) ≡ None → n ≢ c.number
-not_this n c casts none e = let some = rw (equal_numbers n c.number e) at none in cc
-
 gaps : (before last : ℕ) (casts : List Cast) → Rise before casts → AreGaps (IsGap before last casts) before (gaps_from before last casts)
 gaps before last [] rise =
     subst (λ (l : List Range). AreGaps (IsGap before last []) before l) (append-nil (gap_between before last))
     (gap_in_front (IsGap before last []) (λ _. ⊥) before last (before + last + 1) [] (no_gaps (before + last + 1)) (omega arith) (omega arith)
     (λ n gap. inl (gap.after, gap.upto))
-    (λ n after upto. record { after = after; upto = upto; not_kept = refl })
+    (λ n after upto. record { after = after; upto = upto; not_kept = λ has. has })
     (λ n none. absurd none))
 gaps before last (c ∷ casts) rise =
-    gap_in_front (IsGap before last (c ∷ casts)) (IsGap c.number last casts) before (min last (c.number - 1)) c.number
-    (gaps_from c.number last casts) (gaps c.number last casts rise.1) (omega (arith, rise.0)) (omega (arith, rise.0))
+    gap_in_front (IsGap before last (c ∷ casts)) (IsGap (last_of c) last casts) before (min last (first_of c - 1)) (last_of c)
+    (gaps_from (last_of c) last casts) (gaps (last_of c) last casts rise.2) (omega (arith, rise.0, rise.1)) (omega (arith, rise.0, rise.1))
     (λ n gap.
-    let differs = not_this n c casts gap.not_kept in
-    elim (cases_lt n c.number) as (λ _. ((before < n) × (n ≤ min last (c.number - 1))) ⊎ IsGap c.number last casts n) [
-      | inl less ↦ inl (gap.after, omega (arith, less, gap.upto))
-      | inr more ↦ inr (record {
-        after = omega (arith, more, differs);
-        upto = gap.upto;
-        not_kept = rw (other_numbers n c.number differs) at gap.not_kept;
-      })
+    elim (cases_covers (cast_fields c) n) as (λ _. ((before < n) × (n ≤ min last (first_of c - 1))) ⊎ IsGap (last_of c) last casts n) [
+      | inl covers ↦ absurd (gap.not_kept (inl covers))
+      | inr outside ↦ elim outside as (λ _. ((before < n) × (n ≤ min last (first_of c - 1))) ⊎ IsGap (last_of c) last casts n) [
+        | inl less ↦ inl (gap.after, omega (arith, less, gap.upto))
+        | inr more ↦ inr (record { after = more; upto = gap.upto; not_kept = λ later. gap.not_kept (inr later) })
+      ]
     ])
     (λ n after upto. record {
       after = after;
       upto = omega (arith, upto);
-      not_kept = found-before n n (c ∷ casts) (omega (arith, upto, rise.0), rise.1) (omega arith);
+      not_kept = none_before n n (c ∷ casts) (omega (arith, upto, rise.0), rise.1, rise.2) (omega arith);
     })
     (λ n gap. record {
-      after = omega (arith, gap.after, rise.0);
+      after = omega (arith, gap.after, rise.0, rise.1);
       upto = gap.upto;
-      not_kept = rw (other_numbers n c.number (λ e. absurd (omega (arith, e, gap.after)))) gap.not_kept;
+      not_kept = λ has. elim has as (λ _. ⊥) [
+        | inl covers ↦ omega (arith, covers.1, gap.after)
+        | inr later ↦ gap.not_kept later
+      ];
     })
 
 pub gaps_are : (before last : ℕ) (casts : List Cast) → Rise before casts → AreRangesOf (IsGap before last casts) (gaps_from before last casts)

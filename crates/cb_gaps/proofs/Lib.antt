@@ -1,3 +1,4 @@
+pub mod Spans
 pub mod Entries
 pub mod Kept
 pub mod Gaps
@@ -6,3 +7,4 @@ pub mod Rows
 pub mod ComingOut
 pub mod Passing
 pub mod Copies
+mod Worked

@@ -8,7 +8,8 @@ use Rattle.cb_frames.specs.declared.frame.Cast.{Cast}
 use Rattle.cb_frames.specs.Fields.{CastFields, first_number}
 use Rattle.cb_times.proofs.Entries.{equal_numbers, numbers_equal}
 use Rattle.cb_gaps.specs.Buffer.{Buffer, IsNext, IsInOrder, Takes}
-use Rattle.cb_gaps.specs.Lists.{AreKept, buffer_of}
+use Rattle.cb_gaps.specs.Lists.{last_of, AreKept, buffer_of}
+use Rattle.cb_gaps.proofs.Spans.{one_message}
 use Rattle.cb_gaps.proofs.Kept.{len-kept, new_gives}
 
 -- ---- none is kept
@@ -21,7 +22,7 @@ pub some_kept : (window taken : ℕ) (casts : List Cast) → AreKept window take
 some_kept window taken casts are none = sym (len-kept window taken casts are.rise) ∙ ap (λ (m : fin.FinMap nat_cmp CastFields). fin.len m) none ∙ fin.len-empty nat_cmp CastFields
 
 pub passed_keeps : (window taken : ℕ) (casts : List Cast) → AreKept window taken casts → (buffer_of window taken casts).kept ≡ fin.empty → taken + 1 < 2 ^ 32 → AreKept window (taken + 1) casts
-passed_keeps window taken [] are none room = record { width = are.width; rise = tt; near = All-nil (λ c. c.number < taken + 1 + window + 1); in_range = All-nil (λ c. c.number < 2 ^ 32) }
+passed_keeps window taken [] are none room = record { width = are.width; rise = tt; near = All-nil (λ c. last_of c < taken + 1 + window + 1); in_range = All-nil (λ c. last_of c < 2 ^ 32) }
 passed_keeps window taken (c ∷ casts) are none room = absurd (let some = some_kept window taken (c ∷ casts) are none in omega (arith, some))
 
 -- ---- put in and taken out again
@@ -50,9 +51,10 @@ module _ (buffer : Buffer) (c : CastFields) (in_order : IsInOrder buffer (first_
     kept = fin.get-insert nat_cmp_total buffer.kept (first_number c) c (first_number c) ∙ rw (equal_numbers (first_number c) (first_number c) refl) refl;
   }
 
+  -- it has one message
   pub passing_takes : Takes (with_cast buffer c) c (record buffer { taken = buffer.taken + 1 })
   passing_takes i = record {
     window = buffer.window;
-    taken = sym in_order.follows i;
+    taken = sym (one_message c ∙ in_order.follows) i;
     kept = sym (put_and_taken buffer.kept (first_number c) c (is_not_kept (first_number c))) i;
   }

@@ -1,122 +1,155 @@
 -- The casts in a row behind a number.
-use Rattle.std.proofs.Common.{◌≡◌, ◌≢◌, ℕ, ◌+◌, ◌-◌, ◌≤◌, ◌⊎◌, true, false, cond, eqb, inl, inr, List, [], ◌∷◌, Some, refl, sym, subst, arith, fold, eq-eqb, ne_eqb}
-use Rattle.std.specs.Prelude.{Option, IsSome}
-use Rattle.std.specs.Ordering.{nat_cmp, eq_by_cmp}
-use Rattle.std.proofs.lemmas.Bool.{cases_eq, cases_lt}
+use Rattle.std.proofs.Common.{◌≡◌, ℕ, ◌+◌, ◌-◌, ◌<◌, ◌≤◌, ◌⊎◌, ◌&&◌, cond, eqb, leb, inl, inr, List, [], ◌∷◌, ◌∙◌, refl, sym, ap, subst, arith, fold}
+use Rattle.std.proofs.lemmas.Bool.{cases_eq, cases_lt, eq-eqb, ne_eqb, le-leb, lt-leb}
+use Rattle.std.proofs.Math.Bool.{and-false}
 use Rattle.cb_frames.specs.declared.frame.Cast.{Cast}
-use Rattle.cb_frames.specs.Fields.{CastFields, cast_fields}
-use Rattle.cb_times.proofs.Entries.{equal_numbers, other_numbers}
+use Rattle.cb_frames.specs.Fields.{cast_fields}
 use Rattle.cb_gaps.specs.Ranges.{IsRow}
-use Rattle.cb_gaps.specs.Lists.{Rise, HasNumber, AreKept, buffer_of}
-use Rattle.cb_gaps.specs.Buffer.{IsKeptWith, WouldComeOut}
-use Rattle.cb_gaps.proofs.Entries.{found, found-before}
-use Rattle.cb_gaps.proofs.Kept.{get-kept}
+use Rattle.cb_gaps.specs.Lists.{first_of, last_of, Rise, HasNumber, AreKept, buffer_of}
+use Rattle.cb_gaps.specs.Buffer.{Covers, IsKeptWith, WouldComeOut}
+use Rattle.cb_gaps.proofs.Spans.{cases_covers, one_message}
+use Rattle.cb_gaps.proofs.Entries.{none_before}
+use Rattle.cb_gaps.proofs.Kept.{kept_has, has_kept}
 
--- the end of a row where this number may be the next one
-abbrev pub with_next : ℕ → ℕ → ℕ
-with_next end number = cond (eqb number (end + 1)) number end
+-- the end of a row where the numbers first to last may go on with it
+abbrev pub with_next : ℕ → ℕ → ℕ → ℕ
+with_next end first last = cond (leb first (end + 1) && leb (end + 1) last) last end
+
+goes_on : (end first last : ℕ) → first ≤ end + 1 → end + 1 ≤ last → with_next end first last ≡ last
+goes_on end first last from upto = rw (le-leb first (end + 1) from, le-leb (end + 1) last upto) refl
+
+stays : (end first last : ℕ) → (end + 1 < first) ⊎ (last < end + 1) → with_next end first last ≡ end
+stays end first last (inl below) = rw (lt-leb first (end + 1) below) refl
+stays end first last (inr beyond) = rw (lt-leb (end + 1) last beyond, and-false (leb first (end + 1))) refl
+
+-- with one number it is the next one
+pub one_next : (end number : ℕ) → cond (eqb number (end + 1)) number end ≡ with_next end number number
+one_next end number =
+    elim (cases_eq number (end + 1)) as (λ _. cond (eqb number (end + 1)) number end ≡ with_next end number number) [
+      | inl next ↦ rw (eq-eqb number (end + 1) next, goes_on end number number (omega (arith, next)) (omega (arith, next))) refl
+      | inr other ↦
+          let outside : (end + 1 < number) ⊎ (number < end + 1) =
+          elim (cases_lt number (end + 1)) as (λ _. (end + 1 < number) ⊎ (number < end + 1)) [
+            | inl below ↦ inr below
+            | inr from ↦ inl (omega (arith, from, other))
+          ] in
+          rw (ne_eqb number (end + 1) other, stays end number number outside) refl
+    ]
 
 -- the end of the row, looking at one cast after the other
 abbrev pub end_from : ℕ → List Cast → ℕ
-end_from behind casts = fold (λ end c. with_next end c.number) behind casts
+end_from behind casts = fold (λ end c. with_next end (first_of c) (last_of c)) behind casts
 
--- a number that none of the casts has, since they begin above it
-none_below : (number before : ℕ) (casts : List Cast) → Rise before casts → number ≤ before → ¬ HasNumber casts number
-none_below number before casts rise low has = let none = found-before number before casts rise low in cc
-
--- one more cast in front
-in_front : (number : ℕ) (c : Cast) (casts : List Cast) → HasNumber casts number → HasNumber (c ∷ casts) number
-in_front number c casts has =
-    elim (eq_by_cmp nat_cmp number c.number) as (λ b. IsSome (cond b (Some (cast_fields c)) (found number casts))) [
-      | true ↦ refl
-      | false ↦ has
-    ]
-
-behind_front : (number : ℕ) (c : Cast) (casts : List Cast) → number ≢ c.number → HasNumber (c ∷ casts) number → HasNumber casts number
-behind_front number c casts other has = rw (other_numbers number c.number other) at has
+-- of casts with one message each it is enough to look for the next number
+pub one_by_one : (behind : ℕ) (casts : List Cast) → fold (λ end c. cond (eqb (first_of c) (end + 1)) (first_of c) end) behind casts ≡ end_from behind casts
+one_by_one behind [] = refl
+one_by_one behind (c ∷ casts) =
+    one_by_one (cond (eqb (first_of c) (behind + 1)) (first_of c) behind) casts
+    ∙ ap (λ end. end_from end casts) (one_next behind (first_of c)
+    ∙ ap (with_next behind (first_of c)) (sym (one_message (cast_fields c))))
 
 -- the casts behind the first one end the row where all of them do
-module _ (behind last : ℕ) (c : Cast) (casts : List Cast) (rise : Rise c.number casts) where
-  row_through : c.number ≡ behind + 1 → IsRow (HasNumber casts) c.number last → IsRow (HasNumber (c ∷ casts)) behind last
+module _ (behind last : ℕ) (c : Cast) (casts : List Cast) (rise : Rise (last_of c) casts) where
+  row_through : Covers (cast_fields c) (behind + 1) → IsRow (HasNumber casts) (last_of c) last → IsRow (HasNumber (c ∷ casts)) behind last
   row_through next row = record {
-    begins = omega (arith, row.begins, next);
+    begins = omega (arith, row.begins, next.1);
     each = λ number after upto.
-        elim (cases_eq number c.number) as (λ _. HasNumber (c ∷ casts) number) [
-          | inl same ↦ rw (equal_numbers number c.number same) refl
-          | inr other ↦ in_front number c casts (row.each number (omega (arith, after, other, next)) upto)
+        elim (cases_lt (last_of c) number) as (λ _. HasNumber (c ∷ casts) number) [
+          | inl beyond ↦ inr (row.each number beyond upto)
+          | inr within ↦ inl (omega (arith, next.0, after), within)
         ];
-    ends = λ has. row.ends (behind_front (last + 1) c casts (λ e. absurd (omega (arith, e, row.begins))) has);
+    ends = λ has. elim has as (λ _. ⊥) [
+      | inl covers ↦ omega (arith, covers.1, row.begins)
+      | inr later ↦ row.ends later
+    ];
   }
 
-  row_past : c.number ≢ behind + 1 → IsRow (HasNumber casts) behind last → IsRow (HasNumber (c ∷ casts)) behind last
-  row_past other row = record {
+  row_past : (behind + 1 < first_of c) ⊎ (last_of c < behind + 1) → IsRow (HasNumber casts) behind last → IsRow (HasNumber (c ∷ casts)) behind last
+  row_past outside row = record {
     begins = row.begins;
-    each = λ number after upto. in_front number c casts (row.each number after upto);
-    ends = λ has. row.ends (behind_front (last + 1) c casts not_here has);
+    each = λ number after upto. inr (row.each number after upto);
+    ends = λ has. elim has as (λ _. ⊥) [
+      | inl covers ↦ not_here covers
+      | inr later ↦ row.ends later
+    ];
   }
     where
-      not_here : last + 1 ≢ c.number
-      not_here here =
-          elim (cases_lt behind last) [
-            | inl some ↦ none_below (behind + 1) c.number casts rise (omega (arith, some, here)) (row.each (behind + 1) (omega arith) (omega (arith, some)))
-            | inr none ↦ other (omega (arith, none, here, row.begins))
-          ]
+      not_here : Covers (cast_fields c) (last + 1) → ⊥
+      not_here covers = elim outside as (λ _. ⊥) [
+        | inr beyond ↦ omega (arith, beyond, covers.1, row.begins)
+        | inl below ↦ elim (cases_lt behind last) as (λ _. ⊥) [
+          | inl some ↦
+              none_before (behind + 1) (last_of c) casts rise (omega (arith, some, covers.1)) (row.each (behind + 1) (omega arith) (omega (arith, some)))
+          | inr none ↦ omega (arith, none, below, covers.0, row.begins)
+        ]
+      ]
 
 -- so the end that was found is that of the row
 pub row_ends : (behind before : ℕ) (casts : List Cast) → Rise before casts → IsRow (HasNumber casts) behind (end_from behind casts)
 row_ends behind before [] rise = record {
   begins = omega arith;
   each = λ number after upto. absurd (omega (arith, after, upto));
-  ends = λ has. cc has;
+  ends = λ has. has;
 }
 row_ends behind before (c ∷ casts) rise =
-    elim (cases_eq c.number (behind + 1)) as (λ _. IsRow (HasNumber (c ∷ casts)) behind (end_from (with_next behind c.number) casts)) [
-      | inl next ↦ rw (eq-eqb c.number (behind + 1) next) (row_through behind (end_from c.number casts) c casts rise.1 next (row_ends c.number c.number casts rise.1))
-      | inr other ↦ rw (ne_eqb c.number (behind + 1) other) (row_past behind (end_from behind casts) c casts rise.1 other (row_ends behind c.number casts rise.1))
+    elim (cases_covers (cast_fields c) (behind + 1)) as (λ _. IsRow (HasNumber (c ∷ casts)) behind (end_from (with_next behind (first_of c) (last_of c)) casts)) [
+      | inl next ↦ rw (goes_on behind (first_of c) (last_of c) next.0 next.1)
+          (row_through behind (end_from (last_of c) casts) c casts rise.2 next (row_ends (last_of c) (last_of c) casts rise.2))
+      | inr outside ↦ rw (stays behind (first_of c) (last_of c) outside)
+          (row_past behind (end_from behind casts) c casts rise.2 outside (row_ends behind (last_of c) casts rise.2))
     ]
 
--- a row, one more number, and the row behind it are a row with that number
-module _ (numbers : ℕ → Type 0) (behind middle last number : ℕ) (first : IsRow numbers behind middle) where
-  with_number : number ≡ middle + 1 → IsRow numbers number last → IsRow (λ n. numbers n ⊎ (n ≡ number)) behind last
-  with_number next more = record {
-    begins = omega (arith, first.begins, more.begins, next);
-    each = λ n after upto.
-        elim (cases_lt n number) as (λ _. numbers n ⊎ (n ≡ number)) [
-          | inl low ↦ inl (first.each n after (omega (arith, low, next)))
-          | inr high ↦ elim (cases_eq n number) as (λ _. numbers n ⊎ (n ≡ number)) [
-            | inl same ↦ inr same
-            | inr other ↦ inl (more.each n (omega (arith, high, other)) upto)
+-- a row, some numbers more, and the row behind them are a row with these numbers
+module _ (numbers : ℕ → Type 0) (behind middle end first last : ℕ) (row : IsRow numbers behind middle) where
+  abbrev more_numbers : ℕ → Type 0
+  more_numbers n = numbers n ⊎ ((first ≤ n) × (n ≤ last))
+
+  with_numbers : first ≤ middle + 1 → middle + 1 ≤ last → IsRow numbers last end → IsRow more_numbers behind end
+  with_numbers from upto more = record {
+    begins = omega (arith, row.begins, more.begins, upto);
+    each = λ n after within.
+        elim (cases_lt middle n) as (λ _. more_numbers n) [
+          | inr low ↦ inl (row.each n after low)
+          | inl high ↦ elim (cases_lt last n) as (λ _. more_numbers n) [
+            | inl beyond ↦ inl (more.each n beyond within)
+            | inr inside ↦ inr (omega (arith, from, high), inside)
           ]
         ];
     ends = λ some. elim some as (λ _. ⊥) [
       | inl of ↦ more.ends of
-      | inr same ↦ omega (arith, same, more.begins)
+      | inr inside ↦ omega (arith, inside.1, more.begins)
     ];
   }
 
-  -- a number that is not the next one adds nothing
-  without_number : number ≢ middle + 1 → IsRow numbers middle last → IsRow (λ n. numbers n ⊎ (n ≡ number)) behind last
-  without_number other more = record {
-    begins = omega (arith, first.begins, more.begins);
-    each = λ n after upto. inl (first.each n after (omega (arith, upto, ended)));
+  -- numbers that don't go on with it add nothing
+  without_numbers : (middle + 1 < first) ⊎ (last < middle + 1) → IsRow numbers middle end → IsRow more_numbers behind end
+  without_numbers outside more = record {
+    begins = omega (arith, row.begins, more.begins);
+    each = λ n after within. inl (row.each n after (omega (arith, within, ended)));
     ends = λ some. elim some as (λ _. ⊥) [
       | inl of ↦ more.ends of
-      | inr same ↦ other (omega (arith, same, ended))
+      | inr inside ↦ elim outside as (λ _. ⊥) [
+        | inl below ↦ omega (arith, below, inside.0, ended)
+        | inr beyond ↦ omega (arith, beyond, inside.1, ended)
+      ]
     ];
   }
     where
-      ended : last ≡ middle
+      ended : end ≡ middle
       ended =
-          elim (cases_lt middle last) as (λ _. last ≡ middle) [
-            | inl longer ↦ absurd (first.ends (more.each (middle + 1) (omega arith) (omega (arith, longer))))
+          elim (cases_lt middle end) as (λ _. end ≡ middle) [
+            | inl longer ↦ absurd (row.ends (more.each (middle + 1) (omega arith) (omega (arith, longer))))
             | inr none ↦ omega (arith, none, more.begins)
           ]
 
-  pub row_with : IsRow numbers (with_next middle number) last → IsRow (λ n. numbers n ⊎ (n ≡ number)) behind last
+  pub row_with : IsRow numbers (with_next middle first last) end → IsRow more_numbers behind end
   row_with more =
-      elim (cases_eq number (middle + 1)) as (λ _. IsRow (λ n. numbers n ⊎ (n ≡ number)) behind last) [
-        | inl next ↦ with_number next (rw (eq-eqb number (middle + 1) next) at more)
-        | inr other ↦ without_number other (rw (ne_eqb number (middle + 1) other) at more)
+      elim (cases_lt (middle + 1) first) as (λ _. IsRow more_numbers behind end) [
+        | inl below ↦ without_numbers (inl below) (rw (stays middle first last (inl below)) at more)
+        | inr from ↦ elim (cases_lt last (middle + 1)) as (λ _. IsRow more_numbers behind end) [
+          | inl beyond ↦ without_numbers (inr beyond) (rw (stays middle first last (inr beyond)) at more)
+          | inr upto ↦ with_numbers from upto (rw (goes_on middle first last from upto) at more)
+        ]
       ]
 
 -- a row of one set is a row of the same set said otherwise
@@ -128,19 +161,19 @@ row_same P Q behind last to from row = record {
 }
 
 -- the row of a buffer's list is that of the buffer
-pub would_come_out : (window taken : ℕ) (casts : List Cast) → AreKept window taken casts → (middle number last : ℕ)
-    → IsRow (HasNumber casts) taken middle → IsRow (HasNumber casts) (with_next middle number) last
-    → WouldComeOut (buffer_of window taken casts) number (last - taken)
-would_come_out window taken casts are middle number last first more =
-    let all : IsRow (λ n. HasNumber casts n ⊎ (n ≡ number)) taken last = row_with (HasNumber casts) taken middle last number first more in
-    let end : last ≡ taken + (last - taken) = omega (arith, all.begins) in
-    subst (IsRow (IsKeptWith (buffer_of window taken casts) number) taken) end
-    (row_same (λ n. HasNumber casts n ⊎ (n ≡ number)) (IsKeptWith (buffer_of window taken casts) number) taken last there back all)
+pub would_come_out : (window taken : ℕ) (casts : List Cast) → AreKept window taken casts → (middle first last end : ℕ)
+    → IsRow (HasNumber casts) taken middle → IsRow (HasNumber casts) (with_next middle first last) end
+    → WouldComeOut (buffer_of window taken casts) first last (end - taken)
+would_come_out window taken casts are middle first last end row more =
+    let all : IsRow (λ n. HasNumber casts n ⊎ ((first ≤ n) × (n ≤ last))) taken end = row_with (HasNumber casts) taken middle end first last row more in
+    let same : end ≡ taken + (end - taken) = omega (arith, all.begins) in
+    subst (IsRow (IsKeptWith (buffer_of window taken casts) first last) taken) same
+    (row_same (λ n. HasNumber casts n ⊎ ((first ≤ n) × (n ≤ last))) (IsKeptWith (buffer_of window taken casts) first last) taken end there back all)
   where
-    there : (n : ℕ) → HasNumber casts n ⊎ (n ≡ number) → IsKeptWith (buffer_of window taken casts) number n
-    there n (inl has) = inl (subst (λ (o : Option CastFields). IsSome o) (sym (get-kept window taken casts are.rise n)) has)
-    there n (inr same) = inr same
+    there : (n : ℕ) → HasNumber casts n ⊎ ((first ≤ n) × (n ≤ last)) → IsKeptWith (buffer_of window taken casts) first last n
+    there n (inl has) = inl (has_kept window taken casts are n has)
+    there n (inr inside) = inr inside
 
-    back : (n : ℕ) → IsKeptWith (buffer_of window taken casts) number n → HasNumber casts n ⊎ (n ≡ number)
-    back n (inl kept) = inl (subst (λ (o : Option CastFields). IsSome o) (get-kept window taken casts are.rise n) kept)
-    back n (inr same) = inr same
+    back : (n : ℕ) → IsKeptWith (buffer_of window taken casts) first last n → HasNumber casts n ⊎ ((first ≤ n) × (n ≤ last))
+    back n (inl kept) = inl (kept_has window taken casts are n kept)
+    back n (inr inside) = inr inside

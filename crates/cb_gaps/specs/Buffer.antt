@@ -1,5 +1,5 @@
 -- What a reorder buffer holds of the casts of one sender.
-use Rattle.std.specs.Prelude.{◌≡◌, ℕ, ◌+◌, ◌<◌, ◌≤◌, ◌^◌, ◌⊎◌, List, Some, None, IsSome, refl}
+use Rattle.std.specs.Prelude.{◌≡◌, ℕ, ◌+◌, ◌<◌, ◌≤◌, ◌^◌, ◌⊎◌, List, Some, refl}
 use Rattle.std.specs.Ordering.{nat_cmp}
 use Rattle.std.specs.Coded.{Coded, code_by, coded×, coded_list, coded_ℕ}
 use Rattle.std.specs.FinMap as map
@@ -22,27 +22,43 @@ pub record IsNew (window : ℕ) (buffer : Buffer) : Type 0 where
   pub none_taken : buffer.taken ≡ 0
   pub none_kept : buffer.kept ≡ map.empty
 
-abbrev pub IsKept : Buffer → ℕ → Type 0
-IsKept buffer number = IsSome (map.get buffer.kept number)
+-- the number is that of one of the cast's messages
+abbrev pub Covers : CastFields → ℕ → Type 0
+Covers cast number = (first_number cast ≤ number) × (number ≤ last_number cast)
 
--- the cast of this number was taken, or is kept
+-- a cast that is kept covers the number
+pub record IsKept (buffer : Buffer) (number : ℕ) : Type 0 where
+  pub cast : CastFields
+  pub kept : map.get buffer.kept (first_number cast) ≡ Some cast
+  pub covers : Covers cast number
+
+-- the message of this number was taken, or is kept
 abbrev pub IsReceived : Buffer → ℕ → Type 0
 IsReceived buffer number = (number ≤ buffer.taken) ⊎ IsKept buffer number
 
 -- and neither of the two
 pub record IsLacking (buffer : Buffer) (number : ℕ) : Type 0 where
   pub not_taken : buffer.taken < number
-  pub not_kept : map.get buffer.kept number ≡ None
+  pub not_kept : ¬ IsKept buffer number
 
--- the number is one that the window admits after so many delivered casts
+-- all messages with the numbers first to last were received
+abbrev pub AreReceived : Buffer → ℕ → ℕ → Type 0
+AreReceived buffer first last = (number : ℕ) → first ≤ number → number ≤ last → IsReceived buffer number
+
+-- and none of them was
+abbrev pub AreLacking : Buffer → ℕ → ℕ → Type 0
+AreLacking buffer first last = (number : ℕ) → first ≤ number → number ≤ last → IsLacking buffer number
+
+-- the number is one that the window admits after so many delivered messages
 abbrev pub IsInWindow : Buffer → ℕ → ℕ → Type 0
 IsInWindow buffer delivered number = number ≤ delivered + buffer.window
 
--- the answer for messages with the numbers first to last; exactly one of the three holds
+-- The answer for messages with the numbers first to last. There is none yet where some were received and others not, which can't be
+-- of a single message: of that one exactly one answer holds.
 abbrev pub Admits : Buffer → ℕ → ℕ → ℕ → Admission → Type 0
-Admits buffer delivered first last Kept = IsLacking buffer first × IsInWindow buffer delivered last
-Admits buffer delivered first last Repeat = IsReceived buffer first
-Admits buffer delivered first last TooFar = IsLacking buffer first × (delivered + buffer.window < last)
+Admits buffer delivered first last Kept = AreLacking buffer first last × IsInWindow buffer delivered last
+Admits buffer delivered first last Repeat = AreReceived buffer first last
+Admits buffer delivered first last TooFar = AreLacking buffer first last × (delivered + buffer.window < last)
 
 -- the answer for a cast
 abbrev pub IsAnswer : Buffer → ℕ → CastFields → Admission → Type 0
@@ -68,17 +84,17 @@ pub record IsInOrder (buffer : Buffer) (number : ℕ) : Type 0 where
   pub none_kept : buffer.kept ≡ map.empty
   pub follows : number ≡ buffer.taken + 1
 
--- the cast of this number is kept, or it is the other one, which might be kept as well
-abbrev pub IsKeptWith : Buffer → ℕ → ℕ → Type 0
-IsKeptWith buffer other number = IsKept buffer number ⊎ (number ≡ other)
+-- the message of this number is kept, or it is one of these others, which might be kept as well
+abbrev pub IsKeptWith : Buffer → ℕ → ℕ → ℕ → Type 0
+IsKeptWith buffer first last number = IsKept buffer number ⊎ ((first ≤ number) × (number ≤ last))
 
--- so many casts come out one after the other: of the numbers behind what was taken so many are kept in a row, and the next one is not
+-- so many messages come out one after the other: of the numbers behind what was taken so many are kept in a row, and the next one is not
 abbrev pub ComeOut : Buffer → ℕ → Type 0
 ComeOut buffer count = IsRow (IsKept buffer) buffer.taken (buffer.taken + count)
 
--- and so many would, were a cast of this number kept as well
-abbrev pub WouldComeOut : Buffer → ℕ → ℕ → Type 0
-WouldComeOut buffer number count = IsRow (IsKeptWith buffer number) buffer.taken (buffer.taken + count)
+-- and so many would, were a cast with the numbers first to last kept as well
+abbrev pub WouldComeOut : Buffer → ℕ → ℕ → ℕ → Type 0
+WouldComeOut buffer first last count = IsRow (IsKeptWith buffer first last) buffer.taken (buffer.taken + count)
 
 -- a number that the sender is known to have used and that has not come
 pub record IsMissing (buffer : Buffer) (delivered known number : ℕ) : Type 0 where
@@ -90,6 +106,8 @@ pub record IsMissing (buffer : Buffer) (delivered known number : ℕ) : Type 0 w
 pub record IsReorderBuffer (buffer : Buffer) : Type 0 where
   pub width : IsWindow buffer.window
   pub by_number : (number : ℕ) (cast : CastFields) → map.get buffer.kept number ≡ Some cast → first_number cast ≡ number
+  pub filled : (number : ℕ) (cast : CastFields) → map.get buffer.kept number ≡ Some cast → first_number cast ≤ last_number cast
+  pub apart : (number : ℕ) (one other : IsKept buffer number) → one.cast ≡ other.cast
   pub not_taken : (number : ℕ) → IsKept buffer number → buffer.taken < number
   pub near : (number : ℕ) → IsKept buffer number → number ≤ buffer.taken + buffer.window
   pub in_range : (number : ℕ) → IsKept buffer number → number < 2 ^ 32

@@ -1,7 +1,7 @@
--- How many casts come out of a reorder buffer, one after the other, as casts are kept and taken.
-use Rattle.std.specs.Prelude.{◌≡◌, ℕ, ◌+◌, None}
+-- How many messages come out of a reorder buffer, one after the other, as casts are kept and taken.
+use Rattle.std.specs.Prelude.{◌≡◌, ℕ, ◌+◌, None, length}
 use Rattle.std.specs.FinMap as map
-use Rattle.cb_frames.specs.Fields.{CastFields, first_number}
+use Rattle.cb_frames.specs.Fields.{CastFields, messages_of, first_number, last_number}
 use Rattle.cb_gaps.specs.declared.buffer.Admission.TheVariants.{Kept}
 use Rattle.cb_gaps.specs.Buffer.{Buffer, IsAfter, IsNext, Takes, ComeOut, WouldComeOut}
 
@@ -9,13 +9,13 @@ use Rattle.cb_gaps.specs.Buffer.{Buffer, IsAfter, IsNext, Takes, ComeOut, WouldC
 abbrev pub KeptComeOut : Type 0
 KeptComeOut =
     (old new : Buffer) (cast : CastFields) (count : ℕ)
-    → WouldComeOut old (first_number cast) count → IsAfter old cast Kept new → ComeOut new count
+    → WouldComeOut old (first_number cast) (last_number cast) count → IsAfter old cast Kept new → ComeOut new count
 
--- taking one leaves one less
-abbrev pub TakingLeavesOneLess : Type 0
-TakingLeavesOneLess =
+-- taking a cast leaves as many less as it has messages
+abbrev pub TakingLeavesTheRest : Type 0
+TakingLeavesTheRest =
     (old new : Buffer) (cast : CastFields) (count : ℕ) → ComeOut old count → IsNext old cast → Takes old cast new
-    → (left : ℕ) × (count ≡ left + 1) × ComeOut new left
+    → (left : ℕ) × (count ≡ left + length (messages_of cast)) × ComeOut new left
 
 -- where the next one is not kept, none is left
 abbrev pub NoneIsLeft : Type 0

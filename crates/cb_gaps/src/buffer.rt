@@ -1,5 +1,5 @@
 //! The reorder buffer: the casts of one sender that were received before those in front of them.
-ghost use Rattle.std.specs.Prelude.{◌≡◌, ◌==◌, if◌then◌else◌, ◌+◌, ◌^◌, ◌<◌, ◌≤◌, ◌++◌, None, Any, MatchOption, IfOk, IfSome, IfNone, IsTrue, ◌↔◌, OnOk, insert, map};
+ghost use Rattle.std.specs.Prelude.{◌≡◌, ◌==◌, if◌then◌else◌, ◌+◌, ◌^◌, ◌<◌, ◌≤◌, ◌++◌, None, MatchOption, IfOk, IfSome, IfNone, IsTrue, ◌↔◌, OnOk, insert, map};
 ghost use Rattle.std.specs.FinMap as fin;
 ghost use Rattle.std.specs.VecDeque.{deque_len, deque_capacity};
 ghost use Rattle.cb_frames.specs.Fields.{cast_fields};
@@ -132,7 +132,7 @@ impl Reorder {
     /// 0 where the number behind the last one taken is neither kept nor this one. Any number will do; one that was taken, or is kept
     /// already, adds nothing. None follows number 4,294,967,295: with those that were taken they are never more than that.
     pub fn ready_with(&self, number: u32) -> u32
-        ensures row { WouldComeOut self.now number result }
+        ensures row { WouldComeOut self.now number number result }
         ensures greatest { self.now.taken + result < 2 ^ 32 }
     {
         let end = end_of_row(&self.kept, self.taken);
@@ -234,8 +234,8 @@ fn follows(number: u32, taken: u32) -> bool
 // where a cast of this number is to stand, unless one of that number stands there
 fn place_for(kept: &VecDeque<Cast>, number: u32) -> Option<usize>
     requires { Rise 0 kept.now.items }
-    ensures { MatchOption result (Any (λ cast. cast.number ≡ number) kept.now.items)
-        (IsPlaceFor number kept.now.items) }
+    ensures { MatchOption result (HasNumber kept.now.items number)
+        (IsPlaceFor number number kept.now.items) }
 {
     kept.binary_search_by_key(&number, |cast| cast.number).err()
 }

@@ -1,12 +1,12 @@
 //! What holds of every reorder buffer and of ranges: each law is the contract of a function that does nothing.
-ghost use Rattle.cb_gaps.specs.Laws.{KeptComeOut, NoneIsLeft, TakingLeavesOneLess};
+ghost use Rattle.cb_gaps.specs.Laws.{KeptComeOut, NoneIsLeft, TakingLeavesTheRest};
 ghost use Rattle.cb_gaps.specs.Ranges.{RangesAreOneList};
 
-/// How many casts come out is known beforehand. Once a cast is kept, as many come out one after the other as `ready_with` answered for
-/// its number. Each call of `take_next` that gives one leaves one less, and where it gives none, none is left.
+/// How many messages come out is known beforehand. Once a cast is kept, as many come out one after the other as `ready_with` answered
+/// for its number. Each call of `take_next` that gives a cast leaves its messages less, and where it gives none, none is left.
 pub fn casts_come_out_as_reported()
     ensures kept { KeptComeOut }
-    ensures one_less { TakingLeavesOneLess }
+    ensures rest { TakingLeavesTheRest }
     ensures none { NoneIsLeft }
 {}
 

@@ -1,14 +1,15 @@
 -- A reorder buffer holds what waits.
 use Rattle.std.proofs.Common.{◌≡◌, ◌≢◌, ℕ, ◌+◌, ◌≤◌, true, false, cond, ◌&&◌, eqb, List, [], ◌∷◌, ◌++◌, Some, None, refl, sym, ap, subst, ◌∙◌, arith, inl, inr, ◌⊎◌, ◌↔◌}
-use Rattle.std.specs.Prelude.{Option, IsSome, is_some}
+use Rattle.std.specs.Prelude.{Option}
 use Rattle.std.specs.Ordering.{nat_cmp, eq_by_cmp}
 use Rattle.std.specs.Cmp.{nat_cmp_total}
 use Rattle.std.specs.FinMap as map
 use Rattle.std.proofs.lemmas.Bool.{cases_eq, cases_lt, eq-eqb, eqb-true, or_cases, and_parts, false_from_ne_true, both_ways}
-use Rattle.cb_times.proofs.Entries.{equal_numbers, other_numbers, value_of}
-use Rattle.cb_frames.specs.Fields.{CastFields}
-use Rattle.cb_gaps.specs.Buffer.{Buffer, IsLacking, IsNext}
+use Rattle.cb_times.proofs.Entries.{equal_numbers, other_numbers}
+use Rattle.cb_frames.specs.Fields.{CastFields, first_number, last_number}
+use Rattle.cb_gaps.specs.Buffer.{Buffer, Covers, IsKept, IsLacking, IsNext}
 use Rattle.cb_gaps.proofs.OneList.{one_list}
+use Rattle.cb_gaps.proofs.Spans.{one_message, covers_first}
 use Rattle.cb_history.specs.Facts.{casts_in, is_there}
 use Rattle.cb_history.specs.Known.{expanded_count, missing, ranges_of}
 use Rattle.cb_history.specs.GapLaws.{IsMissing}
@@ -51,8 +52,14 @@ cast_is_there (d ∷ casts) c i n (inl same) sender number =
     (rw (eq-eqb d.sender i (ap (λ (x : CastFields). x.sender) (sym same) ∙ sender), eq-eqb d.number n (ap (λ (x : CastFields). x.number) (sym same) ∙ number)) refl)
 cast_is_there (d ∷ casts) c i n (inr later) sender number = or_right (eqb d.sender i && eqb d.number n) (is_there casts i n) (cast_is_there casts c i n later sender number)
 
-waiting_is_there : (casts : List CastFields) (i taken n : ℕ) (c : CastFields) → IsWaiting casts i taken n c → is_there casts i n ≡ true
-waiting_is_there casts i taken n c w = cast_is_there casts c i n (cast_of_is_in c casts w.there) w.sender_is w.number_is
+-- a number that a cast covers, which has one message
+pub covered_is_there : (casts : List CastFields) (c : CastFields) (i n : ℕ) → IsIn c casts → c.sender ≡ i → Covers c n → is_there casts i n ≡ true
+covered_is_there casts c i n there sender covers =
+    let begins : first_number c ≡ n = omega (arith, covers.0, covers.1, one_message c) in
+    cast_is_there casts c i n there sender begins
+
+waiting_is_there : (casts : List CastFields) (i taken key n : ℕ) (c : CastFields) → IsWaiting casts i taken key c → Covers c n → is_there casts i n ≡ true
+waiting_is_there casts i taken key n c w covers = covered_is_there casts c i n (cast_of_is_in c casts w.there) w.sender_is covers
 
 -- what waits still does with one more cast
 waits_on : (casts : List CastFields) (i taken n : ℕ) (c d : CastFields) → IsWaiting casts i taken n d → IsWaiting (casts ++ c ∷ []) i taken n d
@@ -72,20 +79,26 @@ waits_or_new casts i taken n c d w = elim (in_push d c casts (cast_of_is_in d (c
 
 -- ---- what it tells
 
-none_some : (o : Option CastFields) → o ≡ None → IsSome o → ⊥
-none_some o none some = both_ways (is_some o) (ap is_some none) some
+kept_is_there : (casts : List CastFields) (i number : ℕ) (buffer : Buffer) → HoldsWhatWaits casts i buffer → IsKept buffer number → is_there casts i number ≡ true
+kept_is_there casts i number buffer h is =
+    waiting_is_there casts i buffer.taken (first_number is.cast) number is.cast ((h.kept (first_number is.cast) is.cast).0 is.kept) is.covers
 
 pub received_is_there : ReceivedIsThere
 received_is_there casts i number buffer h low = (
   λ received. elim received [
     | inl le ↦ let taken = h.taken in expanded_are_there casts i number low (omega (arith, le, taken))
-    | inr some ↦ let v = value_of (map.get buffer.kept number) some in waiting_is_there casts i buffer.taken number v.0 ((h.kept number v.0).0 v.1)
+    | inr kept ↦ kept_is_there casts i number buffer h kept
   ],
   λ there. elim (cases_lt buffer.taken number) [
     | inr le ↦ inl le
     | inl lt ↦
         let c = cast_there casts i number there in
-        inr (ap is_some ((h.kept number c.cast).1 (record { there = in_is_cast_of c.cast casts c.there; sender_is = c.sender_is; number_is = c.number_is; not_taken = lt })))
+        let begins : first_number c.cast ≡ number = c.number_is in
+        inr (record {
+          cast = c.cast;
+          kept = (h.kept (first_number c.cast) c.cast).1 (record { there = in_is_cast_of c.cast casts c.there; sender_is = c.sender_is; number_is = refl; not_taken = omega (arith, lt, begins) });
+          covers = subst (Covers c.cast) begins (covers_first c.cast);
+        })
   ],
 )
 
@@ -95,12 +108,23 @@ lacking_is_not_there casts i number buffer h lacking = false_from_ne_true (is_th
     let not_taken = lacking.not_taken in
     elim ((received_is_there casts i number buffer h (omega (arith, not_taken))).1 there) [
       | inl le ↦ omega (arith, le, not_taken)
-      | inr some ↦ none_some (map.get buffer.kept number) lacking.not_kept some
+      | inr kept ↦ lacking.not_kept kept
     ])
 
-not_there_is_not_kept : (casts : List CastFields) (i number : ℕ) (buffer : Buffer) (o : Option CastFields) → HoldsWhatWaits casts i buffer → is_there casts i number ≡ false → map.get buffer.kept number ≡ o → o ≡ None
-not_there_is_not_kept casts i number buffer None h none is = refl
-not_there_is_not_kept casts i number buffer (Some c) h none is = absurd (both_ways (is_there casts i number) none (waiting_is_there casts i buffer.taken number c ((h.kept number c).0 is)))
+-- and no cast begins there
+pub none_begins : (casts : List CastFields) (i number : ℕ) (buffer : Buffer) (o : Option CastFields) → HoldsWhatWaits casts i buffer → IsLacking buffer number → map.get buffer.kept number ≡ o → o ≡ None
+none_begins casts i number buffer None h lacking is = refl
+none_begins casts i number buffer (Some d) h lacking is =
+    let begins = ((h.kept number d).0 is).number_is in
+    absurd (lacking.not_kept (record { cast = d; kept = ap (map.get buffer.kept) begins ∙ is; covers = subst (Covers d) begins (covers_first d) }))
+
+-- no cast that waits covers the number behind what was taken, where none begins there
+next_is_not_kept : (casts : List CastFields) (i : ℕ) (buffer : Buffer) → HoldsWhatWaits casts i buffer → map.get buffer.kept (buffer.taken + 1) ≡ None → ¬ IsKept buffer (buffer.taken + 1)
+next_is_not_kept casts i buffer h none is =
+    let above = ((h.kept (first_number is.cast) is.cast).0 is.kept).not_taken in
+    let begins : first_number is.cast ≡ buffer.taken + 1 = omega (arith, above, is.covers.0) in
+    let both : None ≡ Some is.cast = sym none ∙ sym (ap (map.get buffer.kept) begins) ∙ is.kept in
+    cc
 
 pub missing_is_lacked : MissingIsLacked
 missing_is_lacked seat facts i number buffer h window = (
@@ -119,7 +143,7 @@ missing_is_lacked seat facts i number buffer h window = (
       let taken = h.taken in
       let in_window = m.in_window in
       record {
-        lacking = record { not_taken = omega (arith, above, taken); not_kept = not_there_is_not_kept (casts_in facts) i number buffer (map.get buffer.kept number) h m.not_there refl };
+        lacking = record { not_taken = omega (arith, above, taken); not_kept = λ kept. both_ways (is_there (casts_in facts) i number) m.not_there (kept_is_there (casts_in facts) i number buffer h kept) };
         heard_of = m.heard_of;
         in_window = omega (arith, in_window, window);
       },
@@ -158,11 +182,11 @@ some_cast : (c d : CastFields) → Some c ≡ Some d → c ≡ d
 some_cast c d e = cc
 
 module _ (casts : List CastFields) (i : ℕ) (c : CastFields) (old : Buffer) (h : HoldsWhatWaits casts i old) where
-  module _ (own : c.sender ≡ i) (lacking : IsLacking old c.number) where
-    with_cast : (number : ℕ) (d : CastFields) → (map.get (map.insert old.kept c.number c) number ≡ Some d) ↔ IsWaiting (casts ++ c ∷ []) i old.taken number d
-    with_cast number d = elim (cases_eq number c.number) [
+  module _ (own : c.sender ≡ i) (lacking : IsLacking old (first_number c)) where
+    with_cast : (number : ℕ) (d : CastFields) → (map.get (map.insert old.kept (first_number c) c) number ≡ Some d) ↔ IsWaiting (casts ++ c ∷ []) i old.taken number d
+    with_cast number d = elim (cases_eq number (first_number c)) [
       | inl e ↦
-          let now : map.get (map.insert old.kept c.number c) number ≡ Some c = map.get-insert nat_cmp_total old.kept c.number c number ∙ here_or_there number c.number (Some c) (map.get old.kept number) e in (
+          let now : map.get (map.insert old.kept (first_number c) c) number ≡ Some c = map.get-insert nat_cmp_total old.kept (first_number c) c number ∙ here_or_there number (first_number c) (Some c) (map.get old.kept number) e in (
             λ is. subst (IsWaiting (casts ++ c ∷ []) i old.taken number) (some_cast c d (sym now ∙ is)) (record {
               there = in_is_cast_of c (casts ++ c ∷ []) (in_back c casts (c ∷ []) (inl refl));
               sender_is = own;
@@ -170,51 +194,52 @@ module _ (casts : List CastFields) (i : ℕ) (c : CastFields) (old : Buffer) (h 
               not_taken = let above = lacking.not_taken in omega (arith, above, e);
             }),
             λ w. elim (waits_or_new casts i old.taken number c d w) [
-              | inl before ↦ absurd (let at : map.get old.kept c.number ≡ Some d = ap (map.get old.kept) (sym e) ∙ (h.kept number d).1 before in let none = lacking.not_kept in let both : None ≡ Some d = sym none ∙ at in cc)
+              | inl before ↦ absurd (let none = none_begins casts i (first_number c) old (Some d) h lacking (ap (map.get old.kept) (sym e) ∙ (h.kept number d).1 before) in cc)
               | inr same ↦ now ∙ ap (λ (x : CastFields). Some x) (sym same)
             ],
           )
       | inr ne ↦
-          let now : map.get (map.insert old.kept c.number c) number ≡ map.get old.kept number = map.get-insert nat_cmp_total old.kept c.number c number ∙ there_or_here number c.number (Some c) (map.get old.kept number) ne in (
+          let now : map.get (map.insert old.kept (first_number c) c) number ≡ map.get old.kept number = map.get-insert nat_cmp_total old.kept (first_number c) c number ∙ there_or_here number (first_number c) (Some c) (map.get old.kept number) ne in (
             λ is. waits_on casts i old.taken number c d ((h.kept number d).0 (sym now ∙ is)),
             λ w. elim (waits_or_new casts i old.taken number c d w) [
               | inl before ↦ now ∙ (h.kept number d).1 before
-              | inr same ↦ absurd (ne (sym w.number_is ∙ ap (λ (x : CastFields). x.number) same))
+              | inr same ↦ absurd (ne (sym w.number_is ∙ ap first_number same))
             ],
           )
     ]
 
   module _ (next : IsNext old c) where
-    is_next : IsWaiting casts i old.taken c.number c
-    is_next = (h.kept c.number c).0 next.kept
+    is_next : IsWaiting casts i old.taken (first_number c) c
+    is_next = (h.kept (first_number c) c).0 next.kept
 
-    without_cast : (number : ℕ) (d : CastFields) → (map.get (map.remove old.kept c.number) number ≡ Some d) ↔ IsWaiting casts i c.number number d
+    -- a cast with one message, so that what waits behind it begins above its last number
+    without_cast : (number : ℕ) (d : CastFields) → (map.get (map.remove old.kept (first_number c)) number ≡ Some d) ↔ IsWaiting casts i (last_number c) number d
     without_cast number d =
         let follows = next.follows in
-        elim (cases_eq number c.number) [
+        let ends = one_message c in
+        elim (cases_eq number (first_number c)) [
           | inl e ↦
-              let now : map.get (map.remove old.kept c.number) number ≡ None = map.get-remove nat_cmp_total old.kept c.number number ∙ here_or_there number c.number None (map.get old.kept number) e in (
+              let now : map.get (map.remove old.kept (first_number c)) number ≡ None = map.get-remove nat_cmp_total old.kept (first_number c) number ∙ here_or_there number (first_number c) None (map.get old.kept number) e in (
                 λ is. absurd (let both : None ≡ Some d = sym now ∙ is in cc),
-                λ w. absurd (let above = w.not_taken in omega (arith, above, e)),
+                λ w. absurd (let above = w.not_taken in omega (arith, above, e, ends)),
               )
           | inr ne ↦
-              let now : map.get (map.remove old.kept c.number) number ≡ map.get old.kept number = map.get-remove nat_cmp_total old.kept c.number number ∙ there_or_here number c.number None (map.get old.kept number) ne in (
+              let now : map.get (map.remove old.kept (first_number c)) number ≡ map.get old.kept number = map.get-remove nat_cmp_total old.kept (first_number c) number ∙ there_or_here number (first_number c) None (map.get old.kept number) ne in (
                 λ is.
                     let w = (h.kept number d).0 (sym now ∙ is) in
                     let above = w.not_taken in
-                    record { there = w.there; sender_is = w.sender_is; number_is = w.number_is; not_taken = omega (arith, above, follows, ne) },
+                    record { there = w.there; sender_is = w.sender_is; number_is = w.number_is; not_taken = omega (arith, above, follows, ne, ends) },
                 λ w.
                     let above = w.not_taken in
-                    now ∙ (h.kept number d).1 (record { there = w.there; sender_is = w.sender_is; number_is = w.number_is; not_taken = omega (arith, above, follows) }),
+                    now ∙ (h.kept number d).1 (record { there = w.there; sender_is = w.sender_is; number_is = w.number_is; not_taken = omega (arith, above, follows, ends) }),
               )
         ]
 
-    one_more_taken : c.number ≤ expanded_count casts i
-    one_more_taken = run_at_most casts i c.number (λ k low high. elim (cases_lt old.taken k) [
-      | inl last ↦
+    all_taken : last_number c ≤ expanded_count casts i
+    all_taken = run_at_most casts i (last_number c) (λ k low high. elim (cases_lt old.taken k) [
+      | inl later ↦
           let follows = next.follows in
-          let is : c.number ≡ k = omega (arith, last, high, follows) in
-          subst (λ (n : ℕ). is_there casts i n ≡ true) is (waiting_is_there casts i old.taken c.number c is_next)
+          waiting_is_there casts i old.taken (first_number c) k c is_next (omega (arith, later, follows), high)
       | inr before ↦ let taken = h.taken in expanded_are_there casts i k low (omega (arith, before, taken))
     ])
 
@@ -229,7 +254,7 @@ taken_cast_is_there casts i c old new h next takes =
     let w = is_next casts i c old h next in (
       w.there,
       w.sender_is,
-      subst (HoldsWhatWaits casts i) (sym takes) (record { taken = one_more_taken casts i c old h next; kept = without_cast casts i c old h next }),
+      subst (HoldsWhatWaits casts i) (sym takes) (record { taken = all_taken casts i c old h next; kept = without_cast casts i c old h next }),
     )
 
 pub others_do_not_wait : OthersDoNotWait
@@ -251,4 +276,4 @@ pub all_is_taken : AllIsTaken
 all_is_taken casts i buffer h none =
     let taken = h.taken in
     sym (run_is_expanded casts i buffer.taken (λ k low high. expanded_are_there casts i k low (omega (arith, high, taken)))
-    (lacking_is_not_there casts i (buffer.taken + 1) buffer h (record { not_taken = omega arith; not_kept = none })))
+    (lacking_is_not_there casts i (buffer.taken + 1) buffer h (record { not_taken = omega arith; not_kept = next_is_not_kept casts i buffer h none })))

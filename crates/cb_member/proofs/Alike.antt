@@ -72,9 +72,9 @@ reception_back old new same = record { buffers = sym same.buffers; expander = sy
 pub in_order_alike : (sender number : ℕ) (old new : Reception) → reception.IsAlike old new → IsInOrder sender number old → IsInOrder sender number new
 in_order_alike sender number old new same is = record { buffer = is.buffer; at = buffer_before new old (reception_back old new same) sender is.buffer is.at; in_order = is.in_order }
 
-pub would_expand_alike : (sender number more : ℕ) (old new : Reception) → reception.IsAlike old new → WouldExpand sender number old more → WouldExpand sender number new more
-would_expand_alike sender number more old new same would seat facts c are of_sender of_number has =
-    would seat facts c are of_sender of_number (reception_alike seat facts _ new old (reception_back old new same) has)
+pub would_expand_alike : (sender first last more : ℕ) (old new : Reception) → reception.IsAlike old new → WouldExpand sender first last old more → WouldExpand sender first last new more
+would_expand_alike sender first last more old new same would seat facts c are of_sender begins ends has =
+    would seat facts c are of_sender begins ends (reception_alike seat facts _ new old (reception_back old new same) has)
 
 -- ---- the whole state
 

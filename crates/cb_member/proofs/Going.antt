@@ -59,7 +59,7 @@ module _ (c : CastFields) (spare : List ℕ) (old new : State) (early : IsEarly 
 
   none_more : expanded_count (casts_in early.can.can.facts) c.sender ≡ expanded_count casts c.sender
   none_more =
-      let more = early.expands_none old.seat early.can.can.facts c early.can.can.legal refl refl early.can.can.keeps.received in
+      let more = early.expands_none old.seat early.can.can.facts c early.can.can.legal refl refl refl early.can.can.keeps.received in
       omega (arith, more)
 
   held_still : HoldsUndelivered size casts seen old.delivery.queue

@@ -1,17 +1,17 @@
 -- What the rules say of a received cast.
-use Rattle.std.proofs.Common.{◌≡◌, ◌≢◌, ℕ, ◌+◌, ◌<◌, ◌≤◌, inl, inr, true, false, ltb, eqb, List, [], ◌∷◌, ◌++◌, length, Some, Ok, Err, refl, sym, ap, subst, arith}
-use Rattle.std.specs.Prelude.{is_some, slice_get}
+use Rattle.std.proofs.Common.{◌≡◌, ◌≢◌, ℕ, ◌+◌, ◌<◌, ◌≤◌, inl, inr, true, false, ltb, eqb, List, [], ◌∷◌, ◌++◌, length, Some, Ok, Err, refl, sym, subst, arith}
+use Rattle.std.specs.Prelude.{slice_get}
 use Rattle.std.specs.List.{list_all}
-use Rattle.std.specs.FinMap as fin
 use Rattle.std.proofs.Math.Bool.{and-false}
-use Rattle.std.proofs.lemmas.Bool.{cases_Bool, cond_both, and_parts, both_ways, eq-eqb, ne_eqb, lt-ltb, le-ltb, ltb-true, ltb-false, le-leb, lt-leb}
+use Rattle.std.proofs.lemmas.Bool.{cases_Bool, cond_both, and_parts, eq-eqb, ne_eqb, lt-ltb, le-ltb, ltb-true, ltb-false, le-leb, lt-leb}
 use Rattle.cb_times.specs.Order.{field}
 use Rattle.cb_frames.specs.declared.frame.TheConstants.{LAST_NUMBER}
-use Rattle.cb_frames.specs.Fields.{CastFields, CastFrame}
+use Rattle.cb_frames.specs.Fields.{CastFields, CastFrame, first_number, last_number}
 use Rattle.cb_gaps.specs.declared.buffer.Admission.{Admission}
 use Rattle.cb_gaps.specs.declared.buffer.Admission.TheVariants.{Kept, Repeat, TooFar}
-use Rattle.cb_gaps.specs.Buffer.{Buffer, Admits, IsLacking, IsReceived}
+use Rattle.cb_gaps.specs.Buffer.{Buffer, Admits, IsLacking, IsReceived, AreLacking, AreReceived}
 use Rattle.cb_history.specs.declared.answer.ArriveRefusal.TheVariants as arrivals
+use Rattle.cb_gaps.proofs.Spans.{some_message}
 use Rattle.cb_history.specs.Group.{Identity}
 use Rattle.cb_history.specs.Facts.{Fact, CastReceived, casts_in, is_there}
 use Rattle.cb_history.specs.Answers.{are_members, delivered}
@@ -58,28 +58,33 @@ module _ (state : State) (c : CastFields) (numbered : 1 ≤ c.number) (group : c
       of_window : b.window ≡ seat.group.window
       of_window = k.received.windows c.sender b at
 
-      there_is : IsReceived b c.number → is_there (casts_in facts) c.sender c.number ≡ true
-      there_is received = (received_is_there (casts_in facts) c.sender c.number b (k.received.waits c.sender b at other) numbered).0 received
+      there_is : AreReceived b (first_number c) (last_number c) → is_there (casts_in facts) c.sender c.number ≡ true
+      there_is received =
+          (received_is_there (casts_in facts) c.sender c.number b (k.received.waits c.sender b at other) numbered).0
+          (received (first_number c) (omega arith) (some_message c))
 
-      not_there : IsLacking b c.number → is_there (casts_in facts) c.sender c.number ≡ false
-      not_there lacking = elim (cases_Bool (is_there (casts_in facts) c.sender c.number)) [
+      not_there : AreLacking b (first_number c) (last_number c) → is_there (casts_in facts) c.sender c.number ≡ false
+      not_there none = elim (cases_Bool (is_there (casts_in facts) c.sender c.number)) [
         | inl there ↦ absurd (lacks ((received_is_there (casts_in facts) c.sender c.number b (k.received.waits c.sender b at other) numbered).1 there))
-        | inr none ↦ none
+        | inr absent ↦ absent
       ]
         where
-          lacks : IsReceived b c.number → ⊥
-          lacks (inl taken) = omega (arith, taken, lacking.not_taken)
-          lacks (inr kept) = both_ways (is_some (fin.get b.kept c.number)) (ap is_some lacking.not_kept) kept
+          lacking : IsLacking b (first_number c)
+          lacking = none (first_number c) (omega arith) (some_message c)
 
-      is_other_repeat : IsReceived b c.number → Answers seat facts (CastFrame c) (Ok says.Repeat)
+          lacks : IsReceived b (first_number c) → ⊥
+          lacks (inl taken) = omega (arith, taken, lacking.not_taken)
+          lacks (inr kept) = lacking.not_kept kept
+
+      is_other_repeat : AreReceived b (first_number c) (last_number c) → Answers seat facts (CastFrame c) (Ok says.Repeat)
       is_other_repeat received limit entries = rw (eq-eqb c.group seat.group.number group, members, ne_eqb c.sender seat.me other, there_is received) refl
 
-      is_beyond : Admits b (field state.delivery.time c.sender) c.number c.number TooFar → Answers seat facts (CastFrame c) (Err arrivals.TooFar)
+      is_beyond : Admits b (field state.delivery.time c.sender) (first_number c) (last_number c) TooFar → Answers seat facts (CastFrame c) (Err arrivals.TooFar)
       is_beyond far limit entries =
           let beyond : delivered seat facts c.sender + seat.group.window < c.number = omega (arith, far.1, counted, of_window) in
           rw (eq-eqb c.group seat.group.number group, members, ne_eqb c.sender seat.me other, not_there far.0, lt-ltb (delivered seat facts c.sender + seat.group.window) c.number beyond) refl
 
-      module _ (admitted : Admits b (field state.delivery.time c.sender) c.number c.number Kept) where
+      module _ (admitted : Admits b (field state.delivery.time c.sender) (first_number c) (last_number c) Kept) where
         near : ltb (delivered seat facts c.sender + seat.group.window) c.number ≡ false
         near = le-ltb (delivered seat facts c.sender + seat.group.window) c.number (omega (arith, admitted.1, counted, of_window))
 
@@ -122,7 +127,7 @@ module _ (state : State) (c : CastFields) (numbered : 1 ≤ c.number) (group : c
       is_own_repeat facts are k own (omega (arith, le, counted facts are k)))
 
   pub judges_other : c.sender ≢ seat.me → (b : Buffer) → slice_get state.reception.buffers.items c.sender ≡ Some b → c.number ≤ LAST_NUMBER → IsState state
-      → (a : Admission) → Admits b (field state.delivery.time c.sender) c.number c.number a → JudgesCast state c (other_verdict a)
+      → (a : Admission) → Admits b (field state.delivery.time c.sender) (first_number c) (last_number c) a → JudgesCast state c (other_verdict a)
   judges_other other b at small is_state Repeat received = λ facts are k. is_other_repeat facts are k other b at received
   judges_other other b at small is_state TooFar far = λ facts are k. is_beyond facts are k other b at far
   judges_other other b at small is_state Kept admitted = record {

@@ -7,7 +7,7 @@ use Rattle.std.proofs.lemmas.Bool.{cases_eq, cases_lt, eq-eqb}
 use Rattle.std.proofs.lemmas.List.{length-set, length-replicate, map-set, get_or-set_same, get_or-set_other}
 use Rattle.std.proofs.lemmas.Option.{slice_get_within}
 use Rattle.cb_times.specs.Order.{field}
-use Rattle.cb_frames.specs.Fields.{CastFields, first_number}
+use Rattle.cb_frames.specs.Fields.{CastFields, first_number, last_number}
 use Rattle.cb_delay.specs.declared.message.Message.{Message}
 use Rattle.cb_delay.specs.Rule.{IsReady}
 use Rattle.cb_diffs.specs.Expansion.{IsNext as IsNextCast}
@@ -105,7 +105,7 @@ module _ (c : CastFields) (old : Reception) (can : CanTakeInOrder c old) where
   keeps_it : KeepsCast c spare old between
   keeps_it seat facts are all size =
       kept_cast c spare can.in_order.buffer full [] old between (record { at = can.in_order.at; buffers = refl; expander = refl; at_stack = no_spare; spares = spares_between }) can.delivered Kept can.can_keep
-      (subst (λ (b : Buffer). Admits b can.delivered (first_number c) (first_number c) Kept) (one_buffer can.can_keep.buffer can.in_order.buffer (sym can.can_keep.at ∙ can.in_order.at)) can.can_keep.is_kept)
+      (subst (λ (b : Buffer). Admits b can.delivered (first_number c) (last_number c) Kept) (one_buffer can.can_keep.buffer can.in_order.buffer (sym can.can_keep.at ∙ can.in_order.at)) can.can_keep.is_kept)
       refl seat facts are all size
 
   gives_it : GivesNext c c.sender full after between

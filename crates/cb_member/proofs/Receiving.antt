@@ -7,27 +7,28 @@ use Rattle.std.specs.declared.alloc.Global.{Global}
 use Rattle.std.specs.Ordering.{nat_cmp}
 use Rattle.std.specs.Cmp.{nat_cmp_total}
 use Rattle.std.specs.FinMap as map
-use Rattle.std.proofs.lemmas.Bool.{cases_eq, eq-eqb, ne_eqb, both_ways}
+use Rattle.std.proofs.lemmas.Bool.{cases_eq, eq-eqb, ne_eqb}
 use Rattle.std.proofs.lemmas.List.{length-map, length-set, set-get_or, get_or-set_same, get_or-set_other}
 use Rattle.std.proofs.lemmas.List.Elements.{All-push, All-pop}
 use Rattle.std.proofs.lemmas.Option.{slice_get_within, slice_get-get_or, slice_get-map, slice_get_read, get_or_from_slice_get}
-use Rattle.cb_frames.specs.Fields.{CastFields, last_number}
+use Rattle.cb_frames.specs.Fields.{CastFields, first_number, last_number}
 use Rattle.cb_delay.specs.declared.message.Message.{Message}
 use Rattle.cb_diffs.specs.Expansion.{expanded_time, IsNext as IsNextCast}
 use Rattle.cb_gaps.specs.declared.buffer.Admission.{Admission}
 use Rattle.cb_gaps.specs.declared.buffer.Admission.TheVariants.{Kept, Repeat, TooFar}
 use Rattle.cb_gaps.specs.Buffer.{Buffer, Admits, IsAnswer, IsAfter, IsLacking, IsNext, Takes}
+use Rattle.cb_gaps.proofs.Spans.{some_message, one_message}
 use Rattle.cb_history.specs.Group.{Identity}
-use Rattle.cb_history.specs.Facts.{Fact, CastReceived, casts_in, messages_in}
+use Rattle.cb_history.specs.Facts.{Fact, OwnCast, CastReceived, StatusReceived, OwnStatus, casts_in, messages_in}
 use Rattle.cb_history.specs.Known.{expanded_count}
-use Rattle.cb_history.specs.NameLaws.{IsOneOf}
+use Rattle.cb_history.specs.NameLaws.{IsOneOf, ReceivedFromOthers}
 use Rattle.cb_history.specs.LegalFacts.{AreFactsOf}
 use Rattle.cb_history.specs.BufferLaws.{IsCastOf, HoldsWhatWaits}
 use Rattle.cb_history.specs.ExpanderLaws.{KeepsTimeOf}
 use Rattle.cb_history.proofs.Views.{casts_in-append}
-use Rattle.cb_history.proofs.Names.{message}
+use Rattle.cb_history.proofs.Names.{message, own_messages_are_own}
 use Rattle.cb_history.proofs.Runs.{expanded_up_to_the_count}
-use Rattle.cb_history.proofs.Buffers.{kept_cast_waits, others_do_not_wait, taken_cast_is_there, all_is_taken}
+use Rattle.cb_history.proofs.Buffers.{none_begins, kept_cast_waits, others_do_not_wait, taken_cast_is_there, all_is_taken}
 use Rattle.cb_history.proofs.Expanders.{kept_times_stay, cast_behind_is_next, expander_tells_the_time, other_times_are_kept}
 use Rattle.cb_member.specs.declared.reception.Reception.{Reception}
 use Rattle.cb_member.specs.Reception.{AreSparesOf, HasReceived, HasReceivedAll, spares_in}
@@ -88,13 +89,21 @@ one_spare_less sender before now stack rest spare at popped is =
 
 -- ---- the cast is kept
 
-still_kept : (b : Buffer) (delivered : ℕ) (c : CastFields) (answer : Admission) (after : Buffer) → Admits b delivered c.number c.number Kept → IsAnswer b delivered c answer → IsAfter b c answer after → IsAfter b c Kept after
+pub received_from_other : (me : ℕ) (facts : List Fact) (c : CastFields) → ReceivedFromOthers me (facts ++ CastReceived c ∷ []) → c.sender ≢ me
+received_from_other me [] c h = h.0
+received_from_other me (OwnCast d ∷ facts) c h = received_from_other me facts c h
+received_from_other me (CastReceived d ∷ facts) c h = received_from_other me facts c h.1
+received_from_other me (StatusReceived s ∷ facts) c h = received_from_other me facts c h
+received_from_other me (OwnStatus s ∷ facts) c h = received_from_other me facts c h
+
+still_kept : (b : Buffer) (delivered : ℕ) (c : CastFields) (answer : Admission) (after : Buffer) → Admits b delivered (first_number c) (last_number c) Kept → IsAnswer b delivered c answer → IsAfter b c answer after → IsAfter b c Kept after
 still_kept b delivered c Kept after kept answered is = is
 still_kept b delivered c Repeat after kept answered is =
-    let above = kept.0.not_taken in
-    elim answered [
+    let lacking = kept.0 (first_number c) (omega arith) (some_message c) in
+    let above = lacking.not_taken in
+    elim (answered (first_number c) (omega arith) (some_message c)) [
       | inl le ↦ absurd (omega (arith, above, le))
-      | inr some ↦ absurd (both_ways (is_some (map.get b.kept c.number)) (ap is_some kept.0.not_kept) some)
+      | inr there ↦ absurd (lacking.not_kept there)
     ]
 still_kept b delivered c TooFar after kept answered is =
     let near = kept.1 in
@@ -102,10 +111,10 @@ still_kept b delivered c TooFar after kept answered is =
     absurd (omega (arith, near, far))
 
 -- one cast more is kept
-kept_one_more : (before after : Buffer) (c : CastFields) → IsLacking before c.number → IsAfter before c Kept after → map.len after.kept ≡ map.len before.kept + 1
+kept_one_more : (before after : Buffer) (c : CastFields) → map.get before.kept (first_number c) ≡ None → IsAfter before c Kept after → map.len after.kept ≡ map.len before.kept + 1
 kept_one_more before after c lacking is =
-    let none : map.contains_key before.kept c.number ≡ false = ap is_some lacking.not_kept in
-    ap (λ (b : Buffer). map.len b.kept) is ∙ map.len-insert nat_cmp_total before.kept c.number c
+    let none : map.contains_key before.kept (first_number c) ≡ false = ap is_some lacking in
+    ap (λ (b : Buffer). map.len b.kept) is ∙ map.len-insert nat_cmp_total before.kept (first_number c) c
     ∙ ap (λ (b : Bool). cond b (map.len before.kept) (map.len before.kept + 1)) none
 
 -- one buffer has the cast and its sender's spares one more
@@ -125,8 +134,11 @@ module _ (c : CastFields) (spare : List ℕ) (before after : Buffer) (stack : Li
   now : casts_in (facts ++ CastReceived c ∷ []) ≡ casts ++ c ∷ []
   now = casts_in-append facts (CastReceived c)
 
-  kept : Admits before delivered c.number c.number Kept
-  kept = subst (λ (b : Buffer). Admits b delivered c.number c.number Kept) (one_buffer can.buffer before (sym can.at ∙ w.at)) can.is_kept
+  kept : Admits before delivered (first_number c) (last_number c) Kept
+  kept = subst (λ (b : Buffer). Admits b delivered (first_number c) (last_number c) Kept) (one_buffer can.buffer before (sym can.at ∙ w.at)) can.is_kept
+
+  lacking : IsLacking before (first_number c)
+  lacking = kept.0 (first_number c) (omega arith) (some_message c)
 
   is_after : IsAfter before c Kept after
   is_after = still_kept before delivered c answer after kept answered becomes
@@ -137,6 +149,10 @@ module _ (c : CastFields) (spare : List ℕ) (before after : Buffer) (stack : Li
   was_at : (i : ℕ) → i ≡ c.sender → slice_get old.buffers.items i ≡ Some before
   was_at i e = ap (slice_get old.buffers.items) e ∙ w.at
 
+  waits_before : (i : ℕ) → i ≡ c.sender → HoldsWhatWaits casts i before
+  waits_before i e =
+      all.waits i before (was_at i e) (λ me. received_from_other seat.me facts c (own_messages_are_own seat (facts ++ CastReceived c ∷ []) are) (sym e ∙ me))
+
   spares_now : (i : ℕ) (spares : List (List ℕ)) → slice_get (spares_in new) i ≡ Some spares → ((i ≡ c.sender) × (spares ≡ stack ++ spare ∷ [])) ⊎ ((i ≢ c.sender) × (slice_get (spares_in old) i ≡ Some spares))
   spares_now i spares at = set_at (spares_in old) c.sender i (stack ++ spare ∷ []) spares (ap (λ (xs : List (List (List ℕ))). slice_get xs i) (sym w.spares) ∙ at)
 
@@ -144,7 +160,7 @@ module _ (c : CastFields) (spare : List ℕ) (before after : Buffer) (stack : Li
   kept_cast = record {
     senders = ap length w.buffers ∙ length-set old.buffers.items c.sender after ∙ all.senders;
     waits = λ i b at other. subst (λ (cs : List CastFields). HoldsWhatWaits cs i b) (sym now) (elim (at_now i b at) [
-      | inl here ↦ subst (HoldsWhatWaits (casts ++ c ∷ []) i) (sym here.1) (kept_cast_waits casts i c before after (all.waits i before (was_at i here.0) other) (sym here.0) kept.0 is_after)
+      | inl here ↦ subst (HoldsWhatWaits (casts ++ c ∷ []) i) (sym here.1) (kept_cast_waits casts i c before after (all.waits i before (was_at i here.0) other) (sym here.0) lacking is_after)
       | inr elsewhere ↦ others_do_not_wait casts i c b (all.waits i b elsewhere.1 other) (λ e. elsewhere.0 (sym e))
     ]);
     taken_are = λ i b at other. elim (at_now i b at) [
@@ -161,7 +177,8 @@ module _ (c : CastFields) (spare : List ℕ) (before after : Buffer) (stack : Li
       | inl here ↦ elim (spares_now i spares at_spares) [
         | inl its ↦
             let was = all.spares c.sender before stack w.at w.at_stack in
-            let longer = kept_one_more before after c kept.0 is_after in
+            let none = none_begins casts i (first_number c) before (map.get before.kept (first_number c)) (waits_before i here.0) lacking refl in
+            let longer = kept_one_more before after c none is_after in
             let kept_now : map.len b.kept ≡ map.len after.kept = ap (λ (x : Buffer). map.len x.kept) here.1 in
             let count = was.count in
             let pushed = length-append stack (spare ∷ []) in
@@ -203,7 +220,7 @@ some_entry (e ∷ es) n c h = omega arith
 
 pub some_are_kept : (before : Buffer) (c : CastFields) → IsNext before c → 0 < map.len before.kept
 some_are_kept before c next =
-    let some = some_entry (map.entries before.kept) c.number c (sym (map.get-entries before.kept c.number) ∙ next.kept) in
+    let some = some_entry (map.entries before.kept) (first_number c) c (sym (map.get-entries before.kept (first_number c)) ∙ next.kept) in
     omega (arith, some, map.len-entries before.kept)
 
 -- so there is a spare for it
@@ -216,8 +233,8 @@ some_spare_is_left size before c times next are =
 -- one cast less is kept
 one_kept_less : (before after : Buffer) (c : CastFields) → IsNext before c → Takes before c after → map.len after.kept + 1 ≡ map.len before.kept
 one_kept_less before after c next takes =
-    let some : map.contains_key before.kept c.number ≡ true = ap is_some next.kept in
-    let fewer : map.len after.kept ≡ map.len before.kept - 1 = ap (λ (b : Buffer). map.len b.kept) takes ∙ map.len-remove nat_cmp_total before.kept c.number
+    let some : map.contains_key before.kept (first_number c) ≡ true = ap is_some next.kept in
+    let fewer : map.len after.kept ≡ map.len before.kept - 1 = ap (λ (b : Buffer). map.len b.kept) takes ∙ map.len-remove nat_cmp_total before.kept (first_number c)
     ∙ ap (λ (b : Bool). cond b (map.len before.kept - 1) (map.len before.kept)) some in
     let there = some_are_kept before c next in
     omega (arith, fewer, there)
@@ -244,7 +261,7 @@ module _ (c : CastFields) (sender : ℕ) (before after : Buffer) (old : Receptio
   so_far : before.taken ≡ taken sender
   so_far = received.taken_are sender before g.at other
 
-  behind : c.number ≡ taken sender + 1
+  behind : first_number c ≡ taken sender + 1
   behind = g.next.follows ∙ ap (λ (n : ℕ). n + 1) so_far
 
   member : sender < size
@@ -264,14 +281,15 @@ module _ (c : CastFields) (sender : ℕ) (before after : Buffer) (old : Receptio
   its_size = keeps.senders
 
   module _ (stack rest : List (List ℕ)) (spare : List ℕ) (new : Reception) (message_is : Message) (t : IsReported c sender after stack rest spare old new message_is) where
-    tells : (c.number ≡ taken sender + 1) × (t.tells.time ≡ expanded_time size all_casts c.sender c.number) × KeepsTimeOf seat facts c.sender (last_number c) new.expander
+    tells : (first_number c ≡ taken sender + 1) × (t.tells.time ≡ expanded_time size all_casts c.sender (first_number c)) × KeepsTimeOf seat facts c.sender (last_number c) new.expander
     tells = expander_tells_the_time seat facts c (taken sender) t.tells.time old.expander new.expander are found.0 keeps t.tells.expands
 
     at_new : (i : ℕ) (b : Buffer) → slice_get new.buffers.items i ≡ Some b → ((i ≡ sender) × (b ≡ after)) ⊎ ((i ≢ sender) × (slice_get old.buffers.items i ≡ Some b))
     at_new i b at = set_at old.buffers.items sender i after b (ap (λ (bs : List Buffer). slice_get bs i) (sym t.buffers) ∙ at)
 
-    more_here : (i : ℕ) → i ≡ sender → one_more taken sender i ≡ c.number
-    more_here i e = rw (eq-eqb i sender e) (ap (λ (k : ℕ). taken k + 1) e ∙ sym behind)
+    -- a cast with one message
+    more_here : (i : ℕ) → i ≡ sender → one_more taken sender i ≡ last_number c
+    more_here i e = rw (eq-eqb i sender e) (ap (λ (k : ℕ). taken k + 1) e ∙ sym (one_message c ∙ behind))
 
     same_there : (i : ℕ) → i ≢ sender → one_more taken sender i ≡ taken i
     same_there i ne = rw (ne_eqb i sender ne) refl
@@ -286,7 +304,7 @@ module _ (c : CastFields) (sender : ℕ) (before after : Buffer) (old : Receptio
         there = message_of_cast all_casts c found.0;
         expanded = (expanded_up_to_the_count all_casts (message c)).1 (
             let upto = found.2.taken in
-            let is : after.taken ≡ c.number = ap (λ (b : Buffer). b.taken) g.takes in
+            let is : after.taken ≡ last_number c = ap (λ (b : Buffer). b.taken) g.takes in
             let at : expanded_count all_casts c.sender ≡ expanded_count all_casts sender = ap (expanded_count all_casts) found.1 in
             omega (arith, upto, is, at));
         of_sender = found.1;
@@ -308,7 +326,7 @@ module _ (c : CastFields) (sender : ℕ) (before after : Buffer) (old : Receptio
           | inr elsewhere ↦ received.windows i b elsewhere.1
         ];
         times = λ i lt not_me. elim (cases_eq i sender) [
-          | inl e ↦ subst (λ (n : ℕ). KeepsTimeOf seat facts i n new.expander) (sym (more_here i e)) (subst (λ (k : ℕ). KeepsTimeOf seat facts k c.number new.expander) (found.1 ∙ sym e) tells.2)
+          | inl e ↦ subst (λ (n : ℕ). KeepsTimeOf seat facts i n new.expander) (sym (more_here i e)) (subst (λ (k : ℕ). KeepsTimeOf seat facts k (last_number c) new.expander) (found.1 ∙ sym e) tells.2)
           | inr ne ↦ subst (λ (n : ℕ). KeepsTimeOf seat facts i n new.expander) (sym (same_there i ne))
               (other_times_are_kept seat facts c i (taken i) t.tells.time old.expander new.expander (λ h. ne (sym h ∙ found.1)) (received.times i lt not_me) t.tells.expands)
         ];

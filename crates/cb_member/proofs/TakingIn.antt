@@ -8,18 +8,19 @@ use Rattle.std.proofs.lemmas.List.{length-set, get_or-set_same, get_or-set_other
 use Rattle.std.proofs.lemmas.List.FromFn.{length-map-range_with_len, map-range_with_len_more}
 use Rattle.cb_times.specs.Order.{field}
 use Rattle.cb_times.specs.declared.name.Name.{Name}
-use Rattle.cb_frames.specs.Fields.{CastFields, Carried}
+use Rattle.cb_frames.specs.Fields.{CastFields, Carried, first_number, last_number}
 use Rattle.cb_delay.specs.declared.message.Message.{Message}
 use Rattle.cb_delay.specs.Message.{name_cmp, IsOfGroup}
 use Rattle.cb_delay.specs.Queue.{Queue, Holds, IsDelayQueue, FollowsLast, count_of}
 use Rattle.cb_delay.proofs.Names.{names_total}
 use Rattle.cb_diffs.specs.Expansion.{expanded_field}
-use Rattle.cb_gaps.specs.Buffer.{Buffer, WouldComeOut}
+use Rattle.cb_gaps.specs.Buffer.{Buffer, Covers, WouldComeOut}
+use Rattle.cb_gaps.proofs.Spans.{covers_first}
 use Rattle.cb_history.specs.Group.{Identity}
-use Rattle.cb_history.specs.Facts.{Fact, OwnCast, CastReceived, StatusReceived, OwnStatus, casts_in, messages_in, numbers_between, is_there}
+use Rattle.cb_history.specs.Facts.{Fact, CastReceived, casts_in, messages_in, numbers_between, is_there}
 use Rattle.cb_history.specs.View.{count, view, message_in}
 use Rattle.cb_history.specs.Known.{greatest_of, known, expanded_count}
-use Rattle.cb_history.specs.NameLaws.{ReceivedFromOthers, IsOneOf}
+use Rattle.cb_history.specs.NameLaws.{IsOneOf}
 use Rattle.cb_history.specs.LegalFacts.{AreFactsOf}
 use Rattle.cb_history.specs.BufferLaws.{HoldsWhatWaits}
 use Rattle.cb_history.specs.DeliveryLaws.{IsOnTheWay}
@@ -29,7 +30,7 @@ use Rattle.cb_history.proofs.Lists.{messages_in-push, in_front, in_back, in_push
 use Rattle.cb_history.proofs.Names.{message, own_messages_are_own, one_of_is_in, in_is_one_of}
 use Rattle.cb_history.proofs.Prefixes.{prefix_of_facts_is_legal, last_fact_is_a_step}
 use Rattle.cb_history.proofs.Rising.{greatest_append, there_more}
-use Rattle.cb_history.proofs.Buffers.{cast_there, cast_is_there, received_is_there}
+use Rattle.cb_history.proofs.Buffers.{cast_there, cast_is_there, covered_is_there, received_is_there}
 use Rattle.cb_history.proofs.Runs.{message_is_there, expanded_are_there, run_is_expanded, delivered_is_expanded, others_expand_nothing, greatest_of_the_run}
 use Rattle.cb_history.proofs.RisingByCasts.{cast_is_known}
 use Rattle.cb_history.proofs.Windows.{casts_are_near}
@@ -39,14 +40,7 @@ use Rattle.cb_member.specs.declared.state.State.{State}
 use Rattle.cb_member.specs.declared.reception.Reception.{Reception}
 use Rattle.cb_member.specs.State.{Keeps}
 use Rattle.cb_member.specs.Taking.{one_more, IsReceiving, IsNextOf, IsNextMessage, taken_with, heard_with, TakesIn, IsTakingIn, HasTurn, HoldsMore, TakesSoFar, TakesAllOf, TakesAll, ExpandsNext, HasNoNextOf, OnlyTakesIn, CanFollow, Hears, KeepsCast, WouldExpand, HasTakenIn}
-use Rattle.cb_member.proofs.Receiving.{received_alike}
-
-received_from_other : (me : ℕ) (facts : List Fact) (c : CastFields) → ReceivedFromOthers me (facts ++ CastReceived c ∷ []) → c.sender ≢ me
-received_from_other me [] c h = h.0
-received_from_other me (OwnCast d ∷ facts) c h = received_from_other me facts c h
-received_from_other me (CastReceived d ∷ facts) c h = received_from_other me facts c h.1
-received_from_other me (StatusReceived s ∷ facts) c h = received_from_other me facts c h
-received_from_other me (OwnStatus s ∷ facts) c h = received_from_other me facts c h
+use Rattle.cb_member.proofs.Receiving.{received_from_other, received_alike}
 
 module _ (seat : Identity) (facts : List Fact) (c : CastFields) (are : AreFactsOf seat (facts ++ CastReceived c ∷ [])) where
   abbrev size : ℕ
@@ -392,17 +386,14 @@ sender_is_heard_of c state can = subst (λ (n : ℕ). c.sender < n) (sym can.kee
 
 -- ---- how many come out
 
-pub comes_out : (cs : List CastFields) (c : CastFields) (b : Buffer) (more : ℕ) → HoldsWhatWaits cs c.sender b → WouldComeOut b c.number more → expanded_count (cs ++ c ∷ []) c.sender ≡ b.taken + more
+pub comes_out : (cs : List CastFields) (c : CastFields) (b : Buffer) (more : ℕ) → HoldsWhatWaits cs c.sender b → WouldComeOut b (first_number c) (last_number c) more → expanded_count (cs ++ c ∷ []) c.sender ≡ b.taken + more
 comes_out cs c b more holds row = run_is_expanded (cs ++ c ∷ []) c.sender (b.taken + more) each last
   where
-    here : is_there (cs ++ c ∷ []) c.sender c.number ≡ true
-    here = cast_is_there (cs ++ c ∷ []) c c.sender c.number (in_back c cs (c ∷ []) (inl refl)) refl refl
-
     each : (k : ℕ) → 1 ≤ k → k ≤ b.taken + more → is_there (cs ++ c ∷ []) c.sender k ≡ true
     each k low high = elim (cases_lt b.taken k) [
       | inl above ↦ elim (row.each k above high) [
         | inl kept ↦ there_more cs (c ∷ []) c.sender k ((received_is_there cs c.sender k b holds low).0 (inr kept))
-        | inr same ↦ ap (is_there (cs ++ c ∷ []) c.sender) same ∙ here
+        | inr covers ↦ covered_is_there (cs ++ c ∷ []) c c.sender k (in_back c cs (c ∷ []) (inl refl)) refl covers
       ]
       | inr le ↦ there_more cs (c ∷ []) c.sender k (let taken = holds.taken in expanded_are_there cs c.sender k low (omega (arith, le, taken)))
     ]
@@ -415,13 +406,15 @@ comes_out cs c b more holds row = run_is_expanded (cs ++ c ∷ []) c.sender (b.t
             | inl le ↦ absurd (omega (arith, le))
             | inr kept ↦ row.ends (inl kept)
           ]
-          | inr new ↦ row.ends (inr (sym found.number_is ∙ ap (λ (x : CastFields). x.number) new))
+          | inr new ↦
+              let begins : first_number c ≡ b.taken + more + 1 = ap first_number (sym new) ∙ found.number_is in
+              row.ends (inr (subst (Covers c) begins (covers_first c)))
         ])
 
-pub would_expand : (sender number : ℕ) (r : Reception) (b : Buffer) (more : ℕ) → slice_get r.buffers.items sender ≡ Some b → WouldComeOut b number more → WouldExpand sender number r more
-would_expand sender number r b more at row seat facts c are of_sender numbered all =
+pub would_expand : (sender first last : ℕ) (r : Reception) (b : Buffer) (more : ℕ) → slice_get r.buffers.items sender ≡ Some b → WouldComeOut b first last more → WouldExpand sender first last r more
+would_expand sender first last r b more at row seat facts c are of_sender begins ends all =
     let other : sender ≢ seat.me = subst (λ (i : ℕ). i ≢ seat.me) of_sender (of_other seat facts c are) in
     let holds = subst (λ (i : ℕ). HoldsWhatWaits (casts_in facts) i b) (sym of_sender) (all.waits sender b at other) in
-    let count = comes_out (casts_in facts) c b more holds (subst (λ (n : ℕ). WouldComeOut b n more) (sym numbered) row) in
+    let count = comes_out (casts_in facts) c b more holds (subst (λ (n : ℕ). WouldComeOut b (first_number c) n more) (sym ends) (subst (λ (n : ℕ). WouldComeOut b n last more) (sym begins) row)) in
     let taken = all.taken_are sender b at other in
     ap (λ (cs : List CastFields). expanded_count cs sender) (casts_in-append facts (CastReceived c)) ∙ ap (expanded_count (casts_in facts ++ c ∷ [])) (sym of_sender) ∙ count ∙ ap (λ (n : ℕ). n + more) taken

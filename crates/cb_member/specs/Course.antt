@@ -2,7 +2,7 @@
 use Rattle.std.specs.Prelude.{◌≡◌, ℕ, ◌+◌, ◌-◌, ◌≤◌, List, [], ◌∷◌, ◌++◌, length}
 use Rattle.std.specs.FinMap as fin
 use Rattle.cb_times.specs.Order.{field}
-use Rattle.cb_frames.specs.Fields.{CastFields, first_number}
+use Rattle.cb_frames.specs.Fields.{CastFields, first_number, last_number}
 use Rattle.cb_delay.specs.declared.message.Event.{Event}
 use Rattle.cb_delay.specs.Rule.{IsReady}
 use Rattle.cb_diffs.specs.Expansion.{IsGrown, time_of}
@@ -34,7 +34,7 @@ HoldsAtMost c state count =
 -- it waits for casts before it, lets none be expanded, and nothing that waits may be delivered
 pub record IsEarly (c : CastFields) (spare : List ℕ) (state : State) : Type 0 where
   pub can : CanTakeIn c spare state
-  pub expands_none : WouldExpand c.sender (first_number c) state.reception 0
+  pub expands_none : WouldExpand c.sender (first_number c) (last_number c) state.reception 0
   pub none_ready : NoneReady state.delivery
 
 -- it comes in order, and this is its time

@@ -45,11 +45,11 @@ pub record Hears (sender number : ℕ) (old new : Knowledge) : Type 0 where
   pub known : new.known ≡ slice_set old.known sender (max (field old.known sender) number)
   pub acks : new.acks ≡ old.acks
 
--- were the cast of this number there as well, so many more of the sender's messages would be expanded
-abbrev pub WouldExpand : ℕ → ℕ → Reception → ℕ → Type 0
-WouldExpand sender number r more =
+-- were a cast with the numbers first to last there as well, so many more of the sender's messages would be expanded
+abbrev pub WouldExpand : ℕ → ℕ → ℕ → Reception → ℕ → Type 0
+WouldExpand sender first last r more =
     (seat : Identity) (facts : List Fact) (c : CastFields) → AreFactsOf seat (facts ++ CastReceived c ∷ [])
-    → c.sender ≡ sender → first_number c ≡ number → HasReceivedAll seat facts r
+    → c.sender ≡ sender → first_number c ≡ first → last_number c ≡ last → HasReceivedAll seat facts r
     → expanded_count (casts_in (facts ++ CastReceived c ∷ [])) sender ≡ expanded_count (casts_in facts) sender + more
 
 -- ---- the sender's next cast is taken out

@@ -58,7 +58,7 @@ impl Reception {
     /// How many more messages of the sender could be expanded, were its cast of this number there as well.
     pub fn would_expand(&self, sender: u32, number: u32) -> u32
         requires { sender < length self.now.buffers.items }
-        ensures { WouldExpand sender number self.now result }
+        ensures { WouldExpand sender number number self.now result }
     {
         self.buffers[sender as usize].ready_with(number)
     }

@@ -1,21 +1,27 @@
 use Rattle.std.proofs.Common.{◌^◌, ◌<◌, ◌≤◌, arith}
 use Rattle.cb_gaps.proofs.Entries.{rise_from}
-use Rattle.cb_gaps.proofs.Kept.{is_received, is_lacking, keep_room, keep_keeps, keep_gives}
+use Rattle.cb_gaps.proofs.Kept.{all_taken, all_received, all_lacking, keep_room, keep_keeps, keep_gives}
 use Rattle.cb_gaps.proofs.buffer.Reorder.keep.Goals as goal
 
 pub place_for-requires : goal.place_for-requires
 place_for-requires c = rise_from c.self.inside.taken 0 c.self.inside.kept.items (omega arith) c.self.invariant.0.rise
 
+pub returns-then-number-self-clause-answer : goal.returns-then-number-self-clause-answer
+returns-then-number-self-clause-answer c =
+    rw (← c.self.view_is)
+    (all_taken c.self.inside.window c.self.inside.taken c.self.inside.kept.items c.self.invariant.0 c.args.cast.number c.args.cast.number
+    c.if-number-self.true)
+
 pub returns-in_default-clause-answer : goal.returns-in_default-clause-answer
 returns-in_default-clause-answer c =
     rw (← c.self.view_is)
-    (is_received c.self.inside.window c.self.inside.taken c.self.inside.kept.items c.self.invariant.0 c.args.cast.number c.in_default.ensures)
+    (all_received c.self.inside.window c.self.inside.taken c.self.inside.kept.items c.self.invariant.0 c.args.cast.number c.in_default.ensures)
 
 pub returns-then-number-saturating_add-clause-answer : goal.returns-then-number-saturating_add-clause-answer
 returns-then-number-saturating_add-clause-answer c =
     let fits : c.args.cast.number < 2 ^ 32 = omega arith in
     rw (← c.self.view_is) (
-      is_lacking c.self.inside.window c.self.inside.taken c.self.inside.kept.items c.self.invariant.0 c.args.cast.number c.in-Some.place
+      all_lacking c.self.inside.window c.self.inside.taken c.self.inside.kept.items c.self.invariant.0 c.args.cast.number c.args.cast.number c.in-Some.place
           c.if-number-self.false c.in-Some.ensures,
       omega (arith, fits, c.if-number-saturating_add.true, c.saturating_add.ensures),
     )
@@ -41,7 +47,7 @@ invariant_of-self c =
 pub returns-clause-answer : goal.returns-clause-answer
 returns-clause-answer c =
     rw (← c.self.view_is) (
-      is_lacking c.self.inside.window c.self.inside.taken c.self.inside.kept.items c.self.invariant.0 c.args.cast.number c.in-Some.place
+      all_lacking c.self.inside.window c.self.inside.taken c.self.inside.kept.items c.self.invariant.0 c.args.cast.number c.args.cast.number c.in-Some.place
           c.if-number-self.false c.in-Some.ensures,
       omega (arith, c.if-number-saturating_add.false, c.saturating_add.ensures),
     )

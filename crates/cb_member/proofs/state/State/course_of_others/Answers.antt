@@ -23,7 +23,7 @@ returns-then-has_none_ready-clause-course c =
         size = ap length c.in_ok-spare.ensures ∙ length-replicate c.size.result 0 ∙ c.size.ensures.size ∙ ap (λ (g : Parameters). g.size) c.group.ensures.group;
         place = c.in_ok-reserve.ensures.place;
       };
-      expands_none = would_expand_alike c.args.cast.now.sender c.args.cast.now.number 0 c.args.self.now.reception c.reserve.new.self roomy
-          (subst (WouldExpand c.args.cast.now.sender c.args.cast.now.number c.args.self.now.reception) c.if-more-eq0.true c.would_expand-more.ensures);
+      expands_none = would_expand_alike c.args.cast.now.sender c.args.cast.now.number c.args.cast.now.number 0 c.args.self.now.reception c.reserve.new.self roomy
+          (subst (WouldExpand c.args.cast.now.sender c.args.cast.now.number c.args.cast.now.number c.args.self.now.reception) c.if-more-eq0.true c.would_expand-more.ensures);
       none_ready = none_ready_alike c.args.self.now.delivery c.has_none_ready.new.self settled (c.has_none_ready.ensures.none c.if-has_none_ready.true);
     }
