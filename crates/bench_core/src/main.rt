@@ -4,8 +4,7 @@
 //! `bench/plain_member.rs` is the same program in plain Rust, and both print the same: `bench/member.sh` compares them and measures.
 #![tactic(auto)]
 
-use bench_run::{Fault, tally_in_words};
-use cb_member::CoreMember;
+use bench_run::{Core, Fault, tally_in_words};
 use std::env;
 use std::process::ExitCode;
 
@@ -14,7 +13,7 @@ fn words_of(rt: &HostRuntime) -> Result<Vec<String>, Fault> {
 }
 
 fn print_run(rt: &HostRuntime) -> Result<(), Fault> {
-    let tally = tally_in_words::<CoreMember>(rt.alloc(), words_of(rt)?)?;
+    let tally = tally_in_words::<Core>(rt.alloc(), words_of(rt)?)?;
     println!(rt;
         "deliveries {} digest {:016x}",
         tally.deliveries, tally.digest

@@ -16,7 +16,7 @@ mod tally;
 pub use crate::fault::Fault;
 use crate::plan::{Plan, plan_of};
 use crate::run::tally_of;
-pub use crate::speaker::Speaker;
+pub use crate::speaker::{Core, Speaker};
 pub use crate::tally::Tally;
 use std::alloc::Global;
 

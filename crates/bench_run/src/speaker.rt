@@ -3,7 +3,7 @@
 use crate::tally::Tally;
 use bytes::Bytes;
 use cb_history::{
-    Arrival, ArriveRefusal, CastRefusal, Group, LONGEST_HISTORY, Outgoing, TickRefusal,
+    ArriveRefusal, CastRefusal, Event, Group, LONGEST_HISTORY, Outgoing, TickRefusal,
 };
 use cb_member::{CoreMember, Member, Received};
 use cb_times::NoMemory;
@@ -63,17 +63,27 @@ impl Speaker for Member {
     }
 }
 
-impl Speaker for CoreMember {
-    fn made(alloc: Global, group: Group, me: u32) -> Result<CoreMember, NoMemory> {
+/// A member without history, and the list in which it hands out its deliveries.
+#[derive(Drop)]
+pub struct Core {
+    member: CoreMember,
+    delivered: Vec<Event>,
+}
+
+impl Speaker for Core {
+    fn made(alloc: Global, group: Group, me: u32) -> Result<Core, NoMemory> {
         // the member is in range, so that only memory can be wanting
-        let Ok(core) = CoreMember::new(alloc, group, me) else {
+        let Ok(member) = CoreMember::new(alloc, group, me) else {
             return Err(AllocError);
         };
-        Ok(core)
+        Ok(Core {
+            member,
+            delivered: Vec::new(alloc),
+        })
     }
 
     fn cast(&mut self, payload: &[u8]) -> Result<Option<Bytes>, NoMemory> {
-        match self.cast(payload) {
+        match self.member.cast(payload) {
             Ok(done) => Ok(Some(done.out)),
             Err(CastRefusal::NoMemory) => Err(AllocError),
             Err(_) => Ok(None),
@@ -85,24 +95,19 @@ impl Speaker for CoreMember {
         bytes: &Bytes,
         tally: &mut Tally,
     ) -> Result<Option<Vec<Outgoing>>, NoMemory> {
-        match self.receive(bytes) {
-            Ok(
-                Arrival::Accepted {
-                    deliveries,
-                    out,
-                    ..
-                },
-            ) => {
-                tally.add_all(self.seat().me(), &deliveries);
+        self.delivered.clear();
+        match self.member.receive(bytes, &mut self.delivered) {
+            Ok(Received::Accepted { delivered, out, .. }) => {
+                tally.add_last(self.member.seat().me(), delivered, &self.delivered);
                 Ok(Some(out))
             }
             Err(ArriveRefusal::NoMemory) => Err(AllocError),
-            Ok(Arrival::Repeat) | Err(_) => Ok(None),
+            Ok(Received::Repeat) | Err(_) => Ok(None),
         }
     }
 
     fn tick(&mut self) -> Result<Option<Vec<Outgoing>>, NoMemory> {
-        match self.tick() {
+        match self.member.tick() {
             Ok(ticked) => Ok(Some(ticked.out)),
             Err(TickRefusal::NoMemory) => Err(AllocError),
             Err(TickRefusal::HistoryFull) => Ok(None),

@@ -32,13 +32,6 @@ impl Tally {
         }
     }
 
-    /// Member `me` delivered these.
-    pub fn add_all(&mut self, me: u32, deliveries: &[Message]) {
-        for message in deliveries {
-            self.add(me, message);
-        }
-    }
-
     fn add(&mut self, me: u32, message: &Message) {
         self.deliveries = self.deliveries.wrapping_add(1);
         let begun = mixed(self.digest, me, message.name.sender);

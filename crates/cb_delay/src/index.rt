@@ -127,7 +127,7 @@ impl Index {
         }
     }
 
-    /// Makes the next eight fields that differ somewhere those of this time. It answers up to which member the fields are so.
+    /// Makes the next field that differs that of this time. It answers up to which member the fields are so.
     fn go_on_to(&mut self, now: &VectorTime, first: u32) -> u32
         requires shape { HasShape (length now.now) self.old }
         requires member { first < length now.now }
@@ -139,12 +139,12 @@ impl Index {
         ensures placed { (lists : List (List Message)) → Tells lists self.old → Tells lists self.new }
         ensures looked { self.new.looked ≡ self.old.looked }
     {
-        let from = same_before(self.last.as_slice(), now.as_slice(), first as usize) as u32;
-        let end = now.size().min(from + EIGHT as u32);
-        for k in from..end {
-            self.set_field(k, now.get(k));
+        let k = same_before(self.last.as_slice(), now.as_slice(), first as usize) as u32;
+        if k >= now.size() {
+            return k;
         }
-        end
+        self.set_field(k, now.get(k));
+        k + 1
     }
 
     fn set_field(&mut self, k: u32, count: u32)
@@ -232,8 +232,24 @@ impl Index {
     }
 }
 
-/// A member before whom all fields from `first` on are the same: it stops before the eight that differ somewhere, or the last few.
+/// The first member from `first` on whose fields differ, or how many members there are.
 fn same_before(before: &[u32], now: &[u32], first: usize) -> usize
+    requires size { length before.now ≡ length now.now }
+    requires few { length now.now ≤ 64 }
+    requires member { first ≤ length now.now }
+    ensures from { first ≤ result }
+    ensures within { result ≤ length now.now }
+    ensures same { (k : ℕ) → first ≤ k → k < result → field before.now k ≡ field now.now k }
+{
+    let mut k = same_eights(before, now, first);
+    while k < now.len() && before[k] == now[k] {
+        k += 1;
+    }
+    k
+}
+
+/// A member before whom all fields from `first` on are the same: it stops before the eight that differ somewhere, or the last few.
+fn same_eights(before: &[u32], now: &[u32], first: usize) -> usize
     requires size { length before.now ≡ length now.now }
     requires few { length now.now ≤ 64 }
     requires member { first ≤ length now.now }

@@ -1,6 +1,7 @@
 -- What a core answers to received bytes.
-use Rattle.std.proofs.Common.{◌≡◌, ℕ, ◌+◌, ◌<◌, ◌≤◌, Bool, true, false, List, [], ◌∷◌, ◌++◌, length, map, Option, Some, None, Result, Ok, Err, refl, sym, ap, subst, ◌∙◌, arith, inl, inr}
+use Rattle.std.proofs.Common.{◌≡◌, ℕ, ◌+◌, ◌-◌, ◌<◌, ◌≤◌, Bool, true, false, List, [], ◌∷◌, ◌++◌, length, map, drop, Option, Some, None, Result, Ok, Err, refl, sym, ap, subst, ◌∙◌, arith, inl, inr}
 use Rattle.std.specs.Prelude.{option_map}
+use Rattle.std.proofs.lemmas.List.{append-nil, drop_all, drop_at, length-append, length-map}
 use Rattle.cb_times.specs.declared.name.Name.{Name}
 use Rattle.cb_frames.specs.declared.fault.FrameFault.{FrameFault}
 use Rattle.cb_frames.specs.Fields.{CastFields, CastFrame, FrameFields, StatusFields, StatusFrame, cast_fields}
@@ -14,21 +15,22 @@ use Rattle.cb_history.specs.declared.answer.ArriveRefusal.TheVariants as refusal
 use Rattle.cb_history.specs.declared.answer.Outgoing.{Outgoing}
 use Rattle.cb_history.specs.declared.history.Entry.{Entry}
 use Rattle.cb_history.specs.Facts.{ArriveEntry, CastReceived, EntryFields, Fact, StatusReceived, arrival_said, entry_fields, facts_of, said_by}
-use Rattle.cb_history.specs.Answers.{Accepted, ArrivalSays, answer_to, arrival_says, arrive_answer, deliveries, frame_answer}
+use Rattle.cb_history.specs.Answers.{Accepted, ArrivalSays, answer_to, arrive_answer, deliveries, frame_answer}
 use Rattle.cb_history.specs.Legal.{ToTake, arrive_entry, room_for_one}
 use Rattle.cb_history.specs.LegalFacts.{AreFactsOf}
 use Rattle.cb_history.specs.State.{MemberState, RefusesArrival, answer_to_arrival, entry_by, facts_in}
 use Rattle.cb_member.specs.declared.core_member.arriving.Coming.{Coming}
 use Rattle.cb_member.specs.declared.core_member.arriving.Heard.{Heard}
 use Rattle.cb_member.specs.declared.recorder.arriving.Named.{Named}
+use Rattle.cb_member.specs.declared.recorder.taken.Received.{Received}
 use Rattle.cb_member.specs.declared.state.State.{State}
 use Rattle.cb_member.specs.Answering.{RefusesBytes}
 use Rattle.cb_member.specs.Arriving.{Answers, Changes, DeliversWith}
-use Rattle.cb_member.specs.CoreCalls.{AnswersArrivalOnEach, CanCome, HasCome, HearsOnEach}
+use Rattle.cb_member.specs.CoreCalls.{AnswersArrivalOnEach, CanCome, HasCome, HearsOnEach, JoinsAs, joined}
 use Rattle.cb_member.specs.CoreMember.{Core, GoesOn, IsCore, OnEach, StandsFor, core_of, unlimited}
 use Rattle.cb_member.specs.Hearing.{HasHeard}
 use Rattle.cb_member.specs.Knowledge.{delivered_by}
-use Rattle.cb_member.specs.Received.{names_of}
+use Rattle.cb_member.specs.Received.{count_said, names_of, received_says}
 use Rattle.cb_member.specs.State.{Keeps, OnAll}
 use Rattle.cb_member.proofs.Accepting.{none_delivered, only_deliveries}
 use Rattle.cb_member.proofs.Cores.{Grows, core_goes_on, facts_follow, facts_stand, goes_on_none, keeps_of, one_is_left, stands_then}
@@ -54,9 +56,10 @@ answered_with_change state bytes frame read on es s =
 
 -- ---- refusals
 
-pub refuses_arrival : (wanted : Bool) (bytes : List ℕ) (old new : Core) (refusal : ArriveRefusal) → IsCore old → new ≡ old → OnEach old (λ m. RefusesArrival m bytes refusal)
-    → AnswersArrivalOnEach wanted bytes old new (Err refusal)
-refuses_arrival wanted bytes old new refusal is same refuses = record { core = subst IsCore (sym same) is; hears = tt; refused = refuses; same = same }
+pub refuses_arrival : (wanted : Bool) (bytes : List ℕ) (old new : Core) (before after : List Event) (refusal : ArriveRefusal) → IsCore old → new ≡ old → after ≡ before
+    → OnEach old (λ m. RefusesArrival m bytes refusal) → AnswersArrivalOnEach wanted bytes old new before after (Err refusal)
+refuses_arrival wanted bytes old new before after refusal is same same_events refuses =
+    record { core = subst IsCore (sym same) is; hears = tt; refused = refuses; same = same; same_events = same_events }
 
 pub refused_frame : (state : State) (bytes : List ℕ) (frame : FrameFields) (refusal : ArriveRefusal) → frame_at bytes ≡ Ok frame → OnAll state (λ facts. Answers state.seat facts frame (Err refusal))
     → OnEach (core_of state) (λ m. RefusesArrival m bytes refusal)
@@ -75,26 +78,49 @@ refused_bytes core bytes refusal (inl fault) es s =
     inl (no_frame core es bytes fault.0 fault.1 ∙ ap (λ (e : ArriveRefusal). let answer : Result ArrivalSays ArriveRefusal = Err e in answer) (sym fault.2))
 refused_bytes core bytes refusal (inr memory) es s = inr memory
 
+-- ---- the events
+
+-- these messages joined, where the events are so
+pub joined_are : (before after : List Event) (ms : List Message) → JoinsAs ms before after → joined before after ≡ ms
+joined_are before after ms joins =
+    ap (λ (es : List Event). delivered_by (drop (length before) es)) joins
+    ∙ ap delivered_by (drop_at before (map (λ m. Deliver m) ms) (length before) refl) ∙ only_deliveries ms
+
+joins_so : (before after : List Event) (ms : List Message) → JoinsAs ms before after → JoinsAs (joined before after) before after
+joins_so before after ms joins = joins ∙ ap (λ (xs : List Message). before ++ map (λ m. Deliver m) xs) (sym (joined_are before after ms joins))
+
+none_joins : (events : List Event) → JoinsAs [] events events
+none_joins events = sym (append-nil events)
+
 -- ---- answers that change nothing
 
-pub answers_unchanged : (wanted : Bool) (bytes : List ℕ) (core : Core) (says : ArrivalSays) (heard : Heard) → IsCore core → OnEach core (λ m. answer_to_arrival m bytes ≡ Ok says)
-    → arrive_entry bytes (Ok says) ≡ None → arrival_says heard.arrival ≡ says → heard.noted ≡ None → AnswersArrivalOnEach wanted bytes core core (Ok heard)
-answers_unchanged wanted bytes core says heard is answer none said not_noted = record { core = is; hears = hears; refused = tt; same = tt }
+pub answers_unchanged : (wanted : Bool) (bytes : List ℕ) (core : Core) (says : ArrivalSays) (heard : Heard) (events : List Event) → IsCore core → OnEach core (λ m. answer_to_arrival m bytes ≡ Ok says)
+    → arrive_entry bytes (Ok says) ≡ None → received_says heard.received [] ≡ says → count_said heard.received ≡ 0 → heard.noted ≡ None
+    → AnswersArrivalOnEach wanted bytes core core events events (Ok heard)
+answers_unchanged wanted bytes core says heard events is answer none said count not_noted = record { core = is; hears = hears; refused = tt; same = tt; same_events = tt }
   where
     added : OnEach core (λ m. entry_by m (ToTake bytes) ≡ None)
     added es s = ap (arrive_entry bytes) (answer es s) ∙ none
 
-    hears : HearsOnEach wanted bytes core core heard
+    no_one : [] ≡ joined events events
+    no_one = sym (joined_are events events [] (none_joins events))
+
+    hears : HearsOnEach wanted bytes core core events events heard
     hears = record {
       goes_on = goes_on_none (ToTake bytes) core added;
-      taken = λ es s. record { answer = answer es s ∙ ap (λ (x : ArrivalSays). let r : Result ArrivalSays ArriveRefusal = Ok x in r) (sym said); after = refl };
+      taken = λ es s. record {
+        answer = answer es s ∙ ap (λ (x : ArrivalSays). let r : Result ArrivalSays ArriveRefusal = Ok x in r) (sym said ∙ ap (received_says heard.received) no_one);
+        count = count ∙ ap (λ (ms : List Message). length ms) no_one;
+        after = refl;
+      };
+      joins = joins_so events events [] (none_joins events);
       entry = λ want es s. added es s ∙ ap (option_map entry_fields) (sym not_noted);
     }
 
 -- ---- a frame that changes what is known
 
 -- the frame says this fact, and delivers these messages
-pub record TakesSo (wanted : Bool) (bytes : List ℕ) (frame : FrameFields) (fact : Fact) (old new : State) (heard : Heard) : Type 0 where
+pub record TakesSo (wanted : Bool) (bytes : List ℕ) (frame : FrameFields) (fact : Fact) (old new : State) (before after : List Event) (heard : Heard) : Type 0 where
   pub core : IsCore (core_of old)
   pub bytes_are : IsBytes bytes
   pub read : frame_at bytes ≡ Ok frame
@@ -102,11 +128,19 @@ pub record TakesSo (wanted : Bool) (bytes : List ℕ) (frame : FrameFields) (fac
   pub says : arrival_said (Ok frame) ≡ fact ∷ []
   pub seat : new.seat ≡ old.seat
   pub keeps : (facts : List Fact) → AreFactsOf old.seat (facts ++ fact ∷ []) → Keeps facts old → Keeps (facts ++ fact ∷ []) new
-  pub said : (facts : List Fact) → AreFactsOf old.seat (facts ++ fact ∷ []) → Keeps facts old → arrival_says heard.arrival ≡ Accepted (deliveries old.seat facts frame) true []
+  pub joins : (facts : List Fact) → AreFactsOf old.seat (facts ++ fact ∷ []) → Keeps facts old → JoinsAs (deliveries old.seat facts frame) before after
+  pub said : (messages : List Message) → received_says heard.received messages ≡ Accepted messages true []
+  pub count : count_said heard.received ≡ length after - length before
   pub noted : (facts : List Fact) → AreFactsOf old.seat (facts ++ fact ∷ []) → Keeps facts old → wanted ≡ true
       → option_map entry_fields heard.noted ≡ Some (ArriveEntry bytes (map (λ m. m.name) (deliveries old.seat facts frame)))
 
-module _ (wanted : Bool) (bytes : List ℕ) (frame : FrameFields) (fact : Fact) (old new : State) (heard : Heard) (t : TakesSo wanted bytes frame fact old new heard) where
+count_is : (before after : List Event) (ms : List Message) (n : ℕ) → JoinsAs ms before after → n ≡ length after - length before → n ≡ length ms
+count_is before after ms n joins many =
+    let all = ap (λ (es : List Event). length es) joins ∙ length-append before (map (λ m. Deliver m) ms) in
+    let each = length-map ms (λ (m : Message). let e : Event = Deliver m in e) in
+    omega (arith, many, all, each)
+
+module _ (wanted : Bool) (bytes : List ℕ) (frame : FrameFields) (fact : Fact) (old new : State) (before after : List Event) (heard : Heard) (t : TakesSo wanted bytes frame fact old new before after heard) where
   module _ (es : List EntryFields) (s : StandsFor es (core_of old)) where
     answer : answer_to_arrival (unlimited old.seat es) bytes ≡ Ok (Accepted (deliveries old.seat (facts_of es) frame) true [])
     answer = answered_with_change old bytes frame t.read t.changes es s
@@ -120,50 +154,57 @@ module _ (wanted : Bool) (bytes : List ℕ) (frame : FrameFields) (fact : Fact) 
     follows : AreFactsOf old.seat (facts_of es ++ fact ∷ [])
     follows = facts_follow (core_of old) es (ToTake bytes) _ fact grows
 
+    joins_there : JoinsAs (deliveries old.seat (facts_of es) frame) before after
+    joins_there = t.joins (facts_of es) follows (keeps_of old es s)
+
+    are_there : joined before after ≡ deliveries old.seat (facts_of es) frame
+    are_there = joined_are before after _ joins_there
+
   goes_on : GoesOn (ToTake bytes) (core_of old) (core_of new)
   goes_on = record {
     seat = t.seat;
     stands = λ es s. stands_then (core_of old) es (ToTake bytes) _ fact (grows es s) new t.seat (t.keeps (facts_of es) (follows es s) (keeps_of old es s));
   }
 
-  pub takes_so : HasCome wanted bytes (core_of old) (core_of new) heard
+  pub takes_so : HasCome wanted bytes (core_of old) (core_of new) before after heard
   takes_so = record {
     core = core_goes_on (ToTake bytes) (core_of old) (core_of new) t.core goes_on;
     hears = record {
       goes_on = goes_on;
       taken = λ es s. record {
-        answer = answer es s ∙ ap (λ (x : ArrivalSays). let r : Result ArrivalSays ArriveRefusal = Ok x in r) (sym (t.said (facts_of es) (follows es s) (keeps_of old es s)));
+        answer = answer es s
+            ∙ ap (λ (ms : List Message). let r : Result ArrivalSays ArriveRefusal = Ok (Accepted ms true []) in r) (sym (are_there es s))
+            ∙ ap (λ (x : ArrivalSays). let r : Result ArrivalSays ArriveRefusal = Ok x in r) (sym (t.said (joined before after)));
+        count = count_is before after _ (count_said heard.received) (joins_there es s) t.count ∙ ap (λ (ms : List Message). length ms) (sym (are_there es s));
         after = refl;
       };
+      joins = joins_so before after _ (joins_there t.core.entries t.core.stands);
       entry = λ want es s. by_call es s ∙ sym (t.noted (facts_of es) (follows es s) (keeps_of old es s) want);
     };
   }
 
 -- what came is so of what was known before it was asked for
-pub come_before : (wanted : Bool) (bytes : List ℕ) (old mid new : Core) (heard : Heard) → mid ≡ old → HasCome wanted bytes mid new heard → AnswersArrivalOnEach wanted bytes old new (Ok heard)
-come_before wanted bytes old mid new heard same come =
-    let has = subst (λ (core : Core). HasCome wanted bytes core new heard) same come in
-    record { core = has.core; hears = has.hears; refused = tt; same = tt }
+pub come_before : (wanted : Bool) (bytes : List ℕ) (old mid new : Core) (before between after : List Event) (heard : Heard) → mid ≡ old → between ≡ before → HasCome wanted bytes mid new between after heard
+    → AnswersArrivalOnEach wanted bytes old new before after (Ok heard)
+come_before wanted bytes old mid new before between after heard same same_events come =
+    let has = subst (λ (core : Core). HasCome wanted bytes core new before after heard) same (subst (λ (es : List Event). HasCome wanted bytes mid new es after heard) same_events come) in
+    record { core = has.core; hears = has.hears; refused = tt; same = tt; same_events = tt }
 
 -- ---- a cast
 
 -- what was done to take the cast
-pub record CameSo (wanted : Bool) (bytes : List ℕ) (coming : Coming) (old new : State) (heard : Heard) (after : List Event) (delivered : List Message) : Type 0 where
+pub record CameSo (wanted : Bool) (bytes : List ℕ) (coming : Coming) (old new : State) (before after : List Event) (heard : Heard) : Type 0 where
   pub can : CanCome wanted bytes old coming
-  pub delivers : DeliversWith (cast_fields coming.cast) old new coming.events.items after
-  pub moved : delivered ≡ delivered_by after
-  pub said : arrival_says heard.arrival ≡ Accepted delivered true []
-  pub noted : (named : Named) → coming.noted ≡ Some named → option_map entry_fields heard.noted ≡ Some (ArriveEntry named.frame (names_of after))
+  pub delivers : DeliversWith (cast_fields coming.cast) old new before after
+  pub said : (messages : List Message) → received_says heard.received messages ≡ Accepted messages true []
+  pub count : count_said heard.received ≡ length after - length before
+  pub noted : (named : Named) → coming.noted ≡ Some named → option_map entry_fields heard.noted ≡ Some (ArriveEntry named.frame (map (λ m. m.name) (joined before after)))
 
-pub came_so : (wanted : Bool) (bytes : List ℕ) (coming : Coming) (old new : State) (heard : Heard) (after : List Event) (delivered : List Message) → CameSo wanted bytes coming old new heard after delivered
-    → HasCome wanted bytes (core_of old) (core_of new) heard
-came_so wanted bytes coming old new heard after delivered c =
+pub came_so : (wanted : Bool) (bytes : List ℕ) (coming : Coming) (old new : State) (before after : List Event) (heard : Heard) → CameSo wanted bytes coming old new before after heard
+    → HasCome wanted bytes (core_of old) (core_of new) before after heard
+came_so wanted bytes coming old new before after heard c =
     let cast = cast_fields coming.cast in
-    let are : (facts : List Fact) → AreFactsOf old.seat (facts ++ CastReceived cast ∷ []) → Keeps facts old → delivered_by after ≡ deliveries old.seat facts (CastFrame cast) =
-    λ facts legal keeps.
-    ap delivered_by ((c.delivers.delivers facts legal keeps).events ∙ ap (λ (es : List Event). es ++ map (λ m. Deliver m) (deliveries old.seat facts (CastFrame cast))) c.can.no_events)
-    ∙ only_deliveries (deliveries old.seat facts (CastFrame cast)) in
-    takes_so wanted bytes (CastFrame cast) (CastReceived cast) old new heard (record {
+    takes_so wanted bytes (CastFrame cast) (CastReceived cast) old new before after heard (record {
       core = c.can.core_is;
       bytes_are = c.can.bytes_are;
       read = c.can.read;
@@ -171,23 +212,26 @@ came_so wanted bytes coming old new heard after delivered c =
       says = refl;
       seat = c.delivers.seat;
       keeps = λ facts legal keeps. (c.delivers.delivers facts legal keeps).keeps;
-      said = λ facts legal keeps. c.said ∙ ap (λ (ms : List Message). Accepted ms true []) (c.moved ∙ are facts legal keeps);
+      joins = λ facts legal keeps. (c.delivers.delivers facts legal keeps).events;
+      said = c.said;
+      count = c.count;
       noted = λ facts legal keeps want.
           let named = c.can.noted want in
           c.noted named.0 named.1
-          ∙ ap (λ (b : List ℕ). Some (ArriveEntry b (names_of after))) (c.can.noted_fits named.0 named.1).frame
-          ∙ ap (λ (ms : List Message). Some (ArriveEntry bytes (map (λ m. m.name) ms))) (are facts legal keeps);
+          ∙ ap (λ (b : List ℕ). Some (ArriveEntry b (map (λ m. m.name) (joined before after)))) (c.can.noted_fits named.0 named.1).frame
+          ∙ ap (λ (ms : List Message). Some (ArriveEntry bytes (map (λ m. m.name) ms))) (joined_are before after _ (c.delivers.delivers facts legal keeps).events);
     })
 
 -- ---- a status
 
-pub heard_so : (wanted : Bool) (bytes : List ℕ) (status : StatusFields) (old new : State) (heard : Heard) → IsCore (core_of old) → IsBytes bytes → frame_at bytes ≡ Ok (StatusFrame status)
-    → OnAll old (λ facts. Changes old.seat facts (StatusFrame status)) → HasHeard status old new → arrival_says heard.arrival ≡ Accepted [] true []
-    → (wanted ≡ true → option_map entry_fields heard.noted ≡ Some (ArriveEntry bytes [])) → AnswersArrivalOnEach wanted bytes (core_of old) (core_of new) (Ok heard)
-heard_so wanted bytes status old new heard is bytes_are read changes has said noted =
+pub heard_so : (wanted : Bool) (bytes : List ℕ) (status : StatusFields) (old new : State) (events : List Event) (heard : Heard) → IsCore (core_of old) → IsBytes bytes → frame_at bytes ≡ Ok (StatusFrame status)
+    → OnAll old (λ facts. Changes old.seat facts (StatusFrame status)) → HasHeard status old new → ((messages : List Message) → received_says heard.received messages ≡ Accepted messages true [])
+    → count_said heard.received ≡ 0 → (wanted ≡ true → option_map entry_fields heard.noted ≡ Some (ArriveEntry bytes []))
+    → AnswersArrivalOnEach wanted bytes (core_of old) (core_of new) events events (Ok heard)
+heard_so wanted bytes status old new events heard is bytes_are read changes has said count noted =
     let none : (facts : List Fact) → [] ≡ deliveries old.seat facts (StatusFrame status) = λ facts. sym (none_delivered old.seat facts status) in
-    come_before wanted bytes (core_of old) (core_of old) (core_of new) heard refl
-    (takes_so wanted bytes (StatusFrame status) (StatusReceived status) old new heard (record {
+    come_before wanted bytes (core_of old) (core_of old) (core_of new) events events events heard refl refl
+    (takes_so wanted bytes (StatusFrame status) (StatusReceived status) old new events events heard (record {
       core = is;
       bytes_are = bytes_are;
       read = read;
@@ -195,6 +239,8 @@ heard_so wanted bytes status old new heard is bytes_are read changes has said no
       says = refl;
       seat = has.seat;
       keeps = has.keeps;
-      said = λ facts legal keeps. said ∙ ap (λ (ms : List Message). Accepted ms true []) (none facts);
+      joins = λ facts legal keeps. subst (λ (ms : List Message). JoinsAs ms events events) (none facts) (none_joins events);
+      said = said;
+      count = omega (arith, count);
       noted = λ facts legal keeps want. noted want ∙ ap (λ (ms : List Message). Some (ArriveEntry bytes (map (λ m. m.name) ms))) (none facts);
     }))

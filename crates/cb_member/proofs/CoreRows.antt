@@ -4,7 +4,6 @@ use Rattle.cb_varint.specs.Reading.{number_at, spelling}
 use Rattle.cb_frames.specs.declared.fault.FrameFault.TheVariants as faults
 use Rattle.cb_frames.specs.Text.{text_of}
 use Rattle.cb_frames.specs.Reading.{frame_at, cast_at, status_at, request_at, pairs_at, pair_at}
-use Rattle.cb_history.specs.declared.answer.Arrival.{Arrival}
 use Rattle.cb_history.specs.declared.answer.ArriveRefusal.TheVariants as arrivals
 use Rattle.cb_history.specs.declared.answer.CastDone.{CastDone}
 use Rattle.cb_history.specs.declared.answer.CastRefusal.TheVariants as casts
@@ -14,6 +13,8 @@ use Rattle.cb_history.specs.Group.{Identity}
 use Rattle.cb_history.specs.Facts.{ArriveEntry, CastEntry, TickEntry}
 use Rattle.cb_history.specs.View.{view, drained}
 use Rattle.cb_history.specs.Answers.{cast_answer, arrive_answer, tick_answer}
+use Rattle.cb_delay.specs.declared.message.Message.{Message}
+use Rattle.cb_member.specs.declared.recorder.taken.Received.{Received}
 use Rattle.cb_member.specs.CoreRuns.{Cast, Take, Tick, history_after_all}
 
 abbrev first : Identity
@@ -27,15 +28,15 @@ abbrev yo : List ℕ
 yo = 17 ∷ 7 ∷ 1 ∷ 1 ∷ 1 ∷ 0 ∷ 1 ∷ 2 ∷ 121 ∷ 111 ∷ []
 
 -- what was out of memory adds nothing, nor what was no frame; a cast, a delivery and a status are an entry each
-cast_and_delivery : (done : CastDone) (arrival : Arrival) (ticked : Ticked) → history_after_all first []
-    (Cast (104 ∷ 105 ∷ []) (Err casts.NoMemory) ∷ Cast (104 ∷ 105 ∷ []) (Ok done) ∷ Take (17 ∷ []) (Err (arrivals.Malformed faults.Short)) ∷ Take yo (Ok arrival)
+cast_and_delivery : (done : CastDone) (received : Received) (messages : List Message) (ticked : Ticked) → history_after_all first []
+    (Cast (104 ∷ 105 ∷ []) (Err casts.NoMemory) ∷ Cast (104 ∷ 105 ∷ []) (Ok done) ∷ Take (17 ∷ []) (Err (arrivals.Malformed faults.Short)) [] ∷ Take yo (Ok received) messages
     ∷ Tick (Err ticks.NoMemory) ∷ Tick (Ok ticked) ∷ [])
     ≡ CastEntry hi ∷ ArriveEntry yo (record { sender = 1; number = 1 } ∷ []) ∷ TickEntry (18 ∷ 7 ∷ 0 ∷ 2 ∷ 0 ∷ 1 ∷ 0 ∷ 1 ∷ []) ∷ []
 unfolding cast_answer arrive_answer tick_answer view drained frame_at cast_at status_at request_at pairs_at pair_at number_at text_of spelling
-cast_and_delivery done arrival ticked = refl
+cast_and_delivery done received messages ticked = refl
 
 -- nor do a repeat and a status that says what the last one said
-repeats : (done : CastDone) (arrival : Arrival) (ticked : Ticked) → history_after_all first []
-    (Cast (104 ∷ 105 ∷ []) (Ok done) ∷ Take hi (Ok arrival) ∷ Tick (Ok ticked) ∷ Tick (Ok ticked) ∷ []) ≡ CastEntry hi ∷ TickEntry (18 ∷ 7 ∷ 0 ∷ 1 ∷ 0 ∷ 1 ∷ []) ∷ []
+repeats : (done : CastDone) (received : Received) (messages : List Message) (ticked : Ticked) → history_after_all first []
+    (Cast (104 ∷ 105 ∷ []) (Ok done) ∷ Take hi (Ok received) messages ∷ Tick (Ok ticked) ∷ Tick (Ok ticked) ∷ []) ≡ CastEntry hi ∷ TickEntry (18 ∷ 7 ∷ 0 ∷ 1 ∷ 0 ∷ 1 ∷ []) ∷ []
 unfolding cast_answer arrive_answer tick_answer view drained frame_at cast_at status_at request_at pairs_at pair_at number_at text_of spelling
-repeats done arrival ticked = refl
+repeats done received messages ticked = refl

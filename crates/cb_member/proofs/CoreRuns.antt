@@ -25,16 +25,16 @@ use Rattle.cb_member.proofs.Judging.{window_full}
 seat_after : (a : AnsweredCall) (old new : Core) → GoesOnOrStays a old new → new.seat ≡ old.seat
 seat_after (Cast payload (Ok done)) old new goes = goes.seat
 seat_after (Cast payload (Err refusal)) old new same = ap (λ (c : Core). c.seat) same
-seat_after (Take bytes (Ok arrival)) old new goes = goes.seat
-seat_after (Take bytes (Err refusal)) old new same = ap (λ (c : Core). c.seat) same
+seat_after (Take bytes (Ok received) messages) old new goes = goes.seat
+seat_after (Take bytes (Err refusal) messages) old new same = ap (λ (c : Core). c.seat) same
 seat_after (Tick (Ok ticked)) old new goes = goes.seat
 seat_after (Tick (Err refusal)) old new same = ap (λ (c : Core). c.seat) same
 
 stands_after : (a : AnsweredCall) (old new : Core) (entries : List EntryFields) → GoesOnOrStays a old new → StandsFor entries old → StandsFor (history_with old.seat entries a) new
 stands_after (Cast payload (Ok done)) old new entries goes s = goes.stands entries s
 stands_after (Cast payload (Err refusal)) old new entries same s = subst (StandsFor entries) (sym same) s
-stands_after (Take bytes (Ok arrival)) old new entries goes s = goes.stands entries s
-stands_after (Take bytes (Err refusal)) old new entries same s = subst (StandsFor entries) (sym same) s
+stands_after (Take bytes (Ok received) messages) old new entries goes s = goes.stands entries s
+stands_after (Take bytes (Err refusal) messages) old new entries same s = subst (StandsFor entries) (sym same) s
 stands_after (Tick (Ok ticked)) old new entries goes s = goes.stands entries s
 stands_after (Tick (Err refusal)) old new entries same s = subst (StandsFor entries) (sym same) s
 

@@ -6,6 +6,7 @@ use Rattle.cb_frames.specs.declared.frame.TheConstants.{LONGEST_PAYLOAD}
 use Rattle.cb_frames.specs.declared.fault.FrameFault.{FrameFault}
 use Rattle.cb_frames.specs.Fields.{CastFields, FrameFields}
 use Rattle.cb_frames.specs.Reading.{frame_at}
+use Rattle.cb_delay.specs.declared.message.Event.{Event}
 use Rattle.cb_history.specs.declared.answer.ArriveRefusal.{ArriveRefusal}
 use Rattle.cb_history.specs.declared.answer.ArriveRefusal.TheVariants as arrivals
 use Rattle.cb_history.specs.declared.answer.CastDone.{CastDone}
@@ -108,8 +109,9 @@ no_full_arrival : (seat : Identity) (es : List EntryFields) (bytes : List ℕ) �
 no_full_arrival seat es bytes (inl says) = arrive_answer_not_full seat es bytes says
 no_full_arrival seat es bytes (inr memory) = let is = memory.0 in absurd cc
 
-pub arrival_never_full : (wanted : Bool) (bytes : List ℕ) (old new : Core) (refusal : ArriveRefusal) → IsCore old → AnswersArrivalOnEach wanted bytes old new (Err refusal) → refusal ≢ arrivals.HistoryFull
-arrival_never_full wanted bytes old new refusal is answers full =
+pub arrival_never_full : (wanted : Bool) (bytes : List ℕ) (old new : Core) (before after : List Event) (refusal : ArriveRefusal) → IsCore old → AnswersArrivalOnEach wanted bytes old new before after (Err refusal)
+    → refusal ≢ arrivals.HistoryFull
+arrival_never_full wanted bytes old new before after refusal is answers full =
     no_full_arrival old.seat is.entries bytes (subst (λ (r : ArriveRefusal). RefusesArrival (unlimited old.seat is.entries) bytes r) full (answers.refused is.entries is.stands))
 
 pub same_refusal : {T : Type 0} → (a b : ArriveRefusal) → (let r : Result T ArriveRefusal = Err a in r) ≡ Err b → a ≡ b

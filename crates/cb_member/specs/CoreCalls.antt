@@ -1,11 +1,12 @@
 -- What a core answers to its calls, whatever history it stands for.
-use Rattle.std.specs.Prelude.{◌≡◌, ℕ, Bool, true, ◌≤◌, List, [], Option, Some, option_map, Result, Ok, IfOk, IfErr, OnErr, OnOk}
-use Rattle.std.specs.Vec.{vec_capacity, vec_len}
+use Rattle.std.specs.Prelude.{◌≡◌, ℕ, Bool, true, List, ◌++◌, length, map, drop, Option, Some, option_map, Result, Ok, IfOk, IfErr, OnErr, OnOk}
 use Rattle.cb_frames.specs.Fields.{CastFrame, cast_fields}
 use Rattle.cb_frames.specs.Laws.{IsBytes}
 use Rattle.cb_frames.specs.Reading.{frame_at}
+use Rattle.cb_delay.specs.declared.message.Event.{Event}
+use Rattle.cb_delay.specs.declared.message.Event.TheVariants.{Deliver}
+use Rattle.cb_delay.specs.declared.message.Message.{Message}
 use Rattle.cb_history.specs.declared.answer.ArriveRefusal.{ArriveRefusal}
-use Rattle.cb_history.specs.declared.answer.Arrival.{Arrival}
 use Rattle.cb_history.specs.declared.answer.CastDone.{CastDone}
 use Rattle.cb_history.specs.declared.answer.CastRefusal.{CastRefusal}
 use Rattle.cb_history.specs.declared.answer.Ticked.{Ticked}
@@ -13,16 +14,18 @@ use Rattle.cb_history.specs.declared.answer.TickRefusal.{TickRefusal}
 use Rattle.cb_history.specs.declared.history.Entry.{Entry}
 use Rattle.cb_history.specs.Facts.{entry_fields}
 use Rattle.cb_history.specs.Legal.{Call, ToCast, ToTake, ToTick}
-use Rattle.cb_history.specs.State.{HasCast, HasTaken, HasTicked, RefusesArrival, RefusesTick, entry_by, state_after}
+use Rattle.cb_history.specs.State.{MemberState, HasCast, HasTicked, RefusesArrival, RefusesTick, answer_to_arrival, entry_by, state_after}
 use Rattle.cb_member.specs.declared.core_member.arriving.Coming.{Coming}
 use Rattle.cb_member.specs.declared.core_member.arriving.Heard.{Heard}
 use Rattle.cb_member.specs.declared.recorder.arriving.Named.{Named}
+use Rattle.cb_member.specs.declared.recorder.taken.Received.{Received}
 use Rattle.cb_member.specs.declared.state.State.{State}
 use Rattle.cb_member.specs.Arriving.{IsNew}
 use Rattle.cb_member.specs.Casting.{RefusesExactly}
 use Rattle.cb_member.specs.CoreMember.{Core, GoesOn, IsCore, OnEach, core_of}
 use Rattle.cb_member.specs.Course.{CanGo, most}
-use Rattle.cb_member.specs.Received.{HasRoomForWanted}
+use Rattle.cb_member.specs.Knowledge.{delivered_by}
+use Rattle.cb_member.specs.Received.{HasRoomForWanted, count_said, received_says}
 
 -- ---- casts
 
@@ -54,31 +57,41 @@ pub record AnswersTickOnEach (old new : Core) (result : Result (Ticked × Option
 
 -- ---- received bytes
 
--- received bytes were taken, or were a repeat, and this is their entry, where it is wanted and one is added
-pub record HearsOnEach (wanted : Bool) (bytes : List ℕ) (old new : Core) (heard : Heard) : Type 0 where
+-- the messages whose deliveries joined the events
+abbrev pub joined : List Event → List Event → List Message
+joined before after = delivered_by (drop (length before) after)
+
+-- received bytes were taken, or were a repeat, as the definition says, and these messages are what they deliver
+pub record HasReceivedWith (old new : MemberState) (bytes : List ℕ) (r : Received) (messages : List Message) : Type 0 where
+  pub answer : answer_to_arrival old bytes ≡ Ok (received_says r messages)
+  pub count : count_said r ≡ length messages
+  pub after : new ≡ state_after old (ToTake bytes)
+
+-- the events are those of before, and behind them the deliveries of these messages
+abbrev pub JoinsAs : List Message → List Event → List Event → Type 0
+JoinsAs messages before after = after ≡ before ++ map (λ m. Deliver m) messages
+
+-- what they deliver joined the events; and this is their entry, where it is wanted and one is added
+pub record HearsOnEach (wanted : Bool) (bytes : List ℕ) (old new : Core) (before after : List Event) (heard : Heard) : Type 0 where
   pub goes_on : GoesOn (ToTake bytes) old new
-  pub taken : OnEach old (λ m. HasTaken m (state_after m (ToTake bytes)) bytes heard.arrival)
+  pub taken : OnEach old (λ m. HasReceivedWith m (state_after m (ToTake bytes)) bytes heard.received (joined before after))
+  pub joins : JoinsAs (joined before after) before after
   pub entry : wanted ≡ true → OnEach old (λ m. entry_by m (ToTake bytes) ≡ option_map entry_fields heard.noted)
 
-pub record AnswersArrivalOnEach (wanted : Bool) (bytes : List ℕ) (old new : Core) (result : Result Heard ArriveRefusal) : Type 0 where
+pub record AnswersArrivalOnEach (wanted : Bool) (bytes : List ℕ) (old new : Core) (before after : List Event) (result : Result Heard ArriveRefusal) : Type 0 where
   pub core : IsCore new
-  pub hears : IfOk result (HearsOnEach wanted bytes old new)
+  pub hears : IfOk result (HearsOnEach wanted bytes old new before after)
   pub refused : IfErr result (λ refusal. OnEach old (λ m. RefusesArrival m bytes refusal))
   pub same : OnErr result (new ≡ old)
+  pub same_events : OnErr result (after ≡ before)
 
--- the cast is that of these bytes and new, has its course, and there is room for what it delivers and for its names
+-- the cast is that of these bytes and new, has its course, and there is room for the names of what it delivers
 pub record CanCome (wanted : Bool) (bytes : List ℕ) (core : State) (coming : Coming) : Type 0 where
   pub core_is : IsCore (core_of core)
   pub bytes_are : IsBytes bytes
   pub read : frame_at bytes ≡ Ok (CastFrame (cast_fields coming.cast))
   pub new : IsNew (cast_fields coming.cast) core
   pub can_go : CanGo (cast_fields coming.cast) coming.course core
-  pub no_events : coming.events.items ≡ []
-  pub no_event : vec_len coming.events ≡ 0
-  pub room : most coming.course ≤ vec_capacity coming.events
-  pub empty : coming.deliveries.items ≡ []
-  pub no_delivery : vec_len coming.deliveries ≡ 0
-  pub room_for_all : most coming.course ≤ vec_capacity coming.deliveries
   pub noted : wanted ≡ true → (named : Named) × (coming.noted ≡ Some named)
   pub noted_fits : HasRoomForWanted bytes (most coming.course) coming.noted
 
@@ -88,9 +101,9 @@ pub record IsComing (coming : Coming) (core : State) : Type 0 where
   pub can : CanCome wanted bytes core coming
 
 -- it was taken, and is answered so
-pub record HasCome (wanted : Bool) (bytes : List ℕ) (old new : Core) (heard : Heard) : Type 0 where
+pub record HasCome (wanted : Bool) (bytes : List ℕ) (old new : Core) (before after : List Event) (heard : Heard) : Type 0 where
   pub core : IsCore new
-  pub hears : HearsOnEach wanted bytes old new heard
+  pub hears : HearsOnEach wanted bytes old new before after heard
 
-abbrev pub Comes : Coming → State → State → Heard → Type 0
-Comes coming old new heard = (wanted : Bool) (bytes : List ℕ) → CanCome wanted bytes old coming → HasCome wanted bytes (core_of old) (core_of new) heard
+abbrev pub Comes : Coming → State → State → List Event → List Event → Heard → Type 0
+Comes coming old new before after heard = (wanted : Bool) (bytes : List ℕ) → CanCome wanted bytes old coming → HasCome wanted bytes (core_of old) (core_of new) before after heard

@@ -2,7 +2,7 @@
 use Rattle.std.specs.Prelude.{◌≡◌, ℕ, ◌≤◌, List, [], ◌∷◌, length, Result, Ok, Err}
 use Rattle.cb_frames.specs.declared.frame.TheConstants.{LONGEST_PAYLOAD, LAST_NUMBER}
 use Rattle.cb_times.specs.Order.{field}
-use Rattle.cb_history.specs.declared.answer.Arrival.{Arrival}
+use Rattle.cb_delay.specs.declared.message.Message.{Message}
 use Rattle.cb_history.specs.declared.answer.ArriveRefusal.{ArriveRefusal}
 use Rattle.cb_history.specs.declared.answer.CastDone.{CastDone}
 use Rattle.cb_history.specs.declared.answer.CastRefusal.{CastRefusal}
@@ -12,14 +12,16 @@ use Rattle.cb_history.specs.declared.answer.TickRefusal.{TickRefusal}
 use Rattle.cb_history.specs.Group.{Identity}
 use Rattle.cb_history.specs.Facts.{EntryFields}
 use Rattle.cb_history.specs.Legal.{Call, ToCast, ToTake, ToTick}
-use Rattle.cb_history.specs.State.{MemberState, HasCast, HasTaken, HasTicked, RefusesArrival, RefusesTick, state_after}
+use Rattle.cb_history.specs.State.{MemberState, HasCast, HasTicked, RefusesArrival, RefusesTick, state_after}
+use Rattle.cb_member.specs.declared.recorder.taken.Received.{Received}
 use Rattle.cb_member.specs.Casting.{RefusesExactly}
+use Rattle.cb_member.specs.CoreCalls.{HasReceivedWith}
 use Rattle.cb_member.specs.CoreMember.{Core, GoesOn, IsCore, OnEach, StandsFor, grown_by, unlimited}
 
--- a call, and what was answered to it
+-- a call, and what was answered to it; of received bytes also what was delivered
 pub data AnsweredCall : Type 0 where
   Cast : List ℕ → Result CastDone CastRefusal → AnsweredCall
-  Take : List ℕ → Result Arrival ArriveRefusal → AnsweredCall
+  Take : List ℕ → Result Received ArriveRefusal → List Message → AnsweredCall
   Tick : Result Ticked TickRefusal → AnsweredCall
 
 -- ---- by the definitions
@@ -28,8 +30,8 @@ pub data AnsweredCall : Type 0 where
 abbrev pub IsAnswered : MemberState → AnsweredCall → Type 0
 IsAnswered m (Cast payload (Ok done)) = HasCast m (state_after m (ToCast payload)) payload done
 IsAnswered m (Cast payload (Err refusal)) = RefusesExactly m payload refusal
-IsAnswered m (Take bytes (Ok arrival)) = HasTaken m (state_after m (ToTake bytes)) bytes arrival
-IsAnswered m (Take bytes (Err refusal)) = RefusesArrival m bytes refusal
+IsAnswered m (Take bytes (Ok received) messages) = HasReceivedWith m (state_after m (ToTake bytes)) bytes received messages
+IsAnswered m (Take bytes (Err refusal) messages) = RefusesArrival m bytes refusal
 IsAnswered m (Tick (Ok ticked)) = HasTicked m (state_after m ToTick) ticked
 IsAnswered m (Tick (Err refusal)) = RefusesTick m refusal
 
@@ -37,8 +39,8 @@ IsAnswered m (Tick (Err refusal)) = RefusesTick m refusal
 abbrev pub history_with : Identity → List EntryFields → AnsweredCall → List EntryFields
 history_with seat entries (Cast payload (Ok done)) = grown_by seat entries (ToCast payload)
 history_with seat entries (Cast payload (Err refusal)) = entries
-history_with seat entries (Take bytes (Ok arrival)) = grown_by seat entries (ToTake bytes)
-history_with seat entries (Take bytes (Err refusal)) = entries
+history_with seat entries (Take bytes (Ok received) messages) = grown_by seat entries (ToTake bytes)
+history_with seat entries (Take bytes (Err refusal) messages) = entries
 history_with seat entries (Tick (Ok ticked)) = grown_by seat entries ToTick
 history_with seat entries (Tick (Err refusal)) = entries
 
@@ -58,8 +60,8 @@ AreAnswered seat entries (a ∷ calls) = IsAnswered (unlimited seat entries) a �
 abbrev pub GoesOnOrStays : AnsweredCall → Core → Core → Type 0
 GoesOnOrStays (Cast payload (Ok done)) old new = GoesOn (ToCast payload) old new
 GoesOnOrStays (Cast payload (Err refusal)) old new = new ≡ old
-GoesOnOrStays (Take bytes (Ok arrival)) old new = GoesOn (ToTake bytes) old new
-GoesOnOrStays (Take bytes (Err refusal)) old new = new ≡ old
+GoesOnOrStays (Take bytes (Ok received) messages) old new = GoesOn (ToTake bytes) old new
+GoesOnOrStays (Take bytes (Err refusal) messages) old new = new ≡ old
 GoesOnOrStays (Tick (Ok ticked)) old new = GoesOn ToTick old new
 GoesOnOrStays (Tick (Err refusal)) old new = new ≡ old
 

@@ -5,8 +5,9 @@ ghost use Rattle.cb_history.specs.Group.{IsIdentity};
 ghost use Rattle.cb_history.specs.Legal.{ToCast, ToTake, ToTick};
 ghost use Rattle.cb_history.specs.Facts.{entry_fields};
 ghost use Rattle.cb_history.specs.Known.{ranges_of};
-ghost use Rattle.cb_history.specs.State.{time_in, stable_in, missing_in, entry_by, state_after, HasCast, HasTaken, RefusesArrival, HasTicked, RefusesTick};
+ghost use Rattle.cb_history.specs.State.{time_in, stable_in, missing_in, entry_by, state_after, HasCast, RefusesArrival, HasTicked, RefusesTick};
 ghost use Rattle.cb_member.specs.Casting.{RefusesExactly};
+ghost use Rattle.cb_member.specs.CoreCalls.{HasReceivedWith, JoinsAs, joined};
 ghost use Rattle.cb_member.specs.CoreMember.{GoesOn, OnEach, StandsFor};
 ghost use Rattle.cb_member.specs.CoreRuns.{Cast, IsCall, Take, Tick};
 
@@ -14,12 +15,13 @@ mod arriving;
 mod casting;
 mod ticking;
 
+use crate::recorder::Received;
 use crate::state::State;
-use arriving::Heard;
 use bytes::Bytes;
+use cb_delay::Event;
 use cb_frames::Range;
 use cb_history::{
-    Arrival, ArriveRefusal, CastDone, CastRefusal, Entry, Group, Identity, MissingFault, NewFault,
+    ArriveRefusal, CastDone, CastRefusal, Entry, Group, Identity, MissingFault, NewFault,
     TickRefusal, Ticked,
 };
 use cb_times::{NoMemory, VectorTime};
@@ -154,24 +156,34 @@ impl CoreMember {
         self.state.cast_unlimited(payload)
     }
 
-    /// Takes received bytes: hands out what they make ready, which the caller owns then, or answers
-    /// a request.
+    /// Takes received bytes. What they make ready is delivered: it joins the caller's events, whose
+    /// messages are the caller's own then, and the answer says how many they are; or a request is
+    /// answered. Who keeps the list from call to call, and clears it, keeps its room.
     ///
     /// A refusal is the definition's, in the order of `ArriveRefusal`; a repeat is reported before
     /// a cast that is too far ahead. `NoMemory` may stand in place of any answer for bytes that are
     /// a frame; what is no frame is refused without memory.
-    pub fn receive(&mut self, bytes: &Bytes) -> Result<Arrival, ArriveRefusal>
-        ensures taken { IfOk result (λ arrival. OnEach self.old (λ m.
-            HasTaken m (state_after m (ToTake bytes.now)) bytes.now arrival)) }
+    pub fn receive(
+        &mut self,
+        bytes: &Bytes,
+        events: &mut Vec<Event>,
+    ) -> Result<Received, ArriveRefusal>
+        ensures taken { IfOk result (λ received. OnEach self.old (λ m.
+            HasReceivedWith m (state_after m (ToTake bytes.now)) bytes.now received
+            (joined events.old.items events.new.items))) }
+        ensures joins { OnOk result (JoinsAs (joined events.old.items events.new.items)
+            events.old.items events.new.items) }
         ensures goes_on { OnOk result (GoesOn (ToTake bytes.now) self.old self.new) }
         ensures refused { IfErr result (λ refusal. OnEach self.old (λ m.
             RefusesArrival m bytes.now refusal)) }
         ensures no_limit { result ≢ Err ArriveRefusal.HistoryFull }
         ensures same { OnErr result (self.new ≡ self.old) }
-        ensures call { IsCall (Take bytes.now result) self.old self.new }
+        ensures same_events { OnErr result (events.new.items ≡ events.old.items) }
+        ensures call { IsCall
+            (Take bytes.now result (joined events.old.items events.new.items)) self.old self.new }
     {
-        let heard = self.state.receive_unlimited(bytes, false)?;
-        Ok(heard.arrival)
+        let heard = self.state.receive_unlimited(bytes, false, events)?;
+        Ok(heard.received)
     }
 
     /// Takes received bytes as `receive` does, and hands out the entry that a history would have of
@@ -179,9 +191,13 @@ impl CoreMember {
     pub fn receive_noted(
         &mut self,
         bytes: &Bytes,
-    ) -> Result<(Arrival, Option<Entry>), ArriveRefusal>
+        events: &mut Vec<Event>,
+    ) -> Result<(Received, Option<Entry>), ArriveRefusal>
         ensures taken { IfOk result (λ noted. OnEach self.old (λ m.
-            HasTaken m (state_after m (ToTake bytes.now)) bytes.now noted.0)) }
+            HasReceivedWith m (state_after m (ToTake bytes.now)) bytes.now noted.0
+            (joined events.old.items events.new.items))) }
+        ensures joins { OnOk result (JoinsAs (joined events.old.items events.new.items)
+            events.old.items events.new.items) }
         ensures entry { IfOk result (λ noted. OnEach self.old (λ m.
             entry_by m (ToTake bytes.now) ≡ option_map entry_fields noted.1)) }
         ensures goes_on { OnOk result (GoesOn (ToTake bytes.now) self.old self.new) }
@@ -189,10 +205,10 @@ impl CoreMember {
             RefusesArrival m bytes.now refusal)) }
         ensures no_limit { result ≢ Err ArriveRefusal.HistoryFull }
         ensures same { OnErr result (self.new ≡ self.old) }
+        ensures same_events { OnErr result (events.new.items ≡ events.old.items) }
     {
-        let heard = self.state.receive_unlimited(bytes, true)?;
-        let Heard { arrival, noted } = heard;
-        Ok((arrival, noted))
+        let heard = self.state.receive_unlimited(bytes, true, events)?;
+        Ok((heard.received, heard.noted))
     }
 
     /// Reports the status to all others, and asks each for what is missing of it.

@@ -3,8 +3,8 @@
 use crate::agreement::is_same_message;
 use bytes::Bytes;
 use cb_member::{
-    Arrival, ArriveRefusal, CastDone, CastRefusal, CoreMember, Entry, Group, Member, Message,
-    MissingFault, NewFault, Outgoing, Ticked,
+    Arrival, ArriveRefusal, CastDone, CastRefusal, CoreMember, Entry, Event, Group, Member,
+    Message, MissingFault, NewFault, Outgoing, Received, Ticked,
 };
 use std::alloc::Global;
 use std::process::Abort;
@@ -75,6 +75,8 @@ const ORDERS: &[&[Step]] = &[
 #[derive(Drop)]
 struct Both {
     core: CoreMember,
+    /// What the core delivered in all steps.
+    delivered: Vec<Event>,
     member: Member,
 }
 
@@ -83,6 +85,7 @@ impl Both {
         let group = Group::new(7, 3, 2).expect(rt, "the numbers are those of a group");
         Both {
             core: CoreMember::new(alloc, group, 0).expect(rt, "a core"),
+            delivered: Vec::new(alloc),
             member: Member::new(alloc, group, 0, 100).expect(rt, "a member"),
         }
     }
@@ -109,14 +112,16 @@ impl Both {
     }
 
     fn take(&mut self, bytes: &Bytes) -> bool {
+        let before = self.delivered.len();
         match (
-            self.core.receive_noted(bytes),
+            self.core.receive_noted(bytes, &mut self.delivered),
             self.member.arrive_noted(bytes),
         ) {
             (Ok((one, noted)), Ok((other, entry))) => {
-                is_same_entry(&noted, &entry) && is_same_arrival(&one, &other)
+                is_same_entry(&noted, &entry)
+                    && is_same_arrival(&one, &self.delivered[before..], &other)
             }
-            (Err(one), Err(other)) => one == other,
+            (Err(one), Err(other)) => one == other && self.delivered.len() == before,
             _ => false,
         }
     }
@@ -154,25 +159,27 @@ fn is_same_entry(one: &Option<Entry>, other: &Option<Entry>) -> bool {
     one.as_ref() == other.as_ref()
 }
 
-fn is_same_arrival(one: &Arrival, other: &Arrival) -> bool {
+/// Both answer alike, and these events are what the core delivered.
+fn is_same_arrival(one: &Received, events: &[Event], other: &Arrival) -> bool {
     match (one, other) {
         (
-            Arrival::Accepted {
-                deliveries,
+            Received::Accepted {
+                delivered,
                 changed,
                 out,
             },
             Arrival::Accepted {
-                deliveries: other_deliveries,
+                deliveries,
                 changed: other_changed,
                 out: other_out,
             },
         ) => {
-            are_same_messages(deliveries, other_deliveries)
+            *delivered == events.len()
+                && are_deliveries(events, deliveries)
                 && changed == other_changed
                 && are_same_frames(out, other_out)
         }
-        (Arrival::Repeat, Arrival::Repeat) => true,
+        (Received::Repeat, Arrival::Repeat) => events.is_empty(),
         _ => false,
     }
 }
@@ -181,12 +188,15 @@ fn is_same_tick(one: &Ticked, other: &Ticked) -> bool {
     one.entered == other.entered && are_same_frames(&one.out, &other.out)
 }
 
-fn are_same_messages(one: &[Message], other: &[Message]) -> bool {
-    one.len() == other.len() && one.iter().zip(other.iter()).all(are_same_pair)
+fn are_deliveries(events: &[Event], messages: &[Message]) -> bool {
+    events.len() == messages.len() && events.iter().zip(messages.iter()).all(is_delivery)
 }
 
-fn are_same_pair(both: (&Message, &Message)) -> bool {
-    is_same_message(both.0, both.1)
+fn is_delivery(both: (&Event, &Message)) -> bool {
+    match both.0 {
+        Event::Deliver(message) => is_same_message(message, both.1),
+        Event::Cast(_) => false,
+    }
 }
 
 fn are_same_frames(one: &[Outgoing], other: &[Outgoing]) -> bool {
@@ -250,7 +260,7 @@ fn a_core_casts_receives_and_ticks(rt: HostRuntime) {
 fn plain_calls(rt: &impl Abort, alloc: Global) -> Plain {
     let mut both = Both::new(rt, alloc);
     let cast = both.core.cast(b"no").err();
-    let delivered = delivered(&mut both.core, HI);
+    let delivered = delivered(&mut both, HI);
     let told = match both.core.tick() {
         Ok(ticked) => Some(ticked.out.len()),
         Err(_) => None,
@@ -265,9 +275,10 @@ fn plain_calls(rt: &impl Abort, alloc: Global) -> Plain {
     }
 }
 
-fn delivered(core: &mut CoreMember, bytes: &'static [u8]) -> Result<usize, ArriveRefusal> {
-    match core.receive(&Bytes::from_static(bytes))? {
-        Arrival::Accepted { deliveries, .. } => Ok(deliveries.len()),
-        Arrival::Repeat => Ok(0),
+fn delivered(both: &mut Both, bytes: &'static [u8]) -> Result<usize, ArriveRefusal> {
+    let bytes = Bytes::from_static(bytes);
+    match both.core.receive(&bytes, &mut both.delivered)? {
+        Received::Accepted { delivered, .. } => Ok(delivered),
+        Received::Repeat => Ok(0),
     }
 }

@@ -8,7 +8,7 @@ use cb_history::{
     Arrival, ArriveRefusal, CastDone, CastRefusal, Entry, Event, Group, Message, TickRefusal,
     Ticked,
 };
-use cb_member::CoreMember;
+use cb_member::{CoreMember, Received};
 use std::alloc::Global;
 use std::process::Abort;
 use std::test::Fail;
@@ -33,7 +33,22 @@ pub fn answer(alloc: Global, core: &mut CoreMember, call: Call<'_>) -> Result<St
 
 fn taken_text(alloc: Global, core: &mut CoreMember, bytes: &[u8]) -> Result<String, Fail> {
     let bytes = Bytes::copy_from_slice(alloc, bytes)?;
-    arrival_text(alloc, &core.receive(&bytes))
+    let mut events = Vec::new(alloc);
+    match core.receive(&bytes, &mut events) {
+        Ok(received) => arrival_text(alloc, &Ok(arrival_of(alloc, received, events)?)),
+        Err(refusal) => arrival_text(alloc, &Err(refusal)),
+    }
+}
+
+/// The answer, with all that was delivered.
+pub fn arrival_of(alloc: Global, received: Received, events: Vec<Event>) -> Result<Arrival, Fail> {
+    let mut deliveries = Vec::new(alloc);
+    for event in events {
+        if let Event::Deliver(message) = event {
+            deliveries.push(message)?;
+        }
+    }
+    Ok(received.arrival(deliveries))
 }
 
 fn reading(alloc: Global, core: &CoreMember, call: Call<'_>) -> Result<String, Fail> {
@@ -107,17 +122,22 @@ impl Noting {
     }
 
     fn taken_text(&mut self, alloc: Global, bytes: &[u8]) -> Result<String, Fail> {
-        let arrival = self.take(&Bytes::copy_from_slice(alloc, bytes)?)?;
+        let arrival = self.take(alloc, &Bytes::copy_from_slice(alloc, bytes)?)?;
         let text = arrival_text(alloc, &arrival)?;
         self.keep_deliveries(arrival)?;
         Ok(text)
     }
 
-    fn take(&mut self, bytes: &Bytes) -> Result<Result<Arrival, ArriveRefusal>, Fail> {
-        match self.core.receive_noted(bytes) {
-            Ok((arrival, entry)) => {
+    fn take(
+        &mut self,
+        alloc: Global,
+        bytes: &Bytes,
+    ) -> Result<Result<Arrival, ArriveRefusal>, Fail> {
+        let mut events = Vec::new(alloc);
+        match self.core.receive_noted(bytes, &mut events) {
+            Ok((received, entry)) => {
                 self.keep_entry(entry)?;
-                Ok(Ok(arrival))
+                Ok(Ok(arrival_of(alloc, received, events)?))
             }
             Err(refusal) => Ok(Err(refusal)),
         }

@@ -8,5 +8,11 @@ use Rattle.cb_member.proofs.core_member.CoreMember.receive.Goals as goal
 pub returns-in_err-heard-clause-no_limit : goal.returns-in_err-heard-clause-no_limit
 returns-in_err-heard-clause-no_limit c full =
     let exit = err_from_is_err_and c.from_residual.result c.from_residual.ensures.1 in
-    arrival_never_full false c.args.bytes.now (core_of c.self.inside.state) _ c.in_err-heard.field-0.0 c.self.invariant c.in_err-heard.ensures
+    arrival_never_full false c.args.bytes.now (core_of c.self.inside.state) _ c.args.events.now.items _ c.in_err-heard.field-0.0 c.self.invariant c.in_err-heard.ensures
     (sym exit.2 ∙ same_refusal exit.0 refusals.HistoryFull (sym exit.1 ∙ full))
+
+pub returns-clause-taken : goal.returns-clause-taken
+returns-clause-taken c = rw (← c.self.view_is) c.in_ok-heard.ensures.hears.taken
+
+pub returns-clause-call : goal.returns-clause-call
+returns-clause-call c = rw (← c.self.view_is) (record { answered = c.in_ok-heard.ensures.hears.taken; goes = c.in_ok-heard.ensures.hears.goes_on })

@@ -1,5 +1,4 @@
-use Rattle.std.proofs.Common.{◌≡◌, ◌≤◌, ℕ, true, Some, sym, subst, rules, tests}
-use Rattle.std.specs.Vec.{vec_capacity}
+use Rattle.std.proofs.Common.{◌≡◌, ℕ, true, Some, sym, subst, rules, tests}
 use Rattle.cb_frames.specs.Fields.{cast_fields}
 use Rattle.cb_member.specs.declared.recorder.arriving.Named.{Named}
 use Rattle.cb_member.specs.CoreMember.{IsCore}
@@ -31,12 +30,6 @@ returns-clause-can c =
       read = c.requires.read;
       new = is_new_alike (cast_fields c.args.cast) old new same c.requires.new;
       can_go = c.in_ok-course.ensures.course;
-      no_events = c.in_ok-with_capacity.ensures.items;
-      no_event = c.in_ok-with_capacity.ensures.len;
-      room = subst (λ (n : ℕ). n ≤ vec_capacity c.in_ok-with_capacity.field-0) most_is c.in_ok-with_capacity.ensures.capacity;
-      empty = c.in_ok-with_capacity-2.ensures.items;
-      no_delivery = c.in_ok-with_capacity-2.ensures.len;
-      room_for_all = subst (λ (n : ℕ). n ≤ vec_capacity c.in_ok-with_capacity-2.field-0) most_is c.in_ok-with_capacity-2.ensures.capacity;
       noted = noted;
       noted_fits = subst (λ (n : ℕ). HasRoomForWanted c.args.bytes.now n c.if-noted.noted) most_is fits;
     }

@@ -1,11 +1,12 @@
-use Rattle.std.proofs.Common.{Ok, refl, ap, subst}
+use Rattle.std.proofs.Common.{[], Ok, refl, ap, subst}
 use Rattle.cb_frames.specs.Fields.{cast_fields, CastFrame}
-use Rattle.cb_history.specs.Answers.{Repeat, arrival_says}
+use Rattle.cb_history.specs.Answers.{Repeat}
 use Rattle.cb_history.proofs.ReadBack.{frame_numbered}
 use Rattle.cb_member.specs.declared.arrival.cast.Judged.{Judged}
 use Rattle.cb_member.specs.declared.core_member.arriving.Heard.{Heard}
 use Rattle.cb_member.specs.Arriving.{JudgesCast}
 use Rattle.cb_member.specs.CoreMember.{core_of}
+use Rattle.cb_member.specs.Received.{count_said, received_says}
 use Rattle.cb_member.proofs.Cores.{is_state}
 use Rattle.cb_member.proofs.CoreArrivals.{answered_on_each, answers_unchanged, come_before, refused_frame, refuses_arrival}
 use Rattle.cb_member.proofs.state.State.receive_cast.Goals as goal
@@ -21,17 +22,19 @@ returns-in-Ok-Repeat c =
     let cast = cast_fields c.args.cast in
     let state = c.args.self.now in
     let repeat = subst (λ (j : Judged). JudgesCast state cast (Ok j)) c.in-Ok-Repeat.field-0-is c.in-Ok-Repeat.ensures in
-    answers_unchanged c.args.noted c.args.bytes.now (core_of state) Repeat c.not_noted.result c.requires.core
+    answers_unchanged c.args.noted c.args.bytes.now (core_of state) Repeat c.not_noted.result c.args.events.now.items c.requires.core
     (answered_on_each state c.args.bytes.now (CastFrame cast) (Ok Repeat) c.requires.read repeat) refl
-    (ap (λ (h : Heard). arrival_says h.arrival) c.not_noted.ensures) (ap (λ (h : Heard). h.noted) c.not_noted.ensures)
+    (ap (λ (h : Heard). received_says h.received []) c.not_noted.ensures) (ap (λ (h : Heard). count_said h.received) c.not_noted.ensures)
+    (ap (λ (h : Heard). h.noted) c.not_noted.ensures)
 
 pub returns-in-Err : goal.returns-in-Err
 returns-in-Err c =
     let state = c.args.self.now in
-    refuses_arrival c.args.noted c.args.bytes.now (core_of state) (core_of state) c.in-Err.refusal c.requires.core refl
+    refuses_arrival c.args.noted c.args.bytes.now (core_of state) (core_of state) c.args.events.now.items c.args.events.now.items c.in-Err.refusal c.requires.core refl refl
     (refused_frame state c.args.bytes.now (CastFrame (cast_fields c.args.cast)) c.in-Err.refusal c.requires.read c.in-Err.ensures)
 
 pub returns : goal.returns
 returns c =
-    come_before c.args.noted c.args.bytes.now (core_of c.args.self.now) (core_of c.prepare_coming.new.self) (core_of c.enter_coming.new.self) c.enter_coming.result c.in_ok-coming.ensures.same
+    come_before c.args.noted c.args.bytes.now (core_of c.args.self.now) (core_of c.prepare_coming.new.self) (core_of c.enter_coming.new.self)
+    c.args.events.now.items c.prepare_coming.new.events.items c.enter_coming.new.events.items c.enter_coming.result c.in_ok-coming.ensures.same c.in_ok-coming.ensures.same_events
     (c.enter_coming.ensures c.args.noted c.args.bytes.now c.in_ok-coming.ensures.can)

@@ -1,11 +1,12 @@
-use Rattle.std.proofs.Common.{◌≡◌, ◌∙◌, true, false, [], Some, Ok, refl, ap, subst, rules, tests}
+use Rattle.std.proofs.Common.{◌≡◌, ◌∙◌, List, true, false, [], Some, Ok, refl, ap, subst, rules, tests}
 use Rattle.std.specs.Prelude.{option_map}
 use Rattle.cb_frames.specs.Fields.{status_fields, StatusFrame}
-use Rattle.cb_history.specs.Answers.{Accepted, arrival_says}
+use Rattle.cb_history.specs.Answers.{Accepted, ArrivalSays}
 use Rattle.cb_history.specs.Facts.{ArriveEntry, EntryFields, entry_fields}
 use Rattle.cb_member.specs.declared.arrival.status.Judged.{Judged}
 use Rattle.cb_member.specs.declared.core_member.arriving.Heard.{Heard}
 use Rattle.cb_member.specs.CoreMember.{core_of}
+use Rattle.cb_member.specs.Received.{count_said, received_says}
 use Rattle.cb_member.specs.Hearing.{JudgesStatus}
 use Rattle.cb_member.proofs.Cores.{is_state}
 use Rattle.cb_member.proofs.CoreArrivals.{answered_on_each, answers_unchanged, heard_so, refused_frame, refuses_arrival}
@@ -16,23 +17,24 @@ pub judge_status-requires-clause-state : goal.judge_status-requires-clause-state
 judge_status-requires-clause-state c = is_state c.args.self.now c.requires.core
 
 pub returns-in-Ok-NoNews : goal.returns-in-Ok-NoNews
-returns-in-Ok-NoNews c =
+returns-in-Ok-NoNews c events =
     let s = status_fields c.args.status.now in
     let state = c.args.self.now in
     let none = subst (λ (j : Judged). JudgesStatus state s (Ok j)) c.in-Ok-NoNews.field-0-is c.in-Ok-NoNews.ensures in
-    answers_unchanged c.args.noted c.args.bytes.now (core_of state) (Accepted [] false []) c.not_noted.result c.requires.core
+    answers_unchanged c.args.noted c.args.bytes.now (core_of state) (Accepted [] false []) c.not_noted.result events c.requires.core
     (answered_on_each state c.args.bytes.now (StatusFrame s) (Ok (Accepted [] false [])) c.requires.read none) refl
-    (ap (λ (h : Heard). arrival_says h.arrival) c.not_noted.ensures ∙ c.nothing.ensures ∙ ap (λ out. Accepted [] false out) c.new-out.ensures.items)
+    (ap (λ (h : Heard). received_says h.received []) c.not_noted.ensures ∙ c.nothing.ensures.says [] ∙ ap (λ out. Accepted [] false out) c.new-out.ensures.items)
+    (ap (λ (h : Heard). count_said h.received) c.not_noted.ensures ∙ c.nothing.ensures.none)
     (ap (λ (h : Heard). h.noted) c.not_noted.ensures)
 
 pub returns-in-Err : goal.returns-in-Err
-returns-in-Err c =
+returns-in-Err c events =
     let state = c.args.self.now in
-    refuses_arrival c.args.noted c.args.bytes.now (core_of state) (core_of state) c.in-Err.refusal c.requires.core refl
+    refuses_arrival c.args.noted c.args.bytes.now (core_of state) (core_of state) events events c.in-Err.refusal c.requires.core refl refl
     (refused_frame state c.args.bytes.now (StatusFrame (status_fields c.args.status.now)) c.in-Err.refusal c.requires.read c.in-Err.ensures)
 
 pub returns : goal.returns
-returns c =
+returns c events =
     let s = status_fields c.args.status.now in
     let is = subst (λ (j : Judged). JudgesStatus c.args.self.now s (Ok j)) c.in-Ok-News.field-0-is c.in-Ok-News.ensures in
     let noted : c.args.noted ≡ true → option_map entry_fields c.if-noted.noted ≡ Some (ArriveEntry c.args.bytes.now []) =
@@ -40,5 +42,5 @@ returns c =
       | then-noted+in_ok-heard_in w ↦ λ want. ap (option_map entry_fields) w.noted-is ∙ ap (λ (e : EntryFields). Some e) w.in_ok-heard_in.ensures
       | else-noted w ↦ λ want. absurd (search (rules, tests))
     ] in
-    heard_so c.args.noted c.args.bytes.now s c.args.self.now c.hear.new.self _ c.requires.core c.requires.bytes c.requires.read is.changes c.hear.ensures
-    (c.nothing-2.ensures ∙ ap (λ out. Accepted [] true out) c.new.ensures.items) noted
+    heard_so c.args.noted c.args.bytes.now s c.args.self.now c.hear.new.self events _ c.requires.core c.requires.bytes c.requires.read is.changes c.hear.ensures
+    (λ messages. c.nothing-2.ensures.says messages ∙ ap (λ out. Accepted messages true out) c.new.ensures.items) c.nothing-2.ensures.none noted
