@@ -165,6 +165,7 @@ static void test_open(void)
 {
     opens(2, 1, 0, 1, JOLUNZA_DONE);
     opens(64, 256, 63, 16777216, JOLUNZA_DONE);
+    opens(64, 256, 63, 0, JOLUNZA_DONE);
     opens(0, 4, 0, 1, JOLUNZA_BAD_GROUP);
     opens(1, 4, 0, 1, JOLUNZA_BAD_GROUP);
     opens(65, 4, 0, 1, JOLUNZA_BAD_GROUP);
@@ -173,12 +174,11 @@ static void test_open(void)
     opens(3, 257, 0, 1, JOLUNZA_BAD_GROUP);
     opens(3, 4, 3, 1, JOLUNZA_BAD_MEMBER);
     opens(3, 4, UINT32_MAX, 1, JOLUNZA_BAD_MEMBER);
-    opens(3, 4, 2, 0, JOLUNZA_BAD_LIMIT);
     opens(3, 4, 2, 16777217, JOLUNZA_BAD_LIMIT);
     opens(3, 4, 2, SIZE_MAX, JOLUNZA_BAD_LIMIT);
     /* the first fault counts */
-    opens(65, 4, 65, 0, JOLUNZA_BAD_GROUP);
-    opens(3, 4, 3, 0, JOLUNZA_BAD_MEMBER);
+    opens(65, 4, 65, SIZE_MAX, JOLUNZA_BAD_GROUP);
+    opens(3, 4, 3, SIZE_MAX, JOLUNZA_BAD_MEMBER);
 }
 
 static void test_cast(void)
@@ -274,6 +274,48 @@ static void test_full_history(void)
     CHECK(is_frame(&handle, 0, TO_ALL, BYTES(0x11, 7, 0, 1, 0, 2, 'h', 'i')));
     CHECK(receive(&handle, BYTES(0x12, 7, 1, 0)) == JOLUNZA_DONE);
     CHECK(counts(&handle, 0, 1, 1));
+    jolunza_close(&handle);
+}
+
+/* Without a history there is what the last call that was done added: the frame, the event and the entry of a cast; what is
+ * delivered, in one call that names it; nothing of a repeat; the status where it is new. No history is ever full. */
+static void test_no_history(void)
+{
+    jolunza_handle handle = JOLUNZA_CLOSED_HANDLE;
+    struct filled *f = &filled;
+    int more;
+
+    CHECK(jolunza_open(&handle, GROUP, SIZE, WINDOW, 2, 0) == JOLUNZA_DONE);
+    CHECK(counts(&handle, 0, 0, 0));
+    CHECK(cast(&handle, "a") == JOLUNZA_DONE);
+    CHECK(cast(&handle, "hi") == JOLUNZA_DONE);
+    CHECK(counts(&handle, 1, 1, 1));
+    CHECK(jolunza_event(&handle, 0, f->events, f->bytes, 2, f->times, SIZE) == JOLUNZA_DONE);
+    CHECK(f->events[0].is_own && f->events[0].sender == 2 && f->events[0].number == 2 && f->events[0].length == 2);
+    CHECK(memcmp(f->bytes, "hi", 2) == 0 && f->times[0] == 0 && f->times[2] == 2);
+    CHECK(jolunza_entry(&handle, 0, &f->entry, f->bytes, 8, f->names, 4) == JOLUNZA_DONE);
+    CHECK(f->entry.kind == JOLUNZA_CAST && f->entry.length == 8 && f->entry.delivered == 0);
+    CHECK(memcmp(f->bytes, (const uint8_t[]){0x11, 7, 2, 2, 0, 2, 'h', 'i'}, 8) == 0);
+    CHECK(jolunza_entry(&handle, 1, &f->entry, f->bytes, 8, f->names, 4) == JOLUNZA_NONE_THERE);
+    /* 0.2 waits for 0.1 */
+    CHECK(receive(&handle, BYTES(0x11, 7, 0, 2, 0, 1, 'b')) == JOLUNZA_DONE);
+    CHECK(counts(&handle, 0, 0, 1));
+    CHECK(receive(&handle, BYTES(0x11, 7, 0, 1, 0, 1, 'a')) == JOLUNZA_DONE);
+    CHECK(f->received.delivered == 2);
+    CHECK(receive(&handle, BYTES(0x11, 8, 0, 3, 0, 0)) == JOLUNZA_OTHER_GROUP);
+    CHECK(counts(&handle, 0, 2, 1));
+    CHECK(jolunza_events(&handle, 0, f->events, 4, f->bytes, 9, f->times, 16, &f->count) == JOLUNZA_DONE);
+    CHECK(f->count == 2 && f->events[1].number == 2 && memcmp(f->bytes, "ab", 2) == 0);
+    CHECK(jolunza_entry(&handle, 0, &f->entry, f->bytes, 8, f->names, 4) == JOLUNZA_DONE);
+    CHECK(f->entry.kind == JOLUNZA_ARRIVE && f->entry.delivered == 2 && f->names[1].sender == 0 && f->names[1].number == 2);
+    CHECK(receive(&handle, BYTES(0x11, 7, 0, 1, 0, 1, 'a')) == JOLUNZA_DONE);
+    CHECK(f->received.is_repeat && counts(&handle, 0, 0, 0));
+    CHECK(jolunza_tick(&handle) == JOLUNZA_DONE && counts(&handle, 1, 0, 1));
+    CHECK(jolunza_tick(&handle) == JOLUNZA_DONE && counts(&handle, 1, 0, 0));
+    for (more = 3; more < 100; more++) {
+        CHECK(receive(&handle, BYTES(0x11, 7, 0, (uint8_t)more, 0, 1, 'c')) == JOLUNZA_DONE);
+        CHECK(counts(&handle, 0, 1, 1));
+    }
     jolunza_close(&handle);
 }
 
@@ -543,6 +585,7 @@ int main(void)
     test_cast();
     test_receive();
     test_full_history();
+    test_no_history();
     test_tick_and_frame();
     test_frames();
     test_event();

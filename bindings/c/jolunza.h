@@ -6,6 +6,11 @@
  * events, its history and the frames of the last call that was done are as they were, and what the call would have filled is
  * as it was.
  *
+ * A member keeps its history, of at most `history_max` entries, or none where that is 0: then its memory is bounded by group
+ * and window, no history is ever full, and events and entries are counted from 0 in each call of cast, receive or tick: there
+ * are those of the last one that was done. Either way what is new are the last ones: after a receive events from
+ * counts.events - received.delivered on, after a cast one event, and one entry where the call has changed the member.
+ *
  * What the caller has to uphold, since no check can:
  *  1. A handle begins as JOLUNZA_CLOSED_HANDLE (all bytes 0), and only these functions write to it.
  *  2. An open handle is never copied, and its memory stays until it is closed. It may be moved while no call runs.
@@ -41,10 +46,10 @@ enum jolunza_code {
     JOLUNZA_NO_MEMORY = 2,        /* try again */
     JOLUNZA_BAD_GROUP = 3,        /* open: the size is not 2 to 64, or the window not 1 to 256 */
     JOLUNZA_BAD_MEMBER = 4,       /* open, receive, missing: a number that no member of the group has; missing: its own too */
-    JOLUNZA_BAD_LIMIT = 5,        /* open: the limit of the history is not 1 to 16,777,216 */
+    JOLUNZA_BAD_LIMIT = 5,        /* open: the limit of the history is above 16,777,216 */
     JOLUNZA_PAYLOAD_TOO_LONG = 6, /* cast: more than 1,024 bytes */
     JOLUNZA_WINDOW_FULL = 7,      /* cast: wait for the others' statuses, keep the payload, try again */
-    JOLUNZA_HISTORY_FULL = 8,     /* cast, receive, tick: as many entries as the limit; begin a new group number */
+    JOLUNZA_HISTORY_FULL = 8,     /* cast, receive, tick: as many entries as the limit; begin a new group number (never at 0) */
     JOLUNZA_OTHER_GROUP = 9,      /* receive: drop the frame */
     JOLUNZA_IMPOSSIBLE = 10,      /* receive: it says of this member what it never did; drop the frame */
     JOLUNZA_TOO_FAR = 11,         /* receive: beyond the window; drop the frame, it comes again */
@@ -63,14 +68,14 @@ typedef struct jolunza_handle {
 /* How many there are to be read. */
 typedef struct jolunza_counts {
     size_t frames;  /* of the last call of cast, receive or tick that was done */
-    size_t events;  /* since the member was opened */
-    size_t entries; /* of its history */
+    size_t events;  /* since the member was opened; without a history, of that call */
+    size_t entries; /* of its history; without one, of that call: 1 or 0 */
 } jolunza_counts;
 
 /* What a frame that was taken did. */
 typedef struct jolunza_received {
     bool is_repeat;   /* the member had this cast already: nothing changed, and there is nothing to send */
-    bool is_entered;  /* the history has one entry more, its last */
+    bool is_entered;  /* it changed the member: there is one entry more, the last */
     size_t delivered; /* how many events there are more, the last ones */
 } jolunza_received;
 
@@ -91,7 +96,7 @@ typedef struct jolunza_event_head {
 
 enum jolunza_kind { JOLUNZA_CAST = 0, JOLUNZA_ARRIVE = 1, JOLUNZA_TICK = 2 };
 
-/* Of an entry of the history: what was done, how many bytes its frame has, and how many messages an arrival delivered. */
+/* Of an entry: what was done, how many bytes its frame has, and how many messages an arrival delivered. */
 typedef struct jolunza_entry_head {
     uint32_t kind; /* an enum jolunza_kind */
     size_t length;
@@ -110,7 +115,8 @@ typedef struct jolunza_range {
 } jolunza_range;
 
 /*
- * Opens a member; a handle that is open is closed first. After another code than JOLUNZA_DONE the handle is closed.
+ * Opens a member; a handle that is open is closed first. After another code than JOLUNZA_DONE the handle is closed. The
+ * member keeps at most `history_max` entries, and no history where that is 0.
  * BAD_GROUP before BAD_MEMBER before BAD_LIMIT, or NO_MEMORY.
  */
 uint32_t jolunza_open(jolunza_handle *handle, uint32_t group, uint32_t size, uint32_t window, uint32_t me,
@@ -124,7 +130,7 @@ uint32_t jolunza_cast(jolunza_handle *handle, const uint8_t *payload, size_t len
 
 /*
  * Takes received bytes: one frame, whole. The frames to be sent answer a request: there are none where it is a repeat or entered.
- * What is delivered joins the events.
+ * What is delivered are the last events.
  */
 uint32_t jolunza_receive(jolunza_handle *handle, const uint8_t *bytes, size_t length, jolunza_received *received);
 
@@ -151,7 +157,7 @@ uint32_t jolunza_event(jolunza_handle *handle, size_t index, jolunza_event_head 
 uint32_t jolunza_events(jolunza_handle *handle, size_t first, jolunza_event_head *heads, size_t heads_capacity,
                         uint8_t *payloads, size_t capacity, uint32_t *times, size_t times_capacity, size_t *count);
 
-/* Entry `index` of the history, from 0: its frame and the names of what it delivered, as far as they fit. */
+/* Entry `index`, from 0: its frame and the names of what it delivered, as far as they fit. */
 uint32_t jolunza_entry(jolunza_handle *handle, size_t index, jolunza_entry_head *head, uint8_t *frame, size_t capacity,
                        jolunza_name *delivered, size_t delivered_capacity);
 

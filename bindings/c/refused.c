@@ -205,8 +205,8 @@ static void repair(jolunza_handle *of_0, jolunza_handle *of_1)
     receive_all(of_0, sent, frames_of(of_1, sent));
 }
 
-/* A run in which this many allocations are granted before one is refused: a digest of how both members end. */
-static uint64_t run(long before_the_refusal)
+/* A run of members with this limit in which this many allocations are granted before one is refused: a digest of how both end. */
+static uint64_t run(size_t limit, long before_the_refusal)
 {
     jolunza_handle of_0 = JOLUNZA_CLOSED_HANDLE, of_1 = JOLUNZA_CLOSED_HANDLE;
     uint64_t ends;
@@ -214,8 +214,8 @@ static uint64_t run(long before_the_refusal)
 
     granted = before_the_refusal;
     is_refused = false;
-    TRY(&of_0, jolunza_open(&of_0, GROUP, SIZE, WINDOW, 0, LIMIT));
-    TRY(&of_1, jolunza_open(&of_1, GROUP, SIZE, WINDOW, 1, LIMIT));
+    TRY(&of_0, jolunza_open(&of_0, GROUP, SIZE, WINDOW, 0, limit));
+    TRY(&of_1, jolunza_open(&of_1, GROUP, SIZE, WINDOW, 1, limit));
     cast_some(&of_0, &of_1);
     repair(&of_0, &of_1);
     MUST(jolunza_stable(&of_0, &stable) == JOLUNZA_DONE && stable == CASTS);
@@ -226,16 +226,24 @@ static uint64_t run(long before_the_refusal)
     return ends;
 }
 
-int main(void)
+/* Each allocation of a run is refused, one in each run; the run ends as one in which none is. */
+static void refuse_each(size_t limit)
 {
-    uint64_t whole = run(ALL);
-    long allocations = 0;
+    uint64_t whole = run(limit, ALL);
+    long allocations = 0, calls = out_of_memory;
 
     do {
-        MUST(run(allocations) == whole);
+        MUST(run(limit, allocations) == whole);
         allocations += is_refused;
     } while (is_refused);
-    MUST(allocations > CASTS && out_of_memory > CASTS);
-    printf("%ld allocations, each refused in turn: %ld calls were out of memory, and then succeeded\n", allocations, out_of_memory);
+    calls = out_of_memory - calls;
+    MUST(allocations > CASTS && calls > CASTS);
+    printf("%ld allocations, each refused in turn: %ld calls were out of memory, and then succeeded\n", allocations, calls);
+}
+
+int main(void)
+{
+    refuse_each(LIMIT);
+    refuse_each(0); /* without a history */
     return 0;
 }

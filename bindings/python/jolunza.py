@@ -51,7 +51,7 @@ class Code(enum.IntEnum):
 
 
 class Kind(enum.IntEnum):
-    """What an entry of the history did."""
+    """What an entry says was done."""
 
     CAST = 0
     ARRIVE = 1
@@ -80,7 +80,8 @@ class Name(NamedTuple):
 
 
 class Counts(NamedTuple):
-    """How many there are: frames of the last call that was done, events since the member was opened, entries of its history."""
+    """How many there are: frames of the last call that was done, events since the member was opened, entries of its history. Without a
+    history events and entries are those of that call."""
 
     frames: int
     events: int
@@ -88,7 +89,7 @@ class Counts(NamedTuple):
 
 
 class Received(NamedTuple):
-    """What a frame that was taken did. A repeat changed nothing."""
+    """What a frame that was taken did. A repeat changed nothing; an entry there is of what changed the member."""
 
     is_repeat: bool
     is_entered: bool
@@ -284,6 +285,9 @@ class Member:
 
     Of the same group number, size and window each member number is opened once in the world, and so not in a forked process as well.
     Who wants to come back opens it anew and repeats the calls that changed it.
+
+    Its history has at most `history_max` entries. With 0 it keeps none: its memory stays bounded, HISTORY_FULL never comes, and events
+    and entries are those of the last call of `cast`, `receive` or `tick` that was done.
     """
 
     # Room for so many at a time; one of the longest fits at least, so a bulk copy answers 0 only at the end.
@@ -296,6 +300,7 @@ class Member:
         numbers = [_number(value, 32) for value in (group, size, window, me)]
         self._call("open", *numbers, _number(history_max, 64))
         self._size = size
+        self.keeps_history = history_max > 0
         self._bytes = (c_uint8 * (self._MANY * LONGEST_FRAME))()
         self._view = memoryview(self._bytes)
 
@@ -351,7 +356,7 @@ class Member:
             return frames
 
     def events(self, first: int = 0) -> Iterator[Event]:
-        """The casts and deliveries in their order, from the one that has `first` before it."""
+        """The casts and deliveries in their order, from the one that has `first` before it; without a history those of the last call."""
         with self._lock:
             more = self._events(_number(first, 64))
         while more:
@@ -361,7 +366,7 @@ class Member:
                 more = self._events(first)
 
     def entries(self, first: int = 0) -> Iterator[Entry]:
-        """The history in its order, from the entry that has `first` before it."""
+        """The history in its order, from the entry that has `first` before it; without one the entry of the last call, if it has one."""
         for index in range(_number(first, 64), self.counts().entries):
             with self._lock:
                 entry = self._entry(index, self._MANY)

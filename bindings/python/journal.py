@@ -80,7 +80,8 @@ class Journal:
 
     def call(self, record: Record) -> Optional[Received]:
         """Makes the call, and writes it where it changed the member. After an OSError nothing may be sent any more."""
-        before = self._member.counts().entries
+        # without a history the entries are those of the call
+        before = self._member.counts().entries if self._member.keeps_history else 0
         received = make(self._member, record)
         text = record.text()
         if self._member.counts().entries > before and self._file.write(text) != len(text):

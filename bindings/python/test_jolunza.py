@@ -219,16 +219,15 @@ class Refusals(Case):
         for given, code in (
             ((7, 1, 4, 0, 10), Code.BAD_GROUP),
             ((7, 65, 4, 0, 10), Code.BAD_GROUP),
-            ((7, 3, 0, 9, 0), Code.BAD_GROUP),
+            ((7, 3, 0, 9, 16_777_217), Code.BAD_GROUP),
             ((7, 3, 257, 0, 10), Code.BAD_GROUP),
-            ((7, 3, 4, 3, 0), Code.BAD_MEMBER),
-            ((7, 3, 4, 0, 0), Code.BAD_LIMIT),
+            ((7, 3, 4, 3, 16_777_217), Code.BAD_MEMBER),
             ((7, 3, 4, 0, 16_777_217), Code.BAD_LIMIT),
         ):
             with self.assertRaises(Refusal) as raised:
                 Member(*given)
             self.assertEqual(raised.exception.code, code)
-        for group, limit in ((0, 1), (0xFFFF_FFFF, 16_777_216)):
+        for group, limit in ((0, 0), (0, 1), (0xFFFF_FFFF, 16_777_216)):
             Member(group, 64, 256, 63, limit).close()
 
     def test_of_casting(self) -> None:
@@ -273,6 +272,44 @@ class Refusals(Case):
         with self.assertRaises(Refusal) as raised:
             opened(0)._entry(0, 1)
         self.assertEqual(raised.exception.code, Code.NONE_THERE)
+
+
+class WithoutHistory(Case):
+    """There is what the last call that was done added, until the next."""
+
+    def test_of_a_cast(self) -> None:
+        member = opened(0, history_max=0)
+        self.assertEqual(member.counts(), Counts(0, 0, 0))
+        for payload in (b"before", b"hi"):
+            member.cast(payload)
+        self.assertEqual(member.counts(), Counts(1, 1, 1))
+        self.assertEqual(list(member.events()), [Event(True, Name(0, 2), (2, 0, 0), b"hi")])
+        (frame,) = member.frames()
+        self.assertEqual(list(member.entries()), [Entry(Kind.CAST, frame.bytes, ())])
+
+    def test_of_deliveries(self) -> None:
+        member = opened(2, history_max=0)
+        self.assertEqual(member.receive(YO), CHANGED)
+        self.assertEqual((list(member.events()), list(member.entries())), ([], [Entry(Kind.ARRIVE, YO, ())]))
+        self.assertEqual(member.receive(HI), Received(False, True, 2))
+        names = (Name(0, 1), Name(1, 1))
+        self.assertEqual(tuple(event.name for event in member.events()), names)
+        self.assertEqual(list(member.entries()), [Entry(Kind.ARRIVE, HI, names)])
+        self.answers(member, "ff", Code.MALFORMED)
+        self.assertEqual(member.receive(HI), Received(True, False, 0))
+        self.assertEqual(member.counts(), Counts(0, 0, 0))
+
+    def test_of_a_tick(self) -> None:
+        member = opened(2, history_max=0)
+        for entries in (1, 0, 0):
+            member.tick()
+            self.assertEqual(member.counts(), Counts(1, 0, entries))
+
+    def test_that_is_never_full(self) -> None:
+        member = opened(2, history_max=0)
+        for number in range(1, 100):
+            self.assertEqual(member.receive(bytes([0x11, 7, 0, number, 0, 0])), Received(False, True, 1))
+        self.assertEqual((member.time(), member.counts()), ((99, 0, 0), Counts(0, 1, 1)))
 
 
 class Copies(Case):
@@ -406,14 +443,14 @@ class Network:
 class Group:
     """Members over such a network. A member with a journal writes what it did."""
 
-    def __init__(self, seed: int, messages: int, window: int = 8) -> None:
-        self.members = [Member(7, 3, window, me) for me in range(3)]
+    def __init__(self, seed: int, messages: int, window: int = 8, history_max: int = 100_000) -> None:
+        self.members = [Member(7, 3, window, me, history_max) for me in range(3)]
         self.network, self.left, self.order = Network(seed, 3), messages, [Name(0, 0)][:0]
         self.journals: dict[int, Journal] = {}
         self.sent: dict[int, list[list[Frame]]] = {me: [] for me in range(3)}
 
     def call(self, me: int, record: Record) -> None:
-        before = self.members[me].counts().entries
+        before = self.members[me].counts().entries if self.members[me].keeps_history else 0
         self.journals[me].call(record) if me in self.journals else make(self.members[me], record)
         frames = self.members[me].frames()
         if self.members[me].counts().entries > before:
@@ -538,8 +575,28 @@ class Comeback(Case):
             self.assertEqual(state(other), state(group.members[1]))
         return frames
 
+    def test_without_a_history_too(self) -> None:
+        group, seen = Group(9, 200, history_max=0), []
+        group.journals[1] = Journal(self.path, group.members[1])
+        for _ in range(5):
+            group.run(200)
+            before = state(group.members[1])
+            group.journals[1].close()
+            group.members[1] = Member(7, 3, 8, 1, 0)
+            group.journals[1] = Journal(self.path, group.members[1])
+            self.assertEqual(state(group.members[1])[4:], before[4:])
+            seen.append(group.members[1].time())
+        self.assertLess(group.run(50_000), 50_000)
+        self.assertEqual(sum(group.members[1].time()), 200)
+        self.assertEqual(sorted(set(seen)), seen)
+        group.journals[1].close()
+
     def test_what_changes_nothing_is_not_written(self) -> None:
-        member, _ = that_cast(0)
+        for history_max in (0, 100_000):
+            self.writes_what_changes(opened(0, history_max=history_max))
+            os.remove(self.path)
+
+    def writes_what_changes(self, member: Member) -> None:
         journal = Journal(self.path, member)
         for record in (Record(Kind.CAST, b"hi"), Record(Kind.TICK, b""), Record(Kind.TICK, b""), Record(Kind.ARRIVE, HI)):
             journal.call(record)

@@ -1,4 +1,4 @@
-//! The history of a member, entry by entry.
+//! What a member did, entry by entry.
 
 use crate::refusal::{answered, Refusal};
 use crate::{sys, Name, LONGEST_FRAME};

@@ -20,7 +20,8 @@ pub struct Settings {
     pub window: u32,
     /// The member's own number, from 0.
     pub me: u32,
-    /// The most entries of its history: 1 to 16,777,216.
+    /// The most entries of its history, up to 16,777,216. With 0 it keeps none: its memory stays bounded, `HistoryFull`
+    /// never comes, and events and entries are those of the last call of `cast`, `receive` or `tick` that was done.
     pub history_max: usize,
 }
 
@@ -42,7 +43,7 @@ impl fmt::Display for Name {
 pub struct Received {
     /// The member had this cast already: nothing changed, and there is nothing to send.
     pub is_repeat: bool,
-    /// The history has one entry more.
+    /// It changed the member: there is an entry of it, the last one.
     pub is_entered: bool,
     /// How many events there are more.
     pub delivered: usize,
@@ -53,23 +54,23 @@ pub struct Received {
 pub struct Counts {
     /// Of the last call of `cast`, `receive` or `tick` that was done.
     pub frames: usize,
-    /// Since the member was opened.
+    /// Since the member was opened; without a history, of that call.
     pub events: usize,
-    /// Of the history.
+    /// Of the history; without one, of that call: 1 or 0.
     pub entries: usize,
 }
 
 /// One member of a group.
 ///
 /// Of one group each member number is opened once in the world. Who begins anew under an old number is ignored by the
-/// others: to come back, make the calls of the history again before anything is sent.
+/// others: to come back, make the calls of which there were entries again before anything is sent.
 pub struct Member {
     /// Open from `open` to `drop`, which all `unsafe` here rests on, as on this: pointers come from references and
     /// slices that do not overlap, and a `Member` is called by one thread at a time. Readings take the handle by a
     /// pointer that may write, too.
     handle: UnsafeCell<sys::jolunza_handle>,
     settings: Settings,
-    /// How many events `new_events` has handed out, and how many it has not.
+    /// How many of the events that can be read `new_events` has handed out, and how many it has not.
     shown: usize,
     unshown: usize,
     /// What is known of the frames of the last call that was done.
@@ -117,19 +118,19 @@ impl Member {
     #[inline]
     pub fn cast(&mut self, payload: &[u8]) -> Result<(), Refusal> {
         answered(unsafe { sys::jolunza_cast(self.handle.get(), payload.as_ptr(), payload.len()) })?;
-        self.unshown += 1;
+        self.add_events(1);
         self.left = Left::OneFrame;
         Ok(())
     }
 
-    /// Takes received bytes: one frame, whole. What is delivered joins the events; the frames answer a request.
+    /// Takes received bytes: one frame, whole. What is delivered are the last events; the frames answer a request.
     #[inline]
     pub fn receive(&mut self, bytes: &[u8]) -> Result<Received, Refusal> {
         let mut received = sys::jolunza_received::default();
         let code = unsafe { sys::jolunza_receive(self.handle.get(), bytes.as_ptr(), bytes.len(), &mut received) };
         answered(code)?;
         let sys::jolunza_received { is_repeat, is_entered, delivered } = received;
-        self.unshown += delivered;
+        self.add_events(delivered);
         // frames answer a request, which is never entered
         self.left = if is_repeat || is_entered { Left::NoFrame } else { Left::Frames };
         Ok(Received { is_repeat, is_entered, delivered })
@@ -139,8 +140,18 @@ impl Member {
     #[inline]
     pub fn tick(&mut self) -> Result<(), Refusal> {
         answered(unsafe { sys::jolunza_tick(self.handle.get()) })?;
+        self.add_events(0);
         self.left = Left::Frames;
         Ok(())
+    }
+
+    /// A call that was done has made so many. Without a history those of the call before can't be read any more.
+    #[inline]
+    fn add_events(&mut self, more: usize) {
+        if self.settings.history_max == 0 {
+            (self.shown, self.unshown) = (0, 0);
+        }
+        self.unshown += more;
     }
 
     /// The frames of the last call of `cast`, `receive` or `tick` that was done.
@@ -154,7 +165,7 @@ impl Member {
     }
 
     /// The events that this function has not handed out yet. They count as handed out, also where a loop over them ends
-    /// early.
+    /// early. Without a history those of a call are there until the next one is done.
     #[inline]
     pub fn new_events(&mut self) -> Events<'_> {
         let events = unsafe { self.events.fill(self.handle.get(), self.shown, self.unshown) };
@@ -164,14 +175,15 @@ impl Member {
     }
 
     /// The events of these indexes, from 0, as far as there are: `events(..)` has all. They are copied at once, so a
-    /// long history is read in pieces: `events(0..1000)`.
+    /// long history is read in pieces: `events(0..1000)`. Without a history there are those of the last call.
     pub fn events(&mut self, indexes: impl RangeBounds<usize>) -> Events<'_> {
         let first = first_of(&indexes);
         let most = end_of(&indexes).saturating_sub(first);
         unsafe { self.events.fill(self.handle.get(), first, most) }
     }
 
-    /// An entry of the history, from 0.
+    /// An entry of the history, from 0. Without a history `entry(0)` is what the last call would have added to one, and
+    /// `None` where that call has changed nothing.
     pub fn entry(&mut self, index: usize) -> Option<Entry<'_>> {
         unsafe { self.entry.fill(self.handle.get(), index) }
     }

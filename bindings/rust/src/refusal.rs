@@ -16,13 +16,14 @@ pub enum Refusal {
     BadGroup = sys::JOLUNZA_BAD_GROUP,
     /// `open`, `receive`, `missing`: a member's number that the group does not have.
     BadMember = sys::JOLUNZA_BAD_MEMBER,
-    /// `open`: the limit of the history is not 1 to 16,777,216.
+    /// `open`: the limit of the history is above 16,777,216.
     BadLimit = sys::JOLUNZA_BAD_LIMIT,
     /// `cast`: more than 1,024 bytes.
     PayloadTooLong = sys::JOLUNZA_PAYLOAD_TOO_LONG,
     /// `cast`: wait for the others' statuses, keep the payload, try again.
     WindowFull = sys::JOLUNZA_WINDOW_FULL,
-    /// `cast`, `receive`, `tick`: as many entries as the limit. Begin a new group number.
+    /// `cast`, `receive`, `tick`: as many entries as the limit. Begin a new group number. Never without a
+    /// history.
     HistoryFull = sys::JOLUNZA_HISTORY_FULL,
     /// `receive`: drop the frame.
     OtherGroup = sys::JOLUNZA_OTHER_GROUP,
@@ -82,7 +83,7 @@ impl fmt::Display for Refusal {
             Refusal::NoMemory => "out of memory: try again",
             Refusal::BadGroup => "a group has 2 to 64 members and a window of 1 to 256",
             Refusal::BadMember => "the group has no member of this number",
-            Refusal::BadLimit => "a history has a limit of 1 to 16,777,216 entries",
+            Refusal::BadLimit => "a history has at most 16,777,216 entries",
             Refusal::PayloadTooLong => "a payload has at most 1,024 bytes",
             Refusal::WindowFull => "the window is full: wait for the others' statuses and try again",
             Refusal::HistoryFull => "the history is full: begin a new group number",

@@ -2,7 +2,7 @@
 
 mod text;
 
-use jolunza::{Entry, Frame, Member, Name, Refusal, Settings, LONGEST_FRAME, LONGEST_PAYLOAD};
+use jolunza::{Counts, Entry, Frame, Member, Name, Refusal, Settings, LONGEST_FRAME, LONGEST_PAYLOAD};
 use text::{bytes_of, hexadecimal, printed_time};
 
 const EXAMPLES: &str = include_str!("worked_examples.txt");
@@ -233,15 +233,47 @@ fn each_refusal_of_opening_comes_before_the_next() {
         (fault(65, 4, 9, 0), Some(Refusal::BadGroup)),
         (fault(3, 0, 9, 0), Some(Refusal::BadGroup)),
         (fault(3, 257, 9, 0), Some(Refusal::BadGroup)),
-        (fault(3, 4, 3, 0), Some(Refusal::BadMember)),
-        (fault(3, 4, 2, 0), Some(Refusal::BadLimit)),
+        (fault(3, 4, 3, 16_777_217), Some(Refusal::BadMember)),
         (fault(3, 4, 2, 16_777_217), Some(Refusal::BadLimit)),
+        (fault(2, 1, 1, 0), None),
         (fault(2, 1, 1, 1), None),
         (fault(64, 256, 63, 16_777_216), None),
     ];
     for (found, expected) in rows {
         assert_eq!(found, expected);
     }
+}
+
+/// Without a history there is what the last call that was done added, until the next.
+#[test]
+fn without_a_history_the_last_call_is_shown() {
+    let own = |number| Name { sender: 2, number };
+    let names = |member: &mut Member| member.new_events().map(|event| event.name).collect::<Vec<_>>();
+    let mut member = open(7, 3, 4, 2, 0);
+    member.cast(b"a").unwrap();
+    member.cast(b"b").unwrap();
+    assert_eq!(names(&mut member), [own(2)], "2.1 was not asked for in time");
+    assert_eq!(names(&mut member), []);
+    assert_eq!(member.events(..).map(|event| event.payload.to_vec()).collect::<Vec<_>>(), [b"b"]);
+    assert!(matches!(member.entry(0), Some(Entry::Cast { frame }) if frame.ends_with(b"b")));
+    assert_eq!(member.entry(1), None);
+    assert_eq!(member.counts(), Counts { frames: 1, events: 1, entries: 1 });
+    // 0.2 waits for 0.1
+    let (second, first) = (bytes_of("110700020001"), bytes_of("110700010001"));
+    let (second, first) = ([&second[..], b"d"].concat(), [&first[..], b"c"].concat());
+    member.receive(&second).unwrap();
+    assert_eq!((names(&mut member).len(), member.counts().events), (0, 0));
+    assert_eq!(member.receive(&first).unwrap().delivered, 2);
+    let both = [1, 2].map(|number| Name { sender: 0, number });
+    assert_eq!(names(&mut member), both);
+    assert_eq!(member.entry(0), Some(Entry::Arrive { frame: &first, delivered: &both }));
+    assert_eq!(member.receive(b"?"), Err(Refusal::Malformed));
+    assert_eq!(member.events(..).len(), 2, "a refused call changes nothing");
+    member.tick().unwrap();
+    assert!(matches!(member.entry(0), Some(Entry::Tick { .. })));
+    member.tick().unwrap();
+    assert_eq!(member.entry(0), None, "the status is not new");
+    assert_eq!(member.new_events().len(), 0);
 }
 
 /// The rows of the protocol's page that no frame has.

@@ -5,12 +5,13 @@ mod network;
 use jolunza::{Member, Name, Refusal, Settings};
 use network::{Dice, Network};
 use std::collections::{HashMap, HashSet};
+use std::hash::{DefaultHasher, Hash, Hasher};
 
 const SIZE: u32 = 3;
 const MESSAGES: usize = 10_000;
 
 /// A cast or a delivery, as a member's list has it.
-#[derive(Clone, Copy, Debug, PartialEq, Eq)]
+#[derive(Clone, Copy, Debug, PartialEq, Eq, Hash)]
 struct Seen {
     is_own: bool,
     name: Name,
@@ -24,8 +25,8 @@ struct Group {
 }
 
 impl Group {
-    fn new(seed: u64) -> Group {
-        let settings = |me| Settings { group: 7, size: SIZE, window: 16, me, history_max: 1_000_000 };
+    fn new(seed: u64, history_max: usize) -> Group {
+        let settings = |me| Settings { group: 7, size: SIZE, window: 16, me, history_max };
         Group {
             members: (0..SIZE).map(|me| Member::open(settings(me)).unwrap()).collect(),
             logs: vec![Vec::new(); SIZE as usize],
@@ -153,8 +154,8 @@ impl Bits {
 }
 
 /// All cast, tick and are brought frames by chance, until all is cast; then in quiet rounds nothing is lost.
-fn held(seed: u64) -> (Group, usize) {
-    let (mut group, mut dice) = (Group::new(seed), Dice(seed));
+fn held(seed: u64, history_max: usize) -> (Group, usize) {
+    let (mut group, mut dice) = (Group::new(seed, history_max), Dice(seed));
     while group.left > 0 {
         let me = dice.below(SIZE.into()) as u32;
         match dice.below(10) {
@@ -175,7 +176,7 @@ fn held(seed: u64) -> (Group, usize) {
 
 #[test]
 fn ten_thousand_messages_are_delivered_in_causal_order() {
-    let (group, rounds) = held(1);
+    let (group, rounds) = held(1, 1_000_000);
     let network = &group.network;
     assert!(rounds > 0 && network.lost > 1_000 && network.repeated > 1_000 && network.overtaken > 1_000, "{network:?}");
     for log in &group.logs {
@@ -184,6 +185,29 @@ fn ten_thousand_messages_are_delivered_in_causal_order() {
     assert!(is_causal(&group.logs));
     let pair = group.logs[0].windows(2).position(|pair| pair[0].name.sender == pair[1].name.sender).unwrap();
     assert!(!is_causal(&exchanged(&group.logs, 0, pair, pair + 1)), "two casts of one member exchanged");
+}
+
+/// A number that two groups have in common where each member did the same, event by event, and knows the same.
+fn digest(group: &Group) -> u64 {
+    let mut hasher = DefaultHasher::new();
+    for (member, log) in group.members.iter().zip(&group.logs) {
+        log.hash(&mut hasher);
+        (member.time(), member.stable()).hash(&mut hasher);
+    }
+    hasher.finish()
+}
+
+#[test]
+fn without_a_history_the_same_is_delivered() {
+    let (keeps, rounds) = held(2, 1_000_000);
+    let (mut forgets, others) = held(2, 0);
+    assert_eq!((digest(&forgets), others), (digest(&keeps), rounds));
+    assert_eq!(forgets.logs.iter().map(Vec::len).collect::<Vec<_>>(), [MESSAGES; SIZE as usize]);
+    for member in &mut forgets.members {
+        assert!(member.counts().events <= 16 * SIZE as usize && member.counts().entries <= 1);
+    }
+    forgets.logs[0].swap(0, 1);
+    assert_ne!(digest(&forgets), digest(&keeps), "two events exchanged");
 }
 
 /// A list with two events exchanged.

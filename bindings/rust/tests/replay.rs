@@ -17,8 +17,10 @@ use text::{bytes_of, hexadecimal};
 const SIZE: u32 = 3;
 const KILLED: u32 = 1;
 
-fn open(me: u32) -> Member {
-    Member::open(Settings { group: 7, size: SIZE, window: 8, me, history_max: 100_000 }).unwrap()
+const HISTORY_MAX: usize = 100_000;
+
+fn open(me: u32, history_max: usize) -> Member {
+    Member::open(Settings { group: 7, size: SIZE, window: 8, me, history_max }).unwrap()
 }
 
 fn call(member: &mut Member, line: &str) -> Result<(), Refusal> {
@@ -35,10 +37,24 @@ fn frames(member: &mut Member) -> Vec<(Option<u32>, Vec<u8>)> {
     member.frames().map(|frame| (frame.to, frame.bytes.to_vec())).collect()
 }
 
-/// All that can be read of a member, as text.
+/// What the last call of a member without a history was, as its entry tells; None where it changed nothing.
+fn entered(member: &mut Member) -> Option<String> {
+    let payload = member.events(..).next().map(|event| hexadecimal(event.payload));
+    Some(match member.entry(0)? {
+        Entry::Cast { .. } => format!("cast {}", payload.expect("a cast is an event")),
+        Entry::Arrive { frame, .. } => format!("receive {}", hexadecimal(frame)),
+        Entry::Tick { .. } => "tick".into(),
+    })
+}
+
+/// All that can be read of a member, as text; without a history not what its last call added.
 fn reading(member: &mut Member) -> Vec<String> {
-    let mut lines = vec![format!("{:?} {} {:?}", member.time(), member.stable(), member.counts())];
+    let mut lines = vec![format!("{:?} {}", member.time(), member.stable())];
     lines.extend((0..SIZE).map(|other| format!("{:?}", member.missing(other))));
+    if member.settings().history_max == 0 {
+        return lines;
+    }
+    lines.push(format!("{:?}", member.counts()));
     lines.extend(member.events(..).map(|event| format!("{event:?}")));
     for index in 0..member.counts().entries {
         lines.push(match member.entry(index).unwrap() {
@@ -49,7 +65,7 @@ fn reading(member: &mut Member) -> Vec<String> {
     lines
 }
 
-/// A member that writes each call down, and what it sent by then.
+/// A member that writes its calls down, and what it sent by then: each call, or without a history each that has an entry.
 struct Journaled {
     member: Member,
     file: File,
@@ -57,21 +73,25 @@ struct Journaled {
 }
 
 impl Journaled {
-    fn new(path: &Path) -> Journaled {
-        Journaled { member: open(KILLED), file: File::create(path).unwrap(), sent: Vec::new() }
+    fn new(path: &Path, history_max: usize) -> Journaled {
+        Journaled { member: open(KILLED, history_max), file: File::create(path).unwrap(), sent: Vec::new() }
     }
 
     /// A refused call changes nothing, so it is not written down.
     fn call(&mut self, line: &str) -> Result<(), Refusal> {
         call(&mut self.member, line)?;
-        writeln!(self.file, "{line}").unwrap();
-        self.sent.push(frames(&mut self.member));
+        let forgets = self.member.settings().history_max == 0;
+        let written = if forgets { entered(&mut self.member) } else { Some(line.into()) };
+        if let Some(line) = written {
+            writeln!(self.file, "{line}").unwrap();
+            self.sent.push(frames(&mut self.member));
+        }
         Ok(())
     }
 
     /// Another member makes the calls that stand in the file: it sends the same, and reads the same.
     fn come_back(&mut self, path: &Path) {
-        let mut member = open(KILLED);
+        let mut member = open(KILLED, self.member.settings().history_max);
         let journal = fs::read_to_string(path).unwrap();
         for (line, sent) in journal.lines().zip(&self.sent) {
             call(&mut member, line).unwrap();
@@ -127,15 +147,24 @@ impl Group {
     }
 }
 
-fn journal() -> PathBuf {
-    env::temp_dir().join(format!("jolunza-replay-{}", process::id()))
+fn journal(history_max: usize) -> PathBuf {
+    env::temp_dir().join(format!("jolunza-replay-{}-{history_max}", process::id()))
 }
 
 #[test]
 fn a_member_comes_back_by_its_journal_and_the_group_goes_on() {
-    let path = journal();
-    let others = vec![open(0), open(2)];
-    let mut group = Group { journaled: Journaled::new(&path), others, network: Network::new(SIZE, 3) };
+    comes_back(HISTORY_MAX);
+}
+
+#[test]
+fn without_a_history_it_comes_back_by_the_entries_of_its_calls() {
+    comes_back(0);
+}
+
+fn comes_back(history_max: usize) {
+    let path = journal(history_max);
+    let others = vec![open(0, history_max), open(2, HISTORY_MAX)];
+    let mut group = Group { journaled: Journaled::new(&path, history_max), others, network: Network::new(SIZE, 3) };
     let mut dice = Dice(3);
     for turn in 1..=3_000 {
         group.act(&mut dice);
@@ -157,15 +186,15 @@ fn a_member_comes_back_by_its_journal_and_the_group_goes_on() {
 /// One that begins anew is silently ignored, and refuses what the others say of it.
 #[test]
 fn a_member_without_its_journal_is_ignored() {
-    let (mut before, mut other) = (open(KILLED), open(0));
+    let (mut before, mut other) = (open(KILLED, HISTORY_MAX), open(0, HISTORY_MAX));
     before.cast(b"a").unwrap();
     other.receive(before.frames().next().unwrap().bytes).unwrap();
     drop(before);
-    let mut anew = open(KILLED);
+    let mut anew = open(KILLED, HISTORY_MAX);
     anew.cast(b"b").unwrap();
     let received = other.receive(anew.frames().next().unwrap().bytes).unwrap();
     assert!(received.is_repeat);
-    anew = open(KILLED);
+    anew = open(KILLED, HISTORY_MAX);
     other.tick().unwrap();
     assert_eq!(anew.receive(other.frames().next().unwrap().bytes), Err(Refusal::Impossible));
 }

@@ -8,7 +8,8 @@ use Rattle.cb_frames.specs.Fields.{CastFields, first_number, last_number}
 use Rattle.cb_times.proofs.Entries.{equal_numbers, other_numbers}
 use Rattle.cb_gaps.specs.Buffer.{Buffer, Covers, IsKept, IsKeptWith, IsNext, ComeOut}
 use Rattle.cb_gaps.specs.Laws.{KeptComeOut, TakingLeavesTheRest, NoneIsLeft}
-use Rattle.cb_gaps.proofs.Spans.{as_many, one_message}
+use Rattle.cb_frames.proofs.Carried.{carried_up_to_the_last}
+use Rattle.cb_gaps.proofs.Spans.{one_message}
 use Rattle.cb_gaps.proofs.Rows.{row_same}
 
 -- ---- a cast is kept
@@ -121,7 +122,7 @@ module _ (old : Buffer) (cast : CastFields) (count : ℕ) (row : ComeOut old cou
   rest_comes_out : (left : ℕ) → old.taken + count ≡ last_number cast + left → ComeOut without_cast left
   rest_comes_out left end = record {
     begins = omega arith;
-    each = λ n after upto. kept_beyond n (omega (arith, after)) (row.each n (omega (arith, after, next.follows, as_many cast)) (omega (arith, upto, end)));
+    each = λ n after upto. kept_beyond n (omega (arith, after)) (row.each n (omega (arith, after, next.follows, carried_up_to_the_last cast)) (omega (arith, upto, end)));
     ends = λ is.
         let same : last_number cast + left + 1 ≡ old.taken + count + 1 = omega (arith, end) in
         row.ends (subst (IsKept old) same (was_kept (last_number cast + left + 1) is));
@@ -132,7 +133,7 @@ taking_leaves_the_rest old new cast count row next takes =
     let whole : last_number cast ≤ old.taken + count = comes_out old cast count row next in
     let left = old.taken + count - last_number cast in (
       left,
-      omega (arith, whole, next.follows, as_many cast),
+      omega (arith, whole, next.follows, carried_up_to_the_last cast),
       subst (λ (buffer : Buffer). ComeOut buffer left) (sym takes) (rest_comes_out old cast count row next left (omega (arith, whole))),
     )
 

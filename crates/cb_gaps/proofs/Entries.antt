@@ -16,7 +16,8 @@ use Rattle.cb_frames.specs.Fields.{CastFields, cast_fields, first_number}
 use Rattle.cb_times.proofs.Entries.{equal_numbers, other_numbers, numbers_equal, less_number, both, both_hold}
 use Rattle.cb_gaps.specs.Buffer.{Covers}
 use Rattle.cb_gaps.specs.Lists.{first_of, last_of, entries_of, Rise, Below, HasNumber, IsPlaceFor}
-use Rattle.cb_gaps.proofs.Spans.{some_message, one_message, covers_first}
+use Rattle.cb_frames.proofs.Carried.{carries_some}
+use Rattle.cb_gaps.proofs.Spans.{one_message, covers_first}
 
 -- what a number finds
 abbrev pub found : ℕ → List Cast → Option CastFields
@@ -170,9 +171,9 @@ lacks_at_place first last place casts is number from upto =
 -- a cast put between those of lesser and those of greater numbers
 rise_between : (before : ℕ) (front back : List Cast) (c : Cast) → Rise before (front ++ back) → before < first_of c
     → All (λ x. last_of x < first_of c) front → All (λ x. last_of c < first_of x) back → Rise before (front ++ c ∷ back)
-rise_between before [] [] c rise h lesser greater = (h, some_message (cast_fields c), tt)
+rise_between before [] [] c rise h lesser greater = (h, carries_some (cast_fields c), tt)
 rise_between before [] (x ∷ back) c rise h lesser greater =
-    (h, some_message (cast_fields c), (All-head (λ y. last_of c < first_of y) x back greater, rise.1, rise.2))
+    (h, carries_some (cast_fields c), (All-head (λ y. last_of c < first_of y) x back greater, rise.1, rise.2))
 rise_between before (x ∷ front) back c rise h lesser greater = (
   rise.0,
   rise.1,
@@ -194,7 +195,7 @@ found-between number (x ∷ front) back c lesser =
       arith,
       numbers_equal number (first_of x) e.0,
       numbers_equal number (first_of c) e.1,
-      some_message (cast_fields x),
+      carries_some (cast_fields x),
       All-head (λ y. last_of y < first_of c) x front lesser,
     ) in
     ap (cond (eq_by_cmp nat_cmp number (first_of x)) (Some (cast_fields x)))

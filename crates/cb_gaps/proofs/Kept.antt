@@ -17,7 +17,8 @@ use Rattle.cb_gaps.specs.Buffer.{IsNew, IsKept, AreReceived, AreLacking, IsNext,
 use Rattle.cb_gaps.specs.Ranges.{AreRangesOf}
 use Rattle.cb_gaps.specs.Lists.{first_of, last_of, entries_of, Rise, HasNumber, IsPlaceFor, IsGap, AreKept, buffer_of}
 use Rattle.cb_times.proofs.Entries.{equal_numbers, numbers_equal}
-use Rattle.cb_gaps.proofs.Spans.{some_message, one_message}
+use Rattle.cb_frames.proofs.Carried.{carries_some}
+use Rattle.cb_gaps.proofs.Spans.{one_message}
 use Rattle.cb_gaps.proofs.Entries.{found, sorted, found-before, none_before, found_cast, found_covers, found_apart, covering_found, covering_cast, lacks_at_place, rise_insert, found-insert, all_insert, few}
 
 length-entries_of : (casts : List Cast) → length (entries_of casts) ≡ length casts
@@ -54,7 +55,7 @@ module _ (window taken : ℕ) (casts : List Cast) (are : AreKept window taken ca
         | None ↦ λ _. refl
         | (Some fields) ↦ λ h.
             let c = found_cast (λ x. last_of x < 2 ^ 32) number casts fields are.in_range (found_of_kept number fields h) in
-            absurd (omega (arith, beyond, c.1, c.3, some_message (cast_fields c.0)))
+            absurd (omega (arith, beyond, c.1, c.3, carries_some (cast_fields c.0)))
       ] refl
 
   pub is_reorder_buffer : IsReorderBuffer (buffer_of window taken casts)
@@ -63,7 +64,7 @@ module _ (window taken : ℕ) (casts : List Cast) (are : AreKept window taken ca
     by_number = λ number fields h.
         let c = found_cast (λ _. Unit {0}) number casts fields (λ _ _ _. tt) (found_of_kept number fields h) in
         sym (ap first_number c.2) ∙ c.1;
-    filled = λ number fields h. some_message fields;
+    filled = λ number fields h. carries_some fields;
     apart = λ number one other.
         found_apart number taken casts one.cast other.cast are.rise (found_of_kept (first_number one.cast) one.cast one.kept)
         (found_of_kept (first_number other.cast) other.cast other.kept) one.covers other.covers;

@@ -1,23 +1,16 @@
 -- The numbers that casts cover. That a cast has one message is used where it says so, and nowhere else.
-use Rattle.std.proofs.Common.{◌≡◌, ℕ, ◌+◌, ◌<◌, ◌≤◌, ◌⊎◌, inl, inr, length, arith}
+use Rattle.std.proofs.Common.{◌≡◌, ℕ, ◌+◌, ◌<◌, ◌≤◌, ◌⊎◌, inl, inr, arith}
 use Rattle.std.proofs.lemmas.Bool.{cases_lt}
-use Rattle.cb_frames.specs.Fields.{CastFields, messages_of, first_number, last_number}
+use Rattle.cb_frames.specs.Fields.{CastFields, first_number, last_number}
+use Rattle.cb_frames.proofs.Carried.{carries_no_more, carries_some}
 use Rattle.cb_gaps.specs.Buffer.{Covers}
 
--- a cast has some message
-pub some_message : (c : CastFields) → first_number c ≤ last_number c
-some_message c = omega arith
-
--- as many as there are numbers
-pub as_many : (c : CastFields) → length (messages_of c) + first_number c ≡ last_number c + 1
-as_many c = omega arith
-
--- and no more than one
+-- a cast has no more than one message
 pub one_message : (c : CastFields) → last_number c ≡ first_number c
-one_message c = omega arith
+one_message c = omega (arith, carries_some c, carries_no_more c)
 
 pub covers_first : (c : CastFields) → Covers c (first_number c)
-covers_first c = (omega arith, some_message c)
+covers_first c = (omega arith, carries_some c)
 
 -- the number is covered, or lies on one side
 pub cases_covers : (c : CastFields) (n : ℕ) → Covers c n ⊎ ((n < first_number c) ⊎ (last_number c < n))

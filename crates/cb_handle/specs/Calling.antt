@@ -1,25 +1,69 @@
 -- What the calls do to a member with its frames.
-use Rattle.std.specs.Prelude.{◌≡◌, ◌⊎◌, ℕ, Bool, true, false, List, [], ◌∷◌, length, None, Ok, Err}
+use Rattle.std.specs.Prelude.{◌≡◌, ◌⊎◌, ℕ, Bool, true, false, List, [], ◌∷◌, ◌++◌, length, None, Ok, Err}
+use Rattle.cb_delay.specs.declared.message.Event.{Event}
 use Rattle.cb_frames.specs.Fields.{CastFrame}
 use Rattle.cb_frames.specs.Text.{text_of}
 use Rattle.cb_history.specs.declared.answer.ArriveRefusal.{ArriveRefusal}
 use Rattle.cb_history.specs.declared.answer.ArriveRefusal.TheVariants as refusals
+use Rattle.cb_history.specs.declared.answer.Outgoing.{Outgoing}
 use Rattle.cb_history.specs.Answers.{ArrivalSays, Accepted, Repeat}
-use Rattle.cb_history.specs.Legal.{ToCast, ToTake, ToTick}
+use Rattle.cb_history.specs.Facts.{EntryFields}
+use Rattle.cb_history.specs.Group.{Identity}
+use Rattle.cb_history.specs.Legal.{Call, ToCast, ToTake, ToTick}
 use Rattle.cb_history.specs.State.{MemberState, answer_to_cast, answer_to_arrival, answer_to_tick, events_in, next_in, state_after}
 use Rattle.cb_member.specs.declared.recorder.taken.Received as taken
 use Rattle.cb_member.specs.declared.recorder.taken.Received.TheVariants as takens
-use Rattle.cb_member.specs.Received.{sent_by}
+use Rattle.cb_member.specs.Received.{count_said, deliveries_in, received_says, sent_by}
 use Rattle.cb_handle.specs.declared.held.Held.{Held}
+use Rattle.cb_handle.specs.declared.kept.Kept.{Kept}
 use Rattle.cb_handle.specs.declared.rows.Counts.{Counts}
 use Rattle.cb_handle.specs.declared.rows.Received.{Received}
 use Rattle.cb_handle.specs.Frames.{frames_of}
+use Rattle.cb_handle.specs.Kept as kept
 
--- a cast of this payload was made, and its frame is the one to be sent
-pub record HasCastToSend (old new : Held) (payload : List ℕ) : Type 0 where
-  pub answer : answer_to_cast old.member payload ≡ Ok (next_in old.member payload)
-  pub sends : frames_of new.frames ≡ record { to = None; bytes = text_of (CastFrame (next_in old.member payload)) } ∷ []
-  pub after : new.member ≡ state_after old.member (ToCast payload)
+-- ---- of what is held
+
+abbrev pub seat_held : Held → Identity
+seat_held held = kept.seat_of held.kept
+
+-- so it is of the member with each history that it may have
+abbrev pub OnEach : Held → (MemberState → Type 0) → Type 0
+OnEach held P = kept.OnEach held.kept P
+
+abbrev pub events_held : Held → List Event
+events_held held = kept.events_of held.kept
+
+abbrev pub entries_held : Held → List EntryFields
+entries_held held = kept.entries_of held.kept (frames_of held.frames)
+
+-- how many there are to be read
+abbrev pub counts_of : Held → Counts
+counts_of held = record {
+  frames = length (frames_of held.frames);
+  events = length (events_held held);
+  entries = length (entries_held held);
+}
+
+-- ---- calls
+
+-- Whatever history there was, it is the one after the call now. With a history all events and entries can be read, without one those that
+-- the call added.
+pub record GoesOn (call : Call) (old new : Kept) (frames : List Outgoing) : Type 0 where
+  pub seat : kept.seat_of new ≡ kept.seat_of old
+  pub limit : (entries : List EntryFields) → kept.limit_of new entries ≡ kept.limit_of old entries
+  pub stands : (entries : List EntryFields) → kept.Stands old entries → kept.Stands new (state_after (kept.state_with old entries) call).entries
+  pub events : kept.OnEach old (λ m. kept.gone new (events_in m) ++ kept.events_of new ≡ events_in (state_after m call))
+  pub entries : kept.OnEach old (λ m. kept.gone new m.entries ++ kept.entries_of new frames ≡ (state_after m call).entries)
+
+-- a cast of this payload was made, and this is its frame
+pub record HasCast (old new : Kept) (payload frame : List ℕ) : Type 0 where
+  pub answer : kept.OnEach old (λ m. answer_to_cast m payload ≡ Ok (next_in m payload))
+  pub frame_is : kept.OnEach old (λ m. frame ≡ text_of (CastFrame (next_in m payload)))
+  pub goes_on : GoesOn (ToCast payload) old new (record { to = None; bytes = frame } ∷ [])
+
+-- and it is the one that is to be sent
+abbrev pub HasCastToSend : Held → Held → List ℕ → Type 0
+HasCastToSend old new payload = (frame : List ℕ) × (frames_of new.frames ≡ record { to = None; bytes = frame } ∷ []) × HasCast old.kept new.kept payload frame
 
 -- what is told of an answer to received bytes
 abbrev pub received_row : ArrivalSays → Received
@@ -31,28 +75,35 @@ abbrev pub row_of : taken.Received → Received
 row_of (takens.Accepted delivered changed out) = record { is_repeat = false; is_entered = changed; delivered = delivered }
 row_of takens.Repeat = record { is_repeat = true; is_entered = false; delivered = 0 }
 
--- the bytes were taken, or were a repeat; what is told is what the definition answers, and the frames are those that it answers
+-- what the member says is what the definition does
+pub record Tells (r : taken.Received) (says : ArrivalSays) : Type 0 where
+  pub said : received_says r (deliveries_in says) ≡ says
+  pub count : count_said r ≡ length (deliveries_in says)
+
+-- the bytes were taken, or were a repeat, and this is said of it
+pub record HasReceived (old new : Kept) (bytes : List ℕ) (r : taken.Received) : Type 0 where
+  pub says : ArrivalSays
+  pub answer : kept.OnEach old (λ m. answer_to_arrival m bytes ≡ Ok says)
+  pub tells : Tells r says
+  pub goes_on : GoesOn (ToTake bytes) old new (sent_by says)
+
+-- what is told is what the definition says, and the frames are those that it sends
 pub record HasReceivedToSend (old new : Held) (bytes : List ℕ) (received : Received) : Type 0 where
   pub says : ArrivalSays
-  pub answer : answer_to_arrival old.member bytes ≡ Ok says
+  pub answer : OnEach old (λ m. answer_to_arrival m bytes ≡ Ok says)
   pub told : received ≡ received_row says
   pub sends : frames_of new.frames ≡ sent_by says
-  pub after : new.member ≡ state_after old.member (ToTake bytes)
+  pub goes_on : GoesOn (ToTake bytes) old.kept new.kept (sent_by says)
 
 -- the refusal is that of the definition, or out of memory
 abbrev pub RefusesBytes : MemberState → List ℕ → ArriveRefusal → Type 0
 RefusesBytes m bytes refusal = (answer_to_arrival m bytes ≡ Err refusal) ⊎ (refusal ≡ refusals.NoMemory)
 
--- the status was sent, and what is missing was asked for
-pub record HasTickedToSend (old new : Held) : Type 0 where
+-- the status was sent, and what is missing was asked for: these are the frames
+pub record HasTicked (old new : Kept) (frames : List Outgoing) : Type 0 where
   pub entered : Bool
-  pub answer : answer_to_tick old.member ≡ Ok (entered, frames_of new.frames)
-  pub after : new.member ≡ state_after old.member ToTick
+  pub answer : kept.OnEach old (λ m. answer_to_tick m ≡ Ok (entered, frames))
+  pub goes_on : GoesOn ToTick old new frames
 
--- how many there are to be read
-abbrev pub counts_of : Held → Counts
-counts_of held = record {
-  frames = length (frames_of held.frames);
-  events = length (events_in held.member);
-  entries = length held.member.entries;
-}
+abbrev pub HasTickedToSend : Held → Held → Type 0
+HasTickedToSend old new = HasTicked old.kept new.kept (frames_of new.frames)

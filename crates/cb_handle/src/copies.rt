@@ -27,3 +27,11 @@ pub fn copy_at<T: Copy>(to: &mut [T], place: usize, from: &[T]) -> usize
     to[place..end].copy_from_slice(from);
     end
 }
+
+/// The items from this one on, as far as there are.
+pub fn from<T>(items: &[T], first: usize) -> &[T]
+    ensures { result.now ≡ drop first items.now }
+{
+    let first = first.min(items.len());
+    &items[first..]
+}

@@ -7,6 +7,7 @@ use crate::copies::{copy_at, copy_front};
 use crate::rows::FrameHead;
 use bytes::Bytes;
 use cb_member::Outgoing;
+use std::alloc::Global;
 use std::slice;
 
 /// The frames of a call that are to be sent. The one frame of a cast takes no memory for a list.
@@ -22,6 +23,24 @@ impl Frames {
         ensures { frames_of result ≡ record { to = None; bytes = bytes } ∷ [] }
     {
         Frames::Cast(Outgoing { to: None, bytes })
+    }
+
+    /// The frames of a call that casts nothing. A list without frames stays where it is.
+    pub fn replace(&mut self, frames: Vec<Outgoing>)
+        ensures { frames_of self.new ≡ frames.items }
+    {
+        if !(frames.is_empty() && self.as_slice().is_empty()) {
+            *self = Frames::Several(frames);
+        }
+    }
+
+    /// There are none.
+    pub fn clear(&mut self, alloc: Global)
+        ensures { frames_of self.new ≡ [] }
+    {
+        if !self.as_slice().is_empty() {
+            *self = Frames::Several(Vec::new(alloc));
+        }
     }
 
     pub fn as_slice(&self) -> &[Outgoing]

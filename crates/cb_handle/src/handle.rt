@@ -1,6 +1,7 @@
 //! What C holds: a member, or nothing.
 
 ghost use Rattle.std.specs.Prelude.{◌≡◌, Option, Some, None, MatchOption};
+ghost use Rattle.std.specs.Coded.{coded_option};
 ghost use Rattle.cb_handle.specs.declared.held.Held.{Held};
 ghost use types.Logic.{sem};
 ghost use Rattle.std_alloc.specs.Box.Ownership.{box_owns};
@@ -18,7 +19,7 @@ use std::{mem, ptr};
 pub struct Handle {
     at: *mut u8,
     is_open: bool,
-    pub ghost held: { Option Held },
+    pub ghost held: { Option Held } by { coded_option the_row.coded },
 }
 
 impl Model for Handle {

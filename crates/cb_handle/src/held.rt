@@ -1,28 +1,31 @@
 //! A member with the frames of its last call.
 
-ghost use Rattle.std.specs.Prelude.{◌≡◌, ◌⊎◌, ◌↔◌, ◌≤◌, [], length, drop, slice_get, map, IfOk, IfErr, OnOk, OnErr, OnSome, IsSome, None, MatchOption, Ok, Err};
-ghost use Rattle.cb_history.specs.State.{state_of, time_in, events_in, missing_in, RefusesTick};
+ghost use Rattle.std.specs.Prelude.{◌≡◌, ◌⊎◌, ◌↔◌, ◌≤◌, [], length, drop, slice_get, map, IfOk, IfErr, OnOk, OnErr, MatchOption, Ok, Err};
+ghost use Rattle.cb_history.specs.State.{time_in, stable_in, missing_in, RefusesTick};
 ghost use Rattle.cb_history.specs.Known.{ranges_of};
 ghost use Rattle.cb_member.specs.Casting.{RefusesExactly};
+ghost use Rattle.cb_member.specs.Received.{received_says, sent_by};
 ghost use Rattle.cb_handle.specs.Copies.{copied};
 ghost use Rattle.cb_handle.specs.Frames.{frames_of, ShowsFrame, ShowsFrames};
 ghost use Rattle.cb_handle.specs.Events.{ShowsEvent, ShowsEvents};
 ghost use Rattle.cb_handle.specs.Entries.{ShowsEntry, range_row};
 ghost use Rattle.cb_handle.specs.Opening.{RefusesToOpen, IsNewOf};
-ghost use Rattle.cb_handle.specs.Calling.{HasCastToSend, HasReceivedToSend, HasTickedToSend, RefusesBytes, counts_of, row_of};
+ghost use Rattle.cb_handle.specs.Calling.{OnEach, seat_held, events_held, entries_held, HasCastToSend, HasReceivedToSend, HasTickedToSend, RefusesBytes, counts_of, row_of};
 
-use crate::copies::copy_front;
+use crate::copies::{copy_front, from};
 use crate::frames::{Frames, show_frame, show_frames};
-use crate::reading::{show_entry, show_event, show_events, show_ranges};
+use crate::kept::Kept;
+use crate::reading::{entry_at, entry_of_cast, event_at, events_from, show_ranges};
 use crate::received::ReceivedBlock;
+use crate::recent::{Added, listed};
 use crate::rows::{Counts, EntryHead, EventHead, FrameHead, Name, Range, Received};
-use cb_member::{ArriveRefusal, CastRefusal, Group, Member, MissingFault, NewFault, TickRefusal};
+use cb_member::{ArriveRefusal, CastRefusal, Group, MissingFault, NewFault, TickRefusal};
 use std::alloc::Global;
 
 /// A member with the frames of its last call that was done.
 #[derive(Drop)]
 pub struct Held {
-    pub member: Member,
+    pub kept: Kept,
     pub frames: Frames,
     received: ReceivedBlock,
 }
@@ -32,7 +35,7 @@ pub struct Held {
 pub enum OpenFault {
     /// The size of the group is not 2 to 64, or its window not 1 to 256.
     BadGroup,
-    /// The group has no such member, the limit of its history is none, or out of memory.
+    /// The group has no such member, its history may not have so many entries, or out of memory.
     BadNew(NewFault),
 }
 
@@ -41,7 +44,7 @@ pub enum OpenFault {
 pub struct NoneThere;
 
 impl Held {
-    /// A member without entries, and no frames.
+    /// A member without entries, and no frames. It keeps no history where that may have none.
     pub fn new(
         alloc: Global,
         number: u32,
@@ -58,9 +61,9 @@ impl Held {
         let Ok(group) = Group::new(number, size, window) else {
             return Err(OpenFault::BadGroup);
         };
-        match Member::new(alloc, group, me, history_max) {
-            Ok(member) => Ok(Held {
-                member,
+        match Kept::new(alloc, group, me, history_max) {
+            Ok(kept) => Ok(Held {
+                kept,
                 frames: Frames::Several(Vec::new(alloc)),
                 received: ReceivedBlock::new(alloc),
             }),
@@ -71,12 +74,13 @@ impl Held {
     /// Casts a message of this payload; its frame is the one frame. After a refusal nothing has changed.
     pub fn cast(&mut self, payload: &[u8]) -> Result<(), CastRefusal>
         ensures done { OnOk result (HasCastToSend self.old self.new payload.now) }
-        ensures refused { IfErr result (RefusesExactly self.old.member payload.now) }
+        ensures refused { IfErr result (λ refusal. OnEach self.old (λ m.
+            RefusesExactly m payload.now refusal)) }
         ensures same { OnErr result (self.new ≡ self.old) }
     {
-        match self.member.cast(payload) {
-            Ok(done) => {
-                self.frames = Frames::of_cast(done.out);
+        match self.kept.cast(payload) {
+            Ok(frame) => {
+                self.frames = Frames::of_cast(frame);
                 Ok(())
             }
             Err(refusal) => Err(refusal),
@@ -86,31 +90,28 @@ impl Held {
     /// Takes received bytes, and tells what they did. After a refusal nothing has changed.
     pub fn receive(&mut self, alloc: Global, bytes: &[u8]) -> Result<Received, ArriveRefusal>
         ensures done { IfOk result (HasReceivedToSend self.old self.new bytes.now) }
-        ensures refused { IfErr result (RefusesBytes self.old.member bytes.now) }
+        ensures refused { IfErr result (λ refusal. OnEach self.old (λ m.
+            RefusesBytes m bytes.now refusal)) }
         ensures same { OnErr result (self.new ≡ self.old) }
     {
-        let Ok(bytes) = self.received.copied(alloc, bytes) else {
+        let Ok(bytes) = self.received.copied(bytes) else {
             return Err(ArriveRefusal::NoMemory);
         };
-        match self.member.receive(&bytes) {
-            Ok(taken) => {
-                let received = told(&taken);
-                self.frames = Frames::Several(taken.out(alloc));
-                Ok(received)
-            }
+        match self.kept.receive(alloc, &bytes) {
+            Ok(taken) => Ok(told(alloc, taken, &mut self.frames)),
             Err(refusal) => Err(refusal),
         }
     }
 
     /// Reports the status and asks for what is missing. After a refusal nothing has changed.
-    pub fn tick(&mut self) -> Result<(), TickRefusal>
+    pub fn tick(&mut self, alloc: Global) -> Result<(), TickRefusal>
         ensures done { OnOk result (HasTickedToSend self.old self.new) }
-        ensures refused { IfErr result (RefusesTick self.old.member) }
+        ensures refused { IfErr result (λ refusal. OnEach self.old (λ m. RefusesTick m refusal)) }
         ensures same { OnErr result (self.new ≡ self.old) }
     {
-        match self.member.tick() {
-            Ok(ticked) => {
-                self.frames = Frames::Several(ticked.out);
+        match self.kept.tick(alloc) {
+            Ok(frames) => {
+                self.frames.replace(frames);
                 Ok(())
             }
             Err(refusal) => Err(refusal),
@@ -123,8 +124,8 @@ impl Held {
     {
         Counts {
             frames: self.frames.as_slice().len(),
-            events: self.member.events().len(),
-            entries: self.member.history().len(),
+            events: self.kept.events().len(),
+            entries: self.kept.entry_count(&self.frames),
         }
     }
 
@@ -152,9 +153,7 @@ impl Held {
         ensures { ShowsFrames (drop first (frames_of self.now.frames)) heads.old heads.new
             bytes.old bytes.new result }
     {
-        let frames = self.frames.as_slice();
-        let first = first.min(frames.len());
-        show_frames(&frames[first..], heads, bytes)
+        show_frames(from(self.frames.as_slice(), first), heads, bytes)
     }
 
     /// Shows the event of this index.
@@ -165,17 +164,13 @@ impl Held {
         payload: &mut [u8],
         time: &mut [u32],
     ) -> Result<(), NoneThere>
-        ensures shown { MatchOption (slice_get (events_in self.now.member) index)
+        ensures shown { MatchOption (slice_get (events_held self.now) index)
             (result ≡ Err record {}) (λ event. (result ≡ Ok tt)
             × ShowsEvent event head.new payload.old payload.new time.old time.new) }
         ensures same { OnErr result ((head.new ≡ head.old) × (payload.new ≡ payload.old)
             × (time.new ≡ time.old)) }
     {
-        let Some(event) = self.member.events().get(index) else {
-            return Err(NoneThere);
-        };
-        show_event(event, head, payload, time);
-        Ok(())
+        event_at(self.kept.events(), index, head, payload, time)
     }
 
     /// Shows the events from this one on, as many as fit, and tells how many.
@@ -186,12 +181,10 @@ impl Held {
         payloads: &mut [u8],
         times: &mut [u32],
     ) -> usize
-        ensures { ShowsEvents (drop first (events_in self.now.member)) heads.old heads.new
+        ensures { ShowsEvents (drop first (events_held self.now)) heads.old heads.new
             payloads.old payloads.new times.old times.new result }
     {
-        let events = self.member.events();
-        let first = first.min(events.len());
-        show_events(&events[first..], heads, payloads, times)
+        events_from(self.kept.events(), first, heads, payloads, times)
     }
 
     /// Shows the entry of this index.
@@ -202,37 +195,55 @@ impl Held {
         frame: &mut [u8],
         delivered: &mut [Name],
     ) -> Result<(), NoneThere>
-        ensures shown { MatchOption (slice_get self.now.member.entries index)
+        ensures shown { MatchOption (slice_get (entries_held self.now) index)
             (result ≡ Err record {}) (λ entry. (result ≡ Ok tt)
             × ShowsEntry entry head.new frame.old frame.new delivered.old delivered.new) }
         ensures same { OnErr result ((head.new ≡ head.old) × (frame.new ≡ frame.old)
             × (delivered.new ≡ delivered.old)) }
     {
-        let Some(entry) = self.member.history().get(index) else {
-            return Err(NoneThere);
-        };
-        show_entry(entry, head, frame, delivered);
-        Ok(())
+        match &self.kept {
+            Kept::Whole(member) => entry_at(member.history(), index, head, frame, delivered),
+            Kept::Core(recent) => match &recent.added {
+                Added::Cast(_) => entry_of_cast(
+                    self.frames.as_slice(),
+                    index,
+                    head,
+                    frame,
+                    delivered,
+                ),
+                Added::Taken {
+                    delivered: _,
+                    entry,
+                } => entry_at(listed(entry), index, head, frame, delivered),
+            },
+        }
     }
 
     /// Shows how many messages of each member are delivered.
     pub fn time(&self, time: &mut [u32])
-        ensures { time.new ≡ copied (time_in self.now.member) time.old }
+        ensures { OnEach self.now (λ m. time.new ≡ copied (time_in m) time.old) }
     {
-        copy_front(time, self.member.time().as_slice());
+        copy_front(time, self.kept.time().as_slice());
+    }
+
+    /// How many own casts every other member is known to have delivered.
+    pub fn stable(&self) -> u32
+        ensures { OnEach self.now (λ m. result ≡ stable_in m) }
+    {
+        self.kept.stable()
     }
 
     /// Shows the casts of a member that are missing, and tells how many ranges they are.
     pub fn missing(&self, member: u32, ranges: &mut [Range]) -> Result<usize, MissingFault>
-        ensures shown { IfOk result (λ count.
-            (count ≡ length (ranges_of (missing_in self.now.member member)))
-            × (ranges.new
-            ≡ copied (map range_row (ranges_of (missing_in self.now.member member))) ranges.old)) }
+        ensures shown { IfOk result (λ count. OnEach self.now (λ m.
+            (count ≡ length (ranges_of (missing_in m member))) × (ranges.new
+            ≡ copied (map range_row (ranges_of (missing_in m member))) ranges.old))) }
         ensures bad_member { (result ≡ Err MissingFault.BadMember)
-            ↔ ((self.now.member.seat.group.size ≤ member) ⊎ (member ≡ self.now.member.seat.me)) }
+            ↔ (((seat_held self.now).group.size ≤ member)
+            ⊎ (member ≡ (seat_held self.now).me)) }
         ensures same { OnErr result (ranges.new ≡ ranges.old) }
     {
-        match self.member.missing(member) {
+        match self.kept.missing(member) {
             Ok(missing) => {
                 show_ranges(missing.as_slice(), ranges);
                 Ok(missing.len())
@@ -242,23 +253,31 @@ impl Held {
     }
 }
 
-fn told(taken: &cb_member::Received) -> Received
-    ensures { result ≡ row_of taken.now }
+/// Tells what received bytes did, and leaves the frames that are to be sent.
+fn told(alloc: Global, taken: cb_member::Received, frames: &mut Frames) -> Received
+    ensures told { result ≡ row_of taken }
+    ensures sends { frames_of frames.new ≡ sent_by (received_says taken []) }
 {
     match taken {
         cb_member::Received::Accepted {
             delivered,
             changed,
-            ..
-        } => Received {
-            is_repeat: false,
-            is_entered: *changed,
-            delivered: *delivered,
-        },
-        cb_member::Received::Repeat => Received {
-            is_repeat: true,
-            is_entered: false,
-            delivered: 0,
-        },
+            out,
+        } => {
+            frames.replace(out);
+            Received {
+                is_repeat: false,
+                is_entered: changed,
+                delivered,
+            }
+        }
+        cb_member::Received::Repeat => {
+            frames.clear(alloc);
+            Received {
+                is_repeat: true,
+                is_entered: false,
+                delivered: 0,
+            }
+        }
     }
 }

@@ -1,7 +1,7 @@
 //! What a caller outside Rattle holds of a member: a handle, the frames of the last call, and copies into the caller's memory.
 //!
-//! `Held` is a member with the frames of its last call, and its methods are those that the C library, `jolunza`, exports with codes for
-//! refusals. A `Handle` is a boxed `Held`, or nothing. Stands on `cb_member` and the crates below it.
+//! `Held` is a member, with its history or without one, and the frames of its last call; its methods are those that the C library,
+//! `jolunza`, exports with codes for refusals. A `Handle` is a boxed `Held`, or nothing. Stands on `cb_member` and the crates below it.
 #![tactic(auto)]
 
 mod copies;
@@ -9,13 +9,17 @@ mod crossing;
 mod frames;
 mod handle;
 mod held;
+mod kept;
 mod reading;
 mod received;
+mod recent;
 mod rows;
 
 pub use frames::Frames;
 pub use handle::{Handle, closed, put, take};
 pub use held::{Held, NoneThere, OpenFault};
+pub use kept::Kept;
+pub use recent::{Added, Recent};
 pub use rows::{
     ARRIVE, CAST, Counts, EntryHead, EventHead, FrameHead, Name, Range, Received, TICK,
 };

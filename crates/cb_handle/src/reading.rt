@@ -1,17 +1,18 @@
 //! Events, entries and ranges in a caller's memory.
 
-ghost use Rattle.std.specs.Prelude.{◌≡◌, map};
-ghost use Rattle.cb_history.specs.Facts.{entry_fields};
+ghost use Rattle.std.specs.Prelude.{◌≡◌, drop, map, slice_get, MatchOption, OnErr, Ok, Err};
+ghost use Rattle.cb_history.specs.Facts.{CastEntry, entry_fields};
 ghost use Rattle.cb_handle.specs.Copies.{copied};
 ghost use Rattle.cb_handle.specs.Events.{event_head, ShowsEvent, ShowsEvents};
 ghost use Rattle.cb_handle.specs.Entries.{kind_in, frame_in, names_in, ShowsEntry, name_row, range_row};
 
-use crate::copies::{copy_at, copy_front};
+use crate::copies::{copy_at, copy_front, from};
+use crate::held::NoneThere;
 use crate::rows::{ARRIVE, CAST, EntryHead, EventHead, Name, Range, TICK};
 use bytes::Bytes;
-use cb_member::{Entry, Event};
+use cb_member::{Entry, Event, Outgoing};
 
-pub fn head_of(event: &Event) -> EventHead
+fn head_of(event: &Event) -> EventHead
     ensures { result ≡ event_head event.now }
 {
     let message = event.message();
@@ -23,18 +24,46 @@ pub fn head_of(event: &Event) -> EventHead
     }
 }
 
-/// Shows an event: its head, and its payload and its time as far as they fit.
-pub fn show_event(event: &Event, head: &mut EventHead, payload: &mut [u8], time: &mut [u32])
-    ensures { ShowsEvent event.now head.new payload.old payload.new time.old time.new }
+/// Shows the event of this index: its head, and its payload and its time as far as they fit.
+pub fn event_at(
+    events: &[Event],
+    index: usize,
+    head: &mut EventHead,
+    payload: &mut [u8],
+    time: &mut [u32],
+) -> Result<(), NoneThere>
+    ensures shown { MatchOption (slice_get events.now index)
+        (result ≡ Err record {}) (λ event. (result ≡ Ok tt)
+        × ShowsEvent event head.new payload.old payload.new time.old time.new) }
+    ensures same { OnErr result ((head.new ≡ head.old) × (payload.new ≡ payload.old)
+        × (time.new ≡ time.old)) }
 {
+    let Some(event) = events.get(index) else {
+        return Err(NoneThere);
+    };
     *head = head_of(event);
     let message = event.message();
     copy_front(payload, message.payload.as_slice());
     copy_front(time, message.time.as_slice());
+    Ok(())
+}
+
+/// Shows the events from this one on, as many as fit, and tells how many.
+pub fn events_from(
+    events: &[Event],
+    first: usize,
+    heads: &mut [EventHead],
+    payloads: &mut [u8],
+    times: &mut [u32],
+) -> usize
+    ensures { ShowsEvents (drop first events.now) heads.old heads.new payloads.old payloads.new
+        times.old times.new result }
+{
+    show_events(from(events, first), heads, payloads, times)
 }
 
 /// Shows the first events, as many as fit, and tells how many.
-pub fn show_events(
+fn show_events(
     events: &[Event],
     heads: &mut [EventHead],
     payloads: &mut [u8],
@@ -62,6 +91,54 @@ pub fn show_events(
         times_end = copy_at(times, times_end, time);
     }
     events.len()
+}
+
+/// Shows the entry of this index: its head, and its frame and the names of what it delivered as far as they fit.
+pub fn entry_at(
+    entries: &[Entry],
+    index: usize,
+    head: &mut EntryHead,
+    frame: &mut [u8],
+    delivered: &mut [Name],
+) -> Result<(), NoneThere>
+    ensures shown { MatchOption (slice_get (map entry_fields entries.now) index)
+        (result ≡ Err record {}) (λ entry. (result ≡ Ok tt)
+        × ShowsEntry entry head.new frame.old frame.new delivered.old delivered.new) }
+    ensures same { OnErr result ((head.new ≡ head.old) × (frame.new ≡ frame.old)
+        × (delivered.new ≡ delivered.old)) }
+{
+    let Some(entry) = entries.get(index) else {
+        return Err(NoneThere);
+    };
+    show_entry(entry, head, frame, delivered);
+    Ok(())
+}
+
+/// Shows the entry of a cast, whose frame is the one of this index, if there is one.
+pub fn entry_of_cast(
+    frames: &[Outgoing],
+    index: usize,
+    head: &mut EntryHead,
+    frame: &mut [u8],
+    delivered: &mut [Name],
+) -> Result<(), NoneThere>
+    ensures shown { MatchOption (slice_get (map (λ f. CastEntry f.bytes) frames.now) index)
+        (result ≡ Err record {}) (λ entry. (result ≡ Ok tt)
+        × ShowsEntry entry head.new frame.old frame.new delivered.old delivered.new) }
+    ensures same { OnErr result ((head.new ≡ head.old) × (frame.new ≡ frame.old)
+        × (delivered.new ≡ delivered.old)) }
+{
+    let Some(sent) = frames.get(index) else {
+        return Err(NoneThere);
+    };
+    *head = EntryHead {
+        kind: CAST,
+        length: sent.bytes.len(),
+        delivered: 0,
+    };
+    copy_front(frame, sent.bytes.as_slice());
+    show_names(&[], delivered);
+    Ok(())
 }
 
 /// Shows an entry: its head, and its frame and the names of what it delivered as far as they fit.

@@ -3,7 +3,7 @@
 ghost use Rattle.std.specs.Prelude.{◌≡◌, IfOk};
 
 use bytes::Bytes;
-use cb_frames::{FrameBlock, LONGEST_FRAME};
+use cb_frames::FrameBlock;
 use std::alloc::{AllocError, Global};
 use std::marker::Model;
 
@@ -30,13 +30,9 @@ impl ReceivedBlock {
     }
 
     /// A copy of received bytes.
-    pub fn copied(&mut self, alloc: Global, bytes: &[u8]) -> Result<Bytes, AllocError>
+    pub fn copied(&mut self, bytes: &[u8]) -> Result<Bytes, AllocError>
         ensures { IfOk result (λ copy. copy ≡ bytes.now) }
     {
-        // no frame is so long: it gets memory of its own, so that the block does not end before it is full
-        if bytes.len() > LONGEST_FRAME {
-            return Bytes::copy_from_slice(alloc, bytes);
-        }
         self.block.lodge(bytes)
     }
 }

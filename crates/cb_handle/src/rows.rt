@@ -6,9 +6,9 @@
 pub struct Counts {
     /// Of the last call that was done.
     pub frames: usize,
-    /// Since the member was opened.
+    /// Since the member was opened; without a history, of that call.
     pub events: usize,
-    /// Of its history.
+    /// Of its history; without one, of that call.
     pub entries: usize,
 }
 
@@ -18,7 +18,7 @@ pub struct Counts {
 pub struct Received {
     /// The member had this cast already: nothing changed, and there is nothing to send.
     pub is_repeat: bool,
-    /// The history has one entry more, its last.
+    /// It changed the member: there is one entry more, the last.
     pub is_entered: bool,
     /// How many events there are more, the last ones.
     pub delivered: usize,
@@ -51,7 +51,7 @@ pub const ARRIVE: u32 = 1;
 
 pub const TICK: u32 = 2;
 
-/// Of an entry of the history: what was done, how many bytes its frame has, and how many messages an arrival delivered.
+/// Of an entry: what was done, how many bytes its frame has, and how many messages an arrival delivered.
 #[repr(C)]
 #[derive(Clone, Copy, Debug, Default, PartialEq, Eq)]
 pub struct EntryHead {

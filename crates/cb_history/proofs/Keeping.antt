@@ -1,5 +1,5 @@
 -- The least of what is known, and the frames that are kept.
-use Rattle.std.proofs.Common.{◌≡◌, ◌≢◌, ℕ, zero, suc, ◌+◌, ◌<◌, ◌≤◌, ◌||◌, Bool, true, false, not, cond, eqb, leb, ltb, List, [], ◌∷◌, ◌++◌, length, map, take, refl, sym, ap, subst, ◌∙◌, arith, inl, inr}
+use Rattle.std.proofs.Common.{◌≡◌, ◌≢◌, ℕ, zero, suc, ◌+◌, ◌-◌, ◌<◌, ◌≤◌, ◌||◌, Bool, true, false, not, cond, eqb, leb, ltb, List, [], ◌∷◌, ◌++◌, length, map, take, refl, sym, ap, subst, ◌∙◌, arith, inl, inr}
 use Rattle.std.specs.List.{filter, range_with_len}
 use Rattle.std.proofs.Math.Bool.{or-false}
 use Rattle.std.proofs.lemmas.Bool.{cases_eq, cases_lt, eq-eqb, ne_eqb, lt-leb, leb-false, le-ltb, lt-ltb}
@@ -24,7 +24,7 @@ use Rattle.cb_history.proofs.Views.{IsIn, filter_in, in_filter}
 use Rattle.cb_history.proofs.Lists.{count_own, length_messages}
 use Rattle.cb_history.proofs.Walks.{view_own, own_casts-own, own_casts-other, IsNotOwn}
 use Rattle.cb_history.proofs.Names.{all_stand, message}
-use Rattle.cb_history.proofs.Counts.{number_left}
+use Rattle.cb_history.proofs.Counts.{counts_are_numbers, number_left}
 use Rattle.cb_history.proofs.Prefixes.{prefix_of_facts_is_legal, last_fact_is_a_step}
 use Rattle.cb_history.proofs.Acknowledged.{acknowledged_is_delivered}
 use Rattle.cb_history.proofs.Rising.{nothing_falls}
@@ -133,10 +133,23 @@ no_room_is_full seat facts sent are keeps = (free, some)
     neither : (a b : Bool) → a ≡ false → b ≡ false → (a || b) ≡ false
     neither a b first second = rw (first, second) refl
 
+    most : d ≤ LAST_NUMBER
+    most = counts_are_numbers seat facts seat.me are
+
+    none_at_last : sent.put ≡ LAST_NUMBER → room_of sent ≡ 0
+    none_at_last e = rw (eq-eqb sent.put LAST_NUMBER e) refl
+
+    places : sent.put ≢ LAST_NUMBER → room_of sent ≡ sent.window - (sent.put - sent.trimmed)
+    places other = rw (ne_eqb sent.put LAST_NUMBER other) refl
+
+    is_left : 1 ≤ room_of sent → sent.put ≢ LAST_NUMBER
+    is_left room e = omega (arith, room, none_at_last e)
+
     free : 1 ≤ room_of sent → is_window_full seat facts ≡ false
     free room =
-        let near : d < s + seat.group.window = omega (arith, room, keeps.width, keeps.put, keeps.trimmed, below) in
-        let left : d < LAST_NUMBER = omega (arith, room, keeps.put) in
+        let there = places (is_left room) in
+        let near : d < s + seat.group.window = omega (arith, room, there, keeps.width, keeps.put, keeps.trimmed, below) in
+        let left : d < LAST_NUMBER = omega (arith, most, keeps.put, is_left room) in
         neither (leb (s + seat.group.window) d) (leb LAST_NUMBER d) (lt-leb (s + seat.group.window) d near) (lt-leb LAST_NUMBER d left)
 
     near_stable : (a b : Bool) → (a || b) ≡ false → a ≡ false
@@ -147,7 +160,8 @@ no_room_is_full seat facts sent are keeps = (free, some)
     some h =
         let near = leb-false (s + seat.group.window) d (near_stable (leb (s + seat.group.window) d) (leb LAST_NUMBER d) h) in
         let left : d < LAST_NUMBER = number_left seat facts h in
-        omega (arith, near, left, keeps.width, keeps.put, keeps.trimmed, below)
+        let there = places (λ e. omega (arith, e, left, keeps.put)) in
+        omega (arith, near, there, keeps.width, keeps.put, keeps.trimmed, below)
 
 -- ---- what is sent again
 

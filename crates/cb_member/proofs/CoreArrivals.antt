@@ -114,6 +114,7 @@ answers_unchanged wanted bytes core says heard events is answer none said count 
         after = refl;
       };
       joins = joins_so events events [] (none_joins events);
+      count = count ∙ ap (λ (ms : List Message). length ms) no_one;
       entry = λ want es s. added es s ∙ ap (option_map entry_fields) (sym not_noted);
     }
 
@@ -179,6 +180,7 @@ module _ (wanted : Bool) (bytes : List ℕ) (frame : FrameFields) (fact : Fact) 
         after = refl;
       };
       joins = joins_so before after _ (joins_there t.core.entries t.core.stands);
+      count = count_is before after _ (count_said heard.received) (joins_so before after _ (joins_there t.core.entries t.core.stands)) t.count;
       entry = λ want es s. by_call es s ∙ sym (t.noted (facts_of es) (follows es s) (keeps_of old es s) want);
     };
   }

@@ -11,7 +11,7 @@ use Rattle.cb_gaps.specs.declared.buffer.Admission.{Admission}
 use Rattle.cb_gaps.specs.declared.buffer.Admission.TheVariants.{Kept, Repeat, TooFar}
 use Rattle.cb_gaps.specs.Buffer.{Buffer, Admits, IsLacking, IsReceived, AreLacking, AreReceived}
 use Rattle.cb_history.specs.declared.answer.ArriveRefusal.TheVariants as arrivals
-use Rattle.cb_gaps.proofs.Spans.{some_message}
+use Rattle.cb_frames.proofs.Carried.{carries_some}
 use Rattle.cb_history.specs.Group.{Identity}
 use Rattle.cb_history.specs.Facts.{Fact, CastReceived, casts_in, is_there}
 use Rattle.cb_history.specs.Answers.{are_members, delivered}
@@ -61,7 +61,7 @@ module _ (state : State) (c : CastFields) (numbered : 1 ≤ c.number) (group : c
       there_is : AreReceived b (first_number c) (last_number c) → is_there (casts_in facts) c.sender c.number ≡ true
       there_is received =
           (received_is_there (casts_in facts) c.sender c.number b (k.received.waits c.sender b at other) numbered).0
-          (received (first_number c) (omega arith) (some_message c))
+          (received (first_number c) (omega arith) (carries_some c))
 
       not_there : AreLacking b (first_number c) (last_number c) → is_there (casts_in facts) c.sender c.number ≡ false
       not_there none = elim (cases_Bool (is_there (casts_in facts) c.sender c.number)) [
@@ -70,7 +70,7 @@ module _ (state : State) (c : CastFields) (numbered : 1 ≤ c.number) (group : c
       ]
         where
           lacking : IsLacking b (first_number c)
-          lacking = none (first_number c) (omega arith) (some_message c)
+          lacking = none (first_number c) (omega arith) (carries_some c)
 
           lacks : IsReceived b (first_number c) → ⊥
           lacks (inl taken) = omega (arith, taken, lacking.not_taken)

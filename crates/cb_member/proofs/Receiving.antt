@@ -17,7 +17,8 @@ use Rattle.cb_diffs.specs.Expansion.{expanded_time, IsNext as IsNextCast}
 use Rattle.cb_gaps.specs.declared.buffer.Admission.{Admission}
 use Rattle.cb_gaps.specs.declared.buffer.Admission.TheVariants.{Kept, Repeat, TooFar}
 use Rattle.cb_gaps.specs.Buffer.{Buffer, Admits, IsAnswer, IsAfter, IsLacking, IsNext, Takes}
-use Rattle.cb_gaps.proofs.Spans.{some_message, one_message}
+use Rattle.cb_frames.proofs.Carried.{carries_some}
+use Rattle.cb_gaps.proofs.Spans.{one_message}
 use Rattle.cb_history.specs.Group.{Identity}
 use Rattle.cb_history.specs.Facts.{Fact, OwnCast, CastReceived, StatusReceived, OwnStatus, casts_in, messages_in}
 use Rattle.cb_history.specs.Known.{expanded_count}
@@ -99,9 +100,9 @@ received_from_other me (OwnStatus s ∷ facts) c h = received_from_other me fact
 still_kept : (b : Buffer) (delivered : ℕ) (c : CastFields) (answer : Admission) (after : Buffer) → Admits b delivered (first_number c) (last_number c) Kept → IsAnswer b delivered c answer → IsAfter b c answer after → IsAfter b c Kept after
 still_kept b delivered c Kept after kept answered is = is
 still_kept b delivered c Repeat after kept answered is =
-    let lacking = kept.0 (first_number c) (omega arith) (some_message c) in
+    let lacking = kept.0 (first_number c) (omega arith) (carries_some c) in
     let above = lacking.not_taken in
-    elim (answered (first_number c) (omega arith) (some_message c)) [
+    elim (answered (first_number c) (omega arith) (carries_some c)) [
       | inl le ↦ absurd (omega (arith, above, le))
       | inr there ↦ absurd (lacking.not_kept there)
     ]
@@ -138,7 +139,7 @@ module _ (c : CastFields) (spare : List ℕ) (before after : Buffer) (stack : Li
   kept = subst (λ (b : Buffer). Admits b delivered (first_number c) (last_number c) Kept) (one_buffer can.buffer before (sym can.at ∙ w.at)) can.is_kept
 
   lacking : IsLacking before (first_number c)
-  lacking = kept.0 (first_number c) (omega arith) (some_message c)
+  lacking = kept.0 (first_number c) (omega arith) (carries_some c)
 
   is_after : IsAfter before c Kept after
   is_after = still_kept before delivered c answer after kept answered becomes

@@ -76,6 +76,7 @@ pub record HearsOnEach (wanted : Bool) (bytes : List ℕ) (old new : Core) (befo
   pub goes_on : GoesOn (ToTake bytes) old new
   pub taken : OnEach old (λ m. HasReceivedWith m (state_after m (ToTake bytes)) bytes heard.received (joined before after))
   pub joins : JoinsAs (joined before after) before after
+  pub count : count_said heard.received ≡ length (joined before after)
   pub entry : wanted ≡ true → OnEach old (λ m. entry_by m (ToTake bytes) ≡ option_map entry_fields heard.noted)
 
 pub record AnswersArrivalOnEach (wanted : Bool) (bytes : List ℕ) (old new : Core) (before after : List Event) (result : Result Heard ArriveRefusal) : Type 0 where

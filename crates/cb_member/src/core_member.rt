@@ -1,6 +1,6 @@
 //! A member that keeps no history: what it knows is all that it needs of one.
 
-ghost use Rattle.std.specs.Prelude.{◌≡◌, ◌≢◌, ◌↔◌, ◌⊎◌, ◌≤◌, ◌<◌, [], IfOk, IfErr, OnErr, OnOk, Some, Err, option_map};
+ghost use Rattle.std.specs.Prelude.{◌≡◌, ◌≢◌, ◌↔◌, ◌⊎◌, ◌≤◌, ◌<◌, [], length, IfOk, IfErr, OnErr, OnOk, Some, Err, option_map};
 ghost use Rattle.cb_history.specs.Group.{IsIdentity};
 ghost use Rattle.cb_history.specs.Legal.{ToCast, ToTake, ToTick};
 ghost use Rattle.cb_history.specs.Facts.{entry_fields};
@@ -8,6 +8,7 @@ ghost use Rattle.cb_history.specs.Known.{ranges_of};
 ghost use Rattle.cb_history.specs.State.{time_in, stable_in, missing_in, entry_by, state_after, HasCast, RefusesArrival, HasTicked, RefusesTick};
 ghost use Rattle.cb_member.specs.Casting.{RefusesExactly};
 ghost use Rattle.cb_member.specs.CoreCalls.{HasReceivedWith, JoinsAs, joined};
+ghost use Rattle.cb_member.specs.Received.{count_said};
 ghost use Rattle.cb_member.specs.CoreMember.{GoesOn, OnEach, StandsFor};
 ghost use Rattle.cb_member.specs.CoreRuns.{Cast, IsCall, Take, Tick};
 
@@ -173,6 +174,8 @@ impl CoreMember {
             (joined events.old.items events.new.items))) }
         ensures joins { OnOk result (JoinsAs (joined events.old.items events.new.items)
             events.old.items events.new.items) }
+        ensures count { IfOk result (λ received. count_said received
+            ≡ length (joined events.old.items events.new.items)) }
         ensures goes_on { OnOk result (GoesOn (ToTake bytes.now) self.old self.new) }
         ensures refused { IfErr result (λ refusal. OnEach self.old (λ m.
             RefusesArrival m bytes.now refusal)) }
@@ -198,6 +201,8 @@ impl CoreMember {
             (joined events.old.items events.new.items))) }
         ensures joins { OnOk result (JoinsAs (joined events.old.items events.new.items)
             events.old.items events.new.items) }
+        ensures count { IfOk result (λ noted. count_said noted.0
+            ≡ length (joined events.old.items events.new.items)) }
         ensures entry { IfOk result (λ noted. OnEach self.old (λ m.
             entry_by m (ToTake bytes.now) ≡ option_map entry_fields noted.1)) }
         ensures goes_on { OnOk result (GoesOn (ToTake bytes.now) self.old self.new) }

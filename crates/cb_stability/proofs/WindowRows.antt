@@ -60,6 +60,9 @@ asked_over_both = refl
 asked_for_nothing : frames_in (range 4 3 ∷ range 0 1 ∷ range 6 9 ∷ []) whole ≡ []
 asked_for_nothing = refl
 
--- at the end of the numbers there is room for those that are left
-room_at_the_end : room_of (window_with 4294967294 4294967294 []) ≡ 1
-room_at_the_end = refl
+-- once the greatest number was put there is no room
+room_before_the_end : room_of (window_with 4294967294 4294967294 []) ≡ 4
+room_before_the_end = refl
+
+no_room_at_the_end : room_of (window_with 4294967295 4294967295 []) ≡ 0
+no_room_at_the_end = refl

@@ -1,7 +1,8 @@
 -- What the frames of a window say of the window that they are.
-use Rattle.std.proofs.Common.{◌≡◌, ℕ, zero, suc, ◌+◌, ◌-◌, ◌<◌, ◌≤◌, List, [], ◌∷◌, ◌++◌, length, drop, min, ltb, sym, ◌∙◌, ap, arith, refl, inl, inr}
+use Rattle.std.proofs.Common.{◌≡◌, ℕ, zero, suc, ◌+◌, ◌-◌, ◌<◌, ◌≤◌, List, [], ◌∷◌, ◌++◌, length, drop, ltb, true, false, ◌≢◌, sym, ◌∙◌, ap, arith, refl, inl, inr}
 use Rattle.std.specs.List.{filter}
-use Rattle.std.proofs.lemmas.Bool.{cases_lt, lt-ltb, le-ltb}
+use Rattle.std.specs.Prelude.{◌==◌, if◌then◌else◌}
+use Rattle.std.proofs.lemmas.Bool.{both_ways, cases_lt, eq-eqb, lt-ltb, le-ltb, ne_eqb}
 use Rattle.std.proofs.lemmas.List.{drop_all, length-append, length-drop}
 use Rattle.circular_buffer.specs.Buffer.{keep_last}
 use Rattle.cb_stability.specs.Sent.{Spanned, spanned, IsFresh, Puts, Trims, FollowUpTo, AreInARow, IsSentWindow, room_of}
@@ -72,10 +73,16 @@ module _ (window put : ℕ) (xs : List (List ℕ)) (are : AreFrames window put x
 
   -- where a frame can be put, a place and a number are left
   pub room_left : 0 < room_of (sent_of window put xs) → (length xs < window) × (put < 4294967295)
-  room_left room = (omega (arith, room, are.put_before), omega (arith, room))
+  room_left room =
+      elim (put == 4294967295) as (λ b. (put == 4294967295) ≡ b → 0 < (if b then 0 else window - (put - (put - length xs))) → (length xs < window) × (put < 4294967295)) [
+        | true ↦ λ _ none. absurd (omega (arith, none))
+        | false ↦ λ e some.
+            let other : put ≢ 4294967295 = λ same. both_ways (put == 4294967295) e (eq-eqb put 4294967295 same) in
+            (omega (arith, some, are.put_before), omega (arith, are.put_at_most, other))
+      ] refl room
 
-  pub room_is : min (window - length xs) (4294967295 - put) ≡ room_of (sent_of window put xs)
-  room_is = omega (arith, are.put_before)
+  pub room_unless : put ≢ 4294967295 → window - length xs ≡ room_of (sent_of window put xs)
+  room_unless other = rw (ne_eqb put 4294967295 other) (omega (arith, are.put_before))
 
   module _ (x : List ℕ) (places : length xs < window) (numbers : put < 4294967295) where
     longer : length (xs ++ x ∷ []) ≡ length xs + 1

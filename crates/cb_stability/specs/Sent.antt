@@ -1,5 +1,5 @@
 -- What a sent window keeps.
-use Rattle.std.specs.Prelude.{◌≡◌, ℕ, ◌+◌, ◌-◌, ◌<◌, ◌≤◌, Bool, List, [], ◌∷◌, ◌++◌, filter, map, take, min, max, nat_lt, refl}
+use Rattle.std.specs.Prelude.{◌≡◌, ℕ, ◌+◌, ◌-◌, ◌==◌, ◌<◌, ◌≤◌, if◌then◌else◌, Bool, List, [], ◌∷◌, ◌++◌, filter, map, take, min, max, nat_lt, refl}
 use Rattle.std.specs.List.{list_any}
 use Rattle.std.specs.Coded.{Coded, code_by, coded×, coded_list, coded_ℕ}
 use Rattle.cb_times.specs.Group.{IsWindow}
@@ -44,9 +44,9 @@ pub record Trims (old new : Sent) (number : ℕ) : Type 0 where
   pub now_trimmed : new.trimmed ≡ max old.trimmed (min number old.put)
   pub now_kept : new.kept ≡ filter (λ frame. nat_lt new.trimmed frame.last) old.kept
 
--- how many more numbers can be put: as many as the window has beside those not trimmed, up to the greatest number
+-- how many places are left: the window less the numbers put and not trimmed, but none once the greatest number was put
 abbrev pub room_of : Sent → ℕ
-room_of sent = min (sent.window - (sent.put - sent.trimmed)) (LAST_NUMBER - sent.put)
+room_of sent = if sent.put == LAST_NUMBER then 0 else sent.window - (sent.put - sent.trimmed)
 
 -- some range asks for one of the frame's numbers
 abbrev pub is_in_ranges : List Range → Spanned → Bool

@@ -105,15 +105,18 @@ impl SentWindow {
         copies_in(*self.frames.allocator(), &self.frames, trimmed, ranges)
     }
 
-    /// How many places are left: the window less the frames kept, and no more than numbers are left up to 4,294,967,295.
+    /// How many places are left: the window less the frames kept, but 0 once number 4,294,967,295 was given.
     ///
     /// A frame can be put where this is not 0.
     pub fn room(&self) -> u32
         ensures room { result ≡ room_of self.now }
         ensures window { IsSentWindow self.now }
     {
-        let places = self.window - self.frames.len() as u32;
-        places.min(u32::MAX - self.put)
+        if self.put == u32::MAX {
+            0
+        } else {
+            self.window - self.frames.len() as u32
+        }
     }
 }
 

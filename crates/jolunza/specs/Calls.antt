@@ -14,7 +14,7 @@ use Rattle.cb_handle.specs.declared.rows.Received.{Received}
 use Rattle.cb_handle.specs.Copies.{copied}
 use Rattle.cb_handle.specs.Entries.{range_row}
 use Rattle.cb_handle.specs.Opening.{RefusesToOpen, IsNewOf}
-use Rattle.cb_handle.specs.Calling.{HasCastToSend, HasReceivedToSend, HasTickedToSend, RefusesBytes}
+use Rattle.cb_handle.specs.Calling.{OnEach, seat_held, HasCastToSend, HasReceivedToSend, HasTickedToSend, RefusesBytes}
 use Rattle.jolunza.specs.declared.code.TheConstants.{DONE, CLOSED, NO_MEMORY, BAD_MEMBER, NONE_THERE}
 use Rattle.jolunza.specs.Codes.{open_code, cast_code, arrive_code, tick_code}
 
@@ -32,15 +32,15 @@ pub record IsDoneOr (Done : Type 0) (R : Type 0) (code_of : R → ℕ) (Refuses 
 
 abbrev pub Casts : List ℕ → Held → Held → ℕ → Type 0
 Casts payload before after code =
-    IsDoneOr (HasCastToSend before after payload) CastRefusal cast_code (RefusesExactly before.member payload) before after code
+    IsDoneOr (HasCastToSend before after payload) CastRefusal cast_code (λ refusal. OnEach before (λ m. RefusesExactly m payload refusal)) before after code
 
 abbrev pub Receives : List ℕ → Received → Held → Held → ℕ → Type 0
 Receives bytes received before after code =
-    IsDoneOr (HasReceivedToSend before after bytes received) ArriveRefusal arrive_code (RefusesBytes before.member bytes) before after code
+    IsDoneOr (HasReceivedToSend before after bytes received) ArriveRefusal arrive_code (λ refusal. OnEach before (λ m. RefusesBytes m bytes refusal)) before after code
 
 abbrev pub Ticks : Held → Held → ℕ → Type 0
 Ticks before after code =
-    IsDoneOr (HasTickedToSend before after) TickRefusal tick_code (RefusesTick before.member) before after code
+    IsDoneOr (HasTickedToSend before after) TickRefusal tick_code (λ refusal. OnEach before (λ m. RefusesTick m refusal)) before after code
 
 -- a reading changes nothing
 abbrev pub Reads : (Held → ℕ → Type 0) → Held → Held → ℕ → Type 0
@@ -57,10 +57,10 @@ ShowsAt Shows (Some x) code = (code ≡ DONE) × Shows x
 
 -- the missing casts of another member are shown; out of memory stands only in place of them
 pub record ShowsMissing (member : ℕ) (ranges new_ranges : List Range) (count : ℕ) (held : Held) (code : ℕ) : Type 0 where
-  pub done : code ≡ DONE → (count ≡ length (ranges_of (missing_in held.member member)))
-      × (new_ranges ≡ copied (map range_row (ranges_of (missing_in held.member member))) ranges)
-  pub bad_member : code ≡ BAD_MEMBER → (held.member.seat.group.size ≤ member) ⊎ (member ≡ held.member.seat.me)
-  pub other_code : code ≢ BAD_MEMBER → ¬ ((held.member.seat.group.size ≤ member) ⊎ (member ≡ held.member.seat.me))
+  pub done : code ≡ DONE → OnEach held (λ m. (count ≡ length (ranges_of (missing_in m member)))
+      × (new_ranges ≡ copied (map range_row (ranges_of (missing_in m member))) ranges))
+  pub bad_member : code ≡ BAD_MEMBER → ((seat_held held).group.size ≤ member) ⊎ (member ≡ (seat_held held).me)
+  pub other_code : code ≢ BAD_MEMBER → ¬ (((seat_held held).group.size ≤ member) ⊎ (member ≡ (seat_held held).me))
   pub codes : (code ≡ DONE) ⊎ ((code ≡ BAD_MEMBER) ⊎ (code ≡ NO_MEMORY))
 
 -- the handle holds the new member, or nothing, and the code tells why

@@ -5,12 +5,12 @@
 #![tactic(auto)]
 
 ghost use Rattle.std.specs.Prelude.{◌≡◌, ◌≢◌, None, drop, slice_get};
-ghost use Rattle.cb_history.specs.State.{time_in, events_in, stable_in};
+ghost use Rattle.cb_history.specs.State.{time_in, stable_in};
 ghost use Rattle.cb_handle.specs.Copies.{copied};
 ghost use Rattle.cb_handle.specs.Frames.{frames_of, ShowsFrame, ShowsFrames};
 ghost use Rattle.cb_handle.specs.Events.{ShowsEvent, ShowsEvents};
 ghost use Rattle.cb_handle.specs.Entries.{ShowsEntry};
-ghost use Rattle.cb_handle.specs.Calling.{counts_of};
+ghost use Rattle.cb_handle.specs.Calling.{OnEach, counts_of, entries_held, events_held};
 ghost use Rattle.jolunza.specs.declared.code.TheConstants.{DONE};
 ghost use Rattle.jolunza.specs.Calls.{Calls, Casts, Receives, Ticks, Reads, IsDone, ShowsAt, ShowsMissing, Opens};
 
@@ -26,7 +26,7 @@ use cb_handle::{
 };
 use std::alloc::Global;
 
-/// Opens a member. A handle that is open is closed first.
+/// Opens a member, without a history where that may have no entries. A handle that is open is closed first.
 #[unsafe(no_mangle)]
 pub extern "C" fn jolunza_open(
     alloc: Global,
@@ -73,7 +73,7 @@ pub extern "C" fn jolunza_cast(alloc: Global, handle: &mut Handle, payload: &[u8
     code::of_cast(answer)
 }
 
-/// Takes received bytes. The frames that are to be sent answer a request; what is delivered joins the events.
+/// Takes received bytes. The frames that are to be sent answer a request; what is delivered are the last events.
 #[unsafe(no_mangle)]
 pub extern "C" fn jolunza_receive(
     alloc: Global,
@@ -100,12 +100,12 @@ pub extern "C" fn jolunza_tick(alloc: Global, handle: &mut Handle) -> u32
     let Some(mut held) = take(alloc, handle) else {
         return CLOSED;
     };
-    let answer = held.tick();
+    let answer = held.tick(alloc);
     put(handle, held);
     code::of_tick(answer)
 }
 
-/// How many frames, events and entries there are.
+/// How many frames, events and entries there are to be read.
 #[unsafe(no_mangle)]
 pub extern "C" fn jolunza_count(alloc: Global, handle: &mut Handle, counts: &mut Counts) -> u32
     ensures shows { Calls (Reads (IsDone (λ held. counts.new ≡ counts_of held)))
@@ -177,7 +177,7 @@ pub extern "C" fn jolunza_event(
     time: &mut [u32],
 ) -> u32
     ensures shows { Calls (Reads (λ held. ShowsAt (λ event. ShowsEvent event head.new payload.old
-        payload.new time.old time.new) (slice_get (events_in held.member) index)))
+        payload.new time.old time.new) (slice_get (events_held held) index)))
         handle.old.held handle.new.held result }
     ensures same { result ≢ DONE → (head.new ≡ head.old) × (payload.new ≡ payload.old)
         × (time.new ≡ time.old) }
@@ -201,7 +201,7 @@ pub extern "C" fn jolunza_events(
     times: &mut [u32],
     count: &mut usize,
 ) -> u32
-    ensures shows { Calls (Reads (IsDone (λ held. ShowsEvents (drop first (events_in held.member))
+    ensures shows { Calls (Reads (IsDone (λ held. ShowsEvents (drop first (events_held held))
         heads.old heads.new payloads.old payloads.new times.old times.new count.new)))
         handle.old.held handle.new.held result }
     ensures same { result ≢ DONE → (heads.new ≡ heads.old) × (payloads.new ≡ payloads.old)
@@ -215,7 +215,7 @@ pub extern "C" fn jolunza_events(
     DONE
 }
 
-/// Entry `index` of the history: its head, and its frame and the names of what it delivered as far as they fit.
+/// Entry `index`: its head, and its frame and the names of what it delivered as far as they fit.
 #[unsafe(no_mangle)]
 pub extern "C" fn jolunza_entry(
     alloc: Global,
@@ -226,7 +226,7 @@ pub extern "C" fn jolunza_entry(
     delivered: &mut [Name],
 ) -> u32
     ensures shows { Calls (Reads (λ held. ShowsAt (λ entry. ShowsEntry entry head.new frame.old
-        frame.new delivered.old delivered.new) (slice_get held.member.entries index)))
+        frame.new delivered.old delivered.new) (slice_get (entries_held held) index)))
         handle.old.held handle.new.held result }
     ensures same { result ≢ DONE → (head.new ≡ head.old) × (frame.new ≡ frame.old)
         × (delivered.new ≡ delivered.old) }
@@ -242,8 +242,8 @@ pub extern "C" fn jolunza_entry(
 /// How many messages of each member are delivered, as far as they fit.
 #[unsafe(no_mangle)]
 pub extern "C" fn jolunza_time(alloc: Global, handle: &mut Handle, time: &mut [u32]) -> u32
-    ensures shows { Calls (Reads (IsDone (λ held. time.new
-        ≡ copied (time_in held.member) time.old))) handle.old.held handle.new.held result }
+    ensures shows { Calls (Reads (IsDone (λ held. OnEach held (λ m. time.new
+        ≡ copied (time_in m) time.old)))) handle.old.held handle.new.held result }
     ensures same { result ≢ DONE → time.new ≡ time.old }
 {
     let Some(held) = take(alloc, handle) else {
@@ -257,14 +257,14 @@ pub extern "C" fn jolunza_time(alloc: Global, handle: &mut Handle, time: &mut [u
 /// How many own casts every other member is known to have delivered.
 #[unsafe(no_mangle)]
 pub extern "C" fn jolunza_stable(alloc: Global, handle: &mut Handle, count: &mut u32) -> u32
-    ensures shows { Calls (Reads (IsDone (λ held. count.new ≡ stable_in held.member)))
+    ensures shows { Calls (Reads (IsDone (λ held. OnEach held (λ m. count.new ≡ stable_in m))))
         handle.old.held handle.new.held result }
     ensures same { result ≢ DONE → count.new ≡ count.old }
 {
     let Some(held) = take(alloc, handle) else {
         return CLOSED;
     };
-    *count = held.member.stable();
+    *count = held.stable();
     put(handle, held);
     DONE
 }

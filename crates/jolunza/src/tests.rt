@@ -3,11 +3,12 @@
 
 mod bulk;
 mod codes;
+mod forgetting;
 mod reading;
 
 use crate::code::DONE;
-use crate::{jolunza_cast, jolunza_open, jolunza_receive};
-use cb_handle::{Handle, Received, closed};
+use crate::{jolunza_cast, jolunza_count, jolunza_open, jolunza_receive};
+use cb_handle::{Counts, Handle, Received, closed};
 use std::alloc::Global;
 use std::process::Abort;
 
@@ -21,9 +22,20 @@ pub const FOURTH: &[u8] = b"\x11\x07\x00\x04\x00\x01d";
 
 /// A member of the group of three with number 7, in which the window is 4.
 pub fn member_of_three(rt: &impl Abort, alloc: Global, me: u32) -> Handle {
+    member_with_limit(rt, alloc, me, 100)
+}
+
+/// Such a member, whose history may have so many entries.
+pub fn member_with_limit(rt: &impl Abort, alloc: Global, me: u32, limit: usize) -> Handle {
     let mut handle = closed();
-    assert_eq!(rt; jolunza_open(alloc, &mut handle, 7, 3, 4, me, 100), DONE);
+    assert_eq!(rt; jolunza_open(alloc, &mut handle, 7, 3, 4, me, limit), DONE);
     handle
+}
+
+pub fn counts(rt: &impl Abort, alloc: Global, handle: &mut Handle) -> (usize, usize, usize) {
+    let mut counts = Counts::default();
+    assert_eq!(rt; jolunza_count(alloc, handle, &mut counts), DONE);
+    (counts.frames, counts.events, counts.entries)
 }
 
 pub fn cast(rt: &impl Abort, alloc: Global, handle: &mut Handle, payload: &[u8]) {

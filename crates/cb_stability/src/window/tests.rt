@@ -160,7 +160,7 @@ fn after_the_greatest_number_there_is_no_room(rt: HostRuntime) {
         put: 4294967294,
         frames: HeapCircularBuffer::with_capacity(rt.alloc(), 2).expect(&rt, "memory"),
     };
-    has_room(&rt, &sent, 1);
+    has_room(&rt, &sent, 2);
     put_next(&rt, rt.alloc(), &mut sent, 4294967295);
     has_room(&rt, &sent, 0);
     gives(&rt, &sent, &[range(4294967295, 4294967295)], &[4294967295]);

@@ -15,16 +15,18 @@ use std::alloc::Global;
 use std::process::Abort;
 
 /// The size of a group, its window, a member, the limit of its history, and the code.
-const OPENED: [(u32, u32, u32, usize, u32); 9] = [
+const OPENED: [(u32, u32, u32, usize, u32); 11] = [
     (1, 4, 0, 100, BAD_GROUP),
-    (65, 4, 70, 0, BAD_GROUP),
+    (65, 4, 70, 16_777_217, BAD_GROUP),
     (3, 0, 0, 100, BAD_GROUP),
-    (3, 257, 0, 100, BAD_GROUP),
+    (3, 257, 0, 0, BAD_GROUP),
+    (3, 4, 3, 16_777_217, BAD_MEMBER),
     (3, 4, 3, 0, BAD_MEMBER),
-    (3, 4, 2, 0, BAD_LIMIT),
     (3, 4, 2, 16_777_217, BAD_LIMIT),
     (64, 256, 63, 16_777_216, DONE),
+    (64, 256, 63, 0, DONE),
     (2, 1, 0, 1, DONE),
+    (2, 1, 0, 0, DONE),
 ];
 
 /// A handle that holds a member holds none after a refusal.

@@ -1,0 +1,188 @@
+-- What a call adds to a history that is not kept, and to its events.
+use Rattle.std.proofs.Common.{◌≡◌, ◌⊎◌, ℕ, ◌+◌, ◌-◌, ◌≤◌, Bool, true, false, ◌&&◌, not, eqb, List, [], ◌∷◌, ◌++◌, length, drop, map, Option, Some, None, Result, Ok, Err, refl, sym, ap, subst, ◌∙◌, arith, inl, inr}
+use Rattle.std.specs.Prelude.{if◌then◌else◌, nat_lt}
+use Rattle.std.specs.List.{flat_map}
+use Rattle.std.proofs.lemmas.Bool.{ltb-false}
+use Rattle.std.proofs.lemmas.List.{append-nil, drop_at, length-append}
+use Rattle.cb_varint.specs.Reading.{spelling}
+use Rattle.cb_frames.specs.declared.frame.TheConstants.{LONGEST_PAYLOAD}
+use Rattle.cb_frames.specs.declared.fault.FrameFault.{FrameFault}
+use Rattle.cb_frames.specs.Fields.{Carried, CastFields, FrameFields, StatusFields, CastFrame, StatusFrame, RequestFrame}
+use Rattle.cb_frames.specs.Reading.{frame_at}
+use Rattle.cb_frames.specs.Text.{cast_kind, cast_numbers, text_of}
+use Rattle.cb_delay.specs.declared.message.Event.{Event}
+use Rattle.cb_delay.specs.declared.message.Event.TheVariants.{Cast, Deliver}
+use Rattle.cb_delay.specs.declared.message.Message.{Message}
+use Rattle.cb_diffs.specs.Expansion.{expanded_time}
+use Rattle.cb_history.specs.declared.answer.ArriveRefusal.{ArriveRefusal}
+use Rattle.cb_history.specs.declared.answer.ArriveRefusal.TheVariants as arrivals
+use Rattle.cb_history.specs.declared.answer.CastRefusal.{CastRefusal}
+use Rattle.cb_history.specs.declared.answer.CastRefusal.TheVariants as casts
+use Rattle.cb_history.specs.declared.answer.Outgoing.{Outgoing}
+use Rattle.cb_history.specs.Answers.{ArrivalSays, Accepted, Repeat, answer_to, are_members, arrive_answer, cast_answer, deliveries, delivered, group_of, is_change, is_full, is_impossible, is_repeat, is_too_far, is_window_full, next_cast, sent_in_answer, status_of}
+use Rattle.cb_history.specs.EventLaws.{new_events}
+use Rattle.cb_history.specs.Events.{events}
+use Rattle.cb_history.specs.Facts.{EntryFields, Fact, OwnCast, CastReceived, StatusReceived, OwnStatus, CastEntry, ArriveEntry, TickEntry, arrival_said, cast_said, casts_in, facts_of, said_by, status_said}
+use Rattle.cb_history.specs.Group.{Identity}
+use Rattle.cb_history.specs.Legal.{AreEntriesOf, and_entry, arrive_entry, room_for_one}
+use Rattle.cb_history.specs.LegalFacts.{AreFactsOf}
+use Rattle.cb_history.specs.View.{counts, message_in, view}
+use Rattle.cb_history.proofs.Counts.{number_left}
+use Rattle.cb_history.proofs.Happening.{events_with_one_more}
+use Rattle.cb_history.proofs.Histories.{entries_say_legal_facts}
+use Rattle.cb_history.proofs.Lists.{flat_map-append}
+use Rattle.cb_history.proofs.ReadBack.{cast_read, status_read}
+use Rattle.cb_history.proofs.Requests.{own_frames_have_texts}
+use Rattle.cb_history.proofs.Times.{own_casts_tell_the_view}
+use Rattle.cb_history.proofs.Views.{casts_in-append}
+use Rattle.cb_history.proofs.Walks.{view_own, view_status}
+use Rattle.cb_history.proofs.Written.{cast_can}
+use Rattle.cb_member.specs.Casting.{next_message, next_time}
+use Rattle.cb_member.specs.Received.{deliveries_in}
+
+pub joined : (es : List EntryFields) (o : Option EntryFields) → es ++ and_entry [] o ≡ and_entry es o
+joined es None = append-nil es
+joined es (Some e) = refl
+
+-- an entry that says this fact adds the events of the fact
+with_fact : (seat : Identity) (es : List EntryFields) (e : EntryFields) (fact : Fact) → AreEntriesOf seat (es ++ e ∷ []) → said_by e ≡ fact ∷ []
+    → events seat (facts_of (es ++ e ∷ [])) ≡ events seat (facts_of es) ++ new_events seat (facts_of es) fact
+with_fact seat es e fact legal said =
+    let more : facts_of (es ++ e ∷ []) ≡ facts_of es ++ fact ∷ [] =
+    flat_map-append said_by es (e ∷ []) ∙ ap (λ (fs : List Fact). facts_of es ++ fs) (append-nil (said_by e) ∙ said) in
+    let are = subst (AreFactsOf seat) more (entries_say_legal_facts seat (es ++ e ∷ []) legal).0 in
+    ap (events seat) more ∙ events_with_one_more seat (facts_of es) fact are
+
+-- ---- a cast
+
+by_cast_rules : (long window full : Bool) (next c : CastFields)
+    → (let r : Result CastFields CastRefusal = if long then Err casts.PayloadTooLong else if window then Err casts.WindowFull else if full then Err casts.HistoryFull else Ok next in r) ≡ Ok c
+    → (long ≡ false) × (window ≡ false)
+by_cast_rules true window full next c says = absurd cc
+by_cast_rules false true full next c says = absurd cc
+by_cast_rules false false true next c says = absurd cc
+by_cast_rules false false false next c says = (refl, refl)
+
+can_be_cast : (seat : Identity) (limit : ℕ) (es : List EntryFields) (payload : List ℕ) (c : CastFields) → cast_answer seat limit es payload ≡ Ok c
+    → (nat_lt LONGEST_PAYLOAD (length payload) ≡ false) × (is_window_full seat (facts_of es) ≡ false)
+unfolding cast_answer
+can_be_cast seat limit es payload c says =
+    by_cast_rules (nat_lt LONGEST_PAYLOAD (length payload)) (is_window_full seat (facts_of es)) (is_full limit es) (next_cast seat (facts_of es) payload) c says
+
+-- the time with the cast is what its frame tells
+cast_event : (seat : Identity) (facts : List Fact) (payload : List ℕ) → AreFactsOf seat (facts ++ OwnCast (next_cast seat facts payload) ∷ [])
+    → new_events seat facts (OwnCast (next_cast seat facts payload)) ≡ Cast (next_message seat facts payload) ∷ []
+cast_event seat facts payload are =
+    let c = next_cast seat facts payload in
+    let tells : expanded_time seat.group.size (casts_in facts ++ c ∷ []) seat.me (delivered seat facts seat.me + 1) ≡ next_time seat facts payload =
+    ap (λ (cs : List CastFields). expanded_time seat.group.size cs seat.me (delivered seat facts seat.me + 1)) (sym (casts_in-append facts (OwnCast c)))
+    ∙ own_casts_tell_the_view seat facts [] c are ∙ ap (counts seat.group.size) (view_own seat.group.size facts c) in
+    ap (λ (time : List ℕ). Cast (record { name = record { sender = seat.me; number = delivered seat facts seat.me + 1 }; time = time; payload = payload }) ∷ []) tells
+
+-- the entry of a cast that is answered says that cast, and the event is its message
+pub cast_adds : (seat : Identity) (limit : ℕ) (es : List EntryFields) (payload : List ℕ) → AreFactsOf seat (facts_of es)
+    → cast_answer seat limit es payload ≡ Ok (next_cast seat (facts_of es) payload) → AreEntriesOf seat (es ++ CastEntry (text_of (CastFrame (next_cast seat (facts_of es) payload))) ∷ [])
+    → events seat (facts_of (es ++ CastEntry (text_of (CastFrame (next_cast seat (facts_of es) payload))) ∷ [])) ≡ events seat (facts_of es) ++ Cast (next_message seat (facts_of es) payload) ∷ []
+cast_adds seat limit es payload are says legal =
+    let c = next_cast seat (facts_of es) payload in
+    let e = CastEntry (text_of (CastFrame c)) in
+    let can = can_be_cast seat limit es payload c says in
+    let small : length payload ≤ LONGEST_PAYLOAD = ltb-false LONGEST_PAYLOAD (length payload) can.0 in
+    let written = cast_can seat (facts_of es) payload are.group are.member are.facts_are (number_left seat (facts_of es) can.1) small in
+    let said : said_by e ≡ OwnCast c ∷ [] = ap cast_said (cast_read c written) in
+    let more : facts_of (es ++ e ∷ []) ≡ facts_of es ++ OwnCast c ∷ [] =
+    flat_map-append said_by es (e ∷ []) ∙ ap (λ (fs : List Fact). facts_of es ++ fs) (append-nil (said_by e) ∙ said) in
+    let after = subst (AreFactsOf seat) more (entries_say_legal_facts seat (es ++ e ∷ []) legal).0 in
+    with_fact seat es e (OwnCast c) legal said ∙ ap (λ (xs : List Event). events seat (facts_of es) ++ xs) (cast_event seat (facts_of es) payload after)
+
+-- the payload is the end of the frame
+pub payload_at_end : (c : CastFields) → drop (length (text_of (CastFrame c)) - length c.payload) (text_of (CastFrame c)) ≡ c.payload
+unfolding text_of
+payload_at_end c =
+    let front : List ℕ = cast_kind ∷ flat_map spelling (cast_numbers c) in
+    drop_at front c.payload (length (front ++ c.payload) - length c.payload) (omega (arith, length-append front c.payload))
+
+-- ---- a tick
+
+pub tick_adds : (seat : Identity) (es : List EntryFields) (entered : Bool) → AreFactsOf seat (facts_of es)
+    → AreEntriesOf seat (and_entry es (if entered then Some (TickEntry (text_of (StatusFrame (status_of seat (facts_of es))))) else None))
+    → events seat (facts_of (and_entry es (if entered then Some (TickEntry (text_of (StatusFrame (status_of seat (facts_of es))))) else None))) ≡ events seat (facts_of es) ++ []
+tick_adds seat es true are legal =
+    let s = status_of seat (facts_of es) in
+    with_fact seat es (TickEntry (text_of (StatusFrame s))) (OwnStatus s) legal (ap status_said (status_read s (own_frames_have_texts seat (facts_of es) are).1))
+tick_adds seat es false are legal = sym (append-nil (events seat (facts_of es)))
+
+-- ---- received bytes
+
+-- nothing is delivered, and there is no entry
+abbrev Silent : List ℕ → ArrivalSays → Type 0
+Silent bytes says = (deliveries_in says ≡ []) × (arrive_entry bytes (Ok says) ≡ None)
+
+-- a frame that changes the state, and what it delivers
+record News (seat : Identity) (es : List EntryFields) (bytes : List ℕ) (says : ArrivalSays) : Type 0 where
+  frame : FrameFields
+  out : List Outgoing
+  read : frame_at bytes ≡ Ok frame
+  change : is_change seat (facts_of es) frame ≡ true
+  is : says ≡ Accepted (deliveries seat (facts_of es) frame) true out
+
+by_frame_rules : (other strange impossible repeat far change full : Bool) (ds : List Message) (out : List Outgoing) (bytes : List ℕ) (says : ArrivalSays)
+    → (let r : Result ArrivalSays ArriveRefusal =
+    if other then Err arrivals.OtherGroup else if strange then Err arrivals.BadMember else if impossible then Err arrivals.Impossible else
+    if repeat then Ok Repeat else if far then Err arrivals.TooFar else if change && full then Err arrivals.HistoryFull else
+    if change then Ok (Accepted ds true out) else Ok (Accepted [] false out) in r) ≡ Ok says
+    → Silent bytes says ⊎ ((change ≡ true) × (says ≡ Accepted ds true out))
+by_frame_rules true strange impossible repeat far change full ds out bytes says h = absurd cc
+by_frame_rules false true impossible repeat far change full ds out bytes says h = absurd cc
+by_frame_rules false false true repeat far change full ds out bytes says h = absurd cc
+by_frame_rules false false false true far change full ds out bytes says h = let e : Repeat ≡ says = cc in inl (subst (Silent bytes) e (refl, refl))
+by_frame_rules false false false false true change full ds out bytes says h = absurd cc
+by_frame_rules false false false false false true true ds out bytes says h = absurd cc
+by_frame_rules false false false false false true false ds out bytes says h = let e : says ≡ Accepted ds true out = cc in inr (refl, e)
+by_frame_rules false false false false false false full ds out bytes says h = let e : Accepted [] false out ≡ says = cc in inl (subst (Silent bytes) e (refl, refl))
+
+read_says : (seat : Identity) (es : List EntryFields) (bytes : List ℕ) (r : Result FrameFields FrameFault) (says : ArrivalSays) → frame_at bytes ≡ r → answer_to seat (room_for_one es) es r ≡ Ok says → Silent bytes says ⊎ News seat es bytes says
+read_says seat es bytes (Err fault) says read h = absurd cc
+read_says seat es bytes (Ok frame) says read h =
+    let facts = facts_of es in
+    elim (by_frame_rules (not (eqb (group_of frame) seat.group.number)) (not (are_members seat.group.size frame)) (is_impossible seat facts frame) (is_repeat facts frame) (is_too_far seat facts frame)
+    (is_change seat facts frame) (is_full (room_for_one es) es) (deliveries seat facts frame) (sent_in_answer seat facts frame) bytes says h) [
+      | inl silent ↦ inl silent
+      | inr news ↦ inr (record { frame = frame; out = sent_in_answer seat facts frame; read = read; change = news.0; is = news.1 })
+    ]
+
+arrival_says : (seat : Identity) (es : List EntryFields) (bytes : List ℕ) (says : ArrivalSays) → arrive_answer seat (room_for_one es) es bytes ≡ Ok says → Silent bytes says ⊎ News seat es bytes says
+unfolding arrive_answer
+arrival_says seat es bytes says h = read_says seat es bytes (frame_at bytes) says refl h
+
+-- a status delivers nothing
+none_by_status : (seat : Identity) (facts : List Fact) (s : StatusFields) → deliveries seat facts (StatusFrame s) ≡ []
+none_by_status seat facts s =
+    let seen = view seat.group.size facts in
+    let casts = casts_in (facts ++ StatusReceived s ∷ []) in
+    ap (λ (ms : List Carried). map (message_in seat.group.size casts) (drop (length seen) ms)) (view_status seat.group.size facts s ∙ sym (append-nil seen))
+    ∙ ap (map (message_in seat.group.size casts)) (drop_at seen [] (length seen) refl)
+
+frame_adds : (seat : Identity) (es : List EntryFields) (bytes : List ℕ) (frame : FrameFields) → frame_at bytes ≡ Ok frame → is_change seat (facts_of es) frame ≡ true
+    → AreEntriesOf seat (es ++ ArriveEntry bytes (map (λ m. m.name) (deliveries seat (facts_of es) frame)) ∷ [])
+    → events seat (facts_of (es ++ ArriveEntry bytes (map (λ m. m.name) (deliveries seat (facts_of es) frame)) ∷ [])) ≡ events seat (facts_of es) ++ map (λ (m : Message). Deliver m) (deliveries seat (facts_of es) frame)
+frame_adds seat es bytes (CastFrame c) read change legal = with_fact seat es _ (CastReceived c) legal (ap arrival_said read)
+frame_adds seat es bytes (StatusFrame s) read change legal =
+    with_fact seat es _ (StatusReceived s) legal (ap arrival_said read)
+    ∙ ap (λ (ms : List Message). events seat (facts_of es) ++ map (λ (m : Message). Deliver m) ms) (sym (none_by_status seat (facts_of es) s))
+frame_adds seat es bytes (RequestFrame r) read change legal = absurd cc
+
+pub arrival_adds : (seat : Identity) (es : List EntryFields) (bytes : List ℕ) (says : ArrivalSays) → arrive_answer seat (room_for_one es) es bytes ≡ Ok says
+    → AreEntriesOf seat (and_entry es (arrive_entry bytes (Ok says)))
+    → events seat (facts_of (and_entry es (arrive_entry bytes (Ok says)))) ≡ events seat (facts_of es) ++ map (λ (m : Message). Deliver m) (deliveries_in says)
+arrival_adds seat es bytes says answer legal =
+    elim (arrival_says seat es bytes says answer) [
+      | inl silent ↦
+          ap (λ (o : Option EntryFields). events seat (facts_of (and_entry es o))) silent.1 ∙ sym (append-nil (events seat (facts_of es)))
+          ∙ ap (λ (ms : List Message). events seat (facts_of es) ++ map (λ (m : Message). Deliver m) ms) (sym silent.0)
+      | inr news ↦
+          let P : ArrivalSays → Type 0 = λ s.
+          AreEntriesOf seat (and_entry es (arrive_entry bytes (Ok s)))
+          → events seat (facts_of (and_entry es (arrive_entry bytes (Ok s)))) ≡ events seat (facts_of es) ++ map (λ (m : Message). Deliver m) (deliveries_in s) in
+          subst P (sym news.is) (frame_adds seat es bytes news.frame news.read news.change) legal
+    ]
