@@ -22,6 +22,7 @@ pub mod OwnCasts
 pub mod Passing
 pub mod Putting
 pub mod Reading
+pub mod Ready
 pub mod Receiving
 pub mod Recording
 pub mod Rising

@@ -2,15 +2,17 @@
 //!
 //! `LetsGo` would do for every cast. The others are for what comes most, and cost less.
 
-ghost use Rattle.std.specs.Prelude.{◌≡◌, IfOk, length};
+ghost use Rattle.std.specs.Prelude.{◌≡◌, ◌≢◌, ◌≤◌, ◌↔◌, All, IfOk, IsTrue, length};
+ghost use Rattle.cb_times.specs.Order.{field};
 ghost use Rattle.cb_frames.specs.Fields.{cast_fields};
+ghost use Rattle.cb_delay.specs.Rule.{IsReady};
+ghost use Rattle.cb_diffs.specs.Expansion.{AreMembers};
 ghost use Rattle.cb_member.specs.State.{IsAlike};
 ghost use Rattle.cb_member.specs.Taking.{CanFollow};
 ghost use Rattle.cb_member.specs.Passing.{IsInOrder};
-ghost use Rattle.cb_member.specs.Course.{CanGo, HoldsAtMost, most};
+ghost use Rattle.cb_member.specs.Course.{CanGo, HasTime, HoldsAtMost, most};
 
 use crate::state::State;
-use cb_delay::is_ready;
 use cb_frames::Cast;
 use cb_times::{NoMemory, VectorTime};
 use std::alloc::AllocError;
@@ -62,7 +64,7 @@ impl State {
         ensures course { IfOk result (λ course. CanGo (cast_fields cast.now) course self.new) }
     {
         let time = self.reception.expander.time_ahead(cast)?;
-        if is_ready(cast.sender, &time, &self.delivery.time) {
+        if self.is_ready_in_order(cast, &time) {
             if self.delivery.leaves_waiting(cast.sender) {
                 return Ok(Course::Alone { time });
             }
@@ -70,6 +72,18 @@ impl State {
             return Ok(Course::Waits { time });
         }
         self.letting_go(cast, time)
+    }
+
+    /// Whether a cast that comes in order may be delivered. Once its sender's casts before it are delivered, so is all that the sender
+    /// had delivered by then, and only the fields that the cast changes can be above what is delivered.
+    fn is_ready_in_order(&self, cast: &Cast, time: &VectorTime) -> bool
+        requires { HasTime (cast_fields cast.now) time.now self.now }
+        ensures { IsTrue result
+            ↔ IsReady cast.now.sender (field time.now) (field self.now.delivery.time) }
+    {
+        let counts = &self.delivery.time;
+        counts.get(cast.sender).checked_add(1) == Some(cast.number)
+            && changes_are_reached(cast, time.as_slice(), counts.as_slice())
     }
 
     fn course_of_others(&mut self, cast: &Cast) -> Result<Course, NoMemory>
@@ -110,4 +124,21 @@ impl State {
             None => Err(AllocError),
         }
     }
+}
+
+/// Whether of the fields of other members that the cast changes none is above what is delivered.
+fn changes_are_reached(cast: &Cast, stamps: &[u32], counts: &[u32]) -> bool
+    requires members { AreMembers (length counts.now) (cast_fields cast.now) }
+    requires size { length stamps.now ≡ length counts.now }
+    ensures { IsTrue result
+        ↔ All (λ d. d.field ≢ cast.now.sender → field stamps.now d.field ≤ field counts.now d.field)
+        cast.now.changes.items }
+{
+    for change in &cast.changes {
+        let k = change.field as usize;
+        if stamps[k] > counts[k] && change.field != cast.sender {
+            return false;
+        }
+    }
+    true
 }

@@ -5,20 +5,17 @@ use Rattle.cb_delay.specs.Rule.{IsReady}
 use Rattle.cb_member.specs.declared.state.State.{State}
 use Rattle.cb_member.specs.Taking.{CanFollow}
 use Rattle.cb_member.proofs.Alike.{can_follow_alike, leaves_alike, none_ready_alike, with_settled}
-use Rattle.cb_member.proofs.Courses.{expander_long, has_its_time, has_time_alike, is_next, time_fits_queue, time_is_long}
+use Rattle.cb_member.proofs.Courses.{expander_long, has_its_time, has_time_alike, is_next, time_fits_queue}
 use Rattle.cb_member.proofs.TakingIn.{sender_is_counted}
 use Rattle.cb_member.proofs.state.State.course_in_order.Goals as goal
-use Rattle.cb_member.proofs.state.State.course_in_order.Goals.{then-is_ready+else-leaves_waiting, else-is_ready+else-has_none_ready}
+use Rattle.cb_member.proofs.state.State.course_in_order.Goals.{then-is_ready_in_order+else-leaves_waiting, else-is_ready_in_order+else-has_none_ready}
 
 pub time_ahead-requires : goal.time_ahead-requires
 time_ahead-requires c = record { next = is_next (cast_fields c.args.cast.now) c.args.self.now c.requires.can c.requires.in_order }
 
-pub is_ready-requires-clause-sender : goal.is_ready-requires-clause-sender
-is_ready-requires-clause-sender c = sender_is_counted (cast_fields c.args.cast.now) c.args.self.now c.requires.can
-
-pub is_ready-requires-clause-time : goal.is_ready-requires-clause-time
-is_ready-requires-clause-time c =
-    c.in_ok-time.ensures.size ∙ expander_long (cast_fields c.args.cast.now) c.args.self.now c.requires.can ∙ sym (time_is_long (cast_fields c.args.cast.now) c.args.self.now c.requires.can)
+pub is_ready_in_order-requires : goal.is_ready_in_order-requires
+is_ready_in_order-requires c =
+    has_its_time (cast_fields c.args.cast.now) c.in_ok-time.time c.args.self.now c.requires.can c.requires.in_order c.in_ok-time.ensures.time c.in_ok-time.ensures.size
 
 pub leaves_waiting-requires-clause-size : goal.leaves_waiting-requires-clause-size
 leaves_waiting-requires-clause-size c = time_fits_queue (cast_fields c.args.cast.now) c.args.self.now c.requires.can
@@ -34,7 +31,7 @@ returns-then-leaves_waiting-clause-course c =
     record {
       has_time = has_time_alike (cast_fields c.args.cast.now) c.in_ok-time.time c.args.self.now _ (with_settled c.args.self.now c.leaves_waiting.new.self same)
           (has_its_time (cast_fields c.args.cast.now) c.in_ok-time.time c.args.self.now c.requires.can c.requires.in_order c.in_ok-time.ensures.time c.in_ok-time.ensures.size);
-      ready = subst (λ (time : List ℕ). IsReady c.args.cast.now.sender (field c.in_ok-time.time) (field time)) (sym same.time) (c.is_ready.ensures.0 c.if-is_ready.true);
+      ready = subst (λ (time : List ℕ). IsReady c.args.cast.now.sender (field c.in_ok-time.time) (field time)) (sym same.time) (c.is_ready_in_order.ensures.0 c.if-is_ready_in_order.true);
       leaves = leaves_alike c.args.cast.now.sender c.args.self.now.delivery c.leaves_waiting.new.self same (c.leaves_waiting.ensures.leaves c.if-leaves_waiting.true);
     }
 
@@ -47,7 +44,7 @@ returns-then-has_none_ready-clause-course c =
     record {
       has_time = has_time_alike (cast_fields c.args.cast.now) c.in_ok-time.time c.args.self.now _ (with_settled c.args.self.now c.has_none_ready.new.self same)
           (has_its_time (cast_fields c.args.cast.now) c.in_ok-time.time c.args.self.now c.requires.can c.requires.in_order c.in_ok-time.ensures.time c.in_ok-time.ensures.size);
-      not_ready = λ ready. true≢false (sym (c.is_ready.ensures.1 (subst (λ (time : List ℕ). IsReady c.args.cast.now.sender (field c.in_ok-time.time) (field time)) same.time ready)) ∙ c.if-is_ready.false);
+      not_ready = λ ready. true≢false (sym (c.is_ready_in_order.ensures.1 (subst (λ (time : List ℕ). IsReady c.args.cast.now.sender (field c.in_ok-time.time) (field time)) same.time ready)) ∙ c.if-is_ready_in_order.false);
       none_ready = none_ready_alike c.args.self.now.delivery c.has_none_ready.new.self same (c.has_none_ready.ensures.none c.if-has_none_ready.true);
     }
 
@@ -55,17 +52,17 @@ pub letting_go-requires-clause-can : goal.letting_go-requires-clause-can
 letting_go-requires-clause-can c =
     let cast = cast_fields c.args.cast.now in
     let state = c.args.self.now in
-    elim c.if-is_ready.branch [
-      | then-is_ready+else-leaves_waiting w ↦
+    elim c.if-is_ready_in_order.branch [
+      | then-is_ready_in_order+else-leaves_waiting w ↦
           subst (CanFollow cast) (sym w.self-is)
           (can_follow_alike cast state _ (with_settled state w.leaves_waiting.new.self w.leaves_waiting.ensures.same) c.requires.can)
-      | else-is_ready+else-has_none_ready w ↦
+      | else-is_ready_in_order+else-has_none_ready w ↦
           subst (CanFollow cast) (sym w.self-is)
           (can_follow_alike cast state _ (with_settled state w.has_none_ready.new.self w.has_none_ready.ensures.same) c.requires.can)
     ]
 
 pub letting_go-requires-clause-size : goal.letting_go-requires-clause-size
-letting_go-requires-clause-size c = elim c.if-is_ready.branch [
-  | then-is_ready+else-leaves_waiting w ↦ c.in_ok-time.ensures.size ∙ expander_long (cast_fields c.args.cast.now) c.args.self.now c.requires.can ∙ ap (λ (s : State). s.seat.group.size) (sym w.self-is)
-  | else-is_ready+else-has_none_ready w ↦ c.in_ok-time.ensures.size ∙ expander_long (cast_fields c.args.cast.now) c.args.self.now c.requires.can ∙ ap (λ (s : State). s.seat.group.size) (sym w.self-is)
+letting_go-requires-clause-size c = elim c.if-is_ready_in_order.branch [
+  | then-is_ready_in_order+else-leaves_waiting w ↦ c.in_ok-time.ensures.size ∙ expander_long (cast_fields c.args.cast.now) c.args.self.now c.requires.can ∙ ap (λ (s : State). s.seat.group.size) (sym w.self-is)
+  | else-is_ready_in_order+else-has_none_ready w ↦ c.in_ok-time.ensures.size ∙ expander_long (cast_fields c.args.cast.now) c.args.self.now c.requires.can ∙ ap (λ (s : State). s.seat.group.size) (sym w.self-is)
 ]
