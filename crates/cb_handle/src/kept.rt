@@ -14,8 +14,8 @@ use crate::frames::Frames;
 use crate::recent::Recent;
 use bytes::Bytes;
 use cb_member::{
-    ArriveRefusal, CastRefusal, CoreMember, Event, Group, Member, MissingFault, NewFault, Outgoing, Range,
-    Received, TickRefusal, VectorTime,
+    ArriveRefusal, CastRefusal, CoreMember, Event, Group, Member, MissingFault, NewFault, Outgoing,
+    Range, Received, TickRefusal, VectorTime,
 };
 use std::alloc::Global;
 

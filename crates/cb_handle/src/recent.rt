@@ -14,8 +14,8 @@ ghost use Rattle.cb_handle.specs.Calling.{HasCast, HasReceived, HasTicked};
 use crate::frames::Frames;
 use bytes::Bytes;
 use cb_member::{
-    ArriveRefusal, CastDone, CastRefusal, CoreMember, Entry, Event, Message, Outgoing,
-    Received, TickRefusal,
+    ArriveRefusal, CastDone, CastRefusal, CoreMember, Entry, Event, Message, Outgoing, Received,
+    TickRefusal,
 };
 use std::alloc::Global;
 use std::slice;

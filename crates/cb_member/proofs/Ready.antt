@@ -1,5 +1,5 @@
 -- A cast that comes in order is ready where it is its sender's next one and no field that it changes is above what is delivered.
-use Rattle.std.proofs.Common.{◌≡◌, ◌≢◌, ℕ, ◌+◌, ◌<◌, ◌≤◌, ◌^◌, ◌⊎◌, cond, eqb, List, [], ◌∷◌, length, replicate, refl, sym, ap, subst, ◌∙◌, arith, inl, inr}
+use Rattle.std.proofs.Common.{◌≡◌, ◌≢◌, ℕ, ◌+◌, ◌<◌, ◌≤◌, ◌^◌, ◌⊎◌, cond, eqb, List, [], ◌∷◌, replicate, refl, sym, ap, subst, ◌∙◌, arith, inl, inr}
 use Rattle.std.specs.Prelude.{All}
 use Rattle.std.proofs.lemmas.Bool.{cases_eq, cases_lt, ne_eqb}
 use Rattle.std.proofs.lemmas.List.{get_or-replicate, get_or_past}
@@ -24,7 +24,7 @@ use Rattle.cb_history.proofs.Times.{own_field}
 use Rattle.cb_member.specs.declared.state.State.{State}
 use Rattle.cb_member.specs.Course.{HasTime}
 use Rattle.cb_member.specs.Taking.{CanFollow}
-use Rattle.cb_member.proofs.Courses.{expander_long, is_next, time_is_long}
+use Rattle.cb_member.proofs.Courses.{is_next}
 use Rattle.cb_member.proofs.TakingIn.{of_member, of_other}
 
 -- a change of another member's field is reached where the field is not above

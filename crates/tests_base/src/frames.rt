@@ -223,9 +223,7 @@ fn payload_length(number: usize) -> usize {
 
 fn is_numbered(frame: &[u8], number: usize) -> bool {
     let length = if number % 3 == 0 { 1_006 } else { 406 };
-    frame.len() == length
-        && is_at(frame.get(3), number)
-        && is_at(frame.last(), number)
+    frame.len() == length && is_at(frame.get(3), number) && is_at(frame.last(), number)
 }
 
 fn is_at(byte: Option<&u8>, number: usize) -> bool {

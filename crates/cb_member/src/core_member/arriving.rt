@@ -17,8 +17,8 @@ ghost use Rattle.cb_member.specs.Received.{count_said, received_says};
 use crate::arrival::cast::Judged;
 use crate::arrival::course::Course;
 use crate::arrival::status;
-use crate::recorder::arriving::{Named, heard_in, read};
 use crate::recorder::Received;
+use crate::recorder::arriving::{Named, heard_in, read};
 use crate::state::State;
 use bytes::Bytes;
 use cb_delay::Event;
@@ -185,7 +185,7 @@ impl State {
         ensures { (wanted : Bool) (bytes : List ℕ) (events : List Events)
             → frame_at bytes ≡ Ok (RequestFrame (request_fields request.now))
             → AnswersArrivalOnEach wanted bytes (core_of self.now) (core_of self.now) events events
-                result }
+            result }
     {
         match self.answer_request(request) {
             Ok(out) => Ok(not_noted(nothing(false, out))),

@@ -30,8 +30,7 @@ reached c =
 
 pub returns-then-eq : goal.returns-then-eq
 returns-then-eq c =
-    let next : field c.args.self.now.delivery.time c.args.cast.now.sender + 1 ≡ c.args.cast.now.number = search (rules, tests) in
-    (
+    let next : field c.args.self.now.delivery.time c.args.cast.now.sender + 1 ≡ c.args.cast.now.number = search (rules, tests) in (
       λ all. next_and_reached_is_ready (cast_fields c.args.cast.now) c.args.time.now c.args.self.now c.requires next ((reached c).0 all),
       λ ready. (reached c).1 (ready_is_reached (cast_fields c.args.cast.now) c.args.time.now c.args.self.now c.requires ready),
     )
