@@ -1,7 +1,7 @@
 /*
  * The run of crates/bench_member through the library for C: a whole group in one thread, each member in its turn takes all that the
  * others sent, and casts. Prints the same: how many messages were delivered, and a digest of their names and times. Words: SIZE WINDOW
- * PAYLOAD CASTS. Nothing is lost.
+ * PAYLOAD CASTS. Nothing is lost. What was sent to a member is one buffer, which it loads at once.
  */
 #include <inttypes.h>
 #include <stdio.h>
@@ -12,26 +12,20 @@
 
 enum { GROUP = 7, LIMIT = 16777216, AT_ONCE = 64 };
 
-/* A frame on its way; once the last to whom it goes has it, it is one of the free ones. */
-struct frame {
-    struct frame *next;
-    size_t owners, length;
-    uint8_t bytes[JOLUNZA_LONGEST_FRAME];
-};
-
-struct queue {
-    struct frame **frames;
-    size_t count, room;
+/* Frames that were sent to a member and not yet taken, one after another, and their lengths. */
+struct inbox {
+    uint8_t *bytes;
+    size_t *lengths;
+    size_t end, room, count, lengths_room;
 };
 
 struct member {
     jolunza_handle handle;
     size_t seen; /* events */
-    struct queue queue;
+    struct inbox inbox;
 };
 
 static struct member members[JOLUNZA_MOST_MEMBERS];
-static struct frame *free_frames;
 static uint32_t size, window;
 static size_t payload_length;
 static uint64_t casts, made, deliveries, digest = 0xcbf29ce484222325u;
@@ -45,45 +39,33 @@ static void must(bool holds)
     }
 }
 
-static void put(uint32_t to, struct frame *frame)
+/* The items, with room for as many as are needed at least. */
+static void *grown(void *items, size_t *room, size_t needed, size_t length)
 {
-    struct queue *queue = &members[to].queue;
-
-    if (queue->count == queue->room) {
-        queue->room = queue->room ? 2 * queue->room : 16;
-        queue->frames = realloc(queue->frames, queue->room * sizeof *queue->frames);
-        must(queue->frames != NULL);
-    }
-    queue->frames[queue->count++] = frame;
+    if (needed <= *room)
+        return items;
+    *room = 2 * needed;
+    items = realloc(items, *room * length);
+    must(items != NULL);
+    return items;
 }
 
-static struct frame *take_free(void)
+static void put(uint32_t to, const uint8_t *frame, size_t length)
 {
-    struct frame *frame = free_frames;
+    struct inbox *inbox = &members[to].inbox;
 
-    if (frame == NULL)
-        frame = malloc(sizeof *frame);
-    else
-        free_frames = frame->next;
-    must(frame != NULL);
-    return frame;
+    inbox->bytes = grown(inbox->bytes, &inbox->room, inbox->end + length, 1);
+    inbox->lengths = grown(inbox->lengths, &inbox->lengths_room, inbox->count + 1, sizeof *inbox->lengths);
+    memcpy(inbox->bytes + inbox->end, frame, length);
+    inbox->end += length;
+    inbox->lengths[inbox->count++] = length;
 }
 
-static void release(struct frame *frame)
+static void post(uint32_t from, const jolunza_frame_head *head, const uint8_t *frame)
 {
-    if (--frame->owners == 0) {
-        frame->next = free_frames;
-        free_frames = frame;
-    }
-}
-
-static void post(uint32_t from, const jolunza_frame_head *head, struct frame *frame)
-{
-    frame->owners = head->to_all ? size - 1 : 1;
-    frame->length = head->length;
     for (uint32_t to = 0; to < size; to++)
         if (head->to_all ? to != from : to == head->to)
-            put(to, frame);
+            put(to, frame, head->length);
 }
 
 /* Sends the frames of the member's last call, of which there are so many. */
@@ -91,9 +73,9 @@ static void send_frames(uint32_t me, size_t count)
 {
     for (size_t i = 0; i < count; i++) {
         jolunza_frame_head head;
-        struct frame *frame = take_free();
+        uint8_t frame[JOLUNZA_LONGEST_FRAME];
 
-        must(jolunza_frame(&members[me].handle, i, &head, frame->bytes, sizeof frame->bytes) == JOLUNZA_DONE);
+        must(jolunza_frame(&members[me].handle, i, &head, frame, sizeof frame) == JOLUNZA_DONE);
         post(me, &head, frame);
     }
 }
@@ -142,22 +124,22 @@ static void read_events(uint32_t me)
 
 static void take_all(uint32_t me)
 {
-    static struct queue inbox;
     struct member *member = &members[me];
-    struct queue taken = member->queue;
+    struct inbox *inbox = &member->inbox;
+    size_t first = 0;
 
-    member->queue = inbox;
-    for (size_t i = 0; i < taken.count; i++) {
+    if (inbox->count > 0)
+        must(jolunza_load(&member->handle, inbox->bytes, inbox->end) == JOLUNZA_DONE);
+    for (size_t i = 0; i < inbox->count; i++) {
         jolunza_received received;
 
-        must(jolunza_receive(&member->handle, taken.frames[i]->bytes, taken.frames[i]->length, &received) == JOLUNZA_DONE);
-        release(taken.frames[i]);
+        must(jolunza_receive_loaded(&member->handle, first, inbox->lengths[i], &received) == JOLUNZA_DONE);
+        first += inbox->lengths[i];
         if (!received.is_entered && !received.is_repeat)
             send_frames(me, count_frames(me));
     }
     read_events(me);
-    taken.count = 0;
-    inbox = taken;
+    inbox->end = inbox->count = 0;
 }
 
 /* The member casts as often as a fourth of the window, as long as it may. */

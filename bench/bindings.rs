@@ -1,11 +1,10 @@
 //! The run of `crates/bench_member` through the wrapper for Rust: a whole group in one thread, each member in its turn takes all that
 //! the others sent, and casts. Prints the same: how many messages were delivered, and a digest of their names and times. Words: SIZE
-//! WINDOW PAYLOAD CASTS. Nothing is lost.
+//! WINDOW PAYLOAD CASTS. Nothing is lost. What was sent to a member is one buffer, which it loads at once.
 
 use jolunza::{Event, Member, Refusal, Settings, LONGEST_HISTORY};
 use std::env;
 use std::mem;
-use std::rc::Rc;
 
 struct Tally {
     deliveries: u64,
@@ -28,38 +27,43 @@ impl Tally {
     }
 }
 
-/// A frame on its way. Its bytes are those of an earlier frame that all to whom it went have taken.
-type Frame = Rc<Vec<u8>>;
+/// What was sent to a member and not yet taken: the frames, one after another, and where each ends.
+#[derive(Clone, Default)]
+struct Inbox {
+    bytes: Vec<u8>,
+    ends: Vec<usize>,
+}
 
-/// What was sent and not yet taken, for each member, and frames whose memory is used again.
+impl Inbox {
+    fn put(&mut self, frame: &[u8]) {
+        self.bytes.extend_from_slice(frame);
+        self.ends.push(self.bytes.len());
+    }
+
+    fn clear(&mut self) {
+        self.bytes.clear();
+        self.ends.clear();
+    }
+}
+
+/// One inbox for each member.
 struct Network {
-    queues: Vec<Vec<Frame>>,
-    free: Vec<Frame>,
+    inboxes: Vec<Inbox>,
 }
 
 impl Network {
     fn send(&mut self, me: usize, frame: jolunza::Frame) {
-        let mut copy = self.free.pop().unwrap_or_default();
-        let bytes = Rc::get_mut(&mut copy).expect("nobody has a free frame");
-        bytes.clear();
-        bytes.extend_from_slice(frame.bytes);
         match frame.to {
-            Some(to) => self.queues[to as usize].push(copy),
-            None => self.send_to_others(me, copy),
+            Some(to) => self.inboxes[to as usize].put(frame.bytes),
+            None => self.send_to_others(me, frame.bytes),
         }
     }
 
-    fn send_to_others(&mut self, me: usize, frame: Frame) {
-        let last = if me + 1 == self.queues.len() { me - 1 } else { self.queues.len() - 1 };
-        for to in (0..last).filter(|to| *to != me) {
-            self.queues[to].push(frame.clone());
-        }
-        self.queues[last].push(frame);
-    }
-
-    fn release(&mut self, mut frame: Frame) {
-        if Rc::get_mut(&mut frame).is_some() {
-            self.free.push(frame);
+    fn send_to_others(&mut self, me: usize, frame: &[u8]) {
+        for (to, inbox) in self.inboxes.iter_mut().enumerate() {
+            if to != me {
+                inbox.put(frame);
+            }
         }
     }
 }
@@ -84,15 +88,18 @@ impl Run {
         }
     }
 
-    fn take_all(&mut self, me: usize, inbox: &mut Vec<Frame>) -> Result<(), Refusal> {
-        mem::swap(inbox, &mut self.network.queues[me]);
-        for frame in inbox.drain(..) {
-            let received = self.members[me].receive(&frame)?;
-            self.network.release(frame);
+    fn take_all(&mut self, me: usize, inbox: &mut Inbox) -> Result<(), Refusal> {
+        mem::swap(inbox, &mut self.network.inboxes[me]);
+        self.members[me].load(&inbox.bytes)?;
+        let mut first = 0;
+        for end in &inbox.ends {
+            let received = self.members[me].receive_loaded(first..*end)?;
+            first = *end;
             if !received.is_entered && !received.is_repeat {
                 self.send_frames(me);
             }
         }
+        inbox.clear();
         let events = self.members[me].events(self.seen[me]..);
         self.seen[me] += events.len();
         for event in events {
@@ -122,7 +129,7 @@ impl Run {
     }
 
     fn go(&mut self) -> Result<(), Refusal> {
-        let mut inbox = Vec::new();
+        let mut inbox = Inbox::default();
         while self.tally.deliveries < self.casts * (self.members.len() as u64 - 1) {
             for me in 0..self.members.len() {
                 self.take_all(me, &mut inbox)?;
@@ -143,7 +150,7 @@ fn main() -> Result<(), Refusal> {
     let mut run = Run {
         members: (0..size).map(open).collect::<Result<_, _>>()?,
         seen: vec![0; size as usize],
-        network: Network { queues: vec![Vec::new(); size as usize], free: Vec::new() },
+        network: Network { inboxes: vec![Inbox::default(); size as usize] },
         tally: Tally { deliveries: 0, digest: 0xcbf2_9ce4_8422_2325 },
         window,
         payload: vec![b'a'; payload as usize],

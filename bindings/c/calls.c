@@ -113,6 +113,8 @@ static void test_closed(jolunza_handle *handle)
     untouched();
     CHECK(cast(handle, "hi") == JOLUNZA_CLOSED);
     CHECK(receive(handle, BYTES(0x11, 7, 1, 1, 0, 0)) == JOLUNZA_CLOSED);
+    CHECK(jolunza_load(handle, BYTES(0x11, 7, 1, 1, 0, 0)) == JOLUNZA_CLOSED);
+    CHECK(jolunza_receive_loaded(handle, 0, 0, &f->received) == JOLUNZA_CLOSED);
     CHECK(jolunza_tick(handle) == JOLUNZA_CLOSED);
     CHECK(jolunza_count(handle, &f->counts) == JOLUNZA_CLOSED);
     CHECK(jolunza_frame(handle, 0, f->frames, f->bytes, sizeof f->bytes) == JOLUNZA_CLOSED);
@@ -257,6 +259,64 @@ static void test_receive(void)
     CHECK(has_received(false, false, 0));
     CHECK(counts(&handle, 1, 3, 3));
     CHECK(is_frame(&handle, 0, 2, BYTES(0x11, 7, 0, 1, 0, 2, 'h', 'i')));
+    jolunza_close(&handle);
+}
+
+static uint32_t receive_loaded(jolunza_handle *handle, size_t first, size_t length)
+{
+    untouched();
+    return jolunza_receive_loaded(handle, first, length, &filled.received);
+}
+
+/* The part is refused with this code: nothing is filled, and all is as it was. */
+static void refuses_loaded(jolunza_handle *handle, uint32_t code, size_t first, size_t length)
+{
+    jolunza_counts before = counts_of(handle);
+
+    CHECK(receive_loaded(handle, first, length) == code);
+    CHECK(IS_UNTOUCHED(filled));
+    CHECK(counts(handle, before.frames, before.events, before.entries));
+}
+
+/* Three frames of member 1 in one buffer, the third of another group, with a history and without. */
+static void test_load(size_t limit)
+{
+    static uint8_t three[] = {0x11, 7, 1, 1, 0, 1, 'a', 0x11, 7, 1, 2, 0, 1, 'b', 0x11, 8, 1, 3, 0, 1, 'c'};
+    jolunza_handle handle = JOLUNZA_CLOSED_HANDLE;
+    uint8_t bytes[sizeof three];
+    size_t more = limit > 0;
+
+    CHECK(jolunza_open(&handle, GROUP, SIZE, WINDOW, 0, limit) == JOLUNZA_DONE);
+    refuses_loaded(&handle, JOLUNZA_NONE_THERE, 0, 1);
+    refuses_loaded(&handle, JOLUNZA_MALFORMED, 0, 0);
+    memcpy(bytes, three, sizeof bytes);
+    CHECK(jolunza_load(&handle, bytes, sizeof bytes) == JOLUNZA_DONE);
+    memset(bytes, 0, sizeof bytes);
+    CHECK(counts(&handle, 0, 0, 0));
+    CHECK(receive_loaded(&handle, 7, 7) == JOLUNZA_DONE);
+    CHECK(has_received(false, true, 0));
+    CHECK(cast(&handle, "hi") == JOLUNZA_DONE);
+    CHECK(receive(&handle, BYTES(0x12, 7, 2, 0)) == JOLUNZA_DONE);
+    CHECK(jolunza_tick(&handle) == JOLUNZA_DONE);
+    refuses_loaded(&handle, JOLUNZA_OTHER_GROUP, 14, 7);
+    refuses_loaded(&handle, JOLUNZA_MALFORMED, 21, 0);
+    refuses_loaded(&handle, JOLUNZA_MALFORMED, 1, 6);
+    refuses_loaded(&handle, JOLUNZA_NONE_THERE, 21, 1);
+    refuses_loaded(&handle, JOLUNZA_NONE_THERE, 0, 22);
+    refuses_loaded(&handle, JOLUNZA_NONE_THERE, 22, 0);
+    refuses_loaded(&handle, JOLUNZA_NONE_THERE, 1, SIZE_MAX);
+    refuses_loaded(&handle, JOLUNZA_NONE_THERE, SIZE_MAX, 1);
+    CHECK(receive_loaded(&handle, 0, 7) == JOLUNZA_DONE);
+    CHECK(has_received(false, true, 2));
+    /* what was delivered stays as it is when other bytes are loaded, and the parts of those before are gone */
+    CHECK(jolunza_load(&handle, bytes, 7) == JOLUNZA_DONE);
+    CHECK(counts(&handle, 0, 2 + more, more ? 4 : 1));
+    CHECK(jolunza_events(&handle, more, filled.events, 4, filled.bytes, 9, filled.times, 16, &filled.count) == JOLUNZA_DONE);
+    CHECK(filled.count == 2 && memcmp(filled.bytes, "ab", 2) == 0);
+    refuses_loaded(&handle, JOLUNZA_NONE_THERE, 7, 7);
+    CHECK(jolunza_load(&handle, three, 14) == JOLUNZA_DONE);
+    CHECK(receive_loaded(&handle, 7, 7) == JOLUNZA_DONE);
+    CHECK(has_received(true, false, 0));
     jolunza_close(&handle);
 }
 
@@ -584,6 +644,8 @@ int main(void)
     test_open();
     test_cast();
     test_receive();
+    test_load(LIMIT);
+    test_load(0);
     test_full_history();
     test_no_history();
     test_tick_and_frame();

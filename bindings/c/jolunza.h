@@ -54,7 +54,7 @@ enum jolunza_code {
     JOLUNZA_IMPOSSIBLE = 10,      /* receive: it says of this member what it never did; drop the frame */
     JOLUNZA_TOO_FAR = 11,         /* receive: beyond the window; drop the frame, it comes again */
     JOLUNZA_MALFORMED = 12,       /* receive: no frame; drop the bytes */
-    JOLUNZA_NONE_THERE = 13       /* frame, event, entry: the index is not below the count */
+    JOLUNZA_NONE_THERE = 13       /* frame, event, entry: the index is not below the count; receive_loaded: not loaded */
 };
 
 /* A member, or nothing. */
@@ -133,6 +133,23 @@ uint32_t jolunza_cast(jolunza_handle *handle, const uint8_t *payload, size_t len
  * What is delivered are the last events.
  */
 uint32_t jolunza_receive(jolunza_handle *handle, const uint8_t *bytes, size_t length, jolunza_received *received);
+
+/*
+ * For many frames at once: copies bytes in, in place of those that were loaded before, and receives none of them. What is
+ * loaded stays until the next load that is done, over every other call; a member begins with nothing loaded. NO_MEMORY has
+ * changed nothing.
+ * What the member keeps of received frames shares this memory: it is given back once no part of it is kept and other bytes
+ * are loaded (a length of 0 will do), or the handle is closed. One frame that waits holds all that was loaded with it, so
+ * load some tens of frames at once, not a file.
+ */
+uint32_t jolunza_load(jolunza_handle *handle, const uint8_t *bytes, size_t length);
+
+/*
+ * Takes so many of the loaded bytes, from `first` on (0 is the first), as jolunza_receive takes bytes, and copies none.
+ * NONE_THERE where not all of them are loaded. Parts are taken in any order, and one may be taken again. What is said here of
+ * a receive is said of this call too.
+ */
+uint32_t jolunza_receive_loaded(jolunza_handle *handle, size_t first, size_t length, jolunza_received *received);
 
 /* The frames to be sent are the status, to all others, and a request to each member of whom something is missing. */
 uint32_t jolunza_tick(jolunza_handle *handle);

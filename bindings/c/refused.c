@@ -185,6 +185,25 @@ static void cast_some(jolunza_handle *of_0, jolunza_handle *of_1)
     }
 }
 
+/* All frames lie one after another in one buffer. */
+static void load_all(jolunza_handle *handle, const struct frame *frames, size_t count)
+{
+    static uint8_t bytes[MOST_FRAMES * JOLUNZA_LONGEST_FRAME];
+    jolunza_received received;
+    size_t end = 0;
+
+    for (size_t i = 0; i < count; i++) {
+        memcpy(bytes + end, frames[i].bytes, frames[i].head.length);
+        end += frames[i].head.length;
+    }
+    TRY(handle, jolunza_load(handle, bytes, end));
+    end = 0;
+    for (size_t i = 0; i < count; i++) {
+        TRY(handle, jolunza_receive_loaded(handle, end, frames[i].head.length, &received));
+        end += frames[i].head.length;
+    }
+}
+
 /* Member 1 tells what it has and asks for what it misses, and member 0 sends it again. */
 static void repair(jolunza_handle *of_0, jolunza_handle *of_1)
 {
@@ -199,7 +218,7 @@ static void repair(jolunza_handle *of_0, jolunza_handle *of_1)
     count = frames_of(of_1, asked);
     for (size_t i = 0; i < count; i++) {
         TRY(of_0, jolunza_receive(of_0, asked[i].bytes, asked[i].head.length, &received));
-        receive_all(of_1, sent, frames_of(of_0, sent));
+        load_all(of_1, sent, frames_of(of_0, sent));
     }
     TRY(of_1, jolunza_tick(of_1));
     receive_all(of_0, sent, frames_of(of_1, sent));

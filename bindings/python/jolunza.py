@@ -169,6 +169,11 @@ FUNCTIONS: dict[str, tuple[Any, list[tuple[str, Any]]]] = {
         c_uint32,
         [HANDLE, ("bytes", c_char_p), ("length", c_size_t), ("received", POINTER(jolunza_received))],
     ),
+    "jolunza_load": (c_uint32, [HANDLE, ("bytes", c_char_p), ("length", c_size_t)]),
+    "jolunza_receive_loaded": (
+        c_uint32,
+        [HANDLE, ("first", c_size_t), ("length", c_size_t), ("received", POINTER(jolunza_received))],
+    ),
     "jolunza_tick": (c_uint32, [HANDLE]),
     "jolunza_count": (c_uint32, [HANDLE, ("counts", POINTER(jolunza_counts))]),
     "jolunza_frame": (
@@ -332,6 +337,20 @@ class Member:
         given, received = _given(frame), jolunza_received()
         with self._lock:
             self._call("receive", given, len(given), byref(received))
+        return Received(received.is_repeat, received.is_entered, received.delivered)
+
+    def load(self, frames: Given) -> None:
+        """For many frames at once: copies bytes in, in place of those that were loaded before. They stay over every other call."""
+        given = _given(frames)
+        with self._lock:
+            self._call("load", given, len(given))
+
+    def receive_loaded(self, first: int, length: int) -> Received:
+        """Takes so many of the loaded bytes, from the one that has `first` before it: one frame, whole, as `receive` takes it. NONE_THERE
+        where not all of them are loaded."""
+        numbers, received = [_number(value, 64) for value in (first, length)], jolunza_received()
+        with self._lock:
+            self._call("receive_loaded", *numbers, byref(received))
         return Received(received.is_repeat, received.is_entered, received.delivered)
 
     def tick(self) -> None:

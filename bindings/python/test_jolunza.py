@@ -53,6 +53,8 @@ def calls(member: Member) -> tuple[Callable[[], object], ...]:
     return (
         lambda: member.cast(b"hi"),
         lambda: member.receive(YO),
+        lambda: member.load(YO),
+        lambda: member.receive_loaded(0, len(YO)),
         member.tick,
         member.counts,
         member.frames,
@@ -274,6 +276,54 @@ class Refusals(Case):
         self.assertEqual(raised.exception.code, Code.NONE_THERE)
 
 
+class Loading(Case):
+    """Frames that are parts of bytes that were loaded at once."""
+
+    def test_parts_are_taken_in_any_order(self) -> None:
+        _, (first, second) = that_cast(0, b"a", b"bc")
+        for history_max in (100, 0):
+            member = opened(1, history_max=history_max)
+            loaded = bytearray(first + second)
+            member.load(memoryview(loaded))
+            loaded[:] = bytes(len(loaded))
+            self.assertEqual(member.counts(), Counts(0, 0, 0))
+            self.assertEqual(member.receive_loaded(len(first), len(second)), CHANGED)
+            member.cast(b"hi")
+            self.assertEqual(member.receive_loaded(0, len(first)), Received(False, True, 2))
+            self.assertEqual(member.receive_loaded(0, len(first)), Received(True, False, 0))
+
+    def test_what_was_taken_stays_and_what_was_not_is_gone(self) -> None:
+        _, (first, second) = that_cast(0, b"a", b"bc")
+        member = opened(1)
+        member.load(first + second)
+        member.receive_loaded(0, len(first))
+        member.load(b"")
+        self.assertEqual([event.payload for event in member.events()], [b"a"])
+        self.part_is_refused(member, len(first), len(second), Code.NONE_THERE)
+
+    def test_of_what_is_not_loaded(self) -> None:
+        member = opened(1)
+        self.part_is_refused(member, 0, 1, Code.NONE_THERE)
+        self.part_is_refused(member, 0, 0, Code.MALFORMED)
+        member.load(HI)
+        most = (1 << 64) - 1
+        for first, length in ((0, 9), (1, 8), (8, 1), (9, 0), (0, most), (1, most), (most, 1), (most, most)):
+            self.part_is_refused(member, first, length, Code.NONE_THERE)
+        self.part_is_refused(member, 8, 0, Code.MALFORMED)
+        self.part_is_refused(member, 1, 7, Code.MALFORMED)
+        for first, length in ((-1, 8), (0, -1), (1 << 64, 1)):
+            with self.assertRaises(OverflowError):
+                member.receive_loaded(first, length)
+        self.assertEqual(member.receive_loaded(0, 8).delivered, 1)
+
+    def part_is_refused(self, member: Member, first: int, length: int, code: Code) -> None:
+        before = state(member)
+        with self.assertRaises(Refusal) as raised:
+            member.receive_loaded(first, length)
+        self.assertEqual(raised.exception.code, code)
+        self.assertEqual(state(member), before)
+
+
 class WithoutHistory(Case):
     """There is what the last call that was done added, until the next."""
 
@@ -362,7 +412,7 @@ class Values(Case):
     def test_payloads_are_bytes(self) -> None:
         member = opened(0)
         for given in ("hi", 5, None):
-            for call in (member.cast, member.receive):
+            for call in (member.cast, member.receive, member.load):
                 with self.assertRaises(TypeError):
                     call(given)  # type: ignore[arg-type]
         self.assertEqual(member.counts(), Counts(0, 0, 0))

@@ -7,7 +7,7 @@ use crate::refusal::{answered, Refusal};
 use crate::sys;
 use std::cell::UnsafeCell;
 use std::fmt;
-use std::ops::{Bound, RangeBounds, RangeInclusive};
+use std::ops::{Bound, Range, RangeBounds, RangeInclusive};
 use std::ptr;
 
 /// Which member is opened. Group number, size and window are the same at each member of a group.
@@ -129,11 +129,52 @@ impl Member {
         let mut received = sys::jolunza_received::default();
         let code = unsafe { sys::jolunza_receive(self.handle.get(), bytes.as_ptr(), bytes.len(), &mut received) };
         answered(code)?;
+        Ok(self.taken(received))
+    }
+
+    /// For many frames at once: copies bytes in, in place of those that were loaded before, and receives none of them.
+    /// They stay over every other call. What the member keeps of received frames shares this memory, which is given
+    /// back once no part of it is kept and other bytes are loaded (`&[]` will do).
+    pub fn load(&mut self, bytes: &[u8]) -> Result<(), Refusal> {
+        answered(unsafe { sys::jolunza_load(self.handle.get(), bytes.as_ptr(), bytes.len()) })
+    }
+
+    /// Takes a part of the loaded bytes, one frame, whole, as `receive` takes bytes, and copies none. `NoneThere` where
+    /// not all of it is loaded. Parts are taken in any order.
+    ///
+    /// ```
+    /// # use jolunza::{Member, Refusal, Settings};
+    /// # let open = |me| Member::open(Settings { group: 7, size: 3, window: 4, me, history_max: 100 });
+    /// # let (mut anna, mut bert) = (open(0)?, open(1)?);
+    /// let (mut inbox, mut ends) = (Vec::new(), vec![0]);
+    /// for text in ["when?", "where?"] {
+    ///     anna.cast(text.as_bytes())?;
+    ///     inbox.extend_from_slice(anna.frames().next().unwrap().bytes);
+    ///     ends.push(inbox.len());
+    /// }
+    /// bert.load(&inbox)?;
+    /// for part in ends.windows(2) {
+    ///     bert.receive_loaded(part[0]..part[1])?;
+    /// }
+    /// assert_eq!(bert.new_events().len(), 2);
+    /// # Ok::<(), Refusal>(())
+    /// ```
+    #[inline]
+    pub fn receive_loaded(&mut self, part: Range<usize>) -> Result<Received, Refusal> {
+        let mut received = sys::jolunza_received::default();
+        let code = unsafe { sys::jolunza_receive_loaded(self.handle.get(), part.start, part.len(), &mut received) };
+        answered(code)?;
+        Ok(self.taken(received))
+    }
+
+    /// Bytes were received, and did this.
+    #[inline]
+    fn taken(&mut self, received: sys::jolunza_received) -> Received {
         let sys::jolunza_received { is_repeat, is_entered, delivered } = received;
         self.add_events(delivered);
         // frames answer a request, which is never entered
         self.left = if is_repeat || is_entered { Left::NoFrame } else { Left::Frames };
-        Ok(Received { is_repeat, is_entered, delivered })
+        Received { is_repeat, is_entered, delivered }
     }
 
     /// The frames are the member's status, for all others, and a request to each member of whom something is missing.

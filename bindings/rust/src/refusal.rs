@@ -33,7 +33,8 @@ pub enum Refusal {
     TooFar = sys::JOLUNZA_TOO_FAR,
     /// `receive`: no frame. Drop the bytes.
     Malformed = sys::JOLUNZA_MALFORMED,
-    /// An index that is not below the count. No `Member` answers this: it answers `None`.
+    /// `receive_loaded`: not all of these bytes are loaded. Of an index that is not below the count a `Member` answers
+    /// `None` instead.
     NoneThere = sys::JOLUNZA_NONE_THERE,
 }
 
@@ -91,7 +92,7 @@ impl fmt::Display for Refusal {
             Refusal::Impossible => "the frame says of this member what it never did: drop it",
             Refusal::TooFar => "the frame is beyond the window: drop it, it comes again",
             Refusal::Malformed => "the bytes are no frame: drop them",
-            Refusal::NoneThere => "the index is not below the count",
+            Refusal::NoneThere => "the index is not below the count, or the bytes are not loaded",
         })
     }
 }

@@ -110,6 +110,15 @@ extern "C" {
         received: *mut jolunza_received,
     ) -> u32;
 
+    pub fn jolunza_load(handle: *mut jolunza_handle, bytes: *const u8, length: usize) -> u32;
+
+    pub fn jolunza_receive_loaded(
+        handle: *mut jolunza_handle,
+        first: usize,
+        length: usize,
+        received: *mut jolunza_received,
+    ) -> u32;
+
     pub fn jolunza_tick(handle: *mut jolunza_handle) -> u32;
 
     pub fn jolunza_count(handle: *mut jolunza_handle, counts: *mut jolunza_counts) -> u32;

@@ -242,3 +242,32 @@ fn the_check_sees_what_is_not_causal() {
     let circle = vec![vec![other(1, 1), own(0, 1)], vec![other(0, 1), own(1, 1)]];
     assert!(!is_causal(&circle), "each before the other");
 }
+
+/// Three frames are loaded at once, taken in another order, and one once more.
+#[test]
+fn parts_of_loaded_bytes_are_received() {
+    for history_max in [100, 0] {
+        let open = |me| Member::open(Settings { group: 7, size: SIZE, window: 16, me, history_max }).unwrap();
+        let (mut caster, mut taker) = (open(0), open(1));
+        let (mut inbox, mut ends) = (Vec::new(), vec![0]);
+        for text in ["a", "bc", "def"] {
+            caster.cast(text.as_bytes()).unwrap();
+            caster.frames().for_each(|frame| inbox.extend_from_slice(frame.bytes));
+            ends.push(inbox.len());
+        }
+        assert_eq!(taker.receive_loaded(0..ends[1]), Err(Refusal::NoneThere));
+        taker.load(&inbox).unwrap();
+        inbox.fill(0);
+        assert_eq!(taker.receive_loaded(ends[1]..ends[2]).unwrap().delivered, 0);
+        taker.cast(b"hi").unwrap();
+        assert_eq!(taker.receive_loaded(ends[2]..ends[3]).unwrap().delivered, 0);
+        assert_eq!(taker.receive_loaded(ends[2]..ends[3] + 1), Err(Refusal::NoneThere));
+        assert_eq!(taker.receive_loaded(usize::MAX..usize::MAX), Err(Refusal::NoneThere));
+        assert_eq!(taker.receive_loaded(0..ends[1]).unwrap().delivered, 3);
+        taker.load(&[]).unwrap();
+        let events = taker.counts().events;
+        let payloads: Vec<_> = taker.events(events - 3..).map(|event| event.payload.to_vec()).collect();
+        assert_eq!(payloads, ["a", "bc", "def"].map(|text| text.as_bytes().to_vec()));
+        assert_eq!(taker.receive_loaded(0..ends[1]), Err(Refusal::NoneThere));
+    }
+}

@@ -1,5 +1,5 @@
 -- What is copied and shown, by worked examples.
-use Rattle.std.proofs.Common.{◌≡◌, ℕ, [], ◌∷◌, map, true, false, refl, ap, arith}
+use Rattle.std.proofs.Common.{◌≡◌, ℕ, [], ◌∷◌, true, false, refl, arith}
 use Rattle.std.specs.Prelude.{Some, None}
 use Rattle.std.specs.declared.alloc.Global.{Global}
 use Rattle.std.specs.declared.vec.Vec.{Vec}
@@ -20,7 +20,8 @@ use Rattle.cb_handle.specs.Events.{event_head}
 use Rattle.cb_handle.specs.Entries.{entry_head}
 use Rattle.cb_handle.specs.Kept.{events_added, entries_added, gone}
 use Rattle.cb_handle.specs.Opening.{limit_for}
-use Rattle.cb_handle.specs.Calling.{received_row}
+use Rattle.cb_handle.specs.declared.held.Held.{Held}
+use Rattle.cb_handle.specs.Calling.{loaded_part, received_row, with_loaded}
 
 a_short_list_leaves_the_rest : copied {X = ℕ} (1 ∷ 2 ∷ []) (7 ∷ 8 ∷ 9 ∷ []) ≡ 1 ∷ 2 ∷ 9 ∷ []
 a_short_list_leaves_the_rest = refl
@@ -80,6 +81,9 @@ a_delivery_is_told = refl
 
 a_repeat_is_told : received_row Repeat ≡ record { is_repeat = true; is_entered = false; delivered = 0 }
 a_repeat_is_told = refl
+
+a_part_of_what_is_loaded : (held : Held) → loaded_part (with_loaded held (5 ∷ 6 ∷ 7 ∷ 8 ∷ 9 ∷ [])) 1 3 ≡ 6 ∷ 7 ∷ 8 ∷ []
+a_part_of_what_is_loaded held = refl
 
 -- ---- members with a history, and without
 

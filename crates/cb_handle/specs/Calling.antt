@@ -1,5 +1,5 @@
 -- What the calls do to a member with its frames.
-use Rattle.std.specs.Prelude.{◌≡◌, ◌⊎◌, ℕ, Bool, true, false, List, [], ◌∷◌, ◌++◌, length, None, Ok, Err}
+use Rattle.std.specs.Prelude.{◌≡◌, ◌⊎◌, ℕ, ◌+◌, ◌≤◌, Bool, true, false, List, [], ◌∷◌, ◌++◌, length, slice_range, None, Ok, Err}
 use Rattle.cb_delay.specs.declared.message.Event.{Event}
 use Rattle.cb_frames.specs.Fields.{CastFrame}
 use Rattle.cb_frames.specs.Text.{text_of}
@@ -15,6 +15,8 @@ use Rattle.cb_member.specs.declared.recorder.taken.Received as taken
 use Rattle.cb_member.specs.declared.recorder.taken.Received.TheVariants as takens
 use Rattle.cb_member.specs.Received.{count_said, deliveries_in, received_says, sent_by}
 use Rattle.cb_handle.specs.declared.held.Held.{Held}
+use Rattle.cb_handle.specs.declared.held.LoadedRefusal.{LoadedRefusal}
+use Rattle.cb_handle.specs.declared.held.LoadedRefusal.TheVariants.{NotLoaded, Refused}
 use Rattle.cb_handle.specs.declared.kept.Kept.{Kept}
 use Rattle.cb_handle.specs.declared.rows.Counts.{Counts}
 use Rattle.cb_handle.specs.declared.rows.Received.{Received}
@@ -35,6 +37,18 @@ events_held held = kept.events_of held.kept
 
 abbrev pub entries_held : Held → List EntryFields
 entries_held held = kept.entries_of held.kept (frames_of held.frames)
+
+-- the same member, with these bytes loaded
+abbrev pub with_loaded : Held → List ℕ → Held
+with_loaded held bytes = record held { loaded = bytes }
+
+-- so many bytes, from this one on, are loaded
+abbrev pub AreLoaded : Held → ℕ → ℕ → Type 0
+AreLoaded held first len = first + len ≤ length held.loaded
+
+-- these bytes
+abbrev pub loaded_part : Held → ℕ → ℕ → List ℕ
+loaded_part held first len = slice_range held.loaded first (first + len)
 
 -- how many there are to be read
 abbrev pub counts_of : Held → Counts
@@ -61,9 +75,10 @@ pub record HasCast (old new : Kept) (payload frame : List ℕ) : Type 0 where
   pub frame_is : kept.OnEach old (λ m. frame ≡ text_of (CastFrame (next_in m payload)))
   pub goes_on : GoesOn (ToCast payload) old new (record { to = None; bytes = frame } ∷ [])
 
--- and it is the one that is to be sent
+-- and it is the one that is to be sent; what is loaded stays
 abbrev pub HasCastToSend : Held → Held → List ℕ → Type 0
-HasCastToSend old new payload = (frame : List ℕ) × (frames_of new.frames ≡ record { to = None; bytes = frame } ∷ []) × HasCast old.kept new.kept payload frame
+HasCastToSend old new payload =
+    (frame : List ℕ) × (frames_of new.frames ≡ record { to = None; bytes = frame } ∷ []) × (new.loaded ≡ old.loaded) × HasCast old.kept new.kept payload frame
 
 -- what is told of an answer to received bytes
 abbrev pub received_row : ArrivalSays → Received
@@ -87,17 +102,27 @@ pub record HasReceived (old new : Kept) (bytes : List ℕ) (r : taken.Received) 
   pub tells : Tells r says
   pub goes_on : GoesOn (ToTake bytes) old new (sent_by says)
 
--- what is told is what the definition says, and the frames are those that it sends
+-- what is told is what the definition says, and the frames are those that it sends; what is loaded stays
 pub record HasReceivedToSend (old new : Held) (bytes : List ℕ) (received : Received) : Type 0 where
   pub says : ArrivalSays
   pub answer : OnEach old (λ m. answer_to_arrival m bytes ≡ Ok says)
   pub told : received ≡ received_row says
   pub sends : frames_of new.frames ≡ sent_by says
+  pub loaded : new.loaded ≡ old.loaded
   pub goes_on : GoesOn (ToTake bytes) old.kept new.kept (sent_by says)
 
 -- the refusal is that of the definition, or out of memory
 abbrev pub RefusesBytes : MemberState → List ℕ → ArriveRefusal → Type 0
 RefusesBytes m bytes refusal = (answer_to_arrival m bytes ≡ Err refusal) ⊎ (refusal ≡ refusals.NoMemory)
+
+-- so many of the loaded bytes, from this one on, were received
+abbrev pub HasReceivedLoaded : Held → Held → ℕ → ℕ → Received → Type 0
+HasReceivedLoaded old new first len received = AreLoaded old first len × HasReceivedToSend old new (loaded_part old first len) received
+
+-- they are not loaded, or they are and are refused
+abbrev pub RefusesLoaded : Held → ℕ → ℕ → LoadedRefusal → Type 0
+RefusesLoaded held first len NotLoaded = ¬ AreLoaded held first len
+RefusesLoaded held first len (Refused refusal) = AreLoaded held first len × OnEach held (λ m. RefusesBytes m (loaded_part held first len) refusal)
 
 -- the status was sent, and what is missing was asked for: these are the frames
 pub record HasTicked (old new : Kept) (frames : List Outgoing) : Type 0 where
@@ -105,5 +130,6 @@ pub record HasTicked (old new : Kept) (frames : List Outgoing) : Type 0 where
   pub answer : kept.OnEach old (λ m. answer_to_tick m ≡ Ok (entered, frames))
   pub goes_on : GoesOn ToTick old new frames
 
+-- and they are those that are to be sent; what is loaded stays
 abbrev pub HasTickedToSend : Held → Held → Type 0
-HasTickedToSend old new = HasTicked old.kept new.kept (frames_of new.frames)
+HasTickedToSend old new = (new.loaded ≡ old.loaded) × HasTicked old.kept new.kept (frames_of new.frames)

@@ -33,11 +33,12 @@ pub record IsNew (group : Parameters) (me limit : ℕ) (kept : Kept) : Type 0 wh
   pub events : events_of kept ≡ []
   pub entries : entries_of kept [] ≡ []
 
--- the member without entries, and no frames
+-- the member without entries, no frames, and nothing loaded
 pub record IsNewOf (group : Parameters) (me limit : ℕ) (held : Held) : Type 0 where
   pub may : MayOpen group me limit
   pub new : IsNew group me limit held.kept
   pub frames : frames_of held.frames ≡ []
+  pub loaded : held.loaded ≡ []
 
 -- the first of these that is not so; out of memory stands only in place of a member
 abbrev pub RefusesToOpen : Parameters → ℕ → ℕ → OpenFault → Type 0

@@ -1,7 +1,7 @@
 //! A member with the frames of its last call.
 
 ghost use Rattle.std.specs.Prelude.{◌≡◌, ◌⊎◌, ◌↔◌, ◌≤◌, [], length, drop, slice_get, map, IfOk, IfErr, OnOk, OnErr, MatchOption, Ok, Err};
-ghost use Rattle.cb_history.specs.State.{time_in, stable_in, missing_in, RefusesTick};
+ghost use Rattle.cb_history.specs.State.{time_in, stable_in, missing_in, RefusesArrival, RefusesTick};
 ghost use Rattle.cb_history.specs.Known.{ranges_of};
 ghost use Rattle.cb_member.specs.Casting.{RefusesExactly};
 ghost use Rattle.cb_member.specs.Received.{received_says, sent_by};
@@ -10,7 +10,7 @@ ghost use Rattle.cb_handle.specs.Frames.{frames_of, ShowsFrame, ShowsFrames};
 ghost use Rattle.cb_handle.specs.Events.{ShowsEvent, ShowsEvents};
 ghost use Rattle.cb_handle.specs.Entries.{ShowsEntry, range_row};
 ghost use Rattle.cb_handle.specs.Opening.{RefusesToOpen, IsNewOf};
-ghost use Rattle.cb_handle.specs.Calling.{OnEach, seat_held, events_held, entries_held, HasCastToSend, HasReceivedToSend, HasTickedToSend, RefusesBytes, counts_of, row_of};
+ghost use Rattle.cb_handle.specs.Calling.{OnEach, seat_held, events_held, entries_held, HasCastToSend, HasReceivedToSend, HasTickedToSend, RefusesBytes, HasReceivedLoaded, RefusesLoaded, with_loaded, counts_of, row_of};
 
 use crate::copies::{copy_front, from};
 use crate::frames::{Frames, show_frame, show_frames};
@@ -19,14 +19,17 @@ use crate::reading::{entry_at, entry_of_cast, event_at, events_from, show_ranges
 use crate::received::ReceivedBlock;
 use crate::recent::{Added, listed};
 use crate::rows::{Counts, EntryHead, EventHead, FrameHead, Name, Range, Received};
+use bytes::Bytes;
 use cb_member::{ArriveRefusal, CastRefusal, Group, MissingFault, NewFault, TickRefusal};
-use std::alloc::Global;
+use std::alloc::{AllocError, Global};
 
-/// A member with the frames of its last call that was done.
+/// A member with the frames of its last call that was done, and bytes of which received frames are parts.
 #[derive(Drop)]
 pub struct Held {
     pub kept: Kept,
     pub frames: Frames,
+    /// Those of the last `load` that was done. No other call changes them.
+    pub loaded: Bytes,
     received: ReceivedBlock,
 }
 
@@ -43,8 +46,17 @@ pub enum OpenFault {
 #[derive(Clone, Copy, Debug, PartialEq, Eq)]
 pub struct NoneThere;
 
+/// Why a part of the loaded bytes was not taken.
+#[derive(Clone, Copy, Debug, PartialEq, Eq)]
+pub enum LoadedRefusal {
+    /// Not so many bytes are loaded.
+    NotLoaded,
+    /// The part is refused as received bytes are.
+    Refused(ArriveRefusal),
+}
+
 impl Held {
-    /// A member without entries, and no frames. It keeps no history where that may have none.
+    /// A member without entries, no frames, and nothing loaded. It keeps no history where that may have none.
     pub fn new(
         alloc: Global,
         number: u32,
@@ -65,6 +77,7 @@ impl Held {
             Ok(kept) => Ok(Held {
                 kept,
                 frames: Frames::Several(Vec::new(alloc)),
+                loaded: Bytes::new(),
                 received: ReceivedBlock::new(alloc),
             }),
             Err(fault) => Err(OpenFault::BadNew(fault)),
@@ -97,7 +110,50 @@ impl Held {
         let Ok(bytes) = self.received.copied(bytes) else {
             return Err(ArriveRefusal::NoMemory);
         };
-        match self.kept.receive(alloc, &bytes) {
+        self.take(alloc, &bytes)
+    }
+
+    /// Copies bytes in, in place of those that were loaded before. Out of memory nothing has changed.
+    pub fn load(&mut self, alloc: Global, bytes: &[u8]) -> Result<(), AllocError>
+        ensures loaded { OnOk result (self.new ≡ with_loaded self.old bytes.now) }
+        ensures same { OnErr result (self.new ≡ self.old) }
+    {
+        self.loaded = Bytes::copy_from_slice(alloc, bytes)?;
+        Ok(())
+    }
+
+    /// Takes so many of the loaded bytes, from `first` on, as `receive` takes bytes, and copies none. After a refusal nothing has changed.
+    pub fn receive_loaded(
+        &mut self,
+        alloc: Global,
+        first: usize,
+        len: usize,
+    ) -> Result<Received, LoadedRefusal>
+        ensures done { IfOk result (HasReceivedLoaded self.old self.new first len) }
+        ensures refused { IfErr result (RefusesLoaded self.old first len) }
+        ensures same { OnErr result (self.new ≡ self.old) }
+    {
+        let loaded = self.loaded.len();
+        if first > loaded || len > loaded - first {
+            return Err(LoadedRefusal::NotLoaded);
+        }
+        let Ok(bytes) = self.loaded.slice(first..first + len) else {
+            return Err(LoadedRefusal::Refused(ArriveRefusal::NoMemory));
+        };
+        match self.take(alloc, &bytes) {
+            Ok(received) => Ok(received),
+            Err(refusal) => Err(LoadedRefusal::Refused(refusal)),
+        }
+    }
+
+    /// Takes received bytes that are not the caller's any more.
+    fn take(&mut self, alloc: Global, bytes: &Bytes) -> Result<Received, ArriveRefusal>
+        ensures done { IfOk result (HasReceivedToSend self.old self.new bytes.now) }
+        ensures refused { IfErr result (λ refusal. OnEach self.old (λ m.
+            RefusesArrival m bytes.now refusal)) }
+        ensures same { OnErr result (self.new ≡ self.old) }
+    {
+        match self.kept.receive(alloc, bytes) {
             Ok(taken) => Ok(told(alloc, taken, &mut self.frames)),
             Err(refusal) => Err(refusal),
         }

@@ -1,6 +1,7 @@
 //! What a caller outside Rattle holds of a member: a handle, the frames of the last call, and copies into the caller's memory.
 //!
-//! `Held` is a member, with its history or without one, and the frames of its last call; its methods are those that the C library,
+//! `Held` is a member, with its history or without one, the frames of its last call, and bytes that were loaded to be received in parts;
+//! its methods are those that the C library,
 //! `jolunza`, exports with codes for refusals. A `Handle` is a boxed `Held`, or nothing. Stands on `cb_member` and the crates below it.
 #![tactic(auto)]
 
@@ -17,7 +18,7 @@ mod rows;
 
 pub use frames::Frames;
 pub use handle::{Handle, closed, put, take};
-pub use held::{Held, NoneThere, OpenFault};
+pub use held::{Held, LoadedRefusal, NoneThere, OpenFault};
 pub use kept::Kept;
 pub use recent::{Added, Recent};
 pub use rows::{

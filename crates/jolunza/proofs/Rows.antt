@@ -7,9 +7,10 @@ use Rattle.cb_history.specs.declared.answer.CastRefusal.TheVariants as casts
 use Rattle.cb_history.specs.declared.answer.ArriveRefusal.TheVariants as arrivals
 use Rattle.cb_history.specs.declared.answer.TickRefusal.TheVariants as ticks
 use Rattle.cb_history.specs.declared.answer.MissingFault.TheVariants as missings
+use Rattle.cb_handle.specs.declared.held.LoadedRefusal.TheVariants as loadeds
 use Rattle.cb_handle.specs.declared.held.OpenFault.TheVariants as opens
 use Rattle.jolunza.specs.declared.code.TheConstants.{CLOSED, NONE_THERE}
-use Rattle.jolunza.specs.Codes.{open_code, cast_code, arrive_code, tick_code, missing_code, answer_code}
+use Rattle.jolunza.specs.Codes.{open_code, cast_code, arrive_code, loaded_code, tick_code, missing_code, answer_code}
 
 done : answer_code cast_code (Ok tt) ≡ 0
 done = refl
@@ -76,3 +77,9 @@ malformed = refl
 
 none_there : NONE_THERE ≡ 13
 none_there = refl
+
+not_loaded : loaded_code loadeds.NotLoaded ≡ 13
+not_loaded = refl
+
+a_loaded_part_of_another_group : loaded_code (loadeds.Refused arrivals.OtherGroup) ≡ 9
+a_loaded_part_of_another_group = refl

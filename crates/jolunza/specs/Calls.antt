@@ -8,15 +8,16 @@ use Rattle.cb_history.specs.Known.{ranges_of}
 use Rattle.cb_history.specs.State.{missing_in, RefusesTick}
 use Rattle.cb_member.specs.Casting.{RefusesExactly}
 use Rattle.cb_handle.specs.declared.held.Held.{Held}
+use Rattle.cb_handle.specs.declared.held.LoadedRefusal.{LoadedRefusal}
 use Rattle.cb_handle.specs.declared.held.OpenFault.{OpenFault}
 use Rattle.cb_handle.specs.declared.rows.Range.{Range}
 use Rattle.cb_handle.specs.declared.rows.Received.{Received}
 use Rattle.cb_handle.specs.Copies.{copied}
 use Rattle.cb_handle.specs.Entries.{range_row}
 use Rattle.cb_handle.specs.Opening.{RefusesToOpen, IsNewOf}
-use Rattle.cb_handle.specs.Calling.{OnEach, seat_held, HasCastToSend, HasReceivedToSend, HasTickedToSend, RefusesBytes}
+use Rattle.cb_handle.specs.Calling.{OnEach, seat_held, HasCastToSend, HasReceivedToSend, HasTickedToSend, RefusesBytes, HasReceivedLoaded, RefusesLoaded, with_loaded}
 use Rattle.jolunza.specs.declared.code.TheConstants.{DONE, CLOSED, NO_MEMORY, BAD_MEMBER, NONE_THERE}
-use Rattle.jolunza.specs.Codes.{open_code, cast_code, arrive_code, tick_code}
+use Rattle.jolunza.specs.Codes.{open_code, cast_code, arrive_code, loaded_code, tick_code}
 
 -- a closed handle stays closed and answers so; an open one stays open, and what it holds does this
 abbrev pub Calls : (Held → Held → ℕ → Type 0) → Option Held → Option Held → ℕ → Type 0
@@ -37,6 +38,15 @@ Casts payload before after code =
 abbrev pub Receives : List ℕ → Received → Held → Held → ℕ → Type 0
 Receives bytes received before after code =
     IsDoneOr (HasReceivedToSend before after bytes received) ArriveRefusal arrive_code (λ refusal. OnEach before (λ m. RefusesBytes m bytes refusal)) before after code
+
+-- these bytes are loaded and nothing else has changed, or memory is refused and nothing has
+pub record Loads (bytes : List ℕ) (before after : Held) (code : ℕ) : Type 0 where
+  pub done : code ≡ DONE → after ≡ with_loaded before bytes
+  pub refused : code ≢ DONE → (code ≡ NO_MEMORY) × (after ≡ before)
+
+abbrev pub ReceivesLoaded : ℕ → ℕ → Received → Held → Held → ℕ → Type 0
+ReceivesLoaded first len received before after code =
+    IsDoneOr (HasReceivedLoaded before after first len received) LoadedRefusal loaded_code (RefusesLoaded before first len) before after code
 
 abbrev pub Ticks : Held → Held → ℕ → Type 0
 Ticks before after code =

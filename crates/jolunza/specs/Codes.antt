@@ -9,6 +9,8 @@ use Rattle.cb_history.specs.declared.answer.TickRefusal.{TickRefusal}
 use Rattle.cb_history.specs.declared.answer.TickRefusal.TheVariants as ticks
 use Rattle.cb_history.specs.declared.answer.MissingFault.{MissingFault}
 use Rattle.cb_history.specs.declared.answer.MissingFault.TheVariants as missings
+use Rattle.cb_handle.specs.declared.held.LoadedRefusal.{LoadedRefusal}
+use Rattle.cb_handle.specs.declared.held.LoadedRefusal.TheVariants as loadeds
 use Rattle.cb_handle.specs.declared.held.NoneThere.{NoneThere}
 use Rattle.cb_handle.specs.declared.held.OpenFault.{OpenFault}
 use Rattle.cb_handle.specs.declared.held.OpenFault.TheVariants as opens
@@ -34,6 +36,10 @@ arrive_code arrivals.Impossible = IMPOSSIBLE
 arrive_code arrivals.TooFar = TOO_FAR
 arrive_code arrivals.HistoryFull = HISTORY_FULL
 arrive_code arrivals.NoMemory = NO_MEMORY
+
+abbrev pub loaded_code : LoadedRefusal → ℕ
+loaded_code loadeds.NotLoaded = NONE_THERE
+loaded_code (loadeds.Refused refusal) = arrive_code refusal
 
 abbrev pub tick_code : TickRefusal → ℕ
 tick_code ticks.HistoryFull = HISTORY_FULL

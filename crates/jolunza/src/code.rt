@@ -33,7 +33,7 @@ pub const TOO_FAR: u32 = 11;
 
 pub const MALFORMED: u32 = 12;
 
-/// There is no frame, event or entry of this index.
+/// There is no frame, event or entry of this index, or not so many bytes are loaded.
 pub const NONE_THERE: u32 = 13;
 
 pub fn of_open(fault: OpenFault) -> u32

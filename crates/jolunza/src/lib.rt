@@ -12,7 +12,7 @@ ghost use Rattle.cb_handle.specs.Events.{ShowsEvent, ShowsEvents};
 ghost use Rattle.cb_handle.specs.Entries.{ShowsEntry};
 ghost use Rattle.cb_handle.specs.Calling.{OnEach, counts_of, entries_held, events_held};
 ghost use Rattle.jolunza.specs.declared.code.TheConstants.{DONE};
-ghost use Rattle.jolunza.specs.Calls.{Calls, Casts, Receives, Ticks, Reads, IsDone, ShowsAt, ShowsMissing, Opens};
+ghost use Rattle.jolunza.specs.Calls.{Calls, Casts, Receives, Loads, ReceivesLoaded, Ticks, Reads, IsDone, ShowsAt, ShowsMissing, Opens};
 
 mod code;
 #[cfg(test)]
@@ -20,11 +20,11 @@ mod tests;
 mod told;
 
 use crate::code::{CLOSED, DONE, NO_MEMORY};
-use crate::told::{tell_missing, tell_received};
+use crate::told::{tell_loaded, tell_missing, tell_received};
 use cb_handle::{
     Counts, EntryHead, EventHead, FrameHead, Handle, Held, Name, Range, Received, put, take,
 };
-use std::alloc::Global;
+use std::alloc::{AllocError, Global};
 
 /// Opens a member, without a history where that may have no entries. A handle that is open is closed first.
 #[unsafe(no_mangle)]
@@ -90,6 +90,43 @@ pub extern "C" fn jolunza_receive(
     let answer = held.receive(alloc, bytes);
     put(handle, held);
     tell_received(answer, received)
+}
+
+/// Copies bytes in, in place of those that were loaded before, so that their parts can be received.
+#[unsafe(no_mangle)]
+pub extern "C" fn jolunza_load(alloc: Global, handle: &mut Handle, bytes: &[u8]) -> u32
+    ensures { Calls (Loads bytes.now) handle.old.held handle.new.held result }
+{
+    let Some(mut held) = take(alloc, handle) else {
+        return CLOSED;
+    };
+    let answer = held.load(alloc, bytes);
+    put(handle, held);
+    match answer {
+        Ok(()) => DONE,
+        Err(AllocError) => NO_MEMORY,
+    }
+}
+
+/// Takes so many of the loaded bytes, from `first` on, as `jolunza_receive` takes bytes.
+#[unsafe(no_mangle)]
+pub extern "C" fn jolunza_receive_loaded(
+    alloc: Global,
+    handle: &mut Handle,
+    first: usize,
+    length: usize,
+    received: &mut Received,
+) -> u32
+    ensures does { Calls (ReceivesLoaded first length received.new) handle.old.held
+        handle.new.held result }
+    ensures same { result ≢ DONE → received.new ≡ received.old }
+{
+    let Some(mut held) = take(alloc, handle) else {
+        return CLOSED;
+    };
+    let answer = held.receive_loaded(alloc, first, length);
+    put(handle, held);
+    tell_loaded(answer, received)
 }
 
 /// Reports the status to all others, and asks each for what is missing of it.

@@ -4,6 +4,7 @@
 mod bulk;
 mod codes;
 mod forgetting;
+mod loading;
 mod reading;
 
 use crate::code::DONE;

@@ -1,11 +1,11 @@
 //! What a call that is done fills besides its code.
 
 ghost use Rattle.std.specs.Prelude.{◌≡◌, MatchResult};
-ghost use Rattle.jolunza.specs.Codes.{arrive_code, missing_code};
+ghost use Rattle.jolunza.specs.Codes.{arrive_code, loaded_code, missing_code};
 ghost use Rattle.jolunza.specs.declared.code.TheConstants.{DONE};
 
-use crate::code::{self, DONE};
-use cb_handle::Received;
+use crate::code::{self, DONE, NONE_THERE};
+use cb_handle::{LoadedRefusal, Received};
 use cb_member::{ArriveRefusal, MissingFault};
 
 /// Fills in what received bytes did, where they were not refused.
@@ -19,6 +19,18 @@ pub fn tell_received(answer: Result<Received, ArriveRefusal>, received: &mut Rec
             DONE
         }
         Err(refusal) => code::of_arrival(refusal),
+    }
+}
+
+/// Fills in what a part of the loaded bytes did, where it was not refused.
+pub fn tell_loaded(answer: Result<Received, LoadedRefusal>, received: &mut Received) -> u32
+    ensures { MatchResult answer (λ told. (result ≡ DONE) × (received.new ≡ told))
+        (λ refusal. (result ≡ loaded_code refusal) × (received.new ≡ received.old)) }
+{
+    match answer {
+        Ok(told) => tell_received(Ok(told), received),
+        Err(LoadedRefusal::Refused(refusal)) => tell_received(Err(refusal), received),
+        Err(LoadedRefusal::NotLoaded) => NONE_THERE,
     }
 }
 

@@ -7,8 +7,8 @@ use crate::code::{
 };
 use crate::{
     jolunza_cast, jolunza_close, jolunza_count, jolunza_entry, jolunza_event, jolunza_events,
-    jolunza_frame, jolunza_frames, jolunza_missing, jolunza_open, jolunza_receive, jolunza_stable,
-    jolunza_tick, jolunza_time,
+    jolunza_frame, jolunza_frames, jolunza_load, jolunza_missing, jolunza_open, jolunza_receive,
+    jolunza_receive_loaded, jolunza_stable, jolunza_tick, jolunza_time,
 };
 use cb_handle::{Counts, EntryHead, EventHead, FrameHead, Handle, Name, Range, Received, closed};
 use std::alloc::Global;
@@ -57,6 +57,11 @@ fn a_closed_handle_answers_so(rt: HostRuntime) {
     assert_eq!(rt; jolunza_cast(alloc, &mut handle, b"hi"), CLOSED);
     assert_eq!(rt;
         jolunza_receive(alloc, &mut handle, HI, &mut received),
+        CLOSED
+    );
+    assert_eq!(rt; jolunza_load(alloc, &mut handle, HI), CLOSED);
+    assert_eq!(rt;
+        jolunza_receive_loaded(alloc, &mut handle, 0, 0, &mut received),
         CLOSED
     );
     assert_eq!(rt; received.delivered, 5);
