@@ -1,25 +1,18 @@
 -- What is copied and shown, by worked examples.
 use Rattle.std.proofs.Common.{◌≡◌, ℕ, [], ◌∷◌, true, false, refl, arith}
 use Rattle.std.specs.Prelude.{Some, None}
-use Rattle.std.specs.declared.alloc.Global.{Global}
-use Rattle.std.specs.declared.vec.Vec.{Vec}
 use Rattle.cb_history.specs.declared.answer.Outgoing.{Outgoing}
 use Rattle.cb_delay.specs.declared.message.Event.{Event}
 use Rattle.cb_delay.specs.declared.message.Event.TheVariants.{Cast, Deliver}
 use Rattle.cb_delay.specs.declared.message.Message.{Message}
 use Rattle.cb_history.specs.Answers.{Accepted, Repeat}
 use Rattle.cb_history.specs.Facts.{CastEntry, ArriveEntry, TickEntry}
-use Rattle.cb_history.specs.State.{MemberState}
-use Rattle.cb_handle.specs.declared.kept.Kept.TheVariants.{Whole, Core}
-use Rattle.cb_handle.specs.declared.recent.Added.TheVariants as added
-use Rattle.cb_handle.specs.declared.recent.Recent.{Recent}
 use Rattle.cb_handle.specs.declared.rows.FrameHead.{FrameHead}
 use Rattle.cb_handle.specs.Copies.{placed, copied, AreMost}
 use Rattle.cb_handle.specs.Frames.{frame_head, bytes_in, FramesFit}
 use Rattle.cb_handle.specs.Events.{event_head}
 use Rattle.cb_handle.specs.Entries.{entry_head}
-use Rattle.cb_handle.specs.Kept.{events_added, entries_added, gone}
-use Rattle.cb_handle.specs.Opening.{limit_for}
+use Rattle.cb_handle.specs.Kept.{KeptMember, gone, limit_for, limit_of}
 use Rattle.cb_handle.specs.declared.held.Held.{Held}
 use Rattle.cb_handle.specs.Calling.{loaded_part, received_row, with_loaded}
 
@@ -93,20 +86,11 @@ a_limit_stands = refl
 without_a_history_there_is_room_for_one_more : limit_for 0 (TickEntry [] ∷ TickEntry [] ∷ []) ≡ 3
 without_a_history_there_is_room_for_one_more = refl
 
-a_cast_adds_its_event : events_added (added.Cast (Cast hi)) ≡ Cast hi ∷ []
-a_cast_adds_its_event = refl
+of_a_history_nothing_is_gone : (kept : KeptMember) → gone {X = ℕ} (record kept { limit = 5 }) (1 ∷ 2 ∷ []) ≡ []
+of_a_history_nothing_is_gone kept = refl
 
-and_an_entry_of_the_frame_that_is_sent : entries_added (added.Cast (Cast hi)) (to_all ∷ []) ≡ CastEntry (0x12 ∷ 7 ∷ 2 ∷ 0 ∷ []) ∷ []
-and_an_entry_of_the_frame_that_is_sent = refl
+without_one_all_is_gone : (kept : KeptMember) → gone {X = ℕ} (record kept { limit = 0 }) (1 ∷ 2 ∷ []) ≡ 1 ∷ 2 ∷ []
+without_one_all_is_gone kept = refl
 
-what_is_delivered_is_added : (delivered : Vec Event Global) → delivered.items ≡ Deliver hi ∷ Deliver hi ∷ [] → events_added (added.Taken delivered None) ≡ Deliver hi ∷ Deliver hi ∷ []
-what_is_delivered_is_added delivered same = same
-
-no_news_add_no_entry : (delivered : Vec Event Global) → entries_added (added.Taken delivered None) (to_all ∷ []) ≡ []
-no_news_add_no_entry delivered = refl
-
-of_a_history_nothing_is_gone : (m : MemberState) → gone {X = ℕ} (Whole m) (1 ∷ 2 ∷ []) ≡ []
-of_a_history_nothing_is_gone m = refl
-
-without_one_all_is_gone : (recent : Recent) → gone {X = ℕ} (Core recent) (1 ∷ 2 ∷ []) ≡ 1 ∷ 2 ∷ []
-without_one_all_is_gone recent = refl
+a_limit_is_the_histories : (kept : KeptMember) → limit_of (record kept { limit = 5 }) (TickEntry [] ∷ []) ≡ 5
+a_limit_is_the_histories kept = refl

@@ -1,75 +1,169 @@
--- A member without a history goes on by its definition, and what a call has added can be read.
-use Rattle.std.proofs.Common.{◌≡◌, ℕ, ◌-◌, List, [], ◌∷◌, ◌++◌, length, drop, map, Option, Some, None, Ok, refl, sym, ap, subst, ◌∙◌}
-use Rattle.std.specs.Prelude.{option_map, if◌then◌else◌}
-use Rattle.std.specs.declared.alloc.Global.{Global}
-use Rattle.std.specs.declared.vec.Vec.{Vec}
-use Rattle.cb_frames.specs.Fields.{CastFrame, StatusFrame}
+-- What each call of a core adds, and what a member answers by it.
+use Rattle.std.proofs.Common.{◌≡◌, ◌≢◌, ◌⊎◌, ℕ, ◌+◌, ◌-◌, ◌≤◌, ◌<◌, Bool, true, false, ◌&&◌, not, ◌==◌, List, [], ◌∷◌, ◌++◌, length, drop, map, Option, Some, None, Result, Ok, Err, refl, sym, ap, subst, ◌∙◌, arith, inl, inr}
+use Rattle.std.specs.Prelude.{IsOk, option_map, if◌then◌else◌, nat_le}
+use Rattle.std.proofs.lemmas.Bool.{leb-false, ne_eqb}
+use Rattle.std.proofs.lemmas.List.{append-nil, length-append}
+use Rattle.cb_frames.specs.Fields.{CastFields, CastFrame, StatusFrame}
 use Rattle.cb_frames.specs.Text.{text_of}
 use Rattle.cb_delay.specs.declared.message.Event.{Event}
 use Rattle.cb_delay.specs.declared.message.Event.TheVariants as events
 use Rattle.cb_delay.specs.declared.message.Message.{Message}
-use Rattle.cb_history.specs.declared.answer.CastDone.{CastDone}
+use Rattle.cb_history.specs.declared.answer.ArriveRefusal.{ArriveRefusal}
+use Rattle.cb_history.specs.declared.answer.ArriveRefusal.TheVariants as arrivals
+use Rattle.cb_history.specs.declared.answer.CastRefusal.{CastRefusal}
+use Rattle.cb_history.specs.declared.answer.CastRefusal.TheVariants as casts
 use Rattle.cb_history.specs.declared.answer.Ticked.{Ticked}
-use Rattle.cb_history.specs.declared.history.Entry.{Entry}
-use Rattle.cb_history.specs.Answers.{next_cast, status_of}
+use Rattle.cb_history.specs.declared.answer.TickRefusal.{TickRefusal}
+use Rattle.cb_history.specs.declared.answer.TickRefusal.TheVariants as ticks
+use Rattle.cb_history.specs.Answers.{ArrivalSays, is_full, is_new_status, next_cast, status_of}
 use Rattle.cb_history.specs.Events as listed
-use Rattle.cb_history.specs.Facts.{EntryFields, CastEntry, TickEntry, entry_fields, facts_of}
+use Rattle.cb_history.specs.Facts.{EntryFields, CastEntry, TickEntry, facts_of}
 use Rattle.cb_history.specs.Group.{Identity}
 use Rattle.cb_history.specs.Legal.{AreEntriesOf, Call, ToCast, ToTake, ToTick, and_entry, arrive_entry, cast_entry, tick_entry, room_for_one}
 use Rattle.cb_history.specs.LegalFacts.{AreFactsOf}
-use Rattle.cb_history.specs.State.{HasCast as HasCastSo, HasTicked as HasTickedSo, entry_by, events_in, state_after}
+use Rattle.cb_history.specs.State.{MemberState, HasTicked as HasTickedSo, RefusesArrival, RefusesTick, answer_to_arrival, answer_to_cast, answer_to_tick, entry_by, events_in, facts_in, next_in, state_after}
 use Rattle.cb_history.proofs.Histories.{entries_say_legal_facts}
 use Rattle.cb_member.specs.declared.recorder.taken.Received as taken
 use Rattle.cb_member.specs.declared.recorder.taken.Received.TheVariants as takens
-use Rattle.cb_member.specs.Casting.{next_message}
-use Rattle.cb_member.specs.CoreMember.{Core, GoesOn as CoreGoesOn, OnEach, StandsFor, grown_by, unlimited}
-use Rattle.cb_member.specs.CoreCalls.{HasReceivedWith, JoinsAs}
+use Rattle.cb_member.specs.Casting.{RefusesExactly, next_message}
+use Rattle.cb_member.specs.CoreMember.{Core, GoesOn as CoreGoesOn, OnEach as OnEachCore, StandsFor, grown_by, unlimited}
+use Rattle.cb_member.specs.CoreCalls.{HasReceivedWith, JoinsAs, MayCast}
 use Rattle.cb_member.specs.Received.{count_said, deliveries_in, received_says}
-use Rattle.cb_handle.specs.declared.kept.Kept.TheVariants as kept
-use Rattle.cb_handle.specs.declared.recent.Added.TheVariants as added
-use Rattle.cb_handle.specs.declared.recent.Recent.{Recent}
-use Rattle.cb_handle.specs.Calling.{HasCast, HasReceived, HasTicked, Tells}
-use Rattle.cb_handle.specs.Entries.{frame_in}
-use Rattle.cb_handle.proofs.Adding.{arrival_adds, cast_adds, joined, payload_at_end, tick_adds}
+use Rattle.cb_handle.specs.Kept.{IsKept, KeptMember, OnEach, Stands, limit_of, state_with}
+use Rattle.cb_handle.specs.Calling.{Admits, HasCast, HasReceived, HasTicked, Tells}
+use Rattle.cb_handle.proofs.Adding.{arrival_adds, cast_adds, tick_adds}
+use Rattle.cb_handle.proofs.Keeping.{Adds, goes_on, is_kept}
+use Rattle.cb_handle.proofs.Limits.{arrival_full, arrival_refused, arrival_same, arrival_silent, cast_full, cast_refused, cast_same, no_room_is_left, room_is_left, tick_full, tick_enters_none, tick_refused, tick_same, tick_silent}
 
-module _ (old : Recent) (core : Core) (call : Call) (goes : CoreGoesOn call old.core core) (es : List EntryFields) (s : StandsFor es old.core) where
-  facts_before : AreFactsOf old.core.seat (facts_of es)
-  facts_before = (entries_say_legal_facts old.core.seat es s.legal).0
+-- the history of this length is full
+abbrev pub Full : KeptMember → Bool
+Full kept = not (kept.limit == 0) && nat_le kept.limit (length kept.entries)
 
-  legal_after : (o : Option EntryFields) → entry_by (unlimited old.core.seat es) call ≡ o → AreEntriesOf old.core.seat (and_entry es o)
+has_room : (old : KeptMember) → Full old ≡ false → (es : List EntryFields) → Stands old es → is_full (limit_of old es) es ≡ false
+has_room old off es st = room_is_left old.limit es old.entries st.are_kept off
+
+has_none : (old : KeptMember) → Full old ≡ true → (es : List EntryFields) → Stands old es → is_full (limit_of old es) es ≡ true
+has_none old on es st = no_room_is_left old.limit es old.entries st.are_kept on
+
+module _ (old core : Core) (call : Call) (goes : CoreGoesOn call old core) (es : List EntryFields) (s : StandsFor es old) where
+  facts_before : AreFactsOf old.seat (facts_of es)
+  facts_before = (entries_say_legal_facts old.seat es s.legal).0
+
+  legal_after : (o : Option EntryFields) → entry_by (unlimited old.seat es) call ≡ o → AreEntriesOf old.seat (and_entry es o)
   legal_after o is =
-      subst (λ (x : Option EntryFields). AreEntriesOf old.core.seat (and_entry es x)) is
-      (subst (λ (i : Identity). AreEntriesOf i (grown_by old.core.seat es call)) goes.seat (goes.stands es s).legal)
+      subst (λ (x : Option EntryFields). AreEntriesOf old.seat (and_entry es x)) is
+      (subst (λ (i : Identity). AreEntriesOf i (grown_by old.seat es call)) goes.seat (goes.stands es s).legal)
 
-  -- the entry that a call hands out is the one that is behind the others
-  entries_after : (entry : Option Entry) → entry_by (unlimited old.core.seat es) call ≡ option_map entry_fields entry
-      → es ++ and_entry [] (option_map entry_fields entry) ≡ and_entry es (entry_by (unlimited old.core.seat es) call)
-  entries_after entry is = joined es (option_map entry_fields entry) ∙ sym (ap (and_entry es) is)
+-- ---- refusals
 
--- ---- a tick
+pub cast_refused_full : (old : KeptMember) (payload : List ℕ) (refusal : CastRefusal) → Full old ≡ true → MayCast payload old.core (Err refusal) ⊎ ((refusal ≡ casts.HistoryFull) × MayCast payload old.core (Ok tt))
+    → OnEach old (λ m. RefusesExactly m payload refusal)
+cast_refused_full old payload refusal full (inl refuses) es st = inl (cast_refused old.core.seat (limit_of old es) es payload refusal (refuses es st.stands))
+cast_refused_full old payload refusal full (inr may) es st =
+    inl (cast_full old.core.seat (limit_of old es) es payload (next_cast old.core.seat (facts_of es) payload) (has_none old full es st) (may.1 es st.stands)
+    ∙ ap (λ (r : CastRefusal). let x : Result CastFields CastRefusal = Err r in x) (sym may.0))
 
-pub core_ticks : (old : Recent) (core : Core) (ticked : Ticked) (entry : Option Entry) (delivered : Vec Event Global) → delivered.items ≡ []
-    → OnEach old.core (λ m. HasTickedSo m (state_after m ToTick) ticked) → OnEach old.core (λ m. entry_by m ToTick ≡ option_map entry_fields entry)
-    → CoreGoesOn ToTick old.core core
-    → HasTicked (kept.Core old) (kept.Core (record { core = core; added = added.Taken delivered entry })) ticked.out.items
-core_ticks old core ticked entry delivered none done noted goes = record {
-  entered = ticked.entered;
-  answer = λ es s. (done es s).answer;
-  goes_on = record {
-    seat = goes.seat;
-    limit = λ es. refl;
-    stands = goes.stands;
-    events = λ es s.
-        let seat = old.core.seat in
-        let status : List ℕ = text_of (StatusFrame (status_of seat (facts_of es))) in
-        let o : Option EntryFields = if ticked.entered then Some (TickEntry status) else None in
-        let is : entry_by (unlimited seat es) ToTick ≡ o = ap (tick_entry status) (done es s).answer in
-        ap (λ (added : List Event). events_in (unlimited seat es) ++ added) none
-        ∙ sym (ap (λ (x : Option EntryFields). listed.events seat (facts_of (and_entry es x))) is
-        ∙ tick_adds seat es ticked.entered (facts_before old core ToTick goes es s) (legal_after old core ToTick goes es s o is));
-    entries = λ es s. entries_after old core ToTick goes es s entry (noted es s);
-  };
-}
+is_ok_then : (r : Result CastFields CastRefusal) (c : CastFields) → r ≡ Ok c → IsOk r
+is_ok_then r c is = rw is refl
+
+pub cast_lacks_memory : (old : KeptMember) (payload : List ℕ) (refusal : CastRefusal) → Full old ≡ false → MayCast payload old.core (Err refusal) ⊎ ((refusal ≡ casts.NoMemory) × MayCast payload old.core (Ok tt))
+    → OnEach old (λ m. RefusesExactly m payload refusal)
+cast_lacks_memory old payload refusal room (inl refuses) es st = inl (cast_refused old.core.seat (limit_of old es) es payload refusal (refuses es st.stands))
+cast_lacks_memory old payload refusal room (inr may) es st =
+    inr (may.0, is_ok_then _ (next_cast old.core.seat (facts_of es) payload) (cast_same old.core.seat (limit_of old es) es payload (has_room old room es st) ∙ may.1 es st.stands))
+
+pub cast_refused_so : (old : KeptMember) (payload : List ℕ) (refusal : CastRefusal) → Full old ≡ false → OnEachCore old.core (λ m. RefusesExactly m payload refusal) → OnEach old (λ m. RefusesExactly m payload refusal)
+cast_refused_so old payload refusal room refuses es st =
+    subst (λ (r : Result CastFields CastRefusal). (r ≡ Err refusal) ⊎ ((refusal ≡ casts.NoMemory) × IsOk r))
+    (sym (cast_same old.core.seat (limit_of old es) es payload (has_room old room es st))) (refuses es st.stands)
+
+arrival_refused_at : (old : KeptMember) (bytes : List ℕ) (refusal : ArriveRefusal) (es : List EntryFields) → RefusesArrival (unlimited old.core.seat es) bytes refusal → RefusesArrival (state_with old es) bytes refusal
+arrival_refused_at old bytes refusal es (inl says) = inl (arrival_refused old.core.seat (limit_of old es) es bytes refusal says)
+arrival_refused_at old bytes refusal es (inr memory) = inr memory
+
+pub arrival_refused_so : (old : KeptMember) (bytes : List ℕ) (refusal : ArriveRefusal) → OnEachCore old.core (λ m. RefusesArrival m bytes refusal) → OnEach old (λ m. RefusesArrival m bytes refusal)
+arrival_refused_so old bytes refusal refuses es st = arrival_refused_at old bytes refusal es (refuses es st.stands)
+
+pub arrival_refused_full : (old : KeptMember) (bytes : List ℕ) (refusal : ArriveRefusal) → Full old ≡ true → Admits bytes old.core (Err refusal) → OnEach old (λ m. RefusesArrival m bytes refusal)
+arrival_refused_full old bytes refusal full (inl refuses) = arrival_refused_so old bytes refusal refuses
+arrival_refused_full old bytes refusal full (inr enters) = λ es st.
+    inl (arrival_full old.core.seat (limit_of old es) es bytes (has_none old full es st) (enters.1 es st.stands)
+    ∙ ap (λ (r : ArriveRefusal). let x : Result ArrivalSays ArriveRefusal = Err r in x) (sym enters.0))
+
+pub tick_refused_full : (old : KeptMember) → Full old ≡ true → OnEachCore old.core (λ m. true ≡ is_new_status m.seat (facts_in m)) → OnEach old (λ m. RefusesTick m ticks.HistoryFull)
+tick_refused_full old full news es st = inl (tick_full old.core.seat (limit_of old es) es (sym (news es st.stands)) (has_none old full es st))
+
+tick_refused_at : (old : KeptMember) (refusal : TickRefusal) (es : List EntryFields) → RefusesTick (unlimited old.core.seat es) refusal → RefusesTick (state_with old es) refusal
+tick_refused_at old refusal es (inl says) = absurd (tick_refused old.core.seat (limit_of old es) es refusal says)
+tick_refused_at old refusal es (inr memory) = inr memory
+
+pub tick_refused_so : (old : KeptMember) (refusal : TickRefusal) → OnEachCore old.core (λ m. RefusesTick m refusal) → OnEach old (λ m. RefusesTick m refusal)
+tick_refused_so old refusal refuses es st = tick_refused_at old refusal es (refuses es st.stands)
+
+-- ---- room for the entry
+
+-- where the history is not full there is room
+below_limit : (old : KeptMember) → Full old ≡ false → old.limit ≢ 0 → length old.entries < old.limit
+below_limit old off some =
+    leb-false old.limit (length old.entries) (sym (ap (λ (b : Bool). not b && nat_le old.limit (length old.entries)) (ne_eqb old.limit 0 some)) ∙ off)
+
+with_one : (es : List EntryFields) (entry : Option EntryFields) → length (and_entry es entry) ≤ length es + 1
+with_one es None = omega arith
+with_one es (Some e) = omega (arith, length-append es (e ∷ []))
+
+fits_when : (old : KeptMember) (call : Call) (entry : Option EntryFields) → IsKept old → (Full old ≡ false) ⊎ OnEachCore old.core (λ m. entry_by m call ≡ None) → OnEachCore old.core (λ m. entry_by m call ≡ entry)
+    → old.limit ≢ 0 → length (and_entry old.entries entry) ≤ old.limit
+fits_when old call entry kept (inl off) noted some = let below = below_limit old off some in omega (arith, below, with_one old.entries entry)
+fits_when old call entry kept (inr none) noted some =
+    let h = kept some in
+    let nothing : None ≡ entry = sym (none old.entries h.stands) ∙ noted old.entries h.stands in
+    subst (λ (o : Option EntryFields). length (and_entry old.entries o) ≤ old.limit) nothing h.few
+
+-- what a call did to what is kept
+pub record Did (call : Call) (old new : KeptMember) (after : List Event) (entry : Option EntryFields) : Type 0 where
+  pub kept : IsKept old
+  pub goes : CoreGoesOn call old.core new.core
+  pub limit : new.limit ≡ old.limit
+  pub events_are : new.events ≡ (if old.limit == 0 then drop (length old.events) after else after)
+  pub entries_are : new.entries ≡ (if old.limit == 0 then drop (length old.entries) (and_entry old.entries entry) else and_entry old.entries entry)
+  pub noted : OnEachCore old.core (λ m. entry_by m call ≡ entry)
+
+-- ---- a cast
+
+module _ (old new : KeptMember) (payload frame : List ℕ) (after : List Event) (entry : EntryFields) (did : Did (ToCast payload) old new after (Some entry)) (room : Full old ≡ false)
+    (answer : OnEachCore old.core (λ m. answer_to_cast m payload ≡ Ok (next_in m payload)))
+    (joins : OnEachCore old.core (λ m. after ≡ old.events ++ events.Cast (next_message m.seat (facts_in m) payload) ∷ [])) where
+  cast_answer_is : OnEach old (λ m. answer_to_cast m payload ≡ Ok (next_in m payload))
+  cast_answer_is es st = cast_same old.core.seat (limit_of old es) es payload (has_room old room es st) ∙ answer es st.stands
+
+  cast_did : Adds (ToCast payload) old new after (Some entry)
+  cast_did = record {
+    kept = did.kept;
+    goes = did.goes;
+    limit = did.limit;
+    events_are = did.events_are;
+    entries_are = did.entries_are;
+    noted = did.noted;
+    same = λ es st. ap cast_entry (cast_same old.core.seat (limit_of old es) es payload (has_room old room es st)) ∙ did.noted es st.stands;
+    fits = fits_when old (ToCast payload) (Some entry) did.kept (inl room) did.noted;
+    adds = λ es s. (
+      events.Cast (next_message old.core.seat (facts_of es) payload) ∷ [],
+      joins es s,
+      sym (ap (λ (x : Option EntryFields). listed.events old.core.seat (facts_of (and_entry es x))) (ap cast_entry (answer es s))
+          ∙ cast_adds old.core.seat (room_for_one es) es payload (facts_before old.core new.core (ToCast payload) did.goes es s) (answer es s)
+          (legal_after old.core new.core (ToCast payload) did.goes es s (Some (CastEntry (text_of (CastFrame (next_cast old.core.seat (facts_of es) payload))))) (ap cast_entry (answer es s)))),
+    );
+  }
+
+  pub cast_kept : IsKept new
+  cast_kept = is_kept (ToCast payload) old new after (Some entry) cast_did
+
+  pub casts_so : OnEachCore old.core (λ m. frame ≡ text_of (CastFrame (next_in m payload))) → HasCast old new payload frame
+  casts_so frame_is = record {
+    answer = cast_answer_is;
+    frame_is = λ es st. frame_is es st.stands;
+    goes_on = goes_on (ToCast payload) old new after (Some entry) cast_did;
+  }
 
 -- ---- received bytes
 
@@ -83,74 +177,94 @@ all_said (takens.Accepted delivered changed out) messages count = refl
 all_said takens.Repeat [] count = refl
 all_said takens.Repeat (m ∷ messages) count = absurd cc
 
-pub core_receives : (old : Recent) (core : Core) (bytes : List ℕ) (entry : Option Entry) (r : taken.Received) (before : List Event) (delivered : Vec Event Global) (messages : List Message)
-    → before ≡ [] → JoinsAs messages before delivered.items → count_said r ≡ length messages
-    → OnEach old.core (λ m. HasReceivedWith m (state_after m (ToTake bytes)) bytes r messages) → OnEach old.core (λ m. entry_by m (ToTake bytes) ≡ option_map entry_fields entry)
-    → CoreGoesOn (ToTake bytes) old.core core
-    → HasReceived (kept.Core old) (kept.Core (record { core = core; added = added.Taken delivered entry })) bytes r
-core_receives old core bytes entry r before delivered messages none joins count done noted goes = record {
-  says = received_says r messages;
-  answer = λ es s. (done es s).answer;
-  tells = says_so r messages count;
-  goes_on = record {
-    seat = goes.seat;
-    limit = λ es. refl;
-    stands = goes.stands;
-    events = λ es s.
+module _ (old new : KeptMember) (bytes : List ℕ) (r : taken.Received) (messages : List Message) (after : List Event) (entry : Option EntryFields) (did : Did (ToTake bytes) old new after entry)
+    (room : (Full old ≡ false) ⊎ OnEachCore old.core (λ m. entry_by m (ToTake bytes) ≡ None))
+    (joins : JoinsAs messages old.events after) (count : count_said r ≡ length messages)
+    (done : OnEachCore old.core (λ m. HasReceivedWith m (state_after m (ToTake bytes)) bytes r messages)) where
+  free_arrival : OnEach old (λ m. answer_to_arrival m bytes ≡ answer_to_arrival (unlimited m.seat m.entries) bytes)
+  free_arrival es st = elim room [
+    | inl off ↦ arrival_same old.core.seat (limit_of old es) es bytes (has_room old off es st)
+    | inr none ↦ arrival_silent old.core.seat (limit_of old es) es bytes (none es st.stands)
+  ]
+
+  received_did : Adds (ToTake bytes) old new after entry
+  received_did = record {
+    kept = did.kept;
+    goes = did.goes;
+    limit = did.limit;
+    events_are = did.events_are;
+    entries_are = did.entries_are;
+    noted = did.noted;
+    same = λ es st. ap (arrive_entry bytes) (free_arrival es st) ∙ did.noted es st.stands;
+    fits = fits_when old (ToTake bytes) entry did.kept room did.noted;
+    adds = λ es s.
         let seat = old.core.seat in
         let says = received_says r messages in
-        let is : entry_by (unlimited seat es) (ToTake bytes) ≡ arrive_entry bytes (Ok says) = ap (arrive_entry bytes) (done es s).answer in
-        ap (λ (added : List Event). events_in (unlimited seat es) ++ added) (joins ∙ ap (λ (es : List Event). es ++ map (λ (m : Message). let e : Event = events.Deliver m in e) messages) none
-        ∙ ap (map (λ (m : Message). let e : Event = events.Deliver m in e)) (sym (all_said r messages count)))
-        ∙ sym (ap (λ (x : Option EntryFields). listed.events seat (facts_of (and_entry es x))) is
-        ∙ arrival_adds seat es bytes says (done es s).answer (legal_after old core (ToTake bytes) goes es s (arrive_entry bytes (Ok says)) is));
-    entries = λ es s. entries_after old core (ToTake bytes) goes es s entry (noted es s);
-  };
-}
+        let is : entry_by (unlimited seat es) (ToTake bytes) ≡ arrive_entry bytes (Ok says) = ap (arrive_entry bytes) (done es s).answer in (
+          map (λ (m : Message). let e : Event = events.Deliver m in e) messages,
+          joins,
+          ap (λ (ms : List Message). events_in (unlimited seat es) ++ map (λ (m : Message). let e : Event = events.Deliver m in e) ms) (sym (all_said r messages count))
+              ∙ sym (ap (λ (x : Option EntryFields). listed.events seat (facts_of (and_entry es x))) is
+              ∙ arrival_adds seat es bytes says (done es s).answer (legal_after old.core new.core (ToTake bytes) did.goes es s (arrive_entry bytes (Ok says)) is)),
+        );
+  }
 
--- ---- a cast
+  pub received_kept : IsKept new
+  received_kept = is_kept (ToTake bytes) old new after entry received_did
 
-pub core_casts : (old : Recent) (core : Core) (payload end : List ℕ) (done : CastDone) (entry : Entry)
-    → end ≡ drop (length (frame_in (entry_fields entry)) - length payload) (frame_in (entry_fields entry))
-    → OnEach old.core (λ m. HasCastSo m (state_after m (ToCast payload)) payload done) → OnEach old.core (λ m. entry_by m (ToCast payload) ≡ Some (entry_fields entry))
-    → CoreGoesOn (ToCast payload) old.core core
-    → HasCast (kept.Core old) (kept.Core (record { core = core; added = added.Cast (events.Cast (record { name = done.name; time = done.time; payload = end })) })) payload done.out
-core_casts old core payload end done entry end_is is noted goes = record {
-  answer = λ es s. (is es s).answer;
-  frame_is = λ es s. ap (λ (d : CastDone). d.out) (is es s).reported;
-  goes_on = record {
-    seat = goes.seat;
-    limit = λ es. refl;
-    stands = goes.stands;
-    events = λ es s. sym (grown es s ∙ ap (λ (m : Message). events_in (unlimited old.core.seat es) ++ events.Cast m ∷ []) (sym (message es s)));
-    entries = λ es s.
-        ap (λ (d : CastDone). es ++ CastEntry d.out ∷ []) (is es s).reported ∙ sym (ap (and_entry es) (by_answer es s));
-  };
-}
-  where
-    seat : Identity
-    seat = old.core.seat
+  pub receives_so : HasReceived old new bytes r
+  receives_so = record {
+    says = received_says r messages;
+    answer = λ es st. free_arrival es st ∙ (done es st.stands).answer;
+    tells = says_so r messages count;
+    goes_on = goes_on (ToTake bytes) old new after entry received_did;
+  }
 
-    frame : List EntryFields → List ℕ
-    frame es = text_of (CastFrame (next_cast seat (facts_of es) payload))
+-- ---- a tick
 
-    by_answer : (es : List EntryFields) (s : StandsFor es old.core) → entry_by (unlimited seat es) (ToCast payload) ≡ Some (CastEntry (frame es))
-    by_answer es s = ap cast_entry (is es s).answer
+module _ (old new : KeptMember) (ticked : Ticked) (entry : Option EntryFields) (did : Did ToTick old new old.events entry)
+    (room : (Full old ≡ false) ⊎ OnEachCore old.core (λ m. false ≡ is_new_status m.seat (facts_in m)))
+    (done : OnEachCore old.core (λ m. HasTickedSo m (state_after m ToTick) ticked)) where
+  free_tick : OnEach old (λ m. answer_to_tick m ≡ answer_to_tick (unlimited m.seat m.entries))
+  free_tick es st = elim room [
+    | inl off ↦ tick_same old.core.seat (limit_of old es) es (has_room old off es st)
+    | inr silent ↦ tick_silent old.core.seat (limit_of old es) es (sym (silent es st.stands))
+  ]
 
-    grown : (es : List EntryFields) (s : StandsFor es old.core)
-        → events_in (state_after (unlimited seat es) (ToCast payload)) ≡ events_in (unlimited seat es) ++ events.Cast (next_message seat (facts_of es) payload) ∷ []
-    grown es s =
-        ap (λ (x : Option EntryFields). listed.events seat (facts_of (and_entry es x))) (by_answer es s)
-        ∙ cast_adds seat (room_for_one es) es payload (facts_before old core (ToCast payload) goes es s) (is es s).answer
-        (legal_after old core (ToCast payload) goes es s (Some (CastEntry (frame es))) (by_answer es s))
+  no_entry : (Full old ≡ false) ⊎ OnEachCore old.core (λ m. entry_by m ToTick ≡ None)
+  no_entry = elim room [
+    | inl off ↦ inl off
+    | inr silent ↦ inr (λ es s. tick_enters_none old.core.seat (room_for_one es) es (text_of (StatusFrame (status_of old.core.seat (facts_of es)))) (sym (silent es s)))
+  ]
 
-    entered : (a b : EntryFields) → Some a ≡ Some b → a ≡ b
-    entered a b same = cc
+  tick_did : Adds ToTick old new old.events entry
+  tick_did = record {
+    kept = did.kept;
+    goes = did.goes;
+    limit = did.limit;
+    events_are = did.events_are;
+    entries_are = did.entries_are;
+    noted = did.noted;
+    same = λ es st. ap (tick_entry (text_of (StatusFrame (status_of old.core.seat (facts_of es))))) (free_tick es st) ∙ did.noted es st.stands;
+    fits = fits_when old ToTick entry did.kept no_entry did.noted;
+    adds = λ es s.
+        let seat = old.core.seat in
+        let status : List ℕ = text_of (StatusFrame (status_of seat (facts_of es))) in
+        let o : Option EntryFields = if ticked.entered then Some (TickEntry status) else None in
+        let is : entry_by (unlimited seat es) ToTick ≡ o = ap (tick_entry status) (done es s).answer in (
+          [],
+          sym (append-nil old.events),
+          sym (ap (λ (x : Option EntryFields). listed.events seat (facts_of (and_entry es x))) is
+              ∙ tick_adds seat es ticked.entered (facts_before old.core new.core ToTick did.goes es s) (legal_after old.core new.core ToTick did.goes es s o is)),
+        );
+  }
 
-    ends : (es : List EntryFields) (s : StandsFor es old.core) → end ≡ payload
-    ends es s =
-        let e : frame_in (entry_fields entry) ≡ frame es = ap frame_in (entered (entry_fields entry) (CastEntry (frame es)) (sym (noted es s) ∙ by_answer es s)) in
-        end_is ∙ ap (λ (text : List ℕ). drop (length text - length payload) text) e ∙ payload_at_end (next_cast seat (facts_of es) payload)
+  pub tick_kept : IsKept new
+  tick_kept = is_kept ToTick old new old.events entry tick_did
 
-    message : (es : List EntryFields) (s : StandsFor es old.core) → (let m : Message = record { name = done.name; time = done.time; payload = end } in m) ≡ next_message seat (facts_of es) payload
-    message es s = rw (ap (λ (d : CastDone). d.name) (is es s).reported, ap (λ (d : CastDone). d.time) (is es s).reported, ends es s) refl
+  pub ticks_so : HasTicked old new ticked.out.items
+  ticks_so = record {
+    entered = ticked.entered;
+    answer = λ es st. free_tick es st ∙ (done es st.stands).answer;
+    goes_on = goes_on ToTick old new old.events entry tick_did;
+  }

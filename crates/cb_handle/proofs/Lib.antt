@@ -2,7 +2,8 @@ mod HandleValues
 mod HeldDrop
 pub mod Placing
 pub mod Showing
-pub mod Keeping
 pub mod Adding
+pub mod Limits
+pub mod Keeping
 pub mod Forgetting
 mod Examples

@@ -1,5 +1,5 @@
 -- What the calls do to a member with its frames.
-use Rattle.std.specs.Prelude.{◌≡◌, ◌⊎◌, ℕ, ◌+◌, ◌≤◌, Bool, true, false, List, [], ◌∷◌, ◌++◌, length, slice_range, None, Ok, Err}
+use Rattle.std.specs.Prelude.{◌≡◌, ◌≢◌, ◌⊎◌, ℕ, ◌+◌, ◌≤◌, Bool, true, false, List, [], ◌∷◌, ◌++◌, length, slice_range, None, Result, Ok, Err}
 use Rattle.cb_delay.specs.declared.message.Event.{Event}
 use Rattle.cb_frames.specs.Fields.{CastFrame}
 use Rattle.cb_frames.specs.Text.{text_of}
@@ -10,18 +10,20 @@ use Rattle.cb_history.specs.Answers.{ArrivalSays, Accepted, Repeat}
 use Rattle.cb_history.specs.Facts.{EntryFields}
 use Rattle.cb_history.specs.Group.{Identity}
 use Rattle.cb_history.specs.Legal.{Call, ToCast, ToTake, ToTick}
-use Rattle.cb_history.specs.State.{MemberState, answer_to_cast, answer_to_arrival, answer_to_tick, events_in, next_in, state_after}
+use Rattle.cb_history.specs.State.{MemberState, RefusesArrival, entry_by, answer_to_cast, answer_to_arrival, answer_to_tick, events_in, next_in, state_after}
 use Rattle.cb_member.specs.declared.recorder.taken.Received as taken
 use Rattle.cb_member.specs.declared.recorder.taken.Received.TheVariants as takens
+use Rattle.cb_member.specs.CoreMember as cores
+use Rattle.cb_member.specs.CoreMember.{Core}
 use Rattle.cb_member.specs.Received.{count_said, deliveries_in, received_says, sent_by}
 use Rattle.cb_handle.specs.declared.held.Held.{Held}
 use Rattle.cb_handle.specs.declared.held.LoadedRefusal.{LoadedRefusal}
 use Rattle.cb_handle.specs.declared.held.LoadedRefusal.TheVariants.{NotLoaded, Refused}
-use Rattle.cb_handle.specs.declared.kept.Kept.{Kept}
 use Rattle.cb_handle.specs.declared.rows.Counts.{Counts}
 use Rattle.cb_handle.specs.declared.rows.Received.{Received}
 use Rattle.cb_handle.specs.Frames.{frames_of}
 use Rattle.cb_handle.specs.Kept as kept
+use Rattle.cb_handle.specs.Kept.{KeptMember}
 
 -- ---- of what is held
 
@@ -36,7 +38,7 @@ abbrev pub events_held : Held → List Event
 events_held held = kept.events_of held.kept
 
 abbrev pub entries_held : Held → List EntryFields
-entries_held held = kept.entries_of held.kept (frames_of held.frames)
+entries_held held = kept.entries_of held.kept
 
 -- the same member, with these bytes loaded
 abbrev pub with_loaded : Held → List ℕ → Held
@@ -62,18 +64,18 @@ counts_of held = record {
 
 -- Whatever history there was, it is the one after the call now. With a history all events and entries can be read, without one those that
 -- the call added.
-pub record GoesOn (call : Call) (old new : Kept) (frames : List Outgoing) : Type 0 where
+pub record GoesOn (call : Call) (old new : KeptMember) : Type 0 where
   pub seat : kept.seat_of new ≡ kept.seat_of old
   pub limit : (entries : List EntryFields) → kept.limit_of new entries ≡ kept.limit_of old entries
   pub stands : (entries : List EntryFields) → kept.Stands old entries → kept.Stands new (state_after (kept.state_with old entries) call).entries
   pub events : kept.OnEach old (λ m. kept.gone new (events_in m) ++ kept.events_of new ≡ events_in (state_after m call))
-  pub entries : kept.OnEach old (λ m. kept.gone new m.entries ++ kept.entries_of new frames ≡ (state_after m call).entries)
+  pub entries : kept.OnEach old (λ m. kept.gone new m.entries ++ kept.entries_of new ≡ (state_after m call).entries)
 
 -- a cast of this payload was made, and this is its frame
-pub record HasCast (old new : Kept) (payload frame : List ℕ) : Type 0 where
+pub record HasCast (old new : KeptMember) (payload frame : List ℕ) : Type 0 where
   pub answer : kept.OnEach old (λ m. answer_to_cast m payload ≡ Ok (next_in m payload))
   pub frame_is : kept.OnEach old (λ m. frame ≡ text_of (CastFrame (next_in m payload)))
-  pub goes_on : GoesOn (ToCast payload) old new (record { to = None; bytes = frame } ∷ [])
+  pub goes_on : GoesOn (ToCast payload) old new
 
 -- and it is the one that is to be sent; what is loaded stays
 abbrev pub HasCastToSend : Held → Held → List ℕ → Type 0
@@ -96,11 +98,11 @@ pub record Tells (r : taken.Received) (says : ArrivalSays) : Type 0 where
   pub count : count_said r ≡ length (deliveries_in says)
 
 -- the bytes were taken, or were a repeat, and this is said of it
-pub record HasReceived (old new : Kept) (bytes : List ℕ) (r : taken.Received) : Type 0 where
+pub record HasReceived (old new : KeptMember) (bytes : List ℕ) (r : taken.Received) : Type 0 where
   pub says : ArrivalSays
   pub answer : kept.OnEach old (λ m. answer_to_arrival m bytes ≡ Ok says)
   pub tells : Tells r says
-  pub goes_on : GoesOn (ToTake bytes) old new (sent_by says)
+  pub goes_on : GoesOn (ToTake bytes) old new
 
 -- what is told is what the definition says, and the frames are those that it sends; what is loaded stays
 pub record HasReceivedToSend (old new : Held) (bytes : List ℕ) (received : Received) : Type 0 where
@@ -109,7 +111,7 @@ pub record HasReceivedToSend (old new : Held) (bytes : List ℕ) (received : Rec
   pub told : received ≡ received_row says
   pub sends : frames_of new.frames ≡ sent_by says
   pub loaded : new.loaded ≡ old.loaded
-  pub goes_on : GoesOn (ToTake bytes) old.kept new.kept (sent_by says)
+  pub goes_on : GoesOn (ToTake bytes) old.kept new.kept
 
 -- the refusal is that of the definition, or out of memory
 abbrev pub RefusesBytes : MemberState → List ℕ → ArriveRefusal → Type 0
@@ -124,11 +126,20 @@ abbrev pub RefusesLoaded : Held → ℕ → ℕ → LoadedRefusal → Type 0
 RefusesLoaded held first len NotLoaded = ¬ AreLoaded held first len
 RefusesLoaded held first len (Refused refusal) = AreLoaded held first len × OnEach held (λ m. RefusesBytes m (loaded_part held first len) refusal)
 
+-- of these bytes no entry would be added; or they are refused, or an entry would be added and the history is full
+abbrev pub Admits : List ℕ → Core → Result (Unit {0}) ArriveRefusal → Type 0
+Admits bytes core (Ok done) = cores.OnEach core (λ m. entry_by m (ToTake bytes) ≡ None)
+Admits bytes core (Err refusal) = cores.OnEach core (λ m. RefusesArrival m bytes refusal) ⊎ ((refusal ≡ refusals.HistoryFull) × cores.OnEach core (λ m. entry_by m (ToTake bytes) ≢ None))
+
+-- the bytes are refused, or are a frame for which there is no memory
+abbrev pub LacksMemory : List ℕ → Core → ArriveRefusal → Type 0
+LacksMemory bytes core refusal = cores.OnEach core (λ m. RefusesArrival m bytes refusal)
+
 -- the status was sent, and what is missing was asked for: these are the frames
-pub record HasTicked (old new : Kept) (frames : List Outgoing) : Type 0 where
+pub record HasTicked (old new : KeptMember) (frames : List Outgoing) : Type 0 where
   pub entered : Bool
   pub answer : kept.OnEach old (λ m. answer_to_tick m ≡ Ok (entered, frames))
-  pub goes_on : GoesOn ToTick old new frames
+  pub goes_on : GoesOn ToTick old new
 
 -- and they are those that are to be sent; what is loaded stays
 abbrev pub HasTickedToSend : Held → Held → Type 0

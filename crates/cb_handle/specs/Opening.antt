@@ -1,23 +1,18 @@
 -- A member that is opened, and why none is.
-use Rattle.std.specs.Prelude.{◌≡◌, ℕ, ◌<◌, ◌≤◌, ◌==◌, List, [], if◌then◌else◌}
+use Rattle.std.specs.Prelude.{◌≡◌, ℕ, ◌<◌, ◌≤◌, List, []}
 use Rattle.cb_history.specs.declared.answer.NewFault.TheVariants as faults
 use Rattle.cb_history.specs.Facts.{EntryFields}
 use Rattle.cb_history.specs.Group.{Parameters, AreParameters}
-use Rattle.cb_history.specs.Legal.{longest_history, room_for_one}
+use Rattle.cb_history.specs.Legal.{longest_history}
 use Rattle.cb_handle.specs.declared.held.Held.{Held}
 use Rattle.cb_handle.specs.declared.held.OpenFault.{OpenFault}
 use Rattle.cb_handle.specs.declared.held.OpenFault.TheVariants.{BadGroup, BadNew}
-use Rattle.cb_handle.specs.declared.kept.Kept.{Kept}
 use Rattle.cb_handle.specs.Frames.{frames_of}
-use Rattle.cb_handle.specs.Kept.{seat_of, limit_of, Stands, events_of, entries_of}
+use Rattle.cb_handle.specs.Kept.{KeptMember, seat_of, limit_for, limit_of, Stands, events_of, entries_of}
 
 -- a history may have so many entries; none is kept where that is 0
 abbrev pub IsLimit : ℕ → Type 0
 IsLimit limit = limit ≤ longest_history
-
--- how many entries a history may have, where it has these
-abbrev pub limit_for : ℕ → List EntryFields → ℕ
-limit_for limit entries = if limit == 0 then room_for_one entries else limit
 
 -- the group is one, it has the member, and its history may have so many entries
 pub record MayOpen (group : Parameters) (me limit : ℕ) : Type 0 where
@@ -26,12 +21,12 @@ pub record MayOpen (group : Parameters) (me limit : ℕ) : Type 0 where
   pub is_limit : IsLimit limit
 
 -- a member without entries, with a history of this limit or with none, and nothing of it can be read
-pub record IsNew (group : Parameters) (me limit : ℕ) (kept : Kept) : Type 0 where
+pub record IsNew (group : Parameters) (me limit : ℕ) (kept : KeptMember) : Type 0 where
   pub seat : seat_of kept ≡ record { group = group; me = me }
   pub limit_is : (entries : List EntryFields) → limit_of kept entries ≡ limit_for limit entries
   pub empty : Stands kept []
   pub events : events_of kept ≡ []
-  pub entries : entries_of kept [] ≡ []
+  pub entries : entries_of kept ≡ []
 
 -- the member without entries, no frames, and nothing loaded
 pub record IsNewOf (group : Parameters) (me limit : ℕ) (held : Held) : Type 0 where

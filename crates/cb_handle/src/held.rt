@@ -15,9 +15,8 @@ ghost use Rattle.cb_handle.specs.Calling.{OnEach, seat_held, events_held, entrie
 use crate::copies::{copy_front, from};
 use crate::frames::{Frames, show_frame, show_frames};
 use crate::kept::Kept;
-use crate::reading::{entry_at, entry_of_cast, event_at, events_from, show_ranges};
+use crate::reading::{entry_at, event_at, events_from, show_ranges};
 use crate::received::ReceivedBlock;
-use crate::recent::{Added, listed};
 use crate::rows::{Counts, EntryHead, EventHead, FrameHead, Name, Range, Received};
 use bytes::Bytes;
 use cb_member::{ArriveRefusal, CastRefusal, Group, MissingFault, NewFault, TickRefusal};
@@ -153,19 +152,19 @@ impl Held {
             RefusesArrival m bytes.now refusal)) }
         ensures same { OnErr result (self.new ≡ self.old) }
     {
-        match self.kept.receive(alloc, bytes) {
+        match self.kept.receive(bytes) {
             Ok(taken) => Ok(told(alloc, taken, &mut self.frames)),
             Err(refusal) => Err(refusal),
         }
     }
 
     /// Reports the status and asks for what is missing. After a refusal nothing has changed.
-    pub fn tick(&mut self, alloc: Global) -> Result<(), TickRefusal>
+    pub fn tick(&mut self) -> Result<(), TickRefusal>
         ensures done { OnOk result (HasTickedToSend self.old self.new) }
         ensures refused { IfErr result (λ refusal. OnEach self.old (λ m. RefusesTick m refusal)) }
         ensures same { OnErr result (self.new ≡ self.old) }
     {
-        match self.kept.tick(alloc) {
+        match self.kept.tick() {
             Ok(frames) => {
                 self.frames.replace(frames);
                 Ok(())
@@ -181,7 +180,7 @@ impl Held {
         Counts {
             frames: self.frames.as_slice().len(),
             events: self.kept.events().len(),
-            entries: self.kept.entry_count(&self.frames),
+            entries: self.kept.entries().len(),
         }
     }
 
@@ -257,22 +256,7 @@ impl Held {
         ensures same { OnErr result ((head.new ≡ head.old) × (frame.new ≡ frame.old)
             × (delivered.new ≡ delivered.old)) }
     {
-        match &self.kept {
-            Kept::Whole(member) => entry_at(member.history(), index, head, frame, delivered),
-            Kept::Core(recent) => match &recent.added {
-                Added::Cast(_) => entry_of_cast(
-                    self.frames.as_slice(),
-                    index,
-                    head,
-                    frame,
-                    delivered,
-                ),
-                Added::Taken {
-                    delivered: _,
-                    entry,
-                } => entry_at(listed(entry), index, head, frame, delivered),
-            },
-        }
+        entry_at(self.kept.entries(), index, head, frame, delivered)
     }
 
     /// Shows how many messages of each member are delivered.

@@ -1,29 +1,51 @@
-//! A member with its history, or one without.
+//! A member, and beside it what can be read: its history and all events, or what its last call added.
 
-ghost use Rattle.std.specs.Prelude.{◌≡◌, ◌↔◌, ◌⊎◌, ◌≤◌, ◌<◌, length, IfOk, IfErr, OnErr, Err};
+ghost use Rattle.std.specs.Prelude.{◌≡◌, ◌↔◌, ◌⊎◌, ◌+◌, ◌≤◌, ◌<◌, ◌==◌, ◌&&◌, not, length, map, drop, nat_le, option_map, IfOk, IfErr, OnErr, Ok, Err, if◌then◌else◌};
 ghost use Rattle.cb_history.specs.Known.{ranges_of};
-ghost use Rattle.cb_history.specs.Legal.{longest_history};
+ghost use Rattle.std.specs.Vec.{vec_capacity, vec_len};
+ghost use Rattle.cb_history.specs.Facts.{entry_fields};
+ghost use Rattle.cb_history.specs.Legal.{and_entry, longest_history};
 ghost use Rattle.cb_history.specs.State.{missing_in, stable_in, time_in, RefusesArrival, RefusesTick};
 ghost use Rattle.cb_member.specs.Casting.{RefusesExactly};
-ghost use Rattle.cb_handle.specs.Frames.{frames_of};
+ghost use Rattle.cb_member.specs.CoreCalls.{MayCast};
 ghost use Rattle.cb_handle.specs.Kept.{OnEach, seat_of, events_of, entries_of};
 ghost use Rattle.cb_handle.specs.Opening.{IsNew};
-ghost use Rattle.cb_handle.specs.Calling.{HasCast, HasReceived, HasTicked};
+ghost use Rattle.cb_handle.specs.Calling.{Admits, HasCast, HasReceived, HasTicked, LacksMemory};
 
-use crate::frames::Frames;
-use crate::recent::Recent;
 use bytes::Bytes;
+use cb_history::LONGEST_HISTORY;
 use cb_member::{
-    ArriveRefusal, CastRefusal, CoreMember, Event, Group, Member, MissingFault, NewFault, Outgoing,
+    ArriveRefusal, CastRefusal, CoreMember, Entry, Event, Group, MissingFault, NewFault, Outgoing,
     Range, Received, TickRefusal, VectorTime,
 };
+use cb_times::make_room;
 use std::alloc::Global;
+use std::marker::Model;
 
-/// A member that keeps its history, or one that keeps none, with what its last call added.
+/// A member, with its history where it keeps one.
 #[derive(Drop)]
-pub enum Kept {
-    Whole(Member),
-    Core(Recent),
+pub struct Kept {
+    core: CoreMember,
+    /// How many entries its history may have; 0 where it keeps none.
+    limit: usize,
+    /// Its history; without one, the entry that the last call added, if any.
+    entries: Vec<Entry>,
+    /// The casts and deliveries so far; without a history, those of the last call.
+    events: Vec<Event>,
+}
+
+impl Model for Kept {
+    ghost use Rattle.std.specs.Prelude.{map};
+    ghost use Rattle.cb_history.specs.Facts.{entry_fields};
+    ghost use Rattle.cb_handle.specs.Kept.{IsKept, KeptMember, kept_code};
+
+    ghost Value = { KeptMember };
+
+    ghost coded = { kept_code };
+
+    ghost view = { λ k. record { core = k.core; limit = k.limit; entries = map entry_fields k.entries.items; events = k.events.items } };
+
+    ghost invariant = { λ k. IsKept (record { core = k.core; limit = k.limit; entries = map entry_fields k.entries.items; events = k.events.items }) };
 }
 
 impl Kept {
@@ -35,14 +57,16 @@ impl Kept {
         ensures bad_limit { (result ≡ Err NewFault.BadLimit)
             ↔ ((me < group.size) × ¬ (history_max ≤ longest_history)) }
     {
-        if history_max == 0 {
-            return match CoreMember::new(alloc, group, me) {
-                Ok(core) => Ok(Kept::Core(Recent::new(alloc, core))),
-                Err(fault) => Err(fault),
-            };
+        if me < group.size() && history_max > LONGEST_HISTORY {
+            return Err(NewFault::BadLimit);
         }
-        match Member::new(alloc, group, me, history_max) {
-            Ok(member) => Ok(Kept::Whole(member)),
+        match CoreMember::new(alloc, group, me) {
+            Ok(core) => Ok(Kept {
+                core,
+                limit: history_max,
+                entries: Vec::new(alloc),
+                events: Vec::new(alloc),
+            }),
             Err(fault) => Err(fault),
         }
     }
@@ -54,40 +78,72 @@ impl Kept {
             RefusesExactly m payload.now refusal)) }
         ensures same { OnErr result (self.new ≡ self.old) }
     {
-        match self {
-            Kept::Whole(member) => match member.cast(payload) {
-                Ok(done) => Ok(done.out),
-                Err(refusal) => Err(refusal),
-            },
-            Kept::Core(recent) => recent.cast(payload),
+        if is_full(self.limit, &self.entries) {
+            return Err(refusal_or(&self.core, payload, CastRefusal::HistoryFull));
+        }
+        let Ok(()) = make_room(&mut self.entries, 1) else {
+            return Err(refusal_or(&self.core, payload, CastRefusal::NoMemory));
+        };
+        let (events, entries) = (self.events.len(), self.entries.len());
+        match self.core.cast_into(payload, &mut self.events) {
+            Ok((frame, entry)) => {
+                enter(&mut self.entries, Some(entry));
+                forget(self.limit, &mut self.entries, entries);
+                forget(self.limit, &mut self.events, events);
+                Ok(frame)
+            }
+            Err(refusal) => Err(refusal),
         }
     }
 
     /// Takes received bytes, and tells what they did. After a refusal nothing has changed.
-    pub fn receive(&mut self, alloc: Global, bytes: &Bytes) -> Result<Received, ArriveRefusal>
+    pub fn receive(&mut self, bytes: &Bytes) -> Result<Received, ArriveRefusal>
         ensures done { IfOk result (HasReceived self.old self.new bytes.now) }
         ensures refused { IfErr result (λ refusal. OnEach self.old (λ m.
             RefusesArrival m bytes.now refusal)) }
         ensures same { OnErr result (self.new ≡ self.old) }
     {
-        match self {
-            Kept::Whole(member) => member.receive(bytes),
-            Kept::Core(recent) => recent.receive(alloc, bytes),
+        if is_full(self.limit, &self.entries) {
+            if let Err(refusal) = admit(&self.core, bytes) {
+                return Err(refusal);
+            }
+        }
+        let Ok(()) = make_room(&mut self.entries, 1) else {
+            return Err(out_of_memory(&self.core, bytes));
+        };
+        let (events, entries) = (self.events.len(), self.entries.len());
+        match self.core.receive_noted(bytes, &mut self.events) {
+            Ok((received, entry)) => {
+                enter(&mut self.entries, entry);
+                forget(self.limit, &mut self.entries, entries);
+                forget(self.limit, &mut self.events, events);
+                Ok(received)
+            }
+            Err(refusal) => Err(refusal),
         }
     }
 
     /// Reports the status and asks for what is missing: hands out the frames. After a refusal nothing has changed.
-    pub fn tick(&mut self, alloc: Global) -> Result<Vec<Outgoing>, TickRefusal>
+    pub fn tick(&mut self) -> Result<Vec<Outgoing>, TickRefusal>
         ensures done { IfOk result (λ out. HasTicked self.old self.new out.items) }
         ensures refused { IfErr result (λ refusal. OnEach self.old (λ m. RefusesTick m refusal)) }
         ensures same { OnErr result (self.new ≡ self.old) }
     {
-        match self {
-            Kept::Whole(member) => match member.tick() {
-                Ok(ticked) => Ok(ticked.out),
-                Err(refusal) => Err(refusal),
-            },
-            Kept::Core(recent) => recent.tick(alloc),
+        if is_full(self.limit, &self.entries) && self.core.has_news() {
+            return Err(TickRefusal::HistoryFull);
+        }
+        let Ok(()) = make_room(&mut self.entries, 1) else {
+            return Err(TickRefusal::NoMemory);
+        };
+        let (events, entries) = (self.events.len(), self.entries.len());
+        match self.core.tick_noted() {
+            Ok((ticked, entry)) => {
+                enter(&mut self.entries, entry);
+                forget(self.limit, &mut self.entries, entries);
+                forget(self.limit, &mut self.events, events);
+                Ok(ticked.out)
+            }
+            Err(refusal) => Err(refusal),
         }
     }
 
@@ -95,40 +151,28 @@ impl Kept {
     pub fn events(&self) -> &[Event]
         ensures { result.now ≡ events_of self.now }
     {
-        match self {
-            Kept::Whole(member) => member.events(),
-            Kept::Core(recent) => recent.added.events(),
-        }
+        self.events.as_slice()
     }
 
-    /// How many entries there are to be read, where these are the frames of the last call.
-    pub fn entry_count(&self, frames: &Frames) -> usize
-        ensures { result ≡ length (entries_of self.now (frames_of frames.now)) }
+    /// The entries that are to be read.
+    pub fn entries(&self) -> &[Entry]
+        ensures { map entry_fields result.now ≡ entries_of self.now }
     {
-        match self {
-            Kept::Whole(member) => member.history().len(),
-            Kept::Core(recent) => recent.added.entry_count(frames),
-        }
+        self.entries.as_slice()
     }
 
     /// How many messages of each member are delivered.
     pub fn time(&self) -> &VectorTime
         ensures { OnEach self.now (λ m. result.now ≡ time_in m) }
     {
-        match self {
-            Kept::Whole(member) => member.time(),
-            Kept::Core(recent) => recent.core.time(),
-        }
+        self.core.time()
     }
 
     /// How many own casts are known to be delivered by every other member.
     pub fn stable(&self) -> u32
         ensures { OnEach self.now (λ m. result ≡ stable_in m) }
     {
-        match self {
-            Kept::Whole(member) => member.stable(),
-            Kept::Core(recent) => recent.core.stable(),
-        }
+        self.core.stable()
     }
 
     /// The casts of a member that are missing.
@@ -138,9 +182,76 @@ impl Kept {
         ensures bad_member { (result ≡ Err MissingFault.BadMember)
             ↔ (((seat_of self.now).group.size ≤ member) ⊎ (member ≡ (seat_of self.now).me)) }
     {
-        match self {
-            Kept::Whole(whole) => whole.missing(member),
-            Kept::Core(recent) => recent.core.missing(member),
-        }
+        self.core.missing(member)
     }
+}
+
+/// The history has as many entries as it may have.
+fn is_full(limit: usize, entries: &Vec<Entry>) -> bool
+    ensures { result ≡ (not (limit == 0) && nat_le limit (length entries.now.items)) }
+{
+    limit > 0 && limit <= entries.len()
+}
+
+/// Why the core refuses the payload, or else this.
+fn refusal_or(core: &CoreMember, payload: &[u8], other: CastRefusal) -> CastRefusal
+    ensures { MayCast payload.now core.now (Err result)
+        ⊎ ((result ≡ other) × MayCast payload.now core.now (Ok tt)) }
+{
+    match core.may_cast(payload) {
+        Ok(()) => other,
+        Err(refusal) => refusal,
+    }
+}
+
+/// Refuses bytes of which there would be an entry, and those that the core refuses.
+fn admit(core: &CoreMember, bytes: &Bytes) -> Result<(), ArriveRefusal>
+    ensures { Admits bytes.now core.now result }
+{
+    match core.would_enter(bytes) {
+        Ok(true) => Err(ArriveRefusal::HistoryFull),
+        Ok(false) => Ok(()),
+        Err(refusal) => Err(refusal),
+    }
+}
+
+/// Out of memory, but for bytes that the core refuses.
+fn out_of_memory(core: &CoreMember, bytes: &Bytes) -> ArriveRefusal
+    ensures { LacksMemory bytes.now core.now result }
+{
+    match core.would_enter(bytes) {
+        Ok(_enters) => ArriveRefusal::NoMemory,
+        Err(refusal) => refusal,
+    }
+}
+
+/// Adds the entry, if there is one. This takes no memory.
+fn enter(entries: &mut Vec<Entry>, entry: Option<Entry>)
+    requires { vec_len entries.old + 1 ≤ vec_capacity entries.old }
+    ensures { map entry_fields entries.new.items
+        ≡ and_entry (map entry_fields entries.old.items) (option_map entry_fields entry) }
+{
+    if let Some(entry) = entry {
+        entries.push_reserved(entry);
+    }
+}
+
+/// Without a history, those of before the call go.
+fn forget<T: Drop>(limit: usize, list: &mut Vec<T>, before: usize)
+    ensures { list.new.items ≡ if limit == 0 then drop before list.old.items else list.old.items }
+{
+    if limit > 0 || before == 0 {
+        return;
+    }
+    if list.len() <= before {
+        list.clear();
+        return;
+    }
+    if before == 1 {
+        drop(list.remove(0));
+        return;
+    }
+    let rest = list.len() - before;
+    list.rotate_left(before);
+    list.truncate(rest);
 }

@@ -13,14 +13,12 @@ mod held;
 mod kept;
 mod reading;
 mod received;
-mod recent;
 mod rows;
 
 pub use frames::Frames;
 pub use handle::{Handle, closed, put, take};
 pub use held::{Held, LoadedRefusal, NoneThere, OpenFault};
 pub use kept::Kept;
-pub use recent::{Added, Recent};
 pub use rows::{
     ARRIVE, CAST, Counts, EntryHead, EventHead, FrameHead, Name, Range, Received, TICK,
 };

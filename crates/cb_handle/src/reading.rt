@@ -114,33 +114,6 @@ pub fn entry_at(
     Ok(())
 }
 
-/// Shows the entry of a cast, whose frame is the one of this index, if there is one.
-pub fn entry_of_cast(
-    frames: &[Outgoing],
-    index: usize,
-    head: &mut EntryHead,
-    frame: &mut [u8],
-    delivered: &mut [Name],
-) -> Result<(), NoneThere>
-    ensures shown { MatchOption (slice_get (map (λ f. CastEntry f.bytes) frames.now) index)
-        (result ≡ Err record {}) (λ entry. (result ≡ Ok tt)
-        × ShowsEntry entry head.new frame.old frame.new delivered.old delivered.new) }
-    ensures same { OnErr result ((head.new ≡ head.old) × (frame.new ≡ frame.old)
-        × (delivered.new ≡ delivered.old)) }
-{
-    let Some(sent) = frames.get(index) else {
-        return Err(NoneThere);
-    };
-    *head = EntryHead {
-        kind: CAST,
-        length: sent.bytes.len(),
-        delivered: 0,
-    };
-    copy_front(frame, sent.bytes.as_slice());
-    show_names(&[], delivered);
-    Ok(())
-}
-
 /// Shows an entry: its head, and its frame and the names of what it delivered as far as they fit.
 pub fn show_entry(entry: &Entry, head: &mut EntryHead, frame: &mut [u8], delivered: &mut [Name])
     ensures { ShowsEntry (entry_fields entry.now) head.new frame.old frame.new delivered.old

@@ -1,10 +1,10 @@
 -- What a core answers to received bytes.
-use Rattle.std.proofs.Common.{◌≡◌, ℕ, ◌+◌, ◌-◌, ◌<◌, ◌≤◌, Bool, true, false, List, [], ◌∷◌, ◌++◌, length, map, drop, Option, Some, None, Result, Ok, Err, refl, sym, ap, subst, ◌∙◌, arith, inl, inr}
-use Rattle.std.specs.Prelude.{option_map}
+use Rattle.std.proofs.Common.{◌≡◌, ℕ, ◌+◌, ◌-◌, ◌<◌, ◌≤◌, Bool, true, false, not, ◌==◌, List, [], ◌∷◌, ◌++◌, length, map, drop, Option, Some, None, Result, Ok, Err, refl, sym, ap, subst, ◌∙◌, arith, inl, inr}
+use Rattle.std.specs.Prelude.{if◌then◌else◌, is_some, option_map}
 use Rattle.std.proofs.lemmas.List.{append-nil, drop_all, drop_at, length-append, length-map}
 use Rattle.cb_times.specs.declared.name.Name.{Name}
 use Rattle.cb_frames.specs.declared.fault.FrameFault.{FrameFault}
-use Rattle.cb_frames.specs.Fields.{CastFields, CastFrame, FrameFields, StatusFields, StatusFrame, cast_fields}
+use Rattle.cb_frames.specs.Fields.{CastFields, CastFrame, FrameFields, RequestFields, RequestFrame, StatusFields, StatusFrame, cast_fields}
 use Rattle.cb_frames.specs.Laws.{IsBytes}
 use Rattle.cb_frames.specs.Reading.{frame_at}
 use Rattle.cb_delay.specs.declared.message.Event.{Event}
@@ -15,7 +15,7 @@ use Rattle.cb_history.specs.declared.answer.ArriveRefusal.TheVariants as refusal
 use Rattle.cb_history.specs.declared.answer.Outgoing.{Outgoing}
 use Rattle.cb_history.specs.declared.history.Entry.{Entry}
 use Rattle.cb_history.specs.Facts.{ArriveEntry, CastReceived, EntryFields, Fact, StatusReceived, arrival_said, entry_fields, facts_of, said_by}
-use Rattle.cb_history.specs.Answers.{Accepted, ArrivalSays, answer_to, arrive_answer, deliveries, frame_answer}
+use Rattle.cb_history.specs.Answers.{Accepted, ArrivalSays, answer_to, are_members, arrive_answer, deliveries, frame_answer, sent_in_answer}
 use Rattle.cb_history.specs.Legal.{ToTake, arrive_entry, room_for_one}
 use Rattle.cb_history.specs.LegalFacts.{AreFactsOf}
 use Rattle.cb_history.specs.State.{MemberState, RefusesArrival, answer_to_arrival, entry_by, facts_in}
@@ -26,7 +26,7 @@ use Rattle.cb_member.specs.declared.recorder.taken.Received.{Received}
 use Rattle.cb_member.specs.declared.state.State.{State}
 use Rattle.cb_member.specs.Answering.{RefusesBytes}
 use Rattle.cb_member.specs.Arriving.{Answers, Changes, DeliversWith}
-use Rattle.cb_member.specs.CoreCalls.{AnswersArrivalOnEach, CanCome, HasCome, HearsOnEach, JoinsAs, joined}
+use Rattle.cb_member.specs.CoreCalls.{AnswersArrivalOnEach, CanCome, HasCome, HearsOnEach, JoinsAs, WouldEnter, joined}
 use Rattle.cb_member.specs.CoreMember.{Core, GoesOn, IsCore, OnEach, StandsFor, core_of, unlimited}
 use Rattle.cb_member.specs.Hearing.{HasHeard}
 use Rattle.cb_member.specs.Knowledge.{delivered_by}
@@ -77,6 +77,31 @@ pub refused_bytes : (core : Core) (bytes : List ℕ) (refusal : ArriveRefusal) �
 refused_bytes core bytes refusal (inl fault) es s =
     inl (no_frame core es bytes fault.0 fault.1 ∙ ap (λ (e : ArriveRefusal). let answer : Result ArrivalSays ArriveRefusal = Err e in answer) (sym fault.2))
 refused_bytes core bytes refusal (inr memory) es s = inr memory
+
+-- ---- whether an entry is added
+
+pub enters_none : (core : Core) (bytes : List ℕ) (frame : FrameFields) (says : ArrivalSays) → frame_at bytes ≡ Ok frame → OnEach core (λ m. answer_to_arrival m bytes ≡ Ok says)
+    → arrive_entry bytes (Ok says) ≡ None → WouldEnter bytes core (Ok false)
+enters_none core bytes frame says read answer none = (rw read tt, λ es s. ap (λ (o : Option EntryFields). is_some o) (ap (arrive_entry bytes) (answer es s) ∙ none))
+
+pub enters_one : (state : State) (bytes : List ℕ) (frame : FrameFields) → frame_at bytes ≡ Ok frame → OnAll state (λ facts. Changes state.seat facts frame) → WouldEnter bytes (core_of state) (Ok true)
+enters_one state bytes frame read changes =
+    (rw read tt, λ es s. ap (λ (r : Result ArrivalSays ArriveRefusal). is_some (arrive_entry bytes r)) (answered_with_change state bytes frame read changes es s))
+
+by_request_rules : (bytes : List ℕ) (other strange impossible : Bool) (out : List Outgoing)
+    → arrive_entry bytes (if other then Err refusals.OtherGroup else if strange then Err refusals.BadMember else if impossible then Err refusals.Impossible else Ok (Accepted [] false out)) ≡ None
+by_request_rules bytes true strange impossible out = refl
+by_request_rules bytes false true impossible out = refl
+by_request_rules bytes false false true out = refl
+by_request_rules bytes false false false out = refl
+
+pub enters_no_request : (state : State) (bytes : List ℕ) (r : RequestFields) → frame_at bytes ≡ Ok (RequestFrame r) → WouldEnter bytes (core_of state) (Ok false)
+enters_no_request state bytes r read = (
+  rw read tt,
+  λ es s.
+      ap (λ (o : Option EntryFields). is_some o) (ap (arrive_entry bytes) (answered (core_of state) es bytes (RequestFrame r) read)
+      ∙ by_request_rules bytes (not (r.group == state.seat.group.number)) (not (are_members state.seat.group.size (RequestFrame r))) (r.requester == r.asked) (sent_in_answer state.seat (facts_of es) (RequestFrame r))),
+)
 
 -- ---- the events
 

@@ -1,10 +1,12 @@
 -- What a core answers to its own calls: casts and ticks.
-use Rattle.std.proofs.Common.{◌≡◌, ℕ, ◌+◌, ◌<◌, Bool, true, false, ◌&&◌, leb, List, [], ◌∷◌, ◌++◌, length, Option, Some, None, Ok, Err, refl, sym, ap, subst, ◌∙◌, arith, inl, inr}
-use Rattle.std.specs.Prelude.{option_map, if◌then◌else◌}
+use Rattle.std.proofs.Common.{◌≡◌, ℕ, ◌+◌, ◌<◌, Bool, true, false, ◌&&◌, leb, List, [], ◌∷◌, ◌++◌, length, Option, Some, None, Result, Ok, Err, refl, sym, ap, subst, ◌∙◌, arith, inl, inr}
+use Rattle.std.specs.Prelude.{IfOk, OnOk, option_map, if◌then◌else◌}
 use Rattle.std.proofs.lemmas.Bool.{lt-leb}
 use Rattle.cb_frames.specs.Fields.{StatusFrame}
 use Rattle.cb_frames.specs.Laws.{IsBytes}
 use Rattle.cb_frames.specs.Text.{text_of}
+use Rattle.cb_delay.specs.declared.message.Event.{Event}
+use Rattle.cb_delay.specs.declared.message.Event.TheVariants as events
 use Rattle.cb_delay.specs.declared.message.Message.{Message}
 use Rattle.cb_history.specs.declared.answer.CastDone.{CastDone}
 use Rattle.cb_history.specs.declared.answer.CastRefusal.{CastRefusal}
@@ -19,14 +21,14 @@ use Rattle.cb_history.specs.Group.{Identity}
 use Rattle.cb_history.specs.Facts.{EntryFields, Fact, OwnCast, OwnStatus, CastEntry, TickEntry, cast_said, entry_fields, facts_of, status_said}
 use Rattle.cb_history.specs.Answers.{is_new_status, next_cast, requests, status_of, tick_answer}
 use Rattle.cb_history.specs.Legal.{ToCast, ToTick, cast_entry, room_for_one, tick_entry}
-use Rattle.cb_history.specs.State.{MemberState, RefusesTick, answer_to_cast, answer_to_tick, entry_by}
+use Rattle.cb_history.specs.State.{MemberState, RefusesTick, answer_to_cast, answer_to_tick, entry_by, next_in}
 use Rattle.cb_history.proofs.ReadBack.{cast_read, status_read}
 use Rattle.cb_history.proofs.Requests.{own_frames_have_texts}
 use Rattle.cb_history.proofs.Written.{cast_can}
 use Rattle.cb_member.specs.declared.own_cast.Casting.{Casting}
 use Rattle.cb_member.specs.declared.state.State.{State}
-use Rattle.cb_member.specs.Casting.{CanCast, CanKeepCast, HasKept, IsCasting, IsSameButBlock, MakesCasting, RefusesExactly, RefusesPayload, next_text, next_time}
-use Rattle.cb_member.specs.CoreCalls.{AnswersCastOnEach, AnswersTickOnEach, CastsOnEach, TicksOnEach}
+use Rattle.cb_member.specs.Casting.{CanCast, CanKeepCast, HasKept, IsCasting, IsSameButBlock, JudgesPayload, MakesCasting, RefusesExactly, RefusesPayload, next_text, next_time}
+use Rattle.cb_member.specs.CoreCalls.{AnswersCastInto, AnswersCastOnEach, AnswersTickOnEach, CastsOnEach, JoinsCastOnEach, MayCast, TicksOnEach}
 use Rattle.cb_member.specs.CoreMember.{Core, GoesOn, IsCore, OnEach, StandsFor, core_of, unlimited}
 use Rattle.cb_member.specs.State.{Keeps, OnAll}
 use Rattle.cb_member.specs.Telling.{HasReported}
@@ -43,7 +45,7 @@ refuses_cast payload old new refusal is same refuses = record { core = subst IsC
 pub refused_payload : (core : State) (payload : List ℕ) (refusal : CastRefusal) → OnAll core (λ facts. RefusesPayload core.seat facts payload refusal) → OnEach (core_of core) (λ m. RefusesExactly m payload refusal)
 refused_payload core payload refusal refuses entries s = inl (refuses (facts_of entries) (facts_stand core entries s) (keeps_of core entries s) (room_for_one entries) entries refl)
 
-cast_next : (core : State) (payload : List ℕ) (entries : List EntryFields) → CanCast core payload → StandsFor entries (core_of core)
+pub cast_next : (core : State) (payload : List ℕ) (entries : List EntryFields) → CanCast core payload → StandsFor entries (core_of core)
     → answer_to_cast (unlimited core.seat entries) payload ≡ Ok (next_cast core.seat (facts_of entries) payload)
 cast_next core payload entries can s = casts_next core (room_for_one entries) entries payload (facts_stand core entries s) (keeps_of core entries s) can (one_is_left entries)
 
@@ -122,6 +124,37 @@ module _ (payload : List ℕ) (old mid new : State) (casting : Casting) (frame :
     refused = tt;
     same = tt;
   }
+
+  -- where the event is that of the message
+  pub joins_cast : (before : List Event) → AnswersCastInto payload (core_of old) (core_of new) before (before ++ events.Cast casting.message ∷ []) (Ok (casting.out, entries.Cast frame))
+  joins_cast before = record {
+    core = core_goes_on (ToCast payload) (core_of old) (core_of new) c.core goes_on;
+    casts = record {
+      goes_on = goes_on;
+      answer = answer;
+      frame = λ es s. (made es s).out;
+      entry = λ es s. ap cast_entry (answer es s) ∙ ap (λ (text : List ℕ). Some (CastEntry text)) (sym (made es s).out ∙ sym c.copied);
+      joins = λ es s. ap (λ (m : Message). before ++ events.Cast m ∷ []) (made es s).message;
+    };
+    refused = tt;
+    same = tt;
+    same_events = tt;
+  }
+
+pub refuses_cast_into : (payload : List ℕ) (old new : Core) (before after : List Event) (refusal : CastRefusal) → IsCore old → new ≡ old → after ≡ before → OnEach old (λ m. RefusesExactly m payload refusal)
+    → AnswersCastInto payload old new before after (Err refusal)
+refuses_cast_into payload old new before after refusal is same same_events refuses =
+    record { core = subst IsCore (sym same) is; casts = tt; refused = refuses; same = same; same_events = same_events }
+
+pub is_answered : (payload : List ℕ) (old new : Core) (before after : List Event) (result : Result (List ℕ × Entry) CastRefusal) → IfOk result (JoinsCastOnEach payload old new before after)
+    → OnOk result (OnEach old (λ m. answer_to_cast m payload ≡ Ok (next_in m payload)))
+is_answered payload old new before after (Ok cast) is = is.answer
+is_answered payload old new before after (Err refusal) is = tt
+
+-- what is judged of a payload is so on each history
+pub may_cast_so : (state : State) (payload : List ℕ) (result : Result (Unit {0}) CastRefusal) → JudgesPayload state payload result → MayCast payload (core_of state) result
+may_cast_so state payload (Ok done) can = λ es s. cast_next state payload es can s
+may_cast_so state payload (Err refusal) refuses = λ es s. refuses (facts_of es) (facts_stand state es s) (keeps_of state es s) (room_for_one es) es refl
 
 -- ---- ticks
 

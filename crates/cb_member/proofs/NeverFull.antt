@@ -23,7 +23,7 @@ use Rattle.cb_history.specs.Answers.{ArrivalSays, Accepted, Repeat, answer_to, a
 use Rattle.cb_history.specs.Legal.{room_for_one}
 use Rattle.cb_history.specs.State.{RefusesArrival, RefusesTick}
 use Rattle.cb_member.specs.Casting.{RefusesExactly}
-use Rattle.cb_member.specs.CoreCalls.{AnswersArrivalOnEach, AnswersCastOnEach, AnswersTickOnEach}
+use Rattle.cb_member.specs.CoreCalls.{AnswersArrivalOnEach, AnswersCastInto, AnswersCastOnEach, AnswersTickOnEach}
 use Rattle.cb_member.specs.CoreMember.{Core, IsCore, unlimited}
 use Rattle.cb_member.proofs.Cores.{one_is_left}
 
@@ -54,6 +54,15 @@ cast_never_full payload old new (Err refusal) is answers e =
     not_refused_full old.seat is.entries payload (subst (λ (r : CastRefusal). RefusesExactly (unlimited old.seat is.entries) payload r) (refusal_is refusal e) (answers.refused is.entries is.stands))
   where
     refusal_is : (r : CastRefusal) → (let x : Result (CastDone × Entry) CastRefusal = Err r in x) ≡ Err casts.HistoryFull → r ≡ casts.HistoryFull
+    refusal_is r e = cc
+
+pub cast_into_never_full : (payload : List ℕ) (old new : Core) (before after : List Event) (result : Result (List ℕ × Entry) CastRefusal) → IsCore old → AnswersCastInto payload old new before after result
+    → result ≢ Err casts.HistoryFull
+cast_into_never_full payload old new before after (Ok cast) is answers e = absurd cc
+cast_into_never_full payload old new before after (Err refusal) is answers e =
+    not_refused_full old.seat is.entries payload (subst (λ (r : CastRefusal). RefusesExactly (unlimited old.seat is.entries) payload r) (refusal_is refusal e) (answers.refused is.entries is.stands))
+  where
+    refusal_is : (r : CastRefusal) → (let x : Result (List ℕ × Entry) CastRefusal = Err r in x) ≡ Err casts.HistoryFull → r ≡ casts.HistoryFull
     refusal_is r e = cc
 
 -- ---- ticks

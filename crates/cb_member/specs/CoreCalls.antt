@@ -1,10 +1,11 @@
 -- What a core answers to its calls, whatever history it stands for.
-use Rattle.std.specs.Prelude.{◌≡◌, ℕ, Bool, true, List, ◌++◌, length, map, drop, Option, Some, option_map, Result, Ok, IfOk, IfErr, OnErr, OnOk}
+use Rattle.std.specs.Prelude.{◌≡◌, ℕ, Bool, true, List, [], ◌∷◌, ◌++◌, length, map, drop, Option, Some, is_some, option_map, Result, Ok, Err, IfOk, IfErr, OnErr, OnOk}
 use Rattle.cb_frames.specs.Fields.{CastFrame, cast_fields}
 use Rattle.cb_frames.specs.Laws.{IsBytes}
-use Rattle.cb_frames.specs.Reading.{frame_at}
+use Rattle.cb_frames.specs.Reading.{frame_at, HasValue}
+use Rattle.cb_frames.specs.Text.{text_of}
 use Rattle.cb_delay.specs.declared.message.Event.{Event}
-use Rattle.cb_delay.specs.declared.message.Event.TheVariants.{Deliver}
+use Rattle.cb_delay.specs.declared.message.Event.TheVariants.{Cast, Deliver}
 use Rattle.cb_delay.specs.declared.message.Message.{Message}
 use Rattle.cb_history.specs.declared.answer.ArriveRefusal.{ArriveRefusal}
 use Rattle.cb_history.specs.declared.answer.CastDone.{CastDone}
@@ -14,14 +15,14 @@ use Rattle.cb_history.specs.declared.answer.TickRefusal.{TickRefusal}
 use Rattle.cb_history.specs.declared.history.Entry.{Entry}
 use Rattle.cb_history.specs.Facts.{entry_fields}
 use Rattle.cb_history.specs.Legal.{Call, ToCast, ToTake, ToTick}
-use Rattle.cb_history.specs.State.{MemberState, HasCast, HasTicked, RefusesArrival, RefusesTick, answer_to_arrival, entry_by, state_after}
+use Rattle.cb_history.specs.State.{MemberState, HasCast, HasTicked, RefusesArrival, RefusesTick, answer_to_arrival, answer_to_cast, entry_by, facts_in, next_in, state_after}
 use Rattle.cb_member.specs.declared.core_member.arriving.Coming.{Coming}
 use Rattle.cb_member.specs.declared.core_member.arriving.Heard.{Heard}
 use Rattle.cb_member.specs.declared.recorder.arriving.Named.{Named}
 use Rattle.cb_member.specs.declared.recorder.taken.Received.{Received}
 use Rattle.cb_member.specs.declared.state.State.{State}
 use Rattle.cb_member.specs.Arriving.{IsNew}
-use Rattle.cb_member.specs.Casting.{RefusesExactly}
+use Rattle.cb_member.specs.Casting.{RefusesExactly, next_message}
 use Rattle.cb_member.specs.CoreMember.{Core, GoesOn, IsCore, OnEach, core_of}
 use Rattle.cb_member.specs.Course.{CanGo, most}
 use Rattle.cb_member.specs.Knowledge.{delivered_by}
@@ -40,6 +41,26 @@ pub record AnswersCastOnEach (payload : List ℕ) (old new : Core) (result : Res
   pub casts : IfOk result (CastsOnEach payload old new)
   pub refused : IfErr result (λ refusal. OnEach old (λ m. RefusesExactly m payload refusal))
   pub same : OnErr result (new ≡ old)
+
+-- a cast of this payload was made: its event joined the events, and this is its frame and its entry
+pub record JoinsCastOnEach (payload : List ℕ) (old new : Core) (before after : List Event) (cast : List ℕ × Entry) : Type 0 where
+  pub goes_on : GoesOn (ToCast payload) old new
+  pub answer : OnEach old (λ m. answer_to_cast m payload ≡ Ok (next_in m payload))
+  pub frame : OnEach old (λ m. cast.0 ≡ text_of (CastFrame (next_in m payload)))
+  pub entry : OnEach old (λ m. entry_by m (ToCast payload) ≡ Some (entry_fields cast.1))
+  pub joins : OnEach old (λ m. after ≡ before ++ Cast (next_message m.seat (facts_in m) payload) ∷ [])
+
+pub record AnswersCastInto (payload : List ℕ) (old new : Core) (before after : List Event) (result : Result (List ℕ × Entry) CastRefusal) : Type 0 where
+  pub core : IsCore new
+  pub casts : IfOk result (JoinsCastOnEach payload old new before after)
+  pub refused : IfErr result (λ refusal. OnEach old (λ m. RefusesExactly m payload refusal))
+  pub same : OnErr result (new ≡ old)
+  pub same_events : OnErr result (after ≡ before)
+
+-- whether the definition answers a cast, or why it refuses one
+abbrev pub MayCast : List ℕ → Core → Result (Unit {0}) CastRefusal → Type 0
+MayCast payload core (Ok done) = OnEach core (λ m. answer_to_cast m payload ≡ Ok (next_in m payload))
+MayCast payload core (Err refusal) = OnEach core (λ m. answer_to_cast m payload ≡ Err refusal)
 
 -- ---- ticks
 
@@ -85,6 +106,11 @@ pub record AnswersArrivalOnEach (wanted : Bool) (bytes : List ℕ) (old new : Co
   pub refused : IfErr result (λ refusal. OnEach old (λ m. RefusesArrival m bytes refusal))
   pub same : OnErr result (new ≡ old)
   pub same_events : OnErr result (after ≡ before)
+
+-- whether the definition adds an entry of these bytes, which are a frame; or why they are refused
+abbrev pub WouldEnter : List ℕ → Core → Result Bool ArriveRefusal → Type 0
+WouldEnter bytes core (Ok enters) = HasValue (frame_at bytes) × OnEach core (λ m. is_some (entry_by m (ToTake bytes)) ≡ enters)
+WouldEnter bytes core (Err refusal) = OnEach core (λ m. RefusesArrival m bytes refusal)
 
 -- the cast is that of these bytes and new, has its course, and there is room for the names of what it delivers
 pub record CanCome (wanted : Bool) (bytes : List ℕ) (core : State) (coming : Coming) : Type 0 where

@@ -1,13 +1,17 @@
 //! A member that keeps no history: what it knows is all that it needs of one.
 
-ghost use Rattle.std.specs.Prelude.{◌≡◌, ◌≢◌, ◌↔◌, ◌⊎◌, ◌≤◌, ◌<◌, [], length, IfOk, IfErr, OnErr, OnOk, Some, Err, option_map};
+ghost use Rattle.std.specs.Prelude.{◌≡◌, ◌≢◌, ◌↔◌, ◌⊎◌, ◌≤◌, ◌<◌, [], ◌∷◌, ◌++◌, length, IfOk, IfErr, OnErr, OnOk, Some, Ok, Err, option_map};
+ghost use Rattle.cb_delay.specs.declared.message.Event.TheVariants.{Cast as Cast_event};
+ghost use Rattle.cb_frames.specs.Fields.{CastFrame};
+ghost use Rattle.cb_frames.specs.Text.{text_of};
+ghost use Rattle.cb_history.specs.Answers.{is_new_status};
 ghost use Rattle.cb_history.specs.Group.{IsIdentity};
 ghost use Rattle.cb_history.specs.Legal.{ToCast, ToTake, ToTick};
 ghost use Rattle.cb_history.specs.Facts.{entry_fields};
 ghost use Rattle.cb_history.specs.Known.{ranges_of};
-ghost use Rattle.cb_history.specs.State.{time_in, stable_in, missing_in, entry_by, state_after, HasCast, RefusesArrival, HasTicked, RefusesTick};
-ghost use Rattle.cb_member.specs.Casting.{RefusesExactly};
-ghost use Rattle.cb_member.specs.CoreCalls.{HasReceivedWith, JoinsAs, joined};
+ghost use Rattle.cb_history.specs.State.{time_in, stable_in, missing_in, answer_to_cast, entry_by, facts_in, next_in, state_after, HasCast, RefusesArrival, HasTicked, RefusesTick};
+ghost use Rattle.cb_member.specs.Casting.{RefusesExactly, next_message};
+ghost use Rattle.cb_member.specs.CoreCalls.{HasReceivedWith, JoinsAs, MayCast, WouldEnter, joined};
 ghost use Rattle.cb_member.specs.Received.{count_said};
 ghost use Rattle.cb_member.specs.CoreMember.{GoesOn, OnEach, StandsFor};
 ghost use Rattle.cb_member.specs.CoreRuns.{Cast, IsCall, Take, Tick};
@@ -157,6 +161,39 @@ impl CoreMember {
         self.state.cast_unlimited(payload)
     }
 
+    /// Casts a payload as `cast_noted` does, for a caller who keeps events: that of the cast joins
+    /// them. Its frame is handed out, and the entry that a history would have of it.
+    pub fn cast_into(
+        &mut self,
+        payload: &[u8],
+        events: &mut Vec<Event>,
+    ) -> Result<(Bytes, Entry), CastRefusal>
+        ensures answer { OnOk result (OnEach self.old (λ m.
+            answer_to_cast m payload.now ≡ Ok (next_in m payload.now))) }
+        ensures frame { IfOk result (λ cast. OnEach self.old (λ m.
+            cast.0 ≡ text_of (CastFrame (next_in m payload.now)))) }
+        ensures entry { IfOk result (λ cast. OnEach self.old (λ m.
+            entry_by m (ToCast payload.now) ≡ Some (entry_fields cast.1))) }
+        ensures joins { OnOk result (OnEach self.old (λ m. events.new.items ≡ events.old.items
+            ++ Cast_event (next_message m.seat (facts_in m) payload.now) ∷ [])) }
+        ensures goes_on { OnOk result (GoesOn (ToCast payload.now) self.old self.new) }
+        ensures refused { IfErr result (λ refusal. OnEach self.old (λ m.
+            RefusesExactly m payload.now refusal)) }
+        ensures no_limit { result ≢ Err CastRefusal.HistoryFull }
+        ensures same { OnErr result (self.new ≡ self.old) }
+        ensures same_events { OnErr result (events.new.items ≡ events.old.items) }
+    {
+        self.state.cast_joining(payload, events)
+    }
+
+    /// Whether `cast` would cast the payload, if there is memory for it; else why not. This takes
+    /// no memory.
+    pub fn may_cast(&self, payload: &[u8]) -> Result<(), CastRefusal>
+        ensures { MayCast payload.now self.now result }
+    {
+        self.state.judge_payload(payload)
+    }
+
     /// Takes received bytes. What they make ready is delivered: it joins the caller's events, whose
     /// messages are the caller's own then, and the answer says how many they are; or a request is
     /// answered. Who keeps the list from call to call, and clears it, keeps its room.
@@ -216,6 +253,14 @@ impl CoreMember {
         Ok((heard.received, heard.noted))
     }
 
+    /// Whether `receive` would add an entry to a history; else a refusal, or there is nothing to
+    /// add. `NoMemory` may stand in place of any answer for bytes that are a frame.
+    pub fn would_enter(&self, bytes: &Bytes) -> Result<bool, ArriveRefusal>
+        ensures { WouldEnter bytes.now self.now result }
+    {
+        self.state.would_enter(bytes)
+    }
+
     /// Reports the status to all others, and asks each for what is missing of it.
     ///
     /// `NoMemory` may stand in place of any answer, and nothing else is refused.
@@ -245,5 +290,12 @@ impl CoreMember {
         ensures same { OnErr result (self.new ≡ self.old) }
     {
         self.state.tick_unlimited()
+    }
+
+    /// Whether `tick` would add an entry to a history: the status differs from the last one.
+    pub fn has_news(&self) -> bool
+        ensures { OnEach self.now (λ m. result ≡ is_new_status m.seat (facts_in m)) }
+    {
+        self.state.has_news()
     }
 }

@@ -137,7 +137,7 @@ pub extern "C" fn jolunza_tick(alloc: Global, handle: &mut Handle) -> u32
     let Some(mut held) = take(alloc, handle) else {
         return CLOSED;
     };
-    let answer = held.tick(alloc);
+    let answer = held.tick();
     put(handle, held);
     code::of_tick(answer)
 }

@@ -9,7 +9,7 @@ ghost use Rattle.cb_delay.specs.declared.message.Event.{Event as Events};
 ghost use Rattle.cb_delay.specs.declared.message.Message.{Message as Messages};
 ghost use Rattle.cb_history.specs.Answers.{Accepted};
 ghost use Rattle.cb_member.specs.Arriving.{IsNew};
-ghost use Rattle.cb_member.specs.CoreCalls.{AnswersArrivalOnEach, CanCome, Comes, IsComing};
+ghost use Rattle.cb_member.specs.CoreCalls.{AnswersArrivalOnEach, CanCome, Comes, IsComing, WouldEnter};
 ghost use Rattle.cb_member.specs.CoreMember.{IsCore, core_of};
 ghost use Rattle.cb_member.specs.Course.{most};
 ghost use Rattle.cb_member.specs.Received.{count_said, received_says};
@@ -58,6 +58,29 @@ impl State {
             Ok(Frame::Cast(cast)) => self.receive_cast(bytes, cast, noted, events),
             Ok(Frame::Status(status)) => self.receive_status(bytes, &status, noted),
             Ok(Frame::Request(request)) => self.receive_request(&request),
+            Err(refusal) => Err(refusal),
+        }
+    }
+
+    /// Whether the definition adds an entry of these bytes. Nothing changes by asking.
+    pub fn would_enter(&self, bytes: &Bytes) -> Result<bool, ArriveRefusal>
+        requires { IsCore (core_of self.now) }
+        ensures { WouldEnter bytes.now (core_of self.now) result }
+    {
+        // asked for what is true of every text
+        each_is_a_text_or_a_fault();
+        match read(self.alloc, bytes) {
+            Ok(Frame::Cast(cast)) => match self.judge_cast(&cast) {
+                Ok(Judged::Repeat) => Ok(false),
+                Ok(Judged::Taken) => Ok(true),
+                Err(refusal) => Err(refusal),
+            },
+            Ok(Frame::Status(status)) => match self.judge_status(&status) {
+                Ok(status::Judged::NoNews) => Ok(false),
+                Ok(status::Judged::News) => Ok(true),
+                Err(refusal) => Err(refusal),
+            },
+            Ok(Frame::Request(_request)) => Ok(false),
             Err(refusal) => Err(refusal),
         }
     }

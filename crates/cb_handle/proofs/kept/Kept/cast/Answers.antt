@@ -1,12 +1,61 @@
-use Rattle.std.proofs.Common.{sym, subst}
-use Rattle.cb_handle.specs.declared.kept.Kept.{Kept}
-use Rattle.cb_handle.specs.declared.kept.Kept.TheVariants.{Whole}
-use Rattle.cb_handle.specs.Calling.{HasCast}
-use Rattle.cb_handle.proofs.Keeping.{whole_casts}
+use Rattle.std.proofs.Common.{◌≡◌, ◌⊎◌, ◌∙◌, Bool, List, Option, Some, None, map, true, false, refl, sym, ap, subst, inl, inr}
+use Rattle.std.specs.Prelude.{option_map}
+use Rattle.cb_history.specs.Facts.{entry_fields}
+use Rattle.cb_history.specs.Legal.{ToCast, ToTake, ToTick}
+use Rattle.cb_handle.specs.Kept.{KeptMember}
+use Rattle.cb_handle.proofs.Keeping.{entries_left, events_left, full_is}
+use Rattle.cb_handle.proofs.Forgetting.{Did, cast_kept, cast_lacks_memory, cast_refused_full, cast_refused_so, casts_so}
 use Rattle.cb_handle.proofs.kept.Kept.cast.Goals as goal
 
--- the member that keeps its history has cast
-pub returns-in-Ok-clause-done : goal.returns-in-Ok-clause-done
-returns-in-Ok-clause-done c =
-    subst (λ (held : Kept). HasCast held (Whole c.cast.new.self) c.args.payload.now c.in-Ok.done.out) (sym c.in-Whole.is)
-    (whole_casts c.in-Whole.member c.cast.new.self c.args.payload.now c.in-Ok.done c.in-Ok.ensures.done)
+pub returns-then-is_full-clause-refused : goal.returns-then-is_full-clause-refused
+returns-then-is_full-clause-refused c =
+    let old : KeptMember = record { core = c.self.inside.core; limit = c.self.inside.limit; entries = map entry_fields c.self.inside.entries.items; events = c.self.inside.events.items } in
+    rw (← c.self.view_is) (cast_refused_full old c.args.payload.now c.refusal_or.result (full_is c.self.inside.limit c.self.inside.entries.items c.is_full.result true c.is_full.ensures c.if-is_full.true) c.refusal_or.ensures)
+
+pub invariant_of-self : goal.invariant_of-self
+invariant_of-self c = rw c.make_room.ensures.items c.self.invariant
+
+pub returns-in_default-clause-refused : goal.returns-in_default-clause-refused
+returns-in_default-clause-refused c =
+    let old : KeptMember = record { core = c.self.inside.core; limit = c.self.inside.limit; entries = map entry_fields c.self.inside.entries.items; events = c.self.inside.events.items } in
+    rw (← c.self.view_is) (cast_lacks_memory old c.args.payload.now c.refusal_or-in_default.result (full_is c.self.inside.limit c.self.inside.entries.items c.is_full.result false c.is_full.ensures c.if-is_full.false) c.refusal_or-in_default.ensures)
+
+pub invariant_of-self-in-Ok-cast_into : goal.invariant_of-self-in-Ok-cast_into
+invariant_of-self-in-Ok-cast_into c =
+    let old : KeptMember = record { core = c.self.inside.core; limit = c.self.inside.limit; entries = map entry_fields c.self.inside.entries.items; events = c.self.inside.events.items } in
+    let new : KeptMember = record { core = c.cast_into.new.self; limit = c.self.inside.limit; entries = map entry_fields c.forget.new.list.items; events = c.forget-in-Ok-cast_into.new.list.items } in
+    let did : Did (ToCast c.args.payload.now) old new c.cast_into.new.events.items (Some (entry_fields c.in-Ok-cast_into.entry)) = record {
+      kept = c.self.invariant;
+      goes = c.in-Ok-cast_into.ensures.goes_on;
+      limit = refl;
+      events_are = events_left c.self.inside.limit c.len-events.result c.self.inside.events.items c.cast_into.new.events.items _ c.forget-in-Ok-cast_into.ensures (c.len-events.ensures ∙ c.self.inside.events.ok.0);
+      entries_are = entries_left c.self.inside.limit c.len-entries.result c.self.inside.entries.items c.make_room.new.list.items c.enter.new.entries.items c.forget.new.list.items (Some (entry_fields c.in-Ok-cast_into.entry))
+          c.forget.ensures c.enter.ensures c.make_room.ensures.items (c.len-entries.ensures ∙ c.make_room.new.list.ok.0);
+      noted = c.in-Ok-cast_into.ensures.entry;
+    } in
+    cast_kept old new c.args.payload.now c.in-Ok-cast_into.frame c.cast_into.new.events.items (entry_fields c.in-Ok-cast_into.entry) did
+    (full_is c.self.inside.limit c.self.inside.entries.items c.is_full.result false c.is_full.ensures c.if-is_full.false) c.in-Ok-cast_into.ensures.answer c.in-Ok-cast_into.ensures.joins
+
+pub invariant_of-self-in-Err : goal.invariant_of-self-in-Err
+invariant_of-self-in-Err c = rw (c.in-Err.ensures.same, c.make_room.ensures.items, c.in-Err.ensures.same_events) c.self.invariant
+
+pub returns-in-Ok-cast_into-clause-done : goal.returns-in-Ok-cast_into-clause-done
+returns-in-Ok-cast_into-clause-done c =
+    let old : KeptMember = record { core = c.self.inside.core; limit = c.self.inside.limit; entries = map entry_fields c.self.inside.entries.items; events = c.self.inside.events.items } in
+    let new : KeptMember = record { core = c.cast_into.new.self; limit = c.self.inside.limit; entries = map entry_fields c.forget.new.list.items; events = c.forget-in-Ok-cast_into.new.list.items } in
+    let did : Did (ToCast c.args.payload.now) old new c.cast_into.new.events.items (Some (entry_fields c.in-Ok-cast_into.entry)) = record {
+      kept = c.self.invariant;
+      goes = c.in-Ok-cast_into.ensures.goes_on;
+      limit = refl;
+      events_are = events_left c.self.inside.limit c.len-events.result c.self.inside.events.items c.cast_into.new.events.items _ c.forget-in-Ok-cast_into.ensures (c.len-events.ensures ∙ c.self.inside.events.ok.0);
+      entries_are = entries_left c.self.inside.limit c.len-entries.result c.self.inside.entries.items c.make_room.new.list.items c.enter.new.entries.items c.forget.new.list.items (Some (entry_fields c.in-Ok-cast_into.entry))
+          c.forget.ensures c.enter.ensures c.make_room.ensures.items (c.len-entries.ensures ∙ c.make_room.new.list.ok.0);
+      noted = c.in-Ok-cast_into.ensures.entry;
+    } in
+    rw (← c.self.view_is) (casts_so old new c.args.payload.now c.in-Ok-cast_into.frame c.cast_into.new.events.items (entry_fields c.in-Ok-cast_into.entry) did
+    (full_is c.self.inside.limit c.self.inside.entries.items c.is_full.result false c.is_full.ensures c.if-is_full.false) c.in-Ok-cast_into.ensures.answer c.in-Ok-cast_into.ensures.joins c.in-Ok-cast_into.ensures.frame)
+
+pub returns-in-Err-clause-refused : goal.returns-in-Err-clause-refused
+returns-in-Err-clause-refused c =
+    let old : KeptMember = record { core = c.self.inside.core; limit = c.self.inside.limit; entries = map entry_fields c.self.inside.entries.items; events = c.self.inside.events.items } in
+    rw (← c.self.view_is) (cast_refused_so old c.args.payload.now c.in-Err.refusal (full_is c.self.inside.limit c.self.inside.entries.items c.is_full.result false c.is_full.ensures c.if-is_full.false) c.in-Err.ensures.refused)

@@ -1,6 +1,6 @@
-use Rattle.cb_handle.proofs.Keeping.{new_whole}
+use Rattle.std.proofs.Common.{ap}
+use Rattle.cb_handle.proofs.Keeping.{new_is_kept}
 use Rattle.cb_handle.proofs.kept.Kept.new.Goals as goal
 
-pub returns-in-Ok-new-clause-new : goal.returns-in-Ok-new-clause-new
-returns-in-Ok-new-clause-new c =
-    new_whole c.args.group c.args.me c.args.history_max c.in-Ok-new.member c.if-history_max-eq0.false c.in-Ok-new.ensures.ok
+pub invariant_of-result : goal.invariant_of-result
+invariant_of-result c = new_is_kept c.in-Ok.core c.args.history_max _ _ c.in-Ok.ensures.empty c.new-in-Ok.ensures.items c.new-in-Ok-2.ensures.items
