@@ -64,7 +64,6 @@ done << 'END'
 208 a request that is answered, without history
 211 cast in a window of one, without history
 213 a status that is news first, without history
-214 an arrival that delivers a message first, without history
 215 cast before what comes early, without history
 216 an arrival that comes early, without history
 217 a received cast that comes early, without history
@@ -73,8 +72,8 @@ done << 'END'
 220 a received request that is answered, without history
 END
 # a payload too long, bytes that are no frame, a full history and a full window take no memory, nor does a cast for which all room is
-# there; a member without history makes room for each call's deliveries
-for status in 101 109 110 112 118 121 201 209 212 221; do
+# there; where room for deliveries is all that is wanted, less is asked for once more is refused
+for status in 101 109 110 112 118 121 201 209 212 214 221; do
     [ -z "${refused[$status]:-}" ] || { echo "row $status wants memory"; exit 1; }
 done
 [ $((total + ${refused[0]:-0})) = "$most" ] || { echo "a status that no row has"; exit 1; }

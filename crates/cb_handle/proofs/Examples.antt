@@ -2,7 +2,6 @@
 use Rattle.std.proofs.Common.{◌≡◌, ℕ, [], ◌∷◌, true, false, refl, arith}
 use Rattle.std.specs.Prelude.{Some, None}
 use Rattle.cb_history.specs.declared.answer.Outgoing.{Outgoing}
-use Rattle.cb_delay.specs.declared.message.Event.{Event}
 use Rattle.cb_delay.specs.declared.message.Event.TheVariants.{Cast, Deliver}
 use Rattle.cb_delay.specs.declared.message.Message.{Message}
 use Rattle.cb_history.specs.Answers.{Accepted, Repeat}

@@ -2,7 +2,7 @@
 use Rattle.std.proofs.Common.{◌≡◌, ◌≢◌, ℕ, ◌==◌, ◌&&◌, not, ◌≤◌, Bool, true, false, List, [], ◌∷◌, ◌++◌, length, drop, map, Option, Some, None, refl, sym, ap, subst, ◌∙◌, arith, inl, inr}
 use Rattle.std.specs.Prelude.{if◌then◌else◌, nat_le}
 use Rattle.std.proofs.lemmas.Bool.{cases_Bool, ne_eqb}
-use Rattle.std.proofs.lemmas.List.{append-nil, drop-map, drop_all, drop_at, length-map}
+use Rattle.std.proofs.lemmas.List.{drop-map, drop_all, drop_at, length-map}
 use Rattle.cb_delay.specs.declared.message.Event.{Event}
 use Rattle.cb_history.specs.Events.{events}
 use Rattle.cb_history.specs.declared.history.Entry.{Entry}
@@ -12,7 +12,7 @@ use Rattle.cb_history.specs.Legal.{Call, and_entry}
 use Rattle.cb_history.specs.State.{entry_by, events_in, state_after}
 use Rattle.cb_history.specs.View.{view}
 use Rattle.cb_member.specs.CoreMember.{Core, GoesOn as CoreGoesOn, StandsFor, grown_by, unlimited}
-use Rattle.cb_handle.specs.Kept.{IsHistory, IsKept, KeptMember, OnEach, Stands, gone, limit_for, state_with}
+use Rattle.cb_handle.specs.Kept.{IsKept, KeptMember, OnEach, Stands, gone, limit_for, state_with}
 use Rattle.cb_handle.specs.Calling.{GoesOn}
 use Rattle.cb_handle.proofs.Adding.{joined}
 use Rattle.cb_handle.proofs.Limits.{is_some}

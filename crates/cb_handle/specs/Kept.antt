@@ -1,5 +1,5 @@
 -- What is held of a member: which histories it may have, and what of them is there to be read.
-use Rattle.std.specs.Prelude.{◌≡◌, ◌≢◌, ℕ, ◌≤◌, Bool, ◌==◌, List, [], length, refl, if◌then◌else◌}
+use Rattle.std.specs.Prelude.{◌≡◌, ◌≢◌, ℕ, ◌≤◌, Bool, ◌==◌, List, [], length, map, refl, if◌then◌else◌}
 use Rattle.std.specs.Coded.{Coded, code_by, coded×, coded_bool, coded_list, coded_ℕ}
 use Rattle.cb_times.specs.declared.name.Name.{Name}
 use Rattle.cb_delay.specs.declared.message.Event.{Event}
@@ -9,7 +9,8 @@ use Rattle.cb_delay.specs.Message.{message_of}
 use Rattle.cb_delay.specs.Queue.{message_code, name_code}
 use Rattle.cb_history.specs.Events.{events}
 use Rattle.cb_history.specs.Group.{Identity}
-use Rattle.cb_history.specs.Facts.{EntryFields, CastEntry, ArriveEntry, TickEntry, facts_of}
+use Rattle.cb_history.specs.declared.history.Entry.{Entry}
+use Rattle.cb_history.specs.Facts.{EntryFields, CastEntry, ArriveEntry, TickEntry, entry_fields, facts_of}
 use Rattle.cb_history.specs.Legal.{room_for_one}
 use Rattle.cb_history.specs.State.{MemberState}
 use Rattle.cb_member.specs.CoreMember.{Core, StandsFor, core_code}
@@ -22,6 +23,10 @@ pub record KeptMember : Type 0 where
   pub limit : ℕ
   pub entries : List EntryFields
   pub events : List Event
+
+-- as it lies in memory
+abbrev pub kept_of : Core → ℕ → List Entry → List Event → KeptMember
+kept_of core limit entries events = record { core = core; limit = limit; entries = map entry_fields entries; events = events }
 
 -- ---- the histories
 

@@ -35,17 +35,15 @@ pub struct Kept {
 }
 
 impl Model for Kept {
-    ghost use Rattle.std.specs.Prelude.{map};
-    ghost use Rattle.cb_history.specs.Facts.{entry_fields};
-    ghost use Rattle.cb_handle.specs.Kept.{IsKept, KeptMember, kept_code};
+    ghost use Rattle.cb_handle.specs.Kept.{IsKept, KeptMember, kept_code, kept_of};
 
     ghost Value = { KeptMember };
 
     ghost coded = { kept_code };
 
-    ghost view = { λ k. record { core = k.core; limit = k.limit; entries = map entry_fields k.entries.items; events = k.events.items } };
+    ghost view = { λ k. kept_of k.core k.limit k.entries.items k.events.items };
 
-    ghost invariant = { λ k. IsKept (record { core = k.core; limit = k.limit; entries = map entry_fields k.entries.items; events = k.events.items }) };
+    ghost invariant = { λ k. IsKept (kept_of k.core k.limit k.entries.items k.events.items) };
 }
 
 impl Kept {

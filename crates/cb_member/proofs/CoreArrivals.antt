@@ -1,10 +1,9 @@
 -- What a core answers to received bytes.
-use Rattle.std.proofs.Common.{◌≡◌, ℕ, ◌+◌, ◌-◌, ◌<◌, ◌≤◌, Bool, true, false, not, ◌==◌, List, [], ◌∷◌, ◌++◌, length, map, drop, Option, Some, None, Result, Ok, Err, refl, sym, ap, subst, ◌∙◌, arith, inl, inr}
+use Rattle.std.proofs.Common.{◌≡◌, ℕ, ◌-◌, Bool, true, false, not, ◌==◌, List, [], ◌∷◌, ◌++◌, length, map, drop, Option, Some, None, Result, Ok, Err, refl, sym, ap, subst, ◌∙◌, arith, inl, inr}
 use Rattle.std.specs.Prelude.{if◌then◌else◌, is_some, option_map}
-use Rattle.std.proofs.lemmas.List.{append-nil, drop_all, drop_at, length-append, length-map}
-use Rattle.cb_times.specs.declared.name.Name.{Name}
+use Rattle.std.proofs.lemmas.List.{append-nil, drop_at, length-append, length-map}
 use Rattle.cb_frames.specs.declared.fault.FrameFault.{FrameFault}
-use Rattle.cb_frames.specs.Fields.{CastFields, CastFrame, FrameFields, RequestFields, RequestFrame, StatusFields, StatusFrame, cast_fields}
+use Rattle.cb_frames.specs.Fields.{CastFrame, FrameFields, RequestFields, RequestFrame, StatusFields, StatusFrame, cast_fields}
 use Rattle.cb_frames.specs.Laws.{IsBytes}
 use Rattle.cb_frames.specs.Reading.{frame_at}
 use Rattle.cb_delay.specs.declared.message.Event.{Event}
@@ -13,16 +12,14 @@ use Rattle.cb_delay.specs.declared.message.Message.{Message}
 use Rattle.cb_history.specs.declared.answer.ArriveRefusal.{ArriveRefusal}
 use Rattle.cb_history.specs.declared.answer.ArriveRefusal.TheVariants as refusals
 use Rattle.cb_history.specs.declared.answer.Outgoing.{Outgoing}
-use Rattle.cb_history.specs.declared.history.Entry.{Entry}
-use Rattle.cb_history.specs.Facts.{ArriveEntry, CastReceived, EntryFields, Fact, StatusReceived, arrival_said, entry_fields, facts_of, said_by}
+use Rattle.cb_history.specs.Facts.{ArriveEntry, CastReceived, EntryFields, Fact, StatusReceived, arrival_said, entry_fields, facts_of}
 use Rattle.cb_history.specs.Answers.{Accepted, ArrivalSays, answer_to, are_members, arrive_answer, deliveries, frame_answer, sent_in_answer}
 use Rattle.cb_history.specs.Legal.{ToTake, arrive_entry, room_for_one}
 use Rattle.cb_history.specs.LegalFacts.{AreFactsOf}
-use Rattle.cb_history.specs.State.{MemberState, RefusesArrival, answer_to_arrival, entry_by, facts_in}
+use Rattle.cb_history.specs.State.{RefusesArrival, answer_to_arrival, entry_by, facts_in}
 use Rattle.cb_member.specs.declared.core_member.arriving.Coming.{Coming}
 use Rattle.cb_member.specs.declared.core_member.arriving.Heard.{Heard}
 use Rattle.cb_member.specs.declared.recorder.arriving.Named.{Named}
-use Rattle.cb_member.specs.declared.recorder.taken.Received.{Received}
 use Rattle.cb_member.specs.declared.state.State.{State}
 use Rattle.cb_member.specs.Answering.{RefusesBytes}
 use Rattle.cb_member.specs.Arriving.{Answers, Changes, DeliversWith}
@@ -30,7 +27,7 @@ use Rattle.cb_member.specs.CoreCalls.{AnswersArrivalOnEach, CanCome, HasCome, He
 use Rattle.cb_member.specs.CoreMember.{Core, GoesOn, IsCore, OnEach, StandsFor, core_of, unlimited}
 use Rattle.cb_member.specs.Hearing.{HasHeard}
 use Rattle.cb_member.specs.Knowledge.{delivered_by}
-use Rattle.cb_member.specs.Received.{count_said, names_of, received_says}
+use Rattle.cb_member.specs.Received.{count_said, received_says}
 use Rattle.cb_member.specs.State.{Keeps, OnAll}
 use Rattle.cb_member.proofs.Accepting.{none_delivered, only_deliveries}
 use Rattle.cb_member.proofs.Cores.{Grows, core_goes_on, facts_follow, facts_stand, goes_on_none, keeps_of, one_is_left, stands_then}

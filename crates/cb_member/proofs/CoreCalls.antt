@@ -1,5 +1,5 @@
 -- What a core answers to its own calls: casts and ticks.
-use Rattle.std.proofs.Common.{◌≡◌, ℕ, ◌+◌, ◌<◌, Bool, true, false, ◌&&◌, leb, List, [], ◌∷◌, ◌++◌, length, Option, Some, None, Result, Ok, Err, refl, sym, ap, subst, ◌∙◌, arith, inl, inr}
+use Rattle.std.proofs.Common.{◌≡◌, ℕ, Bool, true, false, ◌&&◌, leb, List, [], ◌∷◌, ◌++◌, length, Option, Some, None, Result, Ok, Err, refl, sym, ap, subst, ◌∙◌, inl, inr}
 use Rattle.std.specs.Prelude.{IfOk, OnOk, option_map, if◌then◌else◌}
 use Rattle.std.proofs.lemmas.Bool.{lt-leb}
 use Rattle.cb_frames.specs.Fields.{StatusFrame}
@@ -8,7 +8,6 @@ use Rattle.cb_frames.specs.Text.{text_of}
 use Rattle.cb_delay.specs.declared.message.Event.{Event}
 use Rattle.cb_delay.specs.declared.message.Event.TheVariants as events
 use Rattle.cb_delay.specs.declared.message.Message.{Message}
-use Rattle.cb_history.specs.declared.answer.CastDone.{CastDone}
 use Rattle.cb_history.specs.declared.answer.CastRefusal.{CastRefusal}
 use Rattle.cb_history.specs.declared.answer.CastRefusal.TheVariants as casts
 use Rattle.cb_history.specs.declared.answer.Outgoing.{Outgoing}
@@ -17,18 +16,17 @@ use Rattle.cb_history.specs.declared.answer.TickRefusal.TheVariants as ticks
 use Rattle.cb_history.specs.declared.answer.Ticked.{Ticked}
 use Rattle.cb_history.specs.declared.history.Entry.{Entry}
 use Rattle.cb_history.specs.declared.history.Entry.TheVariants as entries
-use Rattle.cb_history.specs.Group.{Identity}
 use Rattle.cb_history.specs.Facts.{EntryFields, Fact, OwnCast, OwnStatus, CastEntry, TickEntry, cast_said, entry_fields, facts_of, status_said}
 use Rattle.cb_history.specs.Answers.{is_new_status, next_cast, requests, status_of, tick_answer}
 use Rattle.cb_history.specs.Legal.{ToCast, ToTick, cast_entry, room_for_one, tick_entry}
-use Rattle.cb_history.specs.State.{MemberState, RefusesTick, answer_to_cast, answer_to_tick, entry_by, next_in}
+use Rattle.cb_history.specs.State.{answer_to_cast, answer_to_tick, entry_by, next_in}
 use Rattle.cb_history.proofs.ReadBack.{cast_read, status_read}
 use Rattle.cb_history.proofs.Requests.{own_frames_have_texts}
 use Rattle.cb_history.proofs.Written.{cast_can}
 use Rattle.cb_member.specs.declared.own_cast.Casting.{Casting}
 use Rattle.cb_member.specs.declared.state.State.{State}
 use Rattle.cb_member.specs.Casting.{CanCast, CanKeepCast, HasKept, IsCasting, IsSameButBlock, JudgesPayload, MakesCasting, RefusesExactly, RefusesPayload, next_text, next_time}
-use Rattle.cb_member.specs.CoreCalls.{AnswersCastInto, AnswersCastOnEach, AnswersTickOnEach, CastsOnEach, JoinsCastOnEach, MayCast, TicksOnEach}
+use Rattle.cb_member.specs.CoreCalls.{AnswersCastInto, AnswersCastOnEach, AnswersTickOnEach, JoinsCastOnEach, MayCast}
 use Rattle.cb_member.specs.CoreMember.{Core, GoesOn, IsCore, OnEach, StandsFor, core_of, unlimited}
 use Rattle.cb_member.specs.State.{Keeps, OnAll}
 use Rattle.cb_member.specs.Telling.{HasReported}

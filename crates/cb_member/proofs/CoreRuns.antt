@@ -1,8 +1,8 @@
 -- After any calls a core stands for their history.
-use Rattle.std.proofs.Common.{◌≡◌, ℕ, ◌+◌, ◌<◌, ◌≤◌, ◌⊎◌, Bool, true, false, ◌||◌, leb, List, [], ◌∷◌, length, Result, Ok, Err, refl, sym, ap, subst, ◌∙◌, arith, inl, inr}
+use Rattle.std.proofs.Common.{◌≡◌, ◌+◌, ◌⊎◌, Bool, true, false, ◌||◌, leb, List, [], Result, Ok, Err, refl, sym, ap, subst, ◌∙◌, arith, inl, inr}
 use Rattle.std.specs.Prelude.{IsOk, is_ok}
 use Rattle.std.proofs.lemmas.Bool.{both_ways, le-leb}
-use Rattle.cb_frames.specs.declared.frame.TheConstants.{LONGEST_PAYLOAD, LAST_NUMBER}
+use Rattle.cb_frames.specs.declared.frame.TheConstants.{LAST_NUMBER}
 use Rattle.cb_frames.specs.Fields.{CastFields}
 use Rattle.cb_times.specs.Order.{field}
 use Rattle.cb_history.specs.declared.answer.CastDone.{CastDone}
@@ -14,10 +14,10 @@ use Rattle.cb_history.specs.Known.{stable}
 use Rattle.cb_history.specs.Answers.{delivered, is_window_full}
 use Rattle.cb_history.specs.Legal.{AreEntriesOf, room_for_one}
 use Rattle.cb_history.specs.State.{answer_to_cast}
-use Rattle.cb_member.specs.CoreMember.{Core, IsCore, StandsFor, core_of, unlimited}
-use Rattle.cb_member.specs.CoreRuns.{AnsweredCall, AreAnswered, Calls, Cast, CoresAnswerByTheirHistory, GoesOnOrStays, IsAnswered, IsCall, NoCall, NoNumberIsLeft, OneCall, Take, Tick, history_after_all, history_with}
+use Rattle.cb_member.specs.CoreMember.{Core, StandsFor, unlimited}
+use Rattle.cb_member.specs.CoreRuns.{AnsweredCall, AreAnswered, Calls, Cast, CoresAnswerByTheirHistory, GoesOnOrStays, IsAnswered, NoCall, NoNumberIsLeft, OneCall, Take, Tick, history_after_all, history_with}
 use Rattle.cb_member.proofs.Casting.{own_delivered}
-use Rattle.cb_member.proofs.Cores.{facts_stand, keeps_of}
+use Rattle.cb_member.proofs.Cores.{facts_stand}
 use Rattle.cb_member.proofs.Judging.{window_full}
 
 -- ---- calls one after another

@@ -1,11 +1,11 @@
 -- What a core knows is so of each history that it stands for, and of what a call makes of that.
-use Rattle.std.proofs.Common.{◌≡◌, ℕ, ◌+◌, ◌<◌, Bool, List, [], ◌∷◌, ◌++◌, length, Some, None, refl, sym, ap, subst, ◌∙◌, arith}
+use Rattle.std.proofs.Common.{◌≡◌, ℕ, ◌<◌, Bool, List, [], ◌∷◌, ◌++◌, length, Some, None, refl, sym, ap, subst, ◌∙◌, arith}
 use Rattle.std.proofs.lemmas.List.{append-nil}
 use Rattle.cb_stability.specs.Known.{Known}
 use Rattle.cb_stability.specs.Sent.{Sent}
 use Rattle.cb_history.specs.Group.{Identity, IsIdentity}
 use Rattle.cb_history.specs.Facts.{Fact, EntryFields, said_by, facts_of}
-use Rattle.cb_history.specs.Legal.{AreEntriesOf, Call, OfBytes, NoEntries, and_entry, history_after, room_for_one}
+use Rattle.cb_history.specs.Legal.{AreEntriesOf, Call, OfBytes, NoEntries, and_entry, room_for_one}
 use Rattle.cb_history.specs.LegalFacts.{AreFactsOf}
 use Rattle.cb_history.specs.State.{entry_by}
 use Rattle.cb_history.proofs.Calls.{calls_keep_entries}

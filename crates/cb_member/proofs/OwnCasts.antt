@@ -1,5 +1,5 @@
 -- What is kept is so of the facts with an own cast.
-use Rattle.std.proofs.Common.{◌≡◌, ◌≢◌, ℕ, ◌+◌, Bool, true, false, List, ◌∷◌, [], ◌++◌, None, sym, ap, subst, ◌∙◌, arith}
+use Rattle.std.proofs.Common.{◌≡◌, ◌≢◌, ℕ, Bool, true, false, List, ◌∷◌, [], ◌++◌, None, sym, ap, subst, ◌∙◌, arith}
 use Rattle.cb_frames.specs.Fields.{CastFields}
 use Rattle.cb_stability.specs.Sent.{Sent, Puts}
 use Rattle.cb_history.specs.Group.{Identity}

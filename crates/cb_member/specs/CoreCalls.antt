@@ -1,5 +1,5 @@
 -- What a core answers to its calls, whatever history it stands for.
-use Rattle.std.specs.Prelude.{◌≡◌, ℕ, Bool, true, List, [], ◌∷◌, ◌++◌, length, map, drop, Option, Some, is_some, option_map, Result, Ok, Err, IfOk, IfErr, OnErr, OnOk}
+use Rattle.std.specs.Prelude.{◌≡◌, ℕ, Bool, true, List, [], ◌∷◌, ◌++◌, length, map, drop, Option, Some, is_some, option_map, Result, Ok, Err, IfOk, IfErr, OnErr}
 use Rattle.cb_frames.specs.Fields.{CastFrame, cast_fields}
 use Rattle.cb_frames.specs.Laws.{IsBytes}
 use Rattle.cb_frames.specs.Reading.{frame_at, HasValue}
@@ -14,7 +14,7 @@ use Rattle.cb_history.specs.declared.answer.Ticked.{Ticked}
 use Rattle.cb_history.specs.declared.answer.TickRefusal.{TickRefusal}
 use Rattle.cb_history.specs.declared.history.Entry.{Entry}
 use Rattle.cb_history.specs.Facts.{entry_fields}
-use Rattle.cb_history.specs.Legal.{Call, ToCast, ToTake, ToTick}
+use Rattle.cb_history.specs.Legal.{ToCast, ToTake, ToTick}
 use Rattle.cb_history.specs.State.{MemberState, HasCast, HasTicked, RefusesArrival, RefusesTick, answer_to_arrival, answer_to_cast, entry_by, facts_in, next_in, state_after}
 use Rattle.cb_member.specs.declared.core_member.arriving.Coming.{Coming}
 use Rattle.cb_member.specs.declared.core_member.arriving.Heard.{Heard}

@@ -1,5 +1,5 @@
 -- A member that keeps no history: what it knows, which histories it stands for, and what a call makes of that.
-use Rattle.std.specs.Prelude.{◌≡◌, ℕ, Bool, List, map, refl}
+use Rattle.std.specs.Prelude.{◌≡◌, ℕ, Bool, List, refl}
 use Rattle.std.specs.Coded.{Coded, code_by, coded×, coded_bool, coded_list, coded_ℕ}
 use Rattle.std.specs.FinMap as fin
 use Rattle.cb_delay.specs.declared.message.Message.{Message}

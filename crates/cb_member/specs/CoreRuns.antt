@@ -11,7 +11,7 @@ use Rattle.cb_history.specs.declared.answer.Ticked.{Ticked}
 use Rattle.cb_history.specs.declared.answer.TickRefusal.{TickRefusal}
 use Rattle.cb_history.specs.Group.{Identity}
 use Rattle.cb_history.specs.Facts.{EntryFields}
-use Rattle.cb_history.specs.Legal.{Call, ToCast, ToTake, ToTick}
+use Rattle.cb_history.specs.Legal.{ToCast, ToTake, ToTick}
 use Rattle.cb_history.specs.State.{MemberState, HasCast, HasTicked, RefusesArrival, RefusesTick, state_after}
 use Rattle.cb_member.specs.declared.recorder.taken.Received.{Received}
 use Rattle.cb_member.specs.Casting.{RefusesExactly}

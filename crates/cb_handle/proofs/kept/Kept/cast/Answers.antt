@@ -1,7 +1,6 @@
-use Rattle.std.proofs.Common.{◌≡◌, ◌⊎◌, ◌∙◌, Bool, List, Option, Some, None, map, true, false, refl, sym, ap, subst, inl, inr}
-use Rattle.std.specs.Prelude.{option_map}
+use Rattle.std.proofs.Common.{◌∙◌, Some, map, true, false, refl}
 use Rattle.cb_history.specs.Facts.{entry_fields}
-use Rattle.cb_history.specs.Legal.{ToCast, ToTake, ToTick}
+use Rattle.cb_history.specs.Legal.{ToCast}
 use Rattle.cb_handle.specs.Kept.{KeptMember}
 use Rattle.cb_handle.proofs.Keeping.{entries_left, events_left, full_is}
 use Rattle.cb_handle.proofs.Forgetting.{Did, cast_kept, cast_lacks_memory, cast_refused_full, cast_refused_so, casts_so}

@@ -1,4 +1,3 @@
-use Rattle.std.proofs.Common.{ap}
 use Rattle.cb_handle.proofs.Keeping.{new_is_kept}
 use Rattle.cb_handle.proofs.kept.Kept.new.Goals as goal
 

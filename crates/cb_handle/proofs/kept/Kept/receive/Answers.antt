@@ -1,7 +1,7 @@
-use Rattle.std.proofs.Common.{◌≡◌, ◌⊎◌, ◌∙◌, Bool, List, Option, Some, None, map, true, false, refl, sym, ap, subst, inl, inr}
+use Rattle.std.proofs.Common.{◌≡◌, ◌⊎◌, ◌∙◌, None, map, true, false, refl, inl, inr}
 use Rattle.std.specs.Prelude.{option_map}
 use Rattle.cb_history.specs.Facts.{entry_fields}
-use Rattle.cb_history.specs.Legal.{ToCast, ToTake, ToTick}
+use Rattle.cb_history.specs.Legal.{ToTake}
 use Rattle.cb_handle.specs.Kept.{KeptMember}
 use Rattle.cb_handle.proofs.Keeping.{entries_left, events_left, full_is}
 use Rattle.cb_history.specs.State.{entry_by}

@@ -1,8 +1,5 @@
-use Rattle.std.proofs.Common.{refl, arith, sym, subst, ◌∷◌, ◌++◌, [], List, Ok}
+use Rattle.std.proofs.Common.{refl, arith}
 use Rattle.std.proofs.lemmas.Result.{err_from_is_err_and}
-use Rattle.cb_delay.specs.declared.message.Event.{Event}
-use Rattle.cb_delay.specs.declared.message.Event.TheVariants.{Cast}
-use Rattle.cb_member.specs.CoreCalls.{AnswersCastInto}
 use Rattle.cb_member.specs.CoreMember.{core_of}
 use Rattle.cb_member.proofs.Cores.{is_state, same_but_block}
 use Rattle.cb_member.proofs.CoreCalls.{can_keep, joins_cast, no_memory, refused_payload, refuses_cast_into}

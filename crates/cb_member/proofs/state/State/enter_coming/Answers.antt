@@ -1,4 +1,4 @@
-use Rattle.std.proofs.Common.{◌≡◌, ◌≤◌, ◌+◌, ◌-◌, ◌∙◌, ℕ, true, List, ◌++◌, length, map, drop, take, Some, refl, sym, ap, arith}
+use Rattle.std.proofs.Common.{◌≡◌, ◌-◌, ◌∙◌, ℕ, true, List, length, map, drop, take, Some, ap}
 use Rattle.std.specs.Prelude.{option_map}
 use Rattle.cb_delay.specs.declared.message.Event.{Event}
 use Rattle.cb_history.specs.declared.answer.Outgoing.{Outgoing}

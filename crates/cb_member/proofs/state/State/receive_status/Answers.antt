@@ -1,7 +1,7 @@
-use Rattle.std.proofs.Common.{◌≡◌, ◌∙◌, List, true, false, [], Some, Ok, refl, ap, subst, rules, tests}
+use Rattle.std.proofs.Common.{◌≡◌, ◌∙◌, true, false, [], Some, Ok, refl, ap, subst, rules, tests}
 use Rattle.std.specs.Prelude.{option_map}
 use Rattle.cb_frames.specs.Fields.{status_fields, StatusFrame}
-use Rattle.cb_history.specs.Answers.{Accepted, ArrivalSays}
+use Rattle.cb_history.specs.Answers.{Accepted}
 use Rattle.cb_history.specs.Facts.{ArriveEntry, EntryFields, entry_fields}
 use Rattle.cb_member.specs.declared.arrival.status.Judged.{Judged}
 use Rattle.cb_member.specs.declared.core_member.arriving.Heard.{Heard}

@@ -1,9 +1,8 @@
-use Rattle.std.proofs.Common.{◌≡◌, ◌∙◌, false, [], None, Result, Ok, refl, ap, subst}
+use Rattle.std.proofs.Common.{◌∙◌, false, [], Result, Ok, refl, ap, subst}
 use Rattle.cb_frames.specs.declared.fault.FrameFault.{FrameFault}
 use Rattle.cb_frames.specs.declared.frame.Frame.{Frame}
-use Rattle.cb_frames.specs.Fields.{FrameFields, CastFrame, RequestFrame, StatusFrame, cast_fields, fields_of, request_fields, status_fields}
+use Rattle.cb_frames.specs.Fields.{FrameFields, CastFrame, StatusFrame, cast_fields, fields_of, request_fields, status_fields}
 use Rattle.cb_history.specs.Answers.{Accepted, Repeat}
-use Rattle.cb_history.proofs.ReadBack.{frame_numbered}
 use Rattle.cb_member.specs.declared.arrival.cast.Judged as casts
 use Rattle.cb_member.specs.declared.arrival.status.Judged as statuses
 use Rattle.cb_member.specs.Arriving.{JudgesCast}
