@@ -105,6 +105,11 @@ abbrev pub Answers : {X Y : Type 0} → (X → Y) → Result X FrameFault → Re
 Answers view (Ok x) read = read ≡ Ok (view x)
 Answers view (Err fault) read = read ≡ Err fault
 
+-- It answers a part of what reading gives.
+abbrev pub AnswersAs : {X Y : Type 0} → (X → Y → Type 0) → Result X FrameFault → Result Y FrameFault → Type 0
+AnswersAs {X} {Y} says (Ok x) read = (y : Y) × (read ≡ Ok y) × says x y
+AnswersAs says (Err fault) read = read ≡ Err fault
+
 -- Out of memory is answered only where there is something to read.
 abbrev pub HasValue : {Y : Type 0} → Result Y FrameFault → Type 0
 HasValue (Ok y) = Unit {0}

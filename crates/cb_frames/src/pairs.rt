@@ -1,28 +1,60 @@
 //! The lists of pairs in frames: changes, values and ranges. Each pair says a place by its distance from the least that is left.
 //!
-//! They are read into arrays of fixed size, so that a fault of the bytes is answered even out of memory.
+//! A fault of the bytes is answered even out of memory.
 
-ghost use Rattle.std.specs.Prelude.{◌≡◌, ◌≤◌, ◌-◌, ◌+◌, [], IfOk};
-ghost use Rattle.cb_frames.specs.Fault.{range_pairs};
-ghost use Rattle.cb_frames.specs.Reading.{Answers, pair_at, pairs_at};
-ghost use Rattle.cb_frames.specs.Parts.{pairs_but};
+ghost use Rattle.std.specs.Prelude.{◌≡◌, ◌≤◌, ◌-◌, ◌+◌, [], min, IfOk};
+ghost use Rattle.std.specs.Vec.{vec_capacity};
+ghost use Rattle.cb_frames.specs.Fault.{amount_rule, range_pairs};
+ghost use Rattle.cb_frames.specs.Reading.{Answers, AnswersAs, pair_at, pairs_at, unless};
+ghost use Rattle.cb_frames.specs.Parts.{ListsBefore, pairs_but};
 
 use crate::fault::FrameFault;
 use crate::frame::{Change, LAST_MEMBER, LAST_NUMBER, MOST_RANGES, Range};
 use crate::numbers::number;
 use arrayvec::ArrayVec;
+use std::alloc::Global;
 
 /// A list of changes or values is at most this long: their indices rise, and none is above 63.
-pub const MOST_CHANGES: usize = 64;
+const MOST_CHANGES: usize = 64;
 
-/// The next change, whose index is at least `least` and not `own`.
-#[tactic(auto, unfolding(crate::specs::Reading::pair_at))]
+/// The next change, whose index is at least `least` and not `own`. Most say both numbers in one byte each.
+#[tactic(auto, unfolding(crate::specs::Reading::pair_at, cb_varint::specs::Reading::number_at))]
 fn next_change(own: Option<u32>, least: u32, bytes: &[u8]) -> Result<(Change, &[u8]), FrameFault>
     ensures value { Answers (λ x. ((x.0.field, x.0.amount), x.1.now)) result
         (pair_at (pairs_but own) least bytes.now) }
     ensures index { IfOk result (λ x. (least ≤ x.0.field) × (x.0.field ≤ LAST_MEMBER)) }
 {
+    match bytes {
+        [gap, amount, rest @ ..] if *gap < 0x80 && *amount < 0x80 => {
+            let field = index_of(own, least, u32::from(*gap))?;
+            let amount = increment_of(u32::from(*amount))?;
+            Ok((Change { field, amount }, rest))
+        }
+        _ => any_change(own, least, bytes),
+    }
+}
+
+/// As `next_change`, for numbers of any length.
+#[inline(never)]
+#[tactic(auto, unfolding(crate::specs::Reading::pair_at))]
+fn any_change(own: Option<u32>, least: u32, bytes: &[u8]) -> Result<(Change, &[u8]), FrameFault>
+    ensures value { Answers (λ x. ((x.0.field, x.0.amount), x.1.now)) result
+        (pair_at (pairs_but own) least bytes.now) }
+    ensures index { IfOk result (λ x. (least ≤ x.0.field) × (x.0.field ≤ LAST_MEMBER)) }
+{
     let (gap, rest) = number(bytes)?;
+    let field = index_of(own, least, gap)?;
+    let (amount, rest) = number(rest)?;
+    let amount = increment_of(amount)?;
+    Ok((Change { field, amount }, rest))
+}
+
+/// The index that is so far from `least`, where it may stand.
+fn index_of(own: Option<u32>, least: u32, gap: u32) -> Result<u32, FrameFault>
+    ensures value { Answers (λ field. field) result
+        (unless ((pairs_but own).first least gap) (least + gap)) }
+    ensures within { IfOk result (λ field. (least ≤ field) × (field ≤ LAST_MEMBER)) }
+{
     let field = least.saturating_add(gap);
     if field > LAST_MEMBER {
         return Err(FrameFault::BadIndex);
@@ -30,24 +62,49 @@ fn next_change(own: Option<u32>, least: u32, bytes: &[u8]) -> Result<(Change, &[
     if own == Some(field) {
         return Err(FrameFault::OwnField);
     }
-    let (amount, rest) = number(rest)?;
-    if amount == 0 {
-        return Err(FrameFault::ZeroDifference);
-    }
-    Ok((Change { field, amount }, rest))
+    Ok(field)
 }
 
-/// The changes or values of a frame, before they are copied.
-pub type Changes = ArrayVec<Change, MOST_CHANGES>;
+fn increment_of(amount: u32) -> Result<u32, FrameFault>
+    ensures { Answers (λ n. n) result (unless (amount_rule amount) amount) }
+{
+    if amount == 0 {
+        Err(FrameFault::ZeroDifference)
+    } else {
+        Ok(amount)
+    }
+}
 
-/// Puts so many changes, or values where no field is `own`, into an empty list. What is behind them is answered.
-pub fn all_changes<'a>(
+/// So many changes, or values where no field is `own`, and what is behind them.
+///
+/// Out of memory there is no list of them. They are read all the same, since a fault of the bytes is answered first.
+pub fn all_changes(
+    alloc: Global,
+    own: Option<u32>,
+    count: u32,
+    bytes: &[u8],
+) -> Result<(Option<Vec<Change>>, &[u8]), FrameFault>
+    ensures { AnswersAs (λ x. ListsBefore (x.0, x.1.now)) result
+        (pairs_at (pairs_but own) count 0 bytes.now) }
+{
+    let most = MOST_CHANGES.min(count as usize);
+    let Ok(mut changes) = Vec::with_capacity(alloc, most) else {
+        let rest = pass_changes(own, count, bytes)?;
+        return Ok((None, rest));
+    };
+    let rest = list_changes(own, count, bytes, &mut changes)?;
+    Ok((Some(changes), rest))
+}
+
+/// Puts so many changes into an empty list that has room for them.
+fn list_changes<'a>(
     own: Option<u32>,
     count: u32,
     bytes: &'a [u8],
-    changes: &mut Changes,
+    changes: &mut Vec<Change>,
 ) -> Result<&'a [u8], FrameFault>
-    requires { changes.old.items ≡ [] }
+    requires empty { changes.old.items ≡ [] }
+    requires room { min MOST_CHANGES count ≤ vec_capacity changes.old }
     ensures { Answers (λ rest. (changes.new.items, rest.now)) result
         (pairs_at (pairs_but own) count 0 bytes.now) }
 {
@@ -55,7 +112,23 @@ pub fn all_changes<'a>(
     let mut rest = bytes;
     for _ in 0..count {
         let (change, after) = next_change(own, least, rest)?;
-        changes.push(change);
+        changes.push_reserved(change);
+        least = change.field + 1;
+        rest = after;
+    }
+    Ok(rest)
+}
+
+/// What is behind so many changes.
+#[inline(never)]
+fn pass_changes(own: Option<u32>, count: u32, bytes: &[u8]) -> Result<&[u8], FrameFault>
+    ensures { AnswersAs (λ rest read. rest.now ≡ read.1) result
+        (pairs_at (pairs_but own) count 0 bytes.now) }
+{
+    let mut least = 0;
+    let mut rest = bytes;
+    for _ in 0..count {
+        let (change, after) = next_change(own, least, rest)?;
         least = change.field + 1;
         rest = after;
     }

@@ -1,20 +1,20 @@
 //! Bytes to frames: from left to right, so that the first fault is the one that is answered.
 //!
-//! All is read before memory is asked for, so a fault of the bytes is answered even out of memory.
+//! A fault of the bytes is answered even out of memory.
 
 ghost use Rattle.std.specs.Prelude.{◌≡◌, ◌≤◌, ◌++◌, [], List, ℕ, IfErr, IfOk, MatchResult};
 ghost use Rattle.cb_frames.specs.declared.fault.FrameFault.{FrameFault as Fault};
-ghost use Rattle.cb_frames.specs.Fields.{FrameFields, fields_of, cast_fields, status_fields, request_fields};
+ghost use Rattle.cb_frames.specs.Fields.{CastFields, FrameFields, StatusFields, fields_of, cast_fields, status_fields, request_fields};
 ghost use Rattle.cb_frames.specs.Text.{IsText};
 ghost use Rattle.cb_frames.specs.Fault.{FirstFault};
-ghost use Rattle.cb_frames.specs.Reading.{Answers, Gives, payload_at, end_at, cast_at, status_at, request_at, frame_at};
+ghost use Rattle.cb_frames.specs.Reading.{Answers, AnswersAs, Gives, payload_at, end_at, cast_at, status_at, request_at, frame_at};
 ghost use Rattle.cb_frames.specs.Laws.{IsBytes, MayFail};
-ghost use Rattle.cb_frames.specs.Parts.{part_fields, status_parts_fields, request_parts_fields};
+ghost use Rattle.cb_frames.specs.Parts.{ArePartsOf, AreStatusParts, request_parts_fields};
 
 use crate::fault::FrameFault;
 use crate::frame::{Cast, Change, Frame, MOST_RANGES, Range, Request, Status};
 use crate::numbers::{count_of_ranges, member, message_number, number, payload_length};
-use crate::pairs::{Changes, all_changes, all_ranges};
+use crate::pairs::{all_changes, all_ranges};
 use arrayvec::ArrayVec;
 use bytes::Bytes;
 use std::alloc::Global;
@@ -28,20 +28,22 @@ pub const STATUS: u8 = 0x12;
 /// The first byte of a request.
 pub const REQUEST: u8 = 0x13;
 
-/// A cast frame that was read, before anything of it is copied.
+/// A cast frame that was read; out of memory without its changes.
 #[derive(Drop)]
 struct CastParts<'a> {
     group: u32,
     sender: u32,
     number: u32,
+    changes: Option<Vec<Change>>,
     payload: &'a [u8],
 }
 
-/// A status frame that was read.
+/// A status frame that was read; out of memory without its values.
 #[derive(Drop)]
 struct StatusParts {
     group: u32,
     sender: u32,
+    values: Option<Vec<Change>>,
 }
 
 /// A request that was read.
@@ -77,36 +79,39 @@ fn end(bytes: &[u8]) -> Result<(), FrameFault>
 }
 
 #[tactic(auto, unfolding(crate::specs::Reading::cast_at))]
-fn cast_parts<'a>(bytes: &'a [u8], changes: &mut Changes) -> Result<CastParts<'a>, FrameFault>
-    requires { changes.old.items ≡ [] }
-    ensures { Answers (part_fields changes.new.items) result (cast_at bytes.now) }
+fn cast_parts(alloc: Global, bytes: &[u8]) -> Result<CastParts<'_>, FrameFault>
+    ensures { AnswersAs ArePartsOf result (cast_at bytes.now) }
 {
     let (group, rest) = number(bytes)?;
     let (sender, rest) = member(rest)?;
     let (message, rest) = message_number(rest)?;
     let (count, rest) = number(rest)?;
-    let rest = all_changes(Some(sender), count, rest, changes)?;
+    let (changes, rest) = all_changes(alloc, Some(sender), count, rest)?;
     let (length, rest) = payload_length(rest)?;
     let payload = whole_payload(length, rest)?;
     Ok(CastParts {
         group,
         sender,
         number: message,
+        changes,
         payload,
     })
 }
 
 #[tactic(auto, unfolding(crate::specs::Reading::status_at))]
-fn status_parts(bytes: &[u8], values: &mut Changes) -> Result<StatusParts, FrameFault>
-    requires { values.old.items ≡ [] }
-    ensures { Answers (status_parts_fields values.new.items) result (status_at bytes.now) }
+fn status_parts(alloc: Global, bytes: &[u8]) -> Result<StatusParts, FrameFault>
+    ensures { AnswersAs AreStatusParts result (status_at bytes.now) }
 {
     let (group, rest) = number(bytes)?;
     let (sender, rest) = member(rest)?;
     let (count, rest) = number(rest)?;
-    let rest = all_changes(None, count, rest, values)?;
+    let (values, rest) = all_changes(alloc, None, count, rest)?;
     end(rest)?;
-    Ok(StatusParts { group, sender })
+    Ok(StatusParts {
+        group,
+        sender,
+        values,
+    })
 }
 
 #[tactic(auto, unfolding(crate::specs::Reading::request_at))]
@@ -127,37 +132,48 @@ fn request_parts(bytes: &[u8]) -> Result<RequestParts, FrameFault>
     })
 }
 
-/// Copies what was read. The payload is the end of the bytes that it was read from, and shares them by design.
-fn cast(
-    alloc: Global,
-    bytes: &Bytes,
-    parts: &CastParts<'_>,
-    changes: &[Change],
-) -> Result<Cast, FrameFault>
-    requires { (front : List ℕ) × (bytes.now ≡ front ++ parts.now.payload.now) }
-    ensures { MatchResult result (λ cast. cast_fields cast ≡ part_fields changes.now parts.now)
-        (λ fault. fault ≡ FrameFault.NoMemory) }
+/// The cast of these parts. The payload is the end of the bytes that it was read from, and shares them by design.
+fn cast(bytes: &Bytes, parts: CastParts<'_>) -> Result<Cast, FrameFault>
+    requires { (front : List ℕ) × (bytes.now ≡ front ++ parts.payload.now) }
+    ensures { (c : CastFields) → ArePartsOf parts.entry c → MatchResult result
+        (λ cast. cast_fields cast ≡ c) (λ fault. fault ≡ FrameFault.NoMemory) }
 {
-    let changes = Vec::from_slice(alloc, changes)?;
-    let payload = bytes.slice(bytes.len() - parts.payload.len()..)?;
-    Ok(Cast {
-        group: parts.group,
-        sender: parts.sender,
-        number: parts.number,
+    let CastParts {
+        group,
+        sender,
+        number,
         changes,
         payload,
+    } = parts;
+    let Some(changes) = changes else {
+        return Err(FrameFault::NoMemory);
+    };
+    Ok(Cast {
+        group,
+        sender,
+        number,
+        changes,
+        payload: bytes.slice(bytes.len() - payload.len()..)?,
     })
 }
 
-fn status(alloc: Global, parts: &StatusParts, values: &[Change]) -> Result<Status, FrameFault>
-    ensures { MatchResult result
-        (λ status. status_fields status ≡ status_parts_fields values.now parts.now)
-        (λ fault. fault ≡ FrameFault.NoMemory) }
+/// The status of these parts.
+fn status(parts: StatusParts) -> Result<Status, FrameFault>
+    ensures { (s : StatusFields) → AreStatusParts parts s → MatchResult result
+        (λ status. status_fields status ≡ s) (λ fault. fault ≡ FrameFault.NoMemory) }
 {
+    let StatusParts {
+        group,
+        sender,
+        values,
+    } = parts;
+    let Some(values) = values else {
+        return Err(FrameFault::NoMemory);
+    };
     Ok(Status {
-        group: parts.group,
-        sender: parts.sender,
-        values: Vec::from_slice(alloc, values)?,
+        group,
+        sender,
+        values,
     })
 }
 
@@ -190,16 +206,15 @@ fn frame(alloc: Global, bytes: &Bytes, text: &[u8]) -> Result<Frame, FrameFault>
     ensures exact { Gives fields_of result (frame_at bytes.now) }
     ensures bytes { IsBytes bytes.now }
 {
-    let mut changes = Changes::new();
     match text.split_first() {
         None => Err(FrameFault::Short),
         Some((&CAST, fields)) => {
-            let parts = cast_parts(fields, &mut changes)?;
-            Ok(Frame::Cast(cast(alloc, bytes, &parts, &changes)?))
+            let parts = cast_parts(alloc, fields)?;
+            Ok(Frame::Cast(cast(bytes, parts)?))
         }
         Some((&STATUS, fields)) => {
-            let parts = status_parts(fields, &mut changes)?;
-            Ok(Frame::Status(status(alloc, &parts, &changes)?))
+            let parts = status_parts(alloc, fields)?;
+            Ok(Frame::Status(status(parts)?))
         }
         Some((&REQUEST, fields)) => Ok(Frame::Request(read_request(alloc, fields)?)),
         Some(_) => Err(FrameFault::UnknownKind),

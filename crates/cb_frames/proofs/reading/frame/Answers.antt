@@ -14,4 +14,6 @@ returns-in_err-parts-in-Some-eq17-default-clause-exact c =
 pub cast-requires : goal.cast-requires
 cast-requires c =
     let a = c.in-Some-eq17-default in
-    cast_of_frame c.args.bytes.now a.field-0-0.now a.fields.now _ (sym c.requires ∙ a.ensures.cases.0) (rw (← c.requires) (λ i. omega (arith, c.type_inv.text i))) c.in_ok-parts-in-Some-eq17-default.ensures
+    let read = c.in_ok-parts-in-Some-eq17-default.ensures in
+    let end = cast_of_frame c.args.bytes.now a.field-0-0.now a.fields.now read.0 (sym c.requires ∙ a.ensures.cases.0) (rw (← c.requires) (λ i. omega (arith, c.type_inv.text i))) read.1 in
+    (end.0, rw (← read.2.payload) end.1)

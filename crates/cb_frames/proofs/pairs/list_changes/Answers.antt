@@ -3,13 +3,15 @@ use Rattle.std.proofs.lemmas.Result.{err_from_is_err_and}
 use Rattle.cb_frames.specs.Parts.{pairs_but}
 use Rattle.cb_frames.proofs.PairLoop.{starts, reads_one, ends, is_done}
 use Rattle.cb_frames.proofs.SaidPairs.{change_said, change_behind}
-use Rattle.cb_frames.proofs.pairs.all_changes.Goals as goal
+use Rattle.cb_frames.proofs.pairs.list_changes.Goals as goal
 
 pub loop-init : goal.loop-init
 loop-init c = record {
-  room = search rules;
+  few = search rules;
+  turns = search rules;
   below = omega arith;
-  read = rw c.requires (starts (pairs_but c.args.own) c.args.count 0 c.args.bytes.now);
+  room = c.requires.room;
+  read = rw c.requires.empty (starts (pairs_but c.args.own) c.args.count 0 c.args.bytes.now);
 }
 
 pub loop-preserved : goal.loop-preserved
@@ -17,9 +19,11 @@ loop-preserved c =
     let i = c.loop.invariant in
     let d = c.in_ok-change.change in
     let index = c.in_ok-change.ensures.index in record {
-      room = omega (arith, i.room, index.0, c.push.ensures.len);
+      few = omega (arith, i.few, index.0, c.push_reserved.ensures.len);
+      turns = omega (arith, i.turns, c.push_reserved.ensures.len);
       below = omega (arith, index.1);
-      read = rw c.push.ensures.items (reads_one (pairs_but c.args.own) c.args.count 0 c.args.bytes.now c.loop.changes.items c.loop.least c.loop.counter c.loop.rest.now c.in_ok-change.after.now d.field d.amount (d.field + 1) d c.loop-test.true c.in_ok-change.ensures.value (change_said c.args.own d) (change_behind c.args.own d.field d.amount) i.read);
+      room = rw c.push_reserved.ensures.capacity i.room;
+      read = rw c.push_reserved.ensures.items (reads_one (pairs_but c.args.own) c.args.count 0 c.args.bytes.now c.loop.changes.items c.loop.least c.loop.counter c.loop.rest.now c.in_ok-change.after.now d.field d.amount (d.field + 1) d c.loop-test.true c.in_ok-change.ensures.value (change_said c.args.own d) (change_behind c.args.own d.field d.amount) i.read);
     }
 
 pub returns-in_err-change : goal.returns-in_err-change

@@ -1,0 +1,29 @@
+use Rattle.std.proofs.Common.{◌+◌, ◌++◌, [], ◌∷◌, refl, arith}
+use Rattle.std.proofs.lemmas.Result.{err_from_is_err_and}
+use Rattle.cb_frames.specs.Parts.{pairs_but}
+use Rattle.cb_frames.proofs.PairLoop.{starts, reads_one, ends, is_done}
+use Rattle.cb_frames.proofs.SaidPairs.{change_said, change_behind}
+use Rattle.cb_frames.proofs.pairs.pass_changes.Goals as goal
+
+pub loop-init : goal.loop-init
+loop-init c = record {
+  below = omega arith;
+  read = ([], starts (pairs_but c.args.own) c.args.count 0 c.args.bytes.now);
+}
+
+pub loop-preserved : goal.loop-preserved
+loop-preserved c =
+    let i = c.loop.invariant in
+    let d = c.in_ok-change.change in
+    let index = c.in_ok-change.ensures.index in record {
+      below = omega (arith, index.1);
+      read = (i.read.0 ++ d ∷ [], reads_one (pairs_but c.args.own) c.args.count 0 c.args.bytes.now i.read.0 c.loop.least c.loop.counter c.loop.rest.now c.in_ok-change.after.now d.field d.amount (d.field + 1) d c.loop-test.true c.in_ok-change.ensures.value (change_said c.args.own d) (change_behind c.args.own d.field d.amount) i.read.1);
+    }
+
+pub returns-in_err-change : goal.returns-in_err-change
+returns-in_err-change c =
+    let p = err_from_is_err_and c.from_residual.result c.from_residual.ensures.1 in
+    rw (p.1, p.2) (ends (pairs_but c.args.own) c.args.count 0 c.args.bytes.now c.loop.invariant.read.0 c.loop.least c.loop.counter c.loop.rest.now _ c.loop-test.true c.in_err-change.ensures.value c.loop.invariant.read.1)
+
+pub returns : goal.returns
+returns c = (_, is_done _ _ _ _ _ _ _ _ c.loop-test.false c.loop.invariant.read.1, refl)
