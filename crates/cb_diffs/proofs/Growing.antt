@@ -7,7 +7,7 @@ use Rattle.cb_times.specs.Order.{field}
 use Rattle.cb_times.specs.Time.{IsTime}
 use Rattle.cb_frames.specs.declared.frame.Change.{Change}
 use Rattle.cb_frames.specs.Fields.{CastFields, first_number, growth_in, last_number}
-use Rattle.cb_frames.proofs.Carried.{carries_some, carries_no_more}
+use Rattle.cb_frames.proofs.Carried.{first_is_number, carries_some, carries_no_more}
 use Rattle.cb_diffs.specs.Expansion.{greatest, AreMembers, IsGrown, Expands, time_of, kept_time}
 
 -- what the loop knows after some changes
@@ -47,7 +47,7 @@ growing_goes_on old new changes i d value s lt at member v = record {
 pub growing_ends : (old new : List ℕ) (c : CastFields) (i : ℕ) → GrownSoFar old new c.changes i → length c.changes ≤ i → c.sender < length old → IsGrown old c (set new c.sender c.number)
 growing_ends old new c i s le member = record {
   size = length-set new c.sender c.number ∙ s.size;
-  own = get_or-set_same new c.sender c.number 0 (omega (arith, s.size));
+  own = get_or-set_same new c.sender c.number 0 (omega (arith, s.size)) ∙ sym (first_is_number c);
   others = λ k in_old ne. get_or-set_other new c.sender k c.number 0 ne ∙ s.each k in_old ∙ ap (λ (ds : List Change). min greatest (field old k + growth_in ds k)) (take_all i c.changes le);
 }
 
@@ -81,7 +81,7 @@ expands times c before given kept grown grown' members at_before next at_given g
     let k-there : IsGrown (time_of times c.sender) c grown' = subst (λ (t : List ℕ). IsGrown t c grown') kept_is k in
     record {
       members = members;
-      next = next ∙ ap (λ (t : List ℕ). field t c.sender + 1) before_is;
+      next = first_is_number c ∙ next ∙ ap (λ (t : List ℕ). field t c.sender + 1) before_is;
       grown = g-there;
       kept = ap (set times c.sender) (grown_once (time_of times c.sender) grown' grown c k-there g-there ∙ sym (kept_is_given c grown g-there.own));
     }

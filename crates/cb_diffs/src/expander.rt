@@ -127,6 +127,7 @@ impl Expander {
         Ok(())
     }
 
+    #[tactic(auto, using(cb_frames::proofs::Carried::first_is_number))]
     fn check_next(&self, cast: &Cast) -> Result<(), ExpandFault>
         ensures ok { OnOk result (IsNext self.now (cast_fields cast.now)) }
         ensures bad_member { (result ≡ Err ExpandFault.BadMember)

@@ -2,19 +2,38 @@
 use Rattle.std.proofs.Common.{◌≡◌, ℕ, ◌+◌, ◌<◌, ◌≤◌, List, [], ◌∷◌, length, refl, sym, ap, ◌∙◌, arith, inl, inr, ◌⊎◌}
 use Rattle.std.proofs.lemmas.Bool.{cases_eq}
 use Rattle.cb_frames.specs.Fields.{CastFields, Carried, messages_of, first_number, last_number}
-use Rattle.cb_frames.specs.Carrying.{AreNumberedFrom, CarriedInOrder, CarriedUpToTheLast, CarriesSome, CarriesNoMore}
+use Rattle.cb_frames.specs.Carrying.{AreNumberedFrom, FirstIsTheNumber, CarriedInOrder, CarriedUpToTheLast, CarriesSome, CarriesNoMore}
+
+pub first_is_number : FirstIsTheNumber
+unfolding first_number
+first_is_number c = refl
 
 pub carried_in_order : CarriedInOrder
+unfolding messages_of first_number
 carried_in_order c = (refl, refl, tt)
 
 pub carried_up_to_the_last : CarriedUpToTheLast
+unfolding messages_of first_number last_number
 carried_up_to_the_last c = omega arith
 
 pub carries_some : CarriesSome
+unfolding first_number last_number
 carries_some c = omega arith
 
 pub carries_no_more : CarriesNoMore
+unfolding first_number last_number
 carries_no_more c = omega arith
+
+-- the one message that a cast carries, and its number, which is the last one too
+pub carries_one : (c : CastFields) → messages_of c ≡ record { sender = c.sender; number = c.number; payload = c.payload } ∷ []
+unfolding messages_of
+carries_one c = refl
+
+pub last_is_number : (c : CastFields) → last_number c ≡ c.number
+last_is_number c = omega (arith, carries_some c, carries_no_more c, first_is_number c)
+
+pub last_is_first : (c : CastFields) → last_number c ≡ first_number c
+last_is_first c = omega (arith, carries_some c, carries_no_more c)
 
 -- ---- messages that are numbered one after another
 

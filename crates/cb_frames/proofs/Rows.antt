@@ -20,9 +20,11 @@ after_six = record { group = 300; sender = 2; number = 1; changes = record { fie
 
 -- it carries one message, numbered from 1 to 1
 carries_hi : messages_of hi ≡ record { sender = 0; number = 1; payload = 0x68 ∷ 0x69 ∷ [] } ∷ []
+unfolding messages_of
 carries_hi = refl
 
 numbers_hi : AreNumberedFrom 0 1 (messages_of hi)
+unfolding messages_of
 numbers_hi = (refl, refl, tt)
 
 -- messages of member 2 that are numbered from 5 on, and the same ones in the wrong order
@@ -33,9 +35,11 @@ not_in_order : AreNumberedFrom 2 5 (record { sender = 2; number = 6; payload = [
 not_in_order row = let first = row.1 in absurd cc
 
 begins_at_one : first_number hi ≡ 1
+unfolding first_number
 begins_at_one = refl
 
 ends_at_one : last_number hi ≡ 1
+unfolding last_number
 ends_at_one = refl
 
 reads_hi : frame_at (0x11 ∷ 7 ∷ 0 ∷ 1 ∷ 0 ∷ 2 ∷ 0x68 ∷ 0x69 ∷ []) ≡ Ok (CastFrame hi)

@@ -11,6 +11,10 @@ AreNumberedFrom sender n (m ∷ ms) = (m.sender ≡ sender) × (m.number ≡ n) 
 abbrev pub CarriedInOrder : Type 0
 CarriedInOrder = (c : CastFields) → AreNumberedFrom c.sender (first_number c) (messages_of c)
 
+-- the first number is the one that the frame says
+abbrev pub FirstIsTheNumber : Type 0
+FirstIsTheNumber = (c : CastFields) → first_number c ≡ c.number
+
 -- up to its last number
 abbrev pub CarriedUpToTheLast : Type 0
 CarriedUpToTheLast = (c : CastFields) → length (messages_of c) + first_number c ≡ last_number c + 1

@@ -54,14 +54,14 @@ pub record Carried : Type 0 where
   pub payload : List ℕ
 
 -- the messages of a cast frame, in the order of their numbers
-abbrev pub messages_of : CastFields → List Carried
+unfoldable pub messages_of : CastFields → List Carried
 messages_of c = record { sender = c.sender; number = c.number; payload = c.payload } ∷ []
 
 -- the numbers of its first and of its last message
-abbrev pub first_number : CastFields → ℕ
+unfoldable pub first_number : CastFields → ℕ
 first_number c = c.number
 
-abbrev pub last_number : CastFields → ℕ
+unfoldable pub last_number : CastFields → ℕ
 last_number c = c.number
 
 -- by how much the changes say that field k has grown

@@ -3,7 +3,7 @@ use Rattle.std.proofs.Common.{◌≡◌, ℕ, ◌<◌, ◌≤◌, Bool, true, fa
 use Rattle.std.specs.Ordering.{nat_cmp, eq_by_cmp}
 use Rattle.std.specs.FinMap as fin
 use Rattle.std.proofs.lemmas.Bool.{cases_lt}
-use Rattle.cb_frames.specs.Fields.{CastFields, first_number}
+use Rattle.cb_frames.specs.Fields.{CastFields, first_number, last_number}
 use Rattle.cb_gaps.specs.declared.buffer.Admission.{Admission}
 use Rattle.cb_gaps.specs.declared.buffer.Admission.TheVariants.{Kept, Repeat, TooFar}
 use Rattle.cb_gaps.specs.Buffer.{Buffer, Covers, IsKept, IsReceived, IsKeptWith, IsLacking, Admits, ComeOut, WouldComeOut}
@@ -21,13 +21,16 @@ has : (number : ℕ) → fin.get waits.kept number ≡ cond (eq_by_cmp nat_cmp n
 has number = fin.get-from_sorted nat_cmp ((4, four) ∷ (5, five) ∷ []) number tt
 
 keeps_four : IsKept waits 4
+unfolding first_number last_number
 keeps_four = record { cast = four; kept = has 4; covers = (omega arith, omega arith) }
 
 keeps_five : IsKept waits 5
+unfolding first_number last_number
 keeps_five = record { cast = five; kept = has 5; covers = (omega arith, omega arith) }
 
 -- and no other number
 which : (a b : Bool) (cast : CastFields) (number : ℕ) → cond a (Some four) (cond b (Some five) None) ≡ Some cast → Covers cast number → (number ≡ 4) ⊎ (number ≡ 5)
+unfolding first_number last_number
 which true b cast number is covers =
     let same : cast ≡ four = cc in
     let at : Covers four number = subst (λ (c : CastFields). Covers c number) same covers in

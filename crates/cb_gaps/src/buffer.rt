@@ -272,6 +272,7 @@ fn with_next(end: u32, number: u32) -> u32
 }
 
 // the numbers above `taken`, up to `last`, that are not kept
+#[tactic(auto, using(cb_frames::proofs::Carried::first_is_number, cb_frames::proofs::Carried::last_is_number))]
 fn gaps(alloc: Global, kept: &VecDeque<Cast>, taken: u32, last: u32) -> Result<Vec<Range>, NoMemory>
     requires { Rise taken kept.now.items }
     ensures { IfOk result (λ ranges. AreRangesOf (IsGap taken last kept.now.items) ranges.items) }

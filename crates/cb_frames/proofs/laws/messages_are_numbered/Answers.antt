@@ -1,5 +1,8 @@
-use Rattle.cb_frames.proofs.Carried.{carried_in_order, carried_up_to_the_last, carries_some, carries_no_more}
+use Rattle.cb_frames.proofs.Carried.{first_is_number, carried_in_order, carried_up_to_the_last, carries_some, carries_no_more}
 use Rattle.cb_frames.proofs.laws.messages_are_numbered.Goals as goal
+
+pub returns-clause-number : goal.returns-clause-number
+returns-clause-number c = first_is_number
 
 pub returns-clause-order : goal.returns-clause-order
 returns-clause-order c = carried_in_order

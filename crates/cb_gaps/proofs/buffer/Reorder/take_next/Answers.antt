@@ -1,5 +1,7 @@
 use Rattle.std.proofs.Common.{◌≡◌, ◌+◌, ◌^◌, ◌≤◌, length, arith, refl, inl, inr, sym, ◌∙◌}
 use Rattle.std.proofs.lemmas.Bool.{cases_lt}
+use Rattle.cb_frames.specs.Fields.{cast_fields}
+use Rattle.cb_frames.proofs.Carried.{first_is_number}
 use Rattle.cb_gaps.proofs.Kept.{none_beyond, next-empty, next-later, pop_keeps, pop_next, pop_taken}
 use Rattle.cb_gaps.proofs.buffer.Reorder.take_next.Goals as goal
 
@@ -25,13 +27,13 @@ returns-then-branch-next-clause-none c =
     (next-later c.self.inside.window c.self.inside.taken c.self.inside.kept.items c.in_ok-front.field-0.now c.self.invariant.0
     (omega (arith, c.in_ok-front.ensures.variant.0 refl, c.self.inside.kept.ok.0))
     c.in_ok-front.ensures.lookup
-    (λ e. c.if-branch-next.true (e ∙ sym c.in_ok-next.ensures.1)))
+    (λ e. c.if-branch-next.true (sym (first_is_number (cast_fields c.in_ok-front.field-0.now)) ∙ e ∙ sym c.in_ok-next.ensures.1)))
 
 pub invariant_of-self : goal.invariant_of-self
 invariant_of-self c =
     rw c.in_ok-next.ensures.1 (
       pop_keeps c.self.inside.window c.self.inside.taken c.self.inside.kept.items c.pop_front.new.self.items c.in_ok-front.field-0.now
-          c.self.invariant.0 c.in_ok-front.ensures.lookup (c.if-branch-next.false ∙ c.in_ok-next.ensures.1)
+          c.self.invariant.0 c.in_ok-front.ensures.lookup (first_is_number (cast_fields c.in_ok-front.field-0.now) ∙ c.if-branch-next.false ∙ c.in_ok-next.ensures.1)
           c.pop_front.result (c.pop_front.ensures.variant.1 (c.in_ok-front.ensures.variant.0 refl)) c.pop_front.ensures.items,
       omega (arith, c.pop_front.ensures.capacity, c.self.invariant.1),
     )
@@ -40,12 +42,12 @@ pub returns-clause-next : goal.returns-clause-next
 returns-clause-next c =
     rw (← c.self.view_is)
     (pop_next c.self.inside.window c.self.inside.taken c.self.inside.kept.items c.pop_front.new.self.items c.in_ok-front.field-0.now
-    c.self.invariant.0 c.in_ok-front.ensures.lookup (c.if-branch-next.false ∙ c.in_ok-next.ensures.1)
+    c.self.invariant.0 c.in_ok-front.ensures.lookup (first_is_number (cast_fields c.in_ok-front.field-0.now) ∙ c.if-branch-next.false ∙ c.in_ok-next.ensures.1)
     c.pop_front.result c.pop_front.ensures.items)
 
 pub returns-clause-taken : goal.returns-clause-taken
 returns-clause-taken c =
     rw (← c.self.view_is, c.in_ok-next.ensures.1)
     (pop_taken c.self.inside.window c.self.inside.taken c.self.inside.kept.items c.pop_front.new.self.items c.in_ok-front.field-0.now
-    c.self.invariant.0 c.in_ok-front.ensures.lookup (c.if-branch-next.false ∙ c.in_ok-next.ensures.1)
+    c.self.invariant.0 c.in_ok-front.ensures.lookup (first_is_number (cast_fields c.in_ok-front.field-0.now) ∙ c.if-branch-next.false ∙ c.in_ok-next.ensures.1)
     c.pop_front.result c.pop_front.ensures.items)
