@@ -89,10 +89,13 @@ impl Index {
             → self.new.looked ≡ self.old.looked }
         ensures counts { self.old.looked ≤ self.new.looked }
     {
-        if self.stale == 0 && self.last.as_slice() == now.as_slice() {
+        let is_there = self.last.as_slice() == now.as_slice();
+        if is_there && self.stale == 0 {
             return;
         }
-        self.go_to(now);
+        if !is_there {
+            self.go_to(now);
+        }
         self.place_the_stale(lists);
     }
 
@@ -111,6 +114,19 @@ impl Index {
         };
         self.ready == 0
             && walk_over(self.waiting[member as usize], &self.places, member, count).reached == 0
+    }
+
+    /// Makes its time that at which one message more of this member is delivered.
+    pub fn go_one_further(&mut self, member: u32)
+        requires member { member < length self.old.last }
+        requires shape { HasShape (length self.old.last) self.old }
+        ensures shape { HasShape (length self.old.last) self.new }
+        ensures placed { (lists : List (List Message)) → Tells lists self.old → Tells lists self.new }
+        ensures looked { self.new.looked ≡ self.old.looked }
+    {
+        if let Some(count) = self.last.get(member).checked_add(1) {
+            self.grow(member, count);
+        }
     }
 
     /// Makes this the time of the index.
@@ -258,25 +274,25 @@ fn same_eights(before: &[u32], now: &[u32], first: usize) -> usize
     ensures same { (k : ℕ) → first ≤ k → k < result → field before.now k ≡ field now.now k }
 {
     let mut k = first;
-    while k + EIGHT <= now.len() && count_differing(before, now, k) == 0 {
+    while k + EIGHT <= now.len() && are_same_eight(before, now, k) {
         k += EIGHT;
     }
     k
 }
 
-/// In how many of the eight fields from `first` on the two differ. It looks at all, so that the compiler takes several at once.
-fn count_differing(before: &[u32], now: &[u32], first: usize) -> u32
+/// Whether the two are the same in the eight fields from `first` on. It looks at all, so that the compiler takes several at once.
+fn are_same_eight(before: &[u32], now: &[u32], first: usize) -> bool
     requires size { length before.now ≡ length now.now }
     requires within { first + 8 ≤ length now.now }
     requires few { length now.now ≤ 64 }
-    ensures { result ≡ 0 → (k : ℕ) → first ≤ k → k < first + 8 → field before.now k ≡ field now.now k }
+    ensures { result ≡ true → (k : ℕ) → first ≤ k → k < first + 8 → field before.now k ≡ field now.now k }
 {
-    let mut differing = 0;
+    let mut same = true;
     for j in 0..EIGHT {
         let k = first + j;
-        differing += u32::from(before[k] != now[k]);
+        same &= before[k] == now[k];
     }
-    differing
+    same
 }
 
 /// Whom a walk over those who wait for one member found.

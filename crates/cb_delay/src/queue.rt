@@ -157,6 +157,18 @@ impl DelayQueue {
         self.index.none_goes_with(sender)
     }
 
+    /// Hears that one more message of this sender is delivered, so that the next answer, at the time with it, finds less to do.
+    ///
+    /// Answers are the same without it. What is held stays.
+    pub fn hear_delivered(&mut self, sender: u32)
+        requires sender { sender < self.old.size }
+        ensures same { Holds self.old self.new self.old.held }
+        ensures queue { IsDelayQueue self.old }
+        ensures looked { self.new.looked ≡ self.old.looked }
+    {
+        self.index.go_one_further(sender);
+    }
+
     /// Takes out the message of this sender with the smallest number, where one is held.
     pub fn release(&mut self, sender: u32) -> Option<Message>
         ensures first { IfSome result (IsFirst self.old sender) }
