@@ -1,12 +1,13 @@
 -- A reorder buffer holds what waits.
-use Rattle.std.proofs.Common.{◌≡◌, ◌≢◌, ℕ, ◌+◌, ◌≤◌, true, false, cond, ◌&&◌, eqb, List, [], ◌∷◌, ◌++◌, Some, None, refl, sym, ap, subst, ◌∙◌, arith, inl, inr, ◌⊎◌, ◌↔◌}
+use Rattle.std.proofs.Common.{◌≡◌, ◌≢◌, ℕ, ◌+◌, ◌≤◌, true, false, cond, List, [], ◌∷◌, ◌++◌, Some, None, refl, sym, ap, subst, ◌∙◌, arith, inl, inr, ◌⊎◌, ◌↔◌}
 use Rattle.std.specs.Prelude.{Option}
 use Rattle.std.specs.Ordering.{nat_cmp, eq_by_cmp}
 use Rattle.std.specs.Cmp.{nat_cmp_total}
 use Rattle.std.specs.FinMap as map
-use Rattle.std.proofs.lemmas.Bool.{cases_eq, cases_lt, eq-eqb, eqb-true, or_cases, and_parts, false_from_ne_true, both_ways}
+use Rattle.std.proofs.lemmas.Bool.{cases_eq, cases_lt, false_from_ne_true, both_ways}
 use Rattle.cb_times.proofs.Entries.{equal_numbers, other_numbers}
 use Rattle.cb_frames.specs.Fields.{CastFields, first_number, last_number}
+use Rattle.cb_frames.proofs.Carried.{carried_is_of_cast, each_number_is_carried}
 use Rattle.cb_gaps.specs.Buffer.{Buffer, Covers, IsKept, IsLacking, IsNext}
 use Rattle.cb_gaps.proofs.OneList.{one_list}
 use Rattle.cb_gaps.proofs.Spans.{one_message, covers_first}
@@ -14,11 +15,11 @@ use Rattle.cb_history.specs.Facts.{casts_in, is_there}
 use Rattle.cb_history.specs.Known.{expanded_count, missing, ranges_of}
 use Rattle.cb_history.specs.GapLaws.{IsMissing}
 use Rattle.cb_history.specs.BufferLaws.{IsCastOf, IsWaiting, HoldsWhatWaits, NewBufferHolds, KeptCastWaits, OthersDoNotWait, TakenCastIsThere, AllIsTaken, ReceivedIsThere, MissingIsLacked, RangesAreAskedFor}
-use Rattle.cb_history.proofs.Views.{IsIn, or_left, or_right}
-use Rattle.cb_history.proofs.Lists.{in_push, in_front, in_back}
+use Rattle.cb_history.proofs.Views.{IsIn}
+use Rattle.cb_history.proofs.Lists.{in_push, in_front, in_back, carried_there, carrier}
 use Rattle.cb_history.proofs.Gaps.{ranges_of_missing}
 use Rattle.cb_history.proofs.GapsLater.{lacking_is_above}
-use Rattle.cb_history.proofs.Runs.{expanded_are_there, run_at_most, run_is_expanded, others_expand_nothing, count_rises}
+use Rattle.cb_history.proofs.Runs.{message_there, message_is_there, expanded_are_there, run_at_most, run_is_expanded, others_expand_nothing, count_rises}
 
 -- ---- casts that are there
 
@@ -36,27 +37,26 @@ pub record HasCast (casts : List CastFields) (i n : ℕ) : Type 0 where
   pub cast : CastFields
   pub there : IsIn cast casts
   pub sender_is : cast.sender ≡ i
-  pub number_is : cast.number ≡ n
+  pub number_is : first_number cast ≡ n
 
 pub cast_there : (casts : List CastFields) (i n : ℕ) → is_there casts i n ≡ true → HasCast casts i n
-cast_there [] i n h = absurd cc
-cast_there (c ∷ casts) i n h = elim (or_cases (eqb c.sender i && eqb c.number n) (is_there casts i n) h) [
-  | inl here ↦ let both = and_parts (eqb c.sender i) (eqb c.number n) here in record { cast = c; there = inl refl; sender_is = eqb-true c.sender i both.0; number_is = eqb-true c.number n both.1 }
-  | inr later ↦ let found = cast_there casts i n later in record { cast = found.cast; there = inr found.there; sender_is = found.sender_is; number_is = found.number_is }
-]
+cast_there casts i n h =
+    let m = message_there casts i n h in
+    let c = carrier casts m.found m.there in
+    let of = carried_is_of_cast c.0 m.found c.2 in
+    let low = of.low in
+    let high = of.high in
+    let number = m.number_is in
+    record { cast = c.0; there = c.1; sender_is = sym of.sender_is ∙ m.sender_is; number_is = omega (arith, low, high, number, one_message c.0) }
 
-pub cast_is_there : (casts : List CastFields) (c : CastFields) (i n : ℕ) → IsIn c casts → c.sender ≡ i → c.number ≡ n → is_there casts i n ≡ true
-cast_is_there [] c i n there sender number = absurd there
-cast_is_there (d ∷ casts) c i n (inl same) sender number =
-    or_left (eqb d.sender i && eqb d.number n) (is_there casts i n)
-    (rw (eq-eqb d.sender i (ap (λ (x : CastFields). x.sender) (sym same) ∙ sender), eq-eqb d.number n (ap (λ (x : CastFields). x.number) (sym same) ∙ number)) refl)
-cast_is_there (d ∷ casts) c i n (inr later) sender number = or_right (eqb d.sender i && eqb d.number n) (is_there casts i n) (cast_is_there casts c i n later sender number)
-
--- a number that a cast covers, which has one message
+-- each number that a cast covers
 pub covered_is_there : (casts : List CastFields) (c : CastFields) (i n : ℕ) → IsIn c casts → c.sender ≡ i → Covers c n → is_there casts i n ≡ true
 covered_is_there casts c i n there sender covers =
-    let begins : first_number c ≡ n = omega (arith, covers.0, covers.1, one_message c) in
-    cast_is_there casts c i n there sender begins
+    let m = each_number_is_carried c n covers.0 covers.1 in
+    message_is_there casts m.found i n (carried_there casts c m.found there m.there) (m.sender_is ∙ sender) m.number_is
+
+pub cast_is_there : (casts : List CastFields) (c : CastFields) (i n : ℕ) → IsIn c casts → c.sender ≡ i → first_number c ≡ n → is_there casts i n ≡ true
+cast_is_there casts c i n there sender begins = covered_is_there casts c i n there sender (subst (Covers c) begins (covers_first c))
 
 waiting_is_there : (casts : List CastFields) (i taken key n : ℕ) (c : CastFields) → IsWaiting casts i taken key c → Covers c n → is_there casts i n ≡ true
 waiting_is_there casts i taken key n c w covers = covered_is_there casts c i n (cast_of_is_in c casts w.there) w.sender_is covers

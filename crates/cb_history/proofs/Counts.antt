@@ -6,7 +6,7 @@ use Rattle.std.proofs.lemmas.List.{append-nil}
 use Rattle.cb_frames.specs.declared.frame.TheConstants.{LAST_NUMBER}
 use Rattle.cb_frames.specs.declared.frame.Change.{Change}
 use Rattle.cb_frames.specs.Fields.{CastFields, FrameFields, CastFrame, StatusFrame, RequestFrame, Carried, first_number, last_number}
-use Rattle.cb_frames.proofs.Carried.{carries_no_more, carried_is_of_cast}
+use Rattle.cb_frames.proofs.Carried.{first_is_number, last_is_number, carries_no_more, carried_is_of_cast}
 use Rattle.cb_frames.specs.Text.{pairs_from}
 use Rattle.cb_frames.specs.Reading.{frame_at}
 use Rattle.cb_frames.specs.Laws.{IsBytes, CanBeWritten}
@@ -49,7 +49,7 @@ histories_leave_numbers seat facts few =
 
 pub own_casts_have_numbers : OwnCastsHaveNumbers
 own_casts_have_numbers seat facts c own =
-    let first : first_number c ≡ delivered seat facts seat.me + 1 = ap first_number own.next in
+    let first : first_number c ≡ delivered seat facts seat.me + 1 = first_is_number c ∙ ap (λ (x : CastFields). x.number) own.next in
     omega (arith, first, carries_no_more c, number_left seat facts own.window)
 
 -- ---- messages that are there
@@ -154,7 +154,7 @@ values_small least (d ∷ values) small k =
     either_small false x y p q = q
 
 written_numbers : (f : FrameFields) → CanBeWritten f → SaysNumbers f
-written_numbers (CastFrame c) can = omega (arith, can.2.1.1.0)
+written_numbers (CastFrame c) can = omega (arith, can.2.1.1.0, last_is_number c)
 written_numbers (StatusFrame s) can = values_small 0 s.values can.2.1.1.1
 written_numbers (RequestFrame r) can = tt
 

@@ -5,7 +5,7 @@ use Rattle.std.proofs.lemmas.List.{append-nil, map-append, drop_at}
 use Rattle.cb_times.specs.Order.{field}
 use Rattle.cb_frames.specs.Fields.{CastFields, CastFrame, Carried, messages_of, first_number, last_number}
 use Rattle.cb_frames.specs.Carrying.{AreNumberedFrom}
-use Rattle.cb_frames.proofs.Carried.{carried_in_order}
+use Rattle.cb_frames.proofs.Carried.{first_is_number, carried_in_order}
 use Rattle.cb_delay.specs.declared.message.Message.{Message}
 use Rattle.cb_delay.specs.declared.message.Event.{Event}
 use Rattle.cb_delay.specs.declared.message.Event.TheVariants.{Cast, Deliver}
@@ -179,7 +179,7 @@ own_cast_makes_ready seat facts c m are expanded not_ready ready = (between coun
     counted = count seen seat.me
 
     first : first_number c ≡ counted + 1
-    first = ap first_number (last_fact_is_a_step seat facts (OwnCast c) are).next
+    first = first_is_number c ∙ ap (λ (x : CastFields). x.number) (last_fact_is_a_step seat facts (OwnCast c) are).next
 
     sender : c.sender ≡ seat.me
     sender = ap (λ (x : CastFields). x.sender) (last_fact_is_a_step seat facts (OwnCast c) are).next

@@ -9,6 +9,7 @@ use Rattle.cb_frames.specs.declared.frame.TheConstants.{LAST_NUMBER, MOST_FRAMES
 use Rattle.cb_frames.specs.declared.frame.Range.{Range}
 use Rattle.cb_frames.specs.Fields.{CastFields, CastFrame, messages_of, first_number, last_number}
 use Rattle.cb_frames.specs.Text.{text_of}
+use Rattle.cb_frames.proofs.Carried.{first_is_number, last_is_number, carries_one, carries_some, carried_up_to_the_last}
 use Rattle.cb_stability.specs.Ranges.{is_in_some}
 use Rattle.cb_stability.specs.Sent.{Spanned, spanned, is_in_ranges, room_of}
 use Rattle.cb_stability.proofs.Found.{one_in_ranges}
@@ -21,9 +22,9 @@ use Rattle.cb_history.specs.Answers.{delivered, own_casts, window, is_own_cast, 
 use Rattle.cb_history.specs.LegalFacts.{AreFactsOf}
 use Rattle.cb_history.specs.StabilityLaws.{LeastKnownIsStable, spanned_frame, NoRoomIsFull, sent_to, FramesInAreSentInAnswer, PutIsOwnCast, TrimIsStable}
 use Rattle.cb_history.proofs.Views.{IsIn, filter_in, in_filter}
-use Rattle.cb_history.proofs.Lists.{count_own, length_messages}
+use Rattle.cb_history.proofs.Lists.{count_of_messages, length_messages}
 use Rattle.cb_history.proofs.Walks.{view_own, own_casts-own, own_casts-other, IsNotOwn}
-use Rattle.cb_history.proofs.Names.{all_stand, message}
+use Rattle.cb_history.proofs.Names.{all_stand}
 use Rattle.cb_history.proofs.Counts.{counts_are_numbers, number_left}
 use Rattle.cb_history.proofs.Prefixes.{prefix_of_facts_is_legal, last_fact_is_a_step}
 use Rattle.cb_history.proofs.Acknowledged.{acknowledged_is_delivered}
@@ -166,7 +167,8 @@ no_room_is_full seat facts sent are keeps = (free, some)
 -- ---- what is sent again
 
 asked_as_spans : (ranges : List Range) (c : CastFields) → is_asked_for ranges c ≡ is_in_ranges ranges (spanned_frame c)
-asked_as_spans ranges c = or-false (is_in_some ranges (first_number c)) ∙ sym (one_in_ranges ranges (first_number c) (text_of (CastFrame c)))
+asked_as_spans ranges c =
+    rw (carries_one c, first_is_number c, last_is_number c) (or-false (is_in_some ranges c.number) ∙ sym (one_in_ranges ranges c.number (text_of (CastFrame c))))
 
 spans_asked : (ranges : List Range) (casts : List CastFields) → map spanned_frame (filter (is_asked_for ranges) casts) ≡ filter (is_in_ranges ranges) (map spanned_frame casts)
 spans_asked ranges casts =
@@ -199,11 +201,13 @@ pub put_is_own_cast : PutIsOwnCast
 put_is_own_cast seat facts c sent after are keeps puts =
     record {
       width = puts.window ∙ keeps.width;
-      put = puts.now_put ∙ ap (λ (n : ℕ). n + 1) keeps.put ∙ sym (ap (λ (ms : _). count ms seat.me) (view_own seat.group.size facts c) ∙ count_own (view seat.group.size facts) (message c) seat.me sender);
+      put = puts.now_put ∙ ap (λ (n : ℕ). n + length (messages_of c)) keeps.put
+          ∙ sym (ap (λ (ms : _). count ms seat.me) (view_own seat.group.size facts c) ∙ count_of_messages (view seat.group.size facts) c seat.me sender);
       trimmed = puts.trimmed ∙ keeps.trimmed ∙ sym (others_same seat facts c are);
       kept = puts.now_kept
           ∙ ap (λ (frames : List Spanned). frames ++ spanned (sent.put + 1) (sent.put + length (messages_of c)) (text_of (CastFrame c)) ∷ []) keeps.kept
-          ∙ ap (λ (n : ℕ). map spanned_frame (window seat facts) ++ spanned n n (text_of (CastFrame c)) ∷ []) number
+          ∙ ap (λ (n : ℕ). map spanned_frame (window seat facts) ++ spanned n (sent.put + length (messages_of c)) (text_of (CastFrame c)) ∷ []) number
+          ∙ ap (λ (n : ℕ). map spanned_frame (window seat facts) ++ spanned (first_number c) n (text_of (CastFrame c)) ∷ []) last
           ∙ sym (ap (map spanned_frame) grown ∙ map-append spanned_frame (window seat facts) (c ∷ []));
     }
   where
@@ -219,15 +223,18 @@ put_is_own_cast seat facts c sent after are keeps puts =
     sender : c.sender ≡ seat.me
     sender = ap (λ (x : CastFields). x.sender) (last_fact_is_a_step seat facts (OwnCast c) are).next
 
-    number : sent.put + 1 ≡ c.number
-    number = ap (λ (n : ℕ). n + 1) keeps.put ∙ sym (ap (λ (x : CastFields). x.number) (last_fact_is_a_step seat facts (OwnCast c) are).next)
+    number : sent.put + 1 ≡ first_number c
+    number = ap (λ (n : ℕ). n + 1) keeps.put ∙ sym (first_is_number c ∙ ap (λ (x : CastFields). x.number) (last_fact_is_a_step seat facts (OwnCast c) are).next)
+
+    last : sent.put + length (messages_of c) ≡ last_number c
+    last = omega (arith, number, carried_up_to_the_last c)
 
     grown : window seat (facts ++ OwnCast c ∷ []) ≡ window seat facts ++ c ∷ []
     grown =
         ap (λ (n : ℕ). above n (own_casts (facts ++ OwnCast c ∷ []))) (others_same seat facts c are)
         ∙ ap (above s) (own_casts-own facts c)
         ∙ filter-append (λ c. ltb s (last_number c)) (own_casts facts) (c ∷ [])
-        ∙ ap (λ (b : Bool). window seat facts ++ cond b (c ∷ []) []) (lt-ltb s (last_number c) (let put = keeps.put in let at = number in let le = below in omega (arith, put, at, le)))
+        ∙ ap (λ (b : Bool). window seat facts ++ cond b (c ∷ []) []) (lt-ltb s (last_number c) (let put = keeps.put in let at = number in let le = below in omega (arith, put, at, le, carries_some c)))
 
 -- ---- trimmed after another fact
 

@@ -2,10 +2,10 @@
 use Rattle.std.proofs.Common.{◌≡◌, ◌≢◌, ℕ, suc, length, ◌+◌, ◌<◌, ◌≤◌, Bool, true, false, cond, ◌&&◌, ◌||◌, eqb, List, [], ◌∷◌, ◌++◌, refl, sym, ap, ◌∙◌, subst, append_assoc, arith, inl, inr, ◌⊎◌}
 use Rattle.std.specs.List.{flat_map, list_all}
 use Rattle.std.proofs.lemmas.Bool.{eqb-true, eq-eqb, ne_eqb, cases_eq, and_right}
-use Rattle.std.proofs.lemmas.List.{append-nil}
+use Rattle.std.proofs.lemmas.List.{append-nil, length-append}
 use Rattle.cb_frames.specs.Fields.{CastFields, Carried, messages_of, first_number, last_number}
 use Rattle.cb_frames.specs.Carrying.{AreNumberedFrom}
-use Rattle.cb_frames.proofs.Carried.{row_within, carried_in_order, carried_up_to_the_last}
+use Rattle.cb_frames.proofs.Carried.{row_within, carried_in_order, carried_up_to_the_last, carries_some, carries_no_more}
 use Rattle.cb_history.specs.Facts.{messages_in}
 use Rattle.cb_history.specs.View.{count, is_among}
 use Rattle.cb_history.specs.NameLaws.{InOrderAfter, NamesDiffer}
@@ -18,7 +18,7 @@ flat_map-append g [] ys = refl
 flat_map-append {A} {B} g (x ∷ xs) ys = ap (λ (zs : List B). g x ++ zs) (flat_map-append g xs ys) ∙ sym (append_assoc (g x) (flat_map g xs) (flat_map g ys))
 
 pub messages_in-push : (casts : List CastFields) (c : CastFields) → messages_in (casts ++ c ∷ []) ≡ messages_in casts ++ messages_of c
-messages_in-push casts c = flat_map-append messages_of casts (c ∷ [])
+messages_in-push casts c = flat_map-append messages_of casts (c ∷ []) ∙ ap (λ (ms : List Carried). messages_in casts ++ ms) (append-nil (messages_of c))
 
 pub in_append : {A : Type 0} (a : A) (xs ys : List A) → IsIn a (xs ++ ys) → IsIn a xs ⊎ IsIn a ys
 in_append a [] ys h = inr h
@@ -277,4 +277,4 @@ order_bound before (x ∷ ms) m order (inr later) =
 -- the messages of the casts are as many as the casts, as long as each cast has one
 pub length_messages : (casts : List CastFields) → length (messages_in casts) ≡ length casts
 length_messages [] = refl
-length_messages (c ∷ casts) = ap (λ (n : ℕ). suc n) (length_messages casts)
+length_messages (c ∷ casts) = omega (arith, length-append (messages_of c) (messages_in casts), carried_up_to_the_last c, carries_some c, carries_no_more c, length_messages casts)

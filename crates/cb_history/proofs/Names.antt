@@ -4,7 +4,7 @@ use Rattle.std.specs.List.{list_all}
 use Rattle.std.proofs.lemmas.Bool.{false_from_ne_true, eq-eqb, ltb-true, ltb-false}
 use Rattle.std.proofs.lemmas.List.{append-nil, length-append}
 use Rattle.cb_frames.specs.Fields.{CastFields, CastFrame, Carried, messages_of, first_number, last_number}
-use Rattle.cb_frames.proofs.Carried.{carried_up_to_the_last, carries_some, carried_is_of_cast, carried_alone, first_is_carried}
+use Rattle.cb_frames.proofs.Carried.{first_is_number, carried_up_to_the_last, carries_some, carried_is_of_cast, carried_alone, first_is_carried}
 use Rattle.cb_history.specs.Group.{Identity}
 use Rattle.cb_history.specs.Facts.{Fact, OwnCast, CastReceived, StatusReceived, OwnStatus, casts_in, messages_in, is_there}
 use Rattle.cb_history.specs.View.{count, is_among, next_delivery, drain, view}
@@ -180,7 +180,7 @@ status_stands seat casts casts' seen seen' own own' a b d s =
 step_stands : (seat : Identity) (facts : List Fact) (f : Fact) → seat.me < seat.group.size → IsStep seat facts f → StandsAt seat facts → StandsAt seat (facts ++ f ∷ [])
 step_stands seat facts (OwnCast c) member step s =
     status_stands seat (casts_in facts ++ c ∷ []) _ (view seat.group.size facts ++ messages_of c) _ (own_casts facts ++ c ∷ []) _ (casts_in-append facts (OwnCast c)) (view_own seat.group.size facts c) (own_casts-own facts c)
-    (own_stands seat (casts_in facts) (view seat.group.size facts) (own_casts facts) c member s (ap (λ (x : CastFields). x.sender) step.next) (ap first_number step.next))
+    (own_stands seat (casts_in facts) (view seat.group.size facts) (own_casts facts) c member s (ap (λ (x : CastFields). x.sender) step.next) (first_is_number c ∙ ap (λ (x : CastFields). x.number) step.next))
 step_stands seat facts (CastReceived c) member step s =
     status_stands seat (casts_in facts ++ c ∷ []) _ (drain seat.group.size (casts_in facts ++ c ∷ []) (view seat.group.size facts)) _ (own_casts facts) _ (casts_in-append facts (CastReceived c)) (view_received seat.group.size facts c) (own_casts-other facts (CastReceived c) tt)
     (received_stands seat (casts_in facts) (view seat.group.size facts) (own_casts facts) c s

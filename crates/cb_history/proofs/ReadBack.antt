@@ -12,6 +12,7 @@ use Rattle.cb_frames.specs.Text.{cast_kind, status_kind, request_kind, pairs_fro
 use Rattle.cb_frames.specs.Fault.{any_number, member_rule, message_rule, length_rule, Pairs, change_pairs, value_pairs}
 use Rattle.cb_frames.specs.Reading.{number_at, unless, field_at, pair_at, pairs_at, payload_at, cast_at, status_at, request_at, frame_at}
 use Rattle.cb_frames.specs.Laws.{CanBeWritten}
+use Rattle.cb_frames.proofs.Carried.{first_is_number}
 use Rattle.cb_frames.proofs.SaidPairs.{keeps_member, keeps_message, keeps_length, message_kept, Said, Says, says_changes, says_values}
 use Rattle.cb_frames.proofs.Fronts.{bind_cases}
 use Rattle.cb_history.proofs.Lists.{flat_map-append}
@@ -123,7 +124,7 @@ cast_numbered bytes c =
     (λ count e'. bind_cases (pairs_at (change_pairs sender.0) count.0 0 count.1) _ (λ (r : Result CastFields FrameFault). r ≡ Ok c → 1 ≤ first_number c)
     (λ changes e'. bind_cases (field_at (length_rule 0) changes.1) _ (λ (r : Result CastFields FrameFault). r ≡ Ok c → 1 ≤ first_number c)
     (λ size e'. bind_cases (payload_at size.0 size.1) _ (λ (r : Result CastFields FrameFault). r ≡ Ok c → 1 ≤ first_number c)
-    (λ payload e' h. let same : number.0 ≡ c.number = cc in subst (λ (n : ℕ). 1 ≤ n) same (number_kept sender.1 number e))
+    (λ payload e' h. let said : number.0 ≡ c.number = cc in let same : number.0 ≡ first_number c = said ∙ sym (first_is_number c) in subst (λ (n : ℕ). 1 ≤ n) same (number_kept sender.1 number e))
     (λ f e' h. absurd cc))
     (λ f e' h. absurd cc))
     (λ f e' h. absurd cc))
