@@ -1,16 +1,17 @@
 -- What several steps at once are.
 use Rattle.std.proofs.Common.{◌≡◌, ℕ, inl, inr, List, [], ◌∷◌, ◌++◌, map, refl, sym, ◌∙◌, ap, subst, append-nil, append_assoc}
 use Rattle.std.proofs.lemmas.Bool.{cases_eq}
+use Rattle.cb_times.specs.declared.name.Name.{Name}
 use Rattle.cb_delay.specs.declared.message.Message.{Message}
 use Rattle.cb_delay.specs.declared.message.Event.{Event}
 use Rattle.cb_delay.specs.declared.message.Event.TheVariants as stamped
 use Rattle.cb_causality.specs.CausalMachine.{Step, Casts, Delivers, Run, Then}
-use Rattle.cb_causality.specs.StampedMachine.{StampedLists, StampedStep, StampedRun, erased, without_times, next_message}
+use Rattle.cb_causality.specs.StampedMachine.{StampedLists, StampedStep, StampedRun, CastsStamped, IsTimeOfList, erased, without_times, next_message}
 use Rattle.cb_causality.specs.declared.event.CausalEvent.{CausalEvent}
 use Rattle.cb_causality.specs.declared.event.CausalEvent.TheVariants.{Cast, Deliver}
 use Rattle.cb_causality.specs.Events.{next_name}
 use Rattle.cb_causality.specs.HappenedBefore.{Lists}
-use Rattle.cb_causality.specs.Extension.{Extends, Still, Further, ExtendsRuns, ErasesToExtension, DelayRuleAllowsInTurn, DeliveriesInTurnExtend}
+use Rattle.cb_causality.specs.Extension.{Extends, Still, Further, ExtendsRuns, ErasesToExtension, DelayRuleAllowsInTurn, DeliveriesInTurnExtend, IsNextStamped, AreStampedInTurn, CastsInTurnExtend}
 use Rattle.cb_causality.specs.Lists.{Agree, Appends, AppendsAll}
 use Rattle.cb_causality.proofs.Agreement.{depends_on_lists_alone}
 use Rattle.cb_causality.proofs.Stamps.{IsStamped, erased_appends, allowed_may_deliver, run_stamped}
@@ -134,3 +135,37 @@ deliveries_extend size before after j (m ∷ ms) inside allowed all =
     allowed_later earlier later message split now delivered =
         allowed (m ∷ earlier) later message (ap (λ (l : List Message). m ∷ l) split) now
         (first_appended before middle now j (stamped.Deliver m) (map stamped.Deliver earlier) first delivered)
+
+-- one cast after the other
+pub casts_extend : (size : ℕ) → CastsInTurnExtend size
+casts_extend size before after i [] inside stamped_all all = Still after (none_appended before after i all)
+casts_extend size before after i (m ∷ ms) inside stamped_all all =
+    (stamped_extends_runs size).transitive before middle after
+    ((stamped_extends_runs size).one before middle (StampedStep.Casts i m.payload inside casts_first))
+    (casts_extend size middle after i ms inside stamped_later (rest_appended before middle after i (stamped.Cast m) (map stamped.Cast ms) first all))
+  where
+    middle : StampedLists
+    middle = grown before i (stamped.Cast m)
+
+    first : Appends before middle i (stamped.Cast m)
+    first = grown_appends before i (stamped.Cast m)
+
+    -- behind no other
+    next : IsNextStamped size i (before i) m
+    next = subst (λ (events : List Event). IsNextStamped size i events m) (append-nil (before i)) (stamped_all [] ms m refl)
+
+    same : m ≡ next_message i (before i) m.time m.payload
+    same = ap (λ (name : Name). record { name = name; time = m.time; payload = m.payload }) next.name
+
+    casts_first : CastsStamped size before middle i m.payload
+    casts_first = record {
+      time = m.time;
+      appends = subst (λ (message : Message). Appends before middle i (stamped.Cast message)) same first;
+      stamp = subst (IsTimeOfList size m.time) (sym first.own) next.stamp;
+    }
+
+    stamped_later : AreStampedInTurn size i (middle i) ms
+    stamped_later earlier later message split =
+        subst (λ (events : List Event). IsNextStamped size i events message)
+        (sym (append_assoc (before i) (stamped.Cast m ∷ []) (map stamped.Cast earlier)) ∙ ap (λ (events : List Event). events ++ map stamped.Cast earlier) (sym first.own))
+        (stamped_all (m ∷ earlier) later message (ap (λ (l : List Message). m ∷ l) split))

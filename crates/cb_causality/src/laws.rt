@@ -4,7 +4,7 @@
 
 ghost use Rattle.std.specs.Prelude.{ℕ};
 ghost use Rattle.cb_causality.specs.CausalMachine.{Run, Step};
-ghost use Rattle.cb_causality.specs.Extension.{DeliveriesInTurnExtend, ErasesToExtension, ExtendsRuns};
+ghost use Rattle.cb_causality.specs.Extension.{CastsInTurnExtend, DeliveriesInTurnExtend, ErasesToExtension, ExtendsRuns};
 ghost use Rattle.cb_causality.specs.Laws.{EachRun, EachStep, EachStampedRun, IsAcyclic, IsIrreflexive, IsTransitive, KeepsPaths, TimesTellOrder, TimesCountThePast, TimesHaveSize, IsInOrder, IsErasure, DelayRuleIsExact, DependsOnListsAlone, RelatesListsAlone, PastHasSmallerSum, OwnFieldIsNumber, OneNameOnePayload, OneNameOneMessage};
 ghost use Rattle.cb_causality.specs.Lists.{Appends};
 ghost use Rattle.cb_causality.specs.StampedMachine.{StampedRun, StampedStep, erased};
@@ -65,11 +65,13 @@ pub fn machines_know_the_lists_alone()
 /// What extends a stamped run, without the times, extends it by steps of the causal machine.
 ///
 /// Deliveries to one member extend the lists where the delay rule allows each once those before it are delivered: a drain is such.
+/// Casts of one member extend them where each is its next message, stamped with what its list has, once those before it are cast.
 pub fn runs_are_extended_by_several_steps()
     ensures causal { (size : ℕ) → ExtendsRuns (Run size) (Step size) }
     ensures stamped { (size : ℕ) → ExtendsRuns (StampedRun size) (StampedStep size) }
     ensures erased { (size : ℕ) → ErasesToExtension size }
     ensures in_turn { (size : ℕ) → DeliveriesInTurnExtend size }
+    ensures casts { (size : ℕ) → CastsInTurnExtend size }
 {}
 
 /// What happened before a message has a time with a smaller sum of fields, over the fields 0 to size - 1. So a proof of something of

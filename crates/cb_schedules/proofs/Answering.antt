@@ -24,9 +24,8 @@ use Rattle.cb_history.specs.Answers.{is_full, is_window_full, delivered, next_ca
 use Rattle.cb_history.specs.Legal.{Call, ToCast, ToTake, ToTick, cast_entry, arrive_entry, tick_entry, and_entry, history_after, AreEntriesOf}
 use Rattle.cb_history.specs.LegalFacts.{AreFactsOf}
 use Rattle.cb_history.proofs.Views.{IsIn, casts_in-append}
-use Rattle.cb_history.proofs.Lists.{in_back, in_push, messages_in-push}
+use Rattle.cb_history.proofs.Lists.{in_back, in_push, messages_in-push, each_of}
 use Rattle.cb_history.proofs.Walks.{own_casts-own, own_casts-other}
-use Rattle.cb_history.proofs.Names.{message}
 use Rattle.cb_history.proofs.Histories.{said_facts}
 use Rattle.cb_history.proofs.Calls.{calls_keep_entries}
 use Rattle.cb_history.proofs.Buffers.{cast_of_is_in, in_is_cast_of}
@@ -39,14 +38,14 @@ use Rattle.cb_schedules.specs.Consistent.{IsConsistent}
 use Rattle.cb_history.proofs.Counts.{number_left}
 use Rattle.cb_schedules.proofs.Sending.{cast_is_honest, status_is_honest, requests_are_honest, resent_are_honest, sent_is_honest}
 use Rattle.cb_schedules.proofs.Calling.{any-append, or_none, is_named, facts_push, after, own_now, IsGood, good, still_honest}
-use Rattle.cb_schedules.proofs.Lists.{all_weaken}
+use Rattle.cb_schedules.proofs.Lists.{all_weaken, any_in}
 
 -- with one more cast a message is there where it was, or is one of the cast's
 there_push_is : (cs : List CastFields) (c : CastFields) (m : Name) → is_there (cs ++ c ∷ []) m.sender m.number ≡ (is_there cs m.sender m.number || list_any (is_named m) (messages_of c))
 there_push_is cs c m = ap (list_any (is_named m)) (messages_in-push cs c) ∙ any-append (is_named m) (messages_in cs) (messages_of c)
 
 -- what is there already adds nothing
-absorbed : (b p : Bool) → (p ≡ true → b ≡ true) → (b || (p || false)) ≡ b
+absorbed : (b p : Bool) → (p ≡ true → b ≡ true) → (b || p) ≡ b
 absorbed true p h = refl
 absorbed false true h = sym (h refl)
 absorbed false false h = refl
@@ -188,11 +187,12 @@ module _ (setting : Setting) (is : IsSetting setting) (s : GroupState) (inv : Is
     again : (frame : FrameFields) → frame_at bytes ≡ Ok frame → is_repeat said frame ≡ true → ArrivalGood (Ok Repeat)
     again (CastFrame c) read repeat _ =
         same_history (ToTake bytes) (ArrivalAnswer (Ok Repeat)) tt (λ m. news_of (CastFrame c) Repeat m read
-        ∙ absorbed (is_there (casts_in said) m.sender m.number) (is_named m (message c)) (λ yes.
-        let names = and_parts (eqb c.sender m.sender) (eqb c.number m.number) yes in
-        let there = (and_parts (is_there (casts_in said) c.sender c.number) true repeat).0 in
-        subst (λ (a : ℕ). is_there (casts_in said) a m.number ≡ true) (eqb-true c.sender m.sender names.0)
-        (subst (λ (n : ℕ). is_there (casts_in said) c.sender n ≡ true) (eqb-true c.number m.number names.1) there)))
+        ∙ absorbed (is_there (casts_in said) m.sender m.number) (list_any (is_named m) (messages_of c)) (λ yes.
+        let (x, has, named) = any_in (is_named m) (messages_of c) yes in
+        let names = and_parts (eqb x.sender m.sender) (eqb x.number m.number) named in
+        let there = each_of (λ (y : Carried). is_there (casts_in said) y.sender y.number) (messages_of c) x repeat has in
+        subst (λ (a : ℕ). is_there (casts_in said) a m.number ≡ true) (eqb-true x.sender m.sender names.0)
+        (subst (λ (n : ℕ). is_there (casts_in said) x.sender n ≡ true) (eqb-true x.number m.number names.1) there)))
     again (StatusFrame t) read repeat _ = let none : false ≡ true = repeat in absurd cc
     again (RequestFrame r) read repeat _ = let none : false ≡ true = repeat in absurd cc
 

@@ -1,10 +1,11 @@
 -- What a round brings: everybody hears of every cast, and gets what it lacks of the first casts above those that it has expanded.
 use Rattle.std.proofs.Common.{◌≡◌, ◌≢◌, ℕ, ◌+◌, ◌<◌, ◌≤◌, Bool, true, false, not, eqb, ltb, List, [], ◌∷◌, map, take, Some, None, Ok, refl, sym, subst, ◌∙◌, arith, inl, inr}
 use Rattle.std.specs.List.{flat_map, filter, range_with_len}
-use Rattle.std.proofs.lemmas.Bool.{cases_lt, eq-eqb, ne_eqb, lt-ltb, and_parts}
+use Rattle.std.proofs.lemmas.Bool.{cases_lt, eq-eqb, ne_eqb, lt-ltb}
 use Rattle.cb_frames.specs.declared.frame.TheConstants.{MOST_RANGES, MOST_FRAMES}
 use Rattle.cb_frames.specs.declared.frame.Range.{Range}
-use Rattle.cb_frames.specs.Fields.{CastFields, StatusFields, RequestFields, CastFrame, StatusFrame, RequestFrame}
+use Rattle.cb_frames.specs.Fields.{CastFields, StatusFields, RequestFields, CastFrame, StatusFrame, RequestFrame, Carried, messages_of, last_number}
+use Rattle.cb_frames.proofs.Carried.{carried_is_of_cast}
 use Rattle.cb_frames.specs.Text.{text_of, AreRanges}
 use Rattle.cb_frames.specs.Reading.{frame_at}
 use Rattle.cb_frames.proofs.Decoding.{text_is_read}
@@ -17,14 +18,14 @@ use Rattle.cb_history.specs.Answers.{delivered, own_casts, window, is_asked_for,
 use Rattle.cb_history.specs.ArrivalLaws.{AreThere}
 use Rattle.cb_history.specs.GapLaws.{IsMissing}
 use Rattle.cb_history.proofs.Views.{IsIn, filter_in, in_filter}
-use Rattle.cb_history.proofs.Lists.{in_front, in_back}
+use Rattle.cb_history.proofs.Lists.{in_front, in_back, each_of}
 use Rattle.cb_history.proofs.Keeping.{in_range}
 use Rattle.cb_history.proofs.Times.{seen_is_there}
 use Rattle.cb_history.proofs.Statuses.{status_says_the_time}
 use Rattle.cb_history.proofs.ReadBack.{status_read}
 use Rattle.cb_history.proofs.Requests.{own_frames_have_texts}
 use Rattle.cb_history.proofs.GapsLater.{lacking_is_above}
-use Rattle.cb_history.proofs.Buffers.{cast_of_is_in, in_is_cast_of, cast_there}
+use Rattle.cb_history.proofs.Buffers.{cast_of_is_in, in_is_cast_of}
 use Rattle.cb_history.proofs.Agreement.{all_at}
 use Rattle.cb_history.proofs.Arrivals.{casts_are_of_the_group}
 use Rattle.cb_schedules.specs.Schedule.{Setting, seat_at, SentFrame, sent_by, GroupState}
@@ -32,13 +33,14 @@ use Rattle.cb_schedules.specs.Messages.{facts_at, sent_casts}
 use Rattle.cb_schedules.specs.Honest.{IsHonest}
 use Rattle.cb_schedules.specs.Consistent.{IsConsistent}
 use Rattle.cb_schedules.specs.RoundLaws.{cast_count, expanded_at}
-use Rattle.cb_schedules.proofs.Members.{stands_at, is_own, own_is_there}
+use Rattle.cb_schedules.proofs.Members.{HasCarrier, stands_at, own_is_there}
+use Rattle.cb_schedules.proofs.Moments.{own_cast_of}
 use Rattle.cb_schedules.proofs.Sending.{sent_frame, honest_text}
 use Rattle.cb_schedules.proofs.Knowing.{stable_is_so, near_is_so}
 use Rattle.cb_schedules.proofs.Lists.{in_map}
 use Rattle.cb_schedules.proofs.Later.{IsLater, later_joins, known_later, acknowledged_later, delivered_later, there_later, expanded_later, cast_count_later}
 use Rattle.cb_schedules.proofs.Happening.{other_receives}
-use Rattle.cb_schedules.proofs.Covering.{is_in_some, first_ranges_cover, taken_ranges_are, above_least, missing_ranges_are, missing_is_in_some, Rising, numbered_rises, filtered_rises, rises_from_first, first_frames_cover, asked_for_is, is_asked}
+use Rattle.cb_schedules.proofs.Covering.{is_in_some, first_ranges_cover, taken_ranges_are, above_least, missing_ranges_are, missing_is_in_some, Rising, numbered_rises, filtered_rises, first_frames_cover, asked_for_is, is_asked}
 use Rattle.cb_schedules.proofs.Hearing.{IsHeard, request_is_answered, status_is_heard, cast_is_taken}
 use Rattle.cb_schedules.proofs.Waves.{Ticks, Takes, Waves}
 
@@ -99,26 +101,25 @@ module _ (setting : Setting) (s t : GroupState) (inv : IsConsistent setting s) (
         there_later now t to_end j i n
         (seen_is_there (seat_at setting j) (casts_in (facts_at now j)) (view setting.group.size (facts_at now j)) (own_casts (facts_at now j)) i n (stands_at setting.group (facts_at now) inv_now.together j lt_j) low high)
 
-    -- the cast of this number, with its sender
-    own_cast : (now : GroupState) → IsConsistent setting now → IsLater s now → (c : CastFields) × IsIn c (own_casts (facts_at now i)) × (c.sender ≡ i) × (c.number ≡ n)
+    -- the cast that has this number, with its sender
+    own_cast : (now : GroupState) → IsConsistent setting now → IsLater s now → HasCarrier (own_casts (facts_at now i)) i n
     own_cast now inv_now later =
         let there = seen_is_there (seat_at setting i) (casts_in (facts_at now i)) (view setting.group.size (facts_at now i)) (own_casts (facts_at now i)) i n (stands_at setting.group (facts_at now) inv_now.together i lt_i) low (was_cast now inv_now later) in
-        let found = cast_there (casts_in (facts_at now i)) i n there in
-        let own = is_own setting.group (facts_at now) inv_now.together i found.cast found.there in
-        (found.cast, subst (λ (k : ℕ). IsIn found.cast (own_casts (facts_at now k))) found.sender_is own, found.sender_is, found.number_is)
+        let c = own_cast_of setting.group (facts_at now) inv_now.together i (record { sender = i; number = n }) there in
+        record { cast = c.cast; there = c.own; found = c.found; has = c.has; sender_is = c.sender_is; number_is = c.number_is }
 
     -- an own cast of i that was sent in answer comes
-    answer_comes : (now : GroupState) → IsConsistent setting now → (c : CastFields) → IsIn c (own_casts (facts_at now i)) → c.sender ≡ i → c.number ≡ n
-        → Takes setting w.answered t (sent_by i (record { to = Some j; bytes = text_of (CastFrame c) })) j → Comes
-    answer_comes now inv_now c own sender number b =
-        let read = own_cast_read setting now inv_now i c own in
-        let of_group = casts_are_of_the_group (seat_at setting i) (facts_at now i) c (inv_now.together.legal i lt_i) (in_is_cast_of c (casts_in (facts_at now i)) (own_is_there (facts_at now i) c own)) in
-        let taken = cast_is_taken (seat_at setting j) setting.limit (b.now.histories j) (text_of (CastFrame c)) c (b.consistent.together.legal j lt_j) read of_group b.welcome b.room in
-        let then_there : AreThere (casts_in (facts_at b.next j)) c = subst (λ (es : List EntryFields). AreThere (casts_in (facts_of es)) c) (sym b.history) taken in
-        let here = (and_parts (is_there (casts_in (facts_at b.next j)) c.sender c.number) true then_there).0 in
+    answer_comes : (now : GroupState) → IsConsistent setting now → (c : HasCarrier (own_casts (facts_at now i)) i n)
+        → Takes setting w.answered t (sent_by i (record { to = Some j; bytes = text_of (CastFrame c.cast) })) j → Comes
+    answer_comes now inv_now c b =
+        let read = own_cast_read setting now inv_now i c.cast c.there in
+        let of_group = casts_are_of_the_group (seat_at setting i) (facts_at now i) c.cast (inv_now.together.legal i lt_i) (in_is_cast_of c.cast (casts_in (facts_at now i)) (own_is_there (facts_at now i) c.cast c.there)) in
+        let taken = cast_is_taken (seat_at setting j) setting.limit (b.now.histories j) (text_of (CastFrame c.cast)) c.cast (b.consistent.together.legal j lt_j) read of_group b.welcome b.room in
+        let then_there : AreThere (casts_in (facts_at b.next j)) c.cast = subst (λ (es : List EntryFields). AreThere (casts_in (facts_of es)) c.cast) (sym b.history) taken in
+        let here = each_of (λ (m : Carried). is_there (casts_in (facts_at b.next j)) m.sender m.number) (messages_of c.cast) c.found then_there c.has in
         there_later b.next t b.after j i n
-        (subst (λ (k : ℕ). is_there (casts_in (facts_at b.next j)) i k ≡ true) number
-        (subst (λ (k : ℕ). is_there (casts_in (facts_at b.next j)) k c.number ≡ true) sender here))
+        (subst (λ (k : ℕ). is_there (casts_in (facts_at b.next j)) i k ≡ true) c.number_is
+        (subst (λ (k : ℕ). is_there (casts_in (facts_at b.next j)) k c.found.number ≡ true) c.sender_is here))
 
     -- a request for ranges from above `begin` that name the number, which is among the first that the answer can have
     module _ (begin : ℕ) (ranges : List Range) (rise : AreRanges (begin + 1) ranges) (names : is_in_some ranges n ≡ true) (near : n ≤ begin + MOST_FRAMES) where
@@ -128,22 +129,33 @@ module _ (setting : Setting) (s t : GroupState) (inv : IsConsistent setting s) (
       abbrev asked_casts : GroupState → List CastFields
       asked_casts now = filter (is_asked_for ranges) (window (seat_at setting i) (facts_at now i))
 
-      asked_casts_rise : (now : GroupState) → IsConsistent setting now → Rising (begin + 1) (asked_casts now)
+      asked_casts_rise : (now : GroupState) → IsConsistent setting now → Rising 1 (asked_casts now)
       asked_casts_rise now inv_now =
           let own = numbered_rises i 1 (own_casts (facts_at now i)) (stands_at setting.group (facts_at now) inv_now.together i lt_i).own_numbers in
-          let unstable = filtered_rises (λ c. ltb (stable (seat_at setting i) (facts_at now i)) c.number) 1 (own_casts (facts_at now i)) own in
-          let asked = filtered_rises (is_asked_for ranges) 1 (window (seat_at setting i) (facts_at now i)) unstable in
-          rises_from_first 1 (begin + 1) (asked_casts now) asked (λ c there.
-          above_least (begin + 1) c.number ranges rise (asked_for_is ranges c (filter_in (is_asked_for ranges) (window (seat_at setting i) (facts_at now i)) c there).0))
+          let unstable = filtered_rises (λ c. ltb (stable (seat_at setting i) (facts_at now i)) (last_number c)) 1 (own_casts (facts_at now i)) own in
+          filtered_rises (is_asked_for ranges) 1 (window (seat_at setting i) (facts_at now i)) unstable
+
+      -- some message of each is asked for, so that none ends before the ranges begin
+      asked_casts_end : (now : GroupState) (c : CastFields) → IsIn c (asked_casts now) → begin + 1 ≤ last_number c
+      asked_casts_end now c there =
+          let (m, has, asked) = asked_for_is ranges c (filter_in (is_asked_for ranges) (window (seat_at setting i) (facts_at now i)) c there).0 in
+          let least = above_least (begin + 1) m.number ranges rise asked in
+          let high = (carried_is_of_cast c m has).high in
+          omega (arith, least, high)
 
       -- the answer has it, if its sender does not know that it is stable
-      is_among_the_first : (now : GroupState) (c : CastFields) → IsConsistent setting now → IsIn c (own_casts (facts_at now i)) → c.number ≡ n → stable (seat_at setting i) (facts_at now i) < n
-          → IsIn c (take MOST_FRAMES (asked_casts now))
-      is_among_the_first now c inv_now own number above =
-          let kept = in_filter (λ c. ltb (stable (seat_at setting i) (facts_at now i)) c.number) (own_casts (facts_at now i)) c (lt-ltb (stable (seat_at setting i) (facts_at now i)) c.number (omega (arith, number, above))) own in
-          let asked = is_asked ranges c (subst (λ (k : ℕ). is_in_some ranges k ≡ true) (sym number) names) in
-          first_frames_cover MOST_FRAMES (begin + 1) (asked_casts now) c (asked_casts_rise now inv_now)
-          (in_filter (is_asked_for ranges) (window (seat_at setting i) (facts_at now i)) c asked kept) (omega (arith, number, near))
+      is_among_the_first : (now : GroupState) (c : HasCarrier (own_casts (facts_at now i)) i n) → IsConsistent setting now → stable (seat_at setting i) (facts_at now i) < n
+          → IsIn c.cast (take MOST_FRAMES (asked_casts now))
+      is_among_the_first now c inv_now above =
+          let of = carried_is_of_cast c.cast c.found c.has in
+          let first = of.low in
+          let last = of.high in
+          let number = c.number_is in
+          let kept = in_filter (λ c. ltb (stable (seat_at setting i) (facts_at now i)) (last_number c)) (own_casts (facts_at now i)) c.cast (lt-ltb (stable (seat_at setting i) (facts_at now i)) (last_number c.cast) (omega (arith, number, last, above))) c.there in
+          let asked = is_asked ranges c.cast c.found c.has (subst (λ (k : ℕ). is_in_some ranges k ≡ true) (sym number) names) in
+          let least = above_least (begin + 1) n ranges rise names in
+          first_frames_cover MOST_FRAMES 1 (begin + 1) n (asked_casts now) c.cast (asked_casts_rise now inv_now) (asked_casts_end now)
+          (in_filter (is_asked_for ranges) (window (seat_at setting i) (facts_at now i)) c.cast asked kept) (omega (arith, first, number)) least (omega (arith, near))
 
       request_brings : frame_at (text_of (RequestFrame asked_fields)) ≡ Ok (RequestFrame asked_fields)
           → Takes setting w.asking w.answered (sent_by j (record { to = Some i; bytes = text_of (RequestFrame asked_fields) })) i → Comes
@@ -152,13 +164,13 @@ module _ (setting : Setting) (s t : GroupState) (inv : IsConsistent setting s) (
             let at_asker = stable_is_so setting.group (facts_at a.now) a.consistent.together i j lt_i lt_j ne in
             delivered_comes a.now a.consistent (answered_to_end a.now a.rest) (omega (arith, below, at_asker))
         | inl above ↦
-            let (c, own, sender, number) = own_cast a.now a.consistent (s_to_answered a.now a.before) in
-            let out : Outgoing = record { to = Some j; bytes = text_of (CastFrame c) } in
-            let first = is_among_the_first a.now c a.consistent own number above in
+            let c = own_cast a.now a.consistent (s_to_answered a.now a.before) in
+            let out : Outgoing = record { to = Some j; bytes = text_of (CastFrame c.cast) } in
+            let first = is_among_the_first a.now c a.consistent above in
             let puts = request_is_answered (seat_at setting i) setting.limit (a.now.histories i) (text_of (RequestFrame asked_fields)) asked_fields read a.welcome in
             let all : sent_in_answer (seat_at setting i) (facts_at a.now i) (RequestFrame asked_fields) ≡ map (λ c. record { to = Some j; bytes = text_of (CastFrame c) }) (take MOST_FRAMES (asked_casts a.now)) = rw (eq-eqb i i refl) refl in
-            let there = in_map (λ c. record { to = Some j; bytes = text_of (CastFrame c) }) (take MOST_FRAMES (asked_casts a.now)) c first in
-            answer_comes a.now a.consistent c own sender number (w.taken (sent_by i out) j (a.sends out (subst (IsIn out) (sym (puts ∙ all)) there)) (inl refl) lt_j)
+            let there = in_map (λ c. record { to = Some j; bytes = text_of (CastFrame c) }) (take MOST_FRAMES (asked_casts a.now)) c.cast first in
+            answer_comes a.now a.consistent c (w.taken (sent_by i out) j (a.sends out (subst (IsIn out) (sym (puts ∙ all)) there)) (inl refl) lt_j)
       ]
 
     -- so it comes where it is lacking at j's tick

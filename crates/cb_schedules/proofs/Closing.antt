@@ -15,16 +15,16 @@ use Rattle.cb_history.specs.Facts.{Fact, casts_in, messages_in, is_there}
 use Rattle.cb_history.specs.View.{count, view, is_among, is_expanded, expanded_in, is_ready}
 use Rattle.cb_history.specs.Answers.{delivered, own_casts}
 use Rattle.cb_history.specs.DeliveryLaws.{MeetsRule}
-use Rattle.cb_history.proofs.Names.{message, view_holds_the_first}
+use Rattle.cb_history.proofs.Names.{view_holds_the_first}
 use Rattle.cb_history.proofs.Times.{all_from_range, seen_is_there}
 use Rattle.cb_history.proofs.InTime.{times_are_reached}
 use Rattle.cb_history.proofs.Delivering.{in_field, past_fields, nothing_above, nothing_is_next, readiness_is_the_delay_rule}
 use Rattle.cb_history.proofs.Views.{in_filter}
 use Rattle.cb_history.proofs.Names.{in_is_one_of}
-use Rattle.cb_history.proofs.Buffers.{cast_is_there}
+use Rattle.cb_history.proofs.Runs.{message_is_there}
 use Rattle.cb_schedules.specs.Honest.{member_of, events_of, AreTogether}
-use Rattle.cb_schedules.proofs.Members.{stands_at, is_own, time_is_senders, message_of_cast}
-use Rattle.cb_schedules.proofs.Moments.{called, clock, HasOwnCast, own_cast_of, has_clock}
+use Rattle.cb_schedules.proofs.Members.{stands_at, is_own, time_is_senders}
+use Rattle.cb_schedules.proofs.Moments.{called, clock, HasOwnCast, own_cast_of, message_here, has_clock}
 
 module _ (group : Parameters) (facts : ℕ → List Fact) (h : AreTogether group facts) (j : ℕ) where
   abbrev lists : Lists
@@ -45,16 +45,16 @@ module _ (group : Parameters) (facts : ℕ → List Fact) (h : AreTogether group
   -- ---- what is delivered is closed
 
   -- the time that this member tells is the sender's
-  same_field : (m : Name) (c : HasOwnCast group facts h j m) (k : ℕ) → is_expanded (casts_in (facts j)) (message c.cast) ≡ true
+  same_field : (m : Name) (c : HasOwnCast group facts h j m) (k : ℕ) → is_expanded (casts_in (facts j)) c.found ≡ true
       → expanded_field (casts_in (facts j)) m.sender m.number k ≡ expanded_field (casts_in (facts m.sender)) m.sender m.number k
   same_field m c k expanded =
       subst (λ (i : ℕ). expanded_field (casts_in (facts j)) i m.number k ≡ expanded_field (casts_in (facts i)) i m.number k) c.sender_is
-      (subst (λ (n : ℕ). expanded_field (casts_in (facts j)) c.cast.sender n k ≡ expanded_field (casts_in (facts c.cast.sender)) c.cast.sender n k) c.number_is
-      (time_is_senders group facts h j (facts j) c.cast k (h.legal j c.member) (is_own group facts h j) c.there expanded))
+      (subst (λ (n : ℕ). expanded_field (casts_in (facts j)) c.found.sender n k ≡ expanded_field (casts_in (facts c.found.sender)) c.found.sender n k) c.number_is
+      (time_is_senders group facts h j (facts j) c.found k (h.legal j c.member) (is_own group facts h j) (message_here group facts h j m c) expanded))
 
   -- where all numbers up to a message's are there, it can be expanded
-  expands : (m : Name) (c : HasOwnCast group facts h j m) → ((k : ℕ) → 1 ≤ k → k ≤ m.number → is_there (casts_in (facts j)) m.sender k ≡ true) → is_expanded (casts_in (facts j)) (message c.cast) ≡ true
-  expands m c each = all_from_range (is_there (casts_in (facts j)) c.cast.sender) (0 + 1) (c.cast.number - 0) (λ k low high.
+  expands : (m : Name) (c : HasOwnCast group facts h j m) → ((k : ℕ) → 1 ≤ k → k ≤ m.number → is_there (casts_in (facts j)) m.sender k ≡ true) → is_expanded (casts_in (facts j)) c.found ≡ true
+  expands m c each = all_from_range (is_there (casts_in (facts j)) c.found.sender) (0 + 1) (c.found.number - 0) (λ k low high.
       let number = c.number_is in
       subst (λ (i : ℕ). is_there (casts_in (facts j)) i k ≡ true) (sym c.sender_is) (each k (omega (arith, low)) (omega (arith, high, number))))
 
@@ -106,7 +106,7 @@ module _ (group : Parameters) (facts : ℕ → List Fact) (h : AreTogether group
     stamp = expanded_field (casts_in (facts m.sender)) m.sender m.number
 
     here : IsHere m
-    here = cast_is_there (casts_in (facts j)) c.cast m.sender m.number c.there c.sender_is c.number_is
+    here = message_is_there (casts_in (facts j)) c.found m.sender m.number (message_here group facts h j m c) c.sender_is c.number_is
 
     -- what the message's time counts is delivered, but for the message itself
     counted : (k t : ℕ) → k < group.size → 1 ≤ t → t ≤ stamp k → (k ≡ m.sender → t ≡ m.number → ⊥) → t ≤ delivered (member_of group j) (facts j) k
@@ -162,21 +162,21 @@ module _ (group : Parameters) (facts : ℕ → List Fact) (h : AreTogether group
     never_next : m.number ≡ delivered (member_of group j) (facts j) m.sender + 1 → ⊥
     never_next next =
         let expanded = expands m c (all_there next) in
-        let one = in_is_one_of (message c.cast) (expanded_in (casts_in (facts j))) (in_filter (is_expanded (casts_in (facts j))) (messages_in (casts_in (facts j))) (message c.cast) expanded (message_of_cast (casts_in (facts j)) c.cast c.there)) in
-        let not_ready = (nothing_is_next group.size (casts_in (facts j)) (view group.size (facts j))).0 (h.settled j) (message c.cast) one in
+        let one = in_is_one_of c.found (expanded_in (casts_in (facts j))) (in_filter (is_expanded (casts_in (facts j))) (messages_in (casts_in (facts j))) c.found expanded (message_here group facts h j m c)) in
+        let not_ready = (nothing_is_next group.size (casts_in (facts j)) (view group.size (facts j))).0 (h.settled j) c.found one in
         let new : is_among (view group.size (facts j)) (called m) ≡ false = false_from_ne_true (is_among (view group.size (facts j)) (called m)) (λ seen.
         let number = seen_number m c.member seen in omega (arith, number.1, next)) in
         let by_name : is_ready group.size (casts_in (facts j)) (view group.size (facts j)) (called m) ≡ true = (readiness_is_the_delay_rule group.size (casts_in (facts j)) (view group.size (facts j)) (called m) c.sender_member).1 (new, meets next) in
-        let ready : is_ready group.size (casts_in (facts j)) (view group.size (facts j)) (message c.cast) ≡ true =
-        subst (λ (i : ℕ). is_ready group.size (casts_in (facts j)) (view group.size (facts j)) (record { sender = i; number = c.cast.number; payload = c.cast.payload }) ≡ true) (sym c.sender_is)
-        (subst (λ (n : ℕ). is_ready group.size (casts_in (facts j)) (view group.size (facts j)) (record { sender = m.sender; number = n; payload = c.cast.payload }) ≡ true) (sym c.number_is) by_name) in
+        let ready : is_ready group.size (casts_in (facts j)) (view group.size (facts j)) c.found ≡ true =
+        subst (λ (i : ℕ). is_ready group.size (casts_in (facts j)) (view group.size (facts j)) (record { sender = i; number = c.found.number; payload = c.found.payload }) ≡ true) (sym c.sender_is)
+        (subst (λ (n : ℕ). is_ready group.size (casts_in (facts j)) (view group.size (facts j)) (record { sender = m.sender; number = n; payload = c.found.payload }) ≡ true) (sym c.number_is) by_name) in
         cc
 
     pub past_seen_is_seen : Seen m
     past_seen_is_seen = elim (cases_lt (delivered (member_of group j) (facts j) m.sender) m.number) [
       | inl above ↦ absurd (never_next (next_number above))
       | inr below ↦
-          let positive = (stands_at group facts h j c.member).positive (message c.cast) (message_of_cast (casts_in (facts j)) c.cast c.there) in
+          let positive = (stands_at group facts h j c.member).positive c.found (message_here group facts h j m c) in
           let number = c.number_is in
           number_seen m c.member (omega (arith, positive, number)) below
     ]

@@ -5,7 +5,8 @@ use Rattle.std.proofs.lemmas.Bool.{cond_both, le-leb, leb-true, and_parts, and_f
 use Rattle.cb_frames.specs.declared.frame.TheConstants.{LAST_NUMBER}
 use Rattle.cb_frames.specs.declared.frame.Range.{Range}
 use Rattle.cb_frames.specs.Text.{AreRanges}
-use Rattle.cb_frames.specs.Fields.{CastFields}
+use Rattle.cb_frames.specs.Fields.{CastFields, Carried, messages_of, first_number, last_number}
+use Rattle.cb_frames.proofs.Carried.{carries_some}
 use Rattle.cb_gaps.specs.Ranges.{IsWithin}
 use Rattle.cb_gaps.proofs.Gaps.{any_cases, none_in}
 use Rattle.cb_history.specs.Group.{Identity}
@@ -20,6 +21,7 @@ use Rattle.cb_history.proofs.Views.{IsIn, or_left, or_right}
 use Rattle.cb_history.proofs.Gaps.{ranges_of_missing}
 use Rattle.cb_history.proofs.Counts.{known_are_numbers}
 use Rattle.cb_history.proofs.Requests.{filtered_rise, ranges_are}
+use Rattle.cb_schedules.proofs.Lists.{any_in, in_any}
 use Rattle.std.specs.List.{Any}
 
 -- ---- ranges
@@ -91,10 +93,10 @@ module _ (seat : Identity) (facts : List Fact) (i : ℕ) (are : AreFactsOf seat 
 
 -- ---- the first frames
 
--- casts with rising numbers, from this one on
+-- casts with rising numbers, from this one on: each begins behind the one before
 abbrev pub Rising : ℕ → List CastFields → Type 0
 Rising low [] = Unit {0}
-Rising low (c ∷ casts) = (low ≤ c.number) × Rising (c.number + 1) casts
+Rising low (c ∷ casts) = (low ≤ first_number c) × Rising (last_number c + 1) casts
 
 rising_from : (low lower : ℕ) (casts : List CastFields) → lower ≤ low → Rising low casts → Rising lower casts
 rising_from low lower [] le rise = tt
@@ -102,39 +104,39 @@ rising_from low lower (c ∷ casts) le rise = let first = rise.0 in (omega (arit
 
 pub numbered_rises : (me n : ℕ) (casts : List CastFields) → NumberedFrom me n casts → Rising n casts
 numbered_rises me n [] numbered = tt
-numbered_rises me n (c ∷ casts) numbered = let number = numbered.1 in (omega (arith, number), numbered_rises me (c.number + 1) casts numbered.2)
+numbered_rises me n (c ∷ casts) numbered = let number = numbered.1 in (omega (arith, number), numbered_rises me (last_number c + 1) casts numbered.2)
 
 -- those that pass a test rise too
 pub filtered_rises : (p : CastFields → Bool) (low : ℕ) (casts : List CastFields) → Rising low casts → Rising low (filter p casts)
 filtered_rises p low [] rise = tt
 filtered_rises p low (c ∷ casts) rise =
     cond_both (p c) (c ∷ filter p casts) (filter p casts) (Rising low)
-    (λ _. (rise.0, filtered_rises p (c.number + 1) casts rise.1))
-    (λ _. let first = rise.0 in rising_from (c.number + 1) low (filter p casts) (omega (arith, first)) (filtered_rises p (c.number + 1) casts rise.1))
+    (λ _. (rise.0, filtered_rises p (last_number c + 1) casts rise.1))
+    (λ _. let first = rise.0 in rising_from (last_number c + 1) low (filter p casts) (omega (arith, first, carries_some c)) (filtered_rises p (last_number c + 1) casts rise.1))
 
--- from any number on that none is below
-pub rises_from_first : (low high : ℕ) (casts : List CastFields) → Rising low casts → ((c : CastFields) → IsIn c casts → high ≤ c.number) → Rising high casts
-rises_from_first low high [] rise each = tt
-rises_from_first low high (c ∷ casts) rise each = (each c (inl refl), rise.1)
+begins_above : (low : ℕ) (casts : List CastFields) (c : CastFields) → Rising low casts → IsIn c casts → low ≤ first_number c
+begins_above low [] c rise there = absurd there
+begins_above low (d ∷ casts) c rise (inl same) = let number = ap first_number same in let first = rise.0 in omega (arith, number, first)
+begins_above low (d ∷ casts) c rise (inr later) = let rest = begins_above (last_number d + 1) casts c rise.1 later in let first = rise.0 in omega (arith, rest, first, carries_some d)
 
--- the first `limit` of them have all numbers below low + limit
-pub first_frames_cover : (limit low : ℕ) (casts : List CastFields) (c : CastFields) → Rising low casts → IsIn c casts → c.number < low + limit → IsIn c (take limit casts)
-first_frames_cover limit low [] c rise there less = absurd there
-first_frames_cover zero low (d ∷ casts) c rise there less = let least = at_least low (d ∷ casts) c rise there in absurd (omega (arith, least, less))
-  where
-    at_least : (low : ℕ) (casts : List CastFields) (c : CastFields) → Rising low casts → IsIn c casts → low ≤ c.number
-    at_least low [] c rise there = absurd there
-    at_least low (d ∷ casts) c rise (inl same) = let number = ap (λ (x : CastFields). x.number) same in let first = rise.0 in omega (arith, number, first)
-    at_least low (d ∷ casts) c rise (inr later) = let rest = at_least (d.number + 1) casts c rise.1 later in let first = rise.0 in omega (arith, rest, first)
-first_frames_cover (suc limit) low (d ∷ casts) c rise (inl same) less = inl same
-first_frames_cover (suc limit) low (d ∷ casts) c rise (inr later) less =
-    let first = rise.0 in
-    inr (first_frames_cover limit (d.number + 1) casts c rise.1 later (omega (arith, less, first)))
+-- Where none ends below `least`, though the first may begin below it, the first `limit` of them have all
+-- numbers from `least` up to below least + limit.
+pub first_frames_cover : (limit low least n : ℕ) (casts : List CastFields) (c : CastFields) → Rising low casts → ((d : CastFields) → IsIn d casts → least ≤ last_number d)
+    → IsIn c casts → first_number c ≤ n → least ≤ n → n < least + limit → IsIn c (take limit casts)
+first_frames_cover limit low least n [] c rise each there first above less = absurd there
+first_frames_cover zero low least n (d ∷ casts) c rise each there first above less = absurd (omega (arith, above, less))
+first_frames_cover (suc limit) low least n (d ∷ casts) c rise each (inl same) first above less = inl same
+first_frames_cover (suc limit) low least n (d ∷ casts) c rise each (inr later) first above less =
+    let behind = begins_above (last_number d + 1) casts c rise.1 later in
+    let ends = each d (inl refl) in
+    inr (first_frames_cover limit (last_number d + 1) (last_number d + 1) n casts c rise.1
+    (λ e there. let begins = begins_above (last_number d + 1) casts e rise.1 there in omega (arith, begins, carries_some e))
+    later first (omega (arith, behind, first)) (omega (arith, less, ends)))
 
 -- ---- asked for
 
-pub asked_for_is : (ranges : List Range) (c : CastFields) → is_asked_for ranges c ≡ true → is_in_some ranges c.number ≡ true
-asked_for_is ranges c h = elim (is_or (is_in_some ranges c.number) false h) [ inl asked ↦ asked | inr none ↦ absurd cc ]
+pub asked_for_is : (ranges : List Range) (c : CastFields) → is_asked_for ranges c ≡ true → (m : Carried) × IsIn m (messages_of c) × (is_in_some ranges m.number ≡ true)
+asked_for_is ranges c h = any_in (λ (m : Carried). is_in_some ranges m.number) (messages_of c) h
 
-pub is_asked : (ranges : List Range) (c : CastFields) → is_in_some ranges c.number ≡ true → is_asked_for ranges c ≡ true
-is_asked ranges c h = or_left (is_in_some ranges c.number) false h
+pub is_asked : (ranges : List Range) (c : CastFields) (m : Carried) → IsIn m (messages_of c) → is_in_some ranges m.number ≡ true → is_asked_for ranges c ≡ true
+is_asked ranges c m has h = in_any (λ (x : Carried). is_in_some ranges x.number) (messages_of c) m has h

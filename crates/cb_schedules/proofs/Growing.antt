@@ -4,8 +4,8 @@ use Rattle.std.specs.List.{AllByRecursion}
 use Rattle.std.proofs.lemmas.Bool.{cases_eq, false_from_ne_true}
 use Rattle.std.proofs.lemmas.List.{append-nil}
 use Rattle.cb_frames.specs.declared.frame.Change.{Change}
-use Rattle.cb_frames.specs.Fields.{CastFields, StatusFields, FrameFields, CastFrame, StatusFrame, RequestFrame, Carried}
-use Rattle.cb_diffs.specs.Expansion.{expanded_field}
+use Rattle.cb_frames.specs.Fields.{CastFields, StatusFields, FrameFields, CastFrame, StatusFrame, RequestFrame, Carried, first_number}
+use Rattle.cb_frames.proofs.Carried.{carried_is_of_cast}
 use Rattle.cb_causality.specs.Lists.{Appends}
 use Rattle.cb_history.specs.Group.{Parameters}
 use Rattle.cb_history.specs.Facts.{Fact, OwnCast, CastReceived, StatusReceived, OwnStatus, casts_in, cast_in, messages_in}
@@ -15,17 +15,17 @@ use Rattle.cb_history.specs.Answers.{delivered, own_casts}
 use Rattle.cb_history.specs.LegalFacts.{AreFactsOf}
 use Rattle.cb_history.specs.BufferLaws.{IsCastOf}
 use Rattle.cb_history.proofs.Views.{IsIn, filter_in, casts_in-append, nothing_ready_is_left, ready_is_new, in_filter}
-use Rattle.cb_history.proofs.Lists.{in_front, in_back, in_push, messages_in-push}
+use Rattle.cb_history.proofs.Lists.{in_front, in_back, in_casts_push}
 use Rattle.cb_history.proofs.Walks.{view_received, view_status, view_reported, own_casts-own, own_casts-other}
-use Rattle.cb_history.proofs.Names.{all_stand, message, one_of_is_in, in_is_one_of}
-use Rattle.cb_history.proofs.Times.{count_grows}
+use Rattle.cb_history.proofs.Names.{all_stand, one_of_is_in, in_is_one_of}
+use Rattle.cb_history.proofs.Times.{count_grows, own_first}
 use Rattle.cb_history.proofs.Prefixes.{last_fact_is_a_step}
 use Rattle.cb_history.proofs.Delivering.{nothing_is_next}
 use Rattle.cb_history.proofs.Happening.{own_cast_makes_ready}
 use Rattle.cb_history.proofs.Runs.{expanded_up_to_the_count, others_expand_nothing}
 use Rattle.cb_history.proofs.Buffers.{cast_of_is_in, in_is_cast_of}
 use Rattle.cb_schedules.specs.Honest.{member_of, IsReported, SaysWhatIsSo, IsSo, IsHonest, AreTogether}
-use Rattle.cb_schedules.proofs.Members.{cast_of_message, reported_at_most}
+use Rattle.cb_schedules.proofs.Members.{reported_at_most}
 use Rattle.cb_schedules.proofs.Lists.{all_weaken, all_one_more}
 
 -- ---- one fact more
@@ -120,10 +120,10 @@ module _ (group : Parameters) (facts : ℕ → List Fact) (h : AreTogether group
   push : casts_in now ≡ casts_in (facts j) ++ c ∷ []
   push = casts_in-append (facts j) (OwnCast c)
 
-  is_next : (c.sender ≡ j) × (c.number ≡ delivered (member_of group j) (facts j) j + 1)
+  is_next : (c.sender ≡ j) × (first_number c ≡ delivered (member_of group j) (facts j) j + 1)
   is_next =
       let step = last_fact_is_a_step (member_of group j) (facts j) (OwnCast c) are in
-      (ap (λ (x : CastFields). x.sender) step.next, ap (λ (x : CastFields). x.number) step.next)
+      (ap (λ (x : CastFields). x.sender) step.next, own_first (member_of group j) (facts j) c (all_stand (member_of group j) now are.member are.facts_are))
 
   -- a message of another that can be expanded now could be before
   expanded_before : (m : Carried) → m.sender ≢ j → is_expanded (casts_in now) m ≡ true → is_expanded (casts_in (facts j)) m ≡ true
@@ -134,9 +134,9 @@ module _ (group : Parameters) (facts : ℕ → List Fact) (h : AreTogether group
 
   there_before : (m : Carried) → m.sender ≢ j → IsIn m (messages_in (casts_in now)) → IsIn m (messages_in (casts_in (facts j)))
   there_before m other there =
-      elim (in_push m (message c) (messages_in (casts_in (facts j))) (subst (IsIn m) (ap messages_in push ∙ messages_in-push (casts_in (facts j)) c) there)) [
+      elim (in_casts_push (casts_in (facts j)) c m (subst (λ (cs : List CastFields). IsIn m (messages_in cs)) push there)) [
         | inl old ↦ old
-        | inr new ↦ absurd (other (ap (λ (x : Carried). x.sender) new ∙ is_next.0))
+        | inr new ↦ absurd (other ((carried_is_of_cast c m new).sender_is ∙ is_next.0))
       ]
 
   never_ready : (m : Carried) → IsIn m (expanded_in (casts_in now)) → is_ready group.size (casts_in now) (view group.size now) m ≡ true → ⊥
@@ -151,10 +151,7 @@ module _ (group : Parameters) (facts : ℕ → List Fact) (h : AreTogether group
             let one = in_is_one_of m (expanded_in (casts_in (facts j))) in_old in
             let not_ready = (nothing_is_next group.size (casts_in (facts j)) (view group.size (facts j))).0 (h.settled j) m one in
             let reported = own_cast_makes_ready (member_of group j) (facts j) c m are one not_ready ready in
-            let (d, d_there, is) = cast_of_message (casts_in (facts j)) m old in
-            let most : expanded_field (casts_in (facts j)) m.sender m.number j ≤ delivered (member_of group j) (facts j) j =
-            subst (λ (x : Carried). expanded_field (casts_in (facts j)) x.sender x.number j ≤ delivered (member_of group j) (facts j) j) (sym is)
-            (reported_at_most group facts h j d d_there (subst (λ (x : Carried). is_expanded (casts_in (facts j)) x ≡ true) is expanded)) in
+            let most = reported_at_most group facts h j m j are.member old expanded in
             let number = is_next.1 in
             omega (arith, reported.0, most, number)
       ]

@@ -6,7 +6,6 @@ use Rattle.cb_frames.specs.declared.fault.FrameFault.{FrameFault}
 use Rattle.cb_frames.specs.Fields.{CastFields, FrameFields, CastFrame, StatusFrame, RequestFrame, Carried}
 use Rattle.cb_frames.specs.Text.{text_of}
 use Rattle.cb_frames.specs.Reading.{frame_at}
-use Rattle.cb_diffs.specs.Expansion.{expanded_field}
 use Rattle.cb_causality.specs.declared.event.CausalEvent.TheVariants as causal
 use Rattle.cb_causality.specs.StampedMachine.{without_time, counts_of, IsTimeOf}
 use Rattle.cb_delay.specs.Message.{message_of}
@@ -22,8 +21,7 @@ use Rattle.cb_history.specs.Legal.{Call, ToCast, ToTake, ToTick}
 use Rattle.cb_history.specs.OwnFrameLaws.{IsOfTheGroup}
 use Rattle.cb_history.proofs.Views.{IsIn, filter_in}
 use Rattle.cb_history.proofs.Names.{one_of_is_in}
-use Rattle.cb_history.proofs.Runs.{own_is_delivered}
-use Rattle.cb_history.proofs.Buffers.{cast_of_is_in, in_is_cast_of, cast_is_there}
+use Rattle.cb_history.proofs.Buffers.{cast_of_is_in, in_is_cast_of}
 use Rattle.cb_schedules.specs.Schedule.{Setting, IsSetting, seat_at, Step, Schedule, SentFrame, Asked, answer_of, GroupState, after_asked, step_after, nothing_yet, run_from, run}
 use Rattle.cb_schedules.specs.Messages.{facts_at, stamped_lists, WasCast, HasDelivered, time_from_bytes}
 use Rattle.cb_schedules.specs.Honest.{member_of, SaysWhatIsSo, IsHonest}
@@ -31,7 +29,7 @@ use Rattle.cb_schedules.specs.Consistent.{IsConsistent}
 use Rattle.cb_schedules.specs.SentLaws.{WasSent, SentCastsAreOwn, OneNameSameBytes, SentStatusesAreSo, NobodyAsksItself, CastsThereAreOwn, EventsHaveTimesFromBytes, HeardOfIsCast, DeliveredIsCast, TimesTellOwnCasts, AcknowledgedIsDeliveredThere, StableIsDeliveredEverywhere, StableStandsInEvents, SendersStayNear, IsNoRefusal, IsRefusedByFullHistoryAlone, ArrivalsAreWelcome}
 use Rattle.cb_schedules.specs.Headline.{IsCausalBroadcast, DeliversClosedArrivals, TimesTellHappenedBefore, Headline, EachSchedule, StepsExtendTheStamped, StepsExtendTheCausal}
 use Rattle.cb_schedules.proofs.Stamping.{events_count}
-use Rattle.cb_schedules.proofs.Members.{cast_of_message, reported_at_most, is_own, own_is_there, delivered_at_most, inside, stands_at}
+use Rattle.cb_schedules.proofs.Members.{holder_inside, reported_at_most, is_own, own_is_there, delivered_at_most, inside, stands_at}
 use Rattle.cb_schedules.proofs.Sending.{honest_text}
 use Rattle.cb_schedules.proofs.Courses.{IsFair, asked_is, step_goes_on, runs_are_consistent, starts}
 use Rattle.cb_schedules.proofs.Moments.{called, has_seen, seen_has, own_cast_of, has_clock, has_there}
@@ -91,9 +89,7 @@ module _ (setting : Setting) (s : GroupState) (inv : IsConsistent setting s) whe
   time_stands j m has =
       let there = has_there setting.group (facts_at s) inv.together j m has (member_has j m has) in
       let c = own_cast_of setting.group (facts_at s) inv.together j m there in
-      let here = own_is_there (facts_at s m.sender) c.cast c.own in
-      let most = own_is_delivered (member_of setting.group m.sender) (facts_at s m.sender) m.number (inv.together.legal m.sender c.sender_member) (cast_is_there (casts_in (facts_at s m.sender)) c.cast m.sender m.number here c.sender_is c.number_is) in
-      subst (IsTimeOf (stamped_lists setting s) m) (sym (time_is_clock setting s inv m c.sender_member most)) (has_clock setting.group (facts_at s) inv.together j m there)
+      subst (IsTimeOf (stamped_lists setting s) m) (sym (time_is_clock setting s inv m c.sender_member)) (has_clock setting.group (facts_at s) inv.together j m there)
 
   times_tell : TimesTellHappenedBefore setting s
   times_tell a b cast_a cast_b =
@@ -182,9 +178,7 @@ module _ (setting : Setting) (s : GroupState) (inv : IsConsistent setting s) whe
   pub times_tell_own_casts : TimesTellOwnCasts setting s
   times_tell_own_casts j m one =
       let parts = filter_in (is_expanded (casts_in (facts_at s j))) (messages_in (casts_in (facts_at s j))) m (one_of_is_in m (expanded_in (casts_in (facts_at s j))) one) in
-      let (c, there, is) = cast_of_message (casts_in (facts_at s j)) m parts.1 in
-      subst (λ (x : Carried). expanded_field (casts_in (facts_at s j)) x.sender x.number j ≤ delivered (seat_at setting j) (facts_at s j) j) (sym is)
-      (reported_at_most setting.group (facts_at s) inv.together j c there (subst (λ (x : Carried). is_expanded (casts_in (facts_at s j)) x ≡ true) is parts.0))
+      reported_at_most setting.group (facts_at s) inv.together j m j (holder_inside setting.group (facts_at s) inv.together j m parts.1) parts.1 parts.0
 
 -- ---- along runs
 

@@ -1,9 +1,10 @@
 -- What members know of each other is so: what is stable, everybody has delivered, and no arrival is refused but by a full history.
-use Rattle.std.proofs.Common.{◌≡◌, ◌≢◌, ℕ, ◌+◌, ◌<◌, ◌≤◌, Bool, true, false, not, cond, ◌&&◌, ◌||◌, eqb, ltb, List, [], ◌∷◌, ◌++◌, map, refl, sym, ap, subst, ◌∙◌, arith, inl, inr}
+use Rattle.std.proofs.Common.{◌≡◌, ◌≢◌, ℕ, ◌+◌, ◌<◌, ◌≤◌, Bool, true, false, not, cond, ◌&&◌, ◌||◌, eqb, ltb, List, [], ◌∷◌, ◌++◌, map, refl, ap, subst, arith, inl, inr}
 use Rattle.std.specs.List.{AllByRecursion, flat_map, filter, list_any, range_with_len}
 use Rattle.std.proofs.lemmas.Bool.{cond_both, cases_eq, eqb-true, ltb-true, eq-eqb, ne_eqb, and_parts}
 use Rattle.cb_frames.specs.declared.frame.Change.{Change}
-use Rattle.cb_frames.specs.Fields.{CastFields, FrameFields, CastFrame, StatusFrame, RequestFrame, Carried}
+use Rattle.cb_frames.specs.Fields.{CastFields, FrameFields, CastFrame, StatusFrame, RequestFrame, Carried, last_number}
+use Rattle.cb_frames.proofs.Carried.{last_is_carried}
 use Rattle.cb_diffs.specs.Expansion.{expanded_field}
 use Rattle.cb_history.specs.Group.{Parameters, Identity}
 use Rattle.cb_history.specs.Facts.{EntryFields, Fact, OwnCast, CastReceived, StatusReceived, OwnStatus, casts_in, messages_in}
@@ -12,17 +13,15 @@ use Rattle.cb_history.specs.Known.{greatest_of, value_in, reported_of, counted_i
 use Rattle.cb_history.specs.Answers.{delivered, own_casts, is_full, group_of, are_members, is_impossible, is_repeat, is_too_far, is_change, frame_answer}
 use Rattle.cb_history.specs.OwnFrameLaws.{IsOfTheGroup}
 use Rattle.cb_history.proofs.Views.{IsIn, filter_in, in_filter}
-use Rattle.cb_history.proofs.Lists.{in_is_among}
-use Rattle.cb_history.proofs.Names.{message}
+use Rattle.cb_history.proofs.Lists.{carried_there}
 use Rattle.cb_history.proofs.Times.{seen_is_expanded}
-use Rattle.cb_history.proofs.InTime.{times_are_reached}
 use Rattle.cb_history.proofs.Rising.{greatest_append, all_at_most}
 use Rattle.cb_history.proofs.Windows.{own_casts_are_near_stable}
-use Rattle.cb_history.proofs.Runs.{own_is_delivered}
-use Rattle.cb_history.proofs.Buffers.{cast_of_is_in, cast_is_there}
+use Rattle.cb_history.proofs.Runs.{message_is_there, own_is_delivered}
+use Rattle.cb_history.proofs.Buffers.{cast_of_is_in}
 use Rattle.cb_schedules.specs.Honest.{member_of, SaysWhatIsSo, IsSo, AreTogether}
 use Rattle.cb_schedules.specs.SentLaws.{IsNoRefusal}
-use Rattle.cb_schedules.proofs.Members.{stands_at, inside, is_own, own_is_there, own_in_view, cast_of_message, time_is_senders, delivered_at_most}
+use Rattle.cb_schedules.proofs.Members.{stands_at, inside, own_is_there, told_at_most, reported_at_most, delivered_at_most}
 use Rattle.cb_schedules.proofs.Lists.{in_map}
 use Rattle.cb_history.proofs.Keeping.{in_range}
 
@@ -73,16 +72,10 @@ module _ (group : Parameters) (facts : ℕ → List Fact) (h : AreTogether group
   counted_below i k lt =
       all_at_most (λ m. eqb m.sender k) (λ m. expanded_field (casts_in (facts i)) m.sender m.number i) (has_delivered k i) (view group.size (facts i)) (λ m there of_k.
       let stands = stands_at group facts h i lt in
-      let (c, c_there, is_c) = cast_of_message (casts_in (facts i)) m (stands.there m there) in
-      let expanded : is_expanded (casts_in (facts i)) (message c) ≡ true =
-      subst (λ (x : Carried). is_expanded (casts_in (facts i)) x ≡ true) is_c (seen_is_expanded (member_of group i) (casts_in (facts i)) (view group.size (facts i)) (own_casts (facts i)) m stands there) in
-      let own = is_own group facts h i c c_there in
-      let same = time_is_senders group facts h i (facts i) c i (h.legal i lt) (is_own group facts h i) c_there expanded in
-      let seen = in_is_among (view group.size (facts c.sender)) (message c) (own_in_view group facts h c.sender c own) in
-      let reached = times_are_reached (member_of group c.sender) (facts c.sender) (message c) i (h.legal c.sender (inside group facts h c.sender c (own_is_there (facts c.sender) c own))) seen lt in
-      let sender : c.sender ≡ k = ap (λ (x : Carried). x.sender) (sym is_c) ∙ eqb-true m.sender k of_k in
-      let at_c : expanded_field (casts_in (facts i)) c.sender c.number i ≤ has_delivered k i = subst (λ (j : ℕ). expanded_field (casts_in (facts i)) c.sender c.number i ≤ has_delivered j i) sender (omega (arith, same, reached)) in
-      subst (λ (x : Carried). expanded_field (casts_in (facts i)) x.sender x.number i ≤ has_delivered k i) (sym is_c) at_c)
+      let there_too = stands.there m there in
+      let expanded = seen_is_expanded (member_of group i) (casts_in (facts i)) (view group.size (facts i)) (own_casts (facts i)) m stands there in
+      let told = told_at_most group facts h i m i lt there_too expanded in
+      subst (λ (j : ℕ). expanded_field (casts_in (facts i)) m.sender m.number i ≤ has_delivered j i) (eqb-true m.sender k of_k) told)
 
   -- so what is acknowledged is delivered
   pub acknowledged_is_so : (i k : ℕ) → i < group.size → acknowledged (member_of group i) (facts i) k ≤ has_delivered k i
@@ -108,10 +101,12 @@ module _ (group : Parameters) (facts : ℕ → List Fact) (h : AreTogether group
 
   -- ---- what a member has heard of
 
-  pub own_number : (c : CastFields) → IsIn c (own_casts (facts c.sender)) → c.number ≤ has_delivered c.sender c.sender
+  pub own_number : (c : CastFields) → IsIn c (own_casts (facts c.sender)) → last_number c ≤ has_delivered c.sender c.sender
   own_number c own =
       let there = own_is_there (facts c.sender) c own in
-      own_is_delivered (member_of group c.sender) (facts c.sender) c.number (h.legal c.sender (inside group facts h c.sender c there)) (cast_is_there (casts_in (facts c.sender)) c c.sender c.number there refl refl)
+      let last = last_is_carried c in
+      own_is_delivered (member_of group c.sender) (facts c.sender) (last_number c) (h.legal c.sender (inside group facts h c.sender c there))
+      (message_is_there (casts_in (facts c.sender)) last.found c.sender (last_number c) (carried_there (casts_in (facts c.sender)) c last.found there last.there) last.sender_is last.number_is)
 
   -- from what was received
   heard_below : (i : ℕ) (fs : List Fact) → i < group.size → AllByRecursion (IsSo group facts) fs → greatest_of (flat_map (reported_of i) fs) ≤ has_delivered i i
@@ -125,10 +120,10 @@ module _ (group : Parameters) (facts : ℕ → List Fact) (h : AreTogether group
       omega (arith, value, most, others)
   heard_below i (CastReceived c ∷ fs) lt all =
       let others = heard_below i fs lt all.1 in
-      cond_both (eqb c.sender i) (c.number ∷ []) [] (λ (ns : List ℕ). greatest_of (ns ++ flat_map (reported_of i) fs) ≤ has_delivered i i)
+      cond_both (eqb c.sender i) (last_number c ∷ []) [] (λ (ns : List ℕ). greatest_of (ns ++ flat_map (reported_of i) fs) ≤ has_delivered i i)
       (λ same.
       let number = own_number c (cast_of_is_in c (own_casts (facts c.sender)) all.0) in
-      let here : c.number ≤ has_delivered i i = subst (λ (k : ℕ). c.number ≤ has_delivered k k) (eqb-true c.sender i same) number in
+      let here : last_number c ≤ has_delivered i i = subst (λ (k : ℕ). last_number c ≤ has_delivered k k) (eqb-true c.sender i same) number in
       omega (arith, here, others))
       (λ other. others)
 
@@ -137,16 +132,7 @@ module _ (group : Parameters) (facts : ℕ → List Fact) (h : AreTogether group
   times_below j i lt lt_i =
       each_below (λ m. expanded_field (casts_in (facts j)) m.sender m.number i) (has_delivered i i) (expanded_in (casts_in (facts j))) (λ m there.
       let parts = filter_in (is_expanded (casts_in (facts j))) (messages_in (casts_in (facts j))) m there in
-      let (c, c_there, is_c) = cast_of_message (casts_in (facts j)) m parts.1 in
-      let expanded : is_expanded (casts_in (facts j)) (message c) ≡ true = subst (λ (x : Carried). is_expanded (casts_in (facts j)) x ≡ true) is_c parts.0 in
-      let own = is_own group facts h j c c_there in
-      let lt_c = inside group facts h c.sender c (own_is_there (facts c.sender) c own) in
-      let same = time_is_senders group facts h j (facts j) c i (h.legal j lt) (is_own group facts h j) c_there expanded in
-      let seen = in_is_among (view group.size (facts c.sender)) (message c) (own_in_view group facts h c.sender c own) in
-      let reached = times_are_reached (member_of group c.sender) (facts c.sender) (message c) i (h.legal c.sender lt_c) seen lt_i in
-      let most = delivered_at_most group facts h c.sender i lt_c lt_i in
-      let at_c : expanded_field (casts_in (facts j)) c.sender c.number i ≤ has_delivered i i = omega (arith, same, reached, most) in
-      subst (λ (x : Carried). expanded_field (casts_in (facts j)) x.sender x.number i ≤ has_delivered i i) (sym is_c) at_c)
+      reported_at_most group facts h j m i lt_i parts.1 parts.0)
 
   -- so it has cast what others have heard of
   pub heard_is_so : (j i : ℕ) → j < group.size → i < group.size → known (facts j) i ≤ has_delivered i i
@@ -173,10 +159,10 @@ module _ (group : Parameters) (facts : ℕ → List Fact) (h : AreTogether group
     -- a frame that says what is so asks nothing impossible
     pub is_possible : (frame : FrameFields) → SaysWhatIsSo group facts frame → is_impossible me (facts j) frame ≡ true → ⊥
     is_possible (CastFrame c) so impossible =
-        let both = and_parts (eqb c.sender j) (ltb (has_delivered j j) c.number) impossible in
+        let both = and_parts (eqb c.sender j) (ltb (has_delivered j j) (last_number c)) impossible in
         let number = own_number c (cast_of_is_in c (own_casts (facts c.sender)) so) in
-        let mine : c.number ≤ has_delivered j j = subst (λ (i : ℕ). c.number ≤ has_delivered i i) (eqb-true c.sender j both.0) number in
-        let above = ltb-true (has_delivered j j) c.number both.1 in
+        let mine : last_number c ≤ has_delivered j j = subst (λ (i : ℕ). last_number c ≤ has_delivered i i) (eqb-true c.sender j both.0) number in
+        let above = ltb-true (has_delivered j j) (last_number c) both.1 in
         omega (arith, mine, above)
     is_possible (StatusFrame s) so impossible =
         cond_both (eqb s.sender j) (list_any (λ d. ltb (has_delivered j d.field) d.amount) s.values) (ltb (has_delivered j j) (value_in s.values j)) (λ (b : Bool). b ≡ true → ⊥)
@@ -194,7 +180,7 @@ module _ (group : Parameters) (facts : ℕ → List Fact) (h : AreTogether group
         let own = cast_of_is_in c (own_casts (facts c.sender)) so in
         let number = own_number c own in
         let lt_i = inside group facts h c.sender c (own_is_there (facts c.sender) c own) in
-        let beyond = ltb-true (has_delivered j c.sender + group.window) c.number far in
+        let beyond = ltb-true (has_delivered j c.sender + group.window) (last_number c) far in
         let near = near_is_so c.sender j lt_i lt in
         omega (arith, number, beyond, near)
     is_near (StatusFrame s) so far = let none : false ≡ true = far in absurd cc

@@ -1,8 +1,9 @@
 -- Elements of lists, and what is so of all of them.
-use Rattle.std.proofs.Common.{◌≡◌, ℕ, zero, suc, List, [], ◌∷◌, ◌++◌, map, take, Some, refl, sym, ap, subst, inl, inr}
+use Rattle.std.proofs.Common.{◌≡◌, ℕ, zero, suc, Bool, true, List, [], ◌∷◌, ◌++◌, map, take, Some, refl, sym, ap, subst, ◌∙◌, inl, inr}
 use Rattle.std.specs.Prelude.{slice_get}
-use Rattle.std.specs.List.{AllByRecursion, flat_map}
-use Rattle.cb_history.proofs.Views.{IsIn}
+use Rattle.std.specs.List.{AllByRecursion, flat_map, list_any}
+use Rattle.std.proofs.lemmas.Bool.{or_cases}
+use Rattle.cb_history.proofs.Views.{IsIn, or_left, or_right}
 
 -- ---- all
 
@@ -57,3 +58,16 @@ pub in_map : {A B : Type 0} (g : A → B) (xs : List A) (x : A) → IsIn x xs �
 in_map g [] x there = absurd there
 in_map g (y ∷ xs) x (inl same) = inl (ap g same)
 in_map g (y ∷ xs) x (inr later) = inr (in_map g xs x later)
+
+-- some element passes a test
+pub any_in : {A : Type 0} (p : A → Bool) (xs : List A) → list_any p xs ≡ true → (a : A) × IsIn a xs × (p a ≡ true)
+any_in p [] some = absurd cc
+any_in p (x ∷ xs) some = elim (or_cases (p x) (list_any p xs) some) [
+  | inl here ↦ (x, inl refl, here)
+  | inr later ↦ let (a, there, passes) = any_in p xs later in (a, inr there, passes)
+]
+
+pub in_any : {A : Type 0} (p : A → Bool) (xs : List A) (a : A) → IsIn a xs → p a ≡ true → list_any p xs ≡ true
+in_any p [] a there passes = absurd there
+in_any p (x ∷ xs) a (inl same) passes = or_left (p x) (list_any p xs) (ap p (sym same) ∙ passes)
+in_any p (x ∷ xs) a (inr later) passes = or_right (p x) (list_any p xs) (in_any p xs a later passes)

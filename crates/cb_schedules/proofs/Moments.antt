@@ -1,7 +1,8 @@
 -- A message at one moment of a run: where it stands, and its time.
-use Rattle.std.proofs.Common.{◌≡◌, ℕ, ◌<◌, Bool, true, false, cond, eqb, List, [], refl, sym, ap, subst, ◌∙◌}
+use Rattle.std.proofs.Common.{◌≡◌, ℕ, ◌<◌, ◌≤◌, Bool, true, false, cond, eqb, List, [], refl, sym, ap, subst, ◌∙◌, arith}
 use Rattle.cb_times.specs.declared.name.Name.{Name}
-use Rattle.cb_frames.specs.Fields.{CastFields, Carried}
+use Rattle.cb_frames.specs.Fields.{CastFields, Carried, messages_of, first_number, last_number}
+use Rattle.cb_frames.proofs.Carried.{carried_is_of_cast}
 use Rattle.cb_delay.specs.declared.message.Message.{Message}
 use Rattle.cb_delay.specs.declared.message.Event.TheVariants.{Cast, Deliver}
 use Rattle.cb_diffs.specs.Expansion.{expanded_time}
@@ -9,16 +10,16 @@ use Rattle.cb_causality.specs.Events.{name_of, Has}
 use Rattle.cb_causality.specs.StampedMachine.{erased, without_time, without_times, IsTimeOf}
 use Rattle.cb_causality.proofs.Counting.{get_map, get_map_from}
 use Rattle.cb_history.specs.Group.{Parameters, Identity}
-use Rattle.cb_history.specs.Facts.{Fact, casts_in, is_there}
+use Rattle.cb_history.specs.Facts.{Fact, casts_in, messages_in, is_there}
 use Rattle.cb_history.specs.View.{view, is_among, message_in}
-use Rattle.cb_history.specs.Answers.{own_casts}
+use Rattle.cb_history.specs.Answers.{delivered, own_casts}
 use Rattle.cb_history.specs.Events.{event_in, events}
 use Rattle.cb_history.proofs.Views.{IsIn}
-use Rattle.cb_history.proofs.Lists.{among_is, in_is_among}
-use Rattle.cb_history.proofs.Names.{message, view_is_of_casts}
-use Rattle.cb_history.proofs.Buffers.{cast_there}
+use Rattle.cb_history.proofs.Lists.{carried_there, among_is, in_is_among}
+use Rattle.cb_history.proofs.Names.{view_is_of_casts}
+use Rattle.cb_history.proofs.Runs.{message_is_there, own_is_delivered}
 use Rattle.cb_schedules.specs.Honest.{member_of, events_of, AreTogether}
-use Rattle.cb_schedules.proofs.Members.{inside, is_own, own_event, own_is_there}
+use Rattle.cb_schedules.proofs.Members.{carrier_there, inside, is_own, own_event, own_is_there, own_message_is_there}
 use Rattle.cb_schedules.proofs.Lists.{index_of, in_by_index}
 
 -- a message of this name
@@ -65,37 +66,62 @@ module _ (group : Parameters) (facts : ℕ → List Fact) (h : AreTogether group
     pub cast : CastFields
     pub there : IsIn cast (casts_in (facts j))
     pub own : IsIn cast (own_casts (facts m.sender))
-    pub sender_is : cast.sender ≡ m.sender
-    pub number_is : cast.number ≡ m.number
+    pub found : Carried
+    pub has : IsIn found (messages_of cast)
+    pub sender_is : found.sender ≡ m.sender
+    pub number_is : found.number ≡ m.number
+    pub low : first_number cast ≤ m.number
+    pub high : m.number ≤ last_number cast
     pub member : j < group.size
     pub sender_member : m.sender < group.size
 
   pub own_cast_of : (j : ℕ) (m : Name) → is_there (casts_in (facts j)) m.sender m.number ≡ true → HasOwnCast j m
   own_cast_of j m there =
-      let found = cast_there (casts_in (facts j)) m.sender m.number there in
-      let own : IsIn found.cast (own_casts (facts m.sender)) = subst (λ (i : ℕ). IsIn found.cast (own_casts (facts i))) found.sender_is (is_own group facts h j found.cast found.there) in
+      let c = carrier_there (casts_in (facts j)) m.sender m.number there in
+      let of = carried_is_of_cast c.cast c.found c.has in
+      let low = of.low in
+      let high = of.high in
+      let number = c.number_is in
+      let own : IsIn c.cast (own_casts (facts m.sender)) = subst (λ (i : ℕ). IsIn c.cast (own_casts (facts i))) (sym of.sender_is ∙ c.sender_is) (is_own group facts h j c.cast c.there) in
       record {
-        cast = found.cast;
-        there = found.there;
+        cast = c.cast;
+        there = c.there;
         own = own;
-        sender_is = found.sender_is;
-        number_is = found.number_is;
-        member = inside group facts h j found.cast found.there;
-        sender_member = inside group facts h m.sender found.cast (own_is_there (facts m.sender) found.cast own);
+        found = c.found;
+        has = c.has;
+        sender_is = c.sender_is;
+        number_is = c.number_is;
+        low = omega (arith, low, number);
+        high = omega (arith, high, number);
+        member = inside group facts h j c.cast c.there;
+        sender_member = inside group facts h m.sender c.cast (own_is_there (facts m.sender) c.cast own);
       }
+
+  -- the message there, and with its sender
+  pub message_here : (j : ℕ) (m : Name) (c : HasOwnCast j m) → IsIn c.found (messages_in (casts_in (facts j)))
+  message_here j m c = carried_there (casts_in (facts j)) c.cast c.found c.there c.has
+
+  pub message_of_sender : (j : ℕ) (m : Name) (c : HasOwnCast j m) → IsIn c.found (messages_in (own_casts (facts m.sender)))
+  message_of_sender j m c = carried_there (own_casts (facts m.sender)) c.cast c.found c.own c.has
+
+  -- so its sender has made it
+  pub is_made : (j : ℕ) (m : Name) (c : HasOwnCast j m) → m.number ≤ delivered (member_of group m.sender) (facts m.sender) m.sender
+  is_made j m c =
+      own_is_delivered (member_of group m.sender) (facts m.sender) m.number (h.legal m.sender c.sender_member)
+      (message_is_there (casts_in (facts m.sender)) c.found m.sender m.number (own_message_is_there (facts m.sender) c.found (message_of_sender j m c)) c.sender_is c.number_is)
 
   -- and its time stands with it
   pub has_clock : (j : ℕ) (m : Name) → is_there (casts_in (facts j)) m.sender m.number ≡ true → IsTimeOf (events_of group facts) m (clock m)
   has_clock j m there =
       let c = own_cast_of j m there in
-      let (n, at) = own_event group facts h m.sender c.cast c.own in
+      let (n, at) = own_event group facts h m.sender c.found (message_of_sender j m c) in
       record {
         member = m.sender;
         index = n;
-        event = Cast (message_in group.size (casts_in (facts m.sender)) (message c.cast));
+        event = Cast (message_in group.size (casts_in (facts m.sender)) c.found);
         stands = at;
-        named = ap (λ (i : ℕ). record { sender = i; number = c.cast.number }) c.sender_is ∙ ap (λ (k : ℕ). record { sender = m.sender; number = k }) c.number_is;
-        timed = ap (λ (i : ℕ). expanded_time group.size (casts_in (facts m.sender)) i c.cast.number) c.sender_is ∙ ap (λ (k : ℕ). expanded_time group.size (casts_in (facts m.sender)) m.sender k) c.number_is;
+        named = ap (λ (i : ℕ). record { sender = i; number = c.found.number }) c.sender_is ∙ ap (λ (k : ℕ). record { sender = m.sender; number = k }) c.number_is;
+        timed = ap (λ (i : ℕ). expanded_time group.size (casts_in (facts m.sender)) i c.found.number) c.sender_is ∙ ap (λ (k : ℕ). expanded_time group.size (casts_in (facts m.sender)) m.sender k) c.number_is;
       }
 
   -- what a member has delivered is there with it

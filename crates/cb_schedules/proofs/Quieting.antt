@@ -1,11 +1,12 @@
 -- When everything is delivered, one round more makes it stable, and then nothing changes any more.
 use Rattle.std.proofs.Common.{◌≡◌, ◌≢◌, ℕ, zero, suc, ◌<◌, ◌≤◌, Bool, true, false, not, ◌&&◌, eqb, ltb, List, [], ◌∷◌, ◌++◌, map, Option, Some, None, Result, refl, sym, ap, subst, ◌∙◌, append_assoc, arith, inl, inr}
 use Rattle.std.specs.List.{filter, list_any, range_with_len}
-use Rattle.std.proofs.lemmas.Bool.{cond_both, cases_eq, eq-eqb, eqb-true, ne_eqb, le-ltb, and_from, both_ways}
+use Rattle.std.proofs.lemmas.Bool.{cond_both, cases_eq, eq-eqb, eqb-true, ne_eqb, le-ltb, both_ways}
 use Rattle.std.proofs.lemmas.List.{append-nil}
 use mathlib.Core.Path.{fun_ext}
 use Rattle.cb_frames.specs.declared.fault.FrameFault.{FrameFault}
-use Rattle.cb_frames.specs.Fields.{CastFields, StatusFields, FrameFields, CastFrame, StatusFrame, RequestFrame}
+use Rattle.cb_frames.specs.Fields.{CastFields, StatusFields, FrameFields, CastFrame, StatusFrame, RequestFrame, Carried, messages_of, last_number}
+use Rattle.cb_frames.proofs.Carried.{carried_is_of_cast}
 use Rattle.cb_frames.specs.Text.{text_of}
 use Rattle.cb_history.specs.declared.answer.ArriveRefusal.{ArriveRefusal}
 use Rattle.cb_history.specs.declared.answer.TickRefusal.{TickRefusal}
@@ -18,7 +19,7 @@ use Rattle.cb_history.specs.Answers.{delivered, own_casts, is_full, are_members,
 use Rattle.cb_history.specs.Legal.{Call, ToCast, ToTake, ToTick, arrive_entry, tick_entry, and_entry, history_after}
 use Rattle.cb_history.specs.LegalFacts.{AreFactsOf}
 use Rattle.cb_history.proofs.Views.{IsIn, all_in_range}
-use Rattle.cb_history.proofs.Lists.{both_false}
+use Rattle.cb_history.proofs.Lists.{all_of, carried_there, both_false}
 use Rattle.cb_history.proofs.Walks.{view_reported}
 use Rattle.cb_history.proofs.Times.{seen_is_there, all_from_range, count_grows}
 use Rattle.cb_history.proofs.Statuses.{last_status_with_one_more, new_status_is_a_new_time}
@@ -30,7 +31,6 @@ use Rattle.cb_history.proofs.Acknowledged.{acknowledged_is_delivered}
 use Rattle.cb_history.proofs.Buffers.{cast_of_is_in}
 use Rattle.cb_history.proofs.Keeping.{in_range, range_in}
 use Rattle.cb_history.proofs.Views.{filter_in, in_filter, not_true}
-use Rattle.cb_history.proofs.Names.{message}
 use Rattle.cb_schedules.specs.Schedule.{Setting, IsSetting, seat_at, Step, Asked, Calls, TickAnswer, GroupState, with_history, after_asked, step_after, run_from}
 use Rattle.cb_schedules.specs.Messages.{facts_at}
 use Rattle.cb_schedules.specs.Honest.{SaysWhatIsSo, IsHonest}
@@ -39,7 +39,7 @@ use Rattle.cb_schedules.specs.Rounds.{IsNotFull}
 use Rattle.cb_schedules.specs.RoundLaws.{IsNoCastStep, EverythingIsStable, NothingChangesAnyMore, cast_count}
 use Rattle.cb_schedules.proofs.Calling.{facts_push}
 use Rattle.cb_schedules.proofs.Courses.{IsFair, asked_is, step_goes_on}
-use Rattle.cb_schedules.proofs.Members.{own_is_there, own_sender, message_of_cast, delivered_at_most, stands_at, inside}
+use Rattle.cb_schedules.proofs.Members.{own_is_there, own_sender, delivered_at_most, stands_at, inside}
 use Rattle.cb_schedules.proofs.Knowing.{value_below, own_number}
 use Rattle.cb_schedules.proofs.Later.{IsLater, grows, no_cast, delivered_later, cast_count_later, later_joins}
 use Rattle.cb_schedules.proofs.Waves.{Waves}
@@ -180,11 +180,11 @@ module _ (setting : Setting) (s : GroupState) (inv : IsConsistent setting s) (qu
   pub everything_is_stable : EverythingIsStable setting s
   everything_is_stable i lt = (
     stable_is i lt,
-    filter_none (λ c. ltb (stable (seat_at setting i) (facts_at s i)) c.number) (own_casts (facts_at s i)) (λ c own.
+    filter_none (λ c. ltb (stable (seat_at setting i) (facts_at s i)) (last_number c)) (own_casts (facts_at s i)) (λ c own.
         let sender = own_sender setting.group (facts_at s) inv.together i c own in
         let number = own_number setting.group (facts_at s) inv.together c (subst (λ (k : ℕ). IsIn c (own_casts (facts_at s k))) (sym sender) own) in
-        let most : c.number ≤ delivered (seat_at setting i) (facts_at s i) i = subst (λ (k : ℕ). c.number ≤ delivered (seat_at setting k) (facts_at s k) k) sender number in
-        le-ltb (stable (seat_at setting i) (facts_at s i)) c.number (omega (arith, most, stable_is i lt))),
+        let most : last_number c ≤ delivered (seat_at setting i) (facts_at s i) i = subst (λ (k : ℕ). last_number c ≤ delivered (seat_at setting k) (facts_at s k) k) sender number in
+        le-ltb (stable (seat_at setting i) (facts_at s i)) (last_number c) (omega (arith, most, stable_is i lt))),
   )
 
   -- ---- and no arrival changes anything
@@ -200,10 +200,13 @@ module _ (setting : Setting) (s : GroupState) (inv : IsConsistent setting s) (qu
         let there = own_is_there (facts_at s c.sender) c own in
         let lt_c = inside setting.group (facts_at s) inv.together c.sender c there in
         let number = own_number setting.group (facts_at s) inv.together c own in
-        let low = (stands_at setting.group (facts_at s) inv.together c.sender lt_c).positive (message c) (message_of_cast (casts_in (facts_at s c.sender)) c there) in
-        and_from (is_there (casts_in (facts_at s i)) c.sender c.number) true
-        (seen_is_there (seat_at setting i) (casts_in (facts_at s i)) (view setting.group.size (facts_at s i)) (own_casts (facts_at s i)) c.sender c.number
-        (stands_at setting.group (facts_at s) inv.together i lt) low (omega (arith, number, quiet.everywhere i c.sender lt lt_c))) refl
+        all_of (λ (m : Carried). is_there (casts_in (facts_at s i)) m.sender m.number) (messages_of c) (λ m has.
+        let of = carried_is_of_cast c m has in
+        let high = of.high in
+        let low = (stands_at setting.group (facts_at s) inv.together c.sender lt_c).positive m (carried_there (casts_in (facts_at s c.sender)) c m there has) in
+        subst (λ (k : ℕ). is_there (casts_in (facts_at s i)) k m.number ≡ true) (sym of.sender_is)
+        (seen_is_there (seat_at setting i) (casts_in (facts_at s i)) (view setting.group.size (facts_at s i)) (own_casts (facts_at s i)) c.sender m.number
+        (stands_at setting.group (facts_at s) inv.together i lt) low (omega (arith, high, number, quiet.everywhere i c.sender lt lt_c))))
 
     none_in_list : (p : ℕ → Bool) (ks : List ℕ) → ((k : ℕ) → IsIn k ks → p k ≡ false) → list_any p ks ≡ false
     none_in_list p [] each = refl

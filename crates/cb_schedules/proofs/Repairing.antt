@@ -8,9 +8,8 @@ use Rattle.cb_history.specs.Facts.{casts_in, is_there}
 use Rattle.cb_history.specs.Known.{known}
 use Rattle.cb_history.specs.View.{view}
 use Rattle.cb_history.specs.Answers.{delivered, own_casts}
-use Rattle.cb_history.proofs.Runs.{run_at_most, expanded_are_there, delivered_is_expanded, own_is_delivered}
+use Rattle.cb_history.proofs.Runs.{run_at_most, expanded_are_there, delivered_is_expanded}
 use Rattle.cb_history.proofs.Times.{seen_is_there}
-use Rattle.cb_history.proofs.Buffers.{cast_is_there}
 use Rattle.cb_schedules.specs.Schedule.{Setting, IsSetting, seat_at, GroupState, run_from}
 use Rattle.cb_schedules.specs.Messages.{facts_at, HasDelivered}
 use Rattle.cb_schedules.specs.Honest.{member_of}
@@ -20,8 +19,8 @@ use Rattle.cb_schedules.specs.RoundLaws.{IsNoCastStep, EverybodyHasEverything, E
 use Rattle.cb_schedules.proofs.GoingOn.{runs_join_from}
 use Rattle.cb_schedules.proofs.Courses.{consistent_from}
 use Rattle.cb_schedules.proofs.Lists.{all_both}
-use Rattle.cb_schedules.proofs.Members.{own_is_there, delivered_at_most, stands_at}
-use Rattle.cb_schedules.proofs.Moments.{has_there, own_cast_of, seen_has}
+use Rattle.cb_schedules.proofs.Members.{delivered_at_most, stands_at}
+use Rattle.cb_schedules.proofs.Moments.{has_there, own_cast_of, is_made, seen_has}
 use Rattle.cb_schedules.proofs.Closing.{IsClosed, seen_number, closed_is_seen}
 use Rattle.cb_schedules.proofs.Knowing.{near_is_so, heard_is_so}
 use Rattle.cb_schedules.proofs.Headlines.{member_has, cast_stands, numbered}
@@ -138,12 +137,10 @@ module _ (setting : Setting) (s : GroupState) (inv : IsConsistent setting s) whe
   pub is_one_of_the_casts : (k : ℕ) (m : Name) → HasDelivered setting s k m → (m.sender < setting.group.size) × (1 ≤ m.number) × (m.number ≤ cast_count setting s m.sender)
   is_one_of_the_casts k m has =
       let there = has_there setting.group (facts_at s) inv.together k m has (member_has setting s inv k m has) in
-      let c = own_cast_of setting.group (facts_at s) inv.together k m there in
-      let here = own_is_there (facts_at s m.sender) c.cast c.own in (
+      let c = own_cast_of setting.group (facts_at s) inv.together k m there in (
         c.sender_member,
         numbered setting s inv k m has,
-        own_is_delivered (seat_at setting m.sender) (facts_at s m.sender) m.number (inv.together.legal m.sender c.sender_member)
-            (cast_is_there (casts_in (facts_at s m.sender)) c.cast m.sender m.number here c.sender_is c.number_is),
+        is_made setting.group (facts_at s) inv.together k m c,
       )
 
   module _ (all : HasAll setting s) where

@@ -6,7 +6,7 @@ use Rattle.cb_varint.specs.Reading.{spelling}
 use Rattle.cb_frames.specs.declared.frame.TheConstants.{LAST_NUMBER, LONGEST_PAYLOAD, MOST_RANGES, MOST_FRAMES}
 use Rattle.cb_frames.specs.declared.frame.Range.{Range}
 use Rattle.cb_frames.specs.declared.fault.FrameFault.{FrameFault}
-use Rattle.cb_frames.specs.Fields.{CastFields, RequestFields, FrameFields, CastFrame, StatusFrame, RequestFrame}
+use Rattle.cb_frames.specs.Fields.{CastFields, RequestFields, FrameFields, CastFrame, StatusFrame, RequestFrame, last_number}
 use Rattle.cb_frames.specs.Text.{text_of, request_kind, request_numbers}
 use Rattle.cb_frames.specs.Reading.{frame_at}
 use Rattle.cb_frames.specs.Laws.{IsBytes}
@@ -107,7 +107,7 @@ module _ (group : Parameters) (facts : ℕ → List Fact) (i : ℕ) (are : AreFa
       cond_both (eqb r.asked i) _ _ (AllByRecursion GoesOut)
       (λ _. all_map GoesOut (λ c. record { to = Some r.requester; bytes = text_of (CastFrame c) }) (take MOST_FRAMES (filter (is_asked_for r.ranges) (window (member_of group i) (facts i)))) (λ c there.
       let asked = filter_in (is_asked_for r.ranges) (window (member_of group i) (facts i)) c (in_take MOST_FRAMES (filter (is_asked_for r.ranges) (window (member_of group i) (facts i))) c there) in
-      each c (filter_in (λ c. ltb (stable (member_of group i) (facts i)) c.number) (own_casts (facts i)) c asked.1).1))
+      each c (filter_in (λ c. ltb (stable (member_of group i) (facts i)) (last_number c)) (own_casts (facts i)) c asked.1).1))
       (λ _. tt)
 
 -- ---- frames that were sent
