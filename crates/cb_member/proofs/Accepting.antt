@@ -21,7 +21,7 @@ use Rattle.cb_history.specs.LegalFacts.{AreFactsOf}
 use Rattle.cb_history.specs.State.{MemberState, answer_to_arrival, entry_by, state_after}
 use Rattle.cb_history.proofs.Walks.{view_status}
 use Rattle.cb_member.specs.declared.arrival.course.Course.{Course}
-use Rattle.cb_member.specs.declared.arrival.course.Course.TheVariants.{Early, Waits, Alone, LetsGo}
+use Rattle.cb_member.specs.declared.arrival.course.Course.TheVariants.{Early, Waits, Alone, LeadsOn, LetsGo}
 use Rattle.cb_member.specs.declared.recorder.Recorder.{Recorder}
 use Rattle.cb_member.specs.declared.recorder.arriving.Arriving.{Arriving}
 use Rattle.cb_member.specs.declared.recorder.arriving.Named.{Named}
@@ -125,6 +125,7 @@ copies_are : (c : CastFields) (course : Course) (state : State) (facts : List Fa
 copies_are c (Early spare) state facts copies before after are keeps copied joins events = copied ∙ sym (none_of before after _ joins events)
 copies_are c (Waits time) state facts copies before after are keeps copied joins events = copied ∙ sym (none_of before after _ joins events)
 copies_are c (Alone time) state facts copies before after are keeps copied joins events = copied ∙ sym (one_of before after _ _ joins events)
+copies_are c (LeadsOn time count) state facts copies before after are keeps copied joins events = copied facts are keeps
 copies_are c (LetsGo spare count) state facts copies before after are keeps copied joins events = copied facts are keeps
 
 pub same_named : (o : Option Named) (a b : Named) → o ≡ Some a → o ≡ Some b → a ≡ b

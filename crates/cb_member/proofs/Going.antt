@@ -20,9 +20,9 @@ use Rattle.cb_member.specs.declared.delivery.Delivery.{Delivery}
 use Rattle.cb_member.specs.declared.knowledge.Knowledge.{Knowledge}
 use Rattle.cb_member.specs.declared.reception.Reception.{Reception}
 use Rattle.cb_member.specs.declared.state.State.{State}
-use Rattle.cb_member.specs.Course.{GoesAlone, IsEarly, MustWait, TakesAndDelivers, TakesAndWaits}
+use Rattle.cb_member.specs.Course.{GoesAlone, HasTime, IsEarly, MustWait, TakesAndDelivers, TakesAndWaits}
 use Rattle.cb_member.specs.Delivery.{Drains, NoneReady}
-use Rattle.cb_member.specs.Passing.{DeliversAlone, IsAlone, TakesInOrder, message_at}
+use Rattle.cb_member.specs.Passing.{DeliversAlone, HoldsIt, IsAlone, TakesInOrder, message_at}
 use Rattle.cb_member.specs.Taking.{CanFollow, HasTakenIn, HasTurn, Hears, TakesInCast}
 use Rattle.cb_member.proofs.Arriving.{is_delivered, no_fewer}
 use Rattle.cb_member.proofs.Courses.{time_is_long}
@@ -78,12 +78,12 @@ module _ (c : CastFields) (spare : List ℕ) (old new : State) (early : IsEarly 
   pub goes_early : TakesAndWaits c old new
   goes_early = waits_so c old new takes none_ready
 
--- ---- in order, and it has to wait
+-- ---- in order
 
-module _ (c : CastFields) (time : List ℕ) (old : State) (must : MustWait c time old) (reception : Reception) (known_then : Knowledge) (message : Message)
+module _ (c : CastFields) (time : List ℕ) (old : State) (has : HasTime c time old) (reception : Reception) (known_then : Knowledge) (message : Message)
     (takes : TakesInOrder c old.reception reception message) (is : message ≡ message_at c time) (hears : Hears c.sender c.number old.knowledge known_then) where
   pub has_its_turn : HasTurn old.delivery.queue message
-  has_its_turn = passing_has_turn c old reception known_then message must.has_time.can takes hears
+  has_its_turn = passing_has_turn c old reception known_then message has.can takes hears
 
   module _ (queue : Queue) (is_queue : IsDelayQueue old.delivery.queue) (holds : Holds old.delivery.queue queue (fin.insert old.delivery.queue.held message.name message))
       (known : List ℕ) (raised : IsRaised known_then.known message.time known) where
@@ -93,19 +93,30 @@ module _ (c : CastFields) (time : List ℕ) (old : State) (must : MustWait c tim
     abbrev after : State
     after = record old { delivery = record old.delivery { queue = queue }; reception = reception; knowledge = record known_then { known = known } }
 
-    none_may : NoneReady waiting
-    none_may i ready = elim (held_then old.delivery.queue message ready.0 (sym (ap (λ (held : fin.FinMap name_cmp Message). fin.get held ready.0.name) holds.now_held) ∙ ready.1)) [
-      | inl same ↦
-          let it : ready.0 ≡ message_at c time = sym same ∙ is in
-          let sender : i ≡ c.sender = sym ready.2 ∙ ap (λ (x : Message). x.name.sender) it in
-          must.not_ready (subst (λ (s : ℕ). IsReady s (field time) (field old.delivery.time)) sender (subst (λ (x : Message). IsReady i (field x.time) (field old.delivery.time)) it ready.3))
-      | inr before ↦ must.none_ready i (ready.0, before, ready.2, ready.3)
-    ]
+    holds_it : HoldsIt old.delivery message waiting
+    holds_it = record { time = refl; is_queue = is_queue; queue = holds }
 
-    pub goes_waiting : TakesAndWaits c old after
-    goes_waiting = waits_so c old after
-        (passing_takes_cast c old reception known_then message must.has_time.can takes hears waiting (record known_then { known = known })
-        (record { time = refl; is_queue = is_queue; queue = holds }) raised.size (λ i other. raised.each i) refl) none_may
+    pub is_taken_in : TakesInCast c old after
+    is_taken_in = passing_takes_cast c old reception known_then message has.can takes hears waiting (record known_then { known = known }) holds_it raised.size (λ i other. raised.each i) refl
+
+    pub is_held : HoldsIt old.delivery (message_at c time) waiting
+    is_held = subst (λ (x : Message). HoldsIt old.delivery x waiting) is holds_it
+
+-- ---- in order, and it has to wait
+
+module _ (c : CastFields) (time : List ℕ) (old new : State) (must : MustWait c time old) (takes : TakesInCast c old new) (holds : HoldsIt old.delivery (message_at c time) new.delivery) where
+  none_may : NoneReady new.delivery
+  none_may i ready =
+      let rule : IsReady i (field ready.0.time) (field old.delivery.time) = subst (λ (t : List ℕ). IsReady i (field ready.0.time) (field t)) holds.time ready.3 in
+      elim (held_then old.delivery.queue (message_at c time) ready.0 (sym (ap (λ (held : fin.FinMap name_cmp Message). fin.get held ready.0.name) holds.queue.now_held) ∙ ready.1)) [
+        | inl same ↦
+            let sender : i ≡ c.sender = sym ready.2 ∙ ap (λ (x : Message). x.name.sender) (sym same) in
+            must.not_ready (subst (λ (s : ℕ). IsReady s (field time) (field old.delivery.time)) sender (subst (λ (x : Message). IsReady i (field x.time) (field old.delivery.time)) (sym same) rule))
+        | inr before ↦ must.none_ready i (ready.0, before, ready.2, rule)
+      ]
+
+  pub goes_waiting : TakesAndWaits c old new
+  goes_waiting = waits_so c old new takes none_may
 
 -- ---- in order, and delivered alone
 

@@ -10,7 +10,7 @@ use Rattle.cb_history.specs.Facts.{Fact, CastReceived, casts_in}
 use Rattle.cb_history.specs.Known.{expanded_count}
 use Rattle.cb_history.specs.LegalFacts.{AreFactsOf}
 use Rattle.cb_member.specs.declared.arrival.course.Course.{Course}
-use Rattle.cb_member.specs.declared.arrival.course.Course.TheVariants.{Early, Waits, Alone, LetsGo}
+use Rattle.cb_member.specs.declared.arrival.course.Course.TheVariants.{Early, Waits, Alone, LeadsOn, LetsGo}
 use Rattle.cb_member.specs.declared.delivery.Delivery.{Delivery}
 use Rattle.cb_member.specs.declared.state.State.{State}
 use Rattle.cb_member.specs.Delivery.{Drains, NoneReady, LeavesWaiting}
@@ -23,6 +23,7 @@ abbrev pub most : Course → ℕ
 most (Early spare) = 0
 most (Waits time) = 0
 most (Alone time) = 1
+most (LeadsOn time count) = count
 most (LetsGo spare count) = count
 
 -- no more than so many messages wait for the delay rule once the cast is taken in, and before anything is delivered
@@ -66,6 +67,7 @@ abbrev pub CanGo : CastFields → Course → State → Type 0
 CanGo c (Early spare) state = IsEarly c spare state
 CanGo c (Waits time) state = MustWait c time state
 CanGo c (Alone time) state = GoesAlone c time state
+CanGo c (LeadsOn time count) state = HasTime c time state × HoldsAtMost c state count
 CanGo c (LetsGo spare count) state = CanTakeIn c spare state × HoldsAtMost c state count
 
 -- as if the cast had been taken in, and what was ready had been delivered then

@@ -8,10 +8,10 @@ ghost use Rattle.cb_frames.specs.Text.{RisesFrom};
 ghost use Rattle.cb_history.specs.Answers.{are_members};
 ghost use Rattle.cb_member.specs.State.{IsState};
 ghost use Rattle.cb_member.specs.Arriving.{own_verdict, other_verdict, JudgesCast, DeliversWith};
-ghost use Rattle.cb_member.specs.Course.{CanGo, HoldsAtMost, IsEarly, MustWait, GoesAlone, TakesAndDelivers, TakesAndWaits, most};
+ghost use Rattle.cb_member.specs.Course.{CanGo, HasTime, HoldsAtMost, IsEarly, MustWait, GoesAlone, TakesAndDelivers, TakesAndWaits, most};
 ghost use Rattle.cb_member.specs.Foreseen.{JoinsEvents};
-ghost use Rattle.cb_member.specs.Passing.{message_at};
-ghost use Rattle.cb_member.specs.Taking.{CanTakeIn};
+ghost use Rattle.cb_member.specs.Passing.{HoldsIt, message_at};
+ghost use Rattle.cb_member.specs.Taking.{CanTakeIn, TakesInCast};
 ghost use Rattle.cb_delay.specs.declared.message.Event.TheVariants.{Deliver};
 
 use crate::arrival::are_fields;
@@ -83,6 +83,7 @@ impl State {
             Course::Early { spare } => self.take_early(cast, spare),
             Course::Waits { time } => self.let_wait(cast, time),
             Course::Alone { time } => self.deliver_alone(cast, time, events),
+            Course::LeadsOn { time, most: _ } => self.lead_on(cast, time, events),
             Course::LetsGo { spare, most: _ } => self.let_go(cast, spare, events),
         }
     }
@@ -99,6 +100,15 @@ impl State {
     fn let_wait(&mut self, cast: Cast, time: VectorTime)
         requires { MustWait (cast_fields cast) time self.old }
         ensures { TakesAndWaits (cast_fields cast) self.old self.new }
+    {
+        self.take_in_at_once(cast, time);
+    }
+
+    /// Takes in a cast that comes in order, as if it were kept and taken out again. It takes no memory.
+    fn take_in_at_once(&mut self, cast: Cast, time: VectorTime)
+        requires { HasTime (cast_fields cast) time self.old }
+        ensures takes { TakesInCast (cast_fields cast) self.old self.new }
+        ensures holds { HoldsIt self.old.delivery (message_at (cast_fields cast) time) self.new.delivery }
     {
         let (sender, number) = (cast.sender, cast.number);
         let message = self.reception.take_in_order(cast, time);
@@ -121,6 +131,21 @@ impl State {
         let message = self.reception.take_in_order(cast, time);
         self.knowledge.hear(sender, number);
         self.delivery.deliver_alone(message, events);
+    }
+
+    /// It came in order, and others may go with it.
+    fn lead_on(&mut self, cast: Cast, time: VectorTime, events: &mut Vec<Event>)
+        requires can { HasTime (cast_fields cast) time self.old }
+        requires room { (count : ℕ) × HoldsAtMost (cast_fields cast) self.old count
+            × (vec_len events.old + count ≤ vec_capacity events.old) }
+        ensures takes { TakesAndDelivers (cast_fields cast) self.old self.new events.old.items
+            events.new.items }
+        ensures grows { vec_len events.old ≤ vec_len events.new }
+        ensures few { (count : ℕ) → HoldsAtMost (cast_fields cast) self.old count
+            → vec_len events.new ≤ vec_len events.old + count }
+    {
+        self.take_in_at_once(cast, time);
+        self.delivery.drain(events);
     }
 
     /// Others may go with it.

@@ -1,8 +1,9 @@
-//! The course of a received cast: one of four ways, told before anything changes, with what is made for it.
+//! The course of a received cast: one of five ways, told before anything changes, with what is made for it.
 //!
 //! `LetsGo` would do for every cast. The others are for what comes most, and cost less.
 
-ghost use Rattle.std.specs.Prelude.{◌≡◌, ◌≢◌, ◌≤◌, ◌↔◌, All, IfOk, IsTrue, length};
+ghost use Rattle.std.specs.Prelude.{◌≡◌, ◌≢◌, ◌≤◌, ◌+◌, ◌↔◌, All, IfOk, IsTrue, length};
+ghost use Rattle.std.specs.FinMap as map;
 ghost use Rattle.cb_times.specs.Order.{field};
 ghost use Rattle.cb_frames.specs.Fields.{cast_fields};
 ghost use Rattle.cb_delay.specs.Rule.{IsReady};
@@ -10,7 +11,7 @@ ghost use Rattle.cb_diffs.specs.Expansion.{AreMembers};
 ghost use Rattle.cb_member.specs.State.{IsAlike};
 ghost use Rattle.cb_member.specs.Taking.{CanFollow};
 ghost use Rattle.cb_member.specs.Passing.{IsInOrder};
-ghost use Rattle.cb_member.specs.Course.{CanGo, HasTime, HoldsAtMost, most};
+ghost use Rattle.cb_member.specs.Course.{CanGo, HasTime, most};
 
 use crate::state::State;
 use cb_frames::Cast;
@@ -26,6 +27,8 @@ pub enum Course {
     Waits { time: VectorTime },
     /// It comes in order, and is delivered alone.
     Alone { time: VectorTime },
+    /// It comes in order, and may let others go: at most so many are delivered.
+    LeadsOn { time: VectorTime, most: usize },
     /// It may let others go: at most so many are delivered.
     LetsGo { spare: VectorTime, most: usize },
 }
@@ -38,6 +41,7 @@ impl Course {
         match self {
             Course::Early { .. } | Course::Waits { .. } => 0,
             Course::Alone { .. } => 1,
+            Course::LeadsOn { most, .. } => *most,
             Course::LetsGo { most, .. } => *most,
         }
     }
@@ -71,7 +75,8 @@ impl State {
         } else if self.delivery.has_none_ready() {
             return Ok(Course::Waits { time });
         }
-        self.letting_go(cast, time)
+        let most = self.most_with(1)?;
+        Ok(Course::LeadsOn { time, most })
     }
 
     /// Whether a cast that comes in order may be delivered. Once its sender's casts before it are delivered, so is all that the sender
@@ -108,16 +113,15 @@ impl State {
         ensures course { IfOk result (λ course. CanGo (cast_fields cast.now) course self.new) }
     {
         self.reception.reserve(cast.sender)?;
-        let most = self.most_with(cast)?;
+        let more = self.reception.would_expand(cast.sender, cast.number);
+        let most = self.most_with(more)?;
         Ok(Course::LetsGo { spare, most })
     }
 
-    /// How many messages wait for the delay rule once the cast is there: those that do, and those that can be expanded with it.
-    fn most_with(&self, cast: &Cast) -> Result<usize, NoMemory>
-        requires { CanFollow (cast_fields cast.now) self.now }
-        ensures { IfOk result (HoldsAtMost (cast_fields cast.now) self.now) }
+    /// How many messages wait for the delay rule once so many more are expanded.
+    fn most_with(&self, more: u32) -> Result<usize, NoMemory>
+        ensures { IfOk result (λ most. most ≡ map.len self.now.delivery.queue.held + more) }
     {
-        let more = self.reception.would_expand(cast.sender, cast.number);
         match self.delivery.queue.len().checked_add(more as usize) {
             Some(most) => Ok(most),
             // more than memory has places

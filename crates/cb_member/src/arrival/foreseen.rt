@@ -24,6 +24,7 @@ impl State {
         match course {
             Course::Early { .. } | Course::Waits { .. } => Ok(Vec::new(self.alloc)),
             Course::Alone { time } => alone(self.alloc, cast, time),
+            Course::LeadsOn { most, .. } => self.delivered_by_twin(cast, *most),
             Course::LetsGo { most, .. } => self.delivered_by_twin(cast, *most),
         }
     }

@@ -1,11 +1,10 @@
-use Rattle.std.proofs.Common.{ℕ, ◌∙◌, List, sym, ap, subst, true≢false, arith}
+use Rattle.std.proofs.Common.{ℕ, ◌∙◌, List, sym, subst, true≢false, arith}
 use Rattle.cb_times.specs.Order.{field}
 use Rattle.cb_frames.specs.Fields.{cast_fields}
 use Rattle.cb_delay.specs.Rule.{IsReady}
-use Rattle.cb_member.specs.declared.state.State.{State}
-use Rattle.cb_member.specs.Taking.{CanFollow}
-use Rattle.cb_member.proofs.Alike.{can_follow_alike, leaves_alike, none_ready_alike, with_settled}
-use Rattle.cb_member.proofs.Courses.{expander_long, has_its_time, has_time_alike, is_next, time_fits_queue}
+use Rattle.cb_member.specs.State.{IsAlike}
+use Rattle.cb_member.proofs.Alike.{leaves_alike, none_ready_alike, with_settled}
+use Rattle.cb_member.proofs.Courses.{has_its_time, has_time_alike, is_next, leads_on, time_fits_queue}
 use Rattle.cb_member.proofs.TakingIn.{sender_is_counted}
 use Rattle.cb_member.proofs.state.State.course_in_order.Goals as goal
 use Rattle.cb_member.proofs.state.State.course_in_order.Goals.{then-is_ready_in_order+else-leaves_waiting, else-is_ready_in_order+else-has_none_ready}
@@ -48,21 +47,16 @@ returns-then-has_none_ready-clause-course c =
       none_ready = none_ready_alike c.args.self.now.delivery c.has_none_ready.new.self same (c.has_none_ready.ensures.none c.if-has_none_ready.true);
     }
 
-pub letting_go-requires-clause-can : goal.letting_go-requires-clause-can
-letting_go-requires-clause-can c =
+pub returns-clause-course : goal.returns-clause-course
+returns-clause-course c =
     let cast = cast_fields c.args.cast.now in
     let state = c.args.self.now in
+    let has = has_its_time cast c.in_ok-time.time state c.requires.can c.requires.in_order c.in_ok-time.ensures.time c.in_ok-time.ensures.size in
     elim c.if-is_ready_in_order.branch [
       | then-is_ready_in_order+else-leaves_waiting w ↦
-          subst (CanFollow cast) (sym w.self-is)
-          (can_follow_alike cast state _ (with_settled state w.leaves_waiting.new.self w.leaves_waiting.ensures.same) c.requires.can)
+          leads_on cast c.in_ok-time.time state _ c.in_ok-most.most has
+          (subst (IsAlike state) (sym w.self-is) (with_settled state w.leaves_waiting.new.self w.leaves_waiting.ensures.same)) c.in_ok-most.ensures
       | else-is_ready_in_order+else-has_none_ready w ↦
-          subst (CanFollow cast) (sym w.self-is)
-          (can_follow_alike cast state _ (with_settled state w.has_none_ready.new.self w.has_none_ready.ensures.same) c.requires.can)
+          leads_on cast c.in_ok-time.time state _ c.in_ok-most.most has
+          (subst (IsAlike state) (sym w.self-is) (with_settled state w.has_none_ready.new.self w.has_none_ready.ensures.same)) c.in_ok-most.ensures
     ]
-
-pub letting_go-requires-clause-size : goal.letting_go-requires-clause-size
-letting_go-requires-clause-size c = elim c.if-is_ready_in_order.branch [
-  | then-is_ready_in_order+else-leaves_waiting w ↦ c.in_ok-time.ensures.size ∙ expander_long (cast_fields c.args.cast.now) c.args.self.now c.requires.can ∙ ap (λ (s : State). s.seat.group.size) (sym w.self-is)
-  | else-is_ready_in_order+else-has_none_ready w ↦ c.in_ok-time.ensures.size ∙ expander_long (cast_fields c.args.cast.now) c.args.self.now c.requires.can ∙ ap (λ (s : State). s.seat.group.size) (sym w.self-is)
-]
