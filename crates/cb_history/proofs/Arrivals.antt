@@ -1,6 +1,7 @@
 -- Which casts are there after one came.
 use Rattle.std.proofs.Common.{◌≡◌, ℕ, true, not, ◌↔◌, eqb, ltb, List, [], ◌∷◌, ◌++◌, Result, Ok, Err, refl, sym, ap, subst, ◌∙◌, arith, inl, inr}
 use Rattle.std.specs.Prelude.{IsOk}
+use Rattle.std.specs.List.{list_all}
 use Rattle.std.proofs.lemmas.Bool.{cond_both, eq-eqb, eqb-true, ltb-true, and_parts, both_ways, not_from_true}
 use Rattle.cb_times.specs.declared.name.Name.{Name}
 use Rattle.cb_frames.specs.declared.fault.FrameFault.{FrameFault}
@@ -16,13 +17,15 @@ use Rattle.cb_history.specs.Answers.{is_full, delivered, are_members, is_impossi
 use Rattle.cb_history.specs.Legal.{arrive_entry, and_entry}
 use Rattle.cb_history.specs.LegalFacts.{IsStep, AreLegalFacts, NoFacts, OneFactMore, AreFactsOf}
 use Rattle.cb_history.specs.OwnFrameLaws.{IsOfTheGroup}
-use Rattle.cb_history.specs.ArrivalLaws.{AreThere, AcceptedIsThere, ThereStays, CastsAreOfTheGroup}
+use Rattle.cb_history.specs.Singles.{singles_in}
+use Rattle.cb_history.specs.ArrivalLaws.{AreThere, AcceptedIsThere, ThereStays, CastsAreOfTheGroup, SinglesAreOfTheGroup}
 use Rattle.cb_history.proofs.Views.{IsIn, casts_in-append}
 use Rattle.cb_history.proofs.Lists.{flat_map-append, in_append, in_one, in_casts_back, all_of, each_of, in_is_among}
 use Rattle.cb_history.proofs.Rising.{there_more}
 use Rattle.cb_history.proofs.Histories.{said_facts}
 use Rattle.cb_history.proofs.OwnFrames.{own_casts_are_of_the_group}
-use Rattle.cb_history.proofs.Buffers.{cast_of_is_in}
+use Rattle.cb_history.proofs.Singles.{IsOf, frame_of_single}
+use Rattle.cb_history.proofs.Buffers.{cast_of_is_in, in_is_cast_of}
 use Rattle.cb_history.proofs.Runs.{own_is_delivered}
 
 pub there_stays : ThereStays
@@ -97,3 +100,20 @@ all_of_the_group seat _ is (OneFactMore facts f before step) c there =
 
 pub casts_are_of_the_group : CastsAreOfTheGroup
 casts_are_of_the_group seat facts c are there = all_of_the_group seat facts (record { group = are.group; member = are.member }) are.facts_are c (cast_of_is_in c (casts_in facts) there)
+
+-- a single is of the group where its cast is
+single_of_the_group : (seat : Identity) (d c : CastFields) → IsOf d c → IsOfTheGroup seat.group (CastFrame d) → IsOfTheGroup seat.group (CastFrame c)
+single_of_the_group seat d c of is =
+    let both = and_parts (ltb d.sender seat.group.size) (list_all (λ x. ltb x.field seat.group.size) d.changes) is.members in
+    record { number = of.group_is ∙ is.number; members = rw (of.sender_is, both.0) (changes both.1) }
+  where
+    changes : list_all (λ x. ltb x.field seat.group.size) d.changes ≡ true → list_all (λ x. ltb x.field seat.group.size) c.changes ≡ true
+    changes all = elim of.changes_are [
+      | inl same ↦ ap (list_all (λ x. ltb x.field seat.group.size)) same ∙ all
+      | inr none ↦ ap (list_all (λ x. ltb x.field seat.group.size)) none
+    ]
+
+pub singles_are_of_the_group : SinglesAreOfTheGroup
+singles_are_of_the_group seat facts c are there =
+    let found = frame_of_single (casts_in facts) c (cast_of_is_in c (singles_in facts) there) in
+    single_of_the_group seat found.frame c found.is_of (casts_are_of_the_group seat facts found.frame are (in_is_cast_of found.frame (casts_in facts) found.there))

@@ -1,24 +1,35 @@
 -- A reorder buffer holds what waits.
-use Rattle.std.proofs.Common.{◌≡◌, ◌≢◌, ℕ, ◌+◌, ◌≤◌, true, false, cond, List, [], ◌∷◌, ◌++◌, Some, None, refl, sym, ap, subst, ◌∙◌, arith, inl, inr, ◌⊎◌, ◌↔◌}
+use Rattle.std.proofs.Common.{◌≡◌, ◌≢◌, ℕ, ◌+◌, ◌<◌, ◌≤◌, true, false, cond, List, [], ◌∷◌, ◌++◌, length, append_assoc, Some, None, refl, sym, ap, subst, ◌∙◌, arith, inl, inr, ◌⊎◌, ◌↔◌}
 use Rattle.std.specs.Prelude.{Option}
+use Rattle.std.specs.List.{AllByRecursion}
 use Rattle.std.specs.Ordering.{nat_cmp, eq_by_cmp}
 use Rattle.std.specs.Cmp.{nat_cmp_total}
 use Rattle.std.specs.FinMap as map
 use Rattle.std.proofs.lemmas.Bool.{cases_eq, cases_lt, false_from_ne_true, both_ways}
+use Rattle.std.proofs.lemmas.List.{append-nil}
 use Rattle.cb_times.proofs.Entries.{equal_numbers, other_numbers}
+use Rattle.cb_frames.specs.declared.frame.Range.{Range}
 use Rattle.cb_frames.specs.Fields.{CastFields, first_number, last_number}
-use Rattle.cb_frames.proofs.Carried.{carried_is_of_cast, each_number_is_carried}
-use Rattle.cb_gaps.specs.Buffer.{Buffer, Covers, IsKept, IsLacking, IsNext}
+use Rattle.cb_frames.proofs.Carried.{carried_up_to_the_last, carried_is_of_cast, each_number_is_carried}
+use Rattle.cb_gaps.specs.declared.buffer.Admission.TheVariants.{Kept}
+use Rattle.cb_gaps.specs.Buffer as buffers
+use Rattle.cb_gaps.specs.Buffer.{Buffer, Covers, IsKept, IsLacking, IsAfter, IsNext}
+use Rattle.cb_gaps.specs.Ranges.{AreRangesOf}
 use Rattle.cb_gaps.proofs.OneList.{one_list}
 use Rattle.cb_gaps.proofs.Spans.{one_message, covers_first}
-use Rattle.cb_history.specs.Facts.{casts_in, is_there}
-use Rattle.cb_history.specs.Known.{expanded_count, missing, ranges_of}
+use Rattle.cb_history.specs.Group.{Identity}
+use Rattle.cb_history.specs.Facts.{Fact, casts_in, messages_in, is_there}
+use Rattle.cb_history.specs.Known.{known, expanded_count, missing, ranges_of}
+use Rattle.cb_history.specs.Answers.{delivered}
 use Rattle.cb_history.specs.GapLaws.{IsMissing}
-use Rattle.cb_history.specs.BufferLaws.{IsCastOf, IsWaiting, HoldsWhatWaits, NewBufferHolds, KeptCastWaits, OthersDoNotWait, TakenCastIsThere, AllIsTaken, ReceivedIsThere, MissingIsLacked, RangesAreAskedFor}
+use Rattle.cb_history.specs.BufferLaws.{IsCastOf, IsWaiting, HoldsWhatWaits, NewBufferHolds, KeptCastWaits, AreKept, KeptSinglesWait, OthersDoNotWait, OtherSinglesDoNotWait, TakenCastIsThere, AllIsTaken, ReceivedIsThere, MissingIsLacked, RangesAreAskedFor}
+use Rattle.cb_history.specs.NameLaws.{NumberedFrom}
+use Rattle.cb_history.specs.Singles.{IsSingle, singles_of, singles_in}
 use Rattle.cb_history.proofs.Views.{IsIn}
 use Rattle.cb_history.proofs.Lists.{in_push, in_front, in_back, carried_there, carrier}
 use Rattle.cb_history.proofs.Gaps.{ranges_of_missing}
 use Rattle.cb_history.proofs.GapsLater.{lacking_is_above}
+use Rattle.cb_history.proofs.Singles.{there_by_messages, counts_by_messages, singles_are_as_many, singles_are_numbered, singles_of_one, singles_are_the_same}
 use Rattle.cb_history.proofs.Runs.{message_there, message_is_there, expanded_are_there, run_at_most, run_is_expanded, others_expand_nothing, count_rises}
 
 -- ---- casts that are there
@@ -33,6 +44,30 @@ in_is_cast_of c [] h = h
 in_is_cast_of c (d ∷ casts) (inl same) = inl same
 in_is_cast_of c (d ∷ casts) (inr later) = inr (in_is_cast_of c casts later)
 
+-- the cast that carries a message
+pub record IsCarriedBy (casts : List CastFields) (i n : ℕ) : Type 0 where
+  pub cast : CastFields
+  pub there : IsIn cast casts
+  pub sender_is : cast.sender ≡ i
+  pub covers : Covers cast n
+
+pub cast_carrying : (casts : List CastFields) (i n : ℕ) → is_there casts i n ≡ true → IsCarriedBy casts i n
+cast_carrying casts i n h =
+    let m = message_there casts i n h in
+    let by = carrier casts m.found m.there in
+    let of = carried_is_of_cast by.0 m.found by.2 in
+    let low = of.low in
+    let high = of.high in
+    let number = m.number_is in
+    record { cast = by.0; there = by.1; sender_is = sym of.sender_is ∙ m.sender_is; covers = (omega (arith, low, number), omega (arith, high, number)) }
+
+-- a number that a cast covers
+pub covered_is_there : (casts : List CastFields) (c : CastFields) (i n : ℕ) → IsIn c casts → c.sender ≡ i → Covers c n → is_there casts i n ≡ true
+covered_is_there casts c i n there sender covers =
+    let m = each_number_is_carried c n covers.0 covers.1 in
+    message_is_there casts m.found i n (carried_there casts c m.found there m.there) (m.sender_is ∙ sender) m.number_is
+
+-- the cast that begins with a message, where it carries no other
 pub record HasCast (casts : List CastFields) (i n : ℕ) : Type 0 where
   pub cast : CastFields
   pub there : IsIn cast casts
@@ -41,19 +76,8 @@ pub record HasCast (casts : List CastFields) (i n : ℕ) : Type 0 where
 
 pub cast_there : (casts : List CastFields) (i n : ℕ) → is_there casts i n ≡ true → HasCast casts i n
 cast_there casts i n h =
-    let m = message_there casts i n h in
-    let c = carrier casts m.found m.there in
-    let of = carried_is_of_cast c.0 m.found c.2 in
-    let low = of.low in
-    let high = of.high in
-    let number = m.number_is in
-    record { cast = c.0; there = c.1; sender_is = sym of.sender_is ∙ m.sender_is; number_is = omega (arith, low, high, number, one_message c.0) }
-
--- each number that a cast covers
-pub covered_is_there : (casts : List CastFields) (c : CastFields) (i n : ℕ) → IsIn c casts → c.sender ≡ i → Covers c n → is_there casts i n ≡ true
-covered_is_there casts c i n there sender covers =
-    let m = each_number_is_carried c n covers.0 covers.1 in
-    message_is_there casts m.found i n (carried_there casts c m.found there m.there) (m.sender_is ∙ sender) m.number_is
+    let by = cast_carrying casts i n h in
+    record { cast = by.cast; there = by.there; sender_is = by.sender_is; number_is = omega (arith, by.covers.0, by.covers.1, one_message by.cast) }
 
 pub cast_is_there : (casts : List CastFields) (c : CastFields) (i n : ℕ) → IsIn c casts → c.sender ≡ i → first_number c ≡ n → is_there casts i n ≡ true
 cast_is_there casts c i n there sender begins = covered_is_there casts c i n there sender (subst (Covers c) begins (covers_first c))
@@ -92,8 +116,9 @@ received_is_there casts i number buffer h low = (
   λ there. elim (cases_lt buffer.taken number) [
     | inr le ↦ inl le
     | inl lt ↦
-        let c = cast_there casts i number there in
-        let begins : first_number c.cast ≡ number = c.number_is in
+        let c = cast_carrying casts i number there in
+        let single = h.single c.cast (in_is_cast_of c.cast casts c.there) c.sender_is in
+        let begins : first_number c.cast ≡ number = omega (arith, c.covers.0, c.covers.1, single) in
         inr (record {
           cast = c.cast;
           kept = (h.kept (first_number c.cast) c.cast).1 (record { there = in_is_cast_of c.cast casts c.there; sender_is = c.sender_is; number_is = refl; not_taken = omega (arith, lt, begins) });
@@ -126,39 +151,55 @@ next_is_not_kept casts i buffer h none is =
     let both : None ≡ Some is.cast = sym none ∙ sym (ap (map.get buffer.kept) begins) ∙ is.kept in
     cc
 
-pub missing_is_lacked : MissingIsLacked
-missing_is_lacked seat facts i number buffer h window = (
-  λ m.
-      let not_taken = m.lacking.not_taken in
-      let in_window = m.in_window in
-      let none = lacking_is_not_there (casts_in facts) i number buffer h m.lacking in
-      record {
-        above = lacking_is_above (casts_in facts) i number (omega (arith, not_taken)) none;
-        heard_of = m.heard_of;
-        in_window = omega (arith, in_window, window);
-        not_there = none;
-      },
-  λ m.
-      let above = m.above in
-      let taken = h.taken in
-      let in_window = m.in_window in
-      record {
-        lacking = record { not_taken = omega (arith, above, taken); not_kept = λ kept. both_ways (is_there (casts_in facts) i number) m.not_there (kept_is_there (casts_in facts) i number buffer h kept) };
-        heard_of = m.heard_of;
-        in_window = omega (arith, in_window, window);
-      },
-)
+-- over casts that carry the messages of the facts
+module _ (seat : Identity) (facts : List Fact) (casts : List CastFields) (same : messages_in casts ≡ messages_in (casts_in facts)) (i : ℕ) (buffer : Buffer) (h : HoldsWhatWaits casts i buffer) (window : buffer.window ≡ seat.group.window) where
+  lacks_what_is_missing : (number : ℕ) → buffers.IsMissing buffer (delivered seat facts i) (known facts i) number ↔ IsMissing seat facts i number
+  lacks_what_is_missing number =
+      let there : is_there casts i number ≡ is_there (casts_in facts) i number = there_by_messages casts (casts_in facts) i number same in
+      let count : expanded_count casts i ≡ expanded_count (casts_in facts) i = counts_by_messages casts (casts_in facts) i same in (
+        λ m.
+            let not_taken = m.lacking.not_taken in
+            let in_window = m.in_window in
+            let none = lacking_is_not_there casts i number buffer h m.lacking in
+            let above = lacking_is_above casts i number (omega (arith, not_taken)) none in
+            record {
+              above = omega (arith, above, count);
+              heard_of = m.heard_of;
+              in_window = omega (arith, in_window, window);
+              not_there = sym there ∙ none;
+            },
+        λ m.
+            let above = m.above in
+            let taken = h.taken in
+            let in_window = m.in_window in
+            record {
+              lacking = record { not_taken = omega (arith, above, taken, count); not_kept = λ kept. both_ways (is_there casts i number) (there ∙ m.not_there) (kept_is_there casts i number buffer h kept) };
+              heard_of = m.heard_of;
+              in_window = omega (arith, in_window, window);
+            },
+      )
 
-pub ranges_are_asked_for : RangesAreAskedFor
-ranges_are_asked_for seat facts i buffer ranges h window are =
-    one_list (IsMissing seat facts i) ranges (ranges_of (missing seat facts i)) (record {
-      exactly = λ n. (
-        (λ some. (missing_is_lacked seat facts i n buffer h window).0 ((are.exactly n).0 some)),
-        (λ m. (are.exactly n).1 ((missing_is_lacked seat facts i n buffer h window).1 m)),
-      );
-      filled = are.filled;
-      apart = are.apart;
-    }) (ranges_of_missing seat facts i)
+  ranges_of_what_is_missing : (ranges : List Range) → AreRangesOf (buffers.IsMissing buffer (delivered seat facts i) (known facts i)) ranges → ranges ≡ ranges_of (missing seat facts i)
+  ranges_of_what_is_missing ranges are =
+      one_list (IsMissing seat facts i) ranges (ranges_of (missing seat facts i)) (record {
+        exactly = λ n. (
+          (λ some. (lacks_what_is_missing n).0 ((are.exactly n).0 some)),
+          (λ m. (are.exactly n).1 ((lacks_what_is_missing n).1 m)),
+        );
+        filled = are.filled;
+        apart = are.apart;
+      }) (ranges_of_missing seat facts i)
+
+pub missing_is_lacked : MissingIsLacked
+missing_is_lacked seat facts i number buffer h window = lacks_what_is_missing seat facts (singles_in facts) (singles_are_the_same (casts_in facts)).messages i buffer h window number
+
+pub ranges_of_singles_are_asked_for : RangesAreAskedFor
+ranges_of_singles_are_asked_for seat facts i buffer ranges h window are = ranges_of_what_is_missing seat facts (singles_in facts) (singles_are_the_same (casts_in facts)).messages i buffer h window ranges are
+
+-- and where the frames themselves are kept, which carry one message each
+pub ranges_are_asked_for : (seat : Identity) (facts : List Fact) (i : ℕ) (buffer : Buffer) (ranges : List Range) → HoldsWhatWaits (casts_in facts) i buffer → buffer.window ≡ seat.group.window
+    → AreRangesOf (buffers.IsMissing buffer (delivered seat facts i) (known facts i)) ranges → ranges ≡ ranges_of (missing seat facts i)
+ranges_are_asked_for seat facts i buffer ranges h window are = ranges_of_what_is_missing seat facts (casts_in facts) refl i buffer h window ranges are
 
 -- ---- what changes it
 
@@ -167,6 +208,7 @@ new_buffer_holds window i buffer new =
     let none : (number : ℕ) → map.get buffer.kept number ≡ None = λ number. ap (λ (m : map.FinMap nat_cmp CastFields). map.get m number) new.none_kept ∙ map.get-empty nat_cmp number in
     let taken = new.none_taken in
     record {
+      single = λ c there sender. absurd there;
       taken = omega (arith, taken);
       kept = λ number c. ((λ is. absurd (let e : None ≡ Some c = sym (none number) ∙ is in cc)), (λ w. absurd w.there));
     }
@@ -212,11 +254,13 @@ module _ (casts : List CastFields) (i : ℕ) (c : CastFields) (old : Buffer) (h 
     is_next : IsWaiting casts i old.taken (first_number c) c
     is_next = (h.kept (first_number c) c).0 next.kept
 
-    -- a cast with one message, so that what waits behind it begins above its last number
+    ends : last_number c ≡ first_number c
+    ends = h.single c is_next.there is_next.sender_is
+
+    -- as it carries one message, what waits behind it begins above its last number
     without_cast : (number : ℕ) (d : CastFields) → (map.get (map.remove old.kept (first_number c)) number ≡ Some d) ↔ IsWaiting casts i (last_number c) number d
     without_cast number d =
         let follows = next.follows in
-        let ends = one_message c in
         elim (cases_eq number (first_number c)) [
           | inl e ↦
               let now : map.get (map.remove old.kept (first_number c)) number ≡ None = map.get-remove nat_cmp_total old.kept (first_number c) number ∙ here_or_there number (first_number c) None (map.get old.kept number) e in (
@@ -243,18 +287,30 @@ module _ (casts : List CastFields) (i : ℕ) (c : CastFields) (old : Buffer) (h 
       | inr before ↦ let taken = h.taken in expanded_are_there casts i k low (omega (arith, before, taken))
     ])
 
-pub kept_cast_waits : KeptCastWaits
-kept_cast_waits casts i c old new h own lacking after =
+pub kept_single_waits : KeptCastWaits
+kept_single_waits casts i c old new h own single lacking after =
     let taken = h.taken in
     let rises = count_rises casts (c ∷ []) i in
-    subst (HoldsWhatWaits (casts ++ c ∷ []) i) (sym after) (record { taken = omega (arith, taken, rises); kept = with_cast casts i c old h own lacking })
+    subst (HoldsWhatWaits (casts ++ c ∷ []) i) (sym after) (record {
+      single = λ d there sender. elim (in_push d c casts (cast_of_is_in d (casts ++ c ∷ []) there)) [
+        | inl before ↦ h.single d (in_is_cast_of d casts before) sender
+        | inr this ↦ subst IsSingle (sym this) single
+      ];
+      taken = omega (arith, taken, rises);
+      kept = with_cast casts i c old h own lacking;
+    })
+
+-- a frame carries one message
+pub kept_cast_waits : (casts : List CastFields) (i : ℕ) (c : CastFields) (old new : Buffer) → HoldsWhatWaits casts i old → c.sender ≡ i → IsLacking old (first_number c) → IsAfter old c Kept new
+    → HoldsWhatWaits (casts ++ c ∷ []) i new
+kept_cast_waits casts i c old new h own lacking after = kept_single_waits casts i c old new h own (one_message c) lacking after
 
 pub taken_cast_is_there : TakenCastIsThere
 taken_cast_is_there casts i c old new h next takes =
     let w = is_next casts i c old h next in (
       w.there,
       w.sender_is,
-      subst (HoldsWhatWaits casts i) (sym takes) (record { taken = all_taken casts i c old h next; kept = without_cast casts i c old h next }),
+      subst (HoldsWhatWaits casts i) (sym takes) (record { single = h.single; taken = all_taken casts i c old h next; kept = without_cast casts i c old h next }),
     )
 
 pub others_do_not_wait : OthersDoNotWait
@@ -262,6 +318,10 @@ others_do_not_wait casts i c buffer h other =
     let taken = h.taken in
     let same = others_expand_nothing casts c i other in
     record {
+      single = λ d there sender. elim (in_push d c casts (cast_of_is_in d (casts ++ c ∷ []) there)) [
+        | inl before ↦ h.single d (in_is_cast_of d casts before) sender
+        | inr new ↦ absurd (other (ap (λ (x : CastFields). x.sender) (sym new) ∙ sender))
+      ];
       taken = omega (arith, taken, same);
       kept = λ number d. (
         (λ is. waits_on casts i buffer.taken number c d ((h.kept number d).0 is)),
@@ -277,3 +337,50 @@ all_is_taken casts i buffer h none =
     let taken = h.taken in
     sym (run_is_expanded casts i buffer.taken (λ k low high. expanded_are_there casts i k low (omega (arith, high, taken)))
     (lacking_is_not_there casts i (buffer.taken + 1) buffer h (record { not_taken = omega arith; not_kept = next_is_not_kept casts i buffer h none })))
+
+-- ---- the singles of one cast
+
+-- what a buffer lacked it lacks when a single of another number was kept
+lacks_still : (number : ℕ) (c : CastFields) (old new : Buffer) → IsSingle c → IsAfter old c Kept new → first_number c < number → IsLacking old number → IsLacking new number
+lacks_still number c old new single after other lacking =
+    subst (λ (b : Buffer). IsLacking b number) (sym after) (record {
+      not_taken = lacking.not_taken;
+      not_kept = λ is. elim (cases_eq (first_number is.cast) (first_number c)) [
+        | inl e ↦
+            let now : map.get (map.insert old.kept (first_number c) c) (first_number is.cast) ≡ Some c = map.get-insert nat_cmp_total old.kept (first_number c) c (first_number is.cast) ∙ here_or_there (first_number is.cast) (first_number c) (Some c) (map.get old.kept (first_number is.cast)) e in
+            let same = some_cast c is.cast (sym now ∙ is.kept) in
+            let ends : last_number c ≡ last_number is.cast = ap last_number same in
+            omega (arith, ends, single, other, is.covers.1)
+        | inr ne ↦
+            let now : map.get (map.insert old.kept (first_number c) c) (first_number is.cast) ≡ map.get old.kept (first_number is.cast) = map.get-insert nat_cmp_total old.kept (first_number c) c (first_number is.cast) ∙ there_or_here (first_number is.cast) (first_number c) (Some c) (map.get old.kept (first_number is.cast)) ne in
+            lacking.not_kept (record { cast = is.cast; kept = sym now ∙ is.kept; covers = is.covers })
+      ];
+    })
+
+kept_in_turn : (casts : List CastFields) (i n : ℕ) (singles : List CastFields) (old new : Buffer) → HoldsWhatWaits casts i old → NumberedFrom i n singles → AllByRecursion IsSingle singles
+    → ((number : ℕ) → n ≤ number → number < n + length singles → IsLacking old number) → AreKept old singles new → HoldsWhatWaits (casts ++ singles) i new
+kept_in_turn casts i n [] old new h numbered single lacks kept = subst (HoldsWhatWaits (casts ++ []) i) (sym kept) (subst (λ (cs : List CastFields). HoldsWhatWaits cs i old) (sym (append-nil casts)) h)
+kept_in_turn casts i n (c ∷ singles) old new h numbered single lacks kept =
+    let begins = numbered.1 in
+    let alone = single.0 in
+    let mid = kept.0 in
+    let lacking = lacks (first_number c) (omega (arith, begins)) (omega (arith, begins)) in
+    let one = kept_single_waits casts i c old mid h numbered.0 alone lacking kept.1 in
+    let rest : NumberedFrom i (n + 1) singles = subst (λ (k : ℕ). NumberedFrom i (k + 1) singles) (alone ∙ begins) numbered.2 in
+    subst (λ (cs : List CastFields). HoldsWhatWaits cs i new) (append_assoc casts (c ∷ []) singles)
+    (kept_in_turn (casts ++ c ∷ []) i (n + 1) singles mid new one rest single.1
+    (λ number low high. lacks_still number c old mid alone kept.1 (omega (arith, low, begins)) (lacks number (omega (arith, low)) (omega (arith, high)))) kept.2)
+
+pub kept_singles_wait : KeptSinglesWait
+kept_singles_wait casts c old new h lacking kept =
+    kept_in_turn casts c.sender (first_number c) (singles_of c) old new h (singles_are_numbered c) (singles_of_one c)
+    (λ number low high. lacking number low (omega (arith, high, singles_are_as_many c, carried_up_to_the_last c))) kept
+
+others_in_turn : (casts : List CastFields) (sender i n : ℕ) (others : List CastFields) (buffer : Buffer) → HoldsWhatWaits casts i buffer → sender ≢ i → NumberedFrom sender n others → HoldsWhatWaits (casts ++ others) i buffer
+others_in_turn casts sender i n [] buffer h other numbered = subst (λ (cs : List CastFields). HoldsWhatWaits cs i buffer) (sym (append-nil casts)) h
+others_in_turn casts sender i n (c ∷ others) buffer h other numbered =
+    subst (λ (cs : List CastFields). HoldsWhatWaits cs i buffer) (append_assoc casts (c ∷ []) others)
+    (others_in_turn (casts ++ c ∷ []) sender i (last_number c + 1) others buffer (others_do_not_wait casts i c buffer h (λ e. other (sym numbered.0 ∙ e))) other numbered.2)
+
+pub other_singles_do_not_wait : OtherSinglesDoNotWait
+other_singles_do_not_wait casts i c buffer h other = others_in_turn casts c.sender i (first_number c) (singles_of c) buffer h other (singles_are_numbered c)

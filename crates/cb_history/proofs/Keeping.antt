@@ -1,28 +1,27 @@
 -- The least of what is known, and the frames that are kept.
 use Rattle.std.proofs.Common.{◌≡◌, ◌≢◌, ℕ, zero, suc, ◌+◌, ◌-◌, ◌<◌, ◌≤◌, ◌||◌, Bool, true, false, not, cond, eqb, leb, ltb, List, [], ◌∷◌, ◌++◌, length, map, take, refl, sym, ap, subst, ◌∙◌, arith, inl, inr}
 use Rattle.std.specs.List.{filter, range_with_len}
-use Rattle.std.proofs.Math.Bool.{or-false}
-use Rattle.std.proofs.lemmas.Bool.{cases_eq, cases_lt, eq-eqb, ne_eqb, lt-leb, leb-false, le-ltb, lt-ltb}
+use Rattle.std.proofs.lemmas.Bool.{cases_eq, cases_lt, eq-eqb, ne_eqb, lt-leb, leb-false, le-ltb, lt-ltb, false_from_ne_true}
 use Rattle.std.proofs.lemmas.List.{map-append}
 use Rattle.std.proofs.lemmas.List.Elements.{filter-append, filter_agree}
 use Rattle.cb_frames.specs.declared.frame.TheConstants.{LAST_NUMBER, MOST_FRAMES}
 use Rattle.cb_frames.specs.declared.frame.Range.{Range}
 use Rattle.cb_frames.specs.Fields.{CastFields, CastFrame, messages_of, first_number, last_number}
 use Rattle.cb_frames.specs.Text.{text_of}
-use Rattle.cb_frames.proofs.Carried.{first_is_number, last_is_number, carries_one, carries_some, carried_up_to_the_last}
-use Rattle.cb_stability.specs.Ranges.{is_in_some}
+use Rattle.cb_frames.proofs.Carried.{first_is_number, carried_up_to_the_last, carries_some, carried_is_of_cast, each_number_is_carried}
+use Rattle.cb_stability.specs.Ranges.{is_in, is_in_some, meets}
 use Rattle.cb_stability.specs.Sent.{Spanned, spanned, is_in_ranges, room_of}
-use Rattle.cb_stability.proofs.Found.{one_in_ranges}
+use Rattle.cb_stability.proofs.Found.{meets_a_number}
 use Rattle.cb_history.specs.declared.answer.Outgoing.{Outgoing}
 use Rattle.cb_history.specs.Group.{Identity}
-use Rattle.cb_history.specs.Facts.{Fact, OwnCast, CastReceived, StatusReceived, OwnStatus}
+use Rattle.cb_history.specs.Facts.{Fact, OwnCast, CastReceived, StatusReceived, OwnStatus, messages_in}
 use Rattle.cb_history.specs.View.{count, view}
 use Rattle.cb_history.specs.Known.{acknowledged, stable, least_of}
 use Rattle.cb_history.specs.Answers.{delivered, own_casts, window, is_own_cast, is_window_full, is_asked_for}
 use Rattle.cb_history.specs.LegalFacts.{AreFactsOf}
 use Rattle.cb_history.specs.StabilityLaws.{LeastKnownIsStable, spanned_frame, NoRoomIsFull, sent_to, FramesInAreSentInAnswer, PutIsOwnCast, TrimIsStable}
 use Rattle.cb_history.proofs.Views.{IsIn, filter_in, in_filter}
-use Rattle.cb_history.proofs.Lists.{count_of_messages, length_messages}
+use Rattle.cb_history.proofs.Lists.{any_of, one_of, count_of_messages}
 use Rattle.cb_history.proofs.Walks.{view_own, own_casts-own, own_casts-other, IsNotOwn}
 use Rattle.cb_history.proofs.Names.{all_stand}
 use Rattle.cb_history.proofs.Counts.{counts_are_numbers, number_left}
@@ -166,9 +165,29 @@ no_room_is_full seat facts sent are keeps = (free, some)
 
 -- ---- what is sent again
 
+same_tests : (a b : Bool) → (a ≡ true → b ≡ true) → (b ≡ true → a ≡ true) → a ≡ b
+same_tests true b there back = sym (there refl)
+same_tests false b there back = sym (false_from_ne_true b (λ yes. let no = back yes in cc))
+
+-- a range asks for some message of a cast where it meets its numbers
 asked_as_spans : (ranges : List Range) (c : CastFields) → is_asked_for ranges c ≡ is_in_ranges ranges (spanned_frame c)
-asked_as_spans ranges c =
-    rw (carries_one c, first_is_number c, last_is_number c) (or-false (is_in_some ranges c.number) ∙ sym (one_in_ranges ranges c.number (text_of (CastFrame c))))
+asked_as_spans ranges c = same_tests (is_asked_for ranges c) (is_in_ranges ranges (spanned_frame c)) meets_some asks_for_some
+  where
+    meets_some : is_asked_for ranges c ≡ true → is_in_ranges ranges (spanned_frame c) ≡ true
+    meets_some asked =
+        let m = one_of (λ x. is_in_some ranges x.number) (messages_of c) asked in
+        let range = one_of (is_in m.0.number) ranges m.2 in
+        let of = carried_is_of_cast c m.0 m.1 in
+        any_of (meets (first_number c) (last_number c)) ranges range.0 range.1
+        ((meets_a_number (first_number c) (last_number c) range.0).1 (m.0.number, of.low, of.high, range.2))
+
+    asks_for_some : is_in_ranges ranges (spanned_frame c) ≡ true → is_asked_for ranges c ≡ true
+    asks_for_some met =
+        let range = one_of (meets (first_number c) (last_number c)) ranges met in
+        let n = (meets_a_number (first_number c) (last_number c) range.0).0 range.2 in
+        let m = each_number_is_carried c n.0 n.1 n.2 in
+        any_of (λ x. is_in_some ranges x.number) (messages_of c) m.found m.there
+        (any_of (is_in m.found.number) ranges range.0 range.1 (subst (λ (k : ℕ). is_in k range.0 ≡ true) (sym m.number_is) n.3))
 
 spans_asked : (ranges : List Range) (casts : List CastFields) → map spanned_frame (filter (is_asked_for ranges) casts) ≡ filter (is_in_ranges ranges) (map spanned_frame casts)
 spans_asked ranges casts =
@@ -206,7 +225,7 @@ put_is_own_cast seat facts c sent after are keeps puts =
       trimmed = puts.trimmed ∙ keeps.trimmed ∙ sym (others_same seat facts c are);
       kept = puts.now_kept
           ∙ ap (λ (frames : List Spanned). frames ++ spanned (sent.put + 1) (sent.put + length (messages_of c)) (text_of (CastFrame c)) ∷ []) keeps.kept
-          ∙ ap (λ (n : ℕ). map spanned_frame (window seat facts) ++ spanned n (sent.put + length (messages_of c)) (text_of (CastFrame c)) ∷ []) number
+          ∙ ap (λ (n : ℕ). map spanned_frame (window seat facts) ++ spanned n (sent.put + length (messages_of c)) (text_of (CastFrame c)) ∷ []) (sym first)
           ∙ ap (λ (n : ℕ). map spanned_frame (window seat facts) ++ spanned (first_number c) n (text_of (CastFrame c)) ∷ []) last
           ∙ sym (ap (map spanned_frame) grown ∙ map-append spanned_frame (window seat facts) (c ∷ []));
     }
@@ -223,18 +242,18 @@ put_is_own_cast seat facts c sent after are keeps puts =
     sender : c.sender ≡ seat.me
     sender = ap (λ (x : CastFields). x.sender) (last_fact_is_a_step seat facts (OwnCast c) are).next
 
-    number : sent.put + 1 ≡ first_number c
-    number = ap (λ (n : ℕ). n + 1) keeps.put ∙ sym (first_is_number c ∙ ap (λ (x : CastFields). x.number) (last_fact_is_a_step seat facts (OwnCast c) are).next)
+    first : first_number c ≡ sent.put + 1
+    first = first_is_number c ∙ ap (λ (x : CastFields). x.number) (last_fact_is_a_step seat facts (OwnCast c) are).next ∙ ap (λ (n : ℕ). n + 1) (sym keeps.put)
 
     last : sent.put + length (messages_of c) ≡ last_number c
-    last = omega (arith, number, carried_up_to_the_last c)
+    last = omega (arith, first, carried_up_to_the_last c)
 
     grown : window seat (facts ++ OwnCast c ∷ []) ≡ window seat facts ++ c ∷ []
     grown =
         ap (λ (n : ℕ). above n (own_casts (facts ++ OwnCast c ∷ []))) (others_same seat facts c are)
         ∙ ap (above s) (own_casts-own facts c)
         ∙ filter-append (λ c. ltb s (last_number c)) (own_casts facts) (c ∷ [])
-        ∙ ap (λ (b : Bool). window seat facts ++ cond b (c ∷ []) []) (lt-ltb s (last_number c) (let put = keeps.put in let at = number in let le = below in omega (arith, put, at, le, carries_some c)))
+        ∙ ap (λ (b : Bool). window seat facts ++ cond b (c ∷ []) []) (lt-ltb s (last_number c) (let put = keeps.put in let le = below in omega (arith, put, first, carries_some c, le)))
 
 -- ---- trimmed after another fact
 
@@ -270,11 +289,11 @@ trim_is_stable seat facts f sent after are other keeps trims =
     own : own_casts (facts ++ f ∷ []) ≡ own_casts facts
     own = own_casts-other facts f (not_own_is f other)
 
-    counted : (facts : List Fact) → AreFactsOf seat facts → length (own_casts facts) ≡ delivered seat facts seat.me
-    counted facts are = sym (length_messages (own_casts facts)) ∙ sym (all_stand seat facts are.member are.facts_are).own_count
+    counted : (facts : List Fact) → AreFactsOf seat facts → length (messages_in (own_casts facts)) ≡ delivered seat facts seat.me
+    counted facts are = sym (all_stand seat facts are.member are.facts_are).own_count
 
     same_count : delivered seat (facts ++ f ∷ []) seat.me ≡ delivered seat facts seat.me
-    same_count = sym (counted (facts ++ f ∷ []) are) ∙ ap length own ∙ counted facts before
+    same_count = sym (counted (facts ++ f ∷ []) are) ∙ ap (λ (own : List CastFields). length (messages_in own)) own ∙ counted facts before
 
     rises : s ≤ s'
     rises = (nothing_falls seat facts f).2

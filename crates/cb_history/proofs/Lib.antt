@@ -26,6 +26,7 @@ pub mod Delivering
 pub mod Happening
 pub mod Queueing
 pub mod Runs
+pub mod Singles
 pub mod Keeping
 pub mod Buffers
 pub mod Statuses

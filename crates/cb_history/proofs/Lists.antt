@@ -1,7 +1,7 @@
 -- Elements, names and counts of lists of messages.
-use Rattle.std.proofs.Common.{◌≡◌, ◌≢◌, ℕ, suc, length, ◌+◌, ◌<◌, ◌≤◌, Bool, true, false, cond, ◌&&◌, ◌||◌, eqb, List, [], ◌∷◌, ◌++◌, refl, sym, ap, ◌∙◌, subst, append_assoc, arith, inl, inr, ◌⊎◌}
-use Rattle.std.specs.List.{flat_map, list_all}
-use Rattle.std.proofs.lemmas.Bool.{eqb-true, eq-eqb, ne_eqb, cases_eq, and_right}
+use Rattle.std.proofs.Common.{◌≡◌, ◌≢◌, ℕ, length, ◌+◌, ◌<◌, ◌≤◌, Bool, true, false, cond, ◌&&◌, ◌||◌, eqb, List, [], ◌∷◌, ◌++◌, refl, sym, ap, ◌∙◌, subst, append_assoc, arith, inl, inr, ◌⊎◌}
+use Rattle.std.specs.List.{flat_map, list_all, list_any}
+use Rattle.std.proofs.lemmas.Bool.{eqb-true, eq-eqb, ne_eqb, cases_eq, and_right, or_cases}
 use Rattle.std.proofs.lemmas.List.{append-nil, length-append}
 use Rattle.cb_frames.specs.Fields.{CastFields, Carried, messages_of, first_number, last_number}
 use Rattle.cb_frames.specs.Carrying.{AreNumberedFrom}
@@ -57,6 +57,19 @@ pub each_of : {A : Type 0} (p : A → Bool) (xs : List A) (a : A) → list_all p
 each_of p [] a all there = absurd there
 each_of p (x ∷ xs) a all (inl same) = ap p same ∙ (test_true (p x) (list_all p xs) all).0
 each_of p (x ∷ xs) a all (inr later) = each_of p xs a (test_true (p x) (list_all p xs) all).1 later
+
+-- a test that some passes
+pub any_of : {A : Type 0} (p : A → Bool) (xs : List A) (a : A) → IsIn a xs → p a ≡ true → list_any p xs ≡ true
+any_of p [] a there passes = absurd there
+any_of p (x ∷ xs) a (inl same) passes = or_left (p x) (list_any p xs) (ap p (sym same) ∙ passes)
+any_of p (x ∷ xs) a (inr later) passes = or_right (p x) (list_any p xs) (any_of p xs a later passes)
+
+pub one_of : {A : Type 0} (p : A → Bool) (xs : List A) → list_any p xs ≡ true → (a : A) × IsIn a xs × (p a ≡ true)
+one_of p [] some = absurd cc
+one_of p (x ∷ xs) some = elim (or_cases (p x) (list_any p xs) some) [
+  | inl here ↦ (x, inl refl, here)
+  | inr later ↦ let found = one_of p xs later in (found.0, inr found.1, found.2)
+]
 
 -- a message of the casts before, or of the new one
 pub in_casts_push : (casts : List CastFields) (c : CastFields) (m : Carried) → IsIn m (messages_in (casts ++ c ∷ [])) → IsIn m (messages_in casts) ⊎ IsIn m (messages_of c)

@@ -4,12 +4,12 @@ use Rattle.std.specs.List.{filter, list_any, list_all, flat_map, range_with_len,
 use Rattle.std.proofs.lemmas.Bool.{cond_both}
 use Rattle.std.proofs.lemmas.List.{append-nil}
 use Rattle.std.proofs.lemmas.List.Sums.{sum_by-append}
-use Rattle.cb_frames.specs.Fields.{CastFields, Carried, messages_of}
+use Rattle.cb_frames.specs.Fields.{CastFields, StatusFields, Carried, messages_of}
 use Rattle.cb_diffs.specs.Expansion.{expanded_field, growth_of, greatest}
 use Rattle.cb_history.specs.Group.{Identity}
 use Rattle.cb_history.specs.Facts.{Fact, StatusReceived, OwnStatus, cast_in, casts_in, messages_in, is_there, numbers_between}
 use Rattle.cb_history.specs.View.{is_expanded, view}
-use Rattle.cb_history.specs.Known.{greatest_of, value_in, reported_of, counted_in_times, known, reported_by, counted_by, acknowledged, least_of}
+use Rattle.cb_history.specs.Known.{greatest_of, value_in, reported_of, counted_in_times, known, reported_by, counted_by, acknowledged_of, acknowledged, least_of}
 use Rattle.cb_history.specs.KnowledgeLaws.{StatusIsKnown, StatusIsAcknowledged, OwnStatusTellsNothing, NothingFalls}
 use Rattle.cb_history.proofs.Views.{IsIn, casts_in-append, test_true}
 use Rattle.cb_history.proofs.Lists.{flat_map-append}
@@ -77,9 +77,9 @@ times_rise casts more i =
     subst (λ (ms : List Carried). greatest_of (counted_in_times casts i) ≤ greatest_of (map (λ m. expanded_field (casts ++ more) m.sender m.number i) (filter (is_expanded (casts ++ more)) ms))) (sym (flat_map-append messages_of casts more))
     (greatest_rises (is_expanded casts) (is_expanded (casts ++ more)) (λ m. expanded_field casts m.sender m.number i) (λ m. expanded_field (casts ++ more) m.sender m.number i) (messages_in casts) (messages_in more) (expanded_more casts more) (λ m. field_rises casts more m.sender m.number i))
 
-counts_rise : (casts more : List CastFields) (seen later : List Carried) (k me : ℕ) → greatest_of (counted_by casts seen k me) ≤ greatest_of (counted_by (casts ++ more) (seen ++ later) k me)
-counts_rise casts more seen later k me =
-    greatest_rises (λ m. eqb m.sender k) (λ m. eqb m.sender k) (λ m. expanded_field casts m.sender m.number me) (λ m. expanded_field (casts ++ more) m.sender m.number me) seen later (λ m e. e) (λ m. field_rises casts more m.sender m.number me)
+counts_rise : (casts more : List CastFields) (seen later : List Carried) (k i : ℕ) → greatest_of (counted_by casts seen k i) ≤ greatest_of (counted_by (casts ++ more) (seen ++ later) k i)
+counts_rise casts more seen later k i =
+    greatest_rises (λ m. eqb m.sender k) (λ m. eqb m.sender k) (λ m. expanded_field casts m.sender m.number i) (λ m. expanded_field (casts ++ more) m.sender m.number i) seen later (λ m e. e) (λ m. field_rises casts more m.sender m.number i)
 
 -- ---- what is known
 
@@ -110,55 +110,64 @@ known_rises facts f i =
     let times = times_rise (casts_in facts) (cast_in f) i in
     omega (arith, more, parts, times)
 
--- ---- what is acknowledged
+-- ---- what is acknowledged, of any sender i
 
-abbrev pub counted_at : Identity → List CastFields → List Carried → ℕ → ℕ
-counted_at seat casts seen k = greatest_of (counted_by casts seen k seat.me)
+abbrev pub counted_at : List CastFields → List Carried → ℕ → ℕ → ℕ
+counted_at casts seen k i = greatest_of (counted_by casts seen k i)
 
-pub acknowledged_parts : (seat : Identity) (facts : List Fact) (k : ℕ) → acknowledged seat facts k ≡ max (greatest_of (flat_map (reported_by k seat.me) facts)) (counted_at seat (casts_in facts) (view seat.group.size facts) k)
-acknowledged_parts seat facts k = greatest_append (flat_map (reported_by k seat.me) facts) (counted_by (casts_in facts) (view seat.group.size facts) k seat.me)
+pub acknowledged_parts : (seat : Identity) (facts : List Fact) (k i : ℕ) → acknowledged_of seat facts k i ≡ max (greatest_of (flat_map (reported_by k i) facts)) (counted_at (casts_in facts) (view seat.group.size facts) k i)
+acknowledged_parts seat facts k i = greatest_append (flat_map (reported_by k i) facts) (counted_by (casts_in facts) (view seat.group.size facts) k i)
 
-pub acknowledged_more : (seat : Identity) (facts : List Fact) (f : Fact) (k : ℕ) → acknowledged seat (facts ++ f ∷ []) k ≡ max (max (greatest_of (flat_map (reported_by k seat.me) facts)) (greatest_of (reported_by k seat.me f ++ []))) (counted_at seat (casts_in facts ++ cast_in f) (view seat.group.size (facts ++ f ∷ [])) k)
-acknowledged_more seat facts f k =
-    acknowledged_parts seat (facts ++ f ∷ []) k
-    ∙ ap (λ (ns : List ℕ). max (greatest_of ns) (counted_at seat (casts_in (facts ++ f ∷ [])) (view seat.group.size (facts ++ f ∷ [])) k)) (flat_map-append (reported_by k seat.me) facts (f ∷ []))
-    ∙ ap (λ (n : ℕ). max n (counted_at seat (casts_in (facts ++ f ∷ [])) (view seat.group.size (facts ++ f ∷ [])) k)) (greatest_append (flat_map (reported_by k seat.me) facts) (reported_by k seat.me f ++ []))
-    ∙ ap (λ (cs : List CastFields). max (max (greatest_of (flat_map (reported_by k seat.me) facts)) (greatest_of (reported_by k seat.me f ++ []))) (counted_at seat cs (view seat.group.size (facts ++ f ∷ [])) k)) (casts_in-append facts f)
+pub acknowledged_more : (seat : Identity) (facts : List Fact) (f : Fact) (k i : ℕ)
+    → acknowledged_of seat (facts ++ f ∷ []) k i ≡ max (max (greatest_of (flat_map (reported_by k i) facts)) (greatest_of (reported_by k i f ++ []))) (counted_at (casts_in facts ++ cast_in f) (view seat.group.size (facts ++ f ∷ [])) k i)
+acknowledged_more seat facts f k i =
+    acknowledged_parts seat (facts ++ f ∷ []) k i
+    ∙ ap (λ (ns : List ℕ). max (greatest_of ns) (counted_at (casts_in (facts ++ f ∷ [])) (view seat.group.size (facts ++ f ∷ [])) k i)) (flat_map-append (reported_by k i) facts (f ∷ []))
+    ∙ ap (λ (n : ℕ). max n (counted_at (casts_in (facts ++ f ∷ [])) (view seat.group.size (facts ++ f ∷ [])) k i)) (greatest_append (flat_map (reported_by k i) facts) (reported_by k i f ++ []))
+    ∙ ap (λ (cs : List CastFields). max (max (greatest_of (flat_map (reported_by k i) facts)) (greatest_of (reported_by k i f ++ []))) (counted_at cs (view seat.group.size (facts ++ f ∷ [])) k i)) (casts_in-append facts f)
 
-same_counts : (seat : Identity) (facts : List Fact) (seen : List Carried) (k : ℕ) → seen ≡ view seat.group.size facts → counted_at seat (casts_in facts ++ []) seen k ≡ counted_at seat (casts_in facts) (view seat.group.size facts) k
-same_counts seat facts seen k e = ap (λ (cs : List CastFields). counted_at seat cs seen k) (append-nil (casts_in facts)) ∙ ap (λ (ms : List Carried). counted_at seat (casts_in facts) ms k) e
+same_counts : (seat : Identity) (facts : List Fact) (seen : List Carried) (k i : ℕ) → seen ≡ view seat.group.size facts → counted_at (casts_in facts ++ []) seen k i ≡ counted_at (casts_in facts) (view seat.group.size facts) k i
+same_counts seat facts seen k i e = ap (λ (cs : List CastFields). counted_at cs seen k i) (append-nil (casts_in facts)) ∙ ap (λ (ms : List Carried). counted_at (casts_in facts) ms k i) e
 
 reported_at : (b : Bool) (v reported counted before after : ℕ) → before ≡ max reported counted → after ≡ max (max reported (greatest_of (cond b (v ∷ []) [] ++ []))) counted → after ≡ cond b (max before v) before
 reported_at true v reported counted before after e f = omega (arith, e, f)
 reported_at false v reported counted before after e f = omega (arith, e, f)
 
-pub status_is_acknowledged : StatusIsAcknowledged
-status_is_acknowledged seat facts s k =
-    reported_at (eqb s.sender k) (value_in s.values seat.me) (greatest_of (flat_map (reported_by k seat.me) facts)) (counted_at seat (casts_in facts) (view seat.group.size facts) k) (acknowledged seat facts k) (acknowledged seat (facts ++ StatusReceived s ∷ []) k)
-    (acknowledged_parts seat facts k)
-    (acknowledged_more seat facts (StatusReceived s) k
-    ∙ ap (λ (n : ℕ). max (max (greatest_of (flat_map (reported_by k seat.me) facts)) (greatest_of (cond (eqb s.sender k) (value_in s.values seat.me ∷ []) [] ++ []))) n) (same_counts seat facts (view seat.group.size (facts ++ StatusReceived s ∷ [])) k (view_status seat.group.size facts s)))
+pub status_is_acknowledged_of : (seat : Identity) (facts : List Fact) (s : StatusFields) (k i : ℕ)
+    → acknowledged_of seat (facts ++ StatusReceived s ∷ []) k i ≡ cond (eqb s.sender k) (max (acknowledged_of seat facts k i) (value_in s.values i)) (acknowledged_of seat facts k i)
+status_is_acknowledged_of seat facts s k i =
+    reported_at (eqb s.sender k) (value_in s.values i) (greatest_of (flat_map (reported_by k i) facts)) (counted_at (casts_in facts) (view seat.group.size facts) k i) (acknowledged_of seat facts k i) (acknowledged_of seat (facts ++ StatusReceived s ∷ []) k i)
+    (acknowledged_parts seat facts k i)
+    (acknowledged_more seat facts (StatusReceived s) k i
+    ∙ ap (λ (n : ℕ). max (max (greatest_of (flat_map (reported_by k i) facts)) (greatest_of (cond (eqb s.sender k) (value_in s.values i ∷ []) [] ++ []))) n) (same_counts seat facts (view seat.group.size (facts ++ StatusReceived s ∷ [])) k i (view_status seat.group.size facts s)))
 
-acknowledged_rises : (seat : Identity) (facts : List Fact) (f : Fact) (k : ℕ) → acknowledged seat facts k ≤ acknowledged seat (facts ++ f ∷ []) k
-acknowledged_rises seat facts f k =
-    let more = acknowledged_more seat facts f k in
-    let parts = acknowledged_parts seat facts k in
+pub acknowledged_of_rises : (seat : Identity) (facts : List Fact) (f : Fact) (k i : ℕ) → acknowledged_of seat facts k i ≤ acknowledged_of seat (facts ++ f ∷ []) k i
+acknowledged_of_rises seat facts f k i =
+    let more = acknowledged_more seat facts f k i in
+    let parts = acknowledged_parts seat facts k i in
     let grown = view_grows seat.group.size facts f in
-    let counted : counted_at seat (casts_in facts) (view seat.group.size facts) k ≤ counted_at seat (casts_in facts ++ cast_in f) (view seat.group.size (facts ++ f ∷ [])) k =
-    subst (λ (ms : List Carried). counted_at seat (casts_in facts) (view seat.group.size facts) k ≤ counted_at seat (casts_in facts ++ cast_in f) ms k) (sym grown.1) (counts_rise (casts_in facts) (cast_in f) (view seat.group.size facts) grown.0 k seat.me) in
+    let counted : counted_at (casts_in facts) (view seat.group.size facts) k i ≤ counted_at (casts_in facts ++ cast_in f) (view seat.group.size (facts ++ f ∷ [])) k i =
+    subst (λ (ms : List Carried). counted_at (casts_in facts) (view seat.group.size facts) k i ≤ counted_at (casts_in facts ++ cast_in f) ms k i) (sym grown.1) (counts_rise (casts_in facts) (cast_in f) (view seat.group.size facts) grown.0 k i) in
     omega (arith, more, parts, counted)
 
--- ---- own statuses
+pub own_status_acknowledges_nothing : (seat : Identity) (facts : List Fact) (s : StatusFields) (k i : ℕ) → acknowledged_of seat (facts ++ OwnStatus s ∷ []) k i ≡ acknowledged_of seat facts k i
+own_status_acknowledges_nothing seat facts s k i =
+    let now = acknowledged_more seat facts (OwnStatus s) k i in
+    let before = acknowledged_parts seat facts k i in
+    let counted = same_counts seat facts (view seat.group.size (facts ++ OwnStatus s ∷ [])) k i (view_reported seat.group.size facts s) in
+    omega (arith, now, before, counted)
+
+-- ---- and of this member's casts
+
+pub status_is_acknowledged : StatusIsAcknowledged
+status_is_acknowledged seat facts s k = status_is_acknowledged_of seat facts s k seat.me
 
 pub own_status_tells_nothing : OwnStatusTellsNothing
 own_status_tells_nothing seat facts s k =
     let known_now = known_more facts (OwnStatus s) k in
     let known_then = known_parts facts k in
     let times = same_times facts k in
-    let now = acknowledged_more seat facts (OwnStatus s) k in
-    let before = acknowledged_parts seat facts k in
-    let counted = same_counts seat facts (view seat.group.size (facts ++ OwnStatus s ∷ [])) k (view_reported seat.group.size facts s) in
-    (omega (arith, known_now, known_then, times), omega (arith, now, before, counted))
+    (omega (arith, known_now, known_then, times), own_status_acknowledges_nothing seat facts s k seat.me)
 
 -- ---- what is stable
 
@@ -173,6 +182,6 @@ least_rises g h (k ∷ i ∷ ks) le =
 pub nothing_falls : NothingFalls
 nothing_falls seat facts f = (
   known_rises facts f,
-  acknowledged_rises seat facts f,
-  least_rises (acknowledged seat facts) (acknowledged seat (facts ++ f ∷ [])) (filter (λ k. not (eqb k seat.me)) (range_with_len 0 seat.group.size)) (acknowledged_rises seat facts f),
+  (λ k. acknowledged_of_rises seat facts f k seat.me),
+  least_rises (acknowledged seat facts) (acknowledged seat (facts ++ f ∷ [])) (filter (λ k. not (eqb k seat.me)) (range_with_len 0 seat.group.size)) (λ k. acknowledged_of_rises seat facts f k seat.me),
 )

@@ -11,7 +11,7 @@ use Rattle.cb_diffs.specs.Expansion.{expanded_field}
 use Rattle.cb_history.specs.Group.{Identity}
 use Rattle.cb_history.specs.Facts.{Fact, OwnCast, CastReceived, casts_in, messages_in, is_there, numbers_between}
 use Rattle.cb_history.specs.View.{count, is_among, is_expanded, expanded_in, view}
-use Rattle.cb_history.specs.Known.{greatest_of, counted_in_times, known, counted_by, acknowledged}
+use Rattle.cb_history.specs.Known.{greatest_of, counted_in_times, known, counted_by, acknowledged_of}
 use Rattle.cb_history.specs.Answers.{own_casts, delivered}
 use Rattle.cb_history.specs.LegalFacts.{AreFactsOf}
 use Rattle.cb_history.specs.KnowledgeLaws.{newly_expanded, CastIsKnown, CastIsAcknowledged, OwnCastTellsNothing, DeliveredIsKnown}
@@ -89,45 +89,52 @@ cast_is_known seat facts c i are =
     let reported = reported_one (eqb c.sender i) (last_number c) in
     omega (arith, more, parts, times, reported)
 
--- ---- what is acknowledged
+-- ---- what is acknowledged, of any sender i
 
 -- the times of what was seen are the same with the new cast
-counted_same : (casts : List CastFields) (c : CastFields) (seen : List Carried) (k me : ℕ) → IsNew casts c → ((m : Carried) → IsIn m seen → is_expanded casts m ≡ true) → counted_by (casts ++ c ∷ []) seen k me ≡ counted_by casts seen k me
-counted_same casts c [] k me new expanded = refl
-counted_same casts c (m ∷ seen) k me new expanded =
-    let here : expanded_field (casts ++ c ∷ []) m.sender m.number me ≡ expanded_field casts m.sender m.number me = same_field casts c m me (first_is_new casts c new) new.positive (expanded m (inl refl)) in
-    let others = counted_same casts c seen k me new (λ x there. expanded x (inr there)) in
+counted_same : (casts : List CastFields) (c : CastFields) (seen : List Carried) (k i : ℕ) → IsNew casts c → ((m : Carried) → IsIn m seen → is_expanded casts m ≡ true) → counted_by (casts ++ c ∷ []) seen k i ≡ counted_by casts seen k i
+counted_same casts c [] k i new expanded = refl
+counted_same casts c (m ∷ seen) k i new expanded =
+    let here : expanded_field (casts ++ c ∷ []) m.sender m.number i ≡ expanded_field casts m.sender m.number i = same_field casts c m i (first_is_new casts c new) new.positive (expanded m (inl refl)) in
+    let others = counted_same casts c seen k i new (λ x there. expanded x (inr there)) in
     with_one (eqb m.sender k) here others
   where
-    with_one : (b : Bool) → expanded_field (casts ++ c ∷ []) m.sender m.number me ≡ expanded_field casts m.sender m.number me → counted_by (casts ++ c ∷ []) seen k me ≡ counted_by casts seen k me
-        → map (λ x. expanded_field (casts ++ c ∷ []) x.sender x.number me) (cond b (m ∷ filter (λ x. eqb x.sender k) seen) (filter (λ x. eqb x.sender k) seen))
-        ≡ map (λ x. expanded_field casts x.sender x.number me) (cond b (m ∷ filter (λ x. eqb x.sender k) seen) (filter (λ x. eqb x.sender k) seen))
+    with_one : (b : Bool) → expanded_field (casts ++ c ∷ []) m.sender m.number i ≡ expanded_field casts m.sender m.number i → counted_by (casts ++ c ∷ []) seen k i ≡ counted_by casts seen k i
+        → map (λ x. expanded_field (casts ++ c ∷ []) x.sender x.number i) (cond b (m ∷ filter (λ x. eqb x.sender k) seen) (filter (λ x. eqb x.sender k) seen))
+        ≡ map (λ x. expanded_field casts x.sender x.number i) (cond b (m ∷ filter (λ x. eqb x.sender k) seen) (filter (λ x. eqb x.sender k) seen))
     with_one true here others = rw (here, others) refl
     with_one false here others = others
 
-counted_append : (casts : List CastFields) (seen later : List Carried) (k me : ℕ) → greatest_of (counted_by casts (seen ++ later) k me) ≡ max (greatest_of (counted_by casts seen k me)) (greatest_of (counted_by casts later k me))
-counted_append casts seen later k me =
-    let time : Carried → ℕ = λ m. expanded_field casts m.sender m.number me in
+counted_append : (casts : List CastFields) (seen later : List Carried) (k i : ℕ) → greatest_of (counted_by casts (seen ++ later) k i) ≡ max (greatest_of (counted_by casts seen k i)) (greatest_of (counted_by casts later k i))
+counted_append casts seen later k i =
+    let time : Carried → ℕ = λ m. expanded_field casts m.sender m.number i in
     let own : Carried → Bool = λ m. eqb m.sender k in
     ap (λ (ms : List Carried). greatest_of (map time ms)) (filter-append own seen later) ∙ ap greatest_of (map-append time (filter own seen) (filter own later))
     ∙ greatest_append (map time (filter own seen)) (map time (filter own later))
 
-acknowledged_by : (seat : Identity) (facts : List Fact) (c : CastFields) (later : List Carried) (k : ℕ) → IsNew (casts_in facts) c → StandsAt seat facts
-    → counted_at seat (casts_in facts ++ c ∷ []) (view seat.group.size facts ++ later) k ≡ max (counted_at seat (casts_in facts) (view seat.group.size facts) k) (greatest_of (counted_by (casts_in facts ++ c ∷ []) later k seat.me))
-acknowledged_by seat facts c later k new s =
-    counted_append (casts_in facts ++ c ∷ []) (view seat.group.size facts) later k seat.me
-    ∙ ap (λ (ns : List ℕ). max (greatest_of ns) (greatest_of (counted_by (casts_in facts ++ c ∷ []) later k seat.me)))
-    (counted_same (casts_in facts) c (view seat.group.size facts) k seat.me new (λ m there. seen_is_expanded seat (casts_in facts) (view seat.group.size facts) (own_casts facts) m s there))
+acknowledged_by : (seat : Identity) (facts : List Fact) (c : CastFields) (later : List Carried) (k i : ℕ) → IsNew (casts_in facts) c → StandsAt seat facts
+    → counted_at (casts_in facts ++ c ∷ []) (view seat.group.size facts ++ later) k i ≡ max (counted_at (casts_in facts) (view seat.group.size facts) k i) (greatest_of (counted_by (casts_in facts ++ c ∷ []) later k i))
+acknowledged_by seat facts c later k i new s =
+    counted_append (casts_in facts ++ c ∷ []) (view seat.group.size facts) later k i
+    ∙ ap (λ (ns : List ℕ). max (greatest_of ns) (greatest_of (counted_by (casts_in facts ++ c ∷ []) later k i)))
+    (counted_same (casts_in facts) c (view seat.group.size facts) k i new (λ m there. seen_is_expanded seat (casts_in facts) (view seat.group.size facts) (own_casts facts) m s there))
 
-pub cast_is_acknowledged : CastIsAcknowledged
-cast_is_acknowledged seat facts c k later are grown =
+pub cast_is_acknowledged_of : (seat : Identity) (facts : List Fact) (c : CastFields) (k i : ℕ) (deliveries : List Carried) → AreFactsOf seat (facts ++ CastReceived c ∷ [])
+    → view seat.group.size (facts ++ CastReceived c ∷ []) ≡ view seat.group.size facts ++ deliveries
+    → acknowledged_of seat (facts ++ CastReceived c ∷ []) k i ≡ max (acknowledged_of seat facts k i) (greatest_of (counted_by (casts_in facts ++ c ∷ []) deliveries k i))
+cast_is_acknowledged_of seat facts c k i later are grown =
     let before = prefix_of_facts_is_legal seat facts (CastReceived c ∷ []) are in
     let s = all_stand seat (facts ++ CastReceived c ∷ []) are.member are.facts_are in
-    let more = acknowledged_more seat facts (CastReceived c) k in
-    let parts = acknowledged_parts seat facts k in
-    let seen : counted_at seat (casts_in facts ++ c ∷ []) (view seat.group.size (facts ++ CastReceived c ∷ [])) k ≡ counted_at seat (casts_in facts ++ c ∷ []) (view seat.group.size facts ++ later) k = ap (λ (ms : List Carried). counted_at seat (casts_in facts ++ c ∷ []) ms k) grown in
-    let counted = acknowledged_by seat facts c later k (is_new seat facts (CastReceived c) c s refl) (all_stand seat facts before.member before.facts_are) in
+    let more = acknowledged_more seat facts (CastReceived c) k i in
+    let parts = acknowledged_parts seat facts k i in
+    let seen : counted_at (casts_in facts ++ c ∷ []) (view seat.group.size (facts ++ CastReceived c ∷ [])) k i ≡ counted_at (casts_in facts ++ c ∷ []) (view seat.group.size facts ++ later) k i = ap (λ (ms : List Carried). counted_at (casts_in facts ++ c ∷ []) ms k i) grown in
+    let counted = acknowledged_by seat facts c later k i (is_new seat facts (CastReceived c) c s refl) (all_stand seat facts before.member before.facts_are) in
     omega (arith, more, parts, seen, counted)
+
+-- ---- and of this member's casts
+
+pub cast_is_acknowledged : CastIsAcknowledged
+cast_is_acknowledged seat facts c k = cast_is_acknowledged_of seat facts c k seat.me
 
 -- ---- what is delivered is known
 
@@ -195,23 +202,25 @@ own_cast_known seat facts c k are member other own =
     omega (arith, more, parts, times, newly, least)
 
 -- the messages of a cast say nothing of what another than its sender delivered
-none_counted_by : (casts : List CastFields) (sender n k me : ℕ) (ms : List Carried) → AreNumberedFrom sender n ms → sender ≢ k → counted_by casts ms k me ≡ []
-none_counted_by casts sender n k me [] row ne = refl
-none_counted_by casts sender n k me (m ∷ ms) row ne = rw (ne_eqb m.sender k (λ e. ne (sym row.0 ∙ e))) (none_counted_by casts sender (n + 1) k me ms row.2 ne)
+none_counted_by : (casts : List CastFields) (sender n k i : ℕ) (ms : List Carried) → AreNumberedFrom sender n ms → sender ≢ k → counted_by casts ms k i ≡ []
+none_counted_by casts sender n k i [] row ne = refl
+none_counted_by casts sender n k i (m ∷ ms) row ne = rw (ne_eqb m.sender k (λ e. ne (sym row.0 ∙ e))) (none_counted_by casts sender (n + 1) k i ms row.2 ne)
 
-own_cast_acknowledged : (seat : Identity) (facts : List Fact) (c : CastFields) (k : ℕ) → AreFactsOf seat (facts ++ OwnCast c ∷ []) → k ≢ seat.me → c.sender ≡ seat.me → acknowledged seat (facts ++ OwnCast c ∷ []) k ≡ acknowledged seat facts k
-own_cast_acknowledged seat facts c k are other own =
+pub own_cast_acknowledges_nothing : (seat : Identity) (facts : List Fact) (c : CastFields) (k i : ℕ) → AreFactsOf seat (facts ++ OwnCast c ∷ []) → k ≢ seat.me
+    → acknowledged_of seat (facts ++ OwnCast c ∷ []) k i ≡ acknowledged_of seat facts k i
+own_cast_acknowledges_nothing seat facts c k i are other =
     let before = prefix_of_facts_is_legal seat facts (OwnCast c ∷ []) are in
     let s = all_stand seat (facts ++ OwnCast c ∷ []) are.member are.facts_are in
-    let more = acknowledged_more seat facts (OwnCast c) k in
-    let parts = acknowledged_parts seat facts k in
-    let seen : counted_at seat (casts_in facts ++ c ∷ []) (view seat.group.size (facts ++ OwnCast c ∷ [])) k ≡ counted_at seat (casts_in facts ++ c ∷ []) (view seat.group.size facts ++ messages_of c) k = ap (λ (ms : List Carried). counted_at seat (casts_in facts ++ c ∷ []) ms k) (view_own seat.group.size facts c) in
-    let counted = acknowledged_by seat facts c (messages_of c) k (is_new seat facts (OwnCast c) c s refl) (all_stand seat facts before.member before.facts_are) in
-    let none : greatest_of (counted_by (casts_in facts ++ c ∷ []) (messages_of c) k seat.me) ≡ 0 =
-    ap greatest_of (none_counted_by (casts_in facts ++ c ∷ []) c.sender (first_number c) k seat.me (messages_of c) (carried_in_order c) (λ e. other (sym e ∙ own))) in
+    let own : c.sender ≡ seat.me = (own_number seat facts c s).0 in
+    let more = acknowledged_more seat facts (OwnCast c) k i in
+    let parts = acknowledged_parts seat facts k i in
+    let seen : counted_at (casts_in facts ++ c ∷ []) (view seat.group.size (facts ++ OwnCast c ∷ [])) k i ≡ counted_at (casts_in facts ++ c ∷ []) (view seat.group.size facts ++ messages_of c) k i = ap (λ (ms : List Carried). counted_at (casts_in facts ++ c ∷ []) ms k i) (view_own seat.group.size facts c) in
+    let counted = acknowledged_by seat facts c (messages_of c) k i (is_new seat facts (OwnCast c) c s refl) (all_stand seat facts before.member before.facts_are) in
+    let none : greatest_of (counted_by (casts_in facts ++ c ∷ []) (messages_of c) k i) ≡ 0 =
+    ap greatest_of (none_counted_by (casts_in facts ++ c ∷ []) c.sender (first_number c) k i (messages_of c) (carried_in_order c) (λ e. other (sym e ∙ own))) in
     omega (arith, more, parts, seen, counted, none)
 
 pub own_cast_tells_nothing : OwnCastTellsNothing
 own_cast_tells_nothing seat facts c k are member other =
     let own : c.sender ≡ seat.me = (own_number seat facts c (all_stand seat (facts ++ OwnCast c ∷ []) are.member are.facts_are)).0 in
-    (own_cast_known seat facts c k are member other own, own_cast_acknowledged seat facts c k are other own)
+    (own_cast_known seat facts c k are member other own, own_cast_acknowledges_nothing seat facts c k seat.me are other)

@@ -10,11 +10,13 @@ use Rattle.cb_history.specs.declared.answer.CastRefusal.{CastRefusal}
 use Rattle.cb_history.specs.declared.answer.CastRefusal.TheVariants as casts
 use Rattle.cb_history.specs.declared.answer.ArriveRefusal.TheVariants as arrivals
 use Rattle.cb_history.specs.declared.answer.TickRefusal.TheVariants as ticks
+use Rattle.cb_diffs.specs.Expansion.{expanded_time}
 use Rattle.cb_history.specs.Group.{Identity, AreParameters}
 use Rattle.cb_history.specs.Facts.{EntryFields, facts_of, casts_in}
 use Rattle.cb_history.specs.View.{view, drained, time_of, expanded_in, message_in}
-use Rattle.cb_history.specs.Known.{missing, ranges_of, acknowledged, stable}
+use Rattle.cb_history.specs.Known.{missing, ranges_of, acknowledged_of, acknowledged, stable}
 use Rattle.cb_history.specs.Answers.{cast_answer, arrive_answer, tick_answer, window, Accepted, Repeat}
+use Rattle.cb_history.specs.Singles.{singles_from}
 use Rattle.cb_history.specs.Legal.{Call, ToCast, ToTake, ToTick, history_after}
 
 -- member `me` of group 7 with three members and a window of 4
@@ -249,6 +251,35 @@ a_late_request_gets_nothing : arrive_answer (at 0) 100 (after (at 0) (ToCast (10
 unfolding cast_answer arrive_answer tick_answer view drained frame_at cast_at status_at request_at pairs_at pair_at number_at text_of spelling messages_of first_number last_number
 a_late_request_gets_nothing = refl
 
+-- the frame of a cast by member 2 that had delivered both of member 1's
+abbrev after_both : List ℕ
+after_both = 17 ∷ 7 ∷ 2 ∷ 1 ∷ 2 ∷ 0 ∷ 1 ∷ 0 ∷ 2 ∷ 0 ∷ []
+
+-- member 0 learns in the same way what one of the others has delivered of the other's casts
+a_time_that_waits_acknowledges_nothing : acknowledged_of (at 0) (facts_of (after (at 0) (ToCast (104 ∷ 105 ∷ []) ∷ ToTake after_both ∷ ToTake ok ∷ []))) 2 1 ≡ 0
+unfolding cast_answer arrive_answer tick_answer view drained frame_at cast_at status_at request_at pairs_at pair_at number_at text_of spelling messages_of first_number last_number
+a_time_that_waits_acknowledges_nothing = refl
+
+a_delivered_time_acknowledges_the_others_casts : acknowledged_of (at 0) (facts_of (after (at 0) (ToCast (104 ∷ 105 ∷ []) ∷ ToTake after_both ∷ ToTake ok ∷ ToTake yo ∷ []))) 2 1 ≡ 2
+unfolding cast_answer arrive_answer tick_answer view drained frame_at cast_at status_at request_at pairs_at pair_at number_at text_of spelling messages_of first_number last_number
+a_delivered_time_acknowledges_the_others_casts = refl
+
+and_its_senders_own_casts : acknowledged_of (at 0) (facts_of (after (at 0) (ToCast (104 ∷ 105 ∷ []) ∷ ToTake after_both ∷ ToTake ok ∷ ToTake yo ∷ []))) 2 2 ≡ 1
+unfolding cast_answer arrive_answer tick_answer view drained frame_at cast_at status_at request_at pairs_at pair_at number_at text_of spelling messages_of first_number last_number
+and_its_senders_own_casts = refl
+
+and_nothing_of_another : acknowledged_of (at 0) (facts_of (after (at 0) (ToCast (104 ∷ 105 ∷ []) ∷ ToTake after_both ∷ ToTake ok ∷ ToTake yo ∷ []))) 1 2 ≡ 0
+unfolding cast_answer arrive_answer tick_answer view drained frame_at cast_at status_at request_at pairs_at pair_at number_at text_of spelling messages_of first_number last_number
+and_nothing_of_another = refl
+
+a_status_acknowledges_the_others_casts : acknowledged_of (at 0) (facts_of (after (at 0) (ToTake (18 ∷ 7 ∷ 1 ∷ 2 ∷ 1 ∷ 5 ∷ 0 ∷ 3 ∷ []) ∷ []))) 1 2 ≡ 3
+unfolding cast_answer arrive_answer tick_answer view drained frame_at cast_at status_at request_at pairs_at pair_at number_at text_of spelling messages_of first_number last_number
+a_status_acknowledges_the_others_casts = refl
+
+a_lower_status_takes_nothing_back : acknowledged_of (at 0) (facts_of (after (at 0) (ToTake (18 ∷ 7 ∷ 1 ∷ 1 ∷ 2 ∷ 3 ∷ []) ∷ ToTake (18 ∷ 7 ∷ 1 ∷ 2 ∷ 1 ∷ 1 ∷ 0 ∷ 2 ∷ []) ∷ []))) 1 2 ≡ 3
+unfolding cast_answer arrive_answer tick_answer view drained frame_at cast_at status_at request_at pairs_at pair_at number_at text_of spelling messages_of first_number last_number
+a_lower_status_takes_nothing_back = refl
+
 -- payloads of the greatest length, and of one byte more, where the window is full too
 the_longest_payload_is_cast : bytes_of (cast_answer (at 0) 100 [] (replicate 1024 120)) ≡ Some (17 ∷ 7 ∷ 0 ∷ 1 ∷ 0 ∷ 128 ∷ 8 ∷ replicate 1024 120)
 unfolding cast_answer arrive_answer tick_answer view drained frame_at cast_at status_at request_at pairs_at pair_at number_at text_of spelling messages_of first_number last_number
@@ -287,6 +318,19 @@ its_time_counts_its_cast = refl
 its_status_says_the_time : tick_answer of_five 100 (after_from of_five (after of_five six_calls) (ToCast [] ∷ [])) ≡ Ok (true, record { to = None; bytes = (18 ∷ 172 ∷ 2 ∷ 2 ∷ 4 ∷ 0 ∷ 3 ∷ 0 ∷ 1 ∷ 0 ∷ 1 ∷ 1 ∷ 2 ∷ []) } ∷ [])
 unfolding cast_answer arrive_answer tick_answer view drained frame_at cast_at status_at request_at pairs_at pair_at number_at text_of spelling messages_of first_number last_number
 its_status_says_the_time = refl
+
+-- three messages of member 1, of which the first changes field 0 by 2: their singles, and the times that these add up to
+abbrev three_singles : List CastFields
+three_singles = singles_from (record { group = 7; sender = 1; number = 4; changes = record { field = 0; amount = 2 } ∷ []; payload = [] }) (record { field = 0; amount = 2 } ∷ [])
+    (record { sender = 1; number = 4; payload = 97 ∷ [] } ∷ record { sender = 1; number = 5; payload = 98 ∷ [] } ∷ record { sender = 1; number = 6; payload = 99 ∷ [] } ∷ [])
+
+the_first_has_the_changes : three_singles ≡ record { group = 7; sender = 1; number = 4; changes = record { field = 0; amount = 2 } ∷ []; payload = 97 ∷ [] }
+    ∷ record { group = 7; sender = 1; number = 5; changes = []; payload = 98 ∷ [] } ∷ record { group = 7; sender = 1; number = 6; changes = []; payload = 99 ∷ [] } ∷ []
+the_first_has_the_changes = refl
+
+and_changes_the_others_too : map (expanded_time 3 three_singles 1) (3 ∷ 4 ∷ 5 ∷ 6 ∷ []) ≡ (0 ∷ 3 ∷ 0 ∷ []) ∷ (2 ∷ 4 ∷ 0 ∷ []) ∷ (2 ∷ 5 ∷ 0 ∷ []) ∷ (2 ∷ 6 ∷ 0 ∷ []) ∷ []
+unfolding first_number
+and_changes_the_others_too = refl
 
 -- groups and what is none
 a_large_group : AreParameters (record { number = 4294967295; size = 64; window = 256 })

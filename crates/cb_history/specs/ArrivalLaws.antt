@@ -8,6 +8,7 @@ use Rattle.cb_history.specs.Facts.{EntryFields, Fact, facts_of, casts_in, is_the
 use Rattle.cb_history.specs.Answers.{arrive_answer}
 use Rattle.cb_history.specs.Legal.{ToTake, history_after}
 use Rattle.cb_history.specs.LegalFacts.{AreFactsOf}
+use Rattle.cb_history.specs.Singles.{singles_in}
 use Rattle.cb_history.specs.BufferLaws.{IsCastOf}
 use Rattle.cb_history.specs.OwnFrameLaws.{IsOfTheGroup}
 
@@ -28,3 +29,7 @@ ThereStays = (facts more : List Fact) (i n : ℕ) → is_there (casts_in facts) 
 -- casts that are there are of the group and of its members
 abbrev pub CastsAreOfTheGroup : Type 0
 CastsAreOfTheGroup = (seat : Identity) (facts : List Fact) (c : CastFields) → AreFactsOf seat facts → IsCastOf c (casts_in facts) → IsOfTheGroup seat.group (CastFrame c)
+
+-- and so are their singles
+abbrev pub SinglesAreOfTheGroup : Type 0
+SinglesAreOfTheGroup = (seat : Identity) (facts : List Fact) (c : CastFields) → AreFactsOf seat facts → IsCastOf c (singles_in facts) → IsOfTheGroup seat.group (CastFrame c)

@@ -1,4 +1,4 @@
--- What a member knows of the others: how far they cast, and how far they delivered its own casts.
+-- What a member knows of the others: how far they cast, and how far they delivered the casts of each.
 use Rattle.std.specs.Prelude.{ℕ, ◌+◌, not, ◌==◌, ◌++◌, List, [], ◌∷◌, map, filter, max, min, if◌then◌else◌}
 use Rattle.std.specs.List.{range_with_len, flat_map}
 use Rattle.cb_frames.specs.declared.frame.Change.{Change}
@@ -55,23 +55,29 @@ abbrev pub ranges_of : List ℕ → List Range
 ranges_of [] = []
 ranges_of (n ∷ ns) = before_ranges n (ranges_of ns)
 
--- ---- own casts
+-- ---- what another has delivered
 
--- what one fact says of how many of this member's casts k has delivered: a status of k
+-- what one fact says of how many casts of sender i another, k, has delivered: a status of k
 abbrev pub reported_by : ℕ → ℕ → Fact → List ℕ
-reported_by k me (OwnCast c) = []
-reported_by k me (CastReceived c) = []
-reported_by k me (StatusReceived s) = if s.sender == k then value_in s.values me ∷ [] else []
-reported_by k me (OwnStatus s) = []
+reported_by k i (OwnCast c) = []
+reported_by k i (CastReceived c) = []
+reported_by k i (StatusReceived s) = if s.sender == k then value_in s.values i ∷ [] else []
+reported_by k i (OwnStatus s) = []
 
 -- what the times of the delivered messages of k say of it
 abbrev pub counted_by : List CastFields → List Carried → ℕ → ℕ → List ℕ
-counted_by casts seen k me = map (λ m. expanded_field casts m.sender m.number me) (filter (λ m. m.sender == k) seen)
+counted_by casts seen k i = map (λ m. expanded_field casts m.sender m.number i) (filter (λ m. m.sender == k) seen)
+
+-- how many casts of i the member knows that another, k, has delivered
+abbrev pub acknowledged_of : Identity → List Fact → ℕ → ℕ → ℕ
+acknowledged_of seat facts k i =
+    greatest_of (flat_map (reported_by k i) facts ++ counted_by (casts_in facts) (view seat.group.size facts) k i)
+
+-- ---- own casts
 
 -- how many of its casts the member knows that k has delivered
 abbrev pub acknowledged : Identity → List Fact → ℕ → ℕ
-acknowledged seat facts k =
-    greatest_of (flat_map (reported_by k seat.me) facts ++ counted_by (casts_in facts) (view seat.group.size facts) k seat.me)
+acknowledged seat facts k = acknowledged_of seat facts k seat.me
 
 abbrev pub least_of : List ℕ → ℕ
 least_of [] = 0

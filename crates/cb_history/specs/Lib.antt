@@ -13,6 +13,7 @@ pub mod ViewLaws
 pub mod NameLaws
 pub mod KnowledgeLaws
 pub mod TimeLaws
+pub mod Singles
 pub mod GapLaws
 pub mod HistoryLaws
 pub mod DeliveryLaws
