@@ -25,9 +25,9 @@ use Rattle.cb_history.proofs.Names.{one_of_is_in}
 use Rattle.cb_history.proofs.Delivering.{readiness_is_the_delay_rule, rule_of_times, next_is_smallest_ready, one_message}
 use Rattle.cb_history.proofs.Queueing.{in_casts}
 use Rattle.cb_member.specs.declared.delivery.Delivery.{Delivery}
-use Rattle.cb_member.specs.Delivery.{Waits, HasNoNext}
+use Rattle.cb_member.specs.Delivery.{Waits, HasNoNext, IsSettled}
 use Rattle.cb_member.specs.Passing.{IsAlone, DeliversAlone}
-use Rattle.cb_member.proofs.Waiting.{TakesOut, takes_next, none_next}
+use Rattle.cb_member.proofs.Waiting.{TakesOut, takes_next, none_next, held_alike}
 use Rattle.cb_member.proofs.Draining.{none_so_far, goes_on, is_drained}
 
 -- ---- held and released again
@@ -174,3 +174,26 @@ module _ (d : Delivery) (message : Message) (is_queue : IsDelayQueue d.queue) (a
       drains = is_drained held after after before now
           (goes_on held held after message before before now (none_so_far held before) (takes_next held message.name.sender message after takes_it_out) entered) none_left;
     }
+
+-- ---- what the queue remembers changes nothing
+
+waits_settled : (size : ℕ) (casts : List CastFields) (seen : List Carried) (mid new : Delivery) → IsSettled mid new → Waits size casts seen mid → Waits size casts seen new
+waits_settled size casts seen mid new settled w = record {
+  way = w.way;
+  time = settled.time ∙ w.time;
+  queue = held_alike size casts seen mid.queue new.queue settled.queue w.queue;
+}
+
+pub alone_then_settled : (message : Message) (old mid new : Delivery) (before now : List Event) → DeliversAlone message old mid before now → IsSettled mid new → DeliversAlone message old new before now
+alone_then_settled message old mid new before now alone settled = record {
+  held = alone.held;
+  holds = alone.holds;
+  drains = λ size casts seen w.
+      let d = alone.drains size casts seen w in record {
+        more = d.more;
+        drained = d.drained;
+        waits = waits_settled size casts (seen ++ d.more) mid new settled d.waits;
+        events = d.events;
+        window = settled.queue.window ∙ d.window;
+      };
+}

@@ -101,7 +101,18 @@ impl Delivery {
         let _window = self.queue.window();
         let sender = message.name.sender;
         self.time.add_one(sender);
+        self.tell_queue(sender);
         events.push_reserved(Event::Deliver(message));
+    }
+
+    /// Tells the queue that one more message of this sender is delivered: where it holds some, its next answer finds less to do.
+    fn tell_queue(&mut self, sender: u32)
+        requires { sender < self.old.queue.size }
+        ensures { IsSettled self.old self.new }
+    {
+        if self.queue.len() > 0 {
+            self.queue.hear_delivered(sender);
+        }
     }
 }
 
