@@ -17,7 +17,7 @@ use std::alloc::Global;
 /// A list of changes or values is at most this long: their indices rise, and none is above 63.
 const MOST_CHANGES: usize = 64;
 
-/// The next change, whose index is at least `least` and not `own`. Most say both numbers in one byte each.
+/// The next change, whose index is at least `least` and not `own`. Most have an index of one byte, and an increment of one or two.
 #[tactic(auto, unfolding(crate::specs::Reading::pair_at, cb_varint::specs::Reading::number_at))]
 fn next_change(own: Option<u32>, least: u32, bytes: &[u8]) -> Result<(Change, &[u8]), FrameFault>
     ensures value { Answers (λ x. ((x.0.field, x.0.amount), x.1.now)) result
@@ -28,6 +28,11 @@ fn next_change(own: Option<u32>, least: u32, bytes: &[u8]) -> Result<(Change, &[
         [gap, amount, rest @ ..] if *gap < 0x80 && *amount < 0x80 => {
             let field = index_of(own, least, u32::from(*gap))?;
             let amount = increment_of(u32::from(*amount))?;
+            Ok((Change { field, amount }, rest))
+        }
+        [gap, low, high, rest @ ..] if *gap < 0x80 && 0 < *high && *high < 0x80 => {
+            let field = index_of(own, least, u32::from(*gap))?;
+            let amount = (u32::from(*low) - 0x80) + 0x80 * u32::from(*high);
             Ok((Change { field, amount }, rest))
         }
         _ => any_change(own, least, bytes),
