@@ -7,7 +7,7 @@ use Rattle.cb_times.specs.declared.name.Name.{Name}
 use Rattle.cb_frames.specs.declared.fault.FrameFault.{FrameFault}
 use Rattle.cb_frames.specs.Fields.{CastFields, FrameFields, CastFrame, messages_of, last_number}
 use Rattle.cb_frames.proofs.Carried.{last_is_carried}
-use Rattle.cb_frames.specs.Reading.{frame_at}
+use Rattle.cb_history.specs.Read.{frame_read}
 use Rattle.cb_history.specs.declared.answer.ArriveRefusal.{ArriveRefusal}
 use Rattle.cb_history.specs.declared.answer.ArriveRefusal.TheVariants as arrivals
 use Rattle.cb_history.specs.Group.{Identity, IsIdentity}
@@ -41,7 +41,7 @@ IsRight entries bytes c r = IsOk r ↔ AreThere (casts_in (facts_of (and_entry e
 refused : (entries : List EntryFields) (bytes : List ℕ) (c : CastFields) (e : ArriveRefusal) → (AreThere (casts_in (facts_of entries)) c → ⊥) → IsRight entries bytes c (Err e)
 refused entries bytes c e none = ((λ ok. absurd cc), (λ there. absurd (none there)))
 
-taken_is_there : (entries : List EntryFields) (bytes : List ℕ) (names : List Name) (c : CastFields) → frame_at bytes ≡ Ok (CastFrame c) → AreThere (casts_in (facts_of (entries ++ ArriveEntry bytes names ∷ []))) c
+taken_is_there : (entries : List EntryFields) (bytes : List ℕ) (names : List Name) (c : CastFields) → frame_read bytes ≡ Ok (CastFrame c) → AreThere (casts_in (facts_of (entries ++ ArriveEntry bytes names ∷ []))) c
 taken_is_there entries bytes names c read =
     let facts : facts_of (entries ++ ArriveEntry bytes names ∷ []) ≡ facts_of entries ++ CastReceived c ∷ [] = said_facts entries bytes names (CastFrame c) read in
     let casts : casts_in (facts_of (entries ++ ArriveEntry bytes names ∷ [])) ≡ casts_in (facts_of entries) ++ c ∷ [] = ap casts_in facts ∙ casts_in-append (facts_of entries) (CastReceived c) in
@@ -59,7 +59,7 @@ impossible_is_not_there seat facts c are impossible there =
     let bound = own_is_delivered seat facts last.found.number are (subst (λ (i : ℕ). is_there (casts_in facts) i last.found.number ≡ true) own here) in
     omega (arith, above, bound, number)
 
-answer_is_right : (seat : Identity) (limit : ℕ) (entries : List EntryFields) (bytes : List ℕ) (c : CastFields) → AreFactsOf seat (facts_of entries) → frame_at bytes ≡ Ok (CastFrame c) → IsOfTheGroup seat.group (CastFrame c)
+answer_is_right : (seat : Identity) (limit : ℕ) (entries : List EntryFields) (bytes : List ℕ) (c : CastFields) → AreFactsOf seat (facts_of entries) → frame_read bytes ≡ Ok (CastFrame c) → IsOfTheGroup seat.group (CastFrame c)
     → IsRight entries bytes c (frame_answer seat limit entries (facts_of entries) (CastFrame c))
 answer_is_right seat limit entries bytes c are read of =
     let facts = facts_of entries in

@@ -6,7 +6,7 @@ use Rattle.cb_frames.specs.declared.frame.TheConstants.{LONGEST_PAYLOAD}
 use Rattle.cb_frames.specs.declared.fault.FrameFault.{FrameFault}
 use Rattle.cb_frames.specs.Fields.{CastFields, FrameFields, StatusFrame}
 use Rattle.cb_frames.specs.Text.{text_of}
-use Rattle.cb_frames.specs.Reading.{frame_at}
+use Rattle.cb_history.specs.Read.{frame_read}
 use Rattle.cb_delay.specs.declared.message.Message.{Message}
 use Rattle.cb_history.specs.declared.answer.CastRefusal.{CastRefusal}
 use Rattle.cb_history.specs.declared.answer.CastRefusal.TheVariants as casts
@@ -73,7 +73,7 @@ entry_same : (seat : Identity) (limit other : ℕ) (entries : List EntryFields) 
 unfolding cast_answer arrive_answer tick_answer
 entry_same seat limit other entries (ToCast payload) e room h =
     same_cast (ltb LONGEST_PAYLOAD (length payload)) (is_window_full seat (facts_of entries)) (is_full limit entries) (is_full other entries) (next_cast seat (facts_of entries) payload) e room h
-entry_same seat limit other entries (ToTake bytes) e room h = taken_same seat limit other entries bytes (frame_at bytes) e room h
+entry_same seat limit other entries (ToTake bytes) e room h = taken_same seat limit other entries bytes (frame_read bytes) e room h
 entry_same seat limit other entries ToTick e room h =
     same_tick (is_new_status seat (facts_of entries)) (is_full limit entries) (is_full other entries)
     (record { to = None; bytes = text_of (StatusFrame (status_of seat (facts_of entries))) } ∷ requests seat (facts_of entries)) (text_of (StatusFrame (status_of seat (facts_of entries)))) e room h
@@ -121,7 +121,7 @@ has_room : (seat : Identity) (limit : ℕ) (entries : List EntryFields) (call : 
 unfolding cast_answer arrive_answer tick_answer
 has_room seat limit entries (ToCast payload) e h =
     cast_has_room (ltb LONGEST_PAYLOAD (length payload)) (is_window_full seat (facts_of entries)) (is_full limit entries) (next_cast seat (facts_of entries) payload) e h
-has_room seat limit entries (ToTake bytes) e h = taken_has_room seat limit entries bytes (frame_at bytes) e h
+has_room seat limit entries (ToTake bytes) e h = taken_has_room seat limit entries bytes (frame_read bytes) e h
 has_room seat limit entries ToTick e h =
     tick_has_room (is_new_status seat (facts_of entries)) (is_full limit entries)
     (record { to = None; bytes = text_of (StatusFrame (status_of seat (facts_of entries))) } ∷ requests seat (facts_of entries)) (text_of (StatusFrame (status_of seat (facts_of entries)))) e h

@@ -8,7 +8,7 @@ use Rattle.cb_frames.specs.declared.frame.Change.{Change}
 use Rattle.cb_frames.specs.Fields.{CastFields, FrameFields, CastFrame, StatusFrame, RequestFrame, Carried, first_number, last_number}
 use Rattle.cb_frames.proofs.Carried.{first_is_number, last_is_number, carries_no_more, carried_is_of_cast}
 use Rattle.cb_frames.specs.Text.{pairs_from}
-use Rattle.cb_frames.specs.Reading.{frame_at}
+use Rattle.cb_history.specs.Read.{frame_read}
 use Rattle.cb_frames.specs.Laws.{IsBytes, CanBeWritten}
 use Rattle.cb_frames.proofs.Decoding.{reading_is_exact}
 use Rattle.cb_frames.proofs.Unique.{one_text, some_text}
@@ -158,7 +158,7 @@ written_numbers (CastFrame c) can = omega (arith, can.2.1.1.0, last_is_number c)
 written_numbers (StatusFrame s) can = values_small 0 s.values can.2.1.1.1
 written_numbers (RequestFrame r) can = tt
 
-pub read_numbers : (bytes : List ℕ) (f : FrameFields) → IsBytes bytes → frame_at bytes ≡ Ok f → SaysNumbers f
+pub read_numbers : (bytes : List ℕ) (f : FrameFields) → IsBytes bytes → frame_read bytes ≡ Ok f → SaysNumbers f
 read_numbers bytes f are read =
     let text : IsText f bytes = (reading_is_exact.text bytes f are).0 read in
     written_numbers f ((some_text f).0 (subst (IsText f) (one_text f bytes text) text))

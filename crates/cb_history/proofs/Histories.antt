@@ -7,7 +7,7 @@ use Rattle.cb_frames.specs.declared.frame.TheConstants.{LONGEST_PAYLOAD}
 use Rattle.cb_frames.specs.declared.fault.FrameFault.{FrameFault}
 use Rattle.cb_frames.specs.Fields.{CastFields, FrameFields, Carried, CastFrame, StatusFrame, RequestFrame}
 use Rattle.cb_frames.specs.Text.{text_of}
-use Rattle.cb_frames.specs.Reading.{frame_at}
+use Rattle.cb_history.specs.Read.{frame_read}
 use Rattle.cb_frames.specs.Laws.{IsBytes}
 use Rattle.cb_frames.proofs.Decoding.{reading_is_exact}
 use Rattle.cb_frames.proofs.Unique.{one_text}
@@ -103,10 +103,10 @@ frame_taken seat entries bytes e frame =
     (λ _ h. absurd cc)))))))
 
 -- bytes that are a frame are its text
-received_as_text : (bytes : List ℕ) (names : List Name) (e : EntryFields) (f : FrameFields) → IsBytes bytes → frame_at bytes ≡ Ok f → ArriveEntry bytes names ≡ e → SaysItsText e
+received_as_text : (bytes : List ℕ) (names : List Name) (e : EntryFields) (f : FrameFields) → IsBytes bytes → frame_read bytes ≡ Ok f → ArriveEntry bytes names ≡ e → SaysItsText e
 received_as_text bytes names e f are read is = subst SaysItsText is (f, read, one_text f bytes ((reading_is_exact.text bytes f are).0 read))
 
-taken_says : (seat : Identity) (entries : List EntryFields) (bytes : List ℕ) (e : EntryFields) (frame : FrameFields) → IsBytes bytes → frame_at bytes ≡ Ok frame → Taken seat entries bytes e frame → Added seat entries e
+taken_says : (seat : Identity) (entries : List EntryFields) (bytes : List ℕ) (e : EntryFields) (frame : FrameFields) → IsBytes bytes → frame_read bytes ≡ Ok frame → Taken seat entries bytes e frame → Added seat entries e
 taken_says seat entries bytes e (CastFrame c) are read t = record {
   text = received_as_text bytes t.names e (CastFrame c) are read t.is;
   fact = CastReceived c;
@@ -121,13 +121,13 @@ taken_says seat entries bytes e (StatusFrame s) are read t = record {
 }
 taken_says seat entries bytes e (RequestFrame r) are read t = let none : false ≡ true = (t.taken tt).change in absurd cc
 
-arrival_added : (seat : Identity) (entries : List EntryFields) (bytes : List ℕ) (e : EntryFields) (r : Result FrameFields FrameFault) → IsBytes bytes → frame_at bytes ≡ r → arrive_entry bytes (answer_to seat (room_for_one entries) entries r) ≡ Some e → Added seat entries e
+arrival_added : (seat : Identity) (entries : List EntryFields) (bytes : List ℕ) (e : EntryFields) (r : Result FrameFields FrameFault) → IsBytes bytes → frame_read bytes ≡ r → arrive_entry bytes (answer_to seat (room_for_one entries) entries r) ≡ Some e → Added seat entries e
 arrival_added seat entries bytes e (Ok frame) are read h = taken_says seat entries bytes e frame are read (frame_taken seat entries bytes e frame h)
 arrival_added seat entries bytes e (Err fault) are read h = absurd cc
 
 arrive_added : (seat : Identity) (entries : List EntryFields) (bytes : List ℕ) (e : EntryFields) → IsBytes bytes → arrive_entry bytes (arrive_answer seat (room_for_one entries) entries bytes) ≡ Some e → Added seat entries e
 unfolding arrive_answer
-arrive_added seat entries bytes e are h = arrival_added seat entries bytes e (frame_at bytes) are refl h
+arrive_added seat entries bytes e are h = arrival_added seat entries bytes e (frame_read bytes) are refl h
 
 -- ---- a tick
 
@@ -215,16 +215,16 @@ names_of : (size : ℕ) (casts : List CastFields) (ms : List Carried) → map (�
 names_of size casts [] = refl
 names_of size casts (m ∷ ms) = ap (λ (ns : List Name). name_of m ∷ ns) (names_of size casts ms)
 
-pub said_facts : (entries : List EntryFields) (bytes : List ℕ) (names : List Name) (frame : FrameFields) → frame_at bytes ≡ Ok frame → facts_of (entries ++ ArriveEntry bytes names ∷ []) ≡ with_frame (facts_of entries) frame
+pub said_facts : (entries : List EntryFields) (bytes : List ℕ) (names : List Name) (frame : FrameFields) → frame_read bytes ≡ Ok frame → facts_of (entries ++ ArriveEntry bytes names ∷ []) ≡ with_frame (facts_of entries) frame
 said_facts entries bytes names frame read =
-    flat_map-append said_by entries (ArriveEntry bytes names ∷ []) ∙ ap (λ (fs : List Fact). facts_of entries ++ fs) (append-nil (arrival_said (frame_at bytes)) ∙ ap arrival_said read) ∙ with_said (facts_of entries) frame
+    flat_map-append said_by entries (ArriveEntry bytes names ∷ []) ∙ ap (λ (fs : List Fact). facts_of entries ++ fs) (append-nil (arrival_said (frame_read bytes)) ∙ ap arrival_said read) ∙ with_said (facts_of entries) frame
   where
     with_said : (facts : List Fact) (frame : FrameFields) → facts ++ arrival_said (Ok frame) ≡ with_frame facts frame
     with_said facts (CastFrame c) = refl
     with_said facts (StatusFrame s) = refl
     with_said facts (RequestFrame r) = append-nil facts
 
-taken_names : (seat : Identity) (entries : List EntryFields) (bytes frame : List ℕ) (delivered : List Name) (f : FrameFields) → frame_at bytes ≡ Ok f → Taken seat entries bytes (ArriveEntry frame delivered) f
+taken_names : (seat : Identity) (entries : List EntryFields) (bytes frame : List ℕ) (delivered : List Name) (f : FrameFields) → frame_read bytes ≡ Ok f → Taken seat entries bytes (ArriveEntry frame delivered) f
     → delivered ≡ map name_of (drop (length (view seat.group.size (facts_of entries))) (view seat.group.size (facts_of (entries ++ ArriveEntry frame delivered ∷ []))))
 taken_names seat entries bytes frame delivered f read t =
     let names : t.names ≡ delivered = entry_names bytes frame t.names delivered t.is in
@@ -245,7 +245,7 @@ no_tick status (Ok (true, out)) frame delivered e = cc
 no_tick status (Ok (false, out)) frame delivered e = cc
 no_tick status (Err refusal) frame delivered e = cc
 
-arrival_names : (seat : Identity) (entries : List EntryFields) (bytes frame : List ℕ) (delivered : List Name) (r : Result FrameFields FrameFault) → frame_at bytes ≡ r → arrive_entry bytes (answer_to seat (room_for_one entries) entries r) ≡ Some (ArriveEntry frame delivered)
+arrival_names : (seat : Identity) (entries : List EntryFields) (bytes frame : List ℕ) (delivered : List Name) (r : Result FrameFields FrameFault) → frame_read bytes ≡ r → arrive_entry bytes (answer_to seat (room_for_one entries) entries r) ≡ Some (ArriveEntry frame delivered)
     → delivered ≡ map name_of (drop (length (view seat.group.size (facts_of entries))) (view seat.group.size (facts_of (entries ++ ArriveEntry frame delivered ∷ []))))
 arrival_names seat entries bytes frame delivered (Ok f) read h = taken_names seat entries bytes frame delivered f read (frame_taken seat entries bytes (ArriveEntry frame delivered) f h)
 arrival_names seat entries bytes frame delivered (Err fault) read h = absurd cc
@@ -254,7 +254,7 @@ call_names : (seat : Identity) (entries : List EntryFields) (call : Call) (frame
     → delivered ≡ map name_of (drop (length (view seat.group.size (facts_of entries))) (view seat.group.size (facts_of (entries ++ ArriveEntry frame delivered ∷ []))))
 unfolding arrive_answer
 call_names seat entries (ToCast payload) frame delivered h = absurd (no_cast (cast_answer seat (room_for_one entries) entries payload) frame delivered h)
-call_names seat entries (ToTake bytes) frame delivered h = arrival_names seat entries bytes frame delivered (frame_at bytes) refl h
+call_names seat entries (ToTake bytes) frame delivered h = arrival_names seat entries bytes frame delivered (frame_read bytes) refl h
 call_names seat entries ToTick frame delivered h = absurd (no_tick (text_of (StatusFrame (status_of seat (facts_of entries)))) (tick_answer seat (room_for_one entries) entries) frame delivered h)
 
 pub arrivals_name_deliveries : ArrivalsNameDeliveries

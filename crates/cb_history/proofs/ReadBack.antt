@@ -11,6 +11,7 @@ use Rattle.cb_frames.specs.Fields.{CastFields, StatusFields, FrameFields, CastFr
 use Rattle.cb_frames.specs.Text.{cast_kind, status_kind, request_kind, pairs_from, cast_numbers, status_numbers, text_of}
 use Rattle.cb_frames.specs.Fault.{any_number, member_rule, message_rule, length_rule, Pairs, change_pairs, value_pairs}
 use Rattle.cb_frames.specs.Reading.{number_at, unless, field_at, pair_at, pairs_at, payload_at, cast_at, status_at, request_at, frame_at}
+use Rattle.cb_history.specs.Read.{frame_read}
 use Rattle.cb_frames.specs.Laws.{CanBeWritten}
 use Rattle.cb_frames.proofs.Carried.{first_is_number}
 use Rattle.cb_frames.proofs.SaidPairs.{keeps_member, keeps_message, keeps_length, message_kept, Said, Says, says_changes, says_values}
@@ -84,7 +85,7 @@ cast_at_read c can =
     let payload = all_bytes c.payload in
     rw (cast_text c, group, sender, number, count, changes, size, payload) refl
 
-pub cast_read : (c : CastFields) → CanBeWritten (CastFrame c) → frame_at (text_of (CastFrame c)) ≡ Ok (CastFrame c)
+pub cast_read : (c : CastFields) → CanBeWritten (CastFrame c) → frame_read (text_of (CastFrame c)) ≡ Ok (CastFrame c)
 unfolding frame_at text_of
 cast_read c can = let read = cast_at_read c can in rw read refl
 
@@ -104,7 +105,7 @@ status_at_read s can =
     let values = pairs_read value_pairs 0 s.values (pairs_from 0 s.values) [] (says_values 0 s.values can.0.values) small.1.1.1 in
     rw (status_text s, group, sender, count, values) refl
 
-pub status_read : (s : StatusFields) → CanBeWritten (StatusFrame s) → frame_at (text_of (StatusFrame s)) ≡ Ok (StatusFrame s)
+pub status_read : (s : StatusFields) → CanBeWritten (StatusFrame s) → frame_read (text_of (StatusFrame s)) ≡ Ok (StatusFrame s)
 unfolding frame_at text_of
 status_read s can = let read = status_at_read s can in rw read refl
 
@@ -139,7 +140,7 @@ cast_numbered bytes c =
         (λ n e h. let kept = rule_kept (message_rule n.0) n x h in subst (λ (y : ℕ × List ℕ). 1 ≤ y.0) kept.1 (message_kept n.0 kept.0))
         (λ f e h. absurd cc)
 
-pub frame_numbered : (bytes : List ℕ) (c : CastFields) → frame_at bytes ≡ Ok (CastFrame c) → 1 ≤ first_number c
+pub frame_numbered : (bytes : List ℕ) (c : CastFields) → frame_read bytes ≡ Ok (CastFrame c) → 1 ≤ first_number c
 unfolding frame_at
 frame_numbered [] c = λ h. absurd cc
 frame_numbered (kind ∷ bytes) c =

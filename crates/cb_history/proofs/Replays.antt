@@ -10,7 +10,7 @@ use Rattle.cb_frames.specs.declared.frame.TheConstants.{LONGEST_PAYLOAD}
 use Rattle.cb_frames.specs.declared.fault.FrameFault.{FrameFault}
 use Rattle.cb_frames.specs.Fields.{CastFields, StatusFields, FrameFields, CastFrame, StatusFrame, RequestFrame}
 use Rattle.cb_frames.specs.Text.{cast_kind, status_kind, cast_numbers, status_numbers, text_of}
-use Rattle.cb_frames.specs.Reading.{frame_at}
+use Rattle.cb_history.specs.Read.{frame_read}
 use Rattle.cb_frames.specs.Laws.{IsBytes, CanBeWritten}
 use Rattle.cb_frames.proofs.Decoding.{reading_is_exact}
 use Rattle.cb_frames.proofs.Unique.{one_text}
@@ -106,7 +106,7 @@ tick_reported seat entries e are is =
 call_reported : (seat : Identity) (entries : List EntryFields) (call : Call) (e : EntryFields) → AreFactsOf seat (facts_of entries) → entry_of seat (room_for_one entries) entries call ≡ Some e → Tells call e
 unfolding arrive_answer
 call_reported seat entries (ToCast payload) e are h = cast_reported seat entries payload e are h
-call_reported seat entries (ToTake bytes) e are h = arrival_reported seat entries bytes e (frame_at bytes) h
+call_reported seat entries (ToTake bytes) e are h = arrival_reported seat entries bytes e (frame_read bytes) h
 call_reported seat entries ToTick e are h =
     tick_reported seat entries e are (status_entered (text_of (StatusFrame (status_of seat (facts_of entries)))) (tick_answer seat (room_for_one entries) entries) e h)
 
@@ -119,20 +119,20 @@ entry_tells_its_call seat limit entries call e most legal h =
 back_is_bytes : (front back : List ℕ) → IsBytes (front ++ back) → IsBytes back
 back_is_bytes front back bytes i = subst (λ (n : ℕ). n < 256) (get_or-append-add front back i 0) (bytes (length front + i))
 
-payload_is_bytes : (frame : List ℕ) (c : CastFields) → IsBytes frame → frame_at frame ≡ Ok (CastFrame c) → IsBytes c.payload
+payload_is_bytes : (frame : List ℕ) (c : CastFields) → IsBytes frame → frame_read frame ≡ Ok (CastFrame c) → IsBytes c.payload
 unfolding text_of
 payload_is_bytes frame c bytes read =
     let text : frame ≡ text_of (CastFrame c) = one_text (CastFrame c) frame ((reading_is_exact.text frame (CastFrame c) bytes).0 read) in
     back_is_bytes (cast_kind ∷ flat_map spelling (cast_numbers c)) c.payload (subst IsBytes text bytes)
 
-said_is_bytes : (frame : List ℕ) (r : Result FrameFields FrameFault) → IsBytes frame → frame_at frame ≡ r → IsBytes (payload_said r)
+said_is_bytes : (frame : List ℕ) (r : Result FrameFields FrameFault) → IsBytes frame → frame_read frame ≡ r → IsBytes (payload_said r)
 said_is_bytes frame (Ok (CastFrame c)) bytes read = payload_is_bytes frame c bytes read
 said_is_bytes frame (Ok (StatusFrame s)) bytes read = no_bytes
 said_is_bytes frame (Ok (RequestFrame r)) bytes read = no_bytes
 said_is_bytes frame (Err fault) bytes read = no_bytes
 
 pub entries_of_bytes_tell_bytes : EntriesOfBytesTellBytes
-entries_of_bytes_tell_bytes (CastEntry frame) bytes = said_is_bytes frame (frame_at frame) bytes refl
+entries_of_bytes_tell_bytes (CastEntry frame) bytes = said_is_bytes frame (frame_read frame) bytes refl
 entries_of_bytes_tell_bytes (ArriveEntry frame delivered) bytes = bytes
 entries_of_bytes_tell_bytes (TickEntry status) bytes = tt
 

@@ -6,7 +6,7 @@ use Rattle.cb_frames.specs.declared.frame.Range.{Range}
 use Rattle.cb_frames.specs.declared.fault.FrameFault.{FrameFault}
 use Rattle.cb_frames.specs.Fields.{CastFields, StatusFields, FrameFields, CastFrame, StatusFrame, RequestFrame, messages_of, first_number, last_number}
 use Rattle.cb_frames.specs.Text.{text_of}
-use Rattle.cb_frames.specs.Reading.{frame_at}
+use Rattle.cb_history.specs.Read.{frame_read}
 use Rattle.cb_delay.specs.declared.message.Message.{Message}
 use Rattle.cb_diffs.specs.Differences.{differences}
 use Rattle.cb_history.specs.declared.answer.CastRefusal.{CastRefusal}
@@ -185,7 +185,7 @@ answer_to seat limit entries (Ok frame) = frame_answer seat limit entries (facts
 answer_to seat limit entries (Err fault) = Err (arrivals.Malformed fault)
 
 unfoldable pub arrive_answer : Identity → ℕ → List EntryFields → List ℕ → Result ArrivalSays ArriveRefusal
-arrive_answer seat limit entries bytes = answer_to seat limit entries (frame_at bytes)
+arrive_answer seat limit entries bytes = answer_to seat limit entries (frame_read bytes)
 
 -- ---- a tick
 

@@ -2,7 +2,7 @@
 use Rattle.std.specs.Prelude.{◌≡◌, ◌↔◌, ℕ, true, List, ◌++◌, Ok, IsOk}
 use Rattle.std.specs.List.{list_all}
 use Rattle.cb_frames.specs.Fields.{CastFields, CastFrame, messages_of}
-use Rattle.cb_frames.specs.Reading.{frame_at}
+use Rattle.cb_history.specs.Read.{frame_read}
 use Rattle.cb_history.specs.Group.{Identity}
 use Rattle.cb_history.specs.Facts.{EntryFields, Fact, facts_of, casts_in, is_there}
 use Rattle.cb_history.specs.Answers.{arrive_answer}
@@ -19,7 +19,7 @@ AreThere casts c = list_all (λ m. is_there casts m.sender m.number) (messages_o
 -- After a call that hands over a cast frame of the group, its messages are there if and only if the frame was not refused.
 abbrev pub AcceptedIsThere : Type 0
 AcceptedIsThere = (seat : Identity) (limit : ℕ) (entries : List EntryFields) (bytes : List ℕ) (c : CastFields) → AreFactsOf seat (facts_of entries)
-    → frame_at bytes ≡ Ok (CastFrame c) → IsOfTheGroup seat.group (CastFrame c)
+    → frame_read bytes ≡ Ok (CastFrame c) → IsOfTheGroup seat.group (CastFrame c)
     → IsOk (arrive_answer seat limit entries bytes) ↔ AreThere (casts_in (facts_of (history_after seat limit entries (ToTake bytes)))) c
 
 -- what is there stays

@@ -4,7 +4,7 @@ use Rattle.std.specs.List.{flat_map, list_any, range_with_len}
 use Rattle.cb_times.specs.declared.name.Name.{Name}
 use Rattle.cb_frames.specs.declared.fault.FrameFault.{FrameFault}
 use Rattle.cb_frames.specs.Fields.{CastFields, StatusFields, FrameFields, CastFrame, StatusFrame, RequestFrame, Carried, messages_of}
-use Rattle.cb_frames.specs.Reading.{frame_at}
+use Rattle.cb_history.specs.Read.{frame_read}
 use Rattle.cb_history.specs.declared.history.Entry.{Entry}
 use Rattle.cb_history.specs.declared.history.Entry.TheVariants as entries
 
@@ -46,9 +46,9 @@ status_said (Err fault) = []
 
 -- what an entry says, read from its bytes; an entry whose bytes can't stand there says nothing
 abbrev pub said_by : EntryFields → List Fact
-said_by (CastEntry frame) = cast_said (frame_at frame)
-said_by (ArriveEntry frame delivered) = arrival_said (frame_at frame)
-said_by (TickEntry status) = status_said (frame_at status)
+said_by (CastEntry frame) = cast_said (frame_read frame)
+said_by (ArriveEntry frame delivered) = arrival_said (frame_read frame)
+said_by (TickEntry status) = status_said (frame_read status)
 
 abbrev pub facts_of : List EntryFields → List Fact
 facts_of entries = flat_map said_by entries

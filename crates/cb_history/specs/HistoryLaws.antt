@@ -5,7 +5,7 @@ use Rattle.cb_frames.specs.declared.frame.TheConstants.{LONGEST_PAYLOAD, LAST_NU
 use Rattle.cb_frames.specs.declared.frame.Range.{Range}
 use Rattle.cb_frames.specs.Fields.{CastFields, StatusFields, FrameFields, Carried, CastFrame, StatusFrame, RequestFrame}
 use Rattle.cb_frames.specs.Text.{text_of}
-use Rattle.cb_frames.specs.Reading.{frame_at}
+use Rattle.cb_history.specs.Read.{frame_read}
 use Rattle.cb_frames.specs.Laws.{CanBeWritten}
 use Rattle.cb_times.specs.declared.name.Name.{Name}
 use Rattle.cb_history.specs.Group.{Identity}
@@ -43,9 +43,9 @@ EachEntrySaysOneFact = (seat : Identity) (entries : List EntryFields) → IsLega
 
 -- What the entry says by its kind, and that its bytes are the one text of it: an own cast, a received frame, an own status.
 abbrev pub SaysItsText : EntryFields → Type 0
-SaysItsText (CastEntry frame) = (c : CastFields) × (frame_at frame ≡ Ok (CastFrame c)) × (frame ≡ text_of (CastFrame c))
-SaysItsText (ArriveEntry frame delivered) = (f : FrameFields) × (frame_at frame ≡ Ok f) × (frame ≡ text_of f)
-SaysItsText (TickEntry status) = (s : StatusFields) × (frame_at status ≡ Ok (StatusFrame s)) × (status ≡ text_of (StatusFrame s))
+SaysItsText (CastEntry frame) = (c : CastFields) × (frame_read frame ≡ Ok (CastFrame c)) × (frame ≡ text_of (CastFrame c))
+SaysItsText (ArriveEntry frame delivered) = (f : FrameFields) × (frame_read frame ≡ Ok f) × (frame ≡ text_of f)
+SaysItsText (TickEntry status) = (s : StatusFields) × (frame_read status ≡ Ok (StatusFrame s)) × (status ≡ text_of (StatusFrame s))
 
 -- so what is sent again has the bytes that were sent first
 abbrev pub EntriesSayTheirTexts : Type 0

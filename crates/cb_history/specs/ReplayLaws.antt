@@ -3,7 +3,7 @@ use Rattle.std.specs.Prelude.{◌≡◌, ◌↔◌, ℕ, ◌≤◌, List, [], �
 use Rattle.std.specs.List.{AllByRecursion}
 use Rattle.cb_frames.specs.declared.fault.FrameFault.{FrameFault}
 use Rattle.cb_frames.specs.Fields.{FrameFields, CastFrame, StatusFrame, RequestFrame}
-use Rattle.cb_frames.specs.Reading.{frame_at}
+use Rattle.cb_history.specs.Read.{frame_read}
 use Rattle.cb_frames.specs.Laws.{IsBytes}
 use Rattle.cb_history.specs.Group.{Identity, IsIdentity}
 use Rattle.cb_history.specs.Facts.{EntryFields, CastEntry, ArriveEntry, TickEntry}
@@ -18,7 +18,7 @@ payload_said (Err fault) = []
 
 -- the call that an entry determines: a cast of its frame's payload, an arrival of its bytes, or a tick
 abbrev pub call_of : EntryFields → Call
-call_of (CastEntry frame) = ToCast (payload_said (frame_at frame))
+call_of (CastEntry frame) = ToCast (payload_said (frame_read frame))
 call_of (ArriveEntry frame delivered) = ToTake frame
 call_of (TickEntry status) = ToTick
 

@@ -2,7 +2,8 @@
 use Rattle.std.specs.Prelude.{◌≡◌, ◌⊎◌, ℕ, ◌≤◌, Bool, List, length, map, Option, Result, Ok, Err}
 use Rattle.cb_frames.specs.declared.frame.TheConstants.{LONGEST_PAYLOAD}
 use Rattle.cb_frames.specs.Fields.{CastFields, StatusFields, Carried}
-use Rattle.cb_frames.specs.Reading.{frame_at, HasValue}
+use Rattle.cb_frames.specs.Reading.{HasValue}
+use Rattle.cb_history.specs.Read.{frame_read}
 use Rattle.cb_history.specs.declared.history.Entry.{Entry}
 use Rattle.cb_history.specs.declared.answer.CastDone.{CastDone}
 use Rattle.cb_history.specs.declared.answer.CastRefusal.{CastRefusal}
@@ -105,7 +106,7 @@ pub record HasTaken (old new : MemberState) (bytes : List ℕ) (arrival : Arriva
 -- or they were refused; bytes that are no frame are refused without memory
 abbrev pub RefusesArrival : MemberState → List ℕ → ArriveRefusal → Type 0
 RefusesArrival m bytes refusal =
-    (answer_to_arrival m bytes ≡ Err refusal) ⊎ ((refusal ≡ arrivals.NoMemory) × HasValue (frame_at bytes))
+    (answer_to_arrival m bytes ≡ Err refusal) ⊎ ((refusal ≡ arrivals.NoMemory) × HasValue (frame_read bytes))
 
 -- the status was sent, and what is missing was asked for
 pub record HasTicked (old new : MemberState) (ticked : Ticked) : Type 0 where
