@@ -71,6 +71,15 @@ impl Tracked {
         drop(message);
     }
 
+    fn hear_delivered(&mut self, sender: u32)
+        requires tracked { IsTracked self.old.queue self.old.next.items }
+        requires sender { sender < self.old.queue.size }
+        ensures tracked { IsTracked self.new.queue self.new.next.items }
+        ensures size { self.new.queue.size ≡ self.old.queue.size }
+    {
+        self.queue.hear_delivered(sender);
+    }
+
     fn next_ready(&mut self, now: &VectorTime) -> Option<u32>
         requires tracked { IsTracked self.old.queue self.old.next.items }
         requires size { length now.now ≡ self.old.queue.size }
@@ -334,6 +343,8 @@ impl Pair {
             }
             4 => self.release(member),
             5 => self.count(member, falls),
+            // it may also hear of what is not delivered
+            6 => self.tracked.hear_delivered(member),
             _ => self.count(member, false),
         }
         self.agrees(rt, alloc)
