@@ -9,6 +9,7 @@ use Rattle.cb_delay.specs.declared.message.Event.{Event}
 use Rattle.cb_delay.specs.declared.message.Event.TheVariants as events
 use Rattle.cb_delay.specs.declared.message.Message.{Message}
 use Rattle.cb_history.specs.declared.answer.ArriveRefusal.{ArriveRefusal}
+use Rattle.cb_history.specs.declared.answer.ArriveRefusal.TheVariants as refusals
 use Rattle.cb_history.specs.declared.answer.CastRefusal.{CastRefusal}
 use Rattle.cb_history.specs.declared.answer.CastRefusal.TheVariants as casts
 use Rattle.cb_history.specs.declared.answer.Ticked.{Ticked}
@@ -26,13 +27,13 @@ use Rattle.cb_member.specs.declared.recorder.taken.Received as taken
 use Rattle.cb_member.specs.declared.recorder.taken.Received.TheVariants as takens
 use Rattle.cb_member.specs.Casting.{RefusesExactly, next_message}
 use Rattle.cb_member.specs.CoreMember.{Core, GoesOn as CoreGoesOn, OnEach as OnEachCore, StandsFor, grown_by, unlimited}
-use Rattle.cb_member.specs.CoreCalls.{HasReceivedWith, JoinsAs, MayCast}
+use Rattle.cb_member.specs.CoreCalls.{HasReceivedWith, JoinsAs, MayCast, RefusesWithin}
 use Rattle.cb_member.specs.Received.{count_said, deliveries_in, received_says}
 use Rattle.cb_handle.specs.Kept.{IsKept, KeptMember, OnEach, Stands, limit_of, state_with}
-use Rattle.cb_handle.specs.Calling.{Admits, HasCast, HasReceived, HasTicked, Tells}
+use Rattle.cb_handle.specs.Calling.{HasCast, HasReceived, HasTicked, Tells}
 use Rattle.cb_handle.proofs.Adding.{arrival_adds, cast_adds, tick_adds}
 use Rattle.cb_handle.proofs.Keeping.{Adds, goes_on, is_kept}
-use Rattle.cb_handle.proofs.Limits.{arrival_full, arrival_refused, arrival_same, arrival_silent, cast_full, cast_refused, cast_same, no_room_is_left, room_is_left, tick_full, tick_enters_none, tick_refused, tick_same, tick_silent}
+use Rattle.cb_handle.proofs.Limits.{arrival_full, arrival_read, arrival_refused, arrival_same, arrival_silent, cast_full, cast_refused, cast_same, no_room_is_left, room_is_left, tick_full, tick_enters_none, tick_refused, tick_same, tick_silent}
 
 -- the history of this length is full
 abbrev pub Full : KeptMember → Bool
@@ -80,14 +81,32 @@ arrival_refused_at : (old : KeptMember) (bytes : List ℕ) (refusal : ArriveRefu
 arrival_refused_at old bytes refusal es (inl says) = inl (arrival_refused old.core.seat (limit_of old es) es bytes refusal says)
 arrival_refused_at old bytes refusal es (inr memory) = inr memory
 
-pub arrival_refused_so : (old : KeptMember) (bytes : List ℕ) (refusal : ArriveRefusal) → OnEachCore old.core (λ m. RefusesArrival m bytes refusal) → OnEach old (λ m. RefusesArrival m bytes refusal)
-arrival_refused_so old bytes refusal refuses es st = arrival_refused_at old bytes refusal es (refuses es st.stands)
+other_at : (old : KeptMember) (bytes : List ℕ) (may_enter : Bool) (refusal : ArriveRefusal) (es : List EntryFields) → refusal ≢ refusals.HistoryFull → RefusesWithin may_enter (unlimited old.core.seat es) bytes refusal
+    → RefusesArrival (state_with old es) bytes refusal
+other_at old bytes may_enter refusal es other (inl refuses) = arrival_refused_at old bytes refusal es refuses
+other_at old bytes may_enter refusal es other (inr enters) = absurd (other enters.1)
 
-pub arrival_refused_full : (old : KeptMember) (bytes : List ℕ) (refusal : ArriveRefusal) → Full old ≡ true → Admits bytes old.core (Err refusal) → OnEach old (λ m. RefusesArrival m bytes refusal)
-arrival_refused_full old bytes refusal full (inl refuses) = arrival_refused_so old bytes refusal refuses
-arrival_refused_full old bytes refusal full (inr enters) = λ es st.
-    inl (arrival_full old.core.seat (limit_of old es) es bytes (has_none old full es st) (enters.1 es st.stands)
-    ∙ ap (λ (r : ArriveRefusal). let x : Result ArrivalSays ArriveRefusal = Err r in x) (sym enters.0))
+full_at : (old : KeptMember) (bytes : List ℕ) (may_enter : Bool) → Full old ≡ true → (es : List EntryFields) → Stands old es → RefusesWithin may_enter (unlimited old.core.seat es) bytes refusals.HistoryFull
+    → RefusesArrival (state_with old es) bytes refusals.HistoryFull
+full_at old bytes may_enter full es st (inl refuses) = arrival_refused_at old bytes refusals.HistoryFull es refuses
+full_at old bytes may_enter full es st (inr enters) = inl (arrival_full old.core.seat (limit_of old es) es bytes (has_none old full es st) enters.2)
+
+no_memory_at : (old : KeptMember) (bytes : List ℕ) (may_enter : Bool) (es : List EntryFields) → RefusesWithin may_enter (unlimited old.core.seat es) bytes refusals.HistoryFull
+    → RefusesArrival (state_with old es) bytes refusals.NoMemory
+no_memory_at old bytes may_enter es (inl (inl full)) = inr (refl, arrival_read old.core.seat (room_for_one es) es bytes (inl full))
+no_memory_at old bytes may_enter es (inl (inr memory)) = inr (refl, memory.1)
+no_memory_at old bytes may_enter es (inr enters) = inr (refl, arrival_read old.core.seat (room_for_one es) es bytes (inr enters.2))
+
+-- an entry would be added: the history is full, or else there was no memory for the entry; or it is refused for another reason
+module _ (old : KeptMember) (bytes : List ℕ) (may_enter : Bool) where
+  pub arrival_refused_full : Full old ≡ true → OnEachCore old.core (λ m. RefusesWithin may_enter m bytes refusals.HistoryFull) → OnEach old (λ m. RefusesArrival m bytes refusals.HistoryFull)
+  arrival_refused_full full refuses es st = full_at old bytes may_enter full es st (refuses es st.stands)
+
+  pub arrival_lacks_memory : OnEachCore old.core (λ m. RefusesWithin may_enter m bytes refusals.HistoryFull) → OnEach old (λ m. RefusesArrival m bytes refusals.NoMemory)
+  arrival_lacks_memory refuses es st = no_memory_at old bytes may_enter es (refuses es st.stands)
+
+  pub arrival_refused_so : (refusal : ArriveRefusal) → refusal ≢ refusals.HistoryFull → OnEachCore old.core (λ m. RefusesWithin may_enter m bytes refusal) → OnEach old (λ m. RefusesArrival m bytes refusal)
+  arrival_refused_so refusal other refuses es st = other_at old bytes may_enter refusal es other (refuses es st.stands)
 
 pub tick_refused_full : (old : KeptMember) → Full old ≡ true → OnEachCore old.core (λ m. true ≡ is_new_status m.seat (facts_in m)) → OnEach old (λ m. RefusesTick m ticks.HistoryFull)
 tick_refused_full old full news es st = inl (tick_full old.core.seat (limit_of old es) es (sym (news es st.stands)) (has_none old full es st))
@@ -117,6 +136,12 @@ fits_when old call entry kept (inr none) noted some =
     let h = kept some in
     let nothing : None ≡ entry = sym (none old.entries h.stands) ∙ noted old.entries h.stands in
     subst (λ (o : Option EntryFields). length (and_entry old.entries o) ≤ old.limit) nothing h.few
+
+-- there is room for an entry, or none is added
+pub has_room_or_none : (old : KeptMember) (call : Call) (may_enter : Bool) (entry : Option EntryFields) → (may_enter ≡ true → Full old ≡ false) → (may_enter ≡ false → entry ≡ None)
+    → OnEachCore old.core (λ m. entry_by m call ≡ entry) → (Full old ≡ false) ⊎ OnEachCore old.core (λ m. entry_by m call ≡ None)
+has_room_or_none old call true entry below none noted = inl (below refl)
+has_room_or_none old call false entry below none noted = inr (λ es s. noted es s ∙ none refl)
 
 -- what a call did to what is kept
 pub record Did (call : Call) (old new : KeptMember) (after : List Event) (entry : Option EntryFields) : Type 0 where

@@ -5,7 +5,7 @@ use Rattle.std.proofs.lemmas.Bool.{cases_Bool, eq-eqb}
 use Rattle.cb_frames.specs.declared.frame.TheConstants.{LONGEST_PAYLOAD}
 use Rattle.cb_frames.specs.declared.fault.FrameFault.{FrameFault}
 use Rattle.cb_frames.specs.Fields.{CastFields, FrameFields}
-use Rattle.cb_frames.specs.Reading.{frame_at}
+use Rattle.cb_frames.specs.Reading.{frame_at, HasValue}
 use Rattle.cb_delay.specs.declared.message.Message.{Message}
 use Rattle.cb_history.specs.declared.answer.ArriveRefusal.{ArriveRefusal}
 use Rattle.cb_history.specs.declared.answer.ArriveRefusal.TheVariants as arrivals
@@ -179,6 +179,16 @@ module _ (seat : Identity) (limit : ℕ) (es : List EntryFields) where
   pub arrival_full : (bytes : List ℕ) → is_full limit es ≡ true → arrive_entry bytes (arrive_answer seat (room_for_one es) es bytes) ≢ None → arrive_answer seat limit es bytes ≡ Err arrivals.HistoryFull
   unfolding arrive_answer
   arrival_full bytes full some = full_read bytes (frame_at bytes) full some
+
+  frame_read : (bytes : List ℕ) (r : Result FrameFields FrameFault) → (answer_to seat limit es r ≡ Err arrivals.HistoryFull) ⊎ (arrive_entry bytes (answer_to seat limit es r) ≢ None) → HasValue r
+  frame_read bytes (Ok frame) enters = tt
+  frame_read bytes (Err fault) (inl full) = absurd cc
+  frame_read bytes (Err fault) (inr some) = absurd (some refl)
+
+  -- bytes of which there is an entry, or would be, are a frame
+  pub arrival_read : (bytes : List ℕ) → (arrive_answer seat limit es bytes ≡ Err arrivals.HistoryFull) ⊎ (arrive_entry bytes (arrive_answer seat limit es bytes) ≢ None) → HasValue (frame_at bytes)
+  unfolding arrive_answer
+  arrival_read bytes enters = frame_read bytes (frame_at bytes) enters
 
 -- ---- ticks
 

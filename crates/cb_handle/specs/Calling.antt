@@ -1,5 +1,5 @@
 -- What the calls do to a member with its frames.
-use Rattle.std.specs.Prelude.{◌≡◌, ◌≢◌, ◌⊎◌, ℕ, ◌+◌, ◌≤◌, Bool, true, false, List, [], ◌∷◌, ◌++◌, length, slice_range, None, Result, Ok, Err}
+use Rattle.std.specs.Prelude.{◌≡◌, ◌⊎◌, ℕ, ◌+◌, ◌≤◌, Bool, true, false, List, [], ◌∷◌, ◌++◌, length, slice_range, None, Ok, Err}
 use Rattle.cb_delay.specs.declared.message.Event.{Event}
 use Rattle.cb_frames.specs.Fields.{CastFrame}
 use Rattle.cb_frames.specs.Text.{text_of}
@@ -10,11 +10,9 @@ use Rattle.cb_history.specs.Answers.{ArrivalSays, Accepted, Repeat}
 use Rattle.cb_history.specs.Facts.{EntryFields}
 use Rattle.cb_history.specs.Group.{Identity}
 use Rattle.cb_history.specs.Legal.{Call, ToCast, ToTake, ToTick}
-use Rattle.cb_history.specs.State.{MemberState, RefusesArrival, entry_by, answer_to_cast, answer_to_arrival, answer_to_tick, events_in, next_in, state_after}
+use Rattle.cb_history.specs.State.{MemberState, answer_to_cast, answer_to_arrival, answer_to_tick, events_in, next_in, state_after}
 use Rattle.cb_member.specs.declared.recorder.taken.Received as taken
 use Rattle.cb_member.specs.declared.recorder.taken.Received.TheVariants as takens
-use Rattle.cb_member.specs.CoreMember as cores
-use Rattle.cb_member.specs.CoreMember.{Core}
 use Rattle.cb_member.specs.Received.{count_said, deliveries_in, received_says, sent_by}
 use Rattle.cb_handle.specs.declared.held.Held.{Held}
 use Rattle.cb_handle.specs.declared.held.LoadedRefusal.{LoadedRefusal}
@@ -125,15 +123,6 @@ HasReceivedLoaded old new first len received = AreLoaded old first len × HasRec
 abbrev pub RefusesLoaded : Held → ℕ → ℕ → LoadedRefusal → Type 0
 RefusesLoaded held first len NotLoaded = ¬ AreLoaded held first len
 RefusesLoaded held first len (Refused refusal) = AreLoaded held first len × OnEach held (λ m. RefusesBytes m (loaded_part held first len) refusal)
-
--- of these bytes no entry would be added; or they are refused, or an entry would be added and the history is full
-abbrev pub Admits : List ℕ → Core → Result (Unit {0}) ArriveRefusal → Type 0
-Admits bytes core (Ok done) = cores.OnEach core (λ m. entry_by m (ToTake bytes) ≡ None)
-Admits bytes core (Err refusal) = cores.OnEach core (λ m. RefusesArrival m bytes refusal) ⊎ ((refusal ≡ refusals.HistoryFull) × cores.OnEach core (λ m. entry_by m (ToTake bytes) ≢ None))
-
--- the bytes are refused, or are a frame for which there is no memory
-abbrev pub LacksMemory : List ℕ → Core → ArriveRefusal → Type 0
-LacksMemory bytes core refusal = cores.OnEach core (λ m. RefusesArrival m bytes refusal)
 
 -- the status was sent, and what is missing was asked for: these are the frames
 pub record HasTicked (old new : KeptMember) (frames : List Outgoing) : Type 0 where

@@ -1,6 +1,6 @@
 //! A member, and beside it what can be read: its history and all events, or what its last call added.
 
-ghost use Rattle.std.specs.Prelude.{◌≡◌, ◌↔◌, ◌⊎◌, ◌+◌, ◌≤◌, ◌<◌, ◌==◌, ◌&&◌, not, length, map, drop, nat_le, option_map, IfOk, IfErr, OnErr, Ok, Err, if◌then◌else◌};
+ghost use Rattle.std.specs.Prelude.{◌≡◌, ◌≢◌, ◌↔◌, ◌⊎◌, ◌+◌, ◌≤◌, ◌<◌, ◌==◌, ◌&&◌, not, length, map, drop, nat_le, option_map, IfOk, IfErr, OnErr, None, Ok, Err, true, false, if◌then◌else◌};
 ghost use Rattle.cb_history.specs.Known.{ranges_of};
 ghost use Rattle.std.specs.Vec.{vec_capacity, vec_len};
 ghost use Rattle.cb_history.specs.Facts.{entry_fields};
@@ -10,7 +10,7 @@ ghost use Rattle.cb_member.specs.Casting.{RefusesExactly};
 ghost use Rattle.cb_member.specs.CoreCalls.{MayCast};
 ghost use Rattle.cb_handle.specs.Kept.{OnEach, seat_of, events_of, entries_of};
 ghost use Rattle.cb_handle.specs.Opening.{IsNew};
-ghost use Rattle.cb_handle.specs.Calling.{Admits, HasCast, HasReceived, HasTicked, LacksMemory};
+ghost use Rattle.cb_handle.specs.Calling.{HasCast, HasReceived, HasTicked};
 
 use bytes::Bytes;
 use cb_history::LONGEST_HISTORY;
@@ -101,22 +101,21 @@ impl Kept {
             RefusesArrival m bytes.now refusal)) }
         ensures same { OnErr result (self.new ≡ self.old) }
     {
-        if is_full(self.limit, &self.entries) {
-            if let Err(refusal) = admit(&self.core, bytes) {
-                return Err(refusal);
-            }
-        }
-        let Ok(()) = make_room(&mut self.entries, 1) else {
-            return Err(out_of_memory(&self.core, bytes));
-        };
+        let full = is_full(self.limit, &self.entries);
+        let may_enter = has_room(full, &mut self.entries);
         let (events, entries) = (self.events.len(), self.entries.len());
-        match self.core.receive_noted(bytes, &mut self.events) {
+        match self
+            .core
+            .receive_within(bytes, may_enter, &mut self.events)
+        {
             Ok((received, entry)) => {
                 enter(&mut self.entries, entry);
                 forget(self.limit, &mut self.entries, entries);
                 forget(self.limit, &mut self.events, events);
                 Ok(received)
             }
+            Err(ArriveRefusal::HistoryFull) if full => Err(ArriveRefusal::HistoryFull),
+            Err(ArriveRefusal::HistoryFull) => Err(ArriveRefusal::NoMemory),
             Err(refusal) => Err(refusal),
         }
     }
@@ -202,30 +201,18 @@ fn refusal_or(core: &CoreMember, payload: &[u8], other: CastRefusal) -> CastRefu
     }
 }
 
-/// Refuses bytes of which there would be an entry, and those that the core refuses.
-fn admit(core: &CoreMember, bytes: &Bytes) -> Result<(), ArriveRefusal>
-    ensures { Admits bytes.now core.now result }
+/// Whether an entry can be added: the history is not full, and there is room for one more.
+fn has_room(full: bool, entries: &mut Vec<Entry>) -> bool
+    ensures items { entries.new.items ≡ entries.old.items }
+    ensures below { result ≡ true → full ≡ false }
+    ensures room { result ≡ true → vec_len entries.new + 1 ≤ vec_capacity entries.new }
 {
-    match core.would_enter(bytes) {
-        Ok(true) => Err(ArriveRefusal::HistoryFull),
-        Ok(false) => Ok(()),
-        Err(refusal) => Err(refusal),
-    }
-}
-
-/// Out of memory, but for bytes that the core refuses.
-fn out_of_memory(core: &CoreMember, bytes: &Bytes) -> ArriveRefusal
-    ensures { LacksMemory bytes.now core.now result }
-{
-    match core.would_enter(bytes) {
-        Ok(_enters) => ArriveRefusal::NoMemory,
-        Err(refusal) => refusal,
-    }
+    !full && make_room(entries, 1).is_ok()
 }
 
 /// Adds the entry, if there is one. This takes no memory.
 fn enter(entries: &mut Vec<Entry>, entry: Option<Entry>)
-    requires { vec_len entries.old + 1 ≤ vec_capacity entries.old }
+    requires { entry ≢ None → vec_len entries.old + 1 ≤ vec_capacity entries.old }
     ensures { map entry_fields entries.new.items
         ≡ and_entry (map entry_fields entries.old.items) (option_map entry_fields entry) }
 {

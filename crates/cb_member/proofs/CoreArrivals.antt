@@ -1,6 +1,6 @@
 -- What a core answers to received bytes.
-use Rattle.std.proofs.Common.{◌≡◌, ℕ, ◌-◌, Bool, true, false, not, ◌==◌, List, [], ◌∷◌, ◌++◌, length, map, drop, Option, Some, None, Result, Ok, Err, refl, sym, ap, subst, ◌∙◌, arith, inl, inr}
-use Rattle.std.specs.Prelude.{if◌then◌else◌, is_some, option_map}
+use Rattle.std.proofs.Common.{◌≡◌, ◌≢◌, ℕ, ◌-◌, Bool, true, false, not, ◌==◌, List, [], ◌∷◌, ◌++◌, length, map, drop, Option, Some, None, Result, Ok, Err, refl, sym, ap, subst, ◌∙◌, arith, inl, inr}
+use Rattle.std.specs.Prelude.{if◌then◌else◌, option_map}
 use Rattle.std.proofs.lemmas.List.{append-nil, drop_at, length-append, length-map}
 use Rattle.cb_frames.specs.declared.fault.FrameFault.{FrameFault}
 use Rattle.cb_frames.specs.Fields.{CastFrame, FrameFields, RequestFields, RequestFrame, StatusFields, StatusFrame, cast_fields}
@@ -16,14 +16,15 @@ use Rattle.cb_history.specs.Facts.{ArriveEntry, CastReceived, EntryFields, Fact,
 use Rattle.cb_history.specs.Answers.{Accepted, ArrivalSays, answer_to, are_members, arrive_answer, deliveries, frame_answer, sent_in_answer}
 use Rattle.cb_history.specs.Legal.{ToTake, arrive_entry, room_for_one}
 use Rattle.cb_history.specs.LegalFacts.{AreFactsOf}
-use Rattle.cb_history.specs.State.{RefusesArrival, answer_to_arrival, entry_by, facts_in}
+use Rattle.cb_history.specs.State.{MemberState, RefusesArrival, answer_to_arrival, entry_by, facts_in}
 use Rattle.cb_member.specs.declared.core_member.arriving.Coming.{Coming}
 use Rattle.cb_member.specs.declared.core_member.arriving.Heard.{Heard}
+use Rattle.cb_member.specs.declared.core_member.arriving.Noting.{Noting}
 use Rattle.cb_member.specs.declared.recorder.arriving.Named.{Named}
 use Rattle.cb_member.specs.declared.state.State.{State}
 use Rattle.cb_member.specs.Answering.{RefusesBytes}
 use Rattle.cb_member.specs.Arriving.{Answers, Changes, DeliversWith}
-use Rattle.cb_member.specs.CoreCalls.{AnswersArrivalOnEach, CanCome, HasCome, HearsOnEach, JoinsAs, WouldEnter, joined}
+use Rattle.cb_member.specs.CoreCalls.{AnswersArrivalOnEach, CanCome, HasCome, HearsOnEach, JoinsAs, RefusesWithin, is_told, joined, may_add}
 use Rattle.cb_member.specs.CoreMember.{Core, GoesOn, IsCore, OnEach, StandsFor, core_of, unlimited}
 use Rattle.cb_member.specs.Hearing.{HasHeard}
 use Rattle.cb_member.specs.Knowledge.{delivered_by}
@@ -53,10 +54,15 @@ answered_with_change state bytes frame read on es s =
 
 -- ---- refusals
 
-pub refuses_arrival : (wanted : Bool) (bytes : List ℕ) (old new : Core) (before after : List Event) (refusal : ArriveRefusal) → IsCore old → new ≡ old → after ≡ before
-    → OnEach old (λ m. RefusesArrival m bytes refusal) → AnswersArrivalOnEach wanted bytes old new before after (Err refusal)
-refuses_arrival wanted bytes old new before after refusal is same same_events refuses =
-    record { core = subst IsCore (sym same) is; hears = tt; refused = refuses; same = same; same_events = same_events }
+pub refuses_arrival : (noting : Noting) (bytes : List ℕ) (old new : Core) (before after : List Event) (refusal : ArriveRefusal) → IsCore old → new ≡ old → after ≡ before
+    → OnEach old (λ m. RefusesArrival m bytes refusal) → AnswersArrivalOnEach noting bytes old new before after (Err refusal)
+refuses_arrival noting bytes old new before after refusal is same same_events refuses =
+    record { core = subst IsCore (sym same) is; hears = tt; within = λ _. tt; refused = λ es s. inl (refuses es s); same = same; same_events = same_events }
+
+-- where an entry may be added it is so without a limit
+pub without_limit : (m : MemberState) (bytes : List ℕ) (refusal : ArriveRefusal) → RefusesWithin true m bytes refusal → RefusesArrival m bytes refusal
+without_limit m bytes refusal (inl refuses) = refuses
+without_limit m bytes refusal (inr full) = let may = full.0 in absurd cc
 
 pub refused_frame : (state : State) (bytes : List ℕ) (frame : FrameFields) (refusal : ArriveRefusal) → frame_at bytes ≡ Ok frame → OnAll state (λ facts. Answers state.seat facts frame (Err refusal))
     → OnEach (core_of state) (λ m. RefusesArrival m bytes refusal)
@@ -64,6 +70,21 @@ refused_frame state bytes frame refusal read on es s = inl (answered_on_each sta
 
 pub out_of_memory : (core : Core) (bytes : List ℕ) (frame : FrameFields) (refusal : ArriveRefusal) → frame_at bytes ≡ Ok frame → refusal ≡ refusals.NoMemory → OnEach core (λ m. RefusesArrival m bytes refusal)
 out_of_memory core bytes frame refusal read is es s = inr (is, rw read tt)
+
+-- an entry would be added, and none may be
+pub refuses_entry : (noting : Noting) (bytes : List ℕ) (state : State) (frame : FrameFields) (events : List Event) → IsCore (core_of state) → may_add noting ≡ false → frame_at bytes ≡ Ok frame
+    → OnAll state (λ facts. Changes state.seat facts frame) → AnswersArrivalOnEach noting bytes (core_of state) (core_of state) events events (Err refusals.HistoryFull)
+refuses_entry noting bytes state frame events is full read changes = record {
+  core = is;
+  hears = tt;
+  within = λ _. tt;
+  refused = λ es s. inr (full, refl, is_entered (answered_with_change state bytes frame read changes es s));
+  same = refl;
+  same_events = refl;
+}
+  where
+    is_entered : {answer : Result ArrivalSays ArriveRefusal} {ms : List Message} → answer ≡ Ok (Accepted ms true []) → arrive_entry bytes answer ≢ None
+    is_entered is none = let e = sym (ap (arrive_entry bytes) is) ∙ none in absurd cc
 
 -- bytes that are no frame
 no_frame : (core : Core) (es : List EntryFields) (bytes : List ℕ) (fault : FrameFault) → frame_at bytes ≡ Err fault → answer_to_arrival (unlimited core.seat es) bytes ≡ Err (refusals.Malformed fault)
@@ -74,31 +95,6 @@ pub refused_bytes : (core : Core) (bytes : List ℕ) (refusal : ArriveRefusal) �
 refused_bytes core bytes refusal (inl fault) es s =
     inl (no_frame core es bytes fault.0 fault.1 ∙ ap (λ (e : ArriveRefusal). let answer : Result ArrivalSays ArriveRefusal = Err e in answer) (sym fault.2))
 refused_bytes core bytes refusal (inr memory) es s = inr memory
-
--- ---- whether an entry is added
-
-pub enters_none : (core : Core) (bytes : List ℕ) (frame : FrameFields) (says : ArrivalSays) → frame_at bytes ≡ Ok frame → OnEach core (λ m. answer_to_arrival m bytes ≡ Ok says)
-    → arrive_entry bytes (Ok says) ≡ None → WouldEnter bytes core (Ok false)
-enters_none core bytes frame says read answer none = (rw read tt, λ es s. ap (λ (o : Option EntryFields). is_some o) (ap (arrive_entry bytes) (answer es s) ∙ none))
-
-pub enters_one : (state : State) (bytes : List ℕ) (frame : FrameFields) → frame_at bytes ≡ Ok frame → OnAll state (λ facts. Changes state.seat facts frame) → WouldEnter bytes (core_of state) (Ok true)
-enters_one state bytes frame read changes =
-    (rw read tt, λ es s. ap (λ (r : Result ArrivalSays ArriveRefusal). is_some (arrive_entry bytes r)) (answered_with_change state bytes frame read changes es s))
-
-by_request_rules : (bytes : List ℕ) (other strange impossible : Bool) (out : List Outgoing)
-    → arrive_entry bytes (if other then Err refusals.OtherGroup else if strange then Err refusals.BadMember else if impossible then Err refusals.Impossible else Ok (Accepted [] false out)) ≡ None
-by_request_rules bytes true strange impossible out = refl
-by_request_rules bytes false true impossible out = refl
-by_request_rules bytes false false true out = refl
-by_request_rules bytes false false false out = refl
-
-pub enters_no_request : (state : State) (bytes : List ℕ) (r : RequestFields) → frame_at bytes ≡ Ok (RequestFrame r) → WouldEnter bytes (core_of state) (Ok false)
-enters_no_request state bytes r read = (
-  rw read tt,
-  λ es s.
-      ap (λ (o : Option EntryFields). is_some o) (ap (arrive_entry bytes) (answered (core_of state) es bytes (RequestFrame r) read)
-      ∙ by_request_rules bytes (not (r.group == state.seat.group.number)) (not (are_members state.seat.group.size (RequestFrame r))) (r.requester == r.asked) (sent_in_answer state.seat (facts_of es) (RequestFrame r))),
-)
 
 -- ---- the events
 
@@ -116,10 +112,10 @@ none_joins events = sym (append-nil events)
 
 -- ---- answers that change nothing
 
-pub answers_unchanged : (wanted : Bool) (bytes : List ℕ) (core : Core) (says : ArrivalSays) (heard : Heard) (events : List Event) → IsCore core → OnEach core (λ m. answer_to_arrival m bytes ≡ Ok says)
+pub answers_unchanged : (noting : Noting) (bytes : List ℕ) (core : Core) (says : ArrivalSays) (heard : Heard) (events : List Event) → IsCore core → OnEach core (λ m. answer_to_arrival m bytes ≡ Ok says)
     → arrive_entry bytes (Ok says) ≡ None → received_says heard.received [] ≡ says → count_said heard.received ≡ 0 → heard.noted ≡ None
-    → AnswersArrivalOnEach wanted bytes core core events events (Ok heard)
-answers_unchanged wanted bytes core says heard events is answer none said count not_noted = record { core = is; hears = hears; refused = tt; same = tt; same_events = tt }
+    → AnswersArrivalOnEach noting bytes core core events events (Ok heard)
+answers_unchanged noting bytes core says heard events is answer none said count not_noted = record { core = is; hears = hears; within = λ _. not_noted; refused = tt; same = tt; same_events = tt }
   where
     added : OnEach core (λ m. entry_by m (ToTake bytes) ≡ None)
     added es s = ap (arrive_entry bytes) (answer es s) ∙ none
@@ -127,7 +123,7 @@ answers_unchanged wanted bytes core says heard events is answer none said count 
     no_one : [] ≡ joined events events
     no_one = sym (joined_are events events [] (none_joins events))
 
-    hears : HearsOnEach wanted bytes core core events events heard
+    hears : HearsOnEach (is_told noting) bytes core core events events heard
     hears = record {
       goes_on = goes_on_none (ToTake bytes) core added;
       taken = λ es s. record {
@@ -207,12 +203,23 @@ module _ (wanted : Bool) (bytes : List ℕ) (frame : FrameFields) (fact : Fact) 
     };
   }
 
+-- the entry of what came may be added, and is handed out where the caller is told of it
+abbrev pub Enters : Noting → Bool → Type 0
+Enters noting noted = (may_add noting ≡ true) × (is_told noting ≡ noted)
+
 -- what came is so of what was known before it was asked for
-pub come_before : (wanted : Bool) (bytes : List ℕ) (old mid new : Core) (before between after : List Event) (heard : Heard) → mid ≡ old → between ≡ before → HasCome wanted bytes mid new between after heard
-    → AnswersArrivalOnEach wanted bytes old new before after (Ok heard)
-come_before wanted bytes old mid new before between after heard same same_events come =
-    let has = subst (λ (core : Core). HasCome wanted bytes core new before after heard) same (subst (λ (es : List Event). HasCome wanted bytes mid new es after heard) same_events come) in
-    record { core = has.core; hears = has.hears; refused = tt; same = tt; same_events = tt }
+pub come_before : (noting : Noting) (noted : Bool) (bytes : List ℕ) (old mid new : Core) (before between after : List Event) (heard : Heard) → Enters noting noted → mid ≡ old → between ≡ before
+    → HasCome noted bytes mid new between after heard → AnswersArrivalOnEach noting bytes old new before after (Ok heard)
+come_before noting noted bytes old mid new before between after heard enters same same_events come =
+    let has = subst (λ (core : Core). HasCome noted bytes core new before after heard) same (subst (λ (es : List Event). HasCome noted bytes mid new es after heard) same_events come) in
+    record {
+      core = has.core;
+      hears = subst (λ (told : Bool). HearsOnEach told bytes old new before after heard) (sym enters.1) has.hears;
+      within = λ none. let e = sym enters.0 ∙ none in absurd cc;
+      refused = tt;
+      same = tt;
+      same_events = tt;
+    }
 
 -- ---- a cast
 
@@ -248,13 +255,13 @@ came_so wanted bytes coming old new before after heard c =
 
 -- ---- a status
 
-pub heard_so : (wanted : Bool) (bytes : List ℕ) (status : StatusFields) (old new : State) (events : List Event) (heard : Heard) → IsCore (core_of old) → IsBytes bytes → frame_at bytes ≡ Ok (StatusFrame status)
-    → OnAll old (λ facts. Changes old.seat facts (StatusFrame status)) → HasHeard status old new → ((messages : List Message) → received_says heard.received messages ≡ Accepted messages true [])
-    → count_said heard.received ≡ 0 → (wanted ≡ true → option_map entry_fields heard.noted ≡ Some (ArriveEntry bytes []))
-    → AnswersArrivalOnEach wanted bytes (core_of old) (core_of new) events events (Ok heard)
-heard_so wanted bytes status old new events heard is bytes_are read changes has said count noted =
+pub heard_so : (noting : Noting) (wanted : Bool) (bytes : List ℕ) (status : StatusFields) (old new : State) (events : List Event) (heard : Heard) → Enters noting wanted → IsCore (core_of old) → IsBytes bytes
+    → frame_at bytes ≡ Ok (StatusFrame status) → OnAll old (λ facts. Changes old.seat facts (StatusFrame status)) → HasHeard status old new
+    → ((messages : List Message) → received_says heard.received messages ≡ Accepted messages true []) → count_said heard.received ≡ 0
+    → (wanted ≡ true → option_map entry_fields heard.noted ≡ Some (ArriveEntry bytes [])) → AnswersArrivalOnEach noting bytes (core_of old) (core_of new) events events (Ok heard)
+heard_so noting wanted bytes status old new events heard enters is bytes_are read changes has said count noted =
     let none : (facts : List Fact) → [] ≡ deliveries old.seat facts (StatusFrame status) = λ facts. sym (none_delivered old.seat facts status) in
-    come_before wanted bytes (core_of old) (core_of old) (core_of new) events events events heard refl refl
+    come_before noting wanted bytes (core_of old) (core_of old) (core_of new) events events events heard enters refl refl
     (takes_so wanted bytes (StatusFrame status) (StatusReceived status) old new events events heard (record {
       core = is;
       bytes_are = bytes_are;

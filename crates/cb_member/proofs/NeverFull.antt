@@ -23,8 +23,9 @@ use Rattle.cb_history.specs.Answers.{ArrivalSays, Accepted, Repeat, answer_to, a
 use Rattle.cb_history.specs.Legal.{room_for_one}
 use Rattle.cb_history.specs.State.{RefusesArrival, RefusesTick}
 use Rattle.cb_member.specs.Casting.{RefusesExactly}
-use Rattle.cb_member.specs.CoreCalls.{AnswersArrivalOnEach, AnswersCastInto, AnswersCastOnEach, AnswersTickOnEach}
-use Rattle.cb_member.specs.CoreMember.{Core, IsCore, unlimited}
+use Rattle.cb_member.specs.CoreCalls.{AnswersCastInto, AnswersCastOnEach, AnswersTickOnEach, RefusesWithin}
+use Rattle.cb_member.specs.CoreMember.{Core, IsCore, OnEach, unlimited}
+use Rattle.cb_member.proofs.CoreArrivals.{without_limit}
 use Rattle.cb_member.proofs.Cores.{one_is_left}
 
 not_full : (es : List EntryFields) → is_full (room_for_one es) es ≡ false
@@ -118,10 +119,9 @@ no_full_arrival : (seat : Identity) (es : List EntryFields) (bytes : List ℕ) �
 no_full_arrival seat es bytes (inl says) = arrive_answer_not_full seat es bytes says
 no_full_arrival seat es bytes (inr memory) = let is = memory.0 in absurd cc
 
-pub arrival_never_full : (wanted : Bool) (bytes : List ℕ) (old new : Core) (before after : List Event) (refusal : ArriveRefusal) → IsCore old → AnswersArrivalOnEach wanted bytes old new before after (Err refusal)
-    → refusal ≢ arrivals.HistoryFull
-arrival_never_full wanted bytes old new before after refusal is answers full =
-    no_full_arrival old.seat is.entries bytes (subst (λ (r : ArriveRefusal). RefusesArrival (unlimited old.seat is.entries) bytes r) full (answers.refused is.entries is.stands))
+pub arrival_never_full : (core : Core) (bytes : List ℕ) (refusal : ArriveRefusal) → IsCore core → OnEach core (λ m. RefusesWithin true m bytes refusal) → refusal ≢ arrivals.HistoryFull
+arrival_never_full core bytes refusal is refuses full =
+    no_full_arrival core.seat is.entries bytes (subst (λ (r : ArriveRefusal). RefusesArrival (unlimited core.seat is.entries) bytes r) full (without_limit _ bytes refusal (refuses is.entries is.stands)))
 
 pub same_refusal : {T : Type 0} → (a b : ArriveRefusal) → (let r : Result T ArriveRefusal = Err a in r) ≡ Err b → a ≡ b
 same_refusal a b same = cc

@@ -1,13 +1,14 @@
 -- What a core answers to its calls, whatever history it stands for.
-use Rattle.std.specs.Prelude.{◌≡◌, ℕ, Bool, true, List, [], ◌∷◌, ◌++◌, length, map, drop, Option, Some, is_some, option_map, Result, Ok, Err, IfOk, IfErr, OnErr}
+use Rattle.std.specs.Prelude.{◌≡◌, ◌≢◌, ◌⊎◌, ℕ, Bool, true, false, List, [], ◌∷◌, ◌++◌, length, map, drop, Option, Some, None, option_map, Result, Ok, Err, IfOk, IfErr, OnErr}
 use Rattle.cb_frames.specs.Fields.{CastFrame, cast_fields}
 use Rattle.cb_frames.specs.Laws.{IsBytes}
-use Rattle.cb_frames.specs.Reading.{frame_at, HasValue}
+use Rattle.cb_frames.specs.Reading.{frame_at}
 use Rattle.cb_frames.specs.Text.{text_of}
 use Rattle.cb_delay.specs.declared.message.Event.{Event}
 use Rattle.cb_delay.specs.declared.message.Event.TheVariants.{Cast, Deliver}
 use Rattle.cb_delay.specs.declared.message.Message.{Message}
 use Rattle.cb_history.specs.declared.answer.ArriveRefusal.{ArriveRefusal}
+use Rattle.cb_history.specs.declared.answer.ArriveRefusal.TheVariants as refusals
 use Rattle.cb_history.specs.declared.answer.CastDone.{CastDone}
 use Rattle.cb_history.specs.declared.answer.CastRefusal.{CastRefusal}
 use Rattle.cb_history.specs.declared.answer.Ticked.{Ticked}
@@ -18,6 +19,8 @@ use Rattle.cb_history.specs.Legal.{ToCast, ToTake, ToTick}
 use Rattle.cb_history.specs.State.{MemberState, HasCast, HasTicked, RefusesArrival, RefusesTick, answer_to_arrival, answer_to_cast, entry_by, facts_in, next_in, state_after}
 use Rattle.cb_member.specs.declared.core_member.arriving.Coming.{Coming}
 use Rattle.cb_member.specs.declared.core_member.arriving.Heard.{Heard}
+use Rattle.cb_member.specs.declared.core_member.arriving.Noting.{Noting}
+use Rattle.cb_member.specs.declared.core_member.arriving.Noting.TheVariants.{Unwanted, Wanted, Refused}
 use Rattle.cb_member.specs.declared.recorder.arriving.Named.{Named}
 use Rattle.cb_member.specs.declared.recorder.taken.Received.{Received}
 use Rattle.cb_member.specs.declared.state.State.{State}
@@ -100,17 +103,29 @@ pub record HearsOnEach (wanted : Bool) (bytes : List ℕ) (old new : Core) (befo
   pub count : count_said heard.received ≡ length (joined before after)
   pub entry : wanted ≡ true → OnEach old (λ m. entry_by m (ToTake bytes) ≡ option_map entry_fields heard.noted)
 
-pub record AnswersArrivalOnEach (wanted : Bool) (bytes : List ℕ) (old new : Core) (before after : List Event) (result : Result Heard ArriveRefusal) : Type 0 where
+-- whether the caller is told of an entry, and whether one may be added
+abbrev pub is_told : Noting → Bool
+is_told Unwanted = false
+is_told Wanted = true
+is_told Refused = true
+
+abbrev pub may_add : Noting → Bool
+may_add Unwanted = true
+may_add Wanted = true
+may_add Refused = false
+
+-- the bytes are refused; or an entry of them would be added, where none may be, and the history is full
+abbrev pub RefusesWithin : Bool → MemberState → List ℕ → ArriveRefusal → Type 0
+RefusesWithin may_enter m bytes refusal =
+    RefusesArrival m bytes refusal ⊎ ((may_enter ≡ false) × (refusal ≡ refusals.HistoryFull) × (entry_by m (ToTake bytes) ≢ None))
+
+pub record AnswersArrivalOnEach (noting : Noting) (bytes : List ℕ) (old new : Core) (before after : List Event) (result : Result Heard ArriveRefusal) : Type 0 where
   pub core : IsCore new
-  pub hears : IfOk result (HearsOnEach wanted bytes old new before after)
-  pub refused : IfErr result (λ refusal. OnEach old (λ m. RefusesArrival m bytes refusal))
+  pub hears : IfOk result (HearsOnEach (is_told noting) bytes old new before after)
+  pub within : may_add noting ≡ false → IfOk result (λ heard. heard.noted ≡ None)
+  pub refused : IfErr result (λ refusal. OnEach old (λ m. RefusesWithin (may_add noting) m bytes refusal))
   pub same : OnErr result (new ≡ old)
   pub same_events : OnErr result (after ≡ before)
-
--- whether the definition adds an entry of these bytes, which are a frame; or why they are refused
-abbrev pub WouldEnter : List ℕ → Core → Result Bool ArriveRefusal → Type 0
-WouldEnter bytes core (Ok enters) = HasValue (frame_at bytes) × OnEach core (λ m. is_some (entry_by m (ToTake bytes)) ≡ enters)
-WouldEnter bytes core (Err refusal) = OnEach core (λ m. RefusesArrival m bytes refusal)
 
 -- the cast is that of these bytes and new, has its course, and there is room for the names of what it delivers
 pub record CanCome (wanted : Bool) (bytes : List ℕ) (core : State) (coming : Coming) : Type 0 where

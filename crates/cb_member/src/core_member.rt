@@ -1,6 +1,6 @@
 //! A member that keeps no history: what it knows is all that it needs of one.
 
-ghost use Rattle.std.specs.Prelude.{◌≡◌, ◌≢◌, ◌↔◌, ◌⊎◌, ◌≤◌, ◌<◌, [], ◌∷◌, ◌++◌, length, IfOk, IfErr, OnErr, OnOk, Some, Ok, Err, option_map};
+ghost use Rattle.std.specs.Prelude.{◌≡◌, ◌≢◌, ◌↔◌, ◌⊎◌, ◌≤◌, ◌<◌, [], ◌∷◌, ◌++◌, length, IfOk, IfErr, OnErr, OnOk, Some, None, Ok, Err, true, false, option_map};
 ghost use Rattle.cb_delay.specs.declared.message.Event.TheVariants.{Cast as Cast_event};
 ghost use Rattle.cb_frames.specs.Fields.{CastFrame};
 ghost use Rattle.cb_frames.specs.Text.{text_of};
@@ -11,7 +11,7 @@ ghost use Rattle.cb_history.specs.Facts.{entry_fields};
 ghost use Rattle.cb_history.specs.Known.{ranges_of};
 ghost use Rattle.cb_history.specs.State.{time_in, stable_in, missing_in, answer_to_cast, entry_by, facts_in, next_in, state_after, HasCast, RefusesArrival, HasTicked, RefusesTick};
 ghost use Rattle.cb_member.specs.Casting.{RefusesExactly, next_message};
-ghost use Rattle.cb_member.specs.CoreCalls.{HasReceivedWith, JoinsAs, MayCast, WouldEnter, joined};
+ghost use Rattle.cb_member.specs.CoreCalls.{HasReceivedWith, JoinsAs, MayCast, RefusesWithin, joined};
 ghost use Rattle.cb_member.specs.Received.{count_said};
 ghost use Rattle.cb_member.specs.CoreMember.{GoesOn, OnEach, StandsFor};
 ghost use Rattle.cb_member.specs.CoreRuns.{Cast, IsCall, Take, Tick};
@@ -20,6 +20,7 @@ mod arriving;
 mod casting;
 mod ticking;
 
+use crate::core_member::arriving::Noting;
 use crate::recorder::Received;
 use crate::state::State;
 use bytes::Bytes;
@@ -222,7 +223,7 @@ impl CoreMember {
         ensures call { IsCall
             (Take bytes.now result (joined events.old.items events.new.items)) self.old self.new }
     {
-        let heard = self.state.receive_unlimited(bytes, false, events)?;
+        let heard = self.state.receive_unlimited(bytes, Noting::Unwanted, events)?;
         Ok(heard.received)
     }
 
@@ -249,16 +250,40 @@ impl CoreMember {
         ensures same { OnErr result (self.new ≡ self.old) }
         ensures same_events { OnErr result (events.new.items ≡ events.old.items) }
     {
-        let heard = self.state.receive_unlimited(bytes, true, events)?;
+        let heard = self.state.receive_unlimited(bytes, Noting::Wanted, events)?;
         Ok((heard.received, heard.noted))
     }
 
-    /// Whether `receive` would add an entry to a history; else a refusal, or there is nothing to
-    /// add. `NoMemory` may stand in place of any answer for bytes that are a frame.
-    pub fn would_enter(&self, bytes: &Bytes) -> Result<bool, ArriveRefusal>
-        ensures { WouldEnter bytes.now self.now result }
+    /// Takes received bytes as `receive_noted` does, for a caller who may have no room for an entry:
+    /// where none may be added, bytes of which a history would have one are refused as
+    /// `HistoryFull`, behind `TooFar` and in front of `NoMemory`.
+    pub fn receive_within(
+        &mut self,
+        bytes: &Bytes,
+        may_enter: bool,
+        events: &mut Vec<Event>,
+    ) -> Result<(Received, Option<Entry>), ArriveRefusal>
+        ensures taken { IfOk result (λ noted. OnEach self.old (λ m.
+            HasReceivedWith m (state_after m (ToTake bytes.now)) bytes.now noted.0
+            (joined events.old.items events.new.items))) }
+        ensures joins { OnOk result (JoinsAs (joined events.old.items events.new.items)
+            events.old.items events.new.items) }
+        ensures count { IfOk result (λ noted. count_said noted.0
+            ≡ length (joined events.old.items events.new.items)) }
+        ensures entry { IfOk result (λ noted. OnEach self.old (λ m.
+            entry_by m (ToTake bytes.now) ≡ option_map entry_fields noted.1)) }
+        ensures within { may_enter ≡ false → IfOk result (λ noted. noted.1 ≡ None) }
+        ensures goes_on { OnOk result (GoesOn (ToTake bytes.now) self.old self.new) }
+        ensures refused { IfErr result (λ refusal. OnEach self.old (λ m.
+            RefusesWithin may_enter m bytes.now refusal)) }
+        ensures no_limit { may_enter ≡ true → result ≢ Err ArriveRefusal.HistoryFull }
+        ensures same { OnErr result (self.new ≡ self.old) }
+        ensures same_events { OnErr result (events.new.items ≡ events.old.items) }
     {
-        self.state.would_enter(bytes)
+        let heard = self
+            .state
+            .receive_unlimited(bytes, Noting::within(may_enter), events)?;
+        Ok((heard.received, heard.noted))
     }
 
     /// Reports the status to all others, and asks each for what is missing of it.

@@ -236,6 +236,30 @@ fn a_core_is_below_the_size(rt: HostRuntime) {
     }
 }
 
+#[test]
+fn a_core_without_room_refuses_what_would_add_an_entry(rt: HostRuntime) {
+    const ROWS: &[(&[u8], bool, Option<ArriveRefusal>)] = &[
+        (HI, false, Some(ArriveRefusal::HistoryFull)),
+        (TOLD, false, Some(ArriveRefusal::HistoryFull)),
+        (EARLY, false, Some(ArriveRefusal::TooFar)),
+        (OTHER, false, Some(ArriveRefusal::OtherGroup)),
+        (ASKED, false, None),
+        (HI, true, None),
+        (HI, false, None),
+        (TOLD, true, None),
+    ];
+    let mut both = Both::new(&rt, rt.alloc());
+    assert!(rt; both.core.cast(b"no").is_ok());
+    for (bytes, may_enter, refusal) in ROWS {
+        let bytes = Bytes::from_static(bytes);
+        let answer = both
+            .core
+            .receive_within(&bytes, *may_enter, &mut both.delivered);
+        assert_eq!(rt; answer.err(), *refusal);
+    }
+    assert_eq!(rt; both.delivered.len(), 1);
+}
+
 /// What a core does by the calls that note nothing.
 #[derive(Clone, Copy, Debug, PartialEq, Eq)]
 struct Plain {

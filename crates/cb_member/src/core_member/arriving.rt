@@ -1,6 +1,6 @@
 //! Received bytes at a core: what is delivered moves into the caller's events, so nothing is copied.
 
-ghost use Rattle.std.specs.Prelude.{◌≡◌, ◌≤◌, ◌+◌, ℕ, List, Bool, IfOk, Ok, None, []};
+ghost use Rattle.std.specs.Prelude.{◌≡◌, ◌≤◌, ◌+◌, ℕ, List, true, IfOk, Ok, None, []};
 ghost use Rattle.std.specs.Vec.{vec_capacity, vec_len};
 ghost use Rattle.cb_frames.specs.Fields.{cast_fields, request_fields, status_fields, CastFrame, RequestFrame, StatusFrame};
 ghost use Rattle.cb_frames.specs.Laws.{IsBytes};
@@ -8,8 +8,9 @@ ghost use Rattle.cb_frames.specs.Reading.{frame_at};
 ghost use Rattle.cb_delay.specs.declared.message.Event.{Event as Events};
 ghost use Rattle.cb_delay.specs.declared.message.Message.{Message as Messages};
 ghost use Rattle.cb_history.specs.Answers.{Accepted};
+ghost use Rattle.cb_member.specs.declared.core_member.arriving.Noting.{Noting as Notings};
 ghost use Rattle.cb_member.specs.Arriving.{IsNew};
-ghost use Rattle.cb_member.specs.CoreCalls.{AnswersArrivalOnEach, CanCome, Comes, IsComing, WouldEnter};
+ghost use Rattle.cb_member.specs.CoreCalls.{AnswersArrivalOnEach, CanCome, Comes, IsComing, is_told, may_add};
 ghost use Rattle.cb_member.specs.CoreMember.{IsCore, core_of};
 ghost use Rattle.cb_member.specs.Course.{most};
 ghost use Rattle.cb_member.specs.Received.{count_said, received_says};
@@ -27,6 +28,17 @@ use cb_history::{ArriveRefusal, Entry, Outgoing};
 use cb_times::{NoMemory, make_room};
 use std::alloc::Global;
 
+/// What becomes of the entry that a history would have of received bytes.
+#[derive(Clone, Copy, Drop)]
+pub enum Noting {
+    /// It is not wanted.
+    Unwanted,
+    /// It is handed out.
+    Wanted,
+    /// There is no room for it: bytes of which there would be one are refused.
+    Refused,
+}
+
 /// What received bytes did, and their entry, where it was wanted and one would be added.
 #[derive(Drop)]
 pub struct Heard {
@@ -42,45 +54,36 @@ pub struct Coming {
     pub noted: Option<Named>,
 }
 
+impl Noting {
+    /// It is handed out, where it may be added.
+    pub fn within(may_enter: bool) -> Noting
+        ensures told { is_told result ≡ true }
+        ensures may_add { may_add result ≡ may_enter }
+    {
+        if may_enter {
+            Noting::Wanted
+        } else {
+            Noting::Refused
+        }
+    }
+}
+
 impl State {
     /// Takes received bytes: delivers what they make ready, which joins the events, or answers a request.
     pub fn receive_unlimited(
         &mut self,
         bytes: &Bytes,
-        noted: bool,
+        noting: Noting,
         events: &mut Vec<Event>,
     ) -> Result<Heard, ArriveRefusal>
         requires { IsCore (core_of self.old) }
-        ensures { AnswersArrivalOnEach noted bytes.now (core_of self.old) (core_of self.new)
+        ensures { AnswersArrivalOnEach noting bytes.now (core_of self.old) (core_of self.new)
             events.old.items events.new.items result }
     {
         match read(self.alloc, bytes) {
-            Ok(Frame::Cast(cast)) => self.receive_cast(bytes, cast, noted, events),
-            Ok(Frame::Status(status)) => self.receive_status(bytes, &status, noted),
+            Ok(Frame::Cast(cast)) => self.receive_cast(bytes, cast, noting, events),
+            Ok(Frame::Status(status)) => self.receive_status(bytes, &status, noting),
             Ok(Frame::Request(request)) => self.receive_request(&request),
-            Err(refusal) => Err(refusal),
-        }
-    }
-
-    /// Whether the definition adds an entry of these bytes. Nothing changes by asking.
-    pub fn would_enter(&self, bytes: &Bytes) -> Result<bool, ArriveRefusal>
-        requires { IsCore (core_of self.now) }
-        ensures { WouldEnter bytes.now (core_of self.now) result }
-    {
-        // asked for what is true of every text
-        each_is_a_text_or_a_fault();
-        match read(self.alloc, bytes) {
-            Ok(Frame::Cast(cast)) => match self.judge_cast(&cast) {
-                Ok(Judged::Repeat) => Ok(false),
-                Ok(Judged::Taken) => Ok(true),
-                Err(refusal) => Err(refusal),
-            },
-            Ok(Frame::Status(status)) => match self.judge_status(&status) {
-                Ok(status::Judged::NoNews) => Ok(false),
-                Ok(status::Judged::News) => Ok(true),
-                Err(refusal) => Err(refusal),
-            },
-            Ok(Frame::Request(_request)) => Ok(false),
             Err(refusal) => Err(refusal),
         }
     }
@@ -89,13 +92,13 @@ impl State {
         &mut self,
         bytes: &Bytes,
         cast: Cast,
-        noted: bool,
+        noting: Noting,
         events: &mut Vec<Event>,
     ) -> Result<Heard, ArriveRefusal>
         requires core { IsCore (core_of self.old) }
         requires bytes { IsBytes bytes.now }
         requires read { frame_at bytes.now ≡ Ok (CastFrame (cast_fields cast)) }
-        ensures { AnswersArrivalOnEach noted bytes.now (core_of self.old) (core_of self.new)
+        ensures { AnswersArrivalOnEach noting bytes.now (core_of self.old) (core_of self.new)
             events.old.items events.new.items result }
     {
         // asked for what is true of every text
@@ -105,6 +108,11 @@ impl State {
             Ok(Judged::Taken) => {}
             Err(refusal) => return Err(refusal),
         }
+        let noted = match noting {
+            Noting::Unwanted => false,
+            Noting::Wanted => true,
+            Noting::Refused => return Err(ArriveRefusal::HistoryFull),
+        };
         let coming = self.prepare_coming(bytes, cast, noted, events)?;
         Ok(self.enter_coming(coming, events))
     }
@@ -172,12 +180,12 @@ impl State {
         &mut self,
         bytes: &Bytes,
         status: &Status,
-        noted: bool,
+        noting: Noting,
     ) -> Result<Heard, ArriveRefusal>
         requires core { IsCore (core_of self.old) }
         requires bytes { IsBytes bytes.now }
         requires read { frame_at bytes.now ≡ Ok (StatusFrame (status_fields status.now)) }
-        ensures { (events : List Events) → AnswersArrivalOnEach noted bytes.now (core_of self.old)
+        ensures { (events : List Events) → AnswersArrivalOnEach noting bytes.now (core_of self.old)
             (core_of self.new) events events result }
     {
         // asked for what is true of every text
@@ -190,6 +198,11 @@ impl State {
             Ok(status::Judged::News) => {}
             Err(refusal) => return Err(refusal),
         }
+        let noted = match noting {
+            Noting::Unwanted => false,
+            Noting::Wanted => true,
+            Noting::Refused => return Err(ArriveRefusal::HistoryFull),
+        };
         let noted = if noted {
             Some(heard_in(self.alloc, bytes)?)
         } else {
@@ -205,9 +218,9 @@ impl State {
     /// What is sent in answer to a request, which changes nothing.
     fn receive_request(&self, request: &Request) -> Result<Heard, ArriveRefusal>
         requires { IsCore (core_of self.now) }
-        ensures { (wanted : Bool) (bytes : List ℕ) (events : List Events)
+        ensures { (noting : Notings) (bytes : List ℕ) (events : List Events)
             → frame_at bytes ≡ Ok (RequestFrame (request_fields request.now))
-            → AnswersArrivalOnEach wanted bytes (core_of self.now) (core_of self.now) events events
+            → AnswersArrivalOnEach noting bytes (core_of self.now) (core_of self.now) events events
             result }
     {
         match self.answer_request(request) {

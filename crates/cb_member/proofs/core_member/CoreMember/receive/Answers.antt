@@ -1,4 +1,4 @@
-use Rattle.std.proofs.Common.{false, sym, ◌∙◌}
+use Rattle.std.proofs.Common.{sym, ◌∙◌}
 use Rattle.std.proofs.lemmas.Result.{err_from_is_err_and}
 use Rattle.cb_history.specs.declared.answer.ArriveRefusal.TheVariants as refusals
 use Rattle.cb_member.specs.CoreMember.{core_of}
@@ -8,7 +8,7 @@ use Rattle.cb_member.proofs.core_member.CoreMember.receive.Goals as goal
 pub returns-in_err-heard-clause-no_limit : goal.returns-in_err-heard-clause-no_limit
 returns-in_err-heard-clause-no_limit c full =
     let exit = err_from_is_err_and c.from_residual.result c.from_residual.ensures.1 in
-    arrival_never_full false c.args.bytes.now (core_of c.self.inside.state) _ c.args.events.now.items _ c.in_err-heard.field-0.0 c.self.invariant c.in_err-heard.ensures
+    arrival_never_full (core_of c.self.inside.state) c.args.bytes.now c.in_err-heard.field-0.0 c.self.invariant c.in_err-heard.ensures.refused
     (sym exit.2 ∙ same_refusal exit.0 refusals.HistoryFull (sym exit.1 ∙ full))
 
 pub returns-clause-taken : goal.returns-clause-taken

@@ -1,15 +1,17 @@
-use Rattle.std.proofs.Common.{[], Ok, refl, ap, subst}
+use Rattle.std.proofs.Common.{◌∙◌, [], Ok, refl, sym, ap, subst}
 use Rattle.cb_frames.specs.Fields.{cast_fields, CastFrame}
 use Rattle.cb_history.specs.Answers.{Repeat}
 use Rattle.cb_history.proofs.ReadBack.{frame_numbered}
 use Rattle.cb_member.specs.declared.arrival.cast.Judged.{Judged}
 use Rattle.cb_member.specs.declared.core_member.arriving.Heard.{Heard}
 use Rattle.cb_member.specs.Arriving.{JudgesCast}
+use Rattle.cb_member.specs.CoreCalls.{is_told, may_add}
 use Rattle.cb_member.specs.CoreMember.{core_of}
 use Rattle.cb_member.specs.Received.{count_said, received_says}
 use Rattle.cb_member.proofs.Cores.{is_state}
-use Rattle.cb_member.proofs.CoreArrivals.{answered_on_each, answers_unchanged, come_before, refused_frame, refuses_arrival}
+use Rattle.cb_member.proofs.CoreArrivals.{Enters, answered_on_each, answers_unchanged, come_before, refused_frame, refuses_arrival, refuses_entry}
 use Rattle.cb_member.proofs.state.State.receive_cast.Goals as goal
+use Rattle.cb_member.proofs.state.State.receive_cast.Goals.{in-Unwanted, in-Wanted}
 
 pub judge_cast-requires-clause-state : goal.judge_cast-requires-clause-state
 judge_cast-requires-clause-state c = is_state c.args.self.now c.requires.core
@@ -22,7 +24,7 @@ returns-in-Ok-Repeat c =
     let cast = cast_fields c.args.cast in
     let state = c.args.self.now in
     let repeat = subst (λ (j : Judged). JudgesCast state cast (Ok j)) c.in-Ok-Repeat.field-0-is c.in-Ok-Repeat.ensures in
-    answers_unchanged c.args.noted c.args.bytes.now (core_of state) Repeat c.not_noted.result c.args.events.now.items c.requires.core
+    answers_unchanged c.args.noting c.args.bytes.now (core_of state) Repeat c.not_noted.result c.args.events.now.items c.requires.core
     (answered_on_each state c.args.bytes.now (CastFrame cast) (Ok Repeat) c.requires.read repeat) refl
     (ap (λ (h : Heard). received_says h.received []) c.not_noted.ensures) (ap (λ (h : Heard). count_said h.received) c.not_noted.ensures)
     (ap (λ (h : Heard). h.noted) c.not_noted.ensures)
@@ -30,11 +32,23 @@ returns-in-Ok-Repeat c =
 pub returns-in-Err : goal.returns-in-Err
 returns-in-Err c =
     let state = c.args.self.now in
-    refuses_arrival c.args.noted c.args.bytes.now (core_of state) (core_of state) c.args.events.now.items c.args.events.now.items c.in-Err.refusal c.requires.core refl refl
+    refuses_arrival c.args.noting c.args.bytes.now (core_of state) (core_of state) c.args.events.now.items c.args.events.now.items c.in-Err.refusal c.requires.core refl refl
     (refused_frame state c.args.bytes.now (CastFrame (cast_fields c.args.cast)) c.in-Err.refusal c.requires.read c.in-Err.ensures)
+
+pub returns-in-Refused : goal.returns-in-Refused
+returns-in-Refused c =
+    let cast = cast_fields c.args.cast in
+    let state = c.args.self.now in
+    let taken = subst (λ (j : Judged). JudgesCast state cast (Ok j)) c.in-Ok-Taken.field-0-is c.in-Ok-Taken.ensures in
+    refuses_entry c.args.noting c.args.bytes.now state (CastFrame cast) c.args.events.now.items c.requires.core (ap may_add c.in-Refused.is) c.requires.read taken.changes
 
 pub returns : goal.returns
 returns c =
-    come_before c.args.noted c.args.bytes.now (core_of c.args.self.now) (core_of c.prepare_coming.new.self) (core_of c.enter_coming.new.self)
-    c.args.events.now.items c.prepare_coming.new.events.items c.enter_coming.new.events.items c.enter_coming.result c.in_ok-coming.ensures.same c.in_ok-coming.ensures.same_events
-    (c.enter_coming.ensures c.args.noted c.args.bytes.now c.in_ok-coming.ensures.can)
+    let enters : Enters c.args.noting c.match-noting.noted =
+    elim c.match-noting.branch [
+      | in-Unwanted w ↦ (ap may_add w.in-Unwanted.is, ap is_told w.in-Unwanted.is ∙ sym w.noted-is)
+      | in-Wanted w ↦ (ap may_add w.in-Wanted.is, ap is_told w.in-Wanted.is ∙ sym w.noted-is)
+    ] in
+    come_before c.args.noting c.match-noting.noted c.args.bytes.now (core_of c.args.self.now) (core_of c.prepare_coming.new.self) (core_of c.enter_coming.new.self)
+    c.args.events.now.items c.prepare_coming.new.events.items c.enter_coming.new.events.items c.enter_coming.result enters c.in_ok-coming.ensures.same c.in_ok-coming.ensures.same_events
+    (c.enter_coming.ensures c.match-noting.noted c.args.bytes.now c.in_ok-coming.ensures.can)
