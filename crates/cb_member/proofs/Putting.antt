@@ -27,7 +27,7 @@ use Rattle.cb_history.proofs.Queueing.{in_casts}
 use Rattle.cb_member.specs.declared.delivery.Delivery.{Delivery}
 use Rattle.cb_member.specs.Delivery.{Waits, HasNoNext, IsSettled}
 use Rattle.cb_member.specs.Passing.{IsAlone, DeliversAlone}
-use Rattle.cb_member.proofs.Waiting.{TakesOut, takes_next, none_next, held_alike}
+use Rattle.cb_member.proofs.Waiting.{TakesOut, takes_next, none_next, waits_settled}
 use Rattle.cb_member.proofs.Draining.{none_so_far, goes_on, is_drained}
 
 -- ---- held and released again
@@ -91,7 +91,7 @@ held_then queue message other h =
 -- ---- the time
 
 -- the count of one more message of the sender is the time raised to that of the message
-counts_it : (now stamp : List ℕ) (sender : ℕ) → sender < length now → length stamp ≡ length now → IsReady sender (field stamp) (field now) → IsRaised now stamp (set now sender (field now sender + 1))
+pub counts_it : (now stamp : List ℕ) (sender : ℕ) → sender < length now → length stamp ≡ length now → IsReady sender (field stamp) (field now) → IsRaised now stamp (set now sender (field now sender + 1))
 counts_it now stamp sender lt fits ready = record {
   size = length-set now sender (field now sender + 1);
   each = λ k. elim (cases_eq k sender) [
@@ -176,13 +176,6 @@ module _ (d : Delivery) (message : Message) (is_queue : IsDelayQueue d.queue) (a
     }
 
 -- ---- what the queue remembers changes nothing
-
-waits_settled : (size : ℕ) (casts : List CastFields) (seen : List Carried) (mid new : Delivery) → IsSettled mid new → Waits size casts seen mid → Waits size casts seen new
-waits_settled size casts seen mid new settled w = record {
-  way = w.way;
-  time = settled.time ∙ w.time;
-  queue = held_alike size casts seen mid.queue new.queue settled.queue w.queue;
-}
 
 pub alone_then_settled : (message : Message) (old mid new : Delivery) (before now : List Event) → DeliversAlone message old mid before now → IsSettled mid new → DeliversAlone message old new before now
 alone_then_settled message old mid new before now alone settled = record {

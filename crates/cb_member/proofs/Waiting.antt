@@ -1,22 +1,25 @@
 -- One delivery of what waits, and none.
-use Rattle.std.proofs.Common.{◌≡◌, ℕ, ◌+◌, ◌-◌, ◌<◌, Bool, true, false, cond, List, [], ◌∷◌, length, None, Some, sym, ap, subst, ◌∙◌, arith}
+use Rattle.std.proofs.Common.{◌≡◌, ℕ, ◌++◌, ◌+◌, ◌-◌, ◌<◌, Bool, true, false, cond, List, [], ◌∷◌, length, None, Some, sym, ap, subst, ◌∙◌, arith}
 use Rattle.std.specs.FinMap as fin
 use Rattle.std.specs.Prelude.{is_some, not, IfNone, Option}
 use Rattle.std.proofs.lemmas.List.FromFn.{length-map-range_with_len}
+use Rattle.cb_times.specs.Order.{field}
 use Rattle.cb_times.specs.Time.{IsRaised}
 use Rattle.cb_times.specs.declared.name.Name.{Name}
 use Rattle.cb_frames.specs.Fields.{CastFields, Carried}
 use Rattle.cb_delay.specs.declared.message.Message.{Message}
 use Rattle.cb_delay.specs.Message.{name_cmp}
+use Rattle.cb_delay.specs.Rule.{IsReady}
 use Rattle.cb_delay.specs.Queue.{Queue, Holds, IsHeld, HasReady, IsSmallestReady, IsFirst, Releases}
 use Rattle.cb_delay.proofs.Names.{names_total}
 use Rattle.cb_delay.proofs.Room.{none_is_held}
-use Rattle.cb_history.specs.View.{count, next_delivery, message_in}
+use Rattle.cb_diffs.specs.Expansion.{expanded_field}
+use Rattle.cb_history.specs.View.{count, counts, next_delivery, message_in}
 use Rattle.cb_history.specs.QueueLaws.{HoldsUndelivered}
-use Rattle.cb_history.proofs.Delivering.{readiness_is_the_delay_rule, raising_counts_the_delivery, delivery_leaves_on_the_way, next_is_smallest_ready}
+use Rattle.cb_history.proofs.Delivering.{readiness_is_the_delay_rule, rule_of_times, raising_counts_the_delivery, delivery_leaves_on_the_way, next_is_smallest_ready}
 use Rattle.cb_history.proofs.Queueing.{in_casts, next_ready_is_next_delivery, none_ready_is_nothing_next, first_is_next_delivery, release_is_delivery}
 use Rattle.cb_member.specs.declared.delivery.Delivery.{Delivery}
-use Rattle.cb_member.specs.Delivery.{Waits, IsWaiting, DeliversNext, HasNoNext}
+use Rattle.cb_member.specs.Delivery.{Waits, IsWaiting, IsSettled, DeliversNext, HasNoNext}
 
 -- a queue with the same messages holds the same
 pub held_alike : (size : ℕ) (casts : List CastFields) (seen : List Carried) (old new : Queue) → Holds old new old.held → HoldsUndelivered size casts seen old → HoldsUndelivered size casts seen new
@@ -96,12 +99,56 @@ takes_next d sender message new t = record {
         let before : fin.len t.between.held ≡ fin.len d.queue.held = ap (λ (m : fin.FinMap name_cmp Message). fin.len m) t.same.now_held in
         omega (arith, fewer, some, now, before)
 
+-- ---- what the queue remembers changes nothing
+
+pub waits_settled : (size : ℕ) (casts : List CastFields) (seen : List Carried) (mid new : Delivery) → IsSettled mid new → Waits size casts seen mid → Waits size casts seen new
+waits_settled size casts seen mid new settled w = record {
+  way = w.way;
+  time = settled.time ∙ w.time;
+  queue = held_alike size casts seen mid.queue new.queue settled.queue w.queue;
+}
+
+pub next_then_settled : (old mid new : Delivery) (message : Message) → DeliversNext old mid message → IsSettled mid new → DeliversNext old new message
+next_then_settled old mid new message d settled = record {
+  next = λ size casts seen w. let n = d.next size casts seen w in (n.0, n.1, n.2, waits_settled size casts (seen ++ n.0 ∷ []) mid new settled n.3);
+  window = settled.queue.window ∙ d.window;
+  one_less = ap (λ (held : fin.FinMap name_cmp Message). fin.len held + 1) settled.queue.now_held ∙ d.one_less;
+}
+
 -- of a sender the first message held is its next one
 pub first_is_next : (d : Delivery) (between : Queue) (sender : ℕ) (message : Message) → Holds d.queue between d.queue.held → IsFirst between sender message
     → (size : ℕ) (casts : List CastFields) (seen : List Carried) (m : Carried) → Waits size casts seen d → next_delivery size casts seen ≡ Some m → m.sender ≡ sender
     → message ≡ message_in size casts m
 first_is_next d between sender message same first size casts seen m w next of =
     first_is_next_delivery size casts seen between w.way (held_alike size casts seen d.queue between same w.queue) m message next (subst (λ (s : ℕ). IsFirst between s message) (sym of) first)
+
+-- which may be delivered
+pub record IsOnTurn (d : Delivery) (sender : ℕ) (message : Message) : Type 0 where
+  pub member : sender < length d.time
+  pub fits : length message.time ≡ length d.time
+  pub ready : IsReady sender (field message.time) (field d.time)
+
+pub first_is_on_turn : (d : Delivery) (between : Queue) (sender : ℕ) (message : Message) → Holds d.queue between d.queue.held → IsFirst between sender message → IsWaiting d → IsSmallestReady d.queue d.time sender
+    → IsOnTurn d sender message
+first_is_on_turn d between sender message same first waiting smallest =
+    let size = waiting.size in
+    let casts = waiting.casts in
+    let seen = waiting.seen in
+    let w = waiting.waits in
+    let found = (next_ready_is_next_delivery size casts seen d.queue w.way w.queue sender).0 (subst (λ (time : List ℕ). IsSmallestReady d.queue time sender) w.time smallest) in
+    let m : Carried = found.0 in
+    let is : message ≡ message_in size casts m = first_is_next d between sender message same first size casts seen m w found.1 found.2 in
+    let next = next_is_smallest_ready size casts seen m found.1 in
+    let member : m.sender < size = w.way.members m (in_casts casts m next.expanded) in
+    let rule = (rule_of_times size casts seen m member).1 ((readiness_is_the_delay_rule size casts seen m member).0 next.ready).1 in
+    let long : length d.time ≡ size = ap length w.time ∙ length-map-range_with_len (count seen) 0 size in
+    record {
+      member = subst (λ (n : ℕ). sender < n) (sym long) (subst (λ (s : ℕ). s < size) found.2 member);
+      fits = ap (λ (x : Message). length x.time) is ∙ length-map-range_with_len (expanded_field casts m.sender m.number) 0 size ∙ sym long;
+      ready = subst (λ (time : List ℕ). IsReady sender (field message.time) (field time)) (sym w.time)
+          (subst (λ (x : Message). IsReady sender (field x.time) (field (counts size seen))) (sym is)
+          (subst (λ (s : ℕ). IsReady s (field (message_in size casts m).time) (field (counts size seen))) found.2 rule));
+    }
 
 -- ---- nothing is ready
 

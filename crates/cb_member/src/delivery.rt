@@ -72,7 +72,8 @@ impl Delivery {
     {
         let sender = self.queue.next_ready(&self.time)?;
         let message = self.queue.release(sender)?;
-        self.time.raise(&message.time);
+        self.time.add_one(sender);
+        self.tell_queue(sender);
         Some(message)
     }
 
@@ -99,9 +100,8 @@ impl Delivery {
     {
         // asked for what is true of every queue
         let _window = self.queue.window();
-        let sender = message.name.sender;
-        self.time.add_one(sender);
-        self.tell_queue(sender);
+        self.time.add_one(message.name.sender);
+        self.tell_queue(message.name.sender);
         events.push_reserved(Event::Deliver(message));
     }
 
