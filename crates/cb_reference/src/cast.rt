@@ -105,6 +105,7 @@ pub struct Casting {
 }
 
 /// The counts of these messages and of one cast more.
+#[tactic(auto, unfolding(cb_frames::specs::Fields::messages_of))]
 fn counts_with<'a>(
     alloc: Global,
     size: u32,
@@ -145,6 +146,7 @@ fn casting_of(alloc: Global, name: Name, time: VectorTime, cast: Cast) -> Result
 }
 
 /// Makes the next cast.
+#[tactic(auto, using(cb_frames::proofs::Carried::first_is_number))]
 fn make(past: &Past<'_>, payload: &[u8]) -> Result<Casting, NoMemory>
     requires { length payload.now ≤ LONGEST_PAYLOAD }
     ensures done { IfOk result (λ casting. let facts = facts_in past.now in

@@ -31,6 +31,7 @@ pub fn value_in(values: &[Change], k: u32) -> u32
     0
 }
 
+#[tactic(auto, using(cb_frames::proofs::Carried::last_is_number))]
 fn reported_of(i: u32, fact: &Fact) -> u32
     ensures { result ≡ greatest_of (reported_of i (fact_of fact.now)) }
 {
@@ -55,6 +56,7 @@ fn reported(facts: &[Fact], i: u32) -> u32
 }
 
 /// What the times say of it that can be known.
+#[tactic(auto, unfolding(cb_frames::specs::Fields::messages_of))]
 fn counted_in_times(casts: &[&Cast], i: u32) -> u32
     ensures { result ≡ greatest_of (counted_in_times (map cast_of casts.now) i) }
 {
@@ -69,6 +71,7 @@ fn counted_in_times(casts: &[&Cast], i: u32) -> u32
 }
 
 /// How many casts of sender i are expanded.
+#[tactic(auto, unfolding(cb_frames::specs::Fields::messages_of))]
 fn expanded_count(casts: &[&Cast], i: u32) -> u32
     ensures { result ≡ expanded_count (map cast_of casts.now) i }
 {

@@ -74,6 +74,7 @@ fn growth_in(changes: &[Change], k: u32) -> u32
     growth
 }
 
+#[tactic(auto, using(cb_frames::proofs::Carried::first_is_number))]
 fn growth_of(sender: u32, number: u32, k: u32, cast: &Cast) -> u32
     ensures { result ≡ min greatest (growth_of sender number k (cast_fields cast.now)) }
 {
@@ -143,6 +144,7 @@ fn better<'a>(best: Option<Message<'a>>, message: Message<'a>) -> Message<'a>
 }
 
 /// The message to be delivered next.
+#[tactic(auto, unfolding(cb_frames::specs::Fields::messages_of))]
 fn next_delivery<'a>(size: u32, casts: &[&'a Cast], seen: &[Message<'_>]) -> Option<Message<'a>>
     ensures { as_carried result ≡ next_delivery size (map cast_of casts.now)
         (map carried_of seen.now) }
@@ -172,6 +174,7 @@ fn drain<'a>(size: u32, casts: &[&'a Cast], seen: &mut Vec<Message<'a>>) -> Resu
 }
 
 /// What one more fact makes of the casts and of the messages seen.
+#[tactic(auto, unfolding(cb_frames::specs::Fields::messages_of))]
 fn see<'a>(
     size: u32,
     fact: &'a Fact,

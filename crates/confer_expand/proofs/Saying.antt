@@ -7,7 +7,8 @@ use Rattle.std.proofs.lemmas.List.{append-nil}
 use Rattle.memchr.specs.Find.{IsFirstByte, is_byte}
 use Rattle.cb_times.specs.Time.{text_of}
 use Rattle.cb_frames.specs.declared.frame.Cast.{Cast}
-use Rattle.cb_frames.specs.Fields.{CastFields}
+use Rattle.cb_frames.specs.Fields.{CastFields, cast_fields, first_number}
+use Rattle.cb_frames.proofs.Carried.{first_is_number}
 use Rattle.cb_diffs.specs.Laws.{IsKept}
 use Rattle.confer_expand.specs.Answers.{outcome, answer_text, accepted_after}
 use Rattle.confer_expand.specs.Lines.{line_feed, ended, unended, answers, any_refused, accepted_through}
@@ -142,7 +143,8 @@ says_accepted line cast old new before now gives same text refused = record {
       let given = gives accepted kept in
       let is = given.0 in
       let shown : answer_text size accepted (outcome old.number size accepted line) ≡ accepted_text cast new.time = ap (answer_text size accepted) is
-      ∙ ap (λ (t : List ℕ). decimal cast.sender ++ codes "." ++ decimal cast.number ++ codes " " ++ text_of t ++ codes " " ++ payload_text cast.payload) (sym given.1.time) in
+      ∙ ap (λ (t : List ℕ). decimal cast.sender ++ codes "." ++ decimal (first_number (cast_fields cast)) ++ codes " " ++ text_of t ++ codes " " ++ payload_text cast.payload) (sym given.1.time)
+      ∙ ap (λ (n : ℕ). decimal cast.sender ++ codes "." ++ decimal n ++ codes " " ++ text_of new.time ++ codes " " ++ payload_text cast.payload) (first_is_number (cast_fields cast)) in
       record {
         text = text ∙ ap (λ (t : List ℕ). before.text ++ (t ++ line_feed ∷ [])) (sym shown);
         refusal = refused ∙ sym (or-false before.refused) ∙ ap (λ (b : Bool). before.refused || (b || false)) (sym (ap is_err is));

@@ -34,6 +34,7 @@ fn are_members(size: u32, cast: &Cast) -> bool
 }
 
 /// It would be a cast of the member itself that it did not make.
+#[tactic(auto, using(cb_frames::proofs::Carried::last_is_number))]
 fn is_impossible(past: &Past<'_>, cast: &Cast) -> bool
     ensures { result ≡ is_impossible past.now.seat (facts_in past.now) (CastFrame
         (cast_fields cast.now)) }
@@ -43,6 +44,7 @@ fn is_impossible(past: &Past<'_>, cast: &Cast) -> bool
 }
 
 /// Beyond the window above what is delivered.
+#[tactic(auto, using(cb_frames::proofs::Carried::last_is_number))]
 fn is_too_far(past: &Past<'_>, cast: &Cast) -> bool
     ensures { result ≡ is_too_far past.now.seat (facts_in past.now) (CastFrame
         (cast_fields cast.now)) }
@@ -53,6 +55,7 @@ fn is_too_far(past: &Past<'_>, cast: &Cast) -> bool
 }
 
 /// The first rule that the cast breaks, or what it does.
+#[tactic(auto, unfolding(cb_frames::specs::Fields::messages_of))]
 fn first_broken(past: &Past<'_>, cast: &Cast) -> Result<Judged, ArriveRefusal>
     ensures { JudgesCast past.now (cast_fields cast.now) result }
 {

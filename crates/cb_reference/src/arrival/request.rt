@@ -31,6 +31,7 @@ fn is_asked_for(ranges: &[Range], cast: &Cast) -> bool
 }
 
 /// The bytes of an own cast that is above what is stable and asked for.
+#[tactic(auto, using(cb_frames::proofs::Carried::last_is_number))]
 fn asked_text(
     alloc: Global,
     frame: &Bytes,
