@@ -20,6 +20,7 @@ use Rattle.cb_history.specs.Facts.{EntryFields, Fact, OwnCast, OwnStatus, CastEn
 use Rattle.cb_history.specs.Answers.{is_new_status, next_cast, requests, status_of, tick_answer}
 use Rattle.cb_history.specs.Legal.{ToCast, ToTick, cast_entry, room_for_one, tick_entry}
 use Rattle.cb_history.specs.State.{answer_to_cast, answer_to_tick, entry_by, next_in}
+use Rattle.cb_frames.proofs.Carried.{first_is_number, carries_one}
 use Rattle.cb_history.proofs.ReadBack.{cast_read, status_read}
 use Rattle.cb_history.proofs.Requests.{own_frames_have_texts}
 use Rattle.cb_history.proofs.Written.{cast_can}
@@ -116,7 +117,7 @@ module _ (payload : List ℕ) (old mid new : State) (casting : Casting) (frame :
     core = core_goes_on (ToCast payload) (core_of old) (core_of new) c.core goes_on;
     casts = record {
       goes_on = goes_on;
-      done = λ es s. record { answer = answer es s; reported = rw (ap (λ (m : Message). m.name) (made es s).message, time es s, (made es s).out) refl; after = refl };
+      done = λ es s. record { answer = answer es s; reported = rw (ap (λ (m : Message). m.name) (made es s).message, time es s, (made es s).out, first_is_number (next_cast old.seat (facts_of es) payload), carries_one (next_cast old.seat (facts_of es) payload)) refl; after = refl };
       entry = λ es s. ap cast_entry (answer es s) ∙ ap (λ (text : List ℕ). Some (CastEntry text)) (sym (made es s).out ∙ sym c.copied);
     };
     refused = tt;

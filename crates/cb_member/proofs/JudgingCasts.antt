@@ -11,7 +11,7 @@ use Rattle.cb_gaps.specs.declared.buffer.Admission.{Admission}
 use Rattle.cb_gaps.specs.declared.buffer.Admission.TheVariants.{Kept, Repeat, TooFar}
 use Rattle.cb_gaps.specs.Buffer.{Buffer, Admits, IsLacking, IsReceived, AreLacking, AreReceived}
 use Rattle.cb_history.specs.declared.answer.ArriveRefusal.TheVariants as arrivals
-use Rattle.cb_frames.proofs.Carried.{carries_some}
+use Rattle.cb_frames.proofs.Carried.{first_is_number, last_is_number, carries_one, carries_some}
 use Rattle.cb_history.specs.Group.{Identity}
 use Rattle.cb_history.specs.Facts.{Fact, CastReceived, casts_in, is_there}
 use Rattle.cb_history.specs.Answers.{are_members, delivered}
@@ -35,6 +35,9 @@ module _ (state : State) (c : CastFields) (numbered : 1 ≤ c.number) (group : c
   abbrev seat : Identity
   seat = state.seat
 
+  first_numbered : 1 ≤ first_number c
+  first_numbered = omega (arith, numbered, first_is_number c)
+
   pub is_member : c.sender < seat.group.size
   is_member = ltb-true c.sender seat.group.size (and_parts (ltb c.sender seat.group.size) (list_all (λ d. ltb d.field seat.group.size) c.changes) members).0
 
@@ -47,12 +50,12 @@ module _ (state : State) (c : CastFields) (numbered : 1 ≤ c.number) (group : c
         let made : c.number ≤ delivered seat facts seat.me = subst (λ (i : ℕ). c.number ≤ delivered seat facts i) own reached in
         let there : is_there (casts_in facts) c.sender c.number ≡ true =
         subst (λ (i : ℕ). is_there (casts_in facts) i c.number ≡ true) (sym own) (expanded_are_there (casts_in facts) seat.me c.number numbered (omega (arith, made, (delivered_is_expanded seat facts are).1))) in
-        rw (eq-eqb c.group seat.group.number group, members, le-ltb (delivered seat facts seat.me) c.number made, and-false (eqb c.sender seat.me), there) refl
+        rw (eq-eqb c.group seat.group.number group, members, last_is_number c, le-ltb (delivered seat facts seat.me) c.number made, and-false (eqb c.sender seat.me), carries_one c, there) refl
 
     never_made : c.sender ≡ seat.me → delivered seat facts c.sender < c.number → Answers seat facts (CastFrame c) (Err arrivals.Impossible)
     never_made own beyond limit entries =
         let not_made : delivered seat facts seat.me < c.number = subst (λ (i : ℕ). delivered seat facts i < c.number) own beyond in
-        rw (eq-eqb c.group seat.group.number group, members, eq-eqb c.sender seat.me own, lt-ltb (delivered seat facts seat.me) c.number not_made) refl
+        rw (eq-eqb c.group seat.group.number group, members, eq-eqb c.sender seat.me own, last_is_number c, lt-ltb (delivered seat facts seat.me) c.number not_made) refl
 
     module _ (other : c.sender ≢ seat.me) (b : Buffer) (at : slice_get state.reception.buffers.items c.sender ≡ Some b) where
       of_window : b.window ≡ seat.group.window
@@ -60,12 +63,14 @@ module _ (state : State) (c : CastFields) (numbered : 1 ≤ c.number) (group : c
 
       there_is : AreReceived b (first_number c) (last_number c) → is_there (casts_in facts) c.sender c.number ≡ true
       there_is received =
-          (received_is_there (casts_in facts) c.sender c.number b (k.received.waits c.sender b at other) numbered).0
-          (received (first_number c) (omega arith) (carries_some c))
+          subst (λ (n : ℕ). is_there (casts_in facts) c.sender n ≡ true) (first_is_number c)
+          ((received_is_there (casts_in facts) c.sender (first_number c) b (k.received.waits c.sender b at other) first_numbered).0
+          (received (first_number c) (omega arith) (carries_some c)))
 
       not_there : AreLacking b (first_number c) (last_number c) → is_there (casts_in facts) c.sender c.number ≡ false
       not_there none = elim (cases_Bool (is_there (casts_in facts) c.sender c.number)) [
-        | inl there ↦ absurd (lacks ((received_is_there (casts_in facts) c.sender c.number b (k.received.waits c.sender b at other) numbered).1 there))
+        | inl there ↦ absurd (lacks ((received_is_there (casts_in facts) c.sender (first_number c) b (k.received.waits c.sender b at other) first_numbered).1
+            (subst (λ (n : ℕ). is_there (casts_in facts) c.sender n ≡ true) (sym (first_is_number c)) there)))
         | inr absent ↦ absent
       ]
         where
@@ -77,29 +82,29 @@ module _ (state : State) (c : CastFields) (numbered : 1 ≤ c.number) (group : c
           lacks (inr kept) = lacking.not_kept kept
 
       is_other_repeat : AreReceived b (first_number c) (last_number c) → Answers seat facts (CastFrame c) (Ok says.Repeat)
-      is_other_repeat received limit entries = rw (eq-eqb c.group seat.group.number group, members, ne_eqb c.sender seat.me other, there_is received) refl
+      is_other_repeat received limit entries = rw (eq-eqb c.group seat.group.number group, members, ne_eqb c.sender seat.me other, carries_one c, there_is received) refl
 
       is_beyond : Admits b (field state.delivery.time c.sender) (first_number c) (last_number c) TooFar → Answers seat facts (CastFrame c) (Err arrivals.TooFar)
       is_beyond far limit entries =
-          let beyond : delivered seat facts c.sender + seat.group.window < c.number = omega (arith, far.1, counted, of_window) in
-          rw (eq-eqb c.group seat.group.number group, members, ne_eqb c.sender seat.me other, not_there far.0, lt-ltb (delivered seat facts c.sender + seat.group.window) c.number beyond) refl
+          let beyond : delivered seat facts c.sender + seat.group.window < last_number c = omega (arith, far.1, counted, of_window) in
+          rw (eq-eqb c.group seat.group.number group, members, ne_eqb c.sender seat.me other, carries_one c, not_there far.0, lt-ltb (delivered seat facts c.sender + seat.group.window) (last_number c) beyond) refl
 
       module _ (admitted : Admits b (field state.delivery.time c.sender) (first_number c) (last_number c) Kept) where
-        near : ltb (delivered seat facts c.sender + seat.group.window) c.number ≡ false
-        near = le-ltb (delivered seat facts c.sender + seat.group.window) c.number (omega (arith, admitted.1, counted, of_window))
+        near : ltb (delivered seat facts c.sender + seat.group.window) (last_number c) ≡ false
+        near = le-ltb (delivered seat facts c.sender + seat.group.window) (last_number c) (omega (arith, admitted.1, counted, of_window))
 
         follows : c.number ≤ LAST_NUMBER → AreFactsOf seat (facts ++ CastReceived c ∷ [])
         follows small = record {
           group = are.group;
           member = are.member;
           facts_are = OneFactMore facts (CastReceived c) are.facts_are (record {
-            numbered = numbered;
+            numbered = first_numbered;
             taken = record {
-              numbers = small;
+              numbers = omega (arith, small, last_is_number c);
               group = group;
               members = members;
               possible = rw (ne_eqb c.sender seat.me other) refl;
-              new = rw (not_there admitted.0) refl;
+              new = rw (carries_one c, not_there admitted.0) refl;
               near = near;
               change = refl;
             };
@@ -109,9 +114,9 @@ module _ (state : State) (c : CastFields) (numbered : 1 ≤ c.number) (group : c
         changes : Changes seat facts (CastFrame c)
         changes = record {
           taken = λ limit entries room.
-              rw (eq-eqb c.group seat.group.number group, members, ne_eqb c.sender seat.me other, not_there admitted.0, near, lt-leb limit (length entries) room) refl;
+              rw (eq-eqb c.group seat.group.number group, members, ne_eqb c.sender seat.me other, carries_one c, not_there admitted.0, near, lt-leb limit (length entries) room) refl;
           full = λ limit entries none.
-              rw (eq-eqb c.group seat.group.number group, members, ne_eqb c.sender seat.me other, not_there admitted.0, near, le-leb limit (length entries) none) refl;
+              rw (eq-eqb c.group seat.group.number group, members, ne_eqb c.sender seat.me other, carries_one c, not_there admitted.0, near, le-leb limit (length entries) none) refl;
         }
 
         upto_taken : field state.delivery.time c.sender ≤ b.taken

@@ -1,10 +1,11 @@
 -- What is kept is so of the facts with an own cast.
-use Rattle.std.proofs.Common.{◌≡◌, ◌≢◌, ℕ, Bool, true, false, List, ◌∷◌, [], ◌++◌, None, sym, ap, subst, ◌∙◌, arith}
-use Rattle.cb_frames.specs.Fields.{CastFields}
+use Rattle.std.proofs.Common.{◌≡◌, ◌≢◌, ℕ, Bool, true, false, List, ◌∷◌, [], ◌++◌, length, None, sym, ap, subst, ◌∙◌, arith}
+use Rattle.cb_frames.specs.Fields.{CastFields, Carried}
+use Rattle.cb_frames.proofs.Carried.{carries_one}
 use Rattle.cb_stability.specs.Sent.{Sent, Puts}
 use Rattle.cb_history.specs.Group.{Identity}
 use Rattle.cb_history.specs.Facts.{Fact, OwnCast, casts_in}
-use Rattle.cb_history.specs.View.{counts, time_of}
+use Rattle.cb_history.specs.View.{counts, view, time_of}
 use Rattle.cb_history.specs.Known.{expanded_count}
 use Rattle.cb_history.specs.Answers.{next_cast, last_status}
 use Rattle.cb_history.specs.LegalFacts.{AreFactsOf}
@@ -40,7 +41,9 @@ casts_with seat facts payload = casts_in-append facts (OwnCast (next_cast seat f
 
 -- the counts with the cast are the time after it
 time_with_cast : (seat : Identity) (facts : List Fact) (payload : List ℕ) → next_time seat facts payload ≡ time_of seat.group.size (with_cast seat facts payload)
-time_with_cast seat facts payload = ap (counts seat.group.size) (sym (view_own seat.group.size facts (next_cast seat facts payload)))
+time_with_cast seat facts payload =
+    let c = next_cast seat facts payload in
+    ap (counts seat.group.size) (sym (view_own seat.group.size facts c ∙ ap (λ (ms : List Carried). view seat.group.size facts ++ ms) (carries_one c)))
 
 delivered_with_cast : (seat : Identity) (facts : List Fact) (payload time : List ℕ) (d : Delivery) → AreFactsOf seat (with_cast seat facts payload) → HasDelivered seat facts d
     → time ≡ next_time seat facts payload → HasDelivered seat (with_cast seat facts payload) (record d { time = time })
@@ -95,7 +98,8 @@ sent_with_cast : (seat : Identity) (facts : List Fact) (payload time : List ℕ)
 sent_with_cast seat facts payload time s window are has at put =
     let c = next_cast seat facts payload in
     record {
-      window = put_is_own_cast seat facts c s.window window are has.window put;
+      window = put_is_own_cast seat facts c s.window window are has.window
+          (subst (λ (n : ℕ). Puts s.window window n (next_text seat facts payload)) (sym (ap length (carries_one c))) put);
       last_cast = at ∙ time_with_cast seat facts payload ∙ ap (time_of seat.group.size) (sym (upto_own facts c));
       fields = has.fields;
       reported = still_reported seat facts (with_cast seat facts payload) s.has_reported s.last_reported (last_status_with_one_more facts (OwnCast c) None) has.reported;

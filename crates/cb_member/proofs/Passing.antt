@@ -7,7 +7,9 @@ use Rattle.std.proofs.lemmas.Bool.{cases_eq, cases_lt, eq-eqb}
 use Rattle.std.proofs.lemmas.List.{length-set, length-replicate, map-set, get_or-set_same, get_or-set_other}
 use Rattle.std.proofs.lemmas.Option.{slice_get_within}
 use Rattle.cb_times.specs.Order.{field}
+use Rattle.cb_times.specs.declared.name.Name.{Name}
 use Rattle.cb_frames.specs.Fields.{CastFields, first_number, last_number}
+use Rattle.cb_frames.proofs.Carried.{first_is_number}
 use Rattle.cb_delay.specs.declared.message.Message.{Message}
 use Rattle.cb_delay.specs.Rule.{IsReady}
 use Rattle.cb_diffs.specs.Expansion.{IsNext as IsNextCast}
@@ -30,7 +32,7 @@ use Rattle.cb_member.specs.Delivery.{IsWaiting}
 use Rattle.cb_member.specs.Reception.{HasReceived, spares_in}
 use Rattle.cb_member.specs.State.{Keeps}
 use Rattle.cb_member.specs.Taking.{KeepsCast, HasNoNextOf, Tells, HasTurn, Hears, OnlyTakesIn, TakesIn, IsTakingIn, TakesAll, HasTakenIn, TakesInCast, CanFollow, one_more, taken_with}
-use Rattle.cb_member.specs.Passing.{CanTakeInOrder, TakesInOrder, HoldsIt}
+use Rattle.cb_member.specs.Passing.{IsInOrder, CanTakeInOrder, TakesInOrder, HoldsIt}
 use Rattle.cb_member.proofs.Receiving.{GivesNext, written_back, at_written, IsReported, one_buffer, kept_cast, next_is_reported, its_turn}
 use Rattle.cb_member.proofs.TakingIn.{of_other, of_member, TakesOne, expanded_then, takes_on, none_taken_yet, all_taken, begins, ends, only_alike, time_fits_known, message_has_turn, sender_is_heard_of}
 
@@ -56,6 +58,14 @@ with_at v i a = record v { items = set v.items i a; ok = (v.ok.0 ∙ sym (length
 
 abbrev just_one : Vec (Vec (List ℕ) Global) Global → List ℕ → Vec (List ℕ) Global
 just_one v spare = record { ptr = v.ptr; len = 1; cap = 1; alloc = v.alloc; items = spare ∷ []; ok = (refl, omega arith); small = omega arith }
+
+-- the number that a cast says is its first one
+pub first_in_order : (c : CastFields) (r : Reception) → IsInOrder c.sender c.number r → IsInOrder c.sender (first_number c) r
+first_in_order c r in_order = subst (λ (n : ℕ). IsInOrder c.sender n r) (sym (first_is_number c)) in_order
+
+-- and its message's
+pub name_is_first : (c : CastFields) → (let n : Name = record { sender = c.sender; number = c.number } in n) ≡ record { sender = c.sender; number = first_number c }
+name_is_first c = ap (λ (k : ℕ). let n : Name = record { sender = c.sender; number = k } in n) (sym (first_is_number c))
 
 -- ---- kept and taken out
 
@@ -258,7 +268,7 @@ module _ (c : CastFields) (old : State) (known_then : Knowledge) (time : List �
         | inl e ↦
             let here : field known_then.known i ≡ value =
             ap (field known_then.known) e ∙ ap (λ (ns : List ℕ). field ns c.sender) hears.known ∙ get_or-set_same old.knowledge.known c.sender value 0 (sender_is_heard_of c old can) in
-            let says : field time i ≡ c.number = ap (field time) e ∙ own in
+            let says : field time i ≡ c.number = ap (field time) e ∙ own ∙ first_is_number c in
             omega (arith, here, says)
         | inr ne ↦
             let there : field known_then.known i ≡ field old.knowledge.known i = ap (λ (ns : List ℕ). field ns i) hears.known ∙ get_or-set_other old.knowledge.known c.sender i value 0 ne in

@@ -9,6 +9,7 @@ use Rattle.cb_times.specs.Order.{field}
 use Rattle.cb_frames.specs.declared.frame.Change.{Change}
 use Rattle.cb_frames.specs.declared.frame.TheConstants.{LAST_NUMBER}
 use Rattle.cb_frames.specs.Fields.{CastFields, Carried, first_number, growth_in}
+use Rattle.cb_frames.proofs.Carried.{last_is_number}
 use Rattle.cb_delay.specs.Rule.{IsReady}
 use Rattle.cb_diffs.specs.Expansion.{expanded_field, time_of}
 use Rattle.cb_history.specs.Facts.{CastReceived, casts_in}
@@ -67,8 +68,8 @@ module _ (c : CastFields) (state : State) (can : CanFollow c state) where
 
   pub number_is_one : c.number < 2 ^ 32
   number_is_one =
-      let upto : c.number ≤ LAST_NUMBER = (last_fact_is_a_step state.seat can.facts (CastReceived c) can.legal).taken.numbers in
-      omega (arith, upto)
+      let upto = (last_fact_is_a_step state.seat can.facts (CastReceived c) can.legal).taken.numbers in
+      omega (arith, upto, last_is_number c)
 
   member : c.sender < size
   member = of_member state.seat can.facts c can.legal

@@ -17,7 +17,7 @@ use Rattle.cb_diffs.specs.Expansion.{expanded_time, IsNext as IsNextCast}
 use Rattle.cb_gaps.specs.declared.buffer.Admission.{Admission}
 use Rattle.cb_gaps.specs.declared.buffer.Admission.TheVariants.{Kept, Repeat, TooFar}
 use Rattle.cb_gaps.specs.Buffer.{Buffer, Admits, IsAnswer, IsAfter, IsLacking, IsNext, Takes}
-use Rattle.cb_frames.proofs.Carried.{carries_some}
+use Rattle.cb_frames.proofs.Carried.{first_is_number, last_is_number, carries_one, carries_some}
 use Rattle.cb_gaps.proofs.Spans.{one_message}
 use Rattle.cb_history.specs.Group.{Identity}
 use Rattle.cb_history.specs.Facts.{Fact, OwnCast, CastReceived, StatusReceived, OwnStatus, casts_in, messages_in}
@@ -26,10 +26,11 @@ use Rattle.cb_history.specs.NameLaws.{IsOneOf, ReceivedFromOthers}
 use Rattle.cb_history.specs.LegalFacts.{AreFactsOf}
 use Rattle.cb_history.specs.BufferLaws.{IsCastOf, HoldsWhatWaits}
 use Rattle.cb_history.specs.ExpanderLaws.{KeepsTimeOf}
-use Rattle.cb_history.proofs.Views.{casts_in-append}
-use Rattle.cb_history.proofs.Names.{message, own_messages_are_own}
+use Rattle.cb_history.proofs.Views.{IsIn, casts_in-append}
+use Rattle.cb_history.proofs.Lists.{carried_there}
+use Rattle.cb_history.proofs.Names.{message, own_messages_are_own, in_is_one_of}
 use Rattle.cb_history.proofs.Runs.{expanded_up_to_the_count}
-use Rattle.cb_history.proofs.Buffers.{none_begins, kept_cast_waits, others_do_not_wait, taken_cast_is_there, all_is_taken}
+use Rattle.cb_history.proofs.Buffers.{cast_of_is_in, none_begins, kept_cast_waits, others_do_not_wait, taken_cast_is_there, all_is_taken}
 use Rattle.cb_history.proofs.Expanders.{kept_times_stay, cast_behind_is_next, expander_tells_the_time, other_times_are_kept}
 use Rattle.cb_member.specs.declared.reception.Reception.{Reception}
 use Rattle.cb_member.specs.Reception.{AreSparesOf, HasReceived, HasReceivedAll, spares_in}
@@ -199,9 +200,8 @@ module _ (c : CastFields) (spare : List ℕ) (before after : Buffer) (stack : Li
 -- ---- the next one is taken out
 
 message_of_cast : (cs : List CastFields) (c : CastFields) → IsCastOf c cs → IsOneOf (message c) (messages_in cs)
-message_of_cast [] c there = there
-message_of_cast (d ∷ cs) c (inl same) = inl (ap message same)
-message_of_cast (d ∷ cs) c (inr later) = inr (message_of_cast cs c later)
+message_of_cast cs c there =
+    in_is_one_of (message c) (messages_in cs) (carried_there cs c (message c) (cast_of_is_in c cs there) (subst (IsIn (message c)) (sym (carries_one c)) (inl refl)))
 
 -- the buffer of the sender gives its next cast
 pub record GivesNext (c : CastFields) (sender : ℕ) (before after : Buffer) (old : Reception) : Type 0 where
@@ -307,11 +307,12 @@ module _ (c : CastFields) (sender : ℕ) (before after : Buffer) (old : Receptio
             let upto = found.2.taken in
             let is : after.taken ≡ last_number c = ap (λ (b : Buffer). b.taken) g.takes in
             let at : expanded_count all_casts c.sender ≡ expanded_count all_casts sender = ap (expanded_count all_casts) found.1 in
-            omega (arith, upto, is, at));
+            omega (arith, upto, is, at, last_is_number c));
         of_sender = found.1;
-        next = behind;
+        next = sym (first_is_number c) ∙ behind;
       };
-      message_is = t.tells.message_is ∙ ap (λ (time : List ℕ). reported c time c.payload) tells.1;
+      message_is = t.tells.message_is ∙ ap (λ (time : List ℕ). reported c time c.payload) tells.1
+          ∙ ap (λ (n : ℕ). let x : Message = record { name = record { sender = c.sender; number = n }; time = expanded_time size all_casts c.sender n; payload = c.payload } in x) (first_is_number c);
       received = record {
         senders = ap length t.buffers ∙ length-set old.buffers.items sender after ∙ received.senders;
         waits = λ i b at not_me. elim (at_new i b at) [

@@ -12,6 +12,7 @@ use Rattle.cb_delay.specs.declared.message.Event.TheVariants.{Cast}
 use Rattle.cb_delay.specs.declared.message.Message.{Message}
 use Rattle.cb_diffs.specs.Expansion.{expanded_time}
 use Rattle.cb_stability.specs.Sent.{room_of}
+use Rattle.cb_frames.proofs.Carried.{first_is_number, carries_one}
 use Rattle.cb_history.specs.declared.answer.CastRefusal.{CastRefusal}
 use Rattle.cb_history.specs.declared.answer.CastRefusal.TheVariants as casts
 use Rattle.cb_history.specs.declared.answer.TickRefusal.TheVariants as ticks
@@ -19,7 +20,7 @@ use Rattle.cb_history.specs.declared.history.Entry.{Entry}
 use Rattle.cb_history.specs.declared.history.Entry.TheVariants as entries
 use Rattle.cb_history.specs.Group.{Identity}
 use Rattle.cb_history.specs.Facts.{EntryFields, Fact, OwnCast, OwnStatus, CastEntry, TickEntry, cast_said, casts_in, entry_fields, said_by, status_said}
-use Rattle.cb_history.specs.View.{count, counts}
+use Rattle.cb_history.specs.View.{count, counts, view, message_in}
 use Rattle.cb_history.specs.Answers.{delivered, is_new_status, next_cast, requests, status_of, tick_answer}
 use Rattle.cb_history.specs.EventLaws.{new_events}
 use Rattle.cb_history.specs.Legal.{ToCast, ToTick, cast_entry, tick_entry}
@@ -136,8 +137,11 @@ cast_event seat facts payload are =
     let c = next_cast seat facts payload in
     let tells : expanded_time seat.group.size (casts_in facts ++ c ∷ []) seat.me (delivered seat facts seat.me + 1) ≡ next_time seat facts payload =
     ap (λ (cs : List CastFields). expanded_time seat.group.size cs seat.me (delivered seat facts seat.me + 1)) (sym (casts_in-append facts (OwnCast c)))
-    ∙ own_casts_tell_the_view seat facts [] c are ∙ ap (counts seat.group.size) (view_own seat.group.size facts c) in
-    ap (λ (time : List ℕ). Cast (record { name = record { sender = seat.me; number = delivered seat facts seat.me + 1 }; time = time; payload = payload }) ∷ []) tells
+    ∙ ap (expanded_time seat.group.size (casts_in (facts ++ OwnCast c ∷ [])) seat.me) (sym (first_is_number c))
+    ∙ own_casts_tell_the_view seat facts [] c are ∙ ap (counts seat.group.size) (view_own seat.group.size facts c)
+    ∙ ap (λ (ms : List Carried). counts seat.group.size (view seat.group.size facts ++ ms)) (carries_one c) in
+    ap (map (λ (m : Carried). Cast (message_in seat.group.size (casts_in facts ++ c ∷ []) m))) (carries_one c)
+    ∙ ap (λ (time : List ℕ). Cast (record { name = record { sender = seat.me; number = delivered seat facts seat.me + 1 }; time = time; payload = payload }) ∷ []) tells
 
 pub cast_done_well : (old new : Recorder) (payload : List ℕ) (entering : EnteringCast) → CanEnterCast payload old entering → HasKept entering.time entering.casting.sent old.state new.state
     → new.limit ≡ old.limit → new.entries.items ≡ old.entries.items ++ entering.entry ∷ [] → new.events.items ≡ old.events.items ++ Cast entering.casting.message ∷ []
@@ -165,7 +169,7 @@ cast_done_well old new payload entering can keeps limit joined cast =
           (cast ∙ ap (λ (m : Message). old.events.items ++ Cast m ∷ []) can.casting.message ∙ ap (λ (es : List Event). old.events.items ++ es) (sym (cast_event seat facts payload follows)));
       done_is = record {
         answer = can.answer;
-        reported = rw (ap (λ (m : Message). m.name) can.casting.message, time, can.casting.out) refl;
+        reported = rw (ap (λ (m : Message). m.name) can.casting.message, time, can.casting.out, first_is_number c, carries_one c) refl;
         after = after_entry old new (ToCast payload) entering.entry (OwnCast c) adds;
       };
       entry = adds.by_call;

@@ -8,7 +8,8 @@ use Rattle.std.proofs.lemmas.List.{length-set, get_or-set_same, get_or-set_other
 use Rattle.std.proofs.lemmas.List.FromFn.{length-map-range_with_len, map-range_with_len_more}
 use Rattle.cb_times.specs.Order.{field}
 use Rattle.cb_times.specs.declared.name.Name.{Name}
-use Rattle.cb_frames.specs.Fields.{CastFields, Carried, first_number, last_number}
+use Rattle.cb_frames.specs.Fields.{CastFields, Carried, messages_of, first_number, last_number}
+use Rattle.cb_frames.proofs.Carried.{first_is_number, last_is_number, carried_is_of_cast}
 use Rattle.cb_delay.specs.declared.message.Message.{Message}
 use Rattle.cb_delay.specs.Message.{name_cmp, IsOfGroup}
 use Rattle.cb_delay.specs.Queue.{Queue, Holds, IsDelayQueue, FollowsLast, count_of}
@@ -26,8 +27,8 @@ use Rattle.cb_history.specs.BufferLaws.{HoldsWhatWaits}
 use Rattle.cb_history.specs.DeliveryLaws.{IsOnTheWay}
 use Rattle.cb_history.specs.WaitingLaws.{IsNextTaken, HoldsTakenOf}
 use Rattle.cb_history.proofs.Views.{IsIn, casts_in-append}
-use Rattle.cb_history.proofs.Lists.{messages_in-push, in_front, in_back, in_push}
-use Rattle.cb_history.proofs.Names.{message, own_messages_are_own, one_of_is_in, in_is_one_of}
+use Rattle.cb_history.proofs.Lists.{messages_in-push, in_append, in_front, in_back, in_push}
+use Rattle.cb_history.proofs.Names.{own_messages_are_own, one_of_is_in, in_is_one_of}
 use Rattle.cb_history.proofs.Prefixes.{prefix_of_facts_is_legal, last_fact_is_a_step}
 use Rattle.cb_history.proofs.Rising.{greatest_append, there_more}
 use Rattle.cb_history.proofs.Buffers.{cast_there, cast_is_there, covered_is_there, received_is_there}
@@ -38,6 +39,7 @@ use Rattle.cb_history.proofs.Delivering.{in_field, views_are_on_the_way}
 use Rattle.cb_history.proofs.Taking.{cast_waits_for_its_turn, next_taken_can_be_held, holding_takes_one_more, all_taken_is_waiting}
 use Rattle.cb_member.specs.declared.state.State.{State}
 use Rattle.cb_member.specs.declared.reception.Reception.{Reception}
+use Rattle.cb_member.specs.Course.{HoldsAtMost}
 use Rattle.cb_member.specs.State.{Keeps}
 use Rattle.cb_member.specs.Taking.{one_more, IsReceiving, IsNextOf, IsNextMessage, taken_with, heard_with, TakesIn, IsTakingIn, HasTurn, HoldsMore, TakesSoFar, TakesAllOf, TakesAll, ExpandsNext, HasNoNextOf, OnlyTakesIn, CanFollow, Hears, KeepsCast, WouldExpand, HasTakenIn}
 use Rattle.cb_member.proofs.Receiving.{received_from_other, received_alike}
@@ -67,7 +69,7 @@ module _ (seat : Identity) (facts : List Fact) (c : CastFields) (are : AreFactsO
   pub of_member : c.sender < size
   of_member = ltb-true c.sender size (and_parts (ltb c.sender size) (list_all (λ d. ltb d.field size) c.changes) (last_fact_is_a_step seat facts (CastReceived c) are).taken.members).0
 
-  messages_with : messages_in new_casts ≡ messages_in old_casts ++ message c ∷ []
+  messages_with : messages_in new_casts ≡ messages_in old_casts ++ messages_of c
   messages_with = ap messages_in with_cast ∙ messages_in-push old_casts c
 
   pub on_the_way : IsOnTheWay size new_casts seen
@@ -79,13 +81,18 @@ module _ (seat : Identity) (facts : List Fact) (c : CastFields) (are : AreFactsO
         members = after.members;
         numbered = after.numbered;
         order = then_way.order;
-        of_casts = λ m there. in_is_one_of m (messages_in new_casts) (subst (IsIn m) (sym messages_with) (in_front m (messages_in old_casts) (message c ∷ []) (one_of_is_in m (messages_in old_casts) (then_way.of_casts m there))));
+        of_casts = λ m there. in_is_one_of m (messages_in new_casts) (subst (IsIn m) (sym messages_with) (in_front m (messages_in old_casts) (messages_of c) (one_of_is_in m (messages_in old_casts) (then_way.of_casts m there))));
       }
 
   is_near : (m : Carried) → IsOneOf m (messages_in new_casts) → m.number ≤ count seen m.sender + seat.group.window
-  is_near m there = elim (in_push m (message c) (messages_in old_casts) (subst (IsIn m) messages_with (one_of_is_in m (messages_in new_casts) there))) [
+  is_near m there = elim (in_append m (messages_in old_casts) (messages_of c) (subst (IsIn m) messages_with (one_of_is_in m (messages_in new_casts) there))) [
     | inl old ↦ casts_are_near seat facts m.sender m.number before (message_is_there old_casts m m.sender m.number old refl refl)
-    | inr new ↦ subst (λ (x : Carried). x.number ≤ count seen x.sender + seat.group.window) (sym new) (ltb-false (count seen c.sender + seat.group.window) c.number (last_fact_is_a_step seat facts (CastReceived c) are).taken.near)
+    | inr new ↦
+        let of = carried_is_of_cast c m new in
+        let high = of.high in
+        let near = ltb-false (count seen c.sender + seat.group.window) (last_number c) (last_fact_is_a_step seat facts (CastReceived c) are).taken.near in
+        let at : count seen m.sender ≡ count seen c.sender = ap (count seen) of.sender_is in
+        omega (arith, high, near, at)
   ]
 
   more_taken : (taken : ℕ) (i : ℕ) → taken_with facts c (taken + 1) i ≡ one_more (taken_with facts c taken) c.sender i
@@ -196,7 +203,7 @@ takes_one_more facts c taken sender old new message e t one = (
     queue = holds_one_more old.seat facts c t.legal taken t.at_least m reported.next old.delivery.queue new.delivery.queue message reported.message_is t.queue one.queue;
     window = one.queue.window ∙ t.window;
     fields = one.fields ∙ t.fields;
-    heard = λ i lt other. greater_of (field new.knowledge.known i) (field old.knowledge.known i) (field message.time i) (max (known facts i) (cond (eqb c.sender i) c.number 0)) _ _
+    heard = λ i lt other. greater_of (field new.knowledge.known i) (field old.knowledge.known i) (field message.time i) (max (known facts i) (cond (eqb c.sender i) (last_number c) 0)) _ _
         (expanded_field (casts_in facts ++ c ∷ []) c.sender (taken + 1) i) (one.raised i other) (t.heard i lt other) (its_time i lt) (one_time_more old.seat facts c t.legal taken i t.at_least);
   }),
   one_longer old.seat facts c t.legal taken t.at_least m reported.next old.delivery.queue new.delivery.queue message reported.message_is one.is_queue t.queue one.queue,
@@ -307,7 +314,7 @@ pub record IsBegun (c : CastFields) (spare : List ℕ) (old new : State) : Type 
   pub queue : new.delivery ≡ old.delivery
   pub only : OnlyTakesIn old new
 
-heard_at_first : (facts : List Fact) (c : CastFields) (i : ℕ) → heard_with facts c (expanded_count (casts_in facts) c.sender) i ≡ max (known facts i) (cond (eqb c.sender i) c.number 0)
+heard_at_first : (facts : List Fact) (c : CastFields) (i : ℕ) → heard_with facts c (expanded_count (casts_in facts) c.sender) i ≡ max (known facts i) (cond (eqb c.sender i) (last_number c) 0)
 heard_at_first facts c i =
     let low = expanded_count (casts_in facts) c.sender in
     let none : low - low ≡ 0 = omega arith in
@@ -316,13 +323,13 @@ heard_at_first facts c i =
     omega (arith, nothing)
 
 number_heard : (facts : List Fact) (c : CastFields) (i : ℕ) (old : List ℕ) → i < length old → field old i ≡ known facts i
-    → field (set old c.sender (max (field old c.sender) c.number)) i ≡ max (known facts i) (cond (eqb c.sender i) c.number 0)
+    → field (set old c.sender (max (field old c.sender) c.number)) i ≡ max (known facts i) (cond (eqb c.sender i) (last_number c) 0)
 number_heard facts c i old lt is = elim (cases_eq c.sender i) [
   | inl e ↦
       let here : field (set old c.sender (max (field old c.sender) c.number)) i ≡ max (field old c.sender) c.number =
       ap (field (set old c.sender (max (field old c.sender) c.number))) (sym e) ∙ get_or-set_same old c.sender (max (field old c.sender) c.number) 0 (subst (λ (k : ℕ). k < length old) (sym e) lt) in
       let at : field old c.sender ≡ known facts i = ap (field old) e ∙ is in
-      rw (eq-eqb c.sender i e) (omega (arith, here, at))
+      rw (eq-eqb c.sender i e) (omega (arith, here, at, last_is_number c))
   | inr ne ↦
       let there : field (set old c.sender (max (field old c.sender) c.number)) i ≡ field old i = get_or-set_other old c.sender i (max (field old c.sender) c.number) 0 (λ h. ne (sym h)) in
       rw (ne_eqb c.sender i ne) (omega (arith, there, is))
@@ -363,7 +370,7 @@ ends facts c old mid new are keeps seat same only all = record {
   };
   window = takes.window;
   fields = takes.fields;
-  heard = λ i lt other. known_in_the_end (field new.knowledge.known i) (known facts i) (cond (eqb c.sender i) c.number 0) _ _ (known (facts ++ CastReceived c ∷ []) i)
+  heard = λ i lt other. known_in_the_end (field new.knowledge.known i) (known facts i) (cond (eqb c.sender i) (last_number c) 0) _ _ (known (facts ++ CastReceived c ∷ []) i)
       (takes.heard i lt other)
       (greatest_of_the_run (casts_in facts) c (λ s n. expanded_field (casts_in facts ++ c ∷ []) s n i)
       ∙ ap (λ (cs : List CastFields). heard_times old.seat facts c are (expanded_count cs c.sender) i) (sym (casts_in-append facts (CastReceived c))))
@@ -418,3 +425,10 @@ would_expand sender first last r b more at row seat facts c are of_sender begins
     let count = comes_out (casts_in facts) c b more holds (subst (λ (n : ℕ). WouldComeOut b (first_number c) n more) (sym ends) (subst (λ (n : ℕ). WouldComeOut b n last more) (sym begins) row)) in
     let taken = all.taken_are sender b at other in
     ap (λ (cs : List CastFields). expanded_count cs sender) (casts_in-append facts (CastReceived c)) ∙ ap (expanded_count (casts_in facts ++ c ∷ [])) (sym of_sender) ∙ count ∙ ap (λ (n : ℕ). n + more) taken
+
+-- how many messages wait at most, where so many more would be expanded
+pub holds_at_most : (c : CastFields) (state : State) (held more most : ℕ) → WouldExpand c.sender c.number c.number state.reception more → held ≡ fin.len state.delivery.queue.held → most ≡ held + more
+    → HoldsAtMost c state most
+holds_at_most c state held more most would at is facts are keeps =
+    let expands = would state.seat facts c are refl (first_is_number c) (last_is_number c) keeps.received in
+    omega (arith, expands, at, is)

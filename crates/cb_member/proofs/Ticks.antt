@@ -2,7 +2,7 @@
 use Rattle.std.proofs.Common.{◌≡◌, ◌↔◌, ℕ, Bool, true, false, not, eqb, ltb, List, [], ◌∷◌, ◌++◌, length, map, Option, None, refl, sym, ap, ◌∙◌}
 use Rattle.std.specs.List.{filter, range_with_len}
 use Rattle.std.proofs.lemmas.List.{append-nil}
-use Rattle.cb_frames.specs.Fields.{CastFields, Carried, StatusFields}
+use Rattle.cb_frames.specs.Fields.{CastFields, Carried, StatusFields, last_number}
 use Rattle.cb_stability.specs.Sent.{Sent}
 use Rattle.cb_history.specs.Group.{Identity}
 use Rattle.cb_history.specs.Facts.{Fact, OwnStatus, casts_in}
@@ -68,8 +68,8 @@ window_stays seat facts s sent keeps = record {
   put = keeps.put ∙ ap (λ (ms : List Carried). count ms seat.me) (sym (view_reported seat.group.size facts s));
   trimmed = keeps.trimmed ∙ sym (stable_stays seat facts s);
   kept = keeps.kept
-      ∙ ap (λ (n : ℕ). map spanned_frame (filter (λ (c : CastFields). ltb n c.number) (own_casts facts))) (sym (stable_stays seat facts s))
-      ∙ ap (λ (cs : List CastFields). map spanned_frame (filter (λ (c : CastFields). ltb (stable seat (facts ++ OwnStatus s ∷ [])) c.number) cs)) (sym (own_casts-other facts (OwnStatus s) tt));
+      ∙ ap (λ (n : ℕ). map spanned_frame (filter (λ (c : CastFields). ltb n (last_number c)) (own_casts facts))) (sym (stable_stays seat facts s))
+      ∙ ap (λ (cs : List CastFields). map spanned_frame (filter (λ (c : CastFields). ltb (stable seat (facts ++ OwnStatus s ∷ [])) (last_number c)) cs)) (sym (own_casts-other facts (OwnStatus s) tt));
 }
 
 knows_stays : (seat : Identity) (facts : List Fact) (s : StatusFields) (k : Knowledge) → KnowsFacts seat facts k → KnowsFacts seat (facts ++ OwnStatus s ∷ []) k

@@ -123,6 +123,7 @@ impl Reception {
 }
 
 /// The message of the sender's next cast, whose time is written over the spare.
+#[tactic(auto, using(cb_frames::proofs::Carried::first_is_number))]
 fn expanded(expander: &mut Expander, cast: Cast, mut spare: VectorTime) -> Message
     requires next { IsNext expander.old (cast_fields cast) }
     requires size { length spare ≡ length expander.old }

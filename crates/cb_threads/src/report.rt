@@ -144,6 +144,7 @@ impl Tally {
         tally
     }
 
+    #[tactic(auto, using(crate::proofs::Telling::one_read))]
     fn and(self, entry: &Entry) -> Tally
         ensures { Adds self (entry_fields entry.now ∷ []) result }
     {

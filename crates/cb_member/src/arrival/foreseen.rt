@@ -45,6 +45,7 @@ impl State {
     }
 }
 
+#[tactic(auto, using(cb_frames::proofs::Carried::first_is_number))]
 fn alone(alloc: Global, cast: &Cast, time: &VectorTime) -> Result<Vec<Message>, NoMemory>
     ensures { IfOk result (λ copies. copies.items
         ≡ message_at (cast_fields cast.now) time.now ∷ []) }

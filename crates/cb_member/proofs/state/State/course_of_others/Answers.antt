@@ -1,6 +1,7 @@
 use Rattle.std.proofs.Common.{◌∙◌, length, ap, subst}
 use Rattle.std.proofs.lemmas.List.{length-replicate}
 use Rattle.cb_frames.specs.Fields.{cast_fields}
+use Rattle.cb_frames.proofs.Carried.{first_is_number, last_is_number}
 use Rattle.cb_history.specs.Group.{Parameters}
 use Rattle.cb_member.specs.Taking.{WouldExpand}
 use Rattle.cb_member.proofs.Alike.{can_follow_alike, none_ready_alike, with_both, would_expand_alike}
@@ -23,7 +24,8 @@ returns-then-has_none_ready-clause-course c =
         size = ap length c.in_ok-spare.ensures ∙ length-replicate c.size.result 0 ∙ c.size.ensures.size ∙ ap (λ (g : Parameters). g.size) c.group.ensures.group;
         place = c.in_ok-reserve.ensures.place;
       };
-      expands_none = would_expand_alike c.args.cast.now.sender c.args.cast.now.number c.args.cast.now.number 0 c.args.self.now.reception c.reserve.new.self roomy
-          (subst (WouldExpand c.args.cast.now.sender c.args.cast.now.number c.args.cast.now.number c.args.self.now.reception) c.if-more-eq0.true c.would_expand-more.ensures);
+      expands_none = rw (first_is_number (cast_fields c.args.cast.now), last_is_number (cast_fields c.args.cast.now))
+          (would_expand_alike c.args.cast.now.sender c.args.cast.now.number c.args.cast.now.number 0 c.args.self.now.reception c.reserve.new.self roomy
+          (subst (WouldExpand c.args.cast.now.sender c.args.cast.now.number c.args.cast.now.number c.args.self.now.reception) c.if-more-eq0.true c.would_expand-more.ensures));
       none_ready = none_ready_alike c.args.self.now.delivery c.has_none_ready.new.self settled (c.has_none_ready.ensures.none c.if-has_none_ready.true);
     }

@@ -2,6 +2,7 @@ use Rattle.std.proofs.Common.{ℕ, ◌+◌, ◌≡◌, ◌↔◌, ◌∙◌, Lis
 use Rattle.std.specs.Prelude.{All, IsTrue}
 use Rattle.cb_times.specs.Order.{field}
 use Rattle.cb_frames.specs.Fields.{cast_fields}
+use Rattle.cb_frames.proofs.Carried.{first_is_number}
 use Rattle.cb_diffs.specs.Expansion.{AreMembers}
 use Rattle.cb_member.proofs.Courses.{expander_long, is_next, time_is_long}
 use Rattle.cb_member.proofs.Ready.{IsReached, number_is_one, next_and_reached_is_ready, ready_is_next, ready_is_reached}
@@ -31,7 +32,7 @@ reached c =
 pub returns-then-eq : goal.returns-then-eq
 returns-then-eq c =
     let next : field c.args.self.now.delivery.time c.args.cast.now.sender + 1 ≡ c.args.cast.now.number = search (rules, tests) in (
-      λ all. next_and_reached_is_ready (cast_fields c.args.cast.now) c.args.time.now c.args.self.now c.requires next ((reached c).0 all),
+      λ all. next_and_reached_is_ready (cast_fields c.args.cast.now) c.args.time.now c.args.self.now c.requires (next ∙ sym (first_is_number (cast_fields c.args.cast.now))) ((reached c).0 all),
       λ ready. (reached c).1 (ready_is_reached (cast_fields c.args.cast.now) c.args.time.now c.args.self.now c.requires ready),
     )
 
@@ -39,7 +40,7 @@ pub returns-else-eq : goal.returns-else-eq
 returns-else-eq c = (
   λ same. absurd (true≢false (sym same ∙ c.if-eq.false)),
   λ ready.
-      let next : field c.args.self.now.delivery.time c.args.cast.now.sender + 1 ≡ c.args.cast.now.number = ready_is_next (cast_fields c.args.cast.now) c.args.time.now c.args.self.now c.requires ready in
+      let next : field c.args.self.now.delivery.time c.args.cast.now.sender + 1 ≡ c.args.cast.now.number = ready_is_next (cast_fields c.args.cast.now) c.args.time.now c.args.self.now c.requires ready ∙ first_is_number (cast_fields c.args.cast.now) in
       let small = number_is_one (cast_fields c.args.cast.now) c.args.self.now c.requires.can in
       search (rules, tests),
 )

@@ -2,6 +2,7 @@ use Rattle.std.proofs.Common.{◌≡◌, ◌∙◌, ℕ, true, Some, sym, ap, su
 use Rattle.std.specs.Prelude.{slice_get}
 use Rattle.std.proofs.lemmas.Option.{slice_get-get_or}
 use Rattle.cb_frames.specs.Fields.{CastFrame, cast_fields}
+use Rattle.cb_frames.proofs.Carried.{first_is_number, last_is_number}
 use Rattle.cb_gaps.specs.Buffer.{Buffer, Admits}
 use Rattle.cb_history.specs.Group.{Parameters}
 use Rattle.cb_history.specs.Answers.{are_members}
@@ -39,4 +40,4 @@ returns c =
     subst (λ (n : ℕ). Admits c.index.result.now n c.args.cast.now.number c.args.cast.now.number c.judge.result) c.get-delivered.ensures.field c.judge.ensures in
     subst (JudgesCast c.args.self.now (cast_fields c.args.cast.now)) (sym c.judge_other.ensures)
     (judges_other c.args.self.now (cast_fields c.args.cast.now) c.requires.numbered group members (λ e. c.if-cast-me.false (e ∙ sym c.me.ensures.me)) c.index.result.now at
-    c.requires.numbers c.requires.state c.judge.result admits)
+    c.requires.numbers c.requires.state c.judge.result (rw (first_is_number (cast_fields c.args.cast.now), last_is_number (cast_fields c.args.cast.now)) admits))
