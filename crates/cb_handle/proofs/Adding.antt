@@ -8,7 +8,7 @@ use Rattle.cb_varint.specs.Reading.{spelling}
 use Rattle.cb_frames.specs.declared.frame.TheConstants.{LONGEST_PAYLOAD}
 use Rattle.cb_frames.specs.declared.fault.FrameFault.{FrameFault}
 use Rattle.cb_frames.specs.Fields.{Carried, CastFields, FrameFields, StatusFields, CastFrame, StatusFrame, RequestFrame}
-use Rattle.cb_frames.specs.Reading.{frame_at}
+use Rattle.cb_history.specs.Read.{frame_read}
 use Rattle.cb_frames.specs.Text.{cast_kind, cast_numbers, text_of}
 use Rattle.cb_delay.specs.declared.message.Event.{Event}
 use Rattle.cb_delay.specs.declared.message.Event.TheVariants.{Cast, Deliver}
@@ -122,7 +122,7 @@ Silent bytes says = (deliveries_in says ≡ []) × (arrive_entry bytes (Ok says)
 record News (seat : Identity) (es : List EntryFields) (bytes : List ℕ) (says : ArrivalSays) : Type 0 where
   frame : FrameFields
   out : List Outgoing
-  read : frame_at bytes ≡ Ok frame
+  read : frame_read bytes ≡ Ok frame
   change : is_change seat (facts_of es) frame ≡ true
   is : says ≡ Accepted (deliveries seat (facts_of es) frame) true out
 
@@ -141,7 +141,7 @@ by_frame_rules false false false false false true true ds out bytes says h = abs
 by_frame_rules false false false false false true false ds out bytes says h = let e : says ≡ Accepted ds true out = cc in inr (refl, e)
 by_frame_rules false false false false false false full ds out bytes says h = let e : Accepted [] false out ≡ says = cc in inl (subst (Silent bytes) e (refl, refl))
 
-read_says : (seat : Identity) (es : List EntryFields) (bytes : List ℕ) (r : Result FrameFields FrameFault) (says : ArrivalSays) → frame_at bytes ≡ r → answer_to seat (room_for_one es) es r ≡ Ok says → Silent bytes says ⊎ News seat es bytes says
+read_says : (seat : Identity) (es : List EntryFields) (bytes : List ℕ) (r : Result FrameFields FrameFault) (says : ArrivalSays) → frame_read bytes ≡ r → answer_to seat (room_for_one es) es r ≡ Ok says → Silent bytes says ⊎ News seat es bytes says
 read_says seat es bytes (Err fault) says read h = absurd cc
 read_says seat es bytes (Ok frame) says read h =
     let facts = facts_of es in
@@ -153,7 +153,7 @@ read_says seat es bytes (Ok frame) says read h =
 
 arrival_says : (seat : Identity) (es : List EntryFields) (bytes : List ℕ) (says : ArrivalSays) → arrive_answer seat (room_for_one es) es bytes ≡ Ok says → Silent bytes says ⊎ News seat es bytes says
 unfolding arrive_answer
-arrival_says seat es bytes says h = read_says seat es bytes (frame_at bytes) says refl h
+arrival_says seat es bytes says h = read_says seat es bytes (frame_read bytes) says refl h
 
 -- a status delivers nothing
 none_by_status : (seat : Identity) (facts : List Fact) (s : StatusFields) → deliveries seat facts (StatusFrame s) ≡ []
@@ -163,7 +163,7 @@ none_by_status seat facts s =
     ap (λ (ms : List Carried). map (message_in seat.group.size casts) (drop (length seen) ms)) (view_status seat.group.size facts s ∙ sym (append-nil seen))
     ∙ ap (map (message_in seat.group.size casts)) (drop_at seen [] (length seen) refl)
 
-frame_adds : (seat : Identity) (es : List EntryFields) (bytes : List ℕ) (frame : FrameFields) → frame_at bytes ≡ Ok frame → is_change seat (facts_of es) frame ≡ true
+frame_adds : (seat : Identity) (es : List EntryFields) (bytes : List ℕ) (frame : FrameFields) → frame_read bytes ≡ Ok frame → is_change seat (facts_of es) frame ≡ true
     → AreEntriesOf seat (es ++ ArriveEntry bytes (map (λ m. m.name) (deliveries seat (facts_of es) frame)) ∷ [])
     → events seat (facts_of (es ++ ArriveEntry bytes (map (λ m. m.name) (deliveries seat (facts_of es) frame)) ∷ [])) ≡ events seat (facts_of es) ++ map (λ (m : Message). Deliver m) (deliveries seat (facts_of es) frame)
 frame_adds seat es bytes (CastFrame c) read change legal = with_fact seat es _ (CastReceived c) legal (ap arrival_said read)

@@ -5,7 +5,8 @@ use Rattle.std.proofs.lemmas.Bool.{cases_Bool, eq-eqb}
 use Rattle.cb_frames.specs.declared.frame.TheConstants.{LONGEST_PAYLOAD}
 use Rattle.cb_frames.specs.declared.fault.FrameFault.{FrameFault}
 use Rattle.cb_frames.specs.Fields.{CastFields, FrameFields}
-use Rattle.cb_frames.specs.Reading.{frame_at, HasValue}
+use Rattle.cb_frames.specs.Reading.{HasValue}
+use Rattle.cb_history.specs.Read.{frame_read}
 use Rattle.cb_delay.specs.declared.message.Message.{Message}
 use Rattle.cb_history.specs.declared.answer.ArriveRefusal.{ArriveRefusal}
 use Rattle.cb_history.specs.declared.answer.ArriveRefusal.TheVariants as arrivals
@@ -147,7 +148,7 @@ module _ (seat : Identity) (limit : ℕ) (es : List EntryFields) where
 
   pub arrival_limited : (bytes : List ℕ) → Limited (arrive_answer seat (room_for_one es) es bytes) (arrive_answer seat limit es bytes)
   unfolding arrive_answer
-  arrival_limited bytes = read_limited bytes (frame_at bytes)
+  arrival_limited bytes = read_limited bytes (frame_read bytes)
 
   room_same : (bytes : List ℕ) (r : Result FrameFields FrameFault) → is_full limit es ≡ false → answer_to seat limit es r ≡ answer_to seat (room_for_one es) es r
   room_same bytes (Err fault) room = refl
@@ -155,7 +156,7 @@ module _ (seat : Identity) (limit : ℕ) (es : List EntryFields) where
 
   pub arrival_same : (bytes : List ℕ) → is_full limit es ≡ false → arrive_answer seat limit es bytes ≡ arrive_answer seat (room_for_one es) es bytes
   unfolding arrive_answer
-  arrival_same bytes room = room_same bytes (frame_at bytes) room
+  arrival_same bytes room = room_same bytes (frame_read bytes) room
 
   change_enters : (bytes : List ℕ) (free : Result ArrivalSays ArriveRefusal) (ds : List Message) (out : List Outgoing) → free ≡ Ok (Accepted ds true out) → arrive_entry bytes free ≡ None → ⊥
   change_enters bytes free ds out is none = let e : arrive_entry bytes (Ok (Accepted ds true out)) ≡ None = ap (arrive_entry bytes) (sym is) ∙ none in absurd cc
@@ -178,7 +179,7 @@ module _ (seat : Identity) (limit : ℕ) (es : List EntryFields) where
   -- an entry would be added, and there is no room
   pub arrival_full : (bytes : List ℕ) → is_full limit es ≡ true → arrive_entry bytes (arrive_answer seat (room_for_one es) es bytes) ≢ None → arrive_answer seat limit es bytes ≡ Err arrivals.HistoryFull
   unfolding arrive_answer
-  arrival_full bytes full some = full_read bytes (frame_at bytes) full some
+  arrival_full bytes full some = full_read bytes (frame_read bytes) full some
 
   frame_read : (bytes : List ℕ) (r : Result FrameFields FrameFault) → (answer_to seat limit es r ≡ Err arrivals.HistoryFull) ⊎ (arrive_entry bytes (answer_to seat limit es r) ≢ None) → HasValue r
   frame_read bytes (Ok frame) enters = tt
@@ -186,9 +187,9 @@ module _ (seat : Identity) (limit : ℕ) (es : List EntryFields) where
   frame_read bytes (Err fault) (inr some) = absurd (some refl)
 
   -- bytes of which there is an entry, or would be, are a frame
-  pub arrival_read : (bytes : List ℕ) → (arrive_answer seat limit es bytes ≡ Err arrivals.HistoryFull) ⊎ (arrive_entry bytes (arrive_answer seat limit es bytes) ≢ None) → HasValue (frame_at bytes)
+  pub arrival_read : (bytes : List ℕ) → (arrive_answer seat limit es bytes ≡ Err arrivals.HistoryFull) ⊎ (arrive_entry bytes (arrive_answer seat limit es bytes) ≢ None) → HasValue (frame_read bytes)
   unfolding arrive_answer
-  arrival_read bytes enters = frame_read bytes (frame_at bytes) enters
+  arrival_read bytes enters = frame_read bytes (frame_read bytes) enters
 
 -- ---- ticks
 

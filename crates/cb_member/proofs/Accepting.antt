@@ -6,7 +6,7 @@ use Rattle.std.proofs.lemmas.List.{append-nil, append_cancel_left, drop_all, dro
 use Rattle.cb_times.specs.declared.name.Name.{Name}
 use Rattle.cb_frames.specs.Fields.{CastFields, CastFrame, StatusFields, StatusFrame, cast_fields}
 use Rattle.cb_frames.specs.Laws.{IsBytes}
-use Rattle.cb_frames.specs.Reading.{frame_at}
+use Rattle.cb_history.specs.Read.{frame_read}
 use Rattle.cb_delay.specs.declared.message.Event.{Event}
 use Rattle.cb_delay.specs.declared.message.Event.TheVariants.{Cast, Deliver}
 use Rattle.cb_delay.specs.declared.message.Message.{Message}
@@ -236,7 +236,7 @@ none_delivered seat facts s =
 pub record HearsSo (wanted : Wanted) (bytes : List ℕ) (s : StatusFields) (old mid new : Recorder) (taken : Taken) (entry : Entry) : Type 0 where
   pub kept : IsKept old
   pub bytes_are : IsBytes bytes
-  pub read : frame_at bytes ≡ Ok (StatusFrame s)
+  pub read : frame_read bytes ≡ Ok (StatusFrame s)
   pub changes : OnAll old.state (λ facts. Changes old.state.seat facts (StatusFrame s))
   pub few : length old.entries.items < old.limit
   pub same : IsSame old mid

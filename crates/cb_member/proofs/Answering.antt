@@ -4,7 +4,7 @@ use Rattle.std.specs.Prelude.{option_map}
 use Rattle.std.proofs.lemmas.List.{length-map}
 use Rattle.cb_frames.specs.declared.fault.FrameFault.{FrameFault}
 use Rattle.cb_frames.specs.Fields.{FrameFields}
-use Rattle.cb_frames.specs.Reading.{frame_at}
+use Rattle.cb_history.specs.Read.{frame_read}
 use Rattle.cb_delay.specs.declared.message.Message.{Message}
 use Rattle.cb_history.specs.declared.answer.ArriveRefusal.{ArriveRefusal}
 use Rattle.cb_history.specs.declared.answer.ArriveRefusal.TheVariants as refusals
@@ -26,16 +26,16 @@ use Rattle.cb_member.proofs.Entering.{after_none, facts_kept}
 abbrev pub answer_at : Recorder → FrameFields → Result ArrivalSays ArriveRefusal
 answer_at r frame = frame_answer r.state.seat r.limit (map entry_fields r.entries.items) (facts_held r) frame
 
-pub answered : (r : Recorder) (bytes : List ℕ) (frame : FrameFields) → frame_at bytes ≡ Ok frame → answer_to_arrival (held_by r) bytes ≡ answer_at r frame
+pub answered : (r : Recorder) (bytes : List ℕ) (frame : FrameFields) → frame_read bytes ≡ Ok frame → answer_to_arrival (held_by r) bytes ≡ answer_at r frame
 unfolding arrive_answer
 answered r bytes frame read = ap (answer_to r.state.seat r.limit (map entry_fields r.entries.items)) read
 
 -- it is the one that is given on all facts that are kept
-pub answered_on_all : (r : Recorder) (bytes : List ℕ) (frame : FrameFields) (answer : Result ArrivalSays ArriveRefusal) → IsKept r → frame_at bytes ≡ Ok frame
+pub answered_on_all : (r : Recorder) (bytes : List ℕ) (frame : FrameFields) (answer : Result ArrivalSays ArriveRefusal) → IsKept r → frame_read bytes ≡ Ok frame
     → OnAll r.state (λ facts. Answers r.state.seat facts frame answer) → answer_to_arrival (held_by r) bytes ≡ answer
 answered_on_all r bytes frame answer k read on = answered r bytes frame read ∙ on (facts_held r) (facts_kept r k) k.keeps r.limit (map entry_fields r.entries.items)
 
-pub answered_with_change : (r : Recorder) (bytes : List ℕ) (frame : FrameFields) → IsKept r → frame_at bytes ≡ Ok frame → OnAll r.state (λ facts. Changes r.state.seat facts frame) → length r.entries.items < r.limit
+pub answered_with_change : (r : Recorder) (bytes : List ℕ) (frame : FrameFields) → IsKept r → frame_read bytes ≡ Ok frame → OnAll r.state (λ facts. Changes r.state.seat facts frame) → length r.entries.items < r.limit
     → answer_to_arrival (held_by r) bytes ≡ Ok (Accepted (deliveries r.state.seat (facts_held r) frame) true [])
 answered_with_change r bytes frame k read on few =
     let many = length-map r.entries.items entry_fields in
@@ -43,20 +43,20 @@ answered_with_change r bytes frame k read on few =
 
 -- ---- refusals
 
-pub refused : (r : Recorder) (bytes : List ℕ) (frame : FrameFields) (refusal : ArriveRefusal) → IsKept r → frame_at bytes ≡ Ok frame → OnAll r.state (λ facts. Answers r.state.seat facts frame (Err refusal)) → RefusesArrival (held_by r) bytes refusal
+pub refused : (r : Recorder) (bytes : List ℕ) (frame : FrameFields) (refusal : ArriveRefusal) → IsKept r → frame_read bytes ≡ Ok frame → OnAll r.state (λ facts. Answers r.state.seat facts frame (Err refusal)) → RefusesArrival (held_by r) bytes refusal
 refused r bytes frame refusal k read on = inl (answered_on_all r bytes frame (Err refusal) k read on)
 
-pub refused_full : (r : Recorder) (bytes : List ℕ) (frame : FrameFields) → IsKept r → frame_at bytes ≡ Ok frame → OnAll r.state (λ facts. Changes r.state.seat facts frame) → r.limit ≤ length r.entries.items
+pub refused_full : (r : Recorder) (bytes : List ℕ) (frame : FrameFields) → IsKept r → frame_read bytes ≡ Ok frame → OnAll r.state (λ facts. Changes r.state.seat facts frame) → r.limit ≤ length r.entries.items
     → RefusesArrival (held_by r) bytes refusals.HistoryFull
 refused_full r bytes frame k read on full =
     let many = length-map r.entries.items entry_fields in
     inl (answered r bytes frame read ∙ (on (facts_held r) (facts_kept r k) k.keeps).full r.limit (map entry_fields r.entries.items) (omega (arith, full, many)))
 
-pub out_of_memory : (r : Recorder) (bytes : List ℕ) (frame : FrameFields) (refusal : ArriveRefusal) → frame_at bytes ≡ Ok frame → refusal ≡ refusals.NoMemory → RefusesArrival (held_by r) bytes refusal
+pub out_of_memory : (r : Recorder) (bytes : List ℕ) (frame : FrameFields) (refusal : ArriveRefusal) → frame_read bytes ≡ Ok frame → refusal ≡ refusals.NoMemory → RefusesArrival (held_by r) bytes refusal
 out_of_memory r bytes frame refusal read is = inr (is, rw read tt)
 
 -- bytes that are no frame
-no_frame : (r : Recorder) (bytes : List ℕ) (fault : FrameFault) → frame_at bytes ≡ Err fault → answer_to_arrival (held_by r) bytes ≡ Err (refusals.Malformed fault)
+no_frame : (r : Recorder) (bytes : List ℕ) (fault : FrameFault) → frame_read bytes ≡ Err fault → answer_to_arrival (held_by r) bytes ≡ Err (refusals.Malformed fault)
 unfolding arrive_answer
 no_frame r bytes fault read = ap (answer_to r.state.seat r.limit (map entry_fields r.entries.items)) read
 

@@ -5,7 +5,7 @@ use Rattle.std.proofs.lemmas.List.{append-nil, drop_at, length-append, length-ma
 use Rattle.cb_frames.specs.declared.fault.FrameFault.{FrameFault}
 use Rattle.cb_frames.specs.Fields.{CastFrame, FrameFields, RequestFields, RequestFrame, StatusFields, StatusFrame, cast_fields}
 use Rattle.cb_frames.specs.Laws.{IsBytes}
-use Rattle.cb_frames.specs.Reading.{frame_at}
+use Rattle.cb_history.specs.Read.{frame_read}
 use Rattle.cb_delay.specs.declared.message.Event.{Event}
 use Rattle.cb_delay.specs.declared.message.Event.TheVariants.{Deliver}
 use Rattle.cb_delay.specs.declared.message.Message.{Message}
@@ -35,18 +35,18 @@ use Rattle.cb_member.proofs.Cores.{Grows, core_goes_on, facts_follow, facts_stan
 
 -- ---- answers
 
-answered : (core : Core) (es : List EntryFields) (bytes : List ℕ) (frame : FrameFields) → frame_at bytes ≡ Ok frame
+answered : (core : Core) (es : List EntryFields) (bytes : List ℕ) (frame : FrameFields) → frame_read bytes ≡ Ok frame
     → answer_to_arrival (unlimited core.seat es) bytes ≡ frame_answer core.seat (room_for_one es) es (facts_of es) frame
 unfolding arrive_answer
 answered core es bytes frame read = ap (answer_to core.seat (room_for_one es) es) read
 
 -- it is the one that is given on all facts that are kept
-pub answered_on_each : (state : State) (bytes : List ℕ) (frame : FrameFields) (answer : Result ArrivalSays ArriveRefusal) → frame_at bytes ≡ Ok frame
+pub answered_on_each : (state : State) (bytes : List ℕ) (frame : FrameFields) (answer : Result ArrivalSays ArriveRefusal) → frame_read bytes ≡ Ok frame
     → OnAll state (λ facts. Answers state.seat facts frame answer) → OnEach (core_of state) (λ m. answer_to_arrival m bytes ≡ answer)
 answered_on_each state bytes frame answer read on es s =
     answered (core_of state) es bytes frame read ∙ on (facts_of es) (facts_stand state es s) (keeps_of state es s) (room_for_one es) es
 
-answered_with_change : (state : State) (bytes : List ℕ) (frame : FrameFields) → frame_at bytes ≡ Ok frame → OnAll state (λ facts. Changes state.seat facts frame)
+answered_with_change : (state : State) (bytes : List ℕ) (frame : FrameFields) → frame_read bytes ≡ Ok frame → OnAll state (λ facts. Changes state.seat facts frame)
     → OnEach (core_of state) (λ m. answer_to_arrival m bytes ≡ Ok (Accepted (deliveries m.seat (facts_in m) frame) true []))
 answered_with_change state bytes frame read on es s =
     answered (core_of state) es bytes frame read
@@ -64,15 +64,15 @@ pub without_limit : (m : MemberState) (bytes : List ℕ) (refusal : ArriveRefusa
 without_limit m bytes refusal (inl refuses) = refuses
 without_limit m bytes refusal (inr full) = let may = full.0 in absurd cc
 
-pub refused_frame : (state : State) (bytes : List ℕ) (frame : FrameFields) (refusal : ArriveRefusal) → frame_at bytes ≡ Ok frame → OnAll state (λ facts. Answers state.seat facts frame (Err refusal))
+pub refused_frame : (state : State) (bytes : List ℕ) (frame : FrameFields) (refusal : ArriveRefusal) → frame_read bytes ≡ Ok frame → OnAll state (λ facts. Answers state.seat facts frame (Err refusal))
     → OnEach (core_of state) (λ m. RefusesArrival m bytes refusal)
 refused_frame state bytes frame refusal read on es s = inl (answered_on_each state bytes frame (Err refusal) read on es s)
 
-pub out_of_memory : (core : Core) (bytes : List ℕ) (frame : FrameFields) (refusal : ArriveRefusal) → frame_at bytes ≡ Ok frame → refusal ≡ refusals.NoMemory → OnEach core (λ m. RefusesArrival m bytes refusal)
+pub out_of_memory : (core : Core) (bytes : List ℕ) (frame : FrameFields) (refusal : ArriveRefusal) → frame_read bytes ≡ Ok frame → refusal ≡ refusals.NoMemory → OnEach core (λ m. RefusesArrival m bytes refusal)
 out_of_memory core bytes frame refusal read is es s = inr (is, rw read tt)
 
 -- an entry would be added, and none may be
-pub refuses_entry : (noting : Noting) (bytes : List ℕ) (state : State) (frame : FrameFields) (events : List Event) → IsCore (core_of state) → may_add noting ≡ false → frame_at bytes ≡ Ok frame
+pub refuses_entry : (noting : Noting) (bytes : List ℕ) (state : State) (frame : FrameFields) (events : List Event) → IsCore (core_of state) → may_add noting ≡ false → frame_read bytes ≡ Ok frame
     → OnAll state (λ facts. Changes state.seat facts frame) → AnswersArrivalOnEach noting bytes (core_of state) (core_of state) events events (Err refusals.HistoryFull)
 refuses_entry noting bytes state frame events is full read changes = record {
   core = is;
@@ -87,7 +87,7 @@ refuses_entry noting bytes state frame events is full read changes = record {
     is_entered is none = let e = sym (ap (arrive_entry bytes) is) ∙ none in absurd cc
 
 -- bytes that are no frame
-no_frame : (core : Core) (es : List EntryFields) (bytes : List ℕ) (fault : FrameFault) → frame_at bytes ≡ Err fault → answer_to_arrival (unlimited core.seat es) bytes ≡ Err (refusals.Malformed fault)
+no_frame : (core : Core) (es : List EntryFields) (bytes : List ℕ) (fault : FrameFault) → frame_read bytes ≡ Err fault → answer_to_arrival (unlimited core.seat es) bytes ≡ Err (refusals.Malformed fault)
 unfolding arrive_answer
 no_frame core es bytes fault read = ap (answer_to core.seat (room_for_one es) es) read
 
@@ -142,7 +142,7 @@ answers_unchanged noting bytes core says heard events is answer none said count 
 pub record TakesSo (wanted : Bool) (bytes : List ℕ) (frame : FrameFields) (fact : Fact) (old new : State) (before after : List Event) (heard : Heard) : Type 0 where
   pub core : IsCore (core_of old)
   pub bytes_are : IsBytes bytes
-  pub read : frame_at bytes ≡ Ok frame
+  pub read : frame_read bytes ≡ Ok frame
   pub changes : OnAll old (λ facts. Changes old.seat facts frame)
   pub says : arrival_said (Ok frame) ≡ fact ∷ []
   pub seat : new.seat ≡ old.seat
@@ -256,7 +256,7 @@ came_so wanted bytes coming old new before after heard c =
 -- ---- a status
 
 pub heard_so : (noting : Noting) (wanted : Bool) (bytes : List ℕ) (status : StatusFields) (old new : State) (events : List Event) (heard : Heard) → Enters noting wanted → IsCore (core_of old) → IsBytes bytes
-    → frame_at bytes ≡ Ok (StatusFrame status) → OnAll old (λ facts. Changes old.seat facts (StatusFrame status)) → HasHeard status old new
+    → frame_read bytes ≡ Ok (StatusFrame status) → OnAll old (λ facts. Changes old.seat facts (StatusFrame status)) → HasHeard status old new
     → ((messages : List Message) → received_says heard.received messages ≡ Accepted messages true []) → count_said heard.received ≡ 0
     → (wanted ≡ true → option_map entry_fields heard.noted ≡ Some (ArriveEntry bytes [])) → AnswersArrivalOnEach noting bytes (core_of old) (core_of new) events events (Ok heard)
 heard_so noting wanted bytes status old new events heard enters is bytes_are read changes has said count noted =

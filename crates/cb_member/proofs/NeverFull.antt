@@ -5,7 +5,7 @@ use Rattle.std.proofs.lemmas.Bool.{lt-leb}
 use Rattle.cb_frames.specs.declared.frame.TheConstants.{LONGEST_PAYLOAD}
 use Rattle.cb_frames.specs.declared.fault.FrameFault.{FrameFault}
 use Rattle.cb_frames.specs.Fields.{CastFields, FrameFields}
-use Rattle.cb_frames.specs.Reading.{frame_at}
+use Rattle.cb_history.specs.Read.{frame_read}
 use Rattle.cb_delay.specs.declared.message.Event.{Event}
 use Rattle.cb_history.specs.declared.answer.ArriveRefusal.{ArriveRefusal}
 use Rattle.cb_history.specs.declared.answer.ArriveRefusal.TheVariants as arrivals
@@ -113,7 +113,7 @@ read_not_full seat es (Ok frame) says =
 
 arrive_answer_not_full : (seat : Identity) (es : List EntryFields) (bytes : List ℕ) → arrive_answer seat (room_for_one es) es bytes ≢ Err arrivals.HistoryFull
 unfolding arrive_answer
-arrive_answer_not_full seat es bytes says = read_not_full seat es (frame_at bytes) says
+arrive_answer_not_full seat es bytes says = read_not_full seat es (frame_read bytes) says
 
 no_full_arrival : (seat : Identity) (es : List EntryFields) (bytes : List ℕ) → RefusesArrival (unlimited seat es) bytes arrivals.HistoryFull → ⊥
 no_full_arrival seat es bytes (inl says) = arrive_answer_not_full seat es bytes says

@@ -3,7 +3,8 @@ use Rattle.std.specs.Prelude.{◌≡◌, ◌⊎◌, ℕ, false, List, [], Result
 use Rattle.std.specs.declared.vec.Vec.{Vec}
 use Rattle.std.specs.declared.alloc.Global.{Global}
 use Rattle.cb_frames.specs.Fields.{RequestFields, RequestFrame}
-use Rattle.cb_frames.specs.Reading.{frame_at, HasValue}
+use Rattle.cb_frames.specs.Reading.{HasValue}
+use Rattle.cb_history.specs.Read.{frame_read}
 use Rattle.cb_frames.specs.declared.fault.FrameFault.{FrameFault}
 use Rattle.cb_history.specs.declared.answer.ArriveRefusal.{ArriveRefusal}
 use Rattle.cb_history.specs.declared.answer.ArriveRefusal.TheVariants as refusals
@@ -18,7 +19,7 @@ use Rattle.cb_member.specs.State.{OnAll}
 -- bytes that are no frame, or out of memory for a frame
 abbrev pub RefusesBytes : List ℕ → ArriveRefusal → Type 0
 RefusesBytes bytes refusal =
-    ((fault : FrameFault) × (frame_at bytes ≡ Err fault) × (refusal ≡ refusals.Malformed fault)) ⊎ ((refusal ≡ refusals.NoMemory) × HasValue (frame_at bytes))
+    ((fault : FrameFault) × (frame_read bytes ≡ Err fault) × (refusal ≡ refusals.Malformed fault)) ⊎ ((refusal ≡ refusals.NoMemory) × HasValue (frame_read bytes))
 
 -- what the rules say of a request, whatever the member did so far
 abbrev pub JudgesRequest : Identity → RequestFields → Result (Unit {0}) ArriveRefusal → Type 0

@@ -2,7 +2,7 @@
 use Rattle.std.specs.Prelude.{◌≡◌, ◌≢◌, ◌⊎◌, ℕ, Bool, true, false, List, [], ◌∷◌, ◌++◌, length, map, drop, Option, Some, None, option_map, Result, Ok, Err, IfOk, IfErr, OnErr}
 use Rattle.cb_frames.specs.Fields.{CastFrame, cast_fields}
 use Rattle.cb_frames.specs.Laws.{IsBytes}
-use Rattle.cb_frames.specs.Reading.{frame_at}
+use Rattle.cb_history.specs.Read.{frame_read}
 use Rattle.cb_frames.specs.Text.{text_of}
 use Rattle.cb_delay.specs.declared.message.Event.{Event}
 use Rattle.cb_delay.specs.declared.message.Event.TheVariants.{Cast, Deliver}
@@ -131,7 +131,7 @@ pub record AnswersArrivalOnEach (noting : Noting) (bytes : List ℕ) (old new : 
 pub record CanCome (wanted : Bool) (bytes : List ℕ) (core : State) (coming : Coming) : Type 0 where
   pub core_is : IsCore (core_of core)
   pub bytes_are : IsBytes bytes
-  pub read : frame_at bytes ≡ Ok (CastFrame (cast_fields coming.cast))
+  pub read : frame_read bytes ≡ Ok (CastFrame (cast_fields coming.cast))
   pub new : IsNew (cast_fields coming.cast) core
   pub can_go : CanGo (cast_fields coming.cast) coming.course core
   pub noted : wanted ≡ true → (named : Named) × (coming.noted ≡ Some named)

@@ -2,7 +2,7 @@
 use Rattle.std.specs.Prelude.{◌≡◌, ℕ, ◌<◌, ◌≤◌, true, List, [], length, map, Option, Some, option_map, Result, Ok, IfOk, IfErr, OnErr}
 use Rattle.cb_frames.specs.Fields.{CastFrame, cast_fields}
 use Rattle.cb_frames.specs.Laws.{IsBytes}
-use Rattle.cb_frames.specs.Reading.{frame_at}
+use Rattle.cb_history.specs.Read.{frame_read}
 use Rattle.cb_times.specs.declared.name.Name.{Name}
 use Rattle.cb_delay.specs.declared.message.Event.{Event}
 use Rattle.cb_delay.specs.declared.message.Message.{Message}
@@ -93,7 +93,7 @@ HasRoomForWanted bytes room named = (n : Named) → named ≡ Some n → HasRoom
 pub record CanEnter (wanted : Wanted) (bytes : List ℕ) (r : Recorder) (arriving : Arriving) : Type 0 where
   pub kept : IsKept r
   pub bytes_are : IsBytes bytes
-  pub read : frame_at bytes ≡ Ok (CastFrame (cast_fields arriving.cast))
+  pub read : frame_read bytes ≡ Ok (CastFrame (cast_fields arriving.cast))
   pub new : IsNew (cast_fields arriving.cast) r.state
   pub few : length r.entries.items < r.limit
   pub can_go : CanGo (cast_fields arriving.cast) arriving.course r.state

@@ -5,7 +5,7 @@ use Rattle.std.proofs.lemmas.List.{length-append, same_lists, get_or_default}
 use Rattle.std.proofs.lemmas.List.FromFn.{length-map-range_with_len, get_or-map-range_with_len}
 use Rattle.cb_frames.specs.declared.fault.FrameFault.{FrameFault}
 use Rattle.cb_frames.specs.Fields.{FrameFields, CastFrame, StatusFrame, RequestFrame}
-use Rattle.cb_frames.specs.Reading.{frame_at}
+use Rattle.cb_history.specs.Read.{frame_read}
 use Rattle.cb_history.specs.Facts.{EntryFields, CastEntry, ArriveEntry, TickEntry, facts_of, said_by, cast_said, arrival_said, status_said}
 
 -- each entry says at most one fact
@@ -28,9 +28,9 @@ status_at_most (Ok (RequestFrame r)) = omega arith
 status_at_most (Err e) = omega arith
 
 said_at_most : (e : EntryFields) → length (said_by e) ≤ 1
-said_at_most (CastEntry frame) = cast_at_most (frame_at frame)
-said_at_most (ArriveEntry frame delivered) = arrival_at_most (frame_at frame)
-said_at_most (TickEntry status) = status_at_most (frame_at status)
+said_at_most (CastEntry frame) = cast_at_most (frame_read frame)
+said_at_most (ArriveEntry frame delivered) = arrival_at_most (frame_read frame)
+said_at_most (TickEntry status) = status_at_most (frame_read status)
 
 pub facts_at_most : (entries : List EntryFields) → length (facts_of entries) ≤ length entries
 facts_at_most [] = omega arith

@@ -2,7 +2,8 @@
 use Rattle.std.specs.Prelude.{◌≡◌, ◌⊎◌, ℕ, ◌<◌, true, false, List, [], length, map, Some, IsSome, option_map, Result, Ok, Err}
 use Rattle.cb_frames.specs.declared.fault.FrameFault.{FrameFault}
 use Rattle.cb_frames.specs.Fields.{FrameFields, CastFields, StatusFields, RequestFields, CastFrame, StatusFrame, RequestFrame}
-use Rattle.cb_frames.specs.Reading.{frame_at, HasValue}
+use Rattle.cb_frames.specs.Reading.{HasValue}
+use Rattle.cb_history.specs.Read.{frame_read}
 use Rattle.cb_history.specs.declared.answer.ArriveRefusal.{ArriveRefusal}
 use Rattle.cb_history.specs.declared.answer.ArriveRefusal.TheVariants as refusals
 use Rattle.cb_reference.specs.declared.arrival.Accepting.{Accepting}
@@ -41,7 +42,7 @@ JudgesRequest m r (Err refusal) = answer_to_frame m (RequestFrame r) ≡ Err ref
 -- bytes that are no frame, or out of memory for a frame
 abbrev pub IsReadRefusal : List ℕ → ArriveRefusal → Type 0
 IsReadRefusal bytes refusal =
-    ((fault : FrameFault) × (frame_at bytes ≡ Err fault) × (refusal ≡ refusals.Malformed fault)) ⊎ ((refusal ≡ refusals.NoMemory) × HasValue (frame_at bytes))
+    ((fault : FrameFault) × (frame_read bytes ≡ Err fault) × (refusal ≡ refusals.Malformed fault)) ⊎ ((refusal ≡ refusals.NoMemory) × HasValue (frame_read bytes))
 
 -- what the answer says, the entry that it adds, and that there is room for it
 pub record IsAccepting (m : MemberState) (bytes : List ℕ) (answer : Result ArrivalSays ArriveRefusal) (a : Accepting) : Type 0 where

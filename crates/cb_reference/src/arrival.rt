@@ -4,7 +4,8 @@ ghost use Rattle.std.specs.Prelude.{◌≡◌, IfOk, IfErr, map, drop, length};
 ghost use Rattle.cb_times.specs.Group.{IsGroupSize};
 ghost use Rattle.cb_frames.specs.Fields.{FrameFields, fields_of};
 ghost use Rattle.cb_frames.specs.Laws.{IsBytes};
-ghost use Rattle.cb_frames.specs.Reading.{frame_at, HasValue};
+ghost use Rattle.cb_frames.specs.Reading.{HasValue};
+ghost use Rattle.cb_history.specs.Read.{frame_read};
 ghost use Rattle.cb_history.specs.Facts.{casts_in};
 ghost use Rattle.cb_history.specs.View.{view, message_in};
 ghost use Rattle.cb_history.specs.Answers.{with_frame};
@@ -39,7 +40,7 @@ pub struct Accepting {
 pub fn answer_arrival(member: &ReferenceMember, bytes: &Bytes) -> Result<Accepting, ArriveRefusal>
     ensures accepted { IfOk result (IsAccepting member.now bytes.now
         (answer_to_arrival member.now bytes.now)) }
-    ensures frame { IfOk result (λ accepting. HasValue (frame_at bytes.now)) }
+    ensures frame { IfOk result (λ accepting. HasValue (frame_read bytes.now)) }
     ensures refused { IfErr result (RefusesArrival member.now bytes.now) }
     ensures bytes { IsBytes bytes.now }
 {
@@ -52,7 +53,7 @@ pub fn answer_arrival(member: &ReferenceMember, bytes: &Bytes) -> Result<Accepti
 
 /// The frame of the bytes. What is no frame is refused without memory.
 fn read(alloc: Global, bytes: &Bytes) -> Result<Frame, ArriveRefusal>
-    ensures frame { IfOk result (λ frame. frame_at bytes.now ≡ Ok (fields_of frame)) }
+    ensures frame { IfOk result (λ frame. frame_read bytes.now ≡ Ok (fields_of frame)) }
     ensures refused { IfErr result (IsReadRefusal bytes.now) }
     ensures bytes { IsBytes bytes.now }
 {

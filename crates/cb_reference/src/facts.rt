@@ -1,7 +1,7 @@
 //! What the entries say.
 
 ghost use Rattle.std.specs.Prelude.{◌≡◌, ◌≤◌, IfOk, map, length};
-ghost use Rattle.cb_frames.specs.Reading.{frame_at};
+ghost use Rattle.cb_history.specs.Read.{frame_read};
 ghost use Rattle.cb_history.specs.Facts.{entry_fields, cast_said, arrival_said, status_said, said_by, facts_of, cast_in, casts_in};
 ghost use Rattle.cb_reference.specs.Facts.{fact_of, as_facts, cast_of, as_casts};
 
@@ -25,7 +25,7 @@ pub enum Fact {
 }
 
 fn cast_said(alloc: Global, frame: &Bytes) -> Result<Option<Fact>, NoMemory>
-    ensures { IfOk result (λ fact. as_facts fact ≡ cast_said (frame_at frame.now)) }
+    ensures { IfOk result (λ fact. as_facts fact ≡ cast_said (frame_read frame.now)) }
 {
     match decode(alloc, frame) {
         Ok(Frame::Cast(cast)) => Ok(Some(Fact::OwnCast(cast))),
@@ -37,7 +37,7 @@ fn cast_said(alloc: Global, frame: &Bytes) -> Result<Option<Fact>, NoMemory>
 }
 
 fn arrival_said(alloc: Global, frame: &Bytes) -> Result<Option<Fact>, NoMemory>
-    ensures { IfOk result (λ fact. as_facts fact ≡ arrival_said (frame_at frame.now)) }
+    ensures { IfOk result (λ fact. as_facts fact ≡ arrival_said (frame_read frame.now)) }
 {
     match decode(alloc, frame) {
         Ok(Frame::Cast(cast)) => Ok(Some(Fact::CastReceived(cast))),
@@ -49,7 +49,7 @@ fn arrival_said(alloc: Global, frame: &Bytes) -> Result<Option<Fact>, NoMemory>
 }
 
 fn status_said(alloc: Global, frame: &Bytes) -> Result<Option<Fact>, NoMemory>
-    ensures { IfOk result (λ fact. as_facts fact ≡ status_said (frame_at frame.now)) }
+    ensures { IfOk result (λ fact. as_facts fact ≡ status_said (frame_read frame.now)) }
 {
     match decode(alloc, frame) {
         Ok(Frame::Status(status)) => Ok(Some(Fact::OwnStatus(status))),

@@ -8,7 +8,7 @@ use Rattle.cb_frames.specs.declared.frame.TheConstants.{LONGEST_PAYLOAD, LAST_NU
 use Rattle.cb_frames.specs.declared.fault.FrameFault.{FrameFault}
 use Rattle.cb_frames.specs.Fields.{CastFields, StatusFields, FrameFields, CastFrame, StatusFrame, RequestFrame, Carried, messages_of}
 use Rattle.cb_frames.specs.Text.{text_of}
-use Rattle.cb_frames.specs.Reading.{frame_at}
+use Rattle.cb_history.specs.Read.{frame_read}
 use Rattle.cb_frames.specs.Laws.{IsBytes}
 use Rattle.cb_delay.specs.declared.message.Message.{Message}
 use Rattle.cb_history.specs.declared.answer.CastRefusal.{CastRefusal}
@@ -101,7 +101,7 @@ module _ (setting : Setting) (is : IsSetting setting) (s : GroupState) (inv : Is
         )
         (λ c there. elim (in_push c cast (own_casts said) (subst (IsIn c) all_own there)) [
           | inl old ↦ inl old
-          | inr new ↦ inr (subst (IsIn c) (sym (append-nil (cast_read (frame_at (text_of (CastFrame cast)))) ∙ ap cast_read read)) (inl new))
+          | inr new ↦ inr (subst (IsIn c) (sym (append-nil (cast_read (frame_read (text_of (CastFrame cast)))) ∙ ap cast_read read)) (inl new))
         ])
         (λ m. ap (λ (ms : List Carried). has_arrived s i m || list_any (is_named m) ms) brings_itself
         ∙ ap (λ (b : Bool). b || list_any (is_named m) (messages_of cast)) (inv.arrived i m)
@@ -110,7 +110,7 @@ module _ (setting : Setting) (is : IsSetting setting) (s : GroupState) (inv : Is
         with_cast : List EntryFields
         with_cast = now ++ CastEntry (text_of (CastFrame cast)) ∷ []
 
-        read : frame_at (text_of (CastFrame cast)) ≡ Ok (CastFrame cast)
+        read : frame_read (text_of (CastFrame cast)) ≡ Ok (CastFrame cast)
         read = cast_reads cast ((own_frames_have_texts me said are).0 payload left short)
 
         push : facts_of (now ++ CastEntry (text_of (CastFrame cast)) ∷ []) ≡ said ++ OwnCast cast ∷ []
@@ -174,17 +174,17 @@ module _ (setting : Setting) (is : IsSetting setting) (s : GroupState) (inv : Is
     refused : (e : ArriveRefusal) → ArrivalGood (Err e)
     refused e _ = same_history (ToTake bytes) (ArrivalAnswer (Err e)) tt nothing_received
 
-    brings : (frame : FrameFields) (says : ArrivalSays) → frame_at bytes ≡ Ok frame → received_by i (Calls i (ToTake bytes)) (ArrivalAnswer (Ok says)) ≡ messages_read (Ok frame)
+    brings : (frame : FrameFields) (says : ArrivalSays) → frame_read bytes ≡ Ok frame → received_by i (Calls i (ToTake bytes)) (ArrivalAnswer (Ok says)) ≡ messages_read (Ok frame)
     brings frame says read = rw (eq-eqb i i refl) (ap messages_read read)
 
     -- it brings messages, and the others were there before
-    news_of : (frame : FrameFields) (says : ArrivalSays) (m : Name) → frame_at bytes ≡ Ok frame
+    news_of : (frame : FrameFields) (says : ArrivalSays) (m : Name) → frame_read bytes ≡ Ok frame
         → (has_arrived s i m || list_any (is_named m) (received_by i (Calls i (ToTake bytes)) (ArrivalAnswer (Ok says)))) ≡ (is_there (casts_in said) m.sender m.number || list_any (is_named m) (messages_read (Ok frame)))
     news_of frame says m read =
         ap (λ (ms : List Carried). has_arrived s i m || list_any (is_named m) ms) (brings frame says read)
         ∙ ap (λ (b : Bool). b || list_any (is_named m) (messages_read (Ok frame))) (inv.arrived i m)
 
-    again : (frame : FrameFields) → frame_at bytes ≡ Ok frame → is_repeat said frame ≡ true → ArrivalGood (Ok Repeat)
+    again : (frame : FrameFields) → frame_read bytes ≡ Ok frame → is_repeat said frame ≡ true → ArrivalGood (Ok Repeat)
     again (CastFrame c) read repeat _ =
         same_history (ToTake bytes) (ArrivalAnswer (Ok Repeat)) tt (λ m. news_of (CastFrame c) Repeat m read
         ∙ absorbed (is_there (casts_in said) m.sender m.number) (list_any (is_named m) (messages_of c)) (λ yes.
@@ -196,7 +196,7 @@ module _ (setting : Setting) (is : IsSetting setting) (s : GroupState) (inv : Is
     again (StatusFrame t) read repeat _ = let none : false ≡ true = repeat in absurd cc
     again (RequestFrame r) read repeat _ = let none : false ≡ true = repeat in absurd cc
 
-    changed : (frame : FrameFields) (ds : List Message) → frame_at bytes ≡ Ok frame → SaysWhatIsSo setting.group (facts_at s) frame → is_change me said frame ≡ true → ArrivalGood (Ok (Accepted ds true (sent_in_answer me said frame)))
+    changed : (frame : FrameFields) (ds : List Message) → frame_read bytes ≡ Ok frame → SaysWhatIsSo setting.group (facts_at s) frame → is_change me said frame ≡ true → ArrivalGood (Ok (Accepted ds true (sent_in_answer me said frame)))
     changed (CastFrame c) ds read so change legal =
         let says : ArrivalSays = Accepted ds true [] in
         let more : List EntryFields = now ++ ArriveEntry bytes (map (λ m. m.name) ds) ∷ [] in
@@ -214,7 +214,7 @@ module _ (setting : Setting) (is : IsSetting setting) (s : GroupState) (inv : Is
         ∙ sym (ap (λ (cs : List CastFields). is_there cs m.sender m.number) (ap casts_in push ∙ casts_in-append said (StatusReceived t) ∙ append-nil (casts_in said))))
     changed (RequestFrame r) ds read so change legal = let none : false ≡ true = change in absurd cc
 
-    unchanged : (frame : FrameFields) → frame_at bytes ≡ Ok frame → is_change me said frame ≡ false → ArrivalGood (Ok (Accepted [] false (sent_in_answer me said frame)))
+    unchanged : (frame : FrameFields) → frame_read bytes ≡ Ok frame → is_change me said frame ≡ false → ArrivalGood (Ok (Accepted [] false (sent_in_answer me said frame)))
     unchanged (CastFrame c) read change legal = let none : true ≡ false = change in absurd cc
     unchanged (StatusFrame t) read change legal =
         same_history (ToTake bytes) (ArrivalAnswer (Ok (Accepted [] false []))) tt (λ m. news_of (StatusFrame t) (Accepted [] false []) m read ∙ or_none (is_there (casts_in said) m.sender m.number))
@@ -223,7 +223,7 @@ module _ (setting : Setting) (is : IsSetting setting) (s : GroupState) (inv : Is
         (resent_are_honest setting.group (facts_at s) i are own_is_honest (RequestFrame r))
         (λ m. news_of (RequestFrame r) (Accepted [] false (sent_in_answer me said (RequestFrame r))) m read ∙ or_none (is_there (casts_in said) m.sender m.number))
 
-    by_frame : (frame : FrameFields) → frame_at bytes ≡ Ok frame → SaysWhatIsSo setting.group (facts_at s) frame → ArrivalGood (frame_answer me setting.limit now said frame)
+    by_frame : (frame : FrameFields) → frame_read bytes ≡ Ok frame → SaysWhatIsSo setting.group (facts_at s) frame → ArrivalGood (frame_answer me setting.limit now said frame)
     by_frame frame read so =
         cond_both (not (eqb (group_of frame) setting.group.number)) _ _ ArrivalGood (λ _. refused arrivals.OtherGroup)
         (λ _. cond_both (not (are_members setting.group.size frame)) _ _ ArrivalGood (λ _. refused arrivals.BadMember)

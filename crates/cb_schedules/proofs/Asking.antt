@@ -7,7 +7,7 @@ use Rattle.cb_frames.specs.declared.frame.Range.{Range}
 use Rattle.cb_frames.specs.Fields.{CastFields, StatusFields, RequestFields, CastFrame, StatusFrame, RequestFrame, Carried, messages_of, last_number}
 use Rattle.cb_frames.proofs.Carried.{carried_is_of_cast}
 use Rattle.cb_frames.specs.Text.{text_of, AreRanges}
-use Rattle.cb_frames.specs.Reading.{frame_at}
+use Rattle.cb_history.specs.Read.{frame_read}
 use Rattle.cb_frames.proofs.Decoding.{text_is_read}
 use Rattle.cb_frames.proofs.Unique.{some_text}
 use Rattle.cb_history.specs.declared.answer.Outgoing.{Outgoing}
@@ -50,11 +50,11 @@ in_flat g (y ∷ xs) x b (inl same) here = in_front b (g y) (flat_map g xs) (sub
 in_flat g (y ∷ xs) x b (inr later) here = in_back b (g y) (flat_map g xs) (in_flat g xs x b later here)
 
 -- an own cast is read from its text
-pub own_cast_read : (setting : Setting) (s : GroupState) → IsConsistent setting s → (i : ℕ) (c : CastFields) → IsIn c (own_casts (facts_at s i)) → frame_at (text_of (CastFrame c)) ≡ Ok (CastFrame c)
+pub own_cast_read : (setting : Setting) (s : GroupState) → IsConsistent setting s → (i : ℕ) (c : CastFields) → IsIn c (own_casts (facts_at s i)) → frame_read (text_of (CastFrame c)) ≡ Ok (CastFrame c)
 own_cast_read setting s inv i c own =
     let (frame, at, read) = sent_frame s.sent c (cast_of_is_in c (sent_casts s) (inv.sent i c (in_is_cast_of c (own_casts (facts_at s i)) own))) in
     let honest = all_at (λ (frame : SentFrame). IsHonest setting.group (facts_at s) frame.bytes) s.sent frame inv.honest at in
-    subst (λ (bytes : List ℕ). frame_at bytes ≡ Ok (CastFrame c)) (honest_text setting.group (facts_at s) frame.bytes (CastFrame c) honest read) read
+    subst (λ (bytes : List ℕ). frame_read bytes ≡ Ok (CastFrame c)) (honest_text setting.group (facts_at s) frame.bytes (CastFrame c) honest read) read
 
 module _ (setting : Setting) (s t : GroupState) (inv : IsConsistent setting s) (w : Waves setting s t) where
   answered_to_end : (next : GroupState) → IsLater next w.answered → IsLater next t
@@ -157,7 +157,7 @@ module _ (setting : Setting) (s t : GroupState) (inv : IsConsistent setting s) (
           first_frames_cover MOST_FRAMES 1 (begin + 1) n (asked_casts now) c.cast (asked_casts_rise now inv_now) (asked_casts_end now)
           (in_filter (is_asked_for ranges) (window (seat_at setting i) (facts_at now i)) c.cast asked kept) (omega (arith, first, number)) least (omega (arith, near))
 
-      request_brings : frame_at (text_of (RequestFrame asked_fields)) ≡ Ok (RequestFrame asked_fields)
+      request_brings : frame_read (text_of (RequestFrame asked_fields)) ≡ Ok (RequestFrame asked_fields)
           → Takes setting w.asking w.answered (sent_by j (record { to = Some i; bytes = text_of (RequestFrame asked_fields) })) i → Comes
       request_brings read a = elim (cases_lt (stable (seat_at setting i) (facts_at a.now i)) n) [
         | inr below ↦

@@ -6,7 +6,7 @@ use Rattle.std.proofs.lemmas.List.{append-nil}
 use mathlib.Core.Path.{fun_ext}
 use Rattle.cb_times.specs.declared.name.Name.{Name}
 use Rattle.cb_frames.specs.Fields.{CastFields, Carried}
-use Rattle.cb_frames.specs.Reading.{frame_at}
+use Rattle.cb_history.specs.Read.{frame_read}
 use Rattle.cb_causality.specs.Lists.{Appends}
 use Rattle.cb_causality.specs.StampedMachine.{StampedStep}
 use Rattle.cb_causality.specs.Extension.{Extends, Still}
@@ -48,11 +48,11 @@ is_named m x = eqb x.sender m.sender && eqb x.number m.number
 
 -- the casts among frames that a member sends
 abbrev pub casts_out : List Outgoing → List CastFields
-casts_out outs = flat_map (λ out. cast_read (frame_at out.bytes)) outs
+casts_out outs = flat_map (λ out. cast_read (frame_read out.bytes)) outs
 
-casts_sent : (i : ℕ) (outs : List Outgoing) → flat_map (λ frame. cast_read (frame_at frame.bytes)) (map (sent_by i) outs) ≡ casts_out outs
+casts_sent : (i : ℕ) (outs : List Outgoing) → flat_map (λ frame. cast_read (frame_read frame.bytes)) (map (sent_by i) outs) ≡ casts_out outs
 casts_sent i [] = refl
-casts_sent i (out ∷ outs) = ap (λ (cs : List CastFields). cast_read (frame_at out.bytes) ++ cs) (casts_sent i outs)
+casts_sent i (out ∷ outs) = ap (λ (cs : List CastFields). cast_read (frame_read out.bytes) ++ cs) (casts_sent i outs)
 
 all_sent : (P : List ℕ → Type 0) (i : ℕ) (outs : List Outgoing) → AllByRecursion (λ out. P out.bytes) outs → AllByRecursion (λ (frame : SentFrame). P frame.bytes) (map (sent_by i) outs)
 all_sent P i [] all = tt
@@ -173,7 +173,7 @@ module _ (setting : Setting) (is : IsSetting setting) (s : GroupState) (inv : Is
         where
           all_casts : sent_casts (state_with now answer) ≡ sent_casts s ++ casts_out (frames_sent answer)
           all_casts =
-              flat_map-append (λ frame. cast_read (frame_at frame.bytes)) s.sent (map (sent_by i) (frames_sent answer))
+              flat_map-append (λ frame. cast_read (frame_read frame.bytes)) s.sent (map (sent_by i) (frames_sent answer))
               ∙ ap (λ (cs : List CastFields). sent_casts s ++ cs) (casts_sent i (frames_sent answer))
 
           sent_before : (k : ℕ) (c : CastFields) → IsIn c (own_casts (facts_at s k)) → IsIn c (sent_casts s ++ casts_out (frames_sent answer))

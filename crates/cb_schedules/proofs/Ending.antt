@@ -9,7 +9,7 @@ use Rattle.cb_frames.specs.declared.frame.TheConstants.{MOST_FRAMES}
 use Rattle.cb_frames.specs.declared.fault.FrameFault.{FrameFault}
 use Rattle.cb_frames.specs.Fields.{CastFields, FrameFields, CastFrame, StatusFrame, RequestFrame, last_number}
 use Rattle.cb_frames.specs.Text.{text_of}
-use Rattle.cb_frames.specs.Reading.{frame_at}
+use Rattle.cb_history.specs.Read.{frame_read}
 use Rattle.cb_history.specs.declared.answer.ArriveRefusal.{ArriveRefusal}
 use Rattle.cb_history.specs.declared.answer.Outgoing.{Outgoing}
 use Rattle.cb_history.specs.Known.{stable}
@@ -28,7 +28,7 @@ use Rattle.cb_schedules.proofs.Waves.{round_ends}
 
 -- bytes that are read as a cast
 abbrev pub IsCast : List ℕ → Type 0
-IsCast bytes = (c : CastFields) × (frame_at bytes ≡ Ok (CastFrame c))
+IsCast bytes = (c : CastFields) × (frame_read bytes ≡ Ok (CastFrame c))
 
 abbrev AreCasts : List SentFrame → Type 0
 AreCasts frames = AllByRecursion (λ frame. IsCast frame.bytes) frames
@@ -70,7 +70,7 @@ casts_in_answer setting s inv i (RequestFrame r) =
 
 arrival_puts_out_casts : (setting : Setting) (s : GroupState) → IsConsistent setting s → (i : ℕ) (bytes : List ℕ) → PutsOutCasts (arrive_answer (seat_at setting i) setting.limit (s.histories i) bytes)
 unfolding arrive_answer
-arrival_puts_out_casts setting s inv i bytes = answered (frame_at bytes)
+arrival_puts_out_casts setting s inv i bytes = answered (frame_read bytes)
   where
     answered : (r : Result FrameFields FrameFault) → PutsOutCasts (answer_to (seat_at setting i) setting.limit (s.histories i) r)
     answered (Ok frame) = answer_puts_out (AllByRecursion (λ (out : Outgoing). IsCast out.bytes)) setting s i frame tt (casts_in_answer setting s inv i frame)

@@ -4,7 +4,7 @@ use Rattle.cb_frames.specs.declared.frame.TheConstants.{LONGEST_PAYLOAD}
 use Rattle.cb_frames.specs.declared.fault.FrameFault.{FrameFault}
 use Rattle.cb_frames.specs.Fields.{CastFields, FrameFields, StatusFrame}
 use Rattle.cb_frames.specs.Text.{text_of}
-use Rattle.cb_frames.specs.Reading.{frame_at}
+use Rattle.cb_history.specs.Read.{frame_read}
 use Rattle.cb_history.specs.declared.answer.CastRefusal.{CastRefusal}
 use Rattle.cb_history.specs.declared.answer.CastRefusal.TheVariants as casts
 use Rattle.cb_history.specs.declared.answer.ArriveRefusal.{ArriveRefusal}
@@ -89,7 +89,7 @@ module _ (seat : Identity) (limit : ℕ) (entries : List EntryFields) where
 
   arrive_same : (bytes : List ℕ) → IsNotFull (ArrivalAnswer (arrive_answer seat limit entries bytes)) → arrive_answer seat limit entries bytes ≡ arrive_answer seat room entries bytes
   unfolding arrive_answer
-  arrive_same bytes free = read_same (frame_at bytes) free
+  arrive_same bytes free = read_same (frame_read bytes) free
 
   tick_same : IsNotFull (TickAnswer (tick_answer seat limit entries)) → tick_answer seat limit entries ≡ tick_answer seat room entries
   unfolding tick_answer

@@ -5,7 +5,7 @@ use Rattle.cb_times.specs.declared.name.Name.{Name}
 use Rattle.cb_frames.specs.declared.fault.FrameFault.{FrameFault}
 use Rattle.cb_frames.specs.Fields.{CastFields, FrameFields, CastFrame, StatusFrame, RequestFrame, Carried}
 use Rattle.cb_frames.specs.Text.{text_of}
-use Rattle.cb_frames.specs.Reading.{frame_at}
+use Rattle.cb_history.specs.Read.{frame_read}
 use Rattle.cb_causality.specs.declared.event.CausalEvent.TheVariants as causal
 use Rattle.cb_causality.specs.StampedMachine.{without_time, counts_of, IsTimeOf}
 use Rattle.cb_delay.specs.Message.{message_of}
@@ -111,7 +111,7 @@ module _ (setting : Setting) (s : GroupState) (inv : IsConsistent setting s) whe
 
   -- ---- frames that were sent
 
-  says : (frame : SentFrame) (f : FrameFields) → WasSent s frame → frame_at frame.bytes ≡ Ok f → SaysWhatIsSo setting.group (facts_at s) f × IsOfTheGroup setting.group f × (frame.bytes ≡ text_of f)
+  says : (frame : SentFrame) (f : FrameFields) → WasSent s frame → frame_read frame.bytes ≡ Ok f → SaysWhatIsSo setting.group (facts_at s) f × IsOfTheGroup setting.group f × (frame.bytes ≡ text_of f)
   says frame f sent read =
       let honest = all_at_index (λ (x : SentFrame). IsHonest setting.group (facts_at s) x.bytes) s.sent sent.0 frame inv.honest sent.1 in
       let both : Ok honest.frame ≡ Ok f = sym honest.read ∙ read in

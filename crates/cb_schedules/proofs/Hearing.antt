@@ -6,7 +6,7 @@ use Rattle.std.proofs.lemmas.Bool.{cond_both, ne_eqb, eq-eqb, ltb-false}
 use Rattle.cb_frames.specs.declared.fault.FrameFault.{FrameFault}
 use Rattle.cb_frames.specs.Fields.{CastFields, StatusFields, RequestFields, FrameFields, CastFrame, StatusFrame, RequestFrame}
 use Rattle.cb_frames.specs.Text.{text_of}
-use Rattle.cb_frames.specs.Reading.{frame_at}
+use Rattle.cb_history.specs.Read.{frame_read}
 use Rattle.cb_history.specs.declared.answer.ArriveRefusal.{ArriveRefusal}
 use Rattle.cb_history.specs.declared.answer.TickRefusal.{TickRefusal}
 use Rattle.cb_history.specs.declared.answer.Outgoing.{Outgoing}
@@ -38,7 +38,7 @@ tick_puts_out seat limit entries =
     (λ _ room. absurd (room refl)) (λ _ _. refl)
 
 -- what is sent at the arrival of a request
-pub request_is_answered : (seat : Identity) (limit : ℕ) (entries : List EntryFields) (bytes : List ℕ) (q : RequestFields) → frame_at bytes ≡ Ok (RequestFrame q) → IsNoRefusal (arrive_answer seat limit entries bytes)
+pub request_is_answered : (seat : Identity) (limit : ℕ) (entries : List EntryFields) (bytes : List ℕ) (q : RequestFields) → frame_read bytes ≡ Ok (RequestFrame q) → IsNoRefusal (arrive_answer seat limit entries bytes)
     → frames_sent (ArrivalAnswer (arrive_answer seat limit entries bytes)) ≡ sent_in_answer seat (facts_of entries) (RequestFrame q)
 unfolding arrive_answer
 request_is_answered seat limit entries bytes q read =
@@ -84,7 +84,7 @@ taken_is_heard seat t facts =
           omega (arith, reported);
     }
 
-pub status_is_heard : (seat : Identity) (limit : ℕ) (entries : List EntryFields) (bytes : List ℕ) (t : StatusFields) → frame_at bytes ≡ Ok (StatusFrame t) → t.sender ≢ seat.me
+pub status_is_heard : (seat : Identity) (limit : ℕ) (entries : List EntryFields) (bytes : List ℕ) (t : StatusFields) → frame_read bytes ≡ Ok (StatusFrame t) → t.sender ≢ seat.me
     → IsNoRefusal (arrive_answer seat limit entries bytes) → IsNotFull (ArrivalAnswer (arrive_answer seat limit entries bytes)) → IsHeard seat t (facts_of (history_after seat limit entries (ToTake bytes)))
 unfolding arrive_answer
 status_is_heard seat limit entries bytes t read other =
@@ -104,7 +104,7 @@ not_refused : (r : Result ArrivalSays ArriveRefusal) → IsNoRefusal r → IsNot
 not_refused (Ok says) welcome room = refl
 not_refused (Err refusal) full room = absurd (room full)
 
-pub cast_is_taken : (seat : Identity) (limit : ℕ) (entries : List EntryFields) (bytes : List ℕ) (c : CastFields) → AreFactsOf seat (facts_of entries) → frame_at bytes ≡ Ok (CastFrame c) → IsOfTheGroup seat.group (CastFrame c)
+pub cast_is_taken : (seat : Identity) (limit : ℕ) (entries : List EntryFields) (bytes : List ℕ) (c : CastFields) → AreFactsOf seat (facts_of entries) → frame_read bytes ≡ Ok (CastFrame c) → IsOfTheGroup seat.group (CastFrame c)
     → IsNoRefusal (arrive_answer seat limit entries bytes) → IsNotFull (ArrivalAnswer (arrive_answer seat limit entries bytes)) → AreThere (casts_in (facts_of (history_after seat limit entries (ToTake bytes)))) c
 cast_is_taken seat limit entries bytes c are read of welcome room =
     (accepted_is_there seat limit entries bytes c are read of).0 (not_refused (arrive_answer seat limit entries bytes) welcome room)

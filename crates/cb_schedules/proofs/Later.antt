@@ -6,7 +6,7 @@ use Rattle.std.proofs.lemmas.Bool.{cond_both, eqb-true}
 use Rattle.std.proofs.lemmas.List.{append-nil}
 use Rattle.cb_frames.specs.declared.fault.FrameFault.{FrameFault}
 use Rattle.cb_frames.specs.Fields.{CastFields, FrameFields, CastFrame, StatusFrame, RequestFrame}
-use Rattle.cb_frames.specs.Reading.{frame_at}
+use Rattle.cb_history.specs.Read.{frame_read}
 use Rattle.cb_history.specs.declared.answer.ArriveRefusal.{ArriveRefusal}
 use Rattle.cb_history.specs.declared.answer.TickRefusal.{TickRefusal}
 use Rattle.cb_history.specs.declared.answer.Outgoing.{Outgoing}
@@ -96,14 +96,14 @@ one_entry entries e none = record {
 arrival_adds : (entries : List EntryFields) (bytes : List ℕ) (r : Result ArrivalSays ArriveRefusal) → MoreFacts (facts_of entries) (facts_of (and_entry entries (arrive_entry bytes r)))
 arrival_adds entries bytes (Ok (Accepted deliveries changed out)) =
     cond_both changed _ _ (λ (o : Option EntryFields). MoreFacts (facts_of entries) (facts_of (and_entry entries o)))
-    (λ _. one_entry entries (ArriveEntry bytes _) (arrival_is_no_cast (frame_at bytes))) (λ _. same_facts (facts_of entries) (facts_of entries) refl)
+    (λ _. one_entry entries (ArriveEntry bytes _) (arrival_is_no_cast (frame_read bytes))) (λ _. same_facts (facts_of entries) (facts_of entries) refl)
 arrival_adds entries bytes (Ok Repeat) = same_facts (facts_of entries) (facts_of entries) refl
 arrival_adds entries bytes (Err refusal) = same_facts (facts_of entries) (facts_of entries) refl
 
 tick_adds : (entries : List EntryFields) (status : List ℕ) (r : Result (Bool × List Outgoing) TickRefusal) → MoreFacts (facts_of entries) (facts_of (and_entry entries (tick_entry status r)))
 tick_adds entries status (Ok t) =
     cond_both t.0 _ _ (λ (o : Option EntryFields). MoreFacts (facts_of entries) (facts_of (and_entry entries o)))
-    (λ _. one_entry entries (TickEntry status) (status_is_no_cast (frame_at status))) (λ _. same_facts (facts_of entries) (facts_of entries) refl)
+    (λ _. one_entry entries (TickEntry status) (status_is_no_cast (frame_read status))) (λ _. same_facts (facts_of entries) (facts_of entries) refl)
 tick_adds entries status (Err refusal) = same_facts (facts_of entries) (facts_of entries) refl
 
 call_adds : (seat : Identity) (limit : ℕ) (entries : List EntryFields) (call : Call) → IsNoCast call → MoreFacts (facts_of entries) (facts_of (history_after seat limit entries call))

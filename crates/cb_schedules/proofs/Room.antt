@@ -4,7 +4,7 @@ use Rattle.std.proofs.lemmas.Bool.{cond_both, eqb-true, leb-true, and_parts}
 use Rattle.cb_frames.specs.declared.frame.TheConstants.{LONGEST_PAYLOAD}
 use Rattle.cb_frames.specs.declared.fault.FrameFault.{FrameFault}
 use Rattle.cb_frames.specs.Fields.{CastFields, FrameFields}
-use Rattle.cb_frames.specs.Reading.{frame_at}
+use Rattle.cb_history.specs.Read.{frame_read}
 use Rattle.cb_history.specs.declared.answer.CastRefusal.{CastRefusal}
 use Rattle.cb_history.specs.declared.answer.ArriveRefusal.{ArriveRefusal}
 use Rattle.cb_history.specs.declared.answer.TickRefusal.{TickRefusal}
@@ -49,7 +49,7 @@ module _ (seat : Identity) (limit : ℕ) (entries : List EntryFields) (room : le
 
   arrival_not_full : (bytes : List ℕ) → IsNotFull (ArrivalAnswer (arrive_answer seat limit entries bytes))
   unfolding arrive_answer
-  arrival_not_full bytes = answer_not_full (frame_at bytes)
+  arrival_not_full bytes = answer_not_full (frame_read bytes)
 
   tick_not_full : IsNotFull (TickAnswer (tick_answer seat limit entries))
   unfolding tick_answer

@@ -8,7 +8,7 @@ use Rattle.cb_frames.specs.declared.frame.Range.{Range}
 use Rattle.cb_frames.specs.declared.fault.FrameFault.{FrameFault}
 use Rattle.cb_frames.specs.Fields.{CastFields, RequestFields, FrameFields, CastFrame, StatusFrame, RequestFrame, last_number}
 use Rattle.cb_frames.specs.Text.{text_of, request_kind, request_numbers}
-use Rattle.cb_frames.specs.Reading.{frame_at}
+use Rattle.cb_history.specs.Read.{frame_read}
 use Rattle.cb_frames.specs.Laws.{IsBytes}
 use Rattle.cb_frames.proofs.Decoding.{reading_is_exact, text_is_read}
 use Rattle.cb_frames.proofs.Unique.{one_text, some_text}
@@ -119,19 +119,19 @@ read_as (Ok (RequestFrame r)) c there = absurd there
 read_as (Err fault) c there = absurd there
 
 -- a cast among sent frames is the reading of one of them
-pub sent_frame : (frames : List SentFrame) (c : CastFields) → IsIn c (flat_map (λ frame. cast_read (frame_at frame.bytes)) frames) → (frame : SentFrame) × IsIn frame frames × (frame_at frame.bytes ≡ Ok (CastFrame c))
+pub sent_frame : (frames : List SentFrame) (c : CastFields) → IsIn c (flat_map (λ frame. cast_read (frame_read frame.bytes)) frames) → (frame : SentFrame) × IsIn frame frames × (frame_read frame.bytes ≡ Ok (CastFrame c))
 sent_frame [] c there = absurd there
-sent_frame (frame ∷ frames) c there = elim (in_append c (cast_read (frame_at frame.bytes)) (flat_map (λ frame. cast_read (frame_at frame.bytes)) frames) there) [
-  | inl here ↦ (frame, inl refl, read_as (frame_at frame.bytes) c here)
+sent_frame (frame ∷ frames) c there = elim (in_append c (cast_read (frame_read frame.bytes)) (flat_map (λ frame. cast_read (frame_read frame.bytes)) frames) there) [
+  | inl here ↦ (frame, inl refl, read_as (frame_read frame.bytes) c here)
   | inr later ↦ let (found, at, read) = sent_frame frames c later in (found, inr at, read)
 ]
 
 -- honest bytes that are read as a cast are its text
-pub honest_text : (group : Parameters) (facts : ℕ → List Fact) (bytes : List ℕ) (f : FrameFields) → IsHonest group facts bytes → frame_at bytes ≡ Ok f → bytes ≡ text_of f
+pub honest_text : (group : Parameters) (facts : ℕ → List Fact) (bytes : List ℕ) (f : FrameFields) → IsHonest group facts bytes → frame_read bytes ≡ Ok f → bytes ≡ text_of f
 honest_text group facts bytes f honest read = one_text f bytes ((reading_is_exact.text bytes f honest.are_bytes).0 read)
 
 pub sent_is_honest : (group : Parameters) (facts : ℕ → List Fact) (frames : List SentFrame) (c : CastFields) → AllByRecursion (λ frame. IsHonest group facts frame.bytes) frames
-    → IsIn c (flat_map (λ frame. cast_read (frame_at frame.bytes)) frames) → IsHonest group facts (text_of (CastFrame c))
+    → IsIn c (flat_map (λ frame. cast_read (frame_read frame.bytes)) frames) → IsHonest group facts (text_of (CastFrame c))
 sent_is_honest group facts frames c all there =
     let (frame, at, read) = sent_frame frames c there in
     let honest = all_at (λ (frame : SentFrame). IsHonest group facts frame.bytes) frames frame all at in

@@ -2,7 +2,7 @@
 use Rattle.std.specs.Prelude.{◌≡◌, ◌≢◌, ℕ, ◌<◌, ◌≤◌, List, [], None, Ok}
 use Rattle.std.specs.List.{AllByRecursion}
 use Rattle.cb_frames.specs.Fields.{StatusFields, FrameFields, CastFrame, StatusFrame, RequestFrame}
-use Rattle.cb_frames.specs.Reading.{frame_at}
+use Rattle.cb_history.specs.Read.{frame_read}
 use Rattle.cb_frames.specs.Laws.{IsBytes}
 use Rattle.cb_causality.specs.StampedMachine.{StampedLists, StampedRun}
 use Rattle.cb_history.specs.Group.{Parameters, Identity}
@@ -42,7 +42,7 @@ IsSo group facts (OwnStatus s) = Unit {0}
 pub record IsHonest (group : Parameters) (facts : ℕ → List Fact) (bytes : List ℕ) : Type 0 where
   pub are_bytes : IsBytes bytes
   pub frame : FrameFields
-  pub read : frame_at bytes ≡ Ok frame
+  pub read : frame_read bytes ≡ Ok frame
   pub of_group : IsOfTheGroup group frame
   pub so : SaysWhatIsSo group facts frame
 

@@ -4,7 +4,7 @@ use Rattle.std.specs.List.{flat_map, list_any}
 use Rattle.cb_times.specs.declared.name.Name.{Name}
 use Rattle.cb_frames.specs.declared.fault.FrameFault.{FrameFault}
 use Rattle.cb_frames.specs.Fields.{CastFields, FrameFields, CastFrame, Carried, messages_of}
-use Rattle.cb_frames.specs.Reading.{frame_at}
+use Rattle.cb_history.specs.Read.{frame_read}
 use Rattle.cb_diffs.specs.Sent.{sent_time}
 use Rattle.cb_causality.specs.Events.{Has}
 use Rattle.cb_causality.specs.HappenedBefore.{Lists, Place, IsCastAt, HappenedBefore}
@@ -47,7 +47,7 @@ messages_read other = []
 -- or was a repeat
 abbrev pub received_by : ℕ → Asked → Answer → List Carried
 received_by j (Calls i (ToCast payload)) (CastAnswer (Ok c)) = if i == j then messages_of c else []
-received_by j (Calls i (ToTake bytes)) (ArrivalAnswer (Ok says)) = if i == j then messages_read (frame_at bytes) else []
+received_by j (Calls i (ToTake bytes)) (ArrivalAnswer (Ok says)) = if i == j then messages_read (frame_read bytes) else []
 received_by j asked answer = []
 
 -- the messages that have arrived at member j, by the outcomes alone; one that came again stands here again
@@ -72,7 +72,7 @@ cast_read other = []
 
 -- the cast frames among all frames that were sent, read from their bytes; one that was sent again stands here again
 abbrev pub sent_casts : GroupState → List CastFields
-sent_casts s = flat_map (λ frame. cast_read (frame_at frame.bytes)) s.sent
+sent_casts s = flat_map (λ frame. cast_read (frame_read frame.bytes)) s.sent
 
 -- the vector time of a message, from the bytes of the sent cast frames and from nothing else
 abbrev pub time_from_bytes : Setting → GroupState → Name → List ℕ

@@ -3,7 +3,7 @@ use Rattle.std.specs.Prelude.{◌≡◌, ◌≢◌, ℕ, ◌+◌, ◌<◌, ◌�
 use Rattle.std.specs.List.{AllByRecursion}
 use Rattle.cb_frames.specs.Fields.{CastFields, StatusFields, RequestFields, CastFrame, StatusFrame, RequestFrame, Carried, first_number}
 use Rattle.cb_frames.specs.Text.{text_of}
-use Rattle.cb_frames.specs.Reading.{frame_at}
+use Rattle.cb_history.specs.Read.{frame_read}
 use Rattle.cb_delay.specs.declared.message.Event.{Event}
 use Rattle.cb_causality.specs.StampedMachine.{counts_of}
 use Rattle.cb_delay.specs.Message.{message_of}
@@ -29,22 +29,22 @@ WasSent s frame = (number : ℕ) × (slice_get s.sent number ≡ Some frame)
 -- every cast frame that was sent is, byte for byte, an own cast of its sender
 abbrev pub SentCastsAreOwn : Setting → GroupState → Type 0
 SentCastsAreOwn setting s =
-    (frame : SentFrame) (c : CastFields) → WasSent s frame → frame_at frame.bytes ≡ Ok (CastFrame c)
+    (frame : SentFrame) (c : CastFields) → WasSent s frame → frame_read frame.bytes ≡ Ok (CastFrame c)
     → IsCastOf c (own_casts (facts_at s c.sender)) × (frame.bytes ≡ text_of (CastFrame c))
 
 -- so cast frames with one name have the same bytes
 abbrev pub OneNameSameBytes : Setting → GroupState → Type 0
 OneNameSameBytes setting s =
-    (frame other : SentFrame) (c d : CastFields) → WasSent s frame → WasSent s other → frame_at frame.bytes ≡ Ok (CastFrame c) → frame_at other.bytes ≡ Ok (CastFrame d)
+    (frame other : SentFrame) (c d : CastFields) → WasSent s frame → WasSent s other → frame_read frame.bytes ≡ Ok (CastFrame c) → frame_read other.bytes ≡ Ok (CastFrame d)
     → c.sender ≡ d.sender → first_number c ≡ first_number d → frame.bytes ≡ other.bytes
 
 -- every status that was sent says of each member no more than its sender has delivered, and nobody asks itself
 abbrev pub SentStatusesAreSo : Setting → GroupState → Type 0
-SentStatusesAreSo setting s = (frame : SentFrame) (t : StatusFields) → WasSent s frame → frame_at frame.bytes ≡ Ok (StatusFrame t) → IsReported setting.group (facts_at s) t
+SentStatusesAreSo setting s = (frame : SentFrame) (t : StatusFields) → WasSent s frame → frame_read frame.bytes ≡ Ok (StatusFrame t) → IsReported setting.group (facts_at s) t
 
 abbrev pub NobodyAsksItself : Setting → GroupState → Type 0
 NobodyAsksItself setting s =
-    (frame : SentFrame) (r : RequestFields) → WasSent s frame → frame_at frame.bytes ≡ Ok (RequestFrame r)
+    (frame : SentFrame) (r : RequestFields) → WasSent s frame → frame_read frame.bytes ≡ Ok (RequestFrame r)
     → (r.requester < setting.group.size) × (r.asked < setting.group.size) × (r.requester ≢ r.asked)
 
 -- ---- what was received

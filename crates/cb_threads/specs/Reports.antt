@@ -3,7 +3,7 @@ use Rattle.std.specs.Prelude.{◌≡◌, ℕ, ◌+◌, List, [], ◌∷◌, leng
 use Rattle.std.specs.List.{All}
 use Rattle.cb_frames.specs.declared.fault.FrameFault.{FrameFault}
 use Rattle.cb_frames.specs.Fields.{FrameFields, CastFrame, StatusFrame, RequestFrame, messages_of}
-use Rattle.cb_frames.specs.Reading.{frame_at}
+use Rattle.cb_history.specs.Read.{frame_read}
 use Rattle.cb_history.specs.Facts.{EntryFields, CastEntry, ArriveEntry, TickEntry}
 use Rattle.cb_lock.specs.Receipts.{ReceiptFields, SeatState}
 use Rattle.cb_lock.specs.Claims.{receipts_of}
@@ -28,7 +28,7 @@ messages_read (Err fault) = 1
 
 -- the messages that an entry casts
 abbrev pub cast_by : EntryFields → ℕ
-cast_by (CastEntry frame) = messages_read (frame_at frame)
+cast_by (CastEntry frame) = messages_read (frame_read frame)
 cast_by (ArriveEntry frame delivered) = 0
 cast_by (TickEntry status) = 0
 

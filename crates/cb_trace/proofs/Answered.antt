@@ -8,7 +8,7 @@ use Rattle.cb_frames.specs.declared.frame.Range.{Range}
 use Rattle.cb_frames.specs.declared.fault.FrameFault.{FrameFault}
 use Rattle.cb_frames.specs.Fields.{CastFields, RequestFields, FrameFields, CastFrame, StatusFrame, RequestFrame}
 use Rattle.cb_frames.specs.Text.{text_of}
-use Rattle.cb_frames.specs.Reading.{frame_at}
+use Rattle.cb_history.specs.Read.{frame_read}
 use Rattle.cb_history.specs.declared.answer.CastRefusal.{CastRefusal}
 use Rattle.cb_history.specs.declared.answer.CastRefusal.TheVariants as casts
 use Rattle.cb_history.specs.declared.answer.ArriveRefusal.{ArriveRefusal}
@@ -58,7 +58,7 @@ module _ (seat : Identity) (limit other : ℕ) (entries : List EntryFields) (sam
 
   arrive_room : (bytes : List ℕ) → arrive_answer seat limit entries bytes ≡ arrive_answer seat other entries bytes
   unfolding arrive_answer
-  arrive_room bytes = answer_room (frame_at bytes)
+  arrive_room bytes = answer_room (frame_read bytes)
 
   tick_room : tick_answer seat limit entries ≡ tick_answer seat other entries
   unfolding tick_answer
@@ -121,7 +121,7 @@ answer_quiet seat limit entries (Err fault) bytes e is = refl
 
 take_out : (seat : Identity) (limit : ℕ) (entries : List EntryFields) (bytes : List ℕ) (e : EntryFields) → Quiet bytes e (arrive_answer seat limit entries bytes)
 unfolding arrive_answer
-take_out seat limit entries bytes e = answer_quiet seat limit entries (frame_at bytes) bytes e
+take_out seat limit entries bytes e = answer_quiet seat limit entries (frame_read bytes) bytes e
 
 nothing_comes : (bytes : List ℕ) (names : List Name) → ComesWith (ArriveEntry bytes names) []
 nothing_comes bytes names = record { all = λ _ e. absurd e; only = tt }

@@ -7,7 +7,7 @@ use Rattle.std.proofs.lemmas.List.{length-take-le}
 use Rattle.std.proofs.Math.Seq.{take-length}
 use Rattle.std.proofs.lemmas.Option.{slice_get_within}
 use Rattle.cb_frames.specs.Laws.{IsBytes}
-use Rattle.cb_frames.specs.Reading.{frame_at}
+use Rattle.cb_history.specs.Read.{frame_read}
 use Rattle.cb_history.specs.declared.answer.Outgoing.{Outgoing}
 use Rattle.cb_history.specs.Group.{Identity}
 use Rattle.cb_history.specs.Facts.{EntryFields, CastEntry, ArriveEntry, TickEntry}
@@ -113,11 +113,11 @@ module _ (setting : Setting) (histories : Histories) (are : AreLegalWithin setti
       where
         by : (x : EntryFields) → e ≡ x → IsStepOf s.sent k x step → asked_by setting s.sent step ≡ Calls k (call_of x)
         by (CastEntry frame) same of =
-            let bytes : IsBytes (payload_said (frame_at frame)) = entries_of_bytes_tell_bytes (CastEntry frame) (subst (λ (y : EntryFields). IsAdded me before y) same added).0 in
-            let all : are_bytes (payload_said (frame_at frame)) ≡ true = bytes_are_bytes (payload_said (frame_at frame)) bytes in
+            let bytes : IsBytes (payload_said (frame_read frame)) = entries_of_bytes_tell_bytes (CastEntry frame) (subst (λ (y : EntryFields). IsAdded me before y) same added).0 in
+            let all : are_bytes (payload_said (frame_read frame)) ≡ true = bytes_are_bytes (payload_said (frame_read frame)) bytes in
             ap (asked_by setting s.sent) of
-            ∙ ap (λ (b : Bool). if b then (if are_bytes (payload_said (frame_at frame)) then Calls k (ToCast (payload_said (frame_at frame))) else OfNoBytes) else OfNoMember) (lt-ltb k setting.group.size is_member)
-            ∙ ap (λ (b : Bool). if b then Calls k (ToCast (payload_said (frame_at frame))) else OfNoBytes) all
+            ∙ ap (λ (b : Bool). if b then (if are_bytes (payload_said (frame_read frame)) then Calls k (ToCast (payload_said (frame_read frame))) else OfNoBytes) else OfNoMember) (lt-ltb k setting.group.size is_member)
+            ∙ ap (λ (b : Bool). if b then Calls k (ToCast (payload_said (frame_read frame))) else OfNoBytes) all
         by (ArriveEntry frame names) same of =
             let first = of.1 in
             ap (asked_by setting s.sent) of.2

@@ -6,7 +6,7 @@ use Rattle.std.proofs.lemmas.Bool.{cond_both}
 use Rattle.cb_frames.specs.declared.fault.FrameFault.{FrameFault}
 use Rattle.cb_frames.specs.Fields.{FrameFields, CastFrame, StatusFrame, RequestFrame, RequestFields}
 use Rattle.cb_frames.specs.Text.{text_of, cast_kind, status_kind, request_kind}
-use Rattle.cb_frames.specs.Reading.{frame_at}
+use Rattle.cb_history.specs.Read.{frame_read}
 use Rattle.cb_times.specs.declared.name.Name.{Name}
 use Rattle.cb_history.specs.declared.answer.ArriveRefusal.{ArriveRefusal}
 use Rattle.cb_history.specs.Group.{Identity}
@@ -41,7 +41,7 @@ request_adds_nothing seat limit entries facts r bytes =
     cond_both (not (are_members seat.group.size frame)) _ _ P (λ _. refl) (λ _.
     cond_both (is_impossible seat facts frame) _ _ P (λ _. refl) (λ _. refl)))
 
-takes_no_request : (seat : Identity) (limit : ℕ) (entries : List EntryFields) (bytes : List ℕ) (r : RequestFields) → frame_at bytes ≡ Ok (RequestFrame r) → arrive_entry bytes (arrive_answer seat limit entries bytes) ≡ None
+takes_no_request : (seat : Identity) (limit : ℕ) (entries : List EntryFields) (bytes : List ℕ) (r : RequestFields) → frame_read bytes ≡ Ok (RequestFrame r) → arrive_entry bytes (arrive_answer seat limit entries bytes) ≡ None
 unfolding arrive_answer
 takes_no_request seat limit entries bytes r read =
     ap (λ (f : Result FrameFields FrameFault). arrive_entry bytes (answer_to seat limit entries f)) read ∙ request_adds_nothing seat limit entries (facts_of entries) r bytes

@@ -3,7 +3,7 @@ use Rattle.std.specs.Prelude.{◌≡◌, ◌≢◌, ℕ, ◌<◌, ◌≤◌, Lis
 use Rattle.cb_history.specs.Facts.{EntryFields, CastEntry, ArriveEntry, TickEntry}
 use Rattle.cb_history.specs.ReplayLaws.{payload_said}
 use Rattle.cb_history.specs.Legal.{IsLegal}
-use Rattle.cb_frames.specs.Reading.{frame_at}
+use Rattle.cb_history.specs.Read.{frame_read}
 use Rattle.cb_schedules.specs.Schedule.{Setting, seat_at, Step, CastStep, ArriveStep, TickStep, Schedule, SentFrame, run}
 use Rattle.cb_trace.specs.JointOrder.{Histories, next_entry}
 
@@ -17,7 +17,7 @@ pub record IsFirstFrame (sent : List SentFrame) (bytes : List ℕ) (number : ℕ
 -- The step that makes the entry, where these frames were sent: a cast of its payload, an arrival of the first frame with its bytes, or a
 -- tick.
 abbrev pub IsStepOf : List SentFrame → ℕ → EntryFields → Step → Type 0
-IsStepOf sent k (CastEntry frame) step = step ≡ CastStep k (payload_said (frame_at frame))
+IsStepOf sent k (CastEntry frame) step = step ≡ CastStep k (payload_said (frame_read frame))
 IsStepOf sent k (ArriveEntry frame delivered) step = (number : ℕ) × IsFirstFrame sent frame number × (step ≡ ArriveStep k number)
 IsStepOf sent k (TickEntry status) step = step ≡ TickStep k
 

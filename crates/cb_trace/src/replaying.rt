@@ -2,7 +2,7 @@
 
 ghost use Rattle.std.specs.Prelude.{◌≡◌, ◌<◌, [], IfOk, Some, map, option_map};
 ghost use Rattle.std.specs.Bool.{Decides};
-ghost use Rattle.cb_frames.specs.Reading.{frame_at};
+ghost use Rattle.cb_history.specs.Read.{frame_read};
 ghost use Rattle.cb_history.specs.Facts.{entry_fields};
 ghost use Rattle.cb_history.specs.Legal.{longest_history, ToCast, ToTake, ToTick};
 ghost use Rattle.cb_history.specs.ReplayLaws.{call_of, payload_said};
@@ -67,7 +67,7 @@ fn gives(alloc: Global, member: &mut Member, entry: &Entry) -> Result<bool, NoMe
 
 /// What a cast frame casts; no byte of a frame that is none.
 pub fn payload_of(alloc: Global, frame: &Bytes) -> Result<Bytes, NoMemory>
-    ensures { IfOk result (λ payload. payload ≡ payload_said (frame_at frame.now)) }
+    ensures { IfOk result (λ payload. payload ≡ payload_said (frame_read frame.now)) }
 {
     match decode(alloc, frame) {
         Ok(Frame::Cast(cast)) => Ok(cast.payload),

@@ -9,7 +9,7 @@ use Rattle.cb_frames.specs.declared.frame.Range.{Range}
 use Rattle.cb_frames.specs.declared.fault.FrameFault.{FrameFault}
 use Rattle.cb_frames.specs.Fields.{CastFields, FrameFields, CastFrame, StatusFrame, RequestFrame}
 use Rattle.cb_frames.specs.Text.{text_of}
-use Rattle.cb_frames.specs.Reading.{frame_at}
+use Rattle.cb_history.specs.Read.{frame_read}
 use Rattle.cb_history.specs.declared.answer.ArriveRefusal.{ArriveRefusal}
 use Rattle.cb_history.specs.declared.answer.CastRefusal.{CastRefusal}
 use Rattle.cb_history.specs.declared.answer.TickRefusal.{TickRefusal}
@@ -106,7 +106,7 @@ module _ (seat : Identity) (limit : ℕ) (entries : List EntryFields) where
 
   few_in_an_arrival : (bytes : List ℕ) → Few (ArrivalAnswer (arrive_answer seat limit entries bytes))
   unfolding arrive_answer
-  few_in_an_arrival bytes = few_in_answer (frame_at bytes)
+  few_in_an_arrival bytes = few_in_answer (frame_read bytes)
 
   pub few_sent_out : (call : Call) → seat.group.size ≤ 64 → length (frames_sent (answer_of seat limit entries call)) ≤ MOST_SENT_OUT
   few_sent_out (ToCast payload) size = few_in_a_cast payload

@@ -9,7 +9,7 @@ use Rattle.cb_frames.specs.declared.frame.TheConstants.{LONGEST_PAYLOAD, LAST_NU
 use Rattle.cb_frames.specs.declared.fault.FrameFault.{FrameFault}
 use Rattle.cb_frames.specs.Fields.{CastFields, FrameFields, CastFrame, StatusFrame, RequestFrame}
 use Rattle.cb_frames.specs.Text.{text_of}
-use Rattle.cb_frames.specs.Reading.{frame_at}
+use Rattle.cb_history.specs.Read.{frame_read}
 use Rattle.cb_delay.specs.declared.message.Message.{Message}
 use Rattle.cb_delay.specs.declared.message.Event.{Event}
 use Rattle.cb_delay.specs.declared.message.Event.TheVariants.{Cast, Deliver}
@@ -131,7 +131,7 @@ adds_none call e at = absurd (cc at)
 arrival_adds : (bytes : List ℕ) (r : Result ArrivalSays ArriveRefusal) → AddsOne (ToTake bytes) (arrive_entry bytes r)
 arrival_adds bytes (Ok (Accepted deliveries true out)) e at =
     let same : ArriveEntry bytes (map (λ (m : Message). m.name) deliveries) ≡ e = cc in
-    subst (λ (x : EntryFields). SaysOne (ToTake bytes) (said_by x)) same (arrival_says_one (ToTake bytes) (frame_at bytes))
+    subst (λ (x : EntryFields). SaysOne (ToTake bytes) (said_by x)) same (arrival_says_one (ToTake bytes) (frame_read bytes))
 arrival_adds bytes (Ok (Accepted deliveries false out)) e at = absurd (cc at)
 arrival_adds bytes (Ok Repeat) e at = absurd (cc at)
 arrival_adds bytes (Err refusal) e at = absurd (cc at)
@@ -139,7 +139,7 @@ arrival_adds bytes (Err refusal) e at = absurd (cc at)
 tick_adds : (status : List ℕ) (r : Result (Bool × List Outgoing) TickRefusal) → AddsOne ToTick (tick_entry status r)
 tick_adds status (Ok (true, out)) e at =
     let same : TickEntry status ≡ e = cc in
-    subst (λ (x : EntryFields). SaysOne ToTick (said_by x)) same (status_says_one ToTick (frame_at status))
+    subst (λ (x : EntryFields). SaysOne ToTick (said_by x)) same (status_says_one ToTick (frame_read status))
 tick_adds status (Ok (false, out)) e at = absurd (cc at)
 tick_adds status (Err refusal) e at = absurd (cc at)
 
@@ -168,7 +168,7 @@ module _ (setting : Setting) (is : IsSetting setting) (s : GroupState) (inv : Is
 
       made : delivered seat (facts_of now) seat.me < LAST_NUMBER → length payload ≤ LONGEST_PAYLOAD → Adds (Ok cast)
       made left short e at =
-          let read : frame_at (text_of (CastFrame cast)) ≡ Ok (CastFrame cast) = cast_read cast ((own_frames_have_texts seat (facts_of now) are).0 payload left short) in
+          let read : frame_read (text_of (CastFrame cast)) ≡ Ok (CastFrame cast) = cast_read cast ((own_frames_have_texts seat (facts_of now) are).0 payload left short) in
           let same : CastEntry (text_of (CastFrame cast)) ≡ e = cc in
           subst (λ (x : EntryFields). SaysOne (ToCast payload) (said_by x)) same
           (subst (λ (r : Result FrameFields FrameFault). SaysOne (ToCast payload) (cast_said r)) (sym read) refl)

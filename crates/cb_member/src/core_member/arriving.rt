@@ -4,7 +4,7 @@ ghost use Rattle.std.specs.Prelude.{◌≡◌, ◌≤◌, ◌+◌, ℕ, List, tr
 ghost use Rattle.std.specs.Vec.{vec_capacity, vec_len};
 ghost use Rattle.cb_frames.specs.Fields.{cast_fields, request_fields, status_fields, CastFrame, RequestFrame, StatusFrame};
 ghost use Rattle.cb_frames.specs.Laws.{IsBytes};
-ghost use Rattle.cb_frames.specs.Reading.{frame_at};
+ghost use Rattle.cb_history.specs.Read.{frame_read};
 ghost use Rattle.cb_delay.specs.declared.message.Event.{Event as Events};
 ghost use Rattle.cb_delay.specs.declared.message.Message.{Message as Messages};
 ghost use Rattle.cb_history.specs.Answers.{Accepted};
@@ -97,7 +97,7 @@ impl State {
     ) -> Result<Heard, ArriveRefusal>
         requires core { IsCore (core_of self.old) }
         requires bytes { IsBytes bytes.now }
-        requires read { frame_at bytes.now ≡ Ok (CastFrame (cast_fields cast)) }
+        requires read { frame_read bytes.now ≡ Ok (CastFrame (cast_fields cast)) }
         ensures { AnswersArrivalOnEach noting bytes.now (core_of self.old) (core_of self.new)
             events.old.items events.new.items result }
     {
@@ -128,7 +128,7 @@ impl State {
     ) -> Result<Coming, NoMemory>
         requires core { IsCore (core_of self.old) }
         requires bytes { IsBytes bytes.now }
-        requires read { frame_at bytes.now ≡ Ok (CastFrame (cast_fields cast)) }
+        requires read { frame_read bytes.now ≡ Ok (CastFrame (cast_fields cast)) }
         requires new { IsNew (cast_fields cast) self.old }
         ensures same { core_of self.new ≡ core_of self.old }
         ensures same_events { events.new.items ≡ events.old.items }
@@ -184,7 +184,7 @@ impl State {
     ) -> Result<Heard, ArriveRefusal>
         requires core { IsCore (core_of self.old) }
         requires bytes { IsBytes bytes.now }
-        requires read { frame_at bytes.now ≡ Ok (StatusFrame (status_fields status.now)) }
+        requires read { frame_read bytes.now ≡ Ok (StatusFrame (status_fields status.now)) }
         ensures { (events : List Events) → AnswersArrivalOnEach noting bytes.now (core_of self.old)
             (core_of self.new) events events result }
     {
@@ -219,7 +219,7 @@ impl State {
     fn receive_request(&self, request: &Request) -> Result<Heard, ArriveRefusal>
         requires { IsCore (core_of self.now) }
         ensures { (noting : Notings) (bytes : List ℕ) (events : List Events)
-            → frame_at bytes ≡ Ok (RequestFrame (request_fields request.now))
+            → frame_read bytes ≡ Ok (RequestFrame (request_fields request.now))
             → AnswersArrivalOnEach noting bytes (core_of self.now) (core_of self.now) events events
             result }
     {

@@ -3,7 +3,7 @@
 ghost use Rattle.std.specs.Prelude.{◌≡◌, Ok};
 ghost use Rattle.cb_frames.specs.Fields.{cast_fields, CastFrame};
 ghost use Rattle.cb_frames.specs.Laws.{IsBytes};
-ghost use Rattle.cb_frames.specs.Reading.{frame_at};
+ghost use Rattle.cb_history.specs.Read.{frame_read};
 ghost use Rattle.cb_member.specs.Recorder.{IsKept};
 
 use crate::arrival::cast::Judged;
@@ -85,7 +85,7 @@ fn way_at(alloc: Global, member: Member, frame: &'static [u8]) -> Way {
 fn way_of(recorder: Recorder, bytes: &Bytes, cast: Cast) -> Way
     requires kept { IsKept recorder }
     requires bytes { IsBytes bytes.now }
-    requires read { frame_at bytes.now ≡ Ok (CastFrame (cast_fields cast)) }
+    requires read { frame_read bytes.now ≡ Ok (CastFrame (cast_fields cast)) }
 {
     // asked for what is true of every text
     each_is_a_text_or_a_fault();

@@ -3,7 +3,7 @@
 ghost use Rattle.std.specs.Prelude.{◌≡◌, ◌<◌, ℕ, IfOk, IfErr, List, Ok, None, [], length};
 ghost use Rattle.cb_frames.specs.Fields.{cast_fields, fields_of, request_fields, status_fields, CastFrame, RequestFrame, StatusFrame};
 ghost use Rattle.cb_frames.specs.Laws.{IsBytes};
-ghost use Rattle.cb_frames.specs.Reading.{frame_at};
+ghost use Rattle.cb_history.specs.Read.{frame_read};
 ghost use Rattle.cb_history.specs.Facts.{ArriveEntry, entry_fields};
 ghost use Rattle.cb_member.specs.Answering.{RefusesBytes};
 ghost use Rattle.cb_member.specs.Arriving.{IsNew};
@@ -65,7 +65,7 @@ impl Recorder {
     ) -> Result<Taken, ArriveRefusal>
         requires kept { IsKept self.old }
         requires bytes { IsBytes bytes.now }
-        requires read { frame_at bytes.now ≡ Ok (CastFrame (cast_fields cast)) }
+        requires read { frame_read bytes.now ≡ Ok (CastFrame (cast_fields cast)) }
         ensures { AnswersBytes wanted bytes.now self.old self.new result }
     {
         // asked for what is true of every text
@@ -86,7 +86,7 @@ impl Recorder {
     fn prepare(&mut self, bytes: &Bytes, cast: Cast, wanted: Wanted) -> Result<Arriving, NoMemory>
         requires kept { IsKept self.old }
         requires bytes { IsBytes bytes.now }
-        requires read { frame_at bytes.now ≡ Ok (CastFrame (cast_fields cast)) }
+        requires read { frame_read bytes.now ≡ Ok (CastFrame (cast_fields cast)) }
         requires new { IsNew (cast_fields cast) self.old.state }
         requires few { length self.old.entries.items < self.old.limit }
         ensures kept { IsKept self.new }
@@ -156,7 +156,7 @@ impl Recorder {
     ) -> Result<Taken, ArriveRefusal>
         requires kept { IsKept self.old }
         requires bytes { IsBytes bytes.now }
-        requires read { frame_at bytes.now ≡ Ok (StatusFrame (status_fields status.now)) }
+        requires read { frame_read bytes.now ≡ Ok (StatusFrame (status_fields status.now)) }
         ensures { AnswersBytes wanted bytes.now self.old self.new result }
     {
         // asked for what is true of every text
@@ -192,7 +192,7 @@ impl Recorder {
     fn answer(&self, request: &Request) -> Result<Taken, ArriveRefusal>
         requires { IsKept self.now }
         ensures { (wanted : Wants) (bytes : List ℕ)
-            → frame_at bytes ≡ Ok (RequestFrame (request_fields request.now))
+            → frame_read bytes ≡ Ok (RequestFrame (request_fields request.now))
             → AnswersBytes wanted bytes self.now self.now result }
     {
         match self.state.answer_request(request) {
@@ -253,7 +253,7 @@ fn fitted(mut names: Names) -> Names
 
 /// The frame of the bytes. What is no frame is refused without memory.
 pub fn read(alloc: Global, bytes: &Bytes) -> Result<Frame, ArriveRefusal>
-    ensures frame { IfOk result (λ frame. frame_at bytes.now ≡ Ok (fields_of frame)) }
+    ensures frame { IfOk result (λ frame. frame_read bytes.now ≡ Ok (fields_of frame)) }
     ensures refused { IfErr result (RefusesBytes bytes.now) }
     ensures bytes { IsBytes bytes.now }
 {

@@ -2,7 +2,7 @@
 
 ghost use Rattle.std.specs.Prelude.{◌≡◌, Ok, Err, IfOk, IfErr, map};
 ghost use Rattle.cb_frames.specs.Fields.{cast_fields, request_fields, RequestFrame};
-ghost use Rattle.cb_frames.specs.Reading.{frame_at};
+ghost use Rattle.cb_history.specs.Read.{frame_read};
 ghost use Rattle.cb_history.specs.Facts.{entry_fields, facts_of, cast_said, said_by};
 ghost use Rattle.cb_history.specs.Answers.{are_members, is_asked_for, own_casts, sent_in_answer};
 ghost use Rattle.cb_history.specs.State.{facts_in};
@@ -39,7 +39,7 @@ fn asked_text(
     ranges: &[Range],
 ) -> Result<Option<Bytes>, NoMemory>
     ensures { IfOk result (λ text. as_texts text ≡ asked_texts stable ranges.now (own_casts
-        (cast_said (frame_at frame.now)))) }
+        (cast_said (frame_read frame.now)))) }
 {
     one_text();
     match decode(alloc, frame) {
