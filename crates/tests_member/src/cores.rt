@@ -260,6 +260,61 @@ fn a_core_without_room_refuses_what_would_add_an_entry(rt: HostRuntime) {
     assert_eq!(rt; both.delivered.len(), 1);
 }
 
+#[test]
+fn a_core_says_beforehand_whether_it_casts(rt: HostRuntime) {
+    const ROWS: &[(&[u8], Option<CastRefusal>)] = &[
+        (&[0; 1025], Some(CastRefusal::PayloadTooLong)),
+        (&[0; 1024], None),
+        (&[], None),
+        (&[], Some(CastRefusal::WindowFull)),
+        (&[0; 1025], Some(CastRefusal::PayloadTooLong)),
+    ];
+    let mut both = Both::new(&rt, rt.alloc());
+    for (payload, refusal) in ROWS {
+        assert_eq!(rt; both.core.may_cast(payload).err(), *refusal);
+        assert_eq!(rt; both.core.cast(payload).err(), *refusal);
+    }
+}
+
+#[test]
+fn a_cast_joins_the_events_of_who_keeps_them(rt: HostRuntime) {
+    let mut both = Both::new(&rt, rt.alloc());
+    let (frame, entry) = both
+        .core
+        .cast_into(b"no", &mut both.delivered)
+        .expect(&rt, "a cast");
+    let (done, noted) = both.member.cast_noted(b"no").expect(&rt, "a cast");
+    assert!(rt; frame == done.out && entry == noted);
+    assert!(rt; are_the_cast(&both.delivered, &done));
+    let long = both.core.cast_into(&[0; 1025], &mut both.delivered);
+    assert_eq!(rt; long.err(), Some(CastRefusal::PayloadTooLong));
+    assert!(rt; are_the_cast(&both.delivered, &done));
+}
+
+/// The one event is that of the cast.
+fn are_the_cast(events: &[Event], done: &CastDone) -> bool {
+    match events {
+        [Event::Cast(message)] => {
+            message.name == done.name
+                && message.time.as_slice() == done.time.as_slice()
+                && message.payload.as_slice() == b"no"
+        }
+        _ => false,
+    }
+}
+
+#[test]
+fn a_core_has_news_until_it_tells_them(rt: HostRuntime) {
+    let mut both = Both::new(&rt, rt.alloc());
+    for is_new in [true, false, false] {
+        assert_eq!(rt; both.core.has_news(), is_new);
+        let ticked = both.core.tick().expect(&rt, "a tick");
+        assert_eq!(rt; ticked.entered, is_new);
+    }
+    assert!(rt; both.core.cast(b"no").is_ok());
+    assert!(rt; both.core.has_news());
+}
+
 /// What a core does by the calls that note nothing.
 #[derive(Clone, Copy, Debug, PartialEq, Eq)]
 struct Plain {
