@@ -108,7 +108,8 @@ impl State {
     fn take_in_at_once(&mut self, cast: Cast, time: VectorTime)
         requires { HasTime (cast_fields cast) time self.old }
         ensures takes { TakesInCast (cast_fields cast) self.old self.new }
-        ensures holds { HoldsIt self.old.delivery (message_at (cast_fields cast) time) self.new.delivery }
+        ensures holds { HoldsIt self.old.delivery (message_at (cast_fields cast) time)
+            self.new.delivery }
     {
         let (sender, number) = (cast.sender, cast.number);
         let message = self.reception.take_in_order(cast, time);

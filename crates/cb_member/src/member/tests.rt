@@ -21,6 +21,7 @@ enum Way {
     Early,
     Waits,
     Alone,
+    LeadsOn,
     LetsGo,
     /// It is no cast that is new.
     Nowhere,
@@ -46,7 +47,7 @@ fn a_cast_takes_the_cheapest_course(rt: HostRuntime) {
         (&[], FIRST, Way::Alone),
         (&[], SECOND, Way::Early),
         (&[], ANSWER, Way::Waits),
-        (&[ANSWER], FIRST, Way::LetsGo),
+        (&[ANSWER], FIRST, Way::LeadsOn),
         // what waits needs another cast
         (&[LATE_ANSWER], FIRST, Way::Alone),
         (&[ANSWER], SECOND, Way::Early),
@@ -113,6 +114,7 @@ fn named(course: &Course) -> Way {
         Course::Early { .. } => Way::Early,
         Course::Waits { .. } => Way::Waits,
         Course::Alone { .. } => Way::Alone,
+        Course::LeadsOn { .. } => Way::LeadsOn,
         Course::LetsGo { .. } => Way::LetsGo,
     }
 }
