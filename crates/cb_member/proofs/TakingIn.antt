@@ -427,8 +427,7 @@ would_expand sender first last r b more at row seat facts c are of_sender begins
     ap (λ (cs : List CastFields). expanded_count cs sender) (casts_in-append facts (CastReceived c)) ∙ ap (expanded_count (casts_in facts ++ c ∷ [])) (sym of_sender) ∙ count ∙ ap (λ (n : ℕ). n + more) taken
 
 -- how many messages wait at most, where so many more would be expanded
-pub holds_at_most : (c : CastFields) (state : State) (held more most : ℕ) → WouldExpand c.sender c.number c.number state.reception more → held ≡ fin.len state.delivery.queue.held → most ≡ held + more
-    → HoldsAtMost c state most
-holds_at_most c state held more most would at is facts are keeps =
+pub holds_at_most : (c : CastFields) (state : State) (more most : ℕ) → WouldExpand c.sender c.number c.number state.reception more → most ≡ fin.len state.delivery.queue.held + more → HoldsAtMost c state most
+holds_at_most c state more most would is facts are keeps =
     let expands = would state.seat facts c are refl (first_is_number c) (last_is_number c) keeps.received in
-    omega (arith, expands, at, is)
+    omega (arith, expands, is)

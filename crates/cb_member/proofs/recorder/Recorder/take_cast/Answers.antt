@@ -1,5 +1,6 @@
-use Rattle.std.proofs.Common.{[], Ok, refl, ap, subst}
+use Rattle.std.proofs.Common.{◌≤◌, ℕ, [], Ok, refl, ap, subst}
 use Rattle.cb_frames.specs.Fields.{cast_fields, CastFrame}
+use Rattle.cb_frames.proofs.Carried.{first_is_number}
 use Rattle.cb_history.specs.Answers.{Repeat}
 use Rattle.cb_history.proofs.ReadBack.{frame_numbered}
 use Rattle.cb_member.specs.declared.arrival.cast.Judged.{Judged}
@@ -15,7 +16,9 @@ pub judge_cast-requires-clause-state : goal.judge_cast-requires-clause-state
 judge_cast-requires-clause-state c = state_kept c.args.self.now c.requires.kept
 
 pub judge_cast-requires-clause-numbered : goal.judge_cast-requires-clause-numbered
-judge_cast-requires-clause-numbered c = frame_numbered c.args.bytes.now (cast_fields c.args.cast) c.requires.read
+judge_cast-requires-clause-numbered c =
+    let cast = cast_fields c.args.cast in
+    subst (λ (n : ℕ). 1 ≤ n) (first_is_number cast) (frame_numbered c.args.bytes.now cast c.requires.read)
 
 pub returns-in-Ok-Repeat : goal.returns-in-Ok-Repeat
 returns-in-Ok-Repeat c =

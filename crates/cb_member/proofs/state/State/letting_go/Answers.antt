@@ -1,6 +1,6 @@
 use Rattle.cb_frames.specs.Fields.{cast_fields}
 use Rattle.cb_member.proofs.Alike.{can_follow_alike, with_room}
-use Rattle.cb_member.proofs.Courses.{holds_so_many}
+use Rattle.cb_member.proofs.TakingIn.{holds_at_most}
 use Rattle.cb_member.proofs.state.State.letting_go.Goals as goal
 
 pub returns-clause-course : goal.returns-clause-course
@@ -11,5 +11,5 @@ returns-clause-course c =
         size = c.requires.size;
         place = c.in_ok-reserve.ensures.place;
       },
-      holds_so_many cast _ c.would_expand-more.result c.in_ok-most.most c.would_expand-more.ensures c.in_ok-most.ensures,
+      holds_at_most cast _ c.would_expand-more.result c.in_ok-most.most c.would_expand-more.ensures c.in_ok-most.ensures,
     )
