@@ -81,15 +81,12 @@ arrival_refused_at : (old : KeptMember) (bytes : List ℕ) (refusal : ArriveRefu
 arrival_refused_at old bytes refusal es (inl says) = inl (arrival_refused old.core.seat (limit_of old es) es bytes refusal says)
 arrival_refused_at old bytes refusal es (inr memory) = inr memory
 
-other_at : (old : KeptMember) (bytes : List ℕ) (may_enter : Bool) (refusal : ArriveRefusal) (es : List EntryFields) → refusal ≢ refusals.HistoryFull → RefusesWithin may_enter (unlimited old.core.seat es) bytes refusal
-    → RefusesArrival (state_with old es) bytes refusal
-other_at old bytes may_enter refusal es other (inl refuses) = arrival_refused_at old bytes refusal es refuses
-other_at old bytes may_enter refusal es other (inr enters) = absurd (other enters.1)
-
-full_at : (old : KeptMember) (bytes : List ℕ) (may_enter : Bool) → Full old ≡ true → (es : List EntryFields) → Stands old es → RefusesWithin may_enter (unlimited old.core.seat es) bytes refusals.HistoryFull
-    → RefusesArrival (state_with old es) bytes refusals.HistoryFull
-full_at old bytes may_enter full es st (inl refuses) = arrival_refused_at old bytes refusals.HistoryFull es refuses
-full_at old bytes may_enter full es st (inr enters) = inl (arrival_full old.core.seat (limit_of old es) es bytes (has_none old full es st) enters.2)
+refused_at : (old : KeptMember) (bytes : List ℕ) (may_enter : Bool) (refusal : ArriveRefusal) (es : List EntryFields) → Stands old es → (refusal ≡ refusals.HistoryFull → Full old ≡ true)
+    → RefusesWithin may_enter (unlimited old.core.seat es) bytes refusal → RefusesArrival (state_with old es) bytes refusal
+refused_at old bytes may_enter refusal es st full (inl refuses) = arrival_refused_at old bytes refusal es refuses
+refused_at old bytes may_enter refusal es st full (inr enters) =
+    inl (arrival_full old.core.seat (limit_of old es) es bytes (has_none old (full enters.1) es st) enters.2
+    ∙ ap (λ (r : ArriveRefusal). let x : Result ArrivalSays ArriveRefusal = Err r in x) (sym enters.1))
 
 no_memory_at : (old : KeptMember) (bytes : List ℕ) (may_enter : Bool) (es : List EntryFields) → RefusesWithin may_enter (unlimited old.core.seat es) bytes refusals.HistoryFull
     → RefusesArrival (state_with old es) bytes refusals.NoMemory
@@ -97,16 +94,14 @@ no_memory_at old bytes may_enter es (inl (inl full)) = inr (refl, arrival_read o
 no_memory_at old bytes may_enter es (inl (inr memory)) = inr (refl, memory.1)
 no_memory_at old bytes may_enter es (inr enters) = inr (refl, arrival_read old.core.seat (room_for_one es) es bytes (inr enters.2))
 
--- an entry would be added: the history is full, or else there was no memory for the entry; or it is refused for another reason
-module _ (old : KeptMember) (bytes : List ℕ) (may_enter : Bool) where
-  pub arrival_refused_full : Full old ≡ true → OnEachCore old.core (λ m. RefusesWithin may_enter m bytes refusals.HistoryFull) → OnEach old (λ m. RefusesArrival m bytes refusals.HistoryFull)
-  arrival_refused_full full refuses es st = full_at old bytes may_enter full es st (refuses es st.stands)
-
-  pub arrival_lacks_memory : OnEachCore old.core (λ m. RefusesWithin may_enter m bytes refusals.HistoryFull) → OnEach old (λ m. RefusesArrival m bytes refusals.NoMemory)
-  arrival_lacks_memory refuses es st = no_memory_at old bytes may_enter es (refuses es st.stands)
-
-  pub arrival_refused_so : (refusal : ArriveRefusal) → refusal ≢ refusals.HistoryFull → OnEachCore old.core (λ m. RefusesWithin may_enter m bytes refusal) → OnEach old (λ m. RefusesArrival m bytes refusal)
-  arrival_refused_so refusal other refuses es st = other_at old bytes may_enter refusal es other (refuses es st.stands)
+-- it is refused so; but where an entry was refused and the history is not full, there was no memory for the entry
+pub arrival_refused_so : (old : KeptMember) (bytes : List ℕ) (may_enter full : Bool) (refusal answer : ArriveRefusal) → Full old ≡ full → OnEachCore old.core (λ m. RefusesWithin may_enter m bytes refusal)
+    → ((answer ≡ refusal) × (refusal ≡ refusals.HistoryFull → full ≡ true)) ⊎ ((refusal ≡ refusals.HistoryFull) × (answer ≡ refusals.NoMemory)) → OnEach old (λ m. RefusesArrival m bytes answer)
+arrival_refused_so old bytes may_enter full refusal answer is refuses (inl same) es st =
+    subst (λ (r : ArriveRefusal). RefusesArrival (state_with old es) bytes r) (sym same.0) (refused_at old bytes may_enter refusal es st (λ on. is ∙ same.1 on) (refuses es st.stands))
+arrival_refused_so old bytes may_enter full refusal answer is refuses (inr none) es st =
+    subst (λ (r : ArriveRefusal). RefusesArrival (state_with old es) bytes r) (sym none.1)
+    (no_memory_at old bytes may_enter es (subst (λ (r : ArriveRefusal). RefusesWithin may_enter (unlimited old.core.seat es) bytes r) none.0 (refuses es st.stands)))
 
 pub tick_refused_full : (old : KeptMember) → Full old ≡ true → OnEachCore old.core (λ m. true ≡ is_new_status m.seat (facts_in m)) → OnEach old (λ m. RefusesTick m ticks.HistoryFull)
 tick_refused_full old full news es st = inl (tick_full old.core.seat (limit_of old es) es (sym (news es st.stands)) (has_none old full es st))

@@ -104,19 +104,14 @@ impl Kept {
         let full = is_full(self.limit, &self.entries);
         let may_enter = has_room(full, &mut self.entries);
         let (events, entries) = (self.events.len(), self.entries.len());
-        match self
-            .core
-            .receive_within(bytes, may_enter, &mut self.events)
-        {
+        match self.core.receive_within(bytes, may_enter, &mut self.events) {
             Ok((received, entry)) => {
                 enter(&mut self.entries, entry);
                 forget(self.limit, &mut self.entries, entries);
                 forget(self.limit, &mut self.events, events);
                 Ok(received)
             }
-            Err(ArriveRefusal::HistoryFull) if full => Err(ArriveRefusal::HistoryFull),
-            Err(ArriveRefusal::HistoryFull) => Err(ArriveRefusal::NoMemory),
-            Err(refusal) => Err(refusal),
+            Err(refusal) => Err(refused(full, refusal)),
         }
     }
 
@@ -208,6 +203,23 @@ fn has_room(full: bool, entries: &mut Vec<Entry>) -> bool
     ensures room { result ≡ true → vec_len entries.new + 1 ≤ vec_capacity entries.new }
 {
     !full && make_room(entries, 1).is_ok()
+}
+
+/// Where an entry was refused and the history is not full, there was no memory for the entry.
+fn refused(full: bool, refusal: ArriveRefusal) -> ArriveRefusal
+    ensures { ((result ≡ refusal) × (refusal ≡ ArriveRefusal.HistoryFull → full ≡ true))
+        ⊎ ((refusal ≡ ArriveRefusal.HistoryFull) × (result ≡ ArriveRefusal.NoMemory)) }
+{
+    match refusal {
+        ArriveRefusal::HistoryFull => {
+            if full {
+                ArriveRefusal::HistoryFull
+            } else {
+                ArriveRefusal::NoMemory
+            }
+        }
+        other => other,
+    }
 }
 
 /// Adds the entry, if there is one. This takes no memory.

@@ -1,9 +1,9 @@
 -- What a core answers to received bytes.
-use Rattle.std.proofs.Common.{◌≡◌, ◌≢◌, ℕ, ◌-◌, Bool, true, false, not, ◌==◌, List, [], ◌∷◌, ◌++◌, length, map, drop, Option, Some, None, Result, Ok, Err, refl, sym, ap, subst, ◌∙◌, arith, inl, inr}
-use Rattle.std.specs.Prelude.{if◌then◌else◌, option_map}
+use Rattle.std.proofs.Common.{◌≡◌, ◌≢◌, ℕ, ◌-◌, Bool, true, false, List, [], ◌∷◌, ◌++◌, length, map, drop, Some, None, Result, Ok, Err, refl, sym, ap, subst, ◌∙◌, arith, inl, inr}
+use Rattle.std.specs.Prelude.{option_map}
 use Rattle.std.proofs.lemmas.List.{append-nil, drop_at, length-append, length-map}
 use Rattle.cb_frames.specs.declared.fault.FrameFault.{FrameFault}
-use Rattle.cb_frames.specs.Fields.{CastFrame, FrameFields, RequestFields, RequestFrame, StatusFields, StatusFrame, cast_fields}
+use Rattle.cb_frames.specs.Fields.{CastFrame, FrameFields, StatusFields, StatusFrame, cast_fields}
 use Rattle.cb_frames.specs.Laws.{IsBytes}
 use Rattle.cb_history.specs.Read.{frame_read}
 use Rattle.cb_delay.specs.declared.message.Event.{Event}
@@ -11,9 +11,8 @@ use Rattle.cb_delay.specs.declared.message.Event.TheVariants.{Deliver}
 use Rattle.cb_delay.specs.declared.message.Message.{Message}
 use Rattle.cb_history.specs.declared.answer.ArriveRefusal.{ArriveRefusal}
 use Rattle.cb_history.specs.declared.answer.ArriveRefusal.TheVariants as refusals
-use Rattle.cb_history.specs.declared.answer.Outgoing.{Outgoing}
 use Rattle.cb_history.specs.Facts.{ArriveEntry, CastReceived, EntryFields, Fact, StatusReceived, arrival_said, entry_fields, facts_of}
-use Rattle.cb_history.specs.Answers.{Accepted, ArrivalSays, answer_to, are_members, arrive_answer, deliveries, frame_answer, sent_in_answer}
+use Rattle.cb_history.specs.Answers.{Accepted, ArrivalSays, answer_to, arrive_answer, deliveries, frame_answer}
 use Rattle.cb_history.specs.Legal.{ToTake, arrive_entry, room_for_one}
 use Rattle.cb_history.specs.LegalFacts.{AreFactsOf}
 use Rattle.cb_history.specs.State.{MemberState, RefusesArrival, answer_to_arrival, entry_by, facts_in}

@@ -37,9 +37,9 @@ use std::marker::Model;
 /// One member of a group that keeps no history, for sessions without an end.
 ///
 /// It stands for the history of all calls so far, and answers each call as the definitions in
-/// `cb_history` say of that history without a limit; so it never answers `HistoryFull`. Its memory
-/// is bounded by the group's size and window. After any refusal, out of memory too, the member is
-/// as it was.
+/// `cb_history` say of that history without a limit; so it never answers `HistoryFull`, but where a
+/// caller has no room for an entry (`receive_within`). Its memory is bounded by the group's size and
+/// window. After any refusal, out of memory too, the member is as it was.
 #[derive(Drop)]
 pub struct CoreMember {
     state: State,
@@ -223,7 +223,9 @@ impl CoreMember {
         ensures call { IsCall
             (Take bytes.now result (joined events.old.items events.new.items)) self.old self.new }
     {
-        let heard = self.state.receive_unlimited(bytes, Noting::Unwanted, events)?;
+        let heard = self
+            .state
+            .receive_unlimited(bytes, Noting::Unwanted, events)?;
         Ok(heard.received)
     }
 
@@ -254,9 +256,9 @@ impl CoreMember {
         Ok((heard.received, heard.noted))
     }
 
-    /// Takes received bytes as `receive_noted` does, for a caller who may have no room for an entry:
-    /// where none may be added, bytes of which a history would have one are refused as
-    /// `HistoryFull`, behind `TooFar` and in front of `NoMemory`.
+    /// Takes received bytes as `receive_noted` does, for a caller who may have no room for an entry.
+    /// Where none may be added, bytes of which a history would have one are refused as
+    /// `HistoryFull`, in its place in the order of `ArriveRefusal`.
     pub fn receive_within(
         &mut self,
         bytes: &Bytes,
