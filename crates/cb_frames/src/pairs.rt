@@ -18,6 +18,7 @@ use std::alloc::Global;
 const MOST_CHANGES: usize = 64;
 
 /// The next change, whose index is at least `least` and not `own`. Most have an index of one byte, and an increment of one or two.
+#[inline(always)]
 #[tactic(auto, unfolding(crate::specs::Reading::pair_at, cb_varint::specs::Reading::number_at))]
 fn next_change(own: Option<u32>, least: u32, bytes: &[u8]) -> Result<(Change, &[u8]), FrameFault>
     ensures value { Answers (λ x. ((x.0.field, x.0.amount), x.1.now)) result
