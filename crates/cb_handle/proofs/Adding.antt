@@ -1,5 +1,5 @@
 -- What a call adds to a history that is not kept, and to its events.
-use Rattle.std.proofs.Common.{◌≡◌, ◌⊎◌, ℕ, ◌+◌, ◌-◌, ◌≤◌, Bool, true, false, ◌&&◌, not, eqb, List, [], ◌∷◌, ◌++◌, length, drop, map, Option, Some, None, Result, Ok, Err, refl, sym, ap, subst, ◌∙◌, arith, inl, inr}
+use Rattle.std.proofs.Common.{◌≡◌, ◌⊎◌, ℕ, ◌-◌, ◌≤◌, Bool, true, false, ◌&&◌, not, eqb, List, [], ◌∷◌, ◌++◌, length, drop, map, Option, Some, None, Result, Ok, Err, refl, sym, ap, subst, ◌∙◌, arith, inl, inr}
 use Rattle.std.specs.Prelude.{if◌then◌else◌, nat_lt}
 use Rattle.std.specs.List.{flat_map}
 use Rattle.std.proofs.lemmas.Bool.{ltb-false}
@@ -13,32 +13,30 @@ use Rattle.cb_frames.specs.Text.{cast_kind, cast_numbers, text_of}
 use Rattle.cb_delay.specs.declared.message.Event.{Event}
 use Rattle.cb_delay.specs.declared.message.Event.TheVariants.{Cast, Deliver}
 use Rattle.cb_delay.specs.declared.message.Message.{Message}
-use Rattle.cb_diffs.specs.Expansion.{expanded_time}
 use Rattle.cb_history.specs.declared.answer.ArriveRefusal.{ArriveRefusal}
 use Rattle.cb_history.specs.declared.answer.ArriveRefusal.TheVariants as arrivals
 use Rattle.cb_history.specs.declared.answer.CastRefusal.{CastRefusal}
 use Rattle.cb_history.specs.declared.answer.CastRefusal.TheVariants as casts
 use Rattle.cb_history.specs.declared.answer.Outgoing.{Outgoing}
-use Rattle.cb_history.specs.Answers.{ArrivalSays, Accepted, Repeat, answer_to, are_members, arrive_answer, cast_answer, deliveries, delivered, group_of, is_change, is_full, is_impossible, is_repeat, is_too_far, is_window_full, next_cast, sent_in_answer, status_of}
+use Rattle.cb_history.specs.Answers.{ArrivalSays, Accepted, Repeat, answer_to, are_members, arrive_answer, cast_answer, deliveries, group_of, is_change, is_full, is_impossible, is_repeat, is_too_far, is_window_full, next_cast, sent_in_answer, status_of}
 use Rattle.cb_history.specs.EventLaws.{new_events}
 use Rattle.cb_history.specs.Events.{events}
 use Rattle.cb_history.specs.Facts.{EntryFields, Fact, OwnCast, CastReceived, StatusReceived, OwnStatus, CastEntry, ArriveEntry, TickEntry, arrival_said, cast_said, casts_in, facts_of, said_by, status_said}
 use Rattle.cb_history.specs.Group.{Identity}
 use Rattle.cb_history.specs.Legal.{AreEntriesOf, and_entry, arrive_entry, room_for_one}
 use Rattle.cb_history.specs.LegalFacts.{AreFactsOf}
-use Rattle.cb_history.specs.View.{counts, message_in, view}
+use Rattle.cb_history.specs.View.{message_in, view}
 use Rattle.cb_history.proofs.Counts.{number_left}
 use Rattle.cb_history.proofs.Happening.{events_with_one_more}
 use Rattle.cb_history.proofs.Histories.{entries_say_legal_facts}
 use Rattle.cb_history.proofs.Lists.{flat_map-append}
 use Rattle.cb_history.proofs.ReadBack.{cast_read, status_read}
 use Rattle.cb_history.proofs.Requests.{own_frames_have_texts}
-use Rattle.cb_history.proofs.Times.{own_casts_tell_the_view}
-use Rattle.cb_history.proofs.Views.{casts_in-append}
-use Rattle.cb_history.proofs.Walks.{view_own, view_status}
+use Rattle.cb_history.proofs.Walks.{view_status}
 use Rattle.cb_history.proofs.Written.{cast_can}
-use Rattle.cb_member.specs.Casting.{next_message, next_time}
+use Rattle.cb_member.specs.Casting.{next_message}
 use Rattle.cb_member.specs.Received.{deliveries_in}
+use Rattle.cb_member.proofs.Recording.{cast_event}
 
 pub joined : (es : List EntryFields) (o : Option EntryFields) → es ++ and_entry [] o ≡ and_entry es o
 joined es None = append-nil es
@@ -68,16 +66,6 @@ can_be_cast : (seat : Identity) (limit : ℕ) (es : List EntryFields) (payload :
 unfolding cast_answer
 can_be_cast seat limit es payload c says =
     by_cast_rules (nat_lt LONGEST_PAYLOAD (length payload)) (is_window_full seat (facts_of es)) (is_full limit es) (next_cast seat (facts_of es) payload) c says
-
--- the time with the cast is what its frame tells
-cast_event : (seat : Identity) (facts : List Fact) (payload : List ℕ) → AreFactsOf seat (facts ++ OwnCast (next_cast seat facts payload) ∷ [])
-    → new_events seat facts (OwnCast (next_cast seat facts payload)) ≡ Cast (next_message seat facts payload) ∷ []
-cast_event seat facts payload are =
-    let c = next_cast seat facts payload in
-    let tells : expanded_time seat.group.size (casts_in facts ++ c ∷ []) seat.me (delivered seat facts seat.me + 1) ≡ next_time seat facts payload =
-    ap (λ (cs : List CastFields). expanded_time seat.group.size cs seat.me (delivered seat facts seat.me + 1)) (sym (casts_in-append facts (OwnCast c)))
-    ∙ own_casts_tell_the_view seat facts [] c are ∙ ap (counts seat.group.size) (view_own seat.group.size facts c) in
-    ap (λ (time : List ℕ). Cast (record { name = record { sender = seat.me; number = delivered seat facts seat.me + 1 }; time = time; payload = payload }) ∷ []) tells
 
 -- the entry of a cast that is answered says that cast, and the event is its message
 pub cast_adds : (seat : Identity) (limit : ℕ) (es : List EntryFields) (payload : List ℕ) → AreFactsOf seat (facts_of es)

@@ -181,15 +181,15 @@ module _ (seat : Identity) (limit : ℕ) (es : List EntryFields) where
   unfolding arrive_answer
   arrival_full bytes full some = full_read bytes (frame_read bytes) full some
 
-  frame_read : (bytes : List ℕ) (r : Result FrameFields FrameFault) → (answer_to seat limit es r ≡ Err arrivals.HistoryFull) ⊎ (arrive_entry bytes (answer_to seat limit es r) ≢ None) → HasValue r
-  frame_read bytes (Ok frame) enters = tt
-  frame_read bytes (Err fault) (inl full) = absurd cc
-  frame_read bytes (Err fault) (inr some) = absurd (some refl)
+  there_to_read : (bytes : List ℕ) (r : Result FrameFields FrameFault) → (answer_to seat limit es r ≡ Err arrivals.HistoryFull) ⊎ (arrive_entry bytes (answer_to seat limit es r) ≢ None) → HasValue r
+  there_to_read bytes (Ok frame) enters = tt
+  there_to_read bytes (Err fault) (inl full) = absurd cc
+  there_to_read bytes (Err fault) (inr some) = absurd (some refl)
 
   -- bytes of which there is an entry, or would be, are a frame
   pub arrival_read : (bytes : List ℕ) → (arrive_answer seat limit es bytes ≡ Err arrivals.HistoryFull) ⊎ (arrive_entry bytes (arrive_answer seat limit es bytes) ≢ None) → HasValue (frame_read bytes)
   unfolding arrive_answer
-  arrival_read bytes enters = frame_read bytes (frame_read bytes) enters
+  arrival_read bytes enters = there_to_read bytes (frame_read bytes) enters
 
 -- ---- ticks
 

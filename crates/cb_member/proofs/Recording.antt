@@ -131,7 +131,7 @@ can_keep_cast r payload entering can = record {
 }
 
 -- the time with the cast is what its frame tells
-cast_event : (seat : Identity) (facts : List Fact) (payload : List ℕ) → AreFactsOf seat (facts ++ OwnCast (next_cast seat facts payload) ∷ [])
+pub cast_event : (seat : Identity) (facts : List Fact) (payload : List ℕ) → AreFactsOf seat (facts ++ OwnCast (next_cast seat facts payload) ∷ [])
     → new_events seat facts (OwnCast (next_cast seat facts payload)) ≡ Cast (next_message seat facts payload) ∷ []
 cast_event seat facts payload are =
     let c = next_cast seat facts payload in
