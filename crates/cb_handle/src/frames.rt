@@ -26,6 +26,7 @@ impl Frames {
     }
 
     /// The frames of a call that casts nothing. A list without frames stays where it is.
+    #[inline(always)]
     pub fn replace(&mut self, frames: Vec<Outgoing>)
         ensures { frames_of self.new ≡ frames.items }
     {

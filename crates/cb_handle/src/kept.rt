@@ -233,22 +233,29 @@ fn enter(entries: &mut Vec<Entry>, entry: Option<Entry>)
     }
 }
 
-/// Without a history, those of before the call go.
+/// Without a history, those of before the call go. Asked in each call, so it is built into them.
+#[inline(always)]
 fn forget<T: Drop>(limit: usize, list: &mut Vec<T>, before: usize)
     ensures { list.new.items ≡ if limit == 0 then drop before list.old.items else list.old.items }
 {
-    if limit > 0 || before == 0 {
-        return;
+    if limit == 0 && before > 0 {
+        drop_front(list, before);
     }
-    if list.len() <= before {
+}
+
+/// The first so many go.
+fn drop_front<T: Drop>(list: &mut Vec<T>, count: usize)
+    ensures { list.new.items ≡ drop count list.old.items }
+{
+    if list.len() <= count {
         list.clear();
         return;
     }
-    if before == 1 {
+    if count == 1 {
         drop(list.remove(0));
         return;
     }
-    let rest = list.len() - before;
-    list.rotate_left(before);
+    let rest = list.len() - count;
+    list.rotate_left(count);
     list.truncate(rest);
 }
