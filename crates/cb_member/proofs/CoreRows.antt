@@ -5,7 +5,6 @@ use Rattle.cb_frames.specs.declared.fault.FrameFault.TheVariants as faults
 use Rattle.cb_frames.specs.Fields.{messages_of, first_number, last_number}
 use Rattle.cb_frames.specs.Text.{text_of}
 use Rattle.cb_frames.specs.Reading.{frame_at, cast_at, status_at, request_at, pairs_at, pair_at}
-use Rattle.cb_history.specs.Read.{frame_read}
 use Rattle.cb_history.specs.declared.answer.ArriveRefusal.TheVariants as arrivals
 use Rattle.cb_history.specs.declared.answer.CastDone.{CastDone}
 use Rattle.cb_history.specs.declared.answer.CastRefusal.TheVariants as casts
