@@ -297,7 +297,7 @@ fn are_the_cast(events: &[Event], done: &CastDone) -> bool {
         [Event::Cast(message)] => {
             message.name == done.name
                 && message.time.as_slice() == done.time.as_slice()
-                && message.payload.as_slice() == b"no"
+                && message.payload.as_slice() == b"no".as_slice()
         }
         _ => false,
     }
