@@ -57,7 +57,6 @@ done << 'END'
 200 new, without history
 202 cast, without history
 203 an arrival that waits, without history
-204 an arrival that delivers two messages, without history
 205 a status that is news, without history
 206 missing, without history
 207 a tick with a request, without history
@@ -71,9 +70,9 @@ done << 'END'
 219 a received status that is news, without history
 220 a received request that is answered, without history
 END
-# a payload too long, bytes that are no frame, a full history and a full window take no memory, nor does a cast for which all room is
+# a payload too long, bytes that are no frame, a full history and a full window take no memory, nor do casts for which all room is
 # there; where room for deliveries is all that is wanted, less is asked for once more is refused
-for status in 101 109 110 112 118 121 201 209 212 214 221; do
+for status in 101 109 110 112 118 121 201 204 209 212 214 221; do
     [ -z "${refused[$status]:-}" ] || { echo "row $status wants memory"; exit 1; }
 done
 [ $((total + ${refused[0]:-0})) = "$most" ] || { echo "a status that no row has"; exit 1; }
