@@ -7,8 +7,9 @@ use Rattle.std.proofs.lemmas.List.{append-nil, map-append}
 use Rattle.cb_times.specs.declared.name.Name.{Name}
 use Rattle.cb_frames.specs.declared.frame.TheConstants.{LONGEST_PAYLOAD, LAST_NUMBER}
 use Rattle.cb_frames.specs.declared.fault.FrameFault.{FrameFault}
-use Rattle.cb_frames.specs.Fields.{CastFields, FrameFields, CastFrame, StatusFrame, RequestFrame}
+use Rattle.cb_frames.specs.Fields.{Carried, CastFields, FrameFields, CastFrame, StatusFrame, RequestFrame}
 use Rattle.cb_frames.specs.Text.{text_of}
+use Rattle.cb_frames.proofs.Carried.{carries_one}
 use Rattle.cb_history.specs.Read.{frame_read}
 use Rattle.cb_delay.specs.declared.message.Message.{Message}
 use Rattle.cb_delay.specs.declared.message.Event.{Event}
@@ -22,10 +23,11 @@ use Rattle.cb_history.specs.declared.answer.ArriveRefusal.{ArriveRefusal}
 use Rattle.cb_history.specs.declared.answer.TickRefusal.{TickRefusal}
 use Rattle.cb_history.specs.declared.answer.Outgoing.{Outgoing}
 use Rattle.cb_history.specs.Group.{Identity}
-use Rattle.cb_history.specs.Facts.{EntryFields, CastEntry, ArriveEntry, TickEntry, Fact, OwnCast, CastReceived, StatusReceived, OwnStatus, cast_said, arrival_said, status_said, said_by, facts_of}
+use Rattle.cb_history.specs.Facts.{EntryFields, CastEntry, ArriveEntry, TickEntry, Fact, OwnCast, CastReceived, StatusReceived, OwnStatus, cast_said, arrival_said, status_said, said_by, casts_in, facts_of}
 use Rattle.cb_history.specs.Answers.{is_full, is_window_full, delivered, next_cast, cast_answer, ArrivalSays, Accepted, Repeat, arrive_answer, tick_answer}
 use Rattle.cb_history.specs.Events.{events}
 use Rattle.cb_history.specs.EventLaws.{new_events}
+use Rattle.cb_history.specs.View.{message_in}
 use Rattle.cb_history.specs.Legal.{Call, ToCast, ToTake, ToTick, cast_entry, arrive_entry, tick_entry, entry_of, and_entry, history_after, AreEntriesOf}
 use Rattle.cb_history.specs.LegalFacts.{AreFactsOf}
 use Rattle.cb_history.proofs.Counts.{number_left}
@@ -77,7 +79,8 @@ all_deliver call [] = tt
 all_deliver call (message ∷ messages) = (tt, all_deliver call messages)
 
 makes : (call : Call) (seat : Identity) (facts : List Fact) (f : Fact) → IsSaidBy call f → AllByRecursion (IsMadeBy call) (new_events seat facts f)
-makes call seat facts (OwnCast c) said = (said, tt)
+makes call seat facts (OwnCast c) said =
+    subst (λ (ms : List Carried). AllByRecursion (IsMadeBy call) (map (λ m. Cast (message_in seat.group.size (casts_in facts ++ c ∷ []) m)) ms)) (sym (carries_one c)) (said, tt)
 makes call seat facts (CastReceived c) said = all_deliver call _
 makes call seat facts (StatusReceived s) said = tt
 makes call seat facts (OwnStatus s) said = tt
