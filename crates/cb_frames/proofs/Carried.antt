@@ -1,33 +1,74 @@
 -- The messages of a cast: one for each number from its first to its last.
 use Rattle.std.proofs.Common.{◌≡◌, ℕ, ◌+◌, ◌<◌, ◌≤◌, List, [], ◌∷◌, length, refl, sym, ap, ◌∙◌, arith, inl, inr, ◌⊎◌}
 use Rattle.std.proofs.lemmas.Bool.{cases_eq}
-use Rattle.cb_frames.specs.Fields.{CastFields, Carried, messages_of, first_number, last_number}
+use Rattle.cb_frames.specs.Fields.{Load, One, load_bytes, payloads_of, numbered, last_from, CastFields, Carried, messages_of, first_number, last_number}
 use Rattle.cb_frames.specs.Carrying.{AreNumberedFrom, FirstIsTheNumber, CarriedInOrder, CarriedUpToTheLast, CarriesSome, CarriesNoMore}
 
 pub first_is_number : FirstIsTheNumber
 unfolding first_number
 first_is_number c = refl
 
+-- ---- payloads that are numbered one after another
+
+numbered_in_order : (sender n : ℕ) (payloads : List (List ℕ)) → AreNumberedFrom sender n (numbered sender n payloads)
+numbered_in_order sender n [] = tt
+numbered_in_order sender n (payload ∷ payloads) = (refl, refl, numbered_in_order sender (n + 1) payloads)
+
+as_many_as_payloads : (sender n : ℕ) (payloads : List (List ℕ)) → length (numbered sender n payloads) ≡ length payloads
+as_many_as_payloads sender n [] = refl
+as_many_as_payloads sender n (payload ∷ payloads) = omega (arith, as_many_as_payloads sender (n + 1) payloads)
+
+numbered_up_to_the_last : (n : ℕ) (payloads : List (List ℕ)) → 1 ≤ length payloads → length payloads + n ≡ last_from n payloads + 1
+numbered_up_to_the_last n [] some = absurd (omega (arith, some))
+numbered_up_to_the_last n (payload ∷ []) some = omega arith
+numbered_up_to_the_last n (payload ∷ next ∷ payloads) some = omega (arith, numbered_up_to_the_last (n + 1) (next ∷ payloads) (omega arith))
+
+-- ---- what a load carries
+
+-- a load carries some payload
+pub load_has_some : (load : Load) → 1 ≤ length (payloads_of load)
+load_has_some (One payload) = omega arith
+
+-- and no more than one
+pub load_has_one : (load : Load) → length (payloads_of load) ≡ 1
+load_has_one (One payload) = refl
+
+-- which is all of its bytes
+pub one_load : (load : Load) → load ≡ One (load_bytes load)
+one_load (One payload) = refl
+
+-- two loads of the same bytes are one
+pub same_load : (one other : Load) → load_bytes one ≡ load_bytes other → one ≡ other
+same_load (One payload) (One others) bytes = ap One bytes
+
+-- ---- the laws of the messages of a cast
+
 pub carried_in_order : CarriedInOrder
 unfolding messages_of first_number
-carried_in_order c = (refl, refl, tt)
+carried_in_order c = numbered_in_order c.sender c.number (payloads_of c.load)
+
+-- as many messages as payloads
+pub carries_payloads : (c : CastFields) → length (messages_of c) ≡ length (payloads_of c.load)
+unfolding messages_of
+carries_payloads c = as_many_as_payloads c.sender c.number (payloads_of c.load)
 
 pub carried_up_to_the_last : CarriedUpToTheLast
-unfolding messages_of first_number last_number
-carried_up_to_the_last c = omega arith
+unfolding first_number last_number
+carried_up_to_the_last c = omega (arith, carries_payloads c, numbered_up_to_the_last c.number (payloads_of c.load) (load_has_some c.load))
 
 pub carries_some : CarriesSome
-unfolding first_number last_number
-carries_some c = omega arith
+carries_some c = omega (arith, carried_up_to_the_last c, carries_payloads c, load_has_some c.load)
 
 pub carries_no_more : CarriesNoMore
-unfolding first_number last_number
-carries_no_more c = omega arith
+carries_no_more c = omega (arith, carried_up_to_the_last c, carries_payloads c, load_has_one c.load)
+
+one_numbered : (sender n : ℕ) (load : Load) → numbered sender n (payloads_of load) ≡ record { sender = sender; number = n; payload = load_bytes load } ∷ []
+one_numbered sender n (One payload) = refl
 
 -- the one message that a cast carries, and its number, which is the last one too
-pub carries_one : (c : CastFields) → messages_of c ≡ record { sender = c.sender; number = c.number; payload = c.payload } ∷ []
+pub carries_one : (c : CastFields) → messages_of c ≡ record { sender = c.sender; number = c.number; payload = load_bytes c.load } ∷ []
 unfolding messages_of
-carries_one c = refl
+carries_one c = one_numbered c.sender c.number c.load
 
 pub last_is_number : (c : CastFields) → last_number c ≡ c.number
 last_is_number c = omega (arith, carries_some c, carries_no_more c, first_is_number c)

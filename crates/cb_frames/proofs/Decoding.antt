@@ -6,7 +6,7 @@ use Rattle.std.proofs.lemmas.List.{length-append, length-drop, drop_at, append-n
 use Rattle.cb_frames.specs.declared.frame.Frame.{Frame}
 use Rattle.cb_frames.specs.declared.fault.FrameFault.{FrameFault}
 use Rattle.cb_frames.specs.declared.fault.FrameFault.TheVariants.{Trailing, NoMemory}
-use Rattle.cb_frames.specs.Fields.{CastFields, FrameFields, fields_of}
+use Rattle.cb_frames.specs.Fields.{load_bytes, CastFields, FrameFields, fields_of}
 use Rattle.cb_frames.specs.Text.{cast_kind, status_kind, request_kind, IsText}
 use Rattle.cb_frames.specs.Fault.{FirstFault}
 use Rattle.cb_frames.specs.Reading.{end_at, payload_at, cast_at, status_at, request_at, frame_at, Gives, Fails}
@@ -106,7 +106,7 @@ longer_payload n bytes longer =
     let behind = no_end (drop n bytes) (omega (arith, length-drop n bytes, longer)) in
     rw (enough, behind) refl
 
-pub payload_is_end : (bytes : List ℕ) (c : CastFields) → IsBytes bytes → cast_at bytes ≡ Ok c → (front : List ℕ) × (bytes ≡ front ++ c.payload)
+pub payload_is_end : (bytes : List ℕ) (c : CastFields) → IsBytes bytes → cast_at bytes ≡ Ok c → (front : List ℕ) × (bytes ≡ front ++ load_bytes c.load)
 payload_is_end bytes c fits e =
     let text = subst (CastOutcome bytes) e (cast_outcome bytes fits) in
     (text.2.0, text.2.2)
@@ -131,7 +131,7 @@ pub fault_of_request : (bytes : List ℕ) (kind : ℕ) (fields : List ℕ) (e : 
 unfolding frame_at
 fault_of_request bytes kind fields e parts k h = ap frame_at (parts ∙ ap (λ (n : ℕ). n ∷ fields) k) ∙ rw h refl
 
-pub cast_of_frame : (bytes : List ℕ) (kind : ℕ) (fields : List ℕ) (c : CastFields) → bytes ≡ kind ∷ fields → IsBytes bytes → cast_at fields ≡ Ok c → (front : List ℕ) × (bytes ≡ front ++ c.payload)
+pub cast_of_frame : (bytes : List ℕ) (kind : ℕ) (fields : List ℕ) (c : CastFields) → bytes ≡ kind ∷ fields → IsBytes bytes → cast_at fields ≡ Ok c → (front : List ℕ) × (bytes ≡ front ++ load_bytes c.load)
 cast_of_frame bytes kind fields c parts fits h =
     let fields_fit : IsBytes fields = λ i. subst (λ (t : List ℕ). get_or t (suc i) 0 < 256) parts (fits (suc i)) in
     let end = payload_is_end fields c fields_fit h in

@@ -9,7 +9,7 @@ use Rattle.cb_varint.proofs.Turns.{length_1, length_2}
 use Rattle.cb_frames.specs.declared.frame.TheConstants.{LAST_MEMBER, LONGEST_PAYLOAD}
 use Rattle.cb_frames.specs.declared.frame.Change.{Change}
 use Rattle.cb_frames.specs.declared.frame.Range.{Range}
-use Rattle.cb_frames.specs.Fields.{CastFrame, StatusFrame, RequestFrame}
+use Rattle.cb_frames.specs.Fields.{load_bytes, CastFrame, StatusFrame, RequestFrame}
 use Rattle.cb_frames.specs.Text.{SpellAll, pairs_from, RisesFrom, ranges_from, IsChange, IsValue}
 use Rattle.cb_frames.specs.StreamLaws.{LongestFrame}
 
@@ -118,14 +118,14 @@ pub longest_frame : LongestFrame
 longest_frame (CastFrame c) text is =
     let rules = is.0 in
     let few = few_changes c.sender 0 c.changes rules.sender (omega arith) rules.changes.rising rules.changes.each in
-    let tail = of_pairs 0 c.changes (length c.payload ∷ []) 2 (of_changes c.sender c.changes rules.changes.each) (payload_number (length c.payload) is.1) in
+    let tail = of_pairs 0 c.changes (length (load_bytes c.load) ∷ []) 2 (of_changes c.sender c.changes rules.changes.each) (payload_number (length (load_bytes c.load)) is.1) in
     let count = small_number (length c.changes) _ _ (omega (arith, few)) tail in
     let number = any_number c.number _ _ count in
     let sender = small_number c.sender _ _ (omega (arith, rules.sender)) number in
     let all = any_number c.group _ _ sender in
     let within = all.bound is.2.0 is.2.1 in
     let len = ap length is.2.2 in
-    omega (arith, len, length-append is.2.0 c.payload, within, few, is.1)
+    omega (arith, len, length-append is.2.0 (load_bytes c.load), within, few, is.1)
 longest_frame (StatusFrame s) text is =
     let few = few_indices 0 s.values is.0.values.rising (of_values s.values is.0.values.each) in
     let tail = of_values_alone 0 s.values (of_values s.values is.0.values.each) in

@@ -2,12 +2,12 @@
 use Rattle.std.proofs.Common.{◌≡◌, ℕ, zero, suc, ◌+◌, ◌≤◌, false, cond, eqb, List, [], ◌∷◌, ◌++◌, length, Option, Result, Ok, Err, refl, sym, ap, subst, ◌∙◌, arith}
 use Rattle.std.proofs.lemmas.Bool.{cond_both, eqb-true}
 use Rattle.std.proofs.lemmas.List.{append-nil}
-use Rattle.cb_frames.specs.declared.frame.TheConstants.{LAST_MEMBER, LONGEST_PAYLOAD}
+use Rattle.cb_frames.specs.declared.frame.TheConstants.{LAST_MEMBER}
 use Rattle.cb_frames.specs.declared.frame.Change.{Change}
 use Rattle.cb_frames.specs.declared.fault.FrameFault.{FrameFault}
 use Rattle.cb_frames.specs.declared.fault.FrameFault.TheVariants.{UnknownKind, Trailing}
-use Rattle.cb_frames.specs.Fields.{CastFields, StatusFields, RequestFields, FrameFields, CastFrame, StatusFrame, RequestFrame}
-use Rattle.cb_frames.specs.Text.{cast_kind, status_kind, request_kind, SpellAll, pairs_from, ranges_from, cast_numbers, status_numbers, request_numbers, KeepsCastRules, KeepsStatusRules, KeepsRequestRules, IsText}
+use Rattle.cb_frames.specs.Fields.{One, load_bytes, CastFields, StatusFields, RequestFields, FrameFields, CastFrame, StatusFrame, RequestFrame}
+use Rattle.cb_frames.specs.Text.{cast_kind, status_kind, request_kind, SpellAll, pairs_from, ranges_from, cast_numbers, status_numbers, request_numbers, KeepsCastRules, KeepsStatusRules, KeepsRequestRules, IsLoad, IsText}
 use Rattle.cb_frames.specs.Fault.{Field, Number, any_number, member_rule, message_rule, length_rule, ranges_rule, Pairs, change_pairs, value_pairs, range_pairs, pairs_field, payload_field, end_field, cast_field, status_field, request_field, IsWrong, FirstFaultOf, FirstFault}
 use Rattle.cb_frames.specs.Reading.{◌>>=◌, field_at, pair_at, pairs_at, payload_at, end_at, cast_at, status_at, request_at, frame_at}
 use Rattle.cb_varint.proofs.Fronts.{IsBytes}
@@ -122,8 +122,8 @@ payload_cases n bytes P fits ok err =
 
 -- the text of a cast frame without its kind
 abbrev pub IsCastText : CastFields → List ℕ → Type 0
-IsCastText c bytes = KeepsCastRules c × (length c.payload ≤ LONGEST_PAYLOAD)
-    × ((numbers : List ℕ) × SpellAll (cast_numbers c) numbers × (bytes ≡ numbers ++ c.payload))
+IsCastText c bytes = KeepsCastRules c × IsLoad c.load
+    × ((numbers : List ℕ) × SpellAll (cast_numbers c) numbers × (bytes ≡ numbers ++ load_bytes c.load))
 
 abbrev pub CastOutcome : List ℕ → Result CastFields FrameFault → Type 0
 CastOutcome bytes (Ok c) = IsCastText c bytes
@@ -158,7 +158,7 @@ head bytes group sender number count g s n k = record {
 -- the frame that was read, where its payload is all of the rest
 whole_cast : (bytes : List ℕ) (group sender number count : ℕ) (rest : List ℕ) (changes : List Change) (after : List ℕ) (size : ℕ) (payload : List ℕ)
     → Head bytes group sender number count rest → PairsRead (change_pairs sender) payload_field count 0 rest changes after → Found (length_rule 0) after size payload → length payload ≡ size
-    → IsCastText (record { group = group; sender = sender; number = number; changes = changes; payload = payload }) bytes
+    → IsCastText (record { group = group; sender = sender; number = number; changes = changes; load = One payload }) bytes
 whole_cast bytes group sender number count rest changes after size payload h d l whole =
     let are = are_changes sender 0 changes d.numbers d.says in
     let pairs : Opens (pairs_from 0 changes) rest after = subst (λ (ns : List ℕ). Opens ns rest after) are.1 d.opens in
@@ -173,10 +173,10 @@ whole_cast bytes group sender number count rest changes after size payload h d l
 
 -- the rest of a cast frame behind its changes
 cast_tail : (bytes : List ℕ) (group sender number count : ℕ) (rest : List ℕ) (changes : List Change) (after : List ℕ) → Head bytes group sender number count rest → PairsRead (change_pairs sender) payload_field count 0 rest changes after
-    → CastOutcome bytes (field_at (length_rule 0) after >>= λ size. payload_at size.0 size.1 >>= λ payload. Ok (record { group = group; sender = sender; number = number; changes = changes; payload = payload }))
+    → CastOutcome bytes (field_at (length_rule 0) after >>= λ size. payload_at size.0 size.1 >>= λ payload. Ok (record { group = group; sender = sender; number = number; changes = changes; load = One payload }))
 cast_tail bytes group sender number count rest changes after h d =
-    field_cases (length_rule 0) after (λ size. payload_at size.0 size.1 >>= λ payload. Ok (record { group = group; sender = sender; number = number; changes = changes; payload = payload })) (CastOutcome bytes) d.rest_fits
-    (λ size l. payload_cases size.0 size.1 (λ r. CastOutcome bytes (r >>= λ payload. Ok (record { group = group; sender = sender; number = number; changes = changes; payload = payload })))
+    field_cases (length_rule 0) after (λ size. payload_at size.0 size.1 >>= λ payload. Ok (record { group = group; sender = sender; number = number; changes = changes; load = One payload })) (CastOutcome bytes) d.rest_fits
+    (λ size l. payload_cases size.0 size.1 (λ r. CastOutcome bytes (r >>= λ payload. Ok (record { group = group; sender = sender; number = number; changes = changes; load = One payload })))
     l.rest_fits
     (λ whole. whole_cast bytes group sender number count rest changes after size.0 size.1 h d l whole)
     (λ e f. h.later e (d.through e (fault_later payload_field size.0 l.text size.1 after e (l.spelled, l.kept) l.parts f))))

@@ -8,7 +8,7 @@ use Rattle.cb_varint.specs.Spelling.{Spells}
 use Rattle.cb_frames.specs.declared.frame.TheConstants.{LAST_MEMBER, LAST_NUMBER}
 use Rattle.cb_frames.specs.declared.frame.Change.{Change}
 use Rattle.cb_frames.specs.declared.frame.Range.{Range}
-use Rattle.cb_frames.specs.Fields.{CastFields, StatusFields, RequestFields}
+use Rattle.cb_frames.specs.Fields.{load_bytes, CastFields, StatusFields, RequestFields}
 use Rattle.cb_frames.specs.Text.{SpellAll, pairs_from, ranges_from, cast_numbers, status_numbers, request_numbers, AreChanges, AreValues, AreRanges}
 use Rattle.cb_frames.specs.Parts.{AreChangesBut}
 
@@ -223,19 +223,19 @@ pub all_then_all : (ms ns a b c : List ℕ) → Appends (SpellAll ms) a b → Ap
 all_then_all ms ns a b c one two = (one.0 ++ two.0, spelled_both ms ns one.0 two.0 one.1 two.1, two.2 ∙ ap (λ (t : List ℕ). t ++ two.0) one.2 ∙ append_assoc a one.0 two.0)
 
 -- the number fields of a cast frame, one after another; where the last one is out of memory, all are
-pub numbers_written : {E : Type 0} (r : Result (Unit {0}) E) (c : CastFields) (count size : ℕ) (a b d e f g h : List ℕ) → count ≡ length c.changes → size ≡ length c.payload
+pub numbers_written : {E : Type 0} (r : Result (Unit {0}) E) (c : CastFields) (count size : ℕ) (a b d e f g h : List ℕ) → count ≡ length c.changes → size ≡ length (load_bytes c.load)
     → Appends (λ text. Spells text c.group) a b → Appends (λ text. Spells text c.sender) b d → Appends (λ text. Spells text c.number) d e
     → Appends (λ text. Spells text count) e f → Appends (SpellAll (pairs_from 0 c.changes)) f g
     → OnOk r (Appends (λ text. Spells text size) g h) → OnOk r (Appends (SpellAll (cast_numbers c)) a h)
 numbers_written (Ok x) c count size a b d e f g h count_is size_is group sender number changes pairs last =
-    let end : Appends (SpellAll (length c.payload ∷ [])) g h = one_alone (length c.payload) g h (subst (λ (n : ℕ). Appends (λ text. Spells text n) g h) size_is last) in
-    let after_count = pairs_from 0 c.changes ++ length c.payload ∷ [] in
+    let end : Appends (SpellAll (length (load_bytes c.load) ∷ [])) g h = one_alone (length (load_bytes c.load)) g h (subst (λ (n : ℕ). Appends (λ text. Spells text n) g h) size_is last) in
+    let after_count = pairs_from 0 c.changes ++ length (load_bytes c.load) ∷ [] in
     let after_number = length c.changes ∷ after_count in
     one_then_all c.group (c.sender ∷ c.number ∷ after_number) a b h group
     (one_then_all c.sender (c.number ∷ after_number) b d h sender
     (one_then_all c.number after_number d e h number
     (one_then_all (length c.changes) after_count e f h (subst (λ (n : ℕ). Appends (λ text. Spells text n) e f) count_is changes)
-    (all_then_all (pairs_from 0 c.changes) (length c.payload ∷ []) f g h pairs end))))
+    (all_then_all (pairs_from 0 c.changes) (length (load_bytes c.load) ∷ []) f g h pairs end))))
 numbers_written (Err x) c count size a b d e f g h count_is size_is group sender number changes pairs last = tt
 
 pub status_written : {E : Type 0} (r : Result (Unit {0}) E) (s : StatusFields) (count : ℕ) (a b d e f : List ℕ) → count ≡ length s.values

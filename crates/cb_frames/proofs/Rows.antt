@@ -3,7 +3,7 @@ use Rattle.std.proofs.Common.{◌≡◌, ℕ, List, [], ◌∷◌, Some, None, O
 use Rattle.cb_varint.specs.declared.fault.NumberFault.TheVariants as numbers
 use Rattle.cb_varint.specs.Spelling.{Spells}
 use Rattle.cb_frames.specs.declared.fault.FrameFault.TheVariants as faults
-use Rattle.cb_frames.specs.Fields.{CastFields, StatusFields, RequestFields, CastFrame, StatusFrame, RequestFrame, messages_of, first_number, last_number}
+use Rattle.cb_frames.specs.Fields.{One, numbered, last_from, CastFields, StatusFields, RequestFields, CastFrame, StatusFrame, RequestFrame, messages_of, first_number, last_number}
 use Rattle.cb_frames.specs.Carrying.{AreNumberedFrom}
 use Rattle.cb_varint.specs.Reading.{number_at, spelling}
 use Rattle.cb_frames.specs.Reading.{run_at, payload_at, frame_at, cast_at, status_at, request_at, pairs_at, pair_at}
@@ -12,11 +12,11 @@ use Rattle.cb_frames.specs.Fault.{Field, Number, Run, End, length_rule, cast_fie
 
 -- the first cast of member 0 of group 7, "hi"
 abbrev hi : CastFields
-hi = record { group = 7; sender = 0; number = 1; changes = []; payload = 0x68 ∷ 0x69 ∷ [] }
+hi = record { group = 7; sender = 0; number = 1; changes = []; load = One (0x68 ∷ 0x69 ∷ []) }
 
 -- the first cast of member 2 of group 300, after three of member 0, one of member 1 and two of member 4
 abbrev after_six : CastFields
-after_six = record { group = 300; sender = 2; number = 1; changes = record { field = 0; amount = 3 } ∷ record { field = 1; amount = 1 } ∷ record { field = 4; amount = 2 } ∷ []; payload = [] }
+after_six = record { group = 300; sender = 2; number = 1; changes = record { field = 0; amount = 3 } ∷ record { field = 1; amount = 1 } ∷ record { field = 4; amount = 2 } ∷ []; load = One [] }
 
 -- it carries one message, numbered from 1 to 1
 carries_hi : messages_of hi ≡ record { sender = 0; number = 1; payload = 0x68 ∷ 0x69 ∷ [] } ∷ []
@@ -30,6 +30,13 @@ numbers_hi = (refl, refl, tt)
 -- messages of member 2 that are numbered from 5 on, and the same ones in the wrong order
 numbers_two : AreNumberedFrom 2 5 (record { sender = 2; number = 5; payload = 0x68 ∷ [] } ∷ record { sender = 2; number = 6; payload = [] } ∷ [])
 numbers_two = (refl, refl, (refl, refl, tt))
+
+-- such payloads are so numbered, up to 6
+payloads_two : numbered 2 5 ((0x68 ∷ []) ∷ [] ∷ []) ≡ record { sender = 2; number = 5; payload = 0x68 ∷ [] } ∷ record { sender = 2; number = 6; payload = [] } ∷ []
+payloads_two = refl
+
+ends_at_six : last_from 5 ((0x68 ∷ []) ∷ [] ∷ []) ≡ 6
+ends_at_six = refl
 
 not_in_order : AreNumberedFrom 2 5 (record { sender = 2; number = 6; payload = [] } ∷ record { sender = 2; number = 5; payload = 0x68 ∷ [] } ∷ []) → ⊥
 not_in_order row = let first = row.1 in absurd cc

@@ -13,10 +13,11 @@ use Rattle.cb_frames.specs.declared.frame.Range.{Range}
 use Rattle.cb_frames.specs.declared.fault.FrameFault.{FrameFault}
 use Rattle.cb_frames.specs.declared.fault.FrameFault.TheVariants.{UnknownKind}
 use Rattle.cb_frames.specs.NumberFaults.{as_frame_fault}
-use Rattle.cb_frames.specs.Fields.{CastFields, StatusFields, RequestFields, CastFrame, StatusFrame, RequestFrame}
+use Rattle.cb_frames.specs.Fields.{Load, load_bytes, CastFields, StatusFields, RequestFields, CastFrame, StatusFrame, RequestFrame}
 use Rattle.cb_frames.specs.Text.{cast_kind, status_kind, request_kind, SpellAll, pairs_from, ranges_from, cast_numbers, status_numbers, request_numbers, KeepsCastRules, KeepsStatusRules, KeepsRequestRules, text_of}
 use Rattle.cb_frames.specs.Fault.{Field, Number, Run, End, Pairs, change_pairs, value_pairs, range_pairs, pairs_field, payload_field, end_field, cast_field, status_field, request_field, kind_fields, Accepts, Follows, IsWrong, FirstFaultOf, FirstFault}
 use Rattle.cb_frames.proofs.SaidPairs.{keeps_member, keeps_message, keeps_length, keeps_ranges, Says, says_changes, says_values, says_ranges, says_one}
+use Rattle.cb_frames.proofs.Carried.{same_load}
 use Rattle.cb_frames.specs.Laws.{NoneBeginsAnother, OneText, SomeText, OneFault, TextHasNoFault}
 
 -- ---- one number
@@ -154,18 +155,18 @@ end_whole rest spelled = record { follows = append-nil rest ∙ spelled; ends = 
 
 -- what a cast frame is read as, field by field: its numbers, and the payload as so many bytes
 abbrev cast_values : CastFields → List ℕ
-cast_values c = c.group ∷ c.sender ∷ c.number ∷ length c.changes ∷ (pairs_from 0 c.changes ++ length c.payload ∷ length c.payload ∷ [])
+cast_values c = c.group ∷ c.sender ∷ c.number ∷ length c.changes ∷ (pairs_from 0 c.changes ++ length (load_bytes c.load) ∷ length (load_bytes c.load) ∷ [])
 
-cast_whole : (c : CastFields) (numbers : List ℕ) → KeepsCastRules c → length c.payload ≤ LONGEST_PAYLOAD → SpellAll (cast_numbers c) numbers → IsWhole cast_field (cast_values c) (numbers ++ c.payload)
+cast_whole : (c : CastFields) (numbers : List ℕ) → KeepsCastRules c → length (load_bytes c.load) ≤ LONGEST_PAYLOAD → SpellAll (cast_numbers c) numbers → IsWhole cast_field (cast_values c) (numbers ++ load_bytes c.load)
 cast_whole c numbers rules small spelled =
     let sender = spelled.3 in
     let number = sender.3 in
     let count = number.3 in
-    let tail = pairs_whole (change_pairs c.sender) payload_field 0 c.changes (pairs_from 0 c.changes) (length c.payload ∷ []) (length c.payload ∷ length c.payload ∷ []) count.1 c.payload (says_changes c.sender 0 c.changes rules.changes) count.3 (λ rest s. payload_whole c.payload rest small s) in
-    number_whole cast_field c.group _ numbers spelled.0 spelled.1 c.payload (spelled.2, refl) spelled.4
-    (number_whole _ c.sender _ spelled.1 sender.0 sender.1 c.payload (sender.2, keeps_member c.sender rules.sender) sender.4
-    (number_whole _ c.number _ sender.1 number.0 number.1 c.payload (number.2, keeps_message c.number rules.number) number.4
-    (number_whole _ (length c.changes) _ number.1 count.0 count.1 c.payload (count.2, refl) count.4 tail)))
+    let tail = pairs_whole (change_pairs c.sender) payload_field 0 c.changes (pairs_from 0 c.changes) (length (load_bytes c.load) ∷ []) (length (load_bytes c.load) ∷ length (load_bytes c.load) ∷ []) count.1 (load_bytes c.load) (says_changes c.sender 0 c.changes rules.changes) count.3 (λ rest s. payload_whole (load_bytes c.load) rest small s) in
+    number_whole cast_field c.group _ numbers spelled.0 spelled.1 (load_bytes c.load) (spelled.2, refl) spelled.4
+    (number_whole _ c.sender _ spelled.1 sender.0 sender.1 (load_bytes c.load) (sender.2, keeps_member c.sender rules.sender) sender.4
+    (number_whole _ c.number _ sender.1 number.0 number.1 (load_bytes c.load) (number.2, keeps_message c.number rules.number) number.4
+    (number_whole _ (length c.changes) _ number.1 count.0 count.1 (load_bytes c.load) (count.2, refl) count.4 tail)))
 
 status_whole : (s : StatusFields) (numbers : List ℕ) → KeepsStatusRules s → SpellAll (status_numbers s) numbers → IsWhole status_field (status_numbers s) (numbers ++ [])
 status_whole s numbers rules spelled =
@@ -193,19 +194,19 @@ request_whole r numbers rules spelled =
     (number_whole _ r.asked _ requester.1 asked.0 asked.1 [] (asked.2, keeps_member r.asked rules.asked) asked.4
     (number_whole _ (length r.ranges) _ asked.1 count.0 count.1 [] (count.2, keeps_ranges (length r.ranges) rules.some rules.few) count.4 tail)))
 
--- ---- its numbers and its payload determine a frame
+-- ---- its numbers and its load determine a frame
 
 abbrev head_of : List ℕ → ℕ
 head_of [] = 0
 head_of (x ∷ xs) = x
 
-cast_is : (c d : CastFields) → c.group ≡ d.group → c.sender ≡ d.sender → c.number ≡ d.number → c.changes ≡ d.changes → c.payload ≡ d.payload → c ≡ d
+cast_is : (c d : CastFields) → c.group ≡ d.group → c.sender ≡ d.sender → c.number ≡ d.number → c.changes ≡ d.changes → c.load ≡ d.load → c ≡ d
 cast_is c d g s n k p =
-    ap (λ (x : ℕ). record { group = x; sender = c.sender; number = c.number; changes = c.changes; payload = c.payload }) g
-    ∙ ap (λ (x : ℕ). record { group = d.group; sender = x; number = c.number; changes = c.changes; payload = c.payload }) s
-    ∙ ap (λ (x : ℕ). record { group = d.group; sender = d.sender; number = x; changes = c.changes; payload = c.payload }) n
-    ∙ ap (λ (x : List Change). record { group = d.group; sender = d.sender; number = d.number; changes = x; payload = c.payload }) k
-    ∙ ap (λ (x : List ℕ). record { group = d.group; sender = d.sender; number = d.number; changes = d.changes; payload = x }) p
+    ap (λ (x : ℕ). record { group = x; sender = c.sender; number = c.number; changes = c.changes; load = c.load }) g
+    ∙ ap (λ (x : ℕ). record { group = d.group; sender = x; number = c.number; changes = c.changes; load = c.load }) s
+    ∙ ap (λ (x : ℕ). record { group = d.group; sender = d.sender; number = x; changes = c.changes; load = c.load }) n
+    ∙ ap (λ (x : List Change). record { group = d.group; sender = d.sender; number = d.number; changes = x; load = c.load }) k
+    ∙ ap (λ (x : Load). record { group = d.group; sender = d.sender; number = d.number; changes = d.changes; load = x }) p
 
 status_is : (s t : StatusFields) → s.group ≡ t.group → s.sender ≡ t.sender → s.values ≡ t.values → s ≡ t
 status_is s t g m v =
@@ -220,20 +221,20 @@ request_is r s g q a k =
     ∙ ap (λ (x : ℕ). record { group = s.group; requester = s.requester; asked = x; ranges = r.ranges }) a
     ∙ ap (λ (x : List Range). record { group = s.group; requester = s.requester; asked = s.asked; ranges = x }) k
 
--- all but the payloads themselves
-same_cast : (c d : CastFields) → KeepsCastRules c → KeepsCastRules d → cast_values c ≡ cast_values d → (length c.payload ≡ length d.payload) × (c.payload ≡ d.payload → c ≡ d)
+-- all but what they carry
+same_cast : (c d : CastFields) → KeepsCastRules c → KeepsCastRules d → cast_values c ≡ cast_values d → (length (load_bytes c.load) ≡ length (load_bytes d.load)) × (load_bytes c.load ≡ load_bytes d.load → c ≡ d)
 same_cast c d r s e =
     let group : c.group ≡ d.group = cc in
     let sender : c.sender ≡ d.sender = cc in
     let number : c.number ≡ d.number = cc in
     let count : length c.changes ≡ length d.changes = cc in
-    let x = length c.payload ∷ length c.payload ∷ [] in
-    let y = length d.payload ∷ length d.payload ∷ [] in
+    let x = length (load_bytes c.load) ∷ length (load_bytes c.load) ∷ [] in
+    let y = length (load_bytes d.load) ∷ length (load_bytes d.load) ∷ [] in
     let tail : pairs_from 0 c.changes ++ x ≡ pairs_from 0 d.changes ++ y = cc in
     let says = says_changes c.sender 0 c.changes r.changes in
     let says' : Says (change_pairs c.sender) 0 d.changes (pairs_from 0 d.changes) = subst (λ (n : ℕ). Says (change_pairs n) 0 d.changes (pairs_from 0 d.changes)) (sym sender) (says_changes d.sender 0 d.changes s.changes) in
     let pairs = says_one (change_pairs c.sender) 0 c.changes d.changes (pairs_from 0 c.changes) (pairs_from 0 d.changes) x y says says' count tail in
-    (ap head_of pairs.1, cast_is c d group sender number pairs.0)
+    (ap head_of pairs.1, λ bytes. cast_is c d group sender number pairs.0 (same_load c.load d.load bytes))
 
 same_status : (s t : StatusFields) → KeepsStatusRules s → KeepsStatusRules t → status_numbers s ≡ status_numbers t → s ≡ t
 same_status s t p q e =
@@ -281,9 +282,9 @@ other_kind a b bytes more text text' f g = ap head_of (ap (λ (t : List ℕ). t 
 
 pub none_begins_another : NoneBeginsAnother
 none_begins_another (CastFrame c) (CastFrame d) bytes more f g =
-    let same = one_kind cast_field cast_kind (cast_values c) (cast_values d) bytes more (f.2.0 ++ c.payload) (g.2.0 ++ d.payload) f.2.2 g.2.2 (cast_whole c f.2.0 f.0 f.1 f.2.1) (cast_whole d g.2.0 g.0 g.1 g.2.1) in
+    let same = one_kind cast_field cast_kind (cast_values c) (cast_values d) bytes more (f.2.0 ++ load_bytes c.load) (g.2.0 ++ load_bytes d.load) f.2.2 g.2.2 (cast_whole c f.2.0 f.0 f.1 f.2.1) (cast_whole d g.2.0 g.0 g.1 g.2.1) in
     let but = same_cast c d f.0 g.0 same.0 in
-    (ap CastFrame (but.1 (same_end f.2.0 g.2.0 c.payload d.payload but.0 same.2)), same.1)
+    (ap CastFrame (but.1 (same_end f.2.0 g.2.0 (load_bytes c.load) (load_bytes d.load) but.0 same.2)), same.1)
 none_begins_another (StatusFrame s) (StatusFrame t) bytes more f g =
     let same = one_kind status_field status_kind (status_numbers s) (status_numbers t) bytes more (f.1.0 ++ []) (g.1.0 ++ []) (without _ _ _ f.1.2) (without _ _ _ g.1.2) (status_whole s f.1.0 f.0 f.1.1) (status_whole t g.1.0 g.0 g.1.1) in
     (ap StatusFrame (same_status s t f.0 g.0 same.0), same.1)
@@ -299,8 +300,8 @@ none_begins_another (RequestFrame r) (StatusFrame s) bytes more f g = absurd (om
 
 pub text_has_no_fault : TextHasNoFault
 text_has_no_fault (CastFrame c) bytes e f fault =
-    let at : FirstFault (cast_kind ∷ f.2.0 ++ c.payload) e = subst (λ (t : List ℕ). FirstFault t e) f.2.2 fault in
-    whole_has_no_fault cast_field (cast_values c) (f.2.0 ++ c.payload) e (cast_whole c f.2.0 f.0 f.1 f.2.1) at
+    let at : FirstFault (cast_kind ∷ f.2.0 ++ load_bytes c.load) e = subst (λ (t : List ℕ). FirstFault t e) f.2.2 fault in
+    whole_has_no_fault cast_field (cast_values c) (f.2.0 ++ load_bytes c.load) e (cast_whole c f.2.0 f.0 f.1 f.2.1) at
 text_has_no_fault (StatusFrame s) bytes e f fault =
     let at : FirstFault (status_kind ∷ f.1.0 ++ []) e = subst (λ (t : List ℕ). FirstFault t e) (without _ _ _ f.1.2) fault in
     whole_has_no_fault status_field (status_numbers s) (f.1.0 ++ []) e (status_whole s f.1.0 f.0 f.1.1) at
@@ -324,7 +325,7 @@ pub one_text : OneText
 unfolding text_of
 one_text (StatusFrame s) bytes f = f.1.2 ∙ ap (λ (t : List ℕ). status_kind ∷ t) (spelled_all (status_numbers s) f.1.0 f.1.1)
 one_text (RequestFrame r) bytes f = f.1.2 ∙ ap (λ (t : List ℕ). request_kind ∷ t) (spelled_all (request_numbers r) f.1.0 f.1.1)
-one_text (CastFrame c) bytes f = f.2.2 ∙ ap (λ (t : List ℕ). cast_kind ∷ t ++ c.payload) (spelled_all (cast_numbers c) f.2.0 f.2.1)
+one_text (CastFrame c) bytes f = f.2.2 ∙ ap (λ (t : List ℕ). cast_kind ∷ t ++ load_bytes c.load) (spelled_all (cast_numbers c) f.2.0 f.2.1)
 
 -- ---- what can be written has its text
 

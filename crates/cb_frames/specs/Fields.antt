@@ -1,5 +1,5 @@
 -- What a frame says, without where it lies in memory.
-use Rattle.std.specs.Prelude.{ℕ, List, [], ◌∷◌, ◌==◌, if◌then◌else◌}
+use Rattle.std.specs.Prelude.{ℕ, ◌+◌, ◌-◌, List, [], ◌∷◌, ◌==◌, if◌then◌else◌}
 use Rattle.std.specs.List.{sum_by}
 use Rattle.cb_frames.specs.declared.frame.Change.{Change}
 use Rattle.cb_frames.specs.declared.frame.Range.{Range}
@@ -9,12 +9,24 @@ use Rattle.cb_frames.specs.declared.frame.Request.{Request}
 use Rattle.cb_frames.specs.declared.frame.Frame.{Frame}
 use Rattle.cb_frames.specs.declared.frame.Frame.TheVariants as frames
 
+-- what a cast frame carries: one payload
+pub data Load : Type 0 where
+  One : List ℕ → Load
+
+-- its payloads, one for each message
+abbrev pub payloads_of : Load → List (List ℕ)
+payloads_of (One payload) = payload ∷ []
+
+-- the bytes of its payloads, one behind the other
+abbrev pub load_bytes : Load → List ℕ
+load_bytes (One payload) = payload
+
 pub record CastFields : Type 0 where
   pub group : ℕ
   pub sender : ℕ
   pub number : ℕ
   pub changes : List Change
-  pub payload : List ℕ
+  pub load : Load
 
 pub record StatusFields : Type 0 where
   pub group : ℕ
@@ -34,7 +46,7 @@ pub data FrameFields : Type 0 where
   RequestFrame : RequestFields → FrameFields
 
 abbrev pub cast_fields : Cast → CastFields
-cast_fields c = record { group = c.group; sender = c.sender; number = c.number; changes = c.changes.items; payload = c.payload }
+cast_fields c = record { group = c.group; sender = c.sender; number = c.number; changes = c.changes.items; load = One c.payload }
 
 abbrev pub status_fields : Status → StatusFields
 status_fields s = record { group = s.group; sender = s.sender; values = s.values.items }
@@ -53,16 +65,27 @@ pub record Carried : Type 0 where
   pub number : ℕ
   pub payload : List ℕ
 
+-- these payloads as messages of the sender, numbered from n on
+abbrev pub numbered : ℕ → ℕ → List (List ℕ) → List Carried
+numbered sender n [] = []
+numbered sender n (payload ∷ payloads) = record { sender = sender; number = n; payload = payload } ∷ numbered sender (n + 1) payloads
+
 -- the messages of a cast frame, in the order of their numbers
 unfoldable pub messages_of : CastFields → List Carried
-messages_of c = record { sender = c.sender; number = c.number; payload = c.payload } ∷ []
+messages_of c = numbered c.sender c.number (payloads_of c.load)
+
+-- the number of the last of these payloads, numbered from n on
+abbrev pub last_from : ℕ → List (List ℕ) → ℕ
+last_from n [] = n - 1
+last_from n (payload ∷ []) = n
+last_from n (payload ∷ next ∷ payloads) = last_from (n + 1) (next ∷ payloads)
 
 -- the numbers of its first and of its last message
 unfoldable pub first_number : CastFields → ℕ
 first_number c = c.number
 
 unfoldable pub last_number : CastFields → ℕ
-last_number c = c.number
+last_number c = last_from c.number (payloads_of c.load)
 
 -- by how much the changes say that field k has grown
 abbrev pub growth_in : List Change → ℕ → ℕ

@@ -5,7 +5,7 @@ use Rattle.cb_frames.specs.declared.frame.TheConstants.{LONGEST_PAYLOAD}
 use Rattle.cb_frames.specs.declared.fault.FrameFault.{FrameFault}
 use Rattle.cb_frames.specs.declared.fault.FrameFault.TheVariants as faults
 use Rattle.cb_frames.specs.Fields.{FrameFields, CastFrame, StatusFrame, RequestFrame}
-use Rattle.cb_frames.specs.Text.{IsText, KeepsRules, cast_numbers, status_numbers, request_numbers, payload_of, text_of}
+use Rattle.cb_frames.specs.Text.{IsText, KeepsRules, cast_numbers, status_numbers, request_numbers, payload_bytes, text_of}
 use Rattle.cb_frames.specs.Fault.{FirstFault}
 use Rattle.cb_frames.specs.Reading.{frame_at}
 
@@ -17,14 +17,14 @@ NoneBeginsAnother = (f g : FrameFields) (bytes more : List ℕ) → IsText f byt
 abbrev pub OneText : Type 0
 OneText = (f : FrameFields) (bytes : List ℕ) → IsText f bytes → bytes ≡ text_of f
 
--- A frame has a text exactly where it keeps the rules, its payload's among them, and its numbers are below 2 ^ 32.
+-- A frame has a text exactly where it keeps the rules, its load's among them, and its numbers are below 2 ^ 32.
 abbrev pub numbers_of : FrameFields → List ℕ
 numbers_of (CastFrame c) = cast_numbers c
 numbers_of (StatusFrame s) = status_numbers s
 numbers_of (RequestFrame r) = request_numbers r
 
 abbrev pub CanBeWritten : FrameFields → Type 0
-CanBeWritten f = KeepsRules f × (length (payload_of f) ≤ LONGEST_PAYLOAD) × AllByRecursion (λ n. n < 2 ^ 32) (numbers_of f)
+CanBeWritten f = KeepsRules f × (length (payload_bytes f) ≤ LONGEST_PAYLOAD) × AllByRecursion (λ n. n < 2 ^ 32) (numbers_of f)
 
 abbrev pub SomeText : Type 0
 SomeText = (f : FrameFields) → IsText f (text_of f) ↔ CanBeWritten f

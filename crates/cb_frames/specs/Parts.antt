@@ -5,7 +5,7 @@ use Rattle.cb_frames.specs.declared.frame.Change.{Change}
 use Rattle.cb_frames.specs.declared.reading.CastParts.{CastParts}
 use Rattle.cb_frames.specs.declared.reading.StatusParts.{StatusParts}
 use Rattle.cb_frames.specs.declared.reading.RequestParts.{RequestParts}
-use Rattle.cb_frames.specs.Fields.{CastFields, StatusFields, RequestFields}
+use Rattle.cb_frames.specs.Fields.{One, CastFields, StatusFields, RequestFields}
 use Rattle.cb_frames.specs.Text.{AreChanges, AreValues}
 use Rattle.cb_frames.specs.Fault.{Pairs, change_pairs, value_pairs}
 
@@ -24,7 +24,7 @@ pub record ArePartsOf (p : CastParts) (c : CastFields) : Type 0 where
   pub sender : c.sender ≡ p.sender
   pub number : c.number ≡ p.number
   pub changes : Lists p.changes c.changes
-  pub payload : c.payload ≡ p.payload.now
+  pub load : c.load ≡ One p.payload.now
 
 -- The parts are those of the status.
 pub record AreStatusParts (p : StatusParts) (s : StatusFields) : Type 0 where

@@ -5,7 +5,7 @@ use Rattle.cb_varint.specs.Reading.{number_at as number_and_length}
 use Rattle.cb_frames.specs.declared.fault.FrameFault.{FrameFault}
 use Rattle.cb_frames.specs.declared.fault.FrameFault.TheVariants as faults
 use Rattle.cb_frames.specs.NumberFaults.{as_frame_fault}
-use Rattle.cb_frames.specs.Fields.{CastFields, StatusFields, RequestFields, FrameFields, CastFrame, StatusFrame, RequestFrame}
+use Rattle.cb_frames.specs.Fields.{One, CastFields, StatusFields, RequestFields, FrameFields, CastFrame, StatusFrame, RequestFrame}
 use Rattle.cb_frames.specs.Text.{cast_kind, status_kind, request_kind}
 use Rattle.cb_frames.specs.Fault.{any_number, member_rule, message_rule, length_rule, ranges_rule, Pairs, change_pairs, value_pairs, range_pairs}
 
@@ -70,7 +70,7 @@ cast_at bytes = do
   changes ← pairs_at (change_pairs sender.0) count.0 0 count.1
   length ← field_at (length_rule 0) changes.1
   payload ← payload_at length.0 length.1
-  Ok (record { group = group.0; sender = sender.0; number = number.0; changes = changes.0; payload = payload })
+  Ok (record { group = group.0; sender = sender.0; number = number.0; changes = changes.0; load = One payload })
 
 unfoldable pub status_at : List ℕ → Result StatusFields FrameFault
 status_at bytes = do

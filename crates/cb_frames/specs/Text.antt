@@ -6,7 +6,7 @@ use Rattle.cb_varint.specs.Reading.{spelling}
 use Rattle.cb_frames.specs.declared.frame.TheConstants.{LAST_MEMBER, LAST_NUMBER, LONGEST_PAYLOAD, MOST_RANGES}
 use Rattle.cb_frames.specs.declared.frame.Change.{Change}
 use Rattle.cb_frames.specs.declared.frame.Range.{Range}
-use Rattle.cb_frames.specs.Fields.{CastFields, StatusFields, RequestFields, FrameFields, CastFrame, StatusFrame, RequestFrame}
+use Rattle.cb_frames.specs.Fields.{Load, load_bytes, CastFields, StatusFields, RequestFields, FrameFields, CastFrame, StatusFrame, RequestFrame}
 
 -- the first byte of a cast frame
 abbrev pub cast_kind : ℕ
@@ -43,9 +43,9 @@ abbrev pub ranges_from : ℕ → List Range → List ℕ
 ranges_from least [] = []
 ranges_from least (r ∷ ranges) = (r.first - least) ∷ (r.last - r.first) ∷ ranges_from (r.last + 2) ranges
 
--- the number fields of a cast frame, in order
+-- the number fields of a cast frame, in order; the last one says how long what it carries is
 abbrev pub cast_numbers : CastFields → List ℕ
-cast_numbers c = c.group ∷ c.sender ∷ c.number ∷ length c.changes ∷ (pairs_from 0 c.changes ++ length c.payload ∷ [])
+cast_numbers c = c.group ∷ c.sender ∷ c.number ∷ length c.changes ∷ (pairs_from 0 c.changes ++ length (load_bytes c.load) ∷ [])
 
 -- those of a status frame, and of a request
 abbrev pub status_numbers : StatusFields → List ℕ
@@ -65,7 +65,7 @@ pub record AreChanges (sender least : ℕ) (changes : List Change) : Type 0 wher
   pub rising : RisesFrom least changes
   pub each : AllByRecursion (IsChange sender) changes
 
--- the rules of a cast frame but for its payload's
+-- the rules of a cast frame but for its load's
 pub record KeepsCastRules (c : CastFields) : Type 0 where
   pub sender : c.sender ≤ LAST_MEMBER
   pub number : 1 ≤ c.number
@@ -103,32 +103,37 @@ KeepsRules (CastFrame c) = KeepsCastRules c
 KeepsRules (StatusFrame s) = KeepsStatusRules s
 KeepsRules (RequestFrame r) = KeepsRequestRules r
 
-abbrev pub payload_of : FrameFields → List ℕ
-payload_of (CastFrame c) = c.payload
-payload_of (StatusFrame s) = []
-payload_of (RequestFrame r) = []
+-- what a frame may carry
+abbrev pub IsLoad : Load → Type 0
+IsLoad load = length (load_bytes load) ≤ LONGEST_PAYLOAD
 
--- the cast with this payload in place of its own
-abbrev pub with_payload : CastFields → List ℕ → CastFields
-with_payload c payload = record c { payload = payload }
+-- the bytes of the payloads of a frame
+abbrev pub payload_bytes : FrameFields → List ℕ
+payload_bytes (CastFrame c) = load_bytes c.load
+payload_bytes (StatusFrame s) = []
+payload_bytes (RequestFrame r) = []
 
--- the payload has more bytes than a frame may carry
+-- the cast with this load in place of its own
+abbrev pub with_load : CastFields → Load → CastFields
+with_load c load = record c { load = load }
+
+-- the payloads have more bytes than a frame may carry
 abbrev pub HasLongPayload : FrameFields → Type 0
-HasLongPayload f = LONGEST_PAYLOAD < length (payload_of f)
+HasLongPayload f = LONGEST_PAYLOAD < length (payload_bytes f)
 
--- the payload is short enough, and another rule is broken
+-- the payloads are short enough, and another rule is broken
 abbrev pub BreaksRule : FrameFields → Type 0
-BreaksRule f = (length (payload_of f) ≤ LONGEST_PAYLOAD) × ¬ KeepsRules f
+BreaksRule f = (length (payload_bytes f) ≤ LONGEST_PAYLOAD) × ¬ KeepsRules f
 
--- the bytes are the frame's: its kind, the spellings of its number fields in order, and its payload
+-- the bytes are the frame's: its kind, the spellings of its number fields in order, and what it carries
 abbrev pub IsText : FrameFields → List ℕ → Type 0
-IsText (CastFrame c) bytes = KeepsCastRules c × (length c.payload ≤ LONGEST_PAYLOAD)
-    × ((numbers : List ℕ) × SpellAll (cast_numbers c) numbers × (bytes ≡ cast_kind ∷ numbers ++ c.payload))
+IsText (CastFrame c) bytes = KeepsCastRules c × IsLoad c.load
+    × ((numbers : List ℕ) × SpellAll (cast_numbers c) numbers × (bytes ≡ cast_kind ∷ numbers ++ load_bytes c.load))
 IsText (StatusFrame s) bytes = KeepsStatusRules s × ((numbers : List ℕ) × SpellAll (status_numbers s) numbers × (bytes ≡ status_kind ∷ numbers))
 IsText (RequestFrame r) bytes = KeepsRequestRules r × ((numbers : List ℕ) × SpellAll (request_numbers r) numbers × (bytes ≡ request_kind ∷ numbers))
 
 -- the same bytes as a function, for the layers above: what has a text has this one
 unfoldable pub text_of : FrameFields → List ℕ
-text_of (CastFrame c) = cast_kind ∷ flat_map spelling (cast_numbers c) ++ c.payload
+text_of (CastFrame c) = cast_kind ∷ flat_map spelling (cast_numbers c) ++ load_bytes c.load
 text_of (StatusFrame s) = status_kind ∷ flat_map spelling (status_numbers s)
 text_of (RequestFrame r) = request_kind ∷ flat_map spelling (request_numbers r)

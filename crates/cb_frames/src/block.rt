@@ -1,8 +1,8 @@
 //! Frames that lie in memory one behind the other, so that memory is taken once for many of them.
 
 ghost use Rattle.std.specs.Prelude.{◌≡◌, ◌↔◌, IfOk};
-ghost use Rattle.cb_frames.specs.Fields.{CastFrame, cast_fields};
-ghost use Rattle.cb_frames.specs.Text.{BreaksRule, HasLongPayload, IsText, with_payload};
+ghost use Rattle.cb_frames.specs.Fields.{One, CastFrame, cast_fields};
+ghost use Rattle.cb_frames.specs.Text.{BreaksRule, HasLongPayload, IsText, with_load};
 
 use crate::fault::EncodeFault;
 use crate::frame::Cast;
@@ -41,11 +41,11 @@ impl FrameBlock {
     /// of its own, which is not looked at.
     pub fn encode_cast(&mut self, cast: &Cast, payload: &[u8]) -> Result<Bytes, EncodeFault>
         ensures text { IfOk result (IsText (CastFrame
-            (with_payload (cast_fields cast.now) payload.now))) }
+            (with_load (cast_fields cast.now) (One payload.now)))) }
         ensures too_long { (result ≡ Err EncodeFault.PayloadTooLong)
-            ↔ HasLongPayload (CastFrame (with_payload (cast_fields cast.now) payload.now)) }
+            ↔ HasLongPayload (CastFrame (with_load (cast_fields cast.now) (One payload.now))) }
         ensures bad_field { (result ≡ Err EncodeFault.BadField)
-            ↔ BreaksRule (CastFrame (with_payload (cast_fields cast.now) payload.now)) }
+            ↔ BreaksRule (CastFrame (with_load (cast_fields cast.now) (One payload.now))) }
     {
         self.text.clear();
         encode_cast_into(&mut self.text, cast, payload)?;

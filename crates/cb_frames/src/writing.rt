@@ -2,8 +2,8 @@
 
 ghost use Rattle.std.specs.Prelude.{◌≡◌, ◌≤◌, ◌<◌, ◌+◌, ◌++◌, ◌↔◌, ◌⊎◌, [], ◌∷◌, List, ℕ, length, Option, IsTrue, IfOk, OnOk, MatchResult};
 ghost use Rattle.cb_varint.specs.Spelling.{Spells};
-ghost use Rattle.cb_frames.specs.Fields.{FrameFields, CastFrame, StatusFrame, RequestFrame, fields_of, cast_fields, status_fields, request_fields};
-ghost use Rattle.cb_frames.specs.Text.{SpellAll, AppendsNumbers, HasLongPayload, BreaksRule, pairs_from, ranges_from, cast_numbers, status_numbers, request_numbers, AreRanges, KeepsCastRules, KeepsStatusRules, KeepsRequestRules, KeepsRules, payload_of, with_payload, IsText, text_of};
+ghost use Rattle.cb_frames.specs.Fields.{One, FrameFields, CastFrame, StatusFrame, RequestFrame, fields_of, cast_fields, status_fields, request_fields};
+ghost use Rattle.cb_frames.specs.Text.{SpellAll, AppendsNumbers, HasLongPayload, BreaksRule, pairs_from, ranges_from, cast_numbers, status_numbers, request_numbers, AreRanges, KeepsCastRules, KeepsStatusRules, KeepsRequestRules, KeepsRules, payload_bytes, with_load, IsText, text_of};
 ghost use Rattle.cb_frames.specs.Parts.{AreChangesBut};
 
 use crate::fault::EncodeFault;
@@ -107,7 +107,7 @@ fn put_cast(out: &mut Vec<u8>, cast: &Cast, payload: &[u8]) -> Result<(), AllocE
     requires rules { KeepsCastRules (cast_fields cast.now) }
     requires payload { length payload.now ≤ LONGEST_PAYLOAD }
     ensures { OnOk result (AppendsNumbers out.old.items out.new.items
-        (cast_numbers (with_payload (cast_fields cast.now) payload.now))) }
+        (cast_numbers (with_load (cast_fields cast.now) (One payload.now)))) }
 {
     cb_varint::put(cast.group, out)?;
     cb_varint::put(cast.sender, out)?;
@@ -168,7 +168,7 @@ fn cast_text(alloc: Global, cast: &Cast, payload: &[u8]) -> Result<Vec<u8>, Allo
     requires rules { KeepsCastRules (cast_fields cast.now) }
     requires payload { length payload.now ≤ LONGEST_PAYLOAD }
     ensures { IfOk result (λ bytes.
-        IsText (CastFrame (with_payload (cast_fields cast.now) payload.now)) bytes.items) }
+        IsText (CastFrame (with_load (cast_fields cast.now) (One payload.now))) bytes.items) }
 {
     let mut out = Vec::with_capacity(alloc, room_for_cast(cast, payload))?;
     put_cast_text(&mut out, cast, payload)?;
@@ -181,7 +181,7 @@ fn put_cast_text(out: &mut Vec<u8>, cast: &Cast, payload: &[u8]) -> Result<(), A
     requires rules { KeepsCastRules (cast_fields cast.now) }
     requires payload { length payload.now ≤ LONGEST_PAYLOAD }
     ensures { OnOk result (IsText
-        (CastFrame (with_payload (cast_fields cast.now) payload.now)) out.new.items) }
+        (CastFrame (with_load (cast_fields cast.now) (One payload.now))) out.new.items) }
 {
     out.push(CAST)?;
     put_cast(out, cast, payload)?;
@@ -217,7 +217,7 @@ fn request_text(alloc: Global, request: &Request) -> Result<Vec<u8>, AllocError>
 /// The text of a frame that keeps the rules, its payload's among them.
 fn text(alloc: Global, frame: &Frame) -> Result<Vec<u8>, AllocError>
     requires rules { KeepsRules (fields_of frame.now) }
-    requires payload { length (payload_of (fields_of frame.now)) ≤ LONGEST_PAYLOAD }
+    requires payload { length (payload_bytes (fields_of frame.now)) ≤ LONGEST_PAYLOAD }
     ensures { IfOk result (λ bytes. IsText (fields_of frame.now) bytes.items) }
 {
     match frame {
@@ -242,11 +242,11 @@ fn has_long_payload(frame: &Frame) -> bool
 pub fn encode_cast_into(out: &mut Vec<u8>, cast: &Cast, payload: &[u8]) -> Result<(), EncodeFault>
     requires { out.old.items ≡ [] }
     ensures text { OnOk result (IsText (CastFrame
-        (with_payload (cast_fields cast.now) payload.now)) out.new.items) }
+        (with_load (cast_fields cast.now) (One payload.now))) out.new.items) }
     ensures too_long { (result ≡ Err EncodeFault.PayloadTooLong)
-        ↔ HasLongPayload (CastFrame (with_payload (cast_fields cast.now) payload.now)) }
+        ↔ HasLongPayload (CastFrame (with_load (cast_fields cast.now) (One payload.now))) }
     ensures bad_field { (result ≡ Err EncodeFault.BadField)
-        ↔ BreaksRule (CastFrame (with_payload (cast_fields cast.now) payload.now)) }
+        ↔ BreaksRule (CastFrame (with_load (cast_fields cast.now) (One payload.now))) }
 {
     if payload.len() > LONGEST_PAYLOAD {
         return Err(EncodeFault::PayloadTooLong);
@@ -278,7 +278,7 @@ pub fn encode(alloc: Global, frame: &Frame) -> Result<Bytes, EncodeFault>
 /// The text of a frame that keeps the rules and whose payload is not too long, so that only memory can be wanting.
 pub fn frame_text(alloc: Global, frame: &Frame) -> Result<Bytes, AllocError>
     requires rules { KeepsRules (fields_of frame.now) }
-    requires payload { length (payload_of (fields_of frame.now)) ≤ LONGEST_PAYLOAD }
+    requires payload { length (payload_bytes (fields_of frame.now)) ≤ LONGEST_PAYLOAD }
     ensures { IfOk result (λ bytes. bytes ≡ text_of (fields_of frame.now)) }
 {
     one_text();

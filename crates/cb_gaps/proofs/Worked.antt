@@ -3,16 +3,16 @@ use Rattle.std.proofs.Common.{◌≡◌, ℕ, ◌<◌, ◌≤◌, Bool, true, fa
 use Rattle.std.specs.Ordering.{nat_cmp, eq_by_cmp}
 use Rattle.std.specs.FinMap as fin
 use Rattle.std.proofs.lemmas.Bool.{cases_lt}
-use Rattle.cb_frames.specs.Fields.{CastFields, first_number, last_number}
+use Rattle.cb_frames.specs.Fields.{One, CastFields, first_number, last_number}
 use Rattle.cb_gaps.specs.declared.buffer.Admission.{Admission}
 use Rattle.cb_gaps.specs.declared.buffer.Admission.TheVariants.{Kept, Repeat, TooFar}
 use Rattle.cb_gaps.specs.Buffer.{Buffer, Covers, IsKept, IsReceived, IsKeptWith, IsLacking, Admits, ComeOut, WouldComeOut}
 
 abbrev four : CastFields
-four = record { group = 7; sender = 1; number = 4; changes = []; payload = [] }
+four = record { group = 7; sender = 1; number = 4; changes = []; load = One [] }
 
 abbrev five : CastFields
-five = record { group = 7; sender = 1; number = 5; changes = []; payload = [] }
+five = record { group = 7; sender = 1; number = 5; changes = []; load = One [] }
 
 abbrev waits : Buffer
 waits = record { window = 4; taken = 2; kept = fin.from_sorted ((4, four) ∷ (5, five) ∷ []) }

@@ -5,7 +5,7 @@ use Rattle.std.specs.Coded.{Coded, code_by, coded×, coded_list, coded_ℕ}
 use Rattle.std.specs.FinMap as map
 use Rattle.cb_times.specs.Group.{IsWindow}
 use Rattle.cb_frames.specs.declared.frame.Change.{Change}
-use Rattle.cb_frames.specs.Fields.{CastFields, first_number, last_number}
+use Rattle.cb_frames.specs.Fields.{Load, One, load_bytes, CastFields, first_number, last_number}
 use Rattle.cb_gaps.specs.declared.buffer.Admission.{Admission}
 use Rattle.cb_gaps.specs.declared.buffer.Admission.TheVariants.{Kept, Repeat, TooFar}
 use Rattle.cb_gaps.specs.Ranges.{IsRow}
@@ -113,16 +113,19 @@ pub record IsReorderBuffer (buffer : Buffer) : Type 0 where
   pub in_range : (number : ℕ) → IsKept buffer number → number < 2 ^ 32
   pub room : map.len buffer.kept ≤ buffer.window
 
--- how a buffer is stored: its fields as pairs
+-- how a buffer is stored: its fields as pairs, and what a cast carries as its bytes
 abbrev pub change_code : Coded Change
 change_code = code_by (ℕ × ℕ) (coded× coded_ℕ coded_ℕ) (λ c. (c.field, c.amount)) (λ p. record { field = p.0; amount = p.1 }) (λ _. refl)
 
+abbrev pub load_code : Coded Load
+load_code = code_by (List ℕ) (coded_list coded_ℕ) load_bytes One (λ load. elim load as (λ l. One (load_bytes l) ≡ l) [ One payload ↦ refl ])
+
 abbrev pub cast_code : Coded CastFields
 cast_code =
-    code_by (ℕ × (ℕ × (ℕ × (List Change × List ℕ))))
-    (coded× coded_ℕ (coded× coded_ℕ (coded× coded_ℕ (coded× (coded_list change_code) (coded_list coded_ℕ)))))
-    (λ c. (c.group, (c.sender, (c.number, (c.changes, c.payload)))))
-    (λ p. record { group = p.0; sender = p.1.0; number = p.1.1.0; changes = p.1.1.1.0; payload = p.1.1.1.1 }) (λ _. refl)
+    code_by (ℕ × (ℕ × (ℕ × (List Change × Load))))
+    (coded× coded_ℕ (coded× coded_ℕ (coded× coded_ℕ (coded× (coded_list change_code) load_code))))
+    (λ c. (c.group, (c.sender, (c.number, (c.changes, c.load)))))
+    (λ p. record { group = p.0; sender = p.1.0; number = p.1.1.0; changes = p.1.1.1.0; load = p.1.1.1.1 }) (λ _. refl)
 
 abbrev pub buffer_code : Coded Buffer
 buffer_code =
