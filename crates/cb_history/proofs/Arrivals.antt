@@ -84,7 +84,7 @@ AllOfTheGroup seat facts = (c : CastFields) → IsIn c (casts_in facts) → IsOf
 
 one_of_the_group : (seat : Identity) (facts : List Fact) (f : Fact) → IsIdentity seat → IsStep seat facts f → (c : CastFields) → IsIn c (cast_in f) → IsOfTheGroup seat.group (CastFrame c)
 one_of_the_group seat facts (OwnCast d) is step c there =
-    subst (λ (x : CastFields). IsOfTheGroup seat.group (CastFrame x)) (sym (in_one c d there ∙ step.next)) (own_casts_are_of_the_group seat facts d.payload is)
+    subst (λ (x : CastFields). IsOfTheGroup seat.group (CastFrame x)) (sym (in_one c d there ∙ step.next)) (own_casts_are_of_the_group seat facts d.load is)
 one_of_the_group seat facts (CastReceived d) is step c there =
     subst (λ (x : CastFields). IsOfTheGroup seat.group (CastFrame x)) (sym (in_one c d there)) (record { number = step.taken.group; members = step.taken.members })
 one_of_the_group seat facts (StatusReceived s) is step c there = absurd there

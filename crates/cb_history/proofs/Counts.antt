@@ -1,12 +1,11 @@
 -- Counts and numbers of messages stay in the range of numbers.
-use Rattle.std.proofs.Common.{◌≡◌, ℕ, zero, suc, ◌+◌, ◌<◌, ◌≤◌, ◌^◌, Bool, true, false, ◌||◌, cond, eqb, leb, List, [], ◌∷◌, ◌++◌, max, Ok, refl, ap, subst, ◌∙◌, arith, inl, inr}
+use Rattle.std.proofs.Common.{◌≡◌, ℕ, zero, suc, ◌+◌, ◌<◌, ◌≤◌, ◌^◌, Bool, true, false, ◌||◌, cond, eqb, ltb, List, [], ◌∷◌, ◌++◌, length, max, Ok, refl, ap, subst, ◌∙◌, arith, inl, inr}
 use Rattle.std.specs.List.{AllByRecursion, flat_map}
-use Rattle.std.proofs.lemmas.Bool.{leb-false, le-leb, lt-leb}
 use Rattle.std.proofs.lemmas.List.{append-nil}
 use Rattle.cb_frames.specs.declared.frame.TheConstants.{LAST_NUMBER}
 use Rattle.cb_frames.specs.declared.frame.Change.{Change}
-use Rattle.cb_frames.specs.Fields.{CastFields, FrameFields, CastFrame, StatusFrame, RequestFrame, Carried, first_number, last_number}
-use Rattle.cb_frames.proofs.Carried.{first_is_number, last_is_number, carries_no_more, carried_is_of_cast}
+use Rattle.cb_frames.specs.Fields.{payloads_of, CastFields, FrameFields, CastFrame, StatusFrame, RequestFrame, Carried, first_number, last_number}
+use Rattle.cb_frames.proofs.Carried.{load_has_one, carries_payloads, carried_up_to_the_last, first_is_number, last_is_number, carried_is_of_cast}
 use Rattle.cb_frames.specs.Text.{pairs_from}
 use Rattle.cb_history.specs.Read.{frame_read}
 use Rattle.cb_frames.specs.Laws.{IsBytes, CanBeWritten}
@@ -18,7 +17,7 @@ use Rattle.cb_history.specs.Group.{Identity}
 use Rattle.cb_history.specs.Facts.{Fact, OwnCast, CastReceived, StatusReceived, OwnStatus, cast_in, casts_in, messages_in}
 use Rattle.cb_history.specs.View.{count, is_among, is_expanded, view}
 use Rattle.cb_history.specs.Known.{greatest_of, value_in, reported_of, stable}
-use Rattle.cb_history.specs.Answers.{delivered, is_window_full}
+use Rattle.cb_history.specs.Answers.{delivered, is_too_many, is_window_full}
 use Rattle.cb_history.specs.LegalFacts.{SaysNumbers, IsStep, AreLegalFacts, NoFacts, OneFactMore}
 use Rattle.cb_history.specs.CountLaws.{OwnCastsHaveNumbers, MessagesHaveNumbers, CountsAreNumbers, KnownAreNumbers, NoNumberIsFull, HistoriesLeaveNumbers}
 use Rattle.cb_history.proofs.Views.{IsIn, or_right, casts_in-append}
@@ -26,22 +25,35 @@ use Rattle.cb_history.proofs.Lists.{flat_map-append, in_casts_push, or_false, am
 use Rattle.cb_history.proofs.Names.{all_stand}
 use Rattle.cb_history.proofs.Bounds.{count_below}
 use Rattle.cb_history.proofs.Rising.{greatest_append, all_at_most, known_parts}
+use Rattle.std.proofs.lemmas.Bool.{ltb-false, le-ltb, lt-ltb}
 
 -- ---- the window
 
+-- for messages that are not too many numbers are left, and room in the window
+pub numbers_left : (seat : Identity) (facts : List Fact) (n : ℕ) → is_too_many seat facts n ≡ false → delivered seat facts seat.me + n ≤ LAST_NUMBER
+numbers_left seat facts n few =
+    let own = delivered seat facts seat.me in
+    ltb-false LAST_NUMBER (own + n) (or_false (ltb (stable seat facts + seat.group.window) (own + n)) (ltb LAST_NUMBER (own + n)) few).1
+
+pub room_left_for : (seat : Identity) (facts : List Fact) (n : ℕ) → is_too_many seat facts n ≡ false → delivered seat facts seat.me + n ≤ stable seat facts + seat.group.window
+room_left_for seat facts n few =
+    let own = delivered seat facts seat.me in
+    ltb-false (stable seat facts + seat.group.window) (own + n) (or_false (ltb (stable seat facts + seat.group.window) (own + n)) (ltb LAST_NUMBER (own + n)) few).0
+
 -- while the window is not full a number is left
 pub number_left : (seat : Identity) (facts : List Fact) → is_window_full seat facts ≡ false → delivered seat facts seat.me < LAST_NUMBER
-number_left seat facts free =
-    leb-false LAST_NUMBER (delivered seat facts seat.me) (or_false (leb (stable seat facts + seat.group.window) (delivered seat facts seat.me)) (leb LAST_NUMBER (delivered seat facts seat.me)) free).1
+number_left seat facts free = omega (arith, numbers_left seat facts 1 free)
 
 pub no_number_is_full : NoNumberIsFull
-no_number_is_full seat facts used =
-    or_right (leb (stable seat facts + seat.group.window) (delivered seat facts seat.me)) (leb LAST_NUMBER (delivered seat facts seat.me)) (le-leb LAST_NUMBER (delivered seat facts seat.me) used)
+no_number_is_full seat facts n used =
+    let own = delivered seat facts seat.me in
+    or_right (ltb (stable seat facts + seat.group.window) (own + n)) (ltb LAST_NUMBER (own + n)) (lt-ltb LAST_NUMBER (own + n) used)
 
 pub histories_leave_numbers : HistoriesLeaveNumbers
-histories_leave_numbers seat facts few =
-    let some : leb LAST_NUMBER (delivered seat facts seat.me) ≡ false = lt-leb LAST_NUMBER (delivered seat facts seat.me) (omega (arith, few, count_below seat.group.size facts seat.me)) in
-    ap (λ (b : Bool). leb (stable seat facts + seat.group.window) (delivered seat facts seat.me) || b) some ∙ none_behind (leb (stable seat facts + seat.group.window) (delivered seat facts seat.me))
+histories_leave_numbers seat facts load few =
+    let after = delivered seat facts seat.me + length (payloads_of load) in
+    let some : ltb LAST_NUMBER after ≡ false = le-ltb LAST_NUMBER after (omega (arith, few, load_has_one load, count_below seat.group.size facts seat.me)) in
+    ap (λ (b : Bool). ltb (stable seat facts + seat.group.window) after || b) some ∙ none_behind (ltb (stable seat facts + seat.group.window) after)
   where
     none_behind : (b : Bool) → (b || false) ≡ b
     none_behind true = refl
@@ -50,7 +62,7 @@ histories_leave_numbers seat facts few =
 pub own_casts_have_numbers : OwnCastsHaveNumbers
 own_casts_have_numbers seat facts c own =
     let first : first_number c ≡ delivered seat facts seat.me + 1 = first_is_number c ∙ ap (λ (x : CastFields). x.number) own.next in
-    omega (arith, first, carries_no_more c, number_left seat facts own.window)
+    omega (arith, first, carried_up_to_the_last c, carries_payloads c, numbers_left seat facts (length (payloads_of c.load)) own.window)
 
 -- ---- messages that are there
 

@@ -1,24 +1,24 @@
 -- What the entries of a legal history say.
-use Rattle.std.proofs.Common.{◌≡◌, ℕ, ◌<◌, ◌≤◌, Bool, true, false, not, ◌&&◌, eqb, ltb, List, [], ◌∷◌, ◌++◌, length, map, drop, Option, Some, None, Result, Ok, Err, refl, sym, ap, subst, ◌∙◌, arith}
+use Rattle.std.proofs.Common.{◌≡◌, ℕ, ◌<◌, Bool, true, false, not, ◌&&◌, eqb, ltb, List, [], ◌∷◌, ◌++◌, length, map, drop, Option, Some, None, Result, Ok, Err, refl, sym, ap, subst, ◌∙◌, arith}
 use Rattle.std.specs.List.{AllByRecursion}
 use Rattle.std.proofs.lemmas.Bool.{cond_both, eqb-true, ltb-false}
 use Rattle.std.proofs.lemmas.List.{append-nil, length-append}
 use Rattle.cb_frames.specs.declared.frame.TheConstants.{LONGEST_PAYLOAD}
 use Rattle.cb_frames.specs.declared.fault.FrameFault.{FrameFault}
-use Rattle.cb_frames.specs.Fields.{CastFields, FrameFields, Carried, CastFrame, StatusFrame, RequestFrame}
-use Rattle.cb_frames.specs.Text.{text_of}
+use Rattle.cb_frames.specs.Fields.{payloads_of, Load, load_bytes, CastFields, FrameFields, Carried, CastFrame, StatusFrame, RequestFrame}
+use Rattle.cb_frames.specs.Text.{IsLoad, text_of}
 use Rattle.cb_history.specs.Read.{frame_read}
 use Rattle.cb_frames.specs.Laws.{IsBytes}
 use Rattle.cb_frames.proofs.Decoding.{reading_is_exact}
 use Rattle.cb_frames.proofs.Unique.{one_text}
 use Rattle.cb_times.specs.declared.name.Name.{Name}
-use Rattle.cb_history.specs.declared.answer.CastRefusal.{CastRefusal}
+use Rattle.cb_history.specs.CastFault.{CastFault}
 use Rattle.cb_history.specs.declared.answer.ArriveRefusal.{ArriveRefusal}
 use Rattle.cb_history.specs.declared.answer.TickRefusal.{TickRefusal}
 use Rattle.cb_history.specs.declared.answer.Outgoing.{Outgoing}
 use Rattle.cb_history.specs.Group.{Identity, AreParameters}
 use Rattle.cb_history.specs.Facts.{EntryFields, CastEntry, ArriveEntry, TickEntry, Fact, OwnCast, CastReceived, StatusReceived, OwnStatus, said_by, cast_said, arrival_said, status_said, facts_of, casts_in}
-use Rattle.cb_history.specs.Answers.{is_full, is_window_full, next_cast, cast_answer, group_of, are_members, is_impossible, is_repeat, is_too_far, is_change, with_frame, deliveries, ArrivalSays, frame_answer, answer_to, arrive_answer, status_of, is_new_status, tick_answer}
+use Rattle.cb_history.specs.Answers.{is_full, is_too_many, next_cast, cast_answer, group_of, are_members, is_impossible, is_repeat, is_too_far, is_change, with_frame, deliveries, ArrivalSays, frame_answer, answer_to, arrive_answer, status_of, is_new_status, tick_answer}
 use Rattle.cb_history.specs.Legal.{Call, ToCast, ToTake, ToTick, OfBytes, cast_entry, arrive_entry, tick_entry, entry_of, room_for_one, AreLegal, NoEntries, OneMore}
 use Rattle.cb_history.specs.LegalFacts.{SaysNumbers, IsTaken, IsStep, AreLegalFacts, NoFacts, OneFactMore}
 use Rattle.cb_history.specs.HistoryLaws.{LegalHistoriesSayLegalFacts, EachEntrySaysOneFact, SaysItsText, EntriesSayTheirTexts, name_of, ArrivalsNameDeliveries}
@@ -28,7 +28,7 @@ use Rattle.cb_history.proofs.Lists.{flat_map-append}
 use Rattle.cb_history.proofs.Prefixes.{last_entry}
 use Rattle.cb_history.proofs.ReadBack.{cast_read, status_read, frame_numbered}
 use Rattle.cb_history.proofs.Written.{cast_can, status_can}
-use Rattle.cb_history.proofs.Counts.{number_left, read_numbers}
+use Rattle.cb_history.proofs.Counts.{numbers_left, read_numbers}
 
 -- an entry that a call adds says a step
 record Added (seat : Identity) (entries : List EntryFields) (e : EntryFields) : Type 0 where
@@ -50,21 +50,21 @@ not_false false h = absurd cc
 
 -- ---- a cast
 
-cast_added : (seat : Identity) (entries : List EntryFields) (payload : List ℕ) (e : EntryFields) → Before seat entries → cast_entry (cast_answer seat (room_for_one entries) entries payload) ≡ Some e → Added seat entries e
+cast_added : (seat : Identity) (entries : List EntryFields) (load : Load) (e : EntryFields) → Before seat entries → cast_entry (cast_answer seat (room_for_one entries) entries load) ≡ Some e → Added seat entries e
 unfolding cast_answer
-cast_added seat entries payload e b =
-    cond_both (ltb LONGEST_PAYLOAD (length payload)) _ _ (λ (r : Result CastFields CastRefusal). cast_entry r ≡ Some e → Added seat entries e) (λ _ h. absurd cc)
-    (λ short. cond_both (is_window_full seat (facts_of entries)) _ _ (λ (r : Result CastFields CastRefusal). cast_entry r ≡ Some e → Added seat entries e) (λ _ h. absurd cc)
-    (λ open_window. cond_both (is_full (room_for_one entries) entries) _ _ (λ (r : Result CastFields CastRefusal). cast_entry r ≡ Some e → Added seat entries e) (λ _ h. absurd cc)
+cast_added seat entries load e b =
+    cond_both (ltb LONGEST_PAYLOAD (length (load_bytes load))) _ _ (λ (r : Result CastFields CastFault). cast_entry r ≡ Some e → Added seat entries e) (λ _ h. absurd cc)
+    (λ short. cond_both (is_too_many seat (facts_of entries) (length (payloads_of load))) _ _ (λ (r : Result CastFields CastFault). cast_entry r ≡ Some e → Added seat entries e) (λ _ h. absurd cc)
+    (λ open_window. cond_both (is_full (room_for_one entries) entries) _ _ (λ (r : Result CastFields CastFault). cast_entry r ≡ Some e → Added seat entries e) (λ _ h. absurd cc)
     (λ _ h.
-    let is : CastEntry (text_of (CastFrame (next_cast seat (facts_of entries) payload))) ≡ e = cc in
-    let small : length payload ≤ LONGEST_PAYLOAD = ltb-false LONGEST_PAYLOAD (length payload) short in
-    let can = cast_can seat (facts_of entries) payload b.group b.member b.facts_are (number_left seat (facts_of entries) open_window) small in
+    let is : CastEntry (text_of (CastFrame (next_cast seat (facts_of entries) load))) ≡ e = cc in
+    let small : IsLoad load = ltb-false LONGEST_PAYLOAD (length (load_bytes load)) short in
+    let can = cast_can seat (facts_of entries) load b.group b.member b.facts_are (numbers_left seat (facts_of entries) (length (payloads_of load)) open_window) small in
     record {
-      fact = OwnCast (next_cast seat (facts_of entries) payload);
-      said = ap said_by (sym is) ∙ ap cast_said (cast_read (next_cast seat (facts_of entries) payload) can);
-      step = record { payload = small; window = open_window; next = refl };
-      text = subst SaysItsText is (next_cast seat (facts_of entries) payload, cast_read (next_cast seat (facts_of entries) payload) can, refl);
+      fact = OwnCast (next_cast seat (facts_of entries) load);
+      said = ap said_by (sym is) ∙ ap cast_said (cast_read (next_cast seat (facts_of entries) load) can);
+      step = record { load = small; window = open_window; next = refl };
+      text = subst SaysItsText is (next_cast seat (facts_of entries) load, cast_read (next_cast seat (facts_of entries) load) can, refl);
     })))
 
 -- ---- an arrival
@@ -151,7 +151,7 @@ tick_added seat entries e b =
 -- ---- all entries
 
 call_added : (seat : Identity) (entries : List EntryFields) (call : Call) (e : EntryFields) → Before seat entries → OfBytes call → entry_of seat (room_for_one entries) entries call ≡ Some e → Added seat entries e
-call_added seat entries (ToCast payload) e b are h = cast_added seat entries payload e b h
+call_added seat entries (ToCast load) e b are h = cast_added seat entries load e b h
 call_added seat entries (ToTake bytes) e b are h = arrive_added seat entries bytes e are h
 call_added seat entries ToTick e b are h = tick_added seat entries e b h
 
@@ -236,7 +236,7 @@ taken_names seat entries bytes frame delivered f read t =
     entry_names : (a b : List ℕ) (xs ys : List Name) → ArriveEntry a xs ≡ ArriveEntry b ys → xs ≡ ys
     entry_names a b xs ys e = cc
 
-no_cast : (r : Result CastFields CastRefusal) (frame : List ℕ) (delivered : List Name) → cast_entry r ≡ Some (ArriveEntry frame delivered) → ⊥
+no_cast : (r : Result CastFields CastFault) (frame : List ℕ) (delivered : List Name) → cast_entry r ≡ Some (ArriveEntry frame delivered) → ⊥
 no_cast (Ok c) frame delivered e = cc
 no_cast (Err refusal) frame delivered e = cc
 
@@ -253,7 +253,7 @@ arrival_names seat entries bytes frame delivered (Err fault) read h = absurd cc
 call_names : (seat : Identity) (entries : List EntryFields) (call : Call) (frame : List ℕ) (delivered : List Name) → entry_of seat (room_for_one entries) entries call ≡ Some (ArriveEntry frame delivered)
     → delivered ≡ map name_of (drop (length (view seat.group.size (facts_of entries))) (view seat.group.size (facts_of (entries ++ ArriveEntry frame delivered ∷ []))))
 unfolding arrive_answer
-call_names seat entries (ToCast payload) frame delivered h = absurd (no_cast (cast_answer seat (room_for_one entries) entries payload) frame delivered h)
+call_names seat entries (ToCast load) frame delivered h = absurd (no_cast (cast_answer seat (room_for_one entries) entries load) frame delivered h)
 call_names seat entries (ToTake bytes) frame delivered h = arrival_names seat entries bytes frame delivered (frame_read bytes) refl h
 call_names seat entries ToTick frame delivered h = absurd (no_tick (text_of (StatusFrame (status_of seat (facts_of entries)))) (tick_answer seat (room_for_one entries) entries) frame delivered h)
 

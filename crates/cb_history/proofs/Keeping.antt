@@ -1,7 +1,7 @@
 -- The least of what is known, and the frames that are kept.
-use Rattle.std.proofs.Common.{◌≡◌, ◌≢◌, ℕ, zero, suc, ◌+◌, ◌-◌, ◌<◌, ◌≤◌, ◌||◌, Bool, true, false, not, cond, eqb, leb, ltb, List, [], ◌∷◌, ◌++◌, length, map, take, refl, sym, ap, subst, ◌∙◌, arith, inl, inr}
+use Rattle.std.proofs.Common.{◌≡◌, ◌≢◌, ℕ, zero, suc, ◌+◌, ◌-◌, ◌<◌, ◌≤◌, ◌||◌, Bool, true, false, not, cond, eqb, ltb, List, [], ◌∷◌, ◌++◌, length, map, take, refl, sym, ap, subst, ◌∙◌, arith, inl, inr}
 use Rattle.std.specs.List.{filter, range_with_len}
-use Rattle.std.proofs.lemmas.Bool.{cases_eq, cases_lt, eq-eqb, ne_eqb, lt-leb, leb-false, le-ltb, lt-ltb, false_from_ne_true}
+use Rattle.std.proofs.lemmas.Bool.{cases_eq, cases_lt, eq-eqb, ne_eqb, le-ltb, lt-ltb, false_from_ne_true}
 use Rattle.std.proofs.lemmas.List.{map-append}
 use Rattle.std.proofs.lemmas.List.Elements.{filter-append, filter_agree}
 use Rattle.cb_frames.specs.declared.frame.TheConstants.{LAST_NUMBER, MOST_FRAMES}
@@ -24,7 +24,7 @@ use Rattle.cb_history.proofs.Views.{IsIn, filter_in, in_filter}
 use Rattle.cb_history.proofs.Lists.{any_of, one_of, count_of_messages}
 use Rattle.cb_history.proofs.Walks.{view_own, own_casts-own, own_casts-other, IsNotOwn}
 use Rattle.cb_history.proofs.Names.{all_stand}
-use Rattle.cb_history.proofs.Counts.{counts_are_numbers, number_left}
+use Rattle.cb_history.proofs.Counts.{room_left_for, counts_are_numbers, number_left}
 use Rattle.cb_history.proofs.Prefixes.{prefix_of_facts_is_legal, last_fact_is_a_step}
 use Rattle.cb_history.proofs.Acknowledged.{acknowledged_is_delivered}
 use Rattle.cb_history.proofs.Rising.{nothing_falls}
@@ -148,17 +148,13 @@ no_room_is_full seat facts sent are keeps = (free, some)
     free : 1 ≤ room_of sent → is_window_full seat facts ≡ false
     free room =
         let there = places (is_left room) in
-        let near : d < s + seat.group.window = omega (arith, room, there, keeps.width, keeps.put, keeps.trimmed, below) in
-        let left : d < LAST_NUMBER = omega (arith, most, keeps.put, is_left room) in
-        neither (leb (s + seat.group.window) d) (leb LAST_NUMBER d) (lt-leb (s + seat.group.window) d near) (lt-leb LAST_NUMBER d left)
-
-    near_stable : (a b : Bool) → (a || b) ≡ false → a ≡ false
-    near_stable true b h = absurd cc
-    near_stable false b h = refl
+        let near : d + 1 ≤ s + seat.group.window = omega (arith, room, there, keeps.width, keeps.put, keeps.trimmed, below) in
+        let left : d + 1 ≤ LAST_NUMBER = omega (arith, most, keeps.put, is_left room) in
+        neither (ltb (s + seat.group.window) (d + 1)) (ltb LAST_NUMBER (d + 1)) (le-ltb (s + seat.group.window) (d + 1) near) (le-ltb LAST_NUMBER (d + 1) left)
 
     some : is_window_full seat facts ≡ false → 1 ≤ room_of sent
     some h =
-        let near = leb-false (s + seat.group.window) d (near_stable (leb (s + seat.group.window) d) (leb LAST_NUMBER d) h) in
+        let near = room_left_for seat facts 1 h in
         let left : d < LAST_NUMBER = number_left seat facts h in
         let there = places (λ e. omega (arith, e, left, keeps.put)) in
         omega (arith, near, there, keeps.width, keeps.put, keeps.trimmed, below)

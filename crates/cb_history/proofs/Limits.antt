@@ -3,7 +3,7 @@ use Rattle.std.proofs.Common.{◌<◌, ◌≤◌, Bool, cond, ltb, List, [], ◌
 use Rattle.std.proofs.lemmas.List.{length-append}
 use Rattle.cb_history.specs.Group.{Identity}
 use Rattle.cb_frames.specs.declared.frame.TheConstants.{LONGEST_PAYLOAD}
-use Rattle.cb_history.specs.declared.answer.CastRefusal.TheVariants as casts
+use Rattle.cb_history.specs.CastFault.{PayloadTooLong, WindowFull, HistoryFull}
 use Rattle.cb_history.specs.Facts.{EntryFields, Fact, facts_of}
 use Rattle.cb_history.specs.Answers.{is_full, next_cast, cast_answer}
 use Rattle.cb_history.specs.Legal.{longest_history, AreLegal, NoEntries, OneMore}
@@ -12,6 +12,7 @@ use Rattle.cb_history.specs.LimitLaws.{LimitIsAdded, AreAddedInLimit, NoneAdded,
 use Rattle.cb_history.proofs.Calls.{entry_with_room, entry_in_limit, added_below}
 use Rattle.cb_history.proofs.Counts.{histories_leave_numbers}
 use Rattle.cb_history.proofs.Histories.{each_entry_says_one_fact}
+use Rattle.cb_frames.specs.Fields.{load_bytes}
 
 pub limit_is_added : LimitIsAdded
 limit_is_added seat entries = (
@@ -61,8 +62,8 @@ legal_facts_in_limit seat facts = ((λ both. steps_in_limit seat facts both.0 bo
 
 pub legal_answers_by_stable : LegalAnswersByStable
 unfolding cast_answer
-legal_answers_by_stable seat limit entries payload legal =
+legal_answers_by_stable seat limit entries load legal =
     let many = (each_entry_says_one_fact seat entries legal).1 in
     let few = legal.few in
-    ap (λ (b : Bool). cond (ltb LONGEST_PAYLOAD (length payload)) (Err casts.PayloadTooLong) (cond b (Err casts.WindowFull) (cond (is_full limit entries) (Err casts.HistoryFull) (Ok (next_cast seat (facts_of entries) payload)))))
-    (histories_leave_numbers seat (facts_of entries) (omega (arith, many, few)))
+    ap (λ (b : Bool). cond (ltb LONGEST_PAYLOAD (length (load_bytes load))) (Err PayloadTooLong) (cond b (Err WindowFull) (cond (is_full limit entries) (Err HistoryFull) (Ok (next_cast seat (facts_of entries) load)))))
+    (histories_leave_numbers seat (facts_of entries) load (omega (arith, many, few)))

@@ -15,7 +15,7 @@ all_pass p [] all = refl
 all_pass p (d ∷ ds) all = and_from (p d) (list_all p ds) all.0 (all_pass p ds all.1)
 
 pub own_casts_are_of_the_group : OwnCastsAreOfTheGroup
-own_casts_are_of_the_group seat facts payload is =
+own_casts_are_of_the_group seat facts load is =
     let previous = time_of seat.group.size (upto_last_cast facts) in
     let now = time_of seat.group.size facts in
     let size : length now ≡ seat.group.size = length-map-range_with_len (count (view seat.group.size facts)) 0 seat.group.size in

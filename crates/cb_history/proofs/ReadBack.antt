@@ -7,13 +7,13 @@ use Rattle.cb_varint.specs.Reading.{number_at as number_and_length, spelling}
 use Rattle.cb_varint.proofs.Fronts.{number_is_read}
 use Rattle.cb_varint.proofs.Spelled.{spelled}
 use Rattle.cb_frames.specs.declared.fault.FrameFault.{FrameFault}
-use Rattle.cb_frames.specs.Fields.{CastFields, StatusFields, FrameFields, CastFrame, StatusFrame, first_number}
+use Rattle.cb_frames.specs.Fields.{Load, One, load_bytes, CastFields, StatusFields, FrameFields, CastFrame, StatusFrame, first_number}
 use Rattle.cb_frames.specs.Text.{cast_kind, status_kind, request_kind, pairs_from, cast_numbers, status_numbers, text_of}
 use Rattle.cb_frames.specs.Fault.{any_number, member_rule, message_rule, length_rule, Pairs, change_pairs, value_pairs}
 use Rattle.cb_frames.specs.Reading.{number_at, unless, field_at, pair_at, pairs_at, payload_at, cast_at, status_at, request_at, frame_at}
 use Rattle.cb_history.specs.Read.{frame_read}
 use Rattle.cb_frames.specs.Laws.{CanBeWritten}
-use Rattle.cb_frames.proofs.Carried.{first_is_number}
+use Rattle.cb_frames.proofs.Carried.{one_load, first_is_number}
 use Rattle.cb_frames.proofs.SaidPairs.{keeps_member, keeps_message, keeps_length, message_kept, Said, Says, says_changes, says_values}
 use Rattle.cb_frames.proofs.Fronts.{bind_cases}
 use Rattle.cb_history.proofs.Lists.{flat_map-append}
@@ -55,8 +55,8 @@ small_back : (ms ns : List ℕ) → AreSmall (ms ++ ns) → AreSmall ns
 small_back [] ns small = small
 small_back (m ∷ ms) ns small = small_back ms ns small.1
 
-cast_text : (c : CastFields) → flat_map spelling (cast_numbers c) ++ c.payload
-    ≡ spelling c.group ++ (spelling c.sender ++ (spelling c.number ++ (spelling (length c.changes) ++ (flat_map spelling (pairs_from 0 c.changes) ++ (spelling (length c.payload) ++ c.payload)))))
+cast_text : (c : CastFields) → flat_map spelling (cast_numbers c) ++ load_bytes c.load
+    ≡ spelling c.group ++ (spelling c.sender ++ (spelling c.number ++ (spelling (length c.changes) ++ (flat_map spelling (pairs_from 0 c.changes) ++ (spelling (length (load_bytes c.load)) ++ load_bytes c.load)))))
 cast_text c = simp (flat_map-append, append_assoc)
 
 all_bytes : (bytes : List ℕ) → payload_at (length bytes) bytes ≡ Ok bytes
@@ -66,12 +66,12 @@ all_bytes bytes =
     let none = drop_all (length bytes) bytes (omega arith) in
     rw (same, all, none) refl
 
-cast_at_read : (c : CastFields) → CanBeWritten (CastFrame c) → cast_at (flat_map spelling (cast_numbers c) ++ c.payload) ≡ Ok c
+cast_at_read : (c : CastFields) → CanBeWritten (CastFrame c) → cast_at (flat_map spelling (cast_numbers c) ++ load_bytes c.load) ≡ Ok c
 unfolding cast_at
 cast_at_read c can =
     let small = can.2 in
     let pairs = small.1.1.1.1 in
-    let payload_text = spelling (length c.payload) ++ c.payload in
+    let payload_text = spelling (length (load_bytes c.load)) ++ load_bytes c.load in
     let pairs_text = flat_map spelling (pairs_from 0 c.changes) ++ payload_text in
     let count_text = spelling (length c.changes) ++ pairs_text in
     let number_text = spelling c.number ++ count_text in
@@ -80,10 +80,11 @@ cast_at_read c can =
     let sender = field_read member_rule c.sender number_text small.1.0 (keeps_member c.sender can.0.sender) in
     let number = field_read message_rule c.number count_text small.1.1.0 (keeps_message c.number can.0.number) in
     let count = field_read any_number (length c.changes) pairs_text small.1.1.1.0 refl in
-    let changes = pairs_read (change_pairs c.sender) 0 c.changes (pairs_from 0 c.changes) payload_text (says_changes c.sender 0 c.changes can.0.changes) (small_front (pairs_from 0 c.changes) (length c.payload ∷ []) pairs) in
-    let size = field_read (length_rule 0) (length c.payload) c.payload (small_back (pairs_from 0 c.changes) (length c.payload ∷ []) pairs).0 (keeps_length 0 (length c.payload) (omega (arith, can.1))) in
-    let payload = all_bytes c.payload in
-    rw (cast_text c, group, sender, number, count, changes, size, payload) refl
+    let changes = pairs_read (change_pairs c.sender) 0 c.changes (pairs_from 0 c.changes) payload_text (says_changes c.sender 0 c.changes can.0.changes) (small_front (pairs_from 0 c.changes) (length (load_bytes c.load) ∷ []) pairs) in
+    let size = field_read (length_rule 0) (length (load_bytes c.load)) (load_bytes c.load) (small_back (pairs_from 0 c.changes) (length (load_bytes c.load) ∷ []) pairs).0 (keeps_length 0 (length (load_bytes c.load)) (omega (arith, can.1))) in
+    let payload = all_bytes (load_bytes c.load) in
+    let same : record c { load = One (load_bytes c.load) } ≡ c = ap (λ (load : Load). record c { load = load }) (sym (one_load c.load)) in
+    rw (cast_text c, group, sender, number, count, changes, size, payload) (ap Ok same)
 
 pub cast_read : (c : CastFields) → CanBeWritten (CastFrame c) → frame_read (text_of (CastFrame c)) ≡ Ok (CastFrame c)
 unfolding frame_at text_of

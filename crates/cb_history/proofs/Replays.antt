@@ -8,22 +8,22 @@ use Rattle.cb_varint.specs.Reading.{spelling}
 use Rattle.cb_varint.proofs.Spelled.{spelled}
 use Rattle.cb_frames.specs.declared.frame.TheConstants.{LONGEST_PAYLOAD}
 use Rattle.cb_frames.specs.declared.fault.FrameFault.{FrameFault}
-use Rattle.cb_frames.specs.Fields.{CastFields, StatusFields, FrameFields, CastFrame, StatusFrame, RequestFrame}
+use Rattle.cb_frames.specs.Fields.{payloads_of, Load, load_bytes, CastFields, StatusFields, FrameFields, CastFrame, StatusFrame, RequestFrame}
 use Rattle.cb_frames.specs.Text.{cast_kind, status_kind, cast_numbers, status_numbers, text_of}
 use Rattle.cb_history.specs.Read.{frame_read}
 use Rattle.cb_frames.specs.Laws.{IsBytes, CanBeWritten}
 use Rattle.cb_frames.proofs.Decoding.{reading_is_exact}
 use Rattle.cb_frames.proofs.Unique.{one_text}
-use Rattle.cb_history.specs.declared.answer.CastRefusal.{CastRefusal}
+use Rattle.cb_history.specs.CastFault.{CastFault}
 use Rattle.cb_history.specs.declared.answer.TickRefusal.{TickRefusal}
 use Rattle.cb_history.specs.declared.answer.Outgoing.{Outgoing}
 use Rattle.cb_history.specs.Group.{Identity, IsIdentity}
 use Rattle.cb_history.specs.Facts.{EntryFields, CastEntry, ArriveEntry, TickEntry, facts_of}
-use Rattle.cb_history.specs.Answers.{is_full, is_window_full, next_cast, cast_answer, answer_to, arrive_answer, status_of, tick_answer}
+use Rattle.cb_history.specs.Answers.{is_full, is_too_many, next_cast, cast_answer, answer_to, arrive_answer, status_of, tick_answer}
 use Rattle.cb_history.specs.Legal.{longest_history, Call, ToCast, ToTake, ToTick, OfBytes, cast_entry, arrive_entry, tick_entry, entry_of, room_for_one, AreLegal, NoEntries, OneMore, IsLegal}
 use Rattle.cb_history.specs.LegalFacts.{AreFactsOf}
-use Rattle.cb_history.specs.ReplayLaws.{payload_said, call_of, bytes_in, EntryTellsItsCall, EntriesOfBytesTellBytes, LegalEntriesAreBytes, OneMoreIsDecided, AreReplayed, ReplayingDecides}
-use Rattle.cb_history.proofs.Counts.{number_left}
+use Rattle.cb_history.specs.ReplayLaws.{load_said, call_of, bytes_in, EntryTellsItsCall, EntriesOfBytesTellBytes, LegalEntriesAreBytes, OneMoreIsDecided, AreReplayed, ReplayingDecides}
+use Rattle.cb_history.proofs.Counts.{numbers_left}
 use Rattle.cb_history.proofs.Written.{cast_can, status_can}
 use Rattle.cb_history.proofs.ReadBack.{cast_read}
 use Rattle.cb_history.proofs.Calls.{entry_with_room, entry_in_limit, added_below}
@@ -57,10 +57,10 @@ pub numbers_are_bytes : (ns : List ℕ) → AllByRecursion (λ n. n < 2 ^ 32) ns
 numbers_are_bytes [] small = no_bytes
 numbers_are_bytes (n ∷ ns) small = both_are_bytes (spelling n) (flat_map spelling ns) (spelling_is_bytes n small.0) (numbers_are_bytes ns small.1)
 
-pub cast_is_bytes : (c : CastFields) → CanBeWritten (CastFrame c) → IsBytes c.payload → IsBytes (text_of (CastFrame c))
+pub cast_is_bytes : (c : CastFields) → CanBeWritten (CastFrame c) → IsBytes (load_bytes c.load) → IsBytes (text_of (CastFrame c))
 unfolding text_of
-cast_is_bytes c can payload =
-    one_more_byte cast_kind (flat_map spelling (cast_numbers c) ++ c.payload) (omega arith) (both_are_bytes (flat_map spelling (cast_numbers c)) c.payload (numbers_are_bytes (cast_numbers c) can.2) payload)
+cast_is_bytes c can carried =
+    one_more_byte cast_kind (flat_map spelling (cast_numbers c) ++ load_bytes c.load) (omega arith) (both_are_bytes (flat_map spelling (cast_numbers c)) (load_bytes c.load) (numbers_are_bytes (cast_numbers c) can.2) carried)
 
 pub status_is_bytes : (s : StatusFields) → CanBeWritten (StatusFrame s) → IsBytes (text_of (StatusFrame s))
 unfolding text_of
@@ -72,18 +72,18 @@ status_is_bytes s can = one_more_byte status_kind (flat_map spelling (status_num
 abbrev Tells : Call → EntryFields → Type 0
 Tells call e = (call_of e ≡ call) × (OfBytes call → IsBytes (bytes_in e))
 
-cast_reported : (seat : Identity) (entries : List EntryFields) (payload : List ℕ) (e : EntryFields) → AreFactsOf seat (facts_of entries) → cast_entry (cast_answer seat (room_for_one entries) entries payload) ≡ Some e → Tells (ToCast payload) e
+cast_reported : (seat : Identity) (entries : List EntryFields) (load : Load) (e : EntryFields) → AreFactsOf seat (facts_of entries) → cast_entry (cast_answer seat (room_for_one entries) entries load) ≡ Some e → Tells (ToCast load) e
 unfolding cast_answer
-cast_reported seat entries payload e are =
-    let c = next_cast seat (facts_of entries) payload in
-    let P : Result CastFields CastRefusal → Type 0 = λ r. cast_entry r ≡ Some e → Tells (ToCast payload) e in
-    cond_both (ltb LONGEST_PAYLOAD (length payload)) _ _ P (λ _ h. absurd cc)
-    (λ short. cond_both (is_window_full seat (facts_of entries)) _ _ P (λ _ h. absurd cc)
+cast_reported seat entries load e are =
+    let c = next_cast seat (facts_of entries) load in
+    let P : Result CastFields CastFault → Type 0 = λ r. cast_entry r ≡ Some e → Tells (ToCast load) e in
+    cond_both (ltb LONGEST_PAYLOAD (length (load_bytes load))) _ _ P (λ _ h. absurd cc)
+    (λ short. cond_both (is_too_many seat (facts_of entries) (length (payloads_of load))) _ _ P (λ _ h. absurd cc)
     (λ free. cond_both (is_full (room_for_one entries) entries) _ _ P (λ _ h. absurd cc)
     (λ _ h.
     let is : CastEntry (text_of (CastFrame c)) ≡ e = cc in
-    let can = cast_can seat (facts_of entries) payload are.group are.member are.facts_are (number_left seat (facts_of entries) free) (ltb-false LONGEST_PAYLOAD (length payload) short) in (
-      ap call_of (sym is) ∙ ap (λ (r : Result FrameFields FrameFault). ToCast (payload_said r)) (cast_read c can),
+    let can = cast_can seat (facts_of entries) load are.group are.member are.facts_are (numbers_left seat (facts_of entries) (length (payloads_of load)) free) (ltb-false LONGEST_PAYLOAD (length (load_bytes load)) short) in (
+      ap call_of (sym is) ∙ ap (λ (r : Result FrameFields FrameFault). ToCast (load_said r)) (cast_read c can),
       (λ bytes. subst (λ (x : EntryFields). IsBytes (bytes_in x)) is (cast_is_bytes c can bytes)),
     ))))
 
@@ -105,7 +105,7 @@ tick_reported seat entries e are is =
 
 call_reported : (seat : Identity) (entries : List EntryFields) (call : Call) (e : EntryFields) → AreFactsOf seat (facts_of entries) → entry_of seat (room_for_one entries) entries call ≡ Some e → Tells call e
 unfolding arrive_answer
-call_reported seat entries (ToCast payload) e are h = cast_reported seat entries payload e are h
+call_reported seat entries (ToCast load) e are h = cast_reported seat entries load e are h
 call_reported seat entries (ToTake bytes) e are h = arrival_reported seat entries bytes e (frame_read bytes) h
 call_reported seat entries ToTick e are h =
     tick_reported seat entries e are (status_entered (text_of (StatusFrame (status_of seat (facts_of entries)))) (tick_answer seat (room_for_one entries) entries) e h)
@@ -119,14 +119,14 @@ entry_tells_its_call seat limit entries call e most legal h =
 back_is_bytes : (front back : List ℕ) → IsBytes (front ++ back) → IsBytes back
 back_is_bytes front back bytes i = subst (λ (n : ℕ). n < 256) (get_or-append-add front back i 0) (bytes (length front + i))
 
-payload_is_bytes : (frame : List ℕ) (c : CastFields) → IsBytes frame → frame_read frame ≡ Ok (CastFrame c) → IsBytes c.payload
+load_is_bytes : (frame : List ℕ) (c : CastFields) → IsBytes frame → frame_read frame ≡ Ok (CastFrame c) → IsBytes (load_bytes c.load)
 unfolding text_of
-payload_is_bytes frame c bytes read =
+load_is_bytes frame c bytes read =
     let text : frame ≡ text_of (CastFrame c) = one_text (CastFrame c) frame ((reading_is_exact.text frame (CastFrame c) bytes).0 read) in
-    back_is_bytes (cast_kind ∷ flat_map spelling (cast_numbers c)) c.payload (subst IsBytes text bytes)
+    back_is_bytes (cast_kind ∷ flat_map spelling (cast_numbers c)) (load_bytes c.load) (subst IsBytes text bytes)
 
-said_is_bytes : (frame : List ℕ) (r : Result FrameFields FrameFault) → IsBytes frame → frame_read frame ≡ r → IsBytes (payload_said r)
-said_is_bytes frame (Ok (CastFrame c)) bytes read = payload_is_bytes frame c bytes read
+said_is_bytes : (frame : List ℕ) (r : Result FrameFields FrameFault) → IsBytes frame → frame_read frame ≡ r → IsBytes (load_bytes (load_said r))
+said_is_bytes frame (Ok (CastFrame c)) bytes read = load_is_bytes frame c bytes read
 said_is_bytes frame (Ok (StatusFrame s)) bytes read = no_bytes
 said_is_bytes frame (Ok (RequestFrame r)) bytes read = no_bytes
 said_is_bytes frame (Err fault) bytes read = no_bytes

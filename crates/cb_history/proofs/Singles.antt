@@ -4,9 +4,9 @@ use Rattle.std.specs.List.{AllByRecursion, list_all, list_any, filter, sum_by}
 use Rattle.std.proofs.lemmas.List.{append-nil}
 use Rattle.std.proofs.lemmas.List.Sums.{sum_by-cons, sum_by-append}
 use Rattle.cb_frames.specs.declared.frame.Change.{Change}
-use Rattle.cb_frames.specs.Fields.{CastFields, Carried, messages_of, growth_in, first_number, last_number}
+use Rattle.cb_frames.specs.Fields.{Load, CastFields, Carried, messages_of, growth_in, first_number, last_number}
 use Rattle.cb_frames.specs.Carrying.{AreNumberedFrom}
-use Rattle.cb_frames.proofs.Carried.{carried_in_order, carried_up_to_the_last, carries_some, carries_one}
+use Rattle.cb_frames.proofs.Carried.{one_load, carried_in_order, carried_up_to_the_last, carries_some, carries_one}
 use Rattle.cb_diffs.specs.Expansion.{greatest, growth_of, expanded_field}
 use Rattle.cb_history.specs.Facts.{casts_in, cast_in, messages_in, is_there, numbers_between}
 use Rattle.cb_history.specs.Known.{greatest_of, expanded_count}
@@ -29,7 +29,7 @@ of_the_first c (m ∷ ms) = single_of c c.changes m
 
 -- and a cast of one message is made of it
 only_message : (c : CastFields) (m : Carried) → messages_of c ≡ m ∷ [] → single_of c c.changes m ≡ c
-only_message c m is = sym (ap (of_the_first c) (sym (carries_one c) ∙ is))
+only_message c m is = sym (ap (of_the_first c) (sym (carries_one c) ∙ is)) ∙ ap (λ (load : Load). record c { load = load }) (sym (one_load c.load))
 
 pub single_begins : (c : CastFields) (changes : List Change) (m : Carried) → first_number (single_of c changes m) ≡ m.number
 single_begins c changes m =

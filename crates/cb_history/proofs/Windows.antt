@@ -1,10 +1,9 @@
 -- The bounds that the windows keep.
-use Rattle.std.proofs.Common.{◌≡◌, ◌+◌, ◌<◌, ◌≤◌, leb, List, [], ◌∷◌, ◌++◌, length, refl, ap, subst, ◌∙◌, arith, inl, inr}
-use Rattle.std.proofs.lemmas.Bool.{ltb-false, leb-false}
+use Rattle.std.proofs.Common.{◌≡◌, ◌+◌, ◌<◌, ◌≤◌, List, [], ◌∷◌, ◌++◌, length, refl, ap, subst, ◌∙◌, arith, inl, inr}
+use Rattle.std.proofs.lemmas.Bool.{ltb-false}
 use Rattle.std.proofs.lemmas.List.{append-nil}
-use Rattle.cb_frames.specs.declared.frame.TheConstants.{LAST_NUMBER}
-use Rattle.cb_frames.specs.Fields.{CastFields, Carried, messages_of, last_number}
-use Rattle.cb_frames.proofs.Carried.{carried_up_to_the_last, carries_no_more, carried_is_of_cast}
+use Rattle.cb_frames.specs.Fields.{payloads_of, CastFields, Carried, messages_of, last_number}
+use Rattle.cb_frames.proofs.Carried.{carries_payloads, carried_is_of_cast}
 use Rattle.cb_history.specs.Group.{Identity}
 use Rattle.cb_history.specs.Facts.{Fact, OwnCast, CastReceived, StatusReceived, OwnStatus, cast_in, casts_in, messages_in}
 use Rattle.cb_history.specs.View.{count, view}
@@ -13,12 +12,13 @@ use Rattle.cb_history.specs.Answers.{own_casts, delivered}
 use Rattle.cb_history.specs.LegalFacts.{IsStep, AreLegalFacts, NoFacts, OneFactMore}
 use Rattle.cb_history.specs.WindowLaws.{CastsAreNear, OwnCastsAreNearStable}
 use Rattle.cb_history.proofs.Views.{IsIn, casts_in-append}
-use Rattle.cb_history.proofs.Lists.{in_casts_push, or_false, count_of_messages}
+use Rattle.cb_history.proofs.Lists.{in_casts_push, count_of_messages}
 use Rattle.cb_history.proofs.Walks.{view_own, own_casts-other, IsNotOwn}
 use Rattle.cb_history.proofs.Names.{StandsAt, all_stand}
 use Rattle.cb_history.proofs.Times.{count_grows, own_number}
 use Rattle.cb_history.proofs.Rising.{nothing_falls}
 use Rattle.cb_history.proofs.Runs.{message_there}
+use Rattle.cb_history.proofs.Counts.{room_left_for}
 
 -- ---- casts that are there
 
@@ -83,11 +83,10 @@ other_near_stable seat facts f other s after near =
 
 near_stable_step : (seat : Identity) (facts : List Fact) (f : Fact) → StandsAt seat facts → StandsAt seat (facts ++ f ∷ []) → IsStep seat facts f → IsNearStable seat facts → IsNearStable seat (facts ++ f ∷ [])
 near_stable_step seat facts (OwnCast c) s after step near =
-    let by_stable = leb (stable seat facts + seat.group.window) (delivered seat facts seat.me) in
-    let open_window = leb-false (stable seat facts + seat.group.window) (delivered seat facts seat.me) (or_false by_stable (leb LAST_NUMBER (delivered seat facts seat.me)) step.window).0 in
+    let room = room_left_for seat facts (length (payloads_of c.load)) step.window in
     let more : count (view seat.group.size (facts ++ OwnCast c ∷ [])) seat.me ≡ count (view seat.group.size facts) seat.me + length (messages_of c) =
     ap (λ (ms : List Carried). count ms seat.me) (view_own seat.group.size facts c) ∙ count_of_messages (view seat.group.size facts) c seat.me (own_number seat facts c after).0 in
-    omega (arith, open_window, more, carried_up_to_the_last c, carries_no_more c, (nothing_falls seat facts (OwnCast c)).2)
+    omega (arith, room, more, carries_payloads c, (nothing_falls seat facts (OwnCast c)).2)
 near_stable_step seat facts (CastReceived c) s after step near = other_near_stable seat facts (CastReceived c) tt s after near
 near_stable_step seat facts (StatusReceived t) s after step near = other_near_stable seat facts (StatusReceived t) tt s after near
 near_stable_step seat facts (OwnStatus t) s after step near = other_near_stable seat facts (OwnStatus t) tt s after near

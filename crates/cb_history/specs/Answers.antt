@@ -4,13 +4,11 @@ use Rattle.std.specs.List.{list_any, list_all, range_with_len, flat_map}
 use Rattle.cb_frames.specs.declared.frame.TheConstants.{LONGEST_PAYLOAD, MOST_FRAMES, MOST_RANGES, LAST_NUMBER}
 use Rattle.cb_frames.specs.declared.frame.Range.{Range}
 use Rattle.cb_frames.specs.declared.fault.FrameFault.{FrameFault}
-use Rattle.cb_frames.specs.Fields.{CastFields, StatusFields, FrameFields, CastFrame, StatusFrame, RequestFrame, messages_of, first_number, last_number}
+use Rattle.cb_frames.specs.Fields.{Load, payloads_of, load_bytes, CastFields, StatusFields, FrameFields, CastFrame, StatusFrame, RequestFrame, messages_of, first_number, last_number}
 use Rattle.cb_frames.specs.Text.{text_of}
 use Rattle.cb_history.specs.Read.{frame_read}
 use Rattle.cb_delay.specs.declared.message.Message.{Message}
 use Rattle.cb_diffs.specs.Differences.{differences}
-use Rattle.cb_history.specs.declared.answer.CastRefusal.{CastRefusal}
-use Rattle.cb_history.specs.declared.answer.CastRefusal.TheVariants as casts
 use Rattle.cb_history.specs.declared.answer.Arrival.{Arrival}
 use Rattle.cb_history.specs.declared.answer.Arrival.TheVariants as reported
 use Rattle.cb_history.specs.declared.answer.ArriveRefusal.{ArriveRefusal}
@@ -19,6 +17,7 @@ use Rattle.cb_history.specs.declared.answer.TickRefusal.{TickRefusal}
 use Rattle.cb_history.specs.declared.answer.TickRefusal.TheVariants as ticks
 use Rattle.cb_history.specs.declared.answer.CastDone.{CastDone}
 use Rattle.cb_history.specs.declared.answer.Outgoing.{Outgoing}
+use Rattle.cb_history.specs.CastFault.{CastFault, PayloadTooLong, WindowFull, HistoryFull}
 use Rattle.cb_history.specs.Group.{Identity}
 use Rattle.cb_history.specs.Facts.{EntryFields, Fact, OwnCast, CastReceived, StatusReceived, OwnStatus, facts_of, casts_in, is_there}
 use Rattle.cb_history.specs.View.{count, view, counts, time_of, message_in}
@@ -46,32 +45,37 @@ upto_last_cast [] = []
 upto_last_cast (f ∷ facts) = if list_any is_own_cast (f ∷ facts) then f ∷ upto_last_cast facts else []
 
 -- The next own cast. Its changes are by how much the view grew since the last own cast.
-abbrev pub next_cast : Identity → List Fact → List ℕ → CastFields
-next_cast seat facts payload = record {
+abbrev pub next_cast : Identity → List Fact → Load → CastFields
+next_cast seat facts load = record {
   group = seat.group.number;
   sender = seat.me;
   number = delivered seat facts seat.me + 1;
   changes = differences (time_of seat.group.size (upto_last_cast facts)) (time_of seat.group.size facts) seat.me;
-  payload = payload;
+  load = load;
 }
 
--- as many own casts as the window are not known to be delivered everywhere, or no number is left for another
+-- with n messages more, more own ones than the window would not be known to be delivered everywhere, or some would have no number
+abbrev pub is_too_many : Identity → List Fact → ℕ → Bool
+is_too_many seat facts n =
+    nat_lt (stable seat facts + seat.group.window) (delivered seat facts seat.me + n) || nat_lt LAST_NUMBER (delivered seat facts seat.me + n)
+
+-- one is too many
 abbrev pub is_window_full : Identity → List Fact → Bool
-is_window_full seat facts = nat_le (stable seat facts + seat.group.window) (delivered seat facts seat.me) || nat_le LAST_NUMBER (delivered seat facts seat.me)
+is_window_full seat facts = is_too_many seat facts 1
 
 -- the frame of the cast, or why there is none
-unfoldable pub cast_answer : Identity → ℕ → List EntryFields → List ℕ → Result CastFields CastRefusal
-cast_answer seat limit entries payload =
-    if nat_lt LONGEST_PAYLOAD (length payload) then Err casts.PayloadTooLong else
-    if is_window_full seat (facts_of entries) then Err casts.WindowFull else
-    if is_full limit entries then Err casts.HistoryFull else
-    Ok (next_cast seat (facts_of entries) payload)
+unfoldable pub cast_answer : Identity → ℕ → List EntryFields → Load → Result CastFields CastFault
+cast_answer seat limit entries load =
+    if nat_lt LONGEST_PAYLOAD (length (load_bytes load)) then Err PayloadTooLong else
+    if is_too_many seat (facts_of entries) (length (payloads_of load)) then Err WindowFull else
+    if is_full limit entries then Err HistoryFull else
+    Ok (next_cast seat (facts_of entries) load)
 
--- what the caller gets of it: the name, the view's counts with it, and its frame
+-- what the caller gets of it: its first name, the view's counts with its first message, and its frame
 abbrev pub cast_done : Identity → List Fact → CastFields → CastDone
 cast_done seat facts c = record {
   name = record { sender = seat.me; number = first_number c };
-  time = counts seat.group.size (view seat.group.size facts ++ messages_of c);
+  time = counts seat.group.size (view seat.group.size facts ++ take 1 (messages_of c));
   out = text_of (CastFrame c);
 }
 

@@ -1,11 +1,11 @@
 -- Counts and numbers of messages stay in the range of numbers, however long a history is.
-use Rattle.std.specs.Prelude.{◌≡◌, ℕ, ◌+◌, ◌≤◌, true, nat_le, List, length}
+use Rattle.std.specs.Prelude.{◌≡◌, ℕ, ◌+◌, ◌<◌, ◌≤◌, true, nat_lt, List, length}
 use Rattle.cb_frames.specs.declared.frame.TheConstants.{LAST_NUMBER}
-use Rattle.cb_frames.specs.Fields.{CastFields, last_number}
+use Rattle.cb_frames.specs.Fields.{Load, payloads_of, CastFields, last_number}
 use Rattle.cb_history.specs.Group.{Identity}
 use Rattle.cb_history.specs.Facts.{Fact, casts_in, is_there}
 use Rattle.cb_history.specs.Known.{known, stable}
-use Rattle.cb_history.specs.Answers.{delivered, is_window_full}
+use Rattle.cb_history.specs.Answers.{delivered, is_too_many}
 use Rattle.cb_history.specs.Legal.{longest_history}
 use Rattle.cb_history.specs.LegalFacts.{IsOwnCast, AreFactsOf}
 
@@ -25,12 +25,12 @@ CountsAreNumbers = (seat : Identity) (facts : List Fact) (k : ℕ) → AreFactsO
 abbrev pub KnownAreNumbers : Type 0
 KnownAreNumbers = (seat : Identity) (facts : List Fact) (i : ℕ) → AreFactsOf seat facts → known facts i ≤ LAST_NUMBER
 
--- a member that has used up its numbers finds its window full
+-- a member that has not so many numbers left finds that its window has no room
 abbrev pub NoNumberIsFull : Type 0
-NoNumberIsFull = (seat : Identity) (facts : List Fact) → LAST_NUMBER ≤ delivered seat facts seat.me → is_window_full seat facts ≡ true
+NoNumberIsFull = (seat : Identity) (facts : List Fact) (n : ℕ) → LAST_NUMBER < delivered seat facts seat.me + n → is_too_many seat facts n ≡ true
 
--- A history within its limit has a number left for one more cast, so its window is full by what is stable alone.
+-- A history within its limit has numbers left for one more cast, so its window has room for it by what is stable alone.
 abbrev pub HistoriesLeaveNumbers : Type 0
 HistoriesLeaveNumbers =
-    (seat : Identity) (facts : List Fact) → length facts ≤ longest_history
-    → is_window_full seat facts ≡ nat_le (stable seat facts + seat.group.window) (delivered seat facts seat.me)
+    (seat : Identity) (facts : List Fact) (load : Load) → length facts ≤ longest_history
+    → is_too_many seat facts (length (payloads_of load)) ≡ nat_lt (stable seat facts + seat.group.window) (delivered seat facts seat.me + length (payloads_of load))

@@ -1,13 +1,13 @@
 -- Histories that a member can have.
 use Rattle.std.specs.Prelude.{◌≡◌, ℕ, ◌+◌, ◌<◌, ◌≤◌, Bool, List, [], ◌∷◌, ◌++◌, length, map, Option, Some, None, Result, Ok, Err, if◌then◌else◌}
-use Rattle.cb_frames.specs.Fields.{CastFields, StatusFrame, CastFrame}
+use Rattle.cb_frames.specs.Fields.{Load, load_bytes, CastFields, StatusFrame, CastFrame}
 use Rattle.cb_frames.specs.Text.{text_of}
 use Rattle.cb_frames.specs.Laws.{IsBytes}
 use Rattle.cb_history.specs.declared.history.TheConstants.{LONGEST_HISTORY}
-use Rattle.cb_history.specs.declared.answer.CastRefusal.{CastRefusal}
 use Rattle.cb_history.specs.declared.answer.ArriveRefusal.{ArriveRefusal}
 use Rattle.cb_history.specs.declared.answer.TickRefusal.{TickRefusal}
 use Rattle.cb_history.specs.declared.answer.Outgoing.{Outgoing}
+use Rattle.cb_history.specs.CastFault.{CastFault}
 use Rattle.cb_history.specs.Group.{Identity, AreParameters}
 use Rattle.cb_history.specs.Facts.{EntryFields, CastEntry, ArriveEntry, TickEntry, facts_of}
 use Rattle.cb_history.specs.Answers.{cast_answer, arrive_answer, tick_answer, status_of, ArrivalSays, Accepted, Repeat}
@@ -16,22 +16,22 @@ use Rattle.cb_history.specs.Answers.{cast_answer, arrive_answer, tick_answer, st
 abbrev pub longest_history : ℕ
 longest_history = LONGEST_HISTORY
 
--- what is asked of a member: to cast a payload, to take a received frame, to tick
+-- what is asked of a member: to cast a load, to take a received frame, to tick
 pub data Call : Type 0 where
-  ToCast : List ℕ → Call
+  ToCast : Load → Call
   ToTake : List ℕ → Call
   ToTick : Call
 
 -- what is cast and what is received are bytes
 abbrev pub OfBytes : Call → Type 0
-OfBytes (ToCast payload) = IsBytes payload
+OfBytes (ToCast load) = IsBytes (load_bytes load)
 OfBytes (ToTake bytes) = IsBytes bytes
 OfBytes ToTick = Unit {0}
 
 -- the entry that an answer adds, where it adds one
-abbrev pub cast_entry : Result CastFields CastRefusal → Option EntryFields
+abbrev pub cast_entry : Result CastFields CastFault → Option EntryFields
 cast_entry (Ok c) = Some (CastEntry (text_of (CastFrame c)))
-cast_entry (Err refusal) = None
+cast_entry (Err fault) = None
 
 abbrev pub arrive_entry : List ℕ → Result ArrivalSays ArriveRefusal → Option EntryFields
 arrive_entry bytes (Ok (Accepted deliveries changed out)) = if changed then Some (ArriveEntry bytes (map (λ m. m.name) deliveries)) else None
@@ -43,7 +43,7 @@ tick_entry status (Ok t) = if t.0 then Some (TickEntry status) else None
 tick_entry status (Err refusal) = None
 
 abbrev pub entry_of : Identity → ℕ → List EntryFields → Call → Option EntryFields
-entry_of seat limit entries (ToCast payload) = cast_entry (cast_answer seat limit entries payload)
+entry_of seat limit entries (ToCast load) = cast_entry (cast_answer seat limit entries load)
 entry_of seat limit entries (ToTake bytes) = arrive_entry bytes (arrive_answer seat limit entries bytes)
 entry_of seat limit entries ToTick = tick_entry (text_of (StatusFrame (status_of seat (facts_of entries)))) (tick_answer seat limit entries)
 

@@ -1,17 +1,18 @@
 -- The facts of a legal history, one after another.
 use Rattle.std.specs.Prelude.{◌≡◌, ℕ, ◌≤◌, ◌<◌, true, false, List, [], ◌∷◌, ◌++◌, length}
-use Rattle.cb_frames.specs.declared.frame.TheConstants.{LONGEST_PAYLOAD, LAST_NUMBER}
-use Rattle.cb_frames.specs.Fields.{CastFields, first_number, last_number, StatusFields, FrameFields, CastFrame, StatusFrame, RequestFrame}
+use Rattle.cb_frames.specs.declared.frame.TheConstants.{LAST_NUMBER}
+use Rattle.cb_frames.specs.Fields.{payloads_of, CastFields, first_number, last_number, StatusFields, FrameFields, CastFrame, StatusFrame, RequestFrame}
+use Rattle.cb_frames.specs.Text.{IsLoad}
 use Rattle.cb_history.specs.Group.{Identity, AreParameters}
 use Rattle.cb_history.specs.Facts.{Fact, OwnCast, CastReceived, StatusReceived, OwnStatus}
 use Rattle.cb_history.specs.Known.{value_in}
-use Rattle.cb_history.specs.Answers.{is_window_full, next_cast, group_of, are_members, is_impossible, is_repeat, is_too_far, is_change, status_of, is_new_status}
+use Rattle.cb_history.specs.Answers.{is_too_many, next_cast, group_of, are_members, is_impossible, is_repeat, is_too_far, is_change, status_of, is_new_status}
 
--- an own cast: the next one, of a payload that is not too long, while the window is not full
+-- an own cast: the next one, of a load, for whose messages the window has room
 pub record IsOwnCast (seat : Identity) (facts : List Fact) (c : CastFields) : Type 0 where
-  pub payload : length c.payload ≤ LONGEST_PAYLOAD
-  pub window : is_window_full seat facts ≡ false
-  pub next : c ≡ next_cast seat facts c.payload
+  pub load : IsLoad c.load
+  pub window : is_too_many seat facts (length (payloads_of c.load)) ≡ false
+  pub next : c ≡ next_cast seat facts c.load
 
 -- the numbers of messages that a frame says are numbers that messages can have
 abbrev pub SaysNumbers : FrameFields → Type 0

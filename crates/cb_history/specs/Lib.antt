@@ -1,4 +1,5 @@
 pub mod Group
+pub mod CastFault
 pub mod Read
 pub mod Facts
 pub mod View

@@ -1,9 +1,8 @@
 -- A legal history is what calls add without a limit, with at most so many entries as a history can have.
-use Rattle.std.specs.Prelude.{◌≡◌, ℕ, ◌+◌, ◌≤◌, ◌<◌, ◌↔◌, nat_le, nat_lt, List, [], ◌∷◌, ◌++◌, length, Some, Result, Ok, Err, if◌then◌else◌}
+use Rattle.std.specs.Prelude.{◌≡◌, ℕ, ◌+◌, ◌≤◌, ◌<◌, ◌↔◌, nat_lt, List, [], ◌∷◌, ◌++◌, length, Some, Result, Ok, Err, if◌then◌else◌}
 use Rattle.cb_frames.specs.declared.frame.TheConstants.{LONGEST_PAYLOAD}
-use Rattle.cb_frames.specs.Fields.{CastFields}
-use Rattle.cb_history.specs.declared.answer.CastRefusal.{CastRefusal}
-use Rattle.cb_history.specs.declared.answer.CastRefusal.TheVariants as casts
+use Rattle.cb_frames.specs.Fields.{Load, payloads_of, load_bytes, CastFields}
+use Rattle.cb_history.specs.CastFault.{CastFault, PayloadTooLong, WindowFull, HistoryFull}
 use Rattle.cb_history.specs.Group.{Identity, IsIdentity}
 use Rattle.cb_history.specs.Facts.{EntryFields, Fact, facts_of}
 use Rattle.cb_history.specs.Known.{stable}
@@ -34,16 +33,16 @@ abbrev pub LegalFactsInLimit : Type 0
 LegalFactsInLimit = (seat : Identity) (facts : List Fact) → (AreLegalFacts seat facts × (length facts ≤ longest_history)) ↔ AreStepsInLimit seat facts
 
 -- the answer to a cast where only what is stable fills the window
-abbrev pub answer_by_stable : Identity → ℕ → List EntryFields → List ℕ → Result CastFields CastRefusal
-answer_by_stable seat limit entries payload =
-    if nat_lt LONGEST_PAYLOAD (length payload) then Err casts.PayloadTooLong else
-    if nat_le (stable seat (facts_of entries) + seat.group.window) (delivered seat (facts_of entries) seat.me) then Err casts.WindowFull else
-    if is_full limit entries then Err casts.HistoryFull else
-    Ok (next_cast seat (facts_of entries) payload)
+abbrev pub answer_by_stable : Identity → ℕ → List EntryFields → Load → Result CastFields CastFault
+answer_by_stable seat limit entries load =
+    if nat_lt LONGEST_PAYLOAD (length (load_bytes load)) then Err PayloadTooLong else
+    if nat_lt (stable seat (facts_of entries) + seat.group.window) (delivered seat (facts_of entries) seat.me + length (payloads_of load)) then Err WindowFull else
+    if is_full limit entries then Err HistoryFull else
+    Ok (next_cast seat (facts_of entries) load)
 
 -- that numbers end changes no answer of a member with a legal history
 abbrev pub LegalAnswersByStable : Type 0
-LegalAnswersByStable = (seat : Identity) (limit : ℕ) (entries : List EntryFields) (payload : List ℕ) → IsLegal seat entries → cast_answer seat limit entries payload ≡ answer_by_stable seat limit entries payload
+LegalAnswersByStable = (seat : Identity) (limit : ℕ) (entries : List EntryFields) (load : Load) → IsLegal seat entries → cast_answer seat limit entries load ≡ answer_by_stable seat limit entries load
 
 -- a call of bytes keeps entries legal, whatever limit it is made with
 abbrev pub CallsKeepEntries : Type 0

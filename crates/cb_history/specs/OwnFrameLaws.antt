@@ -1,7 +1,7 @@
 -- What a member sends passes the first checks of every member of its group.
 use Rattle.std.specs.Prelude.{◌≡◌, ◌≢◌, ℕ, ◌<◌, true, false, List}
 use Rattle.cb_frames.specs.declared.frame.Range.{Range}
-use Rattle.cb_frames.specs.Fields.{FrameFields, CastFrame, StatusFrame, RequestFrame}
+use Rattle.cb_frames.specs.Fields.{Load, FrameFields, CastFrame, StatusFrame, RequestFrame}
 use Rattle.cb_history.specs.Group.{Parameters, Identity, IsIdentity}
 use Rattle.cb_history.specs.Facts.{Fact}
 use Rattle.cb_history.specs.Answers.{next_cast, group_of, are_members, is_impossible, status_of}
@@ -17,7 +17,7 @@ own_request seat i ranges = RequestFrame (record { group = seat.group.number; re
 
 -- a member's next cast and its status are of its group
 abbrev pub OwnCastsAreOfTheGroup : Type 0
-OwnCastsAreOfTheGroup = (seat : Identity) (facts : List Fact) (payload : List ℕ) → IsIdentity seat → IsOfTheGroup seat.group (CastFrame (next_cast seat facts payload))
+OwnCastsAreOfTheGroup = (seat : Identity) (facts : List Fact) (load : Load) → IsIdentity seat → IsOfTheGroup seat.group (CastFrame (next_cast seat facts load))
 
 abbrev pub OwnStatusesAreOfTheGroup : Type 0
 OwnStatusesAreOfTheGroup = (seat : Identity) (facts : List Fact) → IsIdentity seat → IsOfTheGroup seat.group (StatusFrame (status_of seat facts))

@@ -2,23 +2,23 @@
 use Rattle.std.specs.Prelude.{◌≡◌, ◌↔◌, ℕ, ◌≤◌, List, [], ◌∷◌, ◌++◌, Some, Result, Ok, Err}
 use Rattle.std.specs.List.{AllByRecursion}
 use Rattle.cb_frames.specs.declared.fault.FrameFault.{FrameFault}
-use Rattle.cb_frames.specs.Fields.{FrameFields, CastFrame, StatusFrame, RequestFrame}
+use Rattle.cb_frames.specs.Fields.{Load, One, FrameFields, CastFrame, StatusFrame, RequestFrame}
 use Rattle.cb_history.specs.Read.{frame_read}
 use Rattle.cb_frames.specs.Laws.{IsBytes}
 use Rattle.cb_history.specs.Group.{Identity, IsIdentity}
 use Rattle.cb_history.specs.Facts.{EntryFields, CastEntry, ArriveEntry, TickEntry}
 use Rattle.cb_history.specs.Legal.{longest_history, Call, ToCast, ToTake, ToTick, OfBytes, entry_of, IsLegal}
 
--- the payload of a cast frame
-abbrev pub payload_said : Result FrameFields FrameFault → List ℕ
-payload_said (Ok (CastFrame c)) = c.payload
-payload_said (Ok (StatusFrame s)) = []
-payload_said (Ok (RequestFrame r)) = []
-payload_said (Err fault) = []
+-- what a cast frame carries
+abbrev pub load_said : Result FrameFields FrameFault → Load
+load_said (Ok (CastFrame c)) = c.load
+load_said (Ok (StatusFrame s)) = One []
+load_said (Ok (RequestFrame r)) = One []
+load_said (Err fault) = One []
 
--- the call that an entry determines: a cast of its frame's payload, an arrival of its bytes, or a tick
+-- the call that an entry determines: a cast of what its frame carries, an arrival of its bytes, or a tick
 abbrev pub call_of : EntryFields → Call
-call_of (CastEntry frame) = ToCast (payload_said (frame_read frame))
+call_of (CastEntry frame) = ToCast (load_said (frame_read frame))
 call_of (ArriveEntry frame delivered) = ToTake frame
 call_of (TickEntry status) = ToTick
 

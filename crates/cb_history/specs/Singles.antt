@@ -2,7 +2,7 @@
 use Rattle.std.specs.Prelude.{◌≡◌, ℕ, List, [], ◌∷◌, ◌++◌, length}
 use Rattle.std.specs.List.{flat_map, AllByRecursion}
 use Rattle.cb_frames.specs.declared.frame.Change.{Change}
-use Rattle.cb_frames.specs.Fields.{CastFields, Carried, messages_of, first_number, last_number}
+use Rattle.cb_frames.specs.Fields.{One, CastFields, Carried, messages_of, first_number, last_number}
 use Rattle.cb_diffs.specs.Expansion.{expanded_field, expanded_time}
 use Rattle.cb_history.specs.Facts.{Fact, casts_in, cast_in, messages_in, is_there}
 use Rattle.cb_history.specs.View.{is_expanded, expanded_in}
@@ -15,7 +15,7 @@ IsSingle c = last_number c ≡ first_number c
 
 -- a cast of this one message of c, with these changes
 abbrev pub single_of : CastFields → List Change → Carried → CastFields
-single_of c changes m = record { group = c.group; sender = m.sender; number = m.number; changes = changes; payload = m.payload }
+single_of c changes m = record { group = c.group; sender = m.sender; number = m.number; changes = changes; load = One m.payload }
 
 -- of some messages of c, the first with these changes and the others with none
 abbrev pub singles_from : CastFields → List Change → List Carried → List CastFields

@@ -1,7 +1,7 @@
 -- What a member holds, and what its calls do to it.
 use Rattle.std.specs.Prelude.{◌≡◌, ◌⊎◌, ℕ, ◌≤◌, Bool, List, length, map, Option, Result, Ok, Err}
-use Rattle.cb_frames.specs.declared.frame.TheConstants.{LONGEST_PAYLOAD}
-use Rattle.cb_frames.specs.Fields.{CastFields, StatusFields, Carried}
+use Rattle.cb_frames.specs.Fields.{Load, CastFields, StatusFields, Carried}
+use Rattle.cb_frames.specs.Text.{IsLoad}
 use Rattle.cb_frames.specs.Reading.{HasValue}
 use Rattle.cb_history.specs.Read.{frame_read}
 use Rattle.cb_history.specs.declared.history.Entry.{Entry}
@@ -15,6 +15,7 @@ use Rattle.cb_history.specs.declared.answer.Outgoing.{Outgoing}
 use Rattle.cb_history.specs.declared.answer.Ticked.{Ticked}
 use Rattle.cb_history.specs.declared.answer.TickRefusal.{TickRefusal}
 use Rattle.cb_history.specs.declared.answer.TickRefusal.TheVariants as ticks
+use Rattle.cb_history.specs.CastFault.{CastFault, TellsFaultOf}
 use Rattle.cb_history.specs.Group.{Identity}
 use Rattle.cb_history.specs.Facts.{EntryFields, Fact, entry_fields, facts_of}
 use Rattle.cb_delay.specs.declared.message.Event.{Event}
@@ -62,8 +63,8 @@ abbrev pub stable_in : MemberState → ℕ
 stable_in m = stable m.seat (facts_in m)
 
 -- what it would cast next
-abbrev pub next_in : MemberState → List ℕ → CastFields
-next_in m payload = next_cast m.seat (facts_in m) payload
+abbrev pub next_in : MemberState → Load → CastFields
+next_in m load = next_cast m.seat (facts_in m) load
 
 abbrev pub status_in : MemberState → StatusFields
 status_in m = status_of m.seat (facts_in m)
@@ -78,8 +79,8 @@ abbrev pub state_after : MemberState → Call → MemberState
 state_after m call = record { seat = m.seat; limit = m.limit; entries = history_after m.seat m.limit m.entries call }
 
 -- the answer to a call, by its definition
-abbrev pub answer_to_cast : MemberState → List ℕ → Result CastFields CastRefusal
-answer_to_cast m payload = cast_answer m.seat m.limit m.entries payload
+abbrev pub answer_to_cast : MemberState → Load → Result CastFields CastFault
+answer_to_cast m load = cast_answer m.seat m.limit m.entries load
 
 abbrev pub answer_to_arrival : MemberState → List ℕ → Result ArrivalSays ArriveRefusal
 answer_to_arrival m bytes = arrive_answer m.seat m.limit m.entries bytes
@@ -87,16 +88,15 @@ answer_to_arrival m bytes = arrive_answer m.seat m.limit m.entries bytes
 abbrev pub answer_to_tick : MemberState → Result (Bool × List Outgoing) TickRefusal
 answer_to_tick m = tick_answer m.seat m.limit m.entries
 
--- a cast of this payload was made
-pub record HasCast (old new : MemberState) (payload : List ℕ) (done : CastDone) : Type 0 where
-  pub answer : answer_to_cast old payload ≡ Ok (next_cast old.seat (facts_in old) payload)
-  pub reported : done ≡ cast_done old.seat (facts_in old) (next_cast old.seat (facts_in old) payload)
-  pub after : new ≡ state_after old (ToCast payload)
+-- a cast of this load was made
+pub record HasCast (old new : MemberState) (load : Load) (done : CastDone) : Type 0 where
+  pub answer : answer_to_cast old load ≡ Ok (next_cast old.seat (facts_in old) load)
+  pub reported : done ≡ cast_done old.seat (facts_in old) (next_cast old.seat (facts_in old) load)
+  pub after : new ≡ state_after old (ToCast load)
 
 -- or it was refused. A member that has to look at its whole history may be out of memory in place of most answers.
-abbrev pub RefusesCast : MemberState → List ℕ → CastRefusal → Type 0
-RefusesCast m payload refusal =
-    (answer_to_cast m payload ≡ Err refusal) ⊎ ((refusal ≡ casts.NoMemory) × (length payload ≤ LONGEST_PAYLOAD))
+abbrev pub RefusesCast : MemberState → Load → CastRefusal → Type 0
+RefusesCast m load refusal = TellsFaultOf refusal (answer_to_cast m load) ⊎ ((refusal ≡ casts.NoMemory) × IsLoad load)
 
 -- received bytes were taken, or were a repeat
 pub record HasTaken (old new : MemberState) (bytes : List ℕ) (arrival : Arrival) : Type 0 where

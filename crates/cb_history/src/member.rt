@@ -1,6 +1,7 @@
 //! What every member of a group does, whichever way it keeps what it has to know.
 
 ghost use Rattle.std.specs.Prelude.{◌≡◌, IfOk, IfErr, OnErr, map};
+ghost use Rattle.cb_frames.specs.Fields.{One};
 ghost use Rattle.cb_history.specs.Facts.{entry_fields};
 ghost use Rattle.cb_history.specs.Known.{ranges_of};
 ghost use Rattle.cb_history.specs.State.{MemberState, events_in, missing_in, stable_in, time_in, HasCast, RefusesCast, HasTaken, RefusesArrival, HasTicked, RefusesTick};
@@ -24,8 +25,8 @@ pub trait GroupMember {
 
     /// Casts a message of this payload. After a refusal the member is as it was.
     fn cast(&mut self, payload: &[u8]) -> Result<CastDone, CastRefusal>
-        ensures done { IfOk result (HasCast (state self.old) (state self.new) payload.now) }
-        ensures refused { IfErr result (RefusesCast (state self.old) payload.now) }
+        ensures done { IfOk result (HasCast (state self.old) (state self.new) (One payload.now)) }
+        ensures refused { IfErr result (RefusesCast (state self.old) (One payload.now)) }
         ensures same { OnErr result (state self.new ≡ state self.old) };
 
     /// Takes received bytes. After a refusal the member is as it was.
