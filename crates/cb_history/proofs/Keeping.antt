@@ -1,5 +1,5 @@
 -- The least of what is known, and the frames that are kept.
-use Rattle.std.proofs.Common.{◌≡◌, ◌≢◌, ℕ, zero, suc, ◌+◌, ◌-◌, ◌<◌, ◌≤◌, ◌||◌, Bool, true, false, not, cond, eqb, ltb, List, [], ◌∷◌, ◌++◌, length, map, take, refl, sym, ap, subst, ◌∙◌, arith, inl, inr}
+use Rattle.std.proofs.Common.{◌≡◌, ◌≢◌, ℕ, zero, suc, ◌+◌, ◌<◌, ◌≤◌, ◌||◌, Bool, true, false, not, cond, eqb, ltb, List, [], ◌∷◌, ◌++◌, length, map, take, refl, sym, ap, subst, ◌∙◌, arith, inl, inr}
 use Rattle.std.specs.List.{filter, range_with_len}
 use Rattle.std.proofs.lemmas.Bool.{cases_eq, cases_lt, eq-eqb, ne_eqb, le-ltb, lt-ltb, false_from_ne_true}
 use Rattle.std.proofs.lemmas.List.{map-append}
@@ -10,8 +10,10 @@ use Rattle.cb_frames.specs.Fields.{CastFields, CastFrame, messages_of, first_num
 use Rattle.cb_frames.specs.Text.{text_of}
 use Rattle.cb_frames.proofs.Carried.{first_is_number, carried_up_to_the_last, carries_some, carried_is_of_cast, each_number_is_carried}
 use Rattle.cb_stability.specs.Ranges.{is_in, is_in_some, meets}
-use Rattle.cb_stability.specs.Sent.{Spanned, spanned, is_in_ranges, room_of}
+use Rattle.cb_stability.specs.declared.window.Spanned.{Spanned}
+use Rattle.cb_stability.specs.Sent.{spanned, is_in_ranges, room_of}
 use Rattle.cb_stability.proofs.Found.{meets_a_number}
+use Rattle.cb_stability.proofs.Windows.{room_for}
 use Rattle.cb_history.specs.declared.answer.Outgoing.{Outgoing}
 use Rattle.cb_history.specs.Group.{Identity}
 use Rattle.cb_history.specs.Facts.{Fact, OwnCast, CastReceived, StatusReceived, OwnStatus, messages_in}
@@ -24,7 +26,7 @@ use Rattle.cb_history.proofs.Views.{IsIn, filter_in, in_filter}
 use Rattle.cb_history.proofs.Lists.{any_of, one_of, count_of_messages}
 use Rattle.cb_history.proofs.Walks.{view_own, own_casts-own, own_casts-other, IsNotOwn}
 use Rattle.cb_history.proofs.Names.{all_stand}
-use Rattle.cb_history.proofs.Counts.{room_left_for, counts_are_numbers, number_left}
+use Rattle.cb_history.proofs.Counts.{room_left_for, number_left}
 use Rattle.cb_history.proofs.Prefixes.{prefix_of_facts_is_legal, last_fact_is_a_step}
 use Rattle.cb_history.proofs.Acknowledged.{acknowledged_is_delivered}
 use Rattle.cb_history.proofs.Rising.{nothing_falls}
@@ -133,31 +135,18 @@ no_room_is_full seat facts sent are keeps = (free, some)
     neither : (a b : Bool) → a ≡ false → b ≡ false → (a || b) ≡ false
     neither a b first second = rw (first, second) refl
 
-    most : d ≤ LAST_NUMBER
-    most = counts_are_numbers seat facts seat.me are
-
-    none_at_last : sent.put ≡ LAST_NUMBER → room_of sent ≡ 0
-    none_at_last e = rw (eq-eqb sent.put LAST_NUMBER e) refl
-
-    places : sent.put ≢ LAST_NUMBER → room_of sent ≡ sent.window - (sent.put - sent.trimmed)
-    places other = rw (ne_eqb sent.put LAST_NUMBER other) refl
-
-    is_left : 1 ≤ room_of sent → sent.put ≢ LAST_NUMBER
-    is_left room e = omega (arith, room, none_at_last e)
-
     free : 1 ≤ room_of sent → is_window_full seat facts ≡ false
     free room =
-        let there = places (is_left room) in
-        let near : d + 1 ≤ s + seat.group.window = omega (arith, room, there, keeps.width, keeps.put, keeps.trimmed, below) in
-        let left : d + 1 ≤ LAST_NUMBER = omega (arith, most, keeps.put, is_left room) in
-        neither (ltb (s + seat.group.window) (d + 1)) (ltb LAST_NUMBER (d + 1)) (le-ltb (s + seat.group.window) (d + 1) near) (le-ltb LAST_NUMBER (d + 1) left)
+        let left = (room_for sent 1 (omega arith)).0 room in
+        let near : d + 1 ≤ s + seat.group.window = omega (arith, left.0, keeps.width, keeps.put, keeps.trimmed, below) in
+        let below_last : d + 1 ≤ LAST_NUMBER = omega (arith, left.1, keeps.put) in
+        neither (ltb (s + seat.group.window) (d + 1)) (ltb LAST_NUMBER (d + 1)) (le-ltb (s + seat.group.window) (d + 1) near) (le-ltb LAST_NUMBER (d + 1) below_last)
 
     some : is_window_full seat facts ≡ false → 1 ≤ room_of sent
     some h =
         let near = room_left_for seat facts 1 h in
         let left : d < LAST_NUMBER = number_left seat facts h in
-        let there = places (λ e. omega (arith, e, left, keeps.put)) in
-        omega (arith, near, there, keeps.width, keeps.put, keeps.trimmed, below)
+        (room_for sent 1 (omega arith)).1 (omega (arith, near, keeps.width, keeps.put, keeps.trimmed, below), omega (arith, left, keeps.put))
 
 -- ---- what is sent again
 

@@ -3,7 +3,8 @@ use Rattle.std.specs.Prelude.{◌≡◌, ◌≢◌, ℕ, ◌<◌, ◌≤◌, ◌
 use Rattle.cb_frames.specs.Fields.{CastFields, RequestFields, CastFrame, RequestFrame, messages_of, first_number, last_number}
 use Rattle.cb_frames.specs.Text.{text_of}
 use Rattle.cb_stability.specs.Known as acks
-use Rattle.cb_stability.specs.Sent.{Sent, Spanned, spanned, Puts, Trims, room_of, frames_in}
+use Rattle.cb_stability.specs.declared.window.Spanned.{Spanned}
+use Rattle.cb_stability.specs.Sent.{Sent, spanned, Puts, Trims, room_of, frames_in}
 use Rattle.cb_history.specs.declared.answer.Outgoing.{Outgoing}
 use Rattle.cb_history.specs.Group.{Identity}
 use Rattle.cb_history.specs.Facts.{Fact, OwnCast}

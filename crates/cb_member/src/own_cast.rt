@@ -103,6 +103,6 @@ impl State {
     {
         self.delivery.time.copy_from(time);
         self.sending.last_cast.copy_from(time);
-        self.sending.window.put(sent);
+        self.sending.window.put(sent, 1);
     }
 }

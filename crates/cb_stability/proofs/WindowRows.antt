@@ -1,7 +1,8 @@
 -- Worked windows: frames of one message and of several.
 use Rattle.std.proofs.Common.{◌≡◌, ℕ, List, [], ◌∷◌, arith, refl}
 use Rattle.cb_frames.specs.declared.frame.Range.{Range}
-use Rattle.cb_stability.specs.Sent.{Sent, Spanned, spanned, Puts, Trims, AreInARow, room_of, frames_in}
+use Rattle.cb_stability.specs.declared.window.Spanned.{Spanned}
+use Rattle.cb_stability.specs.Sent.{Sent, spanned, Puts, Trims, AreInARow, room_of, frames_in}
 
 abbrev range : ℕ → ℕ → Range
 range first last = record { first = first; last = last }
@@ -60,9 +61,41 @@ asked_over_both = refl
 asked_for_nothing : frames_in (range 4 3 ∷ range 0 1 ∷ range 6 9 ∷ []) whole ≡ []
 asked_for_nothing = refl
 
--- once the greatest number was put there is no room
-room_before_the_end : room_of (window_with 4294967294 4294967294 []) ≡ 4
+-- a frame of two numbers of which one is trimmed is kept, and takes one place: three more fill the window
+abbrev one_of_two : List Spanned
+one_of_two = spanned 1 2 (20 ∷ []) ∷ []
+
+trimmed_half : Trims (window_with 2 0 one_of_two) (window_with 2 1 one_of_two) 1
+trimmed_half = record { window = refl; put = refl; now_trimmed = refl; now_kept = refl }
+
+half_is_given : frames_in (range 2 2 ∷ []) (window_with 2 1 one_of_two) ≡ (20 ∷ []) ∷ []
+half_is_given = refl
+
+room_for_three : room_of (window_with 2 1 one_of_two) ≡ 3
+room_for_three = refl
+
+put_three : Puts (window_with 2 1 one_of_two) (window_with 5 1 (spanned 1 2 (20 ∷ []) ∷ spanned 3 5 (30 ∷ []) ∷ [])) 3 (30 ∷ [])
+put_three = record { window = refl; now_put = refl; trimmed = refl; now_kept = refl }
+
+full_with_three : room_of (window_with 5 1 (spanned 1 2 (20 ∷ []) ∷ spanned 3 5 (30 ∷ []) ∷ [])) ≡ 0
+full_with_three = refl
+
+-- ranges that name its last number, or one that is trimmed, or both, ask for a frame once
+asked_at_its_end : frames_in (range 4 4 ∷ []) in_part ≡ (20 ∷ []) ∷ []
+asked_at_its_end = refl
+
+asked_at_both_ends : frames_in (range 4 4 ∷ range 2 3 ∷ range 3 4 ∷ []) in_part ≡ (20 ∷ []) ∷ []
+asked_at_both_ends = refl
+
+-- there is never room past the greatest number, whatever is trimmed
+room_before_the_end : room_of (window_with 4294967291 4294967291 []) ≡ 4
 room_before_the_end = refl
+
+room_for_two_at_the_end : room_of (window_with 4294967293 4294967293 []) ≡ 2
+room_for_two_at_the_end = refl
 
 no_room_at_the_end : room_of (window_with 4294967295 4294967295 []) ≡ 0
 no_room_at_the_end = refl
+
+no_room_while_some_are_kept : room_of (window_with 4294967295 4294967294 (spanned 4294967294 4294967295 (50 ∷ []) ∷ [])) ≡ 0
+no_room_while_some_are_kept = refl

@@ -1,146 +1,164 @@
--- What the frames of a window say of the window that they are.
-use Rattle.std.proofs.Common.{◌≡◌, ℕ, zero, suc, ◌+◌, ◌-◌, ◌<◌, ◌≤◌, List, [], ◌∷◌, ◌++◌, length, drop, ltb, true, false, ◌≢◌, sym, ◌∙◌, ap, arith, refl, inl, inr}
-use Rattle.std.specs.List.{filter}
-use Rattle.std.specs.Prelude.{◌==◌, if◌then◌else◌}
-use Rattle.std.proofs.lemmas.Bool.{both_ways, cases_lt, eq-eqb, lt-ltb, le-ltb, ne_eqb}
-use Rattle.std.proofs.lemmas.List.{drop_all, length-append, length-drop}
+-- What the frames of a window say of its numbers.
+use Rattle.std.proofs.Common.{◌≡◌, ℕ, suc, ◌+◌, ◌-◌, ◌<◌, ◌≤◌, ◌↔◌, List, [], ◌∷◌, ◌++◌, length, drop, leb, ltb, sym, ◌∙◌, ap, arith, refl, inl, inr}
+use Rattle.std.specs.Prelude.{min}
+use Rattle.std.specs.List.{filter, prefix_len}
+use Rattle.std.proofs.lemmas.Bool.{cases_lt, lt-leb, lt-ltb, le-leb, le-ltb}
+use Rattle.std.proofs.lemmas.List.{drop_all, length-append}
 use Rattle.circular_buffer.specs.Buffer.{keep_last}
-use Rattle.cb_stability.specs.Sent.{Spanned, spanned, IsFresh, Puts, Trims, FollowUpTo, AreInARow, IsSentWindow, room_of}
-use Rattle.cb_stability.specs.Numbered.{singles_after, AreFrames, sent_of}
+use Rattle.cb_frames.specs.declared.frame.TheConstants.{LAST_NUMBER}
+use Rattle.cb_stability.specs.declared.window.Spanned.{Spanned}
+use Rattle.cb_stability.specs.Sent.{Sent, spanned, sent_of, Puts, Trims, FollowUpTo, AreInARow, IsSentWindow, room_of}
 
--- ---- rings
+-- ---- frames one after another
 
--- a ring that keeps all but k items has dropped the first k
-pub keep_last-drop : (k : ℕ) (xs : List (List ℕ)) → keep_last (length xs - k) xs ≡ drop k xs
-keep_last-drop k xs =
-    elim (cases_lt k (length xs)) as (λ _. keep_last (length xs - k) xs ≡ drop k xs) [
-      | inl some ↦ let e : length xs - (length xs - k) ≡ k = omega (arith, some) in ap (λ (n : ℕ). drop n xs) e
-      | inr all ↦ drop_all (length xs - (length xs - k)) xs (omega (arith, all)) ∙ sym (drop_all k xs all)
+follow_counted : (put before : ℕ) (frames : List Spanned) → FollowUpTo put before frames → before + length frames ≤ put
+follow_counted put before [] row = omega (arith, row)
+follow_counted put before (frame ∷ frames) row = omega (arith, row.0, row.1, follow_counted put frame.last frames row.2)
+
+-- each frame has a number that is put and not trimmed
+counted : (trimmed put : ℕ) (frames : List Spanned) → AreInARow trimmed put frames → trimmed + length frames ≤ put
+counted trimmed put [] row = omega (arith, row)
+counted trimmed put (frame ∷ frames) row = omega (arith, row.2, follow_counted put frame.last frames row.3)
+
+follow_more : (put before count : ℕ) (frames : List Spanned) (bytes : List ℕ) → 1 ≤ count → FollowUpTo put before frames
+    → FollowUpTo (put + count) before (frames ++ spanned (put + 1) (put + count) bytes ∷ [])
+follow_more put before count [] bytes some row = (omega (arith, row), omega (arith, some), refl)
+follow_more put before count (frame ∷ frames) bytes some row = (row.0, row.1, follow_more put frame.last count frames bytes some row.2)
+
+row_more : (trimmed put count : ℕ) (frames : List Spanned) (bytes : List ℕ) → 1 ≤ count → AreInARow trimmed put frames
+    → AreInARow trimmed (put + count) (frames ++ spanned (put + 1) (put + count) bytes ∷ [])
+row_more trimmed put count [] bytes some row = (omega arith, omega (arith, row), omega (arith, row, some), refl)
+row_more trimmed put count (frame ∷ frames) bytes some row = (row.0, row.1, row.2, follow_more put frame.last count frames bytes some row.3)
+
+-- ---- frames above a number
+
+-- each ends behind the one before it
+abbrev Rise : ℕ → List Spanned → Type 0
+Rise before [] = Unit {0}
+Rise before (frame ∷ frames) = (before < frame.last) × Rise frame.last frames
+
+follow_rise : (put before : ℕ) (frames : List Spanned) → FollowUpTo put before frames → Rise before frames
+follow_rise put before [] row = tt
+follow_rise put before (frame ∷ frames) row = (omega (arith, row.0, row.1), follow_rise put frame.last frames row.2)
+
+row_rises : (trimmed put : ℕ) (frames : List Spanned) → AreInARow trimmed put frames → Rise trimmed frames
+row_rises trimmed put [] row = tt
+row_rises trimmed put (frame ∷ frames) row = (row.2, follow_rise put frame.last frames row.3)
+
+-- the frames with a number above this one
+abbrev above : ℕ → List Spanned → List Spanned
+above number frames = filter (λ frame. ltb number frame.last) frames
+
+-- the frames behind those at the front that have none
+abbrev behind : ℕ → List Spanned → List Spanned
+behind number frames = drop (prefix_len (λ frame. leb frame.last number) frames) frames
+
+all_above : (number before : ℕ) (frames : List Spanned) → number ≤ before → Rise before frames → above number frames ≡ frames
+all_above number before [] low rise = refl
+all_above number before (frame ∷ frames) low rise =
+    rw (lt-ltb number frame.last (omega (arith, low, rise.0)))
+    (ap (λ (rest : List Spanned). frame ∷ rest) (all_above number frame.last frames (omega (arith, low, rise.0)) rise.1))
+
+drop_more : (n : ℕ) (frame : Spanned) (frames : List Spanned) → drop (1 + n) (frame ∷ frames) ≡ drop n frames
+drop_more n frame frames = let e : 1 + n ≡ suc n = omega arith in ap (λ (k : ℕ). drop k (frame ∷ frames)) e
+
+behind_are_above : (number before : ℕ) (frames : List Spanned) → Rise before frames → behind number frames ≡ above number frames
+behind_are_above number before [] rise = refl
+behind_are_above number before (frame ∷ frames) rise =
+    elim (cases_lt number frame.last) as (λ _. behind number (frame ∷ frames) ≡ above number (frame ∷ frames)) [
+      | inl lt ↦
+          rw (lt-leb frame.last number lt, lt-ltb number frame.last lt)
+          (ap (λ (rest : List Spanned). frame ∷ rest) (sym (all_above number frame.last frames (omega (arith, lt)) rise.1)))
+      | inr le ↦
+          rw (le-leb frame.last number le, le-ltb number frame.last le)
+          (drop_more (prefix_len (λ frame. leb frame.last number) frames) frame frames ∙ behind_are_above number frame.last frames rise.1)
     ]
 
--- and one that has room keeps all
-keep_last-all : (n : ℕ) (xs : List (List ℕ)) → length xs ≤ n → keep_last n xs ≡ xs
-keep_last-all n xs room = let e : length xs - n ≡ 0 = omega (arith, room) in ap (λ (k : ℕ). drop k xs) e
+module _ (number put : ℕ) (high : number ≤ put) where
+  follow_above : (before : ℕ) (frames : List Spanned) → before ≤ number → FollowUpTo put before frames → AreInARow number put (above number frames)
+  follow_above before [] low row = omega (arith, low, high, row)
+  follow_above before (frame ∷ frames) low row =
+      elim (cases_lt number frame.last) as (λ _. AreInARow number put (above number (frame ∷ frames))) [
+        | inl lt ↦
+            rw (lt-ltb number frame.last lt, all_above number frame.last frames (omega (arith, lt)) (follow_rise put frame.last frames row.2))
+            (omega (arith, row.0), omega (arith, row.0, low), lt, row.2)
+        | inr le ↦ rw (le-ltb number frame.last le) (follow_above frame.last frames le row.2)
+      ]
 
--- ---- frames of one message each
-
--- one more has the number that follows
-singles-push : (n : ℕ) (xs : List (List ℕ)) (x : List ℕ) → singles_after n (xs ++ x ∷ []) ≡ singles_after n xs ++ spanned (n + length xs + 1) (n + length xs + 1) x ∷ []
-singles-push n [] x = let e : n + 1 ≡ n + 0 + 1 = omega arith in ap (λ (k : ℕ). spanned k k x ∷ []) e
-singles-push n (y ∷ xs) x =
-    let e : n + 1 + length xs + 1 ≡ n + length (y ∷ xs) + 1 = omega arith in
-    ap (λ (frames : List Spanned). spanned (n + 1) (n + 1) y ∷ frames)
-    (singles-push (n + 1) xs x ∙ ap (λ (k : ℕ). singles_after (n + 1) xs ++ spanned k k x ∷ []) e)
-
-all_above : (t n : ℕ) (xs : List (List ℕ)) → t ≤ n → filter (λ frame. ltb t frame.last) (singles_after n xs) ≡ singles_after n xs
-all_above t n [] before = refl
-all_above t n (x ∷ xs) before =
-    rw (lt-ltb t (n + 1) (omega (arith, before)))
-    (ap (λ (frames : List Spanned). spanned (n + 1) (n + 1) x ∷ frames) (all_above t (n + 1) xs (omega (arith, before))))
-
--- above the k-th number are those behind the first k
-those_above : (t k n : ℕ) (xs : List (List ℕ)) → t ≡ n + k → filter (λ frame. ltb t frame.last) (singles_after n xs) ≡ singles_after t (drop k xs)
-those_above t zero n xs e = all_above t n xs (omega (arith, e)) ∙ (let same : n ≡ t = omega (arith, e) in ap (λ (m : ℕ). singles_after m xs) same)
-those_above t (suc k) n [] e = refl
-those_above t (suc k) n (x ∷ xs) e = rw (le-ltb t (n + 1) (omega (arith, e))) (those_above t k (n + 1) xs (omega (arith, e)))
-
-follow : (put n : ℕ) (xs : List (List ℕ)) → n + length xs ≡ put → FollowUpTo put n (singles_after n xs)
-follow put n [] e = omega (arith, e)
-follow put n (x ∷ xs) e = (refl, omega arith, follow put (n + 1) xs (omega (arith, e)))
-
-in_a_row : (put n : ℕ) (xs : List (List ℕ)) → n + length xs ≡ put → AreInARow n put (singles_after n xs)
-in_a_row put n [] e = omega (arith, e)
-in_a_row put n (x ∷ xs) e = (omega arith, omega arith, omega arith, follow put (n + 1) xs (omega (arith, e)))
+  row_above : (trimmed : ℕ) (frames : List Spanned) → trimmed ≤ number → AreInARow trimmed put frames → AreInARow number put (above number frames)
+  row_above trimmed [] grows row = omega (arith, grows, high, row)
+  row_above trimmed (frame ∷ frames) grows row =
+      elim (cases_lt number frame.last) as (λ _. AreInARow number put (above number (frame ∷ frames))) [
+        | inl lt ↦
+            rw (lt-ltb number frame.last lt, all_above number frame.last frames (omega (arith, lt)) (follow_rise put frame.last frames row.3))
+            (row.0, omega (arith, row.1, grows), lt, row.3)
+        | inr le ↦ rw (le-ltb number frame.last le) (follow_above frame.last frames le row.3)
+      ]
 
 -- ---- windows
 
-none_after : (n : ℕ) (xs : List (List ℕ)) → xs ≡ [] → singles_after n xs ≡ []
-none_after n xs none = ap (singles_after n) none
+-- there is room for some numbers exactly where with them no more than the window are not trimmed, and none is past the greatest
+pub room_for : (sent : Sent) (count : ℕ) → 1 ≤ count
+    → (count ≤ room_of sent) ↔ ((sent.put - sent.trimmed + count ≤ sent.window) × (sent.put + count ≤ LAST_NUMBER))
+room_for sent count some = (
+  λ room. (omega (arith, some, room), omega (arith, some, room)),
+  λ left. let places = left.0 in let numbers = left.1 in omega (arith, places, numbers),
+)
 
--- a window that was just made
-pub fresh_window : (window : ℕ) (xs : List (List ℕ)) → xs ≡ [] → IsFresh window (sent_of window 0 xs)
-fresh_window window xs none = record { of_window = refl; none_put = refl; none_trimmed = omega arith; empty = none_after (0 - length xs) xs none }
+-- a ring that keeps all but k items has dropped the first k
+pub keep_last-drop : (k : ℕ) (frames : List Spanned) → keep_last (length frames - k) frames ≡ drop k frames
+keep_last-drop k frames =
+    elim (cases_lt k (length frames)) as (λ _. keep_last (length frames - k) frames ≡ drop k frames) [
+      | inl some ↦ let e : length frames - (length frames - k) ≡ k = omega (arith, some) in ap (λ (n : ℕ). drop n frames) e
+      | inr all ↦ drop_all (length frames - (length frames - k)) frames (omega (arith, all)) ∙ sym (drop_all k frames all)
+    ]
 
-module _ (window put : ℕ) (xs : List (List ℕ)) (are : AreFrames window put xs) where
-  pub is_sent_window : IsSentWindow (sent_of window put xs)
-  is_sent_window = record {
-    width = are.width;
-    room = omega (arith, are.room, are.put_before);
-    trimmed_at_most = omega arith;
-    put_at_most = are.put_at_most;
-    in_a_row = in_a_row put (put - length xs) xs (omega (arith, are.put_before));
-  }
+-- and one that has room keeps all
+keep_last-all : (n : ℕ) (frames : List Spanned) → length frames ≤ n → keep_last n frames ≡ frames
+keep_last-all n frames room = let e : length frames - n ≡ 0 = omega (arith, room) in ap (λ (k : ℕ). drop k frames) e
 
-  -- where a frame can be put, a place and a number are left
-  pub room_left : 0 < room_of (sent_of window put xs) → (length xs < window) × (put < 4294967295)
-  room_left room =
-      elim (put == 4294967295) as (λ b. (put == 4294967295) ≡ b → 0 < (if b then 0 else window - (put - (put - length xs))) → (length xs < window) × (put < 4294967295)) [
-        | true ↦ λ _ none. absurd (omega (arith, none))
-        | false ↦ λ e some.
-            let other : put ≢ 4294967295 = λ same. both_ways (put == 4294967295) e (eq-eqb put 4294967295 same) in
-            (omega (arith, some, are.put_before), omega (arith, are.put_at_most, other))
-      ] refl room
+module _ (window put trimmed : ℕ) (frames : List Spanned) (is : IsSentWindow (sent_of window put trimmed frames)) where
+  module _ (count : ℕ) (bytes : List ℕ) (some : 1 ≤ count) (room : count ≤ room_of (sent_of window put trimmed frames)) where
+    abbrev longer : List Spanned
+    longer = frames ++ spanned (put + 1) (put + count) bytes ∷ []
 
-  pub room_unless : put ≢ 4294967295 → window - length xs ≡ room_of (sent_of window put xs)
-  room_unless other = rw (ne_eqb put 4294967295 other) (omega (arith, are.put_before))
+    pub all_kept : keep_last window longer ≡ longer
+    all_kept = keep_last-all window longer
+        (omega (arith, length-append frames (spanned (put + 1) (put + count) bytes ∷ []), counted trimmed put frames is.in_a_row, is.trimmed_at_most, some, room))
 
-  module _ (x : List ℕ) (places : length xs < window) (numbers : put < 4294967295) where
-    longer : length (xs ++ x ∷ []) ≡ length xs + 1
-    longer = length-append xs (x ∷ [])
-
-    pub all_kept : keep_last window (xs ++ x ∷ []) ≡ xs ++ x ∷ []
-    all_kept = keep_last-all window (xs ++ x ∷ []) (omega (arith, longer, places))
-
-    pub put_keeps : AreFrames window (put + 1) (xs ++ x ∷ [])
+    pub put_keeps : IsSentWindow (sent_of window (put + count) trimmed longer)
     put_keeps = record {
-      width = are.width;
-      room = omega (arith, longer, places);
-      put_before = omega (arith, longer, are.put_before);
-      put_at_most = omega (arith, numbers);
+      width = is.width;
+      room = omega (arith, room, is.room, is.trimmed_at_most);
+      trimmed_at_most = omega (arith, is.trimmed_at_most);
+      put_at_most = omega (arith, room, some);
+      in_a_row = row_more trimmed put count frames bytes some is.in_a_row;
     }
 
-    same_trimmed : put + 1 - length (xs ++ x ∷ []) ≡ put - length xs
-    same_trimmed = omega (arith, longer, are.put_before)
+    pub put_gives : Puts (sent_of window put trimmed frames) (sent_of window (put + count) trimmed longer) count bytes
+    put_gives = record { window = refl; now_put = refl; trimmed = refl; now_kept = refl }
 
-    pub put_gives : Puts (sent_of window put xs) (sent_of window (put + 1) (xs ++ x ∷ [])) 1 x
-    put_gives =
-        let next : put - length xs + length xs + 1 ≡ put + 1 = omega (arith, are.put_before) in record {
-          window = refl;
-          now_put = refl;
-          trimmed = same_trimmed;
-          now_kept =
-              ap (λ (n : ℕ). singles_after n (xs ++ x ∷ [])) same_trimmed
-              ∙ singles-push (put - length xs) xs x
-              ∙ ap (λ (k : ℕ). singles_after (put - length xs) xs ++ spanned k k x ∷ []) next;
-        }
-
-  module _ (last d : ℕ) (e : d ≡ last - (put - length xs)) where
-    pub trim_keeps : AreFrames window put (drop d xs)
-    trim_keeps = record {
-      width = are.width;
-      room = omega (arith, length-drop d xs, are.room);
-      put_before = omega (arith, length-drop d xs, are.put_before);
-      put_at_most = are.put_at_most;
-    }
-
-    above : filter (λ frame. ltb (put - length (drop d xs)) frame.last) (singles_after (put - length xs) xs)
-        ≡ singles_after (put - length (drop d xs)) (drop d xs)
-    above =
-        let t = put - length (drop d xs) in
-        let left = length-drop d xs in
-        elim (cases_lt d (length xs))
-        as (λ _. filter (λ frame. ltb (put - length (drop d xs)) frame.last) (singles_after (put - length xs) xs)
-        ≡ singles_after (put - length (drop d xs)) (drop d xs)) [
-          | inl some ↦ those_above t d (put - length xs) xs (omega (arith, some, left, are.put_before))
-          | inr all ↦
-              those_above t (length xs) (put - length xs) xs (omega (arith, all, left, are.put_before))
-              ∙ ap (singles_after t) (drop_all (length xs) xs (omega arith) ∙ sym (drop_all d xs all))
-        ]
-
-    pub trim_gives : Trims (sent_of window put xs) (sent_of window put (drop d xs)) last
-    trim_gives = record {
+  module _ (number upto : ℕ) (capped : upto ≡ min number put) where
+    pub trim_nothing : upto ≤ trimmed → Trims (sent_of window put trimmed frames) (sent_of window put trimmed frames) number
+    trim_nothing before = record {
       window = refl;
       put = refl;
-      now_trimmed = omega (arith, e, length-drop d xs, are.put_before);
-      now_kept = sym above;
+      now_trimmed = omega (arith, capped, before);
+      now_kept = sym (all_above trimmed trimmed frames (omega arith) (row_rises trimmed put frames is.in_a_row));
     }
+
+    module _ (more : trimmed < upto) where
+      freed : behind upto frames ≡ above upto frames
+      freed = behind_are_above upto trimmed frames (row_rises trimmed put frames is.in_a_row)
+
+      pub trim_keeps : IsSentWindow (sent_of window put upto (behind upto frames))
+      trim_keeps = record {
+        width = is.width;
+        room = omega (arith, is.room, more);
+        trimmed_at_most = omega (arith, capped);
+        put_at_most = is.put_at_most;
+        in_a_row = rw freed (row_above upto put (omega (arith, capped)) trimmed frames (omega (arith, more)) is.in_a_row);
+      }
+
+      pub trim_gives : Trims (sent_of window put trimmed frames) (sent_of window put upto (behind upto frames)) number
+      trim_gives = record { window = refl; put = refl; now_trimmed = omega (arith, capped, more); now_kept = freed }

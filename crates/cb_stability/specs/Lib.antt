@@ -3,4 +3,3 @@ pub mod Rows
 pub mod Minima
 pub mod Ranges
 pub mod Sent
-pub mod Numbered

@@ -1,17 +1,12 @@
 -- What a sent window keeps.
-use Rattle.std.specs.Prelude.{◌≡◌, ℕ, ◌+◌, ◌-◌, ◌==◌, ◌<◌, ◌≤◌, if◌then◌else◌, Bool, List, [], ◌∷◌, ◌++◌, filter, map, take, min, max, nat_lt, refl}
+use Rattle.std.specs.Prelude.{◌≡◌, ℕ, ◌+◌, ◌-◌, ◌<◌, ◌≤◌, Bool, List, [], ◌∷◌, ◌++◌, filter, map, take, min, max, nat_lt, refl}
 use Rattle.std.specs.List.{list_any}
 use Rattle.std.specs.Coded.{Coded, code_by, coded×, coded_list, coded_ℕ}
 use Rattle.cb_times.specs.Group.{IsWindow}
 use Rattle.cb_frames.specs.declared.frame.TheConstants.{LAST_NUMBER, MOST_FRAMES}
 use Rattle.cb_frames.specs.declared.frame.Range.{Range}
 use Rattle.cb_stability.specs.Ranges.{meets}
-
--- a frame, and the numbers of the first and of the last message in it
-pub record Spanned : Type 0 where
-  pub first : ℕ
-  pub last : ℕ
-  pub bytes : List ℕ
+use Rattle.cb_stability.specs.declared.window.Spanned.{Spanned}
 
 -- for how many numbers there is room, the last number put, the last number trimmed, and the frames kept
 pub record Sent : Type 0 where
@@ -19,6 +14,10 @@ pub record Sent : Type 0 where
   pub put : ℕ
   pub trimmed : ℕ
   pub kept : List Spanned
+
+-- the window of these fields
+abbrev pub sent_of : ℕ → ℕ → ℕ → List Spanned → Sent
+sent_of window put trimmed kept = record { window = window; put = put; trimmed = trimmed; kept = kept }
 
 -- a window that was just made
 pub record IsFresh (window : ℕ) (sent : Sent) : Type 0 where
@@ -44,9 +43,10 @@ pub record Trims (old new : Sent) (number : ℕ) : Type 0 where
   pub now_trimmed : new.trimmed ≡ max old.trimmed (min number old.put)
   pub now_kept : new.kept ≡ filter (λ frame. nat_lt new.trimmed frame.last) old.kept
 
--- how many places are left: the window less the numbers put and not trimmed, but none once the greatest number was put
+-- for how many numbers there is room: the window less those that were put and are not trimmed, but no more than are left
+-- below the greatest
 abbrev pub room_of : Sent → ℕ
-room_of sent = if sent.put == LAST_NUMBER then 0 else sent.window - (sent.put - sent.trimmed)
+room_of sent = min (sent.window - (sent.put - sent.trimmed)) (LAST_NUMBER - sent.put)
 
 -- some range asks for one of the frame's numbers
 abbrev pub is_in_ranges : List Range → Spanned → Bool
@@ -70,7 +70,7 @@ AreInARow trimmed put [] = trimmed ≡ put
 AreInARow trimmed put (frame ∷ frames) =
     (1 ≤ frame.first) × (frame.first ≤ trimmed + 1) × (trimmed < frame.last) × FollowUpTo put frame.last frames
 
--- what is true of every window
+-- what is true of every window; so no more frames are kept than there are places
 pub record IsSentWindow (sent : Sent) : Type 0 where
   pub width : IsWindow sent.window
   pub room : sent.put - sent.trimmed ≤ sent.window

@@ -21,8 +21,25 @@ fn window_with(rt: &impl Abort, alloc: Global, window: u32, count: u32) -> SentW
 }
 
 fn put_next(rt: &impl Abort, alloc: Global, sent: &mut SentWindow, number: u32) {
-    assert!(rt; sent.room() > 0, "no room for {number}");
-    sent.put(frame_of(rt, alloc, number));
+    put_several(rt, alloc, sent, number, 1);
+}
+
+// A frame of so many messages: the four bytes of this number.
+fn put_several(rt: &impl Abort, alloc: Global, sent: &mut SentWindow, number: u32, count: u32) {
+    assert!(rt;
+        0 < count && count <= sent.room(),
+        "no room for {count} from {number}"
+    );
+    sent.put(frame_of(rt, alloc, number), count);
+}
+
+// With frames of 2, 3 and 1 numbers, which are 1 to 2, 3 to 5 and 6; each has the bytes of its first number.
+fn window_of_three(rt: &impl Abort, alloc: Global) -> SentWindow {
+    let mut sent = SentWindow::new(alloc, 8).expect(rt, "memory");
+    for (number, count) in [(1, 2), (3, 3), (6, 1)] {
+        put_several(rt, alloc, &mut sent, number, count);
+    }
+    sent
 }
 
 fn frame_of(rt: &impl Abort, alloc: Global, number: u32) -> Bytes {
@@ -154,16 +171,78 @@ fn a_copy_gives_the_same_frames_and_what_one_lets_go_of_the_other_keeps(rt: Host
 }
 
 #[test]
+fn each_number_of_a_frame_takes_and_makes_room(rt: HostRuntime) {
+    let mut sent = SentWindow::new(rt.alloc(), 4).expect(&rt, "memory");
+    put_several(&rt, rt.alloc(), &mut sent, 1, 2);
+    has_room(&rt, &sent, 2);
+    sent.trim(1);
+    gives(&rt, &sent, &[range(2, 2)], &[1]);
+    has_room(&rt, &sent, 3);
+    put_several(&rt, rt.alloc(), &mut sent, 3, 3);
+    has_room(&rt, &sent, 0);
+    sent.trim(2);
+    gives(&rt, &sent, &[range(1, 9)], &[3]);
+    has_room(&rt, &sent, 1);
+    drop(sent);
+}
+
+#[test]
+fn any_number_of_a_frame_asks_for_it_and_several_for_it_once(rt: HostRuntime) {
+    let sent = window_of_three(&rt, rt.alloc());
+    gives(&rt, &sent, &[range(2, 2)], &[1]);
+    gives(&rt, &sent, &[range(4, 4)], &[3]);
+    gives(&rt, &sent, &[range(5, 5), range(3, 4), range(4, 5)], &[3]);
+    gives(&rt, &sent, &[range(5, 6), range(2, 3)], &[1, 3, 6]);
+    gives(&rt, &sent, &[range(5, 4), range(7, 9)], &[]);
+    drop(sent);
+}
+
+#[test]
+fn a_frame_stays_until_its_last_number_is_trimmed(rt: HostRuntime) {
+    let mut sent = window_of_three(&rt, rt.alloc());
+    sent.trim(4);
+    gives(&rt, &sent, &[range(0, 9)], &[3, 6]);
+    gives(&rt, &sent, &[range(3, 3)], &[3]);
+    gives(&rt, &sent, &[range(1, 2)], &[]);
+    has_room(&rt, &sent, 6);
+    sent.trim(3);
+    has_room(&rt, &sent, 6);
+    sent.trim(5);
+    gives(&rt, &sent, &[range(0, 9)], &[6]);
+    has_room(&rt, &sent, 7);
+    drop(sent);
+}
+
+#[test]
+fn numbers_trimmed_past_the_end_do_not_count_for_the_next_frame(rt: HostRuntime) {
+    let mut sent = window_of_three(&rt, rt.alloc());
+    sent.trim(8);
+    has_room(&rt, &sent, 8);
+    put_several(&rt, rt.alloc(), &mut sent, 7, 3);
+    has_room(&rt, &sent, 5);
+    gives(&rt, &sent, &[range(8, 8)], &[7]);
+    let mut copy = sent.copy().expect(&rt, "memory");
+    copy.trim(8);
+    has_room(&rt, &copy, 7);
+    gives(&rt, &copy, &[range(9, 9)], &[7]);
+    drop(copy);
+    drop(sent);
+}
+
+#[test]
 fn after_the_greatest_number_there_is_no_room(rt: HostRuntime) {
     let mut sent = SentWindow {
-        window: 2,
-        put: 4294967294,
-        frames: HeapCircularBuffer::with_capacity(rt.alloc(), 2).expect(&rt, "memory"),
+        window: 4,
+        put: 4294967293,
+        trimmed: 4294967293,
+        frames: HeapCircularBuffer::with_capacity(rt.alloc(), 4).expect(&rt, "memory"),
     };
     has_room(&rt, &sent, 2);
-    put_next(&rt, rt.alloc(), &mut sent, 4294967295);
+    put_several(&rt, rt.alloc(), &mut sent, 4294967294, 2);
     has_room(&rt, &sent, 0);
-    gives(&rt, &sent, &[range(4294967295, 4294967295)], &[4294967295]);
+    gives(&rt, &sent, &[range(4294967295, 4294967295)], &[4294967294]);
+    sent.trim(4294967294);
+    has_room(&rt, &sent, 0);
     sent.trim(4294967295);
     has_room(&rt, &sent, 0);
     drop(sent);
