@@ -1,9 +1,9 @@
 //! The next own cast.
 
-ghost use Rattle.std.specs.Prelude.{◌≡◌, ◌⊎◌, ◌+◌, ◌<◌, ◌≤◌, ◌++◌, Ok, Err, IfOk, IfErr, map, length};
+ghost use Rattle.std.specs.Prelude.{◌≡◌, ◌⊎◌, ◌+◌, ◌<◌, ◌≤◌, ◌++◌, Ok, Err, IfOk, IfErr, map, take, length};
 ghost use Rattle.cb_times.specs.Group.{IsGroupSize};
-ghost use Rattle.cb_frames.specs.Fields.{cast_fields, messages_of, CastFrame};
-ghost use Rattle.cb_frames.specs.Text.{KeepsRules, payload_of, text_of};
+ghost use Rattle.cb_frames.specs.Fields.{One, cast_fields, messages_of, CastFrame};
+ghost use Rattle.cb_frames.specs.Text.{KeepsRules, payload_bytes, text_of};
 ghost use Rattle.cb_diffs.specs.Differences.{differences};
 ghost use Rattle.cb_history.specs.Facts.{entry_fields, CastEntry};
 ghost use Rattle.cb_history.specs.View.{count, counts};
@@ -80,7 +80,7 @@ fn next_number(seen: &[Message<'_>], k: u32) -> u32
 
 /// The next own cast of this payload.
 fn next_cast(past: &Past<'_>, payload: &[u8]) -> Result<Cast, NoMemory>
-    ensures { IfOk result (λ cast. cast_fields cast ≡ next_in past.now payload.now) }
+    ensures { IfOk result (λ cast. cast_fields cast ≡ next_in past.now (One payload.now)) }
 {
     let alloc = past.allocator();
     let before = view(alloc, past.size(), upto_last_cast(past.facts()))?;
@@ -104,7 +104,7 @@ pub struct Casting {
     pub entry: Entry,
 }
 
-/// The counts of these messages and of one cast more.
+/// The counts of these messages and of the first one of a cast.
 #[tactic(auto, unfolding(cb_frames::specs::Fields::messages_of))]
 fn counts_with<'a>(
     alloc: Global,
@@ -115,7 +115,7 @@ fn counts_with<'a>(
     requires group { IsGroupSize size }
     requires few { length seen.now ≤ longest_history }
     ensures { IfOk result (λ time. time ≡ counts size (map carried_of seen.now
-        ++ messages_of (cast_fields cast.now))) }
+        ++ take 1 (messages_of (cast_fields cast.now)))) }
 {
     let mut all = Vec::from_slice(alloc, seen)?;
     all.push(message_of(cast))?;
@@ -125,7 +125,7 @@ fn counts_with<'a>(
 /// The cast as its frame and its entry.
 fn casting_of(alloc: Global, name: Name, time: VectorTime, cast: Cast) -> Result<Casting, NoMemory>
     requires rules { KeepsRules (CastFrame (cast_fields cast)) }
-    requires payload { length (payload_of (CastFrame (cast_fields cast))) ≤ LONGEST_PAYLOAD }
+    requires payload { length (payload_bytes (CastFrame (cast_fields cast))) ≤ LONGEST_PAYLOAD }
     ensures done { IfOk result (λ casting. casting.done ≡ record {
       name = name;
       time = time;
@@ -150,10 +150,11 @@ fn casting_of(alloc: Global, name: Name, time: VectorTime, cast: Cast) -> Result
 fn make(past: &Past<'_>, payload: &[u8]) -> Result<Casting, NoMemory>
     requires { length payload.now ≤ LONGEST_PAYLOAD }
     ensures done { IfOk result (λ casting. let facts = facts_in past.now in
-        casting.done ≡ cast_done past.now.seat facts (next_cast past.now.seat facts payload.now)) }
+        casting.done ≡ cast_done past.now.seat facts
+        (next_cast past.now.seat facts (One payload.now))) }
     ensures entry { IfOk result (λ casting. let facts = facts_in past.now in
         entry_fields casting.entry ≡ CastEntry (text_of (CastFrame
-        (next_cast past.now.seat facts payload.now)))) }
+        (next_cast past.now.seat facts (One payload.now))))) }
 {
     let alloc = past.member().allocator();
     let cast = next_cast(past, payload)?;
@@ -166,6 +167,7 @@ fn make(past: &Past<'_>, payload: &[u8]) -> Result<Casting, NoMemory>
 }
 
 /// As many own casts as the window are not known to be delivered everywhere, or no number is left.
+#[tactic(auto, using(crate::proofs::Casting::full_by_own))]
 fn is_window_full(past: &Past<'_>) -> bool
     ensures { result ≡ is_window_full past.now.seat (facts_in past.now) }
 {
@@ -176,16 +178,16 @@ fn is_window_full(past: &Past<'_>) -> bool
 /// The answer to a cast of this payload.
 #[tactic(auto, unfolding(cb_history::specs::Answers::cast_answer))]
 pub fn answer_cast(member: &ReferenceMember, payload: &[u8]) -> Result<Casting, CastRefusal>
-    ensures answer { IfOk result (λ casting. answer_to_cast member.now payload.now
-        ≡ Ok (next_in member.now payload.now)) }
+    ensures answer { IfOk result (λ casting. answer_to_cast member.now (One payload.now)
+        ≡ Ok (next_in member.now (One payload.now))) }
     ensures done { IfOk result (λ casting. let facts = facts_in member.now in
-        casting.done ≡ cast_done member.now.seat facts (next_in member.now payload.now)) }
+        casting.done ≡ cast_done member.now.seat facts (next_in member.now (One payload.now))) }
     ensures entry { IfOk result (λ casting. let facts = facts_in member.now in
         entry_fields casting.entry ≡ CastEntry (text_of (CastFrame
-        (next_cast member.now.seat facts payload.now)))) }
+        (next_cast member.now.seat facts (One payload.now))))) }
     ensures room { IfOk result (λ casting. length member.now.entries < member.now.limit) }
     ensures short { IfOk result (λ casting. length payload.now ≤ LONGEST_PAYLOAD) }
-    ensures refused { IfErr result (RefusesCast member.now payload.now) }
+    ensures refused { IfErr result (RefusesCast member.now (One payload.now)) }
 {
     if payload.len() > LONGEST_PAYLOAD {
         return Err(CastRefusal::PayloadTooLong);
@@ -199,15 +201,15 @@ pub fn answer_cast(member: &ReferenceMember, payload: &[u8]) -> Result<Casting, 
 #[tactic(auto, unfolding(cb_history::specs::Answers::cast_answer))]
 fn short_cast(past: &Past<'_>, payload: &[u8]) -> Result<Casting, CastRefusal>
     requires { length payload.now ≤ LONGEST_PAYLOAD }
-    ensures answer { IfOk result (λ casting. answer_to_cast past.now payload.now
-        ≡ Ok (next_in past.now payload.now)) }
+    ensures answer { IfOk result (λ casting. answer_to_cast past.now (One payload.now)
+        ≡ Ok (next_in past.now (One payload.now))) }
     ensures done { IfOk result (λ casting. let facts = facts_in past.now in
-        casting.done ≡ cast_done past.now.seat facts (next_in past.now payload.now)) }
+        casting.done ≡ cast_done past.now.seat facts (next_in past.now (One payload.now))) }
     ensures entry { IfOk result (λ casting. let facts = facts_in past.now in
         entry_fields casting.entry ≡ CastEntry (text_of (CastFrame
-        (next_cast past.now.seat facts payload.now)))) }
+        (next_cast past.now.seat facts (One payload.now))))) }
     ensures room { IfOk result (λ casting. length past.now.entries < past.now.limit) }
-    ensures refused { IfErr result (RefusesCast past.now payload.now) }
+    ensures refused { IfErr result (RefusesCast past.now (One payload.now)) }
 {
     if is_window_full(past) {
         return Err(CastRefusal::WindowFull);

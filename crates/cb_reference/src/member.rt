@@ -6,6 +6,7 @@ ghost use Rattle.cb_history.specs.Facts.{entry_fields};
 ghost use Rattle.cb_history.specs.View.{time_of};
 ghost use Rattle.cb_history.specs.Events.{events};
 ghost use Rattle.cb_history.specs.Known.{missing, ranges_of, stable};
+ghost use Rattle.cb_frames.specs.Fields.{One};
 ghost use Rattle.cb_history.specs.Legal.{longest_history, ToCast, ToTake, ToTick, IsLegal, and_entry};
 ghost use Rattle.cb_history.specs.LegalHistory.{IsLegalHistory};
 ghost use Rattle.cb_history.specs.State.{state_of, events_in, missing_in, stable_in, time_in, IsMemberState, facts_in, entry_by, HasCast, RefusesCast, HasTaken, RefusesArrival, HasTicked, RefusesTick};
@@ -165,8 +166,8 @@ impl ReferenceMember {
     /// A refusal is that of the definition, in the order of `CastRefusal`. `NoMemory` may stand in place of any answer but
     /// `PayloadTooLong`.
     pub fn cast(&mut self, payload: &[u8]) -> Result<CastDone, CastRefusal>
-        ensures done { IfOk result (HasCast self.old self.new payload.now) }
-        ensures refused { IfErr result (RefusesCast self.old payload.now) }
+        ensures done { IfOk result (HasCast self.old self.new (One payload.now)) }
+        ensures refused { IfErr result (RefusesCast self.old (One payload.now)) }
         ensures same { OnErr result (self.new ≡ self.old) }
     {
         let (done, _noted) = self.cast_noted(payload)?;
@@ -175,10 +176,10 @@ impl ReferenceMember {
 
     /// Casts a payload as `cast` does, and hands out a copy of the entry that was added.
     pub fn cast_noted(&mut self, payload: &[u8]) -> Result<(CastDone, Entry), CastRefusal>
-        ensures done { IfOk result (λ noted. HasCast self.old self.new payload.now noted.0) }
-        ensures entry { IfOk result (λ noted. entry_by self.old (ToCast payload.now)
+        ensures done { IfOk result (λ noted. HasCast self.old self.new (One payload.now) noted.0) }
+        ensures entry { IfOk result (λ noted. entry_by self.old (ToCast (One payload.now))
             ≡ Some (entry_fields noted.1)) }
-        ensures refused { IfErr result (RefusesCast self.old payload.now) }
+        ensures refused { IfErr result (RefusesCast self.old (One payload.now)) }
         ensures same { OnErr result (self.new ≡ self.old) }
     {
         let casting = answer_cast(self, payload)?;
