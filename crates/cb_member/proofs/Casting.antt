@@ -8,7 +8,8 @@ use Rattle.cb_times.specs.Order.{field, AtMost}
 use Rattle.cb_frames.specs.declared.frame.TheConstants.{LAST_NUMBER}
 use Rattle.cb_frames.specs.declared.frame.Change.{Change}
 use Rattle.cb_varint.specs.Reading.{spelling}
-use Rattle.cb_frames.specs.Fields.{Carried, CastFields, CastFrame}
+use Rattle.cb_frames.specs.Fields.{Load, One, load_bytes, Carried, CastFields, CastFrame}
+use Rattle.cb_frames.proofs.Carried.{carries_one}
 use Rattle.cb_frames.specs.Text.{cast_kind, cast_numbers, text_of}
 use Rattle.cb_diffs.specs.Differences.{differences}
 use Rattle.cb_stability.specs.Sent.{room_of}
@@ -82,32 +83,32 @@ counts_one_more size seen m lt =
           ∙ sym (count_other seen m k (λ e. ne (sym e))) ∙ sym (in_field size (count (seen ++ m ∷ [])) k small)
     ])
 
-counts_own : (state : State) (facts : List Fact) (payload time : List ℕ) → AreFactsOf state.seat facts → Keeps facts state → time ≡ state.delivery.time
-    → set time state.seat.me (field time state.seat.me + 1) ≡ next_time state.seat facts payload
-counts_own state facts payload time are k same =
+counts_own : (state : State) (facts : List Fact) (load : Load) (time : List ℕ) → AreFactsOf state.seat facts → Keeps facts state → time ≡ state.delivery.time
+    → set time state.seat.me (field time state.seat.me + 1) ≡ next_time state.seat facts load
+counts_own state facts load time are k same =
     ap (λ (ns : List ℕ). set ns state.seat.me (field ns state.seat.me + 1)) (same ∙ k.delivered.waits.time)
-    ∙ counts_one_more state.seat.group.size (view state.seat.group.size facts) (record { sender = state.seat.me; number = delivered state.seat facts state.seat.me + 1; payload = payload }) are.member
+    ∙ counts_one_more state.seat.group.size (view state.seat.group.size facts) (record { sender = state.seat.me; number = delivered state.seat facts state.seat.me + 1; payload = load_bytes load }) are.member
+    ∙ ap (λ (ms : List Carried). counts state.seat.group.size (view state.seat.group.size facts ++ ms)) (sym (carries_one (next_cast state.seat facts load)))
 
-pub next_is_made : (state : State) (facts : List Fact) (payload bytes : List ℕ) (group sender own : ℕ) (changes : List Change) → AreFactsOf state.seat facts → Keeps facts state
-    → group ≡ state.seat.group.number → sender ≡ state.seat.me → own ≡ field state.delivery.time state.seat.me → changes ≡ differences state.sending.last_cast state.delivery.time state.seat.me → bytes ≡ payload
-    → record { group = group; sender = sender; number = own + 1; changes = changes; payload = bytes } ≡ next_cast state.seat facts payload
-next_is_made state facts payload bytes group sender own changes are k eg es en ec et =
+pub next_is_made : (state : State) (facts : List Fact) (load : Load) (group sender own : ℕ) (changes : List Change) → AreFactsOf state.seat facts → Keeps facts state
+    → group ≡ state.seat.group.number → sender ≡ state.seat.me → own ≡ field state.delivery.time state.seat.me → changes ≡ differences state.sending.last_cast state.delivery.time state.seat.me
+    → record { group = group; sender = sender; number = own + 1; changes = changes; load = load } ≡ next_cast state.seat facts load
+next_is_made state facts load group sender own changes are k eg es en ec =
     rw (
       eg,
       es,
       en ∙ own_delivered state facts are k,
       ec ∙ ap (λ (ns : List ℕ). differences ns state.delivery.time state.seat.me) k.sent.last_cast
           ∙ ap (λ (ns : List ℕ). differences (time_of state.seat.group.size (upto_last_cast facts)) ns state.seat.me) k.delivered.waits.time,
-      et,
     ) refl
 
 -- the message of this name at the member's time and one cast more is the next one
 pub message_is_next : (state : State) (facts : List Fact) (payload time : List ℕ) (sender number : ℕ) → AreFactsOf state.seat facts → Keeps facts state → time ≡ state.delivery.time
     → sender ≡ state.seat.me → number ≡ delivered state.seat facts state.seat.me + 1
-    → record { name = record { sender = sender; number = number }; time = set time state.seat.me (field time state.seat.me + 1); payload = payload } ≡ next_message state.seat facts payload
-message_is_next state facts payload time sender number are k same es en = rw (es, en, counts_own state facts payload time are k same) refl
+    → record { name = record { sender = sender; number = number }; time = set time state.seat.me (field time state.seat.me + 1); payload = payload } ≡ next_message state.seat facts (One payload)
+message_is_next state facts payload time sender number are k same es en = rw (es, en, counts_own state facts (One payload) time are k same) refl
 
--- a cast's text ends with its payload
-pub text_ends : (c : CastFields) → text_of (CastFrame c) ≡ (cast_kind ∷ flat_map spelling (cast_numbers c)) ++ c.payload
+-- a cast's text ends with what it carries
+pub text_ends : (c : CastFields) → text_of (CastFrame c) ≡ (cast_kind ∷ flat_map spelling (cast_numbers c)) ++ load_bytes c.load
 unfolding text_of
 text_ends c = refl

@@ -1,8 +1,8 @@
 -- What a core answers to its own calls: casts and ticks.
-use Rattle.std.proofs.Common.{◌≡◌, ℕ, Bool, true, false, ◌&&◌, leb, List, [], ◌∷◌, ◌++◌, length, Option, Some, None, Result, Ok, Err, refl, sym, ap, subst, ◌∙◌, inl, inr}
+use Rattle.std.proofs.Common.{◌≡◌, ℕ, Bool, true, false, ◌&&◌, leb, List, [], ◌∷◌, ◌++◌, length, Option, Some, None, Result, Ok, Err, refl, sym, ap, subst, ◌∙◌, arith, inl, inr}
 use Rattle.std.specs.Prelude.{IfOk, OnOk, option_map, if◌then◌else◌}
 use Rattle.std.proofs.lemmas.Bool.{lt-leb}
-use Rattle.cb_frames.specs.Fields.{StatusFrame}
+use Rattle.cb_frames.specs.Fields.{Load, load_bytes, StatusFrame}
 use Rattle.cb_frames.specs.Laws.{IsBytes}
 use Rattle.cb_frames.specs.Text.{text_of}
 use Rattle.cb_delay.specs.declared.message.Event.{Event}
@@ -19,38 +19,37 @@ use Rattle.cb_history.specs.declared.history.Entry.TheVariants as entries
 use Rattle.cb_history.specs.Facts.{EntryFields, Fact, OwnCast, OwnStatus, CastEntry, TickEntry, cast_said, entry_fields, facts_of, status_said}
 use Rattle.cb_history.specs.Answers.{is_new_status, next_cast, requests, status_of, tick_answer}
 use Rattle.cb_history.specs.Legal.{ToCast, ToTick, cast_entry, room_for_one, tick_entry}
-use Rattle.cb_history.specs.State.{answer_to_cast, answer_to_tick, entry_by, next_in}
-use Rattle.cb_frames.proofs.Carried.{first_is_number, carries_one}
+use Rattle.cb_history.specs.State.{answer_to_cast, answer_to_tick, entry_by, facts_in, next_in}
+use Rattle.cb_frames.proofs.Carried.{first_is_number, carries_one, load_has_some}
 use Rattle.cb_history.proofs.ReadBack.{cast_read, status_read}
 use Rattle.cb_history.proofs.Requests.{own_frames_have_texts}
 use Rattle.cb_history.proofs.Written.{cast_can}
 use Rattle.cb_member.specs.declared.own_cast.Casting.{Casting}
 use Rattle.cb_member.specs.declared.state.State.{State}
-use Rattle.cb_member.specs.Casting.{CanCast, CanKeepCast, HasKept, IsCasting, IsSameButBlock, JudgesPayload, MakesCasting, RefusesExactly, RefusesPayload, next_text, next_time}
+use Rattle.cb_member.specs.Casting.{CanCast, CanKeepCast, HasKept, IsCasting, IsSameButBlock, JudgesLoad, MakesCasting, RefusesExactly, RefusesLoad, next_message, next_text, next_time}
 use Rattle.cb_member.specs.CoreCalls.{AnswersCastInto, AnswersCastOnEach, AnswersTickOnEach, JoinsCastOnEach, MayCast}
 use Rattle.cb_member.specs.CoreMember.{Core, GoesOn, IsCore, OnEach, StandsFor, core_of, unlimited}
 use Rattle.cb_member.specs.State.{Keeps, OnAll}
 use Rattle.cb_member.specs.Telling.{HasReported}
-use Rattle.cb_member.proofs.Casting.{number_kept}
 use Rattle.cb_member.proofs.Cores.{Grows, core_goes_on, facts_follow, facts_stand, goes_on_none, keeps_of, one_is_left, stands_then}
-use Rattle.cb_member.proofs.Judging.{casts_next}
+use Rattle.cb_member.proofs.Judging.{casts_next, left_for}
 use Rattle.cb_member.proofs.Recording.{counts_long, is_ok_of}
 
 -- ---- casts that are refused
 
-pub refuses_cast : (payload : List ℕ) (old new : Core) (refusal : CastRefusal) → IsCore old → new ≡ old → OnEach old (λ m. RefusesExactly m payload refusal) → AnswersCastOnEach payload old new (Err refusal)
-refuses_cast payload old new refusal is same refuses = record { core = subst IsCore (sym same) is; casts = tt; refused = refuses; same = same }
+pub refuses_cast : (load : Load) (old new : Core) (refusal : CastRefusal) → IsCore old → new ≡ old → OnEach old (λ m. RefusesExactly m load refusal) → AnswersCastOnEach load old new (Err refusal)
+refuses_cast load old new refusal is same refuses = record { core = subst IsCore (sym same) is; casts = tt; refused = refuses; same = same }
 
-pub refused_payload : (core : State) (payload : List ℕ) (refusal : CastRefusal) → OnAll core (λ facts. RefusesPayload core.seat facts payload refusal) → OnEach (core_of core) (λ m. RefusesExactly m payload refusal)
-refused_payload core payload refusal refuses entries s = inl (refuses (facts_of entries) (facts_stand core entries s) (keeps_of core entries s) (room_for_one entries) entries refl)
+pub refused_load : (core : State) (load : Load) (refusal : CastRefusal) → OnAll core (λ facts. RefusesLoad core.seat facts load refusal) → OnEach (core_of core) (λ m. RefusesExactly m load refusal)
+refused_load core load refusal refuses entries s = inl (refuses (facts_of entries) (facts_stand core entries s) (keeps_of core entries s) (room_for_one entries) entries refl)
 
-pub cast_next : (core : State) (payload : List ℕ) (entries : List EntryFields) → CanCast core payload → StandsFor entries (core_of core)
-    → answer_to_cast (unlimited core.seat entries) payload ≡ Ok (next_cast core.seat (facts_of entries) payload)
-cast_next core payload entries can s = casts_next core (room_for_one entries) entries payload (facts_stand core entries s) (keeps_of core entries s) can (one_is_left entries)
+pub cast_next : (core : State) (load : Load) (entries : List EntryFields) → CanCast core load → StandsFor entries (core_of core)
+    → answer_to_cast (unlimited core.seat entries) load ≡ Ok (next_cast core.seat (facts_of entries) load)
+cast_next core load entries can s = casts_next core (room_for_one entries) entries load (facts_stand core entries s) (keeps_of core entries s) can (one_is_left entries)
 
-pub no_memory : (core : State) (payload : List ℕ) (refusal : CastRefusal) → CanCast core payload → refusal ≡ casts.NoMemory → OnEach (core_of core) (λ m. RefusesExactly m payload refusal)
-no_memory core payload refusal can is entries s =
-    inr (is, is_ok_of (answer_to_cast (unlimited core.seat entries) payload) (next_cast core.seat (facts_of entries) payload) (cast_next core payload entries can s))
+pub no_memory : (core : State) (load : Load) (refusal : CastRefusal) → CanCast core load → refusal ≡ casts.NoMemory → OnEach (core_of core) (λ m. RefusesExactly m load refusal)
+no_memory core load refusal can is entries s =
+    inr (is, is_ok_of (answer_to_cast (unlimited core.seat entries) load) (next_cast core.seat (facts_of entries) load) (cast_next core load entries can s))
 
 -- ---- a cast that is made
 
@@ -58,66 +57,66 @@ no_memory core payload refusal can is entries s =
 with_block : (old mid : State) → IsSameButBlock old mid → (facts : List Fact) → Keeps facts old → Keeps facts (record old { block = mid.block })
 with_block old mid block facts k = record { delivered = k.delivered; received = k.received; knows = k.knows; sent = k.sent }
 
-pub can_keep : (old mid : State) (payload : List ℕ) (casting : Casting) → IsCore (core_of old) → CanCast old payload → MakesCasting old payload casting → IsSameButBlock old mid → CanKeepCast casting.message.time casting.sent mid
-can_keep old mid payload casting is can makes block =
+pub can_keep : (old mid : State) (load : Load) (casting : Casting) → IsCore (core_of old) → CanCast old load → MakesCasting old load casting → IsSameButBlock old mid → CanKeepCast casting.message.time casting.sent mid
+can_keep old mid load casting is can makes block =
     let keeps = keeps_of old is.entries is.stands in
     let are = facts_stand old is.entries is.stands in
     let made = makes (facts_of is.entries) are keeps in
     subst (λ (state : State). CanKeepCast casting.message.time casting.sent state) (sym block) (record {
       state_is = record { facts = facts_of is.entries; legal = are; keeps = with_block old mid block (facts_of is.entries) keeps };
-      room = can.room;
+      room = omega (arith, can.room, load_has_some load);
       size = ap (λ (m : Message). length m.time) made.message ∙ counts_long old.seat.group.size _;
     })
 
--- what was done to cast the payload
-pub record CastsSo (payload : List ℕ) (old mid new : State) (casting : Casting) (frame : List ℕ) : Type 0 where
+-- what was done to cast the load
+pub record CastsSo (load : Load) (old mid new : State) (casting : Casting) (frame : List ℕ) : Type 0 where
   pub core : IsCore (core_of old)
-  pub bytes : IsBytes payload
-  pub can : CanCast old payload
-  pub makes : MakesCasting old payload casting
+  pub bytes : IsBytes (load_bytes load)
+  pub can : CanCast old load
+  pub makes : MakesCasting old load casting
   pub block : IsSameButBlock old mid
   pub copied : frame ≡ casting.out
   pub keeps : HasKept casting.message.time casting.sent mid new
 
-module _ (payload : List ℕ) (old mid new : State) (casting : Casting) (frame : List ℕ) (c : CastsSo payload old mid new casting frame) where
+module _ (load : Load) (old mid new : State) (casting : Casting) (frame : List ℕ) (c : CastsSo load old mid new casting frame) where
   module _ (es : List EntryFields) (s : StandsFor es (core_of old)) where
-    made : IsCasting old.seat (facts_of es) payload casting
+    made : IsCasting old.seat (facts_of es) load casting
     made = c.makes (facts_of es) (facts_stand old es s) (keeps_of old es s)
 
-    answer : answer_to_cast (unlimited old.seat es) payload ≡ Ok (next_cast old.seat (facts_of es) payload)
-    answer = cast_next old payload es c.can s
+    answer : answer_to_cast (unlimited old.seat es) load ≡ Ok (next_cast old.seat (facts_of es) load)
+    answer = cast_next old load es c.can s
 
-    grows : Grows (core_of old) es (ToCast payload) (CastEntry (next_text old.seat (facts_of es) payload)) (OwnCast (next_cast old.seat (facts_of es) payload))
+    grows : Grows (core_of old) es (ToCast load) (CastEntry (next_text old.seat (facts_of es) load)) (OwnCast (next_cast old.seat (facts_of es) load))
     grows =
         let are = facts_stand old es s in
-        let written = cast_can old.seat (facts_of es) payload are.group are.member are.facts_are (number_kept old (facts_of es) are (keeps_of old es s) c.can.room) c.can.short in
-        record { stands = s; bytes = c.bytes; by_call = ap cast_entry answer; says = ap cast_said (cast_read (next_cast old.seat (facts_of es) payload) written) }
+        let written = cast_can old.seat (facts_of es) load are.group are.member are.facts_are (left_for old (facts_of es) load are (keeps_of old es s) c.can) c.can.short in
+        record { stands = s; bytes = c.bytes; by_call = ap cast_entry answer; says = ap cast_said (cast_read (next_cast old.seat (facts_of es) load) written) }
 
     kept : HasKept casting.message.time casting.sent (record old { block = mid.block }) new
     kept = subst (λ (state : State). HasKept casting.message.time casting.sent state new) c.block c.keeps
 
-    time : casting.message.time ≡ next_time old.seat (facts_of es) payload
+    time : casting.message.time ≡ next_time old.seat (facts_of es) load
     time = ap (λ (m : Message). m.time) made.message
 
-    stands_after : Keeps (facts_of es ++ OwnCast (next_cast old.seat (facts_of es) payload) ∷ []) new
+    stands_after : Keeps (facts_of es ++ OwnCast (next_cast old.seat (facts_of es) load) ∷ []) new
     stands_after =
-        kept.keeps (facts_of es) payload (facts_follow (core_of old) es (ToCast payload) _ _ grows) (with_block old mid c.block (facts_of es) (keeps_of old es s)) time made.sent
+        kept.keeps (facts_of es) load (facts_follow (core_of old) es (ToCast load) _ _ grows) (with_block old mid c.block (facts_of es) (keeps_of old es s)) time made.sent
 
   seat_after : new.seat ≡ old.seat
   seat_after = c.keeps.seat ∙ ap (λ (s : State). s.seat) c.block
 
-  goes_on : GoesOn (ToCast payload) (core_of old) (core_of new)
+  goes_on : GoesOn (ToCast load) (core_of old) (core_of new)
   goes_on = record {
     seat = seat_after;
-    stands = λ es s. stands_then (core_of old) es (ToCast payload) _ _ (grows es s) new seat_after (stands_after es s);
+    stands = λ es s. stands_then (core_of old) es (ToCast load) _ _ (grows es s) new seat_after (stands_after es s);
   }
 
-  pub casts_so : AnswersCastOnEach payload (core_of old) (core_of new) (Ok (record { name = casting.message.name; time = casting.message.time; out = casting.out }, entries.Cast frame))
+  pub casts_so : AnswersCastOnEach load (core_of old) (core_of new) (Ok (record { name = casting.message.name; time = casting.message.time; out = casting.out }, entries.Cast frame))
   casts_so = record {
-    core = core_goes_on (ToCast payload) (core_of old) (core_of new) c.core goes_on;
+    core = core_goes_on (ToCast load) (core_of old) (core_of new) c.core goes_on;
     casts = record {
       goes_on = goes_on;
-      done = λ es s. record { answer = answer es s; reported = rw (ap (λ (m : Message). m.name) (made es s).message, time es s, (made es s).out, first_is_number (next_cast old.seat (facts_of es) payload), carries_one (next_cast old.seat (facts_of es) payload)) refl; after = refl };
+      done = λ es s. record { answer = answer es s; reported = rw (ap (λ (m : Message). m.name) (made es s).message, time es s, (made es s).out, first_is_number (next_cast old.seat (facts_of es) load), carries_one (next_cast old.seat (facts_of es) load)) refl; after = refl };
       entry = λ es s. ap cast_entry (answer es s) ∙ ap (λ (text : List ℕ). Some (CastEntry text)) (sym (made es s).out ∙ sym c.copied);
     };
     refused = tt;
@@ -125,9 +124,9 @@ module _ (payload : List ℕ) (old mid new : State) (casting : Casting) (frame :
   }
 
   -- where the event is that of the message
-  pub joins_cast : (before : List Event) → AnswersCastInto payload (core_of old) (core_of new) before (before ++ events.Cast casting.message ∷ []) (Ok (casting.out, entries.Cast frame))
+  pub joins_cast : (before : List Event) → AnswersCastInto load (core_of old) (core_of new) before (before ++ events.Cast casting.message ∷ []) (Ok (casting.out, entries.Cast frame))
   joins_cast before = record {
-    core = core_goes_on (ToCast payload) (core_of old) (core_of new) c.core goes_on;
+    core = core_goes_on (ToCast load) (core_of old) (core_of new) c.core goes_on;
     casts = record {
       goes_on = goes_on;
       answer = answer;
@@ -140,20 +139,25 @@ module _ (payload : List ℕ) (old mid new : State) (casting : Casting) (frame :
     same_events = tt;
   }
 
-pub refuses_cast_into : (payload : List ℕ) (old new : Core) (before after : List Event) (refusal : CastRefusal) → IsCore old → new ≡ old → after ≡ before → OnEach old (λ m. RefusesExactly m payload refusal)
-    → AnswersCastInto payload old new before after (Err refusal)
-refuses_cast_into payload old new before after refusal is same same_events refuses =
+pub refuses_cast_into : (load : Load) (old new : Core) (before after : List Event) (refusal : CastRefusal) → IsCore old → new ≡ old → after ≡ before → OnEach old (λ m. RefusesExactly m load refusal)
+    → AnswersCastInto load old new before after (Err refusal)
+refuses_cast_into load old new before after refusal is same same_events refuses =
     record { core = subst IsCore (sym same) is; casts = tt; refused = refuses; same = same; same_events = same_events }
 
-pub is_answered : (payload : List ℕ) (old new : Core) (before after : List Event) (result : Result (List ℕ × Entry) CastRefusal) → IfOk result (JoinsCastOnEach payload old new before after)
-    → OnOk result (OnEach old (λ m. answer_to_cast m payload ≡ Ok (next_in m payload)))
-is_answered payload old new before after (Ok cast) is = is.answer
-is_answered payload old new before after (Err refusal) is = tt
+pub is_answered : (load : Load) (old new : Core) (before after : List Event) (result : Result (List ℕ × Entry) CastRefusal) → IfOk result (JoinsCastOnEach load old new before after)
+    → OnOk result (OnEach old (λ m. answer_to_cast m load ≡ Ok (next_in m load)))
+is_answered load old new before after (Ok cast) is = is.answer
+is_answered load old new before after (Err refusal) is = tt
 
--- what is judged of a payload is so on each history
-pub may_cast_so : (state : State) (payload : List ℕ) (result : Result (Unit {0}) CastRefusal) → JudgesPayload state payload result → MayCast payload (core_of state) result
-may_cast_so state payload (Ok done) can = λ es s. cast_next state payload es can s
-may_cast_so state payload (Err refusal) refuses = λ es s. refuses (facts_of es) (facts_stand state es s) (keeps_of state es s) (room_for_one es) es refl
+pub is_joined : (load : Load) (old new : Core) (before after : List Event) (result : Result (List ℕ × Entry) CastRefusal) → IfOk result (JoinsCastOnEach load old new before after)
+    → OnOk result (OnEach old (λ m. after ≡ before ++ events.Cast (next_message m.seat (facts_in m) load) ∷ []))
+is_joined load old new before after (Ok cast) is = is.joins
+is_joined load old new before after (Err refusal) is = tt
+
+-- what is judged of a load is so on each history
+pub may_cast_so : (state : State) (load : Load) (result : Result (Unit {0}) CastRefusal) → JudgesLoad state load result → MayCast load (core_of state) result
+may_cast_so state load (Ok done) can = λ es s. cast_next state load es can s
+may_cast_so state load (Err refusal) refuses = λ es s. refuses (facts_of es) (facts_stand state es s) (keeps_of state es s) (room_for_one es) es refl
 
 -- ---- ticks
 

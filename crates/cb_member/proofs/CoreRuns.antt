@@ -1,19 +1,21 @@
 -- After any calls a core stands for their history.
-use Rattle.std.proofs.Common.{◌≡◌, ◌+◌, ◌⊎◌, Bool, true, false, ◌||◌, leb, List, [], Result, Ok, Err, refl, sym, ap, subst, ◌∙◌, arith, inl, inr}
+use Rattle.std.proofs.Common.{◌≡◌, ◌⊎◌, true, List, [], length, Result, Ok, Err, refl, sym, ap, subst, ◌∙◌, arith, inl, inr}
 use Rattle.std.specs.Prelude.{IsOk, is_ok}
-use Rattle.std.proofs.lemmas.Bool.{both_ways, le-leb}
+use Rattle.std.proofs.lemmas.Bool.{both_ways}
 use Rattle.cb_frames.specs.declared.frame.TheConstants.{LAST_NUMBER}
-use Rattle.cb_frames.specs.Fields.{CastFields}
+use Rattle.cb_frames.specs.Fields.{Load, payloads_of, CastFields}
+use Rattle.cb_frames.proofs.Carried.{load_has_some}
 use Rattle.cb_times.specs.Order.{field}
 use Rattle.cb_history.specs.declared.answer.CastDone.{CastDone}
 use Rattle.cb_history.specs.declared.answer.CastRefusal.{CastRefusal}
 use Rattle.cb_history.specs.declared.answer.CastRefusal.TheVariants as casts
+use Rattle.cb_history.specs.CastFault.{CastFault, WindowFull, TellsFaultOf}
 use Rattle.cb_history.specs.Group.{Identity}
 use Rattle.cb_history.specs.Facts.{EntryFields, facts_of}
-use Rattle.cb_history.specs.Known.{stable}
-use Rattle.cb_history.specs.Answers.{delivered, is_window_full}
+use Rattle.cb_history.specs.Answers.{delivered, is_too_many}
 use Rattle.cb_history.specs.Legal.{AreEntriesOf, room_for_one}
 use Rattle.cb_history.specs.State.{answer_to_cast}
+use Rattle.cb_history.proofs.Counts.{no_number_is_full}
 use Rattle.cb_member.specs.CoreMember.{Core, StandsFor, unlimited}
 use Rattle.cb_member.specs.CoreRuns.{AnsweredCall, AreAnswered, Calls, Cast, CoresAnswerByTheirHistory, GoesOnOrStays, IsAnswered, NoCall, NoNumberIsLeft, OneCall, Take, Tick, history_after_all, history_with}
 use Rattle.cb_member.proofs.Casting.{own_delivered}
@@ -23,16 +25,16 @@ use Rattle.cb_member.proofs.Judging.{window_full}
 -- ---- calls one after another
 
 seat_after : (a : AnsweredCall) (old new : Core) → GoesOnOrStays a old new → new.seat ≡ old.seat
-seat_after (Cast payload (Ok done)) old new goes = goes.seat
-seat_after (Cast payload (Err refusal)) old new same = ap (λ (c : Core). c.seat) same
+seat_after (Cast load (Ok done)) old new goes = goes.seat
+seat_after (Cast load (Err refusal)) old new same = ap (λ (c : Core). c.seat) same
 seat_after (Take bytes (Ok received) messages) old new goes = goes.seat
 seat_after (Take bytes (Err refusal) messages) old new same = ap (λ (c : Core). c.seat) same
 seat_after (Tick (Ok ticked)) old new goes = goes.seat
 seat_after (Tick (Err refusal)) old new same = ap (λ (c : Core). c.seat) same
 
 stands_after : (a : AnsweredCall) (old new : Core) (entries : List EntryFields) → GoesOnOrStays a old new → StandsFor entries old → StandsFor (history_with old.seat entries a) new
-stands_after (Cast payload (Ok done)) old new entries goes s = goes.stands entries s
-stands_after (Cast payload (Err refusal)) old new entries same s = subst (StandsFor entries) (sym same) s
+stands_after (Cast load (Ok done)) old new entries goes s = goes.stands entries s
+stands_after (Cast load (Err refusal)) old new entries same s = subst (StandsFor entries) (sym same) s
 stands_after (Take bytes (Ok received) messages) old new entries goes s = goes.stands entries s
 stands_after (Take bytes (Err refusal) messages) old new entries same s = subst (StandsFor entries) (sym same) s
 stands_after (Tick (Ok ticked)) old new entries goes s = goes.stands entries s
@@ -53,12 +55,9 @@ cores_answer calls first last new all = answer_all calls first last [] new all
 
 -- ---- the last number
 
-full_at_last : (seat : Identity) (entries : List EntryFields) → delivered seat (facts_of entries) seat.me ≡ LAST_NUMBER → is_window_full seat (facts_of entries) ≡ true
-full_at_last seat entries last = either (leb (stable seat (facts_of entries) + seat.group.window) (delivered seat (facts_of entries) seat.me)) _ (le-leb LAST_NUMBER _ (omega (arith, last)))
-  where
-    either : (a b : Bool) → b ≡ true → (a || b) ≡ true
-    either true b on = refl
-    either false b on = on
+full_at_last : (seat : Identity) (entries : List EntryFields) (load : Load) → delivered seat (facts_of entries) seat.me ≡ LAST_NUMBER
+    → is_too_many seat (facts_of entries) (length (payloads_of load)) ≡ true
+full_at_last seat entries load last = no_number_is_full seat (facts_of entries) (length (payloads_of load)) (omega (arith, last, load_has_some load))
 
 counted : (entries : List EntryFields) (core : Core) → StandsFor entries core → field core.time core.seat.me ≡ LAST_NUMBER → delivered core.seat (facts_of entries) core.seat.me ≡ LAST_NUMBER
 counted entries core s last =
@@ -66,19 +65,22 @@ counted entries core s last =
     own_delivered s.state (facts_of entries) (facts_stand s.state entries (record { legal = subst (λ (c : Core). AreEntriesOf c.seat entries) (sym s.known) s.legal; state = s.state; keeps = s.keeps; known = refl })) s.keeps in
     sym (subst (λ (c : Core). field c.time c.seat.me ≡ delivered c.seat (facts_of entries) c.seat.me) s.known at) ∙ last
 
-refused_so : (answer : Result CastFields CastRefusal) (refusal : CastRefusal) → answer ≡ Err casts.WindowFull → ((answer ≡ Err refusal) ⊎ ((refusal ≡ casts.NoMemory) × IsOk answer)) → refusal ≡ casts.WindowFull
-refused_so answer refusal full (inl says) = let same = sym full ∙ says in cc
+refused_so : (answer : Result CastFields CastFault) (refusal : CastRefusal) → answer ≡ Err WindowFull → (TellsFaultOf refusal answer ⊎ ((refusal ≡ casts.NoMemory) × IsOk answer)) → refusal ≡ casts.WindowFull
+refused_so answer casts.PayloadTooLong full (inl says) = let same = sym full ∙ says in cc
+refused_so answer casts.WindowFull full (inl says) = refl
+refused_so answer casts.HistoryFull full (inl says) = let same = sym full ∙ says in cc
+refused_so answer casts.NoMemory full (inl says) = absurd says
 refused_so answer refusal full (inr memory) = absurd (both_ways (is_ok answer) (ap is_ok full) memory.1)
 
-not_both : (answer : Result CastFields CastRefusal) (c : CastFields) → answer ≡ Err casts.WindowFull → answer ≡ Ok c → ⊥
+not_both : (answer : Result CastFields CastFault) (c : CastFields) → answer ≡ Err WindowFull → answer ≡ Ok c → ⊥
 not_both answer c full is = let both = sym full ∙ is in cc
 
 pub no_number_is_left : NoNumberIsLeft
-no_number_is_left payload result old new is last short call =
+no_number_is_left load result old new is last short call =
     let s = is.stands in
-    let full = window_full old.seat (room_for_one is.entries) is.entries payload short (full_at_last old.seat is.entries (counted is.entries old s last)) in
+    let full = window_full old.seat (room_for_one is.entries) is.entries load short (full_at_last old.seat is.entries load (counted is.entries old s last)) in
     by_result result full (call.answered is.entries s)
   where
-    by_result : (r : Result CastDone CastRefusal) → answer_to_cast (unlimited old.seat is.entries) payload ≡ Err casts.WindowFull → IsAnswered (unlimited old.seat is.entries) (Cast payload r) → r ≡ Err casts.WindowFull
-    by_result (Ok done) full says = absurd (not_both (answer_to_cast (unlimited old.seat is.entries) payload) _ full says.answer)
-    by_result (Err refusal) full says = ap (λ (x : CastRefusal). let r : Result CastDone CastRefusal = Err x in r) (refused_so (answer_to_cast (unlimited old.seat is.entries) payload) refusal full says)
+    by_result : (r : Result CastDone CastRefusal) → answer_to_cast (unlimited old.seat is.entries) load ≡ Err WindowFull → IsAnswered (unlimited old.seat is.entries) (Cast load r) → r ≡ Err casts.WindowFull
+    by_result (Ok done) full says = absurd (not_both (answer_to_cast (unlimited old.seat is.entries) load) _ full says.answer)
+    by_result (Err refusal) full says = ap (λ (x : CastRefusal). let r : Result CastDone CastRefusal = Err x in r) (refused_so (answer_to_cast (unlimited old.seat is.entries) load) refusal full says)

@@ -4,7 +4,7 @@ use Rattle.std.specs.Prelude.{if◌then◌else◌, nat_lt}
 use Rattle.std.proofs.lemmas.Bool.{lt-leb}
 use Rattle.cb_frames.specs.declared.frame.TheConstants.{LONGEST_PAYLOAD}
 use Rattle.cb_frames.specs.declared.fault.FrameFault.{FrameFault}
-use Rattle.cb_frames.specs.Fields.{CastFields, FrameFields}
+use Rattle.cb_frames.specs.Fields.{Load, load_bytes, payloads_of, CastFields, FrameFields}
 use Rattle.cb_history.specs.Read.{frame_read}
 use Rattle.cb_delay.specs.declared.message.Event.{Event}
 use Rattle.cb_history.specs.declared.answer.ArriveRefusal.{ArriveRefusal}
@@ -17,9 +17,10 @@ use Rattle.cb_history.specs.declared.answer.TickRefusal.{TickRefusal}
 use Rattle.cb_history.specs.declared.answer.TickRefusal.TheVariants as ticks
 use Rattle.cb_history.specs.declared.answer.Ticked.{Ticked}
 use Rattle.cb_history.specs.declared.history.Entry.{Entry}
+use Rattle.cb_history.specs.CastFault.{CastFault, PayloadTooLong, WindowFull, HistoryFull}
 use Rattle.cb_history.specs.Group.{Identity}
 use Rattle.cb_history.specs.Facts.{EntryFields, facts_of}
-use Rattle.cb_history.specs.Answers.{ArrivalSays, Accepted, Repeat, answer_to, are_members, arrive_answer, cast_answer, deliveries, group_of, is_change, is_full, is_impossible, is_new_status, is_repeat, is_too_far, is_window_full, next_cast, sent_in_answer, tick_answer}
+use Rattle.cb_history.specs.Answers.{ArrivalSays, Accepted, Repeat, answer_to, are_members, arrive_answer, cast_answer, deliveries, group_of, is_change, is_full, is_impossible, is_new_status, is_repeat, is_too_far, is_too_many, next_cast, sent_in_answer, tick_answer}
 use Rattle.cb_history.specs.Legal.{room_for_one}
 use Rattle.cb_history.specs.State.{RefusesArrival, RefusesTick}
 use Rattle.cb_member.specs.Casting.{RefusesExactly}
@@ -34,34 +35,34 @@ not_full es = lt-leb (room_for_one es) (length es) (one_is_left es)
 -- ---- casts
 
 by_cast_rules : (long window full : Bool) (c : CastFields) → full ≡ false
-    → (let r : Result CastFields CastRefusal = if long then Err casts.PayloadTooLong else if window then Err casts.WindowFull else if full then Err casts.HistoryFull else Ok c in r) ≢ Err casts.HistoryFull
+    → (let r : Result CastFields CastFault = if long then Err PayloadTooLong else if window then Err WindowFull else if full then Err HistoryFull else Ok c in r) ≢ Err HistoryFull
 by_cast_rules true window full c off says = absurd cc
 by_cast_rules false true full c off says = absurd cc
 by_cast_rules false false true c off says = absurd cc
 by_cast_rules false false false c off says = absurd cc
 
-cast_answer_not_full : (seat : Identity) (es : List EntryFields) (payload : List ℕ) → cast_answer seat (room_for_one es) es payload ≢ Err casts.HistoryFull
+cast_answer_not_full : (seat : Identity) (es : List EntryFields) (load : Load) → cast_answer seat (room_for_one es) es load ≢ Err HistoryFull
 unfolding cast_answer
-cast_answer_not_full seat es payload says =
-    by_cast_rules (nat_lt LONGEST_PAYLOAD (length payload)) (is_window_full seat (facts_of es)) (is_full (room_for_one es) es) (next_cast seat (facts_of es) payload) (not_full es) says
+cast_answer_not_full seat es load says =
+    by_cast_rules (nat_lt LONGEST_PAYLOAD (length (load_bytes load))) (is_too_many seat (facts_of es) (length (payloads_of load))) (is_full (room_for_one es) es) (next_cast seat (facts_of es) load) (not_full es) says
 
-not_refused_full : (seat : Identity) (es : List EntryFields) (payload : List ℕ) → RefusesExactly (unlimited seat es) payload casts.HistoryFull → ⊥
-not_refused_full seat es payload (inl says) = cast_answer_not_full seat es payload says
-not_refused_full seat es payload (inr memory) = let is = memory.0 in absurd cc
+not_refused_full : (seat : Identity) (es : List EntryFields) (load : Load) → RefusesExactly (unlimited seat es) load casts.HistoryFull → ⊥
+not_refused_full seat es load (inl says) = cast_answer_not_full seat es load says
+not_refused_full seat es load (inr memory) = let is = memory.0 in absurd cc
 
-pub cast_never_full : (payload : List ℕ) (old new : Core) (result : Result (CastDone × Entry) CastRefusal) → IsCore old → AnswersCastOnEach payload old new result → result ≢ Err casts.HistoryFull
-cast_never_full payload old new (Ok noted) is answers e = absurd cc
-cast_never_full payload old new (Err refusal) is answers e =
-    not_refused_full old.seat is.entries payload (subst (λ (r : CastRefusal). RefusesExactly (unlimited old.seat is.entries) payload r) (refusal_is refusal e) (answers.refused is.entries is.stands))
+pub cast_never_full : (load : Load) (old new : Core) (result : Result (CastDone × Entry) CastRefusal) → IsCore old → AnswersCastOnEach load old new result → result ≢ Err casts.HistoryFull
+cast_never_full load old new (Ok noted) is answers e = absurd cc
+cast_never_full load old new (Err refusal) is answers e =
+    not_refused_full old.seat is.entries load (subst (λ (r : CastRefusal). RefusesExactly (unlimited old.seat is.entries) load r) (refusal_is refusal e) (answers.refused is.entries is.stands))
   where
     refusal_is : (r : CastRefusal) → (let x : Result (CastDone × Entry) CastRefusal = Err r in x) ≡ Err casts.HistoryFull → r ≡ casts.HistoryFull
     refusal_is r e = cc
 
-pub cast_into_never_full : (payload : List ℕ) (old new : Core) (before after : List Event) (result : Result (List ℕ × Entry) CastRefusal) → IsCore old → AnswersCastInto payload old new before after result
+pub cast_into_never_full : (load : Load) (old new : Core) (before after : List Event) (result : Result (List ℕ × Entry) CastRefusal) → IsCore old → AnswersCastInto load old new before after result
     → result ≢ Err casts.HistoryFull
-cast_into_never_full payload old new before after (Ok cast) is answers e = absurd cc
-cast_into_never_full payload old new before after (Err refusal) is answers e =
-    not_refused_full old.seat is.entries payload (subst (λ (r : CastRefusal). RefusesExactly (unlimited old.seat is.entries) payload r) (refusal_is refusal e) (answers.refused is.entries is.stands))
+cast_into_never_full load old new before after (Ok cast) is answers e = absurd cc
+cast_into_never_full load old new before after (Err refusal) is answers e =
+    not_refused_full old.seat is.entries load (subst (λ (r : CastRefusal). RefusesExactly (unlimited old.seat is.entries) load r) (refusal_is refusal e) (answers.refused is.entries is.stands))
   where
     refusal_is : (r : CastRefusal) → (let x : Result (List ℕ × Entry) CastRefusal = Err r in x) ≡ Err casts.HistoryFull → r ≡ casts.HistoryFull
     refusal_is r e = cc

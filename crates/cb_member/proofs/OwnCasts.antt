@@ -1,11 +1,11 @@
 -- What is kept is so of the facts with an own cast.
 use Rattle.std.proofs.Common.{◌≡◌, ◌≢◌, ℕ, Bool, true, false, List, ◌∷◌, [], ◌++◌, length, None, sym, ap, subst, ◌∙◌, arith}
-use Rattle.cb_frames.specs.Fields.{CastFields, Carried}
+use Rattle.cb_frames.specs.Fields.{Load, CastFields}
 use Rattle.cb_frames.proofs.Carried.{carries_one}
 use Rattle.cb_stability.specs.Sent.{Sent, Puts}
 use Rattle.cb_history.specs.Group.{Identity}
 use Rattle.cb_history.specs.Facts.{Fact, OwnCast, casts_in}
-use Rattle.cb_history.specs.View.{counts, view, time_of}
+use Rattle.cb_history.specs.View.{counts, time_of}
 use Rattle.cb_history.specs.Known.{expanded_count}
 use Rattle.cb_history.specs.Answers.{next_cast, last_status}
 use Rattle.cb_history.specs.LegalFacts.{AreFactsOf}
@@ -33,50 +33,49 @@ use Rattle.cb_member.specs.Sending.{TellsLast, HasSent}
 use Rattle.cb_member.specs.State.{HasDelivered, Keeps}
 use Rattle.cb_member.specs.Casting.{next_time, next_text}
 
-abbrev with_cast : Identity → List Fact → List ℕ → List Fact
-with_cast seat facts payload = facts ++ OwnCast (next_cast seat facts payload) ∷ []
+abbrev with_cast : Identity → List Fact → Load → List Fact
+with_cast seat facts load = facts ++ OwnCast (next_cast seat facts load) ∷ []
 
-casts_with : (seat : Identity) (facts : List Fact) (payload : List ℕ) → casts_in (with_cast seat facts payload) ≡ casts_in facts ++ next_cast seat facts payload ∷ []
-casts_with seat facts payload = casts_in-append facts (OwnCast (next_cast seat facts payload))
+casts_with : (seat : Identity) (facts : List Fact) (load : Load) → casts_in (with_cast seat facts load) ≡ casts_in facts ++ next_cast seat facts load ∷ []
+casts_with seat facts load = casts_in-append facts (OwnCast (next_cast seat facts load))
 
 -- the counts with the cast are the time after it
-time_with_cast : (seat : Identity) (facts : List Fact) (payload : List ℕ) → next_time seat facts payload ≡ time_of seat.group.size (with_cast seat facts payload)
-time_with_cast seat facts payload =
-    let c = next_cast seat facts payload in
-    ap (counts seat.group.size) (sym (view_own seat.group.size facts c ∙ ap (λ (ms : List Carried). view seat.group.size facts ++ ms) (carries_one c)))
+time_with_cast : (seat : Identity) (facts : List Fact) (load : Load) → next_time seat facts load ≡ time_of seat.group.size (with_cast seat facts load)
+time_with_cast seat facts load =
+    ap (counts seat.group.size) (sym (view_own seat.group.size facts (next_cast seat facts load)))
 
-delivered_with_cast : (seat : Identity) (facts : List Fact) (payload time : List ℕ) (d : Delivery) → AreFactsOf seat (with_cast seat facts payload) → HasDelivered seat facts d
-    → time ≡ next_time seat facts payload → HasDelivered seat (with_cast seat facts payload) (record d { time = time })
-delivered_with_cast seat facts payload time d are has at = record {
+delivered_with_cast : (seat : Identity) (facts : List Fact) (load : Load) (time : List ℕ) (d : Delivery) → AreFactsOf seat (with_cast seat facts load) → HasDelivered seat facts d
+    → time ≡ next_time seat facts load → HasDelivered seat (with_cast seat facts load) (record d { time = time })
+delivered_with_cast seat facts load time d are has at = record {
   waits = record {
-    way = views_are_on_the_way seat (with_cast seat facts payload) are;
-    time = at ∙ time_with_cast seat facts payload;
-    queue = (own_facts_leave_waiting seat facts d.queue has.waits.queue).0 (next_cast seat facts payload) are;
+    way = views_are_on_the_way seat (with_cast seat facts load) are;
+    time = at ∙ time_with_cast seat facts load;
+    queue = (own_facts_leave_waiting seat facts d.queue has.waits.queue).0 (next_cast seat facts load) are;
   };
   window = has.window;
 }
 
-received_with_cast : (seat : Identity) (facts : List Fact) (payload : List ℕ) (r : Reception) → AreFactsOf seat (with_cast seat facts payload) → HasReceivedAll seat facts r
-    → HasReceivedAll seat (with_cast seat facts payload) r
-received_with_cast seat facts payload r are has =
-    let c = next_cast seat facts payload in
+received_with_cast : (seat : Identity) (facts : List Fact) (load : Load) (r : Reception) → AreFactsOf seat (with_cast seat facts load) → HasReceivedAll seat facts r
+    → HasReceivedAll seat (with_cast seat facts load) r
+received_with_cast seat facts load r are has =
+    let c = next_cast seat facts load in
     let others : (i : ℕ) → i ≢ seat.me → seat.me ≢ i = λ i other e. other (sym e) in
-    let count : (i : ℕ) → i ≢ seat.me → expanded_count (casts_in facts) i ≡ expanded_count (casts_in (with_cast seat facts payload)) i = λ i other.
-    sym (ap (λ (cs : List CastFields). expanded_count cs i) (casts_with seat facts payload) ∙ others_expand_nothing (casts_in facts) c i (others i other)) in
+    let count : (i : ℕ) → i ≢ seat.me → expanded_count (casts_in facts) i ≡ expanded_count (casts_in (with_cast seat facts load)) i = λ i other.
+    sym (ap (λ (cs : List CastFields). expanded_count cs i) (casts_with seat facts load) ∙ others_expand_nothing (casts_in facts) c i (others i other)) in
     record {
       senders = has.senders;
-      waits = λ i b at other. subst (λ (cs : List CastFields). HoldsWhatWaits cs i b) (sym (casts_with seat facts payload)) (others_do_not_wait (casts_in facts) i c b (has.waits i b at other) (others i other));
+      waits = λ i b at other. subst (λ (cs : List CastFields). HoldsWhatWaits cs i b) (sym (casts_with seat facts load)) (others_do_not_wait (casts_in facts) i c b (has.waits i b at other) (others i other));
       taken_are = λ i b at other. has.taken_are i b at other ∙ count i other;
       windows = has.windows;
-      times = λ i lt other. subst (λ (n : ℕ). KeepsTimeOf seat (with_cast seat facts payload) i n r.expander) (count i other)
+      times = λ i lt other. subst (λ (n : ℕ). KeepsTimeOf seat (with_cast seat facts load) i n r.expander) (count i other)
           (kept_times_stay seat facts (OwnCast c ∷ []) i (expanded_count (casts_in facts) i) r.expander are (omega arith) (has.times i lt other));
       stacks = has.stacks;
       spares = has.spares;
     }
 
-known_with_cast : (seat : Identity) (facts : List Fact) (payload : List ℕ) (k : Knowledge) → AreFactsOf seat (with_cast seat facts payload) → KnowsFacts seat facts k → KnowsFacts seat (with_cast seat facts payload) k
-known_with_cast seat facts payload k are has =
-    let tells = own_cast_tells_nothing seat facts (next_cast seat facts payload) in
+known_with_cast : (seat : Identity) (facts : List Fact) (load : Load) (k : Knowledge) → AreFactsOf seat (with_cast seat facts load) → KnowsFacts seat facts k → KnowsFacts seat (with_cast seat facts load) k
+known_with_cast seat facts load k are has =
+    let tells = own_cast_tells_nothing seat facts (next_cast seat facts load) in
     record {
       fields = has.fields;
       heard = λ i lt other. has.heard i lt other ∙ sym (tells i are lt other).0;
@@ -91,29 +90,29 @@ pub still_reported : (seat : Identity) (facts more : List Fact) (reported : Bool
 still_reported seat facts more true time same t = record { before = t.before; last = same ∙ t.last; said = t.said }
 still_reported seat facts more false time same t = same ∙ t
 
-sent_with_cast : (seat : Identity) (facts : List Fact) (payload time : List ℕ) (s : Sending) (window : Sent) → AreFactsOf seat (with_cast seat facts payload) → HasSent seat facts s
-    → time ≡ next_time seat facts payload
-    → Puts s.window window 1 (next_text seat facts payload)
-    → HasSent seat (with_cast seat facts payload) (record s { window = window; last_cast = time })
-sent_with_cast seat facts payload time s window are has at put =
-    let c = next_cast seat facts payload in
+sent_with_cast : (seat : Identity) (facts : List Fact) (load : Load) (time : List ℕ) (s : Sending) (window : Sent) → AreFactsOf seat (with_cast seat facts load) → HasSent seat facts s
+    → time ≡ next_time seat facts load
+    → Puts s.window window 1 (next_text seat facts load)
+    → HasSent seat (with_cast seat facts load) (record s { window = window; last_cast = time })
+sent_with_cast seat facts load time s window are has at put =
+    let c = next_cast seat facts load in
     record {
       window = put_is_own_cast seat facts c s.window window are has.window
-          (subst (λ (n : ℕ). Puts s.window window n (next_text seat facts payload)) (sym (ap length (carries_one c))) put);
-      last_cast = at ∙ time_with_cast seat facts payload ∙ ap (time_of seat.group.size) (sym (upto_own facts c));
+          (subst (λ (n : ℕ). Puts s.window window n (next_text seat facts load)) (sym (ap length (carries_one c))) put);
+      last_cast = at ∙ time_with_cast seat facts load ∙ ap (time_of seat.group.size) (sym (upto_own facts c));
       fields = has.fields;
-      reported = still_reported seat facts (with_cast seat facts payload) s.has_reported s.last_reported (last_status_with_one_more facts (OwnCast c) None) has.reported;
+      reported = still_reported seat facts (with_cast seat facts load) s.has_reported s.last_reported (last_status_with_one_more facts (OwnCast c) None) has.reported;
     }
 
 -- the state with the time and the frame of the next cast keeps that cast as well
-pub cast_keeps : (old : State) (facts : List Fact) (payload time last frame : List ℕ) (window : Sent) → AreFactsOf old.seat (facts ++ OwnCast (next_cast old.seat facts payload) ∷ []) → Keeps facts old
-    → time ≡ next_time old.seat facts payload → last ≡ next_time old.seat facts payload → frame ≡ next_text old.seat facts payload
+pub cast_keeps : (old : State) (facts : List Fact) (load : Load) (time last frame : List ℕ) (window : Sent) → AreFactsOf old.seat (facts ++ OwnCast (next_cast old.seat facts load) ∷ []) → Keeps facts old
+    → time ≡ next_time old.seat facts load → last ≡ next_time old.seat facts load → frame ≡ next_text old.seat facts load
     → Puts old.sending.window window 1 frame
-    → Keeps (facts ++ OwnCast (next_cast old.seat facts payload) ∷ []) (record old { delivery = record old.delivery { time = time }; sending = record old.sending { window = window; last_cast = last } })
-cast_keeps old facts payload time last frame window are keeps at last_at is put = record {
-  delivered = delivered_with_cast old.seat facts payload time old.delivery are keeps.delivered at;
-  received = received_with_cast old.seat facts payload old.reception are keeps.received;
-  knows = known_with_cast old.seat facts payload old.knowledge are keeps.knows;
-  sent = sent_with_cast old.seat facts payload last old.sending window are keeps.sent last_at
+    → Keeps (facts ++ OwnCast (next_cast old.seat facts load) ∷ []) (record old { delivery = record old.delivery { time = time }; sending = record old.sending { window = window; last_cast = last } })
+cast_keeps old facts load time last frame window are keeps at last_at is put = record {
+  delivered = delivered_with_cast old.seat facts load time old.delivery are keeps.delivered at;
+  received = received_with_cast old.seat facts load old.reception are keeps.received;
+  knows = known_with_cast old.seat facts load old.knowledge are keeps.knows;
+  sent = sent_with_cast old.seat facts load last old.sending window are keeps.sent last_at
       (subst (Puts old.sending.window window 1) is put);
 }

@@ -11,7 +11,7 @@ use Rattle.std.proofs.lemmas.Bool.{cases_eq, eq-eqb, ne_eqb}
 use Rattle.std.proofs.lemmas.List.{length-map, length-set, set-get_or, get_or-set_same, get_or-set_other}
 use Rattle.std.proofs.lemmas.List.Elements.{All-push, All-pop}
 use Rattle.std.proofs.lemmas.Option.{slice_get_within, slice_get-get_or, slice_get-map, slice_get_read, get_or_from_slice_get}
-use Rattle.cb_frames.specs.Fields.{CastFields, first_number, last_number}
+use Rattle.cb_frames.specs.Fields.{load_bytes, CastFields, first_number, last_number}
 use Rattle.cb_delay.specs.declared.message.Message.{Message}
 use Rattle.cb_diffs.specs.Expansion.{expanded_time, IsNext as IsNextCast}
 use Rattle.cb_gaps.specs.declared.buffer.Admission.{Admission}
@@ -311,8 +311,8 @@ module _ (c : CastFields) (sender : ℕ) (before after : Buffer) (old : Receptio
         of_sender = found.1;
         next = sym (first_is_number c) ∙ behind;
       };
-      message_is = t.tells.message_is ∙ ap (λ (time : List ℕ). reported c time c.payload) tells.1
-          ∙ ap (λ (n : ℕ). let x : Message = record { name = record { sender = c.sender; number = n }; time = expanded_time size all_casts c.sender n; payload = c.payload } in x) (first_is_number c);
+      message_is = t.tells.message_is ∙ ap (λ (time : List ℕ). reported c time (load_bytes c.load)) tells.1
+          ∙ ap (λ (n : ℕ). let x : Message = record { name = record { sender = c.sender; number = n }; time = expanded_time size all_casts c.sender n; payload = load_bytes c.load } in x) (first_is_number c);
       received = record {
         senders = ap length t.buffers ∙ length-set old.buffers.items sender after ∙ received.senders;
         waits = λ i b at not_me. elim (at_new i b at) [

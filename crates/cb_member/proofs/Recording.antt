@@ -4,7 +4,7 @@ use Rattle.std.specs.Prelude.{option_map, IsOk, nat_le, if◌then◌else◌}
 use Rattle.std.proofs.lemmas.Bool.{leb-true, leb-false, lt-leb, le-leb}
 use Rattle.std.proofs.lemmas.List.{append-nil, length-map}
 use Rattle.std.proofs.lemmas.List.FromFn.{length-map-range_with_len}
-use Rattle.cb_frames.specs.Fields.{Carried, CastFields, StatusFrame}
+use Rattle.cb_frames.specs.Fields.{Load, load_bytes, payloads_of, Carried, CastFields, StatusFrame}
 use Rattle.cb_frames.specs.Laws.{IsBytes}
 use Rattle.cb_frames.specs.Text.{text_of}
 use Rattle.cb_delay.specs.declared.message.Event.{Event}
@@ -12,15 +12,16 @@ use Rattle.cb_delay.specs.declared.message.Event.TheVariants.{Cast}
 use Rattle.cb_delay.specs.declared.message.Message.{Message}
 use Rattle.cb_diffs.specs.Expansion.{expanded_time}
 use Rattle.cb_stability.specs.Sent.{room_of}
-use Rattle.cb_frames.proofs.Carried.{first_is_number, carries_one}
+use Rattle.cb_frames.proofs.Carried.{first_is_number, carries_one, load_has_some}
 use Rattle.cb_history.specs.declared.answer.CastRefusal.{CastRefusal}
 use Rattle.cb_history.specs.declared.answer.CastRefusal.TheVariants as casts
 use Rattle.cb_history.specs.declared.answer.TickRefusal.TheVariants as ticks
 use Rattle.cb_history.specs.declared.history.Entry.{Entry}
 use Rattle.cb_history.specs.declared.history.Entry.TheVariants as entries
+use Rattle.cb_history.specs.CastFault.{CastFault}
 use Rattle.cb_history.specs.Group.{Identity}
 use Rattle.cb_history.specs.Facts.{EntryFields, Fact, OwnCast, OwnStatus, CastEntry, TickEntry, cast_said, casts_in, entry_fields, said_by, status_said}
-use Rattle.cb_history.specs.View.{count, counts, view, message_in}
+use Rattle.cb_history.specs.View.{count, counts, message_in}
 use Rattle.cb_history.specs.Answers.{delivered, is_new_status, next_cast, requests, status_of, tick_answer}
 use Rattle.cb_history.specs.EventLaws.{new_events}
 use Rattle.cb_history.specs.Legal.{ToCast, ToTick, cast_entry, tick_entry}
@@ -37,12 +38,12 @@ use Rattle.cb_member.specs.declared.recorder.EnteringCast.{EnteringCast}
 use Rattle.cb_member.specs.declared.recorder.Recorder.{Recorder}
 use Rattle.cb_member.specs.declared.recorder.Telling.{Telling}
 use Rattle.cb_member.specs.declared.state.State.{State}
-use Rattle.cb_member.specs.Casting.{next_time, next_message, CanCast, CanKeepCast, HasKept, IsCasting, IsSameButBlock, MakesCasting, RefusesExactly, RefusesPayload}
+use Rattle.cb_member.specs.Casting.{next_time, next_message, CanCast, CanKeepCast, HasKept, IsCasting, IsSameButBlock, MakesCasting, RefusesExactly, RefusesLoad}
 use Rattle.cb_member.specs.Entering.{CanEnterCast, IsCastDone, Tells}
 use Rattle.cb_member.specs.Recorder.{HasRoom, IsKept, IsSame, facts_held, held_by}
 use Rattle.cb_member.specs.State.{Keeps, OnAll}
 use Rattle.cb_member.specs.Telling.{HasReported}
-use Rattle.cb_member.proofs.Casting.{number_kept}
+use Rattle.cb_member.proofs.Judging.{left_for}
 use Rattle.cb_member.proofs.Entering.{Adds, after_entry, after_none, facts_kept, facts_may_follow, kept_over, kept_with_entry, kept_with_room, same_facts, state_kept}
 use Rattle.cb_member.proofs.Judging.{casts_next, refuses_history}
 
@@ -59,26 +60,26 @@ fields_many r = length-map r.entries.items entry_fields
 
 -- ---- casts that are refused
 
-pub refused_payload : (r : Recorder) (payload : List ℕ) (refusal : CastRefusal) → IsKept r → OnAll r.state (λ facts. RefusesPayload r.state.seat facts payload refusal)
-    → RefusesExactly (held_by r) payload refusal
-refused_payload r payload refusal k refuses = inl (refuses (facts_held r) (facts_kept r k) k.keeps r.limit (map entry_fields r.entries.items) refl)
+pub refused_load : (r : Recorder) (load : Load) (refusal : CastRefusal) → IsKept r → OnAll r.state (λ facts. RefusesLoad r.state.seat facts load refusal)
+    → RefusesExactly (held_by r) load refusal
+refused_load r load refusal k refuses = inl (refuses (facts_held r) (facts_kept r k) k.keeps r.limit (map entry_fields r.entries.items) refl)
 
-pub refused_full : (r : Recorder) (payload : List ℕ) → IsKept r → CanCast r.state payload → r.limit ≤ length r.entries.items → RefusesExactly (held_by r) payload casts.HistoryFull
-refused_full r payload k can full =
+pub refused_full : (r : Recorder) (load : Load) → IsKept r → CanCast r.state load → r.limit ≤ length r.entries.items → RefusesExactly (held_by r) load casts.HistoryFull
+refused_full r load k can full =
     let many = fields_many r in
-    inl (refuses_history r.state r.limit (map entry_fields r.entries.items) payload (facts_kept r k) k.keeps can (omega (arith, full, many)))
+    inl (refuses_history r.state r.limit (map entry_fields r.entries.items) load (facts_kept r k) k.keeps can (omega (arith, full, many)))
 
-pub cast_next : (r : Recorder) (payload : List ℕ) → IsKept r → CanCast r.state payload → length r.entries.items < r.limit
-    → answer_to_cast (held_by r) payload ≡ Ok (next_cast r.state.seat (facts_held r) payload)
-cast_next r payload k can few =
+pub cast_next : (r : Recorder) (load : Load) → IsKept r → CanCast r.state load → length r.entries.items < r.limit
+    → answer_to_cast (held_by r) load ≡ Ok (next_cast r.state.seat (facts_held r) load)
+cast_next r load k can few =
     let many = fields_many r in
-    casts_next r.state r.limit (map entry_fields r.entries.items) payload (facts_kept r k) k.keeps can (omega (arith, few, many))
+    casts_next r.state r.limit (map entry_fields r.entries.items) load (facts_kept r k) k.keeps can (omega (arith, few, many))
 
-pub is_ok_of : (a : Result CastFields CastRefusal) (c : CastFields) → a ≡ Ok c → IsOk a
+pub is_ok_of : (a : Result CastFields CastFault) (c : CastFields) → a ≡ Ok c → IsOk a
 is_ok_of a c is = rw is refl
 
-pub no_memory : (r : Recorder) (payload : List ℕ) (refusal : CastRefusal) → IsKept r → CanCast r.state payload → length r.entries.items < r.limit → refusal ≡ casts.NoMemory → RefusesExactly (held_by r) payload refusal
-no_memory r payload refusal k can few is = inr (is, is_ok_of (answer_to_cast (held_by r) payload) (next_cast r.state.seat (facts_held r) payload) (cast_next r payload k can few))
+pub no_memory : (r : Recorder) (load : Load) (refusal : CastRefusal) → IsKept r → CanCast r.state load → length r.entries.items < r.limit → refusal ≡ casts.NoMemory → RefusesExactly (held_by r) load refusal
+no_memory r load refusal k can few is = inr (is, is_ok_of (answer_to_cast (held_by r) load) (next_cast r.state.seat (facts_held r) load) (cast_next r load k can few))
 
 -- ---- a cast that can be entered
 
@@ -93,23 +94,23 @@ moved : (P : Identity → List Fact → Type 0) (old new : Recorder) → new.sta
 moved P old new seat entries p =
     subst (λ (s : Identity). P s (facts_held new)) (sym seat) (subst (P old.state.seat) (sym (same_facts old new entries)) p)
 
-pub can_enter_cast : (old mid new : Recorder) (payload frame time : List ℕ) (casting : Casting) → IsKept old → IsBytes payload → CanCast old.state payload → length old.entries.items < old.limit
-    → MakesCasting old.state payload casting → IsSameButBlock old.state mid.state → mid.limit ≡ old.limit → mid.entries ≡ old.entries → mid.events ≡ old.events
-    → IsSame mid new → HasRoom 1 new → frame ≡ casting.out → time ≡ casting.message.time → CanEnterCast payload new (record { casting = casting; entry = entries.Cast frame; time = time })
-can_enter_cast old mid new payload frame time casting k bytes can few makes block limit entries_same events_same same room copied at =
+pub can_enter_cast : (old mid new : Recorder) (load : Load) (frame time : List ℕ) (casting : Casting) → IsKept old → IsBytes (load_bytes load) → CanCast old.state load → length old.entries.items < old.limit
+    → MakesCasting old.state load casting → IsSameButBlock old.state mid.state → mid.limit ≡ old.limit → mid.entries ≡ old.entries → mid.events ≡ old.events
+    → IsSame mid new → HasRoom 1 new → frame ≡ casting.out → time ≡ casting.message.time → CanEnterCast load new (record { casting = casting; entry = entries.Cast frame; time = time })
+can_enter_cast old mid new load frame time casting k bytes can few makes block limit entries_same events_same same room copied at =
     let state : new.state ≡ record old.state { block = mid.state.block } = same.state ∙ block in
     let seat : new.state.seat ≡ old.state.seat = ap (λ (s : State). s.seat) state in
     let items : new.entries.items ≡ old.entries.items = same.entries ∙ ap (λ v. v.items) entries_same in
     let kept = kept_with_room mid new same (kept_with_block old mid k block limit entries_same events_same) in
-    let can_now : CanCast new.state payload = record { short = can.short; room = subst (λ (s : State). 0 < room_of s.sending.window) (sym state) can.room } in
+    let can_now : CanCast new.state load = record { short = can.short; room = subst (λ (s : State). length (payloads_of load) ≤ room_of s.sending.window) (sym state) can.room } in
     let few_now : length new.entries.items < new.limit =
     (let many = ap (λ (es : List Entry). length es) items in let most = same.limit ∙ limit in omega (arith, few, many, most)) in
-    let made : IsCasting new.state.seat (facts_held new) payload casting =
-    moved (λ (s : Identity) (fs : List Fact). IsCasting s fs payload casting) old new seat items (makes (facts_held old) (facts_kept old k) k.keeps) in
+    let made : IsCasting new.state.seat (facts_held new) load casting =
+    moved (λ (s : Identity) (fs : List Fact). IsCasting s fs load casting) old new seat items (makes (facts_held old) (facts_kept old k) k.keeps) in
     record {
       kept = kept;
       bytes = bytes;
-      answer = cast_next new payload kept can_now few_now;
+      answer = cast_next new load kept can_now few_now;
       can = can_now;
       few = few_now;
       casting = made;
@@ -123,37 +124,36 @@ can_enter_cast old mid new payload frame time casting k bytes can few makes bloc
 pub counts_long : (size : ℕ) (seen : List Carried) → length (counts size seen) ≡ size
 counts_long size seen = length-map-range_with_len (count seen) 0 size
 
-pub can_keep_cast : (r : Recorder) (payload : List ℕ) (entering : EnteringCast) → CanEnterCast payload r entering → CanKeepCast entering.time entering.casting.sent r.state
-can_keep_cast r payload entering can = record {
+pub can_keep_cast : (r : Recorder) (load : Load) (entering : EnteringCast) → CanEnterCast load r entering → CanKeepCast entering.time entering.casting.sent r.state
+can_keep_cast r load entering can = record {
   state_is = state_kept r can.kept;
-  room = can.can.room;
+  room = omega (arith, can.can.room, load_has_some load);
   size = ap (λ (time : List ℕ). length time) (can.time ∙ ap (λ (m : Message). m.time) can.casting.message) ∙ counts_long r.state.seat.group.size _;
 }
 
 -- the time with the cast is what its frame tells
-pub cast_event : (seat : Identity) (facts : List Fact) (payload : List ℕ) → AreFactsOf seat (facts ++ OwnCast (next_cast seat facts payload) ∷ [])
-    → new_events seat facts (OwnCast (next_cast seat facts payload)) ≡ Cast (next_message seat facts payload) ∷ []
-cast_event seat facts payload are =
-    let c = next_cast seat facts payload in
-    let tells : expanded_time seat.group.size (casts_in facts ++ c ∷ []) seat.me (delivered seat facts seat.me + 1) ≡ next_time seat facts payload =
+pub cast_event : (seat : Identity) (facts : List Fact) (load : Load) → AreFactsOf seat (facts ++ OwnCast (next_cast seat facts load) ∷ [])
+    → new_events seat facts (OwnCast (next_cast seat facts load)) ≡ Cast (next_message seat facts load) ∷ []
+cast_event seat facts load are =
+    let c = next_cast seat facts load in
+    let tells : expanded_time seat.group.size (casts_in facts ++ c ∷ []) seat.me (delivered seat facts seat.me + 1) ≡ next_time seat facts load =
     ap (λ (cs : List CastFields). expanded_time seat.group.size cs seat.me (delivered seat facts seat.me + 1)) (sym (casts_in-append facts (OwnCast c)))
     ∙ ap (expanded_time seat.group.size (casts_in (facts ++ OwnCast c ∷ [])) seat.me) (sym (first_is_number c))
-    ∙ own_casts_tell_the_view seat facts [] c are ∙ ap (counts seat.group.size) (view_own seat.group.size facts c)
-    ∙ ap (λ (ms : List Carried). counts seat.group.size (view seat.group.size facts ++ ms)) (carries_one c) in
+    ∙ own_casts_tell_the_view seat facts [] c are ∙ ap (counts seat.group.size) (view_own seat.group.size facts c) in
     ap (map (λ (m : Carried). Cast (message_in seat.group.size (casts_in facts ++ c ∷ []) m))) (carries_one c)
-    ∙ ap (λ (time : List ℕ). Cast (record { name = record { sender = seat.me; number = delivered seat facts seat.me + 1 }; time = time; payload = payload }) ∷ []) tells
+    ∙ ap (λ (time : List ℕ). Cast (record { name = record { sender = seat.me; number = delivered seat facts seat.me + 1 }; time = time; payload = load_bytes load }) ∷ []) tells
 
-pub cast_done_well : (old new : Recorder) (payload : List ℕ) (entering : EnteringCast) → CanEnterCast payload old entering → HasKept entering.time entering.casting.sent old.state new.state
+pub cast_done_well : (old new : Recorder) (load : Load) (entering : EnteringCast) → CanEnterCast load old entering → HasKept entering.time entering.casting.sent old.state new.state
     → new.limit ≡ old.limit → new.entries.items ≡ old.entries.items ++ entering.entry ∷ [] → new.events.items ≡ old.events.items ++ Cast entering.casting.message ∷ []
-    → IsCastDone payload old new entering (record { name = entering.casting.message.name; time = entering.time; out = entering.casting.out })
-cast_done_well old new payload entering can keeps limit joined cast =
+    → IsCastDone load old new entering (record { name = entering.casting.message.name; time = entering.time; out = entering.casting.out })
+cast_done_well old new load entering can keeps limit joined cast =
     let seat = old.state.seat in
     let facts = facts_held old in
-    let c = next_cast seat facts payload in
+    let c = next_cast seat facts load in
     let are = facts_kept old can.kept in
-    let written = cast_can seat facts payload are.group are.member are.facts_are (number_kept old.state facts are can.kept.keeps can.can.room) can.can.short in
-    let time : entering.time ≡ next_time seat facts payload = can.time ∙ ap (λ (m : Message). m.time) can.casting.message in
-    let adds : Adds old new (ToCast payload) entering.entry (OwnCast c) = record {
+    let written = cast_can seat facts load are.group are.member are.facts_are (left_for old.state facts load are can.kept.keeps can.can) can.can.short in
+    let time : entering.time ≡ next_time seat facts load = can.time ∙ ap (λ (m : Message). m.time) can.casting.message in
+    let adds : Adds old new (ToCast load) entering.entry (OwnCast c) = record {
       kept = can.kept;
       bytes = can.bytes;
       few = can.few;
@@ -163,14 +163,14 @@ cast_done_well old new payload entering can keeps limit joined cast =
       limit = limit;
       joined = joined;
     } in
-    let follows = facts_may_follow old new (ToCast payload) entering.entry (OwnCast c) adds in
+    let follows = facts_may_follow old new (ToCast load) entering.entry (OwnCast c) adds in
     record {
-      kept = kept_with_entry old new (ToCast payload) entering.entry (OwnCast c) adds (keeps.keeps facts payload follows can.kept.keeps time can.casting.sent)
-          (cast ∙ ap (λ (m : Message). old.events.items ++ Cast m ∷ []) can.casting.message ∙ ap (λ (es : List Event). old.events.items ++ es) (sym (cast_event seat facts payload follows)));
+      kept = kept_with_entry old new (ToCast load) entering.entry (OwnCast c) adds (keeps.keeps facts load follows can.kept.keeps time can.casting.sent)
+          (cast ∙ ap (λ (m : Message). old.events.items ++ Cast m ∷ []) can.casting.message ∙ ap (λ (es : List Event). old.events.items ++ es) (sym (cast_event seat facts load follows)));
       done_is = record {
         answer = can.answer;
         reported = rw (ap (λ (m : Message). m.name) can.casting.message, time, can.casting.out, first_is_number c, carries_one c) refl;
-        after = after_entry old new (ToCast payload) entering.entry (OwnCast c) adds;
+        after = after_entry old new (ToCast load) entering.entry (OwnCast c) adds;
       };
       entry = adds.by_call;
     }

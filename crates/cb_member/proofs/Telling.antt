@@ -4,7 +4,7 @@ use Rattle.std.specs.List.{filter, flat_map, range_with_len}
 use Rattle.cb_times.specs.Order.{field}
 use Rattle.cb_frames.specs.declared.frame.Change.{Change}
 use Rattle.cb_frames.specs.Fields.{FrameFields, StatusFields}
-use Rattle.cb_frames.specs.Text.{KeepsRules, payload_of}
+use Rattle.cb_frames.specs.Text.{KeepsRules, payload_bytes}
 use Rattle.cb_frames.specs.declared.frame.Range.{Range}
 use Rattle.cb_frames.specs.declared.frame.TheConstants.{LONGEST_PAYLOAD}
 use Rattle.cb_gaps.specs.Request.{request_for}
@@ -65,12 +65,12 @@ values_say_the_time seat facts d has =
 
 -- the request is made from the ranges as the answer says
 pub requested : (seat : Identity) (facts : List Fact) (i : ℕ) (ranges : List Range) (frame : FrameFields) → AreFactsOf seat facts → i < seat.group.size
-    → ranges ≡ ranges_of (missing seat facts i) → Some frame ≡ request_for seat.group.number seat.me i ranges → KeepsRules frame × (length (payload_of frame) ≤ LONGEST_PAYLOAD)
+    → ranges ≡ ranges_of (missing seat facts i) → Some frame ≡ request_for seat.group.number seat.me i ranges → KeepsRules frame × (length (payload_bytes frame) ≤ LONGEST_PAYLOAD)
 requested seat facts i [] frame are asked is made = absurd cc
 requested seat facts i (r ∷ ranges) frame are asked is made =
     let can = (own_frames_have_texts seat facts are).2 i r ranges asked (sym is) in
     let same : _ ≡ frame = some_frame _ _ (sym made) in
-    (subst KeepsRules same can.0, subst (λ (f : FrameFields). length (payload_of f) ≤ LONGEST_PAYLOAD) same can.1)
+    (subst KeepsRules same can.0, subst (λ (f : FrameFields). length (payload_bytes f) ≤ LONGEST_PAYLOAD) same can.1)
   where
     some_frame : (a b : FrameFields) → Some a ≡ Some b → a ≡ b
     some_frame a b e = cc

@@ -1,6 +1,6 @@
 -- What a core answers to its calls, whatever history it stands for.
 use Rattle.std.specs.Prelude.{◌≡◌, ◌≢◌, ◌⊎◌, ℕ, Bool, true, false, List, [], ◌∷◌, ◌++◌, length, map, drop, Option, Some, None, option_map, Result, Ok, Err, IfOk, IfErr, OnErr}
-use Rattle.cb_frames.specs.Fields.{CastFrame, cast_fields}
+use Rattle.cb_frames.specs.Fields.{Load, CastFrame, cast_fields}
 use Rattle.cb_frames.specs.Laws.{IsBytes}
 use Rattle.cb_history.specs.Read.{frame_read}
 use Rattle.cb_frames.specs.Text.{text_of}
@@ -14,6 +14,7 @@ use Rattle.cb_history.specs.declared.answer.CastRefusal.{CastRefusal}
 use Rattle.cb_history.specs.declared.answer.Ticked.{Ticked}
 use Rattle.cb_history.specs.declared.answer.TickRefusal.{TickRefusal}
 use Rattle.cb_history.specs.declared.history.Entry.{Entry}
+use Rattle.cb_history.specs.CastFault.{TellsFaultOf}
 use Rattle.cb_history.specs.Facts.{entry_fields}
 use Rattle.cb_history.specs.Legal.{ToCast, ToTake, ToTick}
 use Rattle.cb_history.specs.State.{MemberState, HasCast, HasTicked, RefusesArrival, RefusesTick, answer_to_arrival, answer_to_cast, entry_by, facts_in, next_in, state_after}
@@ -33,37 +34,37 @@ use Rattle.cb_member.specs.Received.{HasRoomForWanted, count_said, received_says
 
 -- ---- casts
 
--- a cast of this payload was made, and this is its entry
-pub record CastsOnEach (payload : List ℕ) (old new : Core) (noted : CastDone × Entry) : Type 0 where
-  pub goes_on : GoesOn (ToCast payload) old new
-  pub done : OnEach old (λ m. HasCast m (state_after m (ToCast payload)) payload noted.0)
-  pub entry : OnEach old (λ m. entry_by m (ToCast payload) ≡ Some (entry_fields noted.1))
+-- a cast of this load was made, and this is its entry
+pub record CastsOnEach (load : Load) (old new : Core) (noted : CastDone × Entry) : Type 0 where
+  pub goes_on : GoesOn (ToCast load) old new
+  pub done : OnEach old (λ m. HasCast m (state_after m (ToCast load)) load noted.0)
+  pub entry : OnEach old (λ m. entry_by m (ToCast load) ≡ Some (entry_fields noted.1))
 
-pub record AnswersCastOnEach (payload : List ℕ) (old new : Core) (result : Result (CastDone × Entry) CastRefusal) : Type 0 where
+pub record AnswersCastOnEach (load : Load) (old new : Core) (result : Result (CastDone × Entry) CastRefusal) : Type 0 where
   pub core : IsCore new
-  pub casts : IfOk result (CastsOnEach payload old new)
-  pub refused : IfErr result (λ refusal. OnEach old (λ m. RefusesExactly m payload refusal))
+  pub casts : IfOk result (CastsOnEach load old new)
+  pub refused : IfErr result (λ refusal. OnEach old (λ m. RefusesExactly m load refusal))
   pub same : OnErr result (new ≡ old)
 
--- a cast of this payload was made: its event joined the events, and this is its frame and its entry
-pub record JoinsCastOnEach (payload : List ℕ) (old new : Core) (before after : List Event) (cast : List ℕ × Entry) : Type 0 where
-  pub goes_on : GoesOn (ToCast payload) old new
-  pub answer : OnEach old (λ m. answer_to_cast m payload ≡ Ok (next_in m payload))
-  pub frame : OnEach old (λ m. cast.0 ≡ text_of (CastFrame (next_in m payload)))
-  pub entry : OnEach old (λ m. entry_by m (ToCast payload) ≡ Some (entry_fields cast.1))
-  pub joins : OnEach old (λ m. after ≡ before ++ Cast (next_message m.seat (facts_in m) payload) ∷ [])
+-- a cast of this load was made: its event joined the events, and this is its frame and its entry
+pub record JoinsCastOnEach (load : Load) (old new : Core) (before after : List Event) (cast : List ℕ × Entry) : Type 0 where
+  pub goes_on : GoesOn (ToCast load) old new
+  pub answer : OnEach old (λ m. answer_to_cast m load ≡ Ok (next_in m load))
+  pub frame : OnEach old (λ m. cast.0 ≡ text_of (CastFrame (next_in m load)))
+  pub entry : OnEach old (λ m. entry_by m (ToCast load) ≡ Some (entry_fields cast.1))
+  pub joins : OnEach old (λ m. after ≡ before ++ Cast (next_message m.seat (facts_in m) load) ∷ [])
 
-pub record AnswersCastInto (payload : List ℕ) (old new : Core) (before after : List Event) (result : Result (List ℕ × Entry) CastRefusal) : Type 0 where
+pub record AnswersCastInto (load : Load) (old new : Core) (before after : List Event) (result : Result (List ℕ × Entry) CastRefusal) : Type 0 where
   pub core : IsCore new
-  pub casts : IfOk result (JoinsCastOnEach payload old new before after)
-  pub refused : IfErr result (λ refusal. OnEach old (λ m. RefusesExactly m payload refusal))
+  pub casts : IfOk result (JoinsCastOnEach load old new before after)
+  pub refused : IfErr result (λ refusal. OnEach old (λ m. RefusesExactly m load refusal))
   pub same : OnErr result (new ≡ old)
   pub same_events : OnErr result (after ≡ before)
 
 -- whether the definition answers a cast, or why it refuses one
-abbrev pub MayCast : List ℕ → Core → Result (Unit {0}) CastRefusal → Type 0
-MayCast payload core (Ok done) = OnEach core (λ m. answer_to_cast m payload ≡ Ok (next_in m payload))
-MayCast payload core (Err refusal) = OnEach core (λ m. answer_to_cast m payload ≡ Err refusal)
+abbrev pub MayCast : Load → Core → Result (Unit {0}) CastRefusal → Type 0
+MayCast load core (Ok done) = OnEach core (λ m. answer_to_cast m load ≡ Ok (next_in m load))
+MayCast load core (Err refusal) = OnEach core (λ m. TellsFaultOf refusal (answer_to_cast m load))
 
 -- ---- ticks
 

@@ -1,6 +1,8 @@
 -- The calls of a core from its first one on, and what the definitions answer to them one by one.
-use Rattle.std.specs.Prelude.{◌≡◌, ℕ, ◌≤◌, List, [], ◌∷◌, length, Result, Ok, Err}
-use Rattle.cb_frames.specs.declared.frame.TheConstants.{LONGEST_PAYLOAD, LAST_NUMBER}
+use Rattle.std.specs.Prelude.{◌≡◌, ℕ, List, [], ◌∷◌, Result, Ok, Err}
+use Rattle.cb_frames.specs.declared.frame.TheConstants.{LAST_NUMBER}
+use Rattle.cb_frames.specs.Fields.{Load}
+use Rattle.cb_frames.specs.Text.{IsLoad}
 use Rattle.cb_times.specs.Order.{field}
 use Rattle.cb_delay.specs.declared.message.Message.{Message}
 use Rattle.cb_history.specs.declared.answer.ArriveRefusal.{ArriveRefusal}
@@ -20,7 +22,7 @@ use Rattle.cb_member.specs.CoreMember.{Core, GoesOn, IsCore, OnEach, StandsFor, 
 
 -- a call, and what was answered to it; of received bytes also what was delivered
 pub data AnsweredCall : Type 0 where
-  Cast : List ℕ → Result CastDone CastRefusal → AnsweredCall
+  Cast : Load → Result CastDone CastRefusal → AnsweredCall
   Take : List ℕ → Result Received ArriveRefusal → List Message → AnsweredCall
   Tick : Result Ticked TickRefusal → AnsweredCall
 
@@ -28,8 +30,8 @@ pub data AnsweredCall : Type 0 where
 
 -- the answer is the definition's for this member, or there was no memory for it
 abbrev pub IsAnswered : MemberState → AnsweredCall → Type 0
-IsAnswered m (Cast payload (Ok done)) = HasCast m (state_after m (ToCast payload)) payload done
-IsAnswered m (Cast payload (Err refusal)) = RefusesExactly m payload refusal
+IsAnswered m (Cast load (Ok done)) = HasCast m (state_after m (ToCast load)) load done
+IsAnswered m (Cast load (Err refusal)) = RefusesExactly m load refusal
 IsAnswered m (Take bytes (Ok received) messages) = HasReceivedWith m (state_after m (ToTake bytes)) bytes received messages
 IsAnswered m (Take bytes (Err refusal) messages) = RefusesArrival m bytes refusal
 IsAnswered m (Tick (Ok ticked)) = HasTicked m (state_after m ToTick) ticked
@@ -37,8 +39,8 @@ IsAnswered m (Tick (Err refusal)) = RefusesTick m refusal
 
 -- the history with a call, to which a refused one adds nothing
 abbrev pub history_with : Identity → List EntryFields → AnsweredCall → List EntryFields
-history_with seat entries (Cast payload (Ok done)) = grown_by seat entries (ToCast payload)
-history_with seat entries (Cast payload (Err refusal)) = entries
+history_with seat entries (Cast load (Ok done)) = grown_by seat entries (ToCast load)
+history_with seat entries (Cast load (Err refusal)) = entries
 history_with seat entries (Take bytes (Ok received) messages) = grown_by seat entries (ToTake bytes)
 history_with seat entries (Take bytes (Err refusal) messages) = entries
 history_with seat entries (Tick (Ok ticked)) = grown_by seat entries ToTick
@@ -58,8 +60,8 @@ AreAnswered seat entries (a ∷ calls) = IsAnswered (unlimited seat entries) a �
 
 -- what the core is after a call that is answered so, and after a refused one
 abbrev pub GoesOnOrStays : AnsweredCall → Core → Core → Type 0
-GoesOnOrStays (Cast payload (Ok done)) old new = GoesOn (ToCast payload) old new
-GoesOnOrStays (Cast payload (Err refusal)) old new = new ≡ old
+GoesOnOrStays (Cast load (Ok done)) old new = GoesOn (ToCast load) old new
+GoesOnOrStays (Cast load (Err refusal)) old new = new ≡ old
 GoesOnOrStays (Take bytes (Ok received) messages) old new = GoesOn (ToTake bytes) old new
 GoesOnOrStays (Take bytes (Err refusal) messages) old new = new ≡ old
 GoesOnOrStays (Tick (Ok ticked)) old new = GoesOn ToTick old new
@@ -84,8 +86,8 @@ CoresAnswerByTheirHistory =
     (calls : List AnsweredCall) (first last : Core) → StandsFor [] first → Calls calls first last
     → AreAnswered first.seat [] calls × StandsFor (history_after_all first.seat [] calls) last
 
--- once a core has cast as often as there are numbers, each further cast of a payload that is not too long finds the window full
+-- once a core has cast as often as there are numbers, each further cast of a load that is not too long finds the window full
 abbrev pub NoNumberIsLeft : Type 0
 NoNumberIsLeft =
-    (payload : List ℕ) (result : Result CastDone CastRefusal) (old new : Core) → IsCore old → field old.time old.seat.me ≡ LAST_NUMBER → length payload ≤ LONGEST_PAYLOAD
-    → IsCall (Cast payload result) old new → result ≡ Err casts.WindowFull
+    (load : Load) (result : Result CastDone CastRefusal) (old new : Core) → IsCore old → field old.time old.seat.me ≡ LAST_NUMBER → IsLoad load
+    → IsCall (Cast load result) old new → result ≡ Err casts.WindowFull

@@ -3,7 +3,7 @@
 use Rattle.std.specs.Prelude.{◌≡◌, ℕ, ◌<◌, List, [], ◌∷◌, ◌++◌, length, Some, slice_get}
 use Rattle.std.specs.FinMap as fin
 use Rattle.cb_times.specs.Order.{field}
-use Rattle.cb_frames.specs.Fields.{CastFields, first_number}
+use Rattle.cb_frames.specs.Fields.{load_bytes, CastFields, first_number}
 use Rattle.cb_delay.specs.declared.message.Message.{Message}
 use Rattle.cb_delay.specs.declared.message.Event.{Event}
 use Rattle.cb_delay.specs.Queue.{Holds, IsDelayQueue}
@@ -45,7 +45,7 @@ pub record TakesAt (c : CastFields) (time : List ℕ) (r : Reception) : Type 0 w
 
 -- its message, where this is its time
 abbrev pub message_at : CastFields → List ℕ → Message
-message_at c time = reported c time c.payload
+message_at c time = reported c time (load_bytes c.load)
 
 -- as if it had been kept with some spare, and been taken out then, with none behind it
 pub record TakesInOrder (c : CastFields) (old new : Reception) (message : Message) : Type 0 where

@@ -3,7 +3,7 @@
 use Rattle.std.specs.Prelude.{◌≡◌, ◌≢◌, ℕ, ◌+◌, ◌-◌, ◌<◌, ◌≤◌, ◌==◌, true, List, [], ◌∷◌, ◌++◌, length, map, max, Some, slice_get, slice_set, if◌then◌else◌}
 use Rattle.std.specs.FinMap as fin
 use Rattle.cb_times.specs.Order.{field}
-use Rattle.cb_frames.specs.Fields.{CastFields, Carried, first_number, last_number}
+use Rattle.cb_frames.specs.Fields.{load_bytes, CastFields, Carried, first_number, last_number}
 use Rattle.cb_delay.specs.declared.message.Message.{Message}
 use Rattle.cb_delay.specs.Message.{IsOfGroup}
 use Rattle.cb_delay.specs.Queue.{Queue, IsDelayQueue, FollowsLast, count_of}
@@ -104,7 +104,7 @@ reported c time payload = record { name = record { sender = c.sender; number = f
 pub record Tells (c : CastFields) (old new : List (List ℕ)) (message : Message) : Type 0 where
   pub time : List ℕ
   pub expands : Expands old c time new
-  pub message_is : message ≡ reported c time c.payload
+  pub message_is : message ≡ reported c time (load_bytes c.load)
 
 -- ---- as long as there is a next one
 

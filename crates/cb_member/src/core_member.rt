@@ -2,7 +2,7 @@
 
 ghost use Rattle.std.specs.Prelude.{◌≡◌, ◌≢◌, ◌↔◌, ◌⊎◌, ◌≤◌, ◌<◌, [], ◌∷◌, ◌++◌, length, IfOk, IfErr, OnErr, OnOk, Some, None, Ok, Err, true, false, option_map};
 ghost use Rattle.cb_delay.specs.declared.message.Event.TheVariants.{Cast as Cast_event};
-ghost use Rattle.cb_frames.specs.Fields.{CastFrame};
+ghost use Rattle.cb_frames.specs.Fields.{One, CastFrame};
 ghost use Rattle.cb_frames.specs.Text.{text_of};
 ghost use Rattle.cb_history.specs.Answers.{is_new_status};
 ghost use Rattle.cb_history.specs.Group.{IsIdentity};
@@ -135,13 +135,13 @@ impl CoreMember {
     /// place of a cast.
     pub fn cast(&mut self, payload: &[u8]) -> Result<CastDone, CastRefusal>
         ensures done { IfOk result (λ done. OnEach self.old (λ m.
-            HasCast m (state_after m (ToCast payload.now)) payload.now done)) }
-        ensures goes_on { OnOk result (GoesOn (ToCast payload.now) self.old self.new) }
+            HasCast m (state_after m (ToCast (One payload.now))) (One payload.now) done)) }
+        ensures goes_on { OnOk result (GoesOn (ToCast (One payload.now)) self.old self.new) }
         ensures refused { IfErr result (λ refusal. OnEach self.old (λ m.
-            RefusesExactly m payload.now refusal)) }
+            RefusesExactly m (One payload.now) refusal)) }
         ensures no_limit { result ≢ Err CastRefusal.HistoryFull }
         ensures same { OnErr result (self.new ≡ self.old) }
-        ensures call { IsCall (Cast payload.now result) self.old self.new }
+        ensures call { IsCall (Cast (One payload.now) result) self.old self.new }
     {
         let (done, _entry) = self.cast_noted(payload)?;
         Ok(done)
@@ -150,12 +150,12 @@ impl CoreMember {
     /// Casts a payload as `cast` does, and hands out the entry that a history would have of it.
     pub fn cast_noted(&mut self, payload: &[u8]) -> Result<(CastDone, Entry), CastRefusal>
         ensures done { IfOk result (λ noted. OnEach self.old (λ m.
-            HasCast m (state_after m (ToCast payload.now)) payload.now noted.0)) }
+            HasCast m (state_after m (ToCast (One payload.now))) (One payload.now) noted.0)) }
         ensures entry { IfOk result (λ noted. OnEach self.old (λ m.
-            entry_by m (ToCast payload.now) ≡ Some (entry_fields noted.1))) }
-        ensures goes_on { OnOk result (GoesOn (ToCast payload.now) self.old self.new) }
+            entry_by m (ToCast (One payload.now)) ≡ Some (entry_fields noted.1))) }
+        ensures goes_on { OnOk result (GoesOn (ToCast (One payload.now)) self.old self.new) }
         ensures refused { IfErr result (λ refusal. OnEach self.old (λ m.
-            RefusesExactly m payload.now refusal)) }
+            RefusesExactly m (One payload.now) refusal)) }
         ensures no_limit { result ≢ Err CastRefusal.HistoryFull }
         ensures same { OnErr result (self.new ≡ self.old) }
     {
@@ -170,16 +170,16 @@ impl CoreMember {
         events: &mut Vec<Event>,
     ) -> Result<(Bytes, Entry), CastRefusal>
         ensures answer { OnOk result (OnEach self.old (λ m.
-            answer_to_cast m payload.now ≡ Ok (next_in m payload.now))) }
+            answer_to_cast m (One payload.now) ≡ Ok (next_in m (One payload.now)))) }
         ensures frame { IfOk result (λ cast. OnEach self.old (λ m.
-            cast.0 ≡ text_of (CastFrame (next_in m payload.now)))) }
+            cast.0 ≡ text_of (CastFrame (next_in m (One payload.now))))) }
         ensures entry { IfOk result (λ cast. OnEach self.old (λ m.
-            entry_by m (ToCast payload.now) ≡ Some (entry_fields cast.1))) }
+            entry_by m (ToCast (One payload.now)) ≡ Some (entry_fields cast.1))) }
         ensures joins { OnOk result (OnEach self.old (λ m. events.new.items ≡ events.old.items
-            ++ Cast_event (next_message m.seat (facts_in m) payload.now) ∷ [])) }
-        ensures goes_on { OnOk result (GoesOn (ToCast payload.now) self.old self.new) }
+            ++ Cast_event (next_message m.seat (facts_in m) (One payload.now)) ∷ [])) }
+        ensures goes_on { OnOk result (GoesOn (ToCast (One payload.now)) self.old self.new) }
         ensures refused { IfErr result (λ refusal. OnEach self.old (λ m.
-            RefusesExactly m payload.now refusal)) }
+            RefusesExactly m (One payload.now) refusal)) }
         ensures no_limit { result ≢ Err CastRefusal.HistoryFull }
         ensures same { OnErr result (self.new ≡ self.old) }
         ensures same_events { OnErr result (events.new.items ≡ events.old.items) }
@@ -190,7 +190,7 @@ impl CoreMember {
     /// Whether `cast` would cast the payload, if there is memory for it; else why not. This takes
     /// no memory.
     pub fn may_cast(&self, payload: &[u8]) -> Result<(), CastRefusal>
-        ensures { MayCast payload.now self.now result }
+        ensures { MayCast (One payload.now) self.now result }
     {
         self.state.judge_payload(payload)
     }

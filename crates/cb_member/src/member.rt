@@ -1,6 +1,7 @@
 //! The member, and what is read of it.
 
 ghost use Rattle.std.specs.Prelude.{◌≡◌, ◌≢◌, ◌↔◌, ◌⊎◌, ◌≤◌, ◌<◌, [], IfOk, IfErr, OnErr, Some, Err, map, option_map};
+ghost use Rattle.cb_frames.specs.Fields.{One};
 ghost use Rattle.cb_history.specs.Group.{IsIdentity};
 ghost use Rattle.cb_history.specs.Legal.{longest_history, ToCast, ToTake, ToTick};
 ghost use Rattle.cb_history.specs.LegalHistory.{IsLegalHistory};
@@ -136,8 +137,8 @@ impl Member {
     /// A refusal is that of the definition, in the order of `CastRefusal`; `NoMemory` stands only in place of a cast. After a refusal
     /// the member is as it was.
     pub fn cast(&mut self, payload: &[u8]) -> Result<CastDone, CastRefusal>
-        ensures done { IfOk result (HasCast self.old self.new payload.now) }
-        ensures refused { IfErr result (RefusesExactly self.old payload.now) }
+        ensures done { IfOk result (HasCast self.old self.new (One payload.now)) }
+        ensures refused { IfErr result (RefusesExactly self.old (One payload.now)) }
         ensures same { OnErr result (self.new ≡ self.old) }
     {
         self.recorder.cast(payload)
@@ -145,10 +146,10 @@ impl Member {
 
     /// Casts a payload as `cast` does, and hands out a copy of the entry that was added.
     pub fn cast_noted(&mut self, payload: &[u8]) -> Result<(CastDone, Entry), CastRefusal>
-        ensures done { IfOk result (λ noted. HasCast self.old self.new payload.now noted.0) }
-        ensures entry { IfOk result (λ noted. entry_by self.old (ToCast payload.now)
+        ensures done { IfOk result (λ noted. HasCast self.old self.new (One payload.now) noted.0) }
+        ensures entry { IfOk result (λ noted. entry_by self.old (ToCast (One payload.now))
             ≡ Some (entry_fields noted.1)) }
-        ensures refused { IfErr result (RefusesExactly self.old payload.now) }
+        ensures refused { IfErr result (RefusesExactly self.old (One payload.now)) }
         ensures same { OnErr result (self.new ≡ self.old) }
     {
         self.recorder.cast_noted(payload)

@@ -1,12 +1,12 @@
 //! Casting: what a cast is made of before anything changes, and what is kept of it.
 
 ghost use Rattle.std.specs.Prelude.{◌≡◌, ◌<◌, ℕ, List, IfOk};
-ghost use Rattle.cb_frames.specs.Fields.{cast_fields};
-ghost use Rattle.cb_frames.specs.Text.{with_payload};
+ghost use Rattle.cb_frames.specs.Fields.{Load, One, cast_fields};
+ghost use Rattle.cb_frames.specs.Text.{with_load};
 ghost use Rattle.cb_stability.specs.Sent.{room_of};
 ghost use Rattle.cb_history.specs.Answers.{next_cast};
 ghost use Rattle.cb_member.specs.State.{IsState, OnAll};
-ghost use Rattle.cb_member.specs.Casting.{next_message, CanCast, JudgesPayload, MakesCasting, IsSameButBlock, CanKeepCast, HasKept};
+ghost use Rattle.cb_member.specs.Casting.{next_message, CanCast, JudgesLoad, MakesCasting, IsSameButBlock, CanKeepCast, HasKept};
 
 use crate::state::State;
 use crate::text::{another, cast_text, payload_in};
@@ -31,7 +31,7 @@ impl State {
     /// Whether the payload may be cast. This takes no memory, and how much room the history has is not asked.
     pub fn judge_payload(&self, payload: &[u8]) -> Result<(), CastRefusal>
         requires { IsState self.now }
-        ensures { JudgesPayload self.now payload.now result }
+        ensures { JudgesLoad self.now (One payload.now) result }
     {
         if payload.len() > LONGEST_PAYLOAD {
             return Err(CastRefusal::PayloadTooLong);
@@ -45,8 +45,8 @@ impl State {
     /// Makes the next cast. Nothing changes but what is left of the block that its frame lies in.
     pub fn make(&mut self, payload: &[u8]) -> Result<Casting, NoMemory>
         requires state { IsState self.old }
-        requires can { CanCast self.old payload.now }
-        ensures made { IfOk result (MakesCasting self.old payload.now) }
+        requires can { CanCast self.old (One payload.now) }
+        ensures made { IfOk result (MakesCasting self.old (One payload.now)) }
         ensures same { IsSameButBlock self.old self.new }
     {
         let cast = self.next_cast()?;
@@ -60,9 +60,9 @@ impl State {
     fn next_cast(&self) -> Result<Cast, NoMemory>
         requires state { IsState self.now }
         requires room { 0 < room_of self.now.sending.window }
-        ensures { IfOk result (λ cast. OnAll self.now (λ facts. (payload : List ℕ)
-            → with_payload (cast_fields cast) payload
-            ≡ next_cast self.now.seat facts payload)) }
+        ensures { IfOk result (λ cast. OnAll self.now (λ facts. (load : Load)
+            → with_load (cast_fields cast) load
+            ≡ next_cast self.now.seat facts load)) }
     {
         let (me, now) = (self.seat.me(), &self.delivery.time);
         let changes = difference(self.alloc, &self.sending.last_cast, now, me)?;
@@ -79,10 +79,10 @@ impl State {
     fn message_of(&self, cast: &Cast, payload: Bytes) -> Result<Message, NoMemory>
         requires state { IsState self.now }
         requires room { 0 < room_of self.now.sending.window }
-        requires next { OnAll self.now (λ facts. with_payload (cast_fields cast.now) payload
-            ≡ next_cast self.now.seat facts payload) }
+        requires next { OnAll self.now (λ facts. with_load (cast_fields cast.now) (One payload)
+            ≡ next_cast self.now.seat facts (One payload)) }
         ensures { IfOk result (λ message. OnAll self.now (λ facts. message
-            ≡ next_message self.now.seat facts payload)) }
+            ≡ next_message self.now.seat facts (One payload))) }
     {
         let mut time = self.delivery.time.copy()?;
         time.add_one(self.seat.me());

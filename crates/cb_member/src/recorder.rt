@@ -1,6 +1,7 @@
 //! A member's state with its history: each call that changes the state adds its entry, and what it casts or delivers to the events.
 
 ghost use Rattle.std.specs.Prelude.{◌≡◌, ◌≤◌, IfOk, IfErr, OnOk, Some, None, length, nat_le, option_map, if◌then◌else◌};
+ghost use Rattle.cb_frames.specs.Fields.{One};
 ghost use Rattle.cb_history.specs.Facts.{entry_fields, TickEntry};
 ghost use Rattle.cb_history.specs.Group.{IsIdentity};
 ghost use Rattle.cb_history.specs.Legal.{longest_history, ToCast, ToTick};
@@ -83,7 +84,7 @@ impl Recorder {
     /// Casts a message of this payload.
     pub fn cast(&mut self, payload: &[u8]) -> Result<CastDone, CastRefusal>
         requires { IsKept self.old }
-        ensures { AnswersCast (λ done. done) payload.now self.old self.new result }
+        ensures { AnswersCast (λ done. done) (One payload.now) self.old self.new result }
     {
         let entering = self.prepare_cast(payload)?;
         Ok(self.enter_cast(entering))
@@ -92,9 +93,10 @@ impl Recorder {
     /// Casts a message of this payload, and hands out a copy of the entry that it adds.
     pub fn cast_noted(&mut self, payload: &[u8]) -> Result<(CastDone, Entry), CastRefusal>
         requires { IsKept self.old }
-        ensures answers { AnswersCast (λ noted. noted.0) payload.now self.old self.new result }
+        ensures answers { AnswersCast (λ noted. noted.0) (One payload.now) self.old self.new
+            result }
         ensures entry { IfOk result (λ noted. entry_by (held_by self.old)
-            (ToCast payload.now) ≡ Some (entry_fields noted.1)) }
+            (ToCast (One payload.now)) ≡ Some (entry_fields noted.1)) }
     {
         let entering = self.prepare_cast(payload)?;
         let noted = entering.entry.copy()?;
@@ -106,8 +108,8 @@ impl Recorder {
         requires { IsKept self.old }
         ensures kept { IsKept self.new }
         ensures same { held_by self.new ≡ held_by self.old }
-        ensures can { IfOk result (CanEnterCast payload.now self.new) }
-        ensures refused { IfErr result (RefusesExactly (held_by self.old) payload.now) }
+        ensures can { IfOk result (CanEnterCast (One payload.now) self.new) }
+        ensures refused { IfErr result (RefusesExactly (held_by self.old) (One payload.now)) }
     {
         self.state.judge_payload(payload)?;
         if self.is_full() {

@@ -2,8 +2,8 @@
 
 ghost use Rattle.std.specs.Prelude.{◌≡◌, ◌≤◌, ◌++◌, ℕ, List, IfOk, length};
 ghost use Rattle.cb_frames.specs.declared.frame.TheConstants.{LONGEST_PAYLOAD};
-ghost use Rattle.cb_frames.specs.Fields.{CastFrame, cast_fields};
-ghost use Rattle.cb_frames.specs.Text.{KeepsCastRules, text_of, with_payload};
+ghost use Rattle.cb_frames.specs.Fields.{One, CastFrame, cast_fields};
+ghost use Rattle.cb_frames.specs.Text.{KeepsCastRules, text_of, with_load};
 
 use bytes::Bytes;
 use cb_frames::{Cast, EncodeFault, FrameBlock, one_text};
@@ -15,7 +15,7 @@ pub fn cast_text(block: &mut FrameBlock, cast: &Cast, payload: &[u8]) -> Result<
     requires rules { KeepsCastRules (cast_fields cast.now) }
     requires payload { length payload.now ≤ LONGEST_PAYLOAD }
     ensures { IfOk result (λ bytes. bytes
-        ≡ text_of (CastFrame (with_payload (cast_fields cast.now) payload.now))) }
+        ≡ text_of (CastFrame (with_load (cast_fields cast.now) (One payload.now)))) }
 {
     one_text();
     match block.encode_cast(cast, payload) {

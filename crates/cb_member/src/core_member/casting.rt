@@ -1,5 +1,6 @@
 //! Own casts of a core.
 
+ghost use Rattle.cb_frames.specs.Fields.{One};
 ghost use Rattle.cb_member.specs.CoreCalls.{AnswersCastInto, AnswersCastOnEach};
 ghost use Rattle.cb_member.specs.CoreMember.{IsCore, core_of};
 
@@ -15,7 +16,7 @@ impl State {
     /// Casts a message of this payload, and tells the entry that a history would have of it.
     pub fn cast_unlimited(&mut self, payload: &[u8]) -> Result<(CastDone, Entry), CastRefusal>
         requires { IsCore (core_of self.old) }
-        ensures { AnswersCastOnEach payload.now (core_of self.old) (core_of self.new) result }
+        ensures { AnswersCastOnEach (One payload.now) (core_of self.old) (core_of self.new) result }
     {
         self.judge_payload(payload)?;
         let casting = self.make(payload)?;
@@ -40,7 +41,7 @@ impl State {
         events: &mut Vec<Event>,
     ) -> Result<(Bytes, Entry), CastRefusal>
         requires { IsCore (core_of self.old) }
-        ensures { AnswersCastInto payload.now (core_of self.old) (core_of self.new)
+        ensures { AnswersCastInto (One payload.now) (core_of self.old) (core_of self.new)
             events.old.items events.new.items result }
     {
         self.judge_payload(payload)?;

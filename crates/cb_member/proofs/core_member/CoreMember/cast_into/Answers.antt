@@ -1,15 +1,19 @@
 use Rattle.std.proofs.lemmas.Result.{IfOk-weaker}
+use Rattle.cb_frames.specs.Fields.{One}
 use Rattle.cb_member.specs.CoreMember.{core_of}
-use Rattle.cb_member.proofs.CoreCalls.{is_answered}
+use Rattle.cb_member.proofs.CoreCalls.{is_answered, is_joined}
 use Rattle.cb_member.proofs.NeverFull.{cast_into_never_full}
 use Rattle.cb_member.proofs.core_member.CoreMember.cast_into.Goals as goal
 
 pub returns-clause-answer : goal.returns-clause-answer
-returns-clause-answer c = rw (← c.self.view_is) (is_answered c.args.payload.now (core_of c.self.inside.state) _ _ _ c.cast_joining.result c.cast_joining.ensures.casts)
+returns-clause-answer c = rw (← c.self.view_is) (is_answered (One c.args.payload.now) (core_of c.self.inside.state) _ _ _ c.cast_joining.result c.cast_joining.ensures.casts)
 
 pub returns-clause-frame : goal.returns-clause-frame
 returns-clause-frame c = rw (← c.self.view_is) (IfOk-weaker c.cast_joining.result _ _ (λ cast is. is.frame) c.cast_joining.ensures.casts)
 
+pub returns-clause-joins : goal.returns-clause-joins
+returns-clause-joins c = rw (← c.self.view_is) (is_joined (One c.args.payload.now) (core_of c.self.inside.state) _ _ _ c.cast_joining.result c.cast_joining.ensures.casts)
+
 pub returns-clause-no_limit : goal.returns-clause-no_limit
 returns-clause-no_limit c =
-    cast_into_never_full c.args.payload.now (core_of c.self.inside.state) _ c.args.events.now.items _ c.cast_joining.result c.self.invariant c.cast_joining.ensures
+    cast_into_never_full (One c.args.payload.now) (core_of c.self.inside.state) _ c.args.events.now.items _ c.cast_joining.result c.self.invariant c.cast_joining.ensures

@@ -1,8 +1,8 @@
 use Rattle.std.proofs.Common.{ℕ, List, ap, subst, sym, ◌∙◌, ◌∷◌}
 use Rattle.std.specs.List.{flat_map}
 use Rattle.cb_varint.specs.Reading.{spelling}
-use Rattle.cb_frames.specs.Fields.{CastFields, CastFrame, cast_fields}
-use Rattle.cb_frames.specs.Text.{KeepsCastRules, cast_kind, cast_numbers, text_of, with_payload}
+use Rattle.cb_frames.specs.Fields.{One, CastFields, CastFrame, cast_fields}
+use Rattle.cb_frames.specs.Text.{KeepsCastRules, cast_kind, cast_numbers, text_of, with_load}
 use Rattle.cb_history.proofs.Written.{next_keeps}
 use Rattle.cb_member.specs.Casting.{next_message}
 use Rattle.cb_member.proofs.Casting.{text_ends}
@@ -11,27 +11,27 @@ use Rattle.cb_member.proofs.state.State.make.Goals as goal
 pub cast_text-requires-clause-rules : goal.cast_text-requires-clause-rules
 cast_text-requires-clause-rules c =
     let state = c.requires.state in
-    let is = c.in_ok-cast.ensures state.facts state.legal state.keeps c.args.payload.now in
+    let is = c.in_ok-cast.ensures state.facts state.legal state.keeps (One c.args.payload.now) in
     let next = subst (λ (x : CastFields). KeepsCastRules x) (sym is)
-    (next_keeps c.args.self.now.seat state.facts c.args.payload.now state.legal.group.size.at_most_sixty_four state.legal.member) in
+    (next_keeps c.args.self.now.seat state.facts (One c.args.payload.now) state.legal.group.size.at_most_sixty_four state.legal.member) in
     record { sender = next.sender; number = next.number; changes = next.changes }
 
 pub payload_in-requires : goal.payload_in-requires
 payload_in-requires c =
-    let cast = with_payload (cast_fields c.in_ok-cast.cast) c.args.payload.now in
+    let cast = with_load (cast_fields c.in_ok-cast.cast) (One c.args.payload.now) in
     (cast_kind ∷ flat_map spelling (cast_numbers cast), c.in_ok-out.ensures ∙ text_ends cast)
 
 pub message_of-requires-clause-next : goal.message_of-requires-clause-next
 message_of-requires-clause-next c facts are keeps = c.in_ok-cast.ensures facts are
-    (record { delivered = keeps.delivered; received = keeps.received; knows = keeps.knows; sent = keeps.sent }) c.in_ok-payload_in.field-0
+    (record { delivered = keeps.delivered; received = keeps.received; knows = keeps.knows; sent = keeps.sent }) (One c.in_ok-payload_in.field-0)
 
 pub returns-clause-made : goal.returns-clause-made
 returns-clause-made c facts are keeps =
-    let payload = c.args.payload.now in
-    let out = c.in_ok-out.ensures ∙ ap (λ (cast : CastFields). text_of (CastFrame cast)) (c.in_ok-cast.ensures facts are keeps payload) in
+    let load = One c.args.payload.now in
+    let out = c.in_ok-out.ensures ∙ ap (λ (cast : CastFields). text_of (CastFrame cast)) (c.in_ok-cast.ensures facts are keeps load) in
     record {
       message = c.in_ok-message.ensures facts are (record { delivered = keeps.delivered; received = keeps.received; knows = keeps.knows; sent = keeps.sent })
-          ∙ ap (λ (bytes : List ℕ). next_message c.args.self.now.seat facts bytes) c.in_ok-payload_in.ensures;
+          ∙ ap (λ (bytes : List ℕ). next_message c.args.self.now.seat facts (One bytes)) c.in_ok-payload_in.ensures;
       out = out;
       sent = c.in_ok-sent.ensures ∙ out;
     }

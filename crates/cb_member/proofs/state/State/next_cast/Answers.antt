@@ -1,4 +1,4 @@
-use Rattle.std.proofs.Common.{◌≡◌, ◌∙◌, ℕ, ap, arith, refl}
+use Rattle.std.proofs.Common.{◌≡◌, ◌∙◌, ℕ, ap, arith}
 use Rattle.cb_times.specs.Order.{field}
 use Rattle.cb_diffs.specs.Differences.{differences}
 use Rattle.cb_history.specs.Group.{Parameters}
@@ -25,9 +25,8 @@ overflow_add-result c =
     omega (arith, own_left c.args.self.now state.facts state.legal state.keeps c.requires.room, at)
 
 pub returns : goal.returns
-returns c facts are keeps payload = next_is_made c.args.self.now facts payload payload c.number.result c.me-me.result c.get.result c.in_ok-changes.changes.items are keeps
+returns c facts are keeps load = next_is_made c.args.self.now facts load c.number.result c.me-me.result c.get.result c.in_ok-changes.changes.items are keeps
     (c.number.ensures ∙ ap (λ (g : Parameters). g.number) c.group.ensures.group)
     c.me-me.ensures.me
     (c.get.ensures.field ∙ ap (field c.args.self.now.delivery.time) c.me-me.ensures.me)
     (c.in_ok-changes.ensures ∙ ap (λ (me : ℕ). differences c.args.self.now.sending.last_cast c.args.self.now.delivery.time me) c.me-me.ensures.me)
-    refl
