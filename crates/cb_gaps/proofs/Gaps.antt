@@ -6,7 +6,6 @@ use Rattle.std.proofs.lemmas.List.Kept.{AllPairs-cons}
 use Rattle.cb_frames.specs.declared.frame.Cast.{Cast}
 use Rattle.cb_frames.specs.declared.frame.Range.{Range}
 use Rattle.cb_frames.specs.Fields.{cast_fields}
-use Rattle.cb_frames.proofs.Carried.{first_is_number, last_is_number}
 use Rattle.cb_gaps.specs.Ranges.{IsWithin, AreRangesOf, gap_between}
 use Rattle.cb_gaps.specs.Lists.{first_of, last_of, Rise, IsGap}
 use Rattle.cb_gaps.proofs.Spans.{cases_covers}
@@ -136,20 +135,20 @@ gaps before last (c ∷ casts) rise =
 pub gaps_are : (before last : ℕ) (casts : List Cast) → Rise before casts → AreRangesOf (IsGap before last casts) (gaps_from before last casts)
 gaps_are before last casts rise = (gaps before last casts rise).are
 
--- one cast more of a walk, by the number that it says
+-- one cast more of a walk
 module _ (taken last before : ℕ) (c : Cast) (casts rest behind : List Cast) (so_far more : List Range) (step : rest ≡ c ∷ behind) where
-  pub one_rise : Rise before rest → Rise c.number behind
+  pub one_rise : Rise before rest → Rise (last_of c) behind
   one_rise rise =
       let now : Rise before (c ∷ behind) = subst (Rise before) step rise in
-      subst (λ (n : ℕ). Rise n behind) (last_is_number (cast_fields c)) now.2
+      now.2
 
-  pub one_gap : (end : ℕ) → end ≡ min last (c.number - 1) → more ≡ so_far ++ gap_between before end
-      → so_far ++ gaps_from before last rest ≡ gaps_from taken last casts → more ++ gaps_from c.number last behind ≡ gaps_from taken last casts
+  pub one_gap : (end : ℕ) → end ≡ min last (first_of c - 1) → more ≡ so_far ++ gap_between before end
+      → so_far ++ gaps_from before last rest ≡ gaps_from taken last casts → more ++ gaps_from (last_of c) last behind ≡ gaps_from taken last casts
   one_gap end ends made kept =
-      let same : gap_between before end ++ gaps_from c.number last behind ≡ gaps_from before last rest =
-      rw (step, ends, first_is_number (cast_fields c), last_is_number (cast_fields c)) refl in
-      ap (λ (rs : List Range). rs ++ gaps_from c.number last behind) made
-      ∙ append_assoc so_far (gap_between before end) (gaps_from c.number last behind)
+      let same : gap_between before end ++ gaps_from (last_of c) last behind ≡ gaps_from before last rest =
+      rw (step, ends) refl in
+      ap (λ (rs : List Range). rs ++ gaps_from (last_of c) last behind) made
+      ∙ append_assoc so_far (gap_between before end) (gaps_from (last_of c) last behind)
       ∙ ap (λ (rs : List Range). so_far ++ rs) same ∙ kept
 
 -- and so what a walk over all casts has made

@@ -16,7 +16,7 @@ use Rattle.cb_gaps.specs.Buffer as buffers
 use Rattle.cb_gaps.specs.Buffer.{Buffer, Covers, IsKept, IsLacking, IsAfter, IsNext}
 use Rattle.cb_gaps.specs.Ranges.{AreRangesOf}
 use Rattle.cb_gaps.proofs.OneList.{one_list}
-use Rattle.cb_gaps.proofs.Spans.{one_message, covers_first}
+use Rattle.cb_gaps.proofs.Spans.{covers_first}
 use Rattle.cb_history.specs.Group.{Identity}
 use Rattle.cb_history.specs.Facts.{Fact, casts_in, messages_in, is_there}
 use Rattle.cb_history.specs.Known.{known, expanded_count, missing, ranges_of}
@@ -66,21 +66,6 @@ pub covered_is_there : (casts : List CastFields) (c : CastFields) (i n : ℕ) �
 covered_is_there casts c i n there sender covers =
     let m = each_number_is_carried c n covers.0 covers.1 in
     message_is_there casts m.found i n (carried_there casts c m.found there m.there) (m.sender_is ∙ sender) m.number_is
-
--- the cast that begins with a message, where it carries no other
-pub record HasCast (casts : List CastFields) (i n : ℕ) : Type 0 where
-  pub cast : CastFields
-  pub there : IsIn cast casts
-  pub sender_is : cast.sender ≡ i
-  pub number_is : first_number cast ≡ n
-
-pub cast_there : (casts : List CastFields) (i n : ℕ) → is_there casts i n ≡ true → HasCast casts i n
-cast_there casts i n h =
-    let by = cast_carrying casts i n h in
-    record { cast = by.cast; there = by.there; sender_is = by.sender_is; number_is = omega (arith, by.covers.0, by.covers.1, one_message by.cast) }
-
-pub cast_is_there : (casts : List CastFields) (c : CastFields) (i n : ℕ) → IsIn c casts → c.sender ≡ i → first_number c ≡ n → is_there casts i n ≡ true
-cast_is_there casts c i n there sender begins = covered_is_there casts c i n there sender (subst (Covers c) begins (covers_first c))
 
 waiting_is_there : (casts : List CastFields) (i taken key n : ℕ) (c : CastFields) → IsWaiting casts i taken key c → Covers c n → is_there casts i n ≡ true
 waiting_is_there casts i taken key n c w covers = covered_is_there casts c i n (cast_of_is_in c casts w.there) w.sender_is covers
@@ -196,11 +181,6 @@ missing_is_lacked seat facts i number buffer h window = lacks_what_is_missing se
 pub ranges_of_singles_are_asked_for : RangesAreAskedFor
 ranges_of_singles_are_asked_for seat facts i buffer ranges h window are = ranges_of_what_is_missing seat facts (singles_in facts) (singles_are_the_same (casts_in facts)).messages i buffer h window ranges are
 
--- and where the frames themselves are kept, which carry one message each
-pub ranges_are_asked_for : (seat : Identity) (facts : List Fact) (i : ℕ) (buffer : Buffer) (ranges : List Range) → HoldsWhatWaits (casts_in facts) i buffer → buffer.window ≡ seat.group.window
-    → AreRangesOf (buffers.IsMissing buffer (delivered seat facts i) (known facts i)) ranges → ranges ≡ ranges_of (missing seat facts i)
-ranges_are_asked_for seat facts i buffer ranges h window are = ranges_of_what_is_missing seat facts (casts_in facts) refl i buffer h window ranges are
-
 -- ---- what changes it
 
 pub new_buffer_holds : NewBufferHolds
@@ -300,11 +280,6 @@ kept_single_waits casts i c old new h own single lacking after =
       kept = with_cast casts i c old h own lacking;
     })
 
--- a frame carries one message
-pub kept_cast_waits : (casts : List CastFields) (i : ℕ) (c : CastFields) (old new : Buffer) → HoldsWhatWaits casts i old → c.sender ≡ i → IsLacking old (first_number c) → IsAfter old c Kept new
-    → HoldsWhatWaits (casts ++ c ∷ []) i new
-kept_cast_waits casts i c old new h own lacking after = kept_single_waits casts i c old new h own (one_message c) lacking after
-
 pub taken_cast_is_there : TakenCastIsThere
 taken_cast_is_there casts i c old new h next takes =
     let w = is_next casts i c old h next in (
@@ -341,7 +316,7 @@ all_is_taken casts i buffer h none =
 -- ---- the singles of one cast
 
 -- what a buffer lacked it lacks when a single of another number was kept
-lacks_still : (number : ℕ) (c : CastFields) (old new : Buffer) → IsSingle c → IsAfter old c Kept new → first_number c < number → IsLacking old number → IsLacking new number
+pub lacks_still : (number : ℕ) (c : CastFields) (old new : Buffer) → IsSingle c → IsAfter old c Kept new → first_number c < number → IsLacking old number → IsLacking new number
 lacks_still number c old new single after other lacking =
     subst (λ (b : Buffer). IsLacking b number) (sym after) (record {
       not_taken = lacking.not_taken;

@@ -12,7 +12,6 @@ use Rattle.cb_frames.specs.Fields.{CastFields, CastFrame, Carried, messages_of, 
 use Rattle.cb_frames.proofs.Carried.{carries_some}
 use Rattle.cb_diffs.specs.Expansion.{greatest, growth_of, expanded_field, expanded_time, AreMembers, IsNext, Expands}
 use Rattle.cb_diffs.specs.Expansion as expander
-use Rattle.cb_gaps.proofs.Spans.{one_message}
 use Rattle.cb_diffs.proofs.Sums.{growth_of-later, growth_of-own, min_of_min}
 use Rattle.cb_history.specs.Group.{Identity}
 use Rattle.cb_history.specs.Facts.{Fact, casts_in, messages_in}
@@ -30,8 +29,8 @@ use Rattle.cb_history.proofs.Agreement.{apart, one_begins, nothing_at_zero}
 use Rattle.cb_diffs.proofs.Sums.{total}
 use Rattle.cb_history.proofs.Runs.{expanded_up_to_the_count}
 use Rattle.cb_history.proofs.Buffers.{cast_of_is_in}
-use Rattle.cb_history.proofs.Singles.{single_among, singles_are_the_same, itself}
-use Rattle.cb_history.proofs.Arrivals.{casts_are_of_the_group, singles_are_of_the_group}
+use Rattle.cb_history.proofs.Singles.{single_among, singles_are_the_same}
+use Rattle.cb_history.proofs.Arrivals.{singles_are_of_the_group}
 
 -- ---- one cast more in the sums
 
@@ -92,9 +91,6 @@ members_of seat c of =
 single_of_members : (seat : Identity) (facts : List Fact) (c : CastFields) → AreFactsOf seat facts → IsCastOf c (singles_in facts) → AreMembers seat.group.size c
 single_of_members seat facts c are there = members_of seat c (singles_are_of_the_group seat facts c are there)
 
-cast_of_members : (seat : Identity) (facts : List Fact) (c : CastFields) → AreFactsOf seat facts → IsCastOf c (casts_in facts) → AreMembers seat.group.size c
-cast_of_members seat facts c are there = members_of seat c (casts_are_of_the_group seat facts c are there)
-
 behind_is_next : (seat : Identity) (facts : List Fact) (c : CastFields) (n : ℕ) (kept : List (List ℕ)) → AreMembers seat.group.size c → first_number c ≡ n + 1 → KeepsTimeOf seat facts c.sender n kept → IsNext kept c
 behind_is_next seat facts c n kept members behind keeps = record {
   members = subst (λ (size : ℕ). AreMembers size c) (sym keeps.senders) members;
@@ -103,11 +99,6 @@ behind_is_next seat facts c n kept members behind keeps = record {
 
 pub single_behind_is_next : CastBehindIsNext
 single_behind_is_next seat facts c n kept are there behind keeps = behind_is_next seat facts c n kept (single_of_members seat facts c are there) behind keeps
-
--- a frame carries one message
-pub cast_behind_is_next : (seat : Identity) (facts : List Fact) (c : CastFields) (n : ℕ) (kept : List (List ℕ)) → AreFactsOf seat facts → IsCastOf c (casts_in facts) → first_number c ≡ n + 1
-    → KeepsTimeOf seat facts c.sender n kept → IsNext kept c
-cast_behind_is_next seat facts c n kept are there behind keeps = behind_is_next seat facts c n kept (cast_of_members seat facts c are there) behind keeps
 
 -- the time that is reported, field by field
 reported_field : (size : ℕ) (casts : List CastFields) (c : CastFields) (n k : ℕ) → NamesDiffer (messages_in casts) → IsIn c casts → first_number c ≡ n + 1 → k < size → k ≢ c.sender
@@ -162,13 +153,6 @@ pub single_tells_the_time : ExpanderTellsTheTime
 single_tells_the_time seat facts c n time old new are there keeps e =
     let within = cast_of_is_in c (singles_in facts) there in
     tells_the_time seat facts (singles_in facts) c n time old new are (singles_are_the_same (casts_in facts)) within (single_among (casts_in facts) c within) (single_of_members seat facts c are there).sender keeps e
-
--- a frame carries one message
-pub expander_tells_the_time : (seat : Identity) (facts : List Fact) (c : CastFields) (n : ℕ) (time : List ℕ) (old new : List (List ℕ)) → AreFactsOf seat facts → IsCastOf c (casts_in facts)
-    → KeepsTimeOf seat facts c.sender n old → Expands old c time new
-    → (first_number c ≡ n + 1) × (time ≡ expanded_time seat.group.size (casts_in facts) c.sender (first_number c)) × KeepsTimeOf seat facts c.sender (last_number c) new
-expander_tells_the_time seat facts c n time old new are there keeps e =
-    tells_the_time seat facts (casts_in facts) c n time old new are (itself (casts_in facts)) (cast_of_is_in c (casts_in facts) there) (one_message c) (cast_of_members seat facts c are there).sender keeps e
 
 pub other_times_are_kept : OtherTimesAreKept
 other_times_are_kept seat facts c i n time old new other keeps e = record {

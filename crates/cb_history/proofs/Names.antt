@@ -3,7 +3,7 @@ use Rattle.std.proofs.Common.{◌≡◌, ◌≢◌, ℕ, ◌+◌, ◌<◌, ◌�
 use Rattle.std.specs.List.{list_all}
 use Rattle.std.proofs.lemmas.Bool.{false_from_ne_true, eq-eqb, ltb-true, ltb-false}
 use Rattle.std.proofs.lemmas.List.{append-nil, length-append}
-use Rattle.cb_frames.specs.Fields.{load_bytes, CastFields, CastFrame, Carried, messages_of, first_number, last_number}
+use Rattle.cb_frames.specs.Fields.{CastFields, CastFrame, Carried, messages_of, first_number, last_number}
 use Rattle.cb_frames.proofs.Carried.{first_is_number, carried_up_to_the_last, carries_some, carried_is_of_cast, carried_alone, first_is_carried}
 use Rattle.cb_history.specs.Group.{Identity}
 use Rattle.cb_history.specs.Facts.{Fact, OwnCast, CastReceived, StatusReceived, OwnStatus, casts_in, messages_in, is_there}
@@ -25,10 +25,6 @@ pub record Stands (seat : Identity) (casts : List CastFields) (seen : List Carri
   pub names : NamesDiffer (messages_in casts)
   pub own_count : count seen seat.me ≡ length (messages_in own)
   pub own_numbers : NumberedFrom seat.me 1 own
-
--- the message of a cast
-abbrev pub message : CastFields → Carried
-message c = record { sender = c.sender; number = c.number; payload = load_bytes c.load }
 
 numbered_push : (me n : ℕ) (own : List CastFields) (c : CastFields) → NumberedFrom me n own → c.sender ≡ me → first_number c ≡ n + length (messages_in own) → NumberedFrom me n (own ++ c ∷ [])
 numbered_push me n [] c numbered sender number = (sender, number ∙ omega arith, tt)

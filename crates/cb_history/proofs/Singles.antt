@@ -11,7 +11,7 @@ use Rattle.cb_diffs.specs.Expansion.{greatest, growth_of, expanded_field}
 use Rattle.cb_history.specs.Facts.{casts_in, cast_in, messages_in, is_there, numbers_between}
 use Rattle.cb_history.specs.Known.{greatest_of, expanded_count}
 use Rattle.cb_history.specs.NameLaws.{NumberedFrom}
-use Rattle.cb_history.specs.Singles.{IsSingle, single_of, singles_from, singles_of, singles_among, SinglesOfOneMessage, SinglesOfSingles, SinglesAreAsMany, SinglesAreNumbered, SinglesAreSingle, SinglesWithOneMore, AreTheSame, SinglesAreTheSame}
+use Rattle.cb_history.specs.Singles.{IsSingle, single_of, singles_from, singles_of, singles_among, SinglesOfOneMessage, SinglesOfSingles, SinglesAreAsMany, SinglesAreNumbered, SinglesAreSingle, SinglesWithOneMore, SinglesAreTheSame}
 use Rattle.cb_history.proofs.Views.{IsIn, casts_in-append}
 use Rattle.cb_history.proofs.Lists.{flat_map-append, in_append}
 use Rattle.cb_history.proofs.Times.{same_over_range}
@@ -176,9 +176,6 @@ same_sums (c ∷ casts) i n k =
 
 same_fields : (casts : List CastFields) (i n k : ℕ) → expanded_field (singles_among casts) i n k ≡ expanded_field casts i n k
 same_fields casts i n k = ap (λ (sum : ℕ). cond (eqb k i) n (min greatest sum)) (same_sums casts i n k)
-
-pub itself : (casts : List CastFields) → AreTheSame casts casts
-itself casts = record { messages = refl; there = λ i n. refl; can_be_expanded = λ m. refl; expanded = refl; counts = λ i. refl; fields = λ i n k. refl; times = λ size i n. refl }
 
 pub singles_are_the_same : SinglesAreTheSame
 singles_are_the_same casts =

@@ -1,5 +1,5 @@
 -- What a copy of a state delivers is what the state itself delivers.
-use Rattle.std.proofs.Common.{◌≡◌, ℕ, List, [], ◌∷◌, ◌++◌, length, map, Result, Ok, Err, refl, sym, ap, ◌∙◌}
+use Rattle.std.proofs.Common.{◌≡◌, ℕ, List, [], ◌∷◌, ◌++◌, length, map, Result, Ok, Err, refl, sym, ap, subst, ◌∙◌}
 use Rattle.std.specs.Prelude.{IfOk}
 use Rattle.std.specs.declared.vec.Vec.{Vec}
 use Rattle.std.specs.declared.alloc.Global.{Global}
@@ -16,14 +16,19 @@ use Rattle.cb_member.specs.Course.{CanLetGoAt, HoldsAtMost}
 use Rattle.cb_member.specs.Foreseen.{AreDeliveries}
 use Rattle.cb_member.specs.Knowledge.{delivered_by}
 use Rattle.cb_member.specs.Reception.{HasPlaceFor}
+use Rattle.cb_member.specs.Singles.{AreSparesFor}
 use Rattle.cb_member.specs.State.{IsAlike}
 use Rattle.cb_member.specs.Taking.{CanTakeIn}
 use Rattle.cb_member.proofs.Alike.{can_follow_alike, holds_alike, keeps_alike, legal_alike}
 
-pub can_let_go : (c : CastFields) (count : ℕ) (spare : List ℕ) (old twin : State) → IsAlike old twin → CanLetGoAt c count old → length spare ≡ old.seat.group.size → HasPlaceFor c.sender twin.reception
-    → CanTakeIn c spare twin × HoldsAtMost c twin count
-can_let_go c count spare old twin same can long place = (
-  record { can = can_follow_alike c old twin same can.can; size = long ∙ ap (λ (seat : Identity). seat.group.size) (sym same.seat); place = place },
+pub can_let_go : (c : CastFields) (count : ℕ) (spares : List (List ℕ)) (old twin : State) → IsAlike old twin → CanLetGoAt c count old → AreSparesFor c old.seat.group.size spares
+    → HasPlaceFor c.sender (length spares) twin.reception → CanTakeIn c spares twin × HoldsAtMost c twin count
+can_let_go c count spares old twin same can spares_are place = (
+  record {
+    can = can_follow_alike c old twin same can.can;
+    spares_are = subst (λ (seat : Identity). AreSparesFor c seat.group.size spares) (sym same.seat) spares_are;
+    place = place;
+  },
   holds_alike c count old twin same can.holds,
 )
 

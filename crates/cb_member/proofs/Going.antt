@@ -3,7 +3,7 @@ use Rattle.std.proofs.Common.{◌≡◌, ℕ, ◌≤◌, max, inl, inr, List, []
 use Rattle.std.specs.FinMap as fin
 use Rattle.cb_times.specs.Order.{field}
 use Rattle.cb_times.specs.Time.{IsRaised}
-use Rattle.cb_frames.specs.Fields.{Carried, CastFields}
+use Rattle.cb_frames.specs.Fields.{Carried, CastFields, last_number}
 use Rattle.cb_delay.specs.declared.message.Event.{Event}
 use Rattle.cb_delay.specs.declared.message.Message.{Message}
 use Rattle.cb_delay.specs.Message.{name_cmp}
@@ -41,7 +41,7 @@ waits_so c old new takes none events = record { waits = new.delivery; takes_in =
 
 -- ---- before its turn
 
-module _ (c : CastFields) (spare : List ℕ) (old new : State) (early : IsEarly c spare old) (takes : TakesInCast c old new) where
+module _ (c : CastFields) (spares : List (List ℕ)) (old new : State) (early : IsEarly c spares old) (takes : TakesInCast c old new) where
   can : CanFollow c old
   can = early.can.can
 
@@ -81,7 +81,7 @@ module _ (c : CastFields) (spare : List ℕ) (old new : State) (early : IsEarly 
 -- ---- in order
 
 module _ (c : CastFields) (time : List ℕ) (old : State) (has : HasTime c time old) (reception : Reception) (known_then : Knowledge) (message : Message)
-    (takes : TakesInOrder c old.reception reception message) (is : message ≡ message_at c time) (hears : Hears c.sender c.number old.knowledge known_then) where
+    (takes : TakesInOrder c old.reception reception message) (is : message ≡ message_at c time) (hears : Hears c.sender (last_number c) old.knowledge known_then) where
   pub has_its_turn : HasTurn old.delivery.queue message
   has_its_turn = passing_has_turn c old reception known_then message has.can takes hears
 
@@ -121,7 +121,7 @@ module _ (c : CastFields) (time : List ℕ) (old new : State) (must : MustWait c
 -- ---- in order, and delivered alone
 
 module _ (c : CastFields) (time : List ℕ) (old : State) (goes : GoesAlone c time old) (reception : Reception) (known_then : Knowledge) (message : Message)
-    (takes : TakesInOrder c old.reception reception message) (is : message ≡ message_at c time) (hears : Hears c.sender c.number old.knowledge known_then) where
+    (takes : TakesInOrder c old.reception reception message) (is : message ≡ message_at c time) (hears : Hears c.sender (last_number c) old.knowledge known_then) where
   pub is_alone : IsAlone message old.delivery
   is_alone = subst (λ (x : Message). IsAlone x old.delivery) (sym is) (record {
     turn = subst (HasTurn old.delivery.queue) is (passing_has_turn c old reception known_then message goes.has_time.can takes hears);

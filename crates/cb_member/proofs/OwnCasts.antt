@@ -1,5 +1,5 @@
 -- What is kept is so of the facts with an own cast.
-use Rattle.std.proofs.Common.{◌≡◌, ◌≢◌, ℕ, Bool, true, false, List, ◌∷◌, [], ◌++◌, length, None, sym, ap, subst, ◌∙◌, arith}
+use Rattle.std.proofs.Common.{◌≡◌, ◌≢◌, ℕ, Bool, true, false, List, ◌∷◌, [], ◌++◌, length, None, refl, sym, ap, subst, ◌∙◌, arith}
 use Rattle.cb_frames.specs.Fields.{Load, CastFields}
 use Rattle.cb_frames.proofs.Carried.{carries_one}
 use Rattle.cb_stability.specs.Sent.{Sent, Puts}
@@ -11,12 +11,13 @@ use Rattle.cb_history.specs.Answers.{next_cast, last_status}
 use Rattle.cb_history.specs.LegalFacts.{AreFactsOf}
 use Rattle.cb_history.specs.BufferLaws.{HoldsWhatWaits}
 use Rattle.cb_history.specs.ExpanderLaws.{KeepsTimeOf}
+use Rattle.cb_history.specs.Singles.{singles_in}
 use Rattle.cb_history.proofs.Views.{casts_in-append}
 use Rattle.cb_history.proofs.Walks.{view_own}
 use Rattle.cb_history.proofs.Delivering.{views_are_on_the_way}
 use Rattle.cb_history.proofs.Taking.{own_facts_leave_waiting}
 use Rattle.cb_history.proofs.Times.{upto_own}
-use Rattle.cb_history.proofs.Buffers.{others_do_not_wait}
+use Rattle.cb_history.proofs.Buffers.{other_singles_do_not_wait}
 use Rattle.cb_history.proofs.Runs.{others_expand_nothing}
 use Rattle.cb_history.proofs.Expanders.{kept_times_stay}
 use Rattle.cb_history.proofs.RisingByCasts.{own_cast_tells_nothing}
@@ -32,6 +33,7 @@ use Rattle.cb_member.specs.Knowledge.{KnowsFacts}
 use Rattle.cb_member.specs.Sending.{TellsLast, HasSent}
 use Rattle.cb_member.specs.State.{HasDelivered, Keeps}
 use Rattle.cb_member.specs.Casting.{next_time, next_text}
+use Rattle.cb_member.proofs.Receiving.{singles_with_cast}
 
 abbrev with_cast : Identity → List Fact → Load → List Fact
 with_cast seat facts load = facts ++ OwnCast (next_cast seat facts load) ∷ []
@@ -64,7 +66,8 @@ received_with_cast seat facts load r are has =
     sym (ap (λ (cs : List CastFields). expanded_count cs i) (casts_with seat facts load) ∙ others_expand_nothing (casts_in facts) c i (others i other)) in
     record {
       senders = has.senders;
-      waits = λ i b at other. subst (λ (cs : List CastFields). HoldsWhatWaits cs i b) (sym (casts_with seat facts load)) (others_do_not_wait (casts_in facts) i c b (has.waits i b at other) (others i other));
+      waits = λ i b at other. subst (λ (singles : List CastFields). HoldsWhatWaits singles i b) (sym (singles_with_cast facts (OwnCast c) c refl))
+          (other_singles_do_not_wait (singles_in facts) i c b (has.waits i b at other) (others i other));
       taken_are = λ i b at other. has.taken_are i b at other ∙ count i other;
       windows = has.windows;
       times = λ i lt other. subst (λ (n : ℕ). KeepsTimeOf seat (with_cast seat facts load) i n r.expander) (count i other)

@@ -4,36 +4,39 @@ use Rattle.std.specs.FinMap as fin
 use Rattle.std.specs.declared.vec.Vec.{Vec}
 use Rattle.std.specs.declared.alloc.Global.{Global}
 use Rattle.std.proofs.lemmas.Bool.{cases_eq, cases_lt, eq-eqb}
-use Rattle.std.proofs.lemmas.List.{length-set, length-replicate, map-set, get_or-set_same, get_or-set_other}
+use Rattle.std.proofs.lemmas.List.{append-nil, length-set, length-replicate, map-set, get_or-set_same, get_or-set_other}
+use Rattle.std.proofs.lemmas.List.Elements.{All-nil, All-cons}
 use Rattle.std.proofs.lemmas.Option.{slice_get_within}
 use Rattle.cb_times.specs.Order.{field}
-use Rattle.cb_times.specs.declared.name.Name.{Name}
 use Rattle.cb_frames.specs.Fields.{CastFields, first_number, last_number}
-use Rattle.cb_frames.proofs.Carried.{first_is_number}
+use Rattle.cb_frames.proofs.Carried.{carried_up_to_the_last, carries_some}
 use Rattle.cb_delay.specs.declared.message.Message.{Message}
 use Rattle.cb_delay.specs.Rule.{IsReady}
 use Rattle.cb_diffs.specs.Expansion.{IsNext as IsNextCast}
-use Rattle.cb_gaps.specs.declared.buffer.Admission.TheVariants.{Kept}
-use Rattle.cb_gaps.specs.Buffer.{Buffer, Admits}
+use Rattle.cb_gaps.specs.Buffer.{Buffer}
 use Rattle.cb_gaps.proofs.Passing.{with_cast, is_not_kept, passing_is_next, passing_takes}
 use Rattle.cb_history.specs.Facts.{Fact, CastReceived, casts_in}
 use Rattle.cb_history.specs.View.{count, view}
 use Rattle.cb_history.specs.Known.{expanded_count}
+use Rattle.cb_history.specs.BufferLaws.{AreKept}
 use Rattle.cb_history.specs.LegalFacts.{AreFactsOf}
+use Rattle.cb_history.specs.Singles.{IsSingle, singles_of, singles_in}
 use Rattle.cb_history.proofs.Buffers.{all_is_taken}
 use Rattle.cb_history.proofs.Delivering.{in_field, past_fields}
 use Rattle.cb_history.proofs.Prefixes.{prefix_of_facts_is_legal}
 use Rattle.cb_history.proofs.RisingByCasts.{delivered_is_known}
+use Rattle.cb_history.proofs.Singles.{singles_are_the_same, singles_of_singles}
 use Rattle.cb_member.specs.declared.delivery.Delivery.{Delivery}
 use Rattle.cb_member.specs.declared.knowledge.Knowledge.{Knowledge}
 use Rattle.cb_member.specs.declared.reception.Reception.{Reception}
 use Rattle.cb_member.specs.declared.state.State.{State}
 use Rattle.cb_member.specs.Delivery.{IsWaiting}
 use Rattle.cb_member.specs.Reception.{HasReceived, spares_in}
+use Rattle.cb_member.specs.Singles.{AreSparesFor}
 use Rattle.cb_member.specs.State.{Keeps}
 use Rattle.cb_member.specs.Taking.{KeepsCast, HasNoNextOf, Tells, HasTurn, Hears, OnlyTakesIn, TakesIn, IsTakingIn, TakesAll, HasTakenIn, TakesInCast, CanFollow, one_more, taken_with}
 use Rattle.cb_member.specs.Passing.{IsInOrder, CanTakeInOrder, TakesInOrder, HoldsIt}
-use Rattle.cb_member.proofs.Receiving.{GivesNext, written_back, at_written, IsReported, one_buffer, kept_cast, next_is_reported, its_turn}
+use Rattle.cb_member.proofs.Receiving.{GivesNext, written_back, at_written, IsReported, kept_cast, next_is_reported, its_turn}
 use Rattle.cb_member.proofs.TakingIn.{of_other, of_member, TakesOne, expanded_then, takes_on, none_taken_yet, all_taken, begins, ends, only_alike, time_fits_known, message_has_turn, sender_is_heard_of}
 
 -- ---- lists that are written over
@@ -59,13 +62,18 @@ with_at v i a = record v { items = set v.items i a; ok = (v.ok.0 ∙ sym (length
 abbrev just_one : Vec (Vec (List ℕ) Global) Global → List ℕ → Vec (List ℕ) Global
 just_one v spare = record { ptr = v.ptr; len = 1; cap = 1; alloc = v.alloc; items = spare ∷ []; ok = (refl, omega arith); small = omega arith }
 
--- the number that a cast says is its first one
-pub first_in_order : (c : CastFields) (r : Reception) → IsInOrder c.sender c.number r → IsInOrder c.sender (first_number c) r
-first_in_order c r in_order = subst (λ (n : ℕ). IsInOrder c.sender n r) (sym (first_is_number c)) in_order
+-- ---- a cast of one message
 
--- and its message's
-pub name_is_first : (c : CastFields) → (let n : Name = record { sender = c.sender; number = c.number } in n) ≡ record { sender = c.sender; number = first_number c }
-name_is_first c = ap (λ (k : ℕ). let n : Name = record { sender = c.sender; number = k } in n) (sym (first_is_number c))
+-- it is its own single
+own_single : (c : CastFields) → IsSingle c → singles_of c ≡ c ∷ []
+own_single c single = sym (append-nil (singles_of c)) ∙ singles_of_singles (c ∷ []) (single, tt)
+
+-- and wants one spare
+one_spare : (c : CastFields) (size : ℕ) (spare : List ℕ) → IsSingle c → length spare ≡ size → AreSparesFor c size (spare ∷ [])
+one_spare c size spare single long = record {
+  many = omega (arith, single, carried_up_to_the_last c);
+  sizes = All-cons (λ time. length time ≡ size) spare [] long (All-nil (λ (time : List ℕ). length time ≡ size));
+}
 
 -- ---- kept and taken out
 
@@ -112,11 +120,19 @@ module _ (c : CastFields) (old : Reception) (can : CanTakeInOrder c old) where
   spares_between : spares_in between ≡ set (spares_in old) c.sender (spare ∷ [])
   spares_between = map-set (λ (times : Vec (List ℕ) Global). times.items) old.spares.items c.sender (just_one old.spares spare)
 
-  keeps_it : KeepsCast c spare old between
-  keeps_it seat facts are all size =
-      kept_cast c spare can.in_order.buffer full [] old between (record { at = can.in_order.at; buffers = refl; expander = refl; at_stack = no_spare; spares = spares_between }) can.delivered Kept can.can_keep
-      (subst (λ (b : Buffer). Admits b can.delivered (first_number c) (last_number c) Kept) (one_buffer can.can_keep.buffer can.in_order.buffer (sym can.can_keep.at ∙ can.in_order.at)) can.can_keep.is_kept)
-      refl seat facts are all size
+  keeps_it : KeepsCast c (spare ∷ []) old between
+  keeps_it seat facts are all spares_are =
+      kept_cast c (spare ∷ []) can.in_order.buffer full [] old between (record {
+        at = can.in_order.at;
+        kept = subst (λ (singles : List CastFields). AreKept can.in_order.buffer singles full) (sym (own_single c can.single)) (full, refl, refl);
+        buffers = refl;
+        expander = refl;
+        at_stack = no_spare;
+        now_spares = spares_between;
+      }) can.delivered can.can_keep seat facts are all spares_are
+
+  fits_it : (size : ℕ) → length old.expander ≡ size → AreSparesFor c size (spare ∷ [])
+  fits_it size long = one_spare c size spare can.single (length-replicate (length old.expander) 0 ∙ long)
 
   gives_it : GivesNext c c.sender full after between
   gives_it = record {
@@ -126,7 +142,7 @@ module _ (c : CastFields) (old : Reception) (can : CanTakeInOrder c old) where
   }
 
   received : HasReceived can.seat (can.facts ++ CastReceived c ∷ []) (expanded_count (casts_in can.facts)) between
-  received = keeps_it can.seat can.facts can.legal can.received (length-replicate (length old.expander) 0 ∙ senders)
+  received = keeps_it can.seat can.facts can.legal can.received (fits_it can.seat.group.size senders)
 
   pub in_order_is_next : IsNextCast old.expander c
   in_order_is_next = its_turn c c.sender full after between gives_it can.seat (can.facts ++ CastReceived c ∷ []) (expanded_count (casts_in can.facts)) can.legal other received
@@ -152,7 +168,8 @@ module _ (c : CastFields) (old : Reception) (can : CanTakeInOrder c old) where
 
     none_behind : HasNoNextOf c.sender new new
     none_behind seat facts taken are not_me has = (
-      sym (has.taken_are c.sender after at_new not_me) ∙ all_is_taken (casts_in facts) c.sender after (has.waits c.sender after at_new not_me) (is_not_kept can.in_order.buffer c can.in_order.in_order (after.taken + 1)),
+      sym (has.taken_are c.sender after at_new not_me) ∙ all_is_taken (singles_in facts) c.sender after (has.waits c.sender after at_new not_me) (is_not_kept can.in_order.buffer c can.in_order.in_order (after.taken + 1))
+      ∙ (singles_are_the_same (casts_in facts)).counts c.sender,
       has,
     )
 
@@ -161,7 +178,7 @@ module _ (c : CastFields) (old : Reception) (can : CanTakeInOrder c old) where
       between = between;
       spare = spare;
       keeps = keeps_it;
-      size = length-replicate (length old.expander) 0;
+      fits = fits_it (length old.expander) refl;
       expands = λ seat facts taken are not_me has. next_is_reported c c.sender full after between gives_it seat facts taken are not_me has (spare ∷ []) [] spare new message reported;
       none = none_behind;
     }
@@ -170,7 +187,7 @@ module _ (c : CastFields) (old : Reception) (can : CanTakeInOrder c old) where
 
 -- a cast that is taken in order: its message is told, and its number heard
 module _ (c : CastFields) (old : State) (reception : Reception) (known_then : Knowledge) (message : Message) (can : CanFollow c old)
-    (takes : TakesInOrder c old.reception reception message) (hears : Hears c.sender c.number old.knowledge known_then) where
+    (takes : TakesInOrder c old.reception reception message) (hears : Hears c.sender (last_number c) old.knowledge known_then) where
   -- as the state would be with the cast kept and its number heard
   abbrev begun : State
   begun = record old { reception = takes.between; knowledge = known_then }
@@ -180,7 +197,8 @@ module _ (c : CastFields) (old : State) (reception : Reception) (known_then : Kn
 
   takes_first : (facts : List Fact) → AreFactsOf old.seat (facts ++ CastReceived c ∷ []) → Keeps facts old → TakesIn facts c (expanded_count (casts_in facts) c.sender) begun
   takes_first facts are keeps =
-      begins facts c takes.spare old begun are keeps (takes.size ∙ (keeps.received.times c.sender (of_member old.seat facts c are) (of_other old.seat facts c are)).senders)
+      begins facts c (takes.spare ∷ []) old begun are keeps
+      (subst (λ (size : ℕ). AreSparesFor c size (takes.spare ∷ [])) (keeps.received.times c.sender (of_member old.seat facts c are) (of_other old.seat facts c are)).senders takes.fits)
       (record { keeps = takes.keeps; hears = hears; queue = refl; only = only_begun })
 
   is_taking : IsTakingIn c.sender begun
@@ -243,7 +261,7 @@ module _ (c : CastFields) (old : State) (reception : Reception) (known_then : Kn
 
 -- ---- what a message that may be delivered says of the others was heard of
 
-module _ (c : CastFields) (old : State) (known_then : Knowledge) (time : List ℕ) (can : CanFollow c old) (hears : Hears c.sender c.number old.knowledge known_then)
+module _ (c : CastFields) (old : State) (known_then : Knowledge) (time : List ℕ) (can : CanFollow c old) (hears : Hears c.sender (last_number c) old.knowledge known_then)
     (own : field time c.sender ≡ first_number c) (ready : IsReady c.sender (field time) (field old.delivery.time)) where
   upto_known : (i : ℕ) → i ≢ old.seat.me → i ≢ c.sender → field time i ≤ field old.knowledge.known i
   upto_known i not_me ne = elim (cases_lt i old.seat.group.size) [
@@ -263,13 +281,13 @@ module _ (c : CastFields) (old : State) (known_then : Knowledge) (time : List �
 
   pub ready_is_heard : (i : ℕ) → i ≢ old.seat.me → field known_then.known i ≡ max (field known_then.known i) (field time i)
   ready_is_heard i not_me =
-      let value = max (field old.knowledge.known c.sender) c.number in
+      let value = max (field old.knowledge.known c.sender) (last_number c) in
       elim (cases_eq i c.sender) [
         | inl e ↦
             let here : field known_then.known i ≡ value =
             ap (field known_then.known) e ∙ ap (λ (ns : List ℕ). field ns c.sender) hears.known ∙ get_or-set_same old.knowledge.known c.sender value 0 (sender_is_heard_of c old can) in
-            let says : field time i ≡ c.number = ap (field time) e ∙ own ∙ first_is_number c in
-            omega (arith, here, says)
+            let says : field time i ≡ first_number c = ap (field time) e ∙ own in
+            omega (arith, here, says, carries_some c)
         | inr ne ↦
             let there : field known_then.known i ≡ field old.knowledge.known i = ap (λ (ns : List ℕ). field ns i) hears.known ∙ get_or-set_other old.knowledge.known c.sender i value 0 ne in
             let upto = upto_known i not_me ne in

@@ -12,7 +12,7 @@ use Rattle.cb_history.specs.Facts.{Fact}
 use Rattle.cb_history.specs.View.{count, view}
 use Rattle.cb_history.specs.Known.{known, missing, ranges_of}
 use Rattle.cb_history.specs.Answers.{delivered}
-use Rattle.cb_history.proofs.Buffers.{ranges_are_asked_for}
+use Rattle.cb_history.proofs.Buffers.{ranges_of_singles_are_asked_for}
 use Rattle.cb_member.specs.declared.delivery.Delivery.{Delivery}
 use Rattle.cb_member.specs.declared.reception.Reception.{Reception}
 use Rattle.cb_member.specs.Reception.{HasReceivedAll}
@@ -30,5 +30,5 @@ time_at seat facts d i has lt =
 pub ranges_missing : (seat : Identity) (facts : List Fact) (r : Reception) (i n m : ℕ) (b : Buffer) (ranges : List Range) → HasReceivedAll seat facts r → slice_get r.buffers.items i ≡ Some b → i ≢ seat.me
     → n ≡ delivered seat facts i → m ≡ known facts i → AreRangesOf (buffers.IsMissing b n m) ranges → ranges ≡ ranges_of (missing seat facts i)
 ranges_missing seat facts r i n m b ranges has at other counted heard are =
-    ranges_are_asked_for seat facts i b ranges (has.waits i b at other) (has.windows i b at)
+    ranges_of_singles_are_asked_for seat facts i b ranges (has.waits i b at other) (has.windows i b at)
     (subst (λ (x : ℕ). AreRangesOf (buffers.IsMissing b x (known facts i)) ranges) counted (subst (λ (x : ℕ). AreRangesOf (buffers.IsMissing b n x) ranges) heard are))

@@ -8,7 +8,7 @@ use Rattle.std.proofs.lemmas.List.Sums.{sum_by-cons}
 use Rattle.cb_times.specs.Order.{field}
 use Rattle.cb_frames.specs.declared.frame.Change.{Change}
 use Rattle.cb_frames.specs.Fields.{CastFields, Carried, first_number, growth_in}
-use Rattle.cb_frames.proofs.Carried.{last_is_number}
+use Rattle.cb_frames.proofs.Carried.{carries_some}
 use Rattle.cb_delay.specs.Rule.{IsReady}
 use Rattle.cb_diffs.specs.Expansion.{expanded_field, time_of}
 use Rattle.cb_history.specs.Facts.{CastReceived, casts_in}
@@ -65,10 +65,10 @@ module _ (c : CastFields) (state : State) (can : CanFollow c state) where
   before : AreFactsOf state.seat can.facts
   before = prefix_of_facts_is_legal state.seat can.facts (CastReceived c ∷ []) can.legal
 
-  pub number_is_one : c.number < 2 ^ 32
-  number_is_one =
+  pub first_is_small : first_number c < 2 ^ 32
+  first_is_small =
       let upto = (last_fact_is_a_step state.seat can.facts (CastReceived c) can.legal).taken.numbers in
-      omega (arith, upto, last_is_number c)
+      omega (arith, upto, carries_some c)
 
   member : c.sender < size
   member = of_member state.seat can.facts c can.legal
@@ -110,7 +110,7 @@ module _ (c : CastFields) (time : List ℕ) (state : State) (has : HasTime c tim
 
   own_before : first_number c ≡ expanded_count (casts_in has.can.facts) c.sender + 1
   own_before =
-      let next = (is_next c state has.can has.in_order).next in
+      let next = (is_next c state has.can has.single has.in_order).next in
       let old = at_previous c state has.can c.sender (member c state has.can) in
       let own = own_field (casts_in has.can.facts) c.sender (expanded_count (casts_in has.can.facts) c.sender) in
       omega (arith, next, old, own)

@@ -7,6 +7,7 @@ use Rattle.cb_history.specs.Facts.{Fact, casts_in}
 use Rattle.cb_history.specs.View.{view}
 use Rattle.cb_history.specs.Known.{expanded_count}
 use Rattle.cb_history.specs.BufferLaws.{HoldsWhatWaits}
+use Rattle.cb_history.specs.Singles.{singles_among}
 use Rattle.cb_member.specs.declared.delivery.Delivery.{Delivery}
 use Rattle.cb_member.specs.declared.reception.Reception.{Reception}
 use Rattle.cb_member.specs.Delivery.{Waits}
@@ -22,7 +23,7 @@ delivered_stays seat facts now d casts seen has = record {
 pub received_stays : (seat : Identity) (facts now : List Fact) (r : Reception) → casts_in now ≡ casts_in facts → HasReceivedAll seat facts r → HasReceivedAll seat now r
 received_stays seat facts now r casts has = record {
   senders = has.senders;
-  waits = λ i b at other. subst (λ (cs : List CastFields). HoldsWhatWaits cs i b) (sym casts) (has.waits i b at other);
+  waits = λ i b at other. subst (λ (cs : List CastFields). HoldsWhatWaits (singles_among cs) i b) (sym casts) (has.waits i b at other);
   taken_are = λ i b at other. has.taken_are i b at other ∙ ap (λ (cs : List CastFields). expanded_count cs i) (sym casts);
   windows = has.windows;
   times = λ i lt other. record {

@@ -9,14 +9,13 @@ use Rattle.std.proofs.lemmas.List.FromFn.{length-map-range_with_len, map-range_w
 use Rattle.cb_times.specs.Order.{field}
 use Rattle.cb_times.specs.declared.name.Name.{Name}
 use Rattle.cb_frames.specs.Fields.{CastFields, Carried, messages_of, first_number, last_number}
-use Rattle.cb_frames.proofs.Carried.{first_is_number, last_is_number, carried_is_of_cast}
+use Rattle.cb_frames.proofs.Carried.{carried_is_of_cast}
 use Rattle.cb_delay.specs.declared.message.Message.{Message}
 use Rattle.cb_delay.specs.Message.{name_cmp, IsOfGroup}
 use Rattle.cb_delay.specs.Queue.{Queue, Holds, IsDelayQueue, FollowsLast, count_of}
 use Rattle.cb_delay.proofs.Names.{names_total}
 use Rattle.cb_diffs.specs.Expansion.{expanded_field}
 use Rattle.cb_gaps.specs.Buffer.{Buffer, Covers, WouldComeOut}
-use Rattle.cb_gaps.proofs.Spans.{covers_first}
 use Rattle.cb_history.specs.Group.{Identity}
 use Rattle.cb_history.specs.Facts.{Fact, CastReceived, casts_in, messages_in, numbers_between, is_there}
 use Rattle.cb_history.specs.View.{count, view, message_in}
@@ -24,6 +23,7 @@ use Rattle.cb_history.specs.Known.{greatest_of, known, expanded_count}
 use Rattle.cb_history.specs.NameLaws.{IsOneOf}
 use Rattle.cb_history.specs.LegalFacts.{AreFactsOf}
 use Rattle.cb_history.specs.BufferLaws.{HoldsWhatWaits}
+use Rattle.cb_history.specs.Singles.{singles_among, singles_in}
 use Rattle.cb_history.specs.DeliveryLaws.{IsOnTheWay}
 use Rattle.cb_history.specs.WaitingLaws.{IsNextTaken, HoldsTakenOf}
 use Rattle.cb_history.proofs.Views.{IsIn, casts_in-append}
@@ -31,7 +31,8 @@ use Rattle.cb_history.proofs.Lists.{messages_in-push, in_append, in_front, in_ba
 use Rattle.cb_history.proofs.Names.{own_messages_are_own, one_of_is_in, in_is_one_of}
 use Rattle.cb_history.proofs.Prefixes.{prefix_of_facts_is_legal, last_fact_is_a_step}
 use Rattle.cb_history.proofs.Rising.{greatest_append, there_more}
-use Rattle.cb_history.proofs.Buffers.{cast_there, cast_is_there, covered_is_there, received_is_there}
+use Rattle.cb_history.proofs.Buffers.{cast_carrying, covered_is_there, received_is_there}
+use Rattle.cb_history.proofs.Singles.{singles_are_the_same}
 use Rattle.cb_history.proofs.Runs.{message_is_there, expanded_are_there, run_is_expanded, delivered_is_expanded, others_expand_nothing, greatest_of_the_run}
 use Rattle.cb_history.proofs.RisingByCasts.{cast_is_known}
 use Rattle.cb_history.proofs.Windows.{casts_are_near}
@@ -39,7 +40,7 @@ use Rattle.cb_history.proofs.Delivering.{in_field, views_are_on_the_way}
 use Rattle.cb_history.proofs.Taking.{cast_waits_for_its_turn, next_taken_can_be_held, holding_takes_one_more, all_taken_is_waiting}
 use Rattle.cb_member.specs.declared.state.State.{State}
 use Rattle.cb_member.specs.declared.reception.Reception.{Reception}
-use Rattle.cb_member.specs.Course.{HoldsAtMost}
+use Rattle.cb_member.specs.Singles.{AreSparesFor}
 use Rattle.cb_member.specs.State.{Keeps}
 use Rattle.cb_member.specs.Taking.{one_more, IsReceiving, IsNextOf, IsNextMessage, taken_with, heard_with, TakesIn, IsTakingIn, HasTurn, HoldsMore, TakesSoFar, TakesAllOf, TakesAll, ExpandsNext, HasNoNextOf, OnlyTakesIn, CanFollow, Hears, KeepsCast, WouldExpand, HasTakenIn}
 use Rattle.cb_member.proofs.Receiving.{received_from_other, received_alike}
@@ -307,10 +308,10 @@ all_taken sender first old new so_far none same facts c taken e t =
 
 -- ---- from the first round on to the last
 
--- the cast is kept and its number heard, and nothing else has changed
-pub record IsBegun (c : CastFields) (spare : List ℕ) (old new : State) : Type 0 where
-  pub keeps : KeepsCast c spare old.reception new.reception
-  pub hears : Hears c.sender c.number old.knowledge new.knowledge
+-- the cast is kept and its last number heard, and nothing else has changed
+pub record IsBegun (c : CastFields) (spares : List (List ℕ)) (old new : State) : Type 0 where
+  pub keeps : KeepsCast c spares old.reception new.reception
+  pub hears : Hears c.sender (last_number c) old.knowledge new.knowledge
   pub queue : new.delivery ≡ old.delivery
   pub only : OnlyTakesIn old new
 
@@ -323,28 +324,28 @@ heard_at_first facts c i =
     omega (arith, nothing)
 
 number_heard : (facts : List Fact) (c : CastFields) (i : ℕ) (old : List ℕ) → i < length old → field old i ≡ known facts i
-    → field (set old c.sender (max (field old c.sender) c.number)) i ≡ max (known facts i) (cond (eqb c.sender i) (last_number c) 0)
+    → field (set old c.sender (max (field old c.sender) (last_number c))) i ≡ max (known facts i) (cond (eqb c.sender i) (last_number c) 0)
 number_heard facts c i old lt is = elim (cases_eq c.sender i) [
   | inl e ↦
-      let here : field (set old c.sender (max (field old c.sender) c.number)) i ≡ max (field old c.sender) c.number =
-      ap (field (set old c.sender (max (field old c.sender) c.number))) (sym e) ∙ get_or-set_same old c.sender (max (field old c.sender) c.number) 0 (subst (λ (k : ℕ). k < length old) (sym e) lt) in
+      let here : field (set old c.sender (max (field old c.sender) (last_number c))) i ≡ max (field old c.sender) (last_number c) =
+      ap (field (set old c.sender (max (field old c.sender) (last_number c)))) (sym e) ∙ get_or-set_same old c.sender (max (field old c.sender) (last_number c)) 0 (subst (λ (k : ℕ). k < length old) (sym e) lt) in
       let at : field old c.sender ≡ known facts i = ap (field old) e ∙ is in
-      rw (eq-eqb c.sender i e) (omega (arith, here, at, last_is_number c))
+      rw (eq-eqb c.sender i e) (omega (arith, here, at))
   | inr ne ↦
-      let there : field (set old c.sender (max (field old c.sender) c.number)) i ≡ field old i = get_or-set_other old c.sender i (max (field old c.sender) c.number) 0 (λ h. ne (sym h)) in
+      let there : field (set old c.sender (max (field old c.sender) (last_number c))) i ≡ field old i = get_or-set_other old c.sender i (max (field old c.sender) (last_number c)) 0 (λ h. ne (sym h)) in
       rw (ne_eqb c.sender i ne) (omega (arith, there, is))
 ]
 
-pub begins : (facts : List Fact) (c : CastFields) (spare : List ℕ) (old new : State) → AreFactsOf old.seat (facts ++ CastReceived c ∷ []) → Keeps facts old → length spare ≡ old.seat.group.size → IsBegun c spare old new
+pub begins : (facts : List Fact) (c : CastFields) (spares : List (List ℕ)) (old new : State) → AreFactsOf old.seat (facts ++ CastReceived c ∷ []) → Keeps facts old → AreSparesFor c old.seat.group.size spares → IsBegun c spares old new
     → TakesIn facts c (expanded_count (casts_in facts) c.sender) new
-begins facts c spare old new are keeps size begun = subst (TakesIn facts c (expanded_count (casts_in facts) c.sender)) (sym (with_seat new old.seat begun.only.seat)) (record {
+begins facts c spares old new are keeps spares_are begun = subst (TakesIn facts c (expanded_count (casts_in facts) c.sender)) (sym (with_seat new old.seat begun.only.seat)) (record {
   legal = are;
   at_least = omega arith;
   received = received_alike old.seat (facts ++ CastReceived c ∷ []) (expanded_count (casts_in facts)) (taken_with facts c (expanded_count (casts_in facts) c.sender)) new.reception
       (λ i. elim (cases_eq i c.sender) [
         | inl e ↦ rw (eq-eqb i c.sender e) (ap (expanded_count (casts_in facts)) (sym e))
         | inr ne ↦ rw (ne_eqb i c.sender ne) refl
-      ]) (begun.keeps old.seat facts are keeps.received size);
+      ]) (begun.keeps old.seat facts are keeps.received spares_are);
   queue = rw begun.queue (cast_waits_for_its_turn old.seat facts c old.delivery.queue are keeps.delivered.waits.queue);
   window = rw begun.queue keeps.delivered.window;
   fields = ap length begun.hears.known ∙ length-set old.knowledge.known c.sender _ ∙ keeps.knows.fields;
@@ -393,41 +394,42 @@ sender_is_heard_of c state can = subst (λ (n : ℕ). c.sender < n) (sym can.kee
 
 -- ---- how many come out
 
-pub comes_out : (cs : List CastFields) (c : CastFields) (b : Buffer) (more : ℕ) → HoldsWhatWaits cs c.sender b → WouldComeOut b (first_number c) (last_number c) more → expanded_count (cs ++ c ∷ []) c.sender ≡ b.taken + more
-comes_out cs c b more holds row = run_is_expanded (cs ++ c ∷ []) c.sender (b.taken + more) each last
-  where
-    each : (k : ℕ) → 1 ≤ k → k ≤ b.taken + more → is_there (cs ++ c ∷ []) c.sender k ≡ true
-    each k low high = elim (cases_lt b.taken k) [
-      | inl above ↦ elim (row.each k above high) [
-        | inl kept ↦ there_more cs (c ∷ []) c.sender k ((received_is_there cs c.sender k b holds low).0 (inr kept))
-        | inr covers ↦ covered_is_there (cs ++ c ∷ []) c c.sender k (in_back c cs (c ∷ []) (inl refl)) refl covers
-      ]
-      | inr le ↦ there_more cs (c ∷ []) c.sender k (let taken = holds.taken in expanded_are_there cs c.sender k low (omega (arith, le, taken)))
-    ]
+-- of the singles of some casts so many are taken, and so many more come out with one cast more
+module _ (cs : List CastFields) (c : CastFields) (b : Buffer) (more : ℕ) (holds : HoldsWhatWaits (singles_among cs) c.sender b) (row : WouldComeOut b (first_number c) (last_number c) more) where
+  is_there_too : (n : ℕ) → is_there (singles_among cs) c.sender n ≡ is_there cs c.sender n
+  is_there_too n = (singles_are_the_same cs).there c.sender n
 
-    last : is_there (cs ++ c ∷ []) c.sender (b.taken + more + 1) ≡ false
-    last = false_from_ne_true (is_there (cs ++ c ∷ []) c.sender (b.taken + more + 1)) (λ yes.
-        let found = cast_there (cs ++ c ∷ []) c.sender (b.taken + more + 1) yes in
-        elim (in_push found.cast c cs found.there) [
-          | inl old ↦ elim ((received_is_there cs c.sender (b.taken + more + 1) b holds (omega arith)).1 (cast_is_there cs found.cast c.sender (b.taken + more + 1) old found.sender_is found.number_is)) [
-            | inl le ↦ absurd (omega (arith, le))
-            | inr kept ↦ row.ends (inl kept)
-          ]
-          | inr new ↦
-              let begins : first_number c ≡ b.taken + more + 1 = ap first_number (sym new) ∙ found.number_is in
-              row.ends (inr (subst (Covers c) begins (covers_first c)))
-        ])
+  each_comes : (k : ℕ) → 1 ≤ k → k ≤ b.taken + more → is_there (cs ++ c ∷ []) c.sender k ≡ true
+  each_comes k low high = elim (cases_lt b.taken k) [
+    | inl above ↦ elim (row.each k above high) [
+      | inl kept ↦ there_more cs (c ∷ []) c.sender k (sym (is_there_too k) ∙ (received_is_there (singles_among cs) c.sender k b holds low).0 (inr kept))
+      | inr covers ↦ covered_is_there (cs ++ c ∷ []) c c.sender k (in_back c cs (c ∷ []) (inl refl)) refl covers
+    ]
+    | inr le ↦
+        let taken = holds.taken in
+        there_more cs (c ∷ []) c.sender k (expanded_are_there cs c.sender k low (omega (arith, le, taken, (singles_are_the_same cs).counts c.sender)))
+  ]
+
+  none_behind : is_there (cs ++ c ∷ []) c.sender (b.taken + more + 1) ≡ false
+  none_behind = false_from_ne_true (is_there (cs ++ c ∷ []) c.sender (b.taken + more + 1)) (λ yes.
+      let by = cast_carrying (cs ++ c ∷ []) c.sender (b.taken + more + 1) yes in
+      elim (in_push by.cast c cs by.there) [
+        | inl old ↦
+            let there = covered_is_there cs by.cast c.sender (b.taken + more + 1) old by.sender_is by.covers in
+            elim ((received_is_there (singles_among cs) c.sender (b.taken + more + 1) b holds (omega arith)).1 (is_there_too (b.taken + more + 1) ∙ there)) [
+              | inl le ↦ absurd (omega (arith, le))
+              | inr kept ↦ row.ends (inl kept)
+            ]
+        | inr new ↦ row.ends (inr (subst (λ (x : CastFields). Covers x (b.taken + more + 1)) new by.covers))
+      ])
+
+  comes_out : expanded_count (cs ++ c ∷ []) c.sender ≡ b.taken + more
+  comes_out = run_is_expanded (cs ++ c ∷ []) c.sender (b.taken + more) each_comes none_behind
 
 pub would_expand : (sender first last : ℕ) (r : Reception) (b : Buffer) (more : ℕ) → slice_get r.buffers.items sender ≡ Some b → WouldComeOut b first last more → WouldExpand sender first last r more
 would_expand sender first last r b more at row seat facts c are of_sender begins ends all =
     let other : sender ≢ seat.me = subst (λ (i : ℕ). i ≢ seat.me) of_sender (of_other seat facts c are) in
-    let holds = subst (λ (i : ℕ). HoldsWhatWaits (casts_in facts) i b) (sym of_sender) (all.waits sender b at other) in
+    let holds = subst (λ (i : ℕ). HoldsWhatWaits (singles_in facts) i b) (sym of_sender) (all.waits sender b at other) in
     let count = comes_out (casts_in facts) c b more holds (subst (λ (n : ℕ). WouldComeOut b (first_number c) n more) (sym ends) (subst (λ (n : ℕ). WouldComeOut b n last more) (sym begins) row)) in
     let taken = all.taken_are sender b at other in
     ap (λ (cs : List CastFields). expanded_count cs sender) (casts_in-append facts (CastReceived c)) ∙ ap (expanded_count (casts_in facts ++ c ∷ [])) (sym of_sender) ∙ count ∙ ap (λ (n : ℕ). n + more) taken
-
--- how many messages wait at most, where so many more would be expanded
-pub holds_at_most : (c : CastFields) (state : State) (more most : ℕ) → WouldExpand c.sender c.number c.number state.reception more → most ≡ fin.len state.delivery.queue.held + more → HoldsAtMost c state most
-holds_at_most c state more most would is facts are keeps =
-    let expands = would state.seat facts c are refl (first_is_number c) (last_is_number c) keeps.received in
-    omega (arith, expands, is)

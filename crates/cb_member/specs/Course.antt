@@ -9,22 +9,24 @@ use Rattle.cb_diffs.specs.Expansion.{IsGrown, time_of}
 use Rattle.cb_history.specs.Facts.{Fact, CastReceived, casts_in}
 use Rattle.cb_history.specs.Known.{expanded_count}
 use Rattle.cb_history.specs.LegalFacts.{AreFactsOf}
+use Rattle.cb_history.specs.Singles.{IsSingle}
 use Rattle.cb_member.specs.declared.arrival.course.Course.{Course}
 use Rattle.cb_member.specs.declared.arrival.course.Course.TheVariants.{Early, Waits, Alone, LeadsOn, LetsGo}
 use Rattle.cb_member.specs.declared.delivery.Delivery.{Delivery}
 use Rattle.cb_member.specs.declared.state.State.{State}
 use Rattle.cb_member.specs.Delivery.{Drains, NoneReady, LeavesWaiting}
 use Rattle.cb_member.specs.Passing.{IsInOrder}
+use Rattle.cb_member.specs.Singles.{times_in}
 use Rattle.cb_member.specs.State.{Keeps}
 use Rattle.cb_member.specs.Taking.{CanFollow, CanTakeIn, WouldExpand, TakesInCast}
 
 -- how many messages are delivered at most
 abbrev pub most : Course → ℕ
-most (Early spare) = 0
+most (Early spares) = 0
 most (Waits time) = 0
 most (Alone time) = 1
 most (LeadsOn time count) = count
-most (LetsGo spare count) = count
+most (LetsGo spares count) = count
 
 -- no more than so many messages wait for the delay rule once the cast is taken in, and before anything is delivered
 abbrev pub HoldsAtMost : CastFields → State → ℕ → Type 0
@@ -33,14 +35,15 @@ HoldsAtMost c state count =
     → fin.len state.delivery.queue.held + (expanded_count (casts_in (facts ++ CastReceived c ∷ [])) c.sender - expanded_count (casts_in facts) c.sender) ≤ count
 
 -- it waits for casts before it, lets none be expanded, and nothing that waits may be delivered
-pub record IsEarly (c : CastFields) (spare : List ℕ) (state : State) : Type 0 where
-  pub can : CanTakeIn c spare state
+pub record IsEarly (c : CastFields) (spares : List (List ℕ)) (state : State) : Type 0 where
+  pub can : CanTakeIn c spares state
   pub expands_none : WouldExpand c.sender (first_number c) (last_number c) state.reception 0
   pub none_ready : NoneReady state.delivery
 
--- it comes in order, and this is its time
+-- it carries one message, comes in order, and this is its time
 pub record HasTime (c : CastFields) (time : List ℕ) (state : State) : Type 0 where
   pub can : CanFollow c state
+  pub single : IsSingle c
   pub in_order : IsInOrder c.sender (first_number c) state.reception
   pub grown : IsGrown (time_of state.reception.expander c.sender) c time
   pub size : length time ≡ state.seat.group.size
@@ -64,11 +67,11 @@ pub record CanLetGoAt (c : CastFields) (count : ℕ) (state : State) : Type 0 wh
 
 -- what a course asks for
 abbrev pub CanGo : CastFields → Course → State → Type 0
-CanGo c (Early spare) state = IsEarly c spare state
+CanGo c (Early spares) state = IsEarly c (times_in spares) state
 CanGo c (Waits time) state = MustWait c time state
 CanGo c (Alone time) state = GoesAlone c time state
 CanGo c (LeadsOn time count) state = HasTime c time state × HoldsAtMost c state count
-CanGo c (LetsGo spare count) state = CanTakeIn c spare state × HoldsAtMost c state count
+CanGo c (LetsGo spares count) state = CanTakeIn c (times_in spares) state × HoldsAtMost c state count
 
 -- as if the cast had been taken in, and what was ready had been delivered then
 pub record TakesAndDelivers (c : CastFields) (old new : State) (before after : List Event) : Type 0 where

@@ -20,16 +20,16 @@ AreDeliveries c state messages =
 
 -- copies of what is delivered on the course
 abbrev pub AreCopies : CastFields → Course → State → List Message → Type 0
-AreCopies c (Early spare) state copies = copies ≡ []
+AreCopies c (Early spares) state copies = copies ≡ []
 AreCopies c (Waits time) state copies = copies ≡ []
 AreCopies c (Alone time) state copies = copies ≡ message_at c time ∷ []
 AreCopies c (LeadsOn time count) state copies = AreDeliveries c state copies
-AreCopies c (LetsGo spare count) state copies = AreDeliveries c state copies
+AreCopies c (LetsGo spares count) state copies = AreDeliveries c state copies
 
 -- what joins the events on the course
 abbrev pub JoinsEvents : CastFields → Course → List Event → List Event → Type 0
-JoinsEvents c (Early spare) before after = after ≡ before
+JoinsEvents c (Early spares) before after = after ≡ before
 JoinsEvents c (Waits time) before after = after ≡ before
 JoinsEvents c (Alone time) before after = after ≡ before ++ Deliver (message_at c time) ∷ []
 JoinsEvents c (LeadsOn time count) before after = Unit {0}
-JoinsEvents c (LetsGo spare count) before after = Unit {0}
+JoinsEvents c (LetsGo spares count) before after = Unit {0}

@@ -15,6 +15,7 @@ pub mod Received
 pub mod Reception
 pub mod Recorder
 pub mod Sending
+pub mod Singles
 pub mod State
 pub mod Taking
 pub mod Telling

@@ -1,4 +1,4 @@
--- A cast of another member that comes in order: it is expanded as soon as it is there. It is as if it had been kept and taken out.
+-- A cast of another member that carries one message and comes in order: it is expanded as soon as it is there. It is as if it had been kept and taken out.
 -- Where its message may be delivered, and nothing else then, it is as if it had been held and released.
 use Rattle.std.specs.Prelude.{◌≡◌, ℕ, ◌<◌, List, [], ◌∷◌, ◌++◌, length, Some, slice_get}
 use Rattle.std.specs.FinMap as fin
@@ -14,25 +14,28 @@ use Rattle.cb_gaps.specs.Buffer.{Buffer}
 use Rattle.cb_history.specs.Group.{Identity}
 use Rattle.cb_history.specs.Facts.{Fact, CastReceived}
 use Rattle.cb_history.specs.LegalFacts.{AreFactsOf}
+use Rattle.cb_history.specs.Singles.{IsSingle}
 use Rattle.cb_member.specs.declared.delivery.Delivery.{Delivery}
 use Rattle.cb_member.specs.declared.reception.Reception.{Reception}
 use Rattle.cb_member.specs.Delivery.{Drains, LeavesWaiting}
 use Rattle.cb_member.specs.Reception.{HasReceivedAll}
+use Rattle.cb_member.specs.Singles.{AreSparesFor}
 use Rattle.cb_member.specs.Taking.{CanKeep, KeepsCast, ExpandsNext, HasNoNextOf, HasTurn, reported}
 
 -- ---- expanded as soon as it is there
 
--- the sender's cast of this number is the next one, and none of the sender's waits
+-- the sender's cast that begins with this number is the next one, and none of the sender's waits
 pub record IsInOrder (sender number : ℕ) (r : Reception) : Type 0 where
   pub buffer : Buffer
   pub at : slice_get r.buffers.items sender ≡ Some buffer
   pub in_order : gaps.IsInOrder buffer number
 
--- the cast may follow some facts, of which all that is expanded was taken, and comes in order
+-- the cast carries one message, may follow some facts, of which all that is expanded was taken, and comes in order
 pub record CanTakeInOrder (c : CastFields) (r : Reception) : Type 0 where
   pub seat : Identity
   pub facts : List Fact
   pub delivered : ℕ
+  pub single : IsSingle c
   pub legal : AreFactsOf seat (facts ++ CastReceived c ∷ [])
   pub received : HasReceivedAll seat facts r
   pub can_keep : CanKeep delivered c r
@@ -51,8 +54,8 @@ message_at c time = reported c time (load_bytes c.load)
 pub record TakesInOrder (c : CastFields) (old new : Reception) (message : Message) : Type 0 where
   pub between : Reception
   pub spare : List ℕ
-  pub keeps : KeepsCast c spare old between
-  pub size : length spare ≡ length old.expander
+  pub keeps : KeepsCast c (spare ∷ []) old between
+  pub fits : AreSparesFor c (length old.expander) (spare ∷ [])
   pub expands : ExpandsNext c.sender between new message
   pub none : HasNoNextOf c.sender new new
 

@@ -9,6 +9,7 @@ use Rattle.cb_history.specs.Group.{Identity}
 use Rattle.cb_history.specs.Facts.{Fact, casts_in}
 use Rattle.cb_history.specs.Known.{expanded_count}
 use Rattle.cb_history.specs.BufferLaws.{HoldsWhatWaits}
+use Rattle.cb_history.specs.Singles.{singles_in}
 use Rattle.cb_history.specs.ExpanderLaws.{KeepsTimeOf}
 use Rattle.cb_member.specs.declared.reception.Reception.{Reception}
 
@@ -20,7 +21,7 @@ spares_in r = map (λ times. times.items) r.spares.items
 abbrev pub spares_of : ℕ → Reception → ℕ
 spares_of sender r = length (slice_index_or (spares_in r) sender [])
 
--- one for each cast that waits in the buffer, each with a field for each member of a group of this size
+-- one for each single that waits in the buffer, each with a field for each member of a group of this size
 pub record AreSparesOf (size : ℕ) (b : Buffer) (spares : List (List ℕ)) : Type 0 where
   pub count : length spares ≡ fin.len b.kept
   pub sizes : All (λ time. length time ≡ size) spares
@@ -32,11 +33,11 @@ pub record IsNewReception (size window : ℕ) (r : Reception) : Type 0 where
   pub expander : r.expander ≡ replicate size (replicate size 0)
   pub spares : spares_in r ≡ replicate size []
 
--- Of each other member's casts so many were taken, one after the other: what was is expanded, the others that are there wait in its
+-- Of each other member's singles so many were taken, one after the other: what was is expanded, the others that are there wait in its
 -- buffer, the expander keeps the time of the last one taken, and there is a spare for each that waits.
 pub record HasReceived (seat : Identity) (facts : List Fact) (taken : ℕ → ℕ) (r : Reception) : Type 0 where
   pub senders : length r.buffers.items ≡ seat.group.size
-  pub waits : (i : ℕ) (b : Buffer) → slice_get r.buffers.items i ≡ Some b → i ≢ seat.me → HoldsWhatWaits (casts_in facts) i b
+  pub waits : (i : ℕ) (b : Buffer) → slice_get r.buffers.items i ≡ Some b → i ≢ seat.me → HoldsWhatWaits (singles_in facts) i b
   pub taken_are : (i : ℕ) (b : Buffer) → slice_get r.buffers.items i ≡ Some b → i ≢ seat.me → b.taken ≡ taken i
   pub windows : (i : ℕ) (b : Buffer) → slice_get r.buffers.items i ≡ Some b → b.window ≡ seat.group.window
   pub times : (i : ℕ) → i < seat.group.size → i ≢ seat.me → KeepsTimeOf seat facts i (taken i) r.expander
@@ -54,8 +55,8 @@ pub record IsAlike (old new : Reception) : Type 0 where
   pub expander : new.expander ≡ old.expander
   pub spares : spares_in new ≡ spares_in old
 
--- there is room for one spare more of this sender
-pub record HasPlaceFor (sender : ℕ) (r : Reception) : Type 0 where
+-- there is room for so many spares more of this sender
+pub record HasPlaceFor (sender count : ℕ) (r : Reception) : Type 0 where
   pub times : Vec (List ℕ) Global
   pub at : slice_get r.spares.items sender ≡ Some times
-  pub room : vec_len times + 1 ≤ vec_capacity times
+  pub room : vec_len times + count ≤ vec_capacity times

@@ -1,9 +1,9 @@
--- What a cast of another member does, up to but not with the deliveries: it waits in its sender's buffer, and as long as the sender's
--- next cast is there, that one is taken out, its time is computed, and it waits for the delay rule.
+-- What a cast of another member does, up to but not with the deliveries: its singles wait in its sender's buffer, and as long as the
+-- sender's next one is there, that one is taken out, its time is computed, and it waits for the delay rule.
 use Rattle.std.specs.Prelude.{◌≡◌, ◌≢◌, ℕ, ◌+◌, ◌-◌, ◌<◌, ◌≤◌, ◌==◌, true, List, [], ◌∷◌, ◌++◌, length, map, max, Some, slice_get, slice_set, if◌then◌else◌}
 use Rattle.std.specs.FinMap as fin
 use Rattle.cb_times.specs.Order.{field}
-use Rattle.cb_frames.specs.Fields.{load_bytes, CastFields, Carried, first_number, last_number}
+use Rattle.cb_frames.specs.Fields.{load_bytes, CastFields, Carried, messages_of, first_number, last_number}
 use Rattle.cb_delay.specs.declared.message.Message.{Message}
 use Rattle.cb_delay.specs.Message.{IsOfGroup}
 use Rattle.cb_delay.specs.Queue.{Queue, IsDelayQueue, FollowsLast, count_of}
@@ -22,22 +22,23 @@ use Rattle.cb_member.specs.declared.reception.Reception.{Reception}
 use Rattle.cb_member.specs.declared.state.State.{State}
 use Rattle.cb_member.specs.Delivery.{Waits}
 use Rattle.cb_member.specs.Reception.{HasReceived, HasReceivedAll, HasPlaceFor}
+use Rattle.cb_member.specs.Singles.{AreSparesFor}
 use Rattle.cb_member.specs.State.{Keeps}
 
 -- ---- the cast is kept
 
--- its sender's buffer lacks the cast and keeps it where so many are delivered
+-- its sender's buffer lacks each message of the cast and keeps them where so many are delivered
 pub record CanKeep (delivered : ℕ) (c : CastFields) (r : Reception) : Type 0 where
   pub buffer : Buffer
   pub at : slice_get r.buffers.items c.sender ≡ Some buffer
   pub upto_taken : delivered ≤ buffer.taken
   pub is_kept : Admits buffer delivered (first_number c) (last_number c) Kept
 
--- with the cast among the facts just as much of them was taken as before
-abbrev pub KeepsCast : CastFields → List ℕ → Reception → Reception → Type 0
-KeepsCast c spare old new =
+-- with the cast among the facts just as much of them was taken as before, where there was a spare for each of its messages
+abbrev pub KeepsCast : CastFields → List (List ℕ) → Reception → Reception → Type 0
+KeepsCast c spares old new =
     (seat : Identity) (facts : List Fact) → AreFactsOf seat (facts ++ CastReceived c ∷ [])
-    → HasReceivedAll seat facts old → length spare ≡ seat.group.size
+    → HasReceivedAll seat facts old → AreSparesFor c seat.group.size spares
     → HasReceived seat (facts ++ CastReceived c ∷ []) (expanded_count (casts_in facts)) new
 
 -- the greatest number that was heard of this sender is at least this one, and nothing else has changed
@@ -52,7 +53,7 @@ WouldExpand sender first last r more =
     → c.sender ≡ sender → first_number c ≡ first → last_number c ≡ last → HasReceivedAll seat facts r
     → expanded_count (casts_in (facts ++ CastReceived c ∷ [])) sender ≡ expanded_count (casts_in facts) sender + more
 
--- ---- the sender's next cast is taken out
+-- ---- the sender's next single is taken out
 
 -- of the sender one more is taken
 abbrev pub one_more : (ℕ → ℕ) → ℕ → ℕ → ℕ
@@ -96,11 +97,11 @@ HasNoNextOf sender old new =
     → HasReceived seat facts taken old
     → (taken sender ≡ expanded_count (casts_in facts) sender) × HasReceived seat facts taken new
 
--- the message of a cast at this time, with this payload
+-- the message of a single at this time, with this payload
 abbrev pub reported : CastFields → List ℕ → List ℕ → Message
 reported c time payload = record { name = record { sender = c.sender; number = first_number c }; time = time; payload = payload }
 
--- the cast was expanded, and the message has the time that was computed
+-- the single was expanded, and the message has the time that was computed
 pub record Tells (c : CastFields) (old new : List (List ℕ)) (message : Message) : Type 0 where
   pub time : List ℕ
   pub expands : Expands old c time new
@@ -112,7 +113,7 @@ pub record Tells (c : CastFields) (old new : List (List ℕ)) (message : Message
 abbrev pub taken_with : List Fact → CastFields → ℕ → ℕ → ℕ
 taken_with facts c taken i = if i == c.sender then taken else expanded_count (casts_in facts) i
 
--- what is known of sender i by the cast's number, and by the times of what was taken
+-- what is known of sender i by the cast's last number, and by the times of what was taken
 abbrev pub heard_with : List Fact → CastFields → ℕ → ℕ → ℕ
 heard_with facts c taken i =
     max (max (known facts i) (if c.sender == i then last_number c else 0))
@@ -190,11 +191,11 @@ pub record CanFollow (c : CastFields) (state : State) : Type 0 where
   pub keeps : Keeps facts state
   pub can_keep : CanKeep (field state.delivery.time c.sender) c state.reception
 
--- and there is place for a spare of the group's size
-pub record CanTakeIn (c : CastFields) (spare : List ℕ) (state : State) : Type 0 where
+-- and there is a spare for each of its messages, and place for them
+pub record CanTakeIn (c : CastFields) (spares : List (List ℕ)) (state : State) : Type 0 where
   pub can : CanFollow c state
-  pub size : length spare ≡ state.seat.group.size
-  pub place : HasPlaceFor c.sender state.reception
+  pub spares_are : AreSparesFor c state.seat.group.size spares
+  pub place : HasPlaceFor c.sender (length spares) state.reception
 
 -- With the cast among the facts, but nothing delivered by it: it is received, what is expanded waits, and what it says is known.
 pub record HasTakenIn (facts : List Fact) (c : CastFields) (old new : State) : Type 0 where

@@ -18,6 +18,7 @@ mod own_cast;
 mod reception;
 mod recorder;
 mod sending;
+mod singles;
 mod state;
 mod taking;
 mod text;

@@ -3,11 +3,13 @@
 ghost use Rattle.std.specs.Prelude.{◌≡◌, ◌<◌, ◌+◌, true, IfOk, IfSome, IfNone, OnOk, OnSome, length, map};
 ghost use Rattle.cb_times.specs.Group.{IsGroupSize, IsWindow};
 ghost use Rattle.cb_diffs.specs.Expansion.{IsGrown, IsNext, time_of};
-ghost use Rattle.cb_frames.specs.Fields.{cast_fields};
+ghost use Rattle.cb_frames.specs.Fields.{cast_fields, first_number, last_number, messages_of};
 ghost use Rattle.cb_member.specs.Reception.{IsNewReception, IsAlike, HasPlaceFor, spares_of};
+ghost use Rattle.cb_member.specs.Singles.{times_in};
 ghost use Rattle.cb_member.specs.Taking.{WouldExpand, CanKeep, KeepsCast, IsReceiving, ExpandsNext, HasNoNextOf, Tells};
 ghost use Rattle.cb_member.specs.Passing.{IsInOrder, TakesAt, TakesInOrder, message_at};
 
+use crate::singles::{Singles, Spares};
 use cb_delay::Message;
 use cb_diffs::Expander;
 use cb_frames::Cast;
@@ -15,13 +17,13 @@ use cb_gaps::Reorder;
 use cb_times::{Name, NoMemory, VectorTime};
 use std::alloc::Global;
 
-/// The received casts that wait for those before them, and the times of those that don't.
+/// The singles of received casts that wait for those before them, and the times of those that don't.
 #[derive(Drop)]
 pub struct Reception {
     /// One for each member; the member's own stays empty.
     pub buffers: Vec<Reorder>,
     pub expander: Expander,
-    /// For each member as many times as casts wait in its buffer, to write their messages' times over, so that expanding takes no memory.
+    /// For each member as many times as singles wait in its buffer, to write their messages' times over, so that expanding takes no memory.
     pub spares: Vec<Vec<VectorTime>>,
 }
 
@@ -55,44 +57,47 @@ impl Reception {
         })
     }
 
-    /// How many more messages of the sender could be expanded, were its cast of this number there as well.
-    pub fn would_expand(&self, sender: u32, number: u32) -> u32
-        requires { sender < length self.now.buffers.items }
-        ensures { WouldExpand sender number number self.now result }
+    /// How many more messages of the sender could be expanded, were this cast there as well.
+    pub fn would_expand(&self, cast: &Cast) -> u32
+        requires { cast.now.sender < length self.now.buffers.items }
+        ensures { WouldExpand cast.now.sender (first_number (cast_fields cast.now))
+            (last_number (cast_fields cast.now)) self.now result }
     {
-        self.buffers[sender as usize].ready_with(number)
+        self.buffers[cast.sender as usize].ready_with(cast.number)
     }
 
-    /// Makes room for one spare more of this sender.
-    pub fn reserve(&mut self, sender: u32) -> Result<(), NoMemory>
+    /// Makes room for so many spares more of this sender.
+    pub fn reserve(&mut self, sender: u32, count: usize) -> Result<(), NoMemory>
         requires { sender < length self.old.spares.items }
         ensures same { IsAlike self.old self.new }
-        ensures place { OnOk result (HasPlaceFor sender self.new) }
+        ensures place { OnOk result (HasPlaceFor sender count self.new) }
     {
-        self.spares[sender as usize].reserve(1)
+        self.spares[sender as usize].reserve(count)
     }
 
-    /// Keeps a cast of another member until those before it are received, and what is made for it.
-    pub fn keep(&mut self, delivered: u32, cast: Cast, spare: VectorTime)
+    /// Keeps the singles of a cast of another member until those before them are received, and what is made for them.
+    pub fn keep(&mut self, delivered: u32, cast: Cast, spares: Spares)
         requires can_keep { CanKeep delivered (cast_fields cast) self.old }
-        requires place { HasPlaceFor cast.sender self.old }
-        ensures { KeepsCast (cast_fields cast) spare self.old self.new }
+        requires many { length (times_in spares) ≡ length (messages_of (cast_fields cast)) }
+        requires place { HasPlaceFor cast.sender (length (times_in spares)) self.old }
+        ensures { KeepsCast (cast_fields cast) (times_in spares) self.old self.new }
     {
         let sender = cast.sender as usize;
-        self.spares[sender].push_reserved(spare);
-        let _kept = self.buffers[sender].keep(delivered, cast);
+        spares.put_on(&mut self.spares[sender]);
+        Singles::of(cast).keep_in(&mut self.buffers[sender], delivered);
     }
 
-    /// Whether the cast of this number is its sender's next one, and none of the sender's waits behind it.
-    pub fn is_in_order(&self, sender: u32, number: u32) -> bool
-        requires { sender < length self.now.buffers.items }
-        ensures { result ≡ true → IsInOrder sender number self.now }
+    /// Whether the cast is its sender's next one, and none of the sender's waits behind it.
+    pub fn is_in_order(&self, cast: &Cast) -> bool
+        requires { cast.now.sender < length self.now.buffers.items }
+        ensures { result ≡ true
+            → IsInOrder cast.now.sender (first_number (cast_fields cast.now)) self.now }
     {
-        self.buffers[sender as usize].is_in_order(number)
+        self.buffers[cast.sender as usize].is_in_order(cast.number)
     }
 
-    /// The message of a cast of another member that comes in order, once its time was looked at. It is as if the cast were kept and
-    /// taken out.
+    /// The message of a cast of another member that carries just this one and comes in order, once its time was looked at. It is as if
+    /// the cast were kept and taken out.
     pub fn take_in_order(&mut self, cast: Cast, time: VectorTime) -> Message
         requires { TakesAt (cast_fields cast) time self.old }
         ensures takes { TakesInOrder (cast_fields cast) self.old self.new result }
@@ -107,7 +112,7 @@ impl Reception {
         }
     }
 
-    /// The sender's next message, where its cast is there and none is missing before it.
+    /// The sender's next message, where its single is there and none is missing before it.
     pub fn expand_next(&mut self, sender: u32) -> Option<Message>
         requires { IsReceiving sender self.old }
         ensures some { IfSome result (λ message. ExpandsNext sender self.old self.new message) }
@@ -116,14 +121,13 @@ impl Reception {
     {
         let cast = self.buffers[sender as usize].take_next()?;
         let Some(spare) = self.spares[sender as usize].pop() else {
-            unreachable!("there is one for each cast that waits")
+            unreachable!("there is one for each single that waits")
         };
         Some(expanded(&mut self.expander, cast, spare))
     }
 }
 
-/// The message of the sender's next cast, whose time is written over the spare.
-#[tactic(auto, using(cb_frames::proofs::Carried::first_is_number))]
+/// The message of the sender's next single, whose time is written over the spare.
 fn expanded(expander: &mut Expander, cast: Cast, mut spare: VectorTime) -> Message
     requires next { IsNext expander.old (cast_fields cast) }
     requires size { length spare ≡ length expander.old }
@@ -162,8 +166,11 @@ fn spares_like(spares: &Vec<Vec<VectorTime>>) -> Result<Vec<Vec<VectorTime>>, No
     Ok(copies)
 }
 
+/// The name of its first message.
+#[tactic(auto, using(cb_frames::proofs::Carried::first_is_number))]
 fn name_of(cast: &Cast) -> Name
-    ensures { result ≡ record { sender = cast.now.sender; number = cast.now.number } }
+    ensures { result ≡ record { sender = cast.now.sender;
+        number = first_number (cast_fields cast.now) } }
 {
     Name {
         sender: cast.sender,

@@ -1,27 +1,28 @@
 //! A cast of another member, up to what waits for the delay rule.
 
 ghost use Rattle.cb_frames.specs.Fields.{cast_fields};
+ghost use Rattle.cb_member.specs.Singles.{times_in};
 ghost use Rattle.cb_member.specs.Taking.{CanTakeIn, TakesInCast, IsTakingIn, OnlyTakesIn, TakesAll};
 
 use crate::delivery::hold_next;
+use crate::singles::{Spares, last_of};
 use crate::state::State;
 use cb_frames::Cast;
-use cb_times::VectorTime;
 
 impl State {
     /// Keeps a cast of another member, and lets wait for the delay rule what can be expanded by it. It takes no memory.
-    pub fn take_in(&mut self, cast: Cast, spare: VectorTime)
-        requires { CanTakeIn (cast_fields cast) spare self.old }
+    pub fn take_in(&mut self, cast: Cast, spares: Spares)
+        requires { CanTakeIn (cast_fields cast) (times_in spares) self.old }
         ensures { TakesInCast (cast_fields cast) self.old self.new }
     {
-        let (sender, number) = (cast.sender, cast.number);
+        let (sender, last) = (cast.sender, last_of(&cast));
         let delivered = self.delivery.time.get(sender);
-        self.reception.keep(delivered, cast, spare);
-        self.knowledge.hear(sender, number);
+        self.reception.keep(delivered, cast, spares);
+        self.knowledge.hear(sender, last);
         self.take_all(sender);
     }
 
-    /// Expands the sender's casts as long as the next one is there, and holds their messages.
+    /// Expands the sender's singles as long as the next one is there, and holds their messages.
     fn take_all(&mut self, sender: u32)
         requires { IsTakingIn sender self.old }
         ensures takes { TakesAll sender self.old self.new }

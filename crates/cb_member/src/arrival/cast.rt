@@ -3,7 +3,7 @@
 ghost use Rattle.std.specs.Prelude.{◌≡◌, ◌+◌, ◌≤◌, ◌++◌, ◌∷◌, [], ℕ};
 ghost use Rattle.std.specs.Vec.{vec_capacity, vec_len};
 ghost use Rattle.cb_frames.specs.declared.frame.TheConstants.{LAST_NUMBER};
-ghost use Rattle.cb_frames.specs.Fields.{cast_fields, CastFrame};
+ghost use Rattle.cb_frames.specs.Fields.{cast_fields, first_number, last_number, CastFrame};
 ghost use Rattle.cb_frames.specs.Text.{RisesFrom};
 ghost use Rattle.cb_history.specs.Answers.{are_members};
 ghost use Rattle.cb_member.specs.State.{IsState};
@@ -11,12 +11,14 @@ ghost use Rattle.cb_member.specs.Arriving.{own_verdict, other_verdict, JudgesCas
 ghost use Rattle.cb_member.specs.Course.{CanGo, HasTime, HoldsAtMost, IsEarly, MustWait, GoesAlone, TakesAndDelivers, TakesAndWaits, most};
 ghost use Rattle.cb_member.specs.Foreseen.{JoinsEvents};
 ghost use Rattle.cb_member.specs.Passing.{HoldsIt, message_at};
+ghost use Rattle.cb_member.specs.Singles.{times_in};
 ghost use Rattle.cb_member.specs.Taking.{CanTakeIn, TakesInCast};
 ghost use Rattle.cb_delay.specs.declared.message.Event.TheVariants.{Deliver};
 
 use crate::arrival::are_fields;
 use crate::arrival::course::Course;
 use crate::delivery::hold_next;
+use crate::singles::{Spares, last_of};
 use crate::state::State;
 use cb_delay::Event;
 use cb_frames::Cast;
@@ -37,8 +39,8 @@ impl State {
     pub fn judge_cast(&self, cast: &Cast) -> Result<Judged, ArriveRefusal>
         requires state { IsState self.now }
         requires rising { RisesFrom 0 cast.now.changes.items }
-        requires numbered { 1 ≤ cast.now.number }
-        requires numbers { cast.now.number ≤ LAST_NUMBER }
+        requires numbered { 1 ≤ first_number (cast_fields cast.now) }
+        requires numbers { last_number (cast_fields cast.now) ≤ LAST_NUMBER }
         ensures { JudgesCast self.now (cast_fields cast.now) result }
     {
         if cast.group != self.seat.group().number() {
@@ -49,7 +51,7 @@ impl State {
         }
         let delivered = self.delivery.time.get(cast.sender);
         if cast.sender == self.seat.me() {
-            return judge_own(delivered, cast.number);
+            return judge_own(delivered, last_of(cast));
         }
         judge_other(self.reception.buffers[cast.sender as usize].judge(delivered, cast.number))
     }
@@ -80,20 +82,20 @@ impl State {
         ensures few { vec_len events.new ≤ vec_len events.old + most course }
     {
         match course {
-            Course::Early { spare } => self.take_early(cast, spare),
+            Course::Early { spares } => self.take_early(cast, spares),
             Course::Waits { time } => self.let_wait(cast, time),
             Course::Alone { time } => self.deliver_alone(cast, time, events),
             Course::LeadsOn { time, most: _ } => self.lead_on(cast, time, events),
-            Course::LetsGo { spare, most: _ } => self.let_go(cast, spare, events),
+            Course::LetsGo { spares, most: _ } => self.let_go(cast, spares, events),
         }
     }
 
     /// It came before its turn, and nothing that waits may be delivered.
-    fn take_early(&mut self, cast: Cast, spare: VectorTime)
-        requires { IsEarly (cast_fields cast) spare self.old }
+    fn take_early(&mut self, cast: Cast, spares: Spares)
+        requires { IsEarly (cast_fields cast) (times_in spares) self.old }
         ensures { TakesAndWaits (cast_fields cast) self.old self.new }
     {
-        self.take_in(cast, spare);
+        self.take_in(cast, spares);
     }
 
     /// It came in order, and has to wait like all that waits.
@@ -111,9 +113,9 @@ impl State {
         ensures holds { HoldsIt self.old.delivery (message_at (cast_fields cast) time)
             self.new.delivery }
     {
-        let (sender, number) = (cast.sender, cast.number);
+        let (sender, last) = (cast.sender, last_of(&cast));
         let message = self.reception.take_in_order(cast, time);
-        self.knowledge.hear(sender, number);
+        self.knowledge.hear(sender, last);
         self.knowledge.known.raise(&message.time);
         hold_next(&mut self.delivery.queue, message);
     }
@@ -128,9 +130,9 @@ impl State {
             ≡ events.old.items ++ Deliver (message_at (cast_fields cast) time) ∷ [] }
         ensures one { vec_len events.new ≡ vec_len events.old + 1 }
     {
-        let (sender, number) = (cast.sender, cast.number);
+        let (sender, last) = (cast.sender, last_of(&cast));
         let message = self.reception.take_in_order(cast, time);
-        self.knowledge.hear(sender, number);
+        self.knowledge.hear(sender, last);
         self.delivery.deliver_alone(message, events);
     }
 
@@ -150,8 +152,8 @@ impl State {
     }
 
     /// Others may go with it.
-    fn let_go(&mut self, cast: Cast, spare: VectorTime, events: &mut Vec<Event>)
-        requires can { CanTakeIn (cast_fields cast) spare self.old }
+    fn let_go(&mut self, cast: Cast, spares: Spares, events: &mut Vec<Event>)
+        requires can { CanTakeIn (cast_fields cast) (times_in spares) self.old }
         requires room { (count : ℕ) × HoldsAtMost (cast_fields cast) self.old count
             × (vec_len events.old + count ≤ vec_capacity events.old) }
         ensures takes { TakesAndDelivers (cast_fields cast) self.old self.new events.old.items
@@ -160,16 +162,16 @@ impl State {
         ensures few { (count : ℕ) → HoldsAtMost (cast_fields cast) self.old count
             → vec_len events.new ≤ vec_len events.old + count }
     {
-        self.take_in(cast, spare);
+        self.take_in(cast, spares);
         self.delivery.drain(events);
     }
 }
 
 /// A cast of the member itself was made before, or it never made it.
-fn judge_own(delivered: u32, number: u32) -> Result<Judged, ArriveRefusal>
-    ensures { result ≡ own_verdict delivered number }
+fn judge_own(delivered: u32, last: u32) -> Result<Judged, ArriveRefusal>
+    ensures { result ≡ own_verdict delivered last }
 {
-    if delivered < number {
+    if delivered < last {
         Err(ArriveRefusal::Impossible)
     } else {
         Ok(Judged::Repeat)

@@ -1,18 +1,21 @@
 //! The course of a received cast: one of five ways, told before anything changes, with what is made for it.
 //!
-//! `LetsGo` would do for every cast. The others are for what comes most, and cost less.
+//! `LetsGo` would do for every cast. The others are for what comes most, and cost less; those in order are for a cast of one message.
 
 ghost use Rattle.std.specs.Prelude.{◌≡◌, ◌≢◌, ◌≤◌, ◌+◌, ◌↔◌, All, IfOk, IsTrue, length};
 ghost use Rattle.std.specs.FinMap as map;
 ghost use Rattle.cb_times.specs.Order.{field};
-ghost use Rattle.cb_frames.specs.Fields.{cast_fields};
+ghost use Rattle.cb_frames.specs.Fields.{cast_fields, first_number};
 ghost use Rattle.cb_delay.specs.Rule.{IsReady};
 ghost use Rattle.cb_diffs.specs.Expansion.{AreMembers};
+ghost use Rattle.cb_history.specs.Singles.{IsSingle};
+ghost use Rattle.cb_member.specs.Singles.{AreSparesFor, times_in};
 ghost use Rattle.cb_member.specs.State.{IsAlike};
 ghost use Rattle.cb_member.specs.Taking.{CanFollow};
 ghost use Rattle.cb_member.specs.Passing.{IsInOrder};
 ghost use Rattle.cb_member.specs.Course.{CanGo, HasTime, most};
 
+use crate::singles::{Spares, is_single};
 use crate::state::State;
 use cb_frames::Cast;
 use cb_times::{NoMemory, VectorTime};
@@ -21,8 +24,8 @@ use std::alloc::AllocError;
 /// What a cast does that is taken, and what is made for it, so that nothing then takes memory.
 #[derive(Drop)]
 pub enum Course {
-    /// It comes before its turn, and waits for the casts before it; nothing is delivered. `spare` is for its time.
-    Early { spare: VectorTime },
+    /// It comes before its turn, and waits for the casts before it; nothing is delivered. `spares` are for the times of its messages.
+    Early { spares: Spares },
     /// It comes in order, and waits for the delay rule; nothing is delivered.
     Waits { time: VectorTime },
     /// It comes in order, and is delivered alone.
@@ -30,7 +33,7 @@ pub enum Course {
     /// It comes in order, and may let others go: at most so many are delivered.
     LeadsOn { time: VectorTime, most: usize },
     /// It may let others go: at most so many are delivered.
-    LetsGo { spare: VectorTime, most: usize },
+    LetsGo { spares: Spares, most: usize },
 }
 
 impl Course {
@@ -54,7 +57,7 @@ impl State {
         ensures same { IsAlike self.old self.new }
         ensures course { IfOk result (λ course. CanGo (cast_fields cast.now) course self.new) }
     {
-        if self.reception.is_in_order(cast.sender, cast.number) {
+        if is_single(cast) && self.reception.is_in_order(cast) {
             self.course_in_order(cast)
         } else {
             self.course_of_others(cast)
@@ -63,7 +66,9 @@ impl State {
 
     fn course_in_order(&mut self, cast: &Cast) -> Result<Course, NoMemory>
         requires can { CanFollow (cast_fields cast.now) self.old }
-        requires in_order { IsInOrder cast.now.sender cast.now.number self.old.reception }
+        requires single { IsSingle (cast_fields cast.now) }
+        requires in_order { IsInOrder cast.now.sender (first_number (cast_fields cast.now))
+            self.old.reception }
         ensures same { IsAlike self.old self.new }
         ensures course { IfOk result (λ course. CanGo (cast_fields cast.now) course self.new) }
     {
@@ -96,26 +101,27 @@ impl State {
         ensures same { IsAlike self.old self.new }
         ensures course { IfOk result (λ course. CanGo (cast_fields cast.now) course self.new) }
     {
-        let spare = VectorTime::zero(self.alloc, self.seat.group().size())?;
-        let more = self.reception.would_expand(cast.sender, cast.number);
+        let spares = Spares::for_cast(self.alloc, self.seat.group().size(), cast)?;
+        let more = self.reception.would_expand(cast);
         if more == 0 && self.delivery.has_none_ready() {
-            self.reception.reserve(cast.sender)?;
-            return Ok(Course::Early { spare });
+            self.reception.reserve(cast.sender, spares.len())?;
+            return Ok(Course::Early { spares });
         }
-        self.letting_go(cast, spare)
+        self.letting_go(cast, spares)
     }
 
     /// The course of one that may let all go that waits.
-    fn letting_go(&mut self, cast: &Cast, spare: VectorTime) -> Result<Course, NoMemory>
+    fn letting_go(&mut self, cast: &Cast, spares: Spares) -> Result<Course, NoMemory>
         requires can { CanFollow (cast_fields cast.now) self.old }
-        requires size { length spare ≡ self.old.seat.group.size }
+        requires spares_are { AreSparesFor (cast_fields cast.now) self.old.seat.group.size
+            (times_in spares) }
         ensures same { IsAlike self.old self.new }
         ensures course { IfOk result (λ course. CanGo (cast_fields cast.now) course self.new) }
     {
-        self.reception.reserve(cast.sender)?;
-        let more = self.reception.would_expand(cast.sender, cast.number);
+        self.reception.reserve(cast.sender, spares.len())?;
+        let more = self.reception.would_expand(cast);
         let most = self.most_with(more)?;
-        Ok(Course::LetsGo { spare, most })
+        Ok(Course::LetsGo { spares, most })
     }
 
     /// How many messages wait for the delay rule once so many more are expanded.

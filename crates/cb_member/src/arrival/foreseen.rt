@@ -8,6 +8,7 @@ ghost use Rattle.cb_member.specs.Foreseen.{AreCopies, AreDeliveries};
 ghost use Rattle.cb_member.specs.Passing.{message_at};
 
 use crate::arrival::course::Course;
+use crate::singles::Spares;
 use crate::state::State;
 use cb_delay::{Event, Message};
 use cb_frames::Cast;
@@ -36,10 +37,10 @@ impl State {
             copies.items) }
     {
         let mut twin = self.copy()?;
-        twin.reception.reserve(cast.sender)?;
-        let spare = VectorTime::zero(self.alloc, self.seat.group().size())?;
+        let spares = Spares::for_cast(self.alloc, self.seat.group().size(), cast)?;
+        twin.reception.reserve(cast.sender, spares.len())?;
         let mut events = Vec::with_capacity(self.alloc, most)?;
-        twin.take_cast(cast.copy()?, Course::LetsGo { spare, most }, &mut events);
+        twin.take_cast(cast.copy()?, Course::LetsGo { spares, most }, &mut events);
         drop(twin);
         messages_of(self.alloc, events)
     }

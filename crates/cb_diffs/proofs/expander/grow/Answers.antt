@@ -4,6 +4,7 @@ use Rattle.std.proofs.lemmas.List.{get_or_default}
 use Rattle.cb_times.specs.Order.{field}
 use Rattle.cb_frames.specs.declared.frame.Change.{Change}
 use Rattle.cb_frames.specs.Fields.{cast_fields}
+use Rattle.cb_frames.proofs.Carried.{first_is_number}
 use Rattle.cb_diffs.specs.Expansion.{greatest}
 use Rattle.cb_diffs.proofs.Growing.{GrownSoFar, growing_starts, growing_goes_on, growing_ends}
 use Rattle.cb_diffs.proofs.expander.grow.Goals as goal
@@ -33,4 +34,5 @@ loop-change-preserved c =
 pub returns : goal.returns
 returns c =
     let grown = subst (λ (ds : List Change). GrownSoFar c.args.time.now c.loop-change.time ds c.loop-change.change-index) c.loop-change.invariant.items c.loop-change.invariant.grown in
-    rw c.set-2.ensures (growing_ends c.args.time.now c.loop-change.time (cast_fields c.args.cast.now) c.loop-change.change-index grown (omega (arith, ap length c.loop-change.invariant.items)) c.requires.members.sender)
+    rw c.set-2.ensures (growing_ends c.args.time.now c.loop-change.time (cast_fields c.args.cast.now) c.loop-change.change-index c.args.cast.now.number grown (omega (arith, ap length c.loop-change.invariant.items)) c.requires.members.sender
+    (sym (first_is_number (cast_fields c.args.cast.now))))

@@ -1,6 +1,5 @@
-use Rattle.std.proofs.Common.{◌≤◌, ℕ, Ok, subst}
+use Rattle.std.proofs.Common.{Ok, subst}
 use Rattle.cb_frames.specs.Fields.{CastFrame, cast_fields}
-use Rattle.cb_frames.proofs.Carried.{first_is_number}
 use Rattle.cb_history.proofs.ReadBack.{frame_numbered}
 use Rattle.cb_member.specs.declared.arrival.cast.Judged.{Judged}
 use Rattle.cb_member.specs.Arriving.{JudgesCast}
@@ -11,9 +10,7 @@ pub judge_cast-requires-clause-state : goal.judge_cast-requires-clause-state
 judge_cast-requires-clause-state c = state_kept c.args.recorder c.requires.kept
 
 pub judge_cast-requires-clause-numbered : goal.judge_cast-requires-clause-numbered
-judge_cast-requires-clause-numbered c =
-    let cast = cast_fields c.args.cast in
-    subst (λ (n : ℕ). 1 ≤ n) (first_is_number cast) (frame_numbered c.args.bytes.now cast c.requires.read)
+judge_cast-requires-clause-numbered c = frame_numbered c.args.bytes.now (cast_fields c.args.cast) c.requires.read
 
 pub course_of-requires : goal.course_of-requires
 course_of-requires c = (subst (λ (j : Judged). JudgesCast c.args.recorder.state (cast_fields c.args.cast) (Ok j)) c.in-Ok-Taken.field-0-is c.in-Ok-Taken.ensures).can

@@ -6,7 +6,7 @@ use Rattle.cb_frames.specs.Fields.{cast_fields}
 use Rattle.cb_gaps.specs.Buffer.{Buffer}
 use Rattle.cb_member.specs.Passing.{message_at}
 use Rattle.cb_member.proofs.Receiving.{one_buffer, vec_at}
-use Rattle.cb_member.proofs.Passing.{name_is_first, in_order_is_next, takes_in_order}
+use Rattle.cb_member.proofs.Passing.{in_order_is_next, takes_in_order}
 use Rattle.cb_member.proofs.reception.Reception.take_in_order.Goals as goal
 
 pub take-requires-clause-next : goal.take-requires-clause-next
@@ -21,10 +21,10 @@ returns-clause-takes c =
     let is : c.index_mut.result.now ≡ in_order.buffer =
     one_buffer c.index_mut.result.now in_order.buffer (sym (vec_at buffers sender c.index_mut.result.now lt c.index_mut.ensures.value) ∙ in_order.at) in
     let message : (let m : Message = record { name = c.name_of.result; time = c.args.time; payload = c.args.cast.payload } in m) ≡ message_at (cast_fields c.args.cast) c.args.time =
-    ap (λ (n : Name). let m : Message = record { name = n; time = c.args.time; payload = c.args.cast.payload } in m) (c.name_of.ensures ∙ name_is_first (cast_fields c.args.cast)) in
+    ap (λ (n : Name). let m : Message = record { name = n; time = c.args.time; payload = c.args.cast.payload } in m) c.name_of.ensures in
     takes_in_order (cast_fields c.args.cast) c.args.self.now c.requires.can _ _
     (ap (set buffers sender) (c.take_in_order.ensures ∙ ap (λ (b : Buffer). record b { taken = b.taken + 1 }) is)) refl
     (record { time = c.args.time; expands = c.take.ensures; message_is = message })
 
 pub returns-clause-message : goal.returns-clause-message
-returns-clause-message c = ap (λ (n : Name). let m : Message = record { name = n; time = c.args.time; payload = c.args.cast.payload } in m) (c.name_of.ensures ∙ name_is_first (cast_fields c.args.cast))
+returns-clause-message c = ap (λ (n : Name). let m : Message = record { name = n; time = c.args.time; payload = c.args.cast.payload } in m) c.name_of.ensures

@@ -1,11 +1,12 @@
-use Rattle.std.proofs.Common.{◌≡◌, ◌∙◌, length, ap, sym, subst}
-use Rattle.std.proofs.lemmas.List.{length-replicate}
+use Rattle.std.proofs.Common.{◌≡◌, ◌∙◌, ℕ, ap, sym, subst}
 use Rattle.cb_frames.specs.Fields.{CastFields, cast_fields}
 use Rattle.cb_history.specs.Group.{Parameters}
 use Rattle.cb_member.specs.Arriving.{DeliversWith}
 use Rattle.cb_member.specs.Course.{HoldsAtMost}
 use Rattle.cb_member.specs.Foreseen.{AreDeliveries}
 use Rattle.cb_member.specs.Knowledge.{delivered_by}
+use Rattle.cb_member.specs.Reception.{HasPlaceFor}
+use Rattle.cb_member.specs.Singles.{AreSparesFor, times_in}
 use Rattle.cb_member.specs.Taking.{CanTakeIn}
 use Rattle.cb_member.proofs.Alike.{alike_again, with_room}
 use Rattle.cb_member.proofs.Foreseeing.{are_its_deliveries, can_let_go, foretold}
@@ -15,9 +16,12 @@ pub take_cast-requires-clause-can : goal.take_cast-requires-clause-can
 take_cast-requires-clause-can c =
     let twin = record c.in_ok-twin.twin { reception = c.reserve.new.self } in
     let same = alike_again c.args.self.now c.in_ok-twin.twin twin c.in_ok-twin.ensures (with_room c.in_ok-twin.twin c.reserve.new.self c.reserve.ensures.same) in
-    let long = ap length c.in_ok-spare.ensures ∙ length-replicate c.size.result 0 ∙ c.size.ensures.size ∙ ap (λ (g : Parameters). g.size) c.group.ensures.group in
-    subst (λ (cast : CastFields). CanTakeIn cast c.in_ok-spare.spare twin × HoldsAtMost cast twin c.args.most) (sym c.in_ok-copy.ensures)
-    (can_let_go (cast_fields c.args.cast.now) c.args.most c.in_ok-spare.spare c.args.self.now twin same c.requires long c.in_ok-reserve.ensures.place)
+    let spares = times_in c.in_ok-spares.spares in
+    let size : c.size.result ≡ c.args.self.now.seat.group.size = c.size.ensures.size ∙ ap (λ (g : Parameters). g.size) c.group.ensures.group in
+    let are = subst (λ (n : ℕ). AreSparesFor (cast_fields c.args.cast.now) n spares) size c.in_ok-spares.ensures in
+    let place = subst (λ (n : ℕ). HasPlaceFor c.args.cast.now.sender n c.reserve.new.self) c.len.ensures c.in_ok-reserve.ensures.place in
+    subst (λ (cast : CastFields). CanTakeIn cast spares twin × HoldsAtMost cast twin c.args.most) (sym c.in_ok-copy.ensures)
+    (can_let_go (cast_fields c.args.cast.now) c.args.most spares c.args.self.now twin same c.requires are place)
 
 pub returns : goal.returns
 returns c =

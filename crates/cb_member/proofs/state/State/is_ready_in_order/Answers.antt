@@ -1,11 +1,11 @@
-use Rattle.std.proofs.Common.{ℕ, ◌+◌, ◌≡◌, ◌↔◌, ◌∙◌, List, length, sym, ap, subst, true≢false, rules, tests}
+use Rattle.std.proofs.Common.{ℕ, ◌+◌, ◌<◌, ◌^◌, ◌≡◌, ◌↔◌, ◌∙◌, List, length, sym, ap, subst, true≢false, rules, tests}
 use Rattle.std.specs.Prelude.{All, IsTrue}
 use Rattle.cb_times.specs.Order.{field}
 use Rattle.cb_frames.specs.Fields.{cast_fields}
 use Rattle.cb_frames.proofs.Carried.{first_is_number}
 use Rattle.cb_diffs.specs.Expansion.{AreMembers}
 use Rattle.cb_member.proofs.Courses.{expander_long, is_next, time_is_long}
-use Rattle.cb_member.proofs.Ready.{IsReached, number_is_one, next_and_reached_is_ready, ready_is_next, ready_is_reached}
+use Rattle.cb_member.proofs.Ready.{IsReached, first_is_small, next_and_reached_is_ready, ready_is_next, ready_is_reached}
 use Rattle.cb_member.proofs.TakingIn.{sender_is_counted}
 use Rattle.cb_member.proofs.state.State.is_ready_in_order.Goals as goal
 
@@ -18,7 +18,7 @@ changes_are_reached-requires-clause-members c =
     let state = c.args.self.now in
     subst (λ (size : ℕ). AreMembers size cast)
     (expander_long cast state c.requires.can ∙ sym (time_is_long cast state c.requires.can) ∙ ap length (sym c.as_slice-then-eq.ensures.fields))
-    (is_next cast state c.requires.can c.requires.in_order).members
+    (is_next cast state c.requires.can c.requires.single c.requires.in_order).members
 
 pub changes_are_reached-requires-clause-size : goal.changes_are_reached-requires-clause-size
 changes_are_reached-requires-clause-size c =
@@ -40,7 +40,8 @@ pub returns-else-eq : goal.returns-else-eq
 returns-else-eq c = (
   λ same. absurd (true≢false (sym same ∙ c.if-eq.false)),
   λ ready.
-      let next : field c.args.self.now.delivery.time c.args.cast.now.sender + 1 ≡ c.args.cast.now.number = ready_is_next (cast_fields c.args.cast.now) c.args.time.now c.args.self.now c.requires ready ∙ first_is_number (cast_fields c.args.cast.now) in
-      let small = number_is_one (cast_fields c.args.cast.now) c.args.self.now c.requires.can in
+      let first = first_is_number (cast_fields c.args.cast.now) in
+      let next : field c.args.self.now.delivery.time c.args.cast.now.sender + 1 ≡ c.args.cast.now.number = ready_is_next (cast_fields c.args.cast.now) c.args.time.now c.args.self.now c.requires ready ∙ first in
+      let small : c.args.cast.now.number < 2 ^ 32 = subst (λ (n : ℕ). n < 2 ^ 32) first (first_is_small (cast_fields c.args.cast.now) c.args.self.now c.requires.can) in
       search (rules, tests),
 )

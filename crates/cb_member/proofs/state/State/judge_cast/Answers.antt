@@ -1,6 +1,7 @@
 use Rattle.std.proofs.Common.{◌≡◌, ◌∙◌, ℕ, true, Some, sym, ap, subst, arith}
 use Rattle.std.specs.Prelude.{slice_get}
 use Rattle.std.proofs.lemmas.Option.{slice_get-get_or}
+use Rattle.cb_times.specs.Order.{field}
 use Rattle.cb_frames.specs.Fields.{CastFrame, cast_fields}
 use Rattle.cb_frames.proofs.Carried.{first_is_number, last_is_number}
 use Rattle.cb_gaps.specs.Buffer.{Buffer, Admits}
@@ -24,7 +25,7 @@ returns-then-cast-me c =
     let members : are_members c.args.self.now.seat.group.size (CastFrame (cast_fields c.args.cast.now)) ≡ true =
     ap (λ (n : ℕ). are_members n (CastFrame (cast_fields c.args.cast.now))) (sym (c.size.ensures.size ∙ ap (λ (g : Parameters). g.size) c.group-2.ensures.group)) ∙ sym c.are_members.ensures ∙ c.if-not-are_members.false in
     let group = c.if-cast-number.false ∙ c.number.ensures ∙ ap (λ (g : Parameters). g.number) c.group.ensures.group in
-    let verdict = c.judge_own.ensures ∙ ap (λ (n : ℕ). own_verdict n c.args.cast.now.number) c.get-delivered.ensures.field in
+    let verdict = c.judge_own.ensures ∙ ap (λ (n : ℕ). own_verdict n c.last_of.result) c.get-delivered.ensures.field ∙ ap (own_verdict (field c.args.self.now.delivery.time c.args.cast.now.sender)) c.last_of.ensures in
     subst (JudgesCast c.args.self.now (cast_fields c.args.cast.now)) (sym verdict)
     (judges_own c.args.self.now (cast_fields c.args.cast.now) c.requires.numbered group members (c.if-cast-me.true ∙ c.me.ensures.me))
 

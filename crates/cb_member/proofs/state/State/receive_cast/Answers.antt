@@ -18,9 +18,7 @@ pub judge_cast-requires-clause-state : goal.judge_cast-requires-clause-state
 judge_cast-requires-clause-state c = is_state c.args.self.now c.requires.core
 
 pub judge_cast-requires-clause-numbered : goal.judge_cast-requires-clause-numbered
-judge_cast-requires-clause-numbered c =
-    let cast = cast_fields c.args.cast in
-    subst (λ (n : ℕ). 1 ≤ n) (first_is_number cast) (frame_numbered c.args.bytes.now cast c.requires.read)
+judge_cast-requires-clause-numbered c = frame_numbered c.args.bytes.now (cast_fields c.args.cast) c.requires.read
 
 pub returns-in-Ok-Repeat : goal.returns-in-Ok-Repeat
 returns-in-Ok-Repeat c =

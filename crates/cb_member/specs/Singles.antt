@@ -1,0 +1,33 @@
+-- The singles of a received cast that are still to be kept, and the spares for their times.
+use Rattle.std.specs.Prelude.{◌≡◌, ℕ, ◌+◌, ◌<◌, ◌≤◌, All, List, ◌∷◌, length, option_map, option_to_list}
+use Rattle.std.specs.List.{AllByRecursion}
+use Rattle.cb_frames.specs.Fields.{CastFields, cast_fields, messages_of}
+use Rattle.cb_gaps.specs.Buffer.{Buffer, IsInWindow, IsLacking}
+use Rattle.cb_history.specs.NameLaws.{NumberedFrom}
+use Rattle.cb_history.specs.Singles.{IsSingle}
+use Rattle.cb_member.specs.declared.singles.Singles.{Singles}
+use Rattle.cb_member.specs.declared.singles.Spares.{Spares}
+
+-- the singles that are left
+abbrev pub left_in : Singles → List CastFields
+left_in s = option_to_list (option_map cast_fields s.next)
+
+-- the spares as a list
+abbrev pub times_in : Spares → List (List ℕ)
+times_in s = s.first ∷ s.others.items
+
+-- a spare of the group's size for each message of the cast
+pub record AreSparesFor (c : CastFields) (size : ℕ) (spares : List (List ℕ)) : Type 0 where
+  pub many : length spares ≡ length (messages_of c)
+  pub sizes : All (λ time. length time ≡ size) spares
+
+-- a buffer can keep these casts in turn where so many of their sender's are delivered: each carries one message, they are numbered one
+-- after another, it lacks all of them, and all are in its window
+pub record CanKeepInTurn (delivered : ℕ) (singles : List CastFields) (b : Buffer) : Type 0 where
+  pub sender : ℕ
+  pub first : ℕ
+  pub upto_taken : delivered ≤ b.taken
+  pub numbered : NumberedFrom sender first singles
+  pub single : AllByRecursion IsSingle singles
+  pub lacking : (number : ℕ) → first ≤ number → number < first + length singles → IsLacking b number
+  pub near : (number : ℕ) → first ≤ number → number < first + length singles → IsInWindow b delivered number
