@@ -1,6 +1,9 @@
 -- What each course does: as if the cast had been taken in, and what was ready had been delivered then.
-use Rattle.std.proofs.Common.{◌≡◌, ℕ, ◌≤◌, max, inl, inr, List, [], ◌∷◌, ◌++◌, length, None, refl, sym, ap, subst, ◌∙◌, arith}
+use Rattle.std.proofs.Common.{◌≡◌, ℕ, ◌+◌, ◌≤◌, max, inl, inr, List, [], ◌∷◌, ◌++◌, None, refl, sym, ap, subst, ◌∙◌, arith}
 use Rattle.std.specs.FinMap as fin
+use Rattle.std.specs.Vec.{vec_len}
+use Rattle.std.specs.declared.alloc.Global.{Global}
+use Rattle.std.specs.declared.vec.Vec.{Vec}
 use Rattle.cb_times.specs.Order.{field}
 use Rattle.cb_times.specs.Time.{IsRaised}
 use Rattle.cb_frames.specs.Fields.{Carried, CastFields, last_number}
@@ -20,7 +23,7 @@ use Rattle.cb_member.specs.declared.delivery.Delivery.{Delivery}
 use Rattle.cb_member.specs.declared.knowledge.Knowledge.{Knowledge}
 use Rattle.cb_member.specs.declared.reception.Reception.{Reception}
 use Rattle.cb_member.specs.declared.state.State.{State}
-use Rattle.cb_member.specs.Course.{GoesAlone, HasTime, IsEarly, MustWait, TakesAndDelivers, TakesAndWaits}
+use Rattle.cb_member.specs.Course.{DeliversWhatIsReady, GoesAlone, HasTime, HoldsAtMost, IsEarly, MustWait, TakesAndDelivers, TakesAndWaits}
 use Rattle.cb_member.specs.Delivery.{Drains, NoneReady}
 use Rattle.cb_member.specs.Passing.{DeliversAlone, HoldsIt, IsAlone, TakesInOrder, message_at}
 use Rattle.cb_member.specs.Taking.{CanFollow, HasTakenIn, HasTurn, Hears, TakesInCast}
@@ -143,5 +146,24 @@ module _ (c : CastFields) (time : List ℕ) (old : State) (goes : GoesAlone c ti
 
 -- ---- others may go with it
 
-pub goes_on_growing : (c : CastFields) (old new : State) (before after : List Event) → CanFollow c old → TakesAndDelivers c old new before after → length before ≤ length after
-goes_on_growing c old new before after can takes = no_fewer can.facts c old new before after (is_delivered can.facts c old new before after takes can.legal can.keeps)
+-- the cast was taken in
+module _ (c : CastFields) (old mid : State) (can : CanFollow c old) (takes : TakesInCast c old mid) where
+  -- no more wait then than there may
+  pub waits_at_most : (count : ℕ) → HoldsAtMost c old count → fin.len mid.delivery.queue.held ≤ count
+  waits_at_most count holds =
+      let held = (takes.takes_in can.facts can.legal can.keeps).held in
+      let upto = holds can.facts can.legal can.keeps in
+      omega (arith, held, upto)
+
+  -- and then what was ready was delivered
+  pub goes_on : (d : Delivery) (before after : Vec Event Global) → Drains mid.delivery d before.items after.items → vec_len after ≤ vec_len before + fin.len mid.delivery.queue.held
+      → DeliversWhatIsReady c old (record mid { delivery = d }) before after
+  goes_on d before after drains few =
+      let delivers : TakesAndDelivers c old (record mid { delivery = d }) before.items after.items = record { waits = mid.delivery; takes_in = takes; drains = drains } in
+      let grows = no_fewer can.facts c old (record mid { delivery = d }) before.items after.items
+      (is_delivered can.facts c old (record mid { delivery = d }) before.items after.items delivers can.legal can.keeps) in
+      record {
+        takes = delivers;
+        grows = omega (arith, grows, before.ok.0, after.ok.0);
+        few = λ count holds. omega (arith, few, waits_at_most count holds);
+      }

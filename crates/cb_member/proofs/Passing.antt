@@ -35,7 +35,7 @@ use Rattle.cb_member.specs.Reception.{HasReceived, spares_in}
 use Rattle.cb_member.specs.Singles.{AreSparesFor}
 use Rattle.cb_member.specs.State.{Keeps}
 use Rattle.cb_member.specs.Taking.{KeepsCast, HasNoNextOf, Tells, HasTurn, Hears, OnlyTakesIn, TakesIn, IsTakingIn, TakesAll, HasTakenIn, TakesInCast, CanFollow, one_more, taken_with}
-use Rattle.cb_member.specs.Passing.{IsInOrder, CanTakeInOrder, TakesInOrder, HoldsIt}
+use Rattle.cb_member.specs.Passing.{CanTakeInOrder, TakesInOrder, HoldsIt}
 use Rattle.cb_member.proofs.Receiving.{GivesNext, written_back, at_written, IsReported, kept_cast, next_is_reported, its_turn}
 use Rattle.cb_member.proofs.TakingIn.{of_other, of_member, TakesOne, expanded_then, takes_on, none_taken_yet, all_taken, begins, ends, only_alike, time_fits_known, message_has_turn, sender_is_heard_of}
 
@@ -169,7 +169,7 @@ module _ (c : CastFields) (old : Reception) (can : CanTakeInOrder c old) where
     none_behind : HasNoNextOf c.sender new new
     none_behind seat facts taken are not_me has = (
       sym (has.taken_are c.sender after at_new not_me) ∙ all_is_taken (singles_in facts) c.sender after (has.waits c.sender after at_new not_me) (is_not_kept can.in_order.buffer c can.in_order.in_order (after.taken + 1))
-      ∙ (singles_are_the_same (casts_in facts)).counts c.sender,
+          ∙ (singles_are_the_same (casts_in facts)).counts c.sender,
       has,
     )
 

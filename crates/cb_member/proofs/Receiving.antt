@@ -447,7 +447,7 @@ none_is_next sender before after old new was none same buffers expander spares s
     let was_there : (i : ℕ) (b : Buffer) → slice_get new.buffers.items i ≡ Some b → slice_get old.buffers.items i ≡ Some b = λ i b at.
     set_to_same old.buffers.items sender i before after b was same (ap (λ (bs : List Buffer). slice_get bs i) (sym buffers) ∙ at) in (
       sym (received.taken_are sender before was other) ∙ all_is_taken (singles_in facts) sender before (received.waits sender before was other) none
-      ∙ (singles_are_the_same (casts_in facts)).counts sender,
+          ∙ (singles_are_the_same (casts_in facts)).counts sender,
       record {
         senders = ap length buffers ∙ length-set old.buffers.items sender after ∙ received.senders;
         waits = λ i b at. received.waits i b (was_there i b at);

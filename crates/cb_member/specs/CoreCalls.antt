@@ -92,6 +92,18 @@ pub record HasReceivedWith (old new : MemberState) (bytes : List ℕ) (r : Recei
   pub count : count_said r ≡ length messages
   pub after : new ≡ state_after old (ToTake bytes)
 
+-- so it is on each history that the core may stand for
+abbrev pub ReceivesOnEach : Core → List ℕ → Received → List Message → Type 0
+ReceivesOnEach core bytes r messages = OnEach core (λ m. HasReceivedWith m (state_after m (ToTake bytes)) bytes r messages)
+
+-- this is the entry that each of them has of the bytes, if any
+abbrev pub HasEntryOnEach : Core → List ℕ → Option Entry → Type 0
+HasEntryOnEach core bytes noted = OnEach core (λ m. entry_by m (ToTake bytes) ≡ option_map entry_fields noted)
+
+-- they are refused so on each
+abbrev pub RefusesOnEach : Core → List ℕ → ArriveRefusal → Type 0
+RefusesOnEach core bytes refusal = OnEach core (λ m. RefusesArrival m bytes refusal)
+
 -- the events are those of before, and behind them the deliveries of these messages
 abbrev pub JoinsAs : List Message → List Event → List Event → Type 0
 JoinsAs messages before after = after ≡ before ++ map (λ m. Deliver m) messages
@@ -99,10 +111,10 @@ JoinsAs messages before after = after ≡ before ++ map (λ m. Deliver m) messag
 -- what they deliver joined the events; and this is their entry, where it is wanted and one is added
 pub record HearsOnEach (wanted : Bool) (bytes : List ℕ) (old new : Core) (before after : List Event) (heard : Heard) : Type 0 where
   pub goes_on : GoesOn (ToTake bytes) old new
-  pub taken : OnEach old (λ m. HasReceivedWith m (state_after m (ToTake bytes)) bytes heard.received (joined before after))
+  pub taken : ReceivesOnEach old bytes heard.received (joined before after)
   pub joins : JoinsAs (joined before after) before after
   pub count : count_said heard.received ≡ length (joined before after)
-  pub entry : wanted ≡ true → OnEach old (λ m. entry_by m (ToTake bytes) ≡ option_map entry_fields heard.noted)
+  pub entry : wanted ≡ true → HasEntryOnEach old bytes heard.noted
 
 -- whether the caller is told of an entry, and whether one may be added
 abbrev pub is_told : Noting → Bool

@@ -1,6 +1,9 @@
 -- The course of a received cast: what must hold for it to be taken so, and what is done then.
 use Rattle.std.specs.Prelude.{◌≡◌, ℕ, ◌+◌, ◌-◌, ◌≤◌, List, [], ◌∷◌, ◌++◌, length}
 use Rattle.std.specs.FinMap as fin
+use Rattle.std.specs.Vec.{vec_capacity, vec_len}
+use Rattle.std.specs.declared.alloc.Global.{Global}
+use Rattle.std.specs.declared.vec.Vec.{Vec}
 use Rattle.cb_times.specs.Order.{field}
 use Rattle.cb_frames.specs.Fields.{CastFields, first_number, last_number}
 use Rattle.cb_delay.specs.declared.message.Event.{Event}
@@ -79,6 +82,18 @@ pub record TakesAndDelivers (c : CastFields) (old new : State) (before after : L
   pub takes_in : TakesInCast c old (record new { delivery = waits })
   pub drains : Drains waits new.delivery before after
 
--- and that was nothing
+-- there is room for as many events as may wait once the cast is taken in
+pub record HasRoomToDeliver (c : CastFields) (state : State) (events : Vec Event Global) : Type 0 where
+  pub count : ℕ
+  pub holds : HoldsAtMost c state count
+  pub fits : vec_len events + count ≤ vec_capacity events
+
+-- the cast was taken in, and what was ready joined the events: no more than may wait then
+pub record DeliversWhatIsReady (c : CastFields) (old new : State) (before after : Vec Event Global) : Type 0 where
+  pub takes : TakesAndDelivers c old new before.items after.items
+  pub grows : vec_len before ≤ vec_len after
+  pub few : (count : ℕ) → HoldsAtMost c old count → vec_len after ≤ vec_len before + count
+
+-- as if the cast had been taken in, and nothing was ready
 abbrev pub TakesAndWaits : CastFields → State → State → Type 0
 TakesAndWaits c old new = (events : List Event) → TakesAndDelivers c old new events events

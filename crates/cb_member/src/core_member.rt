@@ -9,9 +9,9 @@ ghost use Rattle.cb_history.specs.Group.{IsIdentity};
 ghost use Rattle.cb_history.specs.Legal.{ToCast, ToTake, ToTick};
 ghost use Rattle.cb_history.specs.Facts.{entry_fields};
 ghost use Rattle.cb_history.specs.Known.{ranges_of};
-ghost use Rattle.cb_history.specs.State.{time_in, stable_in, missing_in, answer_to_cast, entry_by, facts_in, next_in, state_after, HasCast, RefusesArrival, HasTicked, RefusesTick};
+ghost use Rattle.cb_history.specs.State.{time_in, stable_in, missing_in, answer_to_cast, entry_by, facts_in, next_in, state_after, HasCast, HasTicked, RefusesTick};
 ghost use Rattle.cb_member.specs.Casting.{RefusesExactly, next_message};
-ghost use Rattle.cb_member.specs.CoreCalls.{HasReceivedWith, JoinsAs, MayCast, RefusesWithin, joined};
+ghost use Rattle.cb_member.specs.CoreCalls.{HasEntryOnEach, JoinsAs, MayCast, ReceivesOnEach, RefusesOnEach, RefusesWithin, joined};
 ghost use Rattle.cb_member.specs.Received.{count_said};
 ghost use Rattle.cb_member.specs.CoreMember.{GoesOn, OnEach, StandsFor};
 ghost use Rattle.cb_member.specs.CoreRuns.{Cast, IsCall, Take, Tick};
@@ -207,16 +207,14 @@ impl CoreMember {
         bytes: &Bytes,
         events: &mut Vec<Event>,
     ) -> Result<Received, ArriveRefusal>
-        ensures taken { IfOk result (λ received. OnEach self.old (λ m.
-            HasReceivedWith m (state_after m (ToTake bytes.now)) bytes.now received
-            (joined events.old.items events.new.items))) }
+        ensures taken { IfOk result (λ received. ReceivesOnEach self.old bytes.now received
+            (joined events.old.items events.new.items)) }
         ensures joins { OnOk result (JoinsAs (joined events.old.items events.new.items)
             events.old.items events.new.items) }
         ensures count { IfOk result (λ received. count_said received
             ≡ length (joined events.old.items events.new.items)) }
         ensures goes_on { OnOk result (GoesOn (ToTake bytes.now) self.old self.new) }
-        ensures refused { IfErr result (λ refusal. OnEach self.old (λ m.
-            RefusesArrival m bytes.now refusal)) }
+        ensures refused { IfErr result (RefusesOnEach self.old bytes.now) }
         ensures no_limit { result ≢ Err ArriveRefusal.HistoryFull }
         ensures same { OnErr result (self.new ≡ self.old) }
         ensures same_events { OnErr result (events.new.items ≡ events.old.items) }
@@ -236,18 +234,15 @@ impl CoreMember {
         bytes: &Bytes,
         events: &mut Vec<Event>,
     ) -> Result<(Received, Option<Entry>), ArriveRefusal>
-        ensures taken { IfOk result (λ noted. OnEach self.old (λ m.
-            HasReceivedWith m (state_after m (ToTake bytes.now)) bytes.now noted.0
-            (joined events.old.items events.new.items))) }
+        ensures taken { IfOk result (λ noted. ReceivesOnEach self.old bytes.now noted.0
+            (joined events.old.items events.new.items)) }
         ensures joins { OnOk result (JoinsAs (joined events.old.items events.new.items)
             events.old.items events.new.items) }
         ensures count { IfOk result (λ noted. count_said noted.0
             ≡ length (joined events.old.items events.new.items)) }
-        ensures entry { IfOk result (λ noted. OnEach self.old (λ m.
-            entry_by m (ToTake bytes.now) ≡ option_map entry_fields noted.1)) }
+        ensures entry { IfOk result (λ noted. HasEntryOnEach self.old bytes.now noted.1) }
         ensures goes_on { OnOk result (GoesOn (ToTake bytes.now) self.old self.new) }
-        ensures refused { IfErr result (λ refusal. OnEach self.old (λ m.
-            RefusesArrival m bytes.now refusal)) }
+        ensures refused { IfErr result (RefusesOnEach self.old bytes.now) }
         ensures no_limit { result ≢ Err ArriveRefusal.HistoryFull }
         ensures same { OnErr result (self.new ≡ self.old) }
         ensures same_events { OnErr result (events.new.items ≡ events.old.items) }
@@ -265,15 +260,13 @@ impl CoreMember {
         may_enter: bool,
         events: &mut Vec<Event>,
     ) -> Result<(Received, Option<Entry>), ArriveRefusal>
-        ensures taken { IfOk result (λ noted. OnEach self.old (λ m.
-            HasReceivedWith m (state_after m (ToTake bytes.now)) bytes.now noted.0
-            (joined events.old.items events.new.items))) }
+        ensures taken { IfOk result (λ noted. ReceivesOnEach self.old bytes.now noted.0
+            (joined events.old.items events.new.items)) }
         ensures joins { OnOk result (JoinsAs (joined events.old.items events.new.items)
             events.old.items events.new.items) }
         ensures count { IfOk result (λ noted. count_said noted.0
             ≡ length (joined events.old.items events.new.items)) }
-        ensures entry { IfOk result (λ noted. OnEach self.old (λ m.
-            entry_by m (ToTake bytes.now) ≡ option_map entry_fields noted.1)) }
+        ensures entry { IfOk result (λ noted. HasEntryOnEach self.old bytes.now noted.1) }
         ensures within { may_enter ≡ false → IfOk result (λ noted. noted.1 ≡ None) }
         ensures goes_on { OnOk result (GoesOn (ToTake bytes.now) self.old self.new) }
         ensures refused { IfErr result (λ refusal. OnEach self.old (λ m.

@@ -169,8 +169,10 @@ fn spares_like(spares: &Vec<Vec<VectorTime>>) -> Result<Vec<Vec<VectorTime>>, No
 /// The name of its first message.
 #[tactic(auto, using(cb_frames::proofs::Carried::first_is_number))]
 fn name_of(cast: &Cast) -> Name
-    ensures { result ≡ record { sender = cast.now.sender;
-        number = first_number (cast_fields cast.now) } }
+    ensures { result ≡ record {
+      sender = cast.now.sender;
+      number = first_number (cast_fields cast.now);
+    } }
 {
     Name {
         sender: cast.sender,

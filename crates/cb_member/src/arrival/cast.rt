@@ -8,7 +8,7 @@ ghost use Rattle.cb_frames.specs.Text.{RisesFrom};
 ghost use Rattle.cb_history.specs.Answers.{are_members};
 ghost use Rattle.cb_member.specs.State.{IsState};
 ghost use Rattle.cb_member.specs.Arriving.{own_verdict, other_verdict, JudgesCast, DeliversWith};
-ghost use Rattle.cb_member.specs.Course.{CanGo, HasTime, HoldsAtMost, IsEarly, MustWait, GoesAlone, TakesAndDelivers, TakesAndWaits, most};
+ghost use Rattle.cb_member.specs.Course.{CanGo, DeliversWhatIsReady, GoesAlone, HasRoomToDeliver, HasTime, IsEarly, MustWait, TakesAndDelivers, TakesAndWaits, most};
 ghost use Rattle.cb_member.specs.Foreseen.{JoinsEvents};
 ghost use Rattle.cb_member.specs.Passing.{HoldsIt, message_at};
 ghost use Rattle.cb_member.specs.Singles.{times_in};
@@ -139,13 +139,8 @@ impl State {
     /// It came in order, and others may go with it.
     fn lead_on(&mut self, cast: Cast, time: VectorTime, events: &mut Vec<Event>)
         requires can { HasTime (cast_fields cast) time self.old }
-        requires room { (count : ℕ) × HoldsAtMost (cast_fields cast) self.old count
-            × (vec_len events.old + count ≤ vec_capacity events.old) }
-        ensures takes { TakesAndDelivers (cast_fields cast) self.old self.new events.old.items
-            events.new.items }
-        ensures grows { vec_len events.old ≤ vec_len events.new }
-        ensures few { (count : ℕ) → HoldsAtMost (cast_fields cast) self.old count
-            → vec_len events.new ≤ vec_len events.old + count }
+        requires room { HasRoomToDeliver (cast_fields cast) self.old events.old }
+        ensures { DeliversWhatIsReady (cast_fields cast) self.old self.new events.old events.new }
     {
         self.take_in_at_once(cast, time);
         self.delivery.drain(events);
@@ -154,13 +149,8 @@ impl State {
     /// Others may go with it.
     fn let_go(&mut self, cast: Cast, spares: Spares, events: &mut Vec<Event>)
         requires can { CanTakeIn (cast_fields cast) (times_in spares) self.old }
-        requires room { (count : ℕ) × HoldsAtMost (cast_fields cast) self.old count
-            × (vec_len events.old + count ≤ vec_capacity events.old) }
-        ensures takes { TakesAndDelivers (cast_fields cast) self.old self.new events.old.items
-            events.new.items }
-        ensures grows { vec_len events.old ≤ vec_len events.new }
-        ensures few { (count : ℕ) → HoldsAtMost (cast_fields cast) self.old count
-            → vec_len events.new ≤ vec_len events.old + count }
+        requires room { HasRoomToDeliver (cast_fields cast) self.old events.old }
+        ensures { DeliversWhatIsReady (cast_fields cast) self.old self.new events.old events.new }
     {
         self.take_in(cast, spares);
         self.delivery.drain(events);

@@ -1,5 +1,7 @@
-use Rattle.std.proofs.Common.{Ok, subst}
+use Rattle.std.proofs.Common.{Ok, subst, ◌≤◌, ℕ, sym, rules}
+use Rattle.cb_frames.specs.declared.frame.TheConstants.{LAST_NUMBER}
 use Rattle.cb_frames.specs.Fields.{CastFrame, cast_fields}
+use Rattle.cb_frames.proofs.Carried.{last_is_number}
 use Rattle.cb_history.proofs.ReadBack.{frame_numbered}
 use Rattle.cb_member.specs.declared.arrival.cast.Judged.{Judged}
 use Rattle.cb_member.specs.Arriving.{JudgesCast}
@@ -8,6 +10,11 @@ use Rattle.cb_member.proofs.member.tests.way_of.Goals as goal
 
 pub judge_cast-requires-clause-state : goal.judge_cast-requires-clause-state
 judge_cast-requires-clause-state c = state_kept c.args.recorder c.requires.kept
+
+pub judge_cast-requires-clause-numbers : goal.judge_cast-requires-clause-numbers
+judge_cast-requires-clause-numbers c =
+    let small : c.args.cast.number ≤ LAST_NUMBER = search rules in
+    subst (λ (n : ℕ). n ≤ LAST_NUMBER) (sym (last_is_number (cast_fields c.args.cast))) small
 
 pub judge_cast-requires-clause-numbered : goal.judge_cast-requires-clause-numbered
 judge_cast-requires-clause-numbered c = frame_numbered c.args.bytes.now (cast_fields c.args.cast) c.requires.read

@@ -5,7 +5,6 @@ use Rattle.std.specs.declared.alloc.Global.{Global}
 use Rattle.std.proofs.lemmas.List.{map-set}
 use Rattle.std.proofs.lemmas.Option.{slice_get_within}
 use Rattle.cb_frames.specs.Fields.{CastFields, cast_fields}
-use Rattle.cb_gaps.specs.Buffer.{Buffer}
 use Rattle.cb_history.specs.BufferLaws.{AreKept}
 use Rattle.cb_member.specs.Singles.{CanKeepInTurn, times_in}
 use Rattle.cb_member.proofs.Receiving.{can_keep_in_turn, kept_cast, one_value, vec_at, stack_at}

@@ -1,6 +1,5 @@
 use Rattle.std.proofs.Common.{sym, subst, List}
 use Rattle.cb_frames.specs.Fields.{CastFields, cast_fields}
-use Rattle.cb_gaps.specs.Buffer.{Buffer}
 use Rattle.cb_history.specs.BufferLaws.{AreKept}
 use Rattle.cb_member.specs.Singles.{CanKeepInTurn, left_in}
 use Rattle.cb_member.proofs.Receiving.{can_keep_on, first_is_kept}

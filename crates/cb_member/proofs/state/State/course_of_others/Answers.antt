@@ -1,4 +1,4 @@
-use Rattle.std.proofs.Common.{◌≡◌, ◌∙◌, ℕ, ap, sym, subst}
+use Rattle.std.proofs.Common.{◌≡◌, ◌∙◌, ℕ, ap, subst}
 use Rattle.cb_frames.specs.Fields.{cast_fields, first_number, last_number}
 use Rattle.cb_history.specs.Group.{Parameters}
 use Rattle.cb_member.specs.Reception.{HasPlaceFor}

@@ -1,10 +1,13 @@
 use Rattle.std.proofs.Common.{arith}
 use Rattle.cb_frames.specs.Fields.{cast_fields}
-use Rattle.cb_member.proofs.Going.{goes_on_growing}
+use Rattle.cb_member.proofs.Going.{goes_on, waits_at_most}
 use Rattle.cb_member.proofs.state.State.let_go.Goals as goal
 
-pub returns-clause-grows : goal.returns-clause-grows
-returns-clause-grows c =
-    let grows = goes_on_growing (cast_fields c.args.cast) c.args.self.now (record c.take_in.new.self { delivery = c.drain.new.self }) c.args.events.now.items c.drain.new.events.items c.requires.can.can
-    (record { waits = c.take_in.new.self.delivery; takes_in = c.take_in.ensures; drains = c.drain.ensures.drained }) in
-    omega (arith, grows, c.args.events.now.ok.0, c.drain.new.events.ok.0)
+pub drain-requires-clause-room : goal.drain-requires-clause-room
+drain-requires-clause-room c =
+    let room = c.requires.room in
+    let fits = room.fits in
+    omega (arith, fits, waits_at_most (cast_fields c.args.cast) c.args.self.now c.take_in.new.self c.requires.can.can c.take_in.ensures room.count room.holds)
+
+pub returns : goal.returns
+returns c = goes_on (cast_fields c.args.cast) c.args.self.now c.take_in.new.self c.requires.can.can c.take_in.ensures c.drain.new.self c.args.events.now c.drain.new.events c.drain.ensures.drained c.drain.ensures.few

@@ -1,6 +1,7 @@
-use Rattle.std.proofs.Common.{◌≤◌, ℕ, ◌∙◌, [], Ok, refl, sym, ap, subst}
+use Rattle.std.proofs.Common.{◌≤◌, ℕ, ◌∙◌, [], Ok, refl, sym, ap, subst, rules}
+use Rattle.cb_frames.specs.declared.frame.TheConstants.{LAST_NUMBER}
 use Rattle.cb_frames.specs.Fields.{cast_fields, CastFrame}
-use Rattle.cb_frames.proofs.Carried.{first_is_number}
+use Rattle.cb_frames.proofs.Carried.{last_is_number}
 use Rattle.cb_history.specs.Answers.{Repeat}
 use Rattle.cb_history.proofs.ReadBack.{frame_numbered}
 use Rattle.cb_member.specs.declared.arrival.cast.Judged.{Judged}
@@ -16,6 +17,11 @@ use Rattle.cb_member.proofs.state.State.receive_cast.Goals.{in-Unwanted, in-Want
 
 pub judge_cast-requires-clause-state : goal.judge_cast-requires-clause-state
 judge_cast-requires-clause-state c = is_state c.args.self.now c.requires.core
+
+pub judge_cast-requires-clause-numbers : goal.judge_cast-requires-clause-numbers
+judge_cast-requires-clause-numbers c =
+    let small : c.args.cast.number ≤ LAST_NUMBER = search rules in
+    subst (λ (n : ℕ). n ≤ LAST_NUMBER) (sym (last_is_number (cast_fields c.args.cast))) small
 
 pub judge_cast-requires-clause-numbered : goal.judge_cast-requires-clause-numbered
 judge_cast-requires-clause-numbered c = frame_numbered c.args.bytes.now (cast_fields c.args.cast) c.requires.read
