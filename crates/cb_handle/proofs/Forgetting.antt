@@ -3,7 +3,7 @@ use Rattle.std.proofs.Common.{◌≡◌, ◌≢◌, ◌⊎◌, ℕ, ◌+◌, ◌
 use Rattle.std.specs.Prelude.{IsOk, if◌then◌else◌, nat_le}
 use Rattle.std.proofs.lemmas.Bool.{leb-false, ne_eqb}
 use Rattle.std.proofs.lemmas.List.{append-nil, length-append}
-use Rattle.cb_frames.specs.Fields.{CastFields, CastFrame, StatusFrame}
+use Rattle.cb_frames.specs.Fields.{Load, CastFields, CastFrame, StatusFrame}
 use Rattle.cb_frames.specs.Text.{text_of}
 use Rattle.cb_delay.specs.declared.message.Event.{Event}
 use Rattle.cb_delay.specs.declared.message.Event.TheVariants as events
@@ -17,6 +17,7 @@ use Rattle.cb_history.specs.declared.answer.TickRefusal.{TickRefusal}
 use Rattle.cb_history.specs.declared.answer.TickRefusal.TheVariants as ticks
 use Rattle.cb_history.specs.Answers.{ArrivalSays, is_full, is_new_status, next_cast, status_of}
 use Rattle.cb_history.specs.Events as listed
+use Rattle.cb_history.specs.CastFault.{CastFault, TellsFaultOf}
 use Rattle.cb_history.specs.Facts.{EntryFields, CastEntry, TickEntry, facts_of}
 use Rattle.cb_history.specs.Group.{Identity}
 use Rattle.cb_history.specs.Legal.{AreEntriesOf, Call, ToCast, ToTake, ToTick, and_entry, arrive_entry, cast_entry, tick_entry, room_for_one}
@@ -56,26 +57,26 @@ module _ (old core : Core) (call : Call) (goes : CoreGoesOn call old core) (es :
 
 -- ---- refusals
 
-pub cast_refused_full : (old : KeptMember) (payload : List ℕ) (refusal : CastRefusal) → Full old ≡ true → MayCast payload old.core (Err refusal) ⊎ ((refusal ≡ casts.HistoryFull) × MayCast payload old.core (Ok tt))
-    → OnEach old (λ m. RefusesExactly m payload refusal)
-cast_refused_full old payload refusal full (inl refuses) es st = inl (cast_refused old.core.seat (limit_of old es) es payload refusal (refuses es st.stands))
-cast_refused_full old payload refusal full (inr may) es st =
-    inl (cast_full old.core.seat (limit_of old es) es payload (next_cast old.core.seat (facts_of es) payload) (has_none old full es st) (may.1 es st.stands)
-    ∙ ap (λ (r : CastRefusal). let x : Result CastFields CastRefusal = Err r in x) (sym may.0))
+pub cast_refused_full : (old : KeptMember) (load : Load) (refusal : CastRefusal) → Full old ≡ true → MayCast load old.core (Err refusal) ⊎ ((refusal ≡ casts.HistoryFull) × MayCast load old.core (Ok tt))
+    → OnEach old (λ m. RefusesExactly m load refusal)
+cast_refused_full old load refusal full (inl refuses) es st = inl (cast_refused old.core.seat (limit_of old es) es load refusal (refuses es st.stands))
+cast_refused_full old load refusal full (inr may) es st =
+    inl (subst (λ (r : CastRefusal). TellsFaultOf r (answer_to_cast (state_with old es) load)) (sym may.0)
+    (cast_full old.core.seat (limit_of old es) es load (next_cast old.core.seat (facts_of es) load) (has_none old full es st) (may.1 es st.stands)))
 
-is_ok_then : (r : Result CastFields CastRefusal) (c : CastFields) → r ≡ Ok c → IsOk r
+is_ok_then : (r : Result CastFields CastFault) (c : CastFields) → r ≡ Ok c → IsOk r
 is_ok_then r c is = rw is refl
 
-pub cast_lacks_memory : (old : KeptMember) (payload : List ℕ) (refusal : CastRefusal) → Full old ≡ false → MayCast payload old.core (Err refusal) ⊎ ((refusal ≡ casts.NoMemory) × MayCast payload old.core (Ok tt))
-    → OnEach old (λ m. RefusesExactly m payload refusal)
-cast_lacks_memory old payload refusal room (inl refuses) es st = inl (cast_refused old.core.seat (limit_of old es) es payload refusal (refuses es st.stands))
-cast_lacks_memory old payload refusal room (inr may) es st =
-    inr (may.0, is_ok_then _ (next_cast old.core.seat (facts_of es) payload) (cast_same old.core.seat (limit_of old es) es payload (has_room old room es st) ∙ may.1 es st.stands))
+pub cast_lacks_memory : (old : KeptMember) (load : Load) (refusal : CastRefusal) → Full old ≡ false → MayCast load old.core (Err refusal) ⊎ ((refusal ≡ casts.NoMemory) × MayCast load old.core (Ok tt))
+    → OnEach old (λ m. RefusesExactly m load refusal)
+cast_lacks_memory old load refusal room (inl refuses) es st = inl (cast_refused old.core.seat (limit_of old es) es load refusal (refuses es st.stands))
+cast_lacks_memory old load refusal room (inr may) es st =
+    inr (may.0, is_ok_then _ (next_cast old.core.seat (facts_of es) load) (cast_same old.core.seat (limit_of old es) es load (has_room old room es st) ∙ may.1 es st.stands))
 
-pub cast_refused_so : (old : KeptMember) (payload : List ℕ) (refusal : CastRefusal) → Full old ≡ false → OnEachCore old.core (λ m. RefusesExactly m payload refusal) → OnEach old (λ m. RefusesExactly m payload refusal)
-cast_refused_so old payload refusal room refuses es st =
-    subst (λ (r : Result CastFields CastRefusal). (r ≡ Err refusal) ⊎ ((refusal ≡ casts.NoMemory) × IsOk r))
-    (sym (cast_same old.core.seat (limit_of old es) es payload (has_room old room es st))) (refuses es st.stands)
+pub cast_refused_so : (old : KeptMember) (load : Load) (refusal : CastRefusal) → Full old ≡ false → OnEachCore old.core (λ m. RefusesExactly m load refusal) → OnEach old (λ m. RefusesExactly m load refusal)
+cast_refused_so old load refusal room refuses es st =
+    subst (λ (r : Result CastFields CastFault). TellsFaultOf refusal r ⊎ ((refusal ≡ casts.NoMemory) × IsOk r))
+    (sym (cast_same old.core.seat (limit_of old es) es load (has_room old room es st))) (refuses es st.stands)
 
 arrival_refused_at : (old : KeptMember) (bytes : List ℕ) (refusal : ArriveRefusal) (es : List EntryFields) → RefusesArrival (unlimited old.core.seat es) bytes refusal → RefusesArrival (state_with old es) bytes refusal
 arrival_refused_at old bytes refusal es (inl says) = inl (arrival_refused old.core.seat (limit_of old es) es bytes refusal says)
@@ -149,13 +150,13 @@ pub record Did (call : Call) (old new : KeptMember) (after : List Event) (entry 
 
 -- ---- a cast
 
-module _ (old new : KeptMember) (payload frame : List ℕ) (after : List Event) (entry : EntryFields) (did : Did (ToCast payload) old new after (Some entry)) (room : Full old ≡ false)
-    (answer : OnEachCore old.core (λ m. answer_to_cast m payload ≡ Ok (next_in m payload)))
-    (joins : OnEachCore old.core (λ m. after ≡ old.events ++ events.Cast (next_message m.seat (facts_in m) payload) ∷ [])) where
-  cast_answer_is : OnEach old (λ m. answer_to_cast m payload ≡ Ok (next_in m payload))
-  cast_answer_is es st = cast_same old.core.seat (limit_of old es) es payload (has_room old room es st) ∙ answer es st.stands
+module _ (old new : KeptMember) (load : Load) (frame : List ℕ) (after : List Event) (entry : EntryFields) (did : Did (ToCast load) old new after (Some entry)) (room : Full old ≡ false)
+    (answer : OnEachCore old.core (λ m. answer_to_cast m load ≡ Ok (next_in m load)))
+    (joins : OnEachCore old.core (λ m. after ≡ old.events ++ events.Cast (next_message m.seat (facts_in m) load) ∷ [])) where
+  cast_answer_is : OnEach old (λ m. answer_to_cast m load ≡ Ok (next_in m load))
+  cast_answer_is es st = cast_same old.core.seat (limit_of old es) es load (has_room old room es st) ∙ answer es st.stands
 
-  cast_did : Adds (ToCast payload) old new after (Some entry)
+  cast_did : Adds (ToCast load) old new after (Some entry)
   cast_did = record {
     kept = did.kept;
     goes = did.goes;
@@ -163,25 +164,25 @@ module _ (old new : KeptMember) (payload frame : List ℕ) (after : List Event) 
     events_are = did.events_are;
     entries_are = did.entries_are;
     noted = did.noted;
-    same = λ es st. ap cast_entry (cast_same old.core.seat (limit_of old es) es payload (has_room old room es st)) ∙ did.noted es st.stands;
-    fits = fits_when old (ToCast payload) (Some entry) did.kept (inl room) did.noted;
+    same = λ es st. ap cast_entry (cast_same old.core.seat (limit_of old es) es load (has_room old room es st)) ∙ did.noted es st.stands;
+    fits = fits_when old (ToCast load) (Some entry) did.kept (inl room) did.noted;
     adds = λ es s. (
-      events.Cast (next_message old.core.seat (facts_of es) payload) ∷ [],
+      events.Cast (next_message old.core.seat (facts_of es) load) ∷ [],
       joins es s,
       sym (ap (λ (x : Option EntryFields). listed.events old.core.seat (facts_of (and_entry es x))) (ap cast_entry (answer es s))
-          ∙ cast_adds old.core.seat (room_for_one es) es payload (facts_before old.core new.core (ToCast payload) did.goes es s) (answer es s)
-          (legal_after old.core new.core (ToCast payload) did.goes es s (Some (CastEntry (text_of (CastFrame (next_cast old.core.seat (facts_of es) payload))))) (ap cast_entry (answer es s)))),
+          ∙ cast_adds old.core.seat (room_for_one es) es load (facts_before old.core new.core (ToCast load) did.goes es s) (answer es s)
+          (legal_after old.core new.core (ToCast load) did.goes es s (Some (CastEntry (text_of (CastFrame (next_cast old.core.seat (facts_of es) load))))) (ap cast_entry (answer es s)))),
     );
   }
 
   pub cast_kept : IsKept new
-  cast_kept = is_kept (ToCast payload) old new after (Some entry) cast_did
+  cast_kept = is_kept (ToCast load) old new after (Some entry) cast_did
 
-  pub casts_so : OnEachCore old.core (λ m. frame ≡ text_of (CastFrame (next_in m payload))) → HasCast old new payload frame
+  pub casts_so : OnEachCore old.core (λ m. frame ≡ text_of (CastFrame (next_in m load))) → HasCast old new load frame
   casts_so frame_is = record {
     answer = cast_answer_is;
     frame_is = λ es st. frame_is es st.stands;
-    goes_on = goes_on (ToCast payload) old new after (Some entry) cast_did;
+    goes_on = goes_on (ToCast load) old new after (Some entry) cast_did;
   }
 
 -- ---- received bytes

@@ -4,7 +4,7 @@ use Rattle.std.specs.Prelude.{if◌then◌else◌, nat_le, nat_lt}
 use Rattle.std.proofs.lemmas.Bool.{cases_Bool, eq-eqb}
 use Rattle.cb_frames.specs.declared.frame.TheConstants.{LONGEST_PAYLOAD}
 use Rattle.cb_frames.specs.declared.fault.FrameFault.{FrameFault}
-use Rattle.cb_frames.specs.Fields.{CastFields, FrameFields}
+use Rattle.cb_frames.specs.Fields.{Load, load_bytes, payloads_of, CastFields, FrameFields}
 use Rattle.cb_frames.specs.Reading.{HasValue}
 use Rattle.cb_history.specs.Read.{frame_read}
 use Rattle.cb_delay.specs.declared.message.Message.{Message}
@@ -17,7 +17,8 @@ use Rattle.cb_history.specs.declared.answer.TickRefusal.{TickRefusal}
 use Rattle.cb_history.specs.declared.answer.TickRefusal.TheVariants as ticks
 use Rattle.cb_frames.specs.Fields.{StatusFrame}
 use Rattle.cb_frames.specs.Text.{text_of}
-use Rattle.cb_history.specs.Answers.{ArrivalSays, Accepted, Repeat, answer_to, are_members, arrive_answer, cast_answer, deliveries, group_of, is_change, is_full, is_impossible, is_new_status, is_repeat, is_too_far, is_window_full, next_cast, requests, sent_in_answer, status_of, tick_answer}
+use Rattle.cb_history.specs.Answers.{ArrivalSays, Accepted, Repeat, answer_to, are_members, arrive_answer, cast_answer, deliveries, group_of, is_change, is_full, is_impossible, is_new_status, is_repeat, is_too_far, is_too_many, next_cast, requests, sent_in_answer, status_of, tick_answer}
+use Rattle.cb_history.specs.CastFault.{CastFault, PayloadTooLong, WindowFull, HistoryFull, TellsFaultOf}
 use Rattle.cb_history.specs.Facts.{EntryFields, facts_of}
 use Rattle.cb_history.specs.Group.{Identity}
 use Rattle.cb_history.specs.Legal.{arrive_entry, room_for_one, tick_entry}
@@ -50,40 +51,46 @@ no_room_is_left n es kept same on = elim (cases_Bool (n == 0)) [
 
 -- ---- casts
 
-abbrev cast_rules : Bool → Bool → CastFields → Bool → Result CastFields CastRefusal
-cast_rules long window c full = if long then Err casts.PayloadTooLong else if window then Err casts.WindowFull else if full then Err casts.HistoryFull else Ok c
+abbrev cast_rules : Bool → Bool → CastFields → Bool → Result CastFields CastFault
+cast_rules long window c full = if long then Err PayloadTooLong else if window then Err WindowFull else if full then Err HistoryFull else Ok c
 
-cast_refused_by : (long window full : Bool) (c : CastFields) (refusal : CastRefusal) → cast_rules long window c false ≡ Err refusal → cast_rules long window c full ≡ Err refusal
-cast_refused_by true window full c refusal h = h
-cast_refused_by false true full c refusal h = h
-cast_refused_by false false full c refusal h = absurd cc
+cast_refused_by : (long window full : Bool) (c : CastFields) (fault : CastFault) → cast_rules long window c false ≡ Err fault → cast_rules long window c full ≡ Err fault
+cast_refused_by true window full c fault h = h
+cast_refused_by false true full c fault h = h
+cast_refused_by false false full c fault h = absurd cc
 
-cast_full_by : (long window : Bool) (c d : CastFields) → cast_rules long window c false ≡ Ok d → cast_rules long window c true ≡ Err casts.HistoryFull
+cast_full_by : (long window : Bool) (c d : CastFields) → cast_rules long window c false ≡ Ok d → cast_rules long window c true ≡ Err HistoryFull
 cast_full_by true window c d h = absurd cc
 cast_full_by false true c d h = absurd cc
 cast_full_by false false c d h = refl
 
 module _ (seat : Identity) (limit : ℕ) (es : List EntryFields) where
-  abbrev cast_with : List ℕ → Bool → Result CastFields CastRefusal
-  cast_with payload full = cast_rules (nat_lt LONGEST_PAYLOAD (length payload)) (is_window_full seat (facts_of es)) (next_cast seat (facts_of es) payload) full
+  abbrev cast_with : Load → Bool → Result CastFields CastFault
+  cast_with load full = cast_rules (nat_lt LONGEST_PAYLOAD (length (load_bytes load))) (is_too_many seat (facts_of es) (length (payloads_of load))) (next_cast seat (facts_of es) load) full
 
-  cast_limited : (n : ℕ) (payload : List ℕ) → cast_answer seat n es payload ≡ cast_with payload (is_full n es)
+  cast_limited : (n : ℕ) (load : Load) → cast_answer seat n es load ≡ cast_with load (is_full n es)
   unfolding cast_answer
-  cast_limited n payload = refl
+  cast_limited n load = refl
 
-  cast_free : (payload : List ℕ) → cast_answer seat (room_for_one es) es payload ≡ cast_with payload false
-  cast_free payload = cast_limited (room_for_one es) payload ∙ ap (cast_with payload) (room_left es)
+  cast_free : (load : Load) → cast_answer seat (room_for_one es) es load ≡ cast_with load false
+  cast_free load = cast_limited (room_for_one es) load ∙ ap (cast_with load) (room_left es)
 
-  pub cast_same : (payload : List ℕ) → is_full limit es ≡ false → cast_answer seat limit es payload ≡ cast_answer seat (room_for_one es) es payload
-  cast_same payload room = cast_limited limit payload ∙ ap (cast_with payload) room ∙ sym (cast_free payload)
+  pub cast_same : (load : Load) → is_full limit es ≡ false → cast_answer seat limit es load ≡ cast_answer seat (room_for_one es) es load
+  cast_same load room = cast_limited limit load ∙ ap (cast_with load) room ∙ sym (cast_free load)
 
-  pub cast_refused : (payload : List ℕ) (refusal : CastRefusal) → cast_answer seat (room_for_one es) es payload ≡ Err refusal → cast_answer seat limit es payload ≡ Err refusal
-  cast_refused payload refusal h =
-      cast_limited limit payload ∙ cast_refused_by (nat_lt LONGEST_PAYLOAD (length payload)) (is_window_full seat (facts_of es)) (is_full limit es) (next_cast seat (facts_of es) payload) refusal (sym (cast_free payload) ∙ h)
+  cast_fault : (load : Load) (fault : CastFault) → cast_answer seat (room_for_one es) es load ≡ Err fault → cast_answer seat limit es load ≡ Err fault
+  cast_fault load fault h =
+      cast_limited limit load ∙ cast_refused_by (nat_lt LONGEST_PAYLOAD (length (load_bytes load))) (is_too_many seat (facts_of es) (length (payloads_of load))) (is_full limit es) (next_cast seat (facts_of es) load) fault (sym (cast_free load) ∙ h)
 
-  pub cast_full : (payload : List ℕ) (c : CastFields) → is_full limit es ≡ true → cast_answer seat (room_for_one es) es payload ≡ Ok c → cast_answer seat limit es payload ≡ Err casts.HistoryFull
-  cast_full payload c full h =
-      cast_limited limit payload ∙ ap (cast_with payload) full ∙ cast_full_by (nat_lt LONGEST_PAYLOAD (length payload)) (is_window_full seat (facts_of es)) (next_cast seat (facts_of es) payload) c (sym (cast_free payload) ∙ h)
+  pub cast_refused : (load : Load) (refusal : CastRefusal) → TellsFaultOf refusal (cast_answer seat (room_for_one es) es load) → TellsFaultOf refusal (cast_answer seat limit es load)
+  cast_refused load casts.PayloadTooLong h = cast_fault load PayloadTooLong h
+  cast_refused load casts.WindowFull h = cast_fault load WindowFull h
+  cast_refused load casts.HistoryFull h = cast_fault load HistoryFull h
+  cast_refused load casts.NoMemory h = absurd h
+
+  pub cast_full : (load : Load) (c : CastFields) → is_full limit es ≡ true → cast_answer seat (room_for_one es) es load ≡ Ok c → cast_answer seat limit es load ≡ Err HistoryFull
+  cast_full load c full h =
+      cast_limited limit load ∙ ap (cast_with load) full ∙ cast_full_by (nat_lt LONGEST_PAYLOAD (length (load_bytes load))) (is_too_many seat (facts_of es) (length (payloads_of load))) (next_cast seat (facts_of es) load) c (sym (cast_free load) ∙ h)
 
 -- ---- received bytes
 

@@ -1,7 +1,7 @@
 -- What the calls do to a member with its frames.
 use Rattle.std.specs.Prelude.{◌≡◌, ◌⊎◌, ℕ, ◌+◌, ◌≤◌, Bool, true, false, List, [], ◌∷◌, ◌++◌, length, slice_range, None, Ok, Err}
 use Rattle.cb_delay.specs.declared.message.Event.{Event}
-use Rattle.cb_frames.specs.Fields.{CastFrame}
+use Rattle.cb_frames.specs.Fields.{Load, CastFrame}
 use Rattle.cb_frames.specs.Text.{text_of}
 use Rattle.cb_history.specs.declared.answer.ArriveRefusal.{ArriveRefusal}
 use Rattle.cb_history.specs.declared.answer.ArriveRefusal.TheVariants as refusals
@@ -69,16 +69,16 @@ pub record GoesOn (call : Call) (old new : KeptMember) : Type 0 where
   pub events : kept.OnEach old (λ m. kept.gone new (events_in m) ++ kept.events_of new ≡ events_in (state_after m call))
   pub entries : kept.OnEach old (λ m. kept.gone new m.entries ++ kept.entries_of new ≡ (state_after m call).entries)
 
--- a cast of this payload was made, and this is its frame
-pub record HasCast (old new : KeptMember) (payload frame : List ℕ) : Type 0 where
-  pub answer : kept.OnEach old (λ m. answer_to_cast m payload ≡ Ok (next_in m payload))
-  pub frame_is : kept.OnEach old (λ m. frame ≡ text_of (CastFrame (next_in m payload)))
-  pub goes_on : GoesOn (ToCast payload) old new
+-- a cast of this load was made, and this is its frame
+pub record HasCast (old new : KeptMember) (load : Load) (frame : List ℕ) : Type 0 where
+  pub answer : kept.OnEach old (λ m. answer_to_cast m load ≡ Ok (next_in m load))
+  pub frame_is : kept.OnEach old (λ m. frame ≡ text_of (CastFrame (next_in m load)))
+  pub goes_on : GoesOn (ToCast load) old new
 
 -- and it is the one that is to be sent; what is loaded stays
-abbrev pub HasCastToSend : Held → Held → List ℕ → Type 0
-HasCastToSend old new payload =
-    (frame : List ℕ) × (frames_of new.frames ≡ record { to = None; bytes = frame } ∷ []) × (new.loaded ≡ old.loaded) × HasCast old.kept new.kept payload frame
+abbrev pub HasCastToSend : Held → Held → Load → Type 0
+HasCastToSend old new load =
+    (frame : List ℕ) × (frames_of new.frames ≡ record { to = None; bytes = frame } ∷ []) × (new.loaded ≡ old.loaded) × HasCast old.kept new.kept load frame
 
 -- what is told of an answer to received bytes
 abbrev pub received_row : ArrivalSays → Received

@@ -1,6 +1,7 @@
 //! A member with the frames of its last call.
 
 ghost use Rattle.std.specs.Prelude.{◌≡◌, ◌⊎◌, ◌↔◌, ◌≤◌, [], length, drop, slice_get, map, IfOk, IfErr, OnOk, OnErr, MatchOption, Ok, Err};
+ghost use Rattle.cb_frames.specs.Fields.{One};
 ghost use Rattle.cb_history.specs.State.{time_in, stable_in, missing_in, RefusesArrival, RefusesTick};
 ghost use Rattle.cb_history.specs.Known.{ranges_of};
 ghost use Rattle.cb_member.specs.Casting.{RefusesExactly};
@@ -85,9 +86,9 @@ impl Held {
 
     /// Casts a message of this payload; its frame is the one frame. After a refusal nothing has changed.
     pub fn cast(&mut self, payload: &[u8]) -> Result<(), CastRefusal>
-        ensures done { OnOk result (HasCastToSend self.old self.new payload.now) }
+        ensures done { OnOk result (HasCastToSend self.old self.new (One payload.now)) }
         ensures refused { IfErr result (λ refusal. OnEach self.old (λ m.
-            RefusesExactly m payload.now refusal)) }
+            RefusesExactly m (One payload.now) refusal)) }
         ensures same { OnErr result (self.new ≡ self.old) }
     {
         match self.kept.cast(payload) {

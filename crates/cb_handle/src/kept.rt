@@ -1,6 +1,7 @@
 //! A member, and beside it what can be read: its history and all events, or what its last call added.
 
 ghost use Rattle.std.specs.Prelude.{◌≡◌, ◌≢◌, ◌↔◌, ◌⊎◌, ◌+◌, ◌≤◌, ◌<◌, ◌==◌, ◌&&◌, not, length, map, drop, nat_le, option_map, IfOk, IfErr, OnErr, None, Ok, Err, true, false, if◌then◌else◌};
+ghost use Rattle.cb_frames.specs.Fields.{One};
 ghost use Rattle.cb_history.specs.Known.{ranges_of};
 ghost use Rattle.std.specs.Vec.{vec_capacity, vec_len};
 ghost use Rattle.cb_history.specs.Facts.{entry_fields};
@@ -71,9 +72,9 @@ impl Kept {
 
     /// Casts a message of this payload, and hands out its frame. After a refusal nothing has changed.
     pub fn cast(&mut self, payload: &[u8]) -> Result<Bytes, CastRefusal>
-        ensures done { IfOk result (HasCast self.old self.new payload.now) }
+        ensures done { IfOk result (HasCast self.old self.new (One payload.now)) }
         ensures refused { IfErr result (λ refusal. OnEach self.old (λ m.
-            RefusesExactly m payload.now refusal)) }
+            RefusesExactly m (One payload.now) refusal)) }
         ensures same { OnErr result (self.new ≡ self.old) }
     {
         if is_full(self.limit, &self.entries) {
@@ -187,8 +188,8 @@ fn is_full(limit: usize, entries: &Vec<Entry>) -> bool
 
 /// Why the core refuses the payload, or else this.
 fn refusal_or(core: &CoreMember, payload: &[u8], other: CastRefusal) -> CastRefusal
-    ensures { MayCast payload.now core.now (Err result)
-        ⊎ ((result ≡ other) × MayCast payload.now core.now (Ok tt)) }
+    ensures { MayCast (One payload.now) core.now (Err result)
+        ⊎ ((result ≡ other) × MayCast (One payload.now) core.now (Ok tt)) }
 {
     match core.may_cast(payload) {
         Ok(()) => other,

@@ -2,6 +2,7 @@
 use Rattle.std.specs.Prelude.{◌≡◌, ◌⊎◌, ℕ, ◌+◌, ◌≤◌, List, [], ◌∷◌, length, map, Option, Some, None, option_map, Result, Err, IfOk, IfErr, OnErr, OnOk, if◌then◌else◌}
 use Rattle.std.specs.declared.vec.Vec.{Vec}
 use Rattle.std.specs.declared.alloc.Global.{Global}
+use Rattle.cb_frames.specs.Fields.{Load, One}
 use Rattle.cb_history.specs.declared.answer.CastDone.{CastDone}
 use Rattle.cb_history.specs.declared.answer.CastRefusal.{CastRefusal}
 use Rattle.cb_history.specs.declared.answer.CastRefusal.TheVariants as casts
@@ -12,6 +13,7 @@ use Rattle.cb_history.specs.declared.answer.ArriveRefusal.TheVariants as arrival
 use Rattle.cb_history.specs.declared.answer.Outgoing.{Outgoing}
 use Rattle.cb_history.specs.declared.answer.Ticked.{Ticked}
 use Rattle.cb_history.specs.declared.answer.TickRefusal.{TickRefusal}
+use Rattle.cb_history.specs.CastFault.{TellsFaultOf}
 use Rattle.cb_history.specs.Facts.{EntryFields, CastEntry, ArriveEntry, TickEntry}
 use Rattle.cb_history.specs.Legal.{ToCast, ToTake, ToTick}
 use Rattle.cb_history.specs.State.{MemberState, IsMemberState, HasCast, HasTaken, HasTicked, RefusesTick, answer_to_cast, answer_to_arrival, entry_by, state_after}
@@ -43,8 +45,8 @@ and_receipt seat m e = record { parts = seat.parts; receipts = and_claim seat.re
 
 -- ---- refusals: that of the definition; and since room for the receipt is made first, memory may be out in place of any
 
-abbrev pub MayRefuseCast : MemberState → List ℕ → CastRefusal → Type 0
-MayRefuseCast m payload refusal = (answer_to_cast m payload ≡ Err refusal) ⊎ (refusal ≡ casts.NoMemory)
+abbrev pub MayRefuseCast : MemberState → Load → CastRefusal → Type 0
+MayRefuseCast m load refusal = TellsFaultOf refusal (answer_to_cast m load) ⊎ (refusal ≡ casts.NoMemory)
 
 abbrev pub MayRefuseArrival : MemberState → List ℕ → ArriveRefusal → Type 0
 MayRefuseArrival m bytes refusal = (answer_to_arrival m bytes ≡ Err refusal) ⊎ (refusal ≡ arrivals.NoMemory)
@@ -60,16 +62,16 @@ pub record CoversReceipts (seat : SeatState) (m : MemberState) : Type 0 where
   pub covered : length seat.receipts ≤ length m.entries
 
 -- On this member the answer is the defined one, and the seat has a receipt of what the answer reports.
-pub record CastsOn (m : MemberState) (old new : SeatState) (payload : List ℕ) (result : Result CastDone CastRefusal) : Type 0 where
-  pub done : IfOk result (HasCast m (state_after m (ToCast payload)) payload)
-  pub refused : IfErr result (MayRefuseCast m payload)
+pub record CastsOn (m : MemberState) (old new : SeatState) (load : Load) (result : Result CastDone CastRefusal) : Type 0 where
+  pub done : IfOk result (HasCast m (state_after m (ToCast load)) load)
+  pub refused : IfErr result (MayRefuseCast m load)
   pub receipt : IfOk result (λ done. new ≡ and_receipt old m (reported_by_cast done))
-  pub entry : IfOk result (λ done. entry_by m (ToCast payload) ≡ reported_by_cast done)
+  pub entry : IfOk result (λ done. entry_by m (ToCast load) ≡ reported_by_cast done)
   pub none : OnErr result (new ≡ old)
 
 -- A payload that was given was cast, or refused; without one the seat stays.
 abbrev pub CastsIfGiven : MemberState → SeatState → SeatState → Option (Vec ℕ Global × Result CastDone CastRefusal) → Type 0
-CastsIfGiven m old new (Some (payload, result)) = CastsOn m old new payload.items result
+CastsIfGiven m old new (Some (payload, result)) = CastsOn m old new (One payload.items) result
 CastsIfGiven m old new None = new ≡ old
 
 -- the payload that is handed back, where one was given

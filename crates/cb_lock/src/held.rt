@@ -2,6 +2,7 @@
 
 ghost use Rattle.std.specs.Prelude.{◌≡◌, ◌+◌, ◌≤◌, ◌<◌, [], IfOk, IfErr, OnErr, OnOk, length, map, option_map};
 ghost use Rattle.std.specs.Vec.{vec_capacity, vec_len};
+ghost use Rattle.cb_frames.specs.Fields.{One};
 ghost use Rattle.cb_history.specs.Legal.{ToCast, ToTake, ToTick};
 ghost use Rattle.cb_history.specs.State.{IsMemberState, HasCast, HasTaken, HasTicked, entry_by};
 ghost use Rattle.cb_history.specs.Facts.{entry_fields};
@@ -59,12 +60,12 @@ impl<L: Ledger> Held<L> {
     ///
     /// `NoMemory` may stand in place of any refusal. After a refusal the member and the seat are as they were.
     pub fn cast(&mut self, seat: &mut Seat<L>, payload: &[u8]) -> Result<CastDone, CastRefusal>
-        ensures done { IfOk result (HasCast self.old self.new payload.now) }
-        ensures refused { IfErr result (MayRefuseCast self.old payload.now) }
+        ensures done { IfOk result (HasCast self.old self.new (One payload.now)) }
+        ensures refused { IfErr result (MayRefuseCast self.old (One payload.now)) }
         ensures same { OnErr result (self.new ≡ self.old) }
         ensures receipt { IfOk result (λ done. seat.new
             ≡ and_receipt seat.old self.old (reported_by_cast done)) }
-        ensures entry { IfOk result (λ done. entry_by self.old (ToCast payload.now)
+        ensures entry { IfOk result (λ done. entry_by self.old (ToCast (One payload.now))
             ≡ reported_by_cast done) }
         ensures none { OnErr result (seat.new ≡ seat.old) }
         ensures parts { seat.new.parts ≡ seat.old.parts }

@@ -2,6 +2,7 @@
 
 ghost use Rattle.std.specs.Prelude.{◌≡◌, ◌+◌, ◌<◌, ◌≤◌, ◌↔◌, [], IfOk, IfErr, length};
 ghost use Rattle.std.specs.Fn.{FnOnceTakesAt, FnOnceReturnsAt};
+ghost use Rattle.cb_frames.specs.Fields.{One};
 ghost use Rattle.cb_lock.specs.Calls.{CoversReceipts, OnSome, CastsIfGiven, CastsOn, ArrivesOn, ReceivesOn, TicksOn, given};
 ghost use Rattle.cb_lock.specs.Closing.{IsFault, IsClosed};
 
@@ -50,7 +51,8 @@ impl<L: Ledger> SharedMember<L> {
         seat: &mut Seat<L>,
         payload: &[u8],
     ) -> Result<CastDone, CastRefusal>
-        ensures answer { OnSome seat.old (λ m. CastsOn m seat.old seat.new payload.now result) }
+        ensures answer { OnSome seat.old (λ m. CastsOn m seat.old seat.new (One payload.now)
+            result) }
         ensures parts { seat.new.parts ≡ seat.old.parts }
     {
         self.held.lock(rt).cast(seat, payload)

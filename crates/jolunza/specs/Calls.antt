@@ -1,5 +1,6 @@
 -- What a call by a handle does.
 use Rattle.std.specs.Prelude.{◌≡◌, ◌≢◌, ◌⊎◌, ℕ, ◌≤◌, List, length, map, Option, Some, None}
+use Rattle.cb_frames.specs.Fields.{Load}
 use Rattle.cb_history.specs.declared.answer.CastRefusal.{CastRefusal}
 use Rattle.cb_history.specs.declared.answer.ArriveRefusal.{ArriveRefusal}
 use Rattle.cb_history.specs.declared.answer.TickRefusal.{TickRefusal}
@@ -31,9 +32,9 @@ pub record IsDoneOr (Done : Type 0) (R : Type 0) (code_of : R → ℕ) (Refuses 
   pub done : code ≡ DONE → Done
   pub refused : code ≢ DONE → (refusal : R) × ((code ≡ code_of refusal) × (Refuses refusal × (after ≡ before)))
 
-abbrev pub Casts : List ℕ → Held → Held → ℕ → Type 0
-Casts payload before after code =
-    IsDoneOr (HasCastToSend before after payload) CastRefusal cast_code (λ refusal. OnEach before (λ m. RefusesExactly m payload refusal)) before after code
+abbrev pub Casts : Load → Held → Held → ℕ → Type 0
+Casts load before after code =
+    IsDoneOr (HasCastToSend before after load) CastRefusal cast_code (λ refusal. OnEach before (λ m. RefusesExactly m load refusal)) before after code
 
 abbrev pub Receives : List ℕ → Received → Held → Held → ℕ → Type 0
 Receives bytes received before after code =

@@ -5,6 +5,7 @@
 #![tactic(auto)]
 
 ghost use Rattle.std.specs.Prelude.{◌≡◌, ◌≢◌, None, drop, slice_get};
+ghost use Rattle.cb_frames.specs.Fields.{One};
 ghost use Rattle.cb_history.specs.State.{time_in, stable_in};
 ghost use Rattle.cb_handle.specs.Copies.{copied};
 ghost use Rattle.cb_handle.specs.Frames.{frames_of, ShowsFrame, ShowsFrames};
@@ -63,7 +64,7 @@ pub extern "C" fn jolunza_close(alloc: Global, handle: &mut Handle)
 /// Casts a message. Its frame, to all others, is the one that is to be sent.
 #[unsafe(no_mangle)]
 pub extern "C" fn jolunza_cast(alloc: Global, handle: &mut Handle, payload: &[u8]) -> u32
-    ensures { Calls (Casts payload.now) handle.old.held handle.new.held result }
+    ensures { Calls (Casts (One payload.now)) handle.old.held handle.new.held result }
 {
     let Some(mut held) = take(alloc, handle) else {
         return CLOSED;

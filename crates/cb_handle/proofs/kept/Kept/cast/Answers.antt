@@ -1,4 +1,5 @@
 use Rattle.std.proofs.Common.{◌∙◌, Some, map, true, false, refl}
+use Rattle.cb_frames.specs.Fields.{One}
 use Rattle.cb_history.specs.Facts.{entry_fields}
 use Rattle.cb_history.specs.Legal.{ToCast}
 use Rattle.cb_handle.specs.Kept.{KeptMember}
@@ -9,7 +10,7 @@ use Rattle.cb_handle.proofs.kept.Kept.cast.Goals as goal
 pub returns-then-is_full-clause-refused : goal.returns-then-is_full-clause-refused
 returns-then-is_full-clause-refused c =
     let old : KeptMember = record { core = c.self.inside.core; limit = c.self.inside.limit; entries = map entry_fields c.self.inside.entries.items; events = c.self.inside.events.items } in
-    rw (← c.self.view_is) (cast_refused_full old c.args.payload.now c.refusal_or.result (full_is c.self.inside.limit c.self.inside.entries.items c.is_full.result true c.is_full.ensures c.if-is_full.true) c.refusal_or.ensures)
+    rw (← c.self.view_is) (cast_refused_full old (One c.args.payload.now) c.refusal_or.result (full_is c.self.inside.limit c.self.inside.entries.items c.is_full.result true c.is_full.ensures c.if-is_full.true) c.refusal_or.ensures)
 
 pub invariant_of-self : goal.invariant_of-self
 invariant_of-self c = rw c.make_room.ensures.items c.self.invariant
@@ -17,13 +18,13 @@ invariant_of-self c = rw c.make_room.ensures.items c.self.invariant
 pub returns-in_default-clause-refused : goal.returns-in_default-clause-refused
 returns-in_default-clause-refused c =
     let old : KeptMember = record { core = c.self.inside.core; limit = c.self.inside.limit; entries = map entry_fields c.self.inside.entries.items; events = c.self.inside.events.items } in
-    rw (← c.self.view_is) (cast_lacks_memory old c.args.payload.now c.refusal_or-in_default.result (full_is c.self.inside.limit c.self.inside.entries.items c.is_full.result false c.is_full.ensures c.if-is_full.false) c.refusal_or-in_default.ensures)
+    rw (← c.self.view_is) (cast_lacks_memory old (One c.args.payload.now) c.refusal_or-in_default.result (full_is c.self.inside.limit c.self.inside.entries.items c.is_full.result false c.is_full.ensures c.if-is_full.false) c.refusal_or-in_default.ensures)
 
 pub invariant_of-self-in-Ok-cast_into : goal.invariant_of-self-in-Ok-cast_into
 invariant_of-self-in-Ok-cast_into c =
     let old : KeptMember = record { core = c.self.inside.core; limit = c.self.inside.limit; entries = map entry_fields c.self.inside.entries.items; events = c.self.inside.events.items } in
     let new : KeptMember = record { core = c.cast_into.new.self; limit = c.self.inside.limit; entries = map entry_fields c.forget.new.list.items; events = c.forget-in-Ok-cast_into.new.list.items } in
-    let did : Did (ToCast c.args.payload.now) old new c.cast_into.new.events.items (Some (entry_fields c.in-Ok-cast_into.entry)) = record {
+    let did : Did (ToCast (One c.args.payload.now)) old new c.cast_into.new.events.items (Some (entry_fields c.in-Ok-cast_into.entry)) = record {
       kept = c.self.invariant;
       goes = c.in-Ok-cast_into.ensures.goes_on;
       limit = refl;
@@ -32,7 +33,7 @@ invariant_of-self-in-Ok-cast_into c =
           c.forget.ensures c.enter.ensures c.make_room.ensures.items (c.len-entries.ensures ∙ c.make_room.new.list.ok.0);
       noted = c.in-Ok-cast_into.ensures.entry;
     } in
-    cast_kept old new c.args.payload.now c.in-Ok-cast_into.frame c.cast_into.new.events.items (entry_fields c.in-Ok-cast_into.entry) did
+    cast_kept old new (One c.args.payload.now) c.in-Ok-cast_into.frame c.cast_into.new.events.items (entry_fields c.in-Ok-cast_into.entry) did
     (full_is c.self.inside.limit c.self.inside.entries.items c.is_full.result false c.is_full.ensures c.if-is_full.false) c.in-Ok-cast_into.ensures.answer c.in-Ok-cast_into.ensures.joins
 
 pub invariant_of-self-in-Err : goal.invariant_of-self-in-Err
@@ -42,7 +43,7 @@ pub returns-in-Ok-cast_into-clause-done : goal.returns-in-Ok-cast_into-clause-do
 returns-in-Ok-cast_into-clause-done c =
     let old : KeptMember = record { core = c.self.inside.core; limit = c.self.inside.limit; entries = map entry_fields c.self.inside.entries.items; events = c.self.inside.events.items } in
     let new : KeptMember = record { core = c.cast_into.new.self; limit = c.self.inside.limit; entries = map entry_fields c.forget.new.list.items; events = c.forget-in-Ok-cast_into.new.list.items } in
-    let did : Did (ToCast c.args.payload.now) old new c.cast_into.new.events.items (Some (entry_fields c.in-Ok-cast_into.entry)) = record {
+    let did : Did (ToCast (One c.args.payload.now)) old new c.cast_into.new.events.items (Some (entry_fields c.in-Ok-cast_into.entry)) = record {
       kept = c.self.invariant;
       goes = c.in-Ok-cast_into.ensures.goes_on;
       limit = refl;
@@ -51,10 +52,10 @@ returns-in-Ok-cast_into-clause-done c =
           c.forget.ensures c.enter.ensures c.make_room.ensures.items (c.len-entries.ensures ∙ c.make_room.new.list.ok.0);
       noted = c.in-Ok-cast_into.ensures.entry;
     } in
-    rw (← c.self.view_is) (casts_so old new c.args.payload.now c.in-Ok-cast_into.frame c.cast_into.new.events.items (entry_fields c.in-Ok-cast_into.entry) did
+    rw (← c.self.view_is) (casts_so old new (One c.args.payload.now) c.in-Ok-cast_into.frame c.cast_into.new.events.items (entry_fields c.in-Ok-cast_into.entry) did
     (full_is c.self.inside.limit c.self.inside.entries.items c.is_full.result false c.is_full.ensures c.if-is_full.false) c.in-Ok-cast_into.ensures.answer c.in-Ok-cast_into.ensures.joins c.in-Ok-cast_into.ensures.frame)
 
 pub returns-in-Err-clause-refused : goal.returns-in-Err-clause-refused
 returns-in-Err-clause-refused c =
     let old : KeptMember = record { core = c.self.inside.core; limit = c.self.inside.limit; entries = map entry_fields c.self.inside.entries.items; events = c.self.inside.events.items } in
-    rw (← c.self.view_is) (cast_refused_so old c.args.payload.now c.in-Err.refusal (full_is c.self.inside.limit c.self.inside.entries.items c.is_full.result false c.is_full.ensures c.if-is_full.false) c.in-Err.ensures.refused)
+    rw (← c.self.view_is) (cast_refused_so old (One c.args.payload.now) c.in-Err.refusal (full_is c.self.inside.limit c.self.inside.entries.items c.is_full.result false c.is_full.ensures c.if-is_full.false) c.in-Err.ensures.refused)

@@ -1,4 +1,5 @@
 use Rattle.std.proofs.Common.{◌≡◌, Some, map, ◌∙◌, sym, ap, subst, rules}
+use Rattle.cb_frames.specs.Fields.{One}
 use Rattle.cb_history.specs.Facts.{entry_fields}
 use Rattle.cb_history.specs.Legal.{ToCast}
 use Rattle.cb_history.specs.State.{MemberState, HasCast, entry_by}
@@ -10,14 +11,14 @@ use Rattle.cb_lock.proofs.held.Held.cast.Goals as goal
 pub returns-clause-done : goal.returns-clause-done
 returns-clause-done g c =
     let is : c.args.self.now ≡ c.self.inside.member = search rules in
-    subst (λ (m : MemberState). HasCast m c.cast_noted.new.self c.args.payload.now c.in_ok-done.done) (sym is) c.in_ok-done.ensures.done
+    subst (λ (m : MemberState). HasCast m c.cast_noted.new.self (One c.args.payload.now) c.in_ok-done.done) (sym is) c.in_ok-done.ensures.done
 
 pub returns-clause-receipt : goal.returns-clause-receipt
 returns-clause-receipt g c =
     let m = c.args.self.now in
     let done = c.in_ok-done.done in
     let reported = returns-clause-done g c in
-    let by : entry_by m (ToCast c.args.payload.now) ≡ Some (entry_fields c.in_ok-done.entry) = search rules in
-    let tells : entry_by m (ToCast c.args.payload.now) ≡ reported_by_cast done = search rules in
-    seat_after c.args.seat.now m c.cast_noted.new.self (ToCast c.args.payload.now) (Some (entry_fields c.in_ok-done.entry)) c.enter.new.share.parts (map receipt_fields c.enter.new.receipts.items) by reported.after (search rules) (search rules)
+    let by : entry_by m (ToCast (One c.args.payload.now)) ≡ Some (entry_fields c.in_ok-done.entry) = search rules in
+    let tells : entry_by m (ToCast (One c.args.payload.now)) ≡ reported_by_cast done = search rules in
+    seat_after c.args.seat.now m c.cast_noted.new.self (ToCast (One c.args.payload.now)) (Some (entry_fields c.in_ok-done.entry)) c.enter.new.share.parts (map receipt_fields c.enter.new.receipts.items) by reported.after (search rules) (search rules)
     ∙ ap (and_receipt c.args.seat.now m) (sym by ∙ tells)
