@@ -44,7 +44,7 @@ pub record Trims (old new : Sent) (number : ℕ) : Type 0 where
   pub now_kept : new.kept ≡ filter (λ frame. nat_lt new.trimmed frame.last) old.kept
 
 -- for how many numbers there is room: the window less those that were put and are not trimmed, but no more than are left
--- below the greatest
+-- up to the greatest
 abbrev pub room_of : Sent → ℕ
 room_of sent = min (sent.window - (sent.put - sent.trimmed)) (LAST_NUMBER - sent.put)
 
@@ -70,7 +70,7 @@ AreInARow trimmed put [] = trimmed ≡ put
 AreInARow trimmed put (frame ∷ frames) =
     (1 ≤ frame.first) × (frame.first ≤ trimmed + 1) × (trimmed < frame.last) × FollowUpTo put frame.last frames
 
--- what is true of every window; so no more frames are kept than there are places
+-- what is true of every window; so no more frames are kept than numbers have room
 pub record IsSentWindow (sent : Sent) : Type 0 where
   pub width : IsWindow sent.window
   pub room : sent.put - sent.trimmed ≤ sent.window
