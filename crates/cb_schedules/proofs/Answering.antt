@@ -1,26 +1,25 @@
 -- The three kinds of calls, answer by answer.
-use Rattle.std.proofs.Common.{◌≡◌, ℕ, ◌<◌, ◌≤◌, Bool, true, false, not, ◌&&◌, ◌||◌, eqb, ltb, List, [], ◌∷◌, ◌++◌, length, map, Option, Some, None, Result, Ok, Err, refl, sym, ap, subst, ◌∙◌, inl, inr}
+use Rattle.std.proofs.Common.{◌≡◌, ℕ, ◌+◌, ◌<◌, ◌≤◌, Bool, true, false, not, ◌&&◌, ◌||◌, eqb, ltb, List, [], ◌∷◌, ◌++◌, length, map, Option, Some, None, Result, Ok, Err, refl, sym, ap, subst, ◌∙◌, inl, inr}
 use Rattle.std.specs.List.{AllByRecursion, list_any}
 use Rattle.std.proofs.lemmas.Bool.{cond_both, eq-eqb, eqb-true, ltb-false, and_parts}
 use Rattle.std.proofs.lemmas.List.{append-nil}
 use Rattle.cb_times.specs.declared.name.Name.{Name}
 use Rattle.cb_frames.specs.declared.frame.TheConstants.{LONGEST_PAYLOAD, LAST_NUMBER}
 use Rattle.cb_frames.specs.declared.fault.FrameFault.{FrameFault}
-use Rattle.cb_frames.specs.Fields.{CastFields, StatusFields, FrameFields, CastFrame, StatusFrame, RequestFrame, Carried, messages_of}
-use Rattle.cb_frames.specs.Text.{text_of}
+use Rattle.cb_frames.specs.Fields.{Load, payloads_of, load_bytes, CastFields, StatusFields, FrameFields, CastFrame, StatusFrame, RequestFrame, Carried, messages_of}
+use Rattle.cb_frames.specs.Text.{IsLoad, text_of}
 use Rattle.cb_history.specs.Read.{frame_read}
 use Rattle.cb_frames.specs.Laws.{IsBytes}
 use Rattle.cb_delay.specs.declared.message.Message.{Message}
-use Rattle.cb_history.specs.declared.answer.CastRefusal.{CastRefusal}
-use Rattle.cb_history.specs.declared.answer.CastRefusal.TheVariants as casts
 use Rattle.cb_history.specs.declared.answer.ArriveRefusal.{ArriveRefusal}
 use Rattle.cb_history.specs.declared.answer.ArriveRefusal.TheVariants as arrivals
 use Rattle.cb_history.specs.declared.answer.TickRefusal.{TickRefusal}
 use Rattle.cb_history.specs.declared.answer.TickRefusal.TheVariants as ticks
 use Rattle.cb_history.specs.declared.answer.Outgoing.{Outgoing}
+use Rattle.cb_history.specs.CastFault.{CastFault, PayloadTooLong, WindowFull, HistoryFull}
 use Rattle.cb_history.specs.Group.{Identity}
 use Rattle.cb_history.specs.Facts.{EntryFields, CastEntry, ArriveEntry, TickEntry, Fact, OwnCast, CastReceived, StatusReceived, OwnStatus, cast_said, status_said, facts_of, casts_in, messages_in, is_there}
-use Rattle.cb_history.specs.Answers.{is_full, is_window_full, delivered, next_cast, cast_answer, group_of, are_members, is_impossible, is_repeat, is_too_far, is_change, deliveries, sent_in_answer, own_casts, ArrivalSays, Accepted, Repeat, frame_answer, answer_to, arrive_answer, status_of, is_new_status, requests, tick_answer}
+use Rattle.cb_history.specs.Answers.{is_full, is_too_many, delivered, next_cast, cast_answer, group_of, are_members, is_impossible, is_repeat, is_too_far, is_change, deliveries, sent_in_answer, own_casts, ArrivalSays, Accepted, Repeat, frame_answer, answer_to, arrive_answer, status_of, is_new_status, requests, tick_answer}
 use Rattle.cb_history.specs.Legal.{Call, ToCast, ToTake, ToTick, cast_entry, arrive_entry, tick_entry, and_entry, history_after, AreEntriesOf}
 use Rattle.cb_history.specs.LegalFacts.{AreFactsOf}
 use Rattle.cb_history.proofs.Views.{IsIn, casts_in-append}
@@ -35,7 +34,7 @@ use Rattle.cb_schedules.specs.Schedule.{Setting, IsSetting, seat_at, Calls, Answ
 use Rattle.cb_schedules.specs.Messages.{facts_at, messages_read, received_by, has_arrived, cast_read, sent_casts}
 use Rattle.cb_schedules.specs.Honest.{SaysWhatIsSo, IsHonest}
 use Rattle.cb_schedules.specs.Consistent.{IsConsistent}
-use Rattle.cb_history.proofs.Counts.{number_left}
+use Rattle.cb_history.proofs.Counts.{numbers_left}
 use Rattle.cb_schedules.proofs.Sending.{cast_is_honest, status_is_honest, requests_are_honest, resent_are_honest, sent_is_honest}
 use Rattle.cb_schedules.proofs.Calling.{any-append, or_none, is_named, facts_push, after, own_now, IsGood, good, still_honest}
 use Rattle.cb_schedules.proofs.Lists.{all_weaken, any_in}
@@ -80,22 +79,22 @@ module _ (setting : Setting) (is : IsSetting setting) (s : GroupState) (inv : Is
 
   -- ---- a cast
 
-  module _ (payload : List ℕ) (bytes : IsBytes payload) where
+  module _ (load : Load) (bytes : IsBytes (load_bytes load)) where
     abbrev cast : CastFields
-    cast = next_cast (seat_at setting i) (facts_of (s.histories i)) payload
+    cast = next_cast (seat_at setting i) (facts_of (s.histories i)) load
 
-    abbrev CastGood : Result CastFields CastRefusal → Type 0
-    CastGood r = AreEntriesOf (seat_at setting i) (and_entry now (cast_entry r)) → IsGood setting is s inv i lt (ToCast payload) (and_entry now (cast_entry r)) (CastAnswer r)
+    abbrev CastGood : Result CastFields CastFault → Type 0
+    CastGood r = AreEntriesOf (seat_at setting i) (and_entry now (cast_entry r)) → IsGood setting is s inv i lt (ToCast load) (and_entry now (cast_entry r)) (CastAnswer r)
 
-    brings_itself : received_by i (Calls i (ToCast payload)) (CastAnswer (Ok cast)) ≡ messages_of cast
+    brings_itself : received_by i (Calls i (ToCast load)) (CastAnswer (Ok cast)) ≡ messages_of cast
     brings_itself = rw (eq-eqb i i refl) refl
 
-    made : delivered me said me.me < LAST_NUMBER → length payload ≤ LONGEST_PAYLOAD → CastGood (Ok cast)
+    made : delivered me said me.me + length (payloads_of load) ≤ LAST_NUMBER → IsLoad load → CastGood (Ok cast)
     made left short legal =
-        good setting is s inv i lt (ToCast payload) with_cast (CastAnswer (Ok cast)) legal (inr (OwnCast cast, push, tt)) (
-          cast_is_honest setting.group (facts_at s) i are (after setting is s inv i lt (ToCast payload) with_cast (CastAnswer (Ok cast))) payload bytes left short
-              (in_is_cast_of cast (own_casts (after setting is s inv i lt (ToCast payload) with_cast (CastAnswer (Ok cast)) i))
-              (subst (λ (fs : List Fact). IsIn cast (own_casts fs)) (own_now setting is s inv i lt (ToCast payload) with_cast (CastAnswer (Ok cast)))
+        good setting is s inv i lt (ToCast load) with_cast (CastAnswer (Ok cast)) legal (inr (OwnCast cast, push, tt)) (
+          cast_is_honest setting.group (facts_at s) i are (after setting is s inv i lt (ToCast load) with_cast (CastAnswer (Ok cast))) load bytes left short
+              (in_is_cast_of cast (own_casts (after setting is s inv i lt (ToCast load) with_cast (CastAnswer (Ok cast)) i))
+              (subst (λ (fs : List Fact). IsIn cast (own_casts fs)) (own_now setting is s inv i lt (ToCast load) with_cast (CastAnswer (Ok cast)))
               (subst (IsIn cast) (sym all_own) (in_back cast (own_casts said) (cast ∷ []) (inl refl))))),
           tt,
         )
@@ -111,7 +110,7 @@ module _ (setting : Setting) (is : IsSetting setting) (s : GroupState) (inv : Is
         with_cast = now ++ CastEntry (text_of (CastFrame cast)) ∷ []
 
         read : frame_read (text_of (CastFrame cast)) ≡ Ok (CastFrame cast)
-        read = cast_reads cast ((own_frames_have_texts me said are).0 payload left short)
+        read = cast_reads cast ((own_frames_have_texts me said are).0 load left short)
 
         push : facts_of (now ++ CastEntry (text_of (CastFrame cast)) ∷ []) ≡ said ++ OwnCast cast ∷ []
         push = facts_push now (CastEntry (text_of (CastFrame cast))) (OwnCast cast) (ap cast_said read)
@@ -119,14 +118,14 @@ module _ (setting : Setting) (is : IsSetting setting) (s : GroupState) (inv : Is
         all_own : own_casts (facts_of (now ++ CastEntry (text_of (CastFrame cast)) ∷ [])) ≡ own_casts said ++ cast ∷ []
         all_own = ap own_casts push ∙ own_casts-own said cast
 
-    pub cast_is_good : IsGood setting is s inv i lt (ToCast payload) (history_after me setting.limit now (ToCast payload)) (answer_of me setting.limit now (ToCast payload))
+    pub cast_is_good : IsGood setting is s inv i lt (ToCast load) (history_after me setting.limit now (ToCast load)) (answer_of me setting.limit now (ToCast load))
     unfolding cast_answer
     cast_is_good =
-        cond_both (ltb LONGEST_PAYLOAD (length payload)) _ _ CastGood (λ _ _. same_history (ToCast payload) (CastAnswer (Err casts.PayloadTooLong)) tt nothing_received)
-        (λ short. cond_both (is_window_full me said) _ _ CastGood (λ _ _. same_history (ToCast payload) (CastAnswer (Err casts.WindowFull)) tt nothing_received)
-        (λ free. cond_both (is_full setting.limit now) _ _ CastGood (λ _ _. same_history (ToCast payload) (CastAnswer (Err casts.HistoryFull)) tt nothing_received)
-        (λ _. made (number_left me said free) (ltb-false LONGEST_PAYLOAD (length payload) short))))
-        (calls_keep_entries me setting.limit now (ToCast payload) (inv.legal i lt) bytes)
+        cond_both (ltb LONGEST_PAYLOAD (length (load_bytes load))) _ _ CastGood (λ _ _. same_history (ToCast load) (CastAnswer (Err PayloadTooLong)) tt nothing_received)
+        (λ short. cond_both (is_too_many me said (length (payloads_of load))) _ _ CastGood (λ _ _. same_history (ToCast load) (CastAnswer (Err WindowFull)) tt nothing_received)
+        (λ free. cond_both (is_full setting.limit now) _ _ CastGood (λ _ _. same_history (ToCast load) (CastAnswer (Err HistoryFull)) tt nothing_received)
+        (λ _. made (numbers_left me said (length (payloads_of load)) free) (ltb-false LONGEST_PAYLOAD (length (load_bytes load)) short))))
+        (calls_keep_entries me setting.limit now (ToCast load) (inv.legal i lt) bytes)
 
   -- ---- a tick
 

@@ -60,13 +60,13 @@ all_sent P i (out ∷ outs) all = (all.0, all_sent P i outs all.1)
 
 -- nothing comes to a member by a call of another one
 received_elsewhere : (j i : ℕ) (call : Call) (answer : Answer) → i ≢ j → received_by j (Calls i call) answer ≡ []
-received_elsewhere j i (ToCast payload) (CastAnswer (Ok c)) ne = rw (ne_eqb i j ne) refl
-received_elsewhere j i (ToCast payload) (CastAnswer (Err refusal)) ne = refl
-received_elsewhere j i (ToCast payload) (ArrivalAnswer r) ne = refl
-received_elsewhere j i (ToCast payload) (TickAnswer r) ne = refl
-received_elsewhere j i (ToCast payload) NoSuchMember ne = refl
-received_elsewhere j i (ToCast payload) NoSuchFrame ne = refl
-received_elsewhere j i (ToCast payload) NoBytes ne = refl
+received_elsewhere j i (ToCast load) (CastAnswer (Ok c)) ne = rw (ne_eqb i j ne) refl
+received_elsewhere j i (ToCast load) (CastAnswer (Err fault)) ne = refl
+received_elsewhere j i (ToCast load) (ArrivalAnswer r) ne = refl
+received_elsewhere j i (ToCast load) (TickAnswer r) ne = refl
+received_elsewhere j i (ToCast load) NoSuchMember ne = refl
+received_elsewhere j i (ToCast load) NoSuchFrame ne = refl
+received_elsewhere j i (ToCast load) NoBytes ne = refl
 received_elsewhere j i (ToTake bytes) (ArrivalAnswer (Ok says)) ne = rw (ne_eqb i j ne) refl
 received_elsewhere j i (ToTake bytes) (ArrivalAnswer (Err refusal)) ne = refl
 received_elsewhere j i (ToTake bytes) (CastAnswer r) ne = refl

@@ -5,7 +5,7 @@ use Rattle.std.specs.List.{AllByRecursion, list_any}
 use Rattle.std.proofs.lemmas.Bool.{cond_both, ltb-true, and_parts}
 use Rattle.std.proofs.lemmas.List.{append-nil}
 use Rattle.cb_times.specs.declared.name.Name.{Name}
-use Rattle.cb_frames.specs.Fields.{Carried}
+use Rattle.cb_frames.specs.Fields.{load_bytes, Carried}
 use Rattle.cb_frames.specs.Laws.{IsBytes}
 use Rattle.cb_causality.specs.StampedMachine.{StampedStep, StampedRun}
 use Rattle.cb_causality.specs.Extension.{Extends, Still}
@@ -50,23 +50,23 @@ starts setting is = record {
 
 -- ---- what a step asks for
 
-bytes_are : (payload : List ℕ) → are_bytes payload ≡ true → IsBytes payload
+bytes_are : (bytes : List ℕ) → are_bytes bytes ≡ true → IsBytes bytes
 bytes_are [] all i = omega arith
-bytes_are (b ∷ payload) all zero = ltb-true b 256 (and_parts (ltb b 256) (are_bytes payload) all).0
-bytes_are (b ∷ payload) all (suc i) = bytes_are payload (and_parts (ltb b 256) (are_bytes payload) all).1 i
+bytes_are (b ∷ bytes) all zero = ltb-true b 256 (and_parts (ltb b 256) (are_bytes bytes) all).0
+bytes_are (b ∷ bytes) all (suc i) = bytes_are bytes (and_parts (ltb b 256) (are_bytes bytes) all).1 i
 
 -- a call that a step can ask for
 abbrev pub IsFair : Setting → GroupState → Call → Type 0
-IsFair setting s (ToCast payload) = IsBytes payload
+IsFair setting s (ToCast load) = IsBytes (load_bytes load)
 IsFair setting s (ToTake bytes) = IsHonest setting.group (facts_at s) bytes
 IsFair setting s ToTick = Unit {0}
 
 -- what is so of each fair call of a member, and of nothing, is so of what a step asks for
 pub asked_is : (setting : Setting) (s : GroupState) → AllByRecursion (λ (frame : SentFrame). IsHonest setting.group (facts_at s) frame.bytes) s.sent → (P : Asked → Type 0)
     → ((i : ℕ) (call : Call) → i < setting.group.size → IsFair setting s call → P (Calls i call)) → P OfNoMember → P OfNoFrame → P OfNoBytes → (step : Step) → P (asked_by setting s.sent step)
-asked_is setting s honest P calls none no_frame no_bytes (CastStep i payload) =
+asked_is setting s honest P calls none no_frame no_bytes (CastStep i load) =
     cond_both (ltb i setting.group.size) _ _ P
-    (λ inside. cond_both (are_bytes payload) (Calls i (ToCast payload)) OfNoBytes P (λ all. calls i (ToCast payload) (ltb-true i setting.group.size inside) (bytes_are payload all)) (λ _. no_bytes))
+    (λ inside. cond_both (are_bytes (load_bytes load)) (Calls i (ToCast load)) OfNoBytes P (λ all. calls i (ToCast load) (ltb-true i setting.group.size inside) (bytes_are (load_bytes load) all)) (λ _. no_bytes))
     (λ _. none)
 asked_is setting s honest P calls none no_frame no_bytes (ArriveStep j number) =
     cond_both (ltb j setting.group.size) _ _ P (λ inside. handed inside (slice_get s.sent number) refl) (λ _. none)
@@ -102,7 +102,7 @@ nothing_goes_on setting s asked answer inv none = (
         ∙ ap (λ (ms : List Carried). arrived_at s j ++ ms) (append-nil (received_by j asked answer) ∙ none j) ∙ append-nil (arrived_at s j))
 
 call_goes_on : (setting : Setting) → IsSetting setting → (s : GroupState) → IsConsistent setting s → (i : ℕ) (call : Call) → i < setting.group.size → IsFair setting s call → GoesOn setting s (after_asked setting s (Calls i call))
-call_goes_on setting is s inv i (ToCast payload) lt fair = cast_is_good setting is s inv i lt payload fair
+call_goes_on setting is s inv i (ToCast load) lt fair = cast_is_good setting is s inv i lt load fair
 call_goes_on setting is s inv i (ToTake bytes) lt fair = arrival_is_good setting is s inv i lt bytes fair
 call_goes_on setting is s inv i ToTick lt fair = tick_is_good setting is s inv i lt
 

@@ -89,13 +89,13 @@ abbrev SendsCasts : GroupState → GroupState → Type 0
 SendsCasts s t = (new : List SentFrame) × (t.sent ≡ s.sent ++ new) × AreCasts new
 
 abbrev IsArrival : Step → Type 0
-IsArrival (CastStep i payload) = ⊥
+IsArrival (CastStep i load) = ⊥
 IsArrival (ArriveStep j number) = Unit {0}
 IsArrival (TickStep i) = ⊥
 
 arrival_sends_casts : (setting : Setting) (s : GroupState) → IsConsistent setting s → (step : Step) → IsArrival step → SendsCasts s (step_after setting s step)
 unfolding step_after
-arrival_sends_casts setting s inv (CastStep i payload) is = absurd is
+arrival_sends_casts setting s inv (CastStep i load) is = absurd is
 arrival_sends_casts setting s inv (TickStep i) is = absurd is
 arrival_sends_casts setting s inv (ArriveStep j number) is =
     cond_both (ltb j setting.group.size) (handed_over j (slice_get s.sent number)) OfNoMember (λ (asked : Asked). SendsCasts s (after_asked setting s asked))
@@ -124,13 +124,13 @@ arrivals_send_casts setting is s inv (step ∷ steps) all =
 
 -- the arrival of a cast among these frames
 abbrev BringsCast : List SentFrame → Step → Type 0
-BringsCast sent (CastStep i payload) = ⊥
+BringsCast sent (CastStep i load) = ⊥
 BringsCast sent (ArriveStep j number) = (frame : SentFrame) × (slice_get sent number ≡ Some frame) × IsCast frame.bytes
 BringsCast sent (TickStep i) = ⊥
 
 bringing_sends_nothing : (setting : Setting) (s : GroupState) (step : Step) → BringsCast s.sent step → (step_after setting s step).sent ≡ s.sent
 unfolding step_after
-bringing_sends_nothing setting s (CastStep i payload) brings = absurd brings
+bringing_sends_nothing setting s (CastStep i load) brings = absurd brings
 bringing_sends_nothing setting s (TickStep i) brings = absurd brings
 bringing_sends_nothing setting s (ArriveStep j number) brings =
     cond_both (ltb j setting.group.size) (handed_over j (slice_get s.sent number)) OfNoMember (λ (asked : Asked). (after_asked setting s asked).sent ≡ s.sent)

@@ -2,19 +2,18 @@
 use Rattle.std.proofs.Common.{◌≡◌, ℕ, suc, ◌≤◌, Bool, true, false, cond, not, ◌&&◌, eqb, ltb, List, [], ◌∷◌, ◌++◌, length, map, Option, None, Result, Ok, Err, refl, sym, ap, subst, ◌∙◌, arith}
 use Rattle.cb_frames.specs.declared.frame.TheConstants.{LONGEST_PAYLOAD}
 use Rattle.cb_frames.specs.declared.fault.FrameFault.{FrameFault}
-use Rattle.cb_frames.specs.Fields.{CastFields, FrameFields, StatusFrame}
+use Rattle.cb_frames.specs.Fields.{Load, payloads_of, load_bytes, CastFields, FrameFields, StatusFrame}
 use Rattle.cb_frames.specs.Text.{text_of}
 use Rattle.cb_history.specs.Read.{frame_read}
-use Rattle.cb_history.specs.declared.answer.CastRefusal.{CastRefusal}
-use Rattle.cb_history.specs.declared.answer.CastRefusal.TheVariants as casts
 use Rattle.cb_history.specs.declared.answer.ArriveRefusal.{ArriveRefusal}
 use Rattle.cb_history.specs.declared.answer.ArriveRefusal.TheVariants as arrivals
 use Rattle.cb_history.specs.declared.answer.TickRefusal.{TickRefusal}
 use Rattle.cb_history.specs.declared.answer.TickRefusal.TheVariants as ticks
 use Rattle.cb_history.specs.declared.answer.Outgoing.{Outgoing}
+use Rattle.cb_history.specs.CastFault.{CastFault, PayloadTooLong, WindowFull, HistoryFull}
 use Rattle.cb_history.specs.Group.{Parameters, AreParameters, Identity}
 use Rattle.cb_history.specs.Facts.{EntryFields, facts_of}
-use Rattle.cb_history.specs.Answers.{is_full, is_window_full, next_cast, cast_answer, group_of, are_members, is_impossible, is_repeat, is_too_far, is_change, deliveries, sent_in_answer, ArrivalSays, Accepted, Repeat, frame_answer, answer_to, arrive_answer, status_of, is_new_status, requests, tick_answer}
+use Rattle.cb_history.specs.Answers.{is_full, is_too_many, next_cast, cast_answer, group_of, are_members, is_impossible, is_repeat, is_too_far, is_change, deliveries, sent_in_answer, ArrivalSays, Accepted, Repeat, frame_answer, answer_to, arrive_answer, status_of, is_new_status, requests, tick_answer}
 use Rattle.cb_history.specs.Legal.{Call, ToCast, ToTake, ToTick, cast_entry, arrive_entry, tick_entry, entry_of, and_entry, room_for_one}
 use Rattle.cb_history.proofs.Calls.{room_left}
 use Rattle.cb_schedules.specs.Schedule.{Setting, seat_at, Step, CastStep, ArriveStep, TickStep, Schedule, Asked, Calls, OfNoMember, OfNoFrame, OfNoBytes, Answer, CastAnswer, ArrivalAnswer, TickAnswer, answer_of, frames_sent, sent_by, GroupState, with_history, asked_by, after_asked, step_after, nothing_yet, run_from, run}
@@ -28,8 +27,8 @@ use Rattle.cb_schedules.proofs.Room.{none_full}
 -- ---- an answer that is not that the history is full is the same with room for one entry
 
 -- the tests of an answer, of which `none` is that no entry is left
-abbrev a_cast : Bool → Bool → CastFields → Bool → Result CastFields CastRefusal
-a_cast long closed c none = cond long (Err casts.PayloadTooLong) (cond closed (Err casts.WindowFull) (cond none (Err casts.HistoryFull) (Ok c)))
+abbrev a_cast : Bool → Bool → CastFields → Bool → Result CastFields CastFault
+a_cast long closed c none = cond long (Err PayloadTooLong) (cond closed (Err WindowFull) (cond none (Err HistoryFull) (Ok c)))
 
 cast_free : (long closed : Bool) (c : CastFields) (none : Bool) → IsNotFull (CastAnswer (a_cast long closed c none)) → a_cast long closed c none ≡ a_cast long closed c false
 cast_free true closed c none free = refl
@@ -65,11 +64,11 @@ module _ (seat : Identity) (limit : ℕ) (entries : List EntryFields) where
   abbrev room : ℕ
   room = room_for_one entries
 
-  cast_same : (payload : List ℕ) → IsNotFull (CastAnswer (cast_answer seat limit entries payload)) → cast_answer seat limit entries payload ≡ cast_answer seat room entries payload
+  cast_same : (load : Load) → IsNotFull (CastAnswer (cast_answer seat limit entries load)) → cast_answer seat limit entries load ≡ cast_answer seat room entries load
   unfolding cast_answer
-  cast_same payload free =
-      let answer : Bool → Result CastFields CastRefusal = a_cast (ltb LONGEST_PAYLOAD (length payload)) (is_window_full seat (facts_of entries)) (next_cast seat (facts_of entries) payload) in
-      cast_free (ltb LONGEST_PAYLOAD (length payload)) (is_window_full seat (facts_of entries)) (next_cast seat (facts_of entries) payload) (is_full limit entries) free ∙ sym (ap answer (room_left entries))
+  cast_same load free =
+      let answer : Bool → Result CastFields CastFault = a_cast (ltb LONGEST_PAYLOAD (length (load_bytes load))) (is_too_many seat (facts_of entries) (length (payloads_of load))) (next_cast seat (facts_of entries) load) in
+      cast_free (ltb LONGEST_PAYLOAD (length (load_bytes load))) (is_too_many seat (facts_of entries) (length (payloads_of load))) (next_cast seat (facts_of entries) load) (is_full limit entries) free ∙ sym (ap answer (room_left entries))
 
   frame_same : (frame : FrameFields) → IsNotFull (ArrivalAnswer (frame_answer seat limit entries (facts_of entries) frame))
       → frame_answer seat limit entries (facts_of entries) frame ≡ frame_answer seat room entries (facts_of entries) frame
@@ -100,7 +99,7 @@ module _ (seat : Identity) (limit : ℕ) (entries : List EntryFields) where
 
   -- and so is the entry that it adds
   call_same : (call : Call) → IsNotFull (answer_of seat limit entries call) → (answer_of seat limit entries call ≡ answer_of seat room entries call) × (entry_of seat limit entries call ≡ entry_of seat room entries call)
-  call_same (ToCast payload) free = let same = cast_same payload free in (ap CastAnswer same, ap cast_entry same)
+  call_same (ToCast load) free = let same = cast_same load free in (ap CastAnswer same, ap cast_entry same)
   call_same (ToTake bytes) free = let same = arrive_same bytes free in (ap ArrivalAnswer same, ap (arrive_entry bytes) same)
   call_same ToTick free = let same = tick_same free in (ap TickAnswer same, ap (tick_entry (text_of (StatusFrame (status_of seat (facts_of entries))))) same)
 
@@ -130,7 +129,7 @@ module _ (setting : Setting) (s : GroupState) where
 
   pub step_alike : (step : Step) → IsNotFull (answer_to_step setting s step) → step_of_cores setting.group s step ≡ step_after setting s step
   unfolding step_of_cores step_after
-  step_alike (CastStep i payload) free = asked_alike (asked_by setting s.sent (CastStep i payload)) free
+  step_alike (CastStep i load) free = asked_alike (asked_by setting s.sent (CastStep i load)) free
   step_alike (ArriveStep j number) free = asked_alike (asked_by setting s.sent (ArriveStep j number)) free
   step_alike (TickStep i) free = asked_alike (asked_by setting s.sent (TickStep i)) free
 

@@ -2,10 +2,9 @@
 use Rattle.std.proofs.Common.{◌≡◌, ℕ, true, List, [], ◌∷◌, drop, map, Some, None, Ok, Err, refl}
 use Rattle.cb_varint.specs.Reading.{number_at, spelling}
 use Rattle.cb_times.specs.declared.name.Name.{Name}
-use Rattle.cb_frames.specs.Fields.{messages_of, first_number, last_number}
+use Rattle.cb_frames.specs.Fields.{One, messages_of, first_number, last_number}
 use Rattle.cb_frames.specs.Text.{text_of}
 use Rattle.cb_frames.specs.Reading.{frame_at, cast_at, status_at, request_at, pairs_at, pair_at}
-use Rattle.cb_history.specs.Read.{frame_read}
 use Rattle.cb_delay.specs.declared.message.Message.{Message}
 use Rattle.cb_delay.specs.declared.message.Event.TheVariants.{Deliver}
 use Rattle.cb_history.specs.declared.answer.ArriveRefusal.TheVariants as arrivals
@@ -37,7 +36,7 @@ answers s = map (λ o. o.answer) s.outcomes
 
 -- member 1, which has cast, takes the cast of member 0
 abbrev filling : Schedule
-filling = CastStep 0 (97 ∷ []) ∷ CastStep 1 (98 ∷ []) ∷ ArriveStep 1 0 ∷ []
+filling = CastStep 0 (One (97 ∷ [])) ∷ CastStep 1 (One (98 ∷ [])) ∷ ArriveStep 1 0 ∷ []
 
 a_member_refuses_it : drop 2 (answers (run short filling)) ≡ ArrivalAnswer (Err arrivals.HistoryFull) ∷ []
 unfolding step_after run_from cast_answer arrive_answer tick_answer view drained frame_at cast_at status_at request_at pairs_at pair_at number_at text_of spelling messages_of first_number last_number
@@ -56,7 +55,7 @@ so_it_has_arrived = refl
 -- Of two casts of core 0 the first is lost to core 1. Its tick asks for it; the request arrives at core 0, whose answer arrives twice.
 abbrev losing : Schedule
 losing =
-    CastStep 0 (97 ∷ []) ∷ CastStep 0 (98 ∷ []) ∷ ArriveStep 1 1 ∷ TickStep 1 ∷ ArriveStep 0 3 ∷ ArriveStep 1 4 ∷ ArriveStep 1 4 ∷ []
+    CastStep 0 (One (97 ∷ [])) ∷ CastStep 0 (One (98 ∷ [])) ∷ ArriveStep 1 1 ∷ TickStep 1 ∷ ArriveStep 0 3 ∷ ArriveStep 1 4 ∷ ArriveStep 1 4 ∷ []
 
 what_is_sent : (run_of_cores three losing).sent
     ≡ record { from = 0; to = None; bytes = 17 ∷ 7 ∷ 0 ∷ 1 ∷ 0 ∷ 1 ∷ 97 ∷ [] }
@@ -79,7 +78,7 @@ the_last_is_a_repeat = refl
 
 -- ---- steps that name nothing
 
-naming_nothing : answers (run_of_cores three (CastStep 3 [] ∷ ArriveStep 1 0 ∷ TickStep 9 ∷ CastStep 0 (256 ∷ []) ∷ [])) ≡ NoSuchMember ∷ NoSuchFrame ∷ NoSuchMember ∷ NoBytes ∷ []
+naming_nothing : answers (run_of_cores three (CastStep 3 (One []) ∷ ArriveStep 1 0 ∷ TickStep 9 ∷ CastStep 0 (One (256 ∷ [])) ∷ [])) ≡ NoSuchMember ∷ NoSuchFrame ∷ NoSuchMember ∷ NoBytes ∷ []
 unfolding step_of_cores cores_from step_after cast_answer arrive_answer tick_answer view drained frame_at cast_at status_at request_at pairs_at pair_at number_at text_of spelling messages_of first_number last_number
 naming_nothing = refl
 
@@ -87,7 +86,7 @@ naming_nothing = refl
 
 -- core 0 casts twice and core 2 once; nothing arrives
 abbrev lost : Schedule
-lost = CastStep 0 (97 ∷ []) ∷ CastStep 0 (98 ∷ []) ∷ CastStep 2 (99 ∷ []) ∷ []
+lost = CastStep 0 (One (97 ∷ [])) ∷ CastStep 0 (One (98 ∷ [])) ∷ CastStep 2 (One (99 ∷ [])) ∷ []
 
 -- how many of each other's messages each has delivered behind so many rounds
 abbrev counts_behind : ℕ → List (List ℕ)

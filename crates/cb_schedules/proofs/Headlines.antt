@@ -185,7 +185,7 @@ module _ (setting : Setting) (s : GroupState) (inv : IsConsistent setting s) whe
 pub call_is_welcome : (setting : Setting) (s : GroupState) → IsConsistent setting s → (i : ℕ) (call : Call) → i < setting.group.size → IsFair setting s call
     → IsRefusedByFullHistoryAlone (answer_of (seat_at setting i) setting.limit (s.histories i) call)
 unfolding arrive_answer
-call_is_welcome setting s inv i (ToCast payload) lt fair = tt
+call_is_welcome setting s inv i (ToCast load) lt fair = tt
 call_is_welcome setting s inv i ToTick lt fair = tt
 call_is_welcome setting s inv i (ToTake bytes) lt fair =
     subst (λ (r : Result FrameFields FrameFault). IsNoRefusal (answer_to (seat_at setting i) setting.limit (s.histories i) r)) (sym fair.read)

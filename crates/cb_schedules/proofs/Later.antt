@@ -5,7 +5,7 @@ use Rattle.std.specs.List.{AllByRecursion}
 use Rattle.std.proofs.lemmas.Bool.{cond_both, eqb-true}
 use Rattle.std.proofs.lemmas.List.{append-nil}
 use Rattle.cb_frames.specs.declared.fault.FrameFault.{FrameFault}
-use Rattle.cb_frames.specs.Fields.{CastFields, FrameFields, CastFrame, StatusFrame, RequestFrame}
+use Rattle.cb_frames.specs.Fields.{Load, CastFields, FrameFields, CastFrame, StatusFrame, RequestFrame}
 use Rattle.cb_history.specs.Read.{frame_read}
 use Rattle.cb_history.specs.declared.answer.ArriveRefusal.{ArriveRefusal}
 use Rattle.cb_history.specs.declared.answer.TickRefusal.{TickRefusal}
@@ -70,7 +70,7 @@ later_joins s t u first second = record {
 -- ---- a step
 
 abbrev IsNoCast : Call → Type 0
-IsNoCast (ToCast payload) = ⊥
+IsNoCast (ToCast load) = ⊥
 IsNoCast (ToTake bytes) = Unit {0}
 IsNoCast ToTick = Unit {0}
 
@@ -107,7 +107,7 @@ tick_adds entries status (Ok t) =
 tick_adds entries status (Err refusal) = same_facts (facts_of entries) (facts_of entries) refl
 
 call_adds : (seat : Identity) (limit : ℕ) (entries : List EntryFields) (call : Call) → IsNoCast call → MoreFacts (facts_of entries) (facts_of (history_after seat limit entries call))
-call_adds seat limit entries (ToCast payload) none = absurd none
+call_adds seat limit entries (ToCast load) none = absurd none
 call_adds seat limit entries (ToTake bytes) none = arrival_adds entries bytes (arrive_answer seat limit entries bytes)
 call_adds seat limit entries ToTick none = tick_adds entries _ (tick_answer seat limit entries)
 
@@ -124,16 +124,16 @@ call_is_later setting s i call answer none = record {
 nothing_is_later : (s : GroupState) (asked : Asked) (answer : Answer) → IsLater s (and_nothing s asked answer)
 nothing_is_later s asked answer = record { facts = λ k. same_facts (facts_at s k) (facts_at s k) refl; new = []; sent = sym (append-nil s.sent) }
 
-asked_is_later : (setting : Setting) (s : GroupState) (asked : Asked) → ((i : ℕ) (payload : List ℕ) → asked ≡ Calls i (ToCast payload) → ⊥) → IsLater s (after_asked setting s asked)
-asked_is_later setting s (Calls i (ToCast payload)) none = absurd (none i payload refl)
+asked_is_later : (setting : Setting) (s : GroupState) (asked : Asked) → ((i : ℕ) (load : Load) → asked ≡ Calls i (ToCast load) → ⊥) → IsLater s (after_asked setting s asked)
+asked_is_later setting s (Calls i (ToCast load)) none = absurd (none i load refl)
 asked_is_later setting s (Calls i (ToTake bytes)) none = call_is_later setting s i (ToTake bytes) (answer_of (seat_at setting i) setting.limit (s.histories i) (ToTake bytes)) tt
 asked_is_later setting s (Calls i ToTick) none = call_is_later setting s i ToTick (answer_of (seat_at setting i) setting.limit (s.histories i) ToTick) tt
 asked_is_later setting s OfNoMember none = nothing_is_later s OfNoMember NoSuchMember
 asked_is_later setting s OfNoFrame none = nothing_is_later s OfNoFrame NoSuchFrame
 asked_is_later setting s OfNoBytes none = nothing_is_later s OfNoBytes NoBytes
 
-pub no_cast : (setting : Setting) (sent : List SentFrame) (step : Step) → IsNoCastStep step → (i : ℕ) (payload : List ℕ) → asked_by setting sent step ≡ Calls i (ToCast payload) → ⊥
-no_cast setting sent (CastStep i payload) none j other = absurd none
+pub no_cast : (setting : Setting) (sent : List SentFrame) (step : Step) → IsNoCastStep step → (i : ℕ) (load : Load) → asked_by setting sent step ≡ Calls i (ToCast load) → ⊥
+no_cast setting sent (CastStep i load) none j other = absurd none
 no_cast setting sent (TickStep i) none j other =
     cond_both (ltb i setting.group.size) (Calls i ToTick) OfNoMember (λ (asked : Asked). asked ≡ Calls j (ToCast other) → ⊥) (λ _ e. cc) (λ _ e. cc)
 no_cast setting sent (ArriveStep i number) none j other =

@@ -72,7 +72,7 @@ receives_once size from (Some k) j = let e : cond (eqb k j) 1 0 + 0 ≡ cond (eq
 
 ticks-append : (i : ℕ) (steps more : Schedule) → ticks_of i (steps ++ more) ≡ ticks_of i steps + ticks_of i more
 ticks-append i [] more = omega arith
-ticks-append i (CastStep j payload ∷ steps) more = ticks-append i steps more
+ticks-append i (CastStep j load ∷ steps) more = ticks-append i steps more
 ticks-append i (ArriveStep j number ∷ steps) more = ticks-append i steps more
 ticks-append i (TickStep j ∷ steps) more = let rest = ticks-append i steps more in omega (arith, rest)
 
@@ -110,7 +110,7 @@ each_ticks_once setting s i =
 
 arrivals-append : (j number : ℕ) (steps more : Schedule) → arrivals_at j number (steps ++ more) ≡ arrivals_at j number steps + arrivals_at j number more
 arrivals-append j number [] more = omega arith
-arrivals-append j number (CastStep i payload ∷ steps) more = arrivals-append j number steps more
+arrivals-append j number (CastStep i load ∷ steps) more = arrivals-append j number steps more
 arrivals-append j number (ArriveStep i n ∷ steps) more = let rest = arrivals-append j number steps more in omega (arith, rest)
 arrivals-append j number (TickStep i ∷ steps) more = arrivals-append j number steps more
 

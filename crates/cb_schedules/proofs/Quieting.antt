@@ -5,7 +5,7 @@ use Rattle.std.proofs.lemmas.Bool.{cond_both, cases_eq, eq-eqb, eqb-true, ne_eqb
 use Rattle.std.proofs.lemmas.List.{append-nil}
 use mathlib.Core.Path.{fun_ext}
 use Rattle.cb_frames.specs.declared.fault.FrameFault.{FrameFault}
-use Rattle.cb_frames.specs.Fields.{CastFields, StatusFields, FrameFields, CastFrame, StatusFrame, RequestFrame, Carried, messages_of, last_number}
+use Rattle.cb_frames.specs.Fields.{Load, CastFields, StatusFields, FrameFields, CastFrame, StatusFrame, RequestFrame, Carried, messages_of, last_number}
 use Rattle.cb_frames.proofs.Carried.{carried_is_of_cast}
 use Rattle.cb_frames.specs.Text.{text_of}
 use Rattle.cb_history.specs.declared.answer.ArriveRefusal.{ArriveRefusal}
@@ -269,16 +269,16 @@ module _ (setting : Setting) (s : GroupState) (inv : IsConsistent setting s) (qu
     same_with : (now : List EntryFields) → now ≡ s.histories i → (k : ℕ) → with_history s.histories i now k ≡ s.histories k
     same_with now same k = cond_both (eqb k i) now (s.histories k) (λ (es : List EntryFields). es ≡ s.histories k) (λ e. same ∙ ap s.histories (sym (eqb-true k i e))) (λ _. refl)
 
-    call_changes_nothing : (call : Call) → IsFair setting s call → ((payload : List ℕ) → call ≡ ToCast payload → ⊥) → (k : ℕ) → (after_asked setting s (Calls i call)).histories k ≡ s.histories k
-    call_changes_nothing (ToCast payload) fair none k = absurd (none payload refl)
+    call_changes_nothing : (call : Call) → IsFair setting s call → ((load : Load) → call ≡ ToCast load → ⊥) → (k : ℕ) → (after_asked setting s (Calls i call)).histories k ≡ s.histories k
+    call_changes_nothing (ToCast load) fair none k = absurd (none load refl)
     call_changes_nothing (ToTake bytes) fair none k = same_with (history_after (seat_at setting i) setting.limit (s.histories i) (ToTake bytes)) (arrival_changes_nothing bytes fair) k
     call_changes_nothing ToTick fair none k = same_with (history_after (seat_at setting i) setting.limit (s.histories i) ToTick) tick_changes_nothing k
 
   step_changes_nothing : (step : Step) → IsNoCastStep step → (k : ℕ) → (step_after setting s step).histories k ≡ s.histories k
   unfolding step_after
   step_changes_nothing step none =
-      asked_is setting s inv.honest (λ (asked : Asked). ((j : ℕ) (payload : List ℕ) → asked ≡ Calls j (ToCast payload) → ⊥) → (k : ℕ) → (after_asked setting s asked).histories k ≡ s.histories k)
-      (λ i call lt fair no_casts. call_changes_nothing i lt call fair (λ payload e. no_casts i payload (ap (Calls i) e)))
+      asked_is setting s inv.honest (λ (asked : Asked). ((j : ℕ) (load : Load) → asked ≡ Calls j (ToCast load) → ⊥) → (k : ℕ) → (after_asked setting s asked).histories k ≡ s.histories k)
+      (λ i call lt fair no_casts. call_changes_nothing i lt call fair (λ load e. no_casts i load (ap (Calls i) e)))
       (λ _ k. refl) (λ _ k. refl) (λ _ k. refl) step (no_cast setting s.sent step none)
 
 pub quiet_stays : (setting : Setting) → IsSetting setting → (s : GroupState) → IsConsistent setting s → IsQuiet setting (facts_at s) → NothingChangesAnyMore setting s

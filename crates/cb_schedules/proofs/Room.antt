@@ -3,15 +3,15 @@ use Rattle.std.proofs.Common.{◌≡◌, ℕ, ◌+◌, ◌<◌, ◌≤◌, Bool,
 use Rattle.std.proofs.lemmas.Bool.{cond_both, eqb-true, leb-true, and_parts}
 use Rattle.cb_frames.specs.declared.frame.TheConstants.{LONGEST_PAYLOAD}
 use Rattle.cb_frames.specs.declared.fault.FrameFault.{FrameFault}
-use Rattle.cb_frames.specs.Fields.{CastFields, FrameFields}
+use Rattle.cb_frames.specs.Fields.{Load, payloads_of, load_bytes, CastFields, FrameFields}
 use Rattle.cb_history.specs.Read.{frame_read}
-use Rattle.cb_history.specs.declared.answer.CastRefusal.{CastRefusal}
 use Rattle.cb_history.specs.declared.answer.ArriveRefusal.{ArriveRefusal}
 use Rattle.cb_history.specs.declared.answer.TickRefusal.{TickRefusal}
 use Rattle.cb_history.specs.declared.answer.Outgoing.{Outgoing}
+use Rattle.cb_history.specs.CastFault.{CastFault}
 use Rattle.cb_history.specs.Group.{Identity}
 use Rattle.cb_history.specs.Facts.{EntryFields, facts_of}
-use Rattle.cb_history.specs.Answers.{is_full, is_window_full, cast_answer, group_of, are_members, is_impossible, is_repeat, is_too_far, is_change, ArrivalSays, frame_answer, answer_to, arrive_answer, is_new_status, tick_answer}
+use Rattle.cb_history.specs.Answers.{is_full, is_too_many, cast_answer, group_of, are_members, is_impossible, is_repeat, is_too_far, is_change, ArrivalSays, frame_answer, answer_to, arrive_answer, is_new_status, tick_answer}
 use Rattle.cb_history.specs.Legal.{Call, ToCast, ToTake, ToTick, entry_of, and_entry, history_after}
 use Rattle.cb_schedules.specs.Schedule.{Setting, seat_at, Step, Schedule, Asked, Calls, OfNoMember, OfNoFrame, OfNoBytes, CastAnswer, ArrivalAnswer, TickAnswer, answer_of, GroupState, asked_by, after_asked, step_after}
 use Rattle.cb_schedules.specs.Rounds.{IsNotFull}
@@ -23,12 +23,12 @@ module _ (seat : Identity) (limit : ℕ) (entries : List EntryFields) (room : le
   never_full : is_full limit entries ≡ true → ⊥
   never_full full = let le = leb-true limit (length entries) full in omega (arith, room, le)
 
-  cast_not_full : (payload : List ℕ) → IsNotFull (CastAnswer (cast_answer seat limit entries payload))
+  cast_not_full : (load : Load) → IsNotFull (CastAnswer (cast_answer seat limit entries load))
   unfolding cast_answer
-  cast_not_full payload =
-      let Fine : Result CastFields CastRefusal → Type 0 = λ r. IsNotFull (CastAnswer r) in
-      cond_both (ltb LONGEST_PAYLOAD (length payload)) _ _ Fine (λ _ e. cc)
-      (λ _. cond_both (is_window_full seat (facts_of entries)) _ _ Fine (λ _ e. cc)
+  cast_not_full load =
+      let Fine : Result CastFields CastFault → Type 0 = λ r. IsNotFull (CastAnswer r) in
+      cond_both (ltb LONGEST_PAYLOAD (length (load_bytes load))) _ _ Fine (λ _ e. cc)
+      (λ _. cond_both (is_too_many seat (facts_of entries) (length (payloads_of load))) _ _ Fine (λ _ e. cc)
       (λ _. cond_both (is_full limit entries) _ _ Fine (λ full. absurd (never_full full)) (λ _. tt)))
 
   frame_not_full : (frame : FrameFields) → IsNotFull (ArrivalAnswer (frame_answer seat limit entries (facts_of entries) frame))
@@ -58,7 +58,7 @@ module _ (seat : Identity) (limit : ℕ) (entries : List EntryFields) (room : le
       (λ full. absurd (never_full (and_parts (is_new_status seat (facts_of entries)) (is_full limit entries) full).1)) (λ _. tt)
 
   call_not_full : (call : Call) → IsNotFull (answer_of seat limit entries call)
-  call_not_full (ToCast payload) = cast_not_full payload
+  call_not_full (ToCast load) = cast_not_full load
   call_not_full (ToTake bytes) = arrival_not_full bytes
   call_not_full ToTick = tick_not_full
 

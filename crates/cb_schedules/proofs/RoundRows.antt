@@ -2,10 +2,9 @@
 use Rattle.std.proofs.Common.{◌≡◌, ℕ, List, [], ◌∷◌, ◌++◌, length, map, Some, None, refl, arith}
 use Rattle.std.specs.List.{range_with_len}
 use Rattle.cb_varint.specs.Reading.{number_at, spelling}
-use Rattle.cb_frames.specs.Fields.{messages_of, first_number, last_number}
+use Rattle.cb_frames.specs.Fields.{One, messages_of, first_number, last_number}
 use Rattle.cb_frames.specs.Text.{text_of}
 use Rattle.cb_frames.specs.Reading.{frame_at, cast_at, status_at, request_at, pairs_at, pair_at}
-use Rattle.cb_history.specs.Read.{frame_read}
 use Rattle.cb_history.specs.View.{view, drained}
 use Rattle.cb_history.specs.Known.{known, stable}
 use Rattle.cb_history.specs.Answers.{delivered, cast_answer, arrive_answer, tick_answer}
@@ -24,7 +23,7 @@ three = record { group = record { number = 7; size = 3; window = 8 }; limit = 10
 
 -- member 0 casts twice and member 2 once; nothing arrives
 abbrev lost : Schedule
-lost = CastStep 0 (97 ∷ []) ∷ CastStep 0 (98 ∷ []) ∷ CastStep 2 (99 ∷ []) ∷ []
+lost = CastStep 0 (One (97 ∷ [])) ∷ CastStep 0 (One (98 ∷ [])) ∷ CastStep 2 (One (99 ∷ [])) ∷ []
 
 -- how many of each member's messages each member has delivered
 abbrev counts_at : GroupState → List (List ℕ)
@@ -100,7 +99,7 @@ wide = record { group = record { number = 7; size = 2; window = 65 }; limit = 30
 
 -- member 0 fills it, and all is lost
 abbrev all_lost : Schedule
-all_lost = map (λ k. CastStep 0 []) (range_with_len 0 65)
+all_lost = map (λ k. CastStep 0 (One [])) (range_with_len 0 65)
 
 -- behind two rounds one cast is still lacking: two would be too few
 two_are_too_few : map (λ n. delivered (seat_at wide 1) (facts_at (after_rounds wide n (run wide all_lost)) 1) 0) (1 ∷ 2 ∷ 3 ∷ []) ≡ 0 ∷ 64 ∷ 65 ∷ []

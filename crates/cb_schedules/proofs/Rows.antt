@@ -3,10 +3,9 @@ use Rattle.std.proofs.Common.{◌≡◌, ℕ, true, false, List, [], ◌∷◌, 
 use Rattle.std.specs.Prelude.{slice_get}
 use Rattle.cb_varint.specs.Reading.{number_at, spelling}
 use Rattle.cb_times.specs.declared.name.Name.{Name}
-use Rattle.cb_frames.specs.Fields.{messages_of, first_number, last_number}
+use Rattle.cb_frames.specs.Fields.{One, messages_of, first_number, last_number}
 use Rattle.cb_frames.specs.Text.{text_of}
 use Rattle.cb_frames.specs.Reading.{frame_at, cast_at, status_at, request_at, pairs_at, pair_at}
-use Rattle.cb_history.specs.Read.{frame_read}
 use Rattle.cb_delay.specs.declared.message.Message.{Message}
 use Rattle.cb_delay.specs.declared.message.Event.TheVariants.{Deliver}
 use Rattle.cb_causality.specs.declared.event.CausalEvent.TheVariants as causal
@@ -37,11 +36,11 @@ answers s = map (λ o. o.answer) s.outcomes
 
 -- member 0 casts "hi", member 1 takes it and casts "yo"; at member 2 first "yo" arrives
 abbrev overtaking : Schedule
-overtaking = CastStep 0 (104 ∷ 105 ∷ []) ∷ ArriveStep 1 0 ∷ CastStep 1 (121 ∷ 111 ∷ []) ∷ ArriveStep 2 1 ∷ []
+overtaking = CastStep 0 (One (104 ∷ 105 ∷ [])) ∷ ArriveStep 1 0 ∷ CastStep 1 (One (121 ∷ 111 ∷ [])) ∷ ArriveStep 2 1 ∷ []
 
 -- and then "hi"
 abbrev in_the_end : Schedule
-in_the_end = CastStep 0 (104 ∷ 105 ∷ []) ∷ ArriveStep 1 0 ∷ CastStep 1 (121 ∷ 111 ∷ []) ∷ ArriveStep 2 1 ∷ ArriveStep 2 0 ∷ []
+in_the_end = CastStep 0 (One (104 ∷ 105 ∷ [])) ∷ ArriveStep 1 0 ∷ CastStep 1 (One (121 ∷ 111 ∷ [])) ∷ ArriveStep 2 1 ∷ ArriveStep 2 0 ∷ []
 
 abbrev the_hi : Message
 the_hi = message 0 1 (1 ∷ 0 ∷ 0 ∷ []) (104 ∷ 105 ∷ [])
@@ -101,7 +100,7 @@ nothing_is_stable_yet = refl
 -- Of two casts of member 0 the first is lost to member 1. Its tick asks for it; the request arrives at member 0, whose answer arrives twice.
 abbrev losing : Schedule
 losing =
-    CastStep 0 (97 ∷ []) ∷ CastStep 0 (98 ∷ []) ∷ ArriveStep 1 1 ∷ TickStep 1 ∷ ArriveStep 0 3 ∷ ArriveStep 1 4 ∷ ArriveStep 1 4 ∷ []
+    CastStep 0 (One (97 ∷ [])) ∷ CastStep 0 (One (98 ∷ [])) ∷ ArriveStep 1 1 ∷ TickStep 1 ∷ ArriveStep 0 3 ∷ ArriveStep 1 4 ∷ ArriveStep 1 4 ∷ []
 
 what_was_sent : (run three losing).sent
     ≡ record { from = 0; to = None; bytes = 17 ∷ 7 ∷ 0 ∷ 1 ∷ 0 ∷ 1 ∷ 97 ∷ [] }
@@ -144,9 +143,9 @@ what_was_cast = refl
 -- ---- steps that name nothing
 
 abbrev naming_nothing : Schedule
-naming_nothing = CastStep 3 [] ∷ ArriveStep 1 0 ∷ ArriveStep 3 0 ∷ TickStep 9 ∷ CastStep 0 (256 ∷ []) ∷ []
+naming_nothing = CastStep 3 (One []) ∷ ArriveStep 1 0 ∷ ArriveStep 3 0 ∷ TickStep 9 ∷ CastStep 0 (One (256 ∷ [])) ∷ []
 
-they_ask_for_nothing : AsksForNothing (asked_by three [] (CastStep 3 [])) × AsksForNothing (asked_by three [] (ArriveStep 1 0)) × AsksForNothing (asked_by three [] (CastStep 0 (256 ∷ [])))
+they_ask_for_nothing : AsksForNothing (asked_by three [] (CastStep 3 (One []))) × AsksForNothing (asked_by three [] (ArriveStep 1 0)) × AsksForNothing (asked_by three [] (CastStep 0 (One (256 ∷ []))))
 they_ask_for_nothing = (tt, tt, tt)
 
 they_say_so : answers (run three naming_nothing) ≡ NoSuchMember ∷ NoSuchFrame ∷ NoSuchMember ∷ NoSuchMember ∷ NoBytes ∷ []
@@ -184,7 +183,7 @@ yo_is_closed = (the_headline.delivered 2 (name 1 1)).0 (record { index = 1; even
 
 -- two members cast at once: neither time is at most the other
 abbrev at_once : Schedule
-at_once = CastStep 0 (97 ∷ []) ∷ CastStep 1 (98 ∷ []) ∷ ArriveStep 0 1 ∷ ArriveStep 1 0 ∷ []
+at_once = CastStep 0 (One (97 ∷ [])) ∷ CastStep 1 (One (98 ∷ [])) ∷ ArriveStep 0 1 ∷ ArriveStep 1 0 ∷ []
 
 one_of_them : time_from_bytes three (run three at_once) (name 0 1) ≡ 1 ∷ 0 ∷ 0 ∷ []
 unfolding step_after run_from cast_answer arrive_answer tick_answer view drained frame_at cast_at status_at request_at pairs_at pair_at number_at text_of spelling messages_of first_number last_number
@@ -197,7 +196,7 @@ the_other = refl
 -- ---- what is stable: both others tell their statuses
 
 abbrev reported_back : Schedule
-reported_back = CastStep 0 (97 ∷ []) ∷ ArriveStep 1 0 ∷ ArriveStep 2 0 ∷ TickStep 1 ∷ TickStep 2 ∷ ArriveStep 0 1 ∷ ArriveStep 0 2 ∷ []
+reported_back = CastStep 0 (One (97 ∷ [])) ∷ ArriveStep 1 0 ∷ ArriveStep 2 0 ∷ TickStep 1 ∷ TickStep 2 ∷ ArriveStep 0 1 ∷ ArriveStep 0 2 ∷ []
 
 the_cast_is_stable : stable (seat_at three 0) (facts_at (run three reported_back) 0) ≡ 1
 unfolding step_after run_from cast_answer arrive_answer tick_answer view drained frame_at cast_at status_at request_at pairs_at pair_at number_at text_of spelling messages_of first_number last_number
@@ -217,7 +216,7 @@ abbrev short : Setting
 short = record { group = record { number = 7; size = 3; window = 4 }; limit = 1 }
 
 abbrev filling : Schedule
-filling = CastStep 0 (97 ∷ []) ∷ CastStep 1 (98 ∷ []) ∷ ArriveStep 1 0 ∷ []
+filling = CastStep 0 (One (97 ∷ [])) ∷ CastStep 1 (One (98 ∷ [])) ∷ ArriveStep 1 0 ∷ []
 
 the_history_is_full : map (λ o. o.answer) (drop 2 (run short filling).outcomes) ≡ ArrivalAnswer (Err arrivals.HistoryFull) ∷ []
 unfolding step_after run_from cast_answer arrive_answer tick_answer view drained frame_at cast_at status_at request_at pairs_at pair_at number_at text_of spelling messages_of first_number last_number

@@ -1,13 +1,13 @@
 -- What a member sends is a frame of the group that says what is so.
-use Rattle.std.proofs.Common.{◌≡◌, ◌≢◌, ℕ, ◌<◌, ◌≤◌, not, eqb, ltb, List, [], ◌∷◌, length, take, Some, Result, Ok, Err, refl, sym, ap, subst, arith, inl, inr}
+use Rattle.std.proofs.Common.{◌≡◌, ◌≢◌, ℕ, ◌+◌, ◌<◌, ◌≤◌, not, eqb, ltb, List, [], ◌∷◌, length, take, Some, Result, Ok, Err, refl, sym, ap, subst, arith, inl, inr}
 use Rattle.std.specs.List.{AllByRecursion, flat_map, filter, range_with_len}
 use Rattle.std.proofs.lemmas.Bool.{cond_both, eqb-false}
 use Rattle.cb_varint.specs.Reading.{spelling}
-use Rattle.cb_frames.specs.declared.frame.TheConstants.{LAST_NUMBER, LONGEST_PAYLOAD, MOST_RANGES, MOST_FRAMES}
+use Rattle.cb_frames.specs.declared.frame.TheConstants.{LAST_NUMBER, MOST_RANGES, MOST_FRAMES}
 use Rattle.cb_frames.specs.declared.frame.Range.{Range}
 use Rattle.cb_frames.specs.declared.fault.FrameFault.{FrameFault}
-use Rattle.cb_frames.specs.Fields.{CastFields, RequestFields, FrameFields, CastFrame, StatusFrame, RequestFrame, last_number}
-use Rattle.cb_frames.specs.Text.{text_of, request_kind, request_numbers}
+use Rattle.cb_frames.specs.Fields.{Load, payloads_of, load_bytes, CastFields, RequestFields, FrameFields, CastFrame, StatusFrame, RequestFrame, last_number}
+use Rattle.cb_frames.specs.Text.{IsLoad, text_of, request_kind, request_numbers}
 use Rattle.cb_history.specs.Read.{frame_read}
 use Rattle.cb_frames.specs.Laws.{IsBytes}
 use Rattle.cb_frames.proofs.Decoding.{reading_is_exact, text_is_read}
@@ -40,15 +40,15 @@ module _ (group : Parameters) (facts : ℕ → List Fact) (i : ℕ) (are : AreFa
   is_seat = record { group = are.group; member = are.member }
 
   -- the next cast, once it is an own cast
-  pub cast_is_honest : (after : ℕ → List Fact) (payload : List ℕ) → IsBytes payload → delivered (member_of group i) (facts i) i < LAST_NUMBER → length payload ≤ LONGEST_PAYLOAD
-      → IsCastOf (next_cast (member_of group i) (facts i) payload) (own_casts (after i)) → IsHonest group after (text_of (CastFrame (next_cast (member_of group i) (facts i) payload)))
-  cast_is_honest after payload bytes left short own =
-      let can = (own_frames_have_texts (member_of group i) (facts i) are).0 payload left short in
+  pub cast_is_honest : (after : ℕ → List Fact) (load : Load) → IsBytes (load_bytes load) → delivered (member_of group i) (facts i) i + length (payloads_of load) ≤ LAST_NUMBER → IsLoad load
+      → IsCastOf (next_cast (member_of group i) (facts i) load) (own_casts (after i)) → IsHonest group after (text_of (CastFrame (next_cast (member_of group i) (facts i) load)))
+  cast_is_honest after load bytes left short own =
+      let can = (own_frames_have_texts (member_of group i) (facts i) are).0 load left short in
       record {
-        are_bytes = cast_is_bytes (next_cast (member_of group i) (facts i) payload) can bytes;
-        frame = CastFrame (next_cast (member_of group i) (facts i) payload);
-        read = cast_reads (next_cast (member_of group i) (facts i) payload) can;
-        of_group = own_casts_are_of_the_group (member_of group i) (facts i) payload is_seat;
+        are_bytes = cast_is_bytes (next_cast (member_of group i) (facts i) load) can bytes;
+        frame = CastFrame (next_cast (member_of group i) (facts i) load);
+        read = cast_reads (next_cast (member_of group i) (facts i) load) can;
+        of_group = own_casts_are_of_the_group (member_of group i) (facts i) load is_seat;
         so = own;
       }
 

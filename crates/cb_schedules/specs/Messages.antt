@@ -46,7 +46,7 @@ messages_read other = []
 -- what arrived at member j by a call of member i, where these are one: its own cast, or what a cast frame carries that was accepted
 -- or was a repeat
 abbrev pub received_by : ℕ → Asked → Answer → List Carried
-received_by j (Calls i (ToCast payload)) (CastAnswer (Ok c)) = if i == j then messages_of c else []
+received_by j (Calls i (ToCast load)) (CastAnswer (Ok c)) = if i == j then messages_of c else []
 received_by j (Calls i (ToTake bytes)) (ArrivalAnswer (Ok says)) = if i == j then messages_read (frame_read bytes) else []
 received_by j asked answer = []
 

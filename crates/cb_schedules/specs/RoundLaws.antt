@@ -16,14 +16,14 @@ use Rattle.cb_schedules.specs.Rounds.{answered, round_steps, after_round, steps_
 -- how many of these steps are ticks of member i
 abbrev pub ticks_of : ℕ → Schedule → ℕ
 ticks_of i [] = 0
-ticks_of i (CastStep j payload ∷ steps) = ticks_of i steps
+ticks_of i (CastStep j load ∷ steps) = ticks_of i steps
 ticks_of i (ArriveStep j number ∷ steps) = ticks_of i steps
 ticks_of i (TickStep j ∷ steps) = (if j == i then 1 else 0) + ticks_of i steps
 
 -- how many are arrivals of the frame with this number at member j
 abbrev pub arrivals_at : ℕ → ℕ → Schedule → ℕ
 arrivals_at j number [] = 0
-arrivals_at j number (CastStep i payload ∷ steps) = arrivals_at j number steps
+arrivals_at j number (CastStep i load ∷ steps) = arrivals_at j number steps
 arrivals_at j number (ArriveStep i n ∷ steps) = (if i == j && n == number then 1 else 0) + arrivals_at j number steps
 arrivals_at j number (TickStep i ∷ steps) = arrivals_at j number steps
 
@@ -160,7 +160,7 @@ EverythingIsStable setting s =
 
 -- a step that is a tick or an arrival
 abbrev pub IsNoCastStep : Step → Type 0
-IsNoCastStep (CastStep i payload) = ⊥
+IsNoCastStep (CastStep i load) = ⊥
 IsNoCastStep (ArriveStep j number) = Unit {0}
 IsNoCastStep (TickStep i) = Unit {0}
 

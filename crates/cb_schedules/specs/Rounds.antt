@@ -1,9 +1,9 @@
 -- Rounds: every member ticks, and then all that was sent arrives.
 use Rattle.std.specs.Prelude.{◌≢◌, ℕ, zero, suc, ◌+◌, not, ◌==◌, List, [], ◌∷◌, ◌++◌, length, drop, map, filter, Option, Some, None, Err}
 use Rattle.std.specs.List.{AllByRecursion, range_with_len}
-use Rattle.cb_history.specs.declared.answer.CastRefusal.TheVariants as casts
 use Rattle.cb_history.specs.declared.answer.ArriveRefusal.TheVariants as arrivals
 use Rattle.cb_history.specs.declared.answer.TickRefusal.TheVariants as ticks
+use Rattle.cb_history.specs.CastFault.{HistoryFull}
 use Rattle.cb_schedules.specs.Schedule.{Setting, TickStep, ArriveStep, Schedule, SentFrame, Answer, CastAnswer, ArrivalAnswer, TickAnswer, Outcome, GroupState, run_from}
 
 -- ---- the steps of a round
@@ -60,7 +60,7 @@ after_rounds setting n s = run_from setting s (steps_of_rounds setting n s)
 
 -- any answer but that the history is full
 abbrev pub IsNotFull : Answer → Type 0
-IsNotFull (CastAnswer (Err refusal)) = refusal ≢ casts.HistoryFull
+IsNotFull (CastAnswer (Err fault)) = fault ≢ HistoryFull
 IsNotFull (ArrivalAnswer (Err refusal)) = refusal ≢ arrivals.HistoryFull
 IsNotFull (TickAnswer (Err refusal)) = refusal ≢ ticks.HistoryFull
 IsNotFull other = Unit {0}

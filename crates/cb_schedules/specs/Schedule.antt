@@ -1,12 +1,12 @@
 -- What may happen in a group of members, and what its run leaves behind.
 use Rattle.std.specs.Prelude.{ℕ, ◌≤◌, Bool, nat_lt, ◌==◌, List, [], ◌∷◌, ◌++◌, length, map, Option, Some, None, Result, Ok, slice_get, if◌then◌else◌}
 use Rattle.std.specs.List.{list_all}
-use Rattle.cb_frames.specs.Fields.{CastFields, CastFrame}
+use Rattle.cb_frames.specs.Fields.{Load, load_bytes, CastFields, CastFrame}
 use Rattle.cb_frames.specs.Text.{text_of}
-use Rattle.cb_history.specs.declared.answer.CastRefusal.{CastRefusal}
 use Rattle.cb_history.specs.declared.answer.ArriveRefusal.{ArriveRefusal}
 use Rattle.cb_history.specs.declared.answer.TickRefusal.{TickRefusal}
 use Rattle.cb_history.specs.declared.answer.Outgoing.{Outgoing}
+use Rattle.cb_history.specs.CastFault.{CastFault}
 use Rattle.cb_history.specs.Group.{Parameters, AreParameters, Identity}
 use Rattle.cb_history.specs.Facts.{EntryFields}
 use Rattle.cb_history.specs.Answers.{cast_answer, arrive_answer, tick_answer, ArrivalSays, Accepted}
@@ -33,9 +33,9 @@ seat_at setting i = record { group = setting.group; me = i }
 
 -- ---- schedules
 
--- one thing that happens: a member casts a payload, a frame that was sent arrives at a member, or a member ticks
+-- one thing that happens: a member casts a load, a frame that was sent arrives at a member, or a member ticks
 pub data Step : Type 0 where
-  CastStep : ℕ → List ℕ → Step
+  CastStep : ℕ → Load → Step
   ArriveStep : ℕ → ℕ → Step
   TickStep : ℕ → Step
 
@@ -49,16 +49,16 @@ pub record SentFrame : Type 0 where
   pub to : Option ℕ
   pub bytes : List ℕ
 
--- what a step asks for: a call of a member; or nothing, where it names no member, no frame, or a payload that is not bytes
+-- what a step asks for: a call of a member; or nothing, where it names no member, no frame, or a load that is not bytes
 pub data Asked : Type 0 where
   Calls : ℕ → Call → Asked
   OfNoMember : Asked
   OfNoFrame : Asked
   OfNoBytes : Asked
 
--- each number of the payload is below 256
+-- each number of these is below 256
 abbrev pub are_bytes : List ℕ → Bool
-are_bytes payload = list_all (λ b. nat_lt b 256) payload
+are_bytes bytes = list_all (λ b. nat_lt b 256) bytes
 
 abbrev pub of_member : Setting → ℕ → Asked → Asked
 of_member setting i asked = if nat_lt i setting.group.size then asked else OfNoMember
@@ -70,7 +70,7 @@ handed_over j (Some frame) = Calls j (ToTake frame.bytes)
 
 -- what a step asks for, where these frames were sent
 abbrev pub asked_by : Setting → List SentFrame → Step → Asked
-asked_by setting sent (CastStep i payload) = of_member setting i (if are_bytes payload then Calls i (ToCast payload) else OfNoBytes)
+asked_by setting sent (CastStep i load) = of_member setting i (if are_bytes (load_bytes load) then Calls i (ToCast load) else OfNoBytes)
 asked_by setting sent (ArriveStep j number) = of_member setting j (handed_over j (slice_get sent number))
 asked_by setting sent (TickStep i) = of_member setting i (Calls i ToTick)
 
@@ -78,7 +78,7 @@ asked_by setting sent (TickStep i) = of_member setting i (Calls i ToTick)
 
 -- what a step is answered: what its member answers to the call, by its history; or that the step names none
 pub data Answer : Type 0 where
-  CastAnswer : Result CastFields CastRefusal → Answer
+  CastAnswer : Result CastFields CastFault → Answer
   ArrivalAnswer : Result ArrivalSays ArriveRefusal → Answer
   TickAnswer : Result (Bool × List Outgoing) TickRefusal → Answer
   NoSuchMember : Answer
@@ -86,7 +86,7 @@ pub data Answer : Type 0 where
   NoBytes : Answer
 
 abbrev pub answer_of : Identity → ℕ → List EntryFields → Call → Answer
-answer_of seat limit entries (ToCast payload) = CastAnswer (cast_answer seat limit entries payload)
+answer_of seat limit entries (ToCast load) = CastAnswer (cast_answer seat limit entries load)
 answer_of seat limit entries (ToTake bytes) = ArrivalAnswer (arrive_answer seat limit entries bytes)
 answer_of seat limit entries ToTick = TickAnswer (tick_answer seat limit entries)
 

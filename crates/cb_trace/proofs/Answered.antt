@@ -6,20 +6,19 @@ use Rattle.cb_times.specs.declared.name.Name.{Name}
 use Rattle.cb_frames.specs.declared.frame.TheConstants.{LONGEST_PAYLOAD}
 use Rattle.cb_frames.specs.declared.frame.Range.{Range}
 use Rattle.cb_frames.specs.declared.fault.FrameFault.{FrameFault}
-use Rattle.cb_frames.specs.Fields.{CastFields, RequestFields, FrameFields, CastFrame, StatusFrame, RequestFrame}
+use Rattle.cb_frames.specs.Fields.{Load, payloads_of, load_bytes, CastFields, RequestFields, FrameFields, CastFrame, StatusFrame, RequestFrame}
 use Rattle.cb_frames.specs.Text.{text_of}
 use Rattle.cb_history.specs.Read.{frame_read}
-use Rattle.cb_history.specs.declared.answer.CastRefusal.{CastRefusal}
-use Rattle.cb_history.specs.declared.answer.CastRefusal.TheVariants as casts
 use Rattle.cb_history.specs.declared.answer.ArriveRefusal.{ArriveRefusal}
 use Rattle.cb_history.specs.declared.answer.ArriveRefusal.TheVariants as arrivals
 use Rattle.cb_history.specs.declared.answer.TickRefusal.{TickRefusal}
 use Rattle.cb_history.specs.declared.answer.TickRefusal.TheVariants as ticks
 use Rattle.cb_history.specs.declared.answer.Outgoing.{Outgoing}
+use Rattle.cb_history.specs.CastFault.{CastFault, PayloadTooLong, WindowFull, HistoryFull}
 use Rattle.cb_history.specs.Group.{Identity}
 use Rattle.cb_history.specs.Facts.{EntryFields, CastEntry, ArriveEntry, TickEntry, Fact, facts_of}
 use Rattle.cb_history.specs.Known.{missing, ranges_of}
-use Rattle.cb_history.specs.Answers.{is_full, is_window_full, next_cast, cast_answer, group_of, are_members, is_impossible, is_repeat, is_too_far, is_change, deliveries, sent_in_answer, ArrivalSays, Accepted, Repeat, frame_answer, answer_to, arrive_answer, status_of, is_new_status, request_to, requests, tick_answer}
+use Rattle.cb_history.specs.Answers.{is_full, is_too_many, next_cast, cast_answer, group_of, are_members, is_impossible, is_repeat, is_too_far, is_change, deliveries, sent_in_answer, ArrivalSays, Accepted, Repeat, frame_answer, answer_to, arrive_answer, status_of, is_new_status, request_to, requests, tick_answer}
 use Rattle.cb_history.specs.Legal.{Call, ToCast, ToTake, ToTick, cast_entry, arrive_entry, tick_entry, entry_of}
 use Rattle.cb_history.specs.ReplayLaws.{call_of}
 use Rattle.cb_history.proofs.Views.{IsIn}
@@ -30,13 +29,13 @@ use Rattle.cb_trace.specs.JointOrder.{PutsOut}
 -- ---- limits
 
 module _ (seat : Identity) (limit other : ℕ) (entries : List EntryFields) (same : is_full limit entries ≡ is_full other entries) where
-  cast_room : (payload : List ℕ) → cast_answer seat limit entries payload ≡ cast_answer seat other entries payload
+  cast_room : (load : Load) → cast_answer seat limit entries load ≡ cast_answer seat other entries load
   unfolding cast_answer
-  cast_room payload =
-      let r : Bool → Result CastFields CastRefusal = λ full.
-      if ltb LONGEST_PAYLOAD (length payload) then Err casts.PayloadTooLong else
-      if is_window_full seat (facts_of entries) then Err casts.WindowFull else
-      if full then Err casts.HistoryFull else Ok (next_cast seat (facts_of entries) payload) in
+  cast_room load =
+      let r : Bool → Result CastFields CastFault = λ full.
+      if ltb LONGEST_PAYLOAD (length (load_bytes load)) then Err PayloadTooLong else
+      if is_too_many seat (facts_of entries) (length (payloads_of load)) then Err WindowFull else
+      if full then Err HistoryFull else Ok (next_cast seat (facts_of entries) load) in
       ap r same
 
   frame_room : (facts : List Fact) (frame : FrameFields) → frame_answer seat limit entries facts frame ≡ frame_answer seat other entries facts frame
@@ -70,7 +69,7 @@ module _ (seat : Identity) (limit other : ℕ) (entries : List EntryFields) (sam
 
   -- the entry that a call adds
   pub entry_room : (call : Call) → entry_of seat limit entries call ≡ entry_of seat other entries call
-  entry_room (ToCast payload) = ap cast_entry (cast_room payload)
+  entry_room (ToCast load) = ap cast_entry (cast_room load)
   entry_room (ToTake bytes) = ap (arrive_entry bytes) (arrive_room bytes)
   entry_room ToTick = ap (tick_entry (text_of (StatusFrame (status_of seat (facts_of entries))))) tick_room
 
@@ -85,14 +84,14 @@ pub record ComesWith (e : EntryFields) (out : List Outgoing) : Type 0 where
   pub all : (bytes : List ℕ) → PutsOut e bytes → (o : Outgoing) × IsIn o out × (o.bytes ≡ bytes)
   pub only : AllByRecursion (λ (o : Outgoing). PutsOut e o.bytes ⊎ IsRequest o.bytes) out
 
-cast_out : (frame : List ℕ) (r : Result CastFields CastRefusal) → cast_entry r ≡ Some (CastEntry frame) → ComesWith (CastEntry frame) (frames_sent (CastAnswer r))
+cast_out : (frame : List ℕ) (r : Result CastFields CastFault) → cast_entry r ≡ Some (CastEntry frame) → ComesWith (CastEntry frame) (frames_sent (CastAnswer r))
 cast_out frame (Ok c) is =
     let said : text_of (CastFrame c) ≡ frame = cc in
     record {
       all = λ bytes e. (record { to = None; bytes = text_of (CastFrame c) }, inl refl, said ∙ e);
       only = (inl (sym said), tt);
     }
-cast_out frame (Err refusal) is = absurd cc
+cast_out frame (Err fault) is = absurd cc
 
 -- an arrival that adds an entry puts nothing out: only a request is answered
 abbrev Quiet : List ℕ → EntryFields → Result ArrivalSays ArriveRefusal → Type 0

@@ -2,10 +2,9 @@
 use Rattle.std.proofs.Common.{◌≡◌, ℕ, zero, suc, ◌<◌, false, eqb, List, [], ◌∷◌, length, Some, None, refl, sym, subst, arith}
 use Rattle.std.proofs.lemmas.Bool.{ne_eqb}
 use Rattle.cb_varint.specs.Reading.{number_at, spelling}
-use Rattle.cb_frames.specs.Fields.{messages_of, first_number, last_number}
+use Rattle.cb_frames.specs.Fields.{One, messages_of, first_number, last_number}
 use Rattle.cb_frames.specs.Text.{text_of}
 use Rattle.cb_frames.specs.Reading.{frame_at, cast_at, status_at, request_at, pairs_at, pair_at}
-use Rattle.cb_history.specs.Read.{frame_read}
 use Rattle.cb_times.specs.declared.name.Name.{Name}
 use Rattle.cb_history.specs.Group.{Parameters}
 use Rattle.cb_history.specs.Facts.{EntryFields, CastEntry, ArriveEntry}
@@ -117,7 +116,7 @@ abbrev the_setting : Setting
 the_setting = record { group = group; limit = 2 }
 
 abbrev the_steps : Schedule
-the_steps = CastStep 0 (104 ∷ 105 ∷ []) ∷ ArriveStep 1 0 ∷ CastStep 1 (121 ∷ 111 ∷ []) ∷ ArriveStep 2 1 ∷ ArriveStep 2 0 ∷ []
+the_steps = CastStep 0 (One (104 ∷ 105 ∷ [])) ∷ ArriveStep 1 0 ∷ CastStep 1 (One (121 ∷ 111 ∷ [])) ∷ ArriveStep 2 1 ∷ ArriveStep 2 0 ∷ []
 
 member_0_did_this : (run the_setting the_steps).histories 0 ≡ worked 0
 unfolding step_after run_from cast_answer arrive_answer tick_answer view drained frame_at cast_at status_at request_at pairs_at pair_at number_at text_of spelling messages_of first_number last_number

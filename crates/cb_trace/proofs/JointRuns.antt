@@ -6,6 +6,7 @@ use Rattle.std.proofs.lemmas.Bool.{cases_lt, eqb-true, eqb-false, ne_eqb, lt-leb
 use Rattle.std.proofs.lemmas.List.{length-take-le}
 use Rattle.std.proofs.Math.Seq.{take-length}
 use Rattle.std.proofs.lemmas.Option.{slice_get_within}
+use Rattle.cb_frames.specs.Fields.{Load, load_bytes}
 use Rattle.cb_frames.specs.Laws.{IsBytes}
 use Rattle.cb_history.specs.Read.{frame_read}
 use Rattle.cb_history.specs.declared.answer.Outgoing.{Outgoing}
@@ -13,7 +14,7 @@ use Rattle.cb_history.specs.Group.{Identity}
 use Rattle.cb_history.specs.Facts.{EntryFields, CastEntry, ArriveEntry, TickEntry}
 use Rattle.cb_history.specs.Answers.{is_full}
 use Rattle.cb_history.specs.Legal.{longest_history, ToCast, ToTake, ToTick, entry_of, and_entry, history_after, IsLegal}
-use Rattle.cb_history.specs.ReplayLaws.{payload_said, call_of, IsAdded}
+use Rattle.cb_history.specs.ReplayLaws.{load_said, call_of, IsAdded}
 use Rattle.cb_history.proofs.Views.{IsIn}
 use Rattle.cb_history.proofs.Lists.{in_front, in_back}
 use Rattle.cb_history.proofs.Prefixes.{prefix_is_legal}
@@ -113,11 +114,12 @@ module _ (setting : Setting) (histories : Histories) (are : AreLegalWithin setti
       where
         by : (x : EntryFields) → e ≡ x → IsStepOf s.sent k x step → asked_by setting s.sent step ≡ Calls k (call_of x)
         by (CastEntry frame) same of =
-            let bytes : IsBytes (payload_said (frame_read frame)) = entries_of_bytes_tell_bytes (CastEntry frame) (subst (λ (y : EntryFields). IsAdded me before y) same added).0 in
-            let all : are_bytes (payload_said (frame_read frame)) ≡ true = bytes_are_bytes (payload_said (frame_read frame)) bytes in
+            let load : Load = load_said (frame_read frame) in
+            let bytes : IsBytes (load_bytes load) = entries_of_bytes_tell_bytes (CastEntry frame) (subst (λ (y : EntryFields). IsAdded me before y) same added).0 in
+            let all : are_bytes (load_bytes load) ≡ true = bytes_are_bytes (load_bytes load) bytes in
             ap (asked_by setting s.sent) of
-            ∙ ap (λ (b : Bool). if b then (if are_bytes (payload_said (frame_read frame)) then Calls k (ToCast (payload_said (frame_read frame))) else OfNoBytes) else OfNoMember) (lt-ltb k setting.group.size is_member)
-            ∙ ap (λ (b : Bool). if b then Calls k (ToCast (payload_said (frame_read frame))) else OfNoBytes) all
+            ∙ ap (λ (b : Bool). if b then (if are_bytes (load_bytes load) then Calls k (ToCast load) else OfNoBytes) else OfNoMember) (lt-ltb k setting.group.size is_member)
+            ∙ ap (λ (b : Bool). if b then Calls k (ToCast load) else OfNoBytes) all
         by (ArriveEntry frame names) same of =
             let first = of.1 in
             ap (asked_by setting s.sent) of.2

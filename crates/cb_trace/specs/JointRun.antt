@@ -1,7 +1,7 @@
 -- The schedule that an order of entries is, and its run.
 use Rattle.std.specs.Prelude.{◌≡◌, ◌≢◌, ℕ, ◌<◌, ◌≤◌, List, [], ◌∷◌, ◌++◌, length, slice_get, Some}
 use Rattle.cb_history.specs.Facts.{EntryFields, CastEntry, ArriveEntry, TickEntry}
-use Rattle.cb_history.specs.ReplayLaws.{payload_said}
+use Rattle.cb_history.specs.ReplayLaws.{load_said}
 use Rattle.cb_history.specs.Legal.{IsLegal}
 use Rattle.cb_history.specs.Read.{frame_read}
 use Rattle.cb_schedules.specs.Schedule.{Setting, seat_at, Step, CastStep, ArriveStep, TickStep, Schedule, SentFrame, run}
@@ -17,7 +17,7 @@ pub record IsFirstFrame (sent : List SentFrame) (bytes : List ℕ) (number : ℕ
 -- The step that makes the entry, where these frames were sent: a cast of its payload, an arrival of the first frame with its bytes, or a
 -- tick.
 abbrev pub IsStepOf : List SentFrame → ℕ → EntryFields → Step → Type 0
-IsStepOf sent k (CastEntry frame) step = step ≡ CastStep k (payload_said (frame_read frame))
+IsStepOf sent k (CastEntry frame) step = step ≡ CastStep k (load_said (frame_read frame))
 IsStepOf sent k (ArriveEntry frame delivered) step = (number : ℕ) × IsFirstFrame sent frame number × (step ≡ ArriveStep k number)
 IsStepOf sent k (TickEntry status) step = step ≡ TickStep k
 

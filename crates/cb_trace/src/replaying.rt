@@ -2,10 +2,11 @@
 
 ghost use Rattle.std.specs.Prelude.{◌≡◌, ◌<◌, [], IfOk, Some, map, option_map};
 ghost use Rattle.std.specs.Bool.{Decides};
+ghost use Rattle.cb_frames.specs.Fields.{One};
 ghost use Rattle.cb_history.specs.Read.{frame_read};
 ghost use Rattle.cb_history.specs.Facts.{entry_fields};
 ghost use Rattle.cb_history.specs.Legal.{longest_history, ToCast, ToTake, ToTick};
-ghost use Rattle.cb_history.specs.ReplayLaws.{call_of, payload_said};
+ghost use Rattle.cb_history.specs.ReplayLaws.{call_of, load_said};
 ghost use Rattle.cb_trace.specs.Auditing.{seat_of};
 ghost use Rattle.cb_trace.specs.Replaying.{SaysAdded, SaysFirstWrong};
 
@@ -67,7 +68,7 @@ fn gives(alloc: Global, member: &mut Member, entry: &Entry) -> Result<bool, NoMe
 
 /// What a cast frame casts; no byte of a frame that is none.
 pub fn payload_of(alloc: Global, frame: &Bytes) -> Result<Bytes, NoMemory>
-    ensures { IfOk result (λ payload. payload ≡ payload_said (frame_read frame.now)) }
+    ensures { IfOk result (λ payload. One payload ≡ load_said (frame_read frame.now)) }
 {
     match decode(alloc, frame) {
         Ok(Frame::Cast(cast)) => Ok(cast.payload),
@@ -77,7 +78,7 @@ pub fn payload_of(alloc: Global, frame: &Bytes) -> Result<Bytes, NoMemory>
 }
 
 fn casts(member: &mut Member, payload: &[u8], entry: &Entry) -> Result<bool, NoMemory>
-    ensures { IfOk result (SaysAdded member.old member.new (ToCast payload.now)
+    ensures { IfOk result (SaysAdded member.old member.new (ToCast (One payload.now))
         (entry_fields entry.now)) }
 {
     match member.cast_noted(payload) {

@@ -7,20 +7,19 @@ use Rattle.std.proofs.lemmas.List.FromFn.{length-range_with_len}
 use Rattle.cb_frames.specs.declared.frame.TheConstants.{LONGEST_PAYLOAD, MOST_FRAMES}
 use Rattle.cb_frames.specs.declared.frame.Range.{Range}
 use Rattle.cb_frames.specs.declared.fault.FrameFault.{FrameFault}
-use Rattle.cb_frames.specs.Fields.{CastFields, FrameFields, CastFrame, StatusFrame, RequestFrame}
+use Rattle.cb_frames.specs.Fields.{Load, payloads_of, load_bytes, CastFields, FrameFields, CastFrame, StatusFrame, RequestFrame}
 use Rattle.cb_frames.specs.Text.{text_of}
 use Rattle.cb_history.specs.Read.{frame_read}
 use Rattle.cb_history.specs.declared.answer.ArriveRefusal.{ArriveRefusal}
-use Rattle.cb_history.specs.declared.answer.CastRefusal.{CastRefusal}
 use Rattle.cb_history.specs.declared.answer.TickRefusal.{TickRefusal}
 use Rattle.cb_history.specs.declared.answer.ArriveRefusal.TheVariants as arrivals
-use Rattle.cb_history.specs.declared.answer.CastRefusal.TheVariants as casts
 use Rattle.cb_history.specs.declared.answer.TickRefusal.TheVariants as ticks
 use Rattle.cb_history.specs.declared.answer.Outgoing.{Outgoing}
+use Rattle.cb_history.specs.CastFault.{CastFault, PayloadTooLong, WindowFull, HistoryFull}
 use Rattle.cb_history.specs.Group.{Identity}
 use Rattle.cb_history.specs.Facts.{EntryFields, Fact, facts_of}
 use Rattle.cb_history.specs.Known.{missing, ranges_of}
-use Rattle.cb_history.specs.Answers.{is_full, is_window_full, next_cast, cast_answer, group_of, are_members, is_impossible, is_repeat, is_too_far, is_change, deliveries, is_asked_for, window, sent_in_answer, ArrivalSays, Accepted, Repeat, answer_to, arrive_answer, status_of, is_new_status, request_to, requests, tick_answer}
+use Rattle.cb_history.specs.Answers.{is_full, is_too_many, next_cast, cast_answer, group_of, are_members, is_impossible, is_repeat, is_too_far, is_change, deliveries, is_asked_for, window, sent_in_answer, ArrivalSays, Accepted, Repeat, answer_to, arrive_answer, status_of, is_new_status, request_to, requests, tick_answer}
 use Rattle.cb_history.specs.Legal.{Call, ToCast, ToTake, ToTick}
 use Rattle.cb_schedules.specs.Schedule.{Answer, CastAnswer, ArrivalAnswer, TickAnswer, answer_of, frames_sent}
 use Rattle.cb_world.specs.declared.taking.TheConstants.{MOST_SENT_OUT}
@@ -57,19 +56,19 @@ module _ (seat : Identity) (limit : ℕ) (entries : List EntryFields) where
       cond_both (is_new_status seat (facts_of entries) && is_full limit entries) _ _ (λ (r : Result (Bool × List Outgoing) TickRefusal). Few (TickAnswer r)) (λ _. tick_refused ticks.HistoryFull)
       (λ _. status_and_requests (is_new_status seat (facts_of entries)) (record { to = None; bytes = text_of (StatusFrame (status_of seat (facts_of entries))) }) size)
 
-  cast_refused : (refusal : CastRefusal) → Few (CastAnswer (Err refusal))
-  cast_refused refusal = omega arith
+  no_cast : (fault : CastFault) → Few (CastAnswer (Err fault))
+  no_cast fault = omega arith
 
   one_cast : (c : CastFields) → Few (CastAnswer (Ok c))
   one_cast c = omega arith
 
-  few_in_a_cast : (payload : List ℕ) → Few (CastAnswer (cast_answer seat limit entries payload))
+  few_in_a_cast : (load : Load) → Few (CastAnswer (cast_answer seat limit entries load))
   unfolding cast_answer
-  few_in_a_cast payload =
-      let P : Result CastFields CastRefusal → Type 0 = λ r. Few (CastAnswer r) in
-      cond_both (ltb LONGEST_PAYLOAD (length payload)) _ _ P (λ _. cast_refused casts.PayloadTooLong)
-      (λ _. cond_both (is_window_full seat (facts_of entries)) _ _ P (λ _. cast_refused casts.WindowFull)
-      (λ _. cond_both (is_full limit entries) _ _ P (λ _. cast_refused casts.HistoryFull) (λ _. one_cast (next_cast seat (facts_of entries) payload))))
+  few_in_a_cast load =
+      let P : Result CastFields CastFault → Type 0 = λ r. Few (CastAnswer r) in
+      cond_both (ltb LONGEST_PAYLOAD (length (load_bytes load))) _ _ P (λ _. no_cast PayloadTooLong)
+      (λ _. cond_both (is_too_many seat (facts_of entries) (length (payloads_of load))) _ _ P (λ _. no_cast WindowFull)
+      (λ _. cond_both (is_full limit entries) _ _ P (λ _. no_cast HistoryFull) (λ _. one_cast (next_cast seat (facts_of entries) load))))
 
   none_asked_for : length {A = Outgoing} [] ≤ MOST_SENT_OUT
   none_asked_for = omega arith
@@ -109,6 +108,6 @@ module _ (seat : Identity) (limit : ℕ) (entries : List EntryFields) where
   few_in_an_arrival bytes = few_in_answer (frame_read bytes)
 
   pub few_sent_out : (call : Call) → seat.group.size ≤ 64 → length (frames_sent (answer_of seat limit entries call)) ≤ MOST_SENT_OUT
-  few_sent_out (ToCast payload) size = few_in_a_cast payload
+  few_sent_out (ToCast load) size = few_in_a_cast load
   few_sent_out (ToTake bytes) size = few_in_an_arrival bytes
   few_sent_out ToTick size = few_in_a_tick size

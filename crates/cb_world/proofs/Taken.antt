@@ -4,6 +4,7 @@ use Rattle.std.specs.Prelude.{option_map}
 use Rattle.std.proofs.lemmas.Bool.{eq-eqb, le-ltb, lt-ltb, ne_eqb}
 use Rattle.std.proofs.lemmas.List.{length-append, length-map, length-set, set-get_or}
 use Rattle.std.proofs.lemmas.Option.{slice_get-get_or, slice_get-map}
+use Rattle.cb_frames.specs.Fields.{Load, load_bytes}
 use Rattle.cb_history.specs.Facts.{EntryFields}
 use Rattle.cb_history.specs.Legal.{Call, ToCast, history_after}
 use Rattle.cb_history.specs.State.{MemberState}
@@ -18,12 +19,12 @@ use Rattle.cb_world.proofs.Lists.{replaced_at}
 -- ---- what a step asks for
 
 names_nobody : (setting : Setting) (sent : List SentFrame) (step : Step) → ltb (member_of step) setting.group.size ≡ false → asked_by setting sent step ≡ OfNoMember
-names_nobody setting sent (CastStep i payload) e = rw e refl
+names_nobody setting sent (CastStep i load) e = rw e refl
 names_nobody setting sent (ArriveStep j number) e = rw e refl
 names_nobody setting sent (TickStep i) e = rw e refl
 
 names_one : (setting : Setting) (sent : List SentFrame) (step : Step) → ltb (member_of step) setting.group.size ≡ true → asked_by setting sent step ≡ asks sent step
-names_one setting sent (CastStep i payload) e = rw e refl
+names_one setting sent (CastStep i load) e = rw e refl
 names_one setting sent (ArriveStep j number) e = rw e refl
 names_one setting sent (TickStep i) e = rw e refl
 
@@ -38,25 +39,25 @@ frame_is_by : (j : ℕ) (frame : Option SentFrame) → IsBy j (handed_over j fra
 frame_is_by j None = tt
 frame_is_by j (Some frame) = refl
 
-payload_is_by : (i : ℕ) (payload : List ℕ) (b : Bool) → IsBy i (if b then Calls i (ToCast payload) else OfNoBytes)
-payload_is_by i payload true = refl
-payload_is_by i payload false = tt
+load_is_by : (i : ℕ) (load : Load) (b : Bool) → IsBy i (if b then Calls i (ToCast load) else OfNoBytes)
+load_is_by i load true = refl
+load_is_by i load false = tt
 
 asks_by : (sent : List SentFrame) (step : Step) → IsBy (member_of step) (asks sent step)
-asks_by sent (CastStep i payload) = payload_is_by i payload (are_bytes payload)
+asks_by sent (CastStep i load) = load_is_by i load (are_bytes (load_bytes load))
 asks_by sent (ArriveStep j number) = frame_is_by j (slice_get sent number)
 asks_by sent (TickStep i) = refl
 
 -- bytes in memory are below 256
-pub bytes_are_bytes : (payload : List ℕ) → ((i : ℕ) → slice_index_or payload i 0 < 256) → are_bytes payload ≡ true
+pub bytes_are_bytes : (bytes : List ℕ) → ((i : ℕ) → slice_index_or bytes i 0 < 256) → are_bytes bytes ≡ true
 bytes_are_bytes [] below = refl
-bytes_are_bytes (b ∷ payload) below = rw (lt-ltb b 256 (below 0)) (bytes_are_bytes payload (λ i. below (suc i)))
+bytes_are_bytes (b ∷ bytes) below = rw (lt-ltb b 256 (below 0)) (bytes_are_bytes bytes (λ i. below (suc i)))
 
--- a payload of bytes is cast
-pub bytes_are_cast : (old new : MemberState) (i : ℕ) (payload : List ℕ) (before after : List SentFrame) (answer : Answer) → are_bytes payload ≡ true → HasAnswered old new (ToCast payload) before after answer
-    → HasDone old new (asks before (CastStep i payload)) before after answer
-bytes_are_cast old new i payload before after answer e did =
-    subst (λ (b : Bool). HasDone old new (if b then Calls i (ToCast payload) else OfNoBytes) before after answer) (sym e) did
+-- a load of bytes is cast
+pub bytes_are_cast : (old new : MemberState) (i : ℕ) (load : Load) (before after : List SentFrame) (answer : Answer) → are_bytes (load_bytes load) ≡ true → HasAnswered old new (ToCast load) before after answer
+    → HasDone old new (asks before (CastStep i load)) before after answer
+bytes_are_cast old new i load before after answer e did =
+    subst (λ (b : Bool). HasDone old new (if b then Calls i (ToCast load) else OfNoBytes) before after answer) (sym e) did
 
 -- the frame of this number is handed over
 pub frame_is_taken : (old new : MemberState) (j number : ℕ) (sent : List Sent) (frame : Sent) (after : List SentFrame) (answer : Answer) → slice_get sent number ≡ Some frame

@@ -1,10 +1,10 @@
 -- What the program reports of a step, against what the definition answers.
-use Rattle.std.specs.Prelude.{◌≡◌, ℕ, Bool, List, [], ◌∷◌, ◌++◌, length, Ok, Err}
+use Rattle.std.specs.Prelude.{◌≡◌, ℕ, Bool, List, [], ◌∷◌, ◌++◌, length, Option, Some, Ok, Err}
 use Rattle.cb_times.specs.declared.name.Name.{Name}
 use Rattle.cb_delay.specs.declared.message.Message.{Message}
-use Rattle.cb_history.specs.declared.answer.CastRefusal.{CastRefusal}
 use Rattle.cb_history.specs.declared.answer.ArriveRefusal.{ArriveRefusal}
 use Rattle.cb_history.specs.declared.answer.TickRefusal.{TickRefusal}
+use Rattle.cb_history.specs.CastFault.{CastFault, fault_told}
 use Rattle.cb_history.specs.Group.{Identity}
 use Rattle.cb_history.specs.Facts.{Fact}
 use Rattle.cb_history.specs.Answers.{Accepted, Repeat, cast_done}
@@ -20,10 +20,10 @@ use Rattle.cb_world.specs.declared.outcome.Sent.{Sent}
 abbrev pub sent_fields : Sent → SentFrame
 sent_fields sent = record { from = sent.from; to = sent.to; bytes = sent.bytes }
 
--- an answer without the frames that it sends
+-- an answer without the frames that it sends; of a refused cast the fault, which want of memory is not
 pub data Reported : Type 0 where
   CastReported : Name → List ℕ → Reported
-  CastRefused : CastRefusal → Reported
+  CastRefused : Option CastFault → Reported
   AcceptedReported : List Message → Bool → Reported
   RepeatReported : Reported
   ArrivalRefused : ArriveRefusal → Reported
@@ -36,7 +36,7 @@ pub data Reported : Type 0 where
 -- what the program reports
 abbrev pub reported : Answer → Reported
 reported (answers.Cast name time) = CastReported name time
-reported (answers.CastRefused refusal) = CastRefused refusal
+reported (answers.CastRefused refusal) = CastRefused (fault_told refusal)
 reported (answers.Accepted deliveries changed) = AcceptedReported deliveries.items changed
 reported answers.Repeat = RepeatReported
 reported (answers.ArrivalRefused refusal) = ArrivalRefused refusal
@@ -55,7 +55,7 @@ answer_to setting s OfNoBytes = NoBytes
 -- What is reported of a member's answer: of a cast its name and its time.
 abbrev pub reported_by : Identity → List Fact → schedules.Answer → Reported
 reported_by seat facts (CastAnswer (Ok c)) = CastReported (cast_done seat facts c).name (cast_done seat facts c).time
-reported_by seat facts (CastAnswer (Err refusal)) = CastRefused refusal
+reported_by seat facts (CastAnswer (Err fault)) = CastRefused (Some fault)
 reported_by seat facts (ArrivalAnswer (Ok (Accepted deliveries changed out))) = AcceptedReported deliveries changed
 reported_by seat facts (ArrivalAnswer (Ok Repeat)) = RepeatReported
 reported_by seat facts (ArrivalAnswer (Err refusal)) = ArrivalRefused refusal

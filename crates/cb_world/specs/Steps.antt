@@ -1,17 +1,18 @@
 -- The steps of the program as those of a schedule.
 use Rattle.std.specs.Prelude.{ℕ}
+use Rattle.cb_frames.specs.Fields.{One}
 use Rattle.cb_schedules.specs.Schedule.{CastStep, ArriveStep, TickStep}
 use Rattle.cb_schedules.specs.Schedule as schedules
 use Rattle.cb_world.specs.declared.step.Step.{Step}
 use Rattle.cb_world.specs.declared.step.Step.TheVariants as steps
 
 abbrev pub step_fields : Step → schedules.Step
-step_fields (steps.Cast i payload) = CastStep i payload
+step_fields (steps.Cast i payload) = CastStep i (One payload)
 step_fields (steps.Arrive j number) = ArriveStep j number
 step_fields (steps.Tick i) = TickStep i
 
 -- the member that does something
 abbrev pub member_of : schedules.Step → ℕ
-member_of (CastStep i payload) = i
+member_of (CastStep i load) = i
 member_of (ArriveStep j number) = j
 member_of (TickStep i) = i

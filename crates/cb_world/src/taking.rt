@@ -2,6 +2,7 @@
 
 ghost use Rattle.std.specs.Prelude.{◌≡◌, ℕ, ◌+◌, ◌≤◌, [], ◌∷◌, ◌++◌, true, IfOk, OnErr, map, slice_get};
 ghost use Rattle.std.specs.Vec.{vec_capacity, vec_len};
+ghost use Rattle.cb_frames.specs.Fields.{One};
 ghost use Rattle.cb_history.specs.Legal.{ToCast, ToTake, ToTick};
 ghost use Rattle.cb_schedules.specs.Schedule.{are_bytes, handed_over, sent_by};
 ghost use Rattle.cb_world.specs.declared.taking.TheConstants.{MOST_SENT_OUT};
@@ -35,7 +36,7 @@ fn send(sent: &mut Vec<Sent>, from: u32, out: Vec<Outgoing>)
 #[tactic(auto, using(crate::proofs::Taken::bytes_are_bytes))]
 fn cast(member: &mut Member, payload: &[u8], sent: &mut Vec<Sent>) -> Result<Answer, NoMemory>
     requires { vec_len sent.old + MOST_SENT_OUT ≤ vec_capacity sent.old }
-    ensures done { IfOk result (HasAnswered member.old member.new (ToCast payload.now)
+    ensures done { IfOk result (HasAnswered member.old member.new (ToCast (One payload.now))
         (map sent_fields sent.old.items) (map sent_fields sent.new.items)) }
     ensures bytes { are_bytes payload.now ≡ true }
     ensures same { OnErr result (member.new ≡ member.old) }

@@ -1,5 +1,5 @@
 -- The answers to lines, one after another.
-use Rattle.std.proofs.Common.{◌≡◌, ℕ, ◌+◌, Bool, true, false, ◌||◌, List, [], ◌∷◌, ◌++◌, length, take, drop, refl, sym, ap, subst, ◌∙◌, append_assoc, Result, Ok, Err}
+use Rattle.std.proofs.Common.{map, ◌≡◌, ℕ, ◌+◌, Bool, true, false, ◌||◌, List, [], ◌∷◌, ◌++◌, length, take, drop, refl, sym, ap, subst, ◌∙◌, append_assoc, Result, Ok, Err}
 use Rattle.std.specs.Prelude.{is_err, is_ok, OnOk, if◌then◌else◌, Some, None, codes}
 use Rattle.std.specs.Fmt.{decimal}
 use Rattle.std.proofs.Math.Bool.{or-true, or-false}
@@ -7,11 +7,12 @@ use Rattle.std.proofs.lemmas.List.{append-nil}
 use Rattle.memchr.specs.Find.{IsFirstByte, is_byte}
 use Rattle.cb_times.specs.Time.{text_of}
 use Rattle.cb_frames.specs.declared.frame.Cast.{Cast}
-use Rattle.cb_frames.specs.Fields.{CastFields, cast_fields, first_number}
-use Rattle.cb_frames.proofs.Carried.{first_is_number}
+use Rattle.cb_frames.specs.Fields.{CastFields, cast_fields}
+use Rattle.cb_frames.proofs.Carried.{first_is_number, carries_one}
+use Rattle.cb_diffs.specs.Expansion.{expanded_time}
 use Rattle.cb_diffs.specs.Laws.{IsKept}
-use Rattle.confer_expand.specs.Answers.{outcome, answer_text, accepted_after}
-use Rattle.confer_expand.specs.Lines.{line_feed, ended, unended, answers, any_refused, accepted_through}
+use Rattle.confer_expand.specs.Answers.{outcome, message_text, answer_texts, accepted_after}
+use Rattle.confer_expand.specs.Lines.{line_feed, ended, unended, as_lines, answers, any_refused, accepted_through}
 use Rattle.confer_expand.specs.declared.refusal.Refusal.{Refusal}
 use Rattle.confer_expand.specs.Refusals.{refusal_text}
 use Rattle.confer_expand.specs.Steps.{GivesAccepted}
@@ -28,8 +29,13 @@ answers-append group size accepted [] ys = refl
 answers-append group size accepted (line ∷ xs) ys =
     let r = outcome group size accepted line in
     let next = accepted_after accepted r in
-    ap (λ (t : List ℕ). answer_text size accepted r ++ (line_feed ∷ t)) (answers-append group size next xs ys)
-    ∙ sym (append_assoc (answer_text size accepted r) (line_feed ∷ answers group size next xs) (answers group size (accepted_through group size next xs) ys))
+    ap (λ (t : List ℕ). as_lines (answer_texts size accepted r) ++ t) (answers-append group size next xs ys)
+    ∙ sym (append_assoc (as_lines (answer_texts size accepted r)) (answers group size next xs) (answers group size (accepted_through group size next xs) ys))
+
+-- the answer to a single line
+one_answer : (size : ℕ) (accepted : List CastFields) (r : Result CastFields Refusal) (text : List ℕ) → answer_texts size accepted r ≡ text ∷ []
+    → as_lines (answer_texts size accepted r) ++ [] ≡ text ++ line_feed ∷ []
+one_answer size accepted r text is = append-nil (as_lines (answer_texts size accepted r)) ∙ ap as_lines is ∙ append-nil (text ++ line_feed ∷ [])
 
 or_assoc : (a b d : Bool) → (a || (b || d)) ≡ ((a || b) || d)
 or_assoc true b d = refl
@@ -142,11 +148,13 @@ says_accepted line cast old new before now gives same text refused = record {
       let size = length old.kept in
       let given = gives accepted kept in
       let is = given.0 in
-      let shown : answer_text size accepted (outcome old.number size accepted line) ≡ accepted_text cast new.time = ap (answer_text size accepted) is
-      ∙ ap (λ (t : List ℕ). decimal cast.sender ++ codes "." ++ decimal (first_number (cast_fields cast)) ++ codes " " ++ text_of t ++ codes " " ++ payload_text cast.payload) (sym given.1.time)
-      ∙ ap (λ (n : ℕ). decimal cast.sender ++ codes "." ++ decimal n ++ codes " " ++ text_of new.time ++ codes " " ++ payload_text cast.payload) (first_is_number (cast_fields cast)) in
+      let casts : List CastFields = accepted ++ cast_fields cast ∷ [] in
+      let time : expanded_time size casts cast.sender cast.number ≡ new.time = ap (expanded_time size casts cast.sender) (sym (first_is_number (cast_fields cast))) ∙ sym given.1.time in
+      let shown : answer_texts size accepted (outcome old.number size accepted line) ≡ accepted_text cast new.time ∷ [] = ap (answer_texts size accepted) is
+      ∙ ap (map (message_text size casts)) (carries_one (cast_fields cast))
+      ∙ ap (λ (t : List ℕ). (decimal cast.sender ++ codes "." ++ decimal cast.number ++ codes " " ++ text_of t ++ codes " " ++ payload_text cast.payload) ∷ []) time in
       record {
-        text = text ∙ ap (λ (t : List ℕ). before.text ++ (t ++ line_feed ∷ [])) (sym shown);
+        text = text ∙ ap (λ (t : List ℕ). before.text ++ t) (sym (one_answer size accepted (outcome old.number size accepted line) (accepted_text cast new.time) shown));
         refusal = refused ∙ sym (or-false before.refused) ∙ ap (λ (b : Bool). before.refused || (b || false)) (sym (ap is_err is));
         kept_are = subst (λ (r : Result CastFields Refusal). IsKept size (accepted_after accepted r) new.kept) (sym is) given.1.kept;
       };
@@ -167,7 +175,7 @@ says_refused line refusal old new before now gives same text refused = record {
         text = text ∙ append_assoc (before.text ++ codes "refused ") (refusal_text refusal) (line_feed ∷ [])
             ∙ append_assoc before.text (codes "refused ") (refusal_text refusal ++ line_feed ∷ [])
             ∙ ap (λ (t : List ℕ). before.text ++ t) (sym (append_assoc (codes "refused ") (refusal_text refusal) (line_feed ∷ [])))
-            ∙ ap (λ (r : Result CastFields Refusal). before.text ++ (answer_text size accepted r ++ line_feed ∷ [])) (sym is);
+            ∙ ap (λ (t : List ℕ). before.text ++ t) (sym (one_answer size accepted (outcome old.number size accepted line) (codes "refused " ++ refusal_text refusal) (ap (answer_texts size accepted) is)));
         refusal = refused ∙ sym (or-true before.refused) ∙ ap (λ (r : Result CastFields Refusal). before.refused || (is_err r || false)) (sym is);
         kept_are = subst (λ (r : Result CastFields Refusal). IsKept size (accepted_after accepted r) new.kept) (sym is)
             (subst (λ (g : Group). IsKept size accepted g.kept) (sym same) kept);

@@ -1,12 +1,12 @@
 -- What `confer expand` answers to one line, where these casts were accepted before.
-use Rattle.std.specs.Prelude.{ℕ, ◌+◌, Bool, not, ◌&&◌, List, [], ◌∷◌, ◌++◌, codes, min, nat_lt, ◌==◌, if◌then◌else◌, Result, Ok, Err}
+use Rattle.std.specs.Prelude.{ℕ, ◌+◌, Bool, not, ◌&&◌, List, [], ◌∷◌, ◌++◌, codes, map, min, nat_lt, ◌==◌, if◌then◌else◌, Result, Ok, Err}
 use Rattle.std.specs.List.{list_all}
 use Rattle.std.specs.Fmt.{decimal}
 use Rattle.hex.specs.declared.error.FromHexError.{FromHexError}
 use Rattle.hex.specs.Hex.{decode_of}
 use Rattle.cb_times.specs.Time.{text_of}
 use Rattle.cb_frames.specs.declared.fault.FrameFault.{FrameFault}
-use Rattle.cb_frames.specs.Fields.{CastFields, FrameFields, CastFrame, StatusFrame, RequestFrame, first_number}
+use Rattle.cb_frames.specs.Fields.{CastFields, FrameFields, CastFrame, StatusFrame, RequestFrame, Carried, messages_of, first_number}
 use Rattle.cb_frames.specs.Reading.{frame_at}
 use Rattle.cb_diffs.specs.declared.expander.ExpandFault.TheVariants as expands
 use Rattle.cb_diffs.specs.Expansion.{greatest, expanded_time, last_in}
@@ -52,15 +52,16 @@ outcome group size accepted line = do
 
 -- ---- what is printed
 
--- the message's name, its time, which adds up the casts accepted so far and itself, and its payload
-abbrev pub cast_text : ℕ → List CastFields → CastFields → List ℕ
-cast_text size accepted c =
-    decimal c.sender ++ codes "." ++ decimal (first_number c) ++ codes " "
-    ++ text_of (expanded_time size (accepted ++ c ∷ []) c.sender (first_number c)) ++ codes " " ++ payload_text c.payload
+-- the message's name, its time, which adds up these casts, and its payload
+abbrev pub message_text : ℕ → List CastFields → Carried → List ℕ
+message_text size casts m =
+    decimal m.sender ++ codes "." ++ decimal m.number ++ codes " "
+    ++ text_of (expanded_time size casts m.sender m.number) ++ codes " " ++ payload_text m.payload
 
-abbrev pub answer_text : ℕ → List CastFields → Result CastFields Refusal → List ℕ
-answer_text size accepted (Ok c) = cast_text size accepted c
-answer_text size accepted (Err refusal) = codes "refused " ++ refusal_text refusal
+-- a text for each message of an accepted cast, with which its time adds up those accepted before; one for a refusal
+abbrev pub answer_texts : ℕ → List CastFields → Result CastFields Refusal → List (List ℕ)
+answer_texts size accepted (Ok c) = map (message_text size (accepted ++ c ∷ [])) (messages_of c)
+answer_texts size accepted (Err refusal) = (codes "refused " ++ refusal_text refusal) ∷ []
 
 -- the casts that are accepted after the line
 abbrev pub accepted_after : List CastFields → Result CastFields Refusal → List CastFields

@@ -1,7 +1,8 @@
 -- What `confer expand` writes for the whole of an input.
 use Rattle.std.specs.Prelude.{ℕ, Bool, false, ◌||◌, List, [], ◌∷◌, ◌++◌, ◌==◌, if◌then◌else◌, is_err}
+use Rattle.std.specs.List.{flat_map}
 use Rattle.cb_frames.specs.Fields.{CastFields}
-use Rattle.confer_expand.specs.Answers.{outcome, answer_text, accepted_after}
+use Rattle.confer_expand.specs.Answers.{outcome, answer_texts, accepted_after}
 
 abbrev pub line_feed : ℕ
 line_feed = 10
@@ -28,12 +29,16 @@ lines_of bytes = ended [] bytes ++ last_line (unended [] bytes)
 
 -- ---- their answers, where these casts were accepted before
 
+-- these texts, each with a line feed
+abbrev pub as_lines : List (List ℕ) → List ℕ
+as_lines texts = flat_map (λ text. text ++ line_feed ∷ []) texts
+
 -- an answer for each line
 abbrev pub answers : ℕ → ℕ → List CastFields → List (List ℕ) → List ℕ
 answers group size accepted [] = []
 answers group size accepted (line ∷ lines) =
-    answer_text size accepted (outcome group size accepted line)
-    ++ line_feed ∷ answers group size (accepted_after accepted (outcome group size accepted line)) lines
+    as_lines (answer_texts size accepted (outcome group size accepted line))
+    ++ answers group size (accepted_after accepted (outcome group size accepted line)) lines
 
 -- whether a line is refused
 abbrev pub any_refused : ℕ → ℕ → List CastFields → List (List ℕ) → Bool

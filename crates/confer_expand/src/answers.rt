@@ -65,7 +65,6 @@ impl Answers {
     }
 
     /// Answers one line. When memory runs out all is as it was: no part of an answer is ever shown.
-    #[tactic(auto, unfolding(cb_frames::specs::Fields::first_number))]
     pub fn answer(&mut self, expansion: &mut Expansion, line: &[u8]) -> Result<(), NoMemory>
         ensures ok { OnOk result
             (Says (line.now ∷ []) expansion.old expansion.new self.old self.new) }
