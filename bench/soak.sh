@@ -1,8 +1,18 @@
 #!/usr/bin/env bash
 # Soaks groups of members that keep no history (`crates/bench_core`), with losses: 100,000, 1,000,000 and 10,000,000 deliveries at sizes 3
-# and 64. The most memory that the process had in the last run must be what it had in the one before, to 5 %, and the plain Rust program
-# must deliver the same. The first run tells how soon that is reached: at size 64 each member has then cast 25 messages, and queues still
-# fill. A number as the first word divides the deliveries of the last run.
+# and 64. The most memory that the process had in each later run must be what it had in the first, to 5 % up or down, and the plain Rust
+# program must deliver the same.
+#
+# With losses by chance alone the peak is the record of a random course: lists grow when a member has more kept or more to deliver at once
+# than ever before, and some of 64 members meet that late. So a run begins with full windows (the word `full`), twice. First all members
+# cast, nobody gets that, and nobody ticks until no window has room: WINDOW - 1 casts of each of the SIZE - 1 others then wait in the
+# reorder buffers of each member. Once that is repaired, all cast, and each misses the cast of the member after it alone, on which all
+# that the others cast then depends: as many wait at each member, in the delay queue but for those of that one sender, and are delivered
+# by one call when it comes. At one member WINDOW of each can wait, at all at once they cannot: the earliest of them depends on none, and
+# is delivered where it comes. From there on frames are lost and come early by chance.
+#
+# The memory of a process is its anonymous pages: those of the program's file come and go with what else the machine does. A number as
+# the first word divides the deliveries of the last run.
 # It wants rustc, python3, and the proved program: `rt run` in crates/bench_core leaves it in crates/bench_core/out.
 # PROVED=FILE measures another build: that of bench_member fails.
 set -eu
@@ -17,7 +27,7 @@ import re, subprocess, sys, time
 
 plain, proved, divisor = sys.argv[1], sys.argv[2], int(sys.argv[3])
 payload, lost, early = 32, 50, 10
-# a small window at size 64, so that few casts fill it
+# a small window at size 64, so that the first run, of 25 casts a member, can fill it twice
 windows = {3: 64, 64: 4}
 runs = [100_000, 1_000_000, 10_000_000 // divisor]
 has_failed = False
@@ -25,24 +35,23 @@ has_failed = False
 
 def words_of(size, deliveries):
     casts = -(-deliveries // (size - 1))
-    return [str(word) for word in [size, windows[size], payload, casts, lost, early]]
+    return [str(word) for word in [size, windows[size], payload, casts, lost, early, "full"]]
 
 
-def high_water(process):
-    """The most memory that the process had so far, in KB, where it has not ended."""
+def memory_of(process):
+    """What the process has in anonymous pages, in KB, where it has not ended."""
     with open(f"/proc/{process.pid}/status") as status:
-        found = re.search(r"VmHWM:\s*(\d+) kB", status.read())
+        found = re.search(r"RssAnon:\s*(\d+) kB", status.read())
     return int(found[1]) if found else 0
 
 
 def soaked(program, words):
-    """What it prints, its high water in KB and its time. It is read until the process ends: what the system counts for who waits
-    has the memory of who started it."""
+    """What it prints, the most memory that it had in KB, and its time."""
     began = time.monotonic()
     process = subprocess.Popen([program, *words], stdout=subprocess.PIPE, text=True)
     most = 0
     while process.poll() is None:
-        most = max(most, high_water(process))
+        most = max(most, memory_of(process))
         time.sleep(0.001)
     if process.returncode != 0:
         sys.exit(f"{program} {' '.join(words)} ended with {process.returncode}")
@@ -60,8 +69,9 @@ for size in windows:
             sys.exit(f"{' '.join(words)}: {said.strip()}, but proved {printed.strip()}")
         print(f"{size:4} {int(printed.split()[1]):11}    {most:10} {plain_most:10}   {seconds:7.1f}", flush=True)
         peaks.append(most)
-    if abs(peaks[2] - peaks[1]) > 0.05 * peaks[1]:
-        print(f"size {size}: {peaks[1]} KB after {runs[1]} deliveries, and {peaks[2]} KB after {runs[2]}")
-        has_failed = True
+    for deliveries, peak in zip(runs[1:], peaks[1:]):
+        if abs(peak - peaks[0]) > 0.05 * peaks[0]:
+            print(f"size {size}: {peaks[0]} KB after {runs[0]} deliveries, and {peak} KB after {deliveries}")
+            has_failed = True
 sys.exit(has_failed)
 END

@@ -11,6 +11,7 @@ mod plan;
 mod random;
 mod run;
 mod speaker;
+mod stage;
 mod tally;
 
 pub use crate::fault::Fault;

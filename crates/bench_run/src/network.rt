@@ -18,7 +18,8 @@ pub struct Network {
 }
 
 impl Network {
-    pub fn new(alloc: Global, size: u32, lost: u32, exchanged: u32) -> Result<Network, NoMemory> {
+    /// Nothing is on its way, and nothing is lost or exchanged.
+    pub fn new(alloc: Global, size: u32) -> Result<Network, NoMemory> {
         let mut queues = Vec::with_capacity(alloc, size as usize)?;
         for _ in 0..size {
             queues.push(Vec::new(alloc))?;
@@ -26,10 +27,23 @@ impl Network {
         Ok(Network {
             size,
             queues,
-            lost,
-            exchanged,
+            lost: 0,
+            exchanged: 0,
             random: Random::new(),
         })
+    }
+
+    /// From now on one frame in so many is lost or exchanged, 0 for none.
+    pub fn disturb(&mut self, lost: u32, exchanged: u32) {
+        self.lost = lost;
+        self.exchanged = exchanged;
+    }
+
+    /// Loses the frame that was put last for the member.
+    pub fn lose_last(&mut self, to: u32) {
+        if let Some(queue) = self.queues.get_mut(to as usize) {
+            drop(queue.pop());
+        }
     }
 
     /// Changes all that is on its way to the member for what is in `inbox`.

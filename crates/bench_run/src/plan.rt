@@ -14,6 +14,8 @@ pub struct Plan {
     pub casts: u64,
     pub lost: u32,
     pub exchanged: u32,
+    /// The run begins with full windows.
+    pub is_full: bool,
 }
 
 /// The plan that the words say, of which the first is the program's name.
@@ -30,7 +32,15 @@ pub fn plan_of(words: &[String]) -> Option<Plan> {
         casts: u64::from(number(words, 4)?),
         lost: number(words, 5)?,
         exchanged: number(words, 6)?,
+        is_full: is_full(words),
     })
+}
+
+fn is_full(words: &[String]) -> bool {
+    match words.get(7) {
+        Some(word) => word.as_str() == "full",
+        None => false,
+    }
 }
 
 fn number(words: &[String], place: usize) -> Option<u32> {

@@ -3,6 +3,7 @@
 use crate::network::Network;
 use crate::plan::Plan;
 use crate::speaker::Speaker;
+use crate::stage::{Stage, stage_of};
 use crate::tally::Tally;
 use bytes::Bytes;
 use cb_history::Group;
@@ -50,7 +51,7 @@ impl<M: Speaker> Run<M> {
 
     fn with_payload(alloc: Global, plan: Plan, payload: Vec<u8>) -> Result<Run<M>, NoMemory> {
         let members = members_of(alloc, plan.group)?;
-        let network = Network::new(alloc, plan.group.size(), plan.lost, plan.exchanged)?;
+        let network = Network::new(alloc, plan.group.size())?;
         Ok(Run {
             plan,
             members,
@@ -62,24 +63,71 @@ impl<M: Speaker> Run<M> {
         })
     }
 
-    /// In each round each member in its turn takes all and casts, and then all tick, until everything is delivered.
+    /// In each round each member has its turn, and then all tick, until everything is delivered.
     fn go(&mut self) -> Result<(), NoMemory> {
         let size = self.plan.group.size();
         let all = self
             .plan
             .casts
             .saturating_mul(u64::from(size).saturating_sub(1));
-        for _ in 0..MOST_ROUNDS {
+        for round in 0..MOST_ROUNDS {
             if self.tally.deliveries >= all {
                 return Ok(());
             }
+            let stage = self.begin(round);
             for me in 0..size {
-                self.take(me)?;
-                self.cast_some(me)?;
+                self.turn(me, stage)?;
             }
-            self.ticks()?;
+            if matches!(stage, Stage::Quiet | Stage::Disturbed) {
+                self.ticks()?;
+            }
         }
         Ok(())
+    }
+
+    /// The stage of this round; with the last one chance begins.
+    fn begin(&mut self, round: u64) -> Stage {
+        let stage = stage_of(self.plan.is_full, self.plan.group.window(), round);
+        if matches!(stage, Stage::Disturbed) {
+            self.network.disturb(self.plan.lost, self.plan.exchanged);
+        }
+        stage
+    }
+
+    /// The member takes all and casts, by the stage.
+    #[inline(always)]
+    fn turn(&mut self, me: u32, stage: Stage) -> Result<(), NoMemory> {
+        let is_first = matches!(stage, Stage::MissAll | Stage::MissOne);
+        if !is_first {
+            self.take(me)?;
+        }
+        let count = self.casts_in(stage);
+        self.cast_some(me, count)?;
+        if is_first {
+            self.miss(me, stage);
+        }
+        Ok(())
+    }
+
+    /// The member's cast in this round is lost to all, or to the member before it.
+    fn miss(&mut self, me: u32, stage: Stage) {
+        let size = self.plan.group.size();
+        let before = me.checked_sub(1).unwrap_or(size.saturating_sub(1));
+        for to in 0..size {
+            let is_lost = matches!(stage, Stage::MissAll) || to == before;
+            if to != me && is_lost {
+                self.network.lose_last(to);
+            }
+        }
+    }
+
+    /// How often a member may cast in its turn: a fourth of the window, or once where windows begin to fill.
+    fn casts_in(&self, stage: Stage) -> u32 {
+        match stage {
+            Stage::MissAll | Stage::MissOne => 1,
+            Stage::Fill | Stage::Disturbed => (self.plan.group.window() / 4).max(1),
+            Stage::Quiet => 0,
+        }
     }
 
     /// The member takes all that is on its way to it.
@@ -99,12 +147,12 @@ impl<M: Speaker> Run<M> {
         Ok(())
     }
 
-    /// The member casts as often as a fourth of the window, as long as it may.
-    fn cast_some(&mut self, me: u32) -> Result<(), NoMemory> {
+    /// The member casts so often, as long as it may.
+    fn cast_some(&mut self, me: u32, count: u32) -> Result<(), NoMemory> {
         let Some(member) = self.members.get_mut(me as usize) else {
             return Ok(());
         };
-        for _ in 0..(self.plan.group.window() / 4).max(1) {
+        for _ in 0..count {
             if self.made >= self.plan.casts {
                 return Ok(());
             }
