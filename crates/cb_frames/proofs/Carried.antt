@@ -1,8 +1,10 @@
 -- The messages of a cast: one for each number from its first to its last.
 use Rattle.std.proofs.Common.{◌≡◌, ℕ, ◌+◌, ◌<◌, ◌≤◌, List, [], ◌∷◌, length, refl, sym, ap, ◌∙◌, arith, inl, inr, ◌⊎◌}
 use Rattle.std.proofs.lemmas.Bool.{cases_eq}
-use Rattle.cb_frames.specs.Fields.{Load, One, load_bytes, payloads_of, numbered, last_from, CastFields, Carried, messages_of, first_number, last_number}
-use Rattle.cb_frames.specs.Carrying.{AreNumberedFrom, FirstIsTheNumber, CarriedInOrder, CarriedUpToTheLast, CarriesSome, CarriesNoMore}
+use Rattle.cb_frames.specs.Fields.{Load, One, Many, IsOne, IsSome, load_bytes, payloads_of, numbered, last_from, CastFields, Carried, messages_of, first_number, last_number}
+use Rattle.cb_frames.specs.Carrying.{AreNumberedFrom, FirstIsTheNumber, CarriedInOrder, CarriedUpToTheLast, CarriesSome, CarriesNoMore, CarriesFew}
+use Rattle.cb_frames.specs.declared.frame.TheConstants.{LAST_NUMBER, MOST_MESSAGES}
+use Rattle.cb_frames.specs.Text.{KeepsLoadRules}
 
 pub first_is_number : FirstIsTheNumber
 unfolding first_number
@@ -25,21 +27,24 @@ numbered_up_to_the_last n (payload ∷ next ∷ payloads) some = omega (arith, n
 
 -- ---- what a load carries
 
--- a load carries some payload
-pub load_has_some : (load : Load) → 1 ≤ length (payloads_of load)
-load_has_some (One payload) = omega arith
+-- a load of one payload carries some, and no more than one
+pub one_has_some : (load : Load) → IsOne load → IsSome load
+one_has_some (One payload) one = omega arith
+one_has_some (Many payloads) one = absurd one
 
--- and no more than one
-pub load_has_one : (load : Load) → length (payloads_of load) ≡ 1
-load_has_one (One payload) = refl
+pub load_has_one : (load : Load) → IsOne load → length (payloads_of load) ≡ 1
+load_has_one (One payload) one = refl
+load_has_one (Many payloads) one = absurd one
 
 -- which is all of its bytes
-pub one_load : (load : Load) → load ≡ One (load_bytes load)
-one_load (One payload) = refl
+pub one_load : (load : Load) → IsOne load → load ≡ One (load_bytes load)
+one_load (One payload) one = refl
+one_load (Many payloads) one = absurd one
 
--- two loads of the same bytes are one
-pub same_load : (one other : Load) → load_bytes one ≡ load_bytes other → one ≡ other
-same_load (One payload) (One others) bytes = ap One bytes
+-- a load that keeps the rules carries some payloads and not too many
+load_is_carried : (first : ℕ) (load : Load) → KeepsLoadRules first load → (1 ≤ length (payloads_of load)) × (length (payloads_of load) ≤ MOST_MESSAGES) × (first ≤ LAST_NUMBER → first + length (payloads_of load) ≤ LAST_NUMBER + 1)
+load_is_carried first (One payload) rules = (omega arith, omega arith, λ small. omega (arith, small))
+load_is_carried first (Many payloads) rules = (rules.some, rules.few, λ small. rules.last)
 
 -- ---- the laws of the messages of a cast
 
@@ -54,27 +59,37 @@ carries_payloads c = as_many_as_payloads c.sender c.number (payloads_of c.load)
 
 pub carried_up_to_the_last : CarriedUpToTheLast
 unfolding first_number last_number
-carried_up_to_the_last c = omega (arith, carries_payloads c, numbered_up_to_the_last c.number (payloads_of c.load) (load_has_some c.load))
+carried_up_to_the_last c some = omega (arith, carries_payloads c, numbered_up_to_the_last c.number (payloads_of c.load) some)
 
 pub carries_some : CarriesSome
-carries_some c = omega (arith, carried_up_to_the_last c, carries_payloads c, load_has_some c.load)
+carries_some c some = omega (arith, some, carried_up_to_the_last c some, carries_payloads c)
 
 pub carries_no_more : CarriesNoMore
-carries_no_more c = omega (arith, carried_up_to_the_last c, carries_payloads c, load_has_one c.load)
+carries_no_more c one = omega (arith, carried_up_to_the_last c (one_has_some c.load one), carries_payloads c, load_has_one c.load one)
 
-one_numbered : (sender n : ℕ) (load : Load) → numbered sender n (payloads_of load) ≡ record { sender = sender; number = n; payload = load_bytes load } ∷ []
-one_numbered sender n (One payload) = refl
+pub carries_few : CarriesFew
+carries_few c rules =
+    let load = load_is_carried c.number c.load rules.load in
+    record {
+      some = load.0;
+      few = omega (arith, load.1, carries_payloads c);
+      last = λ small. omega (arith, load.2 small, carried_up_to_the_last c load.0, carries_payloads c, first_is_number c);
+    }
+
+one_numbered : (sender n : ℕ) (load : Load) → IsOne load → numbered sender n (payloads_of load) ≡ record { sender = sender; number = n; payload = load_bytes load } ∷ []
+one_numbered sender n (One payload) one = refl
+one_numbered sender n (Many payloads) one = absurd one
 
 -- the one message that a cast carries, and its number, which is the last one too
-pub carries_one : (c : CastFields) → messages_of c ≡ record { sender = c.sender; number = c.number; payload = load_bytes c.load } ∷ []
+pub carries_one : (c : CastFields) → IsOne c.load → messages_of c ≡ record { sender = c.sender; number = c.number; payload = load_bytes c.load } ∷ []
 unfolding messages_of
-carries_one c = one_numbered c.sender c.number c.load
+carries_one c one = one_numbered c.sender c.number c.load one
 
-pub last_is_number : (c : CastFields) → last_number c ≡ c.number
-last_is_number c = omega (arith, carries_some c, carries_no_more c, first_is_number c)
+pub last_is_first : (c : CastFields) → IsOne c.load → last_number c ≡ first_number c
+last_is_first c one = omega (arith, carries_some c (one_has_some c.load one), carries_no_more c one)
 
-pub last_is_first : (c : CastFields) → last_number c ≡ first_number c
-last_is_first c = omega (arith, carries_some c, carries_no_more c)
+pub last_is_number : (c : CastFields) → IsOne c.load → last_number c ≡ c.number
+last_is_number c one = omega (arith, last_is_first c one, first_is_number c)
 
 -- ---- messages that are numbered one after another
 
@@ -139,35 +154,43 @@ pub record IsOfCast (c : CastFields) (m : Carried) : Type 0 where
   pub low : first_number c ≤ m.number
   pub high : m.number ≤ last_number c
 
+-- a cast that carries a message carries some
+pub carries_some_message : (c : CastFields) (m : Carried) → IsIn m (messages_of c) → IsSome c.load
+carries_some_message c m there =
+    let is = row_within c.sender (first_number c) (messages_of c) m (carried_in_order c) there in
+    let low = is.low in
+    let high = is.high in
+    omega (arith, low, high, carries_payloads c)
+
 pub carried_is_of_cast : (c : CastFields) (m : Carried) → IsIn m (messages_of c) → IsOfCast c m
 carried_is_of_cast c m there =
     let within = row_within c.sender (first_number c) (messages_of c) m (carried_in_order c) there in
     let high = within.high in
-    record { sender_is = within.sender_is; low = within.low; high = omega (arith, high, carried_up_to_the_last c) }
+    record { sender_is = within.sender_is; low = within.low; high = omega (arith, high, carried_up_to_the_last c (carries_some_message c m there)) }
 
 -- each number from the first to the last has a message
-pub each_number_is_carried : (c : CastFields) (number : ℕ) → first_number c ≤ number → number ≤ last_number c → HasNumber (messages_of c) c.sender number
-each_number_is_carried c number low high =
-    row_has c.sender (first_number c) (messages_of c) number (carried_in_order c) low (omega (arith, high, carried_up_to_the_last c))
+pub each_number_is_carried : (c : CastFields) (number : ℕ) → IsSome c.load → first_number c ≤ number → number ≤ last_number c → HasNumber (messages_of c) c.sender number
+each_number_is_carried c number some low high =
+    row_has c.sender (first_number c) (messages_of c) number (carried_in_order c) low (omega (arith, high, carried_up_to_the_last c some))
 
 -- and only one
 pub carried_once : (c : CastFields) (m x : Carried) → IsIn m (messages_of c) → IsIn x (messages_of c) → m.number ≡ x.number → m ≡ x
 carried_once c m x there here same = row_once c.sender (first_number c) (messages_of c) m x (carried_in_order c) there here same
 
 -- the first message, and the last
-pub first_is_carried : (c : CastFields) → HasNumber (messages_of c) c.sender (first_number c)
-first_is_carried c = each_number_is_carried c (first_number c) (omega arith) (carries_some c)
+pub first_is_carried : (c : CastFields) → IsSome c.load → HasNumber (messages_of c) c.sender (first_number c)
+first_is_carried c some = each_number_is_carried c (first_number c) some (omega arith) (carries_some c some)
 
-pub last_is_carried : (c : CastFields) → HasNumber (messages_of c) c.sender (last_number c)
-last_is_carried c = each_number_is_carried c (last_number c) (carries_some c) (omega arith)
+pub last_is_carried : (c : CastFields) → IsSome c.load → HasNumber (messages_of c) c.sender (last_number c)
+last_is_carried c some = each_number_is_carried c (last_number c) some (carries_some c some) (omega arith)
 
--- where a cast carries no second message, each of them is the same one
-pub carried_alone : (c : CastFields) (m x : Carried) → IsIn m (messages_of c) → IsIn x (messages_of c) → m ≡ x
-carried_alone c m x there here =
+-- where a cast carries one message, each of them is the same one
+pub carried_alone : (c : CastFields) (m x : Carried) → IsOne c.load → IsIn m (messages_of c) → IsIn x (messages_of c) → m ≡ x
+carried_alone c m x one there here =
     let a = carried_is_of_cast c m there in
     let b = carried_is_of_cast c x here in
     let low = a.low in
     let high = a.high in
     let from = b.low in
     let upto = b.high in
-    carried_once c m x there here (omega (arith, low, high, from, upto, carries_no_more c))
+    carried_once c m x there here (omega (arith, low, high, from, upto, carries_no_more c one))

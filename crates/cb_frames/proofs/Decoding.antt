@@ -1,18 +1,19 @@
 -- What decoding answers, from what reading gives.
-use Rattle.std.proofs.Common.{◌≡◌, ℕ, ◌+◌, ◌-◌, ◌≤◌, List, [], ◌∷◌, ◌++◌, length, drop, Result, Ok, Err, MatchResult, refl, sym, ap, subst, ◌∙◌, arith, inl, inr, ◌⊎◌, suc, get_or, ◌<◌}
+use Rattle.std.proofs.Common.{◌≡◌, ℕ, List, [], ◌∷◌, ◌++◌, length, drop, Result, Ok, Err, MatchResult, refl, sym, ap, subst, ◌∙◌, append_assoc, Option, arith, inl, inr, ◌⊎◌, ◌<◌}
 use Rattle.std.specs.Prelude.{IfOk, IfErr}
-use Rattle.std.proofs.lemmas.Bool.{eq-eqb, le-ltb}
-use Rattle.std.proofs.lemmas.List.{length-append, length-drop, drop_at, append-nil}
+use Rattle.std.proofs.lemmas.Bool.{le-ltb}
+use Rattle.std.proofs.lemmas.List.{length-drop, append-nil}
 use Rattle.cb_frames.specs.declared.frame.Frame.{Frame}
 use Rattle.cb_frames.specs.declared.fault.FrameFault.{FrameFault}
 use Rattle.cb_frames.specs.declared.fault.FrameFault.TheVariants.{Trailing, NoMemory}
-use Rattle.cb_frames.specs.Fields.{load_bytes, CastFields, FrameFields, fields_of}
-use Rattle.cb_frames.specs.Text.{cast_kind, status_kind, request_kind, IsText}
-use Rattle.cb_frames.specs.Fault.{FirstFault}
-use Rattle.cb_frames.specs.Reading.{end_at, payload_at, cast_at, status_at, request_at, frame_at, Gives, Fails}
+use Rattle.cb_frames.specs.Fields.{Load, One, Many, load_bytes, CastFields, FrameFields, fields_of}
+use Rattle.cb_frames.specs.Text.{cast_kind, kind_of, IsLoadText, IsText}
+use Rattle.cb_frames.specs.Fault.{FirstFault, burst_payloads_field}
+use Rattle.cb_frames.specs.Reading.{end_at, payload_at, field_at, CastHead, head_at, cast_at, frame_at, Gives, HasValue, Fails}
 use Rattle.cb_frames.specs.Laws.{EachIsTextOrFault, MayFail, ReadingIsExact}
 use Rattle.cb_varint.proofs.Fronts.{IsBytes}
-use Rattle.cb_frames.proofs.Outcome.{CastOutcome, cast_outcome, FrameOutcome, frame_outcome}
+use Rattle.cb_frames.proofs.Fronts.{FieldOutcome, field_outcome}
+use Rattle.cb_frames.proofs.Outcome.{HeadOutcome, head_outcome, CastOutcome, cast_outcome, FrameOutcome, frame_outcome}
 use Rattle.cb_frames.proofs.Unique.{none_begins_another, text_has_no_fault, one_first_fault}
 
 either_of : (bytes : List ℕ) (r : Result FrameFields FrameFault) → FrameOutcome bytes r → ((f : FrameFields) × (r ≡ Ok f) × IsText f bytes) ⊎ ((e : FrameFault) × (r ≡ Err e) × FirstFault bytes e)
@@ -106,33 +107,32 @@ longer_payload n bytes longer =
     let behind = no_end (drop n bytes) (omega (arith, length-drop n bytes, longer)) in
     rw (enough, behind) refl
 
+one_at_end : (load : Load) (text : List ℕ) → kind_of load ≡ cast_kind → IsLoadText load text → (front : List ℕ) × (text ≡ front ++ load_bytes load)
+one_at_end (One payload) text kind is = (is.0, is.4 ∙ ap (λ (t : List ℕ). is.0 ++ (payload ++ t)) is.3 ∙ ap (λ (t : List ℕ). is.0 ++ t) (append-nil payload))
+one_at_end (Many payloads) text kind is = absurd (omega (arith, kind))
+
 pub payload_is_end : (bytes : List ℕ) (c : CastFields) → IsBytes bytes → cast_at bytes ≡ Ok c → (front : List ℕ) × (bytes ≡ front ++ load_bytes c.load)
 payload_is_end bytes c fits e =
     let text = subst (CastOutcome bytes) e (cast_outcome bytes fits) in
-    (text.2.0, text.2.2)
+    let end = one_at_end c.load text.1.2.1 text.0 text.1.2.3 in
+    (text.1.2.0 ++ end.0, text.1.2.4 ∙ ap (λ (t : List ℕ). text.1.2.0 ++ t) end.1 ∙ sym (append_assoc text.1.2.0 end.0 (load_bytes c.load)))
 
-pub end_of : (front payload bytes : List ℕ) → bytes ≡ front ++ payload → (length payload ≤ length bytes) × (drop (length bytes - length payload) bytes ≡ payload)
-end_of front payload bytes e =
-    let len : length bytes ≡ length front + length payload = ap length e ∙ length-append front payload in
-    let at : length bytes - length payload ≡ length front = omega (arith, len) in
-    (omega (arith, len), ap (λ (n : ℕ). drop n bytes) at ∙ ap (drop (length front)) e ∙ drop_at front payload (length front) refl)
+-- what is behind the head of a frame, and then behind one more number, is the end of the bytes
+pub carried_is_end : (bytes : List ℕ) (head : CastHead × List ℕ) (rule : ℕ → Option FrameFault) (count : ℕ × List ℕ) → IsBytes bytes → head_at bytes ≡ Ok head → field_at rule head.1 ≡ Ok count → (front : List ℕ) × (bytes ≡ front ++ count.1)
+carried_is_end bytes head rule count fits read next =
+    let h = subst (HeadOutcome burst_payloads_field bytes) read (head_outcome burst_payloads_field bytes fits) in
+    let k = subst (FieldOutcome rule head.1) next (field_outcome rule head.1 h.rest_fits) in
+    (h.opens.text ++ k.text, h.opens.parts ∙ ap (λ (t : List ℕ). h.opens.text ++ t) k.parts ∙ sym (append_assoc h.opens.text k.text count.1))
 
 -- ---- the way from the fields to the frame
 
-pub fault_of_cast : (bytes : List ℕ) (kind : ℕ) (fields : List ℕ) (e : FrameFault) → bytes ≡ kind ∷ fields → kind ≡ cast_kind → cast_at fields ≡ Err e → frame_at bytes ≡ Err e
-unfolding frame_at
-fault_of_cast bytes kind fields e parts k h = ap frame_at parts ∙ rw (eq-eqb kind cast_kind k, h) refl
+-- what was made of the parts of a cast frame is what reading gives
+pub gives_cast : {X : Type 0} (r : Result X FrameFault) (view : X → CastFields) (read : Result CastFields FrameFault) (c : CastFields) → read ≡ Ok c → MatchResult r (λ x. view x ≡ c) (λ fault. fault ≡ NoMemory) → Gives view r read
+gives_cast (Ok x) view read c is made = is ∙ ap (λ (d : CastFields). Ok d) (sym made)
+gives_cast (Err e) view read c is made = inr (made, subst HasValue (sym is) tt)
 
-pub fault_of_status : (bytes : List ℕ) (kind : ℕ) (fields : List ℕ) (e : FrameFault) → bytes ≡ kind ∷ fields → kind ≡ status_kind → status_at fields ≡ Err e → frame_at bytes ≡ Err e
-unfolding frame_at
-fault_of_status bytes kind fields e parts k h = ap frame_at (parts ∙ ap (λ (n : ℕ). n ∷ fields) k) ∙ rw h refl
-
-pub fault_of_request : (bytes : List ℕ) (kind : ℕ) (fields : List ℕ) (e : FrameFault) → bytes ≡ kind ∷ fields → kind ≡ request_kind → request_at fields ≡ Err e → frame_at bytes ≡ Err e
-unfolding frame_at
-fault_of_request bytes kind fields e parts k h = ap frame_at (parts ∙ ap (λ (n : ℕ). n ∷ fields) k) ∙ rw h refl
-
-pub cast_of_frame : (bytes : List ℕ) (kind : ℕ) (fields : List ℕ) (c : CastFields) → bytes ≡ kind ∷ fields → IsBytes bytes → cast_at fields ≡ Ok c → (front : List ℕ) × (bytes ≡ front ++ load_bytes c.load)
-cast_of_frame bytes kind fields c parts fits h =
-    let fields_fit : IsBytes fields = λ i. subst (λ (t : List ℕ). get_or t (suc i) 0 < 256) parts (fits (suc i)) in
-    let end = payload_is_end fields c fields_fit h in
+-- the payload of a cast is the end of the bytes that have a kind in front
+pub cast_end : (kind : ℕ) (bytes fields : List ℕ) (c : CastFields) → bytes ≡ kind ∷ fields → IsBytes fields → cast_at fields ≡ Ok c → (front : List ℕ) × (bytes ≡ front ++ load_bytes c.load)
+cast_end kind bytes fields c parts fits read =
+    let end = payload_is_end fields c fits read in
     (kind ∷ end.0, parts ∙ ap (λ (t : List ℕ). kind ∷ t) end.1)

@@ -1,5 +1,6 @@
 mod Rows
 pub mod PairLoop
+pub mod PayloadLoop
 pub mod SaidPairs
 pub mod Fronts
 pub mod Outcome

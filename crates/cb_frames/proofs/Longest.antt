@@ -1,6 +1,6 @@
 -- No frame's text is longer than the longest frame.
 use Rattle.std.proofs.Common.{◌≡◌, ℕ, ◌+◌, ◌*◌, ◌-◌, ◌<◌, ◌≤◌, List, [], ◌∷◌, ◌++◌, length, ap, ◌∙◌, arith, inl, inr}
-use Rattle.std.specs.List.{AllByRecursion}
+use Rattle.std.specs.List.{AllByRecursion, concat}
 use Rattle.std.proofs.lemmas.Bool.{cases_lt}
 use Rattle.std.proofs.lemmas.List.{length-append}
 use Rattle.cb_varint.specs.Spelling.{Spells}
@@ -9,8 +9,8 @@ use Rattle.cb_varint.proofs.Turns.{length_1, length_2}
 use Rattle.cb_frames.specs.declared.frame.TheConstants.{LAST_MEMBER, LONGEST_PAYLOAD}
 use Rattle.cb_frames.specs.declared.frame.Change.{Change}
 use Rattle.cb_frames.specs.declared.frame.Range.{Range}
-use Rattle.cb_frames.specs.Fields.{load_bytes, CastFrame, StatusFrame, RequestFrame}
-use Rattle.cb_frames.specs.Text.{SpellAll, pairs_from, RisesFrom, ranges_from, IsChange, IsValue}
+use Rattle.cb_frames.specs.Fields.{Load, One, Many, CastFrame, StatusFrame, RequestFrame}
+use Rattle.cb_frames.specs.Text.{SpellAll, ArePayloads, IsLoad, IsLoadText, KeepsLoadRules, pairs_from, RisesFrom, ranges_from, IsChange, IsValue}
 use Rattle.cb_frames.specs.StreamLaws.{LongestFrame}
 
 -- ---- numbers
@@ -48,12 +48,33 @@ small_number n ns most small h = record {
       omega (arith, ap length s.4, length-append s.0 s.1, first, rest);
 }
 
-payload_number : (n : ℕ) → n ≤ LONGEST_PAYLOAD → Within (n ∷ []) 2
-payload_number n fits = record {
-  bound = λ text s.
-      let first = two_bytes s.0 n s.2 (omega (arith, fits)) in
-      omega (arith, ap length s.4, length-append s.0 s.1, first, ap length s.3);
-}
+-- ---- what a cast carries
+
+-- a length has two bytes only where the payload has 128 and more
+length_bytes : (text : List ℕ) (n : ℕ) → Spells text n → n ≤ LONGEST_PAYLOAD → 128 * length text ≤ 128 + n
+length_bytes text n s fits =
+    elim (cases_lt n 128) [
+      | inl one ↦ omega (arith, one_byte text n s one)
+      | inr more ↦ omega (arith, two_bytes text n s (omega (arith, fits)), more)
+    ]
+
+payloads_bytes : (payloads : List (List ℕ)) (text : List ℕ) → length (concat payloads) ≤ LONGEST_PAYLOAD → ArePayloads payloads text → 128 * length text ≤ 128 * length payloads + 129 * length (concat payloads)
+payloads_bytes [] text fits is = omega (arith, ap length is)
+payloads_bytes (payload ∷ payloads) text fits is =
+    let both : length (payload ++ concat payloads) ≡ length payload + length (concat payloads) = length-append payload (concat payloads) in
+    let whole : length (payload ++ concat payloads) ≤ LONGEST_PAYLOAD = fits in
+    let others = payloads_bytes payloads is.1 (omega (arith, both, whole)) is.3 in
+    let size = length_bytes is.0 (length payload) is.2 (omega (arith, both, whole)) in
+    omega (arith, ap length is.4, length-append is.0 (payload ++ is.1), length-append payload is.1, size, others, both)
+
+load_bound : (first : ℕ) (load : Load) (text : List ℕ) → KeepsLoadRules first load → IsLoad load → IsLoadText load text → length text ≤ 1065
+load_bound first (One payload) text rules fits is =
+    let size = two_bytes is.0 (length payload) is.2 (omega (arith, fits)) in
+    omega (arith, ap length is.4, length-append is.0 (payload ++ is.1), length-append payload is.1, ap length is.3, size, fits)
+load_bound first (Many payloads) text rules fits is =
+    let few = rules.few in
+    let count = one_byte is.0 (length payloads) is.2 (omega (arith, few)) in
+    omega (arith, ap length is.4, length-append is.0 is.1, count, few, fits, payloads_bytes payloads is.1 fits is.3)
 
 -- ---- pairs
 
@@ -88,18 +109,10 @@ few_changes sender least (d ∷ ds) member below rising each =
           omega (arith, rising.0, above, below, each.0.index, others)
     ]
 
-of_pairs : (least : ℕ) (ds : List Change) (behind : List ℕ) (most : ℕ) → AllByRecursion IsIndex ds → Within behind most → Within (pairs_from least ds ++ behind) (6 * length ds + most)
-of_pairs least [] behind most each h = record { bound = λ text s. omega (arith, h.bound text s) }
-of_pairs least (d ∷ ds) behind most each h =
-    let others = of_pairs (d.field + 1) ds behind most each.1 h in
-    let amount = any_number d.amount (pairs_from (d.field + 1) ds ++ behind) _ others in
-    let pair = small_number (d.field - least) (d.amount ∷ (pairs_from (d.field + 1) ds ++ behind)) _ (omega (arith, each.0)) amount in
-    record { bound = λ text s. let all = pair.bound text s in omega (arith, all) }
-
-of_values_alone : (least : ℕ) (ds : List Change) → AllByRecursion IsIndex ds → Within (pairs_from least ds) (6 * length ds)
-of_values_alone least [] each = record { bound = λ text s. omega (arith, ap length s) }
-of_values_alone least (d ∷ ds) each =
-    let others = of_values_alone (d.field + 1) ds each.1 in
+of_pairs : (least : ℕ) (ds : List Change) → AllByRecursion IsIndex ds → Within (pairs_from least ds) (6 * length ds)
+of_pairs least [] each = record { bound = λ text s. omega (arith, ap length s) }
+of_pairs least (d ∷ ds) each =
+    let others = of_pairs (d.field + 1) ds each.1 in
     let amount = any_number d.amount (pairs_from (d.field + 1) ds) _ others in
     let pair = small_number (d.field - least) (d.amount ∷ pairs_from (d.field + 1) ds) _ (omega (arith, each.0)) amount in
     record { bound = λ text s. let all = pair.bound text s in omega (arith, all) }
@@ -118,17 +131,18 @@ pub longest_frame : LongestFrame
 longest_frame (CastFrame c) text is =
     let rules = is.0 in
     let few = few_changes c.sender 0 c.changes rules.sender (omega arith) rules.changes.rising rules.changes.each in
-    let tail = of_pairs 0 c.changes (length (load_bytes c.load) ∷ []) 2 (of_changes c.sender c.changes rules.changes.each) (payload_number (length (load_bytes c.load)) is.1) in
-    let count = small_number (length c.changes) _ _ (omega (arith, few)) tail in
+    let pairs = of_pairs 0 c.changes (of_changes c.sender c.changes rules.changes.each) in
+    let count = small_number (length c.changes) _ _ (omega (arith, few)) pairs in
     let number = any_number c.number _ _ count in
     let sender = small_number c.sender _ _ (omega (arith, rules.sender)) number in
     let all = any_number c.group _ _ sender in
-    let within = all.bound is.2.0 is.2.1 in
-    let len = ap length is.2.2 in
-    omega (arith, len, length-append is.2.0 (load_bytes c.load), within, few, is.1)
+    let within = all.bound is.2.0 is.2.2 in
+    let carried = load_bound c.number c.load is.2.1 rules.load is.1 is.2.3 in
+    let len = ap length is.2.4 in
+    omega (arith, len, length-append is.2.0 is.2.1, within, few, carried)
 longest_frame (StatusFrame s) text is =
     let few = few_indices 0 s.values is.0.values.rising (of_values s.values is.0.values.each) in
-    let tail = of_values_alone 0 s.values (of_values s.values is.0.values.each) in
+    let tail = of_pairs 0 s.values (of_values s.values is.0.values.each) in
     let count = small_number (length s.values) _ _ (omega (arith, few)) tail in
     let sender = small_number s.sender _ _ (omega (arith, is.0.sender)) count in
     let all = any_number s.group _ _ sender in

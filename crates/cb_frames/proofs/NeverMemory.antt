@@ -3,13 +3,13 @@ use Rattle.std.proofs.Common.{◌≢◌, ℕ, zero, suc, ◌+◌, Bool, true, fa
 use Rattle.cb_varint.specs.declared.fault.NumberFault.{NumberFault}
 use Rattle.cb_varint.specs.declared.fault.NumberFault.TheVariants as numbers
 use Rattle.cb_varint.specs.Reading.{number_at as number_and_length}
-use Rattle.cb_frames.specs.declared.frame.TheConstants.{LAST_MEMBER, LAST_NUMBER, LONGEST_PAYLOAD, MOST_RANGES}
+use Rattle.cb_frames.specs.declared.frame.TheConstants.{LAST_MEMBER, LAST_NUMBER, LONGEST_PAYLOAD, MOST_MESSAGES, MOST_RANGES}
 use Rattle.cb_frames.specs.declared.fault.FrameFault.{FrameFault}
 use Rattle.cb_frames.specs.declared.fault.FrameFault.TheVariants as faults
 use Rattle.cb_frames.specs.Fields.{FrameFields, CastFrame, StatusFrame, RequestFrame}
-use Rattle.cb_frames.specs.Fault.{any_number, member_rule, message_rule, length_rule, ranges_rule, Pairs, change_pairs, value_pairs, range_pairs}
-use Rattle.cb_frames.specs.Text.{cast_kind, status_kind, request_kind}
-use Rattle.cb_frames.specs.Reading.{◌>>=◌, behind_number, number_at, unless, field_at, pair_at, pairs_at, run_at, end_at, payload_at, cast_at, status_at, request_at, frame_at}
+use Rattle.cb_frames.specs.Fault.{any_number, member_rule, message_rule, messages_rule, length_rule, ranges_rule, Pairs, change_pairs, value_pairs, range_pairs}
+use Rattle.cb_frames.specs.Text.{cast_kind, burst_kind, status_kind, request_kind}
+use Rattle.cb_frames.specs.Reading.{◌>>=◌, behind_number, number_at, unless, field_at, pair_at, pairs_at, run_at, end_at, payload_at, next_payload_at, payloads_at, head_at, cast_at, burst_at, status_at, request_at, frame_at}
 
 -- a fault, where there is one, that the bytes have
 abbrev IsOfBytes : FrameFault → Type 0
@@ -114,16 +114,51 @@ any_rule n = tt
 sender_rule : (n : ℕ) → Rules (member_rule n)
 sender_rule n = one_rule (ltb LAST_MEMBER n) faults.BadIndex (λ e. absurd cc)
 
-cast_reads : (bytes : List ℕ) → Reads (cast_at bytes)
-unfolding cast_at
-cast_reads bytes =
+three_rules : (a b d : Bool) (fault other third : FrameFault) → IsOfBytes fault → IsOfBytes other → IsOfBytes third → Rules (cond a (Some fault) (cond b (Some other) (cond d (Some third) None)))
+three_rules true b d fault other third h k l = h
+three_rules false b d fault other third h k l = two_rules b d other third k l
+
+length_rules : (before n : ℕ) → Rules (length_rule before n)
+length_rules before n = one_rule (ltb LONGEST_PAYLOAD (before + n)) faults.PayloadTooLong (λ e. absurd cc)
+
+messages_rules : (first n : ℕ) → Rules (messages_rule first n)
+messages_rules first n = three_rules (eqb n 0) (ltb MOST_MESSAGES n) (ltb (LAST_NUMBER + 1) (first + n)) faults.EmptyBurst faults.BurstTooLong faults.BurstTooLong (λ e. absurd cc) (λ e. absurd cc) (λ e. absurd cc)
+
+next_payload_reads : (before : ℕ) (bytes : List ℕ) → Reads (next_payload_at before bytes)
+unfolding next_payload_at
+next_payload_reads before bytes =
+    then (field_at (length_rule before) bytes) _ (field_reads (length_rule before) bytes (length_rules before)) (λ size. run_reads size.0 size.1)
+
+payloads_read : (count before : ℕ) (bytes : List ℕ) → Reads (payloads_at count before bytes)
+unfolding payloads_at
+payloads_read zero before bytes = tt
+payloads_read (suc count) before bytes =
+    then (next_payload_at before bytes) _ (next_payload_reads before bytes)
+    (λ payload. then (payloads_at count (before + length payload.0) payload.1) _ (payloads_read count (before + length payload.0) payload.1) (λ others. tt))
+
+head_reads : (bytes : List ℕ) → Reads (head_at bytes)
+unfolding head_at
+head_reads bytes =
     then (field_at any_number bytes) _ (field_reads any_number bytes any_rule)
     (λ group. then (field_at member_rule group.1) _ (field_reads member_rule group.1 sender_rule)
     (λ sender. then (field_at message_rule sender.1) _ (field_reads message_rule sender.1 (λ n. one_rule (eqb n 0) faults.ZeroNumber (λ e. absurd cc)))
     (λ number. then (field_at any_number number.1) _ (field_reads any_number number.1 any_rule)
-    (λ count. then (pairs_at (change_pairs sender.0) count.0 0 count.1) _ (pairs_read (change_pairs sender.0) count.0 0 count.1 (changes_read sender.0))
-    (λ changes. then (field_at (length_rule 0) changes.1) _ (field_reads (length_rule 0) changes.1 (λ n. one_rule (ltb LONGEST_PAYLOAD (0 + n)) faults.PayloadTooLong (λ e. absurd cc)))
-    (λ size. then (payload_at size.0 size.1) _ (payload_reads size.0 size.1) (λ payload. tt)))))))
+    (λ count. then (pairs_at (change_pairs sender.0) count.0 0 count.1) _ (pairs_read (change_pairs sender.0) count.0 0 count.1 (changes_read sender.0)) (λ changes. tt)))))
+
+cast_reads : (bytes : List ℕ) → Reads (cast_at bytes)
+unfolding cast_at
+cast_reads bytes =
+    then (head_at bytes) _ (head_reads bytes)
+    (λ head. then (field_at (length_rule 0) head.1) _ (field_reads (length_rule 0) head.1 (length_rules 0))
+    (λ size. then (payload_at size.0 size.1) _ (payload_reads size.0 size.1) (λ payload. tt)))
+
+burst_reads : (bytes : List ℕ) → Reads (burst_at bytes)
+unfolding burst_at
+burst_reads bytes =
+    then (head_at bytes) _ (head_reads bytes)
+    (λ head. then (field_at (messages_rule head.0.number) head.1) _ (field_reads (messages_rule head.0.number) head.1 (messages_rules head.0.number))
+    (λ count. then (payloads_at count.0 0 count.1) _ (payloads_read count.0 0 count.1)
+    (λ payloads. then (end_at payloads.1) _ (end_reads payloads.1) (λ end. tt))))
 
 status_reads : (bytes : List ℕ) → Reads (status_at bytes)
 unfolding status_at
@@ -144,17 +179,19 @@ request_reads bytes =
     (λ count. then (pairs_at range_pairs count.0 1 count.1) _ (pairs_read range_pairs count.0 1 count.1 ranges_read)
     (λ ranges. then (end_at ranges.1) _ (end_reads ranges.1) (λ end. tt))))))
 
-by_kind : (cast status request : Bool) (fields : List ℕ)
-    → Reads (cond cast (cast_at fields >>= λ c. Ok (CastFrame c)) (cond status (status_at fields >>= λ s. Ok (StatusFrame s)) (cond request (request_at fields >>= λ r. Ok (RequestFrame r)) (Err faults.UnknownKind))))
-by_kind true status request fields = then (cast_at fields) (λ c. Ok (CastFrame c)) (cast_reads fields) (λ c. tt)
-by_kind false true request fields = then (status_at fields) (λ s. Ok (StatusFrame s)) (status_reads fields) (λ s. tt)
-by_kind false false true fields = then (request_at fields) (λ r. Ok (RequestFrame r)) (request_reads fields) (λ r. tt)
-by_kind false false false fields = λ e. absurd cc
+by_kind : (cast burst status request : Bool) (fields : List ℕ)
+    → Reads (cond cast (cast_at fields >>= λ c. Ok (CastFrame c)) (cond burst (burst_at fields >>= λ c. Ok (CastFrame c))
+    (cond status (status_at fields >>= λ s. Ok (StatusFrame s)) (cond request (request_at fields >>= λ r. Ok (RequestFrame r)) (Err faults.UnknownKind)))))
+by_kind true burst status request fields = then (cast_at fields) (λ c. Ok (CastFrame c)) (cast_reads fields) (λ c. tt)
+by_kind false true status request fields = then (burst_at fields) (λ c. Ok (CastFrame c)) (burst_reads fields) (λ c. tt)
+by_kind false false true request fields = then (status_at fields) (λ s. Ok (StatusFrame s)) (status_reads fields) (λ s. tt)
+by_kind false false false true fields = then (request_at fields) (λ r. Ok (RequestFrame r)) (request_reads fields) (λ r. tt)
+by_kind false false false false fields = λ e. absurd cc
 
 frame_reads : (bytes : List ℕ) → Reads (frame_at bytes)
 unfolding frame_at
 frame_reads [] = λ e. absurd cc
-frame_reads (kind ∷ fields) = by_kind (eqb kind cast_kind) (eqb kind status_kind) (eqb kind request_kind) fields
+frame_reads (kind ∷ fields) = by_kind (eqb kind cast_kind) (eqb kind burst_kind) (eqb kind status_kind) (eqb kind request_kind) fields
 
 of_result : (r : Result FrameFields FrameFault) → Reads r → r ≢ Err faults.NoMemory
 of_result (Ok f) h e = absurd cc

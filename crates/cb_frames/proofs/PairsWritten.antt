@@ -1,15 +1,18 @@
 -- The loops that check lists of pairs and write them.
-use Rattle.std.proofs.Common.{◌≡◌, ◌≢◌, ℕ, ◌+◌, ◌-◌, ◌<◌, ◌≤◌, List, [], ◌∷◌, ◌++◌, length, drop, get_or, Option, Some, None, true, eqb, refl, sym, ap, subst, ◌∙◌, append_assoc, arith}
-use Rattle.std.specs.Prelude.{Result, Ok, Err, OnOk}
+use Rattle.std.proofs.Common.{◌≡◌, ◌≢◌, ℕ, ◌+◌, ◌-◌, ◌<◌, ◌≤◌, List, [], ◌∷◌, ◌++◌, length, drop, take, get_or, Option, Some, None, true, eqb, refl, sym, ap, subst, ◌∙◌, append_assoc, arith}
+use Rattle.std.specs.Prelude.{Result, Ok, Err, OnOk, if◌then◌else◌}
+use Rattle.std.specs.Result.{is_ok}
 use Rattle.std.specs.Option.{option_eq}
 use Rattle.std.proofs.lemmas.Bool.{eqb-true}
-use Rattle.std.proofs.lemmas.List.{append-nil, drop_all, drop_more, get_or_default}
+use Rattle.std.proofs.lemmas.List.{append-nil, drop_all, drop_more, get_or_default, length-append, take_more, take-append-drop}
+use Rattle.std.proofs.lemmas.List.Folds.{concat-append}
+use Rattle.std.specs.List.{concat}
 use Rattle.cb_varint.specs.Spelling.{Spells}
-use Rattle.cb_frames.specs.declared.frame.TheConstants.{LAST_MEMBER, LAST_NUMBER}
+use Rattle.cb_frames.specs.declared.frame.TheConstants.{LAST_MEMBER, LAST_NUMBER, LONGEST_PAYLOAD}
 use Rattle.cb_frames.specs.declared.frame.Change.{Change}
 use Rattle.cb_frames.specs.declared.frame.Range.{Range}
-use Rattle.cb_frames.specs.Fields.{load_bytes, CastFields, StatusFields, RequestFields}
-use Rattle.cb_frames.specs.Text.{SpellAll, pairs_from, ranges_from, cast_numbers, status_numbers, request_numbers, AreChanges, AreValues, AreRanges}
+use Rattle.cb_frames.specs.Fields.{Load, Many, CastFrame, CastFields, StatusFields, RequestFields}
+use Rattle.cb_frames.specs.Text.{SpellAll, AppendsNumbers, AppendsPayloads, ArePayloads, IsLoad, IsLoadText, IsText, KeepsCastRules, burst_kind, kind_of, pairs_from, ranges_from, cast_numbers, status_numbers, request_numbers, AreChanges, AreValues, AreRanges}
 use Rattle.cb_frames.specs.Parts.{AreChangesBut}
 
 -- ---- a list whose elements each fit behind the one before
@@ -222,21 +225,17 @@ spelled_both (m ∷ ms) ns a b s t =
 pub all_then_all : (ms ns a b c : List ℕ) → Appends (SpellAll ms) a b → Appends (SpellAll ns) b c → Appends (SpellAll (ms ++ ns)) a c
 all_then_all ms ns a b c one two = (one.0 ++ two.0, spelled_both ms ns one.0 two.0 one.1 two.1, two.2 ∙ ap (λ (t : List ℕ). t ++ two.0) one.2 ∙ append_assoc a one.0 two.0)
 
--- the number fields of a cast frame, one after another; where the last one is out of memory, all are
-pub numbers_written : {E : Type 0} (r : Result (Unit {0}) E) (c : CastFields) (count size : ℕ) (a b d e f g h : List ℕ) → count ≡ length c.changes → size ≡ length (load_bytes c.load)
-    → Appends (λ text. Spells text c.group) a b → Appends (λ text. Spells text c.sender) b d → Appends (λ text. Spells text c.number) d e
-    → Appends (λ text. Spells text count) e f → Appends (SpellAll (pairs_from 0 c.changes)) f g
-    → OnOk r (Appends (λ text. Spells text size) g h) → OnOk r (Appends (SpellAll (cast_numbers c)) a h)
-numbers_written (Ok x) c count size a b d e f g h count_is size_is group sender number changes pairs last =
-    let end : Appends (SpellAll (length (load_bytes c.load) ∷ [])) g h = one_alone (length (load_bytes c.load)) g h (subst (λ (n : ℕ). Appends (λ text. Spells text n) g h) size_is last) in
-    let after_count = pairs_from 0 c.changes ++ length (load_bytes c.load) ∷ [] in
-    let after_number = length c.changes ∷ after_count in
-    one_then_all c.group (c.sender ∷ c.number ∷ after_number) a b h group
-    (one_then_all c.sender (c.number ∷ after_number) b d h sender
-    (one_then_all c.number after_number d e h number
-    (one_then_all (length c.changes) after_count e f h (subst (λ (n : ℕ). Appends (λ text. Spells text n) e f) count_is changes)
-    (all_then_all (pairs_from 0 c.changes) (length (load_bytes c.load) ∷ []) f g h pairs end))))
-numbers_written (Err x) c count size a b d e f g h count_is size_is group sender number changes pairs last = tt
+-- the number fields of a cast frame, one after another; where the last ones are out of memory, all are
+pub numbers_written : {E : Type 0} (r : Result (Unit {0}) E) (c : CastFields) (count : ℕ) (a b d e f g : List ℕ) → count ≡ length c.changes
+    → Appends (λ text. Spells text c.group) a b → Appends (λ text. Spells text c.sender) b d → Appends (λ text. Spells text c.number) d e → Appends (λ text. Spells text count) e f
+    → OnOk r (Appends (SpellAll (pairs_from 0 c.changes)) f g) → OnOk r (Appends (SpellAll (cast_numbers c)) a g)
+numbers_written (Ok x) c count a b d e f g count_is group sender number changes pairs =
+    let after_number = length c.changes ∷ pairs_from 0 c.changes in
+    one_then_all c.group (c.sender ∷ c.number ∷ after_number) a b g group
+    (one_then_all c.sender (c.number ∷ after_number) b d g sender
+    (one_then_all c.number after_number d e g number
+    (one_then_all (length c.changes) (pairs_from 0 c.changes) e f g (subst (λ (n : ℕ). Appends (λ text. Spells text n) e f) count_is changes) pairs)))
+numbers_written (Err x) c count a b d e f g count_is group sender number changes pairs = tt
 
 pub status_written : {E : Type 0} (r : Result (Unit {0}) E) (s : StatusFields) (count : ℕ) (a b d e f : List ℕ) → count ≡ length s.values
     → Appends (λ text. Spells text s.group) a b → Appends (λ text. Spells text s.sender) b d → Appends (λ text. Spells text count) d e
@@ -258,3 +257,50 @@ request_written (Ok x) q count a b d e f g count_is group requester asked ranges
     (one_then_all q.asked after_asked d e g asked
     (one_then_all (length q.ranges) (ranges_from 1 q.ranges) e f g (subst (λ (n : ℕ). Appends (λ text. Spells text n) e f) count_is ranges) pairs)))
 request_written (Err x) q count a b d e f g count_is group requester asked ranges pairs = tt
+
+-- ---- payloads
+
+pub payload_written : {E : Type 0} (r : Result (Unit {0}) E) (payload : List ℕ) (size : ℕ) (a b d : List ℕ) → size ≡ length payload → Appends (λ text. Spells text size) a b → d ≡ (if is_ok r then b ++ payload else b) → OnOk r (AppendsPayloads a d (payload ∷ []))
+payload_written (Ok x) payload size a b d is spelled all = (
+  spelled.0 ++ (payload ++ []),
+  (spelled.0, [], subst (Spells spelled.0) is spelled.1, refl, refl),
+  all ∙ ap (λ (t : List ℕ). t ++ payload) spelled.2 ∙ append_assoc a spelled.0 payload ∙ ap (λ (t : List ℕ). a ++ (spelled.0 ++ t)) (sym (append-nil payload)),
+)
+payload_written (Err x) payload size a b d is spelled all = tt
+
+payloads_both : (ps qs : List (List ℕ)) (a b : List ℕ) → ArePayloads ps a → ArePayloads qs b → ArePayloads (ps ++ qs) (a ++ b)
+payloads_both [] qs a b s t = subst (λ (x : List ℕ). ArePayloads qs (x ++ b)) (sym s) t
+payloads_both (p ∷ ps) qs a b s t =
+    (s.0, s.1 ++ b, s.2, payloads_both ps qs s.1 b s.3 t, ap (λ (x : List ℕ). x ++ b) s.4 ∙ regroup_behind s.0 p s.1 b)
+
+pub payloads_then : (ps qs : List (List ℕ)) (a b d : List ℕ) → AppendsPayloads a b ps → AppendsPayloads b d qs → AppendsPayloads a d (ps ++ qs)
+payloads_then ps qs a b d one two = (one.0 ++ two.0, payloads_both ps qs one.0 two.0 one.1 two.1, two.2 ∙ ap (λ (t : List ℕ). t ++ two.0) one.2 ∙ append_assoc a one.0 two.0)
+
+-- a payload is no longer than all of them
+pub payload_short : (ps : List (List ℕ)) (i : ℕ) (e : List ℕ) → i < length ps → length (concat (take i ps)) + length (get_or ps i e) ≤ length (concat ps)
+payload_short ps i e lt =
+    let front : concat (take (i + 1) ps) ≡ concat (take i ps) ++ get_or ps i e = ap concat (take_more ps i e lt) ∙ concat-append (take i ps) (get_or ps i e ∷ []) ∙ ap (λ (t : List ℕ). concat (take i ps) ++ t) (append-nil (get_or ps i e)) in
+    let all : concat ps ≡ concat (take (i + 1) ps) ++ concat (drop (i + 1) ps) = ap concat (sym (take-append-drop (i + 1) ps)) ∙ concat-append (take (i + 1) ps) (drop (i + 1) ps) in
+    omega (arith, ap length front, length-append (concat (take i ps)) (get_or ps i e), ap length all, length-append (concat (take (i + 1) ps)) (concat (drop (i + 1) ps)))
+
+-- the loop that writes payloads
+pub payloads_go_on : (ps : List (List ℕ)) (i : ℕ) (p a b d : List ℕ) → i < length ps → p ≡ get_or ps i p → AppendsPayloads a b (take i ps) → AppendsPayloads b d (p ∷ []) → AppendsPayloads a d (take (i + 1) ps)
+payloads_go_on ps i p a b d lt at written here =
+    subst (AppendsPayloads a d) (ap (λ (x : List ℕ). take i ps ++ x ∷ []) at ∙ sym (take_more ps i p lt)) (payloads_then (take i ps) (p ∷ []) a b d written here)
+
+-- the loop that adds their lengths
+pub room_goes_on : (ps : List (List ℕ)) (i : ℕ) (p : List ℕ) (room : ℕ) → i < length ps → p ≡ get_or ps i p → room + length (concat (take i ps)) ≡ LONGEST_PAYLOAD → length p ≤ room → (room - length p) + length (concat (take (i + 1) ps)) ≡ LONGEST_PAYLOAD
+room_goes_on ps i p room lt at left fits =
+    let more : concat (take (i + 1) ps) ≡ concat (take i ps) ++ p =
+    ap concat (take_more ps i p lt) ∙ concat-append (take i ps) (get_or ps i p ∷ []) ∙ ap (λ (t : List ℕ). concat (take i ps) ++ t) (append-nil (get_or ps i p) ∙ sym at) in
+    omega (arith, left, fits, ap length more, length-append (concat (take i ps)) p)
+
+-- ---- whole texts
+
+pub burst_written : (c : CastFields) (payloads : List (List ℕ)) (count : ℕ) (a b d e : List ℕ) → c.load ≡ Many payloads → KeepsCastRules c → IsLoad c.load → a ≡ burst_kind ∷ [] → AppendsNumbers a b (cast_numbers c)
+    → count ≡ length payloads → Appends (λ text. Spells text count) b d → AppendsPayloads d e payloads → IsText (CastFrame c) e
+burst_written c payloads count a b d e is rules small kind numbers count_is counted carried =
+    let load : IsLoadText (Many payloads) (counted.0 ++ carried.0) = (counted.0, carried.0, subst (Spells counted.0) count_is counted.1, carried.1, refl) in
+    let text : e ≡ burst_kind ∷ numbers.0 ++ (counted.0 ++ carried.0) =
+    carried.2 ∙ ap (λ (t : List ℕ). t ++ carried.0) (counted.2 ∙ ap (λ (t : List ℕ). t ++ counted.0) (numbers.2 ∙ ap (λ (t : List ℕ). t ++ numbers.0) kind)) ∙ append_assoc (burst_kind ∷ numbers.0) counted.0 carried.0 in
+    (rules, small, (numbers.0, counted.0 ++ carried.0, numbers.1, subst (λ (l : Load). IsLoadText l (counted.0 ++ carried.0)) (sym is) load, subst (λ (l : Load). e ≡ kind_of l ∷ numbers.0 ++ (counted.0 ++ carried.0)) (sym is) text))

@@ -1,13 +1,13 @@
 -- A list, and the pairs of numbers that say it.
 use Rattle.std.proofs.Common.{◌≡◌, ◌≢◌, ℕ, ◌+◌, ◌-◌, ◌≤◌, Bool, true, false, cond, eqb, ltb, List, [], ◌∷◌, ◌++◌, length, Option, Some, None, refl, sym, ap, subst, ◌∙◌, arith}
 use Rattle.std.proofs.lemmas.Bool.{ltb-false, eqb-false, ne_eqb, le-ltb, cond-false}
-use Rattle.cb_frames.specs.declared.frame.TheConstants.{LAST_MEMBER, LAST_NUMBER, LONGEST_PAYLOAD, MOST_RANGES}
+use Rattle.cb_frames.specs.declared.frame.TheConstants.{LAST_MEMBER, LAST_NUMBER, LONGEST_PAYLOAD, MOST_MESSAGES, MOST_RANGES}
 use Rattle.cb_frames.specs.declared.frame.Change.{Change}
 use Rattle.cb_frames.specs.declared.frame.Range.{Range}
 use Rattle.cb_frames.specs.declared.fault.FrameFault.{FrameFault}
-use Rattle.cb_frames.specs.declared.fault.FrameFault.TheVariants.{BadIndex, ZeroNumber, ZeroDifference, OwnField, BadRange, PayloadTooLong}
+use Rattle.cb_frames.specs.declared.fault.FrameFault.TheVariants.{BadIndex, ZeroNumber, ZeroDifference, OwnField, BadRange, EmptyBurst, BurstTooLong, PayloadTooLong}
 use Rattle.cb_frames.specs.Text.{pairs_from, ranges_from, RisesFrom, AreChanges, AreValues, AreRanges}
-use Rattle.cb_frames.specs.Fault.{member_rule, message_rule, index_rule, value_rule, amount_rule, length_rule, ranges_rule, start_rule, Pairs, change_pairs, value_pairs, range_pairs}
+use Rattle.cb_frames.specs.Fault.{member_rule, message_rule, messages_rule, index_rule, value_rule, amount_rule, length_rule, ranges_rule, start_rule, Pairs, change_pairs, value_pairs, range_pairs}
 use Rattle.cb_frames.specs.Parts.{pairs_but}
 
 -- ---- what a rule that is kept says
@@ -31,6 +31,14 @@ amount_kept n h =
 
 pub length_kept : (before n : ℕ) → length_rule before n ≡ None → before + n ≤ LONGEST_PAYLOAD
 length_kept before n h = ltb-false LONGEST_PAYLOAD (before + n) (kept_test (ltb LONGEST_PAYLOAD (before + n)) PayloadTooLong None h).0
+
+pub messages_kept : (first n : ℕ) → messages_rule first n ≡ None → (1 ≤ n) × (n ≤ MOST_MESSAGES) × (first + n ≤ LAST_NUMBER + 1)
+messages_kept first n h =
+    let a = kept_test (eqb n 0) EmptyBurst (cond (ltb MOST_MESSAGES n) (Some BurstTooLong) (cond (ltb (LAST_NUMBER + 1) (first + n)) (Some BurstTooLong) None)) h in
+    let b = kept_test (ltb MOST_MESSAGES n) BurstTooLong (cond (ltb (LAST_NUMBER + 1) (first + n)) (Some BurstTooLong) None) a.1 in
+    let ne = eqb-false n 0 a.0 in
+    let last = ltb-false (LAST_NUMBER + 1) (first + n) (kept_test (ltb (LAST_NUMBER + 1) (first + n)) BurstTooLong None b.1).0 in
+    (omega (arith, ne), ltb-false MOST_MESSAGES n b.0, last)
 
 pub ranges_kept : (n : ℕ) → ranges_rule n ≡ None → (1 ≤ n) × (n ≤ MOST_RANGES)
 ranges_kept n h =
@@ -64,6 +72,9 @@ keeps_amount n h = cond-false (eqb n 0) (Some ZeroDifference) None (ne_eqb n 0 (
 
 pub keeps_length : (before n : ℕ) → before + n ≤ LONGEST_PAYLOAD → length_rule before n ≡ None
 keeps_length before n h = cond-false (ltb LONGEST_PAYLOAD (before + n)) (Some PayloadTooLong) None (le-ltb LONGEST_PAYLOAD (before + n) h)
+
+pub keeps_messages : (first n : ℕ) → 1 ≤ n → n ≤ MOST_MESSAGES → first + n ≤ LAST_NUMBER + 1 → messages_rule first n ≡ None
+keeps_messages first n some few last = rw (ne_eqb n 0 (λ e. omega (arith, e, some)), le-ltb MOST_MESSAGES n few, le-ltb (LAST_NUMBER + 1) (first + n) last) refl
 
 pub keeps_ranges : (n : ℕ) → 1 ≤ n → n ≤ MOST_RANGES → ranges_rule n ≡ None
 keeps_ranges n some few = rw (ne_eqb n 0 (λ e. omega (arith, e, some)), le-ltb MOST_RANGES n few) refl

@@ -39,7 +39,7 @@ text_bytes text behind fits = right_bytes (spelling (length text)) text (left_by
 -- ---- what stands there
 
 some_kind : (f : FrameFields) (text : List ℕ) → IsText f text → 1 ≤ length text
-some_kind (CastFrame c) text is = omega (arith, ap length is.2.2)
+some_kind (CastFrame c) text is = omega (arith, ap length is.2.4)
 some_kind (StatusFrame s) text is = omega (arith, ap length is.1.2)
 some_kind (RequestFrame r) text is = omega (arith, ap length is.1.2)
 

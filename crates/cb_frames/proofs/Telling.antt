@@ -58,6 +58,8 @@ as_bad_frame frames.ZeroNumber = inr refl
 as_bad_frame frames.ZeroDifference = inr refl
 as_bad_frame frames.OwnField = inr refl
 as_bad_frame frames.BadRange = inr refl
+as_bad_frame frames.EmptyBurst = inr refl
+as_bad_frame frames.BurstTooLong = inr refl
 as_bad_frame frames.PayloadTooLong = inr refl
 as_bad_frame frames.Trailing = inr refl
 

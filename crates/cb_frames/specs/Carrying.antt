@@ -1,6 +1,8 @@
 -- The messages that a cast frame carries.
 use Rattle.std.specs.Prelude.{◌≡◌, ℕ, ◌+◌, ◌≤◌, List, [], ◌∷◌, length}
-use Rattle.cb_frames.specs.Fields.{CastFields, Carried, messages_of, first_number, last_number}
+use Rattle.cb_frames.specs.declared.frame.TheConstants.{LAST_NUMBER, MOST_MESSAGES}
+use Rattle.cb_frames.specs.Fields.{IsOne, IsSome, CastFields, Carried, messages_of, first_number, last_number}
+use Rattle.cb_frames.specs.Text.{KeepsCastRules}
 
 -- these messages are of the sender, and numbered one after another from n on
 abbrev pub AreNumberedFrom : ℕ → ℕ → List Carried → Type 0
@@ -15,14 +17,23 @@ CarriedInOrder = (c : CastFields) → AreNumberedFrom c.sender (first_number c) 
 abbrev pub FirstIsTheNumber : Type 0
 FirstIsTheNumber = (c : CastFields) → first_number c ≡ c.number
 
--- up to its last number
+-- up to its last number, where there are any
 abbrev pub CarriedUpToTheLast : Type 0
-CarriedUpToTheLast = (c : CastFields) → length (messages_of c) + first_number c ≡ last_number c + 1
+CarriedUpToTheLast = (c : CastFields) → IsSome c.load → length (messages_of c) + first_number c ≡ last_number c + 1
 
--- a cast carries some message
+-- and then the last number is no less than the first
 abbrev pub CarriesSome : Type 0
-CarriesSome = (c : CastFields) → first_number c ≤ last_number c
+CarriesSome = (c : CastFields) → IsSome c.load → first_number c ≤ last_number c
 
--- and no more than one
+-- a cast of one payload carries one message
 abbrev pub CarriesNoMore : Type 0
-CarriesNoMore = (c : CastFields) → last_number c ≤ first_number c
+CarriesNoMore = (c : CastFields) → IsOne c.load → last_number c ≤ first_number c
+
+-- a cast that keeps the rules carries some messages and not too many, and its last one has a number too
+pub record IsCarried (c : CastFields) : Type 0 where
+  pub some : IsSome c.load
+  pub few : length (messages_of c) ≤ MOST_MESSAGES
+  pub last : c.number ≤ LAST_NUMBER → last_number c ≤ LAST_NUMBER
+
+abbrev pub CarriesFew : Type 0
+CarriesFew = (c : CastFields) → KeepsCastRules c → IsCarried c

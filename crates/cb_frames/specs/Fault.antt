@@ -5,13 +5,13 @@
 use Rattle.std.specs.Prelude.{◌≡◌, ℕ, zero, suc, ◌+◌, ◌<◌, List, [], ◌∷◌, ◌++◌, ◌⊎◌, length, Option, Some, None, MatchOption, nat_lt, ◌==◌, if◌then◌else◌}
 use Rattle.cb_varint.specs.declared.fault.NumberFault.{NumberFault}
 use Rattle.cb_varint.specs.Spelling.{Spells, IsFault}
-use Rattle.cb_frames.specs.declared.frame.TheConstants.{LAST_MEMBER, LAST_NUMBER, LONGEST_PAYLOAD, MOST_RANGES}
+use Rattle.cb_frames.specs.declared.frame.TheConstants.{LAST_MEMBER, LAST_NUMBER, LONGEST_PAYLOAD, MOST_MESSAGES, MOST_RANGES}
 use Rattle.cb_frames.specs.declared.frame.Change.{Change}
 use Rattle.cb_frames.specs.declared.frame.Range.{Range}
 use Rattle.cb_frames.specs.declared.fault.FrameFault.{FrameFault}
-use Rattle.cb_frames.specs.declared.fault.FrameFault.TheVariants.{Short, UnknownKind, BadIndex, ZeroNumber, ZeroDifference, OwnField, BadRange, PayloadTooLong, Trailing}
+use Rattle.cb_frames.specs.declared.fault.FrameFault.TheVariants.{Short, UnknownKind, BadIndex, ZeroNumber, ZeroDifference, OwnField, BadRange, EmptyBurst, BurstTooLong, PayloadTooLong, Trailing}
 use Rattle.cb_frames.specs.NumberFaults.{as_frame_fault}
-use Rattle.cb_frames.specs.Text.{cast_kind, status_kind, request_kind}
+use Rattle.cb_frames.specs.Text.{cast_kind, burst_kind, status_kind, request_kind}
 
 -- a field: a number with what is wrong with a value of it, a run of so many bytes, whatever they are, or the end of the frame
 pub data Field : Type 0 where
@@ -38,6 +38,13 @@ index_rule sender least gap =
 
 abbrev pub amount_rule : ℕ → Option FrameFault
 amount_rule n = if n == 0 then Some ZeroDifference else None
+
+-- how many messages a burst has, of which the first has this number
+abbrev pub messages_rule : ℕ → ℕ → Option FrameFault
+messages_rule first n =
+    if n == 0 then Some EmptyBurst else
+    if nat_lt MOST_MESSAGES n then Some BurstTooLong else
+    if nat_lt (LAST_NUMBER + 1) (first + n) then Some BurstTooLong else None
 
 -- the length of a payload, where those before it have so many bytes
 abbrev pub length_rule : ℕ → ℕ → Option FrameFault
@@ -104,11 +111,21 @@ range_pairs = record {
 abbrev pub end_field : List ℕ → Field
 end_field before = End
 
--- the length of the one payload, and the payload
+-- so many payloads, each behind its length, where those before have so many bytes
+abbrev pub payloads_field : ℕ → ℕ → List ℕ → Field
+payloads_field zero bytes before = end_field before
+payloads_field (suc count) bytes [] = Number (length_rule bytes)
+payloads_field (suc count) bytes (n ∷ []) = Run n
+payloads_field (suc count) bytes (n ∷ run ∷ more) = payloads_field count (bytes + n) more
+
+-- the one payload of a cast
 abbrev pub payload_field : List ℕ → Field
-payload_field [] = Number (length_rule 0)
-payload_field (n ∷ []) = Run n
-payload_field (n ∷ run ∷ more) = end_field more
+payload_field = payloads_field 1 0
+
+-- how many payloads a burst has whose first message has this number, and then these
+abbrev pub burst_payloads_field : ℕ → List ℕ → Field
+burst_payloads_field first [] = Number (messages_rule first)
+burst_payloads_field first (count ∷ more) = payloads_field count 0 more
 
 -- so many pairs, whose places rise from `least` on, and then what stands behind them
 abbrev pub pairs_field : {A : Type 0} → Pairs A → (List ℕ → Field) → ℕ → ℕ → List ℕ → Field
@@ -117,17 +134,19 @@ pairs_field pairs behind (suc count) least [] = Number (pairs.first least)
 pairs_field pairs behind (suc count) least (distance ∷ []) = Number (pairs.second (least + distance))
 pairs_field pairs behind (suc count) least (distance ∷ n ∷ more) = pairs_field pairs behind count (pairs.next (least + distance) n) more
 
--- so many changes, and then a payload
-abbrev pub pair_field : ℕ → ℕ → ℕ → List ℕ → Field
-pair_field sender = pairs_field (change_pairs sender) payload_field
+-- the fields of a frame of casts: group, sender, number, count of pairs, the pairs, and what it carries
+abbrev pub carrying_field : (ℕ → List ℕ → Field) → List ℕ → Field
+carrying_field load [] = Number any_number
+carrying_field load (group ∷ []) = Number member_rule
+carrying_field load (group ∷ sender ∷ []) = Number message_rule
+carrying_field load (group ∷ sender ∷ number ∷ []) = Number any_number
+carrying_field load (group ∷ sender ∷ number ∷ count ∷ pairs) = pairs_field (change_pairs sender) (load number) count 0 pairs
 
--- the fields of a cast frame: group, sender, number, count of pairs, the pairs, length of the payload, payload
 abbrev pub cast_field : List ℕ → Field
-cast_field [] = Number any_number
-cast_field (group ∷ []) = Number member_rule
-cast_field (group ∷ sender ∷ []) = Number message_rule
-cast_field (group ∷ sender ∷ number ∷ []) = Number any_number
-cast_field (group ∷ sender ∷ number ∷ count ∷ pairs) = pair_field sender count 0 pairs
+cast_field = carrying_field (λ first. payload_field)
+
+abbrev pub burst_field : List ℕ → Field
+burst_field = carrying_field burst_payloads_field
 
 -- of a status: group, sender, count of pairs, the pairs
 abbrev pub status_field : List ℕ → Field
@@ -148,6 +167,7 @@ request_field (group ∷ requester ∷ asked ∷ count ∷ pairs) = pairs_field 
 abbrev pub kind_fields : ℕ → Option (List ℕ → Field)
 kind_fields kind =
     if kind == cast_kind then Some cast_field else
+    if kind == burst_kind then Some burst_field else
     if kind == status_kind then Some status_field else
     if kind == request_kind then Some request_field else None
 

@@ -1,25 +1,40 @@
 -- What a frame says, without where it lies in memory.
-use Rattle.std.specs.Prelude.{ℕ, ◌+◌, ◌-◌, List, [], ◌∷◌, ◌==◌, if◌then◌else◌}
-use Rattle.std.specs.List.{sum_by}
+use Rattle.std.specs.Prelude.{ℕ, ◌+◌, ◌-◌, ◌≤◌, length, List, [], ◌∷◌, ◌==◌, if◌then◌else◌}
+use Rattle.std.specs.List.{concat, sum_by}
 use Rattle.cb_frames.specs.declared.frame.Change.{Change}
 use Rattle.cb_frames.specs.declared.frame.Range.{Range}
 use Rattle.cb_frames.specs.declared.frame.Cast.{Cast}
+use Rattle.cb_frames.specs.declared.frame.Burst.{Burst}
+use Rattle.cb_frames.specs.declared.frame.Unit.{Unit as Carrying}
+use Rattle.cb_frames.specs.declared.frame.Unit.TheVariants as units
 use Rattle.cb_frames.specs.declared.frame.Status.{Status}
 use Rattle.cb_frames.specs.declared.frame.Request.{Request}
 use Rattle.cb_frames.specs.declared.frame.Frame.{Frame}
 use Rattle.cb_frames.specs.declared.frame.Frame.TheVariants as frames
 
--- what a cast frame carries: one payload
+-- what a cast frame carries: one payload, or those of a burst
 pub data Load : Type 0 where
   One : List ℕ → Load
+  Many : List (List ℕ) → Load
 
 -- its payloads, one for each message
 abbrev pub payloads_of : Load → List (List ℕ)
 payloads_of (One payload) = payload ∷ []
+payloads_of (Many payloads) = payloads
 
 -- the bytes of its payloads, one behind the other
 abbrev pub load_bytes : Load → List ℕ
 load_bytes (One payload) = payload
+load_bytes (Many payloads) = concat payloads
+
+-- it carries one payload
+abbrev pub IsOne : Load → Type 0
+IsOne (One payload) = Unit {0}
+IsOne (Many payloads) = ⊥
+
+-- it carries some payload
+abbrev pub IsSome : Load → Type 0
+IsSome load = 1 ≤ length (payloads_of load)
 
 pub record CastFields : Type 0 where
   pub group : ℕ
@@ -48,6 +63,13 @@ pub data FrameFields : Type 0 where
 abbrev pub cast_fields : Cast → CastFields
 cast_fields c = record { group = c.group; sender = c.sender; number = c.number; changes = c.changes.items; load = One c.payload }
 
+abbrev pub burst_fields : Burst → CastFields
+burst_fields b = record { group = b.group; sender = b.sender; number = b.first; changes = b.changes.items; load = Many b.payloads.items }
+
+abbrev pub unit_fields : Carrying → CastFields
+unit_fields (units.One c) = cast_fields c
+unit_fields (units.Many b) = burst_fields b
+
 abbrev pub status_fields : Status → StatusFields
 status_fields s = record { group = s.group; sender = s.sender; values = s.values.items }
 
@@ -56,6 +78,7 @@ request_fields r = record { group = r.group; requester = r.requester; asked = r.
 
 abbrev pub fields_of : Frame → FrameFields
 fields_of (frames.Cast c) = CastFrame (cast_fields c)
+fields_of (frames.Burst b) = CastFrame (burst_fields b)
 fields_of (frames.Status s) = StatusFrame (status_fields s)
 fields_of (frames.Request r) = RequestFrame (request_fields r)
 

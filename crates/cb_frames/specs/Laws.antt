@@ -17,7 +17,7 @@ NoneBeginsAnother = (f g : FrameFields) (bytes more : List ℕ) → IsText f byt
 abbrev pub OneText : Type 0
 OneText = (f : FrameFields) (bytes : List ℕ) → IsText f bytes → bytes ≡ text_of f
 
--- A frame has a text exactly where it keeps the rules, its load's among them, and its numbers are below 2 ^ 32.
+-- A frame has a text exactly where it keeps the rules, its load's among them, and the numbers of its fields are below 2 ^ 32.
 abbrev pub numbers_of : FrameFields → List ℕ
 numbers_of (CastFrame c) = cast_numbers c
 numbers_of (StatusFrame s) = status_numbers s

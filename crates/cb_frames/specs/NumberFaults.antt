@@ -23,5 +23,7 @@ as_stream_fault frames.ZeroNumber = streams.BadFrame frames.ZeroNumber
 as_stream_fault frames.ZeroDifference = streams.BadFrame frames.ZeroDifference
 as_stream_fault frames.OwnField = streams.BadFrame frames.OwnField
 as_stream_fault frames.BadRange = streams.BadFrame frames.BadRange
+as_stream_fault frames.EmptyBurst = streams.BadFrame frames.EmptyBurst
+as_stream_fault frames.BurstTooLong = streams.BadFrame frames.BurstTooLong
 as_stream_fault frames.PayloadTooLong = streams.BadFrame frames.PayloadTooLong
 as_stream_fault frames.Trailing = streams.BadFrame frames.Trailing

@@ -1,12 +1,17 @@
 -- What a frame says that was read, and what the code asks of changes and of values alike.
-use Rattle.std.specs.Prelude.{◌≡◌, ℕ, List, Option, Some, None, Vec}
+use Rattle.std.specs.Prelude.{◌≡◌, ◌≤◌, ℕ, List, length, map, Option, Some, None, Vec}
+use Rattle.std.specs.List.{All, slice_range}
 use Rattle.std.specs.Global.{Global}
 use Rattle.cb_frames.specs.declared.frame.Change.{Change}
+use Rattle.cb_frames.specs.declared.payloads.Place.{Place}
+use Rattle.cb_frames.specs.declared.reading.HeadParts.{HeadParts}
 use Rattle.cb_frames.specs.declared.reading.CastParts.{CastParts}
+use Rattle.cb_frames.specs.declared.reading.BurstParts.{BurstParts}
 use Rattle.cb_frames.specs.declared.reading.StatusParts.{StatusParts}
 use Rattle.cb_frames.specs.declared.reading.RequestParts.{RequestParts}
-use Rattle.cb_frames.specs.Fields.{One, CastFields, StatusFields, RequestFields}
+use Rattle.cb_frames.specs.Fields.{One, Many, CastFields, StatusFields, RequestFields}
 use Rattle.cb_frames.specs.Text.{AreChanges, AreValues}
+use Rattle.cb_frames.specs.Reading.{CastHead, carrying}
 use Rattle.cb_frames.specs.Fault.{Pairs, change_pairs, value_pairs}
 
 -- The list is the one that was read; there is none where there was no memory for it.
@@ -18,13 +23,32 @@ Lists (Some list) changes = list.items ≡ changes
 abbrev pub ListsBefore : Option (Vec Change Global) × List ℕ → List Change × List ℕ → Type 0
 ListsBefore x read = Lists x.0 read.0 × (x.1 ≡ read.1)
 
+-- The parts are those of the head.
+pub record IsHead (p : HeadParts) (h : CastHead) : Type 0 where
+  pub group : h.group ≡ p.group
+  pub sender : h.sender ≡ p.sender
+  pub number : h.number ≡ p.number
+  pub changes : Lists p.changes h.changes
+
+-- a head that was read, and the bytes behind it
+abbrev pub IsHeadBefore : HeadParts × List ℕ → CastHead × List ℕ → Type 0
+IsHeadBefore x read = IsHead x.0 read.0 × (x.1 ≡ read.1)
+
 -- The parts are those of the cast.
-pub record ArePartsOf (p : CastParts) (c : CastFields) : Type 0 where
-  pub group : c.group ≡ p.group
-  pub sender : c.sender ≡ p.sender
-  pub number : c.number ≡ p.number
-  pub changes : Lists p.changes c.changes
-  pub load : c.load ≡ One p.payload.now
+abbrev pub ArePartsOf : CastParts → CastFields → Type 0
+ArePartsOf p c = (head : CastHead) × IsHead p.head head × (c ≡ carrying head (One p.payload.now))
+
+-- a place within bytes, and what lies there
+abbrev pub IsPlaceIn : List ℕ → Place → Type 0
+IsPlaceIn bytes place = (place.start ≤ place.end) × (place.end ≤ length bytes)
+
+abbrev pub bytes_at_place : List ℕ → Place → List ℕ
+bytes_at_place bytes place = slice_range bytes place.start place.end
+
+-- The parts are those of the burst.
+abbrev pub AreBurstParts : BurstParts → CastFields → Type 0
+AreBurstParts p c = (head : CastHead) × IsHead p.head head × All (IsPlaceIn p.carried.now) p.places.items
+    × (c ≡ carrying head (Many (map (bytes_at_place p.carried.now) p.places.items)))
 
 -- The parts are those of the status.
 pub record AreStatusParts (p : StatusParts) (s : StatusFields) : Type 0 where

@@ -2,12 +2,13 @@
 use Rattle.std.specs.Prelude.{◌≡◌, ℕ, zero, suc, ◌+◌, List, [], ◌∷◌, ◌⊎◌, length, take, drop, Option, Some, None, Result, Ok, Err, nat_lt, ◌==◌, if◌then◌else◌}
 use Rattle.cb_varint.specs.declared.fault.NumberFault.{NumberFault}
 use Rattle.cb_varint.specs.Reading.{number_at as number_and_length}
+use Rattle.cb_frames.specs.declared.frame.Change.{Change}
 use Rattle.cb_frames.specs.declared.fault.FrameFault.{FrameFault}
 use Rattle.cb_frames.specs.declared.fault.FrameFault.TheVariants as faults
 use Rattle.cb_frames.specs.NumberFaults.{as_frame_fault}
-use Rattle.cb_frames.specs.Fields.{One, CastFields, StatusFields, RequestFields, FrameFields, CastFrame, StatusFrame, RequestFrame}
-use Rattle.cb_frames.specs.Text.{cast_kind, status_kind, request_kind}
-use Rattle.cb_frames.specs.Fault.{any_number, member_rule, message_rule, length_rule, ranges_rule, Pairs, change_pairs, value_pairs, range_pairs}
+use Rattle.cb_frames.specs.Fields.{Load, One, Many, CastFields, StatusFields, RequestFields, FrameFields, CastFrame, StatusFrame, RequestFrame}
+use Rattle.cb_frames.specs.Text.{cast_kind, burst_kind, status_kind, request_kind}
+use Rattle.cb_frames.specs.Fault.{any_number, member_rule, message_rule, messages_rule, length_rule, ranges_rule, Pairs, change_pairs, value_pairs, range_pairs}
 
 infixl 10 ◌>>=◌
 abbrev pub ◌>>=◌ : {A B : Type 0} → Result A FrameFault → (A → Result B FrameFault) → Result B FrameFault
@@ -61,16 +62,53 @@ payload_at n bytes = do
   end ← end_at run.1
   Ok run.0
 
-unfoldable pub cast_at : List ℕ → Result CastFields FrameFault
-cast_at bytes = do
+-- a payload behind its length, where those before have so many bytes
+unfoldable pub next_payload_at : ℕ → List ℕ → Result (List ℕ × List ℕ) FrameFault
+next_payload_at before bytes = do
+  length ← field_at (length_rule before) bytes
+  run_at length.0 length.1
+
+-- so many payloads
+unfoldable pub payloads_at : ℕ → ℕ → List ℕ → Result (List (List ℕ) × List ℕ) FrameFault
+payloads_at zero before bytes = Ok ([], bytes)
+payloads_at (suc count) before bytes = do
+  payload ← next_payload_at before bytes
+  others ← payloads_at count (before + length payload.0) payload.1
+  Ok (payload.0 ∷ others.0, others.1)
+
+-- what a frame of casts says before what it carries
+pub record CastHead : Type 0 where
+  pub group : ℕ
+  pub sender : ℕ
+  pub number : ℕ
+  pub changes : List Change
+
+abbrev pub carrying : CastHead → Load → CastFields
+carrying h load = record { group = h.group; sender = h.sender; number = h.number; changes = h.changes; load = load }
+
+unfoldable pub head_at : List ℕ → Result (CastHead × List ℕ) FrameFault
+head_at bytes = do
   group ← field_at any_number bytes
   sender ← field_at member_rule group.1
   number ← field_at message_rule sender.1
   count ← field_at any_number number.1
   changes ← pairs_at (change_pairs sender.0) count.0 0 count.1
-  length ← field_at (length_rule 0) changes.1
+  Ok (record { group = group.0; sender = sender.0; number = number.0; changes = changes.0 }, changes.1)
+
+unfoldable pub cast_at : List ℕ → Result CastFields FrameFault
+cast_at bytes = do
+  head ← head_at bytes
+  length ← field_at (length_rule 0) head.1
   payload ← payload_at length.0 length.1
-  Ok (record { group = group.0; sender = sender.0; number = number.0; changes = changes.0; load = One payload })
+  Ok (carrying head.0 (One payload))
+
+unfoldable pub burst_at : List ℕ → Result CastFields FrameFault
+burst_at bytes = do
+  head ← head_at bytes
+  count ← field_at (messages_rule head.0.number) head.1
+  payloads ← payloads_at count.0 0 count.1
+  end ← end_at payloads.1
+  Ok (carrying head.0 (Many payloads.0))
 
 unfoldable pub status_at : List ℕ → Result StatusFields FrameFault
 status_at bytes = do
@@ -95,6 +133,7 @@ unfoldable pub frame_at : List ℕ → Result FrameFields FrameFault
 frame_at [] = Err faults.Short
 frame_at (kind ∷ bytes) =
     if kind == cast_kind then (cast_at bytes >>= λ c. Ok (CastFrame c)) else
+    if kind == burst_kind then (burst_at bytes >>= λ c. Ok (CastFrame c)) else
     if kind == status_kind then (status_at bytes >>= λ s. Ok (StatusFrame s)) else
     if kind == request_kind then (request_at bytes >>= λ r. Ok (RequestFrame r)) else Err faults.UnknownKind
 

@@ -3,14 +3,21 @@ use Rattle.std.specs.Prelude.{◌≡◌, ◌≢◌, ℕ, ◌+◌, ◌-◌, ◌<�
 use Rattle.std.specs.List.{AllByRecursion, flat_map}
 use Rattle.cb_varint.specs.Spelling.{Spells}
 use Rattle.cb_varint.specs.Reading.{spelling}
-use Rattle.cb_frames.specs.declared.frame.TheConstants.{LAST_MEMBER, LAST_NUMBER, LONGEST_PAYLOAD, MOST_RANGES}
+use Rattle.cb_frames.specs.declared.frame.TheConstants.{LAST_MEMBER, LAST_NUMBER, LONGEST_PAYLOAD, MOST_MESSAGES, MOST_RANGES}
 use Rattle.cb_frames.specs.declared.frame.Change.{Change}
 use Rattle.cb_frames.specs.declared.frame.Range.{Range}
-use Rattle.cb_frames.specs.Fields.{Load, load_bytes, CastFields, StatusFields, RequestFields, FrameFields, CastFrame, StatusFrame, RequestFrame}
+use Rattle.cb_frames.specs.Fields.{Load, One, Many, load_bytes, CastFields, StatusFields, RequestFields, FrameFields, CastFrame, StatusFrame, RequestFrame}
 
--- the first byte of a cast frame
+-- the first byte of a cast frame that carries one payload, and of a burst
 abbrev pub cast_kind : ℕ
 cast_kind = 0x11
+
+abbrev pub burst_kind : ℕ
+burst_kind = 0x21
+
+abbrev pub kind_of : Load → ℕ
+kind_of (One payload) = cast_kind
+kind_of (Many payloads) = burst_kind
 
 -- of a status frame, and of a request
 abbrev pub status_kind : ℕ
@@ -43,9 +50,9 @@ abbrev pub ranges_from : ℕ → List Range → List ℕ
 ranges_from least [] = []
 ranges_from least (r ∷ ranges) = (r.first - least) ∷ (r.last - r.first) ∷ ranges_from (r.last + 2) ranges
 
--- the number fields of a cast frame, in order; the last one says how long what it carries is
+-- the number fields of a cast frame before what it carries, in order
 abbrev pub cast_numbers : CastFields → List ℕ
-cast_numbers c = c.group ∷ c.sender ∷ c.number ∷ length c.changes ∷ (pairs_from 0 c.changes ++ length (load_bytes c.load) ∷ [])
+cast_numbers c = c.group ∷ c.sender ∷ c.number ∷ length c.changes ∷ pairs_from 0 c.changes
 
 -- those of a status frame, and of a request
 abbrev pub status_numbers : StatusFields → List ℕ
@@ -65,11 +72,22 @@ pub record AreChanges (sender least : ℕ) (changes : List Change) : Type 0 wher
   pub rising : RisesFrom least changes
   pub each : AllByRecursion (IsChange sender) changes
 
--- the rules of a cast frame but for its load's
+-- a burst from this number on has some messages and not too many, and the last one has a number too
+pub record IsBurst (first : ℕ) (payloads : List (List ℕ)) : Type 0 where
+  pub some : 1 ≤ length payloads
+  pub few : length payloads ≤ MOST_MESSAGES
+  pub last : first + length payloads ≤ LAST_NUMBER + 1
+
+abbrev pub KeepsLoadRules : ℕ → Load → Type 0
+KeepsLoadRules first (One payload) = Unit {0}
+KeepsLoadRules first (Many payloads) = IsBurst first payloads
+
+-- the rules of a cast frame but for the bytes of its load
 pub record KeepsCastRules (c : CastFields) : Type 0 where
   pub sender : c.sender ≤ LAST_MEMBER
   pub number : 1 ≤ c.number
   pub changes : AreChanges c.sender 0 c.changes
+  pub load : KeepsLoadRules c.number c.load
 
 -- a field of a time that is not 0
 pub record IsValue (d : Change) : Type 0 where
@@ -125,15 +143,36 @@ HasLongPayload f = LONGEST_PAYLOAD < length (payload_bytes f)
 abbrev pub BreaksRule : FrameFields → Type 0
 BreaksRule f = (length (payload_bytes f) ≤ LONGEST_PAYLOAD) × ¬ KeepsRules f
 
+-- payloads, each behind its length
+abbrev pub ArePayloads : List (List ℕ) → List ℕ → Type 0
+ArePayloads [] text = text ≡ []
+ArePayloads (payload ∷ payloads) text = (size rest : List ℕ) × Spells size (length payload) × ArePayloads payloads rest × (text ≡ size ++ (payload ++ rest))
+
+-- payloads were appended, each behind its length
+abbrev pub AppendsPayloads : List ℕ → List ℕ → List (List ℕ) → Type 0
+AppendsPayloads old new payloads = (text : List ℕ) × ArePayloads payloads text × (new ≡ old ++ text)
+
+-- what a cast frame carries: the one payload, or the count of its payloads and these
+abbrev pub IsLoadText : Load → List ℕ → Type 0
+IsLoadText (One payload) text = ArePayloads (payload ∷ []) text
+IsLoadText (Many payloads) text = (count rest : List ℕ) × Spells count (length payloads) × ArePayloads payloads rest × (text ≡ count ++ rest)
+
 -- the bytes are the frame's: its kind, the spellings of its number fields in order, and what it carries
 abbrev pub IsText : FrameFields → List ℕ → Type 0
 IsText (CastFrame c) bytes = KeepsCastRules c × IsLoad c.load
-    × ((numbers : List ℕ) × SpellAll (cast_numbers c) numbers × (bytes ≡ cast_kind ∷ numbers ++ load_bytes c.load))
+    × ((numbers carried : List ℕ) × SpellAll (cast_numbers c) numbers × IsLoadText c.load carried × (bytes ≡ kind_of c.load ∷ numbers ++ carried))
 IsText (StatusFrame s) bytes = KeepsStatusRules s × ((numbers : List ℕ) × SpellAll (status_numbers s) numbers × (bytes ≡ status_kind ∷ numbers))
 IsText (RequestFrame r) bytes = KeepsRequestRules r × ((numbers : List ℕ) × SpellAll (request_numbers r) numbers × (bytes ≡ request_kind ∷ numbers))
 
 -- the same bytes as a function, for the layers above: what has a text has this one
+abbrev pub payload_text : List ℕ → List ℕ
+payload_text payload = spelling (length payload) ++ payload
+
+abbrev pub load_text : Load → List ℕ
+load_text (One payload) = payload_text payload
+load_text (Many payloads) = spelling (length payloads) ++ flat_map payload_text payloads
+
 unfoldable pub text_of : FrameFields → List ℕ
-text_of (CastFrame c) = cast_kind ∷ flat_map spelling (cast_numbers c) ++ load_bytes c.load
+text_of (CastFrame c) = kind_of c.load ∷ flat_map spelling (cast_numbers c) ++ load_text c.load
 text_of (StatusFrame s) = status_kind ∷ flat_map spelling (status_numbers s)
 text_of (RequestFrame r) = request_kind ∷ flat_map spelling (request_numbers r)

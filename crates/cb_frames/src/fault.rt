@@ -33,7 +33,11 @@ pub enum FrameFault {
     OwnField,
     /// A count of ranges is not 1 to 32, or a range passes 4,294,967,295.
     BadRange,
-    /// The length of the payload is above 1,024 bytes.
+    /// A burst has no payload.
+    EmptyBurst,
+    /// A burst has more than 32 payloads, or its last message a number above 4,294,967,295.
+    BurstTooLong,
+    /// The lengths of the payloads are above 1,024 bytes together.
     PayloadTooLong,
     /// Bytes follow the last field.
     Trailing,
@@ -55,7 +59,7 @@ pub enum StreamFault {
 /// Why a value has no text, or could not be written.
 #[derive(Clone, Copy, Debug, PartialEq, Eq, Hash)]
 pub enum EncodeFault {
-    /// The payload has more than 1,024 bytes.
+    /// The payloads have more than 1,024 bytes.
     PayloadTooLong,
     /// Another rule of frames is broken.
     BadField,
@@ -140,6 +144,8 @@ impl fmt::Display for FrameFault {
             FrameFault::ZeroDifference => "ZeroDifference",
             FrameFault::OwnField => "OwnField",
             FrameFault::BadRange => "BadRange",
+            FrameFault::EmptyBurst => "EmptyBurst",
+            FrameFault::BurstTooLong => "BurstTooLong",
             FrameFault::PayloadTooLong => "PayloadTooLong",
             FrameFault::Trailing => "Trailing",
             FrameFault::NoMemory => "NoMemory",

@@ -12,11 +12,15 @@ pub const LAST_MEMBER: u32 = 63;
 /// The greatest number of a message.
 pub const LAST_NUMBER: u32 = 4_294_967_295;
 
-/// The most bytes of a payload.
+/// The most bytes of a payload, and of the payloads of a burst together.
 pub const LONGEST_PAYLOAD: usize = 1024;
 
-/// The most bytes of a frame: those of a cast with 63 changes and the longest payload, each of its numbers as long as it can be.
-pub const LONGEST_FRAME: usize = 1417;
+/// The most messages of a burst.
+pub const MOST_MESSAGES: usize = 32;
+
+/// The most bytes of a frame: those of a burst with 63 changes and 32 payloads of 1,024 bytes together, of which 8 have lengths of
+/// two bytes, each of its other numbers as long as it can be.
+pub const LONGEST_FRAME: usize = 1456;
 
 /// The most ranges of a request.
 pub const MOST_RANGES: usize = 32;
@@ -69,6 +73,29 @@ impl Cast {
     }
 }
 
+/// Several messages that a member broadcast in one step, on the wire: they share one list of changes.
+#[derive(Debug, PartialEq, Eq, Drop)]
+pub struct Burst {
+    /// The number of the group.
+    pub group: u32,
+    /// Who casts, 0 to 63.
+    pub sender: u32,
+    /// The number of the first message, from 1. The others have those that follow.
+    pub first: u32,
+    /// How the other fields of the sender's time had grown before the first message, as in a `Cast`. Between the messages
+    /// nothing but the number grows.
+    pub changes: Vec<Change>,
+    /// What the application sends, 1 to 32 payloads in the order of their numbers, at most 1,024 bytes together.
+    pub payloads: Vec<Bytes>,
+}
+
+/// What carries messages: one, or several.
+#[derive(Debug, PartialEq, Eq, Drop)]
+pub enum Unit {
+    One(Cast),
+    Many(Burst),
+}
+
 /// What a member has delivered, sent to all others.
 #[derive(Debug, PartialEq, Eq, Drop)]
 pub struct Status {
@@ -97,6 +124,7 @@ pub struct Request {
 #[derive(Debug, PartialEq, Eq, Drop)]
 pub enum Frame {
     Cast(Cast),
+    Burst(Burst),
     Status(Status),
     Request(Request),
 }

@@ -1,7 +1,7 @@
 //! The laws of texts and faults, as contracts of functions that do nothing.
 
 ghost use Rattle.cb_frames.specs.Laws.{NoneBeginsAnother, OneText, SomeText, OneFault, TextHasNoFault, EachIsTextOrFault, ReadingIsExact, ReadingNeedsNoMemory};
-ghost use Rattle.cb_frames.specs.Carrying.{FirstIsTheNumber, CarriedInOrder, CarriedUpToTheLast, CarriesSome, CarriesNoMore};
+ghost use Rattle.cb_frames.specs.Carrying.{FirstIsTheNumber, CarriedInOrder, CarriedUpToTheLast, CarriesSome, CarriesNoMore, CarriesFew};
 ghost use Rattle.cb_frames.specs.StreamLaws.{LongestFrame, FrontIsExact, MoreChangesNothing, OneSplit, CutsChangeNothing};
 
 /// Two frames never share a text, and the text of one never begins that of another. `text_of` names the text, which exists exactly
@@ -22,13 +22,15 @@ pub fn each_is_a_text_or_a_fault()
     ensures memory { ReadingNeedsNoMemory }
 {}
 
-/// The messages of a cast are of its sender, and numbered one after another from its first number to its last. There is one.
+/// The messages of a cast or a burst are of its sender, and numbered one after another from its first number to its last. There is
+/// one of a cast, and of a burst that keeps the rules there are 1 to 32.
 pub fn messages_are_numbered()
     ensures number { FirstIsTheNumber }
     ensures order { CarriedInOrder }
     ensures last { CarriedUpToTheLast }
     ensures some { CarriesSome }
     ensures alone { CarriesNoMore }
+    ensures few { CarriesFew }
 {}
 
 /// At the front of a stream stands just one of a frame behind its length, less than that, and something that is neither; and what was

@@ -1,6 +1,7 @@
 //! The frames of the protocol as values and as bytes: each frame has one text, and no frame's text begins another's.
 //!
-//! Stands on `cb_varint`, whose numbers are the fields, and on `bytes`. Version 1 has three kinds of frames: a cast, a status and a request.
+//! Stands on `cb_varint`, whose numbers are the fields, and on `bytes`. There are four kinds of frames: a cast, a burst of casts, a status
+//! and a request.
 #![tactic(auto)]
 
 mod block;
@@ -9,6 +10,7 @@ mod frame;
 mod laws;
 mod numbers;
 mod pairs;
+mod payloads;
 mod reading;
 mod stream;
 mod writing;
@@ -16,8 +18,8 @@ mod writing;
 pub use block::FrameBlock;
 pub use fault::{EncodeFault, FrameFault, StreamFault};
 pub use frame::{
-    Cast, Change, Frame, LAST_MEMBER, LAST_NUMBER, LONGEST_FRAME, LONGEST_PAYLOAD, MOST_FRAMES,
-    MOST_RANGES, Range, Request, Status,
+    Burst, Cast, Change, Frame, LAST_MEMBER, LAST_NUMBER, LONGEST_FRAME, LONGEST_PAYLOAD,
+    MOST_FRAMES, MOST_MESSAGES, MOST_RANGES, Range, Request, Status, Unit,
 };
 pub use laws::{
     a_stream_begins_with_one_thing, each_is_a_text_or_a_fault, messages_are_numbered, one_split,

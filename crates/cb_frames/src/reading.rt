@@ -2,25 +2,34 @@
 //!
 //! A fault of the bytes is answered even out of memory.
 
-ghost use Rattle.std.specs.Prelude.{◌≡◌, ◌≤◌, ◌++◌, [], List, ℕ, IfErr, IfOk, MatchResult};
+ghost use Rattle.std.specs.Prelude.{◌≡◌, ◌≤◌, ◌++◌, ◌∷◌, [], List, ℕ, IfErr, IfOk, MatchResult};
+ghost use Rattle.std.specs.List.{All};
 ghost use Rattle.cb_frames.specs.declared.fault.FrameFault.{FrameFault as Fault};
-ghost use Rattle.cb_frames.specs.Fields.{CastFields, FrameFields, StatusFields, fields_of, cast_fields, status_fields, request_fields};
+ghost use Rattle.cb_frames.specs.Fields.{CastFields, FrameFields, StatusFields, fields_of, cast_fields, burst_fields, status_fields, request_fields};
 ghost use Rattle.cb_frames.specs.Text.{IsText};
 ghost use Rattle.cb_frames.specs.Fault.{FirstFault};
-ghost use Rattle.cb_frames.specs.Reading.{Answers, AnswersAs, Gives, payload_at, end_at, cast_at, status_at, request_at, frame_at};
+ghost use Rattle.cb_frames.specs.Reading.{Answers, AnswersAs, Gives, payload_at, end_at, head_at, cast_at, burst_at, status_at, request_at, frame_at};
 ghost use Rattle.cb_frames.specs.Laws.{IsBytes, MayFail};
-ghost use Rattle.cb_frames.specs.Parts.{ArePartsOf, AreStatusParts, request_parts_fields};
+ghost use Rattle.cb_frames.specs.Parts.{IsHeadBefore, IsPlaceIn, ArePartsOf, AreBurstParts, AreStatusParts, request_parts_fields};
 
 use crate::fault::FrameFault;
-use crate::frame::{Cast, Change, Frame, MOST_RANGES, Range, Request, Status};
-use crate::numbers::{count_of_ranges, member, message_number, number, payload_length};
+use crate::frame::{
+    Burst, Cast, Change, Frame, MOST_MESSAGES, MOST_RANGES, Range, Request, Status,
+};
+use crate::numbers::{
+    count_of_messages, count_of_ranges, member, message_number, number, payload_length,
+};
 use crate::pairs::{all_changes, all_ranges};
+use crate::payloads::{Place, places_of_payloads, shared_payloads};
 use arrayvec::ArrayVec;
 use bytes::Bytes;
-use std::alloc::Global;
+use std::alloc::{AllocError, Global};
 
 /// The first byte of a cast frame.
 pub const CAST: u8 = 0x11;
+
+/// The first byte of a burst frame.
+pub const BURST: u8 = 0x21;
 
 /// The first byte of a status frame.
 pub const STATUS: u8 = 0x12;
@@ -28,14 +37,29 @@ pub const STATUS: u8 = 0x12;
 /// The first byte of a request.
 pub const REQUEST: u8 = 0x13;
 
-/// A cast frame that was read; out of memory without its changes.
+/// What a cast or a burst says before what it carries; out of memory without its changes.
 #[derive(Drop)]
-struct CastParts<'a> {
+struct HeadParts {
     group: u32,
     sender: u32,
     number: u32,
     changes: Option<Vec<Change>>,
+}
+
+/// A cast frame that was read.
+#[derive(Drop)]
+struct CastParts<'a> {
+    head: HeadParts,
     payload: &'a [u8],
+}
+
+/// A burst frame that was read.
+#[derive(Drop)]
+struct BurstParts<'a> {
+    head: HeadParts,
+    /// Where the payloads lie in the bytes behind their count, which are these.
+    places: ArrayVec<Place, MOST_MESSAGES>,
+    carried: &'a [u8],
 }
 
 /// A status frame that was read; out of memory without its values.
@@ -78,23 +102,49 @@ fn end(bytes: &[u8]) -> Result<(), FrameFault>
     }
 }
 
-#[tactic(auto, unfolding(crate::specs::Reading::cast_at))]
-fn cast_parts(alloc: Global, bytes: &[u8]) -> Result<CastParts<'_>, FrameFault>
-    ensures { AnswersAs ArePartsOf result (cast_at bytes.now) }
+#[inline(always)]
+#[tactic(auto, unfolding(crate::specs::Reading::head_at))]
+fn head_parts(alloc: Global, bytes: &[u8]) -> Result<(HeadParts, &[u8]), FrameFault>
+    ensures { AnswersAs (λ x. IsHeadBefore (x.0, x.1.now)) result (head_at bytes.now) }
 {
     let (group, rest) = number(bytes)?;
     let (sender, rest) = member(rest)?;
     let (message, rest) = message_number(rest)?;
     let (count, rest) = number(rest)?;
     let (changes, rest) = all_changes(alloc, Some(sender), count, rest)?;
-    let (length, rest) = payload_length(rest)?;
-    let payload = whole_payload(length, rest)?;
-    Ok(CastParts {
+    let head = HeadParts {
         group,
         sender,
         number: message,
         changes,
-        payload,
+    };
+    Ok((head, rest))
+}
+
+#[tactic(auto, unfolding(crate::specs::Reading::cast_at))]
+fn cast_parts(alloc: Global, bytes: &[u8]) -> Result<CastParts<'_>, FrameFault>
+    ensures { AnswersAs ArePartsOf result (cast_at bytes.now) }
+{
+    let (head, rest) = head_parts(alloc, bytes)?;
+    let (length, rest) = payload_length(0, rest)?;
+    let payload = whole_payload(length, rest)?;
+    Ok(CastParts { head, payload })
+}
+
+#[tactic(auto, unfolding(crate::specs::Reading::burst_at))]
+fn burst_parts(alloc: Global, bytes: &[u8]) -> Result<BurstParts<'_>, FrameFault>
+    ensures parts { AnswersAs AreBurstParts result (burst_at bytes.now) }
+    ensures end { IfOk result (λ parts.
+        (front : List ℕ) × (bytes.now ≡ front ++ parts.carried.now)) }
+{
+    let (head, rest) = head_parts(alloc, bytes)?;
+    let (count, carried) = count_of_messages(head.number, rest)?;
+    let (places, rest) = places_of_payloads(count, carried)?;
+    end(rest)?;
+    Ok(BurstParts {
+        head,
+        places,
+        carried,
     })
 }
 
@@ -132,19 +182,27 @@ fn request_parts(bytes: &[u8]) -> Result<RequestParts, FrameFault>
     })
 }
 
+/// A share of the end of the bytes, which is this.
+fn shared_end(bytes: &Bytes, end: &[u8]) -> Result<Bytes, AllocError>
+    requires { (front : List ℕ) × (bytes.now ≡ front ++ end.now) }
+    ensures { IfOk result (λ share. share ≡ end.now) }
+{
+    bytes.slice(bytes.len() - end.len()..)
+}
+
 /// The cast of these parts. The payload is the end of the bytes that it was read from, and shares them by design.
 fn cast(bytes: &Bytes, parts: CastParts<'_>) -> Result<Cast, FrameFault>
     requires { (front : List ℕ) × (bytes.now ≡ front ++ parts.payload.now) }
     ensures { (c : CastFields) → ArePartsOf parts.entry c → MatchResult result
         (λ cast. cast_fields cast ≡ c) (λ fault. fault ≡ FrameFault.NoMemory) }
 {
-    let CastParts {
+    let CastParts { head, payload } = parts;
+    let HeadParts {
         group,
         sender,
         number,
         changes,
-        payload,
-    } = parts;
+    } = head;
     let Some(changes) = changes else {
         return Err(FrameFault::NoMemory);
     };
@@ -153,7 +211,38 @@ fn cast(bytes: &Bytes, parts: CastParts<'_>) -> Result<Cast, FrameFault>
         sender,
         number,
         changes,
-        payload: bytes.slice(bytes.len() - payload.len()..)?,
+        payload: shared_end(bytes, payload)?,
+    })
+}
+
+/// The burst of these parts. Its payloads share the bytes that it was read from, at the end of which they lie, by design.
+fn burst(alloc: Global, bytes: &Bytes, parts: BurstParts<'_>) -> Result<Burst, FrameFault>
+    requires end { (front : List ℕ) × (bytes.now ≡ front ++ parts.carried.now) }
+    requires places { All (IsPlaceIn parts.carried.now) parts.places.items }
+    ensures { (c : CastFields) → AreBurstParts parts.entry c → MatchResult result
+        (λ burst. burst_fields burst ≡ c) (λ fault. fault ≡ FrameFault.NoMemory) }
+{
+    let BurstParts {
+        head,
+        places,
+        carried,
+    } = parts;
+    let HeadParts {
+        group,
+        sender,
+        number,
+        changes,
+    } = head;
+    let Some(changes) = changes else {
+        return Err(FrameFault::NoMemory);
+    };
+    let carried = shared_end(bytes, carried)?;
+    Ok(Burst {
+        group,
+        sender,
+        first: number,
+        changes,
+        payloads: shared_payloads(alloc, &carried, places.as_slice())?,
     })
 }
 
@@ -199,6 +288,27 @@ fn read_request(alloc: Global, fields: &[u8]) -> Result<Request, FrameFault>
     request(alloc, &parts)
 }
 
+/// The cast of these fields, which are all of the bytes but the first one.
+#[inline(always)]
+fn read_cast(alloc: Global, bytes: &Bytes, fields: &[u8]) -> Result<Cast, FrameFault>
+    requires { (kind : ℕ) × (bytes.now ≡ kind ∷ fields.now) }
+    ensures { Gives cast_fields result (cast_at fields.now) }
+{
+    let parts = cast_parts(alloc, fields)?;
+    cast(bytes, parts)
+}
+
+/// The burst of these fields, which are all of the bytes but the first one. Out of line, so that the room for its places is not
+/// cleared for other frames too.
+#[inline(never)]
+fn read_burst(alloc: Global, bytes: &Bytes, fields: &[u8]) -> Result<Burst, FrameFault>
+    requires { (kind : ℕ) × (bytes.now ≡ kind ∷ fields.now) }
+    ensures { Gives burst_fields result (burst_at fields.now) }
+{
+    let parts = burst_parts(alloc, fields)?;
+    burst(alloc, bytes, parts)
+}
+
 /// `text` is what `bytes` has: a slice, whose elements are known to be bytes.
 #[tactic(auto, unfolding(crate::specs::Reading::frame_at))]
 fn frame(alloc: Global, bytes: &Bytes, text: &[u8]) -> Result<Frame, FrameFault>
@@ -208,10 +318,8 @@ fn frame(alloc: Global, bytes: &Bytes, text: &[u8]) -> Result<Frame, FrameFault>
 {
     match text.split_first() {
         None => Err(FrameFault::Short),
-        Some((&CAST, fields)) => {
-            let parts = cast_parts(alloc, fields)?;
-            Ok(Frame::Cast(cast(bytes, parts)?))
-        }
+        Some((&CAST, fields)) => Ok(Frame::Cast(read_cast(alloc, bytes, fields)?)),
+        Some((&BURST, fields)) => Ok(Frame::Burst(read_burst(alloc, bytes, fields)?)),
         Some((&STATUS, fields)) => {
             let parts = status_parts(alloc, fields)?;
             Ok(Frame::Status(status(parts)?))

@@ -1,17 +1,19 @@
 //! Frames to bytes.
 
 ghost use Rattle.std.specs.Prelude.{◌≡◌, ◌≤◌, ◌<◌, ◌+◌, ◌++◌, ◌↔◌, ◌⊎◌, [], ◌∷◌, List, ℕ, length, Option, IsTrue, IfOk, OnOk, MatchResult};
+ghost use Rattle.std.specs.List.{concat};
 ghost use Rattle.cb_varint.specs.Spelling.{Spells};
-ghost use Rattle.cb_frames.specs.Fields.{One, FrameFields, CastFrame, StatusFrame, RequestFrame, fields_of, cast_fields, status_fields, request_fields};
-ghost use Rattle.cb_frames.specs.Text.{SpellAll, AppendsNumbers, HasLongPayload, BreaksRule, pairs_from, ranges_from, cast_numbers, status_numbers, request_numbers, AreRanges, KeepsCastRules, KeepsStatusRules, KeepsRequestRules, KeepsRules, payload_bytes, with_load, IsText, text_of};
+ghost use Rattle.cb_frames.specs.Fields.{One, FrameFields, CastFrame, StatusFrame, RequestFrame, fields_of, cast_fields, burst_fields, status_fields, request_fields};
+ghost use Rattle.cb_frames.specs.Text.{SpellAll, AppendsNumbers, AppendsPayloads, IsBurst, IsLoad, HasLongPayload, BreaksRule, pairs_from, ranges_from, cast_numbers, status_numbers, request_numbers, AreRanges, KeepsCastRules, KeepsStatusRules, KeepsRequestRules, KeepsRules, payload_bytes, with_load, IsText, text_of};
 ghost use Rattle.cb_frames.specs.Parts.{AreChangesBut};
 
 use crate::fault::EncodeFault;
 use crate::frame::{
-    Cast, Change, Frame, LAST_MEMBER, LONGEST_PAYLOAD, MOST_RANGES, Range, Request, Status,
+    Burst, Cast, Change, Frame, LAST_MEMBER, LAST_NUMBER, LONGEST_PAYLOAD, MOST_MESSAGES,
+    MOST_RANGES, Range, Request, Status,
 };
 use crate::laws::one_text;
-use crate::reading::{CAST, REQUEST, STATUS};
+use crate::reading::{BURST, CAST, REQUEST, STATUS};
 use bytes::Bytes;
 use std::alloc::{AllocError, Global};
 
@@ -50,6 +52,25 @@ fn keeps_cast_rules(cast: &Cast) -> bool
     cast.sender <= LAST_MEMBER && cast.number != 0 && are_changes(Some(cast.sender), &cast.changes)
 }
 
+/// Some messages and not too many, and a number for each of them.
+fn has_numbers(burst: &Burst) -> bool
+    ensures { IsTrue result ↔ IsBurst burst.now.first burst.now.payloads.items }
+{
+    let count = burst.payloads.len();
+    count != 0
+        && count <= MOST_MESSAGES
+        && u64::from(burst.first) + count as u64 <= u64::from(LAST_NUMBER) + 1
+}
+
+fn keeps_burst_rules(burst: &Burst) -> bool
+    ensures { IsTrue result ↔ KeepsCastRules (burst_fields burst.now) }
+{
+    burst.sender <= LAST_MEMBER
+        && burst.first != 0
+        && are_changes(Some(burst.sender), &burst.changes)
+        && has_numbers(burst)
+}
+
 fn keeps_status_rules(status: &Status) -> bool
     ensures { IsTrue result ↔ KeepsStatusRules (status_fields status.now) }
 {
@@ -72,6 +93,7 @@ fn keeps_rules(frame: &Frame) -> bool
 {
     match frame {
         Frame::Cast(cast) => keeps_cast_rules(cast),
+        Frame::Burst(burst) => keeps_burst_rules(burst),
         Frame::Status(status) => keeps_status_rules(status),
         Frame::Request(request) => keeps_request_rules(request),
     }
@@ -103,18 +125,48 @@ fn put_ranges(out: &mut Vec<u8>, ranges: &[Range]) -> Result<(), AllocError>
     Ok(())
 }
 
-fn put_cast(out: &mut Vec<u8>, cast: &Cast, payload: &[u8]) -> Result<(), AllocError>
-    requires rules { KeepsCastRules (cast_fields cast.now) }
-    requires payload { length payload.now ≤ LONGEST_PAYLOAD }
+/// The number fields of a cast.
+fn put_cast(out: &mut Vec<u8>, cast: &Cast) -> Result<(), AllocError>
+    requires { KeepsCastRules (cast_fields cast.now) }
     ensures { OnOk result (AppendsNumbers out.old.items out.new.items
-        (cast_numbers (with_load (cast_fields cast.now) (One payload.now)))) }
+        (cast_numbers (cast_fields cast.now))) }
 {
     cb_varint::put(cast.group, out)?;
     cb_varint::put(cast.sender, out)?;
     cb_varint::put(cast.number, out)?;
     cb_varint::put(cast.changes.len() as u32, out)?;
-    put_changes(out, &cast.changes)?;
-    cb_varint::put(payload.len() as u32, out)
+    put_changes(out, &cast.changes)
+}
+
+/// The number fields of a burst before its payloads.
+fn put_burst(out: &mut Vec<u8>, burst: &Burst) -> Result<(), AllocError>
+    requires { KeepsCastRules (burst_fields burst.now) }
+    ensures { OnOk result (AppendsNumbers out.old.items out.new.items
+        (cast_numbers (burst_fields burst.now))) }
+{
+    cb_varint::put(burst.group, out)?;
+    cb_varint::put(burst.sender, out)?;
+    cb_varint::put(burst.first, out)?;
+    cb_varint::put(burst.changes.len() as u32, out)?;
+    put_changes(out, &burst.changes)
+}
+
+fn put_payload(out: &mut Vec<u8>, payload: &[u8]) -> Result<(), AllocError>
+    requires { length payload.now ≤ LONGEST_PAYLOAD }
+    ensures { OnOk result (AppendsPayloads out.old.items out.new.items (payload.now ∷ [])) }
+{
+    cb_varint::put(payload.len() as u32, out)?;
+    out.extend_from_slice(payload)
+}
+
+fn put_payloads(out: &mut Vec<u8>, payloads: &[Bytes]) -> Result<(), AllocError>
+    requires { length (concat payloads.now) ≤ LONGEST_PAYLOAD }
+    ensures { OnOk result (AppendsPayloads out.old.items out.new.items payloads.now) }
+{
+    for payload in payloads {
+        put_payload(out, payload.as_slice())?;
+    }
+    Ok(())
 }
 
 fn put_status(out: &mut Vec<u8>, status: &Status) -> Result<(), AllocError>
@@ -140,7 +192,8 @@ fn put_request(out: &mut Vec<u8>, request: &Request) -> Result<(), AllocError>
     put_ranges(out, &request.ranges)
 }
 
-/// What a text has at most beside its group, the number of a cast, its changes and its payload: the kind, numbers of members and counts.
+/// What a text has at most beside its group, the number of a cast, its changes and its payloads: the kind, numbers of members, counts,
+/// and the length of the one payload.
 const SMALL_FIELDS: usize = 6;
 
 /// Room for pairs of a gap, which has one byte, and an amount.
@@ -184,8 +237,42 @@ fn put_cast_text(out: &mut Vec<u8>, cast: &Cast, payload: &[u8]) -> Result<(), A
         (CastFrame (with_load (cast_fields cast.now) (One payload.now))) out.new.items) }
 {
     out.push(CAST)?;
-    put_cast(out, cast, payload)?;
-    out.extend_from_slice(payload)
+    put_cast(out, cast)?;
+    put_payload(out, payload)
+}
+
+/// A length of a payload has one byte or two.
+const MOST_OF_LENGTH: usize = 2;
+
+/// Room for payloads, each with its length.
+fn room_for_payloads(payloads: &[Bytes]) -> usize {
+    let mut room: usize = 0;
+    for payload in payloads {
+        room = room
+            .saturating_add(payload.len())
+            .saturating_add(MOST_OF_LENGTH);
+    }
+    room
+}
+
+/// The text of a burst that keeps the rules.
+fn burst_text(alloc: Global, burst: &Burst) -> Result<Vec<u8>, AllocError>
+    requires rules { KeepsCastRules (burst_fields burst.now) }
+    requires payloads { IsLoad (burst_fields burst.now).load }
+    ensures { IfOk result (λ bytes.
+        IsText (CastFrame (burst_fields burst.now)) bytes.items) }
+{
+    let room = SMALL_FIELDS
+        .saturating_add(cb_varint::length(burst.group))
+        .saturating_add(cb_varint::length(burst.first))
+        .saturating_add(room_for_changes(&burst.changes))
+        .saturating_add(room_for_payloads(&burst.payloads));
+    let mut out = Vec::with_capacity(alloc, room)?;
+    out.push(BURST)?;
+    put_burst(&mut out, burst)?;
+    cb_varint::put(burst.payloads.len() as u32, &mut out)?;
+    put_payloads(&mut out, &burst.payloads)?;
+    Ok(out)
 }
 
 /// The text of a status that keeps the rules.
@@ -222,17 +309,33 @@ fn text(alloc: Global, frame: &Frame) -> Result<Vec<u8>, AllocError>
 {
     match frame {
         Frame::Cast(cast) => cast_text(alloc, cast, cast.payload.as_slice()),
+        Frame::Burst(burst) => burst_text(alloc, burst),
         Frame::Status(status) => status_text(alloc, status),
         Frame::Request(request) => request_text(alloc, request),
     }
 }
 
-/// The payload of a cast; no other frame has one.
+/// Together they have no more bytes than a frame may carry.
+fn are_short(payloads: &[Bytes]) -> bool
+    ensures { IsTrue result ↔ (length (concat payloads.now) ≤ LONGEST_PAYLOAD) }
+{
+    let mut room = LONGEST_PAYLOAD;
+    for payload in payloads {
+        if payload.len() > room {
+            return false;
+        }
+        room -= payload.len();
+    }
+    true
+}
+
+/// The payloads of a cast or a burst; no other frame has any.
 fn has_long_payload(frame: &Frame) -> bool
     ensures { IsTrue result ↔ HasLongPayload (fields_of frame.now) }
 {
     match frame {
         Frame::Cast(cast) => cast.payload.len() > LONGEST_PAYLOAD,
+        Frame::Burst(burst) => !are_short(&burst.payloads),
         Frame::Status(_) | Frame::Request(_) => false,
     }
 }
@@ -275,7 +378,7 @@ pub fn encode(alloc: Global, frame: &Frame) -> Result<Bytes, EncodeFault>
     Ok(Bytes::from_vec(text(alloc, frame)?)?)
 }
 
-/// The text of a frame that keeps the rules and whose payload is not too long, so that only memory can be wanting.
+/// The text of a frame that keeps the rules and whose payloads are not too long, so that only memory can be wanting.
 pub fn frame_text(alloc: Global, frame: &Frame) -> Result<Bytes, AllocError>
     requires rules { KeepsRules (fields_of frame.now) }
     requires payload { length (payload_bytes (fields_of frame.now)) ≤ LONGEST_PAYLOAD }
@@ -285,7 +388,7 @@ pub fn frame_text(alloc: Global, frame: &Frame) -> Result<Bytes, AllocError>
     match encode(alloc, frame) {
         Ok(bytes) => Ok(bytes),
         Err(EncodeFault::NoMemory) => Err(AllocError),
-        Err(EncodeFault::PayloadTooLong) => unreachable!("the payload is not too long"),
+        Err(EncodeFault::PayloadTooLong) => unreachable!("the payloads are not too long"),
         Err(EncodeFault::BadField) => unreachable!("the frame keeps the rules"),
     }
 }

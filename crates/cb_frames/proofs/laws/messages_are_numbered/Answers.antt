@@ -1,4 +1,4 @@
-use Rattle.cb_frames.proofs.Carried.{first_is_number, carried_in_order, carried_up_to_the_last, carries_some, carries_no_more}
+use Rattle.cb_frames.proofs.Carried.{first_is_number, carried_in_order, carried_up_to_the_last, carries_some, carries_no_more, carries_few}
 use Rattle.cb_frames.proofs.laws.messages_are_numbered.Goals as goal
 
 pub returns-clause-number : goal.returns-clause-number
@@ -15,3 +15,6 @@ returns-clause-some c = carries_some
 
 pub returns-clause-alone : goal.returns-clause-alone
 returns-clause-alone c = carries_no_more
+
+pub returns-clause-few : goal.returns-clause-few
+returns-clause-few c = carries_few
