@@ -1,7 +1,7 @@
 /*
  * The run of crates/bench_member through the library for C: a whole group in one thread, each member in its turn takes all that the
  * others sent, and casts. Prints the same: how many messages were delivered, and a digest of their names and times. Words: SIZE WINDOW
- * PAYLOAD CASTS. Nothing is lost. What was sent to a member is one buffer, which it loads at once.
+ * PAYLOAD CASTS. Nothing is lost. What was sent to a member is one buffer, which it loads at once, and whose parts it takes in one call.
  */
 #include <inttypes.h>
 #include <stdio.h>
@@ -88,20 +88,29 @@ static size_t count_frames(uint32_t me)
     return counts.frames;
 }
 
-static void mix(uint32_t low, uint32_t high)
+static uint64_t mixed(uint64_t to, uint64_t word)
 {
-    digest = (digest ^ (low | (uint64_t)high << 32)) * 0x100000001b3u;
+    return (to ^ word) * 0x100000001b3u;
 }
 
+static uint64_t word_of(uint32_t low, uint32_t high)
+{
+    return low | (uint64_t)high << 32;
+}
+
+/* Two numbers of the time are one word, which is read at once, as by the other programs. */
 static void tally(uint32_t me, const jolunza_event_head *head, const uint32_t *time)
 {
+    uint64_t to = mixed(mixed(digest, word_of(me, head->sender)), head->number);
+
     deliveries++;
-    mix(me, head->sender);
-    mix(head->number, 0);
-    for (uint32_t i = 0; i + 1 < size; i += 2)
-        mix(time[i], time[i + 1]);
-    if (size % 2 == 1)
-        mix(time[size - 1], 0);
+    for (const uint32_t *end = time + size / 2 * 2; time < end; time += 2) {
+        uint64_t pair;
+
+        memcpy(&pair, time, sizeof pair);
+        to = mixed(to, pair);
+    }
+    digest = size % 2 == 1 ? mixed(to, *time) : to;
 }
 
 /* Reads the events that are new, all of them deliveries. */
@@ -122,21 +131,30 @@ static void read_events(uint32_t me)
     } while (count == AT_ONCE);
 }
 
-static void take_all(uint32_t me)
+/* Takes all parts, from this one on and as far as one call goes, and tells how many. */
+static size_t take_some(uint32_t me, size_t part, size_t first)
 {
     struct member *member = &members[me];
-    struct inbox *inbox = &member->inbox;
-    size_t first = 0;
+    const struct inbox *inbox = &member->inbox;
+    size_t taken;
+
+    must(jolunza_receive_parts(&member->handle, first, inbox->lengths + part, inbox->count - part, &taken) == JOLUNZA_DONE);
+    send_frames(me, count_frames(me));
+    return taken;
+}
+
+static void take_all(uint32_t me)
+{
+    struct inbox *inbox = &members[me].inbox;
+    size_t part = 0, first = 0;
 
     if (inbox->count > 0)
-        must(jolunza_load(&member->handle, inbox->bytes, inbox->end) == JOLUNZA_DONE);
-    for (size_t i = 0; i < inbox->count; i++) {
-        jolunza_received received;
+        must(jolunza_load(&members[me].handle, inbox->bytes, inbox->end) == JOLUNZA_DONE);
+    while (part < inbox->count) {
+        size_t end = part + take_some(me, part, first);
 
-        must(jolunza_receive_loaded(&member->handle, first, inbox->lengths[i], &received) == JOLUNZA_DONE);
-        first += inbox->lengths[i];
-        if (!received.is_entered && !received.is_repeat)
-            send_frames(me, count_frames(me));
+        while (part < end)
+            first += inbox->lengths[part++];
     }
     read_events(me);
     inbox->end = inbox->count = 0;

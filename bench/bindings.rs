@@ -1,6 +1,7 @@
 //! The run of `crates/bench_member` through the wrapper for Rust: a whole group in one thread, each member in its turn takes all that
 //! the others sent, and casts. Prints the same: how many messages were delivered, and a digest of their names and times. Words: SIZE
-//! WINDOW PAYLOAD CASTS. Nothing is lost. What was sent to a member is one buffer, which it loads at once.
+//! WINDOW PAYLOAD CASTS. Nothing is lost. What was sent to a member is one buffer, which it loads at once, and whose
+//! parts it takes in one call.
 
 use jolunza::{Event, Member, Refusal, Settings, LONGEST_HISTORY};
 use std::env;
@@ -21,28 +22,33 @@ impl Tally {
         self.deliveries += 1;
         self.mix(me, event.name.sender);
         self.mix(event.name.number, 0);
-        for pair in event.time.chunks(2) {
-            self.mix(pair[0], pair.get(1).copied().unwrap_or(0));
+        let pairs = event.time.chunks_exact(2);
+        let last = pairs.remainder();
+        for pair in pairs {
+            self.mix(pair[0], pair[1]);
+        }
+        if let [field] = last {
+            self.mix(*field, 0);
         }
     }
 }
 
-/// What was sent to a member and not yet taken: the frames, one after another, and where each ends.
+/// What was sent to a member and not yet taken: the frames, one after another, and how long each is.
 #[derive(Clone, Default)]
 struct Inbox {
     bytes: Vec<u8>,
-    ends: Vec<usize>,
+    lengths: Vec<usize>,
 }
 
 impl Inbox {
     fn put(&mut self, frame: &[u8]) {
         self.bytes.extend_from_slice(frame);
-        self.ends.push(self.bytes.len());
+        self.lengths.push(frame.len());
     }
 
     fn clear(&mut self) {
         self.bytes.clear();
-        self.ends.clear();
+        self.lengths.clear();
     }
 }
 
@@ -91,13 +97,12 @@ impl Run {
     fn take_all(&mut self, me: usize, inbox: &mut Inbox) -> Result<(), Refusal> {
         mem::swap(inbox, &mut self.network.inboxes[me]);
         self.members[me].load(&inbox.bytes)?;
-        let mut first = 0;
-        for end in &inbox.ends {
-            let received = self.members[me].receive_loaded(first..*end)?;
-            first = *end;
-            if !received.is_entered && !received.is_repeat {
-                self.send_frames(me);
-            }
+        let (mut first, mut lengths) = (0, &inbox.lengths[..]);
+        while !lengths.is_empty() {
+            let (taken, rest) = lengths.split_at(self.members[me].receive_parts(first, lengths)?);
+            first += taken.iter().sum::<usize>();
+            lengths = rest;
+            self.send_frames(me);
         }
         inbox.clear();
         let events = self.members[me].events(self.seen[me]..);

@@ -1,7 +1,7 @@
 #!/usr/bin/env bash
 # Counts the instructions of a delivery (callgrind) in one run of a whole group in one thread, nothing lost, payloads of 32 bytes: by the
 # plain Rust program, by calls in Rattle (crates/bench_member), and through the library from C and from plain Rust, where frames and
-# events are copied to the caller, and what a member takes in its turn is copied in at once. "More" is more than by calls in Rattle. All
+# events are copied to the caller, and what a member takes in its turn is copied in and received at once. "More" is more than by calls in Rattle. All
 # four must print the same deliveries and digest. Each count is the difference of a run and one of twice the casts, so that what a program
 # does once is not in it.
 # It wants gcc, rustc, valgrind and python3, the library (bindings/build.sh), and the proved program: `rt run` in crates/bench_member

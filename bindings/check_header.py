@@ -101,7 +101,9 @@ PYTHON_TYPES = {None: "void", ctypes.c_uint8: "u8", ctypes.c_uint32: "u32", ctyp
 def python_type(kind):
     if kind in PYTHON_TYPES:
         return PYTHON_TYPES[kind]
-    return f"*mut {python_type(kind._type_)}" if hasattr(kind, "contents") else kind.__name__
+    if not hasattr(kind, "contents"):
+        return kind.__name__
+    return f"*{'const' if kind.__name__.startswith('const_') else 'mut'} {python_type(kind._type_)}"
 
 
 def python_pairs(pairs):
@@ -141,7 +143,8 @@ def rattle_pairs(text):
     for name, kind in re.findall(r"(\w+): ([^,]+)", " ".join(text.split())):
         of = re.fullmatch(r"&(mut )?\[(\w+)\]", kind.strip())
         if of:
-            found += [(name, rattle_type(f"&{of[1] or ''}{of[2]}")), (("length",) if not of[1] else ("capacity", f"{name}_capacity"), "usize")]
+            many = ("capacity", f"{name}_capacity") if of[1] else ("length",) if of[2] == "u8" else ("count",)
+            found += [(name, rattle_type(f"&{of[1] or ''}{of[2]}")), (many, "usize")]
         elif kind.strip() != "Global":
             found.append((name, rattle_type(kind.strip())))
     return found

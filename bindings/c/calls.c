@@ -115,6 +115,7 @@ static void test_closed(jolunza_handle *handle)
     CHECK(receive(handle, BYTES(0x11, 7, 1, 1, 0, 0)) == JOLUNZA_CLOSED);
     CHECK(jolunza_load(handle, BYTES(0x11, 7, 1, 1, 0, 0)) == JOLUNZA_CLOSED);
     CHECK(jolunza_receive_loaded(handle, 0, 0, &f->received) == JOLUNZA_CLOSED);
+    CHECK(jolunza_receive_parts(handle, 0, (const size_t[]){0}, 1, &f->count) == JOLUNZA_CLOSED);
     CHECK(jolunza_tick(handle) == JOLUNZA_CLOSED);
     CHECK(jolunza_count(handle, &f->counts) == JOLUNZA_CLOSED);
     CHECK(jolunza_frame(handle, 0, f->frames, f->bytes, sizeof f->bytes) == JOLUNZA_CLOSED);
@@ -317,6 +318,54 @@ static void test_load(size_t limit)
     CHECK(jolunza_load(&handle, three, 14) == JOLUNZA_DONE);
     CHECK(receive_loaded(&handle, 7, 7) == JOLUNZA_DONE);
     CHECK(has_received(true, false, 0));
+    jolunza_close(&handle);
+}
+
+static uint32_t receive_parts(jolunza_handle *handle, size_t first, const size_t *lengths, size_t count)
+{
+    untouched();
+    return jolunza_receive_parts(handle, first, lengths, count, &filled.count);
+}
+
+/* The first part is refused with this code: nothing is filled, and all is as it was. */
+static void refuses_parts(jolunza_handle *handle, uint32_t code, size_t first, const size_t *lengths, size_t count)
+{
+    jolunza_counts before = counts_of(handle);
+
+    CHECK(receive_parts(handle, first, lengths, count) == code);
+    CHECK(IS_UNTOUCHED(filled));
+    CHECK(counts(handle, before.frames, before.events, before.entries));
+}
+
+/* Member 1 casts, a frame of another group comes, member 2 asks for 0.1, member 1 casts: each call goes as far as it can. */
+static void test_parts(size_t limit)
+{
+    static const uint8_t five[] = {0x11, 7, 1, 1, 0, 1, 'a', 0x11, 7, 1, 2, 0, 1, 'b', 0x11, 8, 1, 3, 0, 1, 'c',
+                                   0x13, 7, 2, 0, 1, 0, 0, 0x11, 7, 1, 3, 0, 1, 'd'};
+    static const size_t lengths[] = {7, 7, 7, 7, 7, 1};
+    jolunza_handle handle = JOLUNZA_CLOSED_HANDLE;
+    size_t more = limit > 0;
+
+    CHECK(jolunza_open(&handle, GROUP, SIZE, WINDOW, 0, limit) == JOLUNZA_DONE);
+    refuses_parts(&handle, JOLUNZA_NONE_THERE, 0, lengths, 6);
+    CHECK(jolunza_load(&handle, five, sizeof five) == JOLUNZA_DONE);
+    CHECK(cast(&handle, "hi") == JOLUNZA_DONE);
+    refuses_parts(&handle, JOLUNZA_NONE_THERE, 0, lengths, 0);
+    CHECK(receive_parts(&handle, 0, lengths, 6) == JOLUNZA_DONE);
+    CHECK(filled.count == 2);
+    CHECK(counts(&handle, 0, 2 + more, 2 + more));
+    CHECK(jolunza_events(&handle, more, filled.events, 4, filled.bytes, 9, filled.times, 16, &filled.count) == JOLUNZA_DONE);
+    CHECK(filled.count == 2 && memcmp(filled.bytes, "ab", 2) == 0);
+    refuses_parts(&handle, JOLUNZA_OTHER_GROUP, 14, lengths + 2, 4);
+    CHECK(receive_parts(&handle, 21, lengths + 3, 3) == JOLUNZA_DONE);
+    CHECK(filled.count == 1);
+    CHECK(counts(&handle, 1, more ? 3 : 0, more ? 3 : 0));
+    CHECK(is_frame(&handle, 0, 2, BYTES(0x11, 7, 0, 1, 0, 2, 'h', 'i')));
+    CHECK(receive_parts(&handle, 28, lengths + 4, 2) == JOLUNZA_DONE);
+    CHECK(filled.count == 1);
+    CHECK(counts(&handle, 0, more ? 4 : 1, more ? 4 : 1));
+    refuses_parts(&handle, JOLUNZA_NONE_THERE, 35, lengths + 5, 1);
+    refuses_parts(&handle, JOLUNZA_NONE_THERE, 1, (const size_t[]){SIZE_MAX}, 1);
     jolunza_close(&handle);
 }
 
@@ -646,6 +695,8 @@ int main(void)
     test_receive();
     test_load(LIMIT);
     test_load(0);
+    test_parts(LIMIT);
+    test_parts(0);
     test_full_history();
     test_no_history();
     test_tick_and_frame();

@@ -54,7 +54,7 @@ enum jolunza_code {
     JOLUNZA_IMPOSSIBLE = 10,      /* receive: it says of this member what it never did; drop the frame */
     JOLUNZA_TOO_FAR = 11,         /* receive: beyond the window; drop the frame, it comes again */
     JOLUNZA_MALFORMED = 12,       /* receive: no frame; drop the bytes */
-    JOLUNZA_NONE_THERE = 13       /* frame, event, entry: the index is not below the count; receive_loaded: not loaded */
+    JOLUNZA_NONE_THERE = 13       /* frame, event, entry: the index is not below the count; of a part: it is not loaded */
 };
 
 /* A member, or nothing. */
@@ -69,7 +69,7 @@ typedef struct jolunza_handle {
 typedef struct jolunza_counts {
     size_t frames;  /* of the last call of cast, receive or tick that was done */
     size_t events;  /* since the member was opened; without a history, of that call */
-    size_t entries; /* of its history; without one, of that call: 1 or 0 */
+    size_t entries; /* of its history; without one, of that call: 1 or 0, or one of each part that changed the member */
 } jolunza_counts;
 
 /* What a frame that was taken did. */
@@ -150,6 +150,16 @@ uint32_t jolunza_load(jolunza_handle *handle, const uint8_t *bytes, size_t lengt
  * a receive is said of this call too.
  */
 uint32_t jolunza_receive_loaded(jolunza_handle *handle, size_t first, size_t length, jolunza_received *received);
+
+/*
+ * Takes `count` parts of the loaded bytes in one call, one after another as jolunza_receive_loaded takes one: the first part from
+ * `first` on, each other from the end of the one before it on, and `lengths` says how long each is. `taken` tells how many were
+ * taken. One at least is, else the code is that of the first part, NONE_THERE also where `count` is 0, and nothing has changed.
+ * A part that leaves frames to be sent is the last that is taken, so the frames are its own. Else fewer than `count` are taken
+ * where the next part is refused: call again from that part on, and the code tells why. What the parts have done is in
+ * jolunza_count: without a history events and entries are those of all parts of the call.
+ */
+uint32_t jolunza_receive_parts(jolunza_handle *handle, size_t first, const size_t *lengths, size_t count, size_t *taken);
 
 /* The frames to be sent are the status, to all others, and a request to each member of whom something is missing. */
 uint32_t jolunza_tick(jolunza_handle *handle);

@@ -189,18 +189,26 @@ static void cast_some(jolunza_handle *of_0, jolunza_handle *of_1)
 static void load_all(jolunza_handle *handle, const struct frame *frames, size_t count)
 {
     static uint8_t bytes[MOST_FRAMES * JOLUNZA_LONGEST_FRAME];
-    jolunza_received received;
-    size_t end = 0;
+    size_t lengths[MOST_FRAMES], end = 0, taken;
 
     for (size_t i = 0; i < count; i++) {
-        memcpy(bytes + end, frames[i].bytes, frames[i].head.length);
-        end += frames[i].head.length;
+        lengths[i] = frames[i].head.length;
+        memcpy(bytes + end, frames[i].bytes, lengths[i]);
+        end += lengths[i];
     }
     TRY(handle, jolunza_load(handle, bytes, end));
     end = 0;
-    for (size_t i = 0; i < count; i++) {
-        TRY(handle, jolunza_receive_loaded(handle, end, frames[i].head.length, &received));
-        end += frames[i].head.length;
+    /* one by one up to the middle, and what is left in as few calls as will do */
+    for (size_t i = 0; i < count / 2; i++) {
+        jolunza_received received;
+
+        TRY(handle, jolunza_receive_loaded(handle, end, lengths[i], &received));
+        end += lengths[i];
+    }
+    for (size_t i = count / 2; i < count; i += taken) {
+        TRY(handle, jolunza_receive_parts(handle, end, lengths + i, count - i, &taken));
+        for (size_t k = 0; k < taken; k++)
+            end += lengths[i + k];
     }
 }
 

@@ -22,7 +22,7 @@ import pathlib
 import threading
 from ctypes import POINTER, Structure, byref, c_bool, c_char_p, c_size_t, c_uint8, c_uint32, c_void_p
 from types import TracebackType
-from typing import Any, Iterator, NamedTuple, Optional, Union
+from typing import Any, Iterator, NamedTuple, Optional, Sequence, Union
 
 LONGEST_PAYLOAD = 1024
 LONGEST_FRAME = 1417
@@ -155,6 +155,12 @@ class jolunza_range(Structure):
     _fields_ = [("first", c_uint32), ("last", c_uint32)]
 
 
+class const_size_t(POINTER(c_size_t)):  # type: ignore[misc]
+    """A pointer to numbers that are only read."""
+
+    _type_ = c_size_t
+
+
 HANDLE = ("handle", POINTER(jolunza_handle))
 
 # Of each function what it answers, and its parameters. `c_char_p` is bytes that are only read, and never NULL here.
@@ -173,6 +179,10 @@ FUNCTIONS: dict[str, tuple[Any, list[tuple[str, Any]]]] = {
     "jolunza_receive_loaded": (
         c_uint32,
         [HANDLE, ("first", c_size_t), ("length", c_size_t), ("received", POINTER(jolunza_received))],
+    ),
+    "jolunza_receive_parts": (
+        c_uint32,
+        [HANDLE, ("first", c_size_t), ("lengths", const_size_t), ("count", c_size_t), ("taken", POINTER(c_size_t))],
     ),
     "jolunza_tick": (c_uint32, [HANDLE]),
     "jolunza_count": (c_uint32, [HANDLE, ("counts", POINTER(jolunza_counts))]),
@@ -352,6 +362,17 @@ class Member:
         with self._lock:
             self._call("receive_loaded", *numbers, byref(received))
         return Received(received.is_repeat, received.is_entered, received.delivered)
+
+    def receive_parts(self, first: int, lengths: Sequence[int]) -> int:
+        """Takes parts of the loaded bytes in one call, one after another as `receive_loaded` takes one: the first part from the byte that
+        has `first` before it, each other from the end of the one before it on, and `lengths` says how long each is. Tells how many were
+        taken. One at least is, else the refusal is that of the first part, and nothing has changed. A part that leaves frames to be sent is
+        the last that is taken. Else fewer than all are taken where the next part is refused: call again from that part on."""
+        numbers, taken = [_number(value, 64) for value in (first, *lengths)], c_size_t()
+        given = (c_size_t * (len(numbers) - 1))(*numbers[1:])
+        with self._lock:
+            self._call("receive_parts", numbers[0], given, len(given), byref(taken))
+        return taken.value
 
     def tick(self) -> None:
         """The frames to be sent are the status, to all others, and a request to each member of whom something is missing."""

@@ -55,6 +55,7 @@ def calls(member: Member) -> tuple[Callable[[], object], ...]:
         lambda: member.receive(YO),
         lambda: member.load(YO),
         lambda: member.receive_loaded(0, len(YO)),
+        lambda: member.receive_parts(0, [len(YO)]),
         member.tick,
         member.counts,
         member.frames,
@@ -291,6 +292,31 @@ class Loading(Case):
             member.cast(b"hi")
             self.assertEqual(member.receive_loaded(0, len(first)), Received(False, True, 2))
             self.assertEqual(member.receive_loaded(0, len(first)), Received(True, False, 0))
+
+    def test_parts_are_taken_in_one_call(self) -> None:
+        _, frames = that_cast(0, b"a", b"bc", b"d")
+        lengths = [len(frame) for frame in frames]
+        for history_max in (100, 0):
+            member = opened(1, history_max=history_max)
+            member.cast(b"hi")
+            member.load(b"".join(frames) + b"\0")
+            before = member.counts().events if history_max else 0
+            self.assertEqual(member.receive_parts(0, [*lengths, 1]), 3)
+            self.assertEqual([event.payload for event in member.events(before)], [b"a", b"bc", b"d"])
+            self.assertEqual(member.frames(), [])
+            kept = state(member)
+            for first, given, code in (
+                (sum(lengths), [1], Code.MALFORMED),
+                (sum(lengths), [2], Code.NONE_THERE),
+                (0, [], Code.NONE_THERE),
+            ):
+                with self.assertRaises(Refusal) as raised:
+                    member.receive_parts(first, given)
+                self.assertEqual(raised.exception.code, code)
+            for first, given in ((-1, [8]), (0, [-1]), (0, [1 << 64])):
+                with self.assertRaises(OverflowError):
+                    member.receive_parts(first, given)
+            self.assertEqual(state(member), kept)
 
     def test_what_was_taken_stays_and_what_was_not_is_gone(self) -> None:
         _, (first, second) = that_cast(0, b"a", b"bc")

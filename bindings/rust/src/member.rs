@@ -56,7 +56,7 @@ pub struct Counts {
     pub frames: usize,
     /// Since the member was opened; without a history, of that call.
     pub events: usize,
-    /// Of the history; without one, of that call: 1 or 0.
+    /// Of the history; without one, of that call: 1 or 0, or one of each part that changed the member.
     pub entries: usize,
 }
 
@@ -165,6 +165,41 @@ impl Member {
         let code = unsafe { sys::jolunza_receive_loaded(self.handle.get(), part.start, part.len(), &mut received) };
         answered(code)?;
         Ok(self.taken(received))
+    }
+
+    /// Takes parts of the loaded bytes in one call, one after another as `receive_loaded` takes one: the first part from
+    /// `first` on, each other from the end of the one before it on, and `lengths` says how long each is. Tells how many
+    /// were taken. One at least is, else the refusal is that of the first part, and nothing has changed.
+    ///
+    /// A part that leaves frames to be sent is the last that is taken, so the frames are its own. Else fewer than all are
+    /// taken where the next part is refused: call again from that part on, and the refusal tells why. Events are those of
+    /// all parts of the call.
+    ///
+    /// ```
+    /// # use jolunza::{Member, Refusal, Settings};
+    /// # let open = |me| Member::open(Settings { group: 7, size: 3, window: 4, me, history_max: 100 });
+    /// # let (mut anna, mut bert) = (open(0)?, open(1)?);
+    /// let (mut inbox, mut lengths) = (Vec::new(), Vec::new());
+    /// for text in ["when?", "where?"] {
+    ///     anna.cast(text.as_bytes())?;
+    ///     let bytes = anna.frames().next().unwrap().bytes;
+    ///     inbox.extend_from_slice(bytes);
+    ///     lengths.push(bytes.len());
+    /// }
+    /// bert.load(&inbox)?;
+    /// assert_eq!(bert.receive_parts(0, &lengths)?, 2);
+    /// assert_eq!(bert.new_events().len(), 2);
+    /// # Ok::<(), Refusal>(())
+    /// ```
+    pub fn receive_parts(&mut self, first: usize, lengths: &[usize]) -> Result<usize, Refusal> {
+        let (at, count) = (lengths.as_ptr(), lengths.len());
+        let mut taken = 0;
+        answered(unsafe { sys::jolunza_receive_parts(self.handle.get(), first, at, count, &mut taken) })?;
+        let counts = self.counts();
+        let before = if self.settings.history_max == 0 { 0 } else { self.shown + self.unshown };
+        self.add_events(counts.events - before);
+        self.left = if counts.frames == 0 { Left::NoFrame } else { Left::Frames };
+        Ok(taken)
     }
 
     /// Bytes were received, and did this.

@@ -119,6 +119,14 @@ extern "C" {
         received: *mut jolunza_received,
     ) -> u32;
 
+    pub fn jolunza_receive_parts(
+        handle: *mut jolunza_handle,
+        first: usize,
+        lengths: *const usize,
+        count: usize,
+        taken: *mut usize,
+    ) -> u32;
+
     pub fn jolunza_tick(handle: *mut jolunza_handle) -> u32;
 
     pub fn jolunza_count(handle: *mut jolunza_handle, counts: *mut jolunza_counts) -> u32;

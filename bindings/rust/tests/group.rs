@@ -271,3 +271,42 @@ fn parts_of_loaded_bytes_are_received() {
         assert_eq!(taker.receive_loaded(0..ends[1]), Err(Refusal::NoneThere));
     }
 }
+
+/// A request comes between two casts: the call ends with it, so that its answer is there to be sent.
+#[test]
+fn parts_are_received_in_one_call() {
+    for history_max in [100, 0] {
+        let open = |me| Member::open(Settings { group: 7, size: SIZE, window: 16, me, history_max }).unwrap();
+        let (mut caster, mut asker, mut taker) = (open(0), open(2), open(1));
+        taker.cast(b"hi").unwrap();
+        taker.tick().unwrap();
+        let status = taker.frames().next().unwrap().bytes.to_vec();
+        asker.receive(&status).unwrap();
+        asker.tick().unwrap();
+        let request = asker.frames().find(|frame| frame.to == Some(1)).unwrap().bytes.to_vec();
+        let mut frames = Vec::new();
+        for text in ["a", "bc", "def"] {
+            caster.cast(text.as_bytes()).unwrap();
+            frames.push(caster.frames().next().unwrap().bytes.to_vec());
+        }
+        frames.insert(2, request);
+        frames.push(vec![0]);
+        let lengths: Vec<_> = frames.iter().map(Vec::len).collect();
+        assert_eq!(taker.receive_parts(0, &lengths), Err(Refusal::NoneThere));
+        taker.load(&frames.concat()).unwrap();
+        taker.new_events().for_each(drop);
+        assert_eq!(taker.receive_parts(0, &lengths), Ok(3));
+        assert_eq!(taker.frames().map(|frame| frame.to).collect::<Vec<_>>(), [Some(2)]);
+        assert_eq!(
+            taker.new_events().map(|event| event.payload.to_vec()).collect::<Vec<_>>(),
+            [b"a".to_vec(), b"bc".to_vec()]
+        );
+        let first = lengths[..3].iter().sum::<usize>();
+        assert_eq!(taker.receive_parts(first, &lengths[3..]), Ok(1));
+        assert_eq!(taker.frames().len(), 0);
+        assert_eq!(taker.new_events().map(|event| event.payload.to_vec()).collect::<Vec<_>>(), [b"def".to_vec()]);
+        assert_eq!(taker.receive_parts(first + lengths[3], &lengths[4..]), Err(Refusal::Malformed));
+        assert_eq!(taker.receive_parts(0, &[]), Err(Refusal::NoneThere));
+        assert_eq!(taker.new_events().len(), 0);
+    }
+}

@@ -14,6 +14,7 @@ use Rattle.cb_handle.specs.Entries.{entry_head}
 use Rattle.cb_handle.specs.Kept.{KeptMember, gone, limit_for, limit_of}
 use Rattle.cb_handle.specs.declared.held.Held.{Held}
 use Rattle.cb_handle.specs.Calling.{loaded_part, received_row, with_loaded}
+use Rattle.cb_handle.specs.Parts.{behind}
 
 a_short_list_leaves_the_rest : copied {X = ℕ} (1 ∷ 2 ∷ []) (7 ∷ 8 ∷ 9 ∷ []) ≡ 1 ∷ 2 ∷ 9 ∷ []
 a_short_list_leaves_the_rest = refl
@@ -90,6 +91,13 @@ of_a_history_nothing_is_gone kept = refl
 
 without_one_all_is_gone : (kept : KeptMember) → gone {X = ℕ} (record kept { limit = 0 }) (1 ∷ 2 ∷ []) ≡ 1 ∷ 2 ∷ []
 without_one_all_is_gone kept = refl
+
+of_a_history_all_is_there_after_each_part : (before after : KeptMember) → behind before (record after { limit = 5 }) ≡ record after { limit = 5 }
+of_a_history_all_is_there_after_each_part before after = refl
+
+without_one_a_part_adds_to_those_before : (before after : KeptMember)
+    → (behind (record before { entries = TickEntry [] ∷ [] }) (record after { limit = 0; entries = CastEntry [] ∷ [] })).entries ≡ TickEntry [] ∷ CastEntry [] ∷ []
+without_one_a_part_adds_to_those_before before after = refl
 
 a_limit_is_the_histories : (kept : KeptMember) → limit_of (record kept { limit = 5 }) (TickEntry [] ∷ []) ≡ 5
 a_limit_is_the_histories kept = refl

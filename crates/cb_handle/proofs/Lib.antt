@@ -6,4 +6,5 @@ pub mod Adding
 pub mod Limits
 pub mod Keeping
 pub mod Forgetting
+pub mod Parts
 mod Examples

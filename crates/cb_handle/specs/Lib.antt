@@ -6,3 +6,4 @@ pub mod Entries
 pub mod Kept
 pub mod Opening
 pub mod Calling
+pub mod Parts

@@ -1,6 +1,6 @@
 //! A member with the frames of its last call.
 
-ghost use Rattle.std.specs.Prelude.{◌≡◌, ◌⊎◌, ◌↔◌, ◌≤◌, [], length, drop, slice_get, map, IfOk, IfErr, OnOk, OnErr, MatchOption, Ok, Err};
+ghost use Rattle.std.specs.Prelude.{◌≡◌, ◌⊎◌, ◌↔◌, ◌≤◌, [], length, drop, slice_get, map, IfOk, IfErr, OnOk, OnErr, MatchOption, Ok, Err, ◌==◌, ◌+◌, slice_range, if◌then◌else◌};
 ghost use Rattle.cb_frames.specs.Fields.{One};
 ghost use Rattle.cb_history.specs.State.{time_in, stable_in, missing_in, RefusesArrival, RefusesTick};
 ghost use Rattle.cb_history.specs.Known.{ranges_of};
@@ -11,7 +11,8 @@ ghost use Rattle.cb_handle.specs.Frames.{frames_of, ShowsFrame, ShowsFrames};
 ghost use Rattle.cb_handle.specs.Events.{ShowsEvent, ShowsEvents};
 ghost use Rattle.cb_handle.specs.Entries.{ShowsEntry, range_row};
 ghost use Rattle.cb_handle.specs.Opening.{RefusesToOpen, IsNewOf};
-ghost use Rattle.cb_handle.specs.Calling.{OnEach, seat_held, events_held, entries_held, HasCastToSend, HasReceivedToSend, HasTickedToSend, RefusesBytes, HasReceivedLoaded, RefusesLoaded, with_loaded, counts_of, row_of};
+ghost use Rattle.cb_handle.specs.Parts.{HasReceivedParts, Leaves, RefusesParts};
+ghost use Rattle.cb_handle.specs.Calling.{OnEach, seat_held, events_held, entries_held, HasCastToSend, HasReceivedToSend, HasTickedToSend, RefusesBytes, HasReceivedLoaded, RefusesLoaded, with_loaded, AreLoaded, counts_of, row_of};
 
 use crate::copies::{copy_front, from};
 use crate::frames::{Frames, show_frame, show_frames};
@@ -110,7 +111,7 @@ impl Held {
         let Ok(bytes) = self.received.copied(bytes) else {
             return Err(ArriveRefusal::NoMemory);
         };
-        self.take(alloc, &bytes)
+        self.take(alloc, &bytes, false)
     }
 
     /// Copies bytes in, in place of those that were loaded before. Out of memory nothing has changed.
@@ -133,27 +134,89 @@ impl Held {
         ensures refused { IfErr result (RefusesLoaded self.old first len) }
         ensures same { OnErr result (self.new ≡ self.old) }
     {
-        let loaded = self.loaded.len();
-        if first > loaded || len > loaded - first {
+        let Some(end) = self.end_of(first, len) else {
             return Err(LoadedRefusal::NotLoaded);
-        }
-        let Ok(bytes) = self.loaded.slice(first..first + len) else {
-            return Err(LoadedRefusal::Refused(ArriveRefusal::NoMemory));
         };
-        match self.take(alloc, &bytes) {
+        match self.take_between(alloc, first, end, false) {
             Ok(received) => Ok(received),
             Err(refusal) => Err(LoadedRefusal::Refused(refusal)),
         }
     }
 
+    /// Takes parts of the loaded bytes, of these lengths and from `first` on, one after another as `receive_loaded` takes one: up to one
+    /// that leaves frames to be sent, or in front of one that is refused. Tells how many. Where the first is refused nothing has changed.
+    pub fn receive_parts(
+        &mut self,
+        alloc: Global,
+        first: usize,
+        lengths: &[usize],
+    ) -> Result<usize, LoadedRefusal>
+        ensures done { IfOk result (HasReceivedParts self.old self.new first lengths.now) }
+        ensures refused { IfErr result (RefusesParts self.old first lengths.now) }
+        ensures same { OnErr result (self.new ≡ self.old) }
+    {
+        let mut place = first;
+        for count in 0..lengths.len() {
+            if count > 0 && !self.frames.as_slice().is_empty() {
+                return Ok(count);
+            }
+            let Some(end) = self.end_of(place, lengths[count]) else {
+                return ended(count, LoadedRefusal::NotLoaded);
+            };
+            match self.take_between(alloc, place, end, count > 0) {
+                Ok(_received) => place = end,
+                Err(refusal) => return ended(count, LoadedRefusal::Refused(refusal)),
+            }
+        }
+        ended(lengths.len(), LoadedRefusal::NotLoaded)
+    }
+
+    /// The place behind so many of the loaded bytes, from `first` on, where they are loaded.
+    fn end_of(&self, first: usize, len: usize) -> Option<usize>
+        ensures { MatchOption result (¬ AreLoaded self.now first len)
+            (λ end. AreLoaded self.now first len × (end ≡ first + len)) }
+    {
+        let loaded = self.loaded.len();
+        if first > loaded || len > loaded - first {
+            return None;
+        }
+        Some(first + len)
+    }
+
+    /// Takes these of the loaded bytes. What the call before left to be read stays also without a history, where that is asked. Each part
+    /// goes through it, so it is built into its callers.
+    #[inline(always)]
+    fn take_between(
+        &mut self,
+        alloc: Global,
+        first: usize,
+        end: usize,
+        stays: bool,
+    ) -> Result<Received, ArriveRefusal>
+        requires ordered { first ≤ end }
+        requires loaded { end ≤ length self.old.loaded }
+        ensures done { IfOk result (λ received. Leaves stays self.old self.new
+            (λ after. HasReceivedToSend self.old after (slice_range self.old.loaded first end)
+            received)) }
+        ensures refused { IfErr result (λ refusal. OnEach self.old (λ m.
+            RefusesBytes m (slice_range self.old.loaded first end) refusal)) }
+        ensures same { OnErr result (self.new ≡ self.old) }
+    {
+        let Ok(bytes) = self.loaded.slice(first..end) else {
+            return Err(ArriveRefusal::NoMemory);
+        };
+        self.take(alloc, &bytes, stays)
+    }
+
     /// Takes received bytes that are not the caller's any more.
-    fn take(&mut self, alloc: Global, bytes: &Bytes) -> Result<Received, ArriveRefusal>
-        ensures done { IfOk result (HasReceivedToSend self.old self.new bytes.now) }
+    fn take(&mut self, alloc: Global, bytes: &Bytes, stays: bool) -> Result<Received, ArriveRefusal>
+        ensures done { IfOk result (λ received. Leaves stays self.old self.new
+            (λ after. HasReceivedToSend self.old after bytes.now received)) }
         ensures refused { IfErr result (λ refusal. OnEach self.old (λ m.
             RefusesArrival m bytes.now refusal)) }
         ensures same { OnErr result (self.new ≡ self.old) }
     {
-        match self.kept.receive(bytes) {
+        match self.kept.receive(bytes, stays) {
             Ok(taken) => Ok(told(alloc, taken, &mut self.frames)),
             Err(refusal) => Err(refusal),
         }
@@ -292,6 +355,13 @@ impl Held {
             Err(fault) => Err(fault),
         }
     }
+}
+
+/// What is told where no further part is taken: how many were, or why the first was not.
+fn ended(count: usize, refusal: LoadedRefusal) -> Result<usize, LoadedRefusal>
+    ensures { result ≡ if count == 0 then Err refusal else Ok count }
+{
+    if count == 0 { Err(refusal) } else { Ok(count) }
 }
 
 /// Tells what received bytes did, and leaves the frames that are to be sent.

@@ -11,7 +11,8 @@ ghost use Rattle.cb_member.specs.Casting.{RefusesExactly};
 ghost use Rattle.cb_member.specs.CoreCalls.{MayCast};
 ghost use Rattle.cb_handle.specs.Kept.{OnEach, seat_of, events_of, entries_of};
 ghost use Rattle.cb_handle.specs.Opening.{IsNew};
-ghost use Rattle.cb_handle.specs.Calling.{HasCast, HasReceived, HasTicked};
+ghost use Rattle.cb_handle.specs.Calling.{HasCast, HasTicked};
+ghost use Rattle.cb_handle.specs.Parts.{HasReceivedBehind};
 
 use bytes::Bytes;
 use cb_history::LONGEST_HISTORY;
@@ -95,16 +96,18 @@ impl Kept {
         }
     }
 
-    /// Takes received bytes, and tells what they did. After a refusal nothing has changed.
-    pub fn receive(&mut self, bytes: &Bytes) -> Result<Received, ArriveRefusal>
-        ensures done { IfOk result (HasReceived self.old self.new bytes.now) }
+    /// Takes received bytes, and tells what they did. What the call before left to be read may stay also without a history. After a
+    /// refusal nothing has changed.
+    pub fn receive(&mut self, bytes: &Bytes, stays: bool) -> Result<Received, ArriveRefusal>
+        ensures done { IfOk result (HasReceivedBehind stays self.old self.new bytes.now) }
         ensures refused { IfErr result (λ refusal. OnEach self.old (λ m.
             RefusesArrival m bytes.now refusal)) }
         ensures same { OnErr result (self.new ≡ self.old) }
     {
         let full = is_full(self.limit, &self.entries);
         let may_enter = has_room(full, &mut self.entries);
-        let (events, entries) = (self.events.len(), self.entries.len());
+        let events = earlier(stays, &self.events);
+        let entries = earlier(stays, &self.entries);
         match self.core.receive_within(bytes, may_enter, &mut self.events) {
             Ok((received, entry)) => {
                 enter(&mut self.entries, entry);
@@ -232,6 +235,13 @@ fn enter(entries: &mut Vec<Entry>, entry: Option<Entry>)
     if let Some(entry) = entry {
         entries.push_reserved(entry);
     }
+}
+
+/// How many go, where there is no history: those of before the call, or none.
+fn earlier<T>(stays: bool, list: &Vec<T>) -> usize
+    ensures { result ≡ if stays then 0 else length list.now.items }
+{
+    if stays { 0 } else { list.len() }
 }
 
 /// Without a history, those of before the call go. Asked in each call, so it is built into them.

@@ -3,6 +3,7 @@ use Rattle.std.specs.Prelude.{◌≡◌, ◌≢◌, ℕ, Bool, true, false, List
 use Rattle.std.specs.List.{flat_map}
 use Rattle.std.specs.Io.KnownBytes.{Appends}
 use Rattle.hex.specs.Hex.{encode_lower}
+use Rattle.cb_frames.specs.Fields.{One}
 use Rattle.cb_schedules.specs.Schedule.{Setting, Step, CastStep, ArriveStep, TickStep}
 use Rattle.cb_world.specs.World.{WorldState}
 use Rattle.cb_trace.specs.declared.fault.AuditFault.{AuditFault}
@@ -25,7 +26,7 @@ digits_text [] = codes "-"
 digits_text (byte ∷ bytes) = encode_lower (byte ∷ bytes)
 
 unfoldable pub step_text : Step → List ℕ
-step_text (CastStep i payload) = parameter_text (codes "cast ") i ++ codes " " ++ digits_text payload ++ codes "\n"
+step_text (CastStep i (One payload)) = parameter_text (codes "cast ") i ++ codes " " ++ digits_text payload ++ codes "\n"
 step_text (ArriveStep j number) = parameter_text (codes "arrive ") j ++ parameter_text (codes " ") number ++ codes "\n"
 step_text (TickStep i) = parameter_text (codes "tick ") i ++ codes "\n"
 

@@ -2,6 +2,7 @@
 
 ghost use Rattle.std.specs.Prelude.{◌≡◌, ◌++◌, IfOk, OnOk, map};
 ghost use Rattle.std.specs.List.{flat_map};
+ghost use Rattle.cb_frames.specs.Fields.{One};
 ghost use Rattle.cb_schedules.specs.Schedule.{CastStep, ArriveStep, TickStep};
 ghost use Rattle.cb_world.specs.Steps.{step_fields};
 ghost use Rattle.confer_audit.specs.Audit.{first_text, digits_text, script_text, step_text};
@@ -60,7 +61,8 @@ fn put_step(out: &mut Vec<u8>, step: &Step) -> Result<(), NoMemory>
 
 #[tactic(auto, unfolding(crate::specs::Audit::step_text))]
 fn put_cast(out: &mut Vec<u8>, i: u32, payload: &Bytes) -> Result<(), NoMemory>
-    ensures { OnOk result (out.new.items ≡ out.old.items ++ step_text (CastStep i payload.now)) }
+    ensures { OnOk result (out.new.items
+        ≡ out.old.items ++ step_text (CastStep i (One payload.now))) }
 {
     put_parameter(out, b"cast ", i as usize)?;
     out.extend_from_slice(b" ")?;

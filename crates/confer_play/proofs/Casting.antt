@@ -1,4 +1,4 @@
--- What one step adds to the events of the members: to its own member's alone, and a cast only of the payload that it casts.
+-- What one step adds to the events of the members: to its own member's alone, and a cast only of a payload that it casts.
 use Rattle.std.proofs.Common.{◌≡◌, ◌≢◌, ℕ, zero, suc, ◌+◌, ◌<◌, ◌≤◌, Bool, true, false, ltb, List, [], ◌∷◌, ◌++◌, length, map, Option, Some, None, Result, Ok, Err, refl, sym, ap, subst, ◌∙◌, arith, ◌⊎◌, inl, inr}
 use Rattle.std.specs.Prelude.{slice_get}
 use Rattle.std.specs.List.{AllByRecursion}
@@ -7,9 +7,9 @@ use Rattle.std.proofs.lemmas.List.{append-nil, map-append}
 use Rattle.cb_times.specs.declared.name.Name.{Name}
 use Rattle.cb_frames.specs.declared.frame.TheConstants.{LONGEST_PAYLOAD, LAST_NUMBER}
 use Rattle.cb_frames.specs.declared.fault.FrameFault.{FrameFault}
-use Rattle.cb_frames.specs.Fields.{Carried, CastFields, FrameFields, CastFrame, StatusFrame, RequestFrame}
-use Rattle.cb_frames.specs.Text.{text_of}
-use Rattle.cb_frames.proofs.Carried.{carries_one}
+use Rattle.cb_frames.specs.Fields.{Load, payloads_of, load_bytes, numbered, messages_of, CastFields, FrameFields, CastFrame, StatusFrame, RequestFrame}
+use Rattle.cb_frames.specs.Text.{IsLoad, text_of}
+use Rattle.cb_frames.proofs.Carried.{IsIn}
 use Rattle.cb_history.specs.Read.{frame_read}
 use Rattle.cb_delay.specs.declared.message.Message.{Message}
 use Rattle.cb_delay.specs.declared.message.Event.{Event}
@@ -18,19 +18,19 @@ use Rattle.cb_causality.specs.declared.event.CausalEvent.{CausalEvent}
 use Rattle.cb_causality.specs.declared.event.CausalEvent.TheVariants as causal
 use Rattle.cb_causality.specs.StampedMachine.{without_time, without_times}
 use Rattle.cb_causality.proofs.Counting.{get_map_from}
-use Rattle.cb_history.specs.declared.answer.CastRefusal.{CastRefusal}
 use Rattle.cb_history.specs.declared.answer.ArriveRefusal.{ArriveRefusal}
 use Rattle.cb_history.specs.declared.answer.TickRefusal.{TickRefusal}
 use Rattle.cb_history.specs.declared.answer.Outgoing.{Outgoing}
+use Rattle.cb_history.specs.CastFault.{CastFault}
 use Rattle.cb_history.specs.Group.{Identity}
 use Rattle.cb_history.specs.Facts.{EntryFields, CastEntry, ArriveEntry, TickEntry, Fact, OwnCast, CastReceived, StatusReceived, OwnStatus, cast_said, arrival_said, status_said, said_by, casts_in, facts_of}
-use Rattle.cb_history.specs.Answers.{is_full, is_window_full, delivered, next_cast, cast_answer, ArrivalSays, Accepted, Repeat, arrive_answer, tick_answer}
+use Rattle.cb_history.specs.Answers.{is_full, is_too_many, delivered, next_cast, cast_answer, ArrivalSays, Accepted, Repeat, arrive_answer, tick_answer}
 use Rattle.cb_history.specs.Events.{events}
 use Rattle.cb_history.specs.EventLaws.{new_events}
 use Rattle.cb_history.specs.View.{message_in}
 use Rattle.cb_history.specs.Legal.{Call, ToCast, ToTake, ToTick, cast_entry, arrive_entry, tick_entry, entry_of, and_entry, history_after, AreEntriesOf}
 use Rattle.cb_history.specs.LegalFacts.{AreFactsOf}
-use Rattle.cb_history.proofs.Counts.{number_left}
+use Rattle.cb_history.proofs.Counts.{numbers_left}
 use Rattle.cb_history.proofs.Lists.{flat_map-append}
 use Rattle.cb_history.proofs.Happening.{events_with_one_more}
 use Rattle.cb_history.proofs.Histories.{entries_say_legal_facts}
@@ -63,13 +63,13 @@ at_index P (y ∷ xs) (suc n) x all e = at_index P xs n x all.1 e
 
 -- ---- one more fact
 
--- an event that the call makes: a cast of its payload, or a delivery
+-- an event that the call makes: a cast of one of its payloads, or a delivery
 abbrev pub IsMadeBy : Call → Event → Type 0
-IsMadeBy call (Cast message) = call ≡ ToCast message.payload
+IsMadeBy call (Cast message) = (load : Load) × (call ≡ ToCast load) × IsIn message.payload (payloads_of load)
 IsMadeBy call (Deliver message) = Unit {0}
 
 abbrev IsSaidBy : Call → Fact → Type 0
-IsSaidBy call (OwnCast c) = call ≡ ToCast c.payload
+IsSaidBy call (OwnCast c) = call ≡ ToCast c.load
 IsSaidBy call (CastReceived c) = Unit {0}
 IsSaidBy call (StatusReceived s) = Unit {0}
 IsSaidBy call (OwnStatus s) = Unit {0}
@@ -78,9 +78,16 @@ all_deliver : (call : Call) (messages : List Message) → AllByRecursion (IsMade
 all_deliver call [] = tt
 all_deliver call (message ∷ messages) = (tt, all_deliver call messages)
 
+-- messages of these payloads are cast
+all_cast : (call : Call) (load : Load) (size : ℕ) (casts : List CastFields) (sender n : ℕ) (payloads : List (List ℕ)) → call ≡ ToCast load
+    → ((p : List ℕ) → IsIn p payloads → IsIn p (payloads_of load)) → AllByRecursion (IsMadeBy call) (map (λ m. Cast (message_in size casts m)) (numbered sender n payloads))
+all_cast call load size casts sender n [] said among = tt
+all_cast call load size casts sender n (payload ∷ payloads) said among =
+    ((load, said, among payload (inl refl)), all_cast call load size casts sender (n + 1) payloads said (λ p there. among p (inr there)))
+
 makes : (call : Call) (seat : Identity) (facts : List Fact) (f : Fact) → IsSaidBy call f → AllByRecursion (IsMadeBy call) (new_events seat facts f)
-makes call seat facts (OwnCast c) said =
-    subst (λ (ms : List Carried). AllByRecursion (IsMadeBy call) (map (λ m. Cast (message_in seat.group.size (casts_in facts ++ c ∷ []) m)) ms)) (sym (carries_one c)) (said, tt)
+unfolding messages_of
+makes call seat facts (OwnCast c) said = all_cast call c.load seat.group.size (casts_in facts ++ c ∷ []) c.sender c.number (payloads_of c.load) said (λ p there. there)
 makes call seat facts (CastReceived c) said = all_deliver call _
 makes call seat facts (StatusReceived s) said = tt
 makes call seat facts (OwnStatus s) said = tt
@@ -156,30 +163,30 @@ module _ (setting : Setting) (is : IsSetting setting) (s : GroupState) (inv : Is
   are : AreFactsOf (seat_at setting i) (facts_of (s.histories i))
   are = inv.together.legal i lt
 
-  cast_adds : (payload : List ℕ) → AddsOne (ToCast payload) (cast_entry (cast_answer seat setting.limit now payload))
+  cast_adds : (load : Load) → AddsOne (ToCast load) (cast_entry (cast_answer seat setting.limit now load))
   unfolding cast_answer
-  cast_adds payload =
-      cond_both (ltb LONGEST_PAYLOAD (length payload)) _ _ Adds (λ _. adds_none (ToCast payload))
-      (λ short. cond_both (is_window_full seat (facts_of now)) _ _ Adds (λ _. adds_none (ToCast payload))
-      (λ free. cond_both (is_full setting.limit now) _ _ Adds (λ _. adds_none (ToCast payload)) (λ _. made (number_left seat (facts_of now) free) (ltb-false LONGEST_PAYLOAD (length payload) short))))
+  cast_adds load =
+      cond_both (ltb LONGEST_PAYLOAD (length (load_bytes load))) _ _ Adds (λ _. adds_none (ToCast load))
+      (λ short. cond_both (is_too_many seat (facts_of now) (length (payloads_of load))) _ _ Adds (λ _. adds_none (ToCast load))
+      (λ free. cond_both (is_full setting.limit now) _ _ Adds (λ _. adds_none (ToCast load)) (λ _. made (numbers_left seat (facts_of now) (length (payloads_of load)) free) (ltb-false LONGEST_PAYLOAD (length (load_bytes load)) short))))
     where
-      Adds : Result CastFields CastRefusal → Type 0
-      Adds r = AddsOne (ToCast payload) (cast_entry r)
+      Adds : Result CastFields CastFault → Type 0
+      Adds r = AddsOne (ToCast load) (cast_entry r)
 
       cast : CastFields
-      cast = next_cast seat (facts_of now) payload
+      cast = next_cast seat (facts_of now) load
 
-      made : delivered seat (facts_of now) seat.me < LAST_NUMBER → length payload ≤ LONGEST_PAYLOAD → Adds (Ok cast)
+      made : delivered seat (facts_of now) seat.me + length (payloads_of load) ≤ LAST_NUMBER → IsLoad load → Adds (Ok cast)
       made left short e at =
-          let read : frame_read (text_of (CastFrame cast)) ≡ Ok (CastFrame cast) = cast_read cast ((own_frames_have_texts seat (facts_of now) are).0 payload left short) in
+          let read : frame_read (text_of (CastFrame cast)) ≡ Ok (CastFrame cast) = cast_read cast ((own_frames_have_texts seat (facts_of now) are).0 load left short) in
           let same : CastEntry (text_of (CastFrame cast)) ≡ e = cc in
-          subst (λ (x : EntryFields). SaysOne (ToCast payload) (said_by x)) same
-          (subst (λ (r : Result FrameFields FrameFault). SaysOne (ToCast payload) (cast_said r)) (sym read) refl)
+          subst (λ (x : EntryFields). SaysOne (ToCast load) (said_by x)) same
+          (subst (λ (r : Result FrameFields FrameFault). SaysOne (ToCast load) (cast_said r)) (sym read) refl)
 
   call_goes_on : (call : Call) → IsFair setting s call → GoOn call (events seat (facts_of now)) (events seat (facts_of (history_after seat setting.limit now call)))
-  call_goes_on (ToCast payload) fair =
-      by_entry (ToCast payload) seat now (cast_entry (cast_answer seat setting.limit now payload))
-      (calls_keep_entries seat setting.limit now (ToCast payload) (inv.legal i lt) fair) (cast_adds payload)
+  call_goes_on (ToCast load) fair =
+      by_entry (ToCast load) seat now (cast_entry (cast_answer seat setting.limit now load))
+      (calls_keep_entries seat setting.limit now (ToCast load) (inv.legal i lt) fair) (cast_adds load)
   call_goes_on (ToTake bytes) fair =
       by_entry (ToTake bytes) seat now (arrive_entry bytes (arrive_answer seat setting.limit now bytes))
       (calls_keep_entries seat setting.limit now (ToTake bytes) (inv.legal i lt) fair.are_bytes) (arrival_adds bytes (arrive_answer seat setting.limit now bytes))
@@ -220,9 +227,9 @@ asked_goes_on setting is s inv step j =
 
 -- what a step asks for is asked of its member
 asks_its_member : (setting : Setting) (sent : List SentFrame) (step : Step) (i : ℕ) (call : Call) → asked_by setting sent step ≡ Calls i call → member_of step ≡ i
-asks_its_member setting sent (CastStep k payload) i call =
+asks_its_member setting sent (CastStep k load) i call =
     cond_both (ltb k setting.group.size) _ _ (λ (asked : Asked). asked ≡ Calls i call → k ≡ i)
-    (λ _. cond_both (are_bytes payload) (Calls k (ToCast payload)) OfNoBytes (λ (asked : Asked). asked ≡ Calls i call → k ≡ i) (λ _ e. cc) (λ _ e. absurd (cc e))) (λ _ e. absurd (cc e))
+    (λ _. cond_both (are_bytes (load_bytes load)) (Calls k (ToCast load)) OfNoBytes (λ (asked : Asked). asked ≡ Calls i call → k ≡ i) (λ _ e. cc) (λ _ e. absurd (cc e))) (λ _ e. absurd (cc e))
 asks_its_member setting sent (ArriveStep k number) i call =
     cond_both (ltb k setting.group.size) _ _ (λ (asked : Asked). asked ≡ Calls i call → k ≡ i) (λ _. handed (slice_get sent number)) (λ _ e. absurd (cc e))
   where
@@ -233,13 +240,17 @@ asks_its_member setting sent (TickStep k) i call =
     cond_both (ltb k setting.group.size) (Calls k ToTick) OfNoMember (λ (asked : Asked). asked ≡ Calls i call → k ≡ i) (λ _ e. cc) (λ _ e. absurd (cc e))
 
 -- and a cast is asked for by the step that casts
-asks_to_cast : (setting : Setting) (sent : List SentFrame) (step : Step) (i : ℕ) (payload : List ℕ) → asked_by setting sent step ≡ Calls i (ToCast payload) → step ≡ CastStep i payload
-asks_to_cast setting sent (CastStep k other) i payload =
-    cond_both (ltb k setting.group.size) _ _ (λ (asked : Asked). asked ≡ Calls i (ToCast payload) → CastStep k other ≡ CastStep i payload)
-    (λ _. cond_both (are_bytes other) (Calls k (ToCast other)) OfNoBytes (λ (asked : Asked). asked ≡ Calls i (ToCast payload) → CastStep k other ≡ CastStep i payload) (λ _ e. cc) (λ _ e. absurd (cc e)))
+asks_to_cast : (setting : Setting) (sent : List SentFrame) (step : Step) (i : ℕ) (load : Load) → asked_by setting sent step ≡ Calls i (ToCast load) → step ≡ CastStep i load
+asks_to_cast setting sent (CastStep k other) i load =
+    cond_both (ltb k setting.group.size) _ _ (λ (asked : Asked). asked ≡ Calls i (ToCast load) → CastStep k other ≡ CastStep i load)
+    (λ _. cond_both (are_bytes (load_bytes other)) (Calls k (ToCast other)) OfNoBytes (λ (asked : Asked). asked ≡ Calls i (ToCast load) → CastStep k other ≡ CastStep i load) (λ _ e. cc) (λ _ e. absurd (cc e)))
     (λ _ e. absurd (cc e))
-asks_to_cast setting sent (ArriveStep k number) i payload = λ e. absurd (no_cast setting sent (ArriveStep k number) tt i payload e)
-asks_to_cast setting sent (TickStep k) i payload = λ e. absurd (no_cast setting sent (TickStep k) tt i payload e)
+asks_to_cast setting sent (ArriveStep k number) i load = λ e. absurd (no_cast setting sent (ArriveStep k number) tt i load e)
+asks_to_cast setting sent (TickStep k) i load = λ e. absurd (no_cast setting sent (TickStep k) tt i load e)
+
+-- the step casts a load of member j that has this payload
+abbrev pub IsCastBy : Step → ℕ → List ℕ → Type 0
+IsCastBy step j payload = (load : Load) × (step ≡ CastStep j load) × IsIn payload (payloads_of load)
 
 module _ (setting : Setting) (is : IsSetting setting) (s : GroupState) (inv : IsConsistent setting s) (step : Step) where
   abbrev before : ℕ → List CausalEvent
@@ -264,11 +275,11 @@ module _ (setting : Setting) (is : IsSetting setting) (s : GroupState) (inv : Is
 
   -- and what a member has goes on
   pub goes_on : (j : ℕ) → (new : List Event) × (stamped_lists setting (step_after setting s step) j ≡ stamped_lists setting s j ++ new)
-      × AllByRecursion (λ (e : Event). (m : Message) → e ≡ Cast m → step ≡ CastStep j m.payload) new
+      × AllByRecursion (λ (e : Event). (m : Message) → e ≡ Cast m → IsCastBy step j m.payload) new
   goes_on j = by (asked_by setting s.sent step) refl (asked_goes_on setting is s inv step j)
     where
       Made : List Event → Type 0
-      Made new = AllByRecursion (λ (e : Event). (m : Message) → e ≡ Cast m → step ≡ CastStep j m.payload) new
+      Made new = AllByRecursion (λ (e : Event). (m : Message) → e ≡ Cast m → IsCastBy step j m.payload) new
 
       Goes : Type 0
       Goes = (new : List Event) × (stamped_lists setting (step_after setting s step) j ≡ stamped_lists setting s j ++ new) × Made new
@@ -281,7 +292,11 @@ module _ (setting : Setting) (is : IsSetting setting) (s : GroupState) (inv : Is
       each i call e own (Cast x ∷ new) all = (
         λ m at.
             let payload : x.payload ≡ m.payload = cc in
-            asks_to_cast setting s.sent step j m.payload (e ∙ ap (λ (k : ℕ). Calls k call) own ∙ ap (Calls j) (all.0 ∙ ap ToCast payload)),
+            let (load, asked, among) = all.0 in (
+              load,
+              asks_to_cast setting s.sent step j load (e ∙ ap (λ (k : ℕ). Calls k call) own ∙ ap (Calls j) asked),
+              subst (λ (p : List ℕ). IsIn p (payloads_of load)) payload among,
+            ),
         each i call e own new all.1,
       )
       each i call e own (Deliver x ∷ new) all = (λ m at. absurd (cc at), each i call e own new all.1)
@@ -297,7 +312,7 @@ module _ (setting : Setting) (is : IsSetting setting) (s : GroupState) (inv : Is
 
   -- so a cast is an old one, or the step's
   pub old_or_cast : (j place : ℕ) (m : Name) (payload : List ℕ) → slice_get (after j) place ≡ Some (causal.Cast m payload)
-      → (slice_get (before j) place ≡ Some (causal.Cast m payload)) ⊎ ((length (before j) ≤ place) × (step ≡ CastStep j payload))
+      → (slice_get (before j) place ≡ Some (causal.Cast m payload)) ⊎ ((length (before j) ≤ place) × IsCastBy step j payload)
   old_or_cast j place m payload at =
       let on = goes_on j in
       let parts : after j ≡ before j ++ without_times on.0 = ap without_times on.1 ∙ map-append without_time (stamped_lists setting s j) on.0 in
@@ -305,9 +320,9 @@ module _ (setting : Setting) (is : IsSetting setting) (s : GroupState) (inv : Is
         | inl old ↦ inl old
         | inr new ↦
             let event = get_map_from without_time on.0 new.0 (causal.Cast m payload) new.2 in
-            inr (omega (arith, new.1), is_its event.0 event.2 (at_index (λ (e : Event). (x : Message) → e ≡ Cast x → step ≡ CastStep j x.payload) on.0 new.0 event.0 on.2 event.1))
+            inr (omega (arith, new.1), is_its event.0 event.2 (at_index (λ (e : Event). (x : Message) → e ≡ Cast x → IsCastBy step j x.payload) on.0 new.0 event.0 on.2 event.1))
       ]
     where
-      is_its : (e : Event) → without_time e ≡ causal.Cast m payload → ((x : Message) → e ≡ Cast x → step ≡ CastStep j x.payload) → step ≡ CastStep j payload
-      is_its (Cast x) same each = let payloads : x.payload ≡ payload = cc in each x refl ∙ ap (CastStep j) payloads
+      is_its : (e : Event) → without_time e ≡ causal.Cast m payload → ((x : Message) → e ≡ Cast x → IsCastBy step j x.payload) → IsCastBy step j payload
+      is_its (Cast x) same each = let payloads : x.payload ≡ payload = cc in subst (IsCastBy step j) payloads (each x refl)
       is_its (Deliver x) same each = absurd (cc same)

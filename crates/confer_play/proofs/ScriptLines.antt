@@ -6,6 +6,7 @@ use Rattle.std.specs.Io.KnownBytes.{Appends}
 use Rattle.std.proofs.lemmas.List.{map-append}
 use Rattle.std.proofs.lemmas.Option.{slice_get_read}
 use denote.Ref.{Bor}
+use Rattle.cb_frames.specs.Fields.{One}
 use Rattle.cb_schedules.specs.Schedule.{Setting, CastStep}
 use Rattle.confer_play.specs.declared.script.ScriptStep.{ScriptStep}
 use Rattle.confer_play.specs.declared.script.LineFault.{LineFault}
@@ -20,7 +21,7 @@ pub behind : (text verb rest word : List ℕ) (r : Result ScriptStep LineFault) 
 behind text verb rest word r is same says =
     subst (λ (t : List ℕ). IfOk r (λ step. Orders t (order_of step))) (sym (is ∙ ap (λ (v : List ℕ). spaced v rest) same)) says
 
-pub says_cast : (words word : List ℕ) (i : ℕ) (payload : List ℕ) → words ≡ spaced (decimal i) word → IsPayloadWord word payload → Orders (spaced (codes "cast") words) (Takes (CastStep i payload))
+pub says_cast : (words word : List ℕ) (i : ℕ) (payload : List ℕ) → words ≡ spaced (decimal i) word → IsPayloadWord word payload → Orders (spaced (codes "cast") words) (Takes (CastStep i (One payload)))
 says_cast words word i payload is spelled = (word, ap (spaced (codes "cast")) is, spelled)
 
 pub first_line : (text behind_group behind_size behind_window word digits : List ℕ) (g n w h : ℕ) (setting : Setting) → text ≡ labelled (codes "group") g behind_group → behind_group ≡ labelled (codes "size") n behind_size

@@ -9,6 +9,10 @@ use Rattle.cb_causality.proofs.Counting.{take_whole}
 use Rattle.cb_history.specs.View.{view}
 use Rattle.cb_rooms.specs.Line.{LineFields, IsPayload}
 use Rattle.cb_rooms.specs.Compose.{compose_fault}
+use Rattle.cb_frames.specs.Fields.{Load, One, payloads_of}
+use Rattle.cb_frames.proofs.Carried.{IsIn}
+use Rattle.cb_history.proofs.Agreement.{all_at}
+use Rattle.cb_history.proofs.Lists.{in_one}
 use Rattle.cb_schedules.specs.Schedule.{Setting, IsSetting, Step, CastStep, GroupState, run_from, step_after}
 use Rattle.cb_schedules.specs.Messages.{stamped_lists, causal_lists}
 use Rattle.cb_schedules.specs.Consistent.{IsConsistent}
@@ -19,7 +23,7 @@ use Rattle.cb_world.specs.World.{WorldState, run_in, and_step}
 use Rattle.confer_play.specs.Rooms.{view_of, IsAnswer, WasComposed, AnswersWereComposed, QuestionsComeFirst}
 use Rattle.confer_play.specs.Playing.{ScriptOrder, Takes, Composes, Shows, events_in, view_in, new_group, ComesOf, Plays, NoOrders, OneAndThen, CastsNoAnswer, CastNoAnswers}
 use Rattle.confer_play.proofs.Asking.{no_orphan, shows_all_lines, agree_on_lines}
-use Rattle.confer_play.proofs.Casting.{goes_on, old_or_cast}
+use Rattle.confer_play.proofs.Casting.{IsCastBy, goes_on, old_or_cast}
 
 take_front : {X : Type 0} (xs ys : List X) (n : ℕ) → n ≤ length xs → take n (xs ++ ys) ≡ take n xs
 take_front [] ys zero h = refl
@@ -47,7 +51,7 @@ module _ (w : WorldState) (is : IsSetting w.setting) (step : Step) where
       let parts : then_lists i ≡ events_in w i ++ without_times on.0 = ap without_times on.1 ∙ map-append without_time (stamped_lists w.setting (run_in w) i) on.0 in
       ap (take n) parts ∙ take_front (events_in w i) (without_times on.0) n within
 
-  pub composed_by_step : AnswersWereComposed (events_in w) → ((j : ℕ) (payload : List ℕ) → step ≡ CastStep j payload → IsAnswer payload → HasComposed w j payload)
+  pub composed_by_step : AnswersWereComposed (events_in w) → ((j : ℕ) (payload : List ℕ) → IsCastBy step j payload → IsAnswer payload → HasComposed w j payload)
       → AnswersWereComposed (events_in (and_step w step))
   composed_by_step composed new =
       subst (λ (s : GroupState). AnswersWereComposed (causal_lists w.setting s)) (sym (runs_go_on w.setting w.steps step)) each
@@ -83,13 +87,19 @@ AreComposed w after = (after.setting ≡ w.setting) × AnswersWereComposed (even
 
 composed_by_order : (w next : WorldState) (order : ScriptOrder) → IsSetting w.setting → CastsNoAnswer order → AnswersWereComposed (events_in w) → ComesOf order w next → AreComposed w next
 composed_by_order w next (Takes step) is none composed comes =
-    subst (AreComposed w) (sym comes) (refl, composed_by_step w is step composed (λ j payload e answer. absurd (subst (λ (s : Step). CastsNoAnswer (Takes s)) e none answer)))
+    subst (AreComposed w) (sym comes) (
+      refl,
+      composed_by_step w is step composed (λ j payload cast answer.
+          absurd (all_at (λ (p : List ℕ). ¬ IsAnswer p) (payloads_of cast.0) payload (subst (λ (s : Step). CastsNoAnswer (Takes s)) cast.1 none) cast.2 answer)),
+    )
 composed_by_order w next (Composes i line) is none composed comes = elim comes [
   | inl c ↦ subst (AreComposed w) (sym c.cast) (
     refl,
-    composed_by_step w is (CastStep i c.payload) composed (λ j payload e answer.
+    composed_by_step w is (CastStep i (One c.payload)) composed (λ j payload cast answer.
+        let e = cast.1 in
         let member : i ≡ j = cc in
-        let same : c.payload ≡ payload = cc in
+        let load : One c.payload ≡ cast.0 = cc in
+        let same : c.payload ≡ payload = sym (in_one payload c.payload (subst (λ (l : Load). IsIn payload (payloads_of l)) (sym load) cast.2)) in
         (line, subst (λ (k : ℕ). compose_fault (view_in w k) line ≡ None) member c.placed, subst (IsPayload line) same c.made)),
   )
   | inr c ↦ subst (AreComposed w) (sym c.same) (refl, composed)

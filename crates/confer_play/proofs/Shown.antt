@@ -18,6 +18,7 @@ use Rattle.cb_rooms.specs.Line.{LineFields, IsPayload}
 use Rattle.cb_rooms.specs.Compose.{compose_fault, MayFail}
 use Rattle.cb_rooms.specs.View.{ViewLine, lines_after, conference_view, screen_text}
 use Rattle.cb_rooms.proofs.Views.{goes_on as one_line_more}
+use Rattle.cb_frames.specs.Fields.{One}
 use Rattle.cb_schedules.specs.Schedule.{Setting, IsSetting, Step, CastStep, GroupState, run_from, step_after}
 use Rattle.cb_schedules.specs.Messages.{stamped_lists, causal_lists}
 use Rattle.cb_schedules.specs.Consistent.{IsConsistent}
@@ -157,7 +158,7 @@ composes_nothing w attendances i line a fault at may ne shown = inr (record {
 })
 
 pub composes : (w after : WorldState) (attendances : List Attendance) (i : ℕ) (line : LineFields) (a : Attendance) (payload : List ℕ) → slice_get attendances i ≡ Some a
-    → IsPayload line payload → compose_fault a.conference.lines line ≡ None → after ≡ and_step w (CastStep i payload) → AreShown w attendances → ComesOf (Composes i line) w after
+    → IsPayload line payload → compose_fault a.conference.lines line ≡ None → after ≡ and_step w (CastStep i (One payload)) → AreShown w attendances → ComesOf (Composes i line) w after
 composes w after attendances i line a payload at made none cast shown = inl (record {
   member = let within = slice_get_within attendances i a at in let many = shown.many in omega (arith, within, many);
   placed = subst (λ (lines : List ViewLine). compose_fault lines line ≡ None) (lines_at w attendances i a shown at) none;

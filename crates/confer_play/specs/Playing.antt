@@ -5,6 +5,7 @@ use Rattle.std.specs.Str.Lines.{lines}
 use Rattle.cb_delay.specs.declared.message.Event.{Event}
 use Rattle.cb_causality.specs.declared.event.CausalEvent.{CausalEvent}
 use Rattle.cb_delay.specs.Message.{message_of}
+use Rattle.cb_frames.specs.Fields.{One, payloads_of}
 use Rattle.cb_rooms.specs.Line.{LineFields, fields_of, IsPayload}
 use Rattle.cb_rooms.specs.Compose.{compose_fault}
 use Rattle.cb_rooms.specs.Conference.{held}
@@ -47,7 +48,7 @@ pub record ComposesAndCasts (w : WorldState) (i : ℕ) (line : LineFields) (afte
   pub placed : compose_fault (view_in w i) line ≡ None
   pub payload : List ℕ
   pub made : IsPayload line payload
-  pub cast : after ≡ and_step w (CastStep i payload)
+  pub cast : after ≡ and_step w (CastStep i (One payload))
 
 -- There is no such member, or its conference has a fault to find with the line. Nothing happens.
 pub record ComposesNothing (w : WorldState) (i : ℕ) (line : LineFields) (after : WorldState) : Type 0 where
@@ -76,7 +77,7 @@ new_group setting = record { setting = setting; steps = [] }
 
 -- no plain cast of the script carries an answer
 abbrev pub CastsNoAnswer : ScriptOrder → Type 0
-CastsNoAnswer (Takes (CastStep i payload)) = ¬ IsAnswer payload
+CastsNoAnswer (Takes (CastStep i load)) = AllByRecursion (λ payload. ¬ IsAnswer payload) (payloads_of load)
 CastsNoAnswer (Takes (ArriveStep j number)) = Unit {0}
 CastsNoAnswer (Takes (TickStep i)) = Unit {0}
 CastsNoAnswer (Composes i line) = Unit {0}

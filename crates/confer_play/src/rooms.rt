@@ -9,6 +9,7 @@ ghost use Rattle.cb_rooms.specs.declared.fault.ComposeFault.TheVariants as compo
 ghost use Rattle.cb_rooms.specs.Conference.{held};
 ghost use Rattle.cb_rooms.specs.Line.{fields_of};
 ghost use Rattle.cb_rooms.specs.View.{screen_text};
+ghost use Rattle.cb_frames.specs.Fields.{One};
 ghost use Rattle.cb_schedules.specs.Schedule.{CastStep};
 ghost use Rattle.cb_world.specs.Steps.{step_fields};
 ghost use Rattle.cb_world.specs.World.{and_step};
@@ -112,7 +113,7 @@ impl Rooms {
     /// The member casts this payload.
     fn cast(&mut self, member: u32, payload: Vec<u8>) -> Result<Composed, NoMemory>
         ensures world { OnOk result (self.new.world
-            ≡ and_step self.old.world (CastStep member payload.items)) }
+            ≡ and_step self.old.world (CastStep member (One payload.items))) }
         ensures shown { OnOk result (AreShown self.old.world self.old.attendances.items
             → AreShown self.new.world self.new.attendances.items) }
     {

@@ -17,6 +17,7 @@ use Rattle.cb_handle.specs.Copies.{copied}
 use Rattle.cb_handle.specs.Entries.{range_row}
 use Rattle.cb_handle.specs.Opening.{RefusesToOpen, IsNewOf}
 use Rattle.cb_handle.specs.Calling.{OnEach, seat_held, HasCastToSend, HasReceivedToSend, HasTickedToSend, RefusesBytes, HasReceivedLoaded, RefusesLoaded, with_loaded}
+use Rattle.cb_handle.specs.Parts.{HasReceivedParts, RefusesParts}
 use Rattle.jolunza.specs.declared.code.TheConstants.{DONE, CLOSED, NO_MEMORY, BAD_MEMBER, NONE_THERE}
 use Rattle.jolunza.specs.Codes.{open_code, cast_code, arrive_code, loaded_code, tick_code}
 
@@ -48,6 +49,10 @@ pub record Loads (bytes : List ℕ) (before after : Held) (code : ℕ) : Type 0 
 abbrev pub ReceivesLoaded : ℕ → ℕ → Received → Held → Held → ℕ → Type 0
 ReceivesLoaded first len received before after code =
     IsDoneOr (HasReceivedLoaded before after first len received) LoadedRefusal loaded_code (RefusesLoaded before first len) before after code
+
+abbrev pub ReceivesParts : ℕ → List ℕ → ℕ → Held → Held → ℕ → Type 0
+ReceivesParts first lengths taken before after code =
+    IsDoneOr (HasReceivedParts before after first lengths taken) LoadedRefusal loaded_code (RefusesParts before first lengths) before after code
 
 abbrev pub Ticks : Held → Held → ℕ → Type 0
 Ticks before after code =

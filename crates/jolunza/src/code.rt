@@ -1,9 +1,9 @@
 //! The codes that the calls answer.
 
 ghost use Rattle.std.specs.Prelude.{◌≡◌};
-ghost use Rattle.jolunza.specs.Codes.{answer_code, open_code, cast_code, arrive_code, tick_code, missing_code, reading_code};
+ghost use Rattle.jolunza.specs.Codes.{answer_code, open_code, cast_code, arrive_code, loaded_code, tick_code, missing_code, reading_code};
 
-use cb_handle::{NoneThere, OpenFault};
+use cb_handle::{LoadedRefusal, NoneThere, OpenFault};
 use cb_member::{ArriveRefusal, CastRefusal, MissingFault, NewFault, TickRefusal};
 
 pub const DONE: u32 = 0;
@@ -70,6 +70,15 @@ pub fn of_arrival(refusal: ArriveRefusal) -> u32
         ArriveRefusal::TooFar => TOO_FAR,
         ArriveRefusal::HistoryFull => HISTORY_FULL,
         ArriveRefusal::NoMemory => NO_MEMORY,
+    }
+}
+
+pub fn of_loaded(refusal: LoadedRefusal) -> u32
+    ensures { result ≡ loaded_code refusal }
+{
+    match refusal {
+        LoadedRefusal::NotLoaded => NONE_THERE,
+        LoadedRefusal::Refused(refusal) => of_arrival(refusal),
     }
 }
 

@@ -13,7 +13,7 @@ ghost use Rattle.cb_handle.specs.Events.{ShowsEvent, ShowsEvents};
 ghost use Rattle.cb_handle.specs.Entries.{ShowsEntry};
 ghost use Rattle.cb_handle.specs.Calling.{OnEach, counts_of, entries_held, events_held};
 ghost use Rattle.jolunza.specs.declared.code.TheConstants.{DONE};
-ghost use Rattle.jolunza.specs.Calls.{Calls, Casts, Receives, Loads, ReceivesLoaded, Ticks, Reads, IsDone, ShowsAt, ShowsMissing, Opens};
+ghost use Rattle.jolunza.specs.Calls.{Calls, Casts, Receives, Loads, ReceivesLoaded, ReceivesParts, Ticks, Reads, IsDone, ShowsAt, ShowsMissing, Opens};
 
 mod code;
 #[cfg(test)]
@@ -21,7 +21,7 @@ mod tests;
 mod told;
 
 use crate::code::{CLOSED, DONE, NO_MEMORY};
-use crate::told::{tell_loaded, tell_missing, tell_received};
+use crate::told::{tell_loaded, tell_missing, tell_parts, tell_received};
 use cb_handle::{
     Counts, EntryHead, EventHead, FrameHead, Handle, Held, Name, Range, Received, put, take,
 };
@@ -128,6 +128,28 @@ pub extern "C" fn jolunza_receive_loaded(
     let answer = held.receive_loaded(alloc, first, length);
     put(handle, held);
     tell_loaded(answer, received)
+}
+
+/// Takes parts of the loaded bytes, of these lengths and from `first` on, one after another as `jolunza_receive_loaded` takes one, and
+/// tells how many were taken.
+#[unsafe(no_mangle)]
+pub extern "C" fn jolunza_receive_parts(
+    alloc: Global,
+    handle: &mut Handle,
+    first: usize,
+    lengths: &[usize],
+    taken: &mut usize,
+) -> u32
+    ensures does { Calls (ReceivesParts first lengths.now taken.new) handle.old.held
+        handle.new.held result }
+    ensures same { result ≢ DONE → taken.new ≡ taken.old }
+{
+    let Some(mut held) = take(alloc, handle) else {
+        return CLOSED;
+    };
+    let answer = held.receive_parts(alloc, first, lengths);
+    put(handle, held);
+    tell_parts(answer, taken)
 }
 
 /// Reports the status to all others, and asks each for what is missing of it.

@@ -5,6 +5,7 @@ mod bulk;
 mod codes;
 mod forgetting;
 mod loading;
+mod parts;
 mod reading;
 
 use crate::code::DONE;

@@ -4,7 +4,7 @@ ghost use Rattle.std.specs.Prelude.{◌≡◌, MatchResult};
 ghost use Rattle.jolunza.specs.Codes.{arrive_code, loaded_code, missing_code};
 ghost use Rattle.jolunza.specs.declared.code.TheConstants.{DONE};
 
-use crate::code::{self, DONE, NONE_THERE};
+use crate::code::{self, DONE};
 use cb_handle::{LoadedRefusal, Received};
 use cb_member::{ArriveRefusal, MissingFault};
 
@@ -29,8 +29,21 @@ pub fn tell_loaded(answer: Result<Received, LoadedRefusal>, received: &mut Recei
 {
     match answer {
         Ok(told) => tell_received(Ok(told), received),
-        Err(LoadedRefusal::Refused(refusal)) => tell_received(Err(refusal), received),
-        Err(LoadedRefusal::NotLoaded) => NONE_THERE,
+        Err(refusal) => code::of_loaded(refusal),
+    }
+}
+
+/// Fills in how many parts of the loaded bytes were taken, where the first was not refused.
+pub fn tell_parts(answer: Result<usize, LoadedRefusal>, taken: &mut usize) -> u32
+    ensures { MatchResult answer (λ count. (result ≡ DONE) × (taken.new ≡ count))
+        (λ refusal. (result ≡ loaded_code refusal) × (taken.new ≡ taken.old)) }
+{
+    match answer {
+        Ok(count) => {
+            *taken = count;
+            DONE
+        }
+        Err(refusal) => code::of_loaded(refusal),
     }
 }
 

@@ -1,0 +1,195 @@
+-- What stays to be read in front of what a call has added, and parts that are received one after another.
+use Rattle.std.proofs.Common.{◌≡◌, ◌≢◌, ◌⊎◌, ℕ, ◌+◌, ◌≤◌, ◌<◌, ◌==◌, Bool, true, false, List, [], ◌∷◌, ◌++◌, length, take, drop, map, Option, Result, Ok, Err, get_or, refl, sym, ap, subst, ◌∙◌, arith, inl, inr}
+use Rattle.std.specs.Prelude.{IfErr, IfOk, if◌then◌else◌, slice_range, sum}
+use Rattle.std.proofs.lemmas.Bool.{eqb-true, lt-ltb, ne_eqb}
+use Rattle.std.proofs.Math.Dec.{ltb}
+use Rattle.std.proofs.lemmas.List.Sums.{sum_by-append}
+use Rattle.cb_history.specs.declared.answer.ArriveRefusal.{ArriveRefusal}
+use Rattle.cb_handle.specs.declared.held.LoadedRefusal.{LoadedRefusal}
+use Rattle.cb_handle.specs.declared.held.LoadedRefusal.TheVariants.{Refused}
+use Rattle.std.proofs.lemmas.List.{drop-map, drop_at, drop_more, nil_from_length, take_more}
+use Rattle.cb_delay.specs.declared.message.Event.{Event}
+use Rattle.cb_history.specs.declared.answer.Outgoing.{Outgoing}
+use Rattle.cb_history.specs.declared.history.Entry.{Entry}
+use Rattle.cb_history.specs.Facts.{EntryFields, entry_fields}
+use Rattle.cb_history.specs.Legal.{and_entry}
+use Rattle.cb_member.specs.declared.recorder.taken.Received as taken
+use Rattle.cb_member.specs.declared.recorder.taken.Received.TheVariants as takens
+use Rattle.cb_member.specs.CoreMember.{Core}
+use Rattle.cb_member.specs.Received.{received_says, sent_by}
+use Rattle.cb_history.specs.Answers.{ArrivalSays}
+use Rattle.cb_handle.specs.declared.held.Held.{Held}
+use Rattle.cb_handle.specs.declared.rows.Received.{Received}
+use Rattle.cb_handle.specs.Frames.{frames_of}
+use Rattle.cb_handle.specs.Kept.{IsHistory, IsKept, KeptMember}
+use Rattle.cb_handle.specs.Calling.{AreLoaded, HasReceivedLoaded, HasReceivedToSend, OnEach, RefusesBytes, RefusesLoaded, Tells, received_row, row_of}
+use Rattle.cb_handle.specs.Parts.{AreReceived, OneMore, OnePart, HasReceivedBehind, HasReceivedParts, Leaves, RefusesParts, Stops, behind, held_behind}
+use Rattle.cb_handle.proofs.Adding.{joined}
+
+-- ---- what is left to be read
+
+left_by : {X : Type 0} → (b stays : Bool) (old added all : List X) → all ≡ old ++ added
+    → (if b then drop (if stays then 0 else length old) all else all)
+    ≡ (if stays then (if b then old else []) ++ (if b then drop (length old) all else all) else (if b then drop (length old) all else all))
+left_by true true old added all joins = joins ∙ ap (λ xs. old ++ xs) (sym (ap (drop (length old)) joins ∙ drop_at old added (length old) refl))
+left_by true false old added all joins = refl
+left_by false true old added all joins = refl
+left_by false false old added all joins = refl
+
+pub count_is : {X Y : Type 0} → (stays : Bool) (n : ℕ) (counted : List X) (old : List Y) → n ≡ (if stays then 0 else length counted) → length counted ≡ length old → n ≡ (if stays then 0 else length old)
+count_is stays n counted old is same = is ∙ ap (λ (k : ℕ). if stays then 0 else k) same
+
+abbrev pub left : {X : Type 0} → ℕ → List X → List X → List X
+left limit old all = if limit == 0 then drop (length old) all else all
+
+-- of the events
+pub events_stay : (limit n : ℕ) (stays : Bool) (old added all new : List Event) → new ≡ (if limit == 0 then drop n all else all) → n ≡ (if stays then 0 else length old) → all ≡ old ++ added
+    → new ≡ (if stays then (if limit == 0 then old else []) ++ left limit old all else left limit old all)
+events_stay limit n stays old added all new is many joins =
+    is ∙ ap (λ (k : ℕ). if limit == 0 then drop k all else all) many ∙ left_by (limit == 0) stays old added all joins
+
+fields_left : (b : Bool) (n : ℕ) (all new : List Entry) → new ≡ (if b then drop n all else all) → map entry_fields new ≡ (if b then drop n (map entry_fields all) else map entry_fields all)
+fields_left true n all new is = ap (map entry_fields) is ∙ sym (drop-map entry_fields n all)
+fields_left false n all new is = ap (map entry_fields) is
+
+-- and of the entries
+pub entries_stay : (limit n : ℕ) (stays : Bool) (old : List EntryFields) (all new : List Entry) (entry : Option EntryFields) → new ≡ (if limit == 0 then drop n all else all)
+    → n ≡ (if stays then 0 else length old) → map entry_fields all ≡ and_entry old entry
+    → map entry_fields new ≡ (if stays then (if limit == 0 then old else []) ++ left limit old (and_entry old entry) else left limit old (and_entry old entry))
+entries_stay limit n stays old all new entry is many joins =
+    fields_left (limit == 0) n all new is ∙ ap (λ (xs : List EntryFields). if limit == 0 then drop n xs else xs) joins
+    ∙ ap (λ (k : ℕ). if limit == 0 then drop k (and_entry old entry) else and_entry old entry) many
+    ∙ left_by (limit == 0) stays old (and_entry [] entry) (and_entry old entry) (sym (joined old entry))
+
+pub is_behind : (stays : Bool) (core : Core) (limit : ℕ) (old : KeptMember) (entries left_entries : List EntryFields) (events left_events : List Event)
+    → entries ≡ (if stays then (if limit == 0 then old.entries else []) ++ left_entries else left_entries) → events ≡ (if stays then (if limit == 0 then old.events else []) ++ left_events else left_events)
+    → (let new : KeptMember = record { core = core; limit = limit; entries = entries; events = events } in
+    let after : KeptMember = record { core = core; limit = limit; entries = left_entries; events = left_events } in
+    new ≡ (if stays then behind old after else after))
+is_behind true core limit old entries left_entries events left_events e v = λ i. record { core = core; limit = limit; entries = e i; events = v i }
+is_behind false core limit old entries left_entries events left_events e v = λ i. record { core = core; limit = limit; entries = e i; events = v i }
+
+-- a history that is kept is the one after the call
+same_behind : (old after : KeptMember) → after.limit ≢ 0 → behind old after ≡ after
+same_behind old after some = λ i. record {
+  core = after.core;
+  limit = after.limit;
+  entries = (if ne_eqb after.limit 0 some i then old.entries else []) ++ after.entries;
+  events = (if ne_eqb after.limit 0 some i then old.events else []) ++ after.events;
+}
+
+pub kept_behind : (stays : Bool) (old after new : KeptMember) → new ≡ (if stays then behind old after else after) → IsKept after → IsKept new
+kept_behind false old after new is kept = subst IsKept (sym is) kept
+kept_behind true old after new is kept = λ some.
+    let over : after.limit ≢ 0 = λ zero. some (ap (λ (k : KeptMember). k.limit) is ∙ zero) in
+    subst IsHistory (sym (is ∙ same_behind old after over)) (kept over)
+
+-- ---- what is told
+
+told_so : (r : taken.Received) (says : ArrivalSays) → Tells r says → row_of r ≡ received_row says
+told_so (takens.Accepted delivered changed out) says t =
+    (λ i. record { is_repeat = false; is_entered = changed; delivered = t.count i }) ∙ ap received_row t.said
+told_so takens.Repeat says t = ap received_row t.said
+
+sends_so : (r : taken.Received) (says : ArrivalSays) → Tells r says → sent_by (received_says r []) ≡ sent_by says
+sends_so (takens.Accepted delivered changed out) says t = ap sent_by t.said
+sends_so takens.Repeat says t = ap sent_by t.said
+
+pub leaves_so : (stays : Bool) (old new : Held) (bytes : List ℕ) (r : taken.Received) (received : Received) → HasReceivedBehind stays old.kept new.kept bytes r
+    → received ≡ row_of r → frames_of new.frames ≡ sent_by (received_says r []) → new.loaded ≡ old.loaded → Leaves stays old new (λ after. HasReceivedToSend old after bytes received)
+leaves_so true old new bytes r received has told sends loaded = (
+  record new { kept = has.0 },
+  record { says = has.1.says; answer = has.1.answer; told = told ∙ told_so r has.1.says has.1.tells; sends = sends ∙ sends_so r has.1.says has.1.tells; loaded = loaded; goes_on = has.1.goes_on },
+  λ i. record new { kept = has.2 i },
+)
+leaves_so false old new bytes r received has told sends loaded = (
+  record new { kept = has.0 },
+  record { says = has.1.says; answer = has.1.answer; told = told ∙ told_so r has.1.says has.1.tells; sends = sends ∙ sends_so r has.1.says has.1.tells; loaded = loaded; goes_on = has.1.goes_on },
+  λ i. record new { kept = has.2 i },
+)
+
+-- ---- parts, one after another
+
+-- so many are received
+pub record SoFar (first : ℕ) (lengths : List ℕ) (old now : Held) (place count : ℕ) : Type 0 where
+  pub place_is : place ≡ first + sum (take count lengths)
+  pub received : ((count ≡ 0) × (now ≡ old)) ⊎ ((1 ≤ count) × AreReceived first old (take count lengths) now)
+
+pub no_frames : (shown frames : List Outgoing) → shown ≡ frames → (length shown == 0) ≡ true → frames ≡ []
+no_frames shown frames is none = sym is ∙ nil_from_length shown (eqb-true (length shown) 0 none)
+
+not_zero : (count : ℕ) → 1 ≤ count → count ≢ 0
+not_zero count some zero = omega (arith, some, zero)
+
+module _ (first : ℕ) (lengths : List ℕ) (old now : Held) (place count : ℕ) (so : SoFar first lengths old now place count) (more : count < length lengths) where
+  abbrev len : ℕ
+  len = get_or lengths count 0
+
+  at_first : count ≡ 0 → place ≡ first
+  at_first zero =
+      let none : first + sum (take 0 lengths) ≡ first = omega arith in
+      so.place_is ∙ ap (λ (n : ℕ). first + sum (take n lengths)) zero ∙ none
+
+  module _ (loaded : AreLoaded now place len) (end : ℕ) (end_is : end ≡ place + len) where
+    module _ (refusal : ArriveRefusal) (refuses : OnEach now (λ m. RefusesBytes m (slice_range now.loaded place end) refusal)) where
+      refuses_it : RefusesLoaded now place len (Refused refusal)
+      refuses_it = (loaded, subst (λ (e : ℕ). OnEach now (λ m. RefusesBytes m (slice_range now.loaded place e) refusal)) end_is refuses)
+
+      abbrev says_so : Result ℕ LoadedRefusal → ℕ → Type 0
+      says_so answer n = answer ≡ (if n == 0 then Err (Refused refusal) else Ok n)
+
+      pub ended_done : (new : Held) → new ≡ now → (answer : Result ℕ LoadedRefusal) → says_so answer count → IfOk answer (HasReceivedParts old new first lengths)
+      ended_done new same answer is = elim so.received [
+        | inl none ↦ subst (λ (a : Result ℕ LoadedRefusal). IfOk a (HasReceivedParts old new first lengths)) (sym (subst (says_so answer) none.0 is)) tt
+        | inr some ↦
+            let ok : answer ≡ Ok count = is ∙ ap (λ (b : Bool). let r : Result ℕ LoadedRefusal = if b then Err (Refused refusal) else Ok count in r) (ne_eqb count 0 (not_zero count some.0)) in
+            let has : HasReceivedParts old now first lengths count = record {
+              upto = omega (arith, more);
+              received = some.1;
+              stops = subst (Stops now (first + sum (take count lengths))) (sym (drop_more lengths count 0 more))
+                  (inr (Refused refusal, subst (λ (p : ℕ). RefusesLoaded now p len (Refused refusal)) so.place_is refuses_it));
+            } in
+            subst (λ (a : Result ℕ LoadedRefusal). IfOk a (HasReceivedParts old new first lengths)) (sym ok) (subst (λ (h : Held). HasReceivedParts old h first lengths count) (sym same) has)
+      ]
+
+      pub ended_refused : (answer : Result ℕ LoadedRefusal) → says_so answer count → IfErr answer (RefusesParts old first lengths)
+      ended_refused answer is = elim so.received [
+        | inl none ↦
+            let head : lengths ≡ len ∷ drop (count + 1) lengths = sym (ap (λ (n : ℕ). drop n lengths) none.0) ∙ drop_more lengths count 0 more in
+            let refuses_first : RefusesLoaded old first len (Refused refusal) = subst (λ (z : Held × ℕ). RefusesLoaded z.0 z.1 len (Refused refusal)) (λ i. (none.1 i, at_first none.0 i)) refuses_it in
+            subst (λ (a : Result ℕ LoadedRefusal). IfErr a (RefusesParts old first lengths)) (sym (subst (says_so answer) none.0 is))
+            (subst (λ (xs : List ℕ). RefusesParts old first xs (Refused refusal)) (sym head) refuses_first)
+        | inr some ↦
+            let ok : answer ≡ Ok count = is ∙ ap (λ (b : Bool). let r : Result ℕ LoadedRefusal = if b then Err (Refused refusal) else Ok count in r) (ne_eqb count 0 (not_zero count some.0)) in
+            subst (λ (a : Result ℕ LoadedRefusal). IfErr a (RefusesParts old first lengths)) (sym ok) tt
+      ]
+
+    next_place : end ≡ first + sum (take (count + 1) lengths)
+    next_place =
+        let longer : sum (take (count + 1) lengths) ≡ sum (take count lengths) + len =
+        ap sum (take_more lengths count 0 more) ∙ sum_by-append (λ (x : ℕ). x) (take count lengths) (len ∷ []) ∙ (omega arith) in
+        omega (arith, end_is, so.place_is, longer)
+
+    pub one_part_more : (1 ≤ count → frames_of now.frames ≡ []) → (new : Held) (received : Received)
+        → Leaves (ltb 0 count) now new (λ after. HasReceivedToSend now after (slice_range now.loaded place end) received) → SoFar first lengths old new end (count + 1)
+    one_part_more silent new received leaves =
+        let after : Held = leaves.0 in
+        let does : HasReceivedLoaded now after place len received = (loaded, subst (λ (e : ℕ). HasReceivedToSend now after (slice_range now.loaded place e) received) end_is leaves.1) in
+        let parts : take (count + 1) lengths ≡ take count lengths ++ len ∷ [] = take_more lengths count 0 more in
+        record {
+          place_is = next_place;
+          received = inr (
+            omega arith,
+            elim so.received [
+              | inl none ↦
+                  let new_is : new ≡ after = leaves.2 ∙ ap (λ (n : ℕ). if ltb 0 n then held_behind now after else after) none.0 in
+                  let one : take (count + 1) lengths ≡ len ∷ [] = parts ∙ ap (λ (n : ℕ). take n lengths ++ len ∷ []) none.0 in
+                  let it : HasReceivedLoaded old after first len received = subst (λ (z : Held × ℕ). HasReceivedLoaded z.0 after z.1 len received) (λ i. (none.1 i, at_first none.0 i)) does in
+                  subst (λ (z : List ℕ × Held). AreReceived first old z.0 z.1) (λ i. (sym one i, sym new_is i)) (OnePart len received after it)
+              | inr some ↦
+                  let new_is : new ≡ held_behind now after = leaves.2 ∙ ap (λ (b : Bool). if b then held_behind now after else after) (lt-ltb 0 count (omega (arith, some.0))) in
+                  let it : HasReceivedLoaded now after (first + sum (take count lengths)) len received = subst (λ (p : ℕ). HasReceivedLoaded now after p len received) so.place_is does in
+                  subst (λ (z : List ℕ × Held). AreReceived first old z.0 z.1) (λ i. (sym parts i, sym new_is i)) (OneMore (take count lengths) len received now after some.1 (silent some.0) it)
+            ],
+          );
+        }

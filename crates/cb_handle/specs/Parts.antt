@@ -1,0 +1,47 @@
+-- Parts of what is loaded, received one after another in one call.
+use Rattle.std.specs.Prelude.{◌≡◌, ◌≢◌, ◌⊎◌, ℕ, ◌+◌, ◌≤◌, Bool, List, [], ◌∷◌, ◌++◌, length, take, drop, sum, if◌then◌else◌}
+use Rattle.cb_handle.specs.declared.held.Held.{Held}
+use Rattle.cb_handle.specs.declared.held.LoadedRefusal.{LoadedRefusal}
+use Rattle.cb_handle.specs.declared.held.LoadedRefusal.TheVariants.{NotLoaded}
+use Rattle.cb_handle.specs.declared.rows.Received.{Received}
+use Rattle.cb_handle.specs.Frames.{frames_of}
+use Rattle.cb_handle.specs.Kept.{KeptMember, gone}
+use Rattle.cb_member.specs.declared.recorder.taken.Received as taken
+use Rattle.cb_handle.specs.Calling.{HasReceived, HasReceivedLoaded, RefusesLoaded}
+
+-- the member after a call, where what was there to be read before it stays in front of what it has added, also without a history
+abbrev pub behind : KeptMember → KeptMember → KeptMember
+behind before after = record after { entries = gone after before.entries ++ after.entries; events = gone after before.events ++ after.events }
+
+abbrev pub held_behind : Held → Held → Held
+held_behind before after = record after { kept = behind before.kept after.kept }
+
+-- bytes were received as by a call of its own, and what was there to be read before it stays, where that is asked
+abbrev pub HasReceivedBehind : Bool → KeptMember → KeptMember → List ℕ → taken.Received → Type 0
+HasReceivedBehind stays old new bytes r = (after : KeptMember) × HasReceived old after bytes r × (new ≡ (if stays then behind old after else after))
+
+abbrev pub Leaves : Bool → Held → Held → (Held → Type 0) → Type 0
+Leaves stays old new Does = (after : Held) × Does after × (new ≡ (if stays then held_behind old after else after))
+
+-- Parts of these lengths, from this byte on, are received one after another, each as in a call of its own; what each adds stays to be
+-- read. A part behind another is received where that one has left no frames.
+pub data AreReceived (first : ℕ) (old : Held) : List ℕ → Held → Type 0 where
+  OnePart : (len : ℕ) (received : Received) (new : Held) → HasReceivedLoaded old new first len received → AreReceived first old (len ∷ []) new
+  OneMore : (lengths : List ℕ) (len : ℕ) (received : Received) (before after : Held) → AreReceived first old lengths before → frames_of before.frames ≡ []
+      → HasReceivedLoaded before after (first + sum lengths) len received → AreReceived first old (lengths ++ len ∷ []) (held_behind before after)
+
+-- why none of these is received: there is none, there are frames to be sent, or the first of them is refused
+abbrev pub Stops : Held → ℕ → List ℕ → Type 0
+Stops held first [] = Unit {0}
+Stops held first (len ∷ lengths) = (frames_of held.frames ≢ []) ⊎ ((refusal : LoadedRefusal) × RefusesLoaded held first len refusal)
+
+-- so many of the parts were received, one at least, and no more could be
+pub record HasReceivedParts (old new : Held) (first : ℕ) (lengths : List ℕ) (count : ℕ) : Type 0 where
+  pub upto : count ≤ length lengths
+  pub received : AreReceived first old (take count lengths) new
+  pub stops : Stops new (first + sum (take count lengths)) (drop count lengths)
+
+-- there is no part, or the first is refused
+abbrev pub RefusesParts : Held → ℕ → List ℕ → LoadedRefusal → Type 0
+RefusesParts held first [] refusal = refusal ≡ NotLoaded
+RefusesParts held first (len ∷ lengths) refusal = RefusesLoaded held first len refusal
