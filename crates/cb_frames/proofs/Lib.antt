@@ -14,3 +14,4 @@ pub mod StreamFronts
 pub mod Splitting
 pub mod Telling
 pub mod Carried
+pub mod Counted

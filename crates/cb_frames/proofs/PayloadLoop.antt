@@ -1,5 +1,5 @@
 -- The loop over the payloads of a burst.
-use Rattle.std.proofs.Common.{◌≡◌, ℕ, suc, ◌+◌, ◌-◌, ◌<◌, ◌≤◌, List, [], ◌∷◌, ◌++◌, length, take, drop, map, Bool, true, false, cond, ltb, Option, Some, None, Result, Ok, Err, refl, sym, ap, subst, ◌∙◌, append_assoc, arith}
+use Rattle.std.proofs.Common.{◌≡◌, ℕ, zero, suc, ◌+◌, ◌-◌, ◌<◌, ◌≤◌, List, [], ◌∷◌, ◌++◌, length, take, drop, map, Bool, true, false, cond, ltb, Option, Some, None, Result, Ok, Err, refl, sym, ap, subst, ◌∙◌, append_assoc, arith}
 use Rattle.std.specs.List.{All, slice_range}
 use Rattle.std.proofs.Math.Seq.{take-append_seam}
 use Rattle.std.proofs.lemmas.List.{append-nil, drop_at, length-append, map-append, take-append-drop}
@@ -12,6 +12,7 @@ use Rattle.cb_frames.specs.declared.payloads.Place.{Place}
 use Rattle.cb_frames.specs.Fault.{length_rule}
 use Rattle.cb_frames.specs.Reading.{◌>>=◌, behind_number, unless, field_at, run_at, next_payload_at, payloads_at}
 use Rattle.cb_frames.specs.Parts.{IsPlaceIn, bytes_at_place}
+use Rattle.cb_frames.proofs.Fronts.{bind_cases}
 
 -- ---- where a payload lies that was read
 
@@ -126,3 +127,24 @@ is_done count bytes places before turn rest le s =
     let one : with_front (map (bytes_at_place bytes) places) (payloads_at (count - turn) before rest) ≡ Ok (map (bytes_at_place bytes) places, rest) =
     rw k (ap (λ (ps : List (List ℕ)). Ok (ps, rest)) (append-nil (map (bytes_at_place bytes) places))) in
     sym s.so_far ∙ one
+
+-- ---- as many as were said
+
+abbrev AreAsMany : ℕ → Result (List (List ℕ) × List ℕ) FrameFault → Type 0
+AreAsMany count (Ok x) = count ≡ length x.0
+AreAsMany count (Err e) = Unit {0}
+
+one_more : (count : ℕ) (payload : List ℕ) (r : Result (List (List ℕ) × List ℕ) FrameFault) → AreAsMany count r → AreAsMany (suc count) (r >>= λ others. Ok (payload ∷ others.0, others.1))
+one_more count payload (Ok x) h = ap suc h
+one_more count payload (Err e) h = tt
+
+as_many : (count before : ℕ) (bytes : List ℕ) → AreAsMany count (payloads_at count before bytes)
+unfolding payloads_at
+as_many zero before bytes = refl
+as_many (suc count) before bytes =
+    bind_cases (next_payload_at before bytes) (λ payload. payloads_at count (before + length payload.0) payload.1 >>= λ others. Ok (payload.0 ∷ others.0, others.1)) (AreAsMany (suc count))
+    (λ payload e. one_more count payload.0 (payloads_at count (before + length payload.0) payload.1) (as_many count (before + length payload.0) payload.1))
+    (λ e is. tt)
+
+pub as_many_read : (count before : ℕ) (bytes : List ℕ) (payloads : List (List ℕ)) (rest : List ℕ) → payloads_at count before bytes ≡ Ok (payloads, rest) → count ≡ length payloads
+as_many_read count before bytes payloads rest read = subst (AreAsMany count) read (as_many count before bytes)

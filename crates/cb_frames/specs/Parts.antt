@@ -1,15 +1,16 @@
 -- What a frame says that was read, and what the code asks of changes and of values alike.
-use Rattle.std.specs.Prelude.{◌≡◌, ◌≤◌, ℕ, List, length, map, Option, Some, None, Vec}
+use Rattle.std.specs.Prelude.{◌≡◌, ◌≤◌, ℕ, List, length, map, Option, Some, None, Vec, Result, Ok, Err}
 use Rattle.std.specs.List.{All, slice_range}
 use Rattle.std.specs.Global.{Global}
 use Rattle.cb_frames.specs.declared.frame.Change.{Change}
+use Rattle.cb_frames.specs.declared.fault.FrameFault.{FrameFault}
 use Rattle.cb_frames.specs.declared.payloads.Place.{Place}
 use Rattle.cb_frames.specs.declared.reading.HeadParts.{HeadParts}
 use Rattle.cb_frames.specs.declared.reading.CastParts.{CastParts}
 use Rattle.cb_frames.specs.declared.reading.BurstParts.{BurstParts}
 use Rattle.cb_frames.specs.declared.reading.StatusParts.{StatusParts}
 use Rattle.cb_frames.specs.declared.reading.RequestParts.{RequestParts}
-use Rattle.cb_frames.specs.Fields.{One, Many, CastFields, StatusFields, RequestFields}
+use Rattle.cb_frames.specs.Fields.{One, Many, payloads_of, CastFields, StatusFields, RequestFields}
 use Rattle.cb_frames.specs.Text.{AreChanges, AreValues}
 use Rattle.cb_frames.specs.Reading.{CastHead, carrying}
 use Rattle.cb_frames.specs.Fault.{Pairs, change_pairs, value_pairs}
@@ -33,6 +34,18 @@ pub record IsHead (p : HeadParts) (h : CastHead) : Type 0 where
 -- a head that was read, and the bytes behind it
 abbrev pub IsHeadBefore : HeadParts × List ℕ → CastHead × List ℕ → Type 0
 IsHeadBefore x read = IsHead x.0 read.0 × (x.1 ≡ read.1)
+
+-- the number of a head that was passed, and the bytes behind it
+abbrev pub IsNumberBefore : ℕ × List ℕ → CastHead × List ℕ → Type 0
+IsNumberBefore x read = (read.0.number ≡ x.0) × (x.1 ≡ read.1)
+
+-- as many as the cast carries payloads
+abbrev pub CountsPayloads : ℕ → CastFields → Type 0
+CountsPayloads n c = n ≡ length (payloads_of c.load)
+
+abbrev pub carried_count : Result CastFields FrameFault → ℕ
+carried_count (Ok c) = length (payloads_of c.load)
+carried_count (Err fault) = 0
 
 -- The parts are those of the cast.
 abbrev pub ArePartsOf : CastParts → CastFields → Type 0

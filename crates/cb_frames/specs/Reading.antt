@@ -6,7 +6,7 @@ use Rattle.cb_frames.specs.declared.frame.Change.{Change}
 use Rattle.cb_frames.specs.declared.fault.FrameFault.{FrameFault}
 use Rattle.cb_frames.specs.declared.fault.FrameFault.TheVariants as faults
 use Rattle.cb_frames.specs.NumberFaults.{as_frame_fault}
-use Rattle.cb_frames.specs.Fields.{Load, One, Many, CastFields, StatusFields, RequestFields, FrameFields, CastFrame, StatusFrame, RequestFrame}
+use Rattle.cb_frames.specs.Fields.{Load, One, Many, CastFields, StatusFields, RequestFields, FrameFields, CastFrame, StatusFrame, RequestFrame, messages_of}
 use Rattle.cb_frames.specs.Text.{cast_kind, burst_kind, status_kind, request_kind}
 use Rattle.cb_frames.specs.Fault.{any_number, member_rule, message_rule, messages_rule, length_rule, ranges_rule, Pairs, change_pairs, value_pairs, range_pairs}
 
@@ -136,6 +136,16 @@ frame_at (kind ∷ bytes) =
     if kind == burst_kind then (burst_at bytes >>= λ c. Ok (CastFrame c)) else
     if kind == status_kind then (status_at bytes >>= λ s. Ok (StatusFrame s)) else
     if kind == request_kind then (request_at bytes >>= λ r. Ok (RequestFrame r)) else Err faults.UnknownKind
+
+-- how many messages the frame carries whose text the bytes are; bytes that are no frame carry none
+abbrev pub count_of : FrameFields → ℕ
+count_of (CastFrame c) = length (messages_of c)
+count_of (StatusFrame s) = 0
+count_of (RequestFrame r) = 0
+
+abbrev pub count_read : Result FrameFields FrameFault → ℕ
+count_read (Ok f) = count_of f
+count_read (Err fault) = 0
 
 -- ---- what a function answers, seen by a view
 

@@ -5,6 +5,7 @@
 #![tactic(auto)]
 
 mod block;
+mod counting;
 mod fault;
 mod frame;
 mod laws;
@@ -16,6 +17,7 @@ mod stream;
 mod writing;
 
 pub use block::FrameBlock;
+pub use counting::message_count;
 pub use fault::{EncodeFault, FrameFault, StreamFault};
 pub use frame::{
     Burst, Cast, Change, Frame, LAST_MEMBER, LAST_NUMBER, LONGEST_FRAME, LONGEST_PAYLOAD,

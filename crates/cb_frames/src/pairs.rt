@@ -127,7 +127,7 @@ fn list_changes<'a>(
 
 /// What is behind so many changes.
 #[inline(never)]
-fn pass_changes(own: Option<u32>, count: u32, bytes: &[u8]) -> Result<&[u8], FrameFault>
+pub fn pass_changes(own: Option<u32>, count: u32, bytes: &[u8]) -> Result<&[u8], FrameFault>
     ensures { AnswersAs (λ rest read. rest.now ≡ read.1) result
         (pairs_at (pairs_but own) count 0 bytes.now) }
 {

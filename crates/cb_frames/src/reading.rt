@@ -80,7 +80,7 @@ struct RequestParts {
 }
 
 /// All of the bytes, where there are just so many.
-fn whole_payload(length: usize, bytes: &[u8]) -> Result<&[u8], FrameFault>
+pub fn whole_payload(length: usize, bytes: &[u8]) -> Result<&[u8], FrameFault>
     ensures { Answers (λ x. x.now) result (payload_at length bytes.now) }
 {
     if bytes.len() < length {
@@ -92,7 +92,7 @@ fn whole_payload(length: usize, bytes: &[u8]) -> Result<&[u8], FrameFault>
     Ok(bytes)
 }
 
-fn end(bytes: &[u8]) -> Result<(), FrameFault>
+pub fn end(bytes: &[u8]) -> Result<(), FrameFault>
     ensures { Answers (λ x. x) result (end_at bytes.now) }
 {
     if bytes.is_empty() {

@@ -241,7 +241,7 @@ fn numbered(rt: &impl Abort, alloc: Global, block: &mut FrameBlock, number: u8) 
 }
 
 /// A change of this amount in each field below 63.
-fn changes_of(rt: &impl Abort, alloc: Global, amount: u32) -> Vec<Change> {
+pub fn changes_of(rt: &impl Abort, alloc: Global, amount: u32) -> Vec<Change> {
     let mut changes = Vec::new(alloc);
     for field in 0..63 {
         changes.push(Change { field, amount }).expect(rt, "memory");
@@ -509,7 +509,7 @@ fn bytes_that_are_no_frame_have_their_first_fault(rt: HostRuntime) {
     }
 }
 
-fn has_fault(rt: &impl Abort, alloc: Global, text: &[u8], fault: FrameFault) {
+pub fn has_fault(rt: &impl Abort, alloc: Global, text: &[u8], fault: FrameFault) {
     let bytes = Bytes::copy_from_slice(alloc, text).expect(rt, "memory");
     let found = decode(alloc, &bytes).err();
     drop(bytes);
@@ -687,6 +687,8 @@ const FRAME_FAULTS: &[(FrameFault, &str)] = &[
     (FrameFault::ZeroDifference, "ZeroDifference"),
     (FrameFault::OwnField, "OwnField"),
     (FrameFault::BadRange, "BadRange"),
+    (FrameFault::EmptyBurst, "EmptyBurst"),
+    (FrameFault::BurstTooLong, "BurstTooLong"),
     (FrameFault::PayloadTooLong, "PayloadTooLong"),
     (FrameFault::Trailing, "Trailing"),
     (FrameFault::NoMemory, "NoMemory"),

@@ -7,6 +7,8 @@
 #[cfg(test)]
 mod asserts;
 #[cfg(test)]
+mod bursts;
+#[cfg(test)]
 mod differences;
 #[cfg(test)]
 mod frames;

@@ -98,7 +98,7 @@ const FAULTS: [(&[u8], StreamFault); 8] = [
     (b"\x00", StreamFault::BadLength),
     (b"\x80\x00", StreamFault::BadLength),
     (b"\xff\xff\xff\xff\x1f", StreamFault::BadLength),
-    (b"\x8a\x0b", StreamFault::BadLength),
+    (b"\xb1\x0b", StreamFault::BadLength),
     (b"\xff\xff\xff\xff\x0f", StreamFault::BadLength),
     (
         b"\x07\x11\x07\x00\x01\x00\x02hi",

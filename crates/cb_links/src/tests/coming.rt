@@ -109,7 +109,7 @@ fn what_is_no_frame_closes_a_stream(rt: HostRuntime) {
     );
     // A length that is spelled too long, one above the longest frame's, and bytes that are no frame.
     breaks(&rt, rt.alloc(), b"\x80\x00", &[], 1);
-    breaks(&rt, rt.alloc(), b"\x8a\x0b", &[], 1);
+    breaks(&rt, rt.alloc(), b"\xb1\x0b", &[], 1);
     breaks(&rt, rt.alloc(), b"\x01\xff", &[], 1);
 }
 

@@ -4,7 +4,7 @@ use crate::{
     ChannelLink, Inlet, LONGEST_FRAME, LinkFault, Outlet, Received, TcpLink, UdpLink, UdpOutlet,
 };
 use bytes::Bytes;
-use cb_frames::{Cast, Change, Frame, encode};
+use cb_frames::{Burst, Change, Frame, encode};
 use cb_history::Outgoing;
 use std::alloc::Global;
 use std::process::Abort;
@@ -35,7 +35,7 @@ fn next<I: Inlet, R: Wait + Clock + Abort>(rt: &R, inlet: &mut I) -> Option<Byte
     None
 }
 
-/// The longest frame that there is: a cast with 63 changes.
+/// The longest frame that there is: a burst with 63 changes and 32 payloads, of which eight have 128 bytes.
 fn longest(rt: &impl Abort, alloc: Global) -> Bytes {
     let mut changes = Vec::new(alloc);
     for field in 1..64 {
@@ -45,16 +45,21 @@ fn longest(rt: &impl Abort, alloc: Global) -> Bytes {
         };
         changes.push(change).expect(rt, "memory");
     }
-    let payload = frame(rt, alloc, None, 1_024).bytes;
-    let cast = Frame::Cast(Cast {
+    let mut payloads = Vec::new(alloc);
+    for place in 0..32 {
+        let size = if place < 8 { 128 } else { 0 };
+        let payload = frame(rt, alloc, None, size).bytes;
+        payloads.push(payload).expect(rt, "memory");
+    }
+    let burst = Frame::Burst(Burst {
         group: u32::MAX,
         sender: 0,
-        number: u32::MAX,
+        first: u32::MAX - 31,
         changes,
-        payload,
+        payloads,
     });
-    let bytes = encode(alloc, &cast).expect(rt, "a frame");
-    drop(cast);
+    let bytes = encode(alloc, &burst).expect(rt, "a frame");
+    drop(burst);
     bytes
 }
 
