@@ -1,13 +1,13 @@
 -- The loop that adds increments to a time.
-use Rattle.std.proofs.Common.{◌≡◌, ℕ, ◌+◌, ◌<◌, ◌≤◌, cond, eqb, List, [], length, take, get_or, set, min, refl, sym, ap, ◌∙◌, arith, inl, inr}
+use Rattle.std.proofs.Common.{◌≡◌, ℕ, ◌+◌, ◌<◌, ◌≤◌, cond, eqb, List, length, take, get_or, set, min, refl, sym, ap, ◌∙◌, arith, inl, inr}
 use Rattle.std.proofs.lemmas.Bool.{cases_eq, eq-eqb, ne_eqb}
 use Rattle.std.proofs.lemmas.List.{length-set, get_or-set_same, get_or-set_other, set-get_or, take_all}
 use Rattle.std.proofs.lemmas.List.Sums.{sum_by_more}
 use Rattle.cb_times.specs.Order.{field}
 use Rattle.cb_times.specs.Time.{IsTime}
 use Rattle.cb_frames.specs.declared.frame.Change.{Change}
-use Rattle.cb_frames.specs.Fields.{CastFields, first_number, growth_in, last_number}
-use Rattle.cb_frames.proofs.Carried.{carries_some, carries_no_more}
+use Rattle.cb_frames.specs.Fields.{IsOne, CastFields, first_number, growth_in}
+use Rattle.cb_frames.proofs.Carried.{last_is_first}
 use Rattle.cb_diffs.specs.Expansion.{greatest, IsGrown, kept_time}
 
 -- what the loop knows after some changes
@@ -51,8 +51,6 @@ growing_ends old new c i own s le member is = record {
   others = λ k in_old ne. get_or-set_other new c.sender k own 0 ne ∙ s.each k in_old ∙ ap (λ (ds : List Change). min greatest (field old k + growth_in ds k)) (take_all i c.changes le);
 }
 
--- a cast has one message, so what is kept of its time is its time
-pub kept_is_given : (c : CastFields) (time : List ℕ) → field time c.sender ≡ first_number c → kept_time c time ≡ time
-kept_is_given c time own =
-    let last : last_number c ≡ first_number c = omega (arith, carries_some c, carries_no_more c) in
-    ap (set time c.sender) (last ∙ sym own) ∙ set-get_or time c.sender 0
+-- where a cast has one message, what is kept of its time is its time
+pub kept_is_given : (c : CastFields) (time : List ℕ) → IsOne c.load → field time c.sender ≡ first_number c → kept_time c time ≡ time
+kept_is_given c time one own = ap (set time c.sender) (last_is_first c one ∙ sym own) ∙ set-get_or time c.sender 0

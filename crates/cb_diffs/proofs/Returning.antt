@@ -10,6 +10,7 @@ use Rattle.std.proofs.lemmas.List.FromFn.{length-range_with_len, get_or-range_wi
 use Rattle.cb_times.specs.Order.{field}
 use Rattle.cb_frames.specs.declared.frame.Change.{Change}
 use Rattle.cb_frames.specs.Fields.{CastFields, first_number, growth_in}
+use Rattle.cb_frames.proofs.Carried.{one_has_some}
 use Rattle.cb_diffs.specs.Differences.{change_of, is_reported, differences}
 use Rattle.cb_diffs.specs.Expansion.{expanded_time, time_of, Expands, ExpandsAll}
 use Rattle.cb_diffs.specs.Returning.{IsLater, AreSendersTimes, TellsDifference, TellDifferences, DifferencesExpandBack, DifferencesAddUp}
@@ -98,6 +99,7 @@ expands_back size sender number previous time c kept member ready later tells =
         sender = omega (arith, tells.sent_by, ready.senders);
         changes = rw (tells.changes, ready.senders, ← later.has_size) (are_fields previous time sender);
       };
+      some = one_has_some c.load tells.alone;
       next = tells.numbered ∙ ready.next ∙ ap (λ (j : ℕ). field previous j + 1) (sym tells.sent_by) ∙ ap (λ (t : List ℕ). field t c.sender + 1) (sym last);
       grown = rw last (record {
         size = later.has_size ∙ sym ready.fields;
@@ -107,7 +109,7 @@ expands_back size sender number previous time c kept member ready later tells =
             let growth : growth_in c.changes k ≡ field time k - field previous k = ap (λ (ds : List Change). growth_in ds k) tells.changes ∙ growth_in-differences previous time sender k (omega (arith, later.has_size, ready.fields)) other in
             omega (arith, growth, later.grown k, later.in_range k);
       });
-      kept = ap (λ (j : ℕ). set kept j time) (sym tells.sent_by) ∙ ap (set kept c.sender) (sym (kept_is_given c time own));
+      kept = ap (λ (j : ℕ). set kept j time) (sym tells.sent_by) ∙ ap (set kept c.sender) (sym (kept_is_given c time tells.alone own));
     }
 
 ready_again : (size sender number : ℕ) (previous time : List ℕ) (kept : List (List ℕ)) → sender < size → IsReady size sender number previous kept → IsLater size sender number previous time → IsReady size sender (number + 1) time (set kept sender time)

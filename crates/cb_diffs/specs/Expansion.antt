@@ -1,14 +1,18 @@
 -- The time of a cast from the increments of its sender's frames.
 use Rattle.std.specs.Prelude.{◌≡◌, ◌≢◌, ℕ, ◌+◌, ◌<◌, ◌&&◌, All, List, [], ◌∷◌, length, map, max, min, slice_index_or, slice_set, nat_le, ◌==◌, if◌then◌else◌}
-use Rattle.std.specs.List.{sum_by, range_with_len}
+use Rattle.std.specs.List.{AllByRecursion, sum_by, range_with_len}
 use Rattle.cb_times.specs.Group.{IsGroupSize}
 use Rattle.cb_times.specs.Order.{field}
 use Rattle.cb_frames.specs.declared.frame.TheConstants.{LAST_NUMBER}
-use Rattle.cb_frames.specs.Fields.{CastFields, first_number, last_number, growth_in}
+use Rattle.cb_frames.specs.Fields.{IsSome, CastFields, first_number, last_number, growth_in}
 
 -- the greatest number, at which a field stays
 abbrev pub greatest : ℕ
 greatest = LAST_NUMBER
+
+-- each of these casts carries some message
+abbrev pub CarrySome : List CastFields → Type 0
+CarrySome casts = AllByRecursion (λ c. IsSome c.load) casts
 
 -- ---- the expanded time
 
@@ -75,9 +79,11 @@ pub record IsNotNext (times : List (List ℕ)) (c : CastFields) (expected found 
 abbrev pub kept_time : CastFields → List ℕ → List ℕ
 kept_time c time = slice_set time c.sender (last_number c)
 
--- the cast is its sender's next one, `time` is its time, and what is kept of it takes the place of the sender's time before
+-- The cast is its sender's next one and carries some message, `time` is its time, and what is kept of it takes the place of the
+-- sender's time before.
 pub record Expands (old : List (List ℕ)) (c : CastFields) (time : List ℕ) (new : List (List ℕ)) : Type 0 where
   pub members : AreMembers (length old) c
+  pub some : IsSome c.load
   pub next : first_number c ≡ field (time_of old c.sender) c.sender + 1
   pub grown : IsGrown (time_of old c.sender) c time
   pub kept : new ≡ slice_set old c.sender (kept_time c time)

@@ -3,10 +3,11 @@ use Rattle.std.specs.Prelude.{◌≡◌, ◌≢◌, ℕ, ◌+◌, ◌<◌, List,
 use Rattle.std.specs.List.{AllByRecursion, sum_by, zip}
 use Rattle.cb_times.specs.Order.{field}
 use Rattle.cb_frames.specs.Fields.{CastFields, first_number}
-use Rattle.cb_diffs.specs.Expansion.{greatest, growth_of, expanded_time, last_in, time_of, Expands, ExpandsAll}
+use Rattle.cb_diffs.specs.Expansion.{greatest, growth_of, expanded_time, last_in, time_of, CarrySome, Expands, ExpandsAll}
 
--- the kept times are what these frames add up to
+-- these frames carry some message each, and the kept times are what they add up to
 pub record IsKept (size : ℕ) (casts : List CastFields) (kept : List (List ℕ)) : Type 0 where
+  pub some : CarrySome casts
   pub senders : length kept ≡ size
   pub sizes : (j : ℕ) → j < size → length (time_of kept j) ≡ size
   pub own : (j : ℕ) → j < size → field (time_of kept j) j ≡ last_in casts j

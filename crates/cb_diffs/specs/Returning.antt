@@ -1,7 +1,7 @@
 -- The way back: the times of a sender's casts, from the differences of each and the one before.
 use Rattle.std.specs.Prelude.{◌≡◌, ℕ, ◌+◌, ◌<◌, ◌^◌, List, [], ◌∷◌, length, replicate, slice_index_or}
 use Rattle.cb_times.specs.Order.{field, AtMost}
-use Rattle.cb_frames.specs.Fields.{CastFields, first_number}
+use Rattle.cb_frames.specs.Fields.{IsOne, CastFields, first_number}
 use Rattle.cb_diffs.specs.Differences.{differences}
 use Rattle.cb_diffs.specs.Expansion.{expanded_time, ExpandsAll}
 
@@ -17,9 +17,10 @@ abbrev pub AreSendersTimes : ℕ → ℕ → ℕ → List ℕ → List (List ℕ
 AreSendersTimes size sender number previous [] = Unit {0}
 AreSendersTimes size sender number previous (time ∷ times) = IsLater size sender number previous time × AreSendersTimes size sender (number + 1) time times
 
--- the frame of a sender's message of that number, where its time is `time` and that of the message before `previous`
+-- the frame of one message of a sender, of that number, where its time is `time` and that of the message before `previous`
 pub record TellsDifference (sender number : ℕ) (previous time : List ℕ) (c : CastFields) : Type 0 where
   pub sent_by : c.sender ≡ sender
+  pub alone : IsOne c.load
   pub numbered : first_number c ≡ number
   pub changes : c.changes ≡ differences previous time sender
 

@@ -1,15 +1,15 @@
 -- What keeping and taking do to how many messages come out.
-use Rattle.std.proofs.Common.{◌≡◌, ◌≢◌, ℕ, ◌+◌, ◌-◌, ◌≤◌, Bool, true, false, cond, inl, inr, None, Some, refl, sym, ◌∙◌, ap, subst, arith}
+use Rattle.std.proofs.Common.{◌≡◌, ◌≢◌, ℕ, ◌+◌, ◌-◌, ◌≤◌, Bool, true, false, cond, inl, inr, None, Some, refl, sym, ◌∙◌, ap, subst, arith, length}
 use Rattle.std.specs.Ordering.{nat_cmp, eq_by_cmp}
 use Rattle.std.specs.Cmp.{nat_cmp_total}
 use Rattle.std.specs.FinMap as fin
-use Rattle.std.proofs.lemmas.Bool.{cases_eq, cases_lt}
-use Rattle.cb_frames.specs.Fields.{CastFields, first_number, last_number}
+use Rattle.std.proofs.lemmas.Bool.{cases_lt}
+use Rattle.cb_frames.specs.Fields.{CastFields, IsSome, messages_of, first_number, last_number}
 use Rattle.cb_times.proofs.Entries.{equal_numbers, other_numbers}
-use Rattle.cb_gaps.specs.Buffer.{Buffer, Covers, IsKept, IsKeptWith, IsNext, ComeOut}
+use Rattle.cb_gaps.specs.Buffer.{Buffer, Covers, IsKept, IsKeptWith, AreLacking, IsNext, ComeOut, IsReorderBuffer}
 use Rattle.cb_gaps.specs.Laws.{KeptComeOut, TakingLeavesTheRest, NoneIsLeft}
-use Rattle.cb_frames.proofs.Carried.{carried_up_to_the_last}
-use Rattle.cb_gaps.proofs.Spans.{one_message}
+use Rattle.cb_frames.proofs.Carried.{carried_up_to_the_last, carries_some}
+use Rattle.cb_gaps.proofs.Spans.{filled_has_some}
 use Rattle.cb_gaps.proofs.Rows.{row_same}
 
 -- ---- a cast is kept
@@ -22,12 +22,15 @@ module _ (old : Buffer) (cast : CastFields) where
   at_number n b e =
       fin.get-insert nat_cmp_total old.kept (first_number cast) cast n ∙ ap (λ (x : Bool). cond x (Some cast) (fin.get old.kept n)) e
 
-  -- casts with one message that begin at one number cover the same
-  covers_too : (d : CastFields) (n : ℕ) → first_number d ≡ first_number cast → Covers d n → Covers cast n
-  covers_too d n begins covers = (
-    omega (arith, begins, covers.0),
-    omega (arith, begins, covers.1, one_message d, one_message cast),
-  )
+  -- none that is kept begins where it begins
+  begins_elsewhere : IsSome cast.load → AreLacking old (first_number cast) (last_number cast) → (n : ℕ) (is : IsKept old n)
+      → first_number is.cast ≢ first_number cast
+  begins_elsewhere some lacking n is same =
+      (lacking (first_number cast) (omega arith) (carries_some cast some)).not_kept (record {
+        cast = is.cast;
+        kept = is.kept;
+        covers = (omega (arith, same), omega (arith, same, is.covers.0, is.covers.1));
+      })
 
   new_kept : (n : ℕ) → Covers cast n → IsKept with_cast n
   new_kept n covers = record {
@@ -36,17 +39,16 @@ module _ (old : Buffer) (cast : CastFields) where
     covers = covers;
   }
 
-  kept_with : (n : ℕ) → IsKeptWith old (first_number cast) (last_number cast) n → IsKept with_cast n
-  kept_with n (inr covers) = new_kept n covers
-  kept_with n (inl is) =
-      elim (cases_eq (first_number is.cast) (first_number cast)) as (λ _. IsKept with_cast n) [
-        | inl same ↦ new_kept n (covers_too is.cast n same is.covers)
-        | inr other ↦ record {
-          cast = is.cast;
-          kept = at_number (first_number is.cast) false (other_numbers (first_number is.cast) (first_number cast) other) ∙ is.kept;
-          covers = is.covers;
-        }
-      ]
+  kept_with : IsSome cast.load → AreLacking old (first_number cast) (last_number cast) → (n : ℕ)
+      → IsKeptWith old (first_number cast) (last_number cast) n → IsKept with_cast n
+  kept_with some lacking n (inr covers) = new_kept n covers
+  kept_with some lacking n (inl is) =
+      let other : first_number is.cast ≢ first_number cast = begins_elsewhere some lacking n is in
+      record {
+        cast = is.cast;
+        kept = at_number (first_number is.cast) false (other_numbers (first_number is.cast) (first_number cast) other) ∙ is.kept;
+        covers = is.covers;
+      }
 
   was_kept_with : (n : ℕ) → IsKept with_cast n → IsKeptWith old (first_number cast) (last_number cast) n
   was_kept_with n is = which (eq_by_cmp nat_cmp (first_number is.cast) (first_number cast)) refl
@@ -62,14 +64,14 @@ module _ (old : Buffer) (cast : CastFields) where
       })
 
 pub kept_come_out : KeptComeOut
-kept_come_out old new cast count row after =
+kept_come_out old new cast count some lacking row after =
     subst (λ (buffer : Buffer). ComeOut buffer count) (sym after)
     (row_same (IsKeptWith old (first_number cast) (last_number cast)) (IsKept (with_cast old cast)) old.taken (old.taken + count)
-    (kept_with old cast) (was_kept_with old cast) row)
+    (kept_with old cast some lacking) (was_kept_with old cast) row)
 
 -- ---- a cast is taken
 
-module _ (old : Buffer) (cast : CastFields) (count : ℕ) (row : ComeOut old count) (next : IsNext old cast) where
+module _ (old : Buffer) (cast : CastFields) (count : ℕ) (is_buffer : IsReorderBuffer old) (row : ComeOut old count) (next : IsNext old cast) where
   abbrev without_cast : Buffer
   without_cast = record old { taken = last_number cast; kept = fin.remove old.kept (first_number cast) }
 
@@ -107,6 +109,10 @@ module _ (old : Buffer) (cast : CastFields) (count : ℕ) (row : ComeOut old cou
         covers = is.covers;
       }
 
+  ends_behind : length (messages_of cast) + first_number cast ≡ last_number cast + 1
+  ends_behind =
+      carried_up_to_the_last cast (filled_has_some cast (omega (arith, next.follows)) (is_buffer.filled (first_number cast) cast next.kept))
+
   -- all its messages come out
   comes_out : last_number cast ≤ old.taken + count
   comes_out =
@@ -122,31 +128,36 @@ module _ (old : Buffer) (cast : CastFields) (count : ℕ) (row : ComeOut old cou
   rest_comes_out : (left : ℕ) → old.taken + count ≡ last_number cast + left → ComeOut without_cast left
   rest_comes_out left end = record {
     begins = omega arith;
-    each = λ n after upto. kept_beyond n (omega (arith, after)) (row.each n (omega (arith, after, next.follows, carried_up_to_the_last cast)) (omega (arith, upto, end)));
+    each = λ n after upto. kept_beyond n (omega (arith, after)) (row.each n (omega (arith, after, next.follows, is_buffer.filled (first_number cast) cast next.kept)) (omega (arith, upto, end)));
     ends = λ is.
         let same : last_number cast + left + 1 ≡ old.taken + count + 1 = omega (arith, end) in
         row.ends (subst (IsKept old) same (was_kept (last_number cast + left + 1) is));
   }
 
 pub taking_leaves_the_rest : TakingLeavesTheRest
-taking_leaves_the_rest old new cast count row next takes =
-    let whole : last_number cast ≤ old.taken + count = comes_out old cast count row next in
+taking_leaves_the_rest old new cast count is_buffer row next takes =
+    let whole : last_number cast ≤ old.taken + count = comes_out old cast count is_buffer row next in
     let left = old.taken + count - last_number cast in (
       left,
-      omega (arith, whole, next.follows, carried_up_to_the_last cast),
-      subst (λ (buffer : Buffer). ComeOut buffer left) (sym takes) (rest_comes_out old cast count row next left (omega (arith, whole))),
+      omega (arith, whole, next.follows, ends_behind old cast count is_buffer row next),
+      subst (λ (buffer : Buffer). ComeOut buffer left) (sym takes) (rest_comes_out old cast count is_buffer row next left (omega (arith, whole))),
     )
 
 -- ---- none is left
 
--- a cast with one message that covers a number begins there
+-- what is kept and covers the next number begins there, since what was taken ends before it
 pub none_is_left : NoneIsLeft
-none_is_left buffer count row none =
+none_is_left buffer count is_buffer row none =
     elim (cases_lt 0 count) as (λ _. count ≡ 0) [
       | inr least ↦ omega (arith, least)
       | inl some ↦
           let is : IsKept buffer (buffer.taken + 1) = row.each (buffer.taken + 1) (omega arith) (omega (arith, some)) in
-          let begins : first_number is.cast ≡ buffer.taken + 1 = omega (arith, is.covers.0, is.covers.1, one_message is.cast) in
+          let later = is_buffer.not_taken (first_number is.cast) (record {
+            cast = is.cast;
+            kept = is.kept;
+            covers = (omega arith, omega (arith, is.covers.0, is.covers.1));
+          }) in
+          let begins : first_number is.cast ≡ buffer.taken + 1 = omega (arith, is.covers.0, later) in
           let kept = sym (ap (fin.get buffer.kept) begins) ∙ is.kept in
           cc
     ]

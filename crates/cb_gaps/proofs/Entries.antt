@@ -10,14 +10,13 @@ use Rattle.std.specs.FinMap.Entries.{below_all}
 use Rattle.std.proofs.lemmas.Bool.{cases_lt}
 use Rattle.std.proofs.lemmas.Bool.Decides.{nat_tests}
 use Rattle.std.proofs.lemmas.List.{length-take, length-drop, take-append-drop, get_or-take, get_or-drop}
-use Rattle.std.proofs.lemmas.List.Elements.{All-head, All-tail, All-cons, All-append, All-take, All-drop}
+use Rattle.std.proofs.lemmas.List.Elements.{All-nil, All-head, All-tail, All-cons, All-append, All-take, All-drop}
 use Rattle.cb_frames.specs.declared.frame.Cast.{Cast}
 use Rattle.cb_frames.specs.Fields.{CastFields, cast_fields, first_number}
 use Rattle.cb_times.proofs.Entries.{equal_numbers, other_numbers, numbers_equal, less_number, both, both_hold}
 use Rattle.cb_gaps.specs.Buffer.{Covers}
 use Rattle.cb_gaps.specs.Lists.{first_of, last_of, entries_of, Rise, Below, HasNumber, IsPlaceFor}
-use Rattle.cb_frames.proofs.Carried.{carries_some}
-use Rattle.cb_gaps.proofs.Spans.{one_message, covers_first}
+use Rattle.cb_gaps.proofs.Spans.{one_message, one_filled, covers_first}
 
 -- what a number finds
 abbrev pub found : ℕ → List Cast → Option CastFields
@@ -146,6 +145,11 @@ rises before (c ∷ casts) zero (suc j) d rise h within =
         omega (arith, up.0, up.1, later)
 rises before (c ∷ casts) (suc i) (suc j) d rise h within = rises (last_of c) casts i j d rise.2 (omega arith) (omega arith)
 
+-- none of them is empty
+pub rise_filled : (before : ℕ) (casts : List Cast) → Rise before casts → All (λ c. first_of c ≤ last_of c) casts
+rise_filled before [] rise = All-nil (λ c. first_of c ≤ last_of c)
+rise_filled before (c ∷ casts) rise = All-cons (λ x. first_of x ≤ last_of x) c casts rise.1 (rise_filled (last_of c) casts rise.2)
+
 -- the list is short where its numbers are few
 pub few : (before bound : ℕ) (casts : List Cast) → Rise before casts → Below bound casts → before < bound → before + length casts < bound
 few before bound [] rise below h = omega (arith, h)
@@ -171,9 +175,9 @@ lacks_at_place first last place casts is number from upto =
 -- a cast put between those of lesser and those of greater numbers
 rise_between : (before : ℕ) (front back : List Cast) (c : Cast) → Rise before (front ++ back) → before < first_of c
     → All (λ x. last_of x < first_of c) front → All (λ x. last_of c < first_of x) back → Rise before (front ++ c ∷ back)
-rise_between before [] [] c rise h lesser greater = (h, carries_some (cast_fields c), tt)
+rise_between before [] [] c rise h lesser greater = (h, one_filled c, tt)
 rise_between before [] (x ∷ back) c rise h lesser greater =
-    (h, carries_some (cast_fields c), (All-head (λ y. last_of c < first_of y) x back greater, rise.1, rise.2))
+    (h, one_filled c, (All-head (λ y. last_of c < first_of y) x back greater, rise.1, rise.2))
 rise_between before (x ∷ front) back c rise h lesser greater = (
   rise.0,
   rise.1,
@@ -195,7 +199,7 @@ found-between number (x ∷ front) back c lesser =
       arith,
       numbers_equal number (first_of x) e.0,
       numbers_equal number (first_of c) e.1,
-      carries_some (cast_fields x),
+      one_filled x,
       All-head (λ y. last_of y < first_of c) x front lesser,
     ) in
     ap (cond (eq_by_cmp nat_cmp number (first_of x)) (Some (cast_fields x)))
@@ -254,7 +258,7 @@ searched number n (c ∷ casts) (Ok i) rise len within at =
     let inside : i < length (c ∷ casts) = omega (arith, len, within) in
     let begins : first_of (get_or (c ∷ casts) i c) ≡ number = from_equal (first_of (get_or (c ∷ casts) i c)) number (at c) in
     covers_at number (c ∷ casts) i c inside
-    (subst (Covers (cast_fields (get_or (c ∷ casts) i c))) begins (covers_first (cast_fields (get_or (c ∷ casts) i c))))
+    (subst (Covers (cast_fields (get_or (c ∷ casts) i c))) begins (covers_first (cast_fields (get_or (c ∷ casts) i c)) (omega arith)))
 searched number n casts (Err place) rise len within at =
     let inside : place ≤ length casts = omega (arith, len, within) in
     let parts = at (λ i j d h below. index_of-le (first_of (get_or casts i d)) (first_of (get_or casts j d)) number (rises_upto casts i j d rise h below)) in
@@ -270,7 +274,7 @@ searched number n casts (Err place) rise len within at =
     }
   where
     ends_before : (x : Cast) → first_of x < number → last_of x < number
-    ends_before x begins = omega (arith, begins, one_message (cast_fields x))
+    ends_before x begins = omega (arith, begins, one_message (cast_fields x) tt)
 
     below_take : (p k : ℕ) (l : List Cast) → k < length (take p l) → k < p
     below_take p k l h = omega (arith, h, length-take p l)

@@ -11,15 +11,14 @@ use Rattle.std.proofs.lemmas.List.Elements.{All-weaker, All-tail}
 use Rattle.std.proofs.lemmas.List.Edits.{length-insert}
 use Rattle.cb_frames.specs.declared.frame.Cast.{Cast}
 use Rattle.cb_frames.specs.declared.frame.Range.{Range}
-use Rattle.cb_frames.specs.Fields.{CastFields, cast_fields, first_number}
+use Rattle.cb_frames.specs.Fields.{CastFields, cast_fields, first_number, last_number}
 use Rattle.cb_times.specs.Group.{IsWindow}
 use Rattle.cb_gaps.specs.Buffer.{IsNew, IsKept, AreReceived, AreLacking, IsNext, IsMissing, IsReorderBuffer}
 use Rattle.cb_gaps.specs.Ranges.{AreRangesOf}
 use Rattle.cb_gaps.specs.Lists.{first_of, last_of, entries_of, Rise, HasNumber, IsPlaceFor, IsGap, AreKept, buffer_of}
 use Rattle.cb_times.proofs.Entries.{equal_numbers, numbers_equal}
-use Rattle.cb_frames.proofs.Carried.{carries_some}
-use Rattle.cb_gaps.proofs.Spans.{one_message}
-use Rattle.cb_gaps.proofs.Entries.{found, sorted, found-before, none_before, found_cast, found_covers, found_apart, covering_found, covering_cast, lacks_at_place, rise_insert, found-insert, all_insert, few}
+use Rattle.cb_gaps.proofs.Spans.{one_message, one_filled}
+use Rattle.cb_gaps.proofs.Entries.{found, sorted, rise_filled, found-before, none_before, found_cast, found_covers, found_apart, covering_found, covering_cast, lacks_at_place, rise_insert, found-insert, all_insert, few}
 
 length-entries_of : (casts : List Cast) → length (entries_of casts) ≡ length casts
 length-entries_of casts = length-map casts (λ (c : Cast). let e : ℕ × CastFields = (first_of c, cast_fields c) in e)
@@ -55,7 +54,7 @@ module _ (window taken : ℕ) (casts : List Cast) (are : AreKept window taken ca
         | None ↦ λ _. refl
         | (Some fields) ↦ λ h.
             let c = found_cast (λ x. last_of x < 2 ^ 32) number casts fields are.in_range (found_of_kept number fields h) in
-            absurd (omega (arith, beyond, c.1, c.3, carries_some (cast_fields c.0)))
+            absurd (omega (arith, beyond, c.1, c.3, one_filled c.0))
       ] refl
 
   pub is_reorder_buffer : IsReorderBuffer (buffer_of window taken casts)
@@ -64,7 +63,9 @@ module _ (window taken : ℕ) (casts : List Cast) (are : AreKept window taken ca
     by_number = λ number fields h.
         let c = found_cast (λ _. Unit {0}) number casts fields (λ _ _ _. tt) (found_of_kept number fields h) in
         sym (ap first_number c.2) ∙ c.1;
-    filled = λ number fields h. carries_some fields;
+    filled = λ number fields h.
+        let c = found_cast (λ x. first_of x ≤ last_of x) number casts fields (rise_filled taken casts are.rise) (found_of_kept number fields h) in
+        subst (λ (f : CastFields). first_number f ≤ last_number f) c.2 c.3;
     apart = λ number one other.
         found_apart number taken casts one.cast other.cast are.rise (found_of_kept (first_number one.cast) one.cast one.kept)
         (found_of_kept (first_number other.cast) other.cast other.kept) one.covers other.covers;
@@ -161,7 +162,7 @@ module _ (window taken : ℕ) (casts after : List Cast) (first : Cast) (are : Ar
       sym (ap first_of same) ∙ next
 
   ends : (x : Cast) → casts ≡ x ∷ after → last_of x ≡ taken + 1
-  ends x e = one_message (cast_fields x) ∙ begins x e
+  ends x e = one_message (cast_fields x) tt ∙ begins x e
 
   here : (x : Cast) → casts ≡ x ∷ after → AreKept window taken (x ∷ after)
   here x e = subst (λ (l : List Cast). AreKept window taken l) e are

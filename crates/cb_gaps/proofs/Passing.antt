@@ -5,7 +5,7 @@ use Rattle.std.specs.Cmp.{nat_cmp_total}
 use Rattle.std.specs.FinMap as fin
 use Rattle.std.proofs.lemmas.List.Elements.{All-nil}
 use Rattle.cb_frames.specs.declared.frame.Cast.{Cast}
-use Rattle.cb_frames.specs.Fields.{CastFields, first_number}
+use Rattle.cb_frames.specs.Fields.{CastFields, IsOne, first_number}
 use Rattle.cb_times.proofs.Entries.{equal_numbers, numbers_equal}
 use Rattle.cb_gaps.specs.Buffer.{Buffer, IsNext, IsInOrder, Takes}
 use Rattle.cb_gaps.specs.Lists.{last_of, AreKept, buffer_of}
@@ -51,10 +51,9 @@ module _ (buffer : Buffer) (c : CastFields) (in_order : IsInOrder buffer (first_
     kept = fin.get-insert nat_cmp_total buffer.kept (first_number c) c (first_number c) ∙ rw (equal_numbers (first_number c) (first_number c) refl) refl;
   }
 
-  -- it has one message
-  pub passing_takes : Takes (with_cast buffer c) c (record buffer { taken = buffer.taken + 1 })
-  passing_takes i = record {
+  pub passing_takes : IsOne c.load → Takes (with_cast buffer c) c (record buffer { taken = buffer.taken + 1 })
+  passing_takes one i = record {
     window = buffer.window;
-    taken = sym (one_message c ∙ in_order.follows) i;
+    taken = sym (one_message c one ∙ in_order.follows) i;
     kept = sym (put_and_taken buffer.kept (first_number c) c (is_not_kept (first_number c))) i;
   }

@@ -46,7 +46,7 @@ one_by_one behind [] = refl
 one_by_one behind (c ∷ casts) =
     one_by_one (cond (eqb (first_of c) (behind + 1)) (first_of c) behind) casts
     ∙ ap (λ end. end_from end casts) (one_next behind (first_of c)
-    ∙ ap (with_next behind (first_of c)) (sym (one_message (cast_fields c))))
+    ∙ ap (with_next behind (first_of c)) (sym (one_message (cast_fields c) tt)))
 
 -- the casts behind the first one end the row where all of them do
 module _ (behind last : ℕ) (c : Cast) (casts : List Cast) (rise : Rise (last_of c) casts) where

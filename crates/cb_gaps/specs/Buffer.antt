@@ -1,11 +1,12 @@
 -- What a reorder buffer holds of the casts of one sender.
 use Rattle.std.specs.Prelude.{◌≡◌, ℕ, ◌+◌, ◌<◌, ◌≤◌, ◌^◌, ◌⊎◌, List, Some, refl}
+use Rattle.std.proofs.Common.{inl, inr}
 use Rattle.std.specs.Ordering.{nat_cmp}
-use Rattle.std.specs.Coded.{Coded, code_by, coded×, coded_list, coded_ℕ}
+use Rattle.std.specs.Coded.{Coded, code_by, coded×, coded⊎, coded_list, coded_ℕ}
 use Rattle.std.specs.FinMap as map
 use Rattle.cb_times.specs.Group.{IsWindow}
 use Rattle.cb_frames.specs.declared.frame.Change.{Change}
-use Rattle.cb_frames.specs.Fields.{Load, One, load_bytes, CastFields, first_number, last_number}
+use Rattle.cb_frames.specs.Fields.{Load, One, Many, CastFields, first_number, last_number}
 use Rattle.cb_gaps.specs.declared.buffer.Admission.{Admission}
 use Rattle.cb_gaps.specs.declared.buffer.Admission.TheVariants.{Kept, Repeat, TooFar}
 use Rattle.cb_gaps.specs.Ranges.{IsRow}
@@ -113,12 +114,22 @@ pub record IsReorderBuffer (buffer : Buffer) : Type 0 where
   pub in_range : (number : ℕ) → IsKept buffer number → number < 2 ^ 32
   pub room : map.len buffer.kept ≤ buffer.window
 
--- how a buffer is stored: its fields as pairs, and what a cast carries as its bytes
+-- how a buffer is stored: its fields as pairs, and what a cast carries as one payload or as several
 abbrev pub change_code : Coded Change
 change_code = code_by (ℕ × ℕ) (coded× coded_ℕ coded_ℕ) (λ c. (c.field, c.amount)) (λ p. record { field = p.0; amount = p.1 }) (λ _. refl)
 
+abbrev load_cases : Load → List ℕ ⊎ List (List ℕ)
+load_cases (One payload) = inl payload
+load_cases (Many payloads) = inr payloads
+
+abbrev load_of : List ℕ ⊎ List (List ℕ) → Load
+load_of (inl payload) = One payload
+load_of (inr payloads) = Many payloads
+
 abbrev pub load_code : Coded Load
-load_code = code_by (List ℕ) (coded_list coded_ℕ) load_bytes One (λ load. elim load as (λ l. One (load_bytes l) ≡ l) [ One payload ↦ refl ])
+load_code =
+    code_by (List ℕ ⊎ List (List ℕ)) (coded⊎ (coded_list coded_ℕ) (coded_list (coded_list coded_ℕ))) load_cases load_of
+    (λ load. elim load as (λ l. load_of (load_cases l) ≡ l) [ One payload ↦ refl | Many payloads ↦ refl ])
 
 abbrev pub cast_code : Coded CastFields
 cast_code =

@@ -11,10 +11,10 @@ loop-cast-preserved c =
     let cast = cast_fields c.in-Some.cast.now in
     let rest = deque_iter_rest c.next.new.self in
     record {
-      rise = subst (λ (n : ℕ). Rise n rest) (last_is_number cast) (one_rise c.args.taken c.args.last c.loop-cast.before c.in-Some.cast.now c.args.kept.now.items
+      rise = subst (λ (n : ℕ). Rise n rest) (last_is_number cast tt) (one_rise c.args.taken c.args.last c.loop-cast.before c.in-Some.cast.now c.args.kept.now.items
           (deque_iter_rest c.loop-cast.cast-iterator) (deque_iter_rest c.next.new.self) c.loop-cast.ranges.items c.push_gap.new.ranges.items
           c.in-Some.ensures.steps c.loop-cast.invariant.rise);
-      so_far = subst (λ (n : ℕ). c.push_gap.new.ranges.items ++ gaps_from n c.args.last rest ≡ gaps_from c.args.taken c.args.last c.args.kept.now.items) (last_is_number cast)
+      so_far = subst (λ (n : ℕ). c.push_gap.new.ranges.items ++ gaps_from n c.args.last rest ≡ gaps_from c.args.taken c.args.last c.args.kept.now.items) (last_is_number cast tt)
           (one_gap c.args.taken c.args.last c.loop-cast.before c.in-Some.cast.now c.args.kept.now.items
           (deque_iter_rest c.loop-cast.cast-iterator) (deque_iter_rest c.next.new.self) c.loop-cast.ranges.items c.push_gap.new.ranges.items
           c.in-Some.ensures.steps c.min.result (omega (arith, c.min.ensures, first_is_number cast)) c.in_ok-push_gap.ensures c.loop-cast.invariant.so_far);

@@ -11,19 +11,19 @@ place_for-requires c = rise_from c.self.inside.taken 0 c.self.inside.kept.items 
 
 pub returns-then-number-self-clause-answer : goal.returns-then-number-self-clause-answer
 returns-then-number-self-clause-answer c =
-    rw (← c.self.view_is, first_is_number (cast_fields c.args.cast), last_is_number (cast_fields c.args.cast))
+    rw (← c.self.view_is, first_is_number (cast_fields c.args.cast), last_is_number (cast_fields c.args.cast) tt)
     (all_taken c.self.inside.window c.self.inside.taken c.self.inside.kept.items c.self.invariant.0 c.args.cast.number c.args.cast.number
     c.if-number-self.true)
 
 pub returns-in_default-clause-answer : goal.returns-in_default-clause-answer
 returns-in_default-clause-answer c =
-    rw (← c.self.view_is, first_is_number (cast_fields c.args.cast), last_is_number (cast_fields c.args.cast))
+    rw (← c.self.view_is, first_is_number (cast_fields c.args.cast), last_is_number (cast_fields c.args.cast) tt)
     (all_received c.self.inside.window c.self.inside.taken c.self.inside.kept.items c.self.invariant.0 c.args.cast.number c.in_default.ensures)
 
 pub returns-then-number-saturating_add-clause-answer : goal.returns-then-number-saturating_add-clause-answer
 returns-then-number-saturating_add-clause-answer c =
     let fits : c.args.cast.number < 2 ^ 32 = omega arith in
-    rw (← c.self.view_is, first_is_number (cast_fields c.args.cast), last_is_number (cast_fields c.args.cast)) (
+    rw (← c.self.view_is, first_is_number (cast_fields c.args.cast), last_is_number (cast_fields c.args.cast) tt) (
       all_lacking c.self.inside.window c.self.inside.taken c.self.inside.kept.items c.self.invariant.0 c.args.cast.number c.args.cast.number c.in-Some.place
           c.if-number-self.false c.in-Some.ensures,
       omega (arith, fits, c.if-number-saturating_add.true, c.saturating_add.ensures),
@@ -32,7 +32,7 @@ returns-then-number-saturating_add-clause-answer c =
 pub put-requires-clause-room : goal.put-requires-clause-room
 put-requires-clause-room c =
     let first = first_is_number (cast_fields c.args.cast) in
-    let last = last_is_number (cast_fields c.args.cast) in
+    let last = last_is_number (cast_fields c.args.cast) tt in
     let fits : c.args.cast.number < 2 ^ 32 = omega arith in
     let order : c.args.delivered ≤ c.self.inside.taken = rw (← c.self.view_is) at c.requires in
     let room = keep_room c.self.inside.window c.self.inside.taken c.self.inside.kept.items c.self.invariant.0 c.in-Some.place c.args.delivered
@@ -43,7 +43,7 @@ put-requires-clause-room c =
 pub invariant_of-self : goal.invariant_of-self
 invariant_of-self c =
     let first = first_is_number (cast_fields c.args.cast) in
-    let last = last_is_number (cast_fields c.args.cast) in
+    let last = last_is_number (cast_fields c.args.cast) tt in
     let fits : c.args.cast.number < 2 ^ 32 = omega arith in
     let order : c.args.delivered ≤ c.self.inside.taken = rw (← c.self.view_is) at c.requires in (
       rw c.put.ensures.items
@@ -55,7 +55,7 @@ invariant_of-self c =
 
 pub returns-clause-answer : goal.returns-clause-answer
 returns-clause-answer c =
-    rw (← c.self.view_is, first_is_number (cast_fields c.args.cast), last_is_number (cast_fields c.args.cast)) (
+    rw (← c.self.view_is, first_is_number (cast_fields c.args.cast), last_is_number (cast_fields c.args.cast) tt) (
       all_lacking c.self.inside.window c.self.inside.taken c.self.inside.kept.items c.self.invariant.0 c.args.cast.number c.args.cast.number c.in-Some.place
           c.if-number-self.false c.in-Some.ensures,
       omega (arith, c.if-number-saturating_add.false, c.saturating_add.ensures),
@@ -64,7 +64,7 @@ returns-clause-answer c =
 pub returns-clause-after : goal.returns-clause-after
 returns-clause-after c =
     let first = first_is_number (cast_fields c.args.cast) in
-    let last = last_is_number (cast_fields c.args.cast) in
+    let last = last_is_number (cast_fields c.args.cast) tt in
     let fits : c.args.cast.number < 2 ^ 32 = omega arith in
     let order : c.args.delivered ≤ c.self.inside.taken = rw (← c.self.view_is) at c.requires in
     rw (← c.self.view_is, c.put.ensures.items)
