@@ -15,3 +15,4 @@ pub mod Splitting
 pub mod Telling
 pub mod Carried
 pub mod Counted
+pub mod OneRead

@@ -135,11 +135,12 @@ fn bytes_that_are_no_burst_have_their_first_fault(rt: HostRuntime) {
     }
 }
 
-/// 1,024 bytes, and then one more.
+/// Twice 512 bytes, and then one more.
 #[test]
 fn the_lengths_of_payloads_are_added(rt: HostRuntime) {
-    let mut bytes = many(&rt, rt.alloc(), 0x61, 1_024 + 8);
-    bytes[..8].copy_from_slice(b"\x21\x07\x00\x01\x00\x02\x80\x08");
+    let mut bytes = many(&rt, rt.alloc(), 0x61, 6 + 2 * (2 + 512));
+    bytes[..8].copy_from_slice(b"\x21\x07\x00\x01\x00\x03\x80\x04");
+    bytes[520..522].copy_from_slice(b"\x80\x04");
     bytes.push(0).expect(&rt, "memory");
     let whole = decoded(&rt, rt.alloc(), &bytes);
     let last = bytes.len() - 1;
