@@ -49,7 +49,7 @@ last_in-own casts c = last_in-push casts c c.sender ∙ rw (eq-eqb c.sender c.se
 last_in-other : (casts : List CastFields) (c : CastFields) (j : ℕ) → c.sender ≢ j → last_in (casts ++ c ∷ []) j ≡ last_in casts j
 last_in-other casts c j ne = last_in-push casts c j ∙ rw (ne_eqb c.sender j ne) refl
 
-carry_some-push : (casts : List CastFields) (c : CastFields) → CarrySome casts → IsSome c.load → CarrySome (casts ++ c ∷ [])
+pub carry_some-push : (casts : List CastFields) (c : CastFields) → CarrySome casts → IsSome c.load → CarrySome (casts ++ c ∷ [])
 carry_some-push [] c some one = (one, tt)
 carry_some-push (d ∷ casts) c some one = (some.0, carry_some-push casts c some.1 one)
 

@@ -5,24 +5,31 @@ use Rattle.std.proofs.lemmas.Bool.{cases_eq, cases_lt, both_ways}
 use Rattle.std.proofs.lemmas.List.Sums.{sum_by-cons}
 use Rattle.cb_frames.specs.Fields.{CastFields, Carried, messages_of, first_number, last_number, growth_in}
 use Rattle.cb_frames.proofs.Carried.{carries_some, carries_no_more, carried_is_of_cast, each_number_is_carried, first_is_carried}
-use Rattle.cb_diffs.specs.Expansion.{greatest, growth_of}
+use Rattle.cb_diffs.specs.Expansion.{greatest, growth_of, CarrySome}
 use Rattle.cb_history.specs.Facts.{casts_in, messages_in, is_there}
 use Rattle.cb_history.specs.View.{is_among}
 use Rattle.cb_history.specs.NameLaws.{NamesDiffer}
+use Rattle.cb_history.specs.Singles.{IsSingle}
 use Rattle.cb_history.specs.TimeLaws.{SameFrames, TimesAgree}
 use Rattle.cb_history.proofs.Views.{IsIn, all_in_range}
 use Rattle.cb_history.proofs.Lists.{in_front, in_back, carried_there, carrier, names_apart, names_behind, in_is_among, among_is}
 use Rattle.cb_history.proofs.Names.{all_stand}
+use Rattle.cb_history.proofs.Loads.{some_at, some_of_all, all_single}
 use Rattle.cb_diffs.proofs.Sums.{total, growth_of-other, growth_of-later, growth_of-own}
+
+pub all_at : {A : Type 0} (P : A → Type 0) (xs : List A) (a : A) → AllByRecursion P xs → IsIn a xs → P a
+all_at P [] a all there = absurd there
+all_at P (x ∷ xs) a all (inl same) = subst P (sym same) all.0
+all_at P (x ∷ xs) a all (inr later) = all_at P xs a all.1 later
 
 -- ---- casts that begin at a number
 
 -- of casts with different messages no later one has a message of the first
-pub apart : (c d : CastFields) (casts : List CastFields) (n : ℕ) → NamesDiffer (messages_in (c ∷ casts)) → IsIn d casts → c.sender ≡ d.sender
+pub apart : (c d : CastFields) (casts : List CastFields) (n : ℕ) → CarrySome (c ∷ casts) → NamesDiffer (messages_in (c ∷ casts)) → IsIn d casts → c.sender ≡ d.sender
     → first_number c ≤ n → n ≤ last_number c → first_number d ≤ n → n ≤ last_number d → ⊥
-apart c d casts n differ there sender low high from upto =
-    let m = each_number_is_carried c n low high in
-    let w = each_number_is_carried d n from upto in
+apart c d casts n some differ there sender low high from upto =
+    let m = each_number_is_carried c n some.0 low high in
+    let w = each_number_is_carried d n (some_at casts d some.1 there) from upto in
     let none : is_among (messages_of c) w.found ≡ false = names_apart (messages_of c) (messages_in casts) w.found differ (carried_there casts d w.found there w.there) in
     let here : is_among (messages_of c) m.found ≡ true = in_is_among (messages_of c) m.found m.there in
     let again : is_among (messages_of c) w.found ≡ true =
@@ -50,20 +57,20 @@ none_begins (c ∷ casts) sender n k none =
     omega (arith, sum_by-cons (growth_of sender (n + 1) k) c casts, sum_by-cons (growth_of sender n k) c casts, same_growth sender n k c (none c (inl refl)), none_begins casts sender n k (λ d later. none d (inr later)))
 
 -- and where one does, it adds what it tells
-pub one_begins : (casts : List CastFields) (c : CastFields) (sender n k : ℕ) → NamesDiffer (messages_in casts) → IsIn c casts → c.sender ≡ sender → first_number c ≡ n + 1
+pub one_begins : (casts : List CastFields) (c : CastFields) (sender n k : ℕ) → CarrySome casts → NamesDiffer (messages_in casts) → IsIn c casts → c.sender ≡ sender → first_number c ≡ n + 1
     → total casts sender (n + 1) k ≡ total casts sender n k + growth_in c.changes k
-one_begins [] c sender n k differ there e at = absurd there
-one_begins (x ∷ casts) c sender n k differ (inl same) e at =
+one_begins [] c sender n k some differ there e at = absurd there
+one_begins (x ∷ casts) c sender n k some differ (inl same) e at =
     let now : growth_of sender (n + 1) k x ≡ growth_in c.changes k = ap (growth_of sender (n + 1) k) (sym same) ∙ growth_of-own sender (n + 1) k c e (omega (arith, at)) in
     let before : growth_of sender n k x ≡ 0 = ap (growth_of sender n k) (sym same) ∙ growth_of-later sender n k c (omega (arith, at)) in
     let first : first_number x ≡ n + 1 = ap first_number (sym same) ∙ at in
     let from : x.sender ≡ sender = ap (λ (y : CastFields). y.sender) (sym same) ∙ e in
     let others = none_begins casts sender n k (λ d later of begins.
-    apart x d casts (n + 1) differ later (from ∙ sym of) (omega (arith, first)) (omega (arith, first, carries_some x)) (omega (arith, begins)) (omega (arith, begins, carries_some d))) in
+    apart x d casts (n + 1) some differ later (from ∙ sym of) (omega (arith, first)) (omega (arith, first, carries_some x some.0)) (omega (arith, begins)) (omega (arith, begins, carries_some d (some_at casts d some.1 later)))) in
     omega (arith, sum_by-cons (growth_of sender (n + 1) k) x casts, sum_by-cons (growth_of sender n k) x casts, now, before, others)
-one_begins (x ∷ casts) c sender n k differ (inr later) e at =
-    let other = same_growth sender n k x (λ of begins. apart x c casts (n + 1) differ later (of ∙ sym e) (omega (arith, begins)) (omega (arith, begins, carries_some x)) (omega (arith, at)) (omega (arith, at, carries_some c))) in
-    let rest = one_begins casts c sender n k (names_behind (messages_of x) (messages_in casts) differ) later e at in
+one_begins (x ∷ casts) c sender n k some differ (inr later) e at =
+    let other = same_growth sender n k x (λ of begins. apart x c casts (n + 1) some differ later (of ∙ sym e) (omega (arith, begins)) (omega (arith, begins, carries_some x some.0)) (omega (arith, at)) (omega (arith, at, carries_some c (some_at casts c some.1 later)))) in
+    let rest = one_begins casts c sender n k some.1 (names_behind (messages_of x) (messages_in casts) differ) later e at in
     omega (arith, sum_by-cons (growth_of sender (n + 1) k) x casts, sum_by-cons (growth_of sender n k) x casts, other, rest)
 
 -- the cast of the next message, and what it adds
@@ -74,9 +81,9 @@ pub record Adds (casts : List CastFields) (sender n k : ℕ) : Type 0 where
   pub number_is : first_number cast ≡ n + 1
   pub adds : total casts sender (n + 1) k ≡ total casts sender n k + growth_in cast.changes k
 
--- a cast that carries a message begins with it, as it carries no other
-pub one_adds : (casts : List CastFields) (sender n k : ℕ) → NamesDiffer (messages_in casts) → is_there casts sender (n + 1) ≡ true → Adds casts sender n k
-one_adds casts sender n k differ there =
+-- where casts carry one message each, one that carries a message begins with it
+pub one_adds : (casts : List CastFields) (sender n k : ℕ) → AllByRecursion IsSingle casts → NamesDiffer (messages_in casts) → is_there casts sender (n + 1) ≡ true → Adds casts sender n k
+one_adds casts sender n k single differ there =
     let name : Carried = record { sender = sender; number = n + 1; payload = [] } in
     let m = among_is (messages_in casts) name there in
     let found = carrier casts m.0 m.1 in
@@ -85,36 +92,31 @@ one_adds casts sender n k differ there =
     let low = of.low in
     let high = of.high in
     let e : c.sender ≡ sender = sym of.sender_is ∙ m.2 in
-    let at : first_number c ≡ n + 1 = omega (arith, low, high, m.3, carries_no_more c) in
-    record { cast = c; there = found.1; sender_is = e; number_is = at; adds = one_begins casts c sender n k differ found.1 e at }
+    let at : first_number c ≡ n + 1 = omega (arith, low, high, m.3, carries_no_more c (all_at IsSingle casts c single found.1)) in
+    record { cast = c; there = found.1; sender_is = e; number_is = at; adds = one_begins casts c sender n k (some_of_all casts single) differ found.1 e at }
 
 -- messages are numbered from 1
-pub nothing_at_zero : (casts : List CastFields) (sender k : ℕ) → ((m : Carried) → IsIn m (messages_in casts) → 1 ≤ m.number) → total casts sender 0 k ≡ 0
-nothing_at_zero [] sender k positive = refl
-nothing_at_zero (c ∷ casts) sender k positive =
-    let first = first_is_carried c in
+pub nothing_at_zero : (casts : List CastFields) (sender k : ℕ) → CarrySome casts → ((m : Carried) → IsIn m (messages_in casts) → 1 ≤ m.number) → total casts sender 0 k ≡ 0
+nothing_at_zero [] sender k some positive = refl
+nothing_at_zero (c ∷ casts) sender k some positive =
+    let first = first_is_carried c some.0 in
     let number = first.number_is in
     let here = positive first.found (in_front first.found (messages_of c) (messages_in casts) first.there) in
-    omega (arith, sum_by-cons (growth_of sender 0 k) c casts, growth_of-later sender 0 k c (omega (arith, here, number)), nothing_at_zero casts sender k (λ m there. positive m (in_back m (messages_of c) (messages_in casts) there)))
-
-pub all_at : {A : Type 0} (P : A → Type 0) (xs : List A) (a : A) → AllByRecursion P xs → IsIn a xs → P a
-all_at P [] a all there = absurd there
-all_at P (x ∷ xs) a all (inl same) = subst P (sym same) all.0
-all_at P (x ∷ xs) a all (inr later) = all_at P xs a all.1 later
+    omega (arith, sum_by-cons (growth_of sender 0 k) c casts, growth_of-later sender 0 k c (omega (arith, here, number)), nothing_at_zero casts sender k some.1 (λ m there. positive m (in_back m (messages_of c) (messages_in casts) there)))
 
 same_changes : (casts others : List CastFields) (sender : ℕ) (c d : CastFields) → SameFrames casts others sender → IsIn c casts → IsIn d others → c.sender ≡ sender → d.sender ≡ sender → first_number c ≡ first_number d → c.changes ≡ d.changes
 same_changes casts others sender c d same in_casts in_others e f at =
     all_at (λ (y : CastFields). c.sender ≡ sender → y.sender ≡ sender → first_number c ≡ first_number y → c.changes ≡ y.changes) others d
     (all_at (λ (x : CastFields). AllByRecursion (λ (y : CastFields). x.sender ≡ sender → y.sender ≡ sender → first_number x ≡ first_number y → x.changes ≡ y.changes) others) casts c same in_casts) in_others e f at
 
-totals_agree : (casts others : List CastFields) (sender n k : ℕ) → NamesDiffer (messages_in casts) → NamesDiffer (messages_in others)
+totals_agree : (casts others : List CastFields) (sender n k : ℕ) → AllByRecursion IsSingle casts → AllByRecursion IsSingle others → NamesDiffer (messages_in casts) → NamesDiffer (messages_in others)
     → ((m : Carried) → IsIn m (messages_in casts) → 1 ≤ m.number) → ((m : Carried) → IsIn m (messages_in others) → 1 ≤ m.number) → SameFrames casts others sender
     → ((j : ℕ) → 1 ≤ j → j ≤ n → is_there casts sender j ≡ true) → ((j : ℕ) → 1 ≤ j → j ≤ n → is_there others sender j ≡ true) → total casts sender n k ≡ total others sender n k
-totals_agree casts others sender zero k differ differ' positive positive' same there there' = nothing_at_zero casts sender k positive ∙ sym (nothing_at_zero others sender k positive')
-totals_agree casts others sender (suc n) k differ differ' positive positive' same there there' =
-    let before = totals_agree casts others sender n k differ differ' positive positive' same (λ j low high. there j low (omega (arith, high))) (λ j low high. there' j low (omega (arith, high))) in
-    let a = one_adds casts sender n k differ (there (n + 1) (omega arith) (omega arith)) in
-    let b = one_adds others sender n k differ' (there' (n + 1) (omega arith) (omega arith)) in
+totals_agree casts others sender zero k single single' differ differ' positive positive' same there there' = nothing_at_zero casts sender k (some_of_all casts single) positive ∙ sym (nothing_at_zero others sender k (some_of_all others single') positive')
+totals_agree casts others sender (suc n) k single single' differ differ' positive positive' same there there' =
+    let before = totals_agree casts others sender n k single single' differ differ' positive positive' same (λ j low high. there j low (omega (arith, high))) (λ j low high. there' j low (omega (arith, high))) in
+    let a = one_adds casts sender n k single differ (there (n + 1) (omega arith) (omega arith)) in
+    let b = one_adds others sender n k single' differ' (there' (n + 1) (omega arith) (omega arith)) in
     let changes = same_changes casts others sender a.cast b.cast same a.there b.there a.sender_is b.sender_is (a.number_is ∙ sym b.number_is) in
     let growth : growth_in a.cast.changes k ≡ growth_in b.cast.changes k = ap (λ ds. growth_in ds k) changes in
     let step : suc n ≡ n + 1 = omega arith in
@@ -126,6 +128,6 @@ times_agree seat other facts others m k are are' same expanded expanded' =
     let s = all_stand seat facts are.member are.facts_are in
     let t = all_stand other others are'.member are'.facts_are in
     ap (λ (n : ℕ). cond (eqb k m.sender) m.number (min greatest n))
-    (totals_agree (casts_in facts) (casts_in others) m.sender m.number k s.names t.names s.positive t.positive same
+    (totals_agree (casts_in facts) (casts_in others) m.sender m.number k (all_single seat facts are.facts_are) (all_single other others are'.facts_are) s.names t.names s.positive t.positive same
     (λ j low high. all_in_range (is_there (casts_in facts) m.sender) (0 + 1) (m.number - 0) j expanded (omega (arith, low)) (omega (arith, high)))
     (λ j low high. all_in_range (is_there (casts_in others) m.sender) (0 + 1) (m.number - 0) j expanded' (omega (arith, low)) (omega (arith, high))))

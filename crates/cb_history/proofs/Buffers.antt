@@ -9,8 +9,8 @@ use Rattle.std.proofs.lemmas.Bool.{cases_eq, cases_lt, false_from_ne_true, both_
 use Rattle.std.proofs.lemmas.List.{append-nil}
 use Rattle.cb_times.proofs.Entries.{equal_numbers, other_numbers}
 use Rattle.cb_frames.specs.declared.frame.Range.{Range}
-use Rattle.cb_frames.specs.Fields.{CastFields, first_number, last_number}
-use Rattle.cb_frames.proofs.Carried.{carried_up_to_the_last, carried_is_of_cast, each_number_is_carried}
+use Rattle.cb_frames.specs.Fields.{IsSome, CastFields, first_number, last_number}
+use Rattle.cb_frames.proofs.Carried.{one_has_some, last_is_first, carries_payloads, carried_up_to_the_last, carried_is_of_cast, each_number_is_carried}
 use Rattle.cb_gaps.specs.declared.buffer.Admission.TheVariants.{Kept}
 use Rattle.cb_gaps.specs.Buffer as buffers
 use Rattle.cb_gaps.specs.Buffer.{Buffer, Covers, IsKept, IsLacking, IsAfter, IsNext}
@@ -29,7 +29,7 @@ use Rattle.cb_history.proofs.Views.{IsIn}
 use Rattle.cb_history.proofs.Lists.{in_push, in_front, in_back, carried_there, carrier}
 use Rattle.cb_history.proofs.Gaps.{ranges_of_missing}
 use Rattle.cb_history.proofs.GapsLater.{lacking_is_above}
-use Rattle.cb_history.proofs.Singles.{there_by_messages, counts_by_messages, singles_are_as_many, singles_are_numbered, singles_of_one, singles_are_the_same}
+use Rattle.cb_history.proofs.Singles.{there_by_messages, counts_by_messages, singles_are_as_many, singles_are_numbered, singles_of_one, same_messages}
 use Rattle.cb_history.proofs.Runs.{message_there, message_is_there, expanded_are_there, run_at_most, run_is_expanded, others_expand_nothing, count_rises}
 
 -- ---- casts that are there
@@ -62,13 +62,13 @@ cast_carrying casts i n h =
     record { cast = by.0; there = by.1; sender_is = sym of.sender_is ∙ m.sender_is; covers = (omega (arith, low, number), omega (arith, high, number)) }
 
 -- a number that a cast covers
-pub covered_is_there : (casts : List CastFields) (c : CastFields) (i n : ℕ) → IsIn c casts → c.sender ≡ i → Covers c n → is_there casts i n ≡ true
-covered_is_there casts c i n there sender covers =
-    let m = each_number_is_carried c n covers.0 covers.1 in
+pub covered_is_there : (casts : List CastFields) (c : CastFields) (i n : ℕ) → IsSome c.load → IsIn c casts → c.sender ≡ i → Covers c n → is_there casts i n ≡ true
+covered_is_there casts c i n some there sender covers =
+    let m = each_number_is_carried c n some covers.0 covers.1 in
     message_is_there casts m.found i n (carried_there casts c m.found there m.there) (m.sender_is ∙ sender) m.number_is
 
-waiting_is_there : (casts : List CastFields) (i taken key n : ℕ) (c : CastFields) → IsWaiting casts i taken key c → Covers c n → is_there casts i n ≡ true
-waiting_is_there casts i taken key n c w covers = covered_is_there casts c i n (cast_of_is_in c casts w.there) w.sender_is covers
+waiting_is_there : (casts : List CastFields) (i taken key n : ℕ) (c : CastFields) → IsSingle c → IsWaiting casts i taken key c → Covers c n → is_there casts i n ≡ true
+waiting_is_there casts i taken key n c single w covers = covered_is_there casts c i n (one_has_some c.load single) (cast_of_is_in c casts w.there) w.sender_is covers
 
 -- what waits still does with one more cast
 waits_on : (casts : List CastFields) (i taken n : ℕ) (c d : CastFields) → IsWaiting casts i taken n d → IsWaiting (casts ++ c ∷ []) i taken n d
@@ -90,7 +90,8 @@ waits_or_new casts i taken n c d w = elim (in_push d c casts (cast_of_is_in d (c
 
 kept_is_there : (casts : List CastFields) (i number : ℕ) (buffer : Buffer) → HoldsWhatWaits casts i buffer → IsKept buffer number → is_there casts i number ≡ true
 kept_is_there casts i number buffer h is =
-    waiting_is_there casts i buffer.taken (first_number is.cast) number is.cast ((h.kept (first_number is.cast) is.cast).0 is.kept) is.covers
+    let waits = (h.kept (first_number is.cast) is.cast).0 is.kept in
+    waiting_is_there casts i buffer.taken (first_number is.cast) number is.cast (h.single is.cast waits.there waits.sender_is) waits is.covers
 
 pub received_is_there : ReceivedIsThere
 received_is_there casts i number buffer h low = (
@@ -103,11 +104,11 @@ received_is_there casts i number buffer h low = (
     | inl lt ↦
         let c = cast_carrying casts i number there in
         let single = h.single c.cast (in_is_cast_of c.cast casts c.there) c.sender_is in
-        let begins : first_number c.cast ≡ number = omega (arith, c.covers.0, c.covers.1, single) in
+        let begins : first_number c.cast ≡ number = omega (arith, c.covers.0, c.covers.1, last_is_first c.cast single) in
         inr (record {
           cast = c.cast;
           kept = (h.kept (first_number c.cast) c.cast).1 (record { there = in_is_cast_of c.cast casts c.there; sender_is = c.sender_is; number_is = refl; not_taken = omega (arith, lt, begins) });
-          covers = subst (Covers c.cast) begins (covers_first c.cast);
+          covers = subst (Covers c.cast) begins (covers_first c.cast (one_has_some c.cast.load single));
         })
   ],
 )
@@ -125,8 +126,10 @@ lacking_is_not_there casts i number buffer h lacking = false_from_ne_true (is_th
 pub none_begins : (casts : List CastFields) (i number : ℕ) (buffer : Buffer) (o : Option CastFields) → HoldsWhatWaits casts i buffer → IsLacking buffer number → map.get buffer.kept number ≡ o → o ≡ None
 none_begins casts i number buffer None h lacking is = refl
 none_begins casts i number buffer (Some d) h lacking is =
-    let begins = ((h.kept number d).0 is).number_is in
-    absurd (lacking.not_kept (record { cast = d; kept = ap (map.get buffer.kept) begins ∙ is; covers = subst (Covers d) begins (covers_first d) }))
+    let waits = (h.kept number d).0 is in
+    let begins = waits.number_is in
+    let some = one_has_some d.load (h.single d waits.there waits.sender_is) in
+    absurd (lacking.not_kept (record { cast = d; kept = ap (map.get buffer.kept) begins ∙ is; covers = subst (Covers d) begins (covers_first d some) }))
 
 -- no cast that waits covers the number behind what was taken, where none begins there
 next_is_not_kept : (casts : List CastFields) (i : ℕ) (buffer : Buffer) → HoldsWhatWaits casts i buffer → map.get buffer.kept (buffer.taken + 1) ≡ None → ¬ IsKept buffer (buffer.taken + 1)
@@ -176,10 +179,10 @@ module _ (seat : Identity) (facts : List Fact) (casts : List CastFields) (same :
       }) (ranges_of_missing seat facts i)
 
 pub missing_is_lacked : MissingIsLacked
-missing_is_lacked seat facts i number buffer h window = lacks_what_is_missing seat facts (singles_in facts) (singles_are_the_same (casts_in facts)).messages i buffer h window number
+missing_is_lacked seat facts i number buffer h window = lacks_what_is_missing seat facts (singles_in facts) (same_messages (casts_in facts)) i buffer h window number
 
 pub ranges_of_singles_are_asked_for : RangesAreAskedFor
-ranges_of_singles_are_asked_for seat facts i buffer ranges h window are = ranges_of_what_is_missing seat facts (singles_in facts) (singles_are_the_same (casts_in facts)).messages i buffer h window ranges are
+ranges_of_singles_are_asked_for seat facts i buffer ranges h window are = ranges_of_what_is_missing seat facts (singles_in facts) (same_messages (casts_in facts)) i buffer h window ranges are
 
 -- ---- what changes it
 
@@ -234,8 +237,11 @@ module _ (casts : List CastFields) (i : ℕ) (c : CastFields) (old : Buffer) (h 
     is_next : IsWaiting casts i old.taken (first_number c) c
     is_next = (h.kept (first_number c) c).0 next.kept
 
+    single : IsSingle c
+    single = h.single c is_next.there is_next.sender_is
+
     ends : last_number c ≡ first_number c
-    ends = h.single c is_next.there is_next.sender_is
+    ends = last_is_first c single
 
     -- as it carries one message, what waits behind it begins above its last number
     without_cast : (number : ℕ) (d : CastFields) → (map.get (map.remove old.kept (first_number c)) number ≡ Some d) ↔ IsWaiting casts i (last_number c) number d
@@ -263,7 +269,7 @@ module _ (casts : List CastFields) (i : ℕ) (c : CastFields) (old : Buffer) (h 
     all_taken = run_at_most casts i (last_number c) (λ k low high. elim (cases_lt old.taken k) [
       | inl later ↦
           let follows = next.follows in
-          waiting_is_there casts i old.taken (first_number c) k c is_next (omega (arith, later, follows), high)
+          waiting_is_there casts i old.taken (first_number c) k c single is_next (omega (arith, later, follows), high)
       | inr before ↦ let taken = h.taken in expanded_are_there casts i k low (omega (arith, before, taken))
     ])
 
@@ -325,7 +331,7 @@ lacks_still number c old new single after other lacking =
             let now : map.get (map.insert old.kept (first_number c) c) (first_number is.cast) ≡ Some c = map.get-insert nat_cmp_total old.kept (first_number c) c (first_number is.cast) ∙ here_or_there (first_number is.cast) (first_number c) (Some c) (map.get old.kept (first_number is.cast)) e in
             let same = some_cast c is.cast (sym now ∙ is.kept) in
             let ends : last_number c ≡ last_number is.cast = ap last_number same in
-            omega (arith, ends, single, other, is.covers.1)
+            omega (arith, ends, last_is_first c single, other, is.covers.1)
         | inr ne ↦
             let now : map.get (map.insert old.kept (first_number c) c) (first_number is.cast) ≡ map.get old.kept (first_number is.cast) = map.get-insert nat_cmp_total old.kept (first_number c) c (first_number is.cast) ∙ there_or_here (first_number is.cast) (first_number c) (Some c) (map.get old.kept (first_number is.cast)) ne in
             lacking.not_kept (record { cast = is.cast; kept = sym now ∙ is.kept; covers = is.covers })
@@ -341,7 +347,7 @@ kept_in_turn casts i n (c ∷ singles) old new h numbered single lacks kept =
     let mid = kept.0 in
     let lacking = lacks (first_number c) (omega (arith, begins)) (omega (arith, begins)) in
     let one = kept_single_waits casts i c old mid h numbered.0 alone lacking kept.1 in
-    let rest : NumberedFrom i (n + 1) singles = subst (λ (k : ℕ). NumberedFrom i (k + 1) singles) (alone ∙ begins) numbered.2 in
+    let rest : NumberedFrom i (n + 1) singles = subst (λ (k : ℕ). NumberedFrom i (k + 1) singles) (last_is_first c alone ∙ begins) numbered.2 in
     subst (λ (cs : List CastFields). HoldsWhatWaits cs i new) (append_assoc casts (c ∷ []) singles)
     (kept_in_turn (casts ++ c ∷ []) i (n + 1) singles mid new one rest single.1
     (λ number low high. lacks_still number c old mid alone kept.1 (omega (arith, low, begins)) (lacks number (omega (arith, low)) (omega (arith, high)))) kept.2)
@@ -349,7 +355,7 @@ kept_in_turn casts i n (c ∷ singles) old new h numbered single lacks kept =
 pub kept_singles_wait : KeptSinglesWait
 kept_singles_wait casts c old new h lacking kept =
     kept_in_turn casts c.sender (first_number c) (singles_of c) old new h (singles_are_numbered c) (singles_of_one c)
-    (λ number low high. lacking number low (omega (arith, high, singles_are_as_many c, carried_up_to_the_last c))) kept
+    (λ number low high. lacking number low (omega (arith, high, singles_are_as_many c, carried_up_to_the_last c (omega (arith, low, high, singles_are_as_many c, carries_payloads c))))) kept
 
 others_in_turn : (casts : List CastFields) (sender i n : ℕ) (others : List CastFields) (buffer : Buffer) → HoldsWhatWaits casts i buffer → sender ≢ i → NumberedFrom sender n others → HoldsWhatWaits (casts ++ others) i buffer
 others_in_turn casts sender i n [] buffer h other numbered = subst (λ (cs : List CastFields). HoldsWhatWaits cs i buffer) (sym (append-nil casts)) h

@@ -4,11 +4,11 @@ use Rattle.std.proofs.lemmas.Bool.{leb-false, lt-leb}
 use Rattle.std.proofs.lemmas.List.{length-append}
 use Rattle.cb_frames.specs.declared.frame.TheConstants.{LONGEST_PAYLOAD}
 use Rattle.cb_frames.specs.declared.fault.FrameFault.{FrameFault}
-use Rattle.cb_frames.specs.Fields.{payloads_of, load_bytes, CastFields, FrameFields, StatusFrame}
+use Rattle.cb_frames.specs.Fields.{One, Many, payloads_of, load_bytes, CastFields, FrameFields, StatusFrame}
 use Rattle.cb_frames.specs.Text.{text_of}
 use Rattle.cb_history.specs.Read.{frame_read}
 use Rattle.cb_delay.specs.declared.message.Message.{Message}
-use Rattle.cb_history.specs.CastFault.{CastFault, PayloadTooLong, WindowFull, HistoryFull}
+use Rattle.cb_history.specs.CastFault.{CastFault, BurstTooLong, PayloadTooLong, WindowFull, HistoryFull}
 use Rattle.cb_history.specs.declared.answer.ArriveRefusal.{ArriveRefusal}
 use Rattle.cb_history.specs.declared.answer.ArriveRefusal.TheVariants as arrivals
 use Rattle.cb_history.specs.declared.answer.TickRefusal.{TickRefusal}
@@ -16,24 +16,32 @@ use Rattle.cb_history.specs.declared.answer.TickRefusal.TheVariants as ticks
 use Rattle.cb_history.specs.declared.answer.Outgoing.{Outgoing}
 use Rattle.cb_history.specs.Group.{Identity}
 use Rattle.cb_history.specs.Facts.{EntryFields, facts_of}
-use Rattle.cb_history.specs.Answers.{is_full, is_too_many, next_cast, cast_answer, group_of, are_members, is_impossible, is_repeat, is_too_far, is_change, deliveries, sent_in_answer, ArrivalSays, Accepted, Repeat, answer_to, arrive_answer, status_of, is_new_status, requests, tick_answer}
+use Rattle.cb_history.specs.Answers.{is_burst, is_full, is_too_many, next_cast, cast_answer, group_of, are_members, is_impossible, is_repeat, is_too_far, is_change, deliveries, sent_in_answer, ArrivalSays, Accepted, Repeat, answer_to, arrive_answer, status_of, is_new_status, requests, tick_answer}
 use Rattle.cb_history.specs.Legal.{longest_history, Call, ToCast, ToTake, ToTick, OfBytes, cast_entry, arrive_entry, tick_entry, entry_of, and_entry, room_for_one, OneMore, AreEntriesOf, IsLegal}
 use Rattle.cb_history.specs.HistoryLaws.{CallsKeepLegal}
 use Rattle.cb_history.specs.LimitLaws.{CallsKeepEntries}
+use Rattle.cb_history.specs.LoadLaws.{LoadsCastAreOfOne}
 
 -- there is room for one entry more
 pub room_left : (entries : List EntryFields) → is_full (room_for_one entries) entries ≡ false
 room_left entries = lt-leb (room_for_one entries) (length entries) (omega arith)
 
 -- the tests of an answer, of which the last is whether an entry is left
-abbrev a_cast : Bool → Bool → Bool → CastFields → Result CastFields CastFault
-a_cast long full none c = cond long (Err PayloadTooLong) (cond full (Err WindowFull) (cond none (Err HistoryFull) (Ok c)))
+abbrev a_cast : Bool → Bool → Bool → Bool → CastFields → Result CastFields CastFault
+a_cast burst long full none c = cond burst (Err BurstTooLong) (cond long (Err PayloadTooLong) (cond full (Err WindowFull) (cond none (Err HistoryFull) (Ok c))))
 
-same_cast : (long full none least : Bool) (c : CastFields) (e : EntryFields) → (none ≡ false → least ≡ false) → cast_entry (a_cast long full none c) ≡ Some e → cast_entry (a_cast long full least c) ≡ Some e
-same_cast true full none least c e room h = h
-same_cast false true none least c e room h = h
-same_cast false false true least c e room h = absurd cc
-same_cast false false false least c e room h = rw (room refl) h
+same_cast : (burst long full none least : Bool) (c : CastFields) (e : EntryFields) → (none ≡ false → least ≡ false) → cast_entry (a_cast burst long full none c) ≡ Some e → cast_entry (a_cast burst long full least c) ≡ Some e
+same_cast true long full none least c e room h = h
+same_cast false true full none least c e room h = h
+same_cast false false true none least c e room h = h
+same_cast false false false true least c e room h = absurd cc
+same_cast false false false false least c e room h = rw (room refl) h
+
+-- no burst is cast
+pub loads_cast_are_of_one : LoadsCastAreOfOne
+unfolding cast_answer
+loads_cast_are_of_one seat limit entries (One payload) c h = tt
+loads_cast_are_of_one seat limit entries (Many payloads) c h = absurd cc
 
 abbrev an_arrival : Bool → Bool → Bool → Bool → Bool → Bool → Bool → ArrivalSays → ArrivalSays → Result ArrivalSays ArriveRefusal
 an_arrival group members impossible repeat far change none changed unchanged =
@@ -71,7 +79,7 @@ taken_same seat limit other entries bytes (Err fault) e room h = h
 entry_same : (seat : Identity) (limit other : ℕ) (entries : List EntryFields) (call : Call) (e : EntryFields) → (is_full limit entries ≡ false → is_full other entries ≡ false) → entry_of seat limit entries call ≡ Some e → entry_of seat other entries call ≡ Some e
 unfolding cast_answer arrive_answer tick_answer
 entry_same seat limit other entries (ToCast load) e room h =
-    same_cast (ltb LONGEST_PAYLOAD (length (load_bytes load))) (is_too_many seat (facts_of entries) (length (payloads_of load))) (is_full limit entries) (is_full other entries) (next_cast seat (facts_of entries) load) e room h
+    same_cast (is_burst load) (ltb LONGEST_PAYLOAD (length (load_bytes load))) (is_too_many seat (facts_of entries) (length (payloads_of load))) (is_full limit entries) (is_full other entries) (next_cast seat (facts_of entries) load) e room h
 entry_same seat limit other entries (ToTake bytes) e room h = taken_same seat limit other entries bytes (frame_read bytes) e room h
 entry_same seat limit other entries ToTick e room h =
     same_tick (is_new_status seat (facts_of entries)) (is_full limit entries) (is_full other entries)
@@ -87,11 +95,12 @@ entry_in_limit seat limit entries call e below h = entry_same seat (room_for_one
 
 -- ---- an entry is added only where there is room
 
-cast_has_room : (long full none : Bool) (c : CastFields) (e : EntryFields) → cast_entry (a_cast long full none c) ≡ Some e → none ≡ false
-cast_has_room true full none c e h = absurd cc
-cast_has_room false true none c e h = absurd cc
-cast_has_room false false true c e h = absurd cc
-cast_has_room false false false c e h = refl
+cast_has_room : (burst long full none : Bool) (c : CastFields) (e : EntryFields) → cast_entry (a_cast burst long full none c) ≡ Some e → none ≡ false
+cast_has_room true long full none c e h = absurd cc
+cast_has_room false true full none c e h = absurd cc
+cast_has_room false false true none c e h = absurd cc
+cast_has_room false false false true c e h = absurd cc
+cast_has_room false false false false c e h = refl
 
 arrival_has_room : (group members impossible repeat far change none : Bool) (deliveries : List Message) (out more : List Outgoing) (bytes : List ℕ) (e : EntryFields)
     → arrive_entry bytes (an_arrival group members impossible repeat far change none (Accepted deliveries true out) (Accepted [] false more)) ≡ Some e → none ≡ false
@@ -119,7 +128,7 @@ taken_has_room seat limit entries bytes (Err fault) e h = absurd cc
 has_room : (seat : Identity) (limit : ℕ) (entries : List EntryFields) (call : Call) (e : EntryFields) → entry_of seat limit entries call ≡ Some e → is_full limit entries ≡ false
 unfolding cast_answer arrive_answer tick_answer
 has_room seat limit entries (ToCast load) e h =
-    cast_has_room (ltb LONGEST_PAYLOAD (length (load_bytes load))) (is_too_many seat (facts_of entries) (length (payloads_of load))) (is_full limit entries) (next_cast seat (facts_of entries) load) e h
+    cast_has_room (is_burst load) (ltb LONGEST_PAYLOAD (length (load_bytes load))) (is_too_many seat (facts_of entries) (length (payloads_of load))) (is_full limit entries) (next_cast seat (facts_of entries) load) e h
 has_room seat limit entries (ToTake bytes) e h = taken_has_room seat limit entries bytes (frame_read bytes) e h
 has_room seat limit entries ToTick e h =
     tick_has_room (is_new_status seat (facts_of entries)) (is_full limit entries)

@@ -9,8 +9,8 @@ use Rattle.std.proofs.lemmas.List.FromFn.{get_or-map-range_with_len, length-map-
 use Rattle.cb_times.specs.Order.{field}
 use Rattle.cb_frames.specs.declared.frame.Change.{Change}
 use Rattle.cb_frames.specs.Fields.{CastFields, CastFrame, Carried, messages_of, growth_in, first_number, last_number}
-use Rattle.cb_frames.proofs.Carried.{carries_some}
-use Rattle.cb_diffs.specs.Expansion.{greatest, growth_of, expanded_field, expanded_time, AreMembers, IsNext, Expands}
+use Rattle.cb_frames.proofs.Carried.{carries_some, last_is_first}
+use Rattle.cb_diffs.specs.Expansion.{greatest, growth_of, expanded_field, expanded_time, AreMembers, IsNext, CarrySome, Expands}
 use Rattle.cb_diffs.specs.Expansion as expander
 use Rattle.cb_diffs.proofs.Sums.{growth_of-later, growth_of-own, min_of_min}
 use Rattle.cb_history.specs.Group.{Identity}
@@ -24,31 +24,32 @@ use Rattle.cb_history.specs.ExpanderLaws.{KeepsTimeOf, NewExpanderKeepsNothing, 
 use Rattle.cb_history.proofs.Views.{IsIn}
 use Rattle.cb_history.proofs.Lists.{names_behind}
 use Rattle.cb_history.proofs.Names.{all_stand}
+use Rattle.cb_history.proofs.Loads.{some_at, some_of_all}
 use Rattle.cb_history.proofs.Times.{same_over_range, times_stay}
-use Rattle.cb_history.proofs.Agreement.{apart, one_begins, nothing_at_zero}
+use Rattle.cb_history.proofs.Agreement.{all_at, apart, one_begins, nothing_at_zero}
 use Rattle.cb_diffs.proofs.Sums.{total}
 use Rattle.cb_history.proofs.Runs.{expanded_up_to_the_count}
 use Rattle.cb_history.proofs.Buffers.{cast_of_is_in}
-use Rattle.cb_history.proofs.Singles.{single_among, singles_are_the_same}
+use Rattle.cb_history.proofs.Singles.{singles_are_single, singles_are_the_same}
 use Rattle.cb_history.proofs.Arrivals.{singles_are_of_the_group}
 
 -- ---- one cast more in the sums
 
 -- of two casts that are there and have a message of one name both are the same
-pub one_of_a_message : (casts : List CastFields) (c d : CastFields) (n : ℕ) → NamesDiffer (messages_in casts) → IsIn c casts → IsIn d casts → c.sender ≡ d.sender
+pub one_of_a_message : (casts : List CastFields) (c d : CastFields) (n : ℕ) → CarrySome casts → NamesDiffer (messages_in casts) → IsIn c casts → IsIn d casts → c.sender ≡ d.sender
     → first_number c ≤ n → n ≤ last_number c → first_number d ≤ n → n ≤ last_number d → c ≡ d
-one_of_a_message [] c d n differ there there' sender low high from upto = absurd there
-one_of_a_message (x ∷ casts) c d n differ (inl here) (inl here') sender low high from upto = here ∙ sym here'
-one_of_a_message (x ∷ casts) c d n differ (inl here) (inr later) sender low high from upto =
-    absurd (apart c d casts n (subst (λ (y : CastFields). NamesDiffer (messages_in (y ∷ casts))) (sym here) differ) later sender low high from upto)
-one_of_a_message (x ∷ casts) c d n differ (inr later) (inl here) sender low high from upto =
-    absurd (apart d c casts n (subst (λ (y : CastFields). NamesDiffer (messages_in (y ∷ casts))) (sym here) differ) later (sym sender) from upto low high)
-one_of_a_message (x ∷ casts) c d n differ (inr later) (inr later') sender low high from upto =
-    one_of_a_message casts c d n (names_behind (messages_of x) (messages_in casts) differ) later later' sender low high from upto
+one_of_a_message [] c d n some differ there there' sender low high from upto = absurd there
+one_of_a_message (x ∷ casts) c d n some differ (inl here) (inl here') sender low high from upto = here ∙ sym here'
+one_of_a_message (x ∷ casts) c d n some differ (inl here) (inr later) sender low high from upto =
+    absurd (apart c d casts n (subst (λ (y : CastFields). CarrySome (y ∷ casts)) (sym here) some) (subst (λ (y : CastFields). NamesDiffer (messages_in (y ∷ casts))) (sym here) differ) later sender low high from upto)
+one_of_a_message (x ∷ casts) c d n some differ (inr later) (inl here) sender low high from upto =
+    absurd (apart d c casts n (subst (λ (y : CastFields). CarrySome (y ∷ casts)) (sym here) some) (subst (λ (y : CastFields). NamesDiffer (messages_in (y ∷ casts))) (sym here) differ) later (sym sender) from upto low high)
+one_of_a_message (x ∷ casts) c d n some differ (inr later) (inr later') sender low high from upto =
+    one_of_a_message casts c d n some.1 (names_behind (messages_of x) (messages_in casts) differ) later later' sender low high from upto
 
-pub one_of_a_name : (casts : List CastFields) (c d : CastFields) → NamesDiffer (messages_in casts) → IsIn c casts → IsIn d casts → c.sender ≡ d.sender → first_number c ≡ first_number d → c ≡ d
-one_of_a_name casts c d differ there there' sender first =
-    one_of_a_message casts c d (first_number c) differ there there' sender (omega arith) (carries_some c) (omega (arith, first)) (omega (arith, first, carries_some d))
+pub one_of_a_name : (casts : List CastFields) (c d : CastFields) → CarrySome casts → NamesDiffer (messages_in casts) → IsIn c casts → IsIn d casts → c.sender ≡ d.sender → first_number c ≡ first_number d → c ≡ d
+one_of_a_name casts c d some differ there there' sender first =
+    one_of_a_message casts c d (first_number c) some differ there there' sender (omega arith) (carries_some c (some_at casts c some there)) (omega (arith, first)) (omega (arith, first, carries_some d (some_at casts d some there')))
 
 -- ---- what the expander keeps
 
@@ -68,7 +69,7 @@ new_expander_keeps_nothing seat facts i are member =
     let s = all_stand seat facts are.member are.facts_are in
     let none : (k : ℕ) → k < 0 + size → 0 ≡ expanded_field casts i 0 k = λ k lt. elim (cases_eq k i) [
       | inl e ↦ rw (eq-eqb k i e) refl
-      | inr ne ↦ let sum = nothing_at_zero casts i k s.positive in rw (ne_eqb k i ne) (omega (arith, sum))
+      | inr ne ↦ let sum = nothing_at_zero casts i k s.some s.positive in rw (ne_eqb k i ne) (omega (arith, sum))
     ] in
     record {
       senders = length-replicate size (replicate size 0);
@@ -101,12 +102,12 @@ pub single_behind_is_next : CastBehindIsNext
 single_behind_is_next seat facts c n kept are there behind keeps = behind_is_next seat facts c n kept (single_of_members seat facts c are there) behind keeps
 
 -- the time that is reported, field by field
-reported_field : (size : ℕ) (casts : List CastFields) (c : CastFields) (n k : ℕ) → NamesDiffer (messages_in casts) → IsIn c casts → first_number c ≡ n + 1 → k < size → k ≢ c.sender
+reported_field : (size : ℕ) (casts : List CastFields) (c : CastFields) (n k : ℕ) → CarrySome casts → NamesDiffer (messages_in casts) → IsIn c casts → first_number c ≡ n + 1 → k < size → k ≢ c.sender
     → min greatest (field (expanded_time size casts c.sender n) k + growth_in c.changes k) ≡ expanded_field casts c.sender (first_number c) k
-reported_field size casts c n k differ there behind lt ne =
+reported_field size casts c n k some differ there behind lt ne =
     let before : field (expanded_time size casts c.sender n) k ≡ min greatest (total casts c.sender n k) = field_at size casts c.sender n k lt ∙ rw (ne_eqb k c.sender ne) refl in
     let after : expanded_field casts c.sender (first_number c) k ≡ min greatest (total casts c.sender (n + 1) k) = ap (λ (m : ℕ). expanded_field casts c.sender m k) behind ∙ rw (ne_eqb k c.sender ne) refl in
-    let more = one_begins casts c c.sender n k differ there refl behind in
+    let more = one_begins casts c c.sender n k some differ there refl behind in
     ap (λ (v : ℕ). min greatest (v + growth_in c.changes k)) before ∙ min_of_min (total casts c.sender n k) (growth_in c.changes k) ∙ ap (min greatest) (sym more) ∙ sym after
 
 -- a single that is one of some casts
@@ -116,9 +117,10 @@ record TellsOver (size : ℕ) (casts : List CastFields) (c : CastFields) (n : �
   senders : length new ≡ size
   kept : expander.time_of new c.sender ≡ expanded_time size casts c.sender (last_number c)
 
-tells_over : (size : ℕ) (casts : List CastFields) (c : CastFields) (n : ℕ) (time : List ℕ) (old new : List (List ℕ)) → NamesDiffer (messages_in casts) → IsIn c casts → IsSingle c → c.sender < size
+tells_over : (size : ℕ) (casts : List CastFields) (c : CastFields) (n : ℕ) (time : List ℕ) (old new : List (List ℕ)) → AllByRecursion IsSingle casts → NamesDiffer (messages_in casts) → IsIn c casts → c.sender < size
     → length old ≡ size → expander.time_of old c.sender ≡ expanded_time size casts c.sender n → Expands old c time new → TellsOver size casts c n time new
-tells_over size casts c n time old new names there single member senders keeps e =
+tells_over size casts c n time old new all names there member senders keeps e =
+    let single : last_number c ≡ first_number c = last_is_first c (all_at IsSingle casts c all there) in
     let behind : first_number c ≡ n + 1 = e.next ∙ ap (λ (m : ℕ). m + 1) (ap (λ (t : List ℕ). field t c.sender) keeps ∙ own_is_number size casts c.sender n member) in
     let old_size : length (expander.time_of old c.sender) ≡ size = ap length keeps ∙ length_of size casts c.sender n in
     let time_size : length time ≡ size = e.grown.size ∙ old_size in
@@ -128,7 +130,7 @@ tells_over size casts c n time old new names there single member senders keeps e
       | inl is ↦ ap (field time) is ∙ e.grown.own ∙ sym (ap (field (expanded_time size casts c.sender (first_number c))) is ∙ own_is_number size casts c.sender (first_number c) member)
       | inr ne ↦
           e.grown.others k (omega (arith, lt, old_size)) ne ∙ ap (λ (t : List ℕ). min greatest (field t k + growth_in c.changes k)) keeps
-          ∙ reported_field size casts c n k names there behind lt ne ∙ sym (field_at size casts c.sender (first_number c) k lt)
+          ∙ reported_field size casts c n k (some_of_all casts all) names there behind lt ne ∙ sym (field_at size casts c.sender (first_number c) k lt)
     ]) in
     let kept : new ≡ set old c.sender time = e.kept ∙ ap (set old c.sender) (ap (set time c.sender) (single ∙ sym e.grown.own) ∙ set-get_or time c.sender 0) in
     record {
@@ -140,19 +142,20 @@ tells_over size casts c n time old new names there single member senders keeps e
     }
 
 -- over casts that are the same as those of the facts
-tells_the_time : (seat : Identity) (facts : List Fact) (casts : List CastFields) (c : CastFields) (n : ℕ) (time : List ℕ) (old new : List (List ℕ)) → AreFactsOf seat facts → AreTheSame casts (casts_in facts)
-    → IsIn c casts → IsSingle c → c.sender < seat.group.size → KeepsTimeOf seat facts c.sender n old → Expands old c time new
+tells_the_time : (seat : Identity) (facts : List Fact) (casts : List CastFields) (c : CastFields) (n : ℕ) (time : List ℕ) (old new : List (List ℕ)) → AreFactsOf seat facts → AreTheSame casts (casts_in facts) → AllByRecursion IsSingle casts
+    → IsIn c casts → c.sender < seat.group.size → KeepsTimeOf seat facts c.sender n old → Expands old c time new
     → (first_number c ≡ n + 1) × (time ≡ expanded_time seat.group.size (casts_in facts) c.sender (first_number c)) × KeepsTimeOf seat facts c.sender (last_number c) new
-tells_the_time seat facts casts c n time old new are same there single member keeps e =
+tells_the_time seat facts casts c n time old new are same single there member keeps e =
     let size = seat.group.size in
     let s = all_stand seat facts are.member are.facts_are in
-    let t = tells_over size casts c n time old new (subst NamesDiffer (sym same.messages) s.names) there single member keeps.senders (keeps.time ∙ sym (same.times size c.sender n)) e in
-    (t.behind, t.reported ∙ same.times size c.sender (first_number c), record { senders = t.senders; time = t.kept ∙ same.times size c.sender (last_number c) })
+    let times = same.times s.some size c.sender in
+    let t = tells_over size casts c n time old new single (subst NamesDiffer (sym same.messages) s.names) there member keeps.senders (keeps.time ∙ sym (times n)) e in
+    (t.behind, t.reported ∙ times (first_number c), record { senders = t.senders; time = t.kept ∙ times (last_number c) })
 
 pub single_tells_the_time : ExpanderTellsTheTime
 single_tells_the_time seat facts c n time old new are there keeps e =
     let within = cast_of_is_in c (singles_in facts) there in
-    tells_the_time seat facts (singles_in facts) c n time old new are (singles_are_the_same (casts_in facts)) within (single_among (casts_in facts) c within) (single_of_members seat facts c are there).sender keeps e
+    tells_the_time seat facts (singles_in facts) c n time old new are (singles_are_the_same (casts_in facts)) (singles_are_single (casts_in facts)) within (single_of_members seat facts c are there).sender keeps e
 
 pub other_times_are_kept : OtherTimesAreKept
 other_times_are_kept seat facts c i n time old new other keeps e = record {
@@ -169,36 +172,40 @@ kept_times_stay seat facts more i n kept are expanded keeps =
 
 -- ---- in the order of the numbers
 
-none_yet : (i a b k : ℕ) (taken : List CastFields) → NumberedFrom i b taken → a < b → total taken i a k ≡ 0
-none_yet i a b k [] numbered lt = refl
-none_yet i a b k (c ∷ taken) numbered lt =
+none_yet : (i a b k : ℕ) (taken : List CastFields) → CarrySome taken → NumberedFrom i b taken → a < b → total taken i a k ≡ 0
+none_yet i a b k [] some numbered lt = refl
+none_yet i a b k (c ∷ taken) some numbered lt =
     let number = numbered.1 in
-    let later = none_yet i a (last_number c + 1) k taken numbered.2 (omega (arith, number, lt, carries_some c)) in
+    let later = none_yet i a (last_number c + 1) k taken some.1 numbered.2 (omega (arith, number, lt, carries_some c some.0)) in
     omega (arith, sum_by-cons (growth_of i a k) c taken, growth_of-later i a k c (omega (arith, number, lt)), later)
 
+taken_carry_some : (casts taken : List CastFields) → CarrySome casts → AllByRecursion (λ c. IsCastOf c casts) taken → CarrySome taken
+taken_carry_some casts [] some are = tt
+taken_carry_some casts (c ∷ taken) some are = (some_at casts c some (cast_of_is_in c casts are.0), taken_carry_some casts taken some are.1)
+
 -- what the casts of a sender behind number a add up to, up to the number m, where each carries one message
-in_order : (casts taken : List CastFields) (i a n m k : ℕ) → NamesDiffer (messages_in casts) → ((c : CastFields) → IsIn c casts → IsSingle c) → NumberedFrom i (a + 1) taken → AllByRecursion (λ c. IsCastOf c casts) taken
+in_order : (casts taken : List CastFields) (i a n m k : ℕ) → NamesDiffer (messages_in casts) → AllByRecursion IsSingle casts → NumberedFrom i (a + 1) taken → AllByRecursion (λ c. IsCastOf c casts) taken
     → n ≤ length taken → m ≡ a + n → total casts i m k ≡ total casts i a k + total taken i m k
 in_order casts taken i a zero m k differ single numbered are few is =
     let at : m ≡ a = omega (arith, is) in
-    let none = none_yet i m (a + 1) k taken numbered (omega (arith, is)) in
+    let none = none_yet i m (a + 1) k taken (taken_carry_some casts taken (some_of_all casts single) are) numbered (omega (arith, is)) in
     let same : total casts i m k ≡ total casts i a k = ap (λ (j : ℕ). total casts i j k) at in
     omega (arith, none, same)
 in_order casts [] i a (suc n) m k differ single numbered are few is = absurd (omega (arith, few))
 in_order casts (c ∷ taken) i a (suc n) m k differ single numbered are few is =
     let number = numbered.1 in
     let there = cast_of_is_in c casts are.0 in
-    let rest : NumberedFrom i (a + 1 + 1) taken = subst (λ (j : ℕ). NumberedFrom i (j + 1) taken) (single c there ∙ number) numbered.2 in
+    let rest : NumberedFrom i (a + 1 + 1) taken = subst (λ (j : ℕ). NumberedFrom i (j + 1) taken) (last_is_first c (all_at IsSingle casts c single there) ∙ number) numbered.2 in
     let later = in_order casts taken i (a + 1) n m k differ single rest are.1 (omega (arith, few)) (omega (arith, is)) in
     let here : total casts i (a + 1) k ≡ total casts i a k + growth_in c.changes k =
-    subst (λ (j : ℕ). total casts j (a + 1) k ≡ total casts j a k + growth_in c.changes k) numbered.0 (one_begins casts c c.sender a k differ there refl number) in
+    subst (λ (j : ℕ). total casts j (a + 1) k ≡ total casts j a k + growth_in c.changes k) numbered.0 (one_begins casts c c.sender a k (some_of_all casts single) differ there refl number) in
     omega (arith, later, here, sum_by-cons (growth_of i m k) c taken, growth_of-own i m k c numbered.0 (omega (arith, number, is)))
 
 pub order_changes_no_time : OrderChangesNoTime
 order_changes_no_time seat facts taken i n k are numbered all few =
     let s = all_stand seat facts are.member are.facts_are in
     let same = singles_are_the_same (casts_in facts) in
-    let sums = in_order (singles_in facts) taken i 0 n n k (subst NamesDiffer (sym same.messages) s.names) (single_among (casts_in facts)) numbered all few (omega arith) in
-    let none = nothing_at_zero (singles_in facts) i k (λ m there. s.positive m (subst (IsIn m) same.messages there)) in
+    let sums = in_order (singles_in facts) taken i 0 n n k (subst NamesDiffer (sym same.messages) s.names) (singles_are_single (casts_in facts)) numbered all few (omega arith) in
+    let none = nothing_at_zero (singles_in facts) i k (some_of_all (singles_in facts) (singles_are_single (casts_in facts))) (λ m there. s.positive m (subst (IsIn m) same.messages there)) in
     let sum : total taken i n k ≡ total (singles_in facts) i n k = omega (arith, sums, none) in
-    ap (λ (t : ℕ). cond (eqb k i) n (min greatest t)) sum ∙ same.fields i n k
+    ap (λ (t : ℕ). cond (eqb k i) n (min greatest t)) sum ∙ same.fields s.some i n k

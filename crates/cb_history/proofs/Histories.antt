@@ -5,7 +5,7 @@ use Rattle.std.proofs.lemmas.Bool.{cond_both, eqb-true, ltb-false}
 use Rattle.std.proofs.lemmas.List.{append-nil, length-append}
 use Rattle.cb_frames.specs.declared.frame.TheConstants.{LONGEST_PAYLOAD}
 use Rattle.cb_frames.specs.declared.fault.FrameFault.{FrameFault}
-use Rattle.cb_frames.specs.Fields.{payloads_of, Load, load_bytes, CastFields, FrameFields, Carried, CastFrame, StatusFrame, RequestFrame}
+use Rattle.cb_frames.specs.Fields.{Load, One, Many, CastFields, FrameFields, Carried, CastFrame, StatusFrame, RequestFrame}
 use Rattle.cb_frames.specs.Text.{IsLoad, text_of}
 use Rattle.cb_history.specs.Read.{frame_read}
 use Rattle.cb_frames.specs.Laws.{IsBytes}
@@ -26,7 +26,7 @@ use Rattle.cb_history.specs.LimitLaws.{EntriesSayLegalFacts}
 use Rattle.cb_history.specs.View.{view, message_in}
 use Rattle.cb_history.proofs.Lists.{flat_map-append}
 use Rattle.cb_history.proofs.Prefixes.{last_entry}
-use Rattle.cb_history.proofs.ReadBack.{cast_read, status_read, frame_numbered}
+use Rattle.cb_history.proofs.ReadBack.{cast_read, status_read, read_whole, frame_numbered, read_casts_are_single}
 use Rattle.cb_history.proofs.Written.{cast_can, status_can}
 use Rattle.cb_history.proofs.Counts.{numbers_left, read_numbers}
 
@@ -52,19 +52,22 @@ not_false false h = absurd cc
 
 cast_added : (seat : Identity) (entries : List EntryFields) (load : Load) (e : EntryFields) → Before seat entries → cast_entry (cast_answer seat (room_for_one entries) entries load) ≡ Some e → Added seat entries e
 unfolding cast_answer
-cast_added seat entries load e b =
-    cond_both (ltb LONGEST_PAYLOAD (length (load_bytes load))) _ _ (λ (r : Result CastFields CastFault). cast_entry r ≡ Some e → Added seat entries e) (λ _ h. absurd cc)
-    (λ short. cond_both (is_too_many seat (facts_of entries) (length (payloads_of load))) _ _ (λ (r : Result CastFields CastFault). cast_entry r ≡ Some e → Added seat entries e) (λ _ h. absurd cc)
+cast_added seat entries (Many payloads) e b = λ h. absurd cc
+cast_added seat entries (One payload) e b =
+    let load = One payload in
+    cond_both (ltb LONGEST_PAYLOAD (length payload)) _ _ (λ (r : Result CastFields CastFault). cast_entry r ≡ Some e → Added seat entries e) (λ _ h. absurd cc)
+    (λ short. cond_both (is_too_many seat (facts_of entries) 1) _ _ (λ (r : Result CastFields CastFault). cast_entry r ≡ Some e → Added seat entries e) (λ _ h. absurd cc)
     (λ open_window. cond_both (is_full (room_for_one entries) entries) _ _ (λ (r : Result CastFields CastFault). cast_entry r ≡ Some e → Added seat entries e) (λ _ h. absurd cc)
     (λ _ h.
     let is : CastEntry (text_of (CastFrame (next_cast seat (facts_of entries) load))) ≡ e = cc in
-    let small : IsLoad load = ltb-false LONGEST_PAYLOAD (length (load_bytes load)) short in
-    let can = cast_can seat (facts_of entries) load b.group b.member b.facts_are (numbers_left seat (facts_of entries) (length (payloads_of load)) open_window) small in
+    let small : IsLoad load = ltb-false LONGEST_PAYLOAD (length payload) short in
+    let can = cast_can seat (facts_of entries) load b.group b.member b.facts_are tt (numbers_left seat (facts_of entries) 1 open_window) small in
+    let read = cast_read (next_cast seat (facts_of entries) load) tt can in
     record {
       fact = OwnCast (next_cast seat (facts_of entries) load);
-      said = ap said_by (sym is) ∙ ap cast_said (cast_read (next_cast seat (facts_of entries) load) can);
-      step = record { load = small; window = open_window; next = refl };
-      text = subst SaysItsText is (next_cast seat (facts_of entries) load, cast_read (next_cast seat (facts_of entries) load) can, refl);
+      said = ap said_by (sym is) ∙ ap cast_said read;
+      step = record { one = tt; load = small; window = open_window; next = refl };
+      text = subst SaysItsText is (next_cast seat (facts_of entries) load, read, refl);
     })))
 
 -- ---- an arrival
@@ -104,14 +107,14 @@ frame_taken seat entries bytes e frame =
 
 -- bytes that are a frame are its text
 received_as_text : (bytes : List ℕ) (names : List Name) (e : EntryFields) (f : FrameFields) → IsBytes bytes → frame_read bytes ≡ Ok f → ArriveEntry bytes names ≡ e → SaysItsText e
-received_as_text bytes names e f are read is = subst SaysItsText is (f, read, one_text f bytes ((reading_is_exact.text bytes f are).0 read))
+received_as_text bytes names e f are read is = subst SaysItsText is (f, read, one_text f bytes ((reading_is_exact.text bytes f are).0 (read_whole bytes f read)))
 
 taken_says : (seat : Identity) (entries : List EntryFields) (bytes : List ℕ) (e : EntryFields) (frame : FrameFields) → IsBytes bytes → frame_read bytes ≡ Ok frame → Taken seat entries bytes e frame → Added seat entries e
 taken_says seat entries bytes e (CastFrame c) are read t = record {
   text = received_as_text bytes t.names e (CastFrame c) are read t.is;
   fact = CastReceived c;
   said = ap said_by (sym t.is) ∙ ap arrival_said read;
-  step = record { numbered = frame_numbered bytes c read; taken = t.taken (read_numbers bytes (CastFrame c) are read) };
+  step = record { one = read_casts_are_single bytes c read; numbered = frame_numbered bytes c read; taken = t.taken (read_numbers bytes (CastFrame c) are read) };
 }
 taken_says seat entries bytes e (StatusFrame s) are read t = record {
   text = received_as_text bytes t.names e (StatusFrame s) are read t.is;

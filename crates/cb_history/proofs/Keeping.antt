@@ -3,12 +3,13 @@ use Rattle.std.proofs.Common.{◌≡◌, ◌≢◌, ℕ, zero, suc, ◌+◌, ◌
 use Rattle.std.specs.List.{filter, range_with_len}
 use Rattle.std.proofs.lemmas.Bool.{cases_eq, cases_lt, eq-eqb, ne_eqb, le-ltb, lt-ltb, false_from_ne_true}
 use Rattle.std.proofs.lemmas.List.{map-append}
-use Rattle.std.proofs.lemmas.List.Elements.{filter-append, filter_agree}
+use Rattle.std.proofs.lemmas.List.Elements.{filter-append}
 use Rattle.cb_frames.specs.declared.frame.TheConstants.{LAST_NUMBER, MOST_FRAMES}
 use Rattle.cb_frames.specs.declared.frame.Range.{Range}
-use Rattle.cb_frames.specs.Fields.{CastFields, CastFrame, messages_of, first_number, last_number}
+use Rattle.cb_frames.specs.Fields.{IsSome, CastFields, CastFrame, messages_of, first_number, last_number}
 use Rattle.cb_frames.specs.Text.{text_of}
-use Rattle.cb_frames.proofs.Carried.{first_is_number, carried_up_to_the_last, carries_some, carried_is_of_cast, each_number_is_carried}
+use Rattle.cb_frames.proofs.Carried.{one_has_some, first_is_number, carried_up_to_the_last, carries_some, carried_is_of_cast, each_number_is_carried}
+use Rattle.cb_diffs.specs.Expansion.{CarrySome}
 use Rattle.cb_stability.specs.Ranges.{is_in, is_in_some, meets}
 use Rattle.cb_stability.specs.declared.window.Spanned.{Spanned}
 use Rattle.cb_stability.specs.Sent.{spanned, is_in_ranges, room_of}
@@ -155,8 +156,8 @@ same_tests true b there back = sym (there refl)
 same_tests false b there back = sym (false_from_ne_true b (λ yes. let no = back yes in cc))
 
 -- a range asks for some message of a cast where it meets its numbers
-asked_as_spans : (ranges : List Range) (c : CastFields) → is_asked_for ranges c ≡ is_in_ranges ranges (spanned_frame c)
-asked_as_spans ranges c = same_tests (is_asked_for ranges c) (is_in_ranges ranges (spanned_frame c)) meets_some asks_for_some
+asked_as_spans : (ranges : List Range) (c : CastFields) → IsSome c.load → is_asked_for ranges c ≡ is_in_ranges ranges (spanned_frame c)
+asked_as_spans ranges c some = same_tests (is_asked_for ranges c) (is_in_ranges ranges (spanned_frame c)) meets_some asks_for_some
   where
     meets_some : is_asked_for ranges c ≡ true → is_in_ranges ranges (spanned_frame c) ≡ true
     meets_some asked =
@@ -170,14 +171,33 @@ asked_as_spans ranges c = same_tests (is_asked_for ranges c) (is_in_ranges range
     asks_for_some met =
         let range = one_of (meets (first_number c) (last_number c)) ranges met in
         let n = (meets_a_number (first_number c) (last_number c) range.0).0 range.2 in
-        let m = each_number_is_carried c n.0 n.1 n.2 in
+        let m = each_number_is_carried c n.0 some n.1 n.2 in
         any_of (λ x. is_in_some ranges x.number) (messages_of c) m.found m.there
         (any_of (is_in m.found.number) ranges range.0 range.1 (subst (λ (k : ℕ). is_in k range.0 ≡ true) (sym m.number_is) n.3))
 
-spans_asked : (ranges : List Range) (casts : List CastFields) → map spanned_frame (filter (is_asked_for ranges) casts) ≡ filter (is_in_ranges ranges) (map spanned_frame casts)
-spans_asked ranges casts =
-    ap (map spanned_frame) (filter_agree (is_asked_for ranges) (λ c. is_in_ranges ranges (spanned_frame c)) (asked_as_spans ranges) casts)
-    ∙ sym (filter_of_map spanned_frame (is_in_ranges ranges) casts)
+spans_asked : (ranges : List Range) (casts : List CastFields) → CarrySome casts → map spanned_frame (filter (is_asked_for ranges) casts) ≡ filter (is_in_ranges ranges) (map spanned_frame casts)
+spans_asked ranges [] some = refl
+spans_asked ranges (c ∷ casts) some = picked (is_asked_for ranges c) (is_in_ranges ranges (spanned_frame c)) (asked_as_spans ranges c some.0) (spans_asked ranges casts some.1)
+  where
+    asked : List CastFields
+    asked = filter (is_asked_for ranges) casts
+
+    met : List Spanned
+    met = filter (is_in_ranges ranges) (map spanned_frame casts)
+
+    picked : (a b : Bool) → a ≡ b → map spanned_frame asked ≡ met → map spanned_frame (cond a (c ∷ asked) asked) ≡ cond b (spanned_frame c ∷ met) met
+    picked true true same rest = ap (λ (frames : List Spanned). spanned_frame c ∷ frames) rest
+    picked false false same rest = rest
+    picked true false same rest = absurd cc
+    picked false true same rest = absurd cc
+
+some_picked : (p : CastFields → Bool) (casts : List CastFields) → CarrySome casts → CarrySome (filter p casts)
+some_picked p [] some = tt
+some_picked p (c ∷ casts) some = kept (p c) (some_picked p casts some.1)
+  where
+    kept : (b : Bool) → CarrySome (filter p casts) → CarrySome (cond b (c ∷ filter p casts) (filter p casts))
+    kept true rest = (some.0, rest)
+    kept false rest = rest
 
 take_frames : (n : ℕ) (casts : List CastFields) (requester : ℕ)
     → map (λ c. sent_to requester (text_of (CastFrame c))) (take n casts) ≡ map (sent_to requester) (map (λ frame. frame.bytes) (take n (map spanned_frame casts)))
@@ -186,11 +206,11 @@ take_frames (suc n) [] requester = refl
 take_frames (suc n) (c ∷ casts) requester = ap (λ (os : List Outgoing). sent_to requester (text_of (CastFrame c)) ∷ os) (take_frames n casts requester)
 
 pub frames_in_are_sent_in_answer : FramesInAreSentInAnswer
-frames_in_are_sent_in_answer seat facts sent r keeps asked =
+frames_in_are_sent_in_answer seat facts sent r are keeps asked =
     rw (eq-eqb r.asked seat.me asked)
     (take_frames MOST_FRAMES (filter (is_asked_for r.ranges) (window seat facts)) r.requester
     ∙ ap (λ (frames : List Spanned). map (sent_to r.requester) (map (λ frame. frame.bytes) (take MOST_FRAMES frames)))
-    (spans_asked r.ranges (window seat facts) ∙ ap (filter (is_in_ranges r.ranges)) (sym keeps.kept)))
+    (spans_asked r.ranges (window seat facts) (some_picked (λ c. ltb (stable seat facts) (last_number c)) (own_casts facts) (all_stand seat facts are.member are.facts_are).own_some) ∙ ap (filter (is_in_ranges r.ranges)) (sym keeps.kept)))
 
 -- ---- one more own cast
 
@@ -224,6 +244,9 @@ put_is_own_cast seat facts c sent after are keeps puts =
     below : s ≤ delivered seat facts seat.me
     below = (acknowledged_is_delivered seat facts before).1
 
+    some : IsSome c.load
+    some = one_has_some c.load (last_fact_is_a_step seat facts (OwnCast c) are).one
+
     sender : c.sender ≡ seat.me
     sender = ap (λ (x : CastFields). x.sender) (last_fact_is_a_step seat facts (OwnCast c) are).next
 
@@ -231,14 +254,14 @@ put_is_own_cast seat facts c sent after are keeps puts =
     first = first_is_number c ∙ ap (λ (x : CastFields). x.number) (last_fact_is_a_step seat facts (OwnCast c) are).next ∙ ap (λ (n : ℕ). n + 1) (sym keeps.put)
 
     last : sent.put + length (messages_of c) ≡ last_number c
-    last = omega (arith, first, carried_up_to_the_last c)
+    last = omega (arith, first, carried_up_to_the_last c some)
 
     grown : window seat (facts ++ OwnCast c ∷ []) ≡ window seat facts ++ c ∷ []
     grown =
         ap (λ (n : ℕ). above n (own_casts (facts ++ OwnCast c ∷ []))) (others_same seat facts c are)
         ∙ ap (above s) (own_casts-own facts c)
         ∙ filter-append (λ c. ltb s (last_number c)) (own_casts facts) (c ∷ [])
-        ∙ ap (λ (b : Bool). window seat facts ++ cond b (c ∷ []) []) (lt-ltb s (last_number c) (let put = keeps.put in let le = below in omega (arith, put, first, carries_some c, le)))
+        ∙ ap (λ (b : Bool). window seat facts ++ cond b (c ∷ []) []) (lt-ltb s (last_number c) (let put = keeps.put in let le = below in omega (arith, put, first, carries_some c some, le)))
 
 -- ---- trimmed after another fact
 

@@ -1,5 +1,6 @@
 mod Rows
 pub mod Views
+pub mod Loads
 pub mod Lists
 pub mod Walks
 pub mod Names

@@ -1,14 +1,15 @@
 -- Elements, names and counts of lists of messages.
 use Rattle.std.proofs.Common.{◌≡◌, ◌≢◌, ℕ, length, ◌+◌, ◌<◌, ◌≤◌, Bool, true, false, cond, ◌&&◌, ◌||◌, eqb, List, [], ◌∷◌, ◌++◌, refl, sym, ap, ◌∙◌, subst, append_assoc, arith, inl, inr, ◌⊎◌}
-use Rattle.std.specs.List.{flat_map, list_all, list_any}
+use Rattle.std.specs.List.{AllByRecursion, flat_map, list_all, list_any}
 use Rattle.std.proofs.lemmas.Bool.{eqb-true, eq-eqb, ne_eqb, cases_eq, and_right, or_cases}
 use Rattle.std.proofs.lemmas.List.{append-nil, length-append}
-use Rattle.cb_frames.specs.Fields.{CastFields, Carried, messages_of, first_number, last_number}
+use Rattle.cb_frames.specs.Fields.{IsSome, CastFields, Carried, messages_of, first_number, last_number}
 use Rattle.cb_frames.specs.Carrying.{AreNumberedFrom}
-use Rattle.cb_frames.proofs.Carried.{row_within, carried_in_order, carried_up_to_the_last, carries_some, carries_no_more}
+use Rattle.cb_frames.proofs.Carried.{load_has_one, row_within, carried_in_order, carries_payloads, carried_up_to_the_last}
 use Rattle.cb_history.specs.Facts.{messages_in}
 use Rattle.cb_history.specs.View.{count, is_among}
 use Rattle.cb_history.specs.NameLaws.{InOrderAfter, NamesDiffer}
+use Rattle.cb_history.specs.Singles.{IsSingle}
 use Rattle.cb_history.proofs.Views.{IsIn, or_left, or_right, test_true}
 
 -- ---- elements
@@ -230,8 +231,8 @@ count_of_others xs c k ne =
     omega (arith, count-append xs (messages_of c) k, none)
 
 -- with the messages of its sender's next cast there are as many as the cast's last number
-pub count_to_the_last : (xs : List Carried) (c : CastFields) (k : ℕ) → c.sender ≡ k → first_number c ≡ count xs k + 1 → count (xs ++ messages_of c) k ≡ last_number c
-count_to_the_last xs c k e next = omega (arith, count_of_messages xs c k e, carried_up_to_the_last c, next)
+pub count_to_the_last : (xs : List Carried) (c : CastFields) (k : ℕ) → IsSome c.load → c.sender ≡ k → first_number c ≡ count xs k + 1 → count (xs ++ messages_of c) k ≡ last_number c
+count_to_the_last xs c k some e next = omega (arith, count_of_messages xs c k e, carried_up_to_the_last c some, next)
 
 pub order_append : (before ms more : List Carried) → InOrderAfter before ms → InOrderAfter (before ++ ms) more → InOrderAfter before (ms ++ more)
 order_append before [] more order next = subst (λ (seen : List Carried). InOrderAfter seen more) (append-nil before) next
@@ -287,7 +288,7 @@ order_bound before (x ∷ ms) m order (inr later) =
     let both = count-append before (x ∷ []) m.sender in
     omega (arith, others, both)
 
--- the messages of the casts are as many as the casts, as long as each cast has one
-pub length_messages : (casts : List CastFields) → length (messages_in casts) ≡ length casts
-length_messages [] = refl
-length_messages (c ∷ casts) = omega (arith, length-append (messages_of c) (messages_in casts), carried_up_to_the_last c, carries_some c, carries_no_more c, length_messages casts)
+-- the messages of casts of one message each are as many as the casts
+pub length_messages : (casts : List CastFields) → AllByRecursion IsSingle casts → length (messages_in casts) ≡ length casts
+length_messages [] single = refl
+length_messages (c ∷ casts) single = omega (arith, length-append (messages_of c) (messages_in casts), carries_payloads c, load_has_one c.load single.0, length_messages casts single.1)

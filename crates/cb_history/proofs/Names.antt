@@ -3,14 +3,17 @@ use Rattle.std.proofs.Common.{◌≡◌, ◌≢◌, ℕ, ◌+◌, ◌<◌, ◌�
 use Rattle.std.specs.List.{list_all}
 use Rattle.std.proofs.lemmas.Bool.{false_from_ne_true, eq-eqb, ltb-true, ltb-false}
 use Rattle.std.proofs.lemmas.List.{append-nil, length-append}
-use Rattle.cb_frames.specs.Fields.{CastFields, CastFrame, Carried, messages_of, first_number, last_number}
-use Rattle.cb_frames.proofs.Carried.{first_is_number, carried_up_to_the_last, carries_some, carried_is_of_cast, carried_alone, first_is_carried}
+use Rattle.cb_frames.specs.Fields.{IsSome, CastFields, CastFrame, Carried, messages_of, first_number, last_number}
+use Rattle.cb_frames.proofs.Carried.{one_has_some, first_is_number, carried_up_to_the_last, carries_some, carried_is_of_cast, carried_alone, first_is_carried}
 use Rattle.cb_history.specs.Group.{Identity}
 use Rattle.cb_history.specs.Facts.{Fact, OwnCast, CastReceived, StatusReceived, OwnStatus, casts_in, messages_in, is_there}
 use Rattle.cb_history.specs.View.{count, is_among, next_delivery, drain, view}
 use Rattle.cb_history.specs.Answers.{own_casts, delivered, is_repeat}
 use Rattle.cb_history.specs.LegalFacts.{IsCastTaken, IsStep, AreLegalFacts, NoFacts, OneFactMore}
 use Rattle.cb_history.specs.NameLaws.{InOrderAfter, NamesDiffer, NumberedFrom, ReceivedFromOthers, NamesStandOnce, OwnCastsAreNumbered, OwnMessagesAreOwn, ViewIsInOrder, ViewHoldsTheFirst, ViewIsOfCasts, IsOneOf, ViewIsAsCast}
+use Rattle.cb_history.specs.Singles.{IsSingle}
+use Rattle.cb_diffs.specs.Expansion.{CarrySome}
+use Rattle.cb_diffs.proofs.Sums.{carry_some-push}
 use Rattle.cb_history.proofs.Views.{IsIn, next_is, next_is_the_only_candidate, ready_is_new, expanded_is_there, casts_in-append, test_true, among_more, among_front, among_back}
 use Rattle.cb_history.proofs.Lists.{messages_in-push, in_append, in_push, in_casts_push, in_casts_front, in_casts_back, names_append, carried_names, in_is_among, among_is, count_of_messages, count_other, order_append, carried_order, order_push, among_by_order, order_bound}
 use Rattle.cb_history.proofs.Walks.{drain_keeps, view_own, view_received, view_status, view_reported, own_casts-own, own_casts-other}
@@ -25,11 +28,13 @@ pub record Stands (seat : Identity) (casts : List CastFields) (seen : List Carri
   pub names : NamesDiffer (messages_in casts)
   pub own_count : count seen seat.me ≡ length (messages_in own)
   pub own_numbers : NumberedFrom seat.me 1 own
+  pub some : CarrySome casts
+  pub own_some : CarrySome own
 
-numbered_push : (me n : ℕ) (own : List CastFields) (c : CastFields) → NumberedFrom me n own → c.sender ≡ me → first_number c ≡ n + length (messages_in own) → NumberedFrom me n (own ++ c ∷ [])
-numbered_push me n [] c numbered sender number = (sender, number ∙ omega arith, tt)
-numbered_push me n (d ∷ own) c numbered sender number =
-    (numbered.0, numbered.1, numbered_push me (last_number d + 1) own c numbered.2 sender (omega (arith, number, numbered.1, carried_up_to_the_last d, length-append (messages_of d) (messages_in own))))
+numbered_push : (me n : ℕ) (own : List CastFields) (c : CastFields) → CarrySome own → NumberedFrom me n own → c.sender ≡ me → first_number c ≡ n + length (messages_in own) → NumberedFrom me n (own ++ c ∷ [])
+numbered_push me n [] c some numbered sender number = (sender, number ∙ omega arith, tt)
+numbered_push me n (d ∷ own) c some numbered sender number =
+    (numbered.0, numbered.1, numbered_push me (last_number d + 1) own c some.1 numbered.2 sender (omega (arith, number, numbered.1, carried_up_to_the_last d some.0, length-append (messages_of d) (messages_in own))))
 
 -- ---- an own cast
 
@@ -46,8 +51,8 @@ own_is_new seat casts seen own m s sender above = false_from_ne_true (is_among (
     omega (arith, bound, at, same, above))
 
 own_stands : (seat : Identity) (casts : List CastFields) (seen : List Carried) (own : List CastFields) (c : CastFields) → seat.me < seat.group.size → Stands seat casts seen own
-    → c.sender ≡ seat.me → first_number c ≡ count seen seat.me + 1 → Stands seat (casts ++ c ∷ []) (seen ++ messages_of c) (own ++ c ∷ [])
-own_stands seat casts seen own c member s sender number = record {
+    → IsSome c.load → c.sender ≡ seat.me → first_number c ≡ count seen seat.me + 1 → Stands seat (casts ++ c ∷ []) (seen ++ messages_of c) (own ++ c ∷ [])
+own_stands seat casts seen own c member s some sender number = record {
   small = λ m h. elim (in_casts_push casts c m h) [
     | inl old ↦ s.small m old
     | inr new ↦ let same = (carried_is_of_cast c m new).sender_is in omega (arith, same, sender, member)
@@ -70,7 +75,9 @@ own_stands seat casts seen own c member s sender number = record {
       let low = of.low in
       own_is_new seat casts seen own m s (of.sender_is ∙ sender) (omega (arith, low, number))));
   own_count = count_of_messages seen c seat.me sender ∙ ap (λ (n : ℕ). n + length (messages_of c)) s.own_count ∙ sym (length-append (messages_in own) (messages_of c)) ∙ ap length (sym (messages_in-push own c));
-  own_numbers = numbered_push seat.me 1 own c s.own_numbers sender (omega (arith, number, s.own_count));
+  own_numbers = numbered_push seat.me 1 own c s.own_some s.own_numbers sender (omega (arith, number, s.own_count));
+  some = carry_some-push casts c s.some some;
+  own_some = carry_some-push own c s.own_some some;
 }
 
 -- ---- a received cast
@@ -100,8 +107,8 @@ goes_on seat casts n small seen m g e =
     }
 
 received_stands : (seat : Identity) (casts : List CastFields) (seen : List Carried) (own : List CastFields) (c : CastFields) → Stands seat casts seen own
-    → c.sender < seat.group.size → 1 ≤ first_number c → c.sender ≢ seat.me → ((m : Carried) → IsIn m (messages_of c) → is_among (messages_in casts) m ≡ false) → Stands seat (casts ++ c ∷ []) (drain seat.group.size (casts ++ c ∷ []) seen) own
-received_stands seat casts seen own c s member positive other new =
+    → IsSome c.load → c.sender < seat.group.size → 1 ≤ first_number c → c.sender ≢ seat.me → ((m : Carried) → IsIn m (messages_of c) → is_among (messages_in casts) m ≡ false) → Stands seat (casts ++ c ∷ []) (drain seat.group.size (casts ++ c ∷ []) seen) own
+received_stands seat casts seen own c s some member positive other new =
     let small : (m : Carried) → IsIn m (messages_in (casts ++ c ∷ [])) → m.sender < seat.group.size = λ m h. elim (in_casts_push casts c m h) [
       | inl old ↦ s.small m old
       | inr late ↦ let same = (carried_is_of_cast c m late).sender_is in omega (arith, same, member)
@@ -127,6 +134,8 @@ received_stands seat casts seen own c s member positive other new =
       names = subst NamesDiffer (sym (messages_in-push casts c)) (names_append (messages_in casts) (messages_of c) s.names (carried_names c) new);
       own_count = g.own_count;
       own_numbers = s.own_numbers;
+      some = carry_some-push casts c s.some some;
+      own_some = s.own_some;
     }
 
 -- ---- all facts
@@ -148,25 +157,26 @@ failing p (x ∷ ms) h = either_fails p x ms (p x) refl h (λ later. failing p m
     either_fails p x ms false e h go = (x, inl refl, e)
 
 -- of the messages of a cast that is no repeat none is there: one is not, and a cast carries no other
-pub none_is_there : (facts : List Fact) (c : CastFields) → is_repeat facts (CastFrame c) ≡ false → (m : Carried) → IsIn m (messages_of c) → is_among (messages_in (casts_in facts)) m ≡ false
-none_is_there facts c new m there =
+pub none_is_there : (facts : List Fact) (c : CastFields) → IsSingle c → is_repeat facts (CastFrame c) ≡ false → (m : Carried) → IsIn m (messages_of c) → is_among (messages_in (casts_in facts)) m ≡ false
+none_is_there facts c single new m there =
     let one = failing (is_among (messages_in (casts_in facts))) (messages_of c) new in
-    subst (λ (x : Carried). is_among (messages_in (casts_in facts)) x ≡ false) (carried_alone c one.0 m one.1 there) one.2
+    subst (λ (x : Carried). is_among (messages_in (casts_in facts)) x ≡ false) (carried_alone c one.0 m single one.1 there) one.2
 
 -- a received cast is of another member: one of its own would be a repeat
 pub received_is_others : (seat : Identity) (facts : List Fact) (c : CastFields) → StandsAt seat facts → IsCastTaken seat facts c → c.sender ≢ seat.me
 received_is_others seat facts c s came own =
     let seen = view seat.group.size facts in
-    let first = first_is_carried c in
+    let some = one_has_some c.load came.one in
+    let first = first_is_carried c some in
     let m : Carried = first.found in
     let bound = ltb-false (delivered seat facts seat.me) (last_number c) (possible_own (eqb c.sender seat.me) (ltb (delivered seat facts seat.me) (last_number c)) came.taken.possible (eq-eqb c.sender seat.me own)) in
     let at : count seen m.sender ≡ count seen seat.me = ap (count seen) (first.sender_is ∙ own) in
     let number = first.number_is in
-    let among : is_among seen m ≡ true = among_by_order [] seen m s.order (omega (arith, number, came.numbered)) (omega (arith, number, at, bound, carries_some c)) in
+    let among : is_among seen m ≡ true = among_by_order [] seen m s.order (omega (arith, number, came.numbered)) (omega (arith, number, at, bound, carries_some c some)) in
     let found = among_is seen m among in
     let there : is_among (messages_in (casts_in facts)) found.0 ≡ true = in_is_among (messages_in (casts_in facts)) found.0 (s.there found.0 found.1) in
     let again : is_there (casts_in facts) m.sender m.number ≡ true = subst (λ (k : ℕ). is_there (casts_in facts) k m.number ≡ true) found.2 (subst (λ (n : ℕ). is_there (casts_in facts) found.0.sender n ≡ true) found.3 there) in
-    let none : is_there (casts_in facts) m.sender m.number ≡ false = none_is_there facts c came.taken.new m first.there in
+    let none : is_there (casts_in facts) m.sender m.number ≡ false = none_is_there facts c came.one came.taken.new m first.there in
     cc
 
 status_stands : (seat : Identity) (casts casts' : List CastFields) (seen seen' : List Carried) (own own' : List CastFields) → casts' ≡ casts → seen' ≡ seen → own' ≡ own → Stands seat casts seen own → Stands seat casts' seen' own'
@@ -176,11 +186,11 @@ status_stands seat casts casts' seen seen' own own' a b d s =
 step_stands : (seat : Identity) (facts : List Fact) (f : Fact) → seat.me < seat.group.size → IsStep seat facts f → StandsAt seat facts → StandsAt seat (facts ++ f ∷ [])
 step_stands seat facts (OwnCast c) member step s =
     status_stands seat (casts_in facts ++ c ∷ []) _ (view seat.group.size facts ++ messages_of c) _ (own_casts facts ++ c ∷ []) _ (casts_in-append facts (OwnCast c)) (view_own seat.group.size facts c) (own_casts-own facts c)
-    (own_stands seat (casts_in facts) (view seat.group.size facts) (own_casts facts) c member s (ap (λ (x : CastFields). x.sender) step.next) (first_is_number c ∙ ap (λ (x : CastFields). x.number) step.next))
+    (own_stands seat (casts_in facts) (view seat.group.size facts) (own_casts facts) c member s (one_has_some c.load step.one) (ap (λ (x : CastFields). x.sender) step.next) (first_is_number c ∙ ap (λ (x : CastFields). x.number) step.next))
 step_stands seat facts (CastReceived c) member step s =
     status_stands seat (casts_in facts ++ c ∷ []) _ (drain seat.group.size (casts_in facts ++ c ∷ []) (view seat.group.size facts)) _ (own_casts facts) _ (casts_in-append facts (CastReceived c)) (view_received seat.group.size facts c) (own_casts-other facts (CastReceived c) tt)
-    (received_stands seat (casts_in facts) (view seat.group.size facts) (own_casts facts) c s
-    (ltb-true c.sender seat.group.size (test_true (ltb c.sender seat.group.size) _ step.taken.members).0) step.numbered (received_is_others seat facts c s step) (none_is_there facts c step.taken.new))
+    (received_stands seat (casts_in facts) (view seat.group.size facts) (own_casts facts) c s (one_has_some c.load step.one)
+    (ltb-true c.sender seat.group.size (test_true (ltb c.sender seat.group.size) _ step.taken.members).0) step.numbered (received_is_others seat facts c s step) (none_is_there facts c step.one step.taken.new))
 step_stands seat facts (StatusReceived t) member step s =
     status_stands seat (casts_in facts) _ (view seat.group.size facts) _ (own_casts facts) _ (casts_in-append facts (StatusReceived t) ∙ append-nil (casts_in facts)) (view_status seat.group.size facts t) (own_casts-other facts (StatusReceived t) tt) s
 step_stands seat facts (OwnStatus t) member step s =
@@ -197,6 +207,8 @@ none_stands seat = record {
   names = tt;
   own_count = refl;
   own_numbers = tt;
+  some = tt;
+  own_some = tt;
 }
 
 pub all_stand : (seat : Identity) (facts : List Fact) → seat.me < seat.group.size → AreLegalFacts seat facts → StandsAt seat facts

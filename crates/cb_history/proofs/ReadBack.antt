@@ -1,21 +1,23 @@
 -- Frames that were written are read back.
-use Rattle.std.proofs.Common.{◌≡◌, ℕ, suc, ◌+◌, ◌<◌, ◌≤◌, ◌^◌, List, [], ◌∷◌, ◌++◌, length, drop, Option, Some, None, Result, Ok, refl, sym, ap, subst, ◌∙◌, append_assoc, arith, eqb}
+use Rattle.std.proofs.Common.{◌≡◌, ℕ, suc, ◌+◌, ◌<◌, ◌≤◌, ◌^◌, false, List, [], ◌∷◌, ◌++◌, length, drop, Option, Some, None, Result, Ok, refl, sym, ap, subst, ◌∙◌, append_assoc, arith, eqb}
 use Rattle.std.specs.List.{AllByRecursion, flat_map}
 use Rattle.std.proofs.lemmas.List.{drop_at, append-nil, take_all, drop_all}
-use Rattle.std.proofs.lemmas.Bool.{cond_both, le-ltb}
+use Rattle.std.proofs.lemmas.Bool.{both_ways, cond_both, le-ltb}
 use Rattle.cb_varint.specs.Reading.{number_at as number_and_length, spelling}
 use Rattle.cb_varint.proofs.Fronts.{number_is_read}
 use Rattle.cb_varint.proofs.Spelled.{spelled}
 use Rattle.cb_frames.specs.declared.fault.FrameFault.{FrameFault}
-use Rattle.cb_frames.specs.Fields.{Load, One, load_bytes, CastFields, StatusFields, FrameFields, CastFrame, StatusFrame, first_number}
-use Rattle.cb_frames.specs.Text.{cast_kind, status_kind, request_kind, pairs_from, cast_numbers, status_numbers, text_of}
+use Rattle.cb_frames.specs.Fields.{Load, One, Many, IsOne, CastFields, StatusFields, FrameFields, CastFrame, StatusFrame, first_number}
+use Rattle.cb_frames.specs.Text.{cast_kind, burst_kind, status_kind, request_kind, pairs_from, cast_numbers, status_numbers, with_load, payload_text, text_of}
 use Rattle.cb_frames.specs.Fault.{any_number, member_rule, message_rule, length_rule, Pairs, change_pairs, value_pairs}
-use Rattle.cb_frames.specs.Reading.{number_at, unless, field_at, pair_at, pairs_at, payload_at, cast_at, status_at, request_at, frame_at}
+use Rattle.cb_frames.specs.Reading.{number_at, unless, field_at, pair_at, pairs_at, payload_at, CastHead, carrying, head_at, cast_at, status_at, request_at, frame_at}
 use Rattle.cb_history.specs.Read.{frame_read}
 use Rattle.cb_frames.specs.Laws.{CanBeWritten}
-use Rattle.cb_frames.proofs.Carried.{one_load, first_is_number}
+use Rattle.cb_frames.proofs.Carried.{first_is_number}
 use Rattle.cb_frames.proofs.SaidPairs.{keeps_member, keeps_message, keeps_length, message_kept, Said, Says, says_changes, says_values}
 use Rattle.cb_frames.proofs.Fronts.{bind_cases}
+use Rattle.cb_history.specs.Singles.{IsSingle}
+use Rattle.cb_history.specs.LoadLaws.{ReadCastsAreSingle}
 use Rattle.cb_history.proofs.Lists.{flat_map-append}
 
 abbrev AreSmall : List ℕ → Type 0
@@ -47,17 +49,27 @@ pairs_read {A} p least (d ∷ ds) numbers rest says small =
     let others = pairs_read p (p.next (least + says.0) says.1) ds says.2 rest says.5 parts.1.1 in
     ap (pairs_at p (suc (length ds)) least) text ∙ rw (one, others) (ap (λ (x : A). Ok (x ∷ ds, rest)) (sym says.3.said))
 
-small_front : (ms ns : List ℕ) → AreSmall (ms ++ ns) → AreSmall ms
-small_front [] ns small = tt
-small_front (m ∷ ms) ns small = (small.0, small_front ms ns small.1)
+numbers_text : (c : CastFields) (rest : List ℕ) → flat_map spelling (cast_numbers c) ++ rest
+    ≡ spelling c.group ++ (spelling c.sender ++ (spelling c.number ++ (spelling (length c.changes) ++ (flat_map spelling (pairs_from 0 c.changes) ++ rest))))
+numbers_text c rest = simp (flat_map-append, append_assoc)
 
-small_back : (ms ns : List ℕ) → AreSmall (ms ++ ns) → AreSmall ns
-small_back [] ns small = small
-small_back (m ∷ ms) ns small = small_back ms ns small.1
+abbrev head_of : CastFields → CastHead
+head_of c = record { group = c.group; sender = c.sender; number = c.number; changes = c.changes }
 
-cast_text : (c : CastFields) → flat_map spelling (cast_numbers c) ++ load_bytes c.load
-    ≡ spelling c.group ++ (spelling c.sender ++ (spelling c.number ++ (spelling (length c.changes) ++ (flat_map spelling (pairs_from 0 c.changes) ++ (spelling (length (load_bytes c.load)) ++ load_bytes c.load)))))
-cast_text c = simp (flat_map-append, append_assoc)
+head_read : (c : CastFields) (rest : List ℕ) → CanBeWritten (CastFrame c) → head_at (flat_map spelling (cast_numbers c) ++ rest) ≡ Ok (head_of c, rest)
+unfolding head_at
+head_read c rest can =
+    let small = can.2 in
+    let pairs_text = flat_map spelling (pairs_from 0 c.changes) ++ rest in
+    let count_text = spelling (length c.changes) ++ pairs_text in
+    let number_text = spelling c.number ++ count_text in
+    let sender_text = spelling c.sender ++ number_text in
+    let group = field_read any_number c.group sender_text small.0 refl in
+    let sender = field_read member_rule c.sender number_text small.1.0 (keeps_member c.sender can.0.sender) in
+    let number = field_read message_rule c.number count_text small.1.1.0 (keeps_message c.number can.0.number) in
+    let count = field_read any_number (length c.changes) pairs_text small.1.1.1.0 refl in
+    let changes = pairs_read (change_pairs c.sender) 0 c.changes (pairs_from 0 c.changes) rest (says_changes c.sender 0 c.changes can.0.changes) small.1.1.1.1 in
+    rw (numbers_text c rest, group, sender, number, count, changes) refl
 
 all_bytes : (bytes : List ℕ) → payload_at (length bytes) bytes ≡ Ok bytes
 all_bytes bytes =
@@ -66,29 +78,21 @@ all_bytes bytes =
     let none = drop_all (length bytes) bytes (omega arith) in
     rw (same, all, none) refl
 
-cast_at_read : (c : CastFields) → CanBeWritten (CastFrame c) → cast_at (flat_map spelling (cast_numbers c) ++ load_bytes c.load) ≡ Ok c
+cast_at_read : (c : CastFields) (payload : List ℕ) → CanBeWritten (CastFrame (with_load c (One payload))) → cast_at (flat_map spelling (cast_numbers c) ++ payload_text payload) ≡ Ok (with_load c (One payload))
 unfolding cast_at
-cast_at_read c can =
-    let small = can.2 in
-    let pairs = small.1.1.1.1 in
-    let payload_text = spelling (length (load_bytes c.load)) ++ load_bytes c.load in
-    let pairs_text = flat_map spelling (pairs_from 0 c.changes) ++ payload_text in
-    let count_text = spelling (length c.changes) ++ pairs_text in
-    let number_text = spelling c.number ++ count_text in
-    let sender_text = spelling c.sender ++ number_text in
-    let group = field_read any_number c.group sender_text small.0 refl in
-    let sender = field_read member_rule c.sender number_text small.1.0 (keeps_member c.sender can.0.sender) in
-    let number = field_read message_rule c.number count_text small.1.1.0 (keeps_message c.number can.0.number) in
-    let count = field_read any_number (length c.changes) pairs_text small.1.1.1.0 refl in
-    let changes = pairs_read (change_pairs c.sender) 0 c.changes (pairs_from 0 c.changes) payload_text (says_changes c.sender 0 c.changes can.0.changes) (small_front (pairs_from 0 c.changes) (length (load_bytes c.load) ∷ []) pairs) in
-    let size = field_read (length_rule 0) (length (load_bytes c.load)) (load_bytes c.load) (small_back (pairs_from 0 c.changes) (length (load_bytes c.load) ∷ []) pairs).0 (keeps_length 0 (length (load_bytes c.load)) (omega (arith, can.1))) in
-    let payload = all_bytes (load_bytes c.load) in
-    let same : record c { load = One (load_bytes c.load) } ≡ c = ap (λ (load : Load). record c { load = load }) (sym (one_load c.load)) in
-    rw (cast_text c, group, sender, number, count, changes, size, payload) (ap Ok same)
+cast_at_read c payload can =
+    let head = head_read (with_load c (One payload)) (payload_text payload) can in
+    let size = field_read (length_rule 0) (length payload) payload (omega (arith, can.1)) (keeps_length 0 (length payload) (omega (arith, can.1))) in
+    let all = all_bytes payload in
+    rw (head, size, all) refl
 
-pub cast_read : (c : CastFields) → CanBeWritten (CastFrame c) → frame_read (text_of (CastFrame c)) ≡ Ok (CastFrame c)
+load_read : (c : CastFields) (load : Load) → IsOne load → CanBeWritten (CastFrame (with_load c load)) → frame_read (text_of (CastFrame (with_load c load))) ≡ Ok (CastFrame (with_load c load))
 unfolding frame_at text_of
-cast_read c can = let read = cast_at_read c can in rw read refl
+load_read c (One payload) one can = let read = cast_at_read c payload can in rw read refl
+load_read c (Many payloads) one can = absurd one
+
+pub cast_read : (c : CastFields) → IsSingle c → CanBeWritten (CastFrame c) → frame_read (text_of (CastFrame c)) ≡ Ok (CastFrame c)
+cast_read c single can = load_read c c.load single can
 
 status_text : (s : StatusFields) → flat_map spelling (status_numbers s) ≡ spelling s.group ++ (spelling s.sender ++ (spelling (length s.values) ++ (flat_map spelling (pairs_from 0 s.values) ++ [])))
 status_text s = simp append-nil
@@ -110,25 +114,34 @@ pub status_read : (s : StatusFields) → CanBeWritten (StatusFrame s) → frame_
 unfolding frame_at text_of
 status_read s can = let read = status_at_read s can in rw read refl
 
--- ---- a cast that was read is numbered from 1
+-- ---- what was read
+
+-- a frame that is read is the one whose text the bytes are
+pub read_whole : (bytes : List ℕ) (f : FrameFields) → frame_read bytes ≡ Ok f → frame_at bytes ≡ Ok f
+read_whole [] f = λ h. h
+read_whole (kind ∷ bytes) f =
+    cond_both (eqb kind burst_kind) _ _ (λ (r : Result FrameFields FrameFault). r ≡ Ok f → frame_at (kind ∷ bytes) ≡ Ok f) (λ _ h. absurd cc) (λ _ h. h)
+
+-- and what does not begin as a burst is read as it is
+pub read_of_another_kind : (kind : ℕ) (bytes : List ℕ) → eqb kind burst_kind ≡ false → frame_read (kind ∷ bytes) ≡ frame_at (kind ∷ bytes)
+read_of_another_kind kind bytes other = rw other refl
 
 rule_kept : {A : Type 0} (o : Option FrameFault) (x y : A) → unless o x ≡ Ok y → (o ≡ None) × (x ≡ y)
 rule_kept None x y h = (refl, cc)
 rule_kept (Some e) x y h = absurd cc
 
-cast_numbered : (bytes : List ℕ) (c : CastFields) → cast_at bytes ≡ Ok c → 1 ≤ first_number c
-unfolding cast_at
-cast_numbered bytes c =
-    bind_cases (field_at any_number bytes) _ (λ (r : Result CastFields FrameFault). r ≡ Ok c → 1 ≤ first_number c)
-    (λ group e. bind_cases (field_at member_rule group.1) _ (λ (r : Result CastFields FrameFault). r ≡ Ok c → 1 ≤ first_number c)
-    (λ sender e. bind_cases (field_at message_rule sender.1) _ (λ (r : Result CastFields FrameFault). r ≡ Ok c → 1 ≤ first_number c)
-    (λ number e. bind_cases (field_at any_number number.1) _ (λ (r : Result CastFields FrameFault). r ≡ Ok c → 1 ≤ first_number c)
-    (λ count e'. bind_cases (pairs_at (change_pairs sender.0) count.0 0 count.1) _ (λ (r : Result CastFields FrameFault). r ≡ Ok c → 1 ≤ first_number c)
-    (λ changes e'. bind_cases (field_at (length_rule 0) changes.1) _ (λ (r : Result CastFields FrameFault). r ≡ Ok c → 1 ≤ first_number c)
-    (λ size e'. bind_cases (payload_at size.0 size.1) _ (λ (r : Result CastFields FrameFault). r ≡ Ok c → 1 ≤ first_number c)
-    (λ payload e' h. let said : number.0 ≡ c.number = cc in let same : number.0 ≡ first_number c = said ∙ sym (first_is_number c) in subst (λ (n : ℕ). 1 ≤ n) same (number_kept sender.1 number e))
-    (λ f e' h. absurd cc))
-    (λ f e' h. absurd cc))
+head_numbered : (bytes : List ℕ) (head : CastHead × List ℕ) → head_at bytes ≡ Ok head → 1 ≤ head.0.number
+unfolding head_at
+head_numbered bytes head =
+    let P : Result (CastHead × List ℕ) FrameFault → Type 0 = λ r. r ≡ Ok head → 1 ≤ head.0.number in
+    bind_cases (field_at any_number bytes) _ P
+    (λ group e. bind_cases (field_at member_rule group.1) _ P
+    (λ sender e. bind_cases (field_at message_rule sender.1) _ P
+    (λ number e. bind_cases (field_at any_number number.1) _ P
+    (λ count e'. bind_cases (pairs_at (change_pairs sender.0) count.0 0 count.1) _ P
+    (λ changes e' h.
+    let said : (record { group = group.0; sender = sender.0; number = number.0; changes = changes.0 }, changes.1) ≡ head = cc in
+    subst (λ (x : CastHead × List ℕ). 1 ≤ x.0.number) said (number_kept sender.1 number e))
     (λ f e' h. absurd cc))
     (λ f e' h. absurd cc))
     (λ f e' h. absurd cc))
@@ -141,20 +154,46 @@ cast_numbered bytes c =
         (λ n e h. let kept = rule_kept (message_rule n.0) n x h in subst (λ (y : ℕ × List ℕ). 1 ≤ y.0) kept.1 (message_kept n.0 kept.0))
         (λ f e h. absurd cc)
 
-pub frame_numbered : (bytes : List ℕ) (c : CastFields) → frame_read bytes ≡ Ok (CastFrame c) → 1 ≤ first_number c
+-- a cast that was read is numbered from 1, and carries one payload
+record IsReadCast (c : CastFields) : Type 0 where
+  numbered : 1 ≤ first_number c
+  single : IsSingle c
+
+cast_says : (bytes : List ℕ) (c : CastFields) → cast_at bytes ≡ Ok c → IsReadCast c
+unfolding cast_at
+cast_says bytes c =
+    let P : Result CastFields FrameFault → Type 0 = λ r. r ≡ Ok c → IsReadCast c in
+    bind_cases (head_at bytes) _ P
+    (λ head e. bind_cases (field_at (length_rule 0) head.1) _ P
+    (λ size e'. bind_cases (payload_at size.0 size.1) _ P
+    (λ payload e' h.
+    let d : CastFields = carrying head.0 (One payload) in
+    let same : d ≡ c = cc in
+    subst IsReadCast same (record { numbered = omega (arith, first_is_number d, head_numbered bytes head e); single = tt }))
+    (λ f e' h. absurd cc))
+    (λ f e' h. absurd cc))
+    (λ f e' h. absurd cc)
+
+frame_says : (bytes : List ℕ) (c : CastFields) → frame_read bytes ≡ Ok (CastFrame c) → IsReadCast c
 unfolding frame_at
-frame_numbered [] c = λ h. absurd cc
-frame_numbered (kind ∷ bytes) c =
-    cond_both (eqb kind cast_kind) _ _ (λ (r : Result FrameFields FrameFault). r ≡ Ok (CastFrame c) → 1 ≤ first_number c)
-    (λ _. bind_cases (cast_at bytes) _ (λ (r : Result FrameFields FrameFault). r ≡ Ok (CastFrame c) → 1 ≤ first_number c)
-    (λ d e h. let same : d ≡ c = cc in cast_numbered bytes c (e ∙ ap (λ (x : CastFields). Ok x) same))
+frame_says [] c = λ h. absurd cc
+frame_says (kind ∷ bytes) c =
+    let P : Result FrameFields FrameFault → Type 0 = λ r. r ≡ Ok (CastFrame c) → IsReadCast c in
+    cond_both (eqb kind burst_kind) _ _ P (λ _ h. absurd cc)
+    (λ no_burst. cond_both (eqb kind cast_kind) _ _ P
+    (λ _. bind_cases (cast_at bytes) _ P
+    (λ d e h. let same : d ≡ c = cc in cast_says bytes c (e ∙ ap (λ (x : CastFields). Ok x) same))
     (λ f e h. absurd cc))
-    (λ _. cond_both (eqb kind status_kind) _ _ (λ (r : Result FrameFields FrameFault). r ≡ Ok (CastFrame c) → 1 ≤ first_number c)
-    (λ _. bind_cases (status_at bytes) _ (λ (r : Result FrameFields FrameFault). r ≡ Ok (CastFrame c) → 1 ≤ first_number c)
-    (λ s e h. absurd cc)
-    (λ f e h. absurd cc))
-    (λ _. cond_both (eqb kind request_kind) _ _ (λ (r : Result FrameFields FrameFault). r ≡ Ok (CastFrame c) → 1 ≤ first_number c)
-    (λ _. bind_cases (request_at bytes) _ (λ (r : Result FrameFields FrameFault). r ≡ Ok (CastFrame c) → 1 ≤ first_number c)
-    (λ q e h. absurd cc)
-    (λ f e h. absurd cc))
-    (λ _ h. absurd cc)))
+    (λ _. cond_both (eqb kind burst_kind) _ _ P
+    (λ burst. absurd (both_ways (eqb kind burst_kind) no_burst burst))
+    (λ _. cond_both (eqb kind status_kind) _ _ P
+    (λ _. bind_cases (status_at bytes) _ P (λ s e h. absurd cc) (λ f e h. absurd cc))
+    (λ _. cond_both (eqb kind request_kind) _ _ P
+    (λ _. bind_cases (request_at bytes) _ P (λ q e h. absurd cc) (λ f e h. absurd cc))
+    (λ _ h. absurd cc)))))
+
+pub frame_numbered : (bytes : List ℕ) (c : CastFields) → frame_read bytes ≡ Ok (CastFrame c) → 1 ≤ first_number c
+frame_numbered bytes c read = (frame_says bytes c read).numbered
+
+pub read_casts_are_single : ReadCastsAreSingle
+read_casts_are_single bytes c read = (frame_says bytes c read).single

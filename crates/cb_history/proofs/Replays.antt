@@ -8,8 +8,8 @@ use Rattle.cb_varint.specs.Reading.{spelling}
 use Rattle.cb_varint.proofs.Spelled.{spelled}
 use Rattle.cb_frames.specs.declared.frame.TheConstants.{LONGEST_PAYLOAD}
 use Rattle.cb_frames.specs.declared.fault.FrameFault.{FrameFault}
-use Rattle.cb_frames.specs.Fields.{payloads_of, Load, load_bytes, CastFields, StatusFields, FrameFields, CastFrame, StatusFrame, RequestFrame}
-use Rattle.cb_frames.specs.Text.{cast_kind, status_kind, cast_numbers, status_numbers, text_of}
+use Rattle.cb_frames.specs.Fields.{Load, One, Many, IsOne, load_bytes, CastFields, StatusFields, FrameFields, CastFrame, StatusFrame, RequestFrame}
+use Rattle.cb_frames.specs.Text.{cast_kind, status_kind, cast_numbers, status_numbers, with_load, payload_text, text_of}
 use Rattle.cb_history.specs.Read.{frame_read}
 use Rattle.cb_frames.specs.Laws.{IsBytes, CanBeWritten}
 use Rattle.cb_frames.proofs.Decoding.{reading_is_exact}
@@ -25,7 +25,7 @@ use Rattle.cb_history.specs.LegalFacts.{AreFactsOf}
 use Rattle.cb_history.specs.ReplayLaws.{load_said, call_of, bytes_in, EntryTellsItsCall, EntriesOfBytesTellBytes, LegalEntriesAreBytes, OneMoreIsDecided, AreReplayed, ReplayingDecides}
 use Rattle.cb_history.proofs.Counts.{numbers_left}
 use Rattle.cb_history.proofs.Written.{cast_can, status_can}
-use Rattle.cb_history.proofs.ReadBack.{cast_read}
+use Rattle.cb_history.proofs.ReadBack.{cast_read, read_whole, read_casts_are_single}
 use Rattle.cb_history.proofs.Calls.{entry_with_room, entry_in_limit, added_below}
 use Rattle.cb_history.proofs.Prefixes.{last_entry, prefix_is_legal}
 use Rattle.cb_history.proofs.Histories.{frame_taken, entries_say_legal_facts, legal_histories_say_legal_facts, all_push}
@@ -57,10 +57,12 @@ pub numbers_are_bytes : (ns : List ℕ) → AllByRecursion (λ n. n < 2 ^ 32) ns
 numbers_are_bytes [] small = no_bytes
 numbers_are_bytes (n ∷ ns) small = both_are_bytes (spelling n) (flat_map spelling ns) (spelling_is_bytes n small.0) (numbers_are_bytes ns small.1)
 
-pub cast_is_bytes : (c : CastFields) → CanBeWritten (CastFrame c) → IsBytes (load_bytes c.load) → IsBytes (text_of (CastFrame c))
+pub cast_is_bytes : (c : CastFields) (payload : List ℕ) → CanBeWritten (CastFrame (with_load c (One payload))) → IsBytes payload → IsBytes (text_of (CastFrame (with_load c (One payload))))
 unfolding text_of
-cast_is_bytes c can carried =
-    one_more_byte cast_kind (flat_map spelling (cast_numbers c) ++ load_bytes c.load) (omega arith) (both_are_bytes (flat_map spelling (cast_numbers c)) (load_bytes c.load) (numbers_are_bytes (cast_numbers c) can.2) carried)
+cast_is_bytes c payload can carried =
+    one_more_byte cast_kind (flat_map spelling (cast_numbers c) ++ payload_text payload) (omega arith)
+    (both_are_bytes (flat_map spelling (cast_numbers c)) (payload_text payload) (numbers_are_bytes (cast_numbers c) can.2)
+    (both_are_bytes (spelling (length payload)) payload (spelling_is_bytes (length payload) (omega (arith, can.1))) carried))
 
 pub status_is_bytes : (s : StatusFields) → CanBeWritten (StatusFrame s) → IsBytes (text_of (StatusFrame s))
 unfolding text_of
@@ -74,17 +76,18 @@ Tells call e = (call_of e ≡ call) × (OfBytes call → IsBytes (bytes_in e))
 
 cast_reported : (seat : Identity) (entries : List EntryFields) (load : Load) (e : EntryFields) → AreFactsOf seat (facts_of entries) → cast_entry (cast_answer seat (room_for_one entries) entries load) ≡ Some e → Tells (ToCast load) e
 unfolding cast_answer
-cast_reported seat entries load e are =
-    let c = next_cast seat (facts_of entries) load in
-    let P : Result CastFields CastFault → Type 0 = λ r. cast_entry r ≡ Some e → Tells (ToCast load) e in
-    cond_both (ltb LONGEST_PAYLOAD (length (load_bytes load))) _ _ P (λ _ h. absurd cc)
-    (λ short. cond_both (is_too_many seat (facts_of entries) (length (payloads_of load))) _ _ P (λ _ h. absurd cc)
+cast_reported seat entries (Many payloads) e are = λ h. absurd cc
+cast_reported seat entries (One payload) e are =
+    let c = next_cast seat (facts_of entries) (One payload) in
+    let P : Result CastFields CastFault → Type 0 = λ r. cast_entry r ≡ Some e → Tells (ToCast (One payload)) e in
+    cond_both (ltb LONGEST_PAYLOAD (length payload)) _ _ P (λ _ h. absurd cc)
+    (λ short. cond_both (is_too_many seat (facts_of entries) 1) _ _ P (λ _ h. absurd cc)
     (λ free. cond_both (is_full (room_for_one entries) entries) _ _ P (λ _ h. absurd cc)
     (λ _ h.
     let is : CastEntry (text_of (CastFrame c)) ≡ e = cc in
-    let can = cast_can seat (facts_of entries) load are.group are.member are.facts_are (numbers_left seat (facts_of entries) (length (payloads_of load)) free) (ltb-false LONGEST_PAYLOAD (length (load_bytes load)) short) in (
-      ap call_of (sym is) ∙ ap (λ (r : Result FrameFields FrameFault). ToCast (load_said r)) (cast_read c can),
-      (λ bytes. subst (λ (x : EntryFields). IsBytes (bytes_in x)) is (cast_is_bytes c can bytes)),
+    let can = cast_can seat (facts_of entries) (One payload) are.group are.member are.facts_are tt (numbers_left seat (facts_of entries) 1 free) (ltb-false LONGEST_PAYLOAD (length payload) short) in (
+      ap call_of (sym is) ∙ ap (λ (r : Result FrameFields FrameFault). ToCast (load_said r)) (cast_read c tt can),
+      (λ bytes. subst (λ (x : EntryFields). IsBytes (bytes_in x)) is (cast_is_bytes c payload can bytes)),
     ))))
 
 arrival_reported : (seat : Identity) (entries : List EntryFields) (bytes : List ℕ) (e : EntryFields) (r : Result FrameFields FrameFault) → arrive_entry bytes (answer_to seat (room_for_one entries) entries r) ≡ Some e → Tells (ToTake bytes) e
@@ -119,11 +122,18 @@ entry_tells_its_call seat limit entries call e most legal h =
 back_is_bytes : (front back : List ℕ) → IsBytes (front ++ back) → IsBytes back
 back_is_bytes front back bytes i = subst (λ (n : ℕ). n < 256) (get_or-append-add front back i 0) (bytes (length front + i))
 
-load_is_bytes : (frame : List ℕ) (c : CastFields) → IsBytes frame → frame_read frame ≡ Ok (CastFrame c) → IsBytes (load_bytes c.load)
+text_is_bytes : (c : CastFields) (load : Load) → IsOne load → IsBytes (text_of (CastFrame (with_load c load))) → IsBytes (load_bytes load)
 unfolding text_of
+text_is_bytes c (One payload) one bytes =
+    let front = flat_map spelling (cast_numbers c) in
+    let behind : front ++ payload_text payload ≡ (front ++ spelling (length payload)) ++ payload = sym (append_assoc front (spelling (length payload)) payload) in
+    back_is_bytes (cast_kind ∷ front ++ spelling (length payload)) payload (subst (λ (text : List ℕ). IsBytes (cast_kind ∷ text)) behind bytes)
+text_is_bytes c (Many payloads) one bytes = absurd one
+
+load_is_bytes : (frame : List ℕ) (c : CastFields) → IsBytes frame → frame_read frame ≡ Ok (CastFrame c) → IsBytes (load_bytes c.load)
 load_is_bytes frame c bytes read =
-    let text : frame ≡ text_of (CastFrame c) = one_text (CastFrame c) frame ((reading_is_exact.text frame (CastFrame c) bytes).0 read) in
-    back_is_bytes (cast_kind ∷ flat_map spelling (cast_numbers c)) (load_bytes c.load) (subst IsBytes text bytes)
+    let text : frame ≡ text_of (CastFrame c) = one_text (CastFrame c) frame ((reading_is_exact.text frame (CastFrame c) bytes).0 (read_whole frame (CastFrame c) read)) in
+    text_is_bytes c c.load (read_casts_are_single frame c read) (subst IsBytes text bytes)
 
 said_is_bytes : (frame : List ℕ) (r : Result FrameFields FrameFault) → IsBytes frame → frame_read frame ≡ r → IsBytes (load_bytes (load_said r))
 said_is_bytes frame (Ok (CastFrame c)) bytes read = load_is_bytes frame c bytes read

@@ -84,7 +84,7 @@ request_can seat facts i r ranges are asked is =
 
 pub own_frames_have_texts : OwnFramesHaveTexts
 own_frames_have_texts seat facts are = (
-  (λ load left short. cast_can seat facts load are.group are.member are.facts_are left short),
+  (λ load rules left short. cast_can seat facts load are.group are.member are.facts_are rules left short),
   status_can seat facts are.group are.member are.facts_are,
   (λ i r ranges asked is. request_can seat facts i r ranges are asked is),
 )

@@ -3,7 +3,7 @@ use Rattle.std.proofs.Common.{◌≡◌, ℕ, zero, suc, ◌+◌, ◌-◌, ◌<�
 use Rattle.std.specs.List.{filter}
 use Rattle.std.proofs.lemmas.Bool.{cases_eq, cases_lt, eq-eqb, eqb-true, false_from_ne_true, both_ways, not-true, not_from_false}
 use Rattle.cb_frames.specs.Fields.{CastFields, Carried, first_number, last_number}
-use Rattle.cb_frames.proofs.Carried.{carries_no_more, carried_is_of_cast}
+use Rattle.cb_frames.proofs.Carried.{carried_is_of_cast}
 use Rattle.cb_history.specs.Group.{Identity}
 use Rattle.cb_history.specs.Facts.{Fact, casts_in, messages_in, is_there, numbers_between}
 use Rattle.cb_history.specs.View.{count, is_expanded, expanded_in, view}
@@ -168,7 +168,7 @@ pub others_expand_nothing : OthersExpandNothing
 others_expand_nothing casts c i ne = same_run casts c i (λ e _ _. ne e)
 
 pub after_a_gap_nothing_expands : AfterAGapNothingExpands
-after_a_gap_nothing_expands casts c ne = same_run casts c c.sender (λ _ low high. ne (omega (arith, low, high, carries_no_more c)))
+after_a_gap_nothing_expands casts c other = same_run casts c c.sender (λ _ low high. other low high)
 
 pub count_rises : (casts more : List CastFields) (i : ℕ) → expanded_count casts i ≤ expanded_count (casts ++ more) i
 count_rises casts more i = run_at_most (casts ++ more) i (expanded_count casts i) (λ k low high. there_more casts more i k (expanded_are_there casts i k low high))

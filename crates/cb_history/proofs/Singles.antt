@@ -6,8 +6,8 @@ use Rattle.std.proofs.lemmas.List.Sums.{sum_by-cons, sum_by-append}
 use Rattle.cb_frames.specs.declared.frame.Change.{Change}
 use Rattle.cb_frames.specs.Fields.{Load, CastFields, Carried, messages_of, growth_in, first_number, last_number}
 use Rattle.cb_frames.specs.Carrying.{AreNumberedFrom}
-use Rattle.cb_frames.proofs.Carried.{one_load, carried_in_order, carried_up_to_the_last, carries_some, carries_one}
-use Rattle.cb_diffs.specs.Expansion.{greatest, growth_of, expanded_field}
+use Rattle.cb_frames.proofs.Carried.{one_load, first_is_number, last_is_first, carried_in_order, carries_payloads, carries_one}
+use Rattle.cb_diffs.specs.Expansion.{greatest, growth_of, expanded_field, CarrySome}
 use Rattle.cb_history.specs.Facts.{casts_in, cast_in, messages_in, is_there, numbers_between}
 use Rattle.cb_history.specs.Known.{greatest_of, expanded_count}
 use Rattle.cb_history.specs.NameLaws.{NumberedFrom}
@@ -21,43 +21,21 @@ use Rattle.cb_history.proofs.Agreement.{all_at}
 
 -- the message that it was made of
 pub single_carries : (c : CastFields) (changes : List Change) (m : Carried) → messages_of (single_of c changes m) ≡ m ∷ []
-single_carries c changes m = carries_one (single_of c changes m)
-
-abbrev of_the_first : CastFields → List Carried → CastFields
-of_the_first c [] = c
-of_the_first c (m ∷ ms) = single_of c c.changes m
-
--- and a cast of one message is made of it
-only_message : (c : CastFields) (m : Carried) → messages_of c ≡ m ∷ [] → single_of c c.changes m ≡ c
-only_message c m is = sym (ap (of_the_first c) (sym (carries_one c) ∙ is)) ∙ ap (λ (load : Load). record c { load = load }) (sym (one_load c.load))
+single_carries c changes m = carries_one (single_of c changes m) tt
 
 pub single_begins : (c : CastFields) (changes : List Change) (m : Carried) → first_number (single_of c changes m) ≡ m.number
-single_begins c changes m =
-    let s = single_of c changes m in
-    sym (subst (AreNumberedFrom s.sender (first_number s)) (single_carries c changes m) (carried_in_order s)).1
-
-pub is_single : (c : CastFields) (changes : List Change) (m : Carried) → IsSingle (single_of c changes m)
-is_single c changes m =
-    let s = single_of c changes m in
-    let one : length (messages_of s) ≡ 1 = ap length (single_carries c changes m) in
-    omega (arith, one, carried_up_to_the_last s)
+single_begins c changes m = first_is_number (single_of c changes m)
 
 -- ---- what they are
 
 pub singles_of_one_message : SinglesOfOneMessage
-singles_of_one_message c m is = ap (singles_from c c.changes) is ∙ ap (λ (x : CastFields). x ∷ []) (only_message c m is)
-
-alone : (ms : List Carried) → length ms ≡ 1 → (m : Carried) × (ms ≡ m ∷ [])
-alone [] one = absurd (omega (arith, one))
-alone (m ∷ []) one = (m, refl)
-alone (m ∷ x ∷ ms) one = absurd (omega (arith, one))
+singles_of_one_message c single =
+    ap (singles_from c c.changes) (carries_one c single) ∙ ap (λ (load : Load). record c { load = load } ∷ []) (sym (one_load c.load single))
 
 pub singles_of_singles : SinglesOfSingles
 singles_of_singles [] all = refl
 singles_of_singles (c ∷ casts) all =
-    let single = all.0 in
-    let only = alone (messages_of c) (omega (arith, single, carried_up_to_the_last c)) in
-    ap (λ (xs : List CastFields). xs ++ singles_among casts) (singles_of_one_message c only.0 only.1)
+    ap (λ (xs : List CastFields). xs ++ singles_among casts) (singles_of_one_message c all.0)
     ∙ ap (λ (xs : List CastFields). c ∷ xs) (singles_of_singles casts all.1)
 
 many_from : (c : CastFields) (changes : List Change) (ms : List Carried) → length (singles_from c changes ms) ≡ length ms
@@ -71,7 +49,7 @@ numbered_from : (c : CastFields) (changes : List Change) (sender n : ℕ) (ms : 
 numbered_from c changes sender n [] row = tt
 numbered_from c changes sender n (m ∷ ms) row =
     let begins : first_number (single_of c changes m) ≡ n = single_begins c changes m ∙ row.1 in
-    let ends : n + 1 ≡ last_number (single_of c changes m) + 1 = omega (arith, begins, is_single c changes m) in
+    let ends : n + 1 ≡ last_number (single_of c changes m) + 1 = omega (arith, begins, last_is_first (single_of c changes m) tt) in
     (row.0, begins, subst (λ (k : ℕ). NumberedFrom sender k (singles_from c [] ms)) ends (numbered_from c [] sender (n + 1) ms row.2))
 
 pub singles_are_numbered : SinglesAreNumbered
@@ -79,7 +57,7 @@ singles_are_numbered c = numbered_from c c.changes c.sender (first_number c) (me
 
 single_from : (c : CastFields) (changes : List Change) (ms : List Carried) (more : List CastFields) → AllByRecursion IsSingle more → AllByRecursion IsSingle (singles_from c changes ms ++ more)
 single_from c changes [] more others = others
-single_from c changes (m ∷ ms) more others = (is_single c changes m, single_from c [] ms more others)
+single_from c changes (m ∷ ms) more others = (tt, single_from c [] ms more others)
 
 pub singles_are_single : SinglesAreSingle
 singles_are_single [] = tt
@@ -126,7 +104,7 @@ messages_from c changes [] = refl
 messages_from c changes (m ∷ ms) =
     ap (λ (xs : List Carried). xs ++ messages_in (singles_from c [] ms)) (single_carries c changes m) ∙ ap (λ (xs : List Carried). m ∷ xs) (messages_from c [] ms)
 
-same_messages : (casts : List CastFields) → messages_in (singles_among casts) ≡ messages_in casts
+pub same_messages : (casts : List CastFields) → messages_in (singles_among casts) ≡ messages_in casts
 same_messages [] = refl
 same_messages (c ∷ casts) =
     flat_map-append messages_of (singles_of c) (singles_among casts)
@@ -168,14 +146,14 @@ first_adds c (m ∷ ms) i n k row some =
     ∙ ap (λ (j : ℕ). cond (eqb c.sender i && leb j n) (growth_in c.changes k) 0) begins in
     omega (arith, sum_by-cons (growth_of i n k) (single_of c c.changes m) (singles_from c [] ms), here, others_add_nothing c ms i n k)
 
-same_sums : (casts : List CastFields) (i n k : ℕ) → sum_by (growth_of i n k) (singles_among casts) ≡ sum_by (growth_of i n k) casts
-same_sums [] i n k = refl
-same_sums (c ∷ casts) i n k =
-    let here = first_adds c (messages_of c) i n k (carried_in_order c) (omega (arith, carried_up_to_the_last c, carries_some c)) in
-    omega (arith, sum_by-append (growth_of i n k) (singles_of c) (singles_among casts), sum_by-cons (growth_of i n k) c casts, here, same_sums casts i n k)
+same_sums : (casts : List CastFields) (i n k : ℕ) → CarrySome casts → sum_by (growth_of i n k) (singles_among casts) ≡ sum_by (growth_of i n k) casts
+same_sums [] i n k some = refl
+same_sums (c ∷ casts) i n k some =
+    let here = first_adds c (messages_of c) i n k (carried_in_order c) (omega (arith, carries_payloads c, some.0)) in
+    omega (arith, sum_by-append (growth_of i n k) (singles_of c) (singles_among casts), sum_by-cons (growth_of i n k) c casts, here, same_sums casts i n k some.1)
 
-same_fields : (casts : List CastFields) (i n k : ℕ) → expanded_field (singles_among casts) i n k ≡ expanded_field casts i n k
-same_fields casts i n k = ap (λ (sum : ℕ). cond (eqb k i) n (min greatest sum)) (same_sums casts i n k)
+same_fields : (casts : List CastFields) (i n k : ℕ) → CarrySome casts → expanded_field (singles_among casts) i n k ≡ expanded_field casts i n k
+same_fields casts i n k some = ap (λ (sum : ℕ). cond (eqb k i) n (min greatest sum)) (same_sums casts i n k some)
 
 pub singles_are_the_same : SinglesAreTheSame
 singles_are_the_same casts =
@@ -186,6 +164,6 @@ singles_are_the_same casts =
       can_be_expanded = λ m. ap (λ (ms : List Carried). is_run ms m) same;
       expanded = ap (λ (ms : List Carried). filter (is_run ms) ms) same;
       counts = λ i. counts_by_messages (singles_among casts) casts i same;
-      fields = same_fields casts;
-      times = λ size i n. same_over_range (expanded_field (singles_among casts) i n) (expanded_field casts i n) 0 size (λ k lt. same_fields casts i n k);
+      fields = λ some i n k. same_fields casts i n k some;
+      times = λ some size i n. same_over_range (expanded_field (singles_among casts) i n) (expanded_field casts i n) 0 size (λ k lt. same_fields casts i n k some);
     }

@@ -6,9 +6,9 @@ use Rattle.std.proofs.lemmas.List.{append-nil, length-append}
 use Rattle.std.proofs.lemmas.List.Sums.{sum_by_push}
 use Rattle.std.proofs.lemmas.List.FromFn.{length-map-range_with_len, get_or-map-range_with_len}
 use Rattle.cb_times.specs.Order.{field}
-use Rattle.cb_frames.specs.Fields.{CastFields, Carried, messages_of, growth_in, first_number, last_number}
-use Rattle.cb_frames.proofs.Carried.{carried_up_to_the_last, carries_some, carries_no_more, HasNumber, first_is_carried}
-use Rattle.cb_diffs.specs.Expansion.{growth_of, expanded_field}
+use Rattle.cb_frames.specs.Fields.{IsSome, CastFields, Carried, messages_of, growth_in, first_number, last_number}
+use Rattle.cb_frames.proofs.Carried.{carried_up_to_the_last, last_is_first, HasNumber, first_is_carried}
+use Rattle.cb_diffs.specs.Expansion.{growth_of, expanded_field, CarrySome}
 use Rattle.cb_history.specs.Group.{Identity}
 use Rattle.cb_history.specs.Facts.{Fact, OwnCast, CastReceived, StatusReceived, OwnStatus, cast_in, casts_in, messages_in, is_there}
 use Rattle.cb_history.specs.View.{count, is_among, is_expanded, is_in_time, view, time_of}
@@ -17,11 +17,12 @@ use Rattle.cb_history.specs.LegalFacts.{IsOwnCast, IsStep, AreLegalFacts, NoFact
 use Rattle.cb_history.specs.NameLaws.{NamesDiffer, NumberedFrom}
 use Rattle.cb_history.specs.TimeLaws.{TimesStay, OwnCastsTellTheView}
 use Rattle.cb_history.proofs.Views.{IsIn, casts_in-append, or_right}
+use Rattle.cb_history.proofs.Loads.{some_at}
 use Rattle.cb_history.proofs.Lists.{messages_in-push, in_front, in_back, names_apart, in_is_among, among_is, count-append, count_own, count_of_messages, count_of_others, among_by_order, order_bound}
 use Rattle.cb_history.proofs.Walks.{view_grows, view_own, own_casts-own, own_casts-other, IsNotOwn}
 use Rattle.cb_history.proofs.Names.{Stands, StandsAt, all_stand, received_is_others}
 use Rattle.cb_history.proofs.Counts.{count_at_most_last}
-use Rattle.cb_history.proofs.Prefixes.{prefix_of_facts_is_legal}
+use Rattle.cb_history.proofs.Prefixes.{prefix_of_facts_is_legal, last_fact_is_a_step}
 use Rattle.cb_history.proofs.Rising.{expanded_more}
 use Rattle.cb_diffs.proofs.Sums.{growth_of-other, growth_of-own}
 use Rattle.cb_diffs.proofs.Returning.{growth_in-differences}
@@ -48,7 +49,7 @@ seen_is_expanded seat casts seen own m s there =
 
 -- ---- a new cast
 
-pub last_is_in : (ms : List Carried) (m : Carried) → IsIn m (ms ++ m ∷ [])
+pub last_is_in : {A : Type 0} (ms : List A) (m : A) → IsIn m (ms ++ m ∷ [])
 last_is_in [] m = inl refl
 last_is_in (x ∷ ms) m = inr (last_is_in ms m)
 
@@ -56,22 +57,25 @@ last_is_in (x ∷ ms) m = inr (last_is_in ms m)
 pub record IsNew (casts : List CastFields) (c : CastFields) : Type 0 where
   pub new : (m : Carried) → IsIn m (messages_of c) → is_among (messages_in casts) m ≡ false
   pub positive : 1 ≤ first_number c
+  pub some : IsSome c.load
 
 pub first_is_new : (casts : List CastFields) (c : CastFields) → IsNew casts c → is_there casts c.sender (first_number c) ≡ false
 first_is_new casts c n =
-    let first = first_is_carried c in
+    let first = first_is_carried c n.some in
     subst (λ (i : ℕ). is_there casts i (first_number c) ≡ false) first.sender_is (subst (λ (k : ℕ). is_there casts first.found.sender k ≡ false) first.number_is (n.new first.found first.there))
 
 pub is_new : (seat : Identity) (facts : List Fact) (f : Fact) (c : CastFields) → StandsAt seat (facts ++ f ∷ []) → cast_in f ≡ c ∷ [] → IsNew (casts_in facts) c
 is_new seat facts f c s is =
     let casts : casts_in (facts ++ f ∷ []) ≡ casts_in facts ++ c ∷ [] = casts_in-append facts f ∙ ap (λ (cs : List CastFields). casts_in facts ++ cs) is in
     let messages : messages_in (casts_in (facts ++ f ∷ [])) ≡ messages_in (casts_in facts) ++ messages_of c = ap messages_in casts ∙ messages_in-push (casts_in facts) c in
-    let first = first_is_carried c in
+    let some = some_at (casts_in facts ++ c ∷ []) c (subst CarrySome casts s.some) (last_is_in (casts_in facts) c) in
+    let first = first_is_carried c some in
     let number = first.number_is in
     let positive = s.positive first.found (subst (IsIn first.found) (sym messages) (in_back first.found (messages_in (casts_in facts)) (messages_of c) first.there)) in
     record {
       new = λ m there. names_apart (messages_in (casts_in facts)) (messages_of c) m (subst NamesDiffer messages s.names) there;
       positive = omega (arith, number, positive);
+      some = some;
     }
 
 one_cast_more : (facts : List Fact) (f : Fact) (c : CastFields) (m : Carried) (k : ℕ) → cast_in f ≡ c ∷ [] → IsNew (casts_in facts) c → is_expanded (casts_in facts) m ≡ true
@@ -222,34 +226,37 @@ own_sum seat _ k member lt other (OneFactMore facts f before step) = own_sum_ste
 
 -- ---- an own cast tells the view
 
-numbered_last : (me n : ℕ) (own : List CastFields) (c : CastFields) → NumberedFrom me n (own ++ c ∷ []) → (c.sender ≡ me) × (first_number c ≡ n + length (messages_in own))
-numbered_last me n [] c numbered = (numbered.0, omega (arith, numbered.1))
-numbered_last me n (d ∷ own) c numbered =
-    let last = numbered_last me (last_number d + 1) own c numbered.2 in
-    (last.0, omega (arith, last.1, numbered.1, carried_up_to_the_last d, length-append (messages_of d) (messages_in own)))
+numbered_last : (me n : ℕ) (own : List CastFields) (c : CastFields) → CarrySome (own ++ c ∷ []) → NumberedFrom me n (own ++ c ∷ []) → (c.sender ≡ me) × (first_number c ≡ n + length (messages_in own))
+numbered_last me n [] c some numbered = (numbered.0, omega (arith, numbered.1))
+numbered_last me n (d ∷ own) c some numbered =
+    let last = numbered_last me (last_number d + 1) own c some.1 numbered.2 in
+    (last.0, omega (arith, last.1, numbered.1, carried_up_to_the_last d some.0, length-append (messages_of d) (messages_in own)))
 
 -- the last one begins with the greatest number
-numbered_upto : (me n : ℕ) (own : List CastFields) (c d : CastFields) → NumberedFrom me n (own ++ c ∷ []) → IsIn d (own ++ c ∷ []) → first_number d ≤ first_number c
-numbered_upto me n [] c d numbered (inl same) = let is = ap first_number same in omega (arith, is)
-numbered_upto me n [] c d numbered (inr none) = absurd none
-numbered_upto me n (e ∷ own) c d numbered (inl same) = let is = ap first_number same in omega (arith, is, numbered.1, (numbered_last me n (e ∷ own) c numbered).1)
-numbered_upto me n (e ∷ own) c d numbered (inr later) = numbered_upto me (last_number e + 1) own c d numbered.2 later
+numbered_upto : (me n : ℕ) (own : List CastFields) (c d : CastFields) → CarrySome (own ++ c ∷ []) → NumberedFrom me n (own ++ c ∷ []) → IsIn d (own ++ c ∷ []) → first_number d ≤ first_number c
+numbered_upto me n [] c d some numbered (inl same) = let is = ap first_number same in omega (arith, is)
+numbered_upto me n [] c d some numbered (inr none) = absurd none
+numbered_upto me n (e ∷ own) c d some numbered (inl same) = let is = ap first_number same in omega (arith, is, numbered.1, (numbered_last me n (e ∷ own) c some numbered).1)
+numbered_upto me n (e ∷ own) c d some numbered (inr later) = numbered_upto me (last_number e + 1) own c d some.1 numbered.2 later
+
+own_carries_some : (seat : Identity) (facts : List Fact) (c : CastFields) → StandsAt seat (facts ++ OwnCast c ∷ []) → IsSome c.load
+own_carries_some seat facts c s = some_at (own_casts facts ++ c ∷ []) c (subst CarrySome (own_casts-own facts c) s.own_some) (last_is_in (own_casts facts) c)
 
 -- an own cast has the last number, and its first message the next one
 pub own_number : (seat : Identity) (facts : List Fact) (c : CastFields) → StandsAt seat (facts ++ OwnCast c ∷ []) → (c.sender ≡ seat.me) × (last_number c ≡ count (view seat.group.size (facts ++ OwnCast c ∷ [])) seat.me)
 own_number seat facts c s =
     let own : own_casts (facts ++ OwnCast c ∷ []) ≡ own_casts facts ++ c ∷ [] = own_casts-own facts c in
-    let last = numbered_last seat.me 1 (own_casts facts) c (subst (NumberedFrom seat.me 1) own s.own_numbers) in
+    let last = numbered_last seat.me 1 (own_casts facts) c (subst CarrySome own s.own_some) (subst (NumberedFrom seat.me 1) own s.own_numbers) in
     let as_many : length (messages_in (own_casts (facts ++ OwnCast c ∷ []))) ≡ length (messages_in (own_casts facts)) + length (messages_of c) =
     ap (λ (cs : List CastFields). length (messages_in cs)) own ∙ ap length (messages_in-push (own_casts facts) c) ∙ length-append (messages_in (own_casts facts)) (messages_of c) in
-    (last.0, omega (arith, last.1, s.own_count, as_many, carried_up_to_the_last c))
+    (last.0, omega (arith, last.1, s.own_count, as_many, carried_up_to_the_last c (own_carries_some seat facts c s)))
 
 pub own_first : (seat : Identity) (facts : List Fact) (c : CastFields) → StandsAt seat (facts ++ OwnCast c ∷ []) → first_number c ≡ count (view seat.group.size facts) seat.me + 1
 own_first seat facts c s =
     let number = own_number seat facts c s in
     let counted : count (view seat.group.size (facts ++ OwnCast c ∷ [])) seat.me ≡ count (view seat.group.size facts) seat.me + length (messages_of c) =
     ap (λ (ms : List Carried). count ms seat.me) (view_own seat.group.size facts c) ∙ count_of_messages (view seat.group.size facts) c seat.me number.0 in
-    omega (arith, number.1, counted, carried_up_to_the_last c)
+    omega (arith, number.1, counted, carried_up_to_the_last c (own_carries_some seat facts c s))
 
 -- what the messages of an own cast say of the others: what the view counts
 pub tells : (seat : Identity) (facts : List Fact) (c : CastFields) (number k : ℕ) → seat.me < seat.group.size → AreLegalFacts seat (facts ++ OwnCast c ∷ []) → k < seat.group.size → k ≢ seat.me → first_number c ≤ number
@@ -258,7 +265,7 @@ tells seat facts c number k member legal lt ne le =
     let s = all_stand seat (facts ++ OwnCast c ∷ []) member legal in
     let own : own_casts (facts ++ OwnCast c ∷ []) ≡ own_casts facts ++ c ∷ [] = own_casts-own facts c in
     let numbered = subst (NumberedFrom seat.me 1) own s.own_numbers in
-    let sum = own_sum seat (facts ++ OwnCast c ∷ []) k member lt ne legal number (λ d there. let first = numbered_upto seat.me 1 (own_casts facts) c d numbered (subst (IsIn d) own there) in omega (arith, first, le)) in
+    let sum = own_sum seat (facts ++ OwnCast c ∷ []) k member lt ne legal number (λ d there. let first = numbered_upto seat.me 1 (own_casts facts) c d (subst CarrySome own s.own_some) numbered (subst (IsIn d) own there) in omega (arith, first, le)) in
     let upto : count (view seat.group.size (upto_last_cast (facts ++ OwnCast c ∷ []))) k ≡ count (view seat.group.size (facts ++ OwnCast c ∷ [])) k = ap (λ (fs : List Fact). count (view seat.group.size fs) k) (upto_own facts c) in
     let small = count_at_most_last seat (facts ++ OwnCast c ∷ []) k member legal in
     rw (ne_eqb k seat.me ne) (omega (arith, sum, upto, small, own_cast_counts seat facts c k (own_number seat facts c s).0 ne))
@@ -297,7 +304,7 @@ own_casts_tell_the_view seat facts more c are =
     number = own_number seat facts c s
 
     first : HasNumber (messages_of c) c.sender (first_number c)
-    first = first_is_carried c
+    first = first_is_carried c (own_carries_some seat facts c s)
 
     -- the time of the first message stays
     stay : (k : ℕ) → expanded_field (casts_in (facts ++ OwnCast c ∷ more)) seat.me (first_number c) k ≡ expanded_field (casts_in (facts ++ OwnCast c ∷ [])) seat.me (first_number c) k
@@ -313,7 +320,7 @@ own_casts_tell_the_view seat facts more c are =
       | inl e ↦
           let own : expanded_field (casts_in (facts ++ OwnCast c ∷ [])) seat.me (first_number c) k ≡ first_number c = ap (expanded_field (casts_in (facts ++ OwnCast c ∷ [])) seat.me (first_number c)) e ∙ own_field (casts_in (facts ++ OwnCast c ∷ [])) seat.me (first_number c) in
           let at : count (view seat.group.size (facts ++ OwnCast c ∷ [])) k ≡ count (view seat.group.size (facts ++ OwnCast c ∷ [])) seat.me = ap (count (view seat.group.size (facts ++ OwnCast c ∷ []))) e in
-          omega (arith, own, at, number.1, carries_some c, carries_no_more c)
+          omega (arith, own, at, number.1, last_is_first c (last_fact_is_a_step seat facts (OwnCast c) now).one)
       | inr ne ↦ tells seat facts c (first_number c) k now.member now.facts_are lt ne (omega arith) ∙ sym (own_cast_counts seat facts c k number.0 ne)
     ]
 

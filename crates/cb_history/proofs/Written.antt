@@ -1,15 +1,15 @@
 -- The next own cast and the own status can be written.
-use Rattle.std.proofs.Common.{◌≡◌, ◌≢◌, ℕ, zero, suc, ◌+◌, ◌-◌, ◌<◌, ◌≤◌, ◌^◌, Bool, true, not, eqb, ltb, List, [], ◌∷◌, ◌++◌, length, map, refl, arith}
+use Rattle.std.proofs.Common.{◌≡◌, ◌≢◌, ℕ, zero, suc, ◌+◌, ◌-◌, ◌<◌, ◌≤◌, ◌^◌, Bool, true, not, eqb, ltb, List, [], ◌∷◌, length, map, refl, arith}
 use Rattle.std.specs.List.{AllByRecursion, filter, range_with_len}
 use Rattle.std.proofs.lemmas.Bool.{cond_both, ltb-true, eqb-false}
 use Rattle.std.proofs.lemmas.List.FromFn.{length-map-range_with_len, get_or-map-range_with_len}
 use Rattle.cb_times.specs.Order.{field}
 use Rattle.cb_frames.specs.declared.frame.TheConstants.{LAST_NUMBER}
 use Rattle.cb_frames.specs.declared.frame.Change.{Change}
-use Rattle.cb_frames.specs.Fields.{Load, payloads_of, load_bytes, CastFrame, StatusFrame}
-use Rattle.cb_frames.specs.Text.{pairs_from, RisesFrom, IsChange, IsValue, KeepsCastRules, KeepsStatusRules, IsLoad}
+use Rattle.cb_frames.specs.Fields.{Load, payloads_of, CastFrame, StatusFrame}
+use Rattle.cb_frames.specs.Text.{pairs_from, RisesFrom, IsChange, IsValue, KeepsCastRules, KeepsStatusRules, KeepsLoadRules, IsLoad}
 use Rattle.cb_frames.specs.Laws.{CanBeWritten}
-use Rattle.cb_frames.proofs.Carried.{load_has_some}
+use Rattle.cb_frames.proofs.Carried.{carries_few}
 use Rattle.cb_diffs.specs.Differences.{change_of, is_reported, differences}
 use Rattle.cb_history.specs.Group.{Identity, AreParameters}
 use Rattle.cb_history.specs.Facts.{Fact}
@@ -53,10 +53,6 @@ pairs_small : (least : ℕ) (ds : List Change) → AllByRecursion IsSmall ds →
 pairs_small least [] small = tt
 pairs_small least (d ∷ ds) small = (omega (arith, small.0.0), (small.0.1, pairs_small (d.field + 1) ds small.1))
 
-small_both : (ms ns : List ℕ) → AreSmall ms → AreSmall ns → AreSmall (ms ++ ns)
-small_both [] ns a b = b
-small_both (m ∷ ms) ns a b = (a.0, small_both ms ns a.1 b)
-
 -- ---- the next cast
 
 amount_below : (seat : Identity) (facts : List Fact) (previous : List ℕ) (k : ℕ) → seat.me < seat.group.size → AreLegalFacts seat facts → k < seat.group.size → field (time_of seat.group.size facts) k - field previous k ≤ LAST_NUMBER
@@ -71,8 +67,8 @@ reported_says own d h =
     let some = ltb-true 0 d.amount both.1 in
     (eqb-false d.field own (not_true (eqb d.field own) both.0), omega (arith, some))
 
-pub next_keeps : (seat : Identity) (facts : List Fact) (load : Load) → seat.group.size ≤ 64 → seat.me < seat.group.size → KeepsCastRules (next_cast seat facts load)
-next_keeps seat facts load few_members member =
+pub next_keeps : (seat : Identity) (facts : List Fact) (load : Load) → KeepsLoadRules (delivered seat facts seat.me + 1) load → seat.group.size ≤ 64 → seat.me < seat.group.size → KeepsCastRules (next_cast seat facts load)
+next_keeps seat facts load rules few_members member =
     let previous = time_of seat.group.size (upto_last_cast facts) in
     let now = time_of seat.group.size facts in
     let size : length now ≡ seat.group.size = length-map-range_with_len (count (view seat.group.size facts)) 0 seat.group.size in
@@ -85,11 +81,12 @@ next_keeps seat facts load few_members member =
             let says = reported_says seat.me (change_of previous now k) reported in
             record { index = omega (arith, lt, size, few_members); other = says.0; grown = says.1 });
       };
+      load = rules;
     }
 
-pub cast_can : (seat : Identity) (facts : List Fact) (load : Load) → AreParameters seat.group → seat.me < seat.group.size → AreLegalFacts seat facts → delivered seat facts seat.me + length (payloads_of load) ≤ LAST_NUMBER → IsLoad load
+pub cast_can : (seat : Identity) (facts : List Fact) (load : Load) → AreParameters seat.group → seat.me < seat.group.size → AreLegalFacts seat facts → KeepsLoadRules (delivered seat facts seat.me + 1) load → delivered seat facts seat.me + length (payloads_of load) ≤ LAST_NUMBER → IsLoad load
     → CanBeWritten (CastFrame (next_cast seat facts load))
-cast_can seat facts load group member legal left short =
+cast_can seat facts load group member legal rules left short =
     let previous = time_of seat.group.size (upto_last_cast facts) in
     let now = time_of seat.group.size facts in
     let size : length now ≡ seat.group.size = length-map-range_with_len (count (view seat.group.size facts)) 0 seat.group.size in
@@ -98,18 +95,15 @@ cast_can seat facts load group member legal left short =
     let few : length (differences previous now seat.me) ≤ length now = few_from (is_reported seat.me) (change_of previous now) 0 (length now) in
     let small : AllByRecursion IsSmall (differences previous now seat.me) = each_from (is_reported seat.me) (change_of previous now) IsSmall 0 (length now) (λ k lt reported.
     let below = amount_below seat facts previous k member legal (omega (arith, lt, size)) in (omega (arith, lt, size, few_members), omega (arith, below))) in (
-      next_keeps seat facts load few_members member,
+      next_keeps seat facts load rules few_members member,
       short,
       (
         fits,
         (
           omega (arith, member, few_members),
           (
-            omega (arith, left, load_has_some load),
-            (
-              omega (arith, few, size, few_members),
-              small_both (pairs_from 0 (differences previous now seat.me)) (length (load_bytes load) ∷ []) (pairs_small 0 (differences previous now seat.me) small) (omega (arith, short), tt),
-            ),
+            omega (arith, left, (carries_few (next_cast seat facts load) (next_keeps seat facts load rules few_members member)).some),
+            (omega (arith, few, size, few_members), pairs_small 0 (differences previous now seat.me) small),
           ),
         ),
       ),

@@ -4,7 +4,7 @@ use Rattle.std.specs.List.{list_any, list_all, range_with_len, flat_map}
 use Rattle.cb_frames.specs.declared.frame.TheConstants.{LONGEST_PAYLOAD, MOST_FRAMES, MOST_RANGES, LAST_NUMBER}
 use Rattle.cb_frames.specs.declared.frame.Range.{Range}
 use Rattle.cb_frames.specs.declared.fault.FrameFault.{FrameFault}
-use Rattle.cb_frames.specs.Fields.{Load, payloads_of, load_bytes, CastFields, StatusFields, FrameFields, CastFrame, StatusFrame, RequestFrame, messages_of, first_number, last_number}
+use Rattle.cb_frames.specs.Fields.{Load, One, Many, payloads_of, load_bytes, CastFields, StatusFields, FrameFields, CastFrame, StatusFrame, RequestFrame, messages_of, first_number, last_number}
 use Rattle.cb_frames.specs.Text.{text_of}
 use Rattle.cb_history.specs.Read.{frame_read}
 use Rattle.cb_delay.specs.declared.message.Message.{Message}
@@ -17,7 +17,7 @@ use Rattle.cb_history.specs.declared.answer.TickRefusal.{TickRefusal}
 use Rattle.cb_history.specs.declared.answer.TickRefusal.TheVariants as ticks
 use Rattle.cb_history.specs.declared.answer.CastDone.{CastDone}
 use Rattle.cb_history.specs.declared.answer.Outgoing.{Outgoing}
-use Rattle.cb_history.specs.CastFault.{CastFault, PayloadTooLong, WindowFull, HistoryFull}
+use Rattle.cb_history.specs.CastFault.{CastFault, BurstTooLong, PayloadTooLong, WindowFull, HistoryFull}
 use Rattle.cb_history.specs.Group.{Identity}
 use Rattle.cb_history.specs.Facts.{EntryFields, Fact, OwnCast, CastReceived, StatusReceived, OwnStatus, facts_of, casts_in, is_there}
 use Rattle.cb_history.specs.View.{count, view, counts, time_of, message_in}
@@ -63,9 +63,15 @@ is_too_many seat facts n =
 abbrev pub is_window_full : Identity → List Fact → Bool
 is_window_full seat facts = is_too_many seat facts 1
 
--- the frame of the cast, or why there is none
+-- it is a burst
+abbrev pub is_burst : Load → Bool
+is_burst (One payload) = false
+is_burst (Many payloads) = true
+
+-- The frame of the cast, or why there is none. Members cast loads of one payload, and find each burst too long.
 unfoldable pub cast_answer : Identity → ℕ → List EntryFields → Load → Result CastFields CastFault
 cast_answer seat limit entries load =
+    if is_burst load then Err BurstTooLong else
     if nat_lt LONGEST_PAYLOAD (length (load_bytes load)) then Err PayloadTooLong else
     if is_too_many seat (facts_of entries) (length (payloads_of load)) then Err WindowFull else
     if is_full limit entries then Err HistoryFull else

@@ -3,7 +3,9 @@ use Rattle.std.specs.Prelude.{◌≡◌, Option, Some, None, MatchOption, Result
 use Rattle.cb_history.specs.declared.answer.CastRefusal.{CastRefusal}
 use Rattle.cb_history.specs.declared.answer.CastRefusal.TheVariants as casts
 
+-- members cast no bursts, so that no refusal tells that a load is one of too many payloads
 pub data CastFault : Type 0 where
+  BurstTooLong : CastFault
   PayloadTooLong : CastFault
   WindowFull : CastFault
   HistoryFull : CastFault

@@ -1,6 +1,6 @@
 -- Counts and numbers of messages stay in the range of numbers, however long a history is.
 use Rattle.std.specs.Prelude.{◌≡◌, ℕ, ◌+◌, ◌<◌, ◌≤◌, true, nat_lt, List, length}
-use Rattle.cb_frames.specs.declared.frame.TheConstants.{LAST_NUMBER}
+use Rattle.cb_frames.specs.declared.frame.TheConstants.{LAST_NUMBER, MOST_MESSAGES}
 use Rattle.cb_frames.specs.Fields.{Load, payloads_of, CastFields, last_number}
 use Rattle.cb_history.specs.Group.{Identity}
 use Rattle.cb_history.specs.Facts.{Fact, casts_in, is_there}
@@ -29,8 +29,9 @@ KnownAreNumbers = (seat : Identity) (facts : List Fact) (i : ℕ) → AreFactsOf
 abbrev pub NoNumberIsFull : Type 0
 NoNumberIsFull = (seat : Identity) (facts : List Fact) (n : ℕ) → LAST_NUMBER < delivered seat facts seat.me + n → is_too_many seat facts n ≡ true
 
--- A history within its limit has numbers left for one more cast, so its window has room for it by what is stable alone.
+-- A history within its limit has numbers left for one more cast of as many messages as a frame can carry, so its window has room
+-- for it by what is stable alone.
 abbrev pub HistoriesLeaveNumbers : Type 0
 HistoriesLeaveNumbers =
-    (seat : Identity) (facts : List Fact) (load : Load) → length facts ≤ longest_history
+    (seat : Identity) (facts : List Fact) (load : Load) → AreFactsOf seat facts → length facts ≤ longest_history → length (payloads_of load) ≤ MOST_MESSAGES
     → is_too_many seat facts (length (payloads_of load)) ≡ nat_lt (stable seat facts + seat.group.window) (delivered seat facts seat.me + length (payloads_of load))

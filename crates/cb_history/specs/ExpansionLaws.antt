@@ -1,6 +1,6 @@
 -- How many casts of a sender are expanded, and what one more cast expands.
 use Rattle.std.specs.Prelude.{◌≡◌, ◌≢◌, ℕ, ◌+◌, ◌<◌, ◌≤◌, ◌↔◌, true, false, List, [], ◌∷◌, ◌++◌, map}
-use Rattle.cb_frames.specs.Fields.{CastFields, Carried, first_number}
+use Rattle.cb_frames.specs.Fields.{CastFields, Carried, first_number, last_number}
 use Rattle.cb_history.specs.Group.{Identity}
 use Rattle.cb_history.specs.Facts.{Fact, casts_in, messages_in, is_there, numbers_between}
 use Rattle.cb_history.specs.View.{is_expanded}
@@ -37,9 +37,10 @@ DeliveredIsExpanded = (seat : Identity) (facts : List Fact) → AreFactsOf seat 
 abbrev pub OthersExpandNothing : Type 0
 OthersExpandNothing = (casts : List CastFields) (c : CastFields) (i : ℕ) → c.sender ≢ i → expanded_count (casts ++ c ∷ []) i ≡ expanded_count casts i
 
--- nor of its own sender where it is not the next one
+-- nor of its own sender where it does not carry the next message
 abbrev pub AfterAGapNothingExpands : Type 0
-AfterAGapNothingExpands = (casts : List CastFields) (c : CastFields) → first_number c ≢ expanded_count casts c.sender + 1 → expanded_count (casts ++ c ∷ []) c.sender ≡ expanded_count casts c.sender
+AfterAGapNothingExpands = (casts : List CastFields) (c : CastFields) → (first_number c ≤ expanded_count casts c.sender + 1 → expanded_count casts c.sender + 1 ≤ last_number c → ⊥)
+    → expanded_count (casts ++ c ∷ []) c.sender ≡ expanded_count casts c.sender
 
 -- and else it newly expands the run behind it: its sender's messages above the count before, up to the new one
 abbrev pub TheRunIsNewlyExpanded : Type 0

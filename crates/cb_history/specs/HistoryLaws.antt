@@ -4,7 +4,7 @@ use Rattle.std.specs.List.{AllByRecursion}
 use Rattle.cb_frames.specs.declared.frame.TheConstants.{LAST_NUMBER, MOST_RANGES}
 use Rattle.cb_frames.specs.declared.frame.Range.{Range}
 use Rattle.cb_frames.specs.Fields.{Load, payloads_of, CastFields, StatusFields, FrameFields, Carried, CastFrame, StatusFrame, RequestFrame}
-use Rattle.cb_frames.specs.Text.{IsLoad, text_of}
+use Rattle.cb_frames.specs.Text.{IsLoad, KeepsLoadRules, text_of}
 use Rattle.cb_history.specs.Read.{frame_read}
 use Rattle.cb_frames.specs.Laws.{CanBeWritten}
 use Rattle.cb_times.specs.declared.name.Name.{Name}
@@ -59,11 +59,12 @@ abbrev pub ArrivalsNameDeliveries : Type 0
 ArrivalsNameDeliveries = (seat : Identity) (entries : List EntryFields) (frame : List ℕ) (delivered : List Name) → IsLegal seat (entries ++ ArriveEntry frame delivered ∷ [])
     → delivered ≡ map name_of (drop (length (view seat.group.size (facts_of entries))) (view seat.group.size (facts_of (entries ++ ArriveEntry frame delivered ∷ []))))
 
--- The next cast of a load, where numbers are left for its messages, the status and each request for what is missing
--- have a text.
+-- The next cast of a load that keeps the rules, where numbers are left for its messages, the status and each request for what is
+-- missing have a text.
 abbrev pub OwnFramesHaveTexts : Type 0
 OwnFramesHaveTexts = (seat : Identity) (facts : List Fact) → AreFactsOf seat facts
-    → ((load : Load) → delivered seat facts seat.me + length (payloads_of load) ≤ LAST_NUMBER → IsLoad load → CanBeWritten (CastFrame (next_cast seat facts load)))
+    → ((load : Load) → KeepsLoadRules (delivered seat facts seat.me + 1) load → delivered seat facts seat.me + length (payloads_of load) ≤ LAST_NUMBER → IsLoad load
+    → CanBeWritten (CastFrame (next_cast seat facts load)))
     × CanBeWritten (StatusFrame (status_of seat facts))
     × ((i : ℕ) (r : Range) (ranges : List Range) → i < seat.group.size → ranges_of (missing seat facts i) ≡ r ∷ ranges
     → CanBeWritten (RequestFrame (record { group = seat.group.number; requester = seat.me; asked = i; ranges = take MOST_RANGES (r ∷ ranges) })))

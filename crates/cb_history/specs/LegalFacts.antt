@@ -1,15 +1,16 @@
 -- The facts of a legal history, one after another.
 use Rattle.std.specs.Prelude.{◌≡◌, ℕ, ◌≤◌, ◌<◌, true, false, List, [], ◌∷◌, ◌++◌, length}
 use Rattle.cb_frames.specs.declared.frame.TheConstants.{LAST_NUMBER}
-use Rattle.cb_frames.specs.Fields.{payloads_of, CastFields, first_number, last_number, StatusFields, FrameFields, CastFrame, StatusFrame, RequestFrame}
+use Rattle.cb_frames.specs.Fields.{IsOne, payloads_of, CastFields, first_number, last_number, StatusFields, FrameFields, CastFrame, StatusFrame, RequestFrame}
 use Rattle.cb_frames.specs.Text.{IsLoad}
 use Rattle.cb_history.specs.Group.{Identity, AreParameters}
 use Rattle.cb_history.specs.Facts.{Fact, OwnCast, CastReceived, StatusReceived, OwnStatus}
 use Rattle.cb_history.specs.Known.{value_in}
 use Rattle.cb_history.specs.Answers.{is_too_many, next_cast, group_of, are_members, is_impossible, is_repeat, is_too_far, is_change, status_of, is_new_status}
 
--- an own cast: the next one, of a load, for whose messages the window has room
+-- an own cast: the next one, of a load of one payload, for whose messages the window has room
 pub record IsOwnCast (seat : Identity) (facts : List Fact) (c : CastFields) : Type 0 where
+  pub one : IsOne c.load
   pub load : IsLoad c.load
   pub window : is_too_many seat facts (length (payloads_of c.load)) ≡ false
   pub next : c ≡ next_cast seat facts c.load
@@ -30,8 +31,9 @@ pub record IsTaken (seat : Identity) (facts : List Fact) (frame : FrameFields) :
   pub near : is_too_far seat facts frame ≡ false
   pub change : is_change seat facts frame ≡ true
 
--- a received cast; casts are numbered from 1
+-- a received cast, of a load of one payload; casts are numbered from 1
 pub record IsCastTaken (seat : Identity) (facts : List Fact) (c : CastFields) : Type 0 where
+  pub one : IsOne c.load
   pub numbered : 1 ≤ first_number c
   pub taken : IsTaken seat facts (CastFrame c)
 

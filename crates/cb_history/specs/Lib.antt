@@ -33,3 +33,4 @@ pub mod ArrivalLaws
 pub mod ExpanderLaws
 pub mod ReplayLaws
 pub mod WaitingLaws
+pub mod LoadLaws

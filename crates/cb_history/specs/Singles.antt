@@ -2,16 +2,16 @@
 use Rattle.std.specs.Prelude.{◌≡◌, ℕ, List, [], ◌∷◌, ◌++◌, length}
 use Rattle.std.specs.List.{flat_map, AllByRecursion}
 use Rattle.cb_frames.specs.declared.frame.Change.{Change}
-use Rattle.cb_frames.specs.Fields.{One, CastFields, Carried, messages_of, first_number, last_number}
-use Rattle.cb_diffs.specs.Expansion.{expanded_field, expanded_time}
+use Rattle.cb_frames.specs.Fields.{One, IsOne, CastFields, Carried, messages_of, first_number}
+use Rattle.cb_diffs.specs.Expansion.{expanded_field, expanded_time, CarrySome}
 use Rattle.cb_history.specs.Facts.{Fact, casts_in, cast_in, messages_in, is_there}
 use Rattle.cb_history.specs.View.{is_expanded, expanded_in}
 use Rattle.cb_history.specs.Known.{expanded_count}
 use Rattle.cb_history.specs.NameLaws.{NumberedFrom}
 
--- the cast carries one message
+-- the cast carries one payload, so one message
 abbrev pub IsSingle : CastFields → Type 0
-IsSingle c = last_number c ≡ first_number c
+IsSingle c = IsOne c.load
 
 -- a cast of this one message of c, with these changes
 abbrev pub single_of : CastFields → List Change → Carried → CastFields
@@ -37,7 +37,7 @@ singles_in facts = singles_among (casts_in facts)
 
 -- of one message the single is the cast itself
 abbrev pub SinglesOfOneMessage : Type 0
-SinglesOfOneMessage = (c : CastFields) (m : Carried) → messages_of c ≡ m ∷ [] → singles_of c ≡ c ∷ []
+SinglesOfOneMessage = (c : CastFields) → IsSingle c → singles_of c ≡ c ∷ []
 
 -- so casts of one message each are their own singles
 abbrev pub SinglesOfSingles : Type 0
@@ -61,15 +61,16 @@ SinglesWithOneMore = (facts : List Fact) (f : Fact) → singles_in (facts ++ f �
 
 -- ---- what they say
 
--- these casts carry the same messages as those: the same are there and expanded, at the same times
+-- these casts carry the same messages as those: the same are there and expanded, and where each of those carries some message, at
+-- the same times
 pub record AreTheSame (casts others : List CastFields) : Type 0 where
   pub messages : messages_in casts ≡ messages_in others
   pub there : (i n : ℕ) → is_there casts i n ≡ is_there others i n
   pub can_be_expanded : (m : Carried) → is_expanded casts m ≡ is_expanded others m
   pub expanded : expanded_in casts ≡ expanded_in others
   pub counts : (i : ℕ) → expanded_count casts i ≡ expanded_count others i
-  pub fields : (i n k : ℕ) → expanded_field casts i n k ≡ expanded_field others i n k
-  pub times : (size i n : ℕ) → expanded_time size casts i n ≡ expanded_time size others i n
+  pub fields : CarrySome others → (i n k : ℕ) → expanded_field casts i n k ≡ expanded_field others i n k
+  pub times : CarrySome others → (size i n : ℕ) → expanded_time size casts i n ≡ expanded_time size others i n
 
 abbrev pub SinglesAreTheSame : Type 0
 SinglesAreTheSame = (casts : List CastFields) → AreTheSame (singles_among casts) casts

@@ -52,7 +52,7 @@ sent_to requester bytes = record { to = Some requester; bytes = bytes }
 -- the frames in the ranges of a request are those that are sent in answer to it
 abbrev pub FramesInAreSentInAnswer : Type 0
 FramesInAreSentInAnswer =
-    (seat : Identity) (facts : List Fact) (sent : Sent) (r : RequestFields) → KeepsOwnCasts seat facts sent → r.asked ≡ seat.me
+    (seat : Identity) (facts : List Fact) (sent : Sent) (r : RequestFields) → AreFactsOf seat facts → KeepsOwnCasts seat facts sent → r.asked ≡ seat.me
     → sent_in_answer seat facts (RequestFrame r) ≡ map (sent_to r.requester) (frames_in r.ranges sent)
 
 -- to put the frame of an own cast is to keep the own casts with it

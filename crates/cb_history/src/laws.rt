@@ -10,6 +10,7 @@ mod expansion;
 mod gaps;
 mod histories;
 mod knowledge;
+mod loads;
 mod names;
 mod own_frames;
 mod queue;
@@ -34,6 +35,7 @@ pub use histories::{
     calls_keep_histories_legal, histories_say_facts, legality_without_a_limit, prefixes_are_legal,
 };
 pub use knowledge::knowledge_grows;
+pub use loads::casts_carry_one_message;
 pub use names::names_and_order;
 pub use own_frames::own_frames_are_of_the_group;
 pub use queue::queue_releases_the_next_delivery;
