@@ -3,6 +3,7 @@ use Rattle.std.specs.Prelude.{◌≡◌, ◌≢◌, ℕ, ◌+◌, ◌<◌, ◌&&
 use Rattle.std.specs.List.{AllByRecursion, sum_by, range_with_len}
 use Rattle.cb_times.specs.Group.{IsGroupSize}
 use Rattle.cb_times.specs.Order.{field}
+use Rattle.cb_frames.specs.declared.frame.Change.{Change}
 use Rattle.cb_frames.specs.declared.frame.TheConstants.{LAST_NUMBER}
 use Rattle.cb_frames.specs.Fields.{IsSome, CastFields, first_number, last_number, growth_in}
 
@@ -36,7 +37,7 @@ last_in (c ∷ casts) sender = if c.sender == sender then max (last_number c) (l
 
 -- ---- one expansion
 
--- the last time of this sender
+-- what is kept for this sender: the time of its last message
 abbrev pub time_of : List (List ℕ) → ℕ → List ℕ
 time_of times sender = slice_index_or times sender []
 
@@ -45,12 +46,23 @@ pub record AreTimes (times : List (List ℕ)) : Type 0 where
   pub group : IsGroupSize (length times)
   pub sizes : All (λ t. length t ≡ length times) times
 
--- the sender and the changed fields are members of a group of this size
-pub record AreMembers (size : ℕ) (c : CastFields) : Type 0 where
-  pub sender : c.sender < size
-  pub changes : All (λ d. d.field < size) c.changes
+-- this sender and the changed fields are members of a group of this size
+pub record AreMembersOf (size who : ℕ) (grown : List Change) : Type 0 where
+  pub sender : who < size
+  pub changes : All (λ d. d.field < size) grown
 
--- The new time is the old one with what the cast adds. It is the time of the first message of the cast.
+abbrev pub AreMembers : ℕ → CastFields → Type 0
+AreMembers size c = AreMembersOf size c.sender c.changes
+
+-- A cast says of its sender's time who sends it, the number of its first message, and how the other fields grew. That is all
+-- that the time of this message depends on.
+pub record IsToldBy (c : CastFields) (sender first : ℕ) (changes : List Change) : Type 0 where
+  pub sender_is : c.sender ≡ sender
+  pub first_is : c.number ≡ first
+  pub changes_are : c.changes ≡ changes
+
+-- The new time is the old one with what the cast adds. It is the time of the first message of the cast: what the cast says of the
+-- other fields counts once, before that message, and between its messages no field but the sender's own grows.
 pub record IsGrown (old : List ℕ) (c : CastFields) (new : List ℕ) : Type 0 where
   pub size : length new ≡ length old
   pub own : field new c.sender ≡ first_number c

@@ -15,8 +15,8 @@ abbrev pub growth_by : Option CastFields → ℕ → ℕ
 growth_by None k = 0
 growth_by (Some c) k = growth_in c.changes k
 
--- Field k of the time of a sender's message is the sum of the increments over the numbers up to it, each by the one frame of
--- that number, held at the greatest number. The sender's own field is the message's number.
+-- Field k of the time of a sender's message is the sum of the increments over the numbers up to it, each by the one frame whose
+-- first message has that number, held at the greatest number. The sender's own field is the message's number.
 abbrev pub sent_field : List CastFields → ℕ → ℕ → ℕ → ℕ
 sent_field frames sender number k =
     if k == sender then number else min greatest (sum_by (λ n. growth_by (frame_of frames sender n) k) (range_with_len 1 number))
@@ -24,7 +24,7 @@ sent_field frames sender number k =
 abbrev pub sent_time : ℕ → List CastFields → ℕ → ℕ → List ℕ
 sent_time size frames sender number = map (sent_field frames sender number) (range_with_len 0 size)
 
--- messages are numbered from 1, and no two of these frames are of one
+-- messages are numbered from 1, and no two of these frames have the same first one
 abbrev pub NamesDiffer : List CastFields → Type 0
 NamesDiffer [] = Unit {0}
 NamesDiffer (c ∷ frames) = (1 ≤ first_number c) × (frame_of frames c.sender (first_number c) ≡ None) × NamesDiffer frames

@@ -4,12 +4,12 @@ ghost use Rattle.std.specs.Prelude.{◌≡◌, ◌≢◌, ◌+◌, ◌≤◌, �
 ghost use Rattle.std.specs.List.{AllByRecursion};
 ghost use Rattle.cb_times.specs.Group.{IsGroupSize};
 ghost use Rattle.cb_times.specs.Time.{IsTime};
-ghost use Rattle.cb_frames.specs.Fields.{cast_fields};
-ghost use Rattle.cb_diffs.specs.Expansion.{AreMembers, IsGrown, IsNext, IsNotNext, IsStrange, Expands, time_of};
+ghost use Rattle.cb_frames.specs.Fields.{IsSome, CastFields, cast_fields, burst_fields, last_number};
+ghost use Rattle.cb_diffs.specs.Expansion.{greatest, AreMembersOf, IsToldBy, IsGrown, IsNext, IsNotNext, IsStrange, Expands, time_of};
 ghost use Rattle.cb_diffs.specs.FaultText.{expand_fault_text};
 ghost use Rattle.cb_diffs.specs.declared.expander.ExpandFault.TheVariants.{NoMemory as OutOfMemory};
 
-use cb_frames::Cast;
+use cb_frames::{Burst, Cast, Change};
 use cb_times::{NoMemory, VectorTime};
 use std::alloc::Global;
 use std::error::Error;
@@ -101,7 +101,7 @@ impl Expander {
             ↔ IsNotNext self.old (cast_fields cast.now) expected found }
         ensures err { OnErr result (self.new ≡ self.old) }
     {
-        self.check_next(cast)?;
+        self.check_next(cast.sender, cast.number, &cast.changes)?;
         let time = self.time_ahead(cast)?;
         self.take(cast, &time);
         Ok(time)
@@ -122,29 +122,72 @@ impl Expander {
         ensures err { OnErr result ((self.new ≡ self.old) × (into.new ≡ into.old)) }
         ensures size { length into.new ≡ length self.new }
     {
-        self.check_next(cast)?;
+        self.check_next(cast.sender, cast.number, &cast.changes)?;
         self.take_next(cast, into);
         Ok(())
     }
 
-    #[tactic(auto, using(cb_frames::proofs::Carried::first_is_number))]
-    fn check_next(&self, cast: &Cast) -> Result<(), ExpandFault>
-        ensures ok { OnOk result (IsNext self.now (cast_fields cast.now)) }
+    /// The time of the first message of the sender's next burst, with the faults of `expand`.
+    ///
+    /// The changes count once, before the first message. The sender's next cast is the one behind the burst's last message.
+    pub fn burst(&mut self, burst: &Burst) -> Result<VectorTime, ExpandFault>
+        requires some { IsSome (burst_fields burst.now).load }
+        requires last { last_number (burst_fields burst.now) ≤ greatest }
+        ensures ok { IfOk result (λ time. Expands self.old (burst_fields burst.now) time self.new) }
         ensures bad_member { (result ≡ Err ExpandFault.BadMember)
-            ↔ IsStrange self.now (cast_fields cast.now) }
+            ↔ IsStrange self.old (burst_fields burst.now) }
         ensures not_next { (expected found : ℕ)
             → (result ≡ Err (ExpandFault.NotNext expected found))
-            ↔ IsNotNext self.now (cast_fields cast.now) expected found }
+            ↔ IsNotNext self.old (burst_fields burst.now) expected found }
+        ensures err { OnErr result (self.new ≡ self.old) }
+    {
+        self.check_next(burst.sender, burst.first, &burst.changes)?;
+        let time = self.grown(burst.sender, burst.first, &burst.changes)?;
+        self.take_burst(burst, &time);
+        Ok(time)
+    }
+
+    /// Expands the burst without memory, as `expand_into` does a cast: `into` becomes the time of its first message.
+    pub fn burst_into(&mut self, burst: &Burst, into: &mut VectorTime) -> Result<(), ExpandFault>
+        requires some { IsSome (burst_fields burst.now).load }
+        requires last { last_number (burst_fields burst.now) ≤ greatest }
+        requires size { length into.old ≡ length self.old }
+        ensures ok { OnOk result (Expands self.old (burst_fields burst.now) into.new self.new) }
+        ensures bad_member { (result ≡ Err ExpandFault.BadMember)
+            ↔ IsStrange self.old (burst_fields burst.now) }
+        ensures not_next { (expected found : ℕ)
+            → (result ≡ Err (ExpandFault.NotNext expected found))
+            ↔ IsNotNext self.old (burst_fields burst.now) expected found }
+        ensures never_for_memory { result ≢ Err ExpandFault.NoMemory }
+        ensures err { OnErr result ((self.new ≡ self.old) × (into.new ≡ into.old)) }
+        ensures size { length into.new ≡ length self.new }
+    {
+        self.check_next(burst.sender, burst.first, &burst.changes)?;
+        self.look_ahead(burst.sender, burst.first, &burst.changes, into);
+        self.take_burst(burst, into);
+        Ok(())
+    }
+
+    #[tactic(auto, using(cb_frames::proofs::Carried::first_is_number))]
+    fn check_next(&self, sender: u32, first: u32, changes: &[Change]) -> Result<(), ExpandFault>
+        ensures ok { (c : CastFields) → IsToldBy c sender first changes.now
+            → OnOk result (IsNext self.now c) }
+        ensures bad_member { (result ≡ Err ExpandFault.BadMember)
+            ↔ ¬ AreMembersOf (length self.now) sender changes.now }
+        ensures not_next { (c : CastFields) (expected found : ℕ)
+            → IsToldBy c sender first changes.now
+            → (result ≡ Err (ExpandFault.NotNext expected found))
+            ↔ IsNotNext self.now c expected found }
         ensures never_for_memory { result ≢ Err ExpandFault.NoMemory }
     {
-        if !are_members(self.times.len(), cast) {
+        if !are_members(self.times.len(), sender, changes) {
             return Err(ExpandFault::BadMember);
         }
-        let last = self.times[cast.sender as usize].get(cast.sender);
-        if last.checked_add(1) != Some(cast.number) {
+        let last = self.times[sender as usize].get(sender);
+        if last.checked_add(1) != Some(first) {
             return Err(ExpandFault::NotNext {
                 expected: last.saturating_add(1),
-                found: cast.number,
+                found: first,
             });
         }
         Ok(())
@@ -157,7 +200,7 @@ impl Expander {
         ensures expands { Expands self.old (cast_fields cast.now) into.new self.new }
         ensures size { length into.new ≡ length self.new }
     {
-        self.look_ahead(cast, into);
+        self.look_ahead(cast.sender, cast.number, &cast.changes, into);
         self.take(cast, into);
     }
 
@@ -168,22 +211,33 @@ impl Expander {
             (IsGrown (time_of self.now cast.now.sender) (cast_fields cast.now)) }
         ensures size { IfOk result (λ time. length time ≡ length self.now) }
     {
-        let mut time = self.times[cast.sender as usize].copy()?;
-        grow(&mut time, cast);
+        self.grown(cast.sender, cast.number, &cast.changes)
+    }
+
+    /// The time of the first message of the sender's next frame. The only error is out of memory.
+    fn grown(&self, sender: u32, first: u32, changes: &[Change]) -> Result<VectorTime, NoMemory>
+        requires members { AreMembersOf (length self.now) sender changes.now }
+        ensures time { (c : CastFields) → IsToldBy c sender first changes.now
+            → IfOk result (IsGrown (time_of self.now sender) c) }
+        ensures size { IfOk result (λ time. length time ≡ length self.now) }
+    {
+        let mut time = self.times[sender as usize].copy()?;
+        grow(&mut time, sender, first, changes);
         Ok(time)
     }
 
-    /// Makes `into` the time of the sender's next cast, which is not taken by that: `take` does it.
+    /// Makes `into` the time of the first message of the sender's next frame, which is not taken by that.
     ///
     /// A copy of any time of the group will do for `into`.
-    fn look_ahead(&self, cast: &Cast, into: &mut VectorTime)
-        requires next { IsNext self.now (cast_fields cast.now) }
+    fn look_ahead(&self, sender: u32, first: u32, changes: &[Change], into: &mut VectorTime)
+        requires members { AreMembersOf (length self.now) sender changes.now }
         requires size { length into.old ≡ length self.now }
-        ensures grown { IsGrown (time_of self.now cast.now.sender) (cast_fields cast.now) into.new }
+        ensures grown { (c : CastFields) → IsToldBy c sender first changes.now
+            → IsGrown (time_of self.now sender) c into.new }
         ensures size { length into.new ≡ length self.now }
     {
-        into.copy_from(&self.times[cast.sender as usize]);
-        grow(into, cast);
+        into.copy_from(&self.times[sender as usize]);
+        grow(into, sender, first, changes);
     }
 
     /// Takes the sender's next cast, whose time was looked at: it is as if it were expanded.
@@ -194,27 +248,49 @@ impl Expander {
     {
         self.times[cast.sender as usize].copy_from(time);
     }
+
+    /// Takes the sender's next burst, whose first message has this time.
+    fn take_burst(&mut self, burst: &Burst, time: &VectorTime)
+        requires some { IsSome (burst_fields burst.now).load }
+        requires last { last_number (burst_fields burst.now) ≤ greatest }
+        requires next { IsNext self.old (burst_fields burst.now) }
+        requires grown { IsGrown (time_of self.old burst.now.sender) (burst_fields burst.now)
+            time.now }
+        ensures { Expands self.old (burst_fields burst.now) time.now self.new }
+    {
+        let kept = &mut self.times[burst.sender as usize];
+        kept.copy_from(time);
+        kept.set(burst.sender, last_of(burst));
+    }
 }
 
-fn are_members(size: usize, cast: &Cast) -> bool
-    ensures { IsTrue result ↔ AreMembers size (cast_fields cast.now) }
+/// The number of the burst's last message.
+#[tactic(auto, using(cb_frames::proofs::Carried::first_is_number, cb_frames::proofs::Carried::carries_payloads, cb_frames::proofs::Carried::carried_up_to_the_last))]
+fn last_of(burst: &Burst) -> u32
+    requires some { IsSome (burst_fields burst.now).load }
+    requires last { last_number (burst_fields burst.now) ≤ greatest }
+    ensures { result ≡ last_number (burst_fields burst.now) }
 {
-    (cast.sender as usize) < size
-        && cast
-            .changes
-            .iter()
-            .all(|change| (change.field as usize) < size)
+    burst.first + (burst.payloads.len() - 1) as u32
 }
 
-/// The sender's time with what the cast adds to it.
-fn grow(time: &mut VectorTime, cast: &Cast)
-    requires members { AreMembers (length time.old) (cast_fields cast.now) }
+fn are_members(size: usize, sender: u32, changes: &[Change]) -> bool
+    ensures { IsTrue result ↔ AreMembersOf size sender changes.now }
+{
+    (sender as usize) < size && changes.iter().all(|change| (change.field as usize) < size)
+}
+
+/// The sender's time with what a frame adds to it.
+fn grow(time: &mut VectorTime, sender: u32, first: u32, changes: &[Change])
+    requires members { AreMembersOf (length time.old) sender changes.now }
     requires time { IsTime time.old }
-    ensures { IsGrown time.old (cast_fields cast.now) time.new }
+    ensures grown { (c : CastFields) → IsToldBy c sender first changes.now
+        → IsGrown time.old c time.new }
+    ensures size { length time.new ≡ length time.old }
 {
-    for change in &cast.changes {
+    for change in changes {
         let before = time.get(change.field);
         time.set(change.field, before.saturating_add(change.amount));
     }
-    time.set(cast.sender, cast.number);
+    time.set(sender, first);
 }
