@@ -1,30 +1,30 @@
 -- What a call adds to a history that is not kept, and to its events.
-use Rattle.std.proofs.Common.{◌≡◌, ◌⊎◌, ℕ, ◌-◌, Bool, true, false, ◌&&◌, not, eqb, List, [], ◌∷◌, ◌++◌, length, drop, map, Option, Some, None, Result, Ok, Err, refl, sym, ap, subst, ◌∙◌, arith, inl, inr}
+use Rattle.std.proofs.Common.{◌≡◌, ◌⊎◌, ℕ, Bool, true, false, ◌&&◌, not, eqb, List, [], ◌∷◌, ◌++◌, length, drop, map, Option, Some, None, Result, Ok, Err, refl, sym, ap, subst, ◌∙◌, arith, inl, inr}
 use Rattle.std.specs.Prelude.{if◌then◌else◌, nat_lt}
 use Rattle.std.specs.List.{flat_map}
 use Rattle.std.proofs.lemmas.Bool.{ltb-false}
-use Rattle.std.proofs.lemmas.List.{append-nil, drop_at, length-append}
-use Rattle.cb_varint.specs.Reading.{spelling}
+use Rattle.std.proofs.lemmas.List.{append-nil}
 use Rattle.cb_frames.specs.declared.frame.TheConstants.{LONGEST_PAYLOAD}
 use Rattle.cb_frames.specs.declared.fault.FrameFault.{FrameFault}
 use Rattle.cb_frames.specs.Fields.{Load, load_bytes, payloads_of, Carried, CastFields, FrameFields, StatusFields, CastFrame, StatusFrame, RequestFrame}
 use Rattle.cb_history.specs.Read.{frame_read}
-use Rattle.cb_frames.specs.Text.{IsLoad, cast_kind, cast_numbers, text_of}
+use Rattle.cb_frames.specs.Text.{IsLoad, text_of}
 use Rattle.cb_delay.specs.declared.message.Event.{Event}
 use Rattle.cb_delay.specs.declared.message.Event.TheVariants.{Cast, Deliver}
 use Rattle.cb_delay.specs.declared.message.Message.{Message}
 use Rattle.cb_history.specs.declared.answer.ArriveRefusal.{ArriveRefusal}
 use Rattle.cb_history.specs.declared.answer.ArriveRefusal.TheVariants as arrivals
 use Rattle.cb_history.specs.declared.answer.Outgoing.{Outgoing}
-use Rattle.cb_history.specs.Answers.{ArrivalSays, Accepted, Repeat, answer_to, are_members, arrive_answer, cast_answer, deliveries, group_of, is_change, is_full, is_impossible, is_repeat, is_too_far, is_too_many, next_cast, sent_in_answer, status_of}
+use Rattle.cb_history.specs.Answers.{ArrivalSays, Accepted, Repeat, answer_to, are_members, arrive_answer, cast_answer, deliveries, group_of, is_burst, is_change, is_full, is_impossible, is_repeat, is_too_far, is_too_many, next_cast, sent_in_answer, status_of}
 use Rattle.cb_history.specs.EventLaws.{new_events}
 use Rattle.cb_history.specs.Events.{events}
-use Rattle.cb_history.specs.CastFault.{CastFault, PayloadTooLong, WindowFull, HistoryFull}
+use Rattle.cb_history.specs.CastFault.{CastFault, BurstTooLong, PayloadTooLong, WindowFull, HistoryFull}
 use Rattle.cb_history.specs.Facts.{EntryFields, Fact, OwnCast, CastReceived, StatusReceived, OwnStatus, CastEntry, ArriveEntry, TickEntry, arrival_said, cast_said, casts_in, facts_of, said_by, status_said}
 use Rattle.cb_history.specs.Group.{Identity}
 use Rattle.cb_history.specs.Legal.{AreEntriesOf, and_entry, arrive_entry, room_for_one}
 use Rattle.cb_history.specs.LegalFacts.{AreFactsOf}
 use Rattle.cb_history.specs.View.{message_in, view}
+use Rattle.cb_history.proofs.Calls.{loads_cast_are_of_one}
 use Rattle.cb_history.proofs.Counts.{numbers_left}
 use Rattle.cb_history.proofs.Happening.{events_with_one_more}
 use Rattle.cb_history.proofs.Histories.{entries_say_legal_facts}
@@ -35,6 +35,7 @@ use Rattle.cb_history.proofs.Walks.{view_status}
 use Rattle.cb_history.proofs.Written.{cast_can}
 use Rattle.cb_member.specs.Casting.{next_message}
 use Rattle.cb_member.specs.Received.{deliveries_in}
+use Rattle.cb_member.proofs.Judging.{one_keeps}
 use Rattle.cb_member.proofs.Recording.{cast_event}
 
 pub joined : (es : List EntryFields) (o : Option EntryFields) → es ++ and_entry [] o ≡ and_entry es o
@@ -52,19 +53,20 @@ with_fact seat es e fact legal said =
 
 -- ---- a cast
 
-by_cast_rules : (long window full : Bool) (next c : CastFields)
-    → (let r : Result CastFields CastFault = if long then Err PayloadTooLong else if window then Err WindowFull else if full then Err HistoryFull else Ok next in r) ≡ Ok c
+by_cast_rules : (burst long window full : Bool) (next c : CastFields)
+    → (let r : Result CastFields CastFault = if burst then Err BurstTooLong else if long then Err PayloadTooLong else if window then Err WindowFull else if full then Err HistoryFull else Ok next in r) ≡ Ok c
     → (long ≡ false) × (window ≡ false)
-by_cast_rules true window full next c says = absurd cc
-by_cast_rules false true full next c says = absurd cc
-by_cast_rules false false true next c says = absurd cc
-by_cast_rules false false false next c says = (refl, refl)
+by_cast_rules true long window full next c says = absurd cc
+by_cast_rules false true window full next c says = absurd cc
+by_cast_rules false false true full next c says = absurd cc
+by_cast_rules false false false true next c says = absurd cc
+by_cast_rules false false false false next c says = (refl, refl)
 
 can_be_cast : (seat : Identity) (limit : ℕ) (es : List EntryFields) (load : Load) (c : CastFields) → cast_answer seat limit es load ≡ Ok c
     → (nat_lt LONGEST_PAYLOAD (length (load_bytes load)) ≡ false) × (is_too_many seat (facts_of es) (length (payloads_of load)) ≡ false)
 unfolding cast_answer
 can_be_cast seat limit es load c says =
-    by_cast_rules (nat_lt LONGEST_PAYLOAD (length (load_bytes load))) (is_too_many seat (facts_of es) (length (payloads_of load))) (is_full limit es) (next_cast seat (facts_of es) load) c says
+    by_cast_rules (is_burst load) (nat_lt LONGEST_PAYLOAD (length (load_bytes load))) (is_too_many seat (facts_of es) (length (payloads_of load))) (is_full limit es) (next_cast seat (facts_of es) load) c says
 
 -- the entry of a cast that is answered says that cast, and the event is its message
 pub cast_adds : (seat : Identity) (limit : ℕ) (es : List EntryFields) (load : Load) → AreFactsOf seat (facts_of es)
@@ -73,21 +75,15 @@ pub cast_adds : (seat : Identity) (limit : ℕ) (es : List EntryFields) (load : 
 cast_adds seat limit es load are says legal =
     let c = next_cast seat (facts_of es) load in
     let e = CastEntry (text_of (CastFrame c)) in
+    let one = loads_cast_are_of_one seat limit es load c says in
     let can = can_be_cast seat limit es load c says in
     let small : IsLoad load = ltb-false LONGEST_PAYLOAD (length (load_bytes load)) can.0 in
-    let written = cast_can seat (facts_of es) load are.group are.member are.facts_are (numbers_left seat (facts_of es) (length (payloads_of load)) can.1) small in
-    let said : said_by e ≡ OwnCast c ∷ [] = ap cast_said (cast_read c written) in
+    let written = cast_can seat (facts_of es) load are.group are.member are.facts_are (one_keeps _ load one) (numbers_left seat (facts_of es) (length (payloads_of load)) can.1) small in
+    let said : said_by e ≡ OwnCast c ∷ [] = ap cast_said (cast_read c one written) in
     let more : facts_of (es ++ e ∷ []) ≡ facts_of es ++ OwnCast c ∷ [] =
     flat_map-append said_by es (e ∷ []) ∙ ap (λ (fs : List Fact). facts_of es ++ fs) (append-nil (said_by e) ∙ said) in
     let after = subst (AreFactsOf seat) more (entries_say_legal_facts seat (es ++ e ∷ []) legal).0 in
     with_fact seat es e (OwnCast c) legal said ∙ ap (λ (xs : List Event). events seat (facts_of es) ++ xs) (cast_event seat (facts_of es) load after)
-
--- what the cast carries is the end of the frame
-pub payload_at_end : (c : CastFields) → drop (length (text_of (CastFrame c)) - length (load_bytes c.load)) (text_of (CastFrame c)) ≡ load_bytes c.load
-unfolding text_of
-payload_at_end c =
-    let front : List ℕ = cast_kind ∷ flat_map spelling (cast_numbers c) in
-    drop_at front (load_bytes c.load) (length (front ++ load_bytes c.load) - length (load_bytes c.load)) (omega (arith, length-append front (load_bytes c.load)))
 
 -- ---- a tick
 

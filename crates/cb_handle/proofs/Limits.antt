@@ -17,8 +17,8 @@ use Rattle.cb_history.specs.declared.answer.TickRefusal.{TickRefusal}
 use Rattle.cb_history.specs.declared.answer.TickRefusal.TheVariants as ticks
 use Rattle.cb_frames.specs.Fields.{StatusFrame}
 use Rattle.cb_frames.specs.Text.{text_of}
-use Rattle.cb_history.specs.Answers.{ArrivalSays, Accepted, Repeat, answer_to, are_members, arrive_answer, cast_answer, deliveries, group_of, is_change, is_full, is_impossible, is_new_status, is_repeat, is_too_far, is_too_many, next_cast, requests, sent_in_answer, status_of, tick_answer}
-use Rattle.cb_history.specs.CastFault.{CastFault, PayloadTooLong, WindowFull, HistoryFull, TellsFaultOf}
+use Rattle.cb_history.specs.Answers.{ArrivalSays, Accepted, Repeat, answer_to, are_members, arrive_answer, cast_answer, deliveries, group_of, is_burst, is_change, is_full, is_impossible, is_new_status, is_repeat, is_too_far, is_too_many, next_cast, requests, sent_in_answer, status_of, tick_answer}
+use Rattle.cb_history.specs.CastFault.{CastFault, BurstTooLong, PayloadTooLong, WindowFull, HistoryFull, TellsFaultOf}
 use Rattle.cb_history.specs.Facts.{EntryFields, facts_of}
 use Rattle.cb_history.specs.Group.{Identity}
 use Rattle.cb_history.specs.Legal.{arrive_entry, room_for_one, tick_entry}
@@ -51,22 +51,24 @@ no_room_is_left n es kept same on = elim (cases_Bool (n == 0)) [
 
 -- ---- casts
 
-abbrev cast_rules : Bool → Bool → CastFields → Bool → Result CastFields CastFault
-cast_rules long window c full = if long then Err PayloadTooLong else if window then Err WindowFull else if full then Err HistoryFull else Ok c
+abbrev cast_rules : Bool → Bool → Bool → CastFields → Bool → Result CastFields CastFault
+cast_rules burst long window c full = if burst then Err BurstTooLong else if long then Err PayloadTooLong else if window then Err WindowFull else if full then Err HistoryFull else Ok c
 
-cast_refused_by : (long window full : Bool) (c : CastFields) (fault : CastFault) → cast_rules long window c false ≡ Err fault → cast_rules long window c full ≡ Err fault
-cast_refused_by true window full c fault h = h
-cast_refused_by false true full c fault h = h
-cast_refused_by false false full c fault h = absurd cc
+cast_refused_by : (burst long window full : Bool) (c : CastFields) (fault : CastFault) → cast_rules burst long window c false ≡ Err fault → cast_rules burst long window c full ≡ Err fault
+cast_refused_by true long window full c fault h = h
+cast_refused_by false true window full c fault h = h
+cast_refused_by false false true full c fault h = h
+cast_refused_by false false false full c fault h = absurd cc
 
-cast_full_by : (long window : Bool) (c d : CastFields) → cast_rules long window c false ≡ Ok d → cast_rules long window c true ≡ Err HistoryFull
-cast_full_by true window c d h = absurd cc
-cast_full_by false true c d h = absurd cc
-cast_full_by false false c d h = refl
+cast_full_by : (burst long window : Bool) (c d : CastFields) → cast_rules burst long window c false ≡ Ok d → cast_rules burst long window c true ≡ Err HistoryFull
+cast_full_by true long window c d h = absurd cc
+cast_full_by false true window c d h = absurd cc
+cast_full_by false false true c d h = absurd cc
+cast_full_by false false false c d h = refl
 
 module _ (seat : Identity) (limit : ℕ) (es : List EntryFields) where
   abbrev cast_with : Load → Bool → Result CastFields CastFault
-  cast_with load full = cast_rules (nat_lt LONGEST_PAYLOAD (length (load_bytes load))) (is_too_many seat (facts_of es) (length (payloads_of load))) (next_cast seat (facts_of es) load) full
+  cast_with load full = cast_rules (is_burst load) (nat_lt LONGEST_PAYLOAD (length (load_bytes load))) (is_too_many seat (facts_of es) (length (payloads_of load))) (next_cast seat (facts_of es) load) full
 
   cast_limited : (n : ℕ) (load : Load) → cast_answer seat n es load ≡ cast_with load (is_full n es)
   unfolding cast_answer
@@ -80,7 +82,7 @@ module _ (seat : Identity) (limit : ℕ) (es : List EntryFields) where
 
   cast_fault : (load : Load) (fault : CastFault) → cast_answer seat (room_for_one es) es load ≡ Err fault → cast_answer seat limit es load ≡ Err fault
   cast_fault load fault h =
-      cast_limited limit load ∙ cast_refused_by (nat_lt LONGEST_PAYLOAD (length (load_bytes load))) (is_too_many seat (facts_of es) (length (payloads_of load))) (is_full limit es) (next_cast seat (facts_of es) load) fault (sym (cast_free load) ∙ h)
+      cast_limited limit load ∙ cast_refused_by (is_burst load) (nat_lt LONGEST_PAYLOAD (length (load_bytes load))) (is_too_many seat (facts_of es) (length (payloads_of load))) (is_full limit es) (next_cast seat (facts_of es) load) fault (sym (cast_free load) ∙ h)
 
   pub cast_refused : (load : Load) (refusal : CastRefusal) → TellsFaultOf refusal (cast_answer seat (room_for_one es) es load) → TellsFaultOf refusal (cast_answer seat limit es load)
   cast_refused load casts.PayloadTooLong h = cast_fault load PayloadTooLong h
@@ -90,7 +92,7 @@ module _ (seat : Identity) (limit : ℕ) (es : List EntryFields) where
 
   pub cast_full : (load : Load) (c : CastFields) → is_full limit es ≡ true → cast_answer seat (room_for_one es) es load ≡ Ok c → cast_answer seat limit es load ≡ Err HistoryFull
   cast_full load c full h =
-      cast_limited limit load ∙ ap (cast_with load) full ∙ cast_full_by (nat_lt LONGEST_PAYLOAD (length (load_bytes load))) (is_too_many seat (facts_of es) (length (payloads_of load))) (next_cast seat (facts_of es) load) c (sym (cast_free load) ∙ h)
+      cast_limited limit load ∙ ap (cast_with load) full ∙ cast_full_by (is_burst load) (nat_lt LONGEST_PAYLOAD (length (load_bytes load))) (is_too_many seat (facts_of es) (length (payloads_of load))) (next_cast seat (facts_of es) load) c (sym (cast_free load) ∙ h)
 
 -- ---- received bytes
 

@@ -2,7 +2,7 @@
 use Rattle.std.proofs.Common.{◌≡◌, ◌≢◌, ℕ, false, ◌+◌, ◌<◌, inl, inr, List, [], ◌∷◌, ◌++◌, length, set, refl, sym, ap, subst, ◌∙◌, arith}
 use Rattle.std.specs.List.{flat_map}
 use Rattle.std.proofs.lemmas.Bool.{cases_eq, cases_lt}
-use Rattle.std.proofs.lemmas.List.{length-set, get_or-set_same, get_or-set_other, get_or_past, ext_get_or}
+use Rattle.std.proofs.lemmas.List.{append_assoc, length-set, get_or-set_same, get_or-set_other, get_or_past, ext_get_or}
 use Rattle.std.proofs.lemmas.List.FromFn.{length-map-range_with_len}
 use Rattle.cb_times.specs.Order.{field, AtMost}
 use Rattle.cb_frames.specs.declared.frame.TheConstants.{LAST_NUMBER}
@@ -10,7 +10,7 @@ use Rattle.cb_frames.specs.declared.frame.Change.{Change}
 use Rattle.cb_varint.specs.Reading.{spelling}
 use Rattle.cb_frames.specs.Fields.{Load, One, load_bytes, Carried, CastFields, CastFrame}
 use Rattle.cb_frames.proofs.Carried.{carries_one}
-use Rattle.cb_frames.specs.Text.{cast_kind, cast_numbers, text_of}
+use Rattle.cb_frames.specs.Text.{cast_kind, cast_numbers, payload_text, text_of, with_load}
 use Rattle.cb_diffs.specs.Differences.{differences}
 use Rattle.cb_stability.specs.Sent.{room_of}
 use Rattle.cb_history.specs.Facts.{Fact}
@@ -83,12 +83,12 @@ counts_one_more size seen m lt =
           ∙ sym (count_other seen m k (λ e. ne (sym e))) ∙ sym (in_field size (count (seen ++ m ∷ [])) k small)
     ])
 
-counts_own : (state : State) (facts : List Fact) (load : Load) (time : List ℕ) → AreFactsOf state.seat facts → Keeps facts state → time ≡ state.delivery.time
-    → set time state.seat.me (field time state.seat.me + 1) ≡ next_time state.seat facts load
-counts_own state facts load time are k same =
+counts_own : (state : State) (facts : List Fact) (payload time : List ℕ) → AreFactsOf state.seat facts → Keeps facts state → time ≡ state.delivery.time
+    → set time state.seat.me (field time state.seat.me + 1) ≡ next_time state.seat facts (One payload)
+counts_own state facts payload time are k same =
     ap (λ (ns : List ℕ). set ns state.seat.me (field ns state.seat.me + 1)) (same ∙ k.delivered.waits.time)
-    ∙ counts_one_more state.seat.group.size (view state.seat.group.size facts) (record { sender = state.seat.me; number = delivered state.seat facts state.seat.me + 1; payload = load_bytes load }) are.member
-    ∙ ap (λ (ms : List Carried). counts state.seat.group.size (view state.seat.group.size facts ++ ms)) (sym (carries_one (next_cast state.seat facts load)))
+    ∙ counts_one_more state.seat.group.size (view state.seat.group.size facts) (record { sender = state.seat.me; number = delivered state.seat facts state.seat.me + 1; payload = payload }) are.member
+    ∙ ap (λ (ms : List Carried). counts state.seat.group.size (view state.seat.group.size facts ++ ms)) (sym (carries_one (next_cast state.seat facts (One payload)) tt))
 
 pub next_is_made : (state : State) (facts : List Fact) (load : Load) (group sender own : ℕ) (changes : List Change) → AreFactsOf state.seat facts → Keeps facts state
     → group ≡ state.seat.group.number → sender ≡ state.seat.me → own ≡ field state.delivery.time state.seat.me → changes ≡ differences state.sending.last_cast state.delivery.time state.seat.me
@@ -106,9 +106,10 @@ next_is_made state facts load group sender own changes are k eg es en ec =
 pub message_is_next : (state : State) (facts : List Fact) (payload time : List ℕ) (sender number : ℕ) → AreFactsOf state.seat facts → Keeps facts state → time ≡ state.delivery.time
     → sender ≡ state.seat.me → number ≡ delivered state.seat facts state.seat.me + 1
     → record { name = record { sender = sender; number = number }; time = set time state.seat.me (field time state.seat.me + 1); payload = payload } ≡ next_message state.seat facts (One payload)
-message_is_next state facts payload time sender number are k same es en = rw (es, en, counts_own state facts (One payload) time are k same) refl
+message_is_next state facts payload time sender number are k same es en = rw (es, en, counts_own state facts payload time are k same) refl
 
--- a cast's text ends with what it carries
-pub text_ends : (c : CastFields) → text_of (CastFrame c) ≡ (cast_kind ∷ flat_map spelling (cast_numbers c)) ++ load_bytes c.load
+-- a cast's text ends with the payload
+pub text_ends : (c : CastFields) (payload : List ℕ)
+    → text_of (CastFrame (with_load c (One payload))) ≡ (cast_kind ∷ flat_map spelling (cast_numbers c) ++ spelling (length payload)) ++ payload
 unfolding text_of
-text_ends c = refl
+text_ends c payload = ap (λ (text : List ℕ). cast_kind ∷ text) (sym (append_assoc (flat_map spelling (cast_numbers c)) (spelling (length payload)) payload))

@@ -20,7 +20,7 @@ use Rattle.cb_history.specs.Facts.{EntryFields, Fact, OwnCast, OwnStatus, CastEn
 use Rattle.cb_history.specs.Answers.{is_new_status, next_cast, requests, status_of, tick_answer}
 use Rattle.cb_history.specs.Legal.{ToCast, ToTick, cast_entry, room_for_one, tick_entry}
 use Rattle.cb_history.specs.State.{answer_to_cast, answer_to_tick, entry_by, facts_in, next_in}
-use Rattle.cb_frames.proofs.Carried.{first_is_number, carries_one, load_has_some}
+use Rattle.cb_frames.proofs.Carried.{first_is_number, carries_one, one_has_some}
 use Rattle.cb_history.proofs.ReadBack.{cast_read, status_read}
 use Rattle.cb_history.proofs.Requests.{own_frames_have_texts}
 use Rattle.cb_history.proofs.Written.{cast_can}
@@ -32,7 +32,7 @@ use Rattle.cb_member.specs.CoreMember.{Core, GoesOn, IsCore, OnEach, StandsFor, 
 use Rattle.cb_member.specs.State.{Keeps, OnAll}
 use Rattle.cb_member.specs.Telling.{HasReported}
 use Rattle.cb_member.proofs.Cores.{Grows, core_goes_on, facts_follow, facts_stand, goes_on_none, keeps_of, one_is_left, stands_then}
-use Rattle.cb_member.proofs.Judging.{casts_next, left_for}
+use Rattle.cb_member.proofs.Judging.{casts_next, left_for, one_keeps}
 use Rattle.cb_member.proofs.Recording.{counts_long, is_ok_of}
 
 -- ---- casts that are refused
@@ -64,7 +64,7 @@ can_keep old mid load casting is can makes block =
     let made = makes (facts_of is.entries) are keeps in
     subst (λ (state : State). CanKeepCast casting.message.time casting.sent state) (sym block) (record {
       state_is = record { facts = facts_of is.entries; legal = are; keeps = with_block old mid block (facts_of is.entries) keeps };
-      room = omega (arith, can.room, load_has_some load);
+      room = omega (arith, can.room, one_has_some load can.one);
       size = ap (λ (m : Message). length m.time) made.message ∙ counts_long old.seat.group.size _;
     })
 
@@ -89,8 +89,8 @@ module _ (load : Load) (old mid new : State) (casting : Casting) (frame : List �
     grows : Grows (core_of old) es (ToCast load) (CastEntry (next_text old.seat (facts_of es) load)) (OwnCast (next_cast old.seat (facts_of es) load))
     grows =
         let are = facts_stand old es s in
-        let written = cast_can old.seat (facts_of es) load are.group are.member are.facts_are (left_for old (facts_of es) load are (keeps_of old es s) c.can) c.can.short in
-        record { stands = s; bytes = c.bytes; by_call = ap cast_entry answer; says = ap cast_said (cast_read (next_cast old.seat (facts_of es) load) written) }
+        let written = cast_can old.seat (facts_of es) load are.group are.member are.facts_are (one_keeps _ load c.can.one) (left_for old (facts_of es) load are (keeps_of old es s) c.can) c.can.short in
+        record { stands = s; bytes = c.bytes; by_call = ap cast_entry answer; says = ap cast_said (cast_read (next_cast old.seat (facts_of es) load) c.can.one written) }
 
     kept : HasKept casting.message.time casting.sent (record old { block = mid.block }) new
     kept = subst (λ (state : State). HasKept casting.message.time casting.sent state new) c.block c.keeps
@@ -116,7 +116,7 @@ module _ (load : Load) (old mid new : State) (casting : Casting) (frame : List �
     core = core_goes_on (ToCast load) (core_of old) (core_of new) c.core goes_on;
     casts = record {
       goes_on = goes_on;
-      done = λ es s. record { answer = answer es s; reported = rw (ap (λ (m : Message). m.name) (made es s).message, time es s, (made es s).out, first_is_number (next_cast old.seat (facts_of es) load), carries_one (next_cast old.seat (facts_of es) load)) refl; after = refl };
+      done = λ es s. record { answer = answer es s; reported = rw (ap (λ (m : Message). m.name) (made es s).message, time es s, (made es s).out, first_is_number (next_cast old.seat (facts_of es) load), carries_one (next_cast old.seat (facts_of es) load) c.can.one) refl; after = refl };
       entry = λ es s. ap cast_entry (answer es s) ∙ ap (λ (text : List ℕ). Some (CastEntry text)) (sym (made es s).out ∙ sym c.copied);
     };
     refused = tt;

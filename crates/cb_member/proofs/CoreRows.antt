@@ -4,7 +4,7 @@ use Rattle.cb_varint.specs.Reading.{number_at, spelling}
 use Rattle.cb_frames.specs.declared.fault.FrameFault.TheVariants as faults
 use Rattle.cb_frames.specs.Fields.{One, messages_of, first_number, last_number}
 use Rattle.cb_frames.specs.Text.{text_of}
-use Rattle.cb_frames.specs.Reading.{frame_at, cast_at, status_at, request_at, pairs_at, pair_at}
+use Rattle.cb_frames.specs.Reading.{frame_at, head_at, cast_at, status_at, request_at, pairs_at, pair_at}
 use Rattle.cb_history.specs.declared.answer.ArriveRefusal.TheVariants as arrivals
 use Rattle.cb_history.specs.declared.answer.CastDone.{CastDone}
 use Rattle.cb_history.specs.declared.answer.CastRefusal.TheVariants as casts
@@ -33,11 +33,11 @@ cast_and_delivery : (done : CastDone) (received : Received) (messages : List Mes
     (Cast (One (104 ∷ 105 ∷ [])) (Err casts.NoMemory) ∷ Cast (One (104 ∷ 105 ∷ [])) (Ok done) ∷ Take (17 ∷ []) (Err (arrivals.Malformed faults.Short)) [] ∷ Take yo (Ok received) messages
     ∷ Tick (Err ticks.NoMemory) ∷ Tick (Ok ticked) ∷ [])
     ≡ CastEntry hi ∷ ArriveEntry yo (record { sender = 1; number = 1 } ∷ []) ∷ TickEntry (18 ∷ 7 ∷ 0 ∷ 2 ∷ 0 ∷ 1 ∷ 0 ∷ 1 ∷ []) ∷ []
-unfolding cast_answer arrive_answer tick_answer view drained frame_at cast_at status_at request_at pairs_at pair_at number_at text_of spelling messages_of first_number last_number
+unfolding cast_answer arrive_answer tick_answer view drained frame_at head_at cast_at status_at request_at pairs_at pair_at number_at text_of spelling messages_of first_number last_number
 cast_and_delivery done received messages ticked = refl
 
 -- nor do a repeat and a status that says what the last one said
 repeats : (done : CastDone) (received : Received) (messages : List Message) (ticked : Ticked) → history_after_all first []
     (Cast (One (104 ∷ 105 ∷ [])) (Ok done) ∷ Take hi (Ok received) messages ∷ Tick (Ok ticked) ∷ Tick (Ok ticked) ∷ []) ≡ CastEntry hi ∷ TickEntry (18 ∷ 7 ∷ 0 ∷ 1 ∷ 0 ∷ 1 ∷ []) ∷ []
-unfolding cast_answer arrive_answer tick_answer view drained frame_at cast_at status_at request_at pairs_at pair_at number_at text_of spelling messages_of first_number last_number
+unfolding cast_answer arrive_answer tick_answer view drained frame_at head_at cast_at status_at request_at pairs_at pair_at number_at text_of spelling messages_of first_number last_number
 repeats done received messages ticked = refl

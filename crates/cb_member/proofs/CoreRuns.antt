@@ -3,16 +3,15 @@ use Rattle.std.proofs.Common.{◌≡◌, ◌⊎◌, true, List, [], length, Resu
 use Rattle.std.specs.Prelude.{IsOk, is_ok}
 use Rattle.std.proofs.lemmas.Bool.{both_ways}
 use Rattle.cb_frames.specs.declared.frame.TheConstants.{LAST_NUMBER}
-use Rattle.cb_frames.specs.Fields.{Load, payloads_of, CastFields}
-use Rattle.cb_frames.proofs.Carried.{load_has_some}
+use Rattle.cb_frames.specs.Fields.{Load, One, Many, CastFields}
 use Rattle.cb_times.specs.Order.{field}
 use Rattle.cb_history.specs.declared.answer.CastDone.{CastDone}
 use Rattle.cb_history.specs.declared.answer.CastRefusal.{CastRefusal}
 use Rattle.cb_history.specs.declared.answer.CastRefusal.TheVariants as casts
-use Rattle.cb_history.specs.CastFault.{CastFault, WindowFull, TellsFaultOf}
+use Rattle.cb_history.specs.CastFault.{CastFault, BurstTooLong, WindowFull, TellsFaultOf}
 use Rattle.cb_history.specs.Group.{Identity}
 use Rattle.cb_history.specs.Facts.{EntryFields, facts_of}
-use Rattle.cb_history.specs.Answers.{delivered, is_too_many}
+use Rattle.cb_history.specs.Answers.{delivered, is_window_full}
 use Rattle.cb_history.specs.Legal.{AreEntriesOf, room_for_one}
 use Rattle.cb_history.specs.State.{answer_to_cast}
 use Rattle.cb_history.proofs.Counts.{no_number_is_full}
@@ -20,7 +19,7 @@ use Rattle.cb_member.specs.CoreMember.{Core, StandsFor, unlimited}
 use Rattle.cb_member.specs.CoreRuns.{AnsweredCall, AreAnswered, Calls, Cast, CoresAnswerByTheirHistory, GoesOnOrStays, IsAnswered, NoCall, NoNumberIsLeft, OneCall, Take, Tick, history_after_all, history_with}
 use Rattle.cb_member.proofs.Casting.{own_delivered}
 use Rattle.cb_member.proofs.Cores.{facts_stand}
-use Rattle.cb_member.proofs.Judging.{window_full}
+use Rattle.cb_member.proofs.Judging.{no_burst, window_full}
 
 -- ---- calls one after another
 
@@ -55,9 +54,8 @@ cores_answer calls first last new all = answer_all calls first last [] new all
 
 -- ---- the last number
 
-full_at_last : (seat : Identity) (entries : List EntryFields) (load : Load) → delivered seat (facts_of entries) seat.me ≡ LAST_NUMBER
-    → is_too_many seat (facts_of entries) (length (payloads_of load)) ≡ true
-full_at_last seat entries load last = no_number_is_full seat (facts_of entries) (length (payloads_of load)) (omega (arith, last, load_has_some load))
+full_at_last : (seat : Identity) (entries : List EntryFields) → delivered seat (facts_of entries) seat.me ≡ LAST_NUMBER → is_window_full seat (facts_of entries) ≡ true
+full_at_last seat entries last = no_number_is_full seat (facts_of entries) 1 (omega (arith, last))
 
 counted : (entries : List EntryFields) (core : Core) → StandsFor entries core → field core.time core.seat.me ≡ LAST_NUMBER → delivered core.seat (facts_of entries) core.seat.me ≡ LAST_NUMBER
 counted entries core s last =
@@ -75,12 +73,30 @@ refused_so answer refusal full (inr memory) = absurd (both_ways (is_ok answer) (
 not_both : (answer : Result CastFields CastFault) (c : CastFields) → answer ≡ Err WindowFull → answer ≡ Ok c → ⊥
 not_both answer c full is = let both = sym full ∙ is in cc
 
+-- and a burst has no answer that a call gives
+not_told : (answer : Result CastFields CastFault) (refusal : CastRefusal) → answer ≡ Err BurstTooLong → (TellsFaultOf refusal answer ⊎ ((refusal ≡ casts.NoMemory) × IsOk answer)) → ⊥
+not_told answer casts.PayloadTooLong burst (inl says) = let same = sym burst ∙ says in cc
+not_told answer casts.WindowFull burst (inl says) = let same = sym burst ∙ says in cc
+not_told answer casts.HistoryFull burst (inl says) = let same = sym burst ∙ says in cc
+not_told answer casts.NoMemory burst (inl says) = absurd says
+not_told answer refusal burst (inr memory) = absurd (both_ways (is_ok answer) (ap is_ok burst) memory.1)
+
+by_fault : (seat : Identity) (entries : List EntryFields) (payload : List ℕ) (r : Result CastDone CastRefusal) → answer_to_cast (unlimited seat entries) (One payload) ≡ Err WindowFull
+    → IsAnswered (unlimited seat entries) (Cast (One payload) r) → r ≡ Err casts.WindowFull
+by_fault seat entries payload (Ok done) full says = absurd (not_both (answer_to_cast (unlimited seat entries) (One payload)) _ full says.answer)
+by_fault seat entries payload (Err refusal) full says =
+    ap (λ (x : CastRefusal). let r : Result CastDone CastRefusal = Err x in r) (refused_so (answer_to_cast (unlimited seat entries) (One payload)) refusal full says)
+
+never_answered : (seat : Identity) (entries : List EntryFields) (payloads : List (List ℕ)) (r : Result CastDone CastRefusal) → IsAnswered (unlimited seat entries) (Cast (Many payloads) r) → ⊥
+never_answered seat entries payloads (Ok done) says =
+    let burst = no_burst seat (room_for_one entries) entries payloads in
+    let both = sym burst ∙ says.answer in cc
+never_answered seat entries payloads (Err refusal) says =
+    not_told (answer_to_cast (unlimited seat entries) (Many payloads)) refusal (no_burst seat (room_for_one entries) entries payloads) says
+
 pub no_number_is_left : NoNumberIsLeft
-no_number_is_left load result old new is last short call =
+no_number_is_left (One payload) result old new is last short call =
     let s = is.stands in
-    let full = window_full old.seat (room_for_one is.entries) is.entries load short (full_at_last old.seat is.entries load (counted is.entries old s last)) in
-    by_result result full (call.answered is.entries s)
-  where
-    by_result : (r : Result CastDone CastRefusal) → answer_to_cast (unlimited old.seat is.entries) load ≡ Err WindowFull → IsAnswered (unlimited old.seat is.entries) (Cast load r) → r ≡ Err casts.WindowFull
-    by_result (Ok done) full says = absurd (not_both (answer_to_cast (unlimited old.seat is.entries) load) _ full says.answer)
-    by_result (Err refusal) full says = ap (λ (x : CastRefusal). let r : Result CastDone CastRefusal = Err x in r) (refused_so (answer_to_cast (unlimited old.seat is.entries) load) refusal full says)
+    let full = window_full old.seat (room_for_one is.entries) is.entries payload short (full_at_last old.seat is.entries (counted is.entries old s last)) in
+    by_fault old.seat is.entries payload result full (call.answered is.entries s)
+no_number_is_left (Many payloads) result old new is last short call = absurd (never_answered old.seat is.entries payloads result (call.answered is.entries is.stands))

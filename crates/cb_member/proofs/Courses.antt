@@ -3,6 +3,7 @@ use Rattle.std.proofs.Common.{◌≡◌, ℕ, ◌+◌, ◌<◌, List, length, No
 use Rattle.std.specs.FinMap as fin
 use Rattle.std.proofs.lemmas.List.{length-map}
 use Rattle.cb_frames.specs.Fields.{CastFields, first_number, last_number}
+use Rattle.cb_frames.proofs.Carried.{last_is_first}
 use Rattle.cb_diffs.specs.Expansion.{IsGrown, IsNext, time_of}
 use Rattle.cb_gaps.specs.Buffer.{Buffer, IsInOrder as ComesNext, WouldComeOut}
 use Rattle.cb_gaps.proofs.Passing.{is_not_kept}
@@ -62,8 +63,9 @@ holds_so_many c state more count would is facts are keeps = let expands = would 
 
 -- alone it comes out, and carries one message
 comes_out_alone : (c : CastFields) (b : Buffer) → IsSingle c → ComesNext b (first_number c) → WouldComeOut b (first_number c) (last_number c) 1
-comes_out_alone c b one comes =
+comes_out_alone c b single comes =
     let next = comes.follows in
+    let one = last_is_first c single in
     record {
       begins = omega arith;
       each = λ k low high. inr (omega (arith, next, low), omega (arith, next, one, high));

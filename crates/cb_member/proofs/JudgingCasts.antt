@@ -11,13 +11,13 @@ use Rattle.cb_gaps.specs.declared.buffer.Admission.{Admission}
 use Rattle.cb_gaps.specs.declared.buffer.Admission.TheVariants.{Kept, Repeat, TooFar}
 use Rattle.cb_gaps.specs.Buffer.{Buffer, Admits, IsLacking, IsReceived, AreLacking, AreReceived}
 use Rattle.cb_history.specs.declared.answer.ArriveRefusal.TheVariants as arrivals
-use Rattle.cb_frames.proofs.Carried.{carried_is_of_cast, carries_some, first_is_carried}
+use Rattle.cb_frames.proofs.Carried.{carried_is_of_cast, carries_some, first_is_carried, one_has_some}
 use Rattle.cb_history.specs.Group.{Identity}
 use Rattle.cb_history.specs.Facts.{Fact, CastReceived, casts_in, is_there}
 use Rattle.cb_history.specs.Answers.{are_members, delivered}
 use Rattle.cb_history.specs.Answers as says
 use Rattle.cb_history.specs.LegalFacts.{AreFactsOf, OneFactMore}
-use Rattle.cb_history.specs.Singles.{singles_in}
+use Rattle.cb_history.specs.Singles.{IsSingle, singles_in}
 use Rattle.cb_history.proofs.Buffers.{received_is_there}
 use Rattle.cb_history.proofs.Lists.{all_of, each_of}
 use Rattle.cb_history.proofs.Runs.{expanded_are_there, delivered_is_expanded}
@@ -41,15 +41,15 @@ all_there facts c each = all_of (λ m. is_there (casts_in facts) m.sender m.numb
     ap (λ (i : ℕ). is_there (casts_in facts) i m.number) of.sender_is ∙ each m.number of.low of.high)
 
 -- and one whose first message is not is none
-first_not_there : (facts : List Fact) (c : CastFields) → is_there (casts_in facts) c.sender (first_number c) ≡ false → says.is_repeat facts (CastFrame c) ≡ false
-first_not_there facts c absent = false_from_ne_true (says.is_repeat facts (CastFrame c)) (λ repeat.
-    let m = first_is_carried c in
+first_not_there : (facts : List Fact) (c : CastFields) → IsSingle c → is_there (casts_in facts) c.sender (first_number c) ≡ false → says.is_repeat facts (CastFrame c) ≡ false
+first_not_there facts c single absent = false_from_ne_true (says.is_repeat facts (CastFrame c)) (λ repeat.
+    let m = first_is_carried c (one_has_some c.load single) in
     let there = each_of (λ x. is_there (casts_in facts) x.sender x.number) (messages_of c) m.found repeat m.there in
     let here : is_there (casts_in facts) m.found.sender m.found.number ≡ is_there (casts_in facts) c.sender (first_number c) =
     ap (λ (i : ℕ). is_there (casts_in facts) i m.found.number) m.sender_is ∙ ap (is_there (casts_in facts) c.sender) m.number_is in
     both_ways (is_there (casts_in facts) c.sender (first_number c)) absent (sym here ∙ there))
 
-module _ (state : State) (c : CastFields) (numbered : 1 ≤ first_number c) (group : c.group ≡ state.seat.group.number) (members : are_members state.seat.group.size (CastFrame c) ≡ true) where
+module _ (state : State) (c : CastFields) (single : IsSingle c) (numbered : 1 ≤ first_number c) (group : c.group ≡ state.seat.group.number) (members : are_members state.seat.group.size (CastFrame c) ≡ true) where
   abbrev seat : Identity
   seat = state.seat
 
@@ -86,11 +86,11 @@ module _ (state : State) (c : CastFields) (numbered : 1 ≤ first_number c) (gro
       there_is received = all_there facts c (λ n low high. sym (there_too n) ∙ (received_by n low).0 (received n low high))
 
       not_there : AreLacking b (first_number c) (last_number c) → says.is_repeat facts (CastFrame c) ≡ false
-      not_there none = first_not_there facts c (false_from_ne_true (is_there (casts_in facts) c.sender (first_number c)) (λ there.
+      not_there none = first_not_there facts c single (false_from_ne_true (is_there (casts_in facts) c.sender (first_number c)) (λ there.
           lacks ((received_by (first_number c) (omega arith)).1 (there_too (first_number c) ∙ there))))
         where
           lacking : IsLacking b (first_number c)
-          lacking = none (first_number c) (omega arith) (carries_some c)
+          lacking = none (first_number c) (omega arith) (carries_some c (one_has_some c.load single))
 
           lacks : IsReceived b (first_number c) → ⊥
           lacks (inl taken) = omega (arith, taken, lacking.not_taken)
@@ -113,6 +113,7 @@ module _ (state : State) (c : CastFields) (numbered : 1 ≤ first_number c) (gro
           group = are.group;
           member = are.member;
           facts_are = OneFactMore facts (CastReceived c) are.facts_are (record {
+            one = single;
             numbered = numbered;
             taken = record {
               numbers = small;

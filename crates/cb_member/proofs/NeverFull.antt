@@ -17,10 +17,10 @@ use Rattle.cb_history.specs.declared.answer.TickRefusal.{TickRefusal}
 use Rattle.cb_history.specs.declared.answer.TickRefusal.TheVariants as ticks
 use Rattle.cb_history.specs.declared.answer.Ticked.{Ticked}
 use Rattle.cb_history.specs.declared.history.Entry.{Entry}
-use Rattle.cb_history.specs.CastFault.{CastFault, PayloadTooLong, WindowFull, HistoryFull}
+use Rattle.cb_history.specs.CastFault.{CastFault, BurstTooLong, PayloadTooLong, WindowFull, HistoryFull}
 use Rattle.cb_history.specs.Group.{Identity}
 use Rattle.cb_history.specs.Facts.{EntryFields, facts_of}
-use Rattle.cb_history.specs.Answers.{ArrivalSays, Accepted, Repeat, answer_to, are_members, arrive_answer, cast_answer, deliveries, group_of, is_change, is_full, is_impossible, is_new_status, is_repeat, is_too_far, is_too_many, next_cast, sent_in_answer, tick_answer}
+use Rattle.cb_history.specs.Answers.{ArrivalSays, Accepted, Repeat, answer_to, are_members, arrive_answer, cast_answer, deliveries, group_of, is_burst, is_change, is_full, is_impossible, is_new_status, is_repeat, is_too_far, is_too_many, next_cast, sent_in_answer, tick_answer}
 use Rattle.cb_history.specs.Legal.{room_for_one}
 use Rattle.cb_history.specs.State.{RefusesArrival, RefusesTick}
 use Rattle.cb_member.specs.Casting.{RefusesExactly}
@@ -34,17 +34,18 @@ not_full es = lt-leb (room_for_one es) (length es) (one_is_left es)
 
 -- ---- casts
 
-by_cast_rules : (long window full : Bool) (c : CastFields) → full ≡ false
-    → (let r : Result CastFields CastFault = if long then Err PayloadTooLong else if window then Err WindowFull else if full then Err HistoryFull else Ok c in r) ≢ Err HistoryFull
-by_cast_rules true window full c off says = absurd cc
-by_cast_rules false true full c off says = absurd cc
-by_cast_rules false false true c off says = absurd cc
-by_cast_rules false false false c off says = absurd cc
+by_cast_rules : (burst long window full : Bool) (c : CastFields) → full ≡ false
+    → (let r : Result CastFields CastFault = if burst then Err BurstTooLong else if long then Err PayloadTooLong else if window then Err WindowFull else if full then Err HistoryFull else Ok c in r) ≢ Err HistoryFull
+by_cast_rules true long window full c off says = absurd cc
+by_cast_rules false true window full c off says = absurd cc
+by_cast_rules false false true full c off says = absurd cc
+by_cast_rules false false false true c off says = absurd cc
+by_cast_rules false false false false c off says = absurd cc
 
 cast_answer_not_full : (seat : Identity) (es : List EntryFields) (load : Load) → cast_answer seat (room_for_one es) es load ≢ Err HistoryFull
 unfolding cast_answer
 cast_answer_not_full seat es load says =
-    by_cast_rules (nat_lt LONGEST_PAYLOAD (length (load_bytes load))) (is_too_many seat (facts_of es) (length (payloads_of load))) (is_full (room_for_one es) es) (next_cast seat (facts_of es) load) (not_full es) says
+    by_cast_rules (is_burst load) (nat_lt LONGEST_PAYLOAD (length (load_bytes load))) (is_too_many seat (facts_of es) (length (payloads_of load))) (is_full (room_for_one es) es) (next_cast seat (facts_of es) load) (not_full es) says
 
 not_refused_full : (seat : Identity) (es : List EntryFields) (load : Load) → RefusesExactly (unlimited seat es) load casts.HistoryFull → ⊥
 not_refused_full seat es load (inl says) = cast_answer_not_full seat es load says

@@ -22,6 +22,7 @@ use Rattle.cb_history.proofs.Runs.{others_expand_nothing}
 use Rattle.cb_history.proofs.Expanders.{kept_times_stay}
 use Rattle.cb_history.proofs.RisingByCasts.{own_cast_tells_nothing}
 use Rattle.cb_history.proofs.Keeping.{put_is_own_cast}
+use Rattle.cb_history.proofs.Prefixes.{last_fact_is_a_step}
 use Rattle.cb_history.proofs.Statuses.{last_status_with_one_more}
 use Rattle.cb_member.specs.declared.delivery.Delivery.{Delivery}
 use Rattle.cb_member.specs.declared.reception.Reception.{Reception}
@@ -101,7 +102,7 @@ sent_with_cast seat facts load time s window are has at put =
     let c = next_cast seat facts load in
     record {
       window = put_is_own_cast seat facts c s.window window are has.window
-          (subst (λ (n : ℕ). Puts s.window window n (next_text seat facts load)) (sym (ap length (carries_one c))) put);
+          (subst (λ (n : ℕ). Puts s.window window n (next_text seat facts load)) (sym (ap length (carries_one c (last_fact_is_a_step seat facts (OwnCast c) are).one))) put);
       last_cast = at ∙ time_with_cast seat facts load ∙ ap (time_of seat.group.size) (sym (upto_own facts c));
       fields = has.fields;
       reported = still_reported seat facts (with_cast seat facts load) s.has_reported s.last_reported (last_status_with_one_more facts (OwnCast c) None) has.reported;

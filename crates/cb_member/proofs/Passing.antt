@@ -9,7 +9,7 @@ use Rattle.std.proofs.lemmas.List.Elements.{All-nil, All-cons}
 use Rattle.std.proofs.lemmas.Option.{slice_get_within}
 use Rattle.cb_times.specs.Order.{field}
 use Rattle.cb_frames.specs.Fields.{CastFields, first_number, last_number}
-use Rattle.cb_frames.proofs.Carried.{carried_up_to_the_last, carries_some}
+use Rattle.cb_frames.proofs.Carried.{carried_up_to_the_last, carries_some, last_is_first, one_has_some}
 use Rattle.cb_delay.specs.declared.message.Message.{Message}
 use Rattle.cb_delay.specs.Rule.{IsReady}
 use Rattle.cb_diffs.specs.Expansion.{IsNext as IsNextCast}
@@ -23,9 +23,9 @@ use Rattle.cb_history.specs.LegalFacts.{AreFactsOf}
 use Rattle.cb_history.specs.Singles.{IsSingle, singles_of, singles_in}
 use Rattle.cb_history.proofs.Buffers.{all_is_taken}
 use Rattle.cb_history.proofs.Delivering.{in_field, past_fields}
-use Rattle.cb_history.proofs.Prefixes.{prefix_of_facts_is_legal}
+use Rattle.cb_history.proofs.Prefixes.{last_fact_is_a_step, prefix_of_facts_is_legal}
 use Rattle.cb_history.proofs.RisingByCasts.{delivered_is_known}
-use Rattle.cb_history.proofs.Singles.{singles_are_the_same, singles_of_singles}
+use Rattle.cb_history.proofs.Singles.{singles_are_the_same, singles_of_one_message}
 use Rattle.cb_member.specs.declared.delivery.Delivery.{Delivery}
 use Rattle.cb_member.specs.declared.knowledge.Knowledge.{Knowledge}
 use Rattle.cb_member.specs.declared.reception.Reception.{Reception}
@@ -66,12 +66,12 @@ just_one v spare = record { ptr = v.ptr; len = 1; cap = 1; alloc = v.alloc; item
 
 -- it is its own single
 own_single : (c : CastFields) → IsSingle c → singles_of c ≡ c ∷ []
-own_single c single = sym (append-nil (singles_of c)) ∙ singles_of_singles (c ∷ []) (single, tt)
+own_single c single = singles_of_one_message c single
 
 -- and wants one spare
 one_spare : (c : CastFields) (size : ℕ) (spare : List ℕ) → IsSingle c → length spare ≡ size → AreSparesFor c size (spare ∷ [])
 one_spare c size spare single long = record {
-  many = omega (arith, single, carried_up_to_the_last c);
+  many = omega (arith, last_is_first c single, carried_up_to_the_last c (one_has_some c.load single));
   sizes = All-cons (λ time. length time ≡ size) spare [] long (All-nil (λ (time : List ℕ). length time ≡ size));
 }
 
@@ -138,7 +138,7 @@ module _ (c : CastFields) (old : Reception) (can : CanTakeInOrder c old) where
   gives_it = record {
     at = at_written old.buffers.items c.sender full within;
     next = passing_is_next can.in_order.buffer c can.in_order.in_order;
-    takes = passing_takes can.in_order.buffer c can.in_order.in_order;
+    takes = passing_takes can.in_order.buffer c can.in_order.in_order can.single;
   }
 
   received : HasReceived can.seat (can.facts ++ CastReceived c ∷ []) (expanded_count (casts_in can.facts)) between
@@ -284,10 +284,11 @@ module _ (c : CastFields) (old : State) (known_then : Knowledge) (time : List �
       let value = max (field old.knowledge.known c.sender) (last_number c) in
       elim (cases_eq i c.sender) [
         | inl e ↦
+            let step = last_fact_is_a_step old.seat can.facts (CastReceived c) can.legal in
             let here : field known_then.known i ≡ value =
             ap (field known_then.known) e ∙ ap (λ (ns : List ℕ). field ns c.sender) hears.known ∙ get_or-set_same old.knowledge.known c.sender value 0 (sender_is_heard_of c old can) in
             let says : field time i ≡ first_number c = ap (field time) e ∙ own in
-            omega (arith, here, says, carries_some c)
+            omega (arith, here, says, carries_some c (one_has_some c.load step.one))
         | inr ne ↦
             let there : field known_then.known i ≡ field old.knowledge.known i = ap (λ (ns : List ℕ). field ns i) hears.known ∙ get_or-set_other old.knowledge.known c.sender i value 0 ne in
             let upto = upto_known i not_me ne in

@@ -12,13 +12,13 @@ use Rattle.std.proofs.lemmas.Bool.{cases_eq, eq-eqb, ne_eqb}
 use Rattle.std.proofs.lemmas.List.{append-nil, length-map, length-set, set-get_or, get_or-set_same, get_or-set_other}
 use Rattle.std.proofs.lemmas.List.Elements.{All-append, All-pop}
 use Rattle.std.proofs.lemmas.Option.{slice_get_within, slice_get-get_or, slice_get-map, slice_get_read, get_or_from_slice_get}
-use Rattle.cb_frames.specs.Fields.{load_bytes, CastFields, Carried, messages_of, first_number, last_number}
+use Rattle.cb_frames.specs.Fields.{IsSome, load_bytes, CastFields, Carried, messages_of, first_number, last_number}
 use Rattle.cb_delay.specs.declared.message.Message.{Message}
 use Rattle.cb_diffs.specs.Expansion.{expanded_time, IsNext as IsNextCast}
 use Rattle.cb_gaps.specs.declared.buffer.Admission.{Admission}
 use Rattle.cb_gaps.specs.declared.buffer.Admission.TheVariants.{Kept, Repeat, TooFar}
 use Rattle.cb_gaps.specs.Buffer.{Buffer, Admits, IsAnswer, IsAfter, IsLacking, AreLacking, IsNext, Takes}
-use Rattle.cb_frames.proofs.Carried.{carried_up_to_the_last, carries_one, carries_some, first_is_number}
+use Rattle.cb_frames.proofs.Carried.{carried_up_to_the_last, carries_one, carries_some, first_is_number, last_is_first, one_has_some}
 use Rattle.cb_history.specs.Group.{Identity}
 use Rattle.cb_history.specs.Facts.{Fact, OwnCast, CastReceived, StatusReceived, OwnStatus, cast_in, casts_in, messages_in}
 use Rattle.cb_history.specs.Known.{expanded_count}
@@ -29,6 +29,7 @@ use Rattle.cb_history.specs.ExpanderLaws.{KeepsTimeOf}
 use Rattle.cb_history.specs.Singles.{IsSingle, singles_of, singles_among, singles_in}
 use Rattle.cb_history.proofs.Views.{IsIn}
 use Rattle.cb_history.proofs.Lists.{carried_there}
+use Rattle.cb_history.proofs.Prefixes.{last_fact_is_a_step}
 use Rattle.cb_history.proofs.Names.{own_messages_are_own, in_is_one_of}
 use Rattle.cb_history.proofs.Runs.{expanded_up_to_the_count}
 use Rattle.cb_history.proofs.Buffers.{cast_of_is_in, none_begins, kept_single_waits, kept_singles_wait, lacks_still, other_singles_do_not_wait, taken_cast_is_there, all_is_taken}
@@ -101,16 +102,16 @@ received_from_other me (CastReceived d ∷ facts) c h = received_from_other me f
 received_from_other me (StatusReceived s ∷ facts) c h = received_from_other me facts c h
 received_from_other me (OwnStatus s ∷ facts) c h = received_from_other me facts c h
 
-still_kept : (b : Buffer) (delivered : ℕ) (c : CastFields) (answer : Admission) (after : Buffer) → Admits b delivered (first_number c) (last_number c) Kept → IsAnswer b delivered c answer → IsAfter b c answer after → IsAfter b c Kept after
-still_kept b delivered c Kept after kept answered is = is
-still_kept b delivered c Repeat after kept answered is =
-    let lacking = kept.0 (first_number c) (omega arith) (carries_some c) in
+still_kept : (b : Buffer) (delivered : ℕ) (c : CastFields) (answer : Admission) (after : Buffer) → IsSome c.load → Admits b delivered (first_number c) (last_number c) Kept → IsAnswer b delivered c answer → IsAfter b c answer after → IsAfter b c Kept after
+still_kept b delivered c Kept after some kept answered is = is
+still_kept b delivered c Repeat after some kept answered is =
+    let lacking = kept.0 (first_number c) (omega arith) (carries_some c some) in
     let above = lacking.not_taken in
-    elim (answered (first_number c) (omega arith) (carries_some c)) [
+    elim (answered (first_number c) (omega arith) (carries_some c some)) [
       | inl le ↦ absurd (omega (arith, above, le))
       | inr there ↦ absurd (lacking.not_kept there)
     ]
-still_kept b delivered c TooFar after kept answered is =
+still_kept b delivered c TooFar after some kept answered is =
     let near = kept.1 in
     let far = answered.1 in
     absurd (omega (arith, near, far))
@@ -134,7 +135,7 @@ kept_more casts i n (c ∷ singles) old new h numbered single lacks kept =
     let mid = kept.0 in
     let lacking = lacks (first_number c) (omega (arith, begins)) (omega (arith, begins)) in
     let waits = kept_single_waits casts i c old mid h numbered.0 alone lacking kept.1 in
-    let rest : NumberedFrom i (n + 1) singles = subst (λ (k : ℕ). NumberedFrom i (k + 1) singles) (alone ∙ begins) numbered.2 in
+    let rest : NumberedFrom i (n + 1) singles = subst (λ (k : ℕ). NumberedFrom i (k + 1) singles) (last_is_first c alone ∙ begins) numbered.2 in
     let one = kept_one_more old mid c (none_begins casts i (first_number c) old (map.get old.kept (first_number c)) h lacking refl) kept.1 in
     let more = kept_more (casts ++ c ∷ []) i (n + 1) singles mid new waits rest single.1
     (λ number low high. lacks_still number c old mid alone kept.1 (omega (arith, low, begins)) (lacks number (omega (arith, low)) (omega (arith, high)))) kept.2 in
@@ -148,15 +149,15 @@ kept_leave (c ∷ singles) old new kept =
     (rest.0 ∙ ap (λ (b : Buffer). b.taken) kept.1, rest.1 ∙ ap (λ (b : Buffer). b.window) kept.1)
 
 -- a buffer that lacks a cast and has it in its window can keep its singles
-pub can_keep_in_turn : (delivered : ℕ) (c : CastFields) (r : Reception) (b : Buffer) → CanKeep delivered c r → slice_get r.buffers.items c.sender ≡ Some b → CanKeepInTurn delivered (singles_of c) b
-can_keep_in_turn delivered c r b can at = subst (CanKeepInTurn delivered (singles_of c)) (one_buffer can.buffer b (sym can.at ∙ at)) (record {
+pub can_keep_in_turn : (delivered : ℕ) (c : CastFields) (r : Reception) (b : Buffer) → IsSome c.load → CanKeep delivered c r → slice_get r.buffers.items c.sender ≡ Some b → CanKeepInTurn delivered (singles_of c) b
+can_keep_in_turn delivered c r b some can at = subst (CanKeepInTurn delivered (singles_of c)) (one_buffer can.buffer b (sym can.at ∙ at)) (record {
   sender = c.sender;
   first = first_number c;
   upto_taken = can.upto_taken;
   numbered = singles_are_numbered c;
   single = singles_of_one c;
-  lacking = λ number low high. can.is_kept.0 number low (omega (arith, high, singles_are_as_many c, carried_up_to_the_last c));
-  near = λ number low high. let near = can.is_kept.1 in omega (arith, near, high, singles_are_as_many c, carried_up_to_the_last c);
+  lacking = λ number low high. can.is_kept.0 number low (omega (arith, high, singles_are_as_many c, carried_up_to_the_last c some));
+  near = λ number low high. let near = can.is_kept.1 in omega (arith, near, high, singles_are_as_many c, carried_up_to_the_last c some);
 })
 
 -- and the others once it has kept the first of them
@@ -171,7 +172,7 @@ can_keep_on delivered c singles old new can after =
       sender = can.sender;
       first = can.first + 1;
       upto_taken = omega (arith, upto, taken);
-      numbered = subst (λ (k : ℕ). NumberedFrom can.sender (k + 1) singles) (alone ∙ begins) can.numbered.2;
+      numbered = subst (λ (k : ℕ). NumberedFrom can.sender (k + 1) singles) (last_is_first c alone ∙ begins) can.numbered.2;
       single = can.single.1;
       lacking = λ number low high. lacks_still number c old new alone after (omega (arith, low, begins)) (can.lacking number (omega (arith, low)) (omega (arith, high)));
       near = λ number low high. let near = can.near number (omega (arith, low)) (omega (arith, high)) in omega (arith, near, window);
@@ -181,8 +182,8 @@ can_keep_on delivered c singles old new can after =
 pub first_is_kept : (delivered : ℕ) (c : CastFields) (singles : List CastFields) (old new : Buffer) (answer : Admission) → CanKeepInTurn delivered (c ∷ singles) old → IsAnswer old delivered c answer → IsAfter old c answer new → IsAfter old c Kept new
 first_is_kept delivered c singles old new answer can answered after =
     let begins = can.numbered.1 in
-    let alone = can.single.0 in
-    still_kept old delivered c answer new (
+    let alone = last_is_first c can.single.0 in
+    still_kept old delivered c answer new (one_has_some c.load can.single.0) (
       (λ number low high. can.lacking number (omega (arith, low, begins)) (omega (arith, high, alone, begins))),
       can.near (last_number c) (omega (arith, alone, begins)) (omega (arith, alone, begins)),
     ) answered after
@@ -208,6 +209,9 @@ module _ (c : CastFields) (more : List (List ℕ)) (before after : Buffer) (stac
   now : singles_in (facts ++ CastReceived c ∷ []) ≡ singles ++ singles_of c
   now = singles_with_cast facts (CastReceived c) c refl
 
+  some : IsSome c.load
+  some = one_has_some c.load (last_fact_is_a_step seat facts (CastReceived c) are).one
+
   lacking : AreLacking before (first_number c) (last_number c)
   lacking = subst (λ (b : Buffer). AreLacking b (first_number c) (last_number c)) (one_buffer can.buffer before (sym can.at ∙ w.at)) can.is_kept.0
 
@@ -230,7 +234,7 @@ module _ (c : CastFields) (more : List (List ℕ)) (before after : Buffer) (stac
       let count = was.count in
       let many = for.many in
       let longer = kept_more singles c.sender (first_number c) (singles_of c) before after waits_before (singles_are_numbered c) (singles_of_one c)
-      (λ number low high. lacking number low (omega (arith, high, singles_are_as_many c, carried_up_to_the_last c))) w.kept in
+      (λ number low high. lacking number low (omega (arith, high, singles_are_as_many c, carried_up_to_the_last c some))) w.kept in
       let kept_now : map.len b.kept ≡ map.len after.kept = ap (λ (x : Buffer). map.len x.kept) here in
       let joined : length spares ≡ length stack + length more = ap length its ∙ length-append stack more in
       record {
@@ -275,15 +279,15 @@ module _ (c : CastFields) (more : List (List ℕ)) (before after : Buffer) (stac
 abbrev only_message : CastFields → Carried
 only_message c = record { sender = c.sender; number = first_number c; payload = load_bytes c.load }
 
-carries_only : (c : CastFields) → messages_of c ≡ only_message c ∷ []
-carries_only c = carries_one c ∙ ap (λ (n : ℕ). let m : Carried = record { sender = c.sender; number = n; payload = load_bytes c.load } in m ∷ []) (sym (first_is_number c))
+carries_only : (c : CastFields) → IsSingle c → messages_of c ≡ only_message c ∷ []
+carries_only c single = carries_one c single ∙ ap (λ (n : ℕ). let m : Carried = record { sender = c.sender; number = n; payload = load_bytes c.load } in m ∷ []) (sym (first_is_number c))
 
 -- is one of the messages that are there
 message_of_single : (casts : List CastFields) (c : CastFields) → IsCastOf c (singles_among casts) → IsOneOf (only_message c) (messages_in casts)
 message_of_single casts c there =
     let m = only_message c in
     in_is_one_of m (messages_in casts) (subst (IsIn m) (singles_are_the_same casts).messages
-    (carried_there (singles_among casts) c m (cast_of_is_in c (singles_among casts) there) (subst (IsIn m) (sym (carries_only c)) (inl refl))))
+    (carried_there (singles_among casts) c m (cast_of_is_in c (singles_among casts) there) (subst (IsIn m) (sym (carries_only c (single_among casts c (cast_of_is_in c (singles_among casts) there)))) (inl refl))))
 
 -- the buffer of the sender gives its next single
 pub record GivesNext (c : CastFields) (sender : ℕ) (before after : Buffer) (old : Reception) : Type 0 where
@@ -374,7 +378,7 @@ module _ (c : CastFields) (sender : ℕ) (before after : Buffer) (old : Receptio
     at_new i b at = set_at old.buffers.items sender i after b (ap (λ (bs : List Buffer). slice_get bs i) (sym t.buffers) ∙ at)
 
     more_here : (i : ℕ) → i ≡ sender → one_more taken sender i ≡ last_number c
-    more_here i e = rw (eq-eqb i sender e) (ap (λ (k : ℕ). taken k + 1) e ∙ sym (single ∙ behind))
+    more_here i e = rw (eq-eqb i sender e) (ap (λ (k : ℕ). taken k + 1) e ∙ sym (last_is_first c single ∙ behind))
 
     same_there : (i : ℕ) → i ≢ sender → one_more taken sender i ≡ taken i
     same_there i ne = rw (ne_eqb i sender ne) refl
@@ -392,7 +396,7 @@ module _ (c : CastFields) (sender : ℕ) (before after : Buffer) (old : Receptio
             let is : after.taken ≡ last_number c = ap (λ (b : Buffer). b.taken) g.takes in
             let at : expanded_count (casts_in facts) c.sender ≡ expanded_count all_singles sender =
             ap (expanded_count (casts_in facts)) found.1 ∙ sym ((singles_are_the_same (casts_in facts)).counts sender) in
-            omega (arith, upto, is, at, single));
+            omega (arith, upto, is, at, last_is_first c single));
         of_sender = found.1;
         next = behind;
       };

@@ -12,7 +12,7 @@ use Rattle.cb_delay.specs.declared.message.Event.TheVariants.{Cast}
 use Rattle.cb_delay.specs.declared.message.Message.{Message}
 use Rattle.cb_diffs.specs.Expansion.{expanded_time}
 use Rattle.cb_stability.specs.Sent.{room_of}
-use Rattle.cb_frames.proofs.Carried.{first_is_number, carries_one, load_has_some}
+use Rattle.cb_frames.proofs.Carried.{first_is_number, carries_one, one_has_some}
 use Rattle.cb_history.specs.declared.answer.CastRefusal.{CastRefusal}
 use Rattle.cb_history.specs.declared.answer.CastRefusal.TheVariants as casts
 use Rattle.cb_history.specs.declared.answer.TickRefusal.TheVariants as ticks
@@ -27,6 +27,7 @@ use Rattle.cb_history.specs.EventLaws.{new_events}
 use Rattle.cb_history.specs.Legal.{ToCast, ToTick, cast_entry, tick_entry}
 use Rattle.cb_history.specs.LegalFacts.{AreFactsOf}
 use Rattle.cb_history.specs.State.{HasTicked, RefusesTick, answer_to_cast, answer_to_tick, entry_by}
+use Rattle.cb_history.proofs.Prefixes.{last_fact_is_a_step}
 use Rattle.cb_history.proofs.ReadBack.{cast_read, status_read}
 use Rattle.cb_history.proofs.Requests.{own_frames_have_texts}
 use Rattle.cb_history.proofs.Times.{own_casts_tell_the_view}
@@ -43,9 +44,8 @@ use Rattle.cb_member.specs.Entering.{CanEnterCast, IsCastDone, Tells}
 use Rattle.cb_member.specs.Recorder.{HasRoom, IsKept, IsSame, facts_held, held_by}
 use Rattle.cb_member.specs.State.{Keeps, OnAll}
 use Rattle.cb_member.specs.Telling.{HasReported}
-use Rattle.cb_member.proofs.Judging.{left_for}
 use Rattle.cb_member.proofs.Entering.{Adds, after_entry, after_none, facts_kept, facts_may_follow, kept_over, kept_with_entry, kept_with_room, same_facts, state_kept}
-use Rattle.cb_member.proofs.Judging.{casts_next, refuses_history}
+use Rattle.cb_member.proofs.Judging.{casts_next, left_for, one_keeps, refuses_history}
 
 -- ---- room for an entry
 
@@ -102,7 +102,7 @@ can_enter_cast old mid new load frame time casting k bytes can few makes block l
     let seat : new.state.seat ≡ old.state.seat = ap (λ (s : State). s.seat) state in
     let items : new.entries.items ≡ old.entries.items = same.entries ∙ ap (λ v. v.items) entries_same in
     let kept = kept_with_room mid new same (kept_with_block old mid k block limit entries_same events_same) in
-    let can_now : CanCast new.state load = record { short = can.short; room = subst (λ (s : State). length (payloads_of load) ≤ room_of s.sending.window) (sym state) can.room } in
+    let can_now : CanCast new.state load = record { one = can.one; short = can.short; room = subst (λ (s : State). length (payloads_of load) ≤ room_of s.sending.window) (sym state) can.room } in
     let few_now : length new.entries.items < new.limit =
     (let many = ap (λ (es : List Entry). length es) items in let most = same.limit ∙ limit in omega (arith, few, many, most)) in
     let made : IsCasting new.state.seat (facts_held new) load casting =
@@ -127,7 +127,7 @@ counts_long size seen = length-map-range_with_len (count seen) 0 size
 pub can_keep_cast : (r : Recorder) (load : Load) (entering : EnteringCast) → CanEnterCast load r entering → CanKeepCast entering.time entering.casting.sent r.state
 can_keep_cast r load entering can = record {
   state_is = state_kept r can.kept;
-  room = omega (arith, can.can.room, load_has_some load);
+  room = omega (arith, can.can.room, one_has_some load can.can.one);
   size = ap (λ (time : List ℕ). length time) (can.time ∙ ap (λ (m : Message). m.time) can.casting.message) ∙ counts_long r.state.seat.group.size _;
 }
 
@@ -140,7 +140,7 @@ cast_event seat facts load are =
     ap (λ (cs : List CastFields). expanded_time seat.group.size cs seat.me (delivered seat facts seat.me + 1)) (sym (casts_in-append facts (OwnCast c)))
     ∙ ap (expanded_time seat.group.size (casts_in (facts ++ OwnCast c ∷ [])) seat.me) (sym (first_is_number c))
     ∙ own_casts_tell_the_view seat facts [] c are ∙ ap (counts seat.group.size) (view_own seat.group.size facts c) in
-    ap (map (λ (m : Carried). Cast (message_in seat.group.size (casts_in facts ++ c ∷ []) m))) (carries_one c)
+    ap (map (λ (m : Carried). Cast (message_in seat.group.size (casts_in facts ++ c ∷ []) m))) (carries_one c (last_fact_is_a_step seat facts (OwnCast c) are).one)
     ∙ ap (λ (time : List ℕ). Cast (record { name = record { sender = seat.me; number = delivered seat facts seat.me + 1 }; time = time; payload = load_bytes load }) ∷ []) tells
 
 pub cast_done_well : (old new : Recorder) (load : Load) (entering : EnteringCast) → CanEnterCast load old entering → HasKept entering.time entering.casting.sent old.state new.state
@@ -151,14 +151,14 @@ cast_done_well old new load entering can keeps limit joined cast =
     let facts = facts_held old in
     let c = next_cast seat facts load in
     let are = facts_kept old can.kept in
-    let written = cast_can seat facts load are.group are.member are.facts_are (left_for old.state facts load are can.kept.keeps can.can) can.can.short in
+    let written = cast_can seat facts load are.group are.member are.facts_are (one_keeps _ load can.can.one) (left_for old.state facts load are can.kept.keeps can.can) can.can.short in
     let time : entering.time ≡ next_time seat facts load = can.time ∙ ap (λ (m : Message). m.time) can.casting.message in
     let adds : Adds old new (ToCast load) entering.entry (OwnCast c) = record {
       kept = can.kept;
       bytes = can.bytes;
       few = can.few;
       by_call = ap cast_entry can.answer ∙ ap (λ (x : EntryFields). Some x) (sym can.entry);
-      says = ap said_by can.entry ∙ ap cast_said (cast_read c written);
+      says = ap said_by can.entry ∙ ap cast_said (cast_read c can.can.one written);
       seat = keeps.seat;
       limit = limit;
       joined = joined;
@@ -169,7 +169,7 @@ cast_done_well old new load entering can keeps limit joined cast =
           (cast ∙ ap (λ (m : Message). old.events.items ++ Cast m ∷ []) can.casting.message ∙ ap (λ (es : List Event). old.events.items ++ es) (sym (cast_event seat facts load follows)));
       done_is = record {
         answer = can.answer;
-        reported = rw (ap (λ (m : Message). m.name) can.casting.message, time, can.casting.out, first_is_number c, carries_one c) refl;
+        reported = rw (ap (λ (m : Message). m.name) can.casting.message, time, can.casting.out, first_is_number c, carries_one c can.can.one) refl;
         after = after_entry old new (ToCast load) entering.entry (OwnCast c) adds;
       };
       entry = adds.by_call;

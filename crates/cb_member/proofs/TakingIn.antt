@@ -14,7 +14,7 @@ use Rattle.cb_delay.specs.declared.message.Message.{Message}
 use Rattle.cb_delay.specs.Message.{name_cmp, IsOfGroup}
 use Rattle.cb_delay.specs.Queue.{Queue, Holds, IsDelayQueue, FollowsLast, count_of}
 use Rattle.cb_delay.proofs.Names.{names_total}
-use Rattle.cb_diffs.specs.Expansion.{expanded_field}
+use Rattle.cb_diffs.specs.Expansion.{CarrySome, expanded_field}
 use Rattle.cb_gaps.specs.Buffer.{Buffer, Covers, WouldComeOut}
 use Rattle.cb_history.specs.Group.{Identity}
 use Rattle.cb_history.specs.Facts.{Fact, CastReceived, casts_in, messages_in, numbers_between, is_there}
@@ -27,6 +27,7 @@ use Rattle.cb_history.specs.Singles.{singles_among, singles_in}
 use Rattle.cb_history.specs.DeliveryLaws.{IsOnTheWay}
 use Rattle.cb_history.specs.WaitingLaws.{IsNextTaken, HoldsTakenOf}
 use Rattle.cb_history.proofs.Views.{IsIn, casts_in-append}
+use Rattle.cb_history.proofs.Loads.{casts_carry_some, some_at}
 use Rattle.cb_history.proofs.Lists.{messages_in-push, in_append, in_front, in_back, in_push}
 use Rattle.cb_history.proofs.Names.{own_messages_are_own, one_of_is_in, in_is_one_of}
 use Rattle.cb_history.proofs.Prefixes.{prefix_of_facts_is_legal, last_fact_is_a_step}
@@ -395,7 +396,7 @@ sender_is_heard_of c state can = subst (λ (n : ℕ). c.sender < n) (sym can.kee
 -- ---- how many come out
 
 -- of the singles of some casts so many are taken, and so many more come out with one cast more
-module _ (cs : List CastFields) (c : CastFields) (b : Buffer) (more : ℕ) (holds : HoldsWhatWaits (singles_among cs) c.sender b) (row : WouldComeOut b (first_number c) (last_number c) more) where
+module _ (cs : List CastFields) (c : CastFields) (b : Buffer) (more : ℕ) (some : CarrySome (cs ++ c ∷ [])) (holds : HoldsWhatWaits (singles_among cs) c.sender b) (row : WouldComeOut b (first_number c) (last_number c) more) where
   is_there_too : (n : ℕ) → is_there (singles_among cs) c.sender n ≡ is_there cs c.sender n
   is_there_too n = (singles_are_the_same cs).there c.sender n
 
@@ -403,7 +404,9 @@ module _ (cs : List CastFields) (c : CastFields) (b : Buffer) (more : ℕ) (hold
   each_comes k low high = elim (cases_lt b.taken k) [
     | inl above ↦ elim (row.each k above high) [
       | inl kept ↦ there_more cs (c ∷ []) c.sender k (sym (is_there_too k) ∙ (received_is_there (singles_among cs) c.sender k b holds low).0 (inr kept))
-      | inr covers ↦ covered_is_there (cs ++ c ∷ []) c c.sender k (in_back c cs (c ∷ []) (inl refl)) refl covers
+      | inr covers ↦
+          let there = in_back c cs (c ∷ []) (inl refl) in
+          covered_is_there (cs ++ c ∷ []) c c.sender k (some_at (cs ++ c ∷ []) c some there) there refl covers
     ]
     | inr le ↦
         let taken = holds.taken in
@@ -415,7 +418,7 @@ module _ (cs : List CastFields) (c : CastFields) (b : Buffer) (more : ℕ) (hold
       let by = cast_carrying (cs ++ c ∷ []) c.sender (b.taken + more + 1) yes in
       elim (in_push by.cast c cs by.there) [
         | inl old ↦
-            let there = covered_is_there cs by.cast c.sender (b.taken + more + 1) old by.sender_is by.covers in
+            let there = covered_is_there cs by.cast c.sender (b.taken + more + 1) (some_at (cs ++ c ∷ []) by.cast some by.there) old by.sender_is by.covers in
             elim ((received_is_there (singles_among cs) c.sender (b.taken + more + 1) b holds (omega arith)).1 (is_there_too (b.taken + more + 1) ∙ there)) [
               | inl le ↦ absurd (omega (arith, le))
               | inr kept ↦ row.ends (inl kept)
@@ -430,6 +433,7 @@ pub would_expand : (sender first last : ℕ) (r : Reception) (b : Buffer) (more 
 would_expand sender first last r b more at row seat facts c are of_sender begins ends all =
     let other : sender ≢ seat.me = subst (λ (i : ℕ). i ≢ seat.me) of_sender (of_other seat facts c are) in
     let holds = subst (λ (i : ℕ). HoldsWhatWaits (singles_in facts) i b) (sym of_sender) (all.waits sender b at other) in
-    let count = comes_out (casts_in facts) c b more holds (subst (λ (n : ℕ). WouldComeOut b (first_number c) n more) (sym ends) (subst (λ (n : ℕ). WouldComeOut b n last more) (sym begins) row)) in
+    let some = subst CarrySome (casts_in-append facts (CastReceived c)) (casts_carry_some seat (facts ++ CastReceived c ∷ []) are) in
+    let count = comes_out (casts_in facts) c b more some holds (subst (λ (n : ℕ). WouldComeOut b (first_number c) n more) (sym ends) (subst (λ (n : ℕ). WouldComeOut b n last more) (sym begins) row)) in
     let taken = all.taken_are sender b at other in
     ap (λ (cs : List CastFields). expanded_count cs sender) (casts_in-append facts (CastReceived c)) ∙ ap (expanded_count (casts_in facts ++ c ∷ [])) (sym of_sender) ∙ count ∙ ap (λ (n : ℕ). n + more) taken

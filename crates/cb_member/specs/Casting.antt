@@ -1,6 +1,6 @@
 -- How a cast is made from what is kept, and what is kept of it.
 use Rattle.std.specs.Prelude.{◌≡◌, ◌⊎◌, ℕ, ◌+◌, ◌<◌, ◌≤◌, List, [], ◌∷◌, ◌++◌, length, Result, Ok, Err, IsOk}
-use Rattle.cb_frames.specs.Fields.{Load, payloads_of, load_bytes, CastFrame, messages_of}
+use Rattle.cb_frames.specs.Fields.{Load, IsOne, payloads_of, load_bytes, CastFrame, messages_of}
 use Rattle.cb_frames.specs.Text.{IsLoad, text_of}
 use Rattle.cb_delay.specs.declared.message.Message.{Message}
 use Rattle.cb_stability.specs.Sent.{room_of}
@@ -32,8 +32,9 @@ next_message seat facts load = record {
 abbrev pub next_text : Identity → List Fact → Load → List ℕ
 next_text seat facts load = text_of (CastFrame (next_cast seat facts load))
 
--- nothing refuses the load, and there is room in the sent window for its messages
+-- the load is one payload, which is not too long, and there is room in the sent window for its message
 pub record CanCast (state : State) (load : Load) : Type 0 where
+  pub one : IsOne load
   pub short : IsLoad load
   pub room : length (payloads_of load) ≤ room_of state.sending.window
 

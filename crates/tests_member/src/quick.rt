@@ -140,6 +140,13 @@ const NEW: &[u8] = b"\x11\x07\x02\x01\x00\x00";
 /// What member 0 is asked for.
 const NO: &[u8] = b"\x11\x07\x00\x01\x00\x02no";
 
+/// A burst of "hi" and "yo", one that is cut, and no more than the first byte of one.
+const BURSTS: &[&[u8]] = &[
+    b"\x21\x07\x00\x01\x00\x02\x02hi\x02yo",
+    b"\x21\x07",
+    b"\x21",
+];
+
 /// Member 0, which has cast "no".
 fn speaker(rt: &impl Abort, alloc: Global) -> Member {
     let mut member = Member::new(alloc, group(rt), 0, 100).expect(rt, "a member");
@@ -179,6 +186,8 @@ const DELIVERS_4: Said = Ok(Did::Accepted(4, true, 0));
 const SENDS: Said = Ok(Did::Accepted(0, false, 1));
 
 const SHORT: Said = Err(ArriveRefusal::Malformed(FrameFault::Short));
+
+const UNKNOWN: Said = Err(ArriveRefusal::Malformed(FrameFault::UnknownKind));
 
 /// In each order: a cast that waits for nothing, one that comes before its question, one that comes again, a status, a request. Then
 /// gaps of two senders, and an own cast that makes a forged one ready, which goes at the next cast, whatever that is.
@@ -314,6 +323,20 @@ fn plays(rt: &impl Abort, alloc: Global, order: &[(Step, Said)]) {
     for (step, said) in order {
         four.takes(rt, *step, *said);
     }
+    four.end(rt);
+}
+
+#[test]
+fn what_begins_as_a_burst_is_refused_and_changes_nothing(rt: HostRuntime) {
+    for bytes in BURSTS {
+        refuse(&rt, rt.alloc(), bytes);
+    }
+}
+
+fn refuse(rt: &impl Abort, alloc: Global, bytes: &'static [u8]) {
+    let mut four = Four::new(rt, alloc);
+    four.take(rt, bytes, UNKNOWN);
+    are_same(rt, &four.receives, speaker(rt, alloc));
     four.end(rt);
 }
 

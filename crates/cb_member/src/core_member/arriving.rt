@@ -82,6 +82,7 @@ impl State {
     {
         match read(self.alloc, bytes) {
             Ok(Frame::Cast(cast)) => self.receive_cast(bytes, cast, noting, events),
+            Ok(Frame::Burst(_)) => unreachable!("no burst is read"),
             Ok(Frame::Status(status)) => self.receive_status(bytes, &status, noting),
             Ok(Frame::Request(request)) => self.receive_request(&request),
             Err(refusal) => Err(refusal),

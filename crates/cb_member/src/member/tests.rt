@@ -10,8 +10,9 @@ use crate::arrival::cast::Judged;
 use crate::arrival::course::Course;
 use crate::member::Member;
 use crate::recorder::Recorder;
+use crate::recorder::arriving::read;
 use bytes::Bytes;
-use cb_frames::{Cast, Frame, decode, each_is_a_text_or_a_fault};
+use cb_frames::{Cast, Frame, each_is_a_text_or_a_fault};
 use cb_history::Group;
 use std::alloc::Global;
 use std::process::Abort;
@@ -77,9 +78,9 @@ fn member_after(rt: &impl Abort, alloc: Global, frames: &[&'static [u8]]) -> Mem
 fn way_at(alloc: Global, member: Member, frame: &'static [u8]) -> Way {
     let bytes = Bytes::from_static(frame);
     let Member { recorder } = member;
-    match decode(alloc, &bytes) {
+    match read(alloc, &bytes) {
         Ok(Frame::Cast(cast)) => way_of(recorder, &bytes, cast),
-        Ok(Frame::Status(_)) | Ok(Frame::Request(_)) | Err(_) => Way::Nowhere,
+        Ok(Frame::Burst(_)) | Ok(Frame::Status(_)) | Ok(Frame::Request(_)) | Err(_) => Way::Nowhere,
     }
 }
 

@@ -1,8 +1,12 @@
 //! Received bytes: a frame is distinguished by its kind once; what is wanted of it is made before anything changes.
 
-ghost use Rattle.std.specs.Prelude.{◌≡◌, ◌<◌, ℕ, IfOk, IfErr, List, Ok, None, [], length};
+ghost use Rattle.std.specs.Prelude.{◌≡◌, ◌≢◌, ◌<◌, ℕ, if◌then◌else◌, IfOk, IfErr, List, Ok, Err, None, [], length};
+ghost use Rattle.cb_frames.specs.declared.fault.FrameFault.TheVariants.{UnknownKind};
+ghost use Rattle.cb_frames.specs.declared.frame.Burst.{Burst as Bursts};
+ghost use Rattle.cb_frames.specs.declared.frame.Frame.TheVariants as Frames;
 ghost use Rattle.cb_frames.specs.Fields.{cast_fields, fields_of, request_fields, status_fields, CastFrame, RequestFrame, StatusFrame};
 ghost use Rattle.cb_frames.specs.Laws.{IsBytes};
+ghost use Rattle.cb_frames.specs.Reading.{frame_at};
 ghost use Rattle.cb_history.specs.Read.{frame_read};
 ghost use Rattle.cb_history.specs.Facts.{ArriveEntry, entry_fields};
 ghost use Rattle.cb_member.specs.Answering.{RefusesBytes};
@@ -24,6 +28,9 @@ use cb_frames::{Cast, Frame, FrameFault, Request, Status, decode, each_is_a_text
 use cb_history::{ArriveRefusal, Entry, Names};
 use cb_times::NoMemory;
 use std::alloc::Global;
+
+/// The first byte of a burst frame.
+const BURST: u8 = 0x21;
 
 /// A cast that can be entered, and what is made for it before anything changes.
 #[derive(Drop)]
@@ -51,6 +58,7 @@ impl Recorder {
     {
         match read(self.state.alloc, bytes) {
             Ok(Frame::Cast(cast)) => self.take_cast(bytes, cast, wanted),
+            Ok(Frame::Burst(_)) => unreachable!("no burst is read"),
             Ok(Frame::Status(status)) => self.take_status(bytes, &status, wanted),
             Ok(Frame::Request(request)) => self.answer(&request),
             Err(refusal) => Err(refusal),
@@ -251,17 +259,30 @@ fn fitted(mut names: Names) -> Names
     names
 }
 
-/// The frame of the bytes. What is no frame is refused without memory.
+/// The frame of the bytes, which is no burst. What is no frame is refused without memory.
 pub fn read(alloc: Global, bytes: &Bytes) -> Result<Frame, ArriveRefusal>
     ensures frame { IfOk result (λ frame. frame_read bytes.now ≡ Ok (fields_of frame)) }
+    ensures no_burst { (burst : Bursts) → result ≢ Ok (Frames.Burst burst) }
     ensures refused { IfErr result (RefusesBytes bytes.now) }
     ensures bytes { IsBytes bytes.now }
 {
+    if begins_a_burst(bytes.as_slice()) {
+        return Err(ArriveRefusal::Malformed(FrameFault::UnknownKind));
+    }
     match decode(alloc, bytes) {
         Ok(frame) => Ok(frame),
         Err(FrameFault::NoMemory) => Err(ArriveRefusal::NoMemory),
         Err(fault) => Err(ArriveRefusal::Malformed(fault)),
     }
+}
+
+/// Whether the bytes begin as a burst does. Members know no bursts: whatever follows, it is no frame to them.
+fn begins_a_burst(text: &[u8]) -> bool
+    ensures read { frame_read text.now
+        ≡ (if result then Err UnknownKind else frame_at text.now) }
+    ensures bytes { IsBytes text.now }
+{
+    text.first() == Some(&BURST)
 }
 
 /// The answer to what added no entry.

@@ -34,7 +34,7 @@ keep_in-requires c =
     let lt = slice_get_within c.args.self.now.buffers.items c.args.cast.sender can.buffer can.at in
     let at = vec_at c.args.self.now.buffers.items c.args.cast.sender c.index_mut-2.result.now lt c.index_mut-2.ensures.value in
     subst (λ (singles : List CastFields). CanKeepInTurn c.args.delivered singles c.index_mut-2.result.now) (sym c.of.ensures)
-    (can_keep_in_turn c.args.delivered (cast_fields c.args.cast) c.args.self.now c.index_mut-2.result.now can at)
+    (can_keep_in_turn c.args.delivered (cast_fields c.args.cast) c.args.self.now c.index_mut-2.result.now (omega arith) can at)
 
 pub returns : goal.returns
 returns c seat facts are all spares_are =

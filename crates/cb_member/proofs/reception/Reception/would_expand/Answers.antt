@@ -5,6 +5,6 @@ use Rattle.cb_member.proofs.TakingIn.{would_expand}
 use Rattle.cb_member.proofs.reception.Reception.would_expand.Goals as goal
 
 pub returns : goal.returns
-returns c = rw (first_is_number (cast_fields c.args.cast.now), last_is_number (cast_fields c.args.cast.now))
+returns c = rw (first_is_number (cast_fields c.args.cast.now), last_is_number (cast_fields c.args.cast.now) tt)
     (would_expand c.args.cast.now.sender c.args.cast.now.number c.args.cast.now.number c.args.self.now c.index.result.now _
     (vec_at c.args.self.now.buffers.items c.args.cast.now.sender c.index.result.now c.requires c.index.ensures) c.ready_with.ensures.row)

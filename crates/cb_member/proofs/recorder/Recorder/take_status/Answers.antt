@@ -3,6 +3,7 @@ use Rattle.std.specs.Prelude.{option_map}
 use Rattle.cb_frames.specs.Fields.{status_fields, StatusFrame}
 use Rattle.cb_history.specs.Answers.{Accepted}
 use Rattle.cb_history.specs.Facts.{ArriveEntry, EntryFields, entry_fields}
+use Rattle.cb_history.proofs.ReadBack.{read_whole}
 use Rattle.cb_member.specs.declared.arrival.status.Judged.{Judged}
 use Rattle.cb_member.specs.Hearing.{JudgesStatus}
 use Rattle.cb_member.specs.Received.{count_said, received_says}
@@ -15,6 +16,11 @@ use Rattle.cb_member.proofs.recorder.Recorder.take_status.Goals.{then-wanted+in_
 
 pub judge_status-requires-clause-state : goal.judge_status-requires-clause-state
 judge_status-requires-clause-state c = state_kept c.args.self.now c.requires.kept
+
+pub judge_status-requires-clause-rising : goal.judge_status-requires-clause-rising
+judge_status-requires-clause-rising c =
+    let frame = StatusFrame (status_fields c.args.status.now) in
+    ((c.each_is_a_text_or_a_fault.ensures.reading.text c.args.bytes.now frame c.requires.bytes).0 (read_whole c.args.bytes.now frame c.requires.read)).0.values.rising
 
 pub returns-in-Ok-NoNews : goal.returns-in-Ok-NoNews
 returns-in-Ok-NoNews c =

@@ -13,6 +13,6 @@ returns c =
     let upto = c.loop.auto.counter-end in
     let many = c.count_of-end.ensures in
     record {
-      many = omega (arith, so_many, end, upto, many, carries_some cast, carried_up_to_the_last cast);
+      many = omega (arith, so_many, end, upto, many, carries_some cast (omega arith), carried_up_to_the_last cast (omega arith));
       sizes = All-cons (λ time. length time ≡ c.args.size) c.in_ok-first.first c.loop.others.items (ap length c.in_ok-first.ensures ∙ length-replicate c.args.size 0) c.loop.invariant.sizes;
     }

@@ -18,7 +18,7 @@ get-delivered-requires c =
     ap (λ (n : ℕ). are_members n (CastFrame (cast_fields c.args.cast.now))) (sym (c.size.ensures.size ∙ ap (λ (g : Parameters). g.size) c.group-2.ensures.group)) ∙ sym c.are_members.ensures ∙ c.if-not-are_members.false in
     let group = c.if-cast-number.false ∙ c.number.ensures ∙ ap (λ (g : Parameters). g.number) c.group.ensures.group in
     let long = time_long c.args.self.now.seat c.requires.state.facts c.args.self.now.delivery c.requires.state.keeps.delivered in
-    omega (arith, long, is_member c.args.self.now (cast_fields c.args.cast.now) c.requires.numbered group members)
+    omega (arith, long, is_member c.args.self.now (cast_fields c.args.cast.now) tt c.requires.numbered group members)
 
 pub returns-then-cast-me : goal.returns-then-cast-me
 returns-then-cast-me c =
@@ -27,18 +27,18 @@ returns-then-cast-me c =
     let group = c.if-cast-number.false ∙ c.number.ensures ∙ ap (λ (g : Parameters). g.number) c.group.ensures.group in
     let verdict = c.judge_own.ensures ∙ ap (λ (n : ℕ). own_verdict n c.last_of.result) c.get-delivered.ensures.field ∙ ap (own_verdict (field c.args.self.now.delivery.time c.args.cast.now.sender)) c.last_of.ensures in
     subst (JudgesCast c.args.self.now (cast_fields c.args.cast.now)) (sym verdict)
-    (judges_own c.args.self.now (cast_fields c.args.cast.now) c.requires.numbered group members (c.if-cast-me.true ∙ c.me.ensures.me))
+    (judges_own c.args.self.now (cast_fields c.args.cast.now) tt c.requires.numbered group members (c.if-cast-me.true ∙ c.me.ensures.me))
 
 pub returns : goal.returns
 returns c =
     let members : are_members c.args.self.now.seat.group.size (CastFrame (cast_fields c.args.cast.now)) ≡ true =
     ap (λ (n : ℕ). are_members n (CastFrame (cast_fields c.args.cast.now))) (sym (c.size.ensures.size ∙ ap (λ (g : Parameters). g.size) c.group-2.ensures.group)) ∙ sym c.are_members.ensures ∙ c.if-not-are_members.false in
     let group = c.if-cast-number.false ∙ c.number.ensures ∙ ap (λ (g : Parameters). g.number) c.group.ensures.group in
-    let small = is_member c.args.self.now (cast_fields c.args.cast.now) c.requires.numbered group members in
+    let small = is_member c.args.self.now (cast_fields c.args.cast.now) tt c.requires.numbered group members in
     let at : slice_get c.args.self.now.reception.buffers.items c.args.cast.now.sender ≡ Some c.index.result.now =
     slice_get-get_or c.args.self.now.reception.buffers.items c.args.cast.now.sender c.index.result.now (omega (arith, small, c.requires.state.keeps.received.senders)) ∙ ap (λ (b : Buffer). Some b) (sym c.index.ensures) in
     let admits : Admits c.index.result.now _ c.args.cast.now.number c.args.cast.now.number c.judge.result =
     subst (λ (n : ℕ). Admits c.index.result.now n c.args.cast.now.number c.args.cast.now.number c.judge.result) c.get-delivered.ensures.field c.judge.ensures in
     subst (JudgesCast c.args.self.now (cast_fields c.args.cast.now)) (sym c.judge_other.ensures)
-    (judges_other c.args.self.now (cast_fields c.args.cast.now) c.requires.numbered group members (λ e. c.if-cast-me.false (e ∙ sym c.me.ensures.me)) c.index.result.now at
-    c.requires.numbers c.requires.state c.judge.result (rw (first_is_number (cast_fields c.args.cast.now), last_is_number (cast_fields c.args.cast.now)) admits))
+    (judges_other c.args.self.now (cast_fields c.args.cast.now) tt c.requires.numbered group members (λ e. c.if-cast-me.false (e ∙ sym c.me.ensures.me)) c.index.result.now at
+    c.requires.numbers c.requires.state c.judge.result (rw (first_is_number (cast_fields c.args.cast.now), last_is_number (cast_fields c.args.cast.now) tt) admits))

@@ -3,7 +3,7 @@ use Rattle.cb_frames.specs.declared.frame.TheConstants.{LAST_NUMBER}
 use Rattle.cb_frames.specs.Fields.{cast_fields, CastFrame}
 use Rattle.cb_frames.proofs.Carried.{last_is_number}
 use Rattle.cb_history.specs.Answers.{Repeat}
-use Rattle.cb_history.proofs.ReadBack.{frame_numbered}
+use Rattle.cb_history.proofs.ReadBack.{frame_numbered, read_whole}
 use Rattle.cb_member.specs.declared.arrival.cast.Judged.{Judged}
 use Rattle.cb_member.specs.declared.core_member.arriving.Heard.{Heard}
 use Rattle.cb_member.specs.Arriving.{JudgesCast}
@@ -21,10 +21,15 @@ judge_cast-requires-clause-state c = is_state c.args.self.now c.requires.core
 pub judge_cast-requires-clause-numbers : goal.judge_cast-requires-clause-numbers
 judge_cast-requires-clause-numbers c =
     let small : c.args.cast.number ≤ LAST_NUMBER = search rules in
-    subst (λ (n : ℕ). n ≤ LAST_NUMBER) (sym (last_is_number (cast_fields c.args.cast))) small
+    subst (λ (n : ℕ). n ≤ LAST_NUMBER) (sym (last_is_number (cast_fields c.args.cast) tt)) small
 
 pub judge_cast-requires-clause-numbered : goal.judge_cast-requires-clause-numbered
 judge_cast-requires-clause-numbered c = frame_numbered c.args.bytes.now (cast_fields c.args.cast) c.requires.read
+
+pub judge_cast-requires-clause-rising : goal.judge_cast-requires-clause-rising
+judge_cast-requires-clause-rising c =
+    let frame = CastFrame (cast_fields c.args.cast) in
+    ((c.each_is_a_text_or_a_fault.ensures.reading.text c.args.bytes.now frame c.requires.bytes).0 (read_whole c.args.bytes.now frame c.requires.read)).0.changes.rising
 
 pub returns-in-Ok-Repeat : goal.returns-in-Ok-Repeat
 returns-in-Ok-Repeat c =

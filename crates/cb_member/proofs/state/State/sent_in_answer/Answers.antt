@@ -12,4 +12,4 @@ returns c =
     let request = request_fields c.args.request.now in
     let frames : c.in_ok-frames.frames.items ≡ frames_in request.ranges state.sending.window = c.in_ok-frames.ensures ∙ ap (λ ranges. frames_in ranges state.sending.window) c.deref.ensures.value in
     IfOk-weaker c.sent_to.result _ _ (λ out is facts are keeps.
-    is ∙ ap (map (sent_to request.requester)) frames ∙ sym (frames_in_are_sent_in_answer state.seat facts state.sending.window request keeps.sent.window (search (rules, tests)))) c.sent_to.ensures
+    is ∙ ap (map (sent_to request.requester)) frames ∙ sym (frames_in_are_sent_in_answer state.seat facts state.sending.window request are keeps.sent.window (search (rules, tests)))) c.sent_to.ensures
