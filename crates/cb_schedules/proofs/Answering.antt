@@ -6,8 +6,8 @@ use Rattle.std.proofs.lemmas.List.{append-nil}
 use Rattle.cb_times.specs.declared.name.Name.{Name}
 use Rattle.cb_frames.specs.declared.frame.TheConstants.{LONGEST_PAYLOAD, LAST_NUMBER}
 use Rattle.cb_frames.specs.declared.fault.FrameFault.{FrameFault}
-use Rattle.cb_frames.specs.Fields.{Load, payloads_of, load_bytes, CastFields, StatusFields, FrameFields, CastFrame, StatusFrame, RequestFrame, Carried, messages_of}
-use Rattle.cb_frames.specs.Text.{IsLoad, text_of}
+use Rattle.cb_frames.specs.Fields.{Load, One, Many, IsOne, payloads_of, load_bytes, CastFields, StatusFields, FrameFields, CastFrame, StatusFrame, RequestFrame, Carried, messages_of}
+use Rattle.cb_frames.specs.Text.{IsLoad, KeepsLoadRules, text_of}
 use Rattle.cb_history.specs.Read.{frame_read}
 use Rattle.cb_frames.specs.Laws.{IsBytes}
 use Rattle.cb_delay.specs.declared.message.Message.{Message}
@@ -16,10 +16,10 @@ use Rattle.cb_history.specs.declared.answer.ArriveRefusal.TheVariants as arrival
 use Rattle.cb_history.specs.declared.answer.TickRefusal.{TickRefusal}
 use Rattle.cb_history.specs.declared.answer.TickRefusal.TheVariants as ticks
 use Rattle.cb_history.specs.declared.answer.Outgoing.{Outgoing}
-use Rattle.cb_history.specs.CastFault.{CastFault, PayloadTooLong, WindowFull, HistoryFull}
+use Rattle.cb_history.specs.CastFault.{CastFault, BurstTooLong, PayloadTooLong, WindowFull, HistoryFull}
 use Rattle.cb_history.specs.Group.{Identity}
 use Rattle.cb_history.specs.Facts.{EntryFields, CastEntry, ArriveEntry, TickEntry, Fact, OwnCast, CastReceived, StatusReceived, OwnStatus, cast_said, status_said, facts_of, casts_in, messages_in, is_there}
-use Rattle.cb_history.specs.Answers.{is_full, is_too_many, delivered, next_cast, cast_answer, group_of, are_members, is_impossible, is_repeat, is_too_far, is_change, deliveries, sent_in_answer, own_casts, ArrivalSays, Accepted, Repeat, frame_answer, answer_to, arrive_answer, status_of, is_new_status, requests, tick_answer}
+use Rattle.cb_history.specs.Answers.{is_burst, is_full, is_too_many, delivered, next_cast, cast_answer, group_of, are_members, is_impossible, is_repeat, is_too_far, is_change, deliveries, sent_in_answer, own_casts, ArrivalSays, Accepted, Repeat, frame_answer, answer_to, arrive_answer, status_of, is_new_status, requests, tick_answer}
 use Rattle.cb_history.specs.Legal.{Call, ToCast, ToTake, ToTick, cast_entry, arrive_entry, tick_entry, and_entry, history_after, AreEntriesOf}
 use Rattle.cb_history.specs.LegalFacts.{AreFactsOf}
 use Rattle.cb_history.proofs.Views.{IsIn, casts_in-append}
@@ -42,6 +42,15 @@ use Rattle.cb_schedules.proofs.Lists.{all_weaken, any_in}
 -- with one more cast a message is there where it was, or is one of the cast's
 there_push_is : (cs : List CastFields) (c : CastFields) (m : Name) → is_there (cs ++ c ∷ []) m.sender m.number ≡ (is_there cs m.sender m.number || list_any (is_named m) (messages_of c))
 there_push_is cs c m = ap (list_any (is_named m)) (messages_in-push cs c) ∙ any-append (is_named m) (messages_in cs) (messages_of c)
+
+-- a load that is no burst is of one payload, and keeps the rules
+no_burst : (load : Load) → is_burst load ≡ false → IsOne load
+no_burst (One payload) single = tt
+no_burst (Many payloads) single = absurd cc
+
+one_keeps_the_rules : (first : ℕ) (load : Load) → IsOne load → KeepsLoadRules first load
+one_keeps_the_rules first (One payload) one = tt
+one_keeps_the_rules first (Many payloads) one = absurd one
 
 -- what is there already adds nothing
 absorbed : (b p : Bool) → (p ≡ true → b ≡ true) → (b || p) ≡ b
@@ -89,10 +98,10 @@ module _ (setting : Setting) (is : IsSetting setting) (s : GroupState) (inv : Is
     brings_itself : received_by i (Calls i (ToCast load)) (CastAnswer (Ok cast)) ≡ messages_of cast
     brings_itself = rw (eq-eqb i i refl) refl
 
-    made : delivered me said me.me + length (payloads_of load) ≤ LAST_NUMBER → IsLoad load → CastGood (Ok cast)
-    made left short legal =
+    made : IsOne load → delivered me said me.me + length (payloads_of load) ≤ LAST_NUMBER → IsLoad load → CastGood (Ok cast)
+    made one left short legal =
         good setting is s inv i lt (ToCast load) with_cast (CastAnswer (Ok cast)) legal (inr (OwnCast cast, push, tt)) (
-          cast_is_honest setting.group (facts_at s) i are (after setting is s inv i lt (ToCast load) with_cast (CastAnswer (Ok cast))) load bytes left short
+          cast_is_honest setting.group (facts_at s) i are (after setting is s inv i lt (ToCast load) with_cast (CastAnswer (Ok cast))) load one bytes left short
               (in_is_cast_of cast (own_casts (after setting is s inv i lt (ToCast load) with_cast (CastAnswer (Ok cast)) i))
               (subst (λ (fs : List Fact). IsIn cast (own_casts fs)) (own_now setting is s inv i lt (ToCast load) with_cast (CastAnswer (Ok cast)))
               (subst (IsIn cast) (sym all_own) (in_back cast (own_casts said) (cast ∷ []) (inl refl))))),
@@ -110,7 +119,7 @@ module _ (setting : Setting) (is : IsSetting setting) (s : GroupState) (inv : Is
         with_cast = now ++ CastEntry (text_of (CastFrame cast)) ∷ []
 
         read : frame_read (text_of (CastFrame cast)) ≡ Ok (CastFrame cast)
-        read = cast_reads cast ((own_frames_have_texts me said are).0 load left short)
+        read = cast_reads cast one ((own_frames_have_texts me said are).0 load (one_keeps_the_rules (delivered me said i + 1) load one) left short)
 
         push : facts_of (now ++ CastEntry (text_of (CastFrame cast)) ∷ []) ≡ said ++ OwnCast cast ∷ []
         push = facts_push now (CastEntry (text_of (CastFrame cast))) (OwnCast cast) (ap cast_said read)
@@ -121,10 +130,11 @@ module _ (setting : Setting) (is : IsSetting setting) (s : GroupState) (inv : Is
     pub cast_is_good : IsGood setting is s inv i lt (ToCast load) (history_after me setting.limit now (ToCast load)) (answer_of me setting.limit now (ToCast load))
     unfolding cast_answer
     cast_is_good =
-        cond_both (ltb LONGEST_PAYLOAD (length (load_bytes load))) _ _ CastGood (λ _ _. same_history (ToCast load) (CastAnswer (Err PayloadTooLong)) tt nothing_received)
+        cond_both (is_burst load) _ _ CastGood (λ _ _. same_history (ToCast load) (CastAnswer (Err BurstTooLong)) tt nothing_received)
+        (λ single. cond_both (ltb LONGEST_PAYLOAD (length (load_bytes load))) _ _ CastGood (λ _ _. same_history (ToCast load) (CastAnswer (Err PayloadTooLong)) tt nothing_received)
         (λ short. cond_both (is_too_many me said (length (payloads_of load))) _ _ CastGood (λ _ _. same_history (ToCast load) (CastAnswer (Err WindowFull)) tt nothing_received)
         (λ free. cond_both (is_full setting.limit now) _ _ CastGood (λ _ _. same_history (ToCast load) (CastAnswer (Err HistoryFull)) tt nothing_received)
-        (λ _. made (numbers_left me said (length (payloads_of load)) free) (ltb-false LONGEST_PAYLOAD (length (load_bytes load)) short))))
+        (λ _. made (no_burst load single) (numbers_left me said (length (payloads_of load)) free) (ltb-false LONGEST_PAYLOAD (length (load_bytes load)) short)))))
         (calls_keep_entries me setting.limit now (ToCast load) (inv.legal i lt) bytes)
 
   -- ---- a tick

@@ -131,7 +131,8 @@ module _ (setting : Setting) (s t : GroupState) (inv : IsConsistent setting s) (
 
       asked_casts_rise : (now : GroupState) → IsConsistent setting now → Rising 1 (asked_casts now)
       asked_casts_rise now inv_now =
-          let own = numbered_rises i 1 (own_casts (facts_at now i)) (stands_at setting.group (facts_at now) inv_now.together i lt_i).own_numbers in
+          let stands = stands_at setting.group (facts_at now) inv_now.together i lt_i in
+          let own = numbered_rises i 1 (own_casts (facts_at now i)) stands.own_some stands.own_numbers in
           let unstable = filtered_rises (λ c. ltb (stable (seat_at setting i) (facts_at now i)) (last_number c)) 1 (own_casts (facts_at now i)) own in
           filtered_rises (is_asked_for ranges) 1 (window (seat_at setting i) (facts_at now i)) unstable
 
@@ -176,6 +177,7 @@ module _ (setting : Setting) (s t : GroupState) (inv : IsConsistent setting s) (
     -- so it comes where it is lacking at j's tick
     module _ (heard : cast_count setting s i ≤ known (facts_at s j) i) (near : n ≤ expanded_at s j i + MOST_FRAMES) where
       lacking_comes : (k : Ticks setting s w.asking j) → is_there (casts_in (facts_at k.now j)) i n ≡ false → (ranges : List Range) → ranges_of (missing (seat_at setting j) (facts_at k.now j) i) ≡ ranges → Comes
+      unfolding text_of
       lacking_comes k lacks ranges is =
           let facts = facts_at k.now j in
           let are = k.consistent.together.legal j lt_j in

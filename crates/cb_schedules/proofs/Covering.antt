@@ -1,12 +1,13 @@
 -- The first ranges of what is missing cover all that is missing of the first numbers, and the first frames asked for have these.
-use Rattle.std.proofs.Common.{◌≡◌, ℕ, zero, suc, ◌+◌, ◌-◌, ◌*◌, ◌<◌, ◌≤◌, Bool, true, false, not, ◌&&◌, ◌||◌, leb, List, [], ◌∷◌, min, take, refl, ap, subst, arith, inl, inr, ◌⊎◌}
+use Rattle.std.proofs.Common.{◌≡◌, ℕ, zero, suc, ◌+◌, ◌-◌, ◌*◌, ◌<◌, ◌≤◌, Bool, true, false, not, ◌&&◌, ◌||◌, leb, List, [], ◌∷◌, min, take, refl, sym, ap, subst, arith, inl, inr, ◌⊎◌}
 use Rattle.std.specs.List.{filter, list_any}
 use Rattle.std.proofs.lemmas.Bool.{cond_both, le-leb, leb-true, and_parts, and_from}
 use Rattle.cb_frames.specs.declared.frame.TheConstants.{LAST_NUMBER}
 use Rattle.cb_frames.specs.declared.frame.Range.{Range}
 use Rattle.cb_frames.specs.Text.{AreRanges}
-use Rattle.cb_frames.specs.Fields.{CastFields, Carried, messages_of, first_number, last_number}
+use Rattle.cb_frames.specs.Fields.{IsSome, CastFields, Carried, messages_of, first_number, last_number}
 use Rattle.cb_frames.proofs.Carried.{carries_some}
+use Rattle.cb_diffs.specs.Expansion.{CarrySome}
 use Rattle.cb_gaps.specs.Ranges.{IsWithin}
 use Rattle.cb_gaps.proofs.Gaps.{any_cases, none_in}
 use Rattle.cb_history.specs.Group.{Identity}
@@ -93,31 +94,36 @@ module _ (seat : Identity) (facts : List Fact) (i : ℕ) (are : AreFactsOf seat 
 
 -- ---- the first frames
 
--- casts with rising numbers, from this one on: each begins behind the one before
+-- casts with rising numbers, from this one on: each carries some message, and begins behind the one before
 abbrev pub Rising : ℕ → List CastFields → Type 0
 Rising low [] = Unit {0}
-Rising low (c ∷ casts) = (low ≤ first_number c) × Rising (last_number c + 1) casts
+Rising low (c ∷ casts) = (low ≤ first_number c) × IsSome c.load × Rising (last_number c + 1) casts
 
 rising_from : (low lower : ℕ) (casts : List CastFields) → lower ≤ low → Rising low casts → Rising lower casts
 rising_from low lower [] le rise = tt
-rising_from low lower (c ∷ casts) le rise = let first = rise.0 in (omega (arith, le, first), rise.1)
+rising_from low lower (c ∷ casts) le rise = let first = rise.0 in (omega (arith, le, first), rise.1, rise.2)
 
-pub numbered_rises : (me n : ℕ) (casts : List CastFields) → NumberedFrom me n casts → Rising n casts
-numbered_rises me n [] numbered = tt
-numbered_rises me n (c ∷ casts) numbered = let number = numbered.1 in (omega (arith, number), numbered_rises me (last_number c + 1) casts numbered.2)
+pub numbered_rises : (me n : ℕ) (casts : List CastFields) → CarrySome casts → NumberedFrom me n casts → Rising n casts
+numbered_rises me n [] some numbered = tt
+numbered_rises me n (c ∷ casts) some numbered = let number = numbered.1 in (omega (arith, number), some.0, numbered_rises me (last_number c + 1) casts some.1 numbered.2)
 
 -- those that pass a test rise too
 pub filtered_rises : (p : CastFields → Bool) (low : ℕ) (casts : List CastFields) → Rising low casts → Rising low (filter p casts)
 filtered_rises p low [] rise = tt
 filtered_rises p low (c ∷ casts) rise =
     cond_both (p c) (c ∷ filter p casts) (filter p casts) (Rising low)
-    (λ _. (rise.0, filtered_rises p (last_number c + 1) casts rise.1))
-    (λ _. let first = rise.0 in rising_from (last_number c + 1) low (filter p casts) (omega (arith, first, carries_some c)) (filtered_rises p (last_number c + 1) casts rise.1))
+    (λ _. (rise.0, rise.1, filtered_rises p (last_number c + 1) casts rise.2))
+    (λ _. let first = rise.0 in rising_from (last_number c + 1) low (filter p casts) (omega (arith, first, carries_some c rise.1)) (filtered_rises p (last_number c + 1) casts rise.2))
 
 begins_above : (low : ℕ) (casts : List CastFields) (c : CastFields) → Rising low casts → IsIn c casts → low ≤ first_number c
 begins_above low [] c rise there = absurd there
 begins_above low (d ∷ casts) c rise (inl same) = let number = ap first_number same in let first = rise.0 in omega (arith, number, first)
-begins_above low (d ∷ casts) c rise (inr later) = let rest = begins_above (last_number d + 1) casts c rise.1 later in let first = rise.0 in omega (arith, rest, first, carries_some d)
+begins_above low (d ∷ casts) c rise (inr later) = let rest = begins_above (last_number d + 1) casts c rise.2 later in let first = rise.0 in omega (arith, rest, first, carries_some d rise.1)
+
+each_is_some : (low : ℕ) (casts : List CastFields) (c : CastFields) → Rising low casts → IsIn c casts → IsSome c.load
+each_is_some low [] c rise there = absurd there
+each_is_some low (d ∷ casts) c rise (inl same) = subst (λ (x : CastFields). IsSome x.load) (sym same) rise.1
+each_is_some low (d ∷ casts) c rise (inr later) = each_is_some (last_number d + 1) casts c rise.2 later
 
 -- Where none ends below `least`, though the first may begin below it, the first `limit` of them have all
 -- numbers from `least` up to below least + limit.
@@ -127,10 +133,10 @@ first_frames_cover limit low least n [] c rise each there first above less = abs
 first_frames_cover zero low least n (d ∷ casts) c rise each there first above less = absurd (omega (arith, above, less))
 first_frames_cover (suc limit) low least n (d ∷ casts) c rise each (inl same) first above less = inl same
 first_frames_cover (suc limit) low least n (d ∷ casts) c rise each (inr later) first above less =
-    let behind = begins_above (last_number d + 1) casts c rise.1 later in
+    let behind = begins_above (last_number d + 1) casts c rise.2 later in
     let ends = each d (inl refl) in
-    inr (first_frames_cover limit (last_number d + 1) (last_number d + 1) n casts c rise.1
-    (λ e there. let begins = begins_above (last_number d + 1) casts e rise.1 there in omega (arith, begins, carries_some e))
+    inr (first_frames_cover limit (last_number d + 1) (last_number d + 1) n casts c rise.2
+    (λ e there. let begins = begins_above (last_number d + 1) casts e rise.2 there in omega (arith, begins, carries_some e (each_is_some (last_number d + 1) casts e rise.2 there)))
     later first (omega (arith, behind, first)) (omega (arith, less, ends)))
 
 -- ---- asked for

@@ -10,10 +10,10 @@ use Rattle.cb_history.specs.declared.answer.ArriveRefusal.TheVariants as arrival
 use Rattle.cb_history.specs.declared.answer.TickRefusal.{TickRefusal}
 use Rattle.cb_history.specs.declared.answer.TickRefusal.TheVariants as ticks
 use Rattle.cb_history.specs.declared.answer.Outgoing.{Outgoing}
-use Rattle.cb_history.specs.CastFault.{CastFault, PayloadTooLong, WindowFull, HistoryFull}
+use Rattle.cb_history.specs.CastFault.{CastFault, BurstTooLong, PayloadTooLong, WindowFull, HistoryFull}
 use Rattle.cb_history.specs.Group.{Parameters, AreParameters, Identity}
 use Rattle.cb_history.specs.Facts.{EntryFields, facts_of}
-use Rattle.cb_history.specs.Answers.{is_full, is_too_many, next_cast, cast_answer, group_of, are_members, is_impossible, is_repeat, is_too_far, is_change, deliveries, sent_in_answer, ArrivalSays, Accepted, Repeat, frame_answer, answer_to, arrive_answer, status_of, is_new_status, requests, tick_answer}
+use Rattle.cb_history.specs.Answers.{is_burst, is_full, is_too_many, next_cast, cast_answer, group_of, are_members, is_impossible, is_repeat, is_too_far, is_change, deliveries, sent_in_answer, ArrivalSays, Accepted, Repeat, frame_answer, answer_to, arrive_answer, status_of, is_new_status, requests, tick_answer}
 use Rattle.cb_history.specs.Legal.{Call, ToCast, ToTake, ToTick, cast_entry, arrive_entry, tick_entry, entry_of, and_entry, room_for_one}
 use Rattle.cb_history.proofs.Calls.{room_left}
 use Rattle.cb_schedules.specs.Schedule.{Setting, seat_at, Step, CastStep, ArriveStep, TickStep, Schedule, Asked, Calls, OfNoMember, OfNoFrame, OfNoBytes, Answer, CastAnswer, ArrivalAnswer, TickAnswer, answer_of, frames_sent, sent_by, GroupState, with_history, asked_by, after_asked, step_after, nothing_yet, run_from, run}
@@ -27,14 +27,15 @@ use Rattle.cb_schedules.proofs.Room.{none_full}
 -- ---- an answer that is not that the history is full is the same with room for one entry
 
 -- the tests of an answer, of which `none` is that no entry is left
-abbrev a_cast : Bool → Bool → CastFields → Bool → Result CastFields CastFault
-a_cast long closed c none = cond long (Err PayloadTooLong) (cond closed (Err WindowFull) (cond none (Err HistoryFull) (Ok c)))
+abbrev a_cast : Bool → Bool → Bool → CastFields → Bool → Result CastFields CastFault
+a_cast burst long closed c none = cond burst (Err BurstTooLong) (cond long (Err PayloadTooLong) (cond closed (Err WindowFull) (cond none (Err HistoryFull) (Ok c))))
 
-cast_free : (long closed : Bool) (c : CastFields) (none : Bool) → IsNotFull (CastAnswer (a_cast long closed c none)) → a_cast long closed c none ≡ a_cast long closed c false
-cast_free true closed c none free = refl
-cast_free false true c none free = refl
-cast_free false false c true free = absurd (free refl)
-cast_free false false c false free = refl
+cast_free : (burst long closed : Bool) (c : CastFields) (none : Bool) → IsNotFull (CastAnswer (a_cast burst long closed c none)) → a_cast burst long closed c none ≡ a_cast burst long closed c false
+cast_free true long closed c none free = refl
+cast_free false true closed c none free = refl
+cast_free false false true c none free = refl
+cast_free false false false c true free = absurd (free refl)
+cast_free false false false c false free = refl
 
 abbrev an_arrival : Bool → Bool → Bool → Bool → Bool → Bool → ArrivalSays → ArrivalSays → Bool → Result ArrivalSays ArriveRefusal
 an_arrival group members impossible repeat far change changed unchanged none =
@@ -67,8 +68,8 @@ module _ (seat : Identity) (limit : ℕ) (entries : List EntryFields) where
   cast_same : (load : Load) → IsNotFull (CastAnswer (cast_answer seat limit entries load)) → cast_answer seat limit entries load ≡ cast_answer seat room entries load
   unfolding cast_answer
   cast_same load free =
-      let answer : Bool → Result CastFields CastFault = a_cast (ltb LONGEST_PAYLOAD (length (load_bytes load))) (is_too_many seat (facts_of entries) (length (payloads_of load))) (next_cast seat (facts_of entries) load) in
-      cast_free (ltb LONGEST_PAYLOAD (length (load_bytes load))) (is_too_many seat (facts_of entries) (length (payloads_of load))) (next_cast seat (facts_of entries) load) (is_full limit entries) free ∙ sym (ap answer (room_left entries))
+      let answer : Bool → Result CastFields CastFault = a_cast (is_burst load) (ltb LONGEST_PAYLOAD (length (load_bytes load))) (is_too_many seat (facts_of entries) (length (payloads_of load))) (next_cast seat (facts_of entries) load) in
+      cast_free (is_burst load) (ltb LONGEST_PAYLOAD (length (load_bytes load))) (is_too_many seat (facts_of entries) (length (payloads_of load))) (next_cast seat (facts_of entries) load) (is_full limit entries) free ∙ sym (ap answer (room_left entries))
 
   frame_same : (frame : FrameFields) → IsNotFull (ArrivalAnswer (frame_answer seat limit entries (facts_of entries) frame))
       → frame_answer seat limit entries (facts_of entries) frame ≡ frame_answer seat room entries (facts_of entries) frame

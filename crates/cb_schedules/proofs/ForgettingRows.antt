@@ -4,7 +4,7 @@ use Rattle.cb_varint.specs.Reading.{number_at, spelling}
 use Rattle.cb_times.specs.declared.name.Name.{Name}
 use Rattle.cb_frames.specs.Fields.{One, messages_of, first_number, last_number}
 use Rattle.cb_frames.specs.Text.{text_of}
-use Rattle.cb_frames.specs.Reading.{frame_at, cast_at, status_at, request_at, pairs_at, pair_at}
+use Rattle.cb_frames.specs.Reading.{frame_at, head_at, cast_at, status_at, request_at, pairs_at, pair_at}
 use Rattle.cb_delay.specs.declared.message.Message.{Message}
 use Rattle.cb_delay.specs.declared.message.Event.TheVariants.{Deliver}
 use Rattle.cb_history.specs.declared.answer.ArriveRefusal.TheVariants as arrivals
@@ -39,15 +39,15 @@ abbrev filling : Schedule
 filling = CastStep 0 (One (97 ∷ [])) ∷ CastStep 1 (One (98 ∷ [])) ∷ ArriveStep 1 0 ∷ []
 
 a_member_refuses_it : drop 2 (answers (run short filling)) ≡ ArrivalAnswer (Err arrivals.HistoryFull) ∷ []
-unfolding step_after run_from cast_answer arrive_answer tick_answer view drained frame_at cast_at status_at request_at pairs_at pair_at number_at text_of spelling messages_of first_number last_number
+unfolding step_after run_from cast_answer arrive_answer tick_answer view drained frame_at head_at cast_at status_at request_at pairs_at pair_at number_at text_of spelling messages_of first_number last_number
 a_member_refuses_it = refl
 
 a_core_delivers_it : drop 2 (answers (run_of_cores three filling)) ≡ ArrivalAnswer (Ok (Accepted (message 0 1 (1 ∷ 0 ∷ 0 ∷ []) (97 ∷ []) ∷ []) true [])) ∷ []
-unfolding step_of_cores cores_from step_after cast_answer arrive_answer tick_answer view drained frame_at cast_at status_at request_at pairs_at pair_at number_at text_of spelling messages_of first_number last_number
+unfolding step_of_cores cores_from step_after cast_answer arrive_answer tick_answer view drained frame_at head_at cast_at status_at request_at pairs_at pair_at number_at text_of spelling messages_of first_number last_number
 a_core_delivers_it = refl
 
 so_it_has_arrived : has_arrived (run_of_cores three filling) 1 (name 0 1) ≡ true
-unfolding step_of_cores cores_from step_after cast_answer arrive_answer tick_answer view drained frame_at cast_at status_at request_at pairs_at pair_at number_at text_of spelling messages_of first_number last_number
+unfolding step_of_cores cores_from step_after cast_answer arrive_answer tick_answer view drained frame_at head_at cast_at status_at request_at pairs_at pair_at number_at text_of spelling messages_of first_number last_number
 so_it_has_arrived = refl
 
 -- ---- a loss, a request that is answered, and a repeat
@@ -64,22 +64,22 @@ what_is_sent : (run_of_cores three losing).sent
     ∷ record { from = 1; to = Some 0; bytes = 19 ∷ 7 ∷ 1 ∷ 0 ∷ 1 ∷ 0 ∷ 0 ∷ [] }
     ∷ record { from = 0; to = Some 1; bytes = 17 ∷ 7 ∷ 0 ∷ 1 ∷ 0 ∷ 1 ∷ 97 ∷ [] }
     ∷ []
-unfolding step_of_cores cores_from step_after cast_answer arrive_answer tick_answer view drained frame_at cast_at status_at request_at pairs_at pair_at number_at text_of spelling messages_of first_number last_number
+unfolding step_of_cores cores_from step_after cast_answer arrive_answer tick_answer view drained frame_at head_at cast_at status_at request_at pairs_at pair_at number_at text_of spelling messages_of first_number last_number
 what_is_sent = refl
 
 what_is_delivered : stamped_lists short (run_of_cores three losing) 1
     ≡ Deliver (message 0 1 (1 ∷ 0 ∷ 0 ∷ []) (97 ∷ [])) ∷ Deliver (message 0 2 (2 ∷ 0 ∷ 0 ∷ []) (98 ∷ [])) ∷ []
-unfolding step_of_cores cores_from step_after cast_answer arrive_answer tick_answer view drained frame_at cast_at status_at request_at pairs_at pair_at number_at text_of spelling messages_of first_number last_number
+unfolding step_of_cores cores_from step_after cast_answer arrive_answer tick_answer view drained frame_at head_at cast_at status_at request_at pairs_at pair_at number_at text_of spelling messages_of first_number last_number
 what_is_delivered = refl
 
 the_last_is_a_repeat : drop 6 (answers (run_of_cores three losing)) ≡ ArrivalAnswer (Ok Repeat) ∷ []
-unfolding step_of_cores cores_from step_after cast_answer arrive_answer tick_answer view drained frame_at cast_at status_at request_at pairs_at pair_at number_at text_of spelling messages_of first_number last_number
+unfolding step_of_cores cores_from step_after cast_answer arrive_answer tick_answer view drained frame_at head_at cast_at status_at request_at pairs_at pair_at number_at text_of spelling messages_of first_number last_number
 the_last_is_a_repeat = refl
 
 -- ---- steps that name nothing
 
 naming_nothing : answers (run_of_cores three (CastStep 3 (One []) ∷ ArriveStep 1 0 ∷ TickStep 9 ∷ CastStep 0 (One (256 ∷ [])) ∷ [])) ≡ NoSuchMember ∷ NoSuchFrame ∷ NoSuchMember ∷ NoBytes ∷ []
-unfolding step_of_cores cores_from step_after cast_answer arrive_answer tick_answer view drained frame_at cast_at status_at request_at pairs_at pair_at number_at text_of spelling messages_of first_number last_number
+unfolding step_of_cores cores_from step_after cast_answer arrive_answer tick_answer view drained frame_at head_at cast_at status_at request_at pairs_at pair_at number_at text_of spelling messages_of first_number last_number
 naming_nothing = refl
 
 -- ---- rounds: casts that are all lost, and what a few rounds make of it
@@ -95,14 +95,14 @@ counts_behind n = map (λ j. map (λ i. delivered (seat_at short j) (facts_at (c
 -- in the first round three statuses go out, each to two others, and nothing is asked for yet
 the_first_round : round_of_cores three (run_of_cores three lost)
     ≡ TickStep 0 ∷ TickStep 1 ∷ TickStep 2 ∷ ArriveStep 1 3 ∷ ArriveStep 2 3 ∷ ArriveStep 0 4 ∷ ArriveStep 2 4 ∷ ArriveStep 0 5 ∷ ArriveStep 1 5 ∷ []
-unfolding round_of_cores ticked_cores answered_cores step_of_cores cores_from step_after cast_answer arrive_answer tick_answer view drained frame_at cast_at status_at request_at pairs_at pair_at number_at text_of spelling messages_of first_number last_number
+unfolding round_of_cores ticked_cores answered_cores step_of_cores cores_from step_after cast_answer arrive_answer tick_answer view drained frame_at head_at cast_at status_at request_at pairs_at pair_at number_at text_of spelling messages_of first_number last_number
 the_first_round = refl
 
 nobody_has_one : counts_behind 1 ≡ (2 ∷ 0 ∷ 0 ∷ []) ∷ (0 ∷ 0 ∷ 0 ∷ []) ∷ (0 ∷ 0 ∷ 1 ∷ []) ∷ []
-unfolding rounds_of_cores round_of_cores ticked_cores answered_cores step_of_cores cores_from step_after cast_answer arrive_answer tick_answer view drained frame_at cast_at status_at request_at pairs_at pair_at number_at text_of spelling messages_of first_number last_number
+unfolding rounds_of_cores round_of_cores ticked_cores answered_cores step_of_cores cores_from step_after cast_answer arrive_answer tick_answer view drained frame_at head_at cast_at status_at request_at pairs_at pair_at number_at text_of spelling messages_of first_number last_number
 nobody_has_one = refl
 
 -- where members with room for two entries repair nothing
 all_have_all : counts_behind 2 ≡ (2 ∷ 0 ∷ 1 ∷ []) ∷ (2 ∷ 0 ∷ 1 ∷ []) ∷ (2 ∷ 0 ∷ 1 ∷ []) ∷ []
-unfolding rounds_of_cores round_of_cores ticked_cores answered_cores step_of_cores cores_from step_after cast_answer arrive_answer tick_answer view drained frame_at cast_at status_at request_at pairs_at pair_at number_at text_of spelling messages_of first_number last_number
+unfolding rounds_of_cores round_of_cores ticked_cores answered_cores step_of_cores cores_from step_after cast_answer arrive_answer tick_answer view drained frame_at head_at cast_at status_at request_at pairs_at pair_at number_at text_of spelling messages_of first_number last_number
 all_have_all = refl

@@ -6,7 +6,7 @@ use mathlib.Core.Path.{fun_ext}
 use Rattle.cb_times.specs.declared.name.Name.{Name}
 use Rattle.cb_frames.specs.Fields.{CastFields, CastFrame, Carried, messages_of, first_number}
 use Rattle.cb_frames.proofs.Carried.{carries_some, first_is_carried}
-use Rattle.cb_diffs.specs.Expansion.{greatest, expanded_field}
+use Rattle.cb_diffs.specs.Expansion.{greatest, expanded_field, CarrySome}
 use Rattle.cb_diffs.specs.Sent as sent
 use Rattle.cb_diffs.specs.Sent.{frame_of, growth_by, sent_field}
 use Rattle.cb_diffs.proofs.Repeats.{sent_times_are_sums}
@@ -15,6 +15,7 @@ use Rattle.cb_history.specs.NameLaws.{NamesDiffer}
 use Rattle.cb_history.specs.Answers.{own_casts}
 use Rattle.cb_history.proofs.Views.{IsIn}
 use Rattle.cb_history.proofs.Lists.{in_front, in_back, names_behind}
+use Rattle.cb_history.proofs.Loads.{some_at}
 use Rattle.cb_history.proofs.Times.{same_over_range}
 use Rattle.cb_history.proofs.Agreement.{apart, all_at}
 use Rattle.cb_history.proofs.Buffers.{cast_of_is_in, in_is_cast_of}
@@ -75,18 +76,18 @@ same_found frames others sender number to from one = by_others (frame_of others 
         let (there, s, n) = is_found others sender number c is in
         found frames c sender number s n (λ d d_there d_sender d_number. one d c (to d d_there d_sender) there d_sender s (d_number ∙ sym n)) (from c there s) ∙ sym is
 
--- casts that have different messages, numbered from 1, are frames of different names
-different_frames : (casts : List CastFields) → NamesDiffer (messages_in casts) → ((m : Carried) → IsIn m (messages_in casts) → 1 ≤ m.number) → sent.NamesDiffer casts
-different_frames [] differ positive = tt
-different_frames (c ∷ casts) differ positive = (
+-- casts that have different messages, each some, numbered from 1, are frames of different names
+different_frames : (casts : List CastFields) → CarrySome casts → NamesDiffer (messages_in casts) → ((m : Carried) → IsIn m (messages_in casts) → 1 ≤ m.number) → sent.NamesDiffer casts
+different_frames [] some differ positive = tt
+different_frames (c ∷ casts) some differ positive = (
   low,
   none_other (frame_of casts c.sender (first_number c)) refl,
-  different_frames casts (names_behind (messages_of c) (messages_in casts) differ) (λ m there. positive m (in_back m (messages_of c) (messages_in casts) there)),
+  different_frames casts some.1 (names_behind (messages_of c) (messages_in casts) differ) (λ m there. positive m (in_back m (messages_of c) (messages_in casts) there)),
 )
   where
     low : 1 ≤ first_number c
     low =
-        let first = first_is_carried c in
+        let first = first_is_carried c some.0 in
         let number = first.number_is in
         let here = positive first.found (in_front first.found (messages_of c) (messages_in casts) first.there) in
         omega (arith, number, here)
@@ -95,7 +96,7 @@ different_frames (c ∷ casts) differ positive = (
     none_other None is = refl
     none_other (Some d) is =
         let (there, s, n) = is_found casts c.sender (first_number c) d is in
-        absurd (apart c d casts (first_number c) differ there (sym s) (omega arith) (carries_some c) (omega (arith, n)) (omega (arith, n, carries_some d)))
+        absurd (apart c d casts (first_number c) some differ there (sym s) (omega arith) (carries_some c some.0) (omega (arith, n)) (omega (arith, n, carries_some d (some_at casts d some.1 there))))
 
 -- ---- one moment of a run
 
@@ -125,16 +126,16 @@ module _ (setting : Setting) (s : GroupState) (inv : IsConsistent setting s) whe
 
     same_frame : (number : ℕ) → frame_of (sent_casts s) i number ≡ frame_of casts i number
     same_frame number =
-        let names = (stands_at setting.group (facts_at s) inv.together i lt).names in
+        let stands = stands_at setting.group (facts_at s) inv.together i lt in
         same_found (sent_casts s) casts i number sent_is_there there_is_sent
-        (λ c d c_there d_there c_sender d_sender first. one_of_a_name casts c d names c_there d_there (c_sender ∙ sym d_sender) first)
+        (λ c d c_there d_there c_sender d_sender first. one_of_a_name casts c d stands.some stands.names c_there d_there (c_sender ∙ sym d_sender) first)
 
     -- so the sums over the numbers are the sums over its casts: a number at which no cast begins adds nothing
     same_field : (n k : ℕ) → sent_field (sent_casts s) i n k ≡ expanded_field casts i n k
     same_field n k =
         let stands = stands_at setting.group (facts_at s) inv.together i lt in
         ap (λ (frame : ℕ → Option CastFields). cond (eqb k i) n (min greatest (sum_by (λ t. growth_by (frame t) k) (range_with_len 1 n)))) (fun_ext same_frame)
-        ∙ sent_times_are_sums casts i n k (different_frames casts stands.names stands.positive)
+        ∙ sent_times_are_sums casts i n k (different_frames casts stands.some stands.names stands.positive)
 
   -- the time from the bytes is what the sender tells
   pub time_is_clock : (m : Name) → m.sender < setting.group.size → time_from_bytes setting s m ≡ clock setting.group (facts_at s) inv.together m

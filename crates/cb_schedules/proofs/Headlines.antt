@@ -129,7 +129,8 @@ module _ (setting : Setting) (s : GroupState) (inv : IsConsistent setting s) whe
       let here = own_is_there (facts_at s c.sender) c own in
       let other_own : IsIn d (own_casts (facts_at s c.sender)) = subst (λ (i : ℕ). IsIn d (own_casts (facts_at s i))) (sym sender) (cast_of_is_in d (own_casts (facts_at s d.sender)) b.0) in
       let lt = inside setting.group (facts_at s) inv.together c.sender c here in
-      let same : c ≡ d = one_of_a_name (casts_in (facts_at s c.sender)) c d (stands_at setting.group (facts_at s) inv.together c.sender lt).names here (own_is_there (facts_at s c.sender) d other_own) sender number in
+      let stands = stands_at setting.group (facts_at s) inv.together c.sender lt in
+      let same : c ≡ d = one_of_a_name (casts_in (facts_at s c.sender)) c d stands.some stands.names here (own_is_there (facts_at s c.sender) d other_own) sender number in
       a.2 ∙ ap (λ (x : CastFields). text_of (CastFrame x)) same ∙ sym b.2
 
   pub sent_statuses_are_so : SentStatusesAreSo setting s

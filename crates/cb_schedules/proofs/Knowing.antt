@@ -14,6 +14,7 @@ use Rattle.cb_history.specs.Answers.{delivered, own_casts, is_full, group_of, ar
 use Rattle.cb_history.specs.OwnFrameLaws.{IsOfTheGroup}
 use Rattle.cb_history.proofs.Views.{IsIn, filter_in, in_filter}
 use Rattle.cb_history.proofs.Lists.{carried_there}
+use Rattle.cb_history.proofs.Loads.{some_at}
 use Rattle.cb_history.proofs.Times.{seen_is_expanded}
 use Rattle.cb_history.proofs.Rising.{greatest_append, all_at_most}
 use Rattle.cb_history.proofs.Windows.{own_casts_are_near_stable}
@@ -104,8 +105,9 @@ module _ (group : Parameters) (facts : ℕ → List Fact) (h : AreTogether group
   pub own_number : (c : CastFields) → IsIn c (own_casts (facts c.sender)) → last_number c ≤ has_delivered c.sender c.sender
   own_number c own =
       let there = own_is_there (facts c.sender) c own in
-      let last = last_is_carried c in
-      own_is_delivered (member_of group c.sender) (facts c.sender) (last_number c) (h.legal c.sender (inside group facts h c.sender c there))
+      let lt = inside group facts h c.sender c there in
+      let last = last_is_carried c (some_at (casts_in (facts c.sender)) c (stands_at group facts h c.sender lt).some there) in
+      own_is_delivered (member_of group c.sender) (facts c.sender) (last_number c) (h.legal c.sender lt)
       (message_is_there (casts_in (facts c.sender)) last.found c.sender (last_number c) (carried_there (casts_in (facts c.sender)) c last.found there last.there) last.sender_is last.number_is)
 
   -- from what was received

@@ -131,7 +131,8 @@ module _ (group : Parameters) (facts : ℕ → List Fact) (h : AreTogether group
       all_from (λ (c : CastFields). AllByRecursion (λ (d : CastFields). c.sender ≡ i → d.sender ≡ i → first_number c ≡ first_number d → c.changes ≡ d.changes) (casts_in (facts i))) casts (λ c there.
       all_from (λ (d : CastFields). c.sender ≡ i → d.sender ≡ i → first_number c ≡ first_number d → c.changes ≡ d.changes) (casts_in (facts i)) (λ d there' e f at.
       let own : IsIn c (casts_in (facts i)) = own_is_there (facts i) c (subst (λ (k : ℕ). IsIn c (own_casts (facts k))) e (are_own c there)) in
-      ap (λ (x : CastFields). x.changes) (one_of_a_name (casts_in (facts i)) c d (stands_at i lt).names own there' (e ∙ sym f) at)))
+      let stands = stands_at i lt in
+      ap (λ (x : CastFields). x.changes) (one_of_a_name (casts_in (facts i)) c d stands.some stands.names own there' (e ∙ sym f) at)))
 
   -- and where it can tell the time of a message, it tells its sender's
   pub time_is_senders : (j : ℕ) (now : List Fact) (m : Carried) (k : ℕ) → AreFactsOf (member_of group j) now → ((c : CastFields) → IsIn c (casts_in now) → IsIn c (own_casts (facts c.sender)))

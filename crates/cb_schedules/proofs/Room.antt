@@ -11,7 +11,7 @@ use Rattle.cb_history.specs.declared.answer.Outgoing.{Outgoing}
 use Rattle.cb_history.specs.CastFault.{CastFault}
 use Rattle.cb_history.specs.Group.{Identity}
 use Rattle.cb_history.specs.Facts.{EntryFields, facts_of}
-use Rattle.cb_history.specs.Answers.{is_full, is_too_many, cast_answer, group_of, are_members, is_impossible, is_repeat, is_too_far, is_change, ArrivalSays, frame_answer, answer_to, arrive_answer, is_new_status, tick_answer}
+use Rattle.cb_history.specs.Answers.{is_burst, is_full, is_too_many, cast_answer, group_of, are_members, is_impossible, is_repeat, is_too_far, is_change, ArrivalSays, frame_answer, answer_to, arrive_answer, is_new_status, tick_answer}
 use Rattle.cb_history.specs.Legal.{Call, ToCast, ToTake, ToTick, entry_of, and_entry, history_after}
 use Rattle.cb_schedules.specs.Schedule.{Setting, seat_at, Step, Schedule, Asked, Calls, OfNoMember, OfNoFrame, OfNoBytes, CastAnswer, ArrivalAnswer, TickAnswer, answer_of, GroupState, asked_by, after_asked, step_after}
 use Rattle.cb_schedules.specs.Rounds.{IsNotFull}
@@ -27,9 +27,10 @@ module _ (seat : Identity) (limit : ℕ) (entries : List EntryFields) (room : le
   unfolding cast_answer
   cast_not_full load =
       let Fine : Result CastFields CastFault → Type 0 = λ r. IsNotFull (CastAnswer r) in
-      cond_both (ltb LONGEST_PAYLOAD (length (load_bytes load))) _ _ Fine (λ _ e. cc)
+      cond_both (is_burst load) _ _ Fine (λ _ e. cc)
+      (λ _. cond_both (ltb LONGEST_PAYLOAD (length (load_bytes load))) _ _ Fine (λ _ e. cc)
       (λ _. cond_both (is_too_many seat (facts_of entries) (length (payloads_of load))) _ _ Fine (λ _ e. cc)
-      (λ _. cond_both (is_full limit entries) _ _ Fine (λ full. absurd (never_full full)) (λ _. tt)))
+      (λ _. cond_both (is_full limit entries) _ _ Fine (λ full. absurd (never_full full)) (λ _. tt))))
 
   frame_not_full : (frame : FrameFields) → IsNotFull (ArrivalAnswer (frame_answer seat limit entries (facts_of entries) frame))
   frame_not_full frame =

@@ -4,7 +4,7 @@ use Rattle.std.specs.List.{range_with_len}
 use Rattle.cb_varint.specs.Reading.{number_at, spelling}
 use Rattle.cb_frames.specs.Fields.{One, messages_of, first_number, last_number}
 use Rattle.cb_frames.specs.Text.{text_of}
-use Rattle.cb_frames.specs.Reading.{frame_at, cast_at, status_at, request_at, pairs_at, pair_at}
+use Rattle.cb_frames.specs.Reading.{frame_at, head_at, cast_at, status_at, request_at, pairs_at, pair_at}
 use Rattle.cb_history.specs.View.{view, drained}
 use Rattle.cb_history.specs.Known.{known, stable}
 use Rattle.cb_history.specs.Answers.{delivered, cast_answer, arrive_answer, tick_answer}
@@ -51,44 +51,44 @@ numbered_on = refl
 -- in the first round three statuses go out, each to two others, and nothing is asked for yet
 the_first_round : round_steps three (run three lost)
     ≡ TickStep 0 ∷ TickStep 1 ∷ TickStep 2 ∷ ArriveStep 1 3 ∷ ArriveStep 2 3 ∷ ArriveStep 0 4 ∷ ArriveStep 2 4 ∷ ArriveStep 0 5 ∷ ArriveStep 1 5 ∷ []
-unfolding round_steps ticked answered step_after run_from cast_answer arrive_answer tick_answer view drained frame_at cast_at status_at request_at pairs_at pair_at number_at text_of spelling messages_of first_number last_number
+unfolding round_steps ticked answered step_after run_from cast_answer arrive_answer tick_answer view drained frame_at head_at cast_at status_at request_at pairs_at pair_at number_at text_of spelling messages_of first_number last_number
 the_first_round = refl
 
 -- everybody has heard of every cast behind it, and nobody has got one
 nobody_has_one : counts_at (after_rounds three 1 (run three lost)) ≡ (2 ∷ 0 ∷ 0 ∷ []) ∷ (0 ∷ 0 ∷ 0 ∷ []) ∷ (0 ∷ 0 ∷ 1 ∷ []) ∷ []
-unfolding steps_of_rounds round_steps ticked answered step_after run_from cast_answer arrive_answer tick_answer view drained frame_at cast_at status_at request_at pairs_at pair_at number_at text_of spelling messages_of first_number last_number
+unfolding steps_of_rounds round_steps ticked answered step_after run_from cast_answer arrive_answer tick_answer view drained frame_at head_at cast_at status_at request_at pairs_at pair_at number_at text_of spelling messages_of first_number last_number
 nobody_has_one = refl
 
 all_have_heard : map (λ j. known (facts_at (after_rounds three 1 (run three lost)) j) 0) (1 ∷ 2 ∷ []) ≡ 2 ∷ 2 ∷ []
-unfolding steps_of_rounds round_steps ticked answered step_after run_from cast_answer arrive_answer tick_answer view drained frame_at cast_at status_at request_at pairs_at pair_at number_at text_of spelling messages_of first_number last_number
+unfolding steps_of_rounds round_steps ticked answered step_after run_from cast_answer arrive_answer tick_answer view drained frame_at head_at cast_at status_at request_at pairs_at pair_at number_at text_of spelling messages_of first_number last_number
 all_have_heard = refl
 
 -- behind the second round everybody has everything, and nothing is known to be stable
 all_have_all : counts_at (after_rounds three 2 (run three lost)) ≡ (2 ∷ 0 ∷ 1 ∷ []) ∷ (2 ∷ 0 ∷ 1 ∷ []) ∷ (2 ∷ 0 ∷ 1 ∷ []) ∷ []
-unfolding steps_of_rounds round_steps ticked answered step_after run_from cast_answer arrive_answer tick_answer view drained frame_at cast_at status_at request_at pairs_at pair_at number_at text_of spelling messages_of first_number last_number
+unfolding steps_of_rounds round_steps ticked answered step_after run_from cast_answer arrive_answer tick_answer view drained frame_at head_at cast_at status_at request_at pairs_at pair_at number_at text_of spelling messages_of first_number last_number
 all_have_all = refl
 
 not_stable_yet : stable_at (after_rounds three 2 (run three lost)) ≡ 0 ∷ 0 ∷ 0 ∷ []
-unfolding steps_of_rounds round_steps ticked answered step_after run_from cast_answer arrive_answer tick_answer view drained frame_at cast_at status_at request_at pairs_at pair_at number_at text_of spelling messages_of first_number last_number
+unfolding steps_of_rounds round_steps ticked answered step_after run_from cast_answer arrive_answer tick_answer view drained frame_at head_at cast_at status_at request_at pairs_at pair_at number_at text_of spelling messages_of first_number last_number
 not_stable_yet = refl
 
 -- behind the third everything is stable
 then_stable : stable_at (after_rounds three 3 (run three lost)) ≡ 2 ∷ 0 ∷ 1 ∷ []
-unfolding steps_of_rounds round_steps ticked answered step_after run_from cast_answer arrive_answer tick_answer view drained frame_at cast_at status_at request_at pairs_at pair_at number_at text_of spelling messages_of first_number last_number
+unfolding steps_of_rounds round_steps ticked answered step_after run_from cast_answer arrive_answer tick_answer view drained frame_at head_at cast_at status_at request_at pairs_at pair_at number_at text_of spelling messages_of first_number last_number
 then_stable = refl
 
 -- and no round after it adds an entry
 how_long_they_are : map (λ n. entries_at (after_rounds three n (run three lost))) (2 ∷ 3 ∷ 4 ∷ []) ≡ (5 ∷ 6 ∷ 5 ∷ []) ∷ (8 ∷ 7 ∷ 8 ∷ []) ∷ (8 ∷ 7 ∷ 8 ∷ []) ∷ []
-unfolding steps_of_rounds round_steps ticked answered step_after run_from cast_answer arrive_answer tick_answer view drained frame_at cast_at status_at request_at pairs_at pair_at number_at text_of spelling messages_of first_number last_number
+unfolding steps_of_rounds round_steps ticked answered step_after run_from cast_answer arrive_answer tick_answer view drained frame_at head_at cast_at status_at request_at pairs_at pair_at number_at text_of spelling messages_of first_number last_number
 how_long_they_are = refl
 
 -- the second round has two waves: what is asked for comes in the second
 how_many_steps : map (λ n. length (steps_of_rounds three n (run three lost))) (0 ∷ 1 ∷ 2 ∷ []) ≡ 0 ∷ 9 ∷ 28 ∷ []
-unfolding steps_of_rounds round_steps ticked answered step_after run_from cast_answer arrive_answer tick_answer view drained frame_at cast_at status_at request_at pairs_at pair_at number_at text_of spelling messages_of first_number last_number
+unfolding steps_of_rounds round_steps ticked answered step_after run_from cast_answer arrive_answer tick_answer view drained frame_at head_at cast_at status_at request_at pairs_at pair_at number_at text_of spelling messages_of first_number last_number
 how_many_steps = refl
 
 how_many_outcomes : length (outcomes_of three (run three lost) (steps_of_rounds three 1 (run three lost))) ≡ 9
-unfolding steps_of_rounds round_steps ticked answered step_after run_from cast_answer arrive_answer tick_answer view drained frame_at cast_at status_at request_at pairs_at pair_at number_at text_of spelling messages_of first_number last_number
+unfolding steps_of_rounds round_steps ticked answered step_after run_from cast_answer arrive_answer tick_answer view drained frame_at head_at cast_at status_at request_at pairs_at pair_at number_at text_of spelling messages_of first_number last_number
 how_many_outcomes = refl
 
 -- ---- one number more than an answer has frames
@@ -103,7 +103,7 @@ all_lost = map (λ k. CastStep 0 (One [])) (range_with_len 0 65)
 
 -- behind two rounds one cast is still lacking: two would be too few
 two_are_too_few : map (λ n. delivered (seat_at wide 1) (facts_at (after_rounds wide n (run wide all_lost)) 1) 0) (1 ∷ 2 ∷ 3 ∷ []) ≡ 0 ∷ 64 ∷ 65 ∷ []
-unfolding steps_of_rounds round_steps ticked answered step_after run_from cast_answer arrive_answer tick_answer view drained frame_at cast_at status_at request_at pairs_at pair_at number_at text_of spelling messages_of first_number last_number
+unfolding steps_of_rounds round_steps ticked answered step_after run_from cast_answer arrive_answer tick_answer view drained frame_at head_at cast_at status_at request_at pairs_at pair_at number_at text_of spelling messages_of first_number last_number
 two_are_too_few = refl
 
 -- ---- how many rounds
@@ -126,7 +126,7 @@ the_setting = record {
 
 -- the casts and three rounds are 40 steps, so histories of 100 entries are never full
 all_steps : length (lost ++ steps_of_rounds three 3 (run three lost)) ≡ 40
-unfolding steps_of_rounds round_steps ticked answered step_after run_from cast_answer arrive_answer tick_answer view drained frame_at cast_at status_at request_at pairs_at pair_at number_at text_of spelling messages_of first_number last_number
+unfolding steps_of_rounds round_steps ticked answered step_after run_from cast_answer arrive_answer tick_answer view drained frame_at head_at cast_at status_at request_at pairs_at pair_at number_at text_of spelling messages_of first_number last_number
 all_steps = refl
 
 there_is_room : FindNoneFull three (run three lost) (steps_of_rounds three (rounds_to_be_stable three) (run three lost))
@@ -152,5 +152,5 @@ full = record { group = record { number = 7; size = 3; window = 8 }; limit = 2 }
 -- then member 0 can't even tell its status, the casts that come are refused, and no round repairs anything
 nothing_is_repaired : map (λ j. map (λ i. delivered (seat_at full j) (facts_at (after_rounds full 4 (run full lost)) j) i) (0 ∷ 1 ∷ 2 ∷ [])) (0 ∷ 1 ∷ 2 ∷ [])
     ≡ (2 ∷ 0 ∷ 0 ∷ []) ∷ (0 ∷ 0 ∷ 0 ∷ []) ∷ (0 ∷ 0 ∷ 1 ∷ []) ∷ []
-unfolding steps_of_rounds round_steps ticked answered step_after run_from cast_answer arrive_answer tick_answer view drained frame_at cast_at status_at request_at pairs_at pair_at number_at text_of spelling messages_of first_number last_number
+unfolding steps_of_rounds round_steps ticked answered step_after run_from cast_answer arrive_answer tick_answer view drained frame_at head_at cast_at status_at request_at pairs_at pair_at number_at text_of spelling messages_of first_number last_number
 nothing_is_repaired = refl

@@ -3,17 +3,18 @@ use Rattle.std.proofs.Common.{◌≡◌, ℕ, true, false, List, [], ◌∷◌, 
 use Rattle.std.specs.Prelude.{slice_get}
 use Rattle.cb_varint.specs.Reading.{number_at, spelling}
 use Rattle.cb_times.specs.declared.name.Name.{Name}
-use Rattle.cb_frames.specs.Fields.{One, messages_of, first_number, last_number}
+use Rattle.cb_frames.specs.Fields.{One, Many, messages_of, first_number, last_number}
 use Rattle.cb_frames.specs.Text.{text_of}
-use Rattle.cb_frames.specs.Reading.{frame_at, cast_at, status_at, request_at, pairs_at, pair_at}
+use Rattle.cb_frames.specs.Reading.{frame_at, head_at, cast_at, status_at, request_at, pairs_at, pair_at}
 use Rattle.cb_delay.specs.declared.message.Message.{Message}
 use Rattle.cb_delay.specs.declared.message.Event.TheVariants.{Deliver}
 use Rattle.cb_causality.specs.declared.event.CausalEvent.TheVariants as causal
 use Rattle.cb_history.specs.declared.answer.ArriveRefusal.TheVariants as arrivals
+use Rattle.cb_history.specs.CastFault.{BurstTooLong}
 use Rattle.cb_history.specs.View.{view, drained}
 use Rattle.cb_history.specs.Known.{known, stable}
 use Rattle.cb_history.specs.Answers.{delivered, cast_answer, arrive_answer, tick_answer}
-use Rattle.cb_schedules.specs.Schedule.{Setting, IsSetting, seat_at, CastStep, ArriveStep, TickStep, Schedule, Answer, ArrivalAnswer, NoSuchMember, NoSuchFrame, NoBytes, GroupState, asked_by, step_after, run_from, run}
+use Rattle.cb_schedules.specs.Schedule.{Setting, IsSetting, seat_at, CastStep, ArriveStep, TickStep, Schedule, Answer, CastAnswer, ArrivalAnswer, NoSuchMember, NoSuchFrame, NoBytes, GroupState, asked_by, step_after, run_from, run}
 use Rattle.cb_schedules.specs.RunLaws.{AsksForNothing}
 use Rattle.cb_schedules.specs.Messages.{facts_at, stamped_lists, causal_lists, arrived_at, has_arrived, IsClosedArrival, time_from_bytes}
 use Rattle.cb_schedules.specs.Headline.{Headline}
@@ -49,50 +50,50 @@ abbrev the_yo : Message
 the_yo = message 1 1 (1 ∷ 1 ∷ 0 ∷ []) (121 ∷ 111 ∷ [])
 
 the_answer_waits : stamped_lists three (run three overtaking) 2 ≡ []
-unfolding step_after run_from cast_answer arrive_answer tick_answer view drained frame_at cast_at status_at request_at pairs_at pair_at number_at text_of spelling messages_of first_number last_number
+unfolding step_after run_from cast_answer arrive_answer tick_answer view drained frame_at head_at cast_at status_at request_at pairs_at pair_at number_at text_of spelling messages_of first_number last_number
 the_answer_waits = refl
 
 but_it_has_arrived : has_arrived (run three overtaking) 2 (name 1 1) ≡ true
-unfolding step_after run_from cast_answer arrive_answer tick_answer view drained frame_at cast_at status_at request_at pairs_at pair_at number_at text_of spelling messages_of first_number last_number
+unfolding step_after run_from cast_answer arrive_answer tick_answer view drained frame_at head_at cast_at status_at request_at pairs_at pair_at number_at text_of spelling messages_of first_number last_number
 but_it_has_arrived = refl
 
 its_question_has_not : has_arrived (run three overtaking) 2 (name 0 1) ≡ false
-unfolding step_after run_from cast_answer arrive_answer tick_answer view drained frame_at cast_at status_at request_at pairs_at pair_at number_at text_of spelling messages_of first_number last_number
+unfolding step_after run_from cast_answer arrive_answer tick_answer view drained frame_at head_at cast_at status_at request_at pairs_at pair_at number_at text_of spelling messages_of first_number last_number
 its_question_has_not = refl
 
 then_both_are_delivered : stamped_lists three (run three in_the_end) 2 ≡ Deliver the_hi ∷ Deliver the_yo ∷ []
-unfolding step_after run_from cast_answer arrive_answer tick_answer view drained frame_at cast_at status_at request_at pairs_at pair_at number_at text_of spelling messages_of first_number last_number
+unfolding step_after run_from cast_answer arrive_answer tick_answer view drained frame_at head_at cast_at status_at request_at pairs_at pair_at number_at text_of spelling messages_of first_number last_number
 then_both_are_delivered = refl
 
 without_times : causal_lists three (run three in_the_end) 1 ≡ causal.Deliver (name 0 1) (104 ∷ 105 ∷ []) ∷ causal.Cast (name 1 1) (121 ∷ 111 ∷ []) ∷ []
-unfolding step_after run_from cast_answer arrive_answer tick_answer view drained frame_at cast_at status_at request_at pairs_at pair_at number_at text_of spelling messages_of first_number last_number
+unfolding step_after run_from cast_answer arrive_answer tick_answer view drained frame_at head_at cast_at status_at request_at pairs_at pair_at number_at text_of spelling messages_of first_number last_number
 without_times = refl
 
 the_question_is_before : time_from_bytes three (run three in_the_end) (name 0 1) ≡ 1 ∷ 0 ∷ 0 ∷ []
-unfolding step_after run_from cast_answer arrive_answer tick_answer view drained frame_at cast_at status_at request_at pairs_at pair_at number_at text_of spelling messages_of first_number last_number
+unfolding step_after run_from cast_answer arrive_answer tick_answer view drained frame_at head_at cast_at status_at request_at pairs_at pair_at number_at text_of spelling messages_of first_number last_number
 the_question_is_before = refl
 
 its_answer : time_from_bytes three (run three in_the_end) (name 1 1) ≡ 1 ∷ 1 ∷ 0 ∷ []
-unfolding step_after run_from cast_answer arrive_answer tick_answer view drained frame_at cast_at status_at request_at pairs_at pair_at number_at text_of spelling messages_of first_number last_number
+unfolding step_after run_from cast_answer arrive_answer tick_answer view drained frame_at head_at cast_at status_at request_at pairs_at pair_at number_at text_of spelling messages_of first_number last_number
 its_answer = refl
 
 the_frames_that_were_sent : map (λ f. f.bytes) (run three in_the_end).sent
     ≡ (17 ∷ 7 ∷ 0 ∷ 1 ∷ 0 ∷ 2 ∷ 104 ∷ 105 ∷ []) ∷ (17 ∷ 7 ∷ 1 ∷ 1 ∷ 1 ∷ 0 ∷ 1 ∷ 2 ∷ 121 ∷ 111 ∷ []) ∷ []
-unfolding step_after run_from cast_answer arrive_answer tick_answer view drained frame_at cast_at status_at request_at pairs_at pair_at number_at text_of spelling messages_of first_number last_number
+unfolding step_after run_from cast_answer arrive_answer tick_answer view drained frame_at head_at cast_at status_at request_at pairs_at pair_at number_at text_of spelling messages_of first_number last_number
 the_frames_that_were_sent = refl
 
 -- the number of the first frame that each step sent, and how many these were
 and_by_which_steps : map (λ o. o.first ∷ o.count ∷ []) (run three in_the_end).outcomes
     ≡ (0 ∷ 1 ∷ []) ∷ (1 ∷ 0 ∷ []) ∷ (1 ∷ 1 ∷ []) ∷ (2 ∷ 0 ∷ []) ∷ (2 ∷ 0 ∷ []) ∷ []
-unfolding step_after run_from cast_answer arrive_answer tick_answer view drained frame_at cast_at status_at request_at pairs_at pair_at number_at text_of spelling messages_of first_number last_number
+unfolding step_after run_from cast_answer arrive_answer tick_answer view drained frame_at head_at cast_at status_at request_at pairs_at pair_at number_at text_of spelling messages_of first_number last_number
 and_by_which_steps = refl
 
 how_long_the_histories_are : map (λ k. length ((run three in_the_end).histories k)) (0 ∷ 1 ∷ 2 ∷ []) ≡ 1 ∷ 2 ∷ 2 ∷ []
-unfolding step_after run_from cast_answer arrive_answer tick_answer view drained frame_at cast_at status_at request_at pairs_at pair_at number_at text_of spelling messages_of first_number last_number
+unfolding step_after run_from cast_answer arrive_answer tick_answer view drained frame_at head_at cast_at status_at request_at pairs_at pair_at number_at text_of spelling messages_of first_number last_number
 how_long_the_histories_are = refl
 
 nothing_is_stable_yet : map (λ k. stable (seat_at three k) (facts_at (run three in_the_end) k)) (0 ∷ 1 ∷ 2 ∷ []) ≡ 0 ∷ 0 ∷ 0 ∷ []
-unfolding step_after run_from cast_answer arrive_answer tick_answer view drained frame_at cast_at status_at request_at pairs_at pair_at number_at text_of spelling messages_of first_number last_number
+unfolding step_after run_from cast_answer arrive_answer tick_answer view drained frame_at head_at cast_at status_at request_at pairs_at pair_at number_at text_of spelling messages_of first_number last_number
 nothing_is_stable_yet = refl
 
 -- ---- a loss, a request that is answered, and a repeat
@@ -109,35 +110,35 @@ what_was_sent : (run three losing).sent
     ∷ record { from = 1; to = Some 0; bytes = 19 ∷ 7 ∷ 1 ∷ 0 ∷ 1 ∷ 0 ∷ 0 ∷ [] }
     ∷ record { from = 0; to = Some 1; bytes = 17 ∷ 7 ∷ 0 ∷ 1 ∷ 0 ∷ 1 ∷ 97 ∷ [] }
     ∷ []
-unfolding step_after run_from cast_answer arrive_answer tick_answer view drained frame_at cast_at status_at request_at pairs_at pair_at number_at text_of spelling messages_of first_number last_number
+unfolding step_after run_from cast_answer arrive_answer tick_answer view drained frame_at head_at cast_at status_at request_at pairs_at pair_at number_at text_of spelling messages_of first_number last_number
 what_was_sent = refl
 
 what_is_delivered_late : stamped_lists three (run three losing) 1
     ≡ Deliver (message 0 1 (1 ∷ 0 ∷ 0 ∷ []) (97 ∷ [])) ∷ Deliver (message 0 2 (2 ∷ 0 ∷ 0 ∷ []) (98 ∷ [])) ∷ []
-unfolding step_after run_from cast_answer arrive_answer tick_answer view drained frame_at cast_at status_at request_at pairs_at pair_at number_at text_of spelling messages_of first_number last_number
+unfolding step_after run_from cast_answer arrive_answer tick_answer view drained frame_at head_at cast_at status_at request_at pairs_at pair_at number_at text_of spelling messages_of first_number last_number
 what_is_delivered_late = refl
 
 what_arrived_with_repeats : map (λ m. m.number) (arrived_at (run three losing) 1) ≡ 2 ∷ 1 ∷ 1 ∷ []
-unfolding step_after run_from cast_answer arrive_answer tick_answer view drained frame_at cast_at status_at request_at pairs_at pair_at number_at text_of spelling messages_of first_number last_number
+unfolding step_after run_from cast_answer arrive_answer tick_answer view drained frame_at head_at cast_at status_at request_at pairs_at pair_at number_at text_of spelling messages_of first_number last_number
 what_arrived_with_repeats = refl
 
 -- a frame that was sent twice counts once
 the_time_of_the_second : time_from_bytes three (run three losing) (name 0 2) ≡ 2 ∷ 0 ∷ 0 ∷ []
-unfolding step_after run_from cast_answer arrive_answer tick_answer view drained frame_at cast_at status_at request_at pairs_at pair_at number_at text_of spelling messages_of first_number last_number
+unfolding step_after run_from cast_answer arrive_answer tick_answer view drained frame_at head_at cast_at status_at request_at pairs_at pair_at number_at text_of spelling messages_of first_number last_number
 the_time_of_the_second = refl
 
 -- the frame that was sent again has the bytes that were sent first
 sent_again_byte_for_byte : option_map (λ f. f.bytes) (slice_get (run three losing).sent 4) ≡ option_map (λ f. f.bytes) (slice_get (run three losing).sent 0)
-unfolding step_after run_from cast_answer arrive_answer tick_answer view drained frame_at cast_at status_at request_at pairs_at pair_at number_at text_of spelling messages_of first_number last_number
+unfolding step_after run_from cast_answer arrive_answer tick_answer view drained frame_at head_at cast_at status_at request_at pairs_at pair_at number_at text_of spelling messages_of first_number last_number
 sent_again_byte_for_byte = refl
 
 -- member 1 has heard of both casts, of which member 0 made two
 what_is_heard_of : known (facts_at (run three losing) 1) 0 ≡ 2
-unfolding step_after run_from cast_answer arrive_answer tick_answer view drained frame_at cast_at status_at request_at pairs_at pair_at number_at text_of spelling messages_of first_number last_number
+unfolding step_after run_from cast_answer arrive_answer tick_answer view drained frame_at head_at cast_at status_at request_at pairs_at pair_at number_at text_of spelling messages_of first_number last_number
 what_is_heard_of = refl
 
 what_was_cast : delivered (seat_at three 0) (facts_at (run three losing) 0) 0 ≡ 2
-unfolding step_after run_from cast_answer arrive_answer tick_answer view drained frame_at cast_at status_at request_at pairs_at pair_at number_at text_of spelling messages_of first_number last_number
+unfolding step_after run_from cast_answer arrive_answer tick_answer view drained frame_at head_at cast_at status_at request_at pairs_at pair_at number_at text_of spelling messages_of first_number last_number
 what_was_cast = refl
 
 -- ---- steps that name nothing
@@ -149,16 +150,30 @@ they_ask_for_nothing : AsksForNothing (asked_by three [] (CastStep 3 (One []))) 
 they_ask_for_nothing = (tt, tt, tt)
 
 they_say_so : answers (run three naming_nothing) ≡ NoSuchMember ∷ NoSuchFrame ∷ NoSuchMember ∷ NoSuchMember ∷ NoBytes ∷ []
-unfolding step_after run_from cast_answer arrive_answer tick_answer view drained frame_at cast_at status_at request_at pairs_at pair_at number_at text_of spelling messages_of first_number last_number
+unfolding step_after run_from cast_answer arrive_answer tick_answer view drained frame_at head_at cast_at status_at request_at pairs_at pair_at number_at text_of spelling messages_of first_number last_number
 they_say_so = refl
 
 they_send_nothing : (run three naming_nothing).sent ≡ []
-unfolding step_after run_from cast_answer arrive_answer tick_answer view drained frame_at cast_at status_at request_at pairs_at pair_at number_at text_of spelling messages_of first_number last_number
+unfolding step_after run_from cast_answer arrive_answer tick_answer view drained frame_at head_at cast_at status_at request_at pairs_at pair_at number_at text_of spelling messages_of first_number last_number
 they_send_nothing = refl
 
 they_change_nothing : (run three naming_nothing).histories 0 ≡ []
-unfolding step_after run_from cast_answer arrive_answer tick_answer view drained frame_at cast_at status_at request_at pairs_at pair_at number_at text_of spelling messages_of first_number last_number
+unfolding step_after run_from cast_answer arrive_answer tick_answer view drained frame_at head_at cast_at status_at request_at pairs_at pair_at number_at text_of spelling messages_of first_number last_number
 they_change_nothing = refl
+
+-- ---- a burst
+
+-- member 0 is to cast "hi" and "yo" at once
+abbrev two_at_once : Schedule
+two_at_once = CastStep 0 (Many ((104 ∷ 105 ∷ []) ∷ (121 ∷ 111 ∷ []) ∷ [])) ∷ []
+
+it_is_refused : answers (run three two_at_once) ≡ CastAnswer (Err BurstTooLong) ∷ []
+unfolding step_after run_from cast_answer
+it_is_refused = refl
+
+and_nothing_is_sent : (run three two_at_once).sent ≡ []
+unfolding step_after run_from cast_answer
+and_nothing_is_sent = refl
 
 -- ---- the laws speak of these schedules: the setting is one
 
@@ -178,7 +193,7 @@ the_headline = each_schedule Headline headline_holds three in_the_end the_settin
 
 -- member 2 has delivered "yo" in the end, and so, by the headline, it is a closed arrival
 yo_is_closed : IsClosedArrival three (run three in_the_end) 2 (name 1 1)
-unfolding step_after run_from cast_answer arrive_answer tick_answer view drained frame_at cast_at status_at request_at pairs_at pair_at number_at text_of spelling messages_of first_number last_number
+unfolding step_after run_from cast_answer arrive_answer tick_answer view drained frame_at head_at cast_at status_at request_at pairs_at pair_at number_at text_of spelling messages_of first_number last_number
 yo_is_closed = (the_headline.delivered 2 (name 1 1)).0 (record { index = 1; event = causal.Deliver (name 1 1) (121 ∷ 111 ∷ []); stands = refl; named = refl })
 
 -- two members cast at once: neither time is at most the other
@@ -186,11 +201,11 @@ abbrev at_once : Schedule
 at_once = CastStep 0 (One (97 ∷ [])) ∷ CastStep 1 (One (98 ∷ [])) ∷ ArriveStep 0 1 ∷ ArriveStep 1 0 ∷ []
 
 one_of_them : time_from_bytes three (run three at_once) (name 0 1) ≡ 1 ∷ 0 ∷ 0 ∷ []
-unfolding step_after run_from cast_answer arrive_answer tick_answer view drained frame_at cast_at status_at request_at pairs_at pair_at number_at text_of spelling messages_of first_number last_number
+unfolding step_after run_from cast_answer arrive_answer tick_answer view drained frame_at head_at cast_at status_at request_at pairs_at pair_at number_at text_of spelling messages_of first_number last_number
 one_of_them = refl
 
 the_other : time_from_bytes three (run three at_once) (name 1 1) ≡ 0 ∷ 1 ∷ 0 ∷ []
-unfolding step_after run_from cast_answer arrive_answer tick_answer view drained frame_at cast_at status_at request_at pairs_at pair_at number_at text_of spelling messages_of first_number last_number
+unfolding step_after run_from cast_answer arrive_answer tick_answer view drained frame_at head_at cast_at status_at request_at pairs_at pair_at number_at text_of spelling messages_of first_number last_number
 the_other = refl
 
 -- ---- what is stable: both others tell their statuses
@@ -199,15 +214,15 @@ abbrev reported_back : Schedule
 reported_back = CastStep 0 (One (97 ∷ [])) ∷ ArriveStep 1 0 ∷ ArriveStep 2 0 ∷ TickStep 1 ∷ TickStep 2 ∷ ArriveStep 0 1 ∷ ArriveStep 0 2 ∷ []
 
 the_cast_is_stable : stable (seat_at three 0) (facts_at (run three reported_back) 0) ≡ 1
-unfolding step_after run_from cast_answer arrive_answer tick_answer view drained frame_at cast_at status_at request_at pairs_at pair_at number_at text_of spelling messages_of first_number last_number
+unfolding step_after run_from cast_answer arrive_answer tick_answer view drained frame_at head_at cast_at status_at request_at pairs_at pair_at number_at text_of spelling messages_of first_number last_number
 the_cast_is_stable = refl
 
 and_delivered_by_the_first : delivered (seat_at three 1) (facts_at (run three reported_back) 1) 0 ≡ 1
-unfolding step_after run_from cast_answer arrive_answer tick_answer view drained frame_at cast_at status_at request_at pairs_at pair_at number_at text_of spelling messages_of first_number last_number
+unfolding step_after run_from cast_answer arrive_answer tick_answer view drained frame_at head_at cast_at status_at request_at pairs_at pair_at number_at text_of spelling messages_of first_number last_number
 and_delivered_by_the_first = refl
 
 and_by_the_second : delivered (seat_at three 2) (facts_at (run three reported_back) 2) 0 ≡ 1
-unfolding step_after run_from cast_answer arrive_answer tick_answer view drained frame_at cast_at status_at request_at pairs_at pair_at number_at text_of spelling messages_of first_number last_number
+unfolding step_after run_from cast_answer arrive_answer tick_answer view drained frame_at head_at cast_at status_at request_at pairs_at pair_at number_at text_of spelling messages_of first_number last_number
 and_by_the_second = refl
 
 -- ---- the one refusal of an arrival: no entry is left, and then nothing has arrived
@@ -219,9 +234,9 @@ abbrev filling : Schedule
 filling = CastStep 0 (One (97 ∷ [])) ∷ CastStep 1 (One (98 ∷ [])) ∷ ArriveStep 1 0 ∷ []
 
 the_history_is_full : map (λ o. o.answer) (drop 2 (run short filling).outcomes) ≡ ArrivalAnswer (Err arrivals.HistoryFull) ∷ []
-unfolding step_after run_from cast_answer arrive_answer tick_answer view drained frame_at cast_at status_at request_at pairs_at pair_at number_at text_of spelling messages_of first_number last_number
+unfolding step_after run_from cast_answer arrive_answer tick_answer view drained frame_at head_at cast_at status_at request_at pairs_at pair_at number_at text_of spelling messages_of first_number last_number
 the_history_is_full = refl
 
 it_has_not_arrived : has_arrived (run short filling) 1 (name 0 1) ≡ false
-unfolding step_after run_from cast_answer arrive_answer tick_answer view drained frame_at cast_at status_at request_at pairs_at pair_at number_at text_of spelling messages_of first_number last_number
+unfolding step_after run_from cast_answer arrive_answer tick_answer view drained frame_at head_at cast_at status_at request_at pairs_at pair_at number_at text_of spelling messages_of first_number last_number
 it_has_not_arrived = refl

@@ -6,7 +6,7 @@ use Rattle.cb_varint.specs.Reading.{spelling}
 use Rattle.cb_frames.specs.declared.frame.TheConstants.{LAST_NUMBER, MOST_RANGES, MOST_FRAMES}
 use Rattle.cb_frames.specs.declared.frame.Range.{Range}
 use Rattle.cb_frames.specs.declared.fault.FrameFault.{FrameFault}
-use Rattle.cb_frames.specs.Fields.{Load, payloads_of, load_bytes, CastFields, RequestFields, FrameFields, CastFrame, StatusFrame, RequestFrame, last_number}
+use Rattle.cb_frames.specs.Fields.{Load, One, Many, IsOne, payloads_of, load_bytes, CastFields, RequestFields, FrameFields, CastFrame, StatusFrame, RequestFrame, last_number}
 use Rattle.cb_frames.specs.Text.{IsLoad, text_of, request_kind, request_numbers}
 use Rattle.cb_history.specs.Read.{frame_read}
 use Rattle.cb_frames.specs.Laws.{IsBytes}
@@ -21,7 +21,7 @@ use Rattle.cb_history.specs.LegalFacts.{AreFactsOf}
 use Rattle.cb_history.specs.BufferLaws.{IsCastOf}
 use Rattle.cb_history.proofs.Views.{IsIn, filter_in, not_true}
 use Rattle.cb_history.proofs.Lists.{in_append, in_one}
-use Rattle.cb_history.proofs.ReadBack.{cast_read as cast_reads, status_read}
+use Rattle.cb_history.proofs.ReadBack.{cast_read as cast_reads, status_read, read_whole}
 use Rattle.cb_history.proofs.Written.{each_from}
 use Rattle.cb_history.proofs.Requests.{own_frames_have_texts}
 use Rattle.cb_history.proofs.OwnFrames.{own_casts_are_of_the_group, own_statuses_are_of_the_group, own_requests_are_of_the_group}
@@ -39,18 +39,20 @@ module _ (group : Parameters) (facts : ℕ → List Fact) (i : ℕ) (are : AreFa
   is_seat : IsIdentity (member_of group i)
   is_seat = record { group = are.group; member = are.member }
 
-  -- the next cast, once it is an own cast
-  pub cast_is_honest : (after : ℕ → List Fact) (load : Load) → IsBytes (load_bytes load) → delivered (member_of group i) (facts i) i + length (payloads_of load) ≤ LAST_NUMBER → IsLoad load
+  -- the next cast of one payload, once it is an own cast
+  pub cast_is_honest : (after : ℕ → List Fact) (load : Load) → IsOne load → IsBytes (load_bytes load) → delivered (member_of group i) (facts i) i + length (payloads_of load) ≤ LAST_NUMBER → IsLoad load
       → IsCastOf (next_cast (member_of group i) (facts i) load) (own_casts (after i)) → IsHonest group after (text_of (CastFrame (next_cast (member_of group i) (facts i) load)))
-  cast_is_honest after load bytes left short own =
-      let can = (own_frames_have_texts (member_of group i) (facts i) are).0 load left short in
+  cast_is_honest after (One payload) one bytes left short own =
+      let cast = next_cast (member_of group i) (facts i) (One payload) in
+      let can = (own_frames_have_texts (member_of group i) (facts i) are).0 (One payload) tt left short in
       record {
-        are_bytes = cast_is_bytes (next_cast (member_of group i) (facts i) load) can bytes;
-        frame = CastFrame (next_cast (member_of group i) (facts i) load);
-        read = cast_reads (next_cast (member_of group i) (facts i) load) can;
-        of_group = own_casts_are_of_the_group (member_of group i) (facts i) load is_seat;
+        are_bytes = cast_is_bytes cast payload can bytes;
+        frame = CastFrame cast;
+        read = cast_reads cast tt can;
+        of_group = own_casts_are_of_the_group (member_of group i) (facts i) (One payload) is_seat;
         so = own;
       }
+  cast_is_honest after (Many payloads) one bytes left short own = absurd one
 
   -- the status
   pub status_is_honest : IsHonest group facts (text_of (StatusFrame (status_of (member_of group i) (facts i))))
@@ -128,7 +130,7 @@ sent_frame (frame ∷ frames) c there = elim (in_append c (cast_read (frame_read
 
 -- honest bytes that are read as a cast are its text
 pub honest_text : (group : Parameters) (facts : ℕ → List Fact) (bytes : List ℕ) (f : FrameFields) → IsHonest group facts bytes → frame_read bytes ≡ Ok f → bytes ≡ text_of f
-honest_text group facts bytes f honest read = one_text f bytes ((reading_is_exact.text bytes f honest.are_bytes).0 read)
+honest_text group facts bytes f honest read = one_text f bytes ((reading_is_exact.text bytes f honest.are_bytes).0 (read_whole bytes f read))
 
 pub sent_is_honest : (group : Parameters) (facts : ℕ → List Fact) (frames : List SentFrame) (c : CastFields) → AllByRecursion (λ frame. IsHonest group facts frame.bytes) frames
     → IsIn c (flat_map (λ frame. cast_read (frame_read frame.bytes)) frames) → IsHonest group facts (text_of (CastFrame c))

@@ -7,7 +7,6 @@ use Rattle.std.proofs.lemmas.List.Elements.{recursion_from_All, All-from_recursi
 use Rattle.cb_frames.specs.declared.frame.Change.{Change}
 use Rattle.cb_frames.specs.Fields.{CastFields, first_number}
 use Rattle.hex.specs.Hex.{decode_of}
-use Rattle.cb_frames.specs.Reading.{frame_at}
 use Rattle.cb_diffs.specs.declared.expander.ExpandFault.{ExpandFault}
 use Rattle.cb_diffs.specs.declared.expander.ExpandFault.TheVariants.{BadMember, NotNext, NoMemory}
 use Rattle.confer_expand.specs.declared.fault.LineFault.{LineFault}
@@ -16,7 +15,7 @@ use Rattle.cb_diffs.specs.Expansion.{greatest, last_in, AreMembers, IsNotNext, I
 use Rattle.cb_diffs.specs.Laws.{IsKept}
 use Rattle.cb_diffs.proofs.Sums.{expanding_is_summing}
 use Rattle.confer_expand.specs.declared.refusal.Refusal.TheVariants.{Expand}
-use Rattle.confer_expand.specs.Answers.{or_bad_hex, cast_or_refusal, are_members, accept, outcome}
+use Rattle.confer_expand.specs.Answers.{or_bad_hex, single_frame_at, cast_or_refusal, are_members, accept, outcome}
 use Rattle.confer_expand.specs.Progress.{Group}
 use Rattle.confer_expand.specs.Steps.{HasTime, GivesTime}
 
@@ -91,6 +90,6 @@ gives_time (Err NoMemory) old new accepted c g kept e bad next memory = absurd (
 
 -- what the line is, where its bytes are a cast's
 pub outcome_is : (group size : ℕ) (accepted : List CastFields) (line bytes : List ℕ) (c : CastFields) → or_bad_hex (decode_of line) ≡ Ok bytes
-    → cast_or_refusal (frame_at bytes) ≡ Ok c → outcome group size accepted line ≡ accept group size accepted c
+    → cast_or_refusal (single_frame_at bytes) ≡ Ok c → outcome group size accepted line ≡ accept group size accepted c
 unfolding outcome
 outcome_is group size accepted line bytes c spelled decoded = rw (spelled, decoded) refl

@@ -151,7 +151,7 @@ says_accepted line cast old new before now gives same text refused = record {
       let casts : List CastFields = accepted ++ cast_fields cast ∷ [] in
       let time : expanded_time size casts cast.sender cast.number ≡ new.time = ap (expanded_time size casts cast.sender) (sym (first_is_number (cast_fields cast))) ∙ sym given.1.time in
       let shown : answer_texts size accepted (outcome old.number size accepted line) ≡ accepted_text cast new.time ∷ [] = ap (answer_texts size accepted) is
-      ∙ ap (map (message_text size casts)) (carries_one (cast_fields cast))
+      ∙ ap (map (message_text size casts)) (carries_one (cast_fields cast) tt)
       ∙ ap (λ (t : List ℕ). (decimal cast.sender ++ codes "." ++ decimal cast.number ++ codes " " ++ text_of t ++ codes " " ++ payload_text cast.payload) ∷ []) time in
       record {
         text = text ∙ ap (λ (t : List ℕ). before.text ++ t) (sym (one_answer size accepted (outcome old.number size accepted line) (accepted_text cast new.time) shown));

@@ -4,13 +4,12 @@ use Rattle.hex.specs.Hex.{decode_of}
 use Rattle.cb_frames.specs.declared.frame.TheConstants.{LONGEST_PAYLOAD}
 use Rattle.cb_frames.specs.declared.frame.Cast.{Cast}
 use Rattle.cb_frames.specs.Fields.{CastFields, cast_fields, first_number}
-use Rattle.cb_frames.specs.Reading.{frame_at}
 use Rattle.cb_diffs.specs.Expansion.{expanded_time}
 use Rattle.cb_diffs.specs.Laws.{IsKept}
 use Rattle.confer_expand.specs.declared.fault.LineFault.{LineFault}
 use Rattle.confer_expand.specs.declared.fault.LineFault.TheVariants.{Refused, NoMemory}
 use Rattle.confer_expand.specs.declared.refusal.Refusal.{Refusal}
-use Rattle.confer_expand.specs.Answers.{or_bad_hex, cast_or_refusal, accept, outcome}
+use Rattle.confer_expand.specs.Answers.{or_bad_hex, single_frame_at, cast_or_refusal, accept, outcome}
 use Rattle.confer_expand.specs.Progress.{Group}
 
 -- a refusal is the stated one; out of memory says nothing of the line
@@ -23,8 +22,8 @@ GivesBytes line (Ok bytes) = or_bad_hex (decode_of line) ≡ Ok bytes
 GivesBytes line (Err fault) = Fails fault (or_bad_hex (decode_of line))
 
 abbrev pub GivesCast : List ℕ → Result Cast LineFault → Type 0
-GivesCast bytes (Ok cast) = (cast_or_refusal (frame_at bytes) ≡ Ok (cast_fields cast)) × (length cast.payload ≤ LONGEST_PAYLOAD)
-GivesCast bytes (Err fault) = Fails fault (cast_or_refusal (frame_at bytes))
+GivesCast bytes (Ok cast) = (cast_or_refusal (single_frame_at bytes) ≡ Ok (cast_fields cast)) × (length cast.payload ≤ LONGEST_PAYLOAD)
+GivesCast bytes (Err fault) = Fails fault (cast_or_refusal (single_frame_at bytes))
 
 -- a time is the sum over the casts accepted before and this one, which is kept
 pub record HasTime (size : ℕ) (accepted : List CastFields) (c : CastFields) (new : Group) : Type 0 where

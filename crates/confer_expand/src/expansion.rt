@@ -99,8 +99,10 @@ impl Expansion {
     }
 }
 
-ghost use Rattle.std.specs.Prelude.{◌≤◌};
+ghost use Rattle.std.specs.Prelude.{◌≡◌, ◌≤◌};
 ghost use Rattle.cb_frames.specs.declared.frame.TheConstants.{LONGEST_PAYLOAD};
+ghost use Rattle.cb_frames.specs.Reading.{frame_at};
+ghost use Rattle.confer_expand.specs.Answers.{single_frame_at};
 ghost use Rattle.confer_expand.specs.Steps.{GivesBytes, GivesCast};
 
 fn bytes_of(alloc: Global, line: &[u8]) -> Result<Bytes, LineFault>
@@ -117,11 +119,26 @@ fn bytes_of(alloc: Global, line: &[u8]) -> Result<Bytes, LineFault>
     }
 }
 
+/// The first byte of a burst.
+const BURST: u8 = 0x21;
+
+/// The cast that the bytes are. A burst is of no kind that has a time here, whatever follows its first byte.
 fn cast_of(alloc: Global, bytes: &Bytes) -> Result<Cast, LineFault>
+    ensures { GivesCast bytes.now result }
+{
+    match bytes.as_slice().first() {
+        Some(&BURST) => Err(LineFault::Refused(Refusal::Frame(FrameFault::UnknownKind))),
+        _other => single_cast(alloc, bytes),
+    }
+}
+
+fn single_cast(alloc: Global, bytes: &Bytes) -> Result<Cast, LineFault>
+    requires { single_frame_at bytes.now ≡ frame_at bytes.now }
     ensures { GivesCast bytes.now result }
 {
     match cb_frames::decode(alloc, bytes) {
         Ok(Frame::Cast(cast)) => Ok(cast),
+        Ok(Frame::Burst(_)) => unreachable!("it would begin with another byte"),
         Ok(Frame::Status(_) | Frame::Request(_)) => Err(LineFault::Refused(Refusal::NotACast)),
         Err(FrameFault::NoMemory) => Err(LineFault::NoMemory(AllocError)),
         Err(fault) => Err(LineFault::Refused(Refusal::Frame(fault))),
