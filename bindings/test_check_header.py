@@ -17,7 +17,7 @@ CHANGES = [
     (HEADER, "jolunza_stable(", "jolunza_steady(", "function jolunza_steady"),
     (HEADER, "JOLUNZA_TOO_FAR = 11", "JOLUNZA_TOO_FAR = 12", "JOLUNZA_TOO_FAR"),
     (HEADER, "JOLUNZA_TICK = 2", "JOLUNZA_TICK = 3", "JOLUNZA_TICK"),
-    (HEADER, "JOLUNZA_LONGEST_FRAME 1417", "JOLUNZA_LONGEST_FRAME 1416", "JOLUNZA_LONGEST_FRAME"),
+    (HEADER, "JOLUNZA_LONGEST_FRAME 1456", "JOLUNZA_LONGEST_FRAME 1455", "JOLUNZA_LONGEST_FRAME"),
     (HEADER, "JOLUNZA_VERSION 1", "JOLUNZA_VERSION 2", "the version"),
     (HEADER, "bool is_repeat;", "uint8_t is_repeat;", "jolunza_received"),
     (HEADER, "size_t delivered;\n} jolunza_entry_head", "uint32_t delivered;\n} jolunza_entry_head", "jolunza_entry_head"),

@@ -36,7 +36,7 @@ extern "C" {
 
 /* The longest payload and the longest frame, in bytes, and the most members. */
 #define JOLUNZA_LONGEST_PAYLOAD 1024
-#define JOLUNZA_LONGEST_FRAME 1417
+#define JOLUNZA_LONGEST_FRAME 1456
 #define JOLUNZA_MOST_MEMBERS 64
 
 /* What the calls answer. */

@@ -25,7 +25,7 @@ from types import TracebackType
 from typing import Any, Iterator, NamedTuple, Optional, Sequence, Union
 
 LONGEST_PAYLOAD = 1024
-LONGEST_FRAME = 1417
+LONGEST_FRAME = 1456
 MOST_MEMBERS = 64
 
 Given = Union[bytes, bytearray, memoryview]

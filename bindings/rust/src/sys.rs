@@ -5,7 +5,7 @@
 use std::ffi::c_void;
 
 pub const JOLUNZA_LONGEST_PAYLOAD: usize = 1024;
-pub const JOLUNZA_LONGEST_FRAME: usize = 1417;
+pub const JOLUNZA_LONGEST_FRAME: usize = 1456;
 pub const JOLUNZA_MOST_MEMBERS: usize = 64;
 
 pub const JOLUNZA_DONE: u32 = 0;

@@ -183,22 +183,41 @@ fn at_most_64_frames_are_sent_again_at_once() {
     }
 }
 
-/// A cast of member 0 of group 4,294,967,295, whose payload and whose changes are the longest.
-fn longest_cast(number: &[u8]) -> Vec<u8> {
-    let greatest = [0xff, 0xff, 0xff, 0xff, 0x0f];
-    let change = |gap| [&[gap][..], &greatest].concat();
+const GREATEST: [u8; 5] = [0xff, 0xff, 0xff, 0xff, 0x0f];
+
+/// A frame of this kind of member 0 of group 4,294,967,295, with these bytes behind 63 changes, which are the longest.
+fn with_longest_changes(kind: u8, number: &[u8], carried: &[u8]) -> Vec<u8> {
+    let change = |gap| [&[gap][..], &GREATEST].concat();
     let changes: Vec<Vec<u8>> = (0..63).map(|place| change(u8::from(place == 0))).collect();
-    [&[0x11][..], &greatest, &[0], number, &[63], &changes.concat(), &[0x80, 0x08], &[7; LONGEST_PAYLOAD]].concat()
+    [&[kind][..], &GREATEST, &[0], number, &[63], &changes.concat(), carried].concat()
+}
+
+/// A cast whose payload is the longest.
+fn longest_cast(number: &[u8]) -> Vec<u8> {
+    with_longest_changes(0x11, number, &[&[0x80, 0x08][..], &[7; LONGEST_PAYLOAD]].concat())
+}
+
+/// A burst that ends at the last number, of eight payloads of 128 bytes and 24 of none.
+fn longest_burst() -> Vec<u8> {
+    let payload = [&[0x80, 0x01][..], &[7; 128]].concat();
+    with_longest_changes(0x21, &[0xe0, 0xff, 0xff, 0xff, 0x0f], &[&[32][..], &payload.repeat(8), &[0; 24]].concat())
 }
 
 #[test]
-fn the_longest_frame_has_1417_bytes() {
+fn the_longest_cast_has_1417_bytes() {
     let mut member = open(u32::MAX, 64, 1, 1, 100);
-    let longest = longest_cast(&[0xff, 0xff, 0xff, 0xff, 0x0f]);
-    assert_eq!((longest.len(), member.receive(&longest)), (LONGEST_FRAME, Err(Refusal::TooFar)));
+    let longest = longest_cast(&GREATEST);
+    assert_eq!((longest.len(), member.receive(&longest)), (1417, Err(Refusal::TooFar)));
     let first = longest_cast(&[1]);
     assert_eq!(member.receive(&first).map(|received| received.is_entered), Ok(true));
     assert_eq!(member.entry(0), Some(Entry::Arrive { frame: &first, delivered: &[] }));
+}
+
+#[test]
+fn the_longest_frame_is_a_burst_which_members_refuse() {
+    let mut member = open(u32::MAX, 64, 256, 1, 100);
+    let longest = longest_burst();
+    assert_eq!((longest.len(), member.receive(&longest)), (LONGEST_FRAME, Err(Refusal::Malformed)));
 }
 
 /// The events are read in pieces, each at once, and from anywhere.

@@ -1,5 +1,6 @@
 pub mod Walks
 pub mod Messages
+pub mod Singles
 pub mod Numbers
 pub mod Bounds
 pub mod Casting

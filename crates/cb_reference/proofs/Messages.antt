@@ -23,7 +23,7 @@ pub there_in_casts : (sender number : ℕ) (casts : List (Bor Cast)) → list_an
 there_in_casts sender number [] = refl
 there_in_casts sender number (c ∷ casts) =
     ap (λ (b : Bool). (eqb c.now.sender sender && eqb c.now.number number) || b) (there_in_casts sender number casts)
-    ∙ ap (λ (ms : List Carried). list_any (λ (m : Carried). eqb m.sender sender && eqb m.number number) (ms ++ messages_in (map cast_of casts))) (sym (carries_one (cast_of c)))
+    ∙ ap (λ (ms : List Carried). list_any (λ (m : Carried). eqb m.sender sender && eqb m.number number) (ms ++ messages_in (map cast_of casts))) (sym (carries_one (cast_of c) tt))
 
 pub among_carried : (m : Carried) (seen : List Message) → list_any (λ (n : Message). eqb n.sender m.sender && eqb n.number m.number) seen ≡ is_among (map carried_of seen) m
 among_carried m [] = refl

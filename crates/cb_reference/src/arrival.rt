@@ -12,6 +12,7 @@ ghost use Rattle.cb_history.specs.Answers.{with_frame};
 ghost use Rattle.cb_history.specs.State.{view_in, answer_to_arrival, facts_in, RefusesArrival};
 ghost use Rattle.cb_reference.specs.Facts.{fact_of, cast_of};
 ghost use Rattle.cb_reference.specs.Messages.{carried_of};
+ghost use Rattle.cb_reference.specs.Reading.{IsNoBurst};
 ghost use Rattle.cb_reference.specs.Arrivals.{IsReadRefusal, IsAccepting, TakesFrame};
 
 mod cast;
@@ -21,9 +22,10 @@ mod status;
 use crate::events::message_in;
 use crate::facts::{Fact, casts_in};
 use crate::member::ReferenceMember;
+use crate::reading::read;
 use crate::view::{Message, view};
 use bytes::Bytes;
-use cb_frames::{Cast, Frame, FrameFault, decode};
+use cb_frames::{Cast, Frame, FrameFault};
 use cb_history::{Arrival, ArriveRefusal, Entry, Message as Delivery, Names, Outgoing};
 use cb_times::NoMemory;
 use std::alloc::Global;
@@ -44,20 +46,22 @@ pub fn answer_arrival(member: &ReferenceMember, bytes: &Bytes) -> Result<Accepti
     ensures refused { IfErr result (RefusesArrival member.now bytes.now) }
     ensures bytes { IsBytes bytes.now }
 {
-    match read(member.allocator(), bytes)? {
+    match frame_of(member.allocator(), bytes)? {
         Frame::Cast(cast) => cast::answer(member, cast, bytes),
+        Frame::Burst(_) => unreachable!("a member reads no burst"),
         Frame::Status(status) => status::answer(member, status, bytes),
         Frame::Request(request) => request::answer(member, &request, bytes),
     }
 }
 
 /// The frame of the bytes. What is no frame is refused without memory.
-fn read(alloc: Global, bytes: &Bytes) -> Result<Frame, ArriveRefusal>
+fn frame_of(alloc: Global, bytes: &Bytes) -> Result<Frame, ArriveRefusal>
     ensures frame { IfOk result (λ frame. frame_read bytes.now ≡ Ok (fields_of frame)) }
+    ensures single { IfOk result IsNoBurst }
     ensures refused { IfErr result (IsReadRefusal bytes.now) }
     ensures bytes { IsBytes bytes.now }
 {
-    match decode(alloc, bytes) {
+    match read(alloc, bytes) {
         Ok(frame) => Ok(frame),
         Err(FrameFault::NoMemory) => Err(ArriveRefusal::NoMemory),
         Err(fault) => Err(ArriveRefusal::Malformed(fault)),

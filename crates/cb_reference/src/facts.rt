@@ -5,8 +5,9 @@ ghost use Rattle.cb_history.specs.Read.{frame_read};
 ghost use Rattle.cb_history.specs.Facts.{entry_fields, cast_said, arrival_said, status_said, said_by, facts_of, cast_in, casts_in};
 ghost use Rattle.cb_reference.specs.Facts.{fact_of, as_facts, cast_of, as_casts};
 
+use crate::reading::read;
 use bytes::Bytes;
-use cb_frames::{Cast, Frame, FrameFault, Status, decode};
+use cb_frames::{Cast, Frame, FrameFault, Status};
 use cb_history::Entry;
 use cb_times::NoMemory;
 use std::alloc::{AllocError, Global};
@@ -27,10 +28,11 @@ pub enum Fact {
 fn cast_said(alloc: Global, frame: &Bytes) -> Result<Option<Fact>, NoMemory>
     ensures { IfOk result (λ fact. as_facts fact ≡ cast_said (frame_read frame.now)) }
 {
-    match decode(alloc, frame) {
+    match read(alloc, frame) {
         Ok(Frame::Cast(cast)) => Ok(Some(Fact::OwnCast(cast))),
         Ok(Frame::Status(_)) => Ok(None),
         Ok(Frame::Request(_)) => Ok(None),
+        Ok(Frame::Burst(_)) => unreachable!("a member reads no burst"),
         Err(FrameFault::NoMemory) => Err(AllocError),
         Err(_) => Ok(None),
     }
@@ -39,10 +41,11 @@ fn cast_said(alloc: Global, frame: &Bytes) -> Result<Option<Fact>, NoMemory>
 fn arrival_said(alloc: Global, frame: &Bytes) -> Result<Option<Fact>, NoMemory>
     ensures { IfOk result (λ fact. as_facts fact ≡ arrival_said (frame_read frame.now)) }
 {
-    match decode(alloc, frame) {
+    match read(alloc, frame) {
         Ok(Frame::Cast(cast)) => Ok(Some(Fact::CastReceived(cast))),
         Ok(Frame::Status(status)) => Ok(Some(Fact::StatusReceived(status))),
         Ok(Frame::Request(_)) => Ok(None),
+        Ok(Frame::Burst(_)) => unreachable!("a member reads no burst"),
         Err(FrameFault::NoMemory) => Err(AllocError),
         Err(_) => Ok(None),
     }
@@ -51,10 +54,11 @@ fn arrival_said(alloc: Global, frame: &Bytes) -> Result<Option<Fact>, NoMemory>
 fn status_said(alloc: Global, frame: &Bytes) -> Result<Option<Fact>, NoMemory>
     ensures { IfOk result (λ fact. as_facts fact ≡ status_said (frame_read frame.now)) }
 {
-    match decode(alloc, frame) {
+    match read(alloc, frame) {
         Ok(Frame::Status(status)) => Ok(Some(Fact::OwnStatus(status))),
         Ok(Frame::Cast(_)) => Ok(None),
         Ok(Frame::Request(_)) => Ok(None),
+        Ok(Frame::Burst(_)) => unreachable!("a member reads no burst"),
         Err(FrameFault::NoMemory) => Err(AllocError),
         Err(_) => Ok(None),
     }

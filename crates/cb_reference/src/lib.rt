@@ -12,6 +12,7 @@ mod facts;
 mod known;
 mod member;
 mod past;
+mod reading;
 mod tick;
 mod view;
 

@@ -14,8 +14,9 @@ use crate::facts::facts_of;
 use crate::known::stable;
 use crate::member::ReferenceMember;
 use crate::past::Past;
+use crate::reading::read;
 use bytes::Bytes;
-use cb_frames::{Cast, Frame, FrameFault, MOST_FRAMES, Range, Request, decode, one_text};
+use cb_frames::{Cast, Frame, FrameFault, MOST_FRAMES, Range, Request, one_text};
 use cb_history::{Arrival, ArriveRefusal, Entry, Outgoing};
 use cb_times::NoMemory;
 use std::alloc::{AllocError, Global};
@@ -42,7 +43,7 @@ fn asked_text(
         (cast_said (frame_read frame.now)))) }
 {
     one_text();
-    match decode(alloc, frame) {
+    match read(alloc, frame) {
         Ok(Frame::Cast(cast)) => {
             if stable < cast.number && is_asked_for(ranges, &cast) {
                 Ok(Some(frame.clone()?))
@@ -50,7 +51,9 @@ fn asked_text(
                 Ok(None)
             }
         }
-        Ok(_) => Ok(None),
+        Ok(Frame::Status(_)) => Ok(None),
+        Ok(Frame::Request(_)) => Ok(None),
+        Ok(Frame::Burst(_)) => unreachable!("a member reads no burst"),
         Err(FrameFault::NoMemory) => Err(AllocError),
         Err(_) => Ok(None),
     }

@@ -9,4 +9,4 @@ pub casting_of-requires-clause-rules : goal.casting_of-requires-clause-rules
 casting_of-requires-clause-rules c =
     let m : MemberState = c.args.past.now in
     let legal = c.member.ensures.state.legal in
-    subst (λ (x : CastFields). KeepsCastRules x) (sym c.in_ok-cast.ensures) (next_keeps m.seat (facts_in m) (One c.args.payload.now) legal.group.size.at_most_sixty_four legal.member)
+    subst (λ (x : CastFields). KeepsCastRules x) (sym c.in_ok-cast.ensures) (next_keeps m.seat (facts_in m) (One c.args.payload.now) tt legal.group.size.at_most_sixty_four legal.member)

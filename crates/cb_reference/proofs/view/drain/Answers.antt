@@ -6,6 +6,7 @@ use Rattle.cb_reference.specs.Facts.{cast_of}
 use Rattle.cb_reference.specs.declared.view.Message.{Message}
 use Rattle.cb_reference.specs.Messages.{carried_of}
 use Rattle.cb_history.proofs.Lists.{length_messages}
+use Rattle.cb_reference.proofs.Singles.{singles_among}
 use Rattle.cb_reference.proofs.Walks.{drained_more, drained_end}
 use Rattle.cb_reference.proofs.view.drain.Goals as goal
 use Rattle.cb_history.proofs.Delivering.{ends_at}
@@ -13,7 +14,7 @@ use Rattle.cb_history.proofs.Delivering.{ends_at}
 pub loop-delivered-init : goal.loop-delivered-init
 loop-delivered-init c =
     let casts = map cast_of c.args.casts.now in
-    let e : length c.args.casts.now - 0 ≡ length (messages_in casts) = omega (arith, length_messages casts, length-map c.args.casts.now cast_of) in
+    let e : length c.args.casts.now - 0 ≡ length (messages_in casts) = omega (arith, length_messages casts (singles_among c.args.casts.now), length-map c.args.casts.now cast_of) in
     ap (λ (n : ℕ). drained c.args.size casts n (map carried_of c.args.seen.now.items)) e
 
 pub returns-in_default : goal.returns-in_default

@@ -14,4 +14,4 @@ returns c =
     any_from_yields_List test _ _ c.any.result c.any.ensures.ran (YieldsList-from_slice c.args.ranges.now cc) (λ x b q k. search (rules, tests))
     ∙ sym (or-false (list_any test c.args.ranges.now))
     ∙ ap (λ (ms : List Carried). list_any (λ (m : Carried). list_any (λ (r : Range). leb r.first m.number && leb m.number r.last) c.args.ranges.now) ms)
-    (sym (carries_one (cast_fields c.args.cast.now)))
+    (sym (carries_one (cast_fields c.args.cast.now) tt))
