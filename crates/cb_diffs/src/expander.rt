@@ -265,7 +265,6 @@ impl Expander {
 }
 
 /// The number of the burst's last message.
-#[tactic(auto, using(cb_frames::proofs::Carried::first_is_number, cb_frames::proofs::Carried::carries_payloads, cb_frames::proofs::Carried::carried_up_to_the_last))]
 fn last_of(burst: &Burst) -> u32
     requires some { IsSome (burst_fields burst.now).load }
     requires last { last_number (burst_fields burst.now) ≤ greatest }

@@ -3,7 +3,7 @@
 use crate::asserts::{holds_at, says};
 use bytes::Bytes;
 use cb_diffs::{ExpandFault, Expander, difference};
-use cb_frames::{Cast, Change};
+use cb_frames::{Burst, Cast, Change, LAST_NUMBER, Unit};
 use cb_times::{FEWEST_MEMBERS, MOST_MEMBERS, NoMemory, TimeOrder, VectorTime};
 use std::alloc::Global;
 use std::marker::Model;
@@ -37,6 +37,51 @@ fn cast(rt: &impl Abort, alloc: Global, step: &Step<'_>) -> Cast {
     }
 }
 
+/// A cast of group 7, or a burst of so many messages from that number on, and the time of its first message or its fault.
+#[derive(Drop)]
+struct FrameStep<'a> {
+    messages: Option<usize>,
+    step: Step<'a>,
+}
+
+fn unit(rt: &impl Abort, alloc: Global, frame: &FrameStep<'_>) -> Unit {
+    let cast = cast(rt, alloc, &frame.step);
+    match frame.messages {
+        None => Unit::One(cast),
+        Some(count) => Unit::Many(burst_like(rt, alloc, cast, count)),
+    }
+}
+
+fn burst_like(rt: &impl Abort, alloc: Global, cast: Cast, count: usize) -> Burst {
+    let mut payloads = Vec::new(alloc);
+    for _ in 0..count {
+        payloads.push(Bytes::new()).expect(rt, "memory");
+    }
+    Burst {
+        group: cast.group,
+        sender: cast.sender,
+        first: cast.number,
+        changes: cast.changes,
+        payloads,
+    }
+}
+
+ghost use Rattle.std.specs.Prelude.{◌≤◌, IsTrue};
+ghost use Rattle.cb_frames.specs.Fields.{IsSome, burst_fields, last_number};
+ghost use Rattle.cb_diffs.specs.Expansion.{greatest};
+
+/// Some payload, and a number for each.
+fn has_numbers(burst: &Burst) -> bool
+    ensures { IsTrue result → (IsSome (burst_fields burst.now).load)
+        × (last_number (burst_fields burst.now) ≤ greatest) }
+{
+    let count = burst.payloads.len();
+    if count == 0 || u64::from(burst.first) + (count as u64 - 1) > u64::from(LAST_NUMBER) {
+        return false;
+    }
+    true
+}
+
 /// An expander and the time that it fills.
 #[derive(Drop)]
 struct Filling {
@@ -66,28 +111,57 @@ impl Filling {
         })
     }
 
-    fn fill(&mut self, cast: &Cast) -> Result<(), ExpandFault> {
-        self.expander.expand_into(cast, &mut self.into)
+    fn fill(&mut self, rt: &impl Abort, unit: &Unit) -> Result<(), ExpandFault> {
+        match unit {
+            Unit::One(cast) => self.expander.expand_into(cast, &mut self.into),
+            Unit::Many(burst) => {
+                if !has_numbers(burst) {
+                    panic!(rt; "a burst has payloads, and numbers for them");
+                }
+                self.expander.burst_into(burst, &mut self.into)
+            }
+        }
     }
 }
 
-/// What `expand` says of the cast.
-fn expanded(alloc: Global, expander: &mut Expander, cast: &Cast) -> Result<String, NoMemory> {
-    match expander.expand(cast) {
+fn expand(
+    rt: &impl Abort,
+    expander: &mut Expander,
+    unit: &Unit,
+) -> Result<VectorTime, ExpandFault> {
+    match unit {
+        Unit::One(cast) => expander.expand(cast),
+        Unit::Many(burst) => {
+            if !has_numbers(burst) {
+                panic!(rt; "a burst has payloads, and numbers for them");
+            }
+            expander.burst(burst)
+        }
+    }
+}
+
+/// What `expand` says of the cast, or `burst` of the burst.
+fn expanded(
+    rt: &impl Abort,
+    alloc: Global,
+    expander: &mut Expander,
+    unit: &Unit,
+) -> Result<String, NoMemory> {
+    match expand(rt, expander, unit) {
         Ok(time) => time.to_string(alloc),
         Err(fault) => fault.to_string(alloc),
     }
 }
 
-/// What `expand_into` says of the cast. A fault leaves the time as it was.
+/// What `expand_into` says of the cast, or `burst_into` of the burst. A fault leaves the time as it was.
 fn filled(
     rt: &impl Abort,
     alloc: Global,
     filling: &mut Filling,
-    cast: &Cast,
+    unit: &Unit,
 ) -> Result<String, NoMemory> {
     let before = filling.into.copy().expect(rt, "memory");
-    let answer = filling.fill(cast);
+    let answer = filling.fill(rt, unit);
     let is_as_before = filling.into.as_slice() == before.as_slice();
     drop(before);
     match answer {
@@ -108,7 +182,28 @@ fn expand_all(rt: &impl Abort, alloc: Global, size: u32, steps: &[Step<'_>])
     let mut expander = Expander::new(alloc, size).expect(rt, "memory");
     let mut filling = Filling::new(alloc, size).expect(rt, "memory");
     for step in steps {
-        expand_one(rt, alloc, (&mut expander, &mut filling), step);
+        let cast = Unit::One(cast(rt, alloc, step));
+        expand_one(rt, alloc, (&mut expander, &mut filling), &cast, step.gives);
+        drop(cast);
+    }
+    drop(expander);
+    drop(filling);
+}
+
+/// Each frame has the answer that stands beside it, by both calls for its kind.
+fn expand_frames(rt: &impl Abort, alloc: Global, frames: &[FrameStep<'_>]) {
+    let mut expander = Expander::new(alloc, 3).expect(rt, "memory");
+    let mut filling = Filling::new(alloc, 3).expect(rt, "memory");
+    for frame in frames {
+        let unit = unit(rt, alloc, frame);
+        expand_one(
+            rt,
+            alloc,
+            (&mut expander, &mut filling),
+            &unit,
+            frame.step.gives,
+        );
+        drop(unit);
     }
     drop(expander);
     drop(filling);
@@ -118,13 +213,12 @@ fn expand_one(
     rt: &impl Abort,
     alloc: Global,
     by_both: (&mut Expander, &mut Filling),
-    step: &Step<'_>,
+    unit: &Unit,
+    gives: &str,
 ) {
     let (expander, filling) = by_both;
-    let cast = cast(rt, alloc, step);
-    says(rt, expanded(alloc, expander, &cast), step.gives);
-    says(rt, filled(rt, alloc, filling, &cast), step.gives);
-    drop(cast);
+    says(rt, expanded(rt, alloc, expander, unit), gives);
+    says(rt, filled(rt, alloc, filling, unit), gives);
 }
 
 #[test]
@@ -227,11 +321,252 @@ fn a_field_stays_at_the_greatest_number(rt: HostRuntime) {
     expand_all(&rt, rt.alloc(), 3, &steps);
 }
 
+/// Two messages of member 0, two of member 1 after them, and what these and member 2 cast then.
+const BURSTS: &[FrameStep<'static>] = &[
+    FrameStep {
+        messages: Some(2),
+        step: Step {
+            sender: 0,
+            number: 1,
+            changes: &[],
+            gives: "[1,0,0]",
+        },
+    },
+    FrameStep {
+        messages: Some(2),
+        step: Step {
+            sender: 1,
+            number: 1,
+            changes: &[(0, 2)],
+            gives: "[2,1,0]",
+        },
+    },
+    FrameStep {
+        messages: None,
+        step: Step {
+            sender: 1,
+            number: 3,
+            changes: &[],
+            gives: "[2,3,0]",
+        },
+    },
+    FrameStep {
+        messages: None,
+        step: Step {
+            sender: 2,
+            number: 1,
+            changes: &[(0, 2), (1, 3)],
+            gives: "[2,3,1]",
+        },
+    },
+    FrameStep {
+        messages: Some(3),
+        step: Step {
+            sender: 0,
+            number: 3,
+            changes: &[(2, 1)],
+            gives: "[3,0,1]",
+        },
+    },
+    FrameStep {
+        messages: Some(1),
+        step: Step {
+            sender: 2,
+            number: 2,
+            changes: &[(0, 3)],
+            gives: "[5,3,2]",
+        },
+    },
+    FrameStep {
+        messages: None,
+        step: Step {
+            sender: 0,
+            number: 6,
+            changes: &[(1, 3), (2, 1)],
+            gives: "[6,3,2]",
+        },
+    },
+];
+
+#[test]
+fn the_changes_of_a_burst_count_once_and_its_last_number_is_kept(rt: HostRuntime) {
+    expand_frames(&rt, rt.alloc(), BURSTS);
+}
+
+const REFUSED_BURSTS: &[FrameStep<'static>] = &[
+    FrameStep {
+        messages: Some(2),
+        step: Step {
+            sender: 3,
+            number: 9,
+            changes: &[],
+            gives: "BadMember",
+        },
+    },
+    FrameStep {
+        messages: Some(2),
+        step: Step {
+            sender: 1,
+            number: 9,
+            changes: &[(3, 1)],
+            gives: "BadMember",
+        },
+    },
+    FrameStep {
+        messages: Some(2),
+        step: Step {
+            sender: 1,
+            number: 2,
+            changes: &[(0, 1)],
+            gives: "NotNext expected 1 found 2",
+        },
+    },
+    FrameStep {
+        messages: Some(2),
+        step: Step {
+            sender: 1,
+            number: 0,
+            changes: &[],
+            gives: "NotNext expected 1 found 0",
+        },
+    },
+    FrameStep {
+        messages: Some(2),
+        step: Step {
+            sender: 1,
+            number: 1,
+            changes: &[(0, 1)],
+            gives: "[1,1,0]",
+        },
+    },
+    FrameStep {
+        messages: Some(2),
+        step: Step {
+            sender: 1,
+            number: 1,
+            changes: &[(0, 1)],
+            gives: "NotNext expected 3 found 1",
+        },
+    },
+    FrameStep {
+        messages: Some(2),
+        step: Step {
+            sender: 1,
+            number: 2,
+            changes: &[],
+            gives: "NotNext expected 3 found 2",
+        },
+    },
+    FrameStep {
+        messages: None,
+        step: Step {
+            sender: 1,
+            number: 2,
+            changes: &[],
+            gives: "NotNext expected 3 found 2",
+        },
+    },
+    FrameStep {
+        messages: Some(2),
+        step: Step {
+            sender: 1,
+            number: 4,
+            changes: &[],
+            gives: "NotNext expected 3 found 4",
+        },
+    },
+    FrameStep {
+        messages: Some(2),
+        step: Step {
+            sender: 1,
+            number: 3,
+            changes: &[(3, 1)],
+            gives: "BadMember",
+        },
+    },
+    FrameStep {
+        messages: Some(2),
+        step: Step {
+            sender: 1,
+            number: 3,
+            changes: &[(2, 1)],
+            gives: "[1,3,1]",
+        },
+    },
+    FrameStep {
+        messages: None,
+        step: Step {
+            sender: 1,
+            number: 5,
+            changes: &[],
+            gives: "[1,5,1]",
+        },
+    },
+];
+
+#[test]
+fn a_burst_is_refused_as_a_cast_is(rt: HostRuntime) {
+    expand_frames(&rt, rt.alloc(), REFUSED_BURSTS);
+}
+
+const GREATEST_IN_BURSTS: &[FrameStep<'static>] = &[
+    FrameStep {
+        messages: Some(2),
+        step: Step {
+            sender: 1,
+            number: 1,
+            changes: &[(0, 4_294_967_295)],
+            gives: "[4294967295,1,0]",
+        },
+    },
+    FrameStep {
+        messages: Some(2),
+        step: Step {
+            sender: 1,
+            number: 3,
+            changes: &[(0, 1)],
+            gives: "[4294967295,3,0]",
+        },
+    },
+    FrameStep {
+        messages: None,
+        step: Step {
+            sender: 1,
+            number: 5,
+            changes: &[(0, 1)],
+            gives: "[4294967295,5,0]",
+        },
+    },
+    FrameStep {
+        messages: Some(2),
+        step: Step {
+            sender: 0,
+            number: LAST_NUMBER - 1,
+            changes: &[],
+            gives: "NotNext expected 1 found 4294967294",
+        },
+    },
+    FrameStep {
+        messages: Some(1),
+        step: Step {
+            sender: 0,
+            number: LAST_NUMBER,
+            changes: &[],
+            gives: "NotNext expected 1 found 4294967295",
+        },
+    },
+];
+
+#[test]
+fn a_burst_stays_at_the_greatest_number(rt: HostRuntime) {
+    expand_frames(&rt, rt.alloc(), GREATEST_IN_BURSTS);
+}
+
 /// Each cast has the answer that stands beside it.
 fn go_on(rt: &impl Abort, alloc: Global, expander: &mut Expander, steps: &[Step<'_>]) {
     for step in steps {
-        let cast = cast(rt, alloc, step);
-        says(rt, expanded(alloc, expander, &cast), step.gives);
+        let cast = Unit::One(cast(rt, alloc, step));
+        says(rt, expanded(rt, alloc, expander, &cast), step.gives);
         drop(cast);
     }
 }
