@@ -1,20 +1,21 @@
--- The gaps between casts of rising numbers.
-use Rattle.std.proofs.Common.{append_assoc, ap, ◌≡◌, ℕ, zero, suc, ◌+◌, ◌-◌, ◌<◌, ◌≤◌, ◌⊎◌, true, false, cond, ltb, min, List, [], ◌∷◌, ◌++◌, length, sym, ◌∙◌, subst, arith, append-nil, refl, inl, inr, All, Any}
+-- The gaps between units of rising numbers.
+use Rattle.std.proofs.Common.{append_assoc, ap, ◌≡◌, ℕ, zero, suc, ◌+◌, ◌-◌, ◌<◌, ◌≤◌, ◌^◌, ◌⊎◌, true, false, cond, ltb, min, List, [], ◌∷◌, ◌++◌, length, sym, ◌∙◌, subst, arith, append-nil, refl, inl, inr, All, Any}
 use Rattle.std.proofs.lemmas.Bool.Decides.{nat_tests}
-use Rattle.std.proofs.lemmas.List.Elements.{All-cons, All-weaker}
+use Rattle.std.proofs.lemmas.List.Elements.{All-head, All-tail, All-cons, All-weaker}
 use Rattle.std.proofs.lemmas.List.Kept.{AllPairs-cons}
-use Rattle.cb_frames.specs.declared.frame.Cast.{Cast}
+use Rattle.cb_frames.specs.declared.frame.Unit.{Unit as Carrying}
 use Rattle.cb_frames.specs.declared.frame.Range.{Range}
-use Rattle.cb_frames.specs.Fields.{cast_fields}
+use Rattle.cb_frames.specs.Fields.{unit_fields}
 use Rattle.cb_gaps.specs.Ranges.{IsWithin, AreRangesOf, gap_between}
-use Rattle.cb_gaps.specs.Lists.{first_of, last_of, Rise, IsGap}
-use Rattle.cb_gaps.proofs.Spans.{cases_covers}
+use Rattle.cb_gaps.specs.Buffer.{IsNumbered}
+use Rattle.cb_gaps.specs.Lists.{first_of, last_of, Rise, Below, IsGap}
+use Rattle.cb_gaps.proofs.Spans.{cases_covers, is_numbered}
 use Rattle.cb_gaps.proofs.Entries.{none_before}
 
 -- the gaps from above `before`, up to `last`
-abbrev pub gaps_from : ℕ → ℕ → List Cast → List Range
+abbrev pub gaps_from : ℕ → ℕ → List Carrying → List Range
 gaps_from before last [] = gap_between before last
-gaps_from before last (c ∷ casts) = gap_between before (min last (first_of c - 1)) ++ gaps_from (last_of c) last casts
+gaps_from before last (c ∷ units) = gap_between before (min last (first_of c - 1)) ++ gaps_from (last_of c) last units
 
 -- what the gaps are, over how a gap in front of ranges changes them
 record AreGaps (numbers : ℕ → Type 0) (before : ℕ) (ranges : List Range) : Type 0 where
@@ -100,20 +101,20 @@ no_gaps middle = record {
   later = λ k d below. absurd (omega (arith, below));
 }
 
-gaps : (before last : ℕ) (casts : List Cast) → Rise before casts → AreGaps (IsGap before last casts) before (gaps_from before last casts)
+gaps : (before last : ℕ) (units : List Carrying) → Rise before units → AreGaps (IsGap before last units) before (gaps_from before last units)
 gaps before last [] rise =
     subst (λ (l : List Range). AreGaps (IsGap before last []) before l) (append-nil (gap_between before last))
     (gap_in_front (IsGap before last []) (λ _. ⊥) before last (before + last + 1) [] (no_gaps (before + last + 1)) (omega arith) (omega arith)
     (λ n gap. inl (gap.after, gap.upto))
     (λ n after upto. record { after = after; upto = upto; not_kept = λ has. has })
     (λ n none. absurd none))
-gaps before last (c ∷ casts) rise =
-    gap_in_front (IsGap before last (c ∷ casts)) (IsGap (last_of c) last casts) before (min last (first_of c - 1)) (last_of c)
-    (gaps_from (last_of c) last casts) (gaps (last_of c) last casts rise.2) (omega (arith, rise.0, rise.1)) (omega (arith, rise.0, rise.1))
+gaps before last (c ∷ units) rise =
+    gap_in_front (IsGap before last (c ∷ units)) (IsGap (last_of c) last units) before (min last (first_of c - 1)) (last_of c)
+    (gaps_from (last_of c) last units) (gaps (last_of c) last units rise.2) (omega (arith, rise.0, rise.1)) (omega (arith, rise.0, rise.1))
     (λ n gap.
-    elim (cases_covers (cast_fields c) n) as (λ _. ((before < n) × (n ≤ min last (first_of c - 1))) ⊎ IsGap (last_of c) last casts n) [
+    elim (cases_covers (unit_fields c) n) as (λ _. ((before < n) × (n ≤ min last (first_of c - 1))) ⊎ IsGap (last_of c) last units n) [
       | inl covers ↦ absurd (gap.not_kept (inl covers))
-      | inr outside ↦ elim outside as (λ _. ((before < n) × (n ≤ min last (first_of c - 1))) ⊎ IsGap (last_of c) last casts n) [
+      | inr outside ↦ elim outside as (λ _. ((before < n) × (n ≤ min last (first_of c - 1))) ⊎ IsGap (last_of c) last units n) [
         | inl less ↦ inl (gap.after, omega (arith, less, gap.upto))
         | inr more ↦ inr (record { after = more; upto = gap.upto; not_kept = λ later. gap.not_kept (inr later) })
       ]
@@ -121,7 +122,7 @@ gaps before last (c ∷ casts) rise =
     (λ n after upto. record {
       after = after;
       upto = omega (arith, upto);
-      not_kept = none_before n n (c ∷ casts) (omega (arith, upto, rise.0), rise.1, rise.2) (omega arith);
+      not_kept = none_before n n (c ∷ units) (omega (arith, upto, rise.0), rise.1, rise.2) (omega arith);
     })
     (λ n gap. record {
       after = omega (arith, gap.after, rise.0, rise.1);
@@ -132,18 +133,29 @@ gaps before last (c ∷ casts) rise =
       ];
     })
 
-pub gaps_are : (before last : ℕ) (casts : List Cast) → Rise before casts → AreRangesOf (IsGap before last casts) (gaps_from before last casts)
-gaps_are before last casts rise = (gaps before last casts rise).are
+pub gaps_are : (before last : ℕ) (units : List Carrying) → Rise before units → AreRangesOf (IsGap before last units) (gaps_from before last units)
+gaps_are before last units rise = (gaps before last units rise).are
 
--- one cast more of a walk
-module _ (taken last before : ℕ) (c : Cast) (casts rest behind : List Cast) (so_far more : List Range) (step : rest ≡ c ∷ behind) where
-  pub one_rise : Rise before rest → Rise (last_of c) behind
-  one_rise rise =
-      let now : Rise before (c ∷ behind) = subst (Rise before) step rise in
-      now.2
+-- ---- a walk over units
 
+-- what stands next has numbers
+pub one_numbered : (before : ℕ) (c : Carrying) (rest behind : List Carrying) → rest ≡ c ∷ behind → Rise before rest → Below (2 ^ 32) rest → IsNumbered c
+one_numbered before c rest behind step rise below =
+    let now : Rise before (c ∷ behind) = subst (Rise before) step rise in
+    is_numbered c (omega (arith, now.0)) now.1 (All-head (λ x. last_of x < 2 ^ 32) c behind (subst (Below (2 ^ 32)) step below))
+
+pub one_rise : (before : ℕ) (c : Carrying) (rest behind : List Carrying) → rest ≡ c ∷ behind → Rise before rest → Rise (last_of c) behind
+one_rise before c rest behind step rise =
+    let now : Rise before (c ∷ behind) = subst (Rise before) step rise in
+    now.2
+
+pub one_below : (bound : ℕ) (c : Carrying) (rest behind : List Carrying) → rest ≡ c ∷ behind → Below bound rest → Below bound behind
+one_below bound c rest behind step below = All-tail (λ x. last_of x < bound) c behind (subst (Below bound) step below)
+
+-- one unit more
+module _ (taken last before : ℕ) (c : Carrying) (units rest behind : List Carrying) (so_far more : List Range) (step : rest ≡ c ∷ behind) where
   pub one_gap : (end : ℕ) → end ≡ min last (first_of c - 1) → more ≡ so_far ++ gap_between before end
-      → so_far ++ gaps_from before last rest ≡ gaps_from taken last casts → more ++ gaps_from (last_of c) last behind ≡ gaps_from taken last casts
+      → so_far ++ gaps_from before last rest ≡ gaps_from taken last units → more ++ gaps_from (last_of c) last behind ≡ gaps_from taken last units
   one_gap end ends made kept =
       let same : gap_between before end ++ gaps_from (last_of c) last behind ≡ gaps_from before last rest =
       rw (step, ends) refl in
@@ -151,10 +163,10 @@ module _ (taken last before : ℕ) (c : Cast) (casts rest behind : List Cast) (s
       ∙ append_assoc so_far (gap_between before end) (gaps_from (last_of c) last behind)
       ∙ ap (λ (rs : List Range). so_far ++ rs) same ∙ kept
 
--- and so what a walk over all casts has made
-pub walked : (taken last before : ℕ) (casts rest : List Cast) (so_far all : List Range) → Rise taken casts → length rest ≡ 0
-    → so_far ++ gaps_from before last rest ≡ gaps_from taken last casts → all ≡ so_far ++ gap_between before last
-    → AreRangesOf (IsGap taken last casts) all
-walked taken last before casts [] so_far all rise done kept made =
-    subst (λ (l : List Range). AreRangesOf (IsGap taken last casts) l) (sym (made ∙ kept)) (gaps_are taken last casts rise)
-walked taken last before casts (c ∷ rest) so_far all rise done kept made = absurd (omega (arith, done))
+-- and so what a walk over all units has made
+pub walked : (taken last before : ℕ) (units rest : List Carrying) (so_far all : List Range) → Rise taken units → length rest ≡ 0
+    → so_far ++ gaps_from before last rest ≡ gaps_from taken last units → all ≡ so_far ++ gap_between before last
+    → AreRangesOf (IsGap taken last units) all
+walked taken last before units [] so_far all rise done kept made =
+    subst (λ (l : List Range). AreRangesOf (IsGap taken last units) l) (sym (made ∙ kept)) (gaps_are taken last units rise)
+walked taken last before units (c ∷ rest) so_far all rise done kept made = absurd (omega (arith, done))

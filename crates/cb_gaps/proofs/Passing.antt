@@ -1,29 +1,28 @@
--- A cast that is taken in order does what one does that is kept and taken out at once.
+-- A unit that is taken in order does what one does that is kept and taken out at once.
 use Rattle.std.proofs.Common.{◌≡◌, ℕ, ◌+◌, ◌<◌, ◌^◌, List, [], ◌∷◌, Bool, true, false, cond, length, None, Some, refl, sym, ap, ◌∙◌, arith}
 use Rattle.std.specs.Ordering.{nat_cmp, eq_by_cmp}
 use Rattle.std.specs.Cmp.{nat_cmp_total}
 use Rattle.std.specs.FinMap as fin
 use Rattle.std.proofs.lemmas.List.Elements.{All-nil}
-use Rattle.cb_frames.specs.declared.frame.Cast.{Cast}
-use Rattle.cb_frames.specs.Fields.{CastFields, IsOne, first_number}
+use Rattle.cb_frames.specs.declared.frame.Unit.{Unit as Carrying}
+use Rattle.cb_frames.specs.Fields.{CastFields, first_number, last_number}
 use Rattle.cb_times.proofs.Entries.{equal_numbers, numbers_equal}
 use Rattle.cb_gaps.specs.Buffer.{Buffer, IsNext, IsInOrder, Takes}
 use Rattle.cb_gaps.specs.Lists.{last_of, AreKept, buffer_of}
-use Rattle.cb_gaps.proofs.Spans.{one_message}
 use Rattle.cb_gaps.proofs.Kept.{len-kept, new_gives}
 
 -- ---- none is kept
 
-pub none_kept : (window taken : ℕ) (casts : List Cast) → length casts ≡ 0 → (buffer_of window taken casts).kept ≡ fin.empty
+pub none_kept : (window taken : ℕ) (units : List Carrying) → length units ≡ 0 → (buffer_of window taken units).kept ≡ fin.empty
 none_kept window taken [] none = (new_gives window).none_kept
-none_kept window taken (c ∷ casts) none = absurd (omega (arith, none))
+none_kept window taken (c ∷ units) none = absurd (omega (arith, none))
 
-pub some_kept : (window taken : ℕ) (casts : List Cast) → AreKept window taken casts → (buffer_of window taken casts).kept ≡ fin.empty → length casts ≡ 0
-some_kept window taken casts are none = sym (len-kept window taken casts are.rise) ∙ ap (λ (m : fin.FinMap nat_cmp CastFields). fin.len m) none ∙ fin.len-empty nat_cmp CastFields
+pub some_kept : (window taken : ℕ) (units : List Carrying) → AreKept window taken units → (buffer_of window taken units).kept ≡ fin.empty → length units ≡ 0
+some_kept window taken units are none = sym (len-kept window taken units are.rise) ∙ ap (λ (m : fin.FinMap nat_cmp CastFields). fin.len m) none ∙ fin.len-empty nat_cmp CastFields
 
-pub passed_keeps : (window taken : ℕ) (casts : List Cast) → AreKept window taken casts → (buffer_of window taken casts).kept ≡ fin.empty → taken + 1 < 2 ^ 32 → AreKept window (taken + 1) casts
-passed_keeps window taken [] are none room = record { width = are.width; rise = tt; near = All-nil (λ c. last_of c < taken + 1 + window + 1); in_range = All-nil (λ c. last_of c < 2 ^ 32) }
-passed_keeps window taken (c ∷ casts) are none room = absurd (let some = some_kept window taken (c ∷ casts) are none in omega (arith, some))
+pub passed_keeps : (window taken last : ℕ) (units : List Carrying) → AreKept window taken units → (buffer_of window taken units).kept ≡ fin.empty → AreKept window last units
+passed_keeps window taken last [] are none = record { width = are.width; rise = tt; near = All-nil (λ c. last_of c < last + window + 1); in_range = All-nil (λ c. last_of c < 2 ^ 32) }
+passed_keeps window taken last (c ∷ units) are none = absurd (let some = some_kept window taken (c ∷ units) are none in omega (arith, some))
 
 -- ---- put in and taken out again
 
@@ -51,9 +50,9 @@ module _ (buffer : Buffer) (c : CastFields) (in_order : IsInOrder buffer (first_
     kept = fin.get-insert nat_cmp_total buffer.kept (first_number c) c (first_number c) ∙ rw (equal_numbers (first_number c) (first_number c) refl) refl;
   }
 
-  pub passing_takes : IsOne c.load → Takes (with_cast buffer c) c (record buffer { taken = buffer.taken + 1 })
-  passing_takes one i = record {
+  pub passing_takes : Takes (with_cast buffer c) c (record buffer { taken = last_number c })
+  passing_takes i = record {
     window = buffer.window;
-    taken = sym (one_message c one ∙ in_order.follows) i;
+    taken = last_number c;
     kept = sym (put_and_taken buffer.kept (first_number c) c (is_not_kept (first_number c))) i;
   }

@@ -1,18 +1,14 @@
--- The numbers that casts cover. That a cast has one message is used where it says so, and nowhere else.
-use Rattle.std.proofs.Common.{◌≡◌, List, [], ◌∷◌, length, sym, ℕ, ◌+◌, ◌<◌, ◌≤◌, ◌⊎◌, inl, inr, arith}
+-- The numbers that units cover: one after another, from the first to the last.
+use Rattle.std.proofs.Common.{◌≡◌, List, [], ◌∷◌, length, ℕ, ◌+◌, ◌<◌, ◌≤◌, ◌^◌, ◌⊎◌, inl, inr, arith}
 use Rattle.std.proofs.lemmas.Bool.{cases_lt}
 use Rattle.cb_frames.specs.declared.frame.Cast.{Cast}
-use Rattle.cb_frames.specs.Fields.{CastFields, IsOne, IsSome, cast_fields, last_from, payloads_of, first_number, last_number}
-use Rattle.cb_frames.proofs.Carried.{first_is_number, last_is_number, carries_no_more, carries_some, one_has_some}
-use Rattle.cb_gaps.specs.Buffer.{Covers}
-use Rattle.cb_gaps.specs.Lists.{first_of, last_of, IsPlaceFor}
-
--- a cast of one payload has no more than one message
-pub one_message : (c : CastFields) → IsOne c.load → last_number c ≡ first_number c
-one_message c one = omega (arith, carries_some c (one_has_some c.load one), carries_no_more c one)
-
-pub one_filled : (c : Cast) → first_of c ≤ last_of c
-one_filled c = carries_some (cast_fields c) (omega arith)
+use Rattle.cb_frames.specs.declared.frame.Burst.{Burst}
+use Rattle.cb_frames.specs.declared.frame.Unit.{Unit as Carrying}
+use Rattle.cb_frames.specs.declared.frame.Unit.TheVariants as units
+use Rattle.cb_frames.specs.Fields.{CastFields, IsSome, cast_fields, burst_fields, last_from, payloads_of, first_number, last_number}
+use Rattle.cb_frames.proofs.Carried.{first_is_number, last_is_number, carries_payloads, carries_some, carried_up_to_the_last}
+use Rattle.cb_gaps.specs.Buffer.{Covers, IsNumbered}
+use Rattle.cb_gaps.specs.Lists.{first_of, last_of}
 
 -- what has a first number above 0 that is no greater than the last one carries some payload
 some_payload : (n : ℕ) (payloads : List (List ℕ)) → 0 < n → n ≤ last_from n payloads → 1 ≤ length payloads
@@ -23,12 +19,10 @@ pub filled_has_some : (c : CastFields) → 0 < first_number c → first_number c
 unfolding first_number last_number
 filled_has_some c above filled = some_payload c.number (payloads_of c.load) above filled
 
--- the number that a cast says is its first one, and its last
-pub number_is_first : (λ (c : Cast). c.number) ≡ first_of
-number_is_first i c = sym (first_is_number (cast_fields c)) i
-
-pub place_for_cast : (c : Cast) (casts : List Cast) (place : ℕ) → IsPlaceFor c.number c.number casts place → IsPlaceFor (first_of c) (last_of c) casts place
-place_for_cast c casts place is = rw (first_is_number (cast_fields c), last_is_number (cast_fields c) tt) is
+-- and so one for each of its numbers
+pub counted : (c : CastFields) → 0 < first_number c → first_number c ≤ last_number c
+    → length (payloads_of c.load) + first_number c ≡ last_number c + 1
+counted c above filled = omega (arith, carries_payloads c, carried_up_to_the_last c (filled_has_some c above filled))
 
 pub covers_first : (c : CastFields) → IsSome c.load → Covers c (first_number c)
 covers_first c some = (omega arith, carries_some c some)
@@ -43,3 +37,21 @@ cases_covers c n =
         | inr upto ↦ inl (from, upto)
       ]
     ]
+
+-- ---- what a unit says of them
+
+pub cast_ends : (cast : Cast) → cast.number ≡ last_number (cast_fields cast)
+cast_ends cast = omega (arith, last_is_number (cast_fields cast) tt)
+
+pub burst_ends : (burst : Burst) → IsSome (burst_fields burst).load → burst.first + length burst.payloads.items ≡ last_number (burst_fields burst) + 1
+burst_ends burst some =
+    omega (arith, carries_payloads (burst_fields burst), carried_up_to_the_last (burst_fields burst) some, first_is_number (burst_fields burst))
+
+pub numbered_filled : (u : Carrying) → IsNumbered u → first_of u ≤ last_of u
+numbered_filled (units.One cast) numbered = carries_some (cast_fields cast) (omega arith)
+numbered_filled (units.Many burst) numbered = carries_some (burst_fields burst) numbered.0
+
+-- a unit with numbers from above 0 to within the range of numbers
+pub is_numbered : (u : Carrying) → 0 < first_of u → first_of u ≤ last_of u → last_of u < 2 ^ 32 → IsNumbered u
+is_numbered (units.One cast) above filled below = tt
+is_numbered (units.Many burst) above filled below = (filled_has_some (burst_fields burst) above filled, below)

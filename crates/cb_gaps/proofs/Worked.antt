@@ -1,11 +1,11 @@
 -- A worked buffer: its window is 4, two messages were taken, and casts 4 and 5 are kept.
-use Rattle.std.proofs.Common.{◌≡◌, ℕ, ◌<◌, ◌≤◌, Bool, true, false, cond, [], ◌∷◌, None, Some, refl, sym, ◌∙◌, subst, arith, inl, inr, ◌⊎◌}
+use Rattle.std.proofs.Common.{◌≡◌, ◌≢◌, ℕ, ◌<◌, ◌≤◌, Bool, true, false, cond, [], ◌∷◌, None, Some, refl, sym, ◌∙◌, subst, arith, inl, inr, ◌⊎◌}
 use Rattle.std.specs.Ordering.{nat_cmp, eq_by_cmp}
 use Rattle.std.specs.FinMap as fin
 use Rattle.std.proofs.lemmas.Bool.{cases_lt}
 use Rattle.cb_frames.specs.Fields.{One, CastFields, first_number, last_number}
 use Rattle.cb_gaps.specs.declared.buffer.Admission.{Admission}
-use Rattle.cb_gaps.specs.declared.buffer.Admission.TheVariants.{Kept, Repeat, TooFar}
+use Rattle.cb_gaps.specs.declared.buffer.Admission.TheVariants.{Kept, Repeat, Overlap, TooFar}
 use Rattle.cb_gaps.specs.Buffer.{Buffer, Covers, IsKept, IsReceived, IsKeptWith, IsLacking, Admits, ComeOut, WouldComeOut}
 
 abbrev four : CastFields
@@ -88,14 +88,22 @@ old_and_kept number from upto =
 partly_beyond : Admits waits 2 6 7 TooFar
 partly_beyond = (λ number from upto. lacks number (inr from), omega arith)
 
--- some are here and others are not: there is no answer yet
-partly_received : (answer : Admission) → ¬ Admits waits 2 3 4 answer
-partly_received Kept is = (is.0 4 (omega arith) (omega arith)).not_kept keeps_four
-partly_received Repeat is = elim (is 3 (omega arith) (omega arith)) as (λ _. ⊥) [
+-- some are here and others are not
+partly_received : Admits waits 2 3 4 Overlap
+partly_received = record {
+  some = record { number = 4; from = omega arith; upto = omega arith; is = inr keeps_four };
+  others = record { number = 3; from = omega arith; upto = omega arith; is = lacks 3 (inl refl) };
+}
+
+-- and then no other answer holds
+no_other_answer : (answer : Admission) → answer ≢ Overlap → ¬ Admits waits 2 3 4 answer
+no_other_answer Overlap other is = other refl
+no_other_answer Kept other is = (is.0 4 (omega arith) (omega arith)).not_kept keeps_four
+no_other_answer Repeat other is = elim (is 3 (omega arith) (omega arith)) as (λ _. ⊥) [
   | inl taken ↦ omega (arith, taken)
   | inr kept ↦ (lacks 3 (inl refl)).not_kept kept
 ]
-partly_received TooFar is = (is.0 4 (omega arith) (omega arith)).not_kept keeps_four
+no_other_answer TooFar other is = (is.0 4 (omega arith) (omega arith)).not_kept keeps_four
 
 -- ---- how many come out
 

@@ -1,4 +1,4 @@
--- What a reorder buffer holds of the casts of one sender.
+-- What a reorder buffer holds of the casts and bursts of one sender.
 use Rattle.std.specs.Prelude.{◌≡◌, ℕ, ◌+◌, ◌<◌, ◌≤◌, ◌^◌, ◌⊎◌, List, Some, refl}
 use Rattle.std.proofs.Common.{inl, inr}
 use Rattle.std.specs.Ordering.{nat_cmp}
@@ -6,10 +6,12 @@ use Rattle.std.specs.Coded.{Coded, code_by, coded×, coded⊎, coded_list, coded
 use Rattle.std.specs.FinMap as map
 use Rattle.cb_times.specs.Group.{IsWindow}
 use Rattle.cb_frames.specs.declared.frame.Change.{Change}
-use Rattle.cb_frames.specs.Fields.{Load, One, Many, CastFields, first_number, last_number}
+use Rattle.cb_frames.specs.declared.frame.Unit.{Unit as Carrying}
+use Rattle.cb_frames.specs.declared.frame.Unit.TheVariants as units
+use Rattle.cb_frames.specs.Fields.{Load, One, Many, IsSome, CastFields, burst_fields, first_number, last_number}
 use Rattle.cb_gaps.specs.declared.buffer.Admission.{Admission}
-use Rattle.cb_gaps.specs.declared.buffer.Admission.TheVariants.{Kept, Repeat, TooFar}
-use Rattle.cb_gaps.specs.Ranges.{IsRow}
+use Rattle.cb_gaps.specs.declared.buffer.Admission.TheVariants.{Kept, Repeat, Overlap, TooFar}
+use Rattle.cb_gaps.specs.Ranges.{HasOne, IsRow}
 
 -- how far ahead casts are accepted, how many messages were taken, and the casts kept, each by the number of its first message
 pub record Buffer : Type 0 where
@@ -22,6 +24,11 @@ pub record IsNew (window : ℕ) (buffer : Buffer) : Type 0 where
   pub of_window : buffer.window ≡ window
   pub none_taken : buffer.taken ≡ 0
   pub none_kept : buffer.kept ≡ map.empty
+
+-- A burst has some message, and each has a number. Of a cast it is always so.
+abbrev pub IsNumbered : Carrying → Type 0
+IsNumbered (units.One cast) = Unit {0}
+IsNumbered (units.Many burst) = IsSome (burst_fields burst).load × (last_number (burst_fields burst) < 2 ^ 32)
 
 -- the number is that of one of the cast's messages
 abbrev pub Covers : CastFields → ℕ → Type 0
@@ -54,11 +61,16 @@ AreLacking buffer first last = (number : ℕ) → first ≤ number → number �
 abbrev pub IsInWindow : Buffer → ℕ → ℕ → Type 0
 IsInWindow buffer delivered number = number ≤ delivered + buffer.window
 
--- The answer for messages with the numbers first to last. There is none yet where some were received and others not, which can't be
--- of a single message: of that one exactly one answer holds.
+-- some of them were, and others not
+pub record ArePartlyReceived (buffer : Buffer) (first last : ℕ) : Type 0 where
+  pub some : HasOne (IsReceived buffer) first last
+  pub others : HasOne (IsLacking buffer) first last
+
+-- The answer for messages with the numbers first to last. Of some messages exactly one holds, and of a single one it is never Overlap.
 abbrev pub Admits : Buffer → ℕ → ℕ → ℕ → Admission → Type 0
 Admits buffer delivered first last Kept = AreLacking buffer first last × IsInWindow buffer delivered last
 Admits buffer delivered first last Repeat = AreReceived buffer first last
+Admits buffer delivered first last Overlap = ArePartlyReceived buffer first last
 Admits buffer delivered first last TooFar = AreLacking buffer first last × (delivered + buffer.window < last)
 
 -- the answer for a cast
@@ -69,6 +81,7 @@ IsAnswer buffer delivered c answer = Admits buffer delivered (first_number c) (l
 abbrev pub IsAfter : Buffer → CastFields → Admission → Buffer → Type 0
 IsAfter old cast Kept new = new ≡ record old { kept = map.insert old.kept (first_number cast) cast }
 IsAfter old cast Repeat new = new ≡ old
+IsAfter old cast Overlap new = new ≡ old
 IsAfter old cast TooFar new = new ≡ old
 
 -- the next cast of the sender, which waits in the buffer
@@ -80,7 +93,7 @@ pub record IsNext (buffer : Buffer) (cast : CastFields) : Type 0 where
 abbrev pub Takes : Buffer → CastFields → Buffer → Type 0
 Takes old cast new = new ≡ record old { taken = last_number cast; kept = map.remove old.kept (first_number cast) }
 
--- the number is that of the next cast, and none is kept
+-- a cast that begins with the number is the next one, and none is kept
 pub record IsInOrder (buffer : Buffer) (number : ℕ) : Type 0 where
   pub none_kept : buffer.kept ≡ map.empty
   pub follows : number ≡ buffer.taken + 1

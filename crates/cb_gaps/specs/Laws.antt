@@ -2,8 +2,8 @@
 use Rattle.std.specs.Prelude.{◌≡◌, ℕ, ◌+◌, None, length}
 use Rattle.std.specs.FinMap as map
 use Rattle.cb_frames.specs.Fields.{CastFields, IsSome, messages_of, first_number, last_number}
-use Rattle.cb_gaps.specs.declared.buffer.Admission.TheVariants.{Kept}
-use Rattle.cb_gaps.specs.Buffer.{Buffer, AreLacking, IsAfter, IsNext, Takes, ComeOut, WouldComeOut, IsReorderBuffer}
+use Rattle.cb_gaps.specs.declared.buffer.Admission.TheVariants.{Kept, Overlap}
+use Rattle.cb_gaps.specs.Buffer.{Buffer, AreLacking, Admits, IsAfter, IsNext, Takes, ComeOut, WouldComeOut, IsReorderBuffer}
 
 -- once a cast is kept of which none was received, as many come out as would have come out with it
 abbrev pub KeptComeOut : Type 0
@@ -20,3 +20,7 @@ TakingLeavesTheRest =
 -- where the next one is not kept, none is left
 abbrev pub NoneIsLeft : Type 0
 NoneIsLeft = (buffer : Buffer) (count : ℕ) → IsReorderBuffer buffer → ComeOut buffer count → map.get buffer.kept (buffer.taken + 1) ≡ None → count ≡ 0
+
+-- one message is received or lacking, never in part
+abbrev pub OneNeverOverlaps : Type 0
+OneNeverOverlaps = (buffer : Buffer) (delivered number : ℕ) → ¬ Admits buffer delivered number number Overlap

@@ -1,5 +1,5 @@
 -- Sets of numbers as ranges, and numbers of a set that stand in a row.
-use Rattle.std.specs.Prelude.{◌≡◌, ℕ, ◌+◌, ◌<◌, ◌≤◌, ◌↔◌, nat_lt, if◌then◌else◌, List, [], ◌∷◌, Any, All, AllPairs}
+use Rattle.std.specs.Prelude.{◌≡◌, ℕ, ◌+◌, ◌<◌, ◌≤◌, ◌↔◌, nat_lt, nat_le, ◌&&◌, if◌then◌else◌, List, [], ◌∷◌, Any, All, AllPairs}
 use Rattle.cb_frames.specs.declared.frame.Range.{Range}
 
 -- the number is one of the range, both ends of which are in it
@@ -25,8 +25,19 @@ RangesAreOneList = (ranges others : List Range) → AreRangesOf (IsInSome others
 abbrev pub gap_between : ℕ → ℕ → List Range
 gap_between before last = if nat_lt before last then record { first = before + 1; last = last } ∷ [] else []
 
+-- one of the numbers first to last is of this set
+pub record HasOne (numbers : ℕ → Type 0) (first last : ℕ) : Type 0 where
+  pub number : ℕ
+  pub from : first ≤ number
+  pub upto : number ≤ last
+  pub is : numbers number
+
 -- the numbers of a set in a row behind this number: each up to the last one is of the set, and the one behind the last is not
 pub record IsRow (numbers : ℕ → Type 0) (behind last : ℕ) : Type 0 where
   pub begins : behind ≤ last
   pub each : (number : ℕ) → behind < number → number ≤ last → numbers number
   pub ends : ¬ numbers (last + 1)
+
+-- where a row that ended here ends with the numbers first to last: they lengthen it where one of them is the next
+abbrev pub end_with : ℕ → ℕ → ℕ → ℕ
+end_with end first last = if nat_le first (end + 1) && nat_le (end + 1) last then last else end

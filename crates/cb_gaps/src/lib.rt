@@ -1,14 +1,15 @@
-//! Repairing gaps from the receiver's side: casts of one sender that were lost, repeated or reordered.
+//! Repairing gaps from the receiver's side: casts and bursts of one sender that were lost, repeated or reordered.
 //!
-//! A `Reorder` keeps what is received too early, gives the casts back in the order of their numbers with none missing, and names
-//! the numbers that are missing; `request_of` asks for them. Stands on `cb_frames`, whose casts and ranges these are, on
-//! `cb_times` for the limits of windows, and on `bytes` for what a cast carries.
+//! A `Reorder` keeps what is received too early, gives it back in the order of the numbers with none missing, and names the
+//! numbers that are missing; `request_of` asks for them. Stands on `cb_frames`, whose units and ranges these are, on `cb_times`
+//! for the limits of windows, and on `bytes` for what a unit carries.
 #![tactic(auto)]
 
 mod buffer;
 mod laws;
 mod request;
+mod units;
 
 pub use buffer::{Admission, Reorder};
-pub use laws::{casts_come_out_as_reported, ranges_are_one_list};
+pub use laws::{casts_come_out_as_reported, one_message_never_overlaps, ranges_are_one_list};
 pub use request::request_of;

@@ -1,27 +1,32 @@
-use Rattle.std.proofs.Common.{◌≡◌, ◌++◌, ℕ, arith, subst}
+use Rattle.std.proofs.Common.{◌≡◌, ◌++◌, ◌^◌, ℕ, arith, subst, sym}
 use Rattle.std.specs.VecDeque.Iter.{deque_iter_rest}
-use Rattle.cb_frames.specs.Fields.{cast_fields}
-use Rattle.cb_frames.proofs.Carried.{first_is_number, last_is_number}
 use Rattle.cb_gaps.specs.Lists.{Rise}
-use Rattle.cb_gaps.proofs.Gaps.{gaps_from, one_rise, one_gap, walked}
+use Rattle.cb_gaps.proofs.Gaps.{gaps_from, one_numbered, one_rise, one_below, one_gap, walked}
 use Rattle.cb_gaps.proofs.buffer.gaps.Goals as goal
 
-pub loop-cast-preserved : goal.loop-cast-preserved
-loop-cast-preserved c =
-    let cast = cast_fields c.in-Some.cast.now in
-    let rest = deque_iter_rest c.next.new.self in
+pub last_of-before-requires : goal.last_of-before-requires
+last_of-before-requires c =
+    one_numbered c.loop-unit.before c.in-Some.unit.now (deque_iter_rest c.loop-unit.unit-iterator) (deque_iter_rest c.next.new.self)
+    c.in-Some.ensures.steps c.loop-unit.invariant.rise c.loop-unit.invariant.in_range
+
+pub loop-unit-preserved : goal.loop-unit-preserved
+loop-unit-preserved c =
+    let unit = c.in-Some.unit.now in
+    let rest = deque_iter_rest c.loop-unit.unit-iterator in
+    let after = deque_iter_rest c.next.new.self in
     record {
-      rise = subst (λ (n : ℕ). Rise n rest) (last_is_number cast tt) (one_rise c.args.taken c.args.last c.loop-cast.before c.in-Some.cast.now c.args.kept.now.items
-          (deque_iter_rest c.loop-cast.cast-iterator) (deque_iter_rest c.next.new.self) c.loop-cast.ranges.items c.push_gap.new.ranges.items
-          c.in-Some.ensures.steps c.loop-cast.invariant.rise);
-      so_far = subst (λ (n : ℕ). c.push_gap.new.ranges.items ++ gaps_from n c.args.last rest ≡ gaps_from c.args.taken c.args.last c.args.kept.now.items) (last_is_number cast tt)
-          (one_gap c.args.taken c.args.last c.loop-cast.before c.in-Some.cast.now c.args.kept.now.items
-          (deque_iter_rest c.loop-cast.cast-iterator) (deque_iter_rest c.next.new.self) c.loop-cast.ranges.items c.push_gap.new.ranges.items
-          c.in-Some.ensures.steps c.min.result (omega (arith, c.min.ensures, first_is_number cast)) c.in_ok-push_gap.ensures c.loop-cast.invariant.so_far);
+      rise = subst (λ (n : ℕ). Rise n after) (sym c.last_of-before.ensures)
+          (one_rise c.loop-unit.before unit rest after c.in-Some.ensures.steps c.loop-unit.invariant.rise);
+      in_range = one_below (2 ^ 32) unit rest after c.in-Some.ensures.steps c.loop-unit.invariant.in_range;
+      so_far = subst (λ (n : ℕ). c.push_gap.new.ranges.items ++ gaps_from n c.args.last after ≡ gaps_from c.args.taken c.args.last c.args.kept.now.items)
+          (sym c.last_of-before.ensures)
+          (one_gap c.args.taken c.args.last c.loop-unit.before unit c.args.kept.now.items rest after c.loop-unit.ranges.items
+          c.push_gap.new.ranges.items c.in-Some.ensures.steps c.min.result (omega (arith, c.min.ensures, c.first_of.ensures)) c.in_ok-push_gap.ensures
+          c.loop-unit.invariant.so_far);
     }
 
 pub returns : goal.returns
 returns c =
-    walked c.args.taken c.args.last c.loop-cast.before c.args.kept.now.items (deque_iter_rest c.loop-cast.cast-iterator)
-    c.loop-cast.ranges.items c.push_gap-2.new.ranges.items c.requires c.in-None.ensures.steps.0 c.loop-cast.invariant.so_far
+    walked c.args.taken c.args.last c.loop-unit.before c.args.kept.now.items (deque_iter_rest c.loop-unit.unit-iterator)
+    c.loop-unit.ranges.items c.push_gap-2.new.ranges.items c.requires.rise c.in-None.ensures.steps.0 c.loop-unit.invariant.so_far
     c.in_ok-push_gap-2.ensures

@@ -1,15 +1,13 @@
-use Rattle.std.proofs.Common.{ℕ, rules, subst}
-use Rattle.std.specs.Ordering.{nat_cmp}
-use Rattle.std.specs.List.Sorted.{IsBinarySearchResult}
-use Rattle.std.proofs.lemmas.List.Sorted.{answers_always}
-use Rattle.cb_frames.specs.declared.frame.Cast.{Cast}
-use Rattle.cb_gaps.proofs.Spans.{number_is_first}
+use Rattle.std.proofs.Common.{rules, of_calls}
+use Rattle.std.proofs.lemmas.Fn.{always_returns_same}
+use Rattle.cb_frames.specs.declared.frame.Unit.{Unit as Carrying}
+use Rattle.cb_frames.specs.Fields.{unit_fields}
+use Rattle.cb_gaps.specs.Lists.{side_of}
 use Rattle.cb_gaps.proofs.Entries.{searched}
 use Rattle.cb_gaps.proofs.buffer.place_for.Goals as goal
 
 pub returns : goal.returns
 returns c =
-    let facts = c.binary_search_by_key.ensures in
-    let by_number = facts.position (λ cast. cast.number) (answers_always _ _ _ (λ f a r g called. search rules)) in
-    rw c.err.ensures.value (searched c.args.number _ c.args.kept.now.items c.binary_search_by_key.result c.requires c.args.kept.now.ok.0 facts.bound
-    (subst (λ (f : Cast → ℕ). IsBinarySearchResult (λ (x : Cast). nat_cmp (f x) c.args.number) c.args.kept.now.items c.binary_search_by_key.result) number_is_first by_number))
+    let facts = c.binary_search_by.ensures in
+    let by_side = facts.position (λ (u : Carrying). side_of (unit_fields u) c.args.first c.args.last) (always_returns_same _ _ _ (λ a r f called. search (rules, of_calls))) in
+    rw c.err.ensures.value (searched c.args.first c.args.last _ c.args.kept.now.items c.binary_search_by.result c.requires c.args.kept.now.ok.0 facts.bound by_side)

@@ -1,73 +1,65 @@
-use Rattle.std.proofs.Common.{◌^◌, ◌<◌, ◌≤◌, arith}
-use Rattle.cb_frames.specs.Fields.{cast_fields}
-use Rattle.cb_frames.proofs.Carried.{first_is_number, last_is_number}
-use Rattle.cb_gaps.proofs.Spans.{place_for_cast}
-use Rattle.cb_gaps.proofs.Entries.{rise_from}
-use Rattle.cb_gaps.proofs.Kept.{all_taken, all_received, all_lacking, keep_room, keep_keeps, keep_gives}
+use Rattle.std.proofs.Common.{◌+◌, ◌^◌, ◌<◌, ◌≤◌, arith}
+use Rattle.cb_gaps.specs.Lists.{first_of, last_of, IsReceivedAnswer, IsFreePlace}
+use Rattle.cb_gaps.proofs.Spans.{numbered_filled}
+use Rattle.cb_gaps.proofs.Kept.{received_answer, all_lacking, keep_room, keep_keeps, keep_gives}
 use Rattle.cb_gaps.proofs.buffer.Reorder.keep.Goals as goal
 
-pub place_for-requires : goal.place_for-requires
-place_for-requires c = rise_from c.self.inside.taken 0 c.self.inside.kept.items (omega arith) c.self.invariant.0.rise
+pub returns-in-Err-clause-answer : goal.returns-in-Err-clause-answer
+returns-in-Err-clause-answer c =
+    let received : IsReceivedAnswer c.self.inside.taken c.self.inside.kept.items (first_of c.args.unit) (last_of c.args.unit) c.in-Err.received =
+    rw (c.first_of.ensures, c.last_of-last.ensures) at c.in-Err.ensures.received in
+    rw (← c.self.view_is)
+    (received_answer c.self.inside.window c.self.inside.taken c.self.inside.kept.items c.self.invariant.0 c.args.delivered (first_of c.args.unit)
+    (last_of c.args.unit) c.in-Err.received received)
 
-pub returns-then-number-self-clause-answer : goal.returns-then-number-self-clause-answer
-returns-then-number-self-clause-answer c =
-    rw (← c.self.view_is, first_is_number (cast_fields c.args.cast), last_is_number (cast_fields c.args.cast) tt)
-    (all_taken c.self.inside.window c.self.inside.taken c.self.inside.kept.items c.self.invariant.0 c.args.cast.number c.args.cast.number
-    c.if-number-self.true)
-
-pub returns-in_default-clause-answer : goal.returns-in_default-clause-answer
-returns-in_default-clause-answer c =
-    rw (← c.self.view_is, first_is_number (cast_fields c.args.cast), last_is_number (cast_fields c.args.cast) tt)
-    (all_received c.self.inside.window c.self.inside.taken c.self.inside.kept.items c.self.invariant.0 c.args.cast.number c.in_default.ensures)
-
-pub returns-then-number-saturating_add-clause-answer : goal.returns-then-number-saturating_add-clause-answer
-returns-then-number-saturating_add-clause-answer c =
-    let fits : c.args.cast.number < 2 ^ 32 = omega arith in
-    rw (← c.self.view_is, first_is_number (cast_fields c.args.cast), last_is_number (cast_fields c.args.cast) tt) (
-      all_lacking c.self.inside.window c.self.inside.taken c.self.inside.kept.items c.self.invariant.0 c.args.cast.number c.args.cast.number c.in-Some.place
-          c.if-number-self.false c.in-Some.ensures,
-      omega (arith, fits, c.if-number-saturating_add.true, c.saturating_add.ensures),
+pub returns-then-last-saturating_add-clause-answer : goal.returns-then-last-saturating_add-clause-answer
+returns-then-last-saturating_add-clause-answer c =
+    let free : IsFreePlace c.self.inside.taken c.self.inside.kept.items (first_of c.args.unit) (last_of c.args.unit) c.in-Ok.place =
+    rw (c.first_of.ensures, c.last_of-last.ensures) at c.in-Ok.ensures.place in
+    rw (← c.self.view_is) (
+      all_lacking c.self.inside.window c.self.inside.taken c.self.inside.kept.items c.self.invariant.0 (first_of c.args.unit) (last_of c.args.unit)
+          c.in-Ok.place free,
+      omega (arith, c.last_of-last.type_inv, c.if-last-saturating_add.true, c.saturating_add.ensures, c.last_of-last.ensures),
     )
 
 pub put-requires-clause-room : goal.put-requires-clause-room
 put-requires-clause-room c =
-    let first = first_is_number (cast_fields c.args.cast) in
-    let last = last_is_number (cast_fields c.args.cast) tt in
-    let fits : c.args.cast.number < 2 ^ 32 = omega arith in
-    let order : c.args.delivered ≤ c.self.inside.taken = rw (← c.self.view_is) at c.requires in
-    let room = keep_room c.self.inside.window c.self.inside.taken c.self.inside.kept.items c.self.invariant.0 c.in-Some.place c.args.delivered
-    c.args.cast (place_for_cast c.args.cast c.self.inside.kept.items c.in-Some.place c.in-Some.ensures) (omega (arith, c.if-number-self.false, first)) (omega (arith, fits, last)) order
-    (omega (arith, c.if-number-saturating_add.false, c.saturating_add.ensures, last)) in
+    let free : IsFreePlace c.self.inside.taken c.self.inside.kept.items (first_of c.args.unit) (last_of c.args.unit) c.in-Ok.place =
+    rw (c.first_of.ensures, c.last_of-last.ensures) at c.in-Ok.ensures.place in
+    let order : c.args.delivered ≤ c.self.inside.taken = rw (← c.self.view_is) at c.requires.order in
+    let room = keep_room c.self.inside.window c.self.inside.taken c.self.inside.kept.items c.self.invariant.0 c.in-Ok.place c.args.delivered
+    c.args.unit free (numbered_filled c.args.unit c.requires.numbers) (omega (arith, c.last_of-last.type_inv, c.last_of-last.ensures)) order
+    (omega (arith, c.if-last-saturating_add.false, c.saturating_add.ensures, c.last_of-last.ensures)) in
     omega (arith, room, c.self.invariant.1, c.self.inside.kept.ok.0)
 
 pub invariant_of-self : goal.invariant_of-self
 invariant_of-self c =
-    let first = first_is_number (cast_fields c.args.cast) in
-    let last = last_is_number (cast_fields c.args.cast) tt in
-    let fits : c.args.cast.number < 2 ^ 32 = omega arith in
-    let order : c.args.delivered ≤ c.self.inside.taken = rw (← c.self.view_is) at c.requires in (
+    let free : IsFreePlace c.self.inside.taken c.self.inside.kept.items (first_of c.args.unit) (last_of c.args.unit) c.in-Ok.place =
+    rw (c.first_of.ensures, c.last_of-last.ensures) at c.in-Ok.ensures.place in
+    let order : c.args.delivered ≤ c.self.inside.taken = rw (← c.self.view_is) at c.requires.order in (
       rw c.put.ensures.items
-          (keep_keeps c.self.inside.window c.self.inside.taken c.self.inside.kept.items c.self.invariant.0 c.in-Some.place c.args.delivered
-          c.args.cast (place_for_cast c.args.cast c.self.inside.kept.items c.in-Some.place c.in-Some.ensures) (omega (arith, c.if-number-self.false, first)) (omega (arith, fits, last)) order
-          (omega (arith, c.if-number-saturating_add.false, c.saturating_add.ensures, last))),
+          (keep_keeps c.self.inside.window c.self.inside.taken c.self.inside.kept.items c.self.invariant.0 c.in-Ok.place c.args.delivered
+          c.args.unit free (numbered_filled c.args.unit c.requires.numbers) (omega (arith, c.last_of-last.type_inv, c.last_of-last.ensures)) order
+          (omega (arith, c.if-last-saturating_add.false, c.saturating_add.ensures, c.last_of-last.ensures))),
       omega (arith, c.put.ensures.capacity, c.self.invariant.1),
     )
 
 pub returns-clause-answer : goal.returns-clause-answer
 returns-clause-answer c =
-    rw (← c.self.view_is, first_is_number (cast_fields c.args.cast), last_is_number (cast_fields c.args.cast) tt) (
-      all_lacking c.self.inside.window c.self.inside.taken c.self.inside.kept.items c.self.invariant.0 c.args.cast.number c.args.cast.number c.in-Some.place
-          c.if-number-self.false c.in-Some.ensures,
-      omega (arith, c.if-number-saturating_add.false, c.saturating_add.ensures),
+    let free : IsFreePlace c.self.inside.taken c.self.inside.kept.items (first_of c.args.unit) (last_of c.args.unit) c.in-Ok.place =
+    rw (c.first_of.ensures, c.last_of-last.ensures) at c.in-Ok.ensures.place in
+    rw (← c.self.view_is) (
+      all_lacking c.self.inside.window c.self.inside.taken c.self.inside.kept.items c.self.invariant.0 (first_of c.args.unit) (last_of c.args.unit)
+          c.in-Ok.place free,
+      omega (arith, c.if-last-saturating_add.false, c.saturating_add.ensures, c.last_of-last.ensures),
     )
 
 pub returns-clause-after : goal.returns-clause-after
 returns-clause-after c =
-    let first = first_is_number (cast_fields c.args.cast) in
-    let last = last_is_number (cast_fields c.args.cast) tt in
-    let fits : c.args.cast.number < 2 ^ 32 = omega arith in
-    let order : c.args.delivered ≤ c.self.inside.taken = rw (← c.self.view_is) at c.requires in
+    let free : IsFreePlace c.self.inside.taken c.self.inside.kept.items (first_of c.args.unit) (last_of c.args.unit) c.in-Ok.place =
+    rw (c.first_of.ensures, c.last_of-last.ensures) at c.in-Ok.ensures.place in
+    let order : c.args.delivered ≤ c.self.inside.taken = rw (← c.self.view_is) at c.requires.order in
     rw (← c.self.view_is, c.put.ensures.items)
-    (keep_gives c.self.inside.window c.self.inside.taken c.self.inside.kept.items c.self.invariant.0 c.in-Some.place c.args.delivered
-    c.args.cast (place_for_cast c.args.cast c.self.inside.kept.items c.in-Some.place c.in-Some.ensures) (omega (arith, c.if-number-self.false, first)) (omega (arith, fits, last)) order
-    (omega (arith, c.if-number-saturating_add.false, c.saturating_add.ensures, last)))
+    (keep_gives c.self.inside.window c.self.inside.taken c.self.inside.kept.items c.self.invariant.0 c.in-Ok.place c.args.delivered
+    c.args.unit free (numbered_filled c.args.unit c.requires.numbers) (omega (arith, c.last_of-last.type_inv, c.last_of-last.ensures)) order
+    (omega (arith, c.if-last-saturating_add.false, c.saturating_add.ensures, c.last_of-last.ensures)))

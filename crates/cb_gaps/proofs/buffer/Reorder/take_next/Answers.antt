@@ -1,8 +1,6 @@
 use Rattle.std.proofs.Common.{◌≡◌, ◌+◌, ◌^◌, ◌≤◌, length, arith, refl, inl, inr, sym, ◌∙◌}
 use Rattle.std.proofs.lemmas.Bool.{cases_lt}
-use Rattle.cb_frames.specs.Fields.{cast_fields}
-use Rattle.cb_frames.proofs.Carried.{first_is_number}
-use Rattle.cb_gaps.proofs.Kept.{none_beyond, next-empty, next-later, pop_keeps, pop_next, pop_taken}
+use Rattle.cb_gaps.proofs.Kept.{none_beyond, next-empty, next-later, front_is_numbered, pop_keeps, pop_next, pop_taken}
 use Rattle.cb_gaps.proofs.buffer.Reorder.take_next.Goals as goal
 
 pub returns-in_err-next-clause-none : goal.returns-in_err-next-clause-none
@@ -21,19 +19,23 @@ returns-in_err-front-clause-none c =
     rw (c.from_residual-in_err-front.ensures, ← c.self.view_is)
     (next-empty c.self.inside.window c.self.inside.taken c.self.inside.kept.items c.self.invariant.0 empty)
 
-pub returns-then-branch-next-clause-none : goal.returns-then-branch-next-clause-none
-returns-then-branch-next-clause-none c =
+pub returns-then-first_of-next-clause-none : goal.returns-then-first_of-next-clause-none
+returns-then-first_of-next-clause-none c =
     rw (← c.self.view_is)
-    (next-later c.self.inside.window c.self.inside.taken c.self.inside.kept.items c.in_ok-front.field-0.now c.self.invariant.0
-    (omega (arith, c.in_ok-front.ensures.variant.0 refl, c.self.inside.kept.ok.0))
-    c.in_ok-front.ensures.lookup
-    (λ e. c.if-branch-next.true (sym (first_is_number (cast_fields c.in_ok-front.field-0.now)) ∙ e ∙ sym c.in_ok-next.ensures.1)))
+    (next-later c.self.inside.window c.self.inside.taken c.self.inside.kept.items c.in_ok-front.front.now c.self.invariant.0
+    (omega (arith, c.in_ok-front.ensures.variant.0 refl, c.self.inside.kept.ok.0)) c.in_ok-front.ensures.lookup
+    (λ e. c.if-first_of-next.true (c.first_of.ensures ∙ e ∙ sym c.in_ok-next.ensures.1)))
+
+pub last_of-self-inside-requires : goal.last_of-self-inside-requires
+last_of-self-inside-requires c =
+    front_is_numbered c.self.inside.window c.self.inside.taken c.self.inside.kept.items c.in_ok-front.front.now c.self.invariant.0
+    (omega (arith, c.in_ok-front.ensures.variant.0 refl, c.self.inside.kept.ok.0)) c.in_ok-front.ensures.lookup
 
 pub invariant_of-self : goal.invariant_of-self
 invariant_of-self c =
-    rw c.in_ok-next.ensures.1 (
-      pop_keeps c.self.inside.window c.self.inside.taken c.self.inside.kept.items c.pop_front.new.self.items c.in_ok-front.field-0.now
-          c.self.invariant.0 c.in_ok-front.ensures.lookup (first_is_number (cast_fields c.in_ok-front.field-0.now) ∙ c.if-branch-next.false ∙ c.in_ok-next.ensures.1)
+    rw c.last_of-self-inside.ensures (
+      pop_keeps c.self.inside.window c.self.inside.taken c.self.inside.kept.items c.pop_front.new.self.items c.in_ok-front.front.now
+          c.self.invariant.0 c.in_ok-front.ensures.lookup (sym c.first_of.ensures ∙ c.if-first_of-next.false ∙ c.in_ok-next.ensures.1)
           c.pop_front.result (c.pop_front.ensures.variant.1 (c.in_ok-front.ensures.variant.0 refl)) c.pop_front.ensures.items,
       omega (arith, c.pop_front.ensures.capacity, c.self.invariant.1),
     )
@@ -41,13 +43,13 @@ invariant_of-self c =
 pub returns-clause-next : goal.returns-clause-next
 returns-clause-next c =
     rw (← c.self.view_is)
-    (pop_next c.self.inside.window c.self.inside.taken c.self.inside.kept.items c.pop_front.new.self.items c.in_ok-front.field-0.now
-    c.self.invariant.0 c.in_ok-front.ensures.lookup (first_is_number (cast_fields c.in_ok-front.field-0.now) ∙ c.if-branch-next.false ∙ c.in_ok-next.ensures.1)
+    (pop_next c.self.inside.window c.self.inside.taken c.self.inside.kept.items c.pop_front.new.self.items c.in_ok-front.front.now
+    c.self.invariant.0 c.in_ok-front.ensures.lookup (sym c.first_of.ensures ∙ c.if-first_of-next.false ∙ c.in_ok-next.ensures.1)
     c.pop_front.result c.pop_front.ensures.items)
 
 pub returns-clause-taken : goal.returns-clause-taken
 returns-clause-taken c =
-    rw (← c.self.view_is, c.in_ok-next.ensures.1)
-    (pop_taken c.self.inside.window c.self.inside.taken c.self.inside.kept.items c.pop_front.new.self.items c.in_ok-front.field-0.now
-    c.self.invariant.0 c.in_ok-front.ensures.lookup (first_is_number (cast_fields c.in_ok-front.field-0.now) ∙ c.if-branch-next.false ∙ c.in_ok-next.ensures.1)
+    rw (← c.self.view_is, c.last_of-self-inside.ensures)
+    (pop_taken c.self.inside.window c.self.inside.taken c.self.inside.kept.items c.pop_front.new.self.items c.in_ok-front.front.now
+    c.self.invariant.0 c.in_ok-front.ensures.lookup (sym c.first_of.ensures ∙ c.if-first_of-next.false ∙ c.in_ok-next.ensures.1)
     c.pop_front.result c.pop_front.ensures.items)
