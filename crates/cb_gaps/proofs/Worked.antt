@@ -3,9 +3,12 @@ use Rattle.std.proofs.Common.{◌≡◌, ◌≢◌, ℕ, ◌<◌, ◌≤◌, Boo
 use Rattle.std.specs.Ordering.{nat_cmp, eq_by_cmp}
 use Rattle.std.specs.FinMap as fin
 use Rattle.std.proofs.lemmas.Bool.{cases_lt}
-use Rattle.cb_frames.specs.Fields.{One, CastFields, first_number, last_number}
+use Rattle.cb_frames.specs.Fields.{One, Many, CastFields, first_number, last_number}
 use Rattle.cb_gaps.specs.declared.buffer.Admission.{Admission}
 use Rattle.cb_gaps.specs.declared.buffer.Admission.TheVariants.{Kept, Repeat, Overlap, TooFar}
+use Rattle.std.specs.declared.cmp.Ordering.TheVariants.{Less, Equal, Greater}
+use Rattle.cb_gaps.specs.Lists.{side_of}
+use Rattle.cb_gaps.specs.Ranges.{end_with}
 use Rattle.cb_gaps.specs.Buffer.{Buffer, Covers, IsKept, IsReceived, IsKeptWith, IsLacking, Admits, ComeOut, WouldComeOut}
 
 abbrev four : CastFields
@@ -104,6 +107,49 @@ no_other_answer Repeat other is = elim (is 3 (omega arith) (omega arith)) as (λ
   | inr kept ↦ (lacks 3 (inl refl)).not_kept kept
 ]
 no_other_answer TooFar other is = (is.0 4 (omega arith) (omega arith)).not_kept keeps_four
+
+-- ---- a burst with the numbers 4 to 6
+
+abbrev four_to_six : CastFields
+four_to_six = record { group = 7; sender = 1; number = 4; changes = []; load = Many ([] ∷ [] ∷ [] ∷ []) }
+
+ends_at_six : last_number four_to_six ≡ 6
+unfolding last_number
+ends_at_six = refl
+
+-- it lies behind 1 to 3 and before 7 to 9, and has a number of 1 to 4, of 5 alone, and of 6 to 9
+behind_three : side_of four_to_six 1 3 ≡ Greater
+unfolding first_number
+behind_three = refl
+
+has_four : side_of four_to_six 1 4 ≡ Equal
+unfolding first_number
+has_four = refl
+
+has_five : side_of four_to_six 5 5 ≡ Equal
+unfolding first_number
+has_five = refl
+
+has_six : side_of four_to_six 6 9 ≡ Equal
+unfolding first_number
+has_six = refl
+
+before_seven : side_of four_to_six 7 9 ≡ Less
+unfolding first_number
+before_seven = refl
+
+-- a row that ends with 3 goes on with it; where one ends with 2 it doesn't, and neither where one ends with 6
+goes_on_to_six : end_with 3 4 6 ≡ 6
+goes_on_to_six = refl
+
+goes_on_from_within : end_with 4 4 6 ≡ 6
+goes_on_from_within = refl
+
+stays_at_two : end_with 2 4 6 ≡ 2
+stays_at_two = refl
+
+stays_at_six : end_with 6 4 6 ≡ 6
+stays_at_six = refl
 
 -- ---- how many come out
 

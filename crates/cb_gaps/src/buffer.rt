@@ -265,7 +265,8 @@ fn place_for(kept: &VecDeque<Unit>, first: u32, last: u32) -> Option<usize>
     ensures { MatchOption result (first ≤ last → HasOne (HasNumber kept.now.items) first last)
         (IsPlaceFor first last kept.now.items) }
 {
-    kept.binary_search_by(move |unit| side(unit, first, last)).err()
+    kept.binary_search_by(move |unit| side(unit, first, last))
+        .err()
 }
 
 // whether all numbers behind this one, up to the last, are kept

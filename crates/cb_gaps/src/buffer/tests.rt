@@ -1,9 +1,9 @@
-//! Worked examples of one sender's casts: what is kept, which come out, what is missing.
+//! Worked examples of one sender's casts and bursts: what is kept, which come out, what is missing.
 ghost use Rattle.cb_times.specs.Group.{IsWindow};
 
 use super::*;
 use bytes::Bytes;
-use cb_frames::{Change, LAST_NUMBER as LAST};
+use cb_frames::{Burst, Cast, Change, LAST_NUMBER as LAST};
 use std::process::Abort;
 use std::test::*;
 
@@ -14,16 +14,24 @@ enum Call {
     Taken,
     /// To keep a cast: how many are delivered, at most as many as were taken, and its number.
     Keep(u32, u32),
+    /// To keep a burst: how many are delivered, its first number, and how many messages it has.
+    KeepBurst(u32, u32, u32),
     /// What would become of a cast: how many are delivered, and its number.
     Judge(u32, u32),
-    /// How many casts would come out, were one of this number kept as well.
+    /// And of a burst: how many are delivered, and its first and last number.
+    JudgeBurst(u32, u32, u32),
+    /// How many messages would come out, were a cast of this number kept as well.
     ReadyWith(u32),
-    /// How many casts are kept.
+    /// Or a burst of these numbers.
+    ReadyWithBurst(u32, u32),
+    /// How many units are kept.
     Len,
-    /// The next cast.
+    /// The next unit.
     Take,
     /// To take a cast of this number without keeping it, where it is in order.
     TakeInOrder(u32),
+    /// Or a burst of these numbers.
+    TakeBurstInOrder(u32, u32),
     /// What is missing: how many are delivered, and the greatest number that was heard of.
     Missing(u32, u32),
 }
@@ -36,6 +44,34 @@ fn cast(alloc: Global, number: u32) -> Cast {
         changes: Vec::new(alloc),
         payload: Bytes::from_static(b"yo"),
     }
+}
+
+/// Its payloads are of one letter each.
+fn burst(alloc: Global, first: u32, count: u32) -> Result<Burst, NoMemory> {
+    let mut payloads = Vec::new(alloc);
+    let mut letters = b"abcdefgh".iter();
+    for _ in 0..count {
+        let letter = *letters.next().unwrap_or(&b'z');
+        payloads.push(Bytes::copy_from_slice(alloc, &[letter])?)?;
+    }
+    Ok(Burst {
+        group: 7,
+        sender: 0,
+        first,
+        changes: Vec::new(alloc),
+        payloads,
+    })
+}
+
+/// Keeps a burst whose messages have numbers.
+#[tactic(auto, using(crate::proofs::Spans::burst_ends))]
+fn keep_burst(reorder: &mut Reorder, delivered: u32, burst: Burst) -> Option<Admission> {
+    let count = burst.payloads.len();
+    if count == 0 || u64::from(burst.first) + count as u64 > u64::from(LAST) + 1 {
+        return None;
+    }
+    let delivered = delivered.min(reorder.taken());
+    Some(reorder.keep(delivered, Unit::Many(burst)))
 }
 
 /// A buffer of which this many casts were taken and none is kept.
@@ -51,16 +87,28 @@ fn after(rt: &impl Abort, alloc: Global, window: u32, taken: u32) -> Reorder
 }
 
 /// The group of a cast, its name and its payload.
-fn tell_cast(cast: &Option<Cast>, text: &mut String) -> Result<(), NoMemory> {
-    match cast {
-        Some(cast) => {
-            let payload = cast.payload.escape_ascii();
-            write!(
-                text,
-                "{} {}.{} {payload}",
-                cast.group, cast.sender, cast.number
-            )
-        }
+fn tell_cast(cast: &Cast, text: &mut String) -> Result<(), NoMemory> {
+    let payload = cast.payload.escape_ascii();
+    write!(
+        text,
+        "{} {}.{} {payload}",
+        cast.group, cast.sender, cast.number
+    )
+}
+
+/// The group of a burst, its first name, and its payloads.
+fn tell_burst(burst: &Burst, text: &mut String) -> Result<(), NoMemory> {
+    write!(text, "{} {}.{}", burst.group, burst.sender, burst.first)?;
+    for payload in &burst.payloads {
+        write!(text, " {}", payload.escape_ascii())?;
+    }
+    Ok(())
+}
+
+fn tell_unit(unit: Option<Unit>, text: &mut String) -> Result<(), NoMemory> {
+    match unit {
+        Some(Unit::One(cast)) => tell_cast(&cast, text),
+        Some(Unit::Many(burst)) => tell_burst(&burst, text),
         None => text.push_str("none"),
     }
 }
@@ -73,45 +121,69 @@ fn tell_ranges(ranges: &[Range], text: &mut String) -> Result<(), NoMemory> {
     Ok(())
 }
 
-/// Takes a cast of this number where it is in order.
-fn takes_in_order(reorder: &mut Reorder, number: u32) -> bool {
-    let is_in_order = reorder.is_in_order(number);
-    if is_in_order {
-        reorder.take_in_order();
+/// Takes a unit of these numbers where it is in order.
+fn takes_in_order(reorder: &mut Reorder, first: u32, last: u32) -> &'static str {
+    if !reorder.is_in_order(first) {
+        return "no";
     }
-    is_in_order
+    reorder.take_in_order(last);
+    "taken"
 }
 
-fn answer(
+fn keeps(alloc: Global, reorder: &mut Reorder, delivered: u32, number: u32) -> Admission {
+    let delivered = delivered.min(reorder.taken());
+    reorder.keep(delivered, Unit::One(cast(alloc, number)))
+}
+
+/// What is kept or taken, and what became of it.
+fn change(
     alloc: Global,
     reorder: &mut Reorder,
     call: Call,
     text: &mut String,
 ) -> Result<(), NoMemory> {
     match call {
-        Call::Taken => write!(text, "{}", reorder.taken()),
         Call::Keep(delivered, number) => {
-            let delivered = delivered.min(reorder.taken());
-            write!(text, "{:?}", reorder.keep(delivered, cast(alloc, number)))
+            write!(text, "{:?}", keeps(alloc, reorder, delivered, number))
         }
-        Call::Judge(delivered, number) => { write!(text, "{:?}", reorder.judge(delivered, number)) }
-        Call::ReadyWith(number) => write!(text, "{}", reorder.ready_with(number)),
+        Call::KeepBurst(delivered, first, count) => {
+            let burst = burst(alloc, first, count)?;
+            match keep_burst(reorder, delivered, burst) {
+                Some(admission) => write!(text, "{admission:?}"),
+                None => text.push_str("no numbers"),
+            }
+        }
+        Call::Take => tell_unit(reorder.take_next(), text),
+        Call::TakeInOrder(number) => text.push_str(takes_in_order(reorder, number, number)),
+        Call::TakeBurstInOrder(first, last) => text.push_str(takes_in_order(reorder, first, last)),
+        _ => Ok(()),
+    }
+}
+
+/// What it says without a change.
+fn answer(reorder: &Reorder, call: Call, text: &mut String) -> Result<(), NoMemory> {
+    match call {
+        Call::Taken => write!(text, "{}", reorder.taken()),
+        Call::Judge(delivered, number) => {
+            write!(text, "{:?}", reorder.judge(delivered, number, number))
+        }
+        Call::JudgeBurst(delivered, first, last) => {
+            write!(text, "{:?}", reorder.judge(delivered, first, last))
+        }
+        Call::ReadyWith(number) => write!(text, "{}", reorder.ready_with(number, number)),
+        Call::ReadyWithBurst(first, last) => write!(text, "{}", reorder.ready_with(first, last)),
         Call::Len => write!(text, "{}", reorder.len()),
-        Call::Take => tell_cast(&reorder.take_next(), text),
-        Call::TakeInOrder(number) => text.push_str(if takes_in_order(reorder, number) {
-            "taken"
-        } else {
-            "no"
-        }),
         Call::Missing(delivered, known) => {
             tell_ranges(&reorder.missing(delivered, known)?, text)
         }
+        _ => Ok(()),
     }
 }
 
 fn said(rt: &impl Abort, alloc: Global, reorder: &mut Reorder, call: Call) -> String {
     let mut text = String::new(alloc);
-    answer(alloc, reorder, call, &mut text).expect(rt, "memory");
+    answer(reorder, call, &mut text).expect(rt, "memory");
+    change(alloc, reorder, call, &mut text).expect(rt, "memory");
     text
 }
 
@@ -273,40 +345,40 @@ fn a_cast_is_in_order_where_it_is_the_next_one_and_none_is_kept(rt: HostRuntime)
     run(&rt, rt.alloc(), 4, STEPS);
 }
 
-/// One is taken and two are kept, with a gap before them.
+/// One is taken; a cast and a burst are kept, with a gap before them.
 const BEFORE_THE_COPY: &[(Call, &str)] = &[
     (Call::Keep(0, 1), "Kept"),
     (Call::Take, "7 0.1 yo"),
     (Call::Keep(1, 3), "Kept"),
-    (Call::Keep(1, 4), "Kept"),
+    (Call::KeepBurst(1, 4, 2), "Kept"),
 ];
 
 /// What the copy is asked: it goes on, past the last one kept, with a place for each number of the window.
 const BY_THE_COPY: &[(Call, &str)] = &[
     (Call::Taken, "1"),
-    (Call::Missing(1, 9), "2-2;5-5;"),
+    (Call::Missing(1, 9), "2-2;"),
     (Call::Keep(1, 6), "TooFar"),
     (Call::Keep(1, 2), "Kept"),
     (Call::Take, "7 0.2 yo"),
     (Call::Take, "7 0.3 yo"),
-    (Call::Keep(2, 5), "Kept"),
-    (Call::Keep(2, 6), "Kept"),
+    (Call::Keep(3, 6), "Kept"),
+    (Call::Keep(3, 7), "Kept"),
 ];
 
 const BY_THE_FIRST: &[(Call, &str)] = &[
     (Call::Taken, "1"),
-    (Call::Missing(1, 9), "2-2;5-5;"),
+    (Call::Missing(1, 9), "2-2;"),
     (Call::Keep(1, 2), "Kept"),
     (Call::Take, "7 0.2 yo"),
     (Call::Take, "7 0.3 yo"),
-    (Call::Take, "7 0.4 yo"),
+    (Call::Take, "7 0.4 a b"),
     (Call::Take, "none"),
 ];
 
 const BEHIND_BOTH: &[(Call, &str)] = &[
-    (Call::Take, "7 0.4 yo"),
-    (Call::Take, "7 0.5 yo"),
+    (Call::Take, "7 0.4 a b"),
     (Call::Take, "7 0.6 yo"),
+    (Call::Take, "7 0.7 yo"),
 ];
 
 #[test]
@@ -383,4 +455,144 @@ fn none_follows_the_greatest_number(rt: HostRuntime) {
         (Call::Missing(LAST, LAST), ""),
     ];
     play(&rt, rt.alloc(), after(&rt, rt.alloc(), 4, LAST - 2), STEPS);
+}
+
+#[test]
+fn a_burst_comes_out_whole_and_counts_its_messages(rt: HostRuntime) {
+    const STEPS: &[(Call, &str)] = &[
+        (Call::ReadyWithBurst(2, 4), "0"),
+        (Call::KeepBurst(0, 2, 3), "Kept"),
+        (Call::Len, "1"),
+        (Call::Take, "none"),
+        (Call::Missing(0, 6), "1-1;5-6;"),
+        (Call::ReadyWith(1), "4"),
+        (Call::ReadyWithBurst(5, 7), "0"),
+        (Call::Keep(0, 1), "Kept"),
+        (Call::ReadyWithBurst(5, 7), "7"),
+        (Call::ReadyWithBurst(6, 7), "4"),
+        (Call::Take, "7 0.1 yo"),
+        (Call::ReadyWith(0), "3"),
+        (Call::Take, "7 0.2 a b c"),
+        (Call::Taken, "4"),
+        (Call::Take, "none"),
+        (Call::Keep(4, 5), "Kept"),
+        (Call::Take, "7 0.5 yo"),
+    ];
+    run(&rt, rt.alloc(), 8, STEPS);
+}
+
+#[test]
+fn a_burst_overlaps_where_some_of_its_messages_are_kept_and_others_not(rt: HostRuntime) {
+    const STEPS: &[(Call, &str)] = &[
+        (Call::KeepBurst(0, 5, 3), "Kept"),
+        // The first one, the last one, and those in the middle.
+        (Call::KeepBurst(0, 7, 2), "Overlap"),
+        (Call::KeepBurst(0, 3, 3), "Overlap"),
+        (Call::KeepBurst(0, 4, 5), "Overlap"),
+        (Call::KeepBurst(0, 5, 4), "Overlap"),
+        // Overlap comes before too far.
+        (Call::KeepBurst(0, 7, 20), "Overlap"),
+        (Call::JudgeBurst(0, 6, LAST), "Overlap"),
+        (Call::Len, "1"),
+        (Call::Missing(0, 9), "1-4;8-9;"),
+        // All of them.
+        (Call::KeepBurst(0, 5, 3), "Repeat"),
+        (Call::KeepBurst(0, 6, 2), "Repeat"),
+        (Call::Keep(0, 6), "Repeat"),
+        // What one unit ends with the next one may go on.
+        (Call::KeepBurst(0, 3, 2), "Kept"),
+        (Call::Keep(0, 8), "Kept"),
+        (Call::JudgeBurst(0, 3, 8), "Repeat"),
+        (Call::KeepBurst(0, 4, 5), "Repeat"),
+        (Call::KeepBurst(0, 2, 7), "Overlap"),
+        (Call::KeepBurst(0, 3, 7), "Overlap"),
+        (Call::Keep(0, 10), "Kept"),
+        (Call::Keep(0, 11), "Kept"),
+        (Call::JudgeBurst(0, 8, 11), "Overlap"),
+        (Call::JudgeBurst(0, 10, 11), "Repeat"),
+        (Call::Missing(0, 13), "1-2;9-9;12-13;"),
+        (Call::ReadyWithBurst(1, 2), "8"),
+    ];
+    run(&rt, rt.alloc(), 16, STEPS);
+}
+
+#[test]
+fn what_was_taken_counts_as_received_and_number_0_too(rt: HostRuntime) {
+    const STEPS: &[(Call, &str)] = &[
+        (Call::KeepBurst(0, 0, 2), "Overlap"),
+        (Call::KeepBurst(0, 0, 1), "Repeat"),
+        (Call::KeepBurst(0, 1, 3), "Kept"),
+        (Call::KeepBurst(0, 0, 4), "Repeat"),
+        (Call::Take, "7 0.1 a b c"),
+        (Call::KeepBurst(3, 2, 2), "Repeat"),
+        (Call::KeepBurst(3, 0, 4), "Repeat"),
+        (Call::KeepBurst(3, 3, 2), "Overlap"),
+        (Call::KeepBurst(3, 0, 6), "Overlap"),
+        (Call::Len, "0"),
+        (Call::Keep(3, 4), "Kept"),
+        (Call::KeepBurst(3, 3, 2), "Repeat"),
+        (Call::JudgeBurst(3, 2, 4), "Repeat"),
+        (Call::KeepBurst(3, 2, 4), "Overlap"),
+        (Call::Take, "7 0.4 yo"),
+    ];
+    run(&rt, rt.alloc(), 8, STEPS);
+}
+
+#[test]
+fn the_last_number_decides_what_is_too_far(rt: HostRuntime) {
+    const STEPS: &[(Call, &str)] = &[
+        (Call::KeepBurst(0, 4, 2), "TooFar"),
+        (Call::JudgeBurst(0, 4, 5), "TooFar"),
+        (Call::Keep(0, 2), "Kept"),
+        (Call::KeepBurst(0, 1, 2), "Overlap"),
+        (Call::JudgeBurst(0, 1, 2), "Overlap"),
+        (Call::Keep(0, 1), "Kept"),
+        (Call::Take, "7 0.1 yo"),
+        (Call::Take, "7 0.2 yo"),
+        (Call::Take, "none"),
+        (Call::KeepBurst(1, 3, 3), "Kept"),
+        (Call::KeepBurst(1, 6, 1), "TooFar"),
+        (Call::KeepBurst(2, 6, 1), "Kept"),
+        (Call::JudgeBurst(3, 7, 8), "TooFar"),
+        (Call::JudgeBurst(4, 7, 8), "Kept"),
+    ];
+    run(&rt, rt.alloc(), 4, STEPS);
+}
+
+#[test]
+fn a_burst_may_end_at_the_greatest_number(rt: HostRuntime) {
+    const STEPS: &[(Call, &str)] = &[
+        (Call::KeepBurst(LAST - 4, LAST, 2), "no numbers"),
+        (Call::ReadyWithBurst(LAST - 3, LAST), "4"),
+        (Call::KeepBurst(LAST - 4, LAST - 2, 3), "Kept"),
+        (Call::ReadyWithBurst(LAST - 3, LAST), "4"),
+        (Call::JudgeBurst(LAST - 4, LAST - 3, LAST), "Overlap"),
+        (Call::Missing(LAST, LAST), "4294967292-4294967292;"),
+        (Call::Keep(LAST - 4, LAST - 3), "Kept"),
+        (Call::Take, "7 0.4294967292 yo"),
+        (Call::Take, "7 0.4294967293 a b c"),
+        (Call::Taken, "4294967295"),
+        (Call::Take, "none"),
+        (Call::JudgeBurst(0, 0, LAST), "Repeat"),
+    ];
+    play(&rt, rt.alloc(), after(&rt, rt.alloc(), 4, LAST - 4), STEPS);
+}
+
+#[test]
+fn a_burst_is_in_order_by_its_first_number(rt: HostRuntime) {
+    const STEPS: &[(Call, &str)] = &[
+        (Call::TakeBurstInOrder(2, 4), "no"),
+        (Call::TakeBurstInOrder(1, 3), "taken"),
+        (Call::Taken, "3"),
+        (Call::TakeBurstInOrder(3, 5), "no"),
+        (Call::Missing(3, 5), "4-5;"),
+        (Call::KeepBurst(3, 5, 2), "Kept"),
+        (Call::TakeInOrder(4), "no"),
+        (Call::Keep(3, 4), "Kept"),
+        (Call::Take, "7 0.4 yo"),
+        (Call::Take, "7 0.5 a b"),
+        (Call::TakeInOrder(7), "taken"),
+        (Call::Taken, "7"),
+    ];
+    run(&rt, rt.alloc(), 4, STEPS);
 }

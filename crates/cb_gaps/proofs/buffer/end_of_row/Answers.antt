@@ -1,4 +1,4 @@
-use Rattle.std.proofs.Common.{◌≡◌, ◌-◌, ◌≤◌, ◌<◌, ◌^◌, max, arith, ap, sym, ◌∙◌, subst, ℕ}
+use Rattle.std.proofs.Common.{◌≡◌, ◌-◌, ◌≤◌, ◌<◌, ◌^◌, max, arith, subst, ℕ}
 use Rattle.std.specs.VecDeque.Iter.{deque_iter_rest}
 use Rattle.cb_gaps.specs.Lists.{first_of, last_of}
 use Rattle.cb_gaps.proofs.Entries.{rise_from}

@@ -1,4 +1,4 @@
-use Rattle.std.proofs.Common.{◌+◌, ◌^◌, ◌<◌, ◌≤◌, arith}
+use Rattle.std.proofs.Common.{◌≤◌, arith}
 use Rattle.cb_gaps.specs.Lists.{first_of, last_of, IsReceivedAnswer, IsFreePlace}
 use Rattle.cb_gaps.proofs.Spans.{numbered_filled}
 use Rattle.cb_gaps.proofs.Kept.{received_answer, all_lacking, keep_room, keep_keeps, keep_gives}

@@ -1,4 +1,4 @@
-use Rattle.std.proofs.Common.{arith, rules}
+use Rattle.std.proofs.Common.{arith}
 use Rattle.cb_gaps.specs.Ranges.{IsRow, end_with}
 use Rattle.cb_gaps.specs.Lists.{HasNumber}
 use Rattle.cb_gaps.proofs.Entries.{rise_from}
