@@ -1,22 +1,12 @@
 -- Counts of what entries tell.
-use Rattle.std.proofs.Common.{◌≡◌, ℕ, ◌+◌, ◌<◌, ◌≤◌, List, [], ◌∷◌, ◌++◌, length, length-append, drop, refl, sym, ap, get_or, subst, ◌∙◌, arith, Result, Ok, Err}
+use Rattle.std.proofs.Common.{◌≡◌, ℕ, ◌+◌, ◌<◌, ◌≤◌, List, [], ◌∷◌, ◌++◌, length, length-append, drop, refl, sym, ap, get_or, subst, ◌∙◌, arith}
 use Rattle.std.proofs.lemmas.List.{drop_more, map-append}
-use Rattle.cb_frames.specs.declared.fault.FrameFault.{FrameFault}
-use Rattle.cb_frames.specs.Fields.{FrameFields, CastFrame, StatusFrame, RequestFrame}
-use Rattle.cb_frames.proofs.Carried.{carries_one}
 use Rattle.cb_history.specs.Facts.{EntryFields}
 use Rattle.cb_lock.specs.Receipts.{ReceiptFields, SeatState}
 use Rattle.cb_lock.specs.Claims.{receipts_of}
 use Rattle.cb_threads.specs.declared.report.Tally.{Tally}
 use Rattle.cb_links.specs.Counts.{greatest, held}
-use Rattle.cb_threads.specs.Reports.{messages_read, casts_of, deliveries_of, entries_in, entries_reported, Adds, IsTally, no_tally}
-
--- a cast frame carries one message
-pub one_read : (r : Result FrameFields FrameFault) → messages_read r ≡ 1
-one_read (Ok (CastFrame c)) = ap length (carries_one c)
-one_read (Ok (StatusFrame s)) = refl
-one_read (Ok (RequestFrame r)) = refl
-one_read (Err fault) = refl
+use Rattle.cb_threads.specs.Reports.{casts_of, deliveries_of, entries_in, entries_reported, Adds, IsTally, no_tally}
 
 -- the counts with all of these entries
 abbrev pub sums : Tally → List EntryFields → Tally

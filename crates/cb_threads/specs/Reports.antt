@@ -1,9 +1,7 @@
 -- What a report says of a history, or of the receipts of seats.
-use Rattle.std.specs.Prelude.{◌≡◌, ℕ, ◌+◌, List, [], ◌∷◌, length, map, is_some, true, Option, None, Some, Result, Ok, Err, IfSome, MatchOption}
+use Rattle.std.specs.Prelude.{◌≡◌, ℕ, ◌+◌, List, [], ◌∷◌, length, map, is_some, true, Option, None, Some, IfSome, MatchOption}
 use Rattle.std.specs.List.{All}
-use Rattle.cb_frames.specs.declared.fault.FrameFault.{FrameFault}
-use Rattle.cb_frames.specs.Fields.{FrameFields, CastFrame, StatusFrame, RequestFrame, messages_of}
-use Rattle.cb_history.specs.Read.{frame_read}
+use Rattle.cb_frames.specs.Reading.{frame_at, count_read}
 use Rattle.cb_history.specs.Facts.{EntryFields, CastEntry, ArriveEntry, TickEntry}
 use Rattle.cb_lock.specs.Receipts.{ReceiptFields, SeatState}
 use Rattle.cb_lock.specs.Claims.{receipts_of}
@@ -19,16 +17,9 @@ use Rattle.cb_threads.specs.declared.workers.timer.Ticking.{Ticking}
 use Rattle.cb_links.specs.Counts.{held, MetAtMost}
 use Rattle.cb_threads.specs.Offers.{FailuresAreLost}
 
--- The messages that a Cast entry's frame carries. Bytes that are no cast frame stand in no Cast entry of a history; they would count as one.
-abbrev pub messages_read : Result FrameFields FrameFault → ℕ
-messages_read (Ok (CastFrame c)) = length (messages_of c)
-messages_read (Ok (StatusFrame s)) = 1
-messages_read (Ok (RequestFrame r)) = 1
-messages_read (Err fault) = 1
-
--- the messages that an entry casts
+-- the messages that an entry casts: those that its frame carries
 abbrev pub cast_by : EntryFields → ℕ
-cast_by (CastEntry frame) = messages_read (frame_read frame)
+cast_by (CastEntry frame) = count_read (frame_at frame)
 cast_by (ArriveEntry frame delivered) = 0
 cast_by (TickEntry status) = 0
 

@@ -6,6 +6,7 @@ ghost use Rattle.cb_lock.specs.Receipts.{receipt_fields};
 ghost use Rattle.cb_threads.specs.FaultText.{worker_fault_text};
 ghost use Rattle.cb_threads.specs.Reports.{Adds, IsTally, entries_in, entries_reported, no_tally};
 
+use cb_frames::message_count;
 use cb_lock::{Receipt, Seat};
 use cb_member::{Entry, History};
 use std::error::Error;
@@ -144,12 +145,11 @@ impl Tally {
         tally
     }
 
-    #[tactic(auto, using(crate::proofs::Telling::one_read))]
     fn and(self, entry: &Entry) -> Tally
         ensures { Adds self (entry_fields entry.now ∷ []) result }
     {
         let (casts, deliveries) = match entry {
-            Entry::Cast { frame: _ } => (1, 0),
+            Entry::Cast { frame } => (message_count(frame) as u64, 0),
             Entry::Arrive {
                 frame: _,
                 delivered,

@@ -345,6 +345,28 @@ pub const A_FRAME_IS_REFUSED_BY_THE_FIRST_RULE_THAT_IT_BREAKS: &[Script<'static>
     ],
 }];
 
+/// Whatever follows its first byte: "hi" and "yo" by member 0, no payload, and nothing.
+pub const A_BURST_IS_OF_NO_KIND: &[Script<'static>] = &[Script {
+    number: 7,
+    size: 3,
+    window: 4,
+    me: 1,
+    limit: 100,
+    calls: &[
+        (
+            Call::Take(b"\x21\x07\x00\x01\x00\x02\x02hi\x02yo"),
+            "0: Malformed(UnknownKind)",
+        ),
+        (
+            Call::Take(b"\x21\x07\x00\x01\x00\x00"),
+            "0: Malformed(UnknownKind)",
+        ),
+        (Call::Take(b"\x21"), "0: Malformed(UnknownKind)"),
+        (Call::Missing(0), ""),
+        (Call::Take(HI), "1: changed, 0.1 [1,0,0] (6869)"),
+    ],
+}];
+
 /// `an_empty_payload_is_cast`.
 pub const AN_EMPTY_PAYLOAD_IS_CAST: &[Script<'static>] = &[Script {
     number: 7,

@@ -235,6 +235,11 @@ fn a_history_of_one_entry_is_soon_full(rt: HostRuntime) -> Result<(), Fail> {
 }
 
 #[test]
+fn a_burst_is_of_no_kind(rt: HostRuntime) -> Result<(), Fail> {
+    examples::run_each(&rt, rt.alloc(), examples::A_BURST_IS_OF_NO_KIND)
+}
+
+#[test]
 fn a_frame_is_refused_by_the_first_rule_that_it_breaks(rt: HostRuntime) -> Result<(), Fail> {
     examples::run_each(
         &rt,

@@ -2,7 +2,7 @@
 
 use crate::agreement::dice::Dice;
 use bytes::Bytes;
-use cb_frames::{Cast, Change, Frame, LAST_MEMBER, Range, Request, Status, encode};
+use cb_frames::{Burst, Cast, Change, Frame, LAST_MEMBER, Range, Request, Status, encode};
 use cb_history::Group;
 use std::alloc::Global;
 use std::test::Fail;
@@ -117,6 +117,28 @@ fn cast(alloc: Global, target: &Target<'_>, dice: &mut Dice) -> Result<Bytes, Fa
     ))
 }
 
+/// Two messages of a byte each.
+fn burst(alloc: Global, target: &Target<'_>, dice: &mut Dice) -> Result<Bytes, Fail> {
+    let sender = target.member(dice);
+    let group = target.number(dice);
+    let first = dice.near(target.delivered(sender)).max(1);
+    let changes = changes(alloc, target, dice, sender)?;
+    let mut payloads = Vec::new(alloc);
+    for _ in 0..2 {
+        payloads.push(Bytes::copy_from_slice(alloc, &[dice.byte()])?)?;
+    }
+    Ok(text(
+        alloc,
+        Frame::Burst(Burst {
+            group,
+            sender,
+            first,
+            changes,
+            payloads,
+        }),
+    ))
+}
+
 fn status(alloc: Global, target: &Target<'_>, dice: &mut Dice) -> Result<Bytes, Fail> {
     let group = target.number(dice);
     let sender = target.member(dice);
@@ -153,9 +175,10 @@ fn request(alloc: Global, target: &Target<'_>, dice: &mut Dice) -> Result<Bytes,
 
 /// A frame of any kind with fields near those that could be true.
 pub fn forged(alloc: Global, target: &Target<'_>, dice: &mut Dice) -> Result<Bytes, Fail> {
-    match dice.below(5) {
-        0 => request(alloc, target, dice),
-        1 | 2 => status(alloc, target, dice),
+    match dice.below(16) {
+        0..=2 => request(alloc, target, dice),
+        3..=8 => status(alloc, target, dice),
+        9 => burst(alloc, target, dice),
         _ => cast(alloc, target, dice),
     }
 }
