@@ -8,9 +8,9 @@ use Rattle.cb_times.specs.Order.{field, AtMost}
 use Rattle.cb_frames.specs.declared.frame.TheConstants.{LAST_NUMBER}
 use Rattle.cb_frames.specs.declared.frame.Change.{Change}
 use Rattle.cb_varint.specs.Reading.{spelling}
-use Rattle.cb_frames.specs.Fields.{Load, One, load_bytes, Carried, CastFields, CastFrame}
+use Rattle.cb_frames.specs.Fields.{Load, One, Carried, CastFields, CastFrame}
 use Rattle.cb_frames.proofs.Carried.{carries_one}
-use Rattle.cb_frames.specs.Text.{cast_kind, cast_numbers, payload_text, text_of, with_load}
+use Rattle.cb_frames.specs.Text.{cast_kind, cast_numbers, text_of, with_load}
 use Rattle.cb_diffs.specs.Differences.{differences}
 use Rattle.cb_stability.specs.Sent.{room_of}
 use Rattle.cb_history.specs.Facts.{Fact}

@@ -1,9 +1,9 @@
 -- After any calls a core stands for their history.
-use Rattle.std.proofs.Common.{◌≡◌, ◌⊎◌, true, List, [], length, Result, Ok, Err, refl, sym, ap, subst, ◌∙◌, arith, inl, inr}
+use Rattle.std.proofs.Common.{◌≡◌, ◌⊎◌, ℕ, true, List, [], Result, Ok, Err, refl, sym, ap, subst, ◌∙◌, arith, inl, inr}
 use Rattle.std.specs.Prelude.{IsOk, is_ok}
 use Rattle.std.proofs.lemmas.Bool.{both_ways}
 use Rattle.cb_frames.specs.declared.frame.TheConstants.{LAST_NUMBER}
-use Rattle.cb_frames.specs.Fields.{Load, One, Many, CastFields}
+use Rattle.cb_frames.specs.Fields.{One, Many, CastFields}
 use Rattle.cb_times.specs.Order.{field}
 use Rattle.cb_history.specs.declared.answer.CastDone.{CastDone}
 use Rattle.cb_history.specs.declared.answer.CastRefusal.{CastRefusal}

@@ -3,7 +3,7 @@ use Rattle.std.proofs.Common.{◌≡◌, ℕ, ◌+◌, ◌<◌, ◌≤◌, inl, 
 use Rattle.std.specs.Prelude.{IsOk, is_ok}
 use Rattle.std.proofs.lemmas.Bool.{both_ways, cases_Bool, cases_lt, le-ltb, lt-leb, le-leb, lt-ltb}
 use Rattle.cb_frames.specs.declared.frame.TheConstants.{LONGEST_PAYLOAD, LAST_NUMBER}
-use Rattle.cb_frames.specs.Fields.{Load, One, Many, IsOne, load_bytes, payloads_of}
+use Rattle.cb_frames.specs.Fields.{Load, One, Many, IsOne, payloads_of}
 use Rattle.cb_frames.specs.Text.{IsLoad, KeepsLoadRules}
 use Rattle.cb_frames.proofs.Carried.{load_has_one, one_has_some}
 use Rattle.cb_stability.specs.Sent.{room_of}
