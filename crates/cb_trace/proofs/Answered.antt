@@ -14,11 +14,11 @@ use Rattle.cb_history.specs.declared.answer.ArriveRefusal.TheVariants as arrival
 use Rattle.cb_history.specs.declared.answer.TickRefusal.{TickRefusal}
 use Rattle.cb_history.specs.declared.answer.TickRefusal.TheVariants as ticks
 use Rattle.cb_history.specs.declared.answer.Outgoing.{Outgoing}
-use Rattle.cb_history.specs.CastFault.{CastFault, PayloadTooLong, WindowFull, HistoryFull}
+use Rattle.cb_history.specs.CastFault.{CastFault, BurstTooLong, PayloadTooLong, WindowFull, HistoryFull}
 use Rattle.cb_history.specs.Group.{Identity}
 use Rattle.cb_history.specs.Facts.{EntryFields, CastEntry, ArriveEntry, TickEntry, Fact, facts_of}
 use Rattle.cb_history.specs.Known.{missing, ranges_of}
-use Rattle.cb_history.specs.Answers.{is_full, is_too_many, next_cast, cast_answer, group_of, are_members, is_impossible, is_repeat, is_too_far, is_change, deliveries, sent_in_answer, ArrivalSays, Accepted, Repeat, frame_answer, answer_to, arrive_answer, status_of, is_new_status, request_to, requests, tick_answer}
+use Rattle.cb_history.specs.Answers.{is_burst, is_full, is_too_many, next_cast, cast_answer, group_of, are_members, is_impossible, is_repeat, is_too_far, is_change, deliveries, sent_in_answer, ArrivalSays, Accepted, Repeat, frame_answer, answer_to, arrive_answer, status_of, is_new_status, request_to, requests, tick_answer}
 use Rattle.cb_history.specs.Legal.{Call, ToCast, ToTake, ToTick, cast_entry, arrive_entry, tick_entry, entry_of}
 use Rattle.cb_history.specs.ReplayLaws.{call_of}
 use Rattle.cb_history.proofs.Views.{IsIn}
@@ -33,6 +33,7 @@ module _ (seat : Identity) (limit other : ℕ) (entries : List EntryFields) (sam
   unfolding cast_answer
   cast_room load =
       let r : Bool → Result CastFields CastFault = λ full.
+      if is_burst load then Err BurstTooLong else
       if ltb LONGEST_PAYLOAD (length (load_bytes load)) then Err PayloadTooLong else
       if is_too_many seat (facts_of entries) (length (payloads_of load)) then Err WindowFull else
       if full then Err HistoryFull else Ok (next_cast seat (facts_of entries) load) in

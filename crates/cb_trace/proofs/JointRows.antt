@@ -4,7 +4,7 @@ use Rattle.std.proofs.lemmas.Bool.{ne_eqb}
 use Rattle.cb_varint.specs.Reading.{number_at, spelling}
 use Rattle.cb_frames.specs.Fields.{One, messages_of, first_number, last_number}
 use Rattle.cb_frames.specs.Text.{text_of}
-use Rattle.cb_frames.specs.Reading.{frame_at, cast_at, status_at, request_at, pairs_at, pair_at}
+use Rattle.cb_frames.specs.Reading.{frame_at, head_at, cast_at, status_at, request_at, pairs_at, pair_at}
 use Rattle.cb_times.specs.declared.name.Name.{Name}
 use Rattle.cb_history.specs.Group.{Parameters}
 use Rattle.cb_history.specs.Facts.{EntryFields, CastEntry, ArriveEntry}
@@ -119,15 +119,15 @@ abbrev the_steps : Schedule
 the_steps = CastStep 0 (One (104 ∷ 105 ∷ [])) ∷ ArriveStep 1 0 ∷ CastStep 1 (One (121 ∷ 111 ∷ [])) ∷ ArriveStep 2 1 ∷ ArriveStep 2 0 ∷ []
 
 member_0_did_this : (run the_setting the_steps).histories 0 ≡ worked 0
-unfolding step_after run_from cast_answer arrive_answer tick_answer view drained frame_at cast_at status_at request_at pairs_at pair_at number_at text_of spelling messages_of first_number last_number
+unfolding step_after run_from cast_answer arrive_answer tick_answer view drained frame_at head_at cast_at status_at request_at pairs_at pair_at number_at text_of spelling messages_of first_number last_number
 member_0_did_this = refl
 
 member_1_did_this : (run the_setting the_steps).histories 1 ≡ worked 1
-unfolding step_after run_from cast_answer arrive_answer tick_answer view drained frame_at cast_at status_at request_at pairs_at pair_at number_at text_of spelling messages_of first_number last_number
+unfolding step_after run_from cast_answer arrive_answer tick_answer view drained frame_at head_at cast_at status_at request_at pairs_at pair_at number_at text_of spelling messages_of first_number last_number
 member_1_did_this = refl
 
 member_2_did_this : (run the_setting the_steps).histories 2 ≡ worked 2
-unfolding step_after run_from cast_answer arrive_answer tick_answer view drained frame_at cast_at status_at request_at pairs_at pair_at number_at text_of spelling messages_of first_number last_number
+unfolding step_after run_from cast_answer arrive_answer tick_answer view drained frame_at head_at cast_at status_at request_at pairs_at pair_at number_at text_of spelling messages_of first_number last_number
 member_2_did_this = refl
 
 -- ---- damaged forms
@@ -145,15 +145,15 @@ no_one_has_gone k bytes put = let went = put.went in omega (arith, went)
 
 -- a fresh member 2 that takes "hi" first delivers it alone
 exchanged_entries_are_not_given : entry_of (seat_of group 2) longest_history [] (call_of (ArriveEntry hi (of_hi ∷ of_yo ∷ []))) ≡ Some (ArriveEntry hi (of_hi ∷ []))
-unfolding cast_answer arrive_answer tick_answer view drained frame_at cast_at status_at request_at pairs_at pair_at number_at text_of spelling messages_of first_number last_number
+unfolding cast_answer arrive_answer tick_answer view drained frame_at head_at cast_at status_at request_at pairs_at pair_at number_at text_of spelling messages_of first_number last_number
 exchanged_entries_are_not_given = refl
 
 -- in the worked order it delivers both
 the_second_is_given : entry_of (seat_of group 2) longest_history (ArriveEntry yo [] ∷ []) (call_of (ArriveEntry hi (of_hi ∷ of_yo ∷ []))) ≡ Some (ArriveEntry hi (of_hi ∷ of_yo ∷ []))
-unfolding cast_answer arrive_answer tick_answer view drained frame_at cast_at status_at request_at pairs_at pair_at number_at text_of spelling messages_of first_number last_number
+unfolding cast_answer arrive_answer tick_answer view drained frame_at head_at cast_at status_at request_at pairs_at pair_at number_at text_of spelling messages_of first_number last_number
 the_second_is_given = refl
 
 -- a request adds no entry
 requests_are_not_given : entry_of (seat_of group 2) longest_history [] (call_of (ArriveEntry (0x13 ∷ 0x07 ∷ 0x00 ∷ 0x02 ∷ 0x01 ∷ 0x00 ∷ 0x00 ∷ []) [])) ≡ None
-unfolding cast_answer arrive_answer tick_answer view drained frame_at cast_at status_at request_at pairs_at pair_at number_at text_of spelling messages_of first_number last_number
+unfolding cast_answer arrive_answer tick_answer view drained frame_at head_at cast_at status_at request_at pairs_at pair_at number_at text_of spelling messages_of first_number last_number
 requests_are_not_given = refl

@@ -4,8 +4,8 @@ use Rattle.std.specs.Prelude.{slice_get}
 use Rattle.std.specs.List.{AllByRecursion}
 use Rattle.std.proofs.lemmas.Bool.{cond_both}
 use Rattle.cb_frames.specs.declared.fault.FrameFault.{FrameFault}
-use Rattle.cb_frames.specs.Fields.{FrameFields, CastFrame, StatusFrame, RequestFrame, RequestFields}
-use Rattle.cb_frames.specs.Text.{text_of, cast_kind, status_kind, request_kind}
+use Rattle.cb_frames.specs.Fields.{Load, One, Many, FrameFields, CastFrame, StatusFrame, RequestFrame, RequestFields}
+use Rattle.cb_frames.specs.Text.{text_of, kind_of, status_kind, request_kind}
 use Rattle.cb_history.specs.Read.{frame_read}
 use Rattle.cb_times.specs.declared.name.Name.{Name}
 use Rattle.cb_history.specs.declared.answer.ArriveRefusal.{ArriveRefusal}
@@ -46,12 +46,12 @@ unfolding arrive_answer
 takes_no_request seat limit entries bytes r read =
     ap (λ (f : Result FrameFields FrameFault). arrive_entry bytes (answer_to seat limit entries f)) read ∙ request_adds_nothing seat limit entries (facts_of entries) r bytes
 
-abbrev kind_of : FrameFields → ℕ
-kind_of (CastFrame c) = cast_kind
-kind_of (StatusFrame s) = status_kind
-kind_of (RequestFrame r) = request_kind
+abbrev first_byte : FrameFields → ℕ
+first_byte (CastFrame c) = kind_of c.load
+first_byte (StatusFrame s) = status_kind
+first_byte (RequestFrame r) = request_kind
 
-text_begins : (f : FrameFields) → (rest : List ℕ) × (text_of f ≡ kind_of f ∷ rest)
+text_begins : (f : FrameFields) → (rest : List ℕ) × (text_of f ≡ first_byte f ∷ rest)
 unfolding text_of
 text_begins (CastFrame c) = (_, refl)
 text_begins (StatusFrame s) = (_, refl)
@@ -60,8 +60,12 @@ text_begins (RequestFrame r) = (_, refl)
 same_head : (a b : ℕ) (xs ys : List ℕ) → a ∷ xs ≡ b ∷ ys → a ≡ b
 same_head a b xs ys e = cc
 
-request_kinds : (f : FrameFields) → kind_of f ≡ request_kind → (s : RequestFields) × (f ≡ RequestFrame s)
-request_kinds (CastFrame c) e = absurd (omega (arith, e))
+carries_nothing : (load : Load) → kind_of load ≡ request_kind → ⊥
+carries_nothing (One payload) e = omega (arith, e)
+carries_nothing (Many payloads) e = omega (arith, e)
+
+request_kinds : (f : FrameFields) → first_byte f ≡ request_kind → (s : RequestFields) × (f ≡ RequestFrame s)
+request_kinds (CastFrame c) e = absurd (carries_nothing c.load e)
 request_kinds (StatusFrame s) e = absurd (omega (arith, e))
 request_kinds (RequestFrame s) e = (s, refl)
 
@@ -69,7 +73,7 @@ text_is_no_request : (f : FrameFields) (r : RequestFields) → text_of f ≡ tex
 text_is_no_request f r e =
     let one = text_begins f in
     let other = text_begins (RequestFrame r) in
-    request_kinds f (same_head (kind_of f) request_kind one.0 other.0 (sym one.1 ∙ e ∙ other.1))
+    request_kinds f (same_head (first_byte f) request_kind one.0 other.0 (sym one.1 ∙ e ∙ other.1))
 
 no_request : (seat : Identity) (before : List EntryFields) (bytes : List ℕ) (names : List Name) → IsLegal seat (before ++ ArriveEntry bytes names ∷ []) → IsAdded seat before (ArriveEntry bytes names) → IsRequest bytes → ⊥
 no_request seat before bytes names legal is asks =

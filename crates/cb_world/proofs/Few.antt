@@ -15,11 +15,11 @@ use Rattle.cb_history.specs.declared.answer.TickRefusal.{TickRefusal}
 use Rattle.cb_history.specs.declared.answer.ArriveRefusal.TheVariants as arrivals
 use Rattle.cb_history.specs.declared.answer.TickRefusal.TheVariants as ticks
 use Rattle.cb_history.specs.declared.answer.Outgoing.{Outgoing}
-use Rattle.cb_history.specs.CastFault.{CastFault, PayloadTooLong, WindowFull, HistoryFull}
+use Rattle.cb_history.specs.CastFault.{CastFault, BurstTooLong, PayloadTooLong, WindowFull, HistoryFull}
 use Rattle.cb_history.specs.Group.{Identity}
 use Rattle.cb_history.specs.Facts.{EntryFields, Fact, facts_of}
 use Rattle.cb_history.specs.Known.{missing, ranges_of}
-use Rattle.cb_history.specs.Answers.{is_full, is_too_many, next_cast, cast_answer, group_of, are_members, is_impossible, is_repeat, is_too_far, is_change, deliveries, is_asked_for, window, sent_in_answer, ArrivalSays, Accepted, Repeat, answer_to, arrive_answer, status_of, is_new_status, request_to, requests, tick_answer}
+use Rattle.cb_history.specs.Answers.{is_burst, is_full, is_too_many, next_cast, cast_answer, group_of, are_members, is_impossible, is_repeat, is_too_far, is_change, deliveries, is_asked_for, window, sent_in_answer, ArrivalSays, Accepted, Repeat, answer_to, arrive_answer, status_of, is_new_status, request_to, requests, tick_answer}
 use Rattle.cb_history.specs.Legal.{Call, ToCast, ToTake, ToTick}
 use Rattle.cb_schedules.specs.Schedule.{Answer, CastAnswer, ArrivalAnswer, TickAnswer, answer_of, frames_sent}
 use Rattle.cb_world.specs.declared.taking.TheConstants.{MOST_SENT_OUT}
@@ -66,9 +66,10 @@ module _ (seat : Identity) (limit : ℕ) (entries : List EntryFields) where
   unfolding cast_answer
   few_in_a_cast load =
       let P : Result CastFields CastFault → Type 0 = λ r. Few (CastAnswer r) in
-      cond_both (ltb LONGEST_PAYLOAD (length (load_bytes load))) _ _ P (λ _. no_cast PayloadTooLong)
+      cond_both (is_burst load) _ _ P (λ _. no_cast BurstTooLong)
+      (λ _. cond_both (ltb LONGEST_PAYLOAD (length (load_bytes load))) _ _ P (λ _. no_cast PayloadTooLong)
       (λ _. cond_both (is_too_many seat (facts_of entries) (length (payloads_of load))) _ _ P (λ _. no_cast WindowFull)
-      (λ _. cond_both (is_full limit entries) _ _ P (λ _. no_cast HistoryFull) (λ _. one_cast (next_cast seat (facts_of entries) load))))
+      (λ _. cond_both (is_full limit entries) _ _ P (λ _. no_cast HistoryFull) (λ _. one_cast (next_cast seat (facts_of entries) load)))))
 
   none_asked_for : length {A = Outgoing} [] ≤ MOST_SENT_OUT
   none_asked_for = omega arith

@@ -3,7 +3,7 @@ use Rattle.std.specs.Prelude.{◌≡◌, ◌≢◌, ℕ, Bool, true, false, List
 use Rattle.std.specs.List.{flat_map}
 use Rattle.std.specs.Io.KnownBytes.{Appends}
 use Rattle.hex.specs.Hex.{encode_lower}
-use Rattle.cb_frames.specs.Fields.{One}
+use Rattle.cb_frames.specs.Fields.{Load, One, Many}
 use Rattle.cb_schedules.specs.Schedule.{Setting, Step, CastStep, ArriveStep, TickStep}
 use Rattle.cb_world.specs.World.{WorldState}
 use Rattle.cb_trace.specs.declared.fault.AuditFault.{AuditFault}
@@ -25,8 +25,13 @@ abbrev pub digits_text : List ℕ → List ℕ
 digits_text [] = codes "-"
 digits_text (byte ∷ bytes) = encode_lower (byte ∷ bytes)
 
+-- the payloads of a load, each behind a space
+abbrev pub load_text : Load → List ℕ
+load_text (One payload) = codes " " ++ digits_text payload
+load_text (Many payloads) = flat_map (λ payload. codes " " ++ digits_text payload) payloads
+
 unfoldable pub step_text : Step → List ℕ
-step_text (CastStep i (One payload)) = parameter_text (codes "cast ") i ++ codes " " ++ digits_text payload ++ codes "\n"
+step_text (CastStep i load) = parameter_text (codes "cast ") i ++ load_text load ++ codes "\n"
 step_text (ArriveStep j number) = parameter_text (codes "arrive ") j ++ parameter_text (codes " ") number ++ codes "\n"
 step_text (TickStep i) = parameter_text (codes "tick ") i ++ codes "\n"
 
