@@ -135,18 +135,27 @@ fn bytes_that_are_no_burst_have_their_first_fault(rt: HostRuntime) {
     }
 }
 
-/// Twice 512 bytes, and then one more.
+/// The text of three payloads: two of 512 bytes, and the last one with its length.
+fn behind_1024_bytes(rt: &impl Abort, alloc: Global, last: &[u8]) -> Vec<u8> {
+    let payload = many(rt, alloc, 0x61, 512);
+    let head: &[u8] = b"\x21\x07\x00\x01\x00\x03";
+    let length: &[u8] = b"\x80\x04";
+    let text = [head, length, &payload, length, &payload, last].concat(alloc);
+    drop(payload);
+    text.expect(rt, "memory")
+}
+
+fn fault_behind_1024_bytes(rt: &impl Abort, alloc: Global, last: &[u8]) -> Option<FrameFault> {
+    let text = behind_1024_bytes(rt, alloc, last);
+    let fault = decoded(rt, alloc, &text);
+    drop(text);
+    fault
+}
+
 #[test]
 fn the_lengths_of_payloads_are_added(rt: HostRuntime) {
-    let mut bytes = many(&rt, rt.alloc(), 0x61, 6 + 2 * (2 + 512));
-    bytes[..8].copy_from_slice(b"\x21\x07\x00\x01\x00\x03\x80\x04");
-    bytes[520..522].copy_from_slice(b"\x80\x04");
-    bytes.push(0).expect(&rt, "memory");
-    let whole = decoded(&rt, rt.alloc(), &bytes);
-    let last = bytes.len() - 1;
-    bytes[last] = 1;
-    let fault = decoded(&rt, rt.alloc(), &bytes);
-    drop(bytes);
+    let whole = fault_behind_1024_bytes(&rt, rt.alloc(), b"\x00");
+    let fault = fault_behind_1024_bytes(&rt, rt.alloc(), b"\x01");
     same(
         &rt,
         (whole, fault),
@@ -212,7 +221,7 @@ fn a_burst_with_another_byte_is_a_frame_or_has_a_fault(rt: HostRuntime) {
 
 fn with_each_byte(rt: &impl Abort, alloc: Global, bytes: &mut [u8], place: usize) {
     for byte in 0..=255 {
-        bytes[place] = byte;
+        *bytes.get_mut(place).expect(rt, "a byte") = byte;
         let fault = decoded(rt, alloc, bytes);
         holds_at(rt, fault != Some(FrameFault::NoMemory), &bytes);
     }
