@@ -1,5 +1,5 @@
 -- What the rules say of a received cast.
-use Rattle.std.proofs.Common.{◌≡◌, ◌≢◌, ℕ, ◌+◌, ◌<◌, ◌≤◌, inl, inr, true, false, ltb, eqb, List, [], ◌∷◌, ◌++◌, length, Some, Ok, Err, refl, sym, ap, subst, ◌∙◌, ◌↔◌, arith}
+use Rattle.std.proofs.Common.{◌≡◌, ◌≢◌, ℕ, ◌+◌, ◌<◌, ◌≤◌, inl, inr, true, false, ltb, eqb, List, [], ◌∷◌, ◌++◌, length, Some, Result, Ok, Err, refl, sym, ap, subst, ◌∙◌, ◌↔◌, arith}
 use Rattle.std.specs.Prelude.{slice_get}
 use Rattle.std.specs.List.{list_all}
 use Rattle.std.proofs.Math.Bool.{and-false}
@@ -8,8 +8,9 @@ use Rattle.cb_times.specs.Order.{field}
 use Rattle.cb_frames.specs.declared.frame.TheConstants.{LAST_NUMBER}
 use Rattle.cb_frames.specs.Fields.{CastFields, CastFrame, messages_of, first_number, last_number}
 use Rattle.cb_gaps.specs.declared.buffer.Admission.{Admission}
-use Rattle.cb_gaps.specs.declared.buffer.Admission.TheVariants.{Kept, Repeat, TooFar}
+use Rattle.cb_gaps.specs.declared.buffer.Admission.TheVariants.{Kept, Repeat, Overlap, TooFar}
 use Rattle.cb_gaps.specs.Buffer.{Buffer, Admits, IsLacking, IsReceived, AreLacking, AreReceived}
+use Rattle.cb_history.specs.declared.answer.ArriveRefusal.{ArriveRefusal}
 use Rattle.cb_history.specs.declared.answer.ArriveRefusal.TheVariants as arrivals
 use Rattle.cb_frames.proofs.Carried.{carried_is_of_cast, carries_some, first_is_carried, one_has_some}
 use Rattle.cb_history.specs.Group.{Identity}
@@ -22,10 +23,11 @@ use Rattle.cb_history.proofs.Buffers.{received_is_there}
 use Rattle.cb_history.proofs.Lists.{all_of, each_of}
 use Rattle.cb_history.proofs.Runs.{expanded_are_there, delivered_is_expanded}
 use Rattle.cb_history.proofs.Singles.{singles_are_the_same}
+use Rattle.cb_member.specs.declared.arrival.cast.Judged.{Judged}
 use Rattle.cb_member.specs.declared.arrival.cast.Judged.TheVariants as judged
 use Rattle.cb_member.specs.declared.state.State.{State}
 use Rattle.cb_member.specs.State.{IsState, Keeps}
-use Rattle.cb_member.specs.Arriving.{Answers, Changes, own_verdict, other_verdict, JudgesCast}
+use Rattle.cb_member.specs.Arriving.{Answers, Changes, own_verdict, FollowsFrom, JudgesCast}
 use Rattle.cb_member.proofs.Reading.{time_at}
 
 pub other_group : (state : State) (c : CastFields) → c.group ≢ state.seat.group.number → JudgesCast state c (Err arrivals.OtherGroup)
@@ -48,6 +50,19 @@ first_not_there facts c single absent = false_from_ne_true (says.is_repeat facts
     let here : is_there (casts_in facts) m.found.sender m.found.number ≡ is_there (casts_in facts) c.sender (first_number c) =
     ap (λ (i : ℕ). is_there (casts_in facts) i m.found.number) m.sender_is ∙ ap (is_there (casts_in facts) c.sender) m.number_is in
     both_ways (is_there (casts_in facts) c.sender (first_number c)) absent (sym here ∙ there))
+
+-- a single message is received or not, never in part
+pub one_never_overlaps : (b : Buffer) (delivered first last : ℕ) → last ≡ first → Admits b delivered first last Overlap → ⊥
+one_never_overlaps b delivered first last one partly =
+    let received = partly.some in
+    let lacks = partly.others in
+    let same : received.number ≡ lacks.number = let from = received.from in let upto = received.upto in let from_too = lacks.from in let upto_too = lacks.upto in omega (arith, from, upto, from_too, upto_too, one) in
+    let lacking = lacks.is in
+    let above = lacking.not_taken in
+    elim (subst (IsReceived b) same received.is) [
+      | inl le ↦ omega (arith, above, le)
+      | inr there ↦ lacking.not_kept there
+    ]
 
 module _ (state : State) (c : CastFields) (single : IsSingle c) (numbered : 1 ≤ first_number c) (group : c.group ≡ state.seat.group.number) (members : are_members state.seat.group.size (CastFrame c) ≡ true) where
   abbrev seat : Identity
@@ -148,10 +163,11 @@ module _ (state : State) (c : CastFields) (single : IsSingle c) (numbered : 1 �
       is_own_repeat facts are k own (omega (arith, le, counted facts are k)))
 
   pub judges_other : c.sender ≢ seat.me → (b : Buffer) → slice_get state.reception.buffers.items c.sender ≡ Some b → last_number c ≤ LAST_NUMBER → IsState state
-      → (a : Admission) → Admits b (field state.delivery.time c.sender) (first_number c) (last_number c) a → JudgesCast state c (other_verdict a)
-  judges_other other b at small is_state Repeat received = λ facts are k. is_other_repeat facts are k other b at received
-  judges_other other b at small is_state TooFar far = λ facts are k. is_beyond facts are k other b at far
-  judges_other other b at small is_state Kept admitted = record {
+      → (a : Admission) (verdict : Result Judged ArriveRefusal) → Admits b (field state.delivery.time c.sender) (first_number c) (last_number c) a → FollowsFrom a verdict → JudgesCast state c verdict
+  judges_other other b at small is_state Overlap verdict received says_so = absurd says_so
+  judges_other other b at small is_state Repeat verdict received says_so = subst (JudgesCast state c) (sym says_so) (λ facts are k. is_other_repeat facts are k other b at received)
+  judges_other other b at small is_state TooFar verdict far says_so = subst (JudgesCast state c) (sym says_so) (λ facts are k. is_beyond facts are k other b at far)
+  judges_other other b at small is_state Kept verdict admitted says_so = subst (JudgesCast state c) (sym says_so) (record {
     can = record {
       facts = is_state.facts;
       legal = follows is_state.facts is_state.legal is_state.keeps other b at admitted small;
@@ -160,4 +176,4 @@ module _ (state : State) (c : CastFields) (single : IsSingle c) (numbered : 1 �
     };
     legal = λ facts are k. follows facts are k other b at admitted small;
     changes = λ facts are k. changes facts are k other b at admitted;
-  }
+  })

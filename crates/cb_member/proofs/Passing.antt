@@ -83,7 +83,7 @@ module _ (c : CastFields) (old : Reception) (can : CanTakeInOrder c old) where
   full = with_cast can.in_order.buffer c
 
   abbrev after : Buffer
-  after = record can.in_order.buffer { taken = can.in_order.buffer.taken + 1 }
+  after = record can.in_order.buffer { taken = last_number c }
 
   abbrev spare : List ℕ
   spare = replicate (length old.expander) 0
@@ -138,7 +138,7 @@ module _ (c : CastFields) (old : Reception) (can : CanTakeInOrder c old) where
   gives_it = record {
     at = at_written old.buffers.items c.sender full within;
     next = passing_is_next can.in_order.buffer c can.in_order.in_order;
-    takes = passing_takes can.in_order.buffer c can.in_order.in_order can.single;
+    takes = passing_takes can.in_order.buffer c can.in_order.in_order;
   }
 
   received : HasReceived can.seat (can.facts ++ CastReceived c ∷ []) (expanded_count (casts_in can.facts)) between

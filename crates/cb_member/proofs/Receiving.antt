@@ -16,7 +16,7 @@ use Rattle.cb_frames.specs.Fields.{IsSome, load_bytes, CastFields, Carried, mess
 use Rattle.cb_delay.specs.declared.message.Message.{Message}
 use Rattle.cb_diffs.specs.Expansion.{expanded_time, IsNext as IsNextCast}
 use Rattle.cb_gaps.specs.declared.buffer.Admission.{Admission}
-use Rattle.cb_gaps.specs.declared.buffer.Admission.TheVariants.{Kept, Repeat, TooFar}
+use Rattle.cb_gaps.specs.declared.buffer.Admission.TheVariants.{Kept, Repeat, Overlap, TooFar}
 use Rattle.cb_gaps.specs.Buffer.{Buffer, Admits, IsAnswer, IsAfter, IsLacking, AreLacking, IsNext, Takes}
 use Rattle.cb_frames.proofs.Carried.{carried_up_to_the_last, carries_one, carries_some, first_is_number, last_is_first, one_has_some}
 use Rattle.cb_history.specs.Group.{Identity}
@@ -37,7 +37,7 @@ use Rattle.cb_history.proofs.Expanders.{kept_times_stay, single_behind_is_next, 
 use Rattle.cb_history.proofs.Singles.{single_among, singles_are_as_many, singles_are_numbered, singles_are_the_same, singles_of_one, singles_with_one_more}
 use Rattle.cb_member.specs.declared.reception.Reception.{Reception}
 use Rattle.cb_member.specs.Reception.{AreSparesOf, HasReceived, HasReceivedAll, spares_in}
-use Rattle.cb_member.specs.Singles.{AreSparesFor, CanKeepInTurn}
+use Rattle.cb_member.specs.Singles.{AreSparesFor, CanKeepInTurn, KeepsSingles}
 use Rattle.cb_member.specs.Taking.{CanKeep, IsReceiving, one_more, IsNextMessage, HasNoNextOf, Tells, reported}
 
 -- ---- one element written over
@@ -108,6 +108,14 @@ still_kept b delivered c Repeat after some kept answered is =
     let lacking = kept.0 (first_number c) (omega arith) (carries_some c some) in
     let above = lacking.not_taken in
     elim (answered (first_number c) (omega arith) (carries_some c some)) [
+      | inl le ↦ absurd (omega (arith, above, le))
+      | inr there ↦ absurd (lacking.not_kept there)
+    ]
+still_kept b delivered c Overlap after some kept answered is =
+    let received = answered.some in
+    let lacking = kept.0 received.number received.from received.upto in
+    let above = lacking.not_taken in
+    elim received.is [
       | inl le ↦ absurd (omega (arith, above, le))
       | inr there ↦ absurd (lacking.not_kept there)
     ]
@@ -300,6 +308,13 @@ buffer_at sender before old r read =
     let member = r.member in
     let senders = r.received.senders in
     slice_get_read old.buffers.items (length old.buffers.items) sender before refl (omega (arith, member, senders)) read
+
+-- what a sender's buffer keeps are singles
+pub keeps_singles : (sender : ℕ) (before : Buffer) (old : Reception) → IsReceiving sender old → slice_get old.buffers.items sender ≡ Some before → KeepsSingles before
+keeps_singles sender before old r at number c kept =
+    let waits = r.received.waits sender before at r.other in
+    let waiting = (waits.kept number c).0 kept in
+    waits.single c waiting.there waiting.sender_is
 
 some_entry : (es : List (ℕ × CastFields)) (n : ℕ) (c : CastFields) → map.find nat_cmp n es ≡ Some c → 0 < length es
 some_entry [] n c h = absurd cc

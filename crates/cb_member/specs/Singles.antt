@@ -1,6 +1,7 @@
 -- The singles of a received cast that are still to be kept, and the spares for their times.
-use Rattle.std.specs.Prelude.{◌≡◌, ℕ, ◌+◌, ◌<◌, ◌≤◌, All, List, ◌∷◌, length, option_map, option_to_list}
+use Rattle.std.specs.Prelude.{◌≡◌, ℕ, ◌+◌, ◌<◌, ◌≤◌, All, List, ◌∷◌, length, Some, option_map, option_to_list}
 use Rattle.std.specs.List.{AllByRecursion}
+use Rattle.std.specs.FinMap as map
 use Rattle.cb_frames.specs.Fields.{CastFields, cast_fields, messages_of}
 use Rattle.cb_gaps.specs.Buffer.{Buffer, IsInWindow, IsLacking}
 use Rattle.cb_history.specs.NameLaws.{NumberedFrom}
@@ -20,6 +21,10 @@ times_in s = s.first ∷ s.others.items
 pub record AreSparesFor (c : CastFields) (size : ℕ) (spares : List (List ℕ)) : Type 0 where
   pub many : length spares ≡ length (messages_of c)
   pub sizes : All (λ time. length time ≡ size) spares
+
+-- each cast that the buffer keeps carries one message
+abbrev pub KeepsSingles : Buffer → Type 0
+KeepsSingles b = (number : ℕ) (c : CastFields) → map.get b.kept number ≡ Some c → IsSingle c
 
 -- a buffer can keep these casts in turn where so many of their sender's are delivered: each carries one message, they are numbered one
 -- after another, it lacks all of them, and all are in its window

@@ -1,18 +1,21 @@
 //! The casts received from others, until the delay queue has them.
 
-ghost use Rattle.std.specs.Prelude.{◌≡◌, ◌<◌, ◌+◌, true, IfOk, IfSome, IfNone, OnOk, OnSome, length, map};
+ghost use Rattle.std.specs.Prelude.{◌≡◌, ◌<◌, ◌+◌, true, None, IfOk, IfSome, IfNone, OnOk, OnSome, length, map};
+ghost use Rattle.std.specs.FinMap as fin;
 ghost use Rattle.cb_times.specs.Group.{IsGroupSize, IsWindow};
-ghost use Rattle.cb_diffs.specs.Expansion.{IsGrown, IsNext, time_of};
+ghost use Rattle.cb_diffs.specs.Expansion.{IsGrown, time_of};
+ghost use Rattle.cb_diffs.specs.Expansion.{IsNext as IsNextCast};
+ghost use Rattle.cb_gaps.specs.Buffer.{IsNext, Takes};
 ghost use Rattle.cb_frames.specs.Fields.{cast_fields, first_number, last_number, messages_of};
 ghost use Rattle.cb_member.specs.Reception.{IsNewReception, IsAlike, HasPlaceFor, spares_of};
-ghost use Rattle.cb_member.specs.Singles.{times_in};
+ghost use Rattle.cb_member.specs.Singles.{KeepsSingles, times_in};
 ghost use Rattle.cb_member.specs.Taking.{WouldExpand, CanKeep, KeepsCast, IsReceiving, ExpandsNext, HasNoNextOf, Tells};
 ghost use Rattle.cb_member.specs.Passing.{IsInOrder, TakesAt, TakesInOrder, message_at};
 
-use crate::singles::{Singles, Spares};
+use crate::singles::{Singles, Spares, last_of};
 use cb_delay::Message;
 use cb_diffs::Expander;
-use cb_frames::Cast;
+use cb_frames::{Cast, Unit};
 use cb_gaps::Reorder;
 use cb_times::{Name, NoMemory, VectorTime};
 use std::alloc::Global;
@@ -63,7 +66,7 @@ impl Reception {
         ensures { WouldExpand cast.now.sender (first_number (cast_fields cast.now))
             (last_number (cast_fields cast.now)) self.now result }
     {
-        self.buffers[cast.sender as usize].ready_with(cast.number)
+        self.buffers[cast.sender as usize].ready_with(cast.number, last_of(cast))
     }
 
     /// Makes room for so many spares more of this sender.
@@ -103,7 +106,7 @@ impl Reception {
         ensures takes { TakesInOrder (cast_fields cast) self.old self.new result }
         ensures message { result ≡ message_at (cast_fields cast) time }
     {
-        self.buffers[cast.sender as usize].take_in_order();
+        self.buffers[cast.sender as usize].take_in_order(last_of(&cast));
         self.expander.take(&cast, &time);
         Message {
             name: name_of(&cast),
@@ -119,7 +122,7 @@ impl Reception {
         ensures none { IfNone result (HasNoNextOf sender self.old self.new) }
         ensures fewer { OnSome result (spares_of sender self.new + 1 ≡ spares_of sender self.old) }
     {
-        let cast = self.buffers[sender as usize].take_next()?;
+        let cast = take_single(&mut self.buffers[sender as usize])?;
         let Some(spare) = self.spares[sender as usize].pop() else {
             unreachable!("there is one for each single that waits")
         };
@@ -127,9 +130,23 @@ impl Reception {
     }
 }
 
+/// The next of the singles that wait in a buffer, where none is missing before it.
+fn take_single(buffer: &mut Reorder) -> Option<Cast>
+    requires { KeepsSingles buffer.old }
+    ensures next { IfSome result (λ cast. IsNext buffer.old (cast_fields cast)) }
+    ensures taken { IfSome result (λ cast. Takes buffer.old (cast_fields cast) buffer.new) }
+    ensures none { IfNone result (fin.get buffer.old.kept (buffer.old.taken + 1) ≡ None) }
+    ensures same { IfNone result (buffer.new ≡ buffer.old) }
+{
+    match buffer.take_next()? {
+        Unit::One(cast) => Some(cast),
+        Unit::Many(_) => unreachable!("each that is kept carries one message"),
+    }
+}
+
 /// The message of the sender's next single, whose time is written over the spare.
 fn expanded(expander: &mut Expander, cast: Cast, mut spare: VectorTime) -> Message
-    requires next { IsNext expander.old (cast_fields cast) }
+    requires next { IsNextCast expander.old (cast_fields cast) }
     requires size { length spare ≡ length expander.old }
     ensures { Tells (cast_fields cast) expander.old expander.new result }
 {

@@ -10,7 +10,7 @@ ghost use Rattle.cb_history.specs.BufferLaws.{AreKept};
 ghost use Rattle.cb_history.specs.Singles.{IsSingle, singles_of};
 ghost use Rattle.cb_member.specs.Singles.{AreSparesFor, CanKeepInTurn, left_in, times_in};
 
-use cb_frames::Cast;
+use cb_frames::{Cast, Unit};
 use cb_gaps::Reorder;
 use cb_times::{NoMemory, VectorTime};
 use std::alloc::Global;
@@ -73,7 +73,7 @@ impl Singles {
     {
         let mut left = self;
         'singles: while let Some(single) = left.next() {
-            let _kept = buffer.keep(delivered, single);
+            let _kept = buffer.keep(delivered, Unit::One(single));
         }
     }
 }

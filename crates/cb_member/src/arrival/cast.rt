@@ -1,13 +1,14 @@
 //! The arrival of a cast: what the rules say of it, and what is done with one that they let pass.
 
-ghost use Rattle.std.specs.Prelude.{◌≡◌, ◌+◌, ◌≤◌, ◌++◌, ◌∷◌, [], ℕ};
+ghost use Rattle.std.specs.Prelude.{◌≡◌, ◌≢◌, ◌+◌, ◌≤◌, ◌++◌, ◌∷◌, [], ℕ};
+ghost use Rattle.cb_gaps.specs.declared.buffer.Admission.TheVariants.{Overlap};
 ghost use Rattle.std.specs.Vec.{vec_capacity, vec_len};
 ghost use Rattle.cb_frames.specs.declared.frame.TheConstants.{LAST_NUMBER};
 ghost use Rattle.cb_frames.specs.Fields.{cast_fields, first_number, last_number, CastFrame};
 ghost use Rattle.cb_frames.specs.Text.{RisesFrom};
 ghost use Rattle.cb_history.specs.Answers.{are_members};
 ghost use Rattle.cb_member.specs.State.{IsState};
-ghost use Rattle.cb_member.specs.Arriving.{own_verdict, other_verdict, JudgesCast, DeliversWith};
+ghost use Rattle.cb_member.specs.Arriving.{own_verdict, FollowsFrom, JudgesCast, DeliversWith};
 ghost use Rattle.cb_member.specs.Course.{CanGo, DeliversWhatIsReady, GoesAlone, HasRoomToDeliver, HasTime, IsEarly, MustWait, TakesAndDelivers, TakesAndWaits, most};
 ghost use Rattle.cb_member.specs.Foreseen.{JoinsEvents};
 ghost use Rattle.cb_member.specs.Passing.{HoldsIt, message_at};
@@ -53,7 +54,11 @@ impl State {
         if cast.sender == self.seat.me() {
             return judge_own(delivered, last_of(cast));
         }
-        judge_other(self.reception.buffers[cast.sender as usize].judge(delivered, cast.number))
+        judge_other(self.reception.buffers[cast.sender as usize].judge(
+            delivered,
+            cast.number,
+            last_of(cast),
+        ))
     }
 
     /// Takes the cast on its course. What is delivered joins the events, which have room for it; this takes no memory.
@@ -170,12 +175,14 @@ fn judge_own(delivered: u32, last: u32) -> Result<Judged, ArriveRefusal>
 
 /// What a reorder buffer says of another member's cast.
 fn judge_other(admission: Admission) -> Result<Judged, ArriveRefusal>
-    ensures { result ≡ other_verdict admission }
+    requires { admission ≢ Overlap }
+    ensures { FollowsFrom admission result }
 {
     match admission {
         Admission::Repeat => Ok(Judged::Repeat),
         Admission::TooFar => Err(ArriveRefusal::TooFar),
         Admission::Kept => Ok(Judged::Taken),
+        Admission::Overlap => unreachable!("a single message was received or not"),
     }
 }
 
