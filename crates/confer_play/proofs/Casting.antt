@@ -7,7 +7,7 @@ use Rattle.std.proofs.lemmas.List.{append-nil, map-append}
 use Rattle.cb_times.specs.declared.name.Name.{Name}
 use Rattle.cb_frames.specs.declared.frame.TheConstants.{LONGEST_PAYLOAD, LAST_NUMBER}
 use Rattle.cb_frames.specs.declared.fault.FrameFault.{FrameFault}
-use Rattle.cb_frames.specs.Fields.{Load, payloads_of, load_bytes, numbered, messages_of, CastFields, FrameFields, CastFrame, StatusFrame, RequestFrame}
+use Rattle.cb_frames.specs.Fields.{Load, One, Many, payloads_of, load_bytes, numbered, messages_of, CastFields, FrameFields, CastFrame, StatusFrame, RequestFrame}
 use Rattle.cb_frames.specs.Text.{IsLoad, text_of}
 use Rattle.cb_frames.proofs.Carried.{IsIn}
 use Rattle.cb_history.specs.Read.{frame_read}
@@ -165,23 +165,24 @@ module _ (setting : Setting) (is : IsSetting setting) (s : GroupState) (inv : Is
 
   cast_adds : (load : Load) → AddsOne (ToCast load) (cast_entry (cast_answer seat setting.limit now load))
   unfolding cast_answer
-  cast_adds load =
-      cond_both (ltb LONGEST_PAYLOAD (length (load_bytes load))) _ _ Adds (λ _. adds_none (ToCast load))
-      (λ short. cond_both (is_too_many seat (facts_of now) (length (payloads_of load))) _ _ Adds (λ _. adds_none (ToCast load))
-      (λ free. cond_both (is_full setting.limit now) _ _ Adds (λ _. adds_none (ToCast load)) (λ _. made (numbers_left seat (facts_of now) (length (payloads_of load)) free) (ltb-false LONGEST_PAYLOAD (length (load_bytes load)) short))))
+  cast_adds (Many payloads) = adds_none (ToCast (Many payloads))
+  cast_adds (One payload) =
+      cond_both (ltb LONGEST_PAYLOAD (length payload)) _ _ Adds (λ _. adds_none (ToCast (One payload)))
+      (λ short. cond_both (is_too_many seat (facts_of now) 1) _ _ Adds (λ _. adds_none (ToCast (One payload)))
+      (λ free. cond_both (is_full setting.limit now) _ _ Adds (λ _. adds_none (ToCast (One payload))) (λ _. made (numbers_left seat (facts_of now) 1 free) (ltb-false LONGEST_PAYLOAD (length payload) short))))
     where
       Adds : Result CastFields CastFault → Type 0
-      Adds r = AddsOne (ToCast load) (cast_entry r)
+      Adds r = AddsOne (ToCast (One payload)) (cast_entry r)
 
       cast : CastFields
-      cast = next_cast seat (facts_of now) load
+      cast = next_cast seat (facts_of now) (One payload)
 
-      made : delivered seat (facts_of now) seat.me + length (payloads_of load) ≤ LAST_NUMBER → IsLoad load → Adds (Ok cast)
+      made : delivered seat (facts_of now) seat.me + 1 ≤ LAST_NUMBER → IsLoad (One payload) → Adds (Ok cast)
       made left short e at =
-          let read : frame_read (text_of (CastFrame cast)) ≡ Ok (CastFrame cast) = cast_read cast ((own_frames_have_texts seat (facts_of now) are).0 load left short) in
+          let read : frame_read (text_of (CastFrame cast)) ≡ Ok (CastFrame cast) = cast_read cast tt ((own_frames_have_texts seat (facts_of now) are).0 (One payload) tt left short) in
           let same : CastEntry (text_of (CastFrame cast)) ≡ e = cc in
-          subst (λ (x : EntryFields). SaysOne (ToCast load) (said_by x)) same
-          (subst (λ (r : Result FrameFields FrameFault). SaysOne (ToCast load) (cast_said r)) (sym read) refl)
+          subst (λ (x : EntryFields). SaysOne (ToCast (One payload)) (said_by x)) same
+          (subst (λ (r : Result FrameFields FrameFault). SaysOne (ToCast (One payload)) (cast_said r)) (sym read) refl)
 
   call_goes_on : (call : Call) → IsFair setting s call → GoOn call (events seat (facts_of now)) (events seat (facts_of (history_after seat setting.limit now call)))
   call_goes_on (ToCast load) fair =

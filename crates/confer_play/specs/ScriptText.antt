@@ -2,7 +2,7 @@
 use Rattle.std.specs.Prelude.{◌≡◌, ◌≢◌, ◌==◌, ◌⊎◌, ℕ, List, [], ◌∷◌, ◌++◌, Option, IfSome, codes, decimal}
 use Rattle.std.specs.Io.KnownBytes.{Appends}
 use Rattle.std.specs.List.{slice_split}
-use Rattle.cb_frames.specs.Fields.{One}
+use Rattle.cb_frames.specs.Fields.{One, Many}
 use Rattle.cb_rooms.specs.Line.{SayLine, AnswerLine}
 use Rattle.cb_schedules.specs.Schedule.{Setting, CastStep, ArriveStep, TickStep}
 use Rattle.confer_play.specs.Play.{IsPayloadWord}
@@ -21,9 +21,10 @@ abbrev pub IsFirstLine : List ℕ → Setting → Type 0
 IsFirstLine line setting =
     line ≡ labelled (codes "group") setting.group.number (labelled (codes "size") setting.group.size (labelled (codes "window") setting.group.window (spaced (codes "history") (decimal setting.limit))))
 
--- a further line says this order
+-- a further line says this order; none says that several payloads are cast at once
 abbrev pub Orders : List ℕ → ScriptOrder → Type 0
 Orders line (Takes (CastStep i (One payload))) = (word : List ℕ) × (line ≡ labelled (codes "cast") i word) × IsPayloadWord word payload
+Orders line (Takes (CastStep i (Many payloads))) = ⊥
 Orders line (Takes (ArriveStep j number)) = line ≡ labelled (codes "arrive") j (decimal number)
 Orders line (Takes (TickStep i)) = line ≡ spaced (codes "tick") (decimal i)
 Orders line (Composes i (SayLine room text)) = (line ≡ labelled (codes "say") i (spaced room text)) × (room ≢ [])
