@@ -1,10 +1,14 @@
 -- The messages of a cast: one for each number from its first to its last.
 use Rattle.std.proofs.Common.{◌≡◌, ℕ, ◌+◌, ◌<◌, ◌≤◌, List, [], ◌∷◌, length, refl, sym, ap, ◌∙◌, arith, inl, inr, ◌⊎◌}
 use Rattle.std.proofs.lemmas.Bool.{cases_eq}
-use Rattle.cb_frames.specs.Fields.{Load, One, Many, IsOne, IsSome, load_bytes, payloads_of, numbered, last_from, CastFields, Carried, messages_of, first_number, last_number}
-use Rattle.cb_frames.specs.Carrying.{AreNumberedFrom, FirstIsTheNumber, CarriedInOrder, CarriedUpToTheLast, CarriesSome, CarriesNoMore, CarriesFew}
+use Rattle.cb_frames.specs.declared.frame.Cast.{Cast}
+use Rattle.cb_frames.specs.declared.frame.Burst.{Burst}
+use Rattle.cb_frames.specs.declared.frame.Unit.{Unit as Carrying}
+use Rattle.cb_frames.specs.declared.frame.Unit.TheVariants as units
+use Rattle.cb_frames.specs.Fields.{Load, One, Many, IsOne, IsSome, load_bytes, payloads_of, numbered, last_from, CastFields, Carried, cast_fields, burst_fields, unit_fields, messages_of, first_number, last_number}
+use Rattle.cb_frames.specs.Carrying.{AreNumberedFrom, FirstIsTheNumber, CarriedInOrder, CarriedUpToTheLast, CarriesSome, CarriesNoMore, CarriesFew, IsNumberedCast, IsNumbered}
 use Rattle.cb_frames.specs.declared.frame.TheConstants.{LAST_NUMBER, MOST_MESSAGES}
-use Rattle.cb_frames.specs.Text.{KeepsLoadRules}
+use Rattle.cb_frames.specs.Text.{KeepsLoadRules, KeepsCastRules}
 
 pub first_is_number : FirstIsTheNumber
 unfolding first_number
@@ -90,6 +94,29 @@ last_is_first c one = omega (arith, carries_some c (one_has_some c.load one), ca
 
 pub last_is_number : (c : CastFields) → IsOne c.load → last_number c ≡ c.number
 last_is_number c one = omega (arith, last_is_first c one, first_is_number c)
+
+-- ---- what a unit says of its numbers
+
+pub cast_ends : (cast : Cast) → cast.number ≡ last_number (cast_fields cast)
+cast_ends cast = omega (arith, last_is_number (cast_fields cast) tt)
+
+pub burst_ends : (burst : Burst) → IsSome (burst_fields burst).load → burst.first + length burst.payloads.items ≡ last_number (burst_fields burst) + 1
+burst_ends burst some =
+    omega (arith, carries_payloads (burst_fields burst), carried_up_to_the_last (burst_fields burst) some, first_is_number (burst_fields burst))
+
+-- a unit is numbered where its fields are
+pub fields_numbered : (u : Carrying) → IsNumberedCast (unit_fields u) → IsNumbered u
+fields_numbered (units.One cast) numbered = tt
+fields_numbered (units.Many burst) numbered = numbered
+
+-- as are those that keep the rules and begin with a number
+pub rules_number : (c : CastFields) → KeepsCastRules c → c.number ≤ LAST_NUMBER → IsNumberedCast c
+rules_number c rules small = let carried = carries_few c rules in (carried.some, carried.last small)
+
+-- its first number is then no greater than its last
+pub numbered_filled : (u : Carrying) → IsNumbered u → first_number (unit_fields u) ≤ last_number (unit_fields u)
+numbered_filled (units.One cast) numbered = carries_some (cast_fields cast) (omega arith)
+numbered_filled (units.Many burst) numbered = carries_some (burst_fields burst) numbered.0
 
 -- ---- messages that are numbered one after another
 

@@ -1,7 +1,9 @@
 -- The messages that a cast frame carries.
 use Rattle.std.specs.Prelude.{◌≡◌, ℕ, ◌+◌, ◌≤◌, List, [], ◌∷◌, length}
 use Rattle.cb_frames.specs.declared.frame.TheConstants.{LAST_NUMBER, MOST_MESSAGES}
-use Rattle.cb_frames.specs.Fields.{IsOne, IsSome, CastFields, Carried, messages_of, first_number, last_number}
+use Rattle.cb_frames.specs.declared.frame.Unit.{Unit as Carrying}
+use Rattle.cb_frames.specs.declared.frame.Unit.TheVariants as units
+use Rattle.cb_frames.specs.Fields.{IsOne, IsSome, CastFields, Carried, burst_fields, messages_of, first_number, last_number}
 use Rattle.cb_frames.specs.Text.{KeepsCastRules}
 
 -- these messages are of the sender, and numbered one after another from n on
@@ -37,3 +39,12 @@ pub record IsCarried (c : CastFields) : Type 0 where
 
 abbrev pub CarriesFew : Type 0
 CarriesFew = (c : CastFields) → KeepsCastRules c → IsCarried c
+
+-- it carries some message, and each has a number
+abbrev pub IsNumberedCast : CastFields → Type 0
+IsNumberedCast c = IsSome c.load × (last_number c ≤ LAST_NUMBER)
+
+-- A burst has some message, and each has a number. Of a cast it is always so.
+abbrev pub IsNumbered : Carrying → Type 0
+IsNumbered (units.One cast) = Unit {0}
+IsNumbered (units.Many burst) = IsNumberedCast (burst_fields burst)

@@ -1,8 +1,9 @@
 //! What a frame says.
 
 ghost use Rattle.std.specs.Prelude.{◌≡◌, IfOk};
-ghost use Rattle.cb_frames.specs.Fields.{cast_fields};
+ghost use Rattle.cb_frames.specs.Fields.{cast_fields, burst_fields};
 
+use crate::payloads::payload_copies;
 use bytes::Bytes;
 use std::alloc::AllocError;
 
@@ -87,6 +88,22 @@ pub struct Burst {
     pub changes: Vec<Change>,
     /// What the application sends, 1 to 32 payloads in the order of their numbers, at most 1,024 bytes together.
     pub payloads: Vec<Bytes>,
+}
+
+impl Burst {
+    /// A second burst that says the same; its payloads share the bytes. The only error is out of memory.
+    pub fn copy(&self) -> Result<Burst, AllocError>
+        ensures { IfOk result (λ copy. burst_fields copy ≡ burst_fields self.now) }
+    {
+        let alloc = *self.changes.allocator();
+        Ok(Burst {
+            group: self.group,
+            sender: self.sender,
+            first: self.first,
+            changes: Vec::from_slice(alloc, &self.changes)?,
+            payloads: payload_copies(alloc, &self.payloads)?,
+        })
+    }
 }
 
 /// What carries messages: one, or several.

@@ -14,6 +14,7 @@ mod pairs;
 mod payloads;
 mod reading;
 mod stream;
+mod unit;
 mod writing;
 
 pub use block::FrameBlock;

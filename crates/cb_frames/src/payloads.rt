@@ -77,3 +77,14 @@ pub fn shared_payloads(
     }
     Ok(payloads)
 }
+
+/// These payloads once more. They share the bytes, by design.
+pub fn payload_copies(alloc: Global, payloads: &[Bytes]) -> Result<Vec<Bytes>, AllocError>
+    ensures { IfOk result (λ copies. copies.items ≡ payloads.now) }
+{
+    let mut copies = Vec::with_capacity(alloc, payloads.len())?;
+    for payload in payloads {
+        copies.push(payload.clone()?)?;
+    }
+    Ok(copies)
+}
