@@ -7,7 +7,7 @@ use Rattle.cb_frames.specs.declared.frame.Unit.{Unit as Carrying}
 use Rattle.cb_frames.specs.declared.frame.Range.{Range}
 use Rattle.cb_frames.specs.Fields.{unit_fields}
 use Rattle.cb_gaps.specs.Ranges.{IsWithin, AreRangesOf, gap_between}
-use Rattle.cb_gaps.specs.Buffer.{IsNumbered}
+use Rattle.cb_frames.specs.Carrying.{IsNumbered}
 use Rattle.cb_gaps.specs.Lists.{first_of, last_of, Rise, Below, IsGap}
 use Rattle.cb_gaps.proofs.Spans.{cases_covers, is_numbered}
 use Rattle.cb_gaps.proofs.Entries.{none_before}

@@ -13,7 +13,8 @@ use Rattle.cb_frames.specs.declared.frame.Unit.{Unit as Carrying}
 use Rattle.cb_frames.specs.declared.frame.Range.{Range}
 use Rattle.cb_frames.specs.Fields.{CastFields, unit_fields, first_number, last_number}
 use Rattle.cb_times.specs.Group.{IsWindow}
-use Rattle.cb_gaps.specs.Buffer.{IsNumbered, IsNew, IsKept, IsReceived, IsLacking, AreLacking, Admits, IsAfter, IsNext, IsMissing, IsReorderBuffer}
+use Rattle.cb_frames.specs.Carrying.{IsNumbered}
+use Rattle.cb_gaps.specs.Buffer.{IsNew, IsKept, IsReceived, IsLacking, AreLacking, Admits, IsAfter, IsNext, IsMissing, IsReorderBuffer}
 use Rattle.cb_gaps.specs.Ranges.{HasOne, AreRangesOf}
 use Rattle.cb_gaps.specs.Lists.{first_of, last_of, entries_of, Rise, HasNumber, HasReceived, IsReceivedAnswer, IsRowAnswer, IsFreePlace, IsGap, AreKept, buffer_of}
 use Rattle.cb_gaps.specs.declared.buffer.Admission.{Admission}

@@ -1,13 +1,11 @@
 -- The numbers that units cover: one after another, from the first to the last.
 use Rattle.std.proofs.Common.{◌≡◌, List, [], ◌∷◌, length, ℕ, ◌+◌, ◌<◌, ◌≤◌, ◌^◌, ◌⊎◌, inl, inr, arith}
 use Rattle.std.proofs.lemmas.Bool.{cases_lt}
-use Rattle.cb_frames.specs.declared.frame.Cast.{Cast}
-use Rattle.cb_frames.specs.declared.frame.Burst.{Burst}
 use Rattle.cb_frames.specs.declared.frame.Unit.{Unit as Carrying}
-use Rattle.cb_frames.specs.declared.frame.Unit.TheVariants as units
-use Rattle.cb_frames.specs.Fields.{CastFields, IsSome, cast_fields, burst_fields, last_from, payloads_of, first_number, last_number}
-use Rattle.cb_frames.proofs.Carried.{first_is_number, last_is_number, carries_payloads, carries_some, carried_up_to_the_last}
-use Rattle.cb_gaps.specs.Buffer.{Covers, IsNumbered}
+use Rattle.cb_frames.specs.Fields.{CastFields, IsSome, unit_fields, last_from, payloads_of, first_number, last_number}
+use Rattle.cb_frames.specs.Carrying.{IsNumbered}
+use Rattle.cb_frames.proofs.Carried.{carries_payloads, carries_some, carried_up_to_the_last, fields_numbered}
+use Rattle.cb_gaps.specs.Buffer.{Covers}
 use Rattle.cb_gaps.specs.Lists.{first_of, last_of}
 
 -- what has a first number above 0 that is no greater than the last one carries some payload
@@ -38,20 +36,7 @@ cases_covers c n =
       ]
     ]
 
--- ---- what a unit says of them
-
-pub cast_ends : (cast : Cast) → cast.number ≡ last_number (cast_fields cast)
-cast_ends cast = omega (arith, last_is_number (cast_fields cast) tt)
-
-pub burst_ends : (burst : Burst) → IsSome (burst_fields burst).load → burst.first + length burst.payloads.items ≡ last_number (burst_fields burst) + 1
-burst_ends burst some =
-    omega (arith, carries_payloads (burst_fields burst), carried_up_to_the_last (burst_fields burst) some, first_is_number (burst_fields burst))
-
-pub numbered_filled : (u : Carrying) → IsNumbered u → first_of u ≤ last_of u
-numbered_filled (units.One cast) numbered = carries_some (cast_fields cast) (omega arith)
-numbered_filled (units.Many burst) numbered = carries_some (burst_fields burst) numbered.0
-
 -- a unit with numbers from above 0 to within the range of numbers
 pub is_numbered : (u : Carrying) → 0 < first_of u → first_of u ≤ last_of u → last_of u < 2 ^ 32 → IsNumbered u
-is_numbered (units.One cast) above filled below = tt
-is_numbered (units.Many burst) above filled below = (filled_has_some (burst_fields burst) above filled, below)
+is_numbered u above filled below =
+    fields_numbered u (filled_has_some (unit_fields u) above filled, omega (arith, below))

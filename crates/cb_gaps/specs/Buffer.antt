@@ -6,9 +6,7 @@ use Rattle.std.specs.Coded.{Coded, code_by, coded×, coded⊎, coded_list, coded
 use Rattle.std.specs.FinMap as map
 use Rattle.cb_times.specs.Group.{IsWindow}
 use Rattle.cb_frames.specs.declared.frame.Change.{Change}
-use Rattle.cb_frames.specs.declared.frame.Unit.{Unit as Carrying}
-use Rattle.cb_frames.specs.declared.frame.Unit.TheVariants as units
-use Rattle.cb_frames.specs.Fields.{Load, One, Many, IsSome, CastFields, burst_fields, first_number, last_number}
+use Rattle.cb_frames.specs.Fields.{Load, One, Many, CastFields, first_number, last_number}
 use Rattle.cb_gaps.specs.declared.buffer.Admission.{Admission}
 use Rattle.cb_gaps.specs.declared.buffer.Admission.TheVariants.{Kept, Repeat, Overlap, TooFar}
 use Rattle.cb_gaps.specs.Ranges.{HasOne, IsRow}
@@ -24,11 +22,6 @@ pub record IsNew (window : ℕ) (buffer : Buffer) : Type 0 where
   pub of_window : buffer.window ≡ window
   pub none_taken : buffer.taken ≡ 0
   pub none_kept : buffer.kept ≡ map.empty
-
--- A burst has some message, and each has a number. Of a cast it is always so.
-abbrev pub IsNumbered : Carrying → Type 0
-IsNumbered (units.One cast) = Unit {0}
-IsNumbered (units.Many burst) = IsSome (burst_fields burst).load × (last_number (burst_fields burst) < 2 ^ 32)
 
 -- the number is that of one of the cast's messages
 abbrev pub Covers : CastFields → ℕ → Type 0

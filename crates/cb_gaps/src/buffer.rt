@@ -4,11 +4,12 @@ ghost use Rattle.std.specs.FinMap as fin;
 ghost use Rattle.std.specs.VecDeque.{deque_len, deque_capacity};
 ghost use Rattle.cb_frames.specs.Fields.{unit_fields};
 ghost use Rattle.cb_times.specs.Group.{IsWindow};
-ghost use Rattle.cb_gaps.specs.Buffer.{IsNumbered, IsNew, Admits, IsAnswer, IsAfter, IsNext, IsInOrder, Takes, IsMissing, IsReorderBuffer, WouldComeOut};
+ghost use Rattle.cb_frames.specs.Carrying.{IsNumbered};
+ghost use Rattle.cb_gaps.specs.Buffer.{IsNew, Admits, IsAnswer, IsAfter, IsNext, IsInOrder, Takes, IsMissing, IsReorderBuffer, WouldComeOut};
 ghost use Rattle.cb_gaps.specs.Ranges.{AreRangesOf, HasOne, IsRow, end_with, gap_between};
 ghost use Rattle.cb_gaps.specs.Lists.{Rise, Below, HasNumber, IsReceivedAnswer, IsRowAnswer, IsGap, IsFreePlace, IsPlaceFor};
 
-use crate::units::{copy_of, first_of, last_of, side};
+use crate::units::side;
 use cb_frames::{Range, Unit};
 use cb_times::NoMemory;
 use std::alloc::Global;
@@ -154,8 +155,8 @@ impl Reorder {
         ensures answer { IsAnswer self.old delivered (unit_fields unit) result }
         ensures after { IsAfter self.old (unit_fields unit) result self.new }
     {
-        let last = last_of(&unit);
-        let place = match place_among(&self.kept, self.taken, first_of(&unit), last) {
+        let last = unit.last();
+        let place = match place_among(&self.kept, self.taken, unit.first(), last) {
             Err(received) => return received,
             Ok(place) => place,
         };
@@ -194,10 +195,10 @@ impl Reorder {
     {
         let next = self.taken.checked_add(1)?;
         let front = self.kept.front()?;
-        if first_of(front) != next {
+        if front.first() != next {
             return None;
         }
-        self.taken = last_of(front);
+        self.taken = front.last();
         self.kept.pop_front()
     }
 
@@ -223,7 +224,7 @@ fn copies(units: &VecDeque<Unit>, places: usize) -> Result<VecDeque<Unit>, NoMem
 {
     let mut copies = VecDeque::with_capacity(*units.allocator(), places)?;
     for unit in units {
-        copies.push_back(copy_of(unit)?)?;
+        copies.push_back(unit.copy()?)?;
     }
     Ok(copies)
 }
@@ -300,10 +301,10 @@ fn end_of_row(kept: &VecDeque<Unit>, behind: u32) -> u32
 {
     let mut end = behind;
     for unit in kept {
-        if end < first_of(unit) - 1 {
+        if end < unit.first() - 1 {
             return end;
         }
-        end = end.max(last_of(unit));
+        end = end.max(unit.last());
     }
     end
 }
@@ -328,8 +329,8 @@ fn gaps(alloc: Global, kept: &VecDeque<Unit>, taken: u32, last: u32) -> Result<V
     let mut ranges = Vec::new(alloc);
     let mut before = taken;
     for unit in kept {
-        push_gap(&mut ranges, before, last.min(first_of(unit) - 1))?;
-        before = last_of(unit);
+        push_gap(&mut ranges, before, last.min(unit.first() - 1))?;
+        before = unit.last();
     }
     push_gap(&mut ranges, before, last)?;
     Ok(ranges)

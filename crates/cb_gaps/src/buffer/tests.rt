@@ -64,7 +64,7 @@ fn burst(alloc: Global, first: u32, count: u32) -> Result<Burst, NoMemory> {
 }
 
 /// Keeps a burst whose messages have numbers.
-#[tactic(auto, using(crate::proofs::Spans::burst_ends))]
+#[tactic(auto, using(cb_frames::proofs::Carried::burst_ends))]
 fn keep_burst(reorder: &mut Reorder, delivered: u32, burst: Burst) -> Option<Admission> {
     let count = burst.payloads.len();
     if count == 0 || u64::from(burst.first) + count as u64 > u64::from(LAST) + 1 {

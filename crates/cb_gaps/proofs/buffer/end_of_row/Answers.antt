@@ -6,14 +6,14 @@ use Rattle.cb_gaps.proofs.Gaps.{one_numbered, one_rise, one_below}
 use Rattle.cb_gaps.proofs.Rows.{row_end, one_row, last_row, whole_row}
 use Rattle.cb_gaps.proofs.buffer.end_of_row.Goals as goal
 
-pub returns-then-end-first_of : goal.returns-then-end-first_of
-returns-then-end-first_of c =
-    let gap : c.loop-unit.end < first_of c.in-Some.unit.now - 1 = omega (arith, c.if-end-first_of.true, c.first_of.ensures) in
+pub returns-then-end-first : goal.returns-then-end-first
+returns-then-end-first c =
+    let gap : c.loop-unit.end < first_of c.in-Some.unit.now - 1 = omega (arith, c.if-end-first.true, c.first.ensures) in
     last_row c.args.behind 0 c.loop-unit.end c.in-Some.unit.now c.args.kept.now.items (deque_iter_rest c.loop-unit.unit-iterator)
     (deque_iter_rest c.next.new.self) c.in-Some.ensures.steps gap c.loop-unit.invariant.so_far c.requires.rise
 
-pub last_of-requires : goal.last_of-requires
-last_of-requires c =
+pub last-requires : goal.last-requires
+last-requires c =
     one_numbered 0 c.in-Some.unit.now (deque_iter_rest c.loop-unit.unit-iterator) (deque_iter_rest c.next.new.self) c.in-Some.ensures.steps
     c.loop-unit.invariant.rise c.loop-unit.invariant.in_range
 
@@ -22,8 +22,8 @@ loop-unit-preserved c =
     let unit = c.in-Some.unit.now in
     let rest = deque_iter_rest c.loop-unit.unit-iterator in
     let after = deque_iter_rest c.next.new.self in
-    let near : first_of unit - 1 ≤ c.loop-unit.end = omega (arith, c.if-end-first_of.false, c.first_of.ensures) in
-    let longer : max c.loop-unit.end (last_of unit) ≡ c.max-end.result = omega (arith, c.max-end.ensures, c.last_of.ensures) in
+    let near : first_of unit - 1 ≤ c.loop-unit.end = omega (arith, c.if-end-first.false, c.first.ensures) in
+    let longer : max c.loop-unit.end (last_of unit) ≡ c.max-end.result = omega (arith, c.max-end.ensures, c.last.ensures) in
     record {
       rise = rise_from (last_of unit) 0 after (omega arith) (one_rise 0 unit rest after c.in-Some.ensures.steps c.loop-unit.invariant.rise);
       in_range = one_below (2 ^ 32) unit rest after c.in-Some.ensures.steps c.loop-unit.invariant.in_range;

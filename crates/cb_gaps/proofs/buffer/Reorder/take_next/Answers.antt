@@ -19,23 +19,23 @@ returns-in_err-front-clause-none c =
     rw (c.from_residual-in_err-front.ensures, ← c.self.view_is)
     (next-empty c.self.inside.window c.self.inside.taken c.self.inside.kept.items c.self.invariant.0 empty)
 
-pub returns-then-first_of-next-clause-none : goal.returns-then-first_of-next-clause-none
-returns-then-first_of-next-clause-none c =
+pub returns-then-first-next-clause-none : goal.returns-then-first-next-clause-none
+returns-then-first-next-clause-none c =
     rw (← c.self.view_is)
     (next-later c.self.inside.window c.self.inside.taken c.self.inside.kept.items c.in_ok-front.front.now c.self.invariant.0
     (omega (arith, c.in_ok-front.ensures.variant.0 refl, c.self.inside.kept.ok.0)) c.in_ok-front.ensures.lookup
-    (λ e. c.if-first_of-next.true (c.first_of.ensures ∙ e ∙ sym c.in_ok-next.ensures.1)))
+    (λ e. c.if-first-next.true (c.first.ensures ∙ e ∙ sym c.in_ok-next.ensures.1)))
 
-pub last_of-self-inside-requires : goal.last_of-self-inside-requires
-last_of-self-inside-requires c =
+pub last-self-inside-requires : goal.last-self-inside-requires
+last-self-inside-requires c =
     front_is_numbered c.self.inside.window c.self.inside.taken c.self.inside.kept.items c.in_ok-front.front.now c.self.invariant.0
     (omega (arith, c.in_ok-front.ensures.variant.0 refl, c.self.inside.kept.ok.0)) c.in_ok-front.ensures.lookup
 
 pub invariant_of-self : goal.invariant_of-self
 invariant_of-self c =
-    rw c.last_of-self-inside.ensures (
+    rw c.last-self-inside.ensures (
       pop_keeps c.self.inside.window c.self.inside.taken c.self.inside.kept.items c.pop_front.new.self.items c.in_ok-front.front.now
-          c.self.invariant.0 c.in_ok-front.ensures.lookup (sym c.first_of.ensures ∙ c.if-first_of-next.false ∙ c.in_ok-next.ensures.1)
+          c.self.invariant.0 c.in_ok-front.ensures.lookup (sym c.first.ensures ∙ c.if-first-next.false ∙ c.in_ok-next.ensures.1)
           c.pop_front.result (c.pop_front.ensures.variant.1 (c.in_ok-front.ensures.variant.0 refl)) c.pop_front.ensures.items,
       omega (arith, c.pop_front.ensures.capacity, c.self.invariant.1),
     )
@@ -44,12 +44,12 @@ pub returns-clause-next : goal.returns-clause-next
 returns-clause-next c =
     rw (← c.self.view_is)
     (pop_next c.self.inside.window c.self.inside.taken c.self.inside.kept.items c.pop_front.new.self.items c.in_ok-front.front.now
-    c.self.invariant.0 c.in_ok-front.ensures.lookup (sym c.first_of.ensures ∙ c.if-first_of-next.false ∙ c.in_ok-next.ensures.1)
+    c.self.invariant.0 c.in_ok-front.ensures.lookup (sym c.first.ensures ∙ c.if-first-next.false ∙ c.in_ok-next.ensures.1)
     c.pop_front.result c.pop_front.ensures.items)
 
 pub returns-clause-taken : goal.returns-clause-taken
 returns-clause-taken c =
-    rw (← c.self.view_is, c.last_of-self-inside.ensures)
+    rw (← c.self.view_is, c.last-self-inside.ensures)
     (pop_taken c.self.inside.window c.self.inside.taken c.self.inside.kept.items c.pop_front.new.self.items c.in_ok-front.front.now
-    c.self.invariant.0 c.in_ok-front.ensures.lookup (sym c.first_of.ensures ∙ c.if-first_of-next.false ∙ c.in_ok-next.ensures.1)
+    c.self.invariant.0 c.in_ok-front.ensures.lookup (sym c.first.ensures ∙ c.if-first-next.false ∙ c.in_ok-next.ensures.1)
     c.pop_front.result c.pop_front.ensures.items)
