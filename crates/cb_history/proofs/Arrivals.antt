@@ -5,25 +5,25 @@ use Rattle.std.specs.List.{list_all}
 use Rattle.std.proofs.lemmas.Bool.{cond_both, eq-eqb, eqb-true, ltb-true, and_parts, both_ways, not_from_true}
 use Rattle.cb_times.specs.declared.name.Name.{Name}
 use Rattle.cb_frames.specs.declared.fault.FrameFault.{FrameFault}
-use Rattle.cb_frames.specs.Fields.{CastFields, FrameFields, CastFrame, messages_of, last_number}
-use Rattle.cb_frames.proofs.Carried.{one_has_some, last_is_carried}
+use Rattle.cb_frames.specs.Fields.{IsSome, CastFields, FrameFields, CastFrame, messages_of, last_number}
+use Rattle.cb_frames.proofs.Carried.{last_is_carried}
 use Rattle.cb_history.specs.Read.{frame_read}
 use Rattle.cb_history.specs.declared.answer.ArriveRefusal.{ArriveRefusal}
 use Rattle.cb_history.specs.declared.answer.ArriveRefusal.TheVariants as arrivals
 use Rattle.cb_history.specs.Group.{Identity, IsIdentity}
 use Rattle.cb_history.specs.Facts.{EntryFields, ArriveEntry, Fact, OwnCast, CastReceived, StatusReceived, OwnStatus, facts_of, casts_in, cast_in, messages_in, is_there}
 use Rattle.cb_history.specs.View.{is_among}
-use Rattle.cb_history.specs.Answers.{is_full, delivered, are_members, is_impossible, is_repeat, is_too_far, ArrivalSays, frame_answer, answer_to, arrive_answer}
+use Rattle.cb_history.specs.Answers.{is_full, delivered, are_members, is_impossible, is_repeat, is_overlap, is_too_far, ArrivalSays, frame_answer, answer_to, arrive_answer}
 use Rattle.cb_history.specs.Legal.{arrive_entry, and_entry}
 use Rattle.cb_history.specs.LegalFacts.{IsStep, AreLegalFacts, NoFacts, OneFactMore, AreFactsOf}
 use Rattle.cb_history.specs.OwnFrameLaws.{IsOfTheGroup}
-use Rattle.cb_history.specs.Singles.{IsSingle, singles_in}
+use Rattle.cb_history.specs.Singles.{singles_in}
 use Rattle.cb_history.specs.ArrivalLaws.{AreThere, AcceptedIsThere, ThereStays, CastsAreOfTheGroup, SinglesAreOfTheGroup}
 use Rattle.cb_history.proofs.Views.{IsIn, casts_in-append}
 use Rattle.cb_history.proofs.Lists.{flat_map-append, in_append, in_one, in_casts_back, all_of, each_of, in_is_among}
 use Rattle.cb_history.proofs.Rising.{there_more}
 use Rattle.cb_history.proofs.Histories.{said_facts}
-use Rattle.cb_history.proofs.ReadBack.{read_casts_are_single}
+use Rattle.cb_history.proofs.ReadBack.{read_loads_fit}
 use Rattle.cb_history.proofs.OwnFrames.{own_casts_are_of_the_group}
 use Rattle.cb_history.proofs.Singles.{IsOf, frame_of_single}
 use Rattle.cb_history.proofs.Buffers.{cast_of_is_in, in_is_cast_of}
@@ -49,9 +49,9 @@ taken_is_there entries bytes names c read =
     subst (λ (cs : List CastFields). AreThere cs c) (sym casts)
     (all_of (is_among (messages_in (casts_in (facts_of entries) ++ c ∷ []))) (messages_of c) (λ m there. in_is_among (messages_in (casts_in (facts_of entries) ++ c ∷ [])) m (in_casts_back (casts_in (facts_of entries)) c m there)))
 
-impossible_is_not_there : (seat : Identity) (facts : List Fact) (c : CastFields) → AreFactsOf seat facts → IsSingle c → is_impossible seat facts (CastFrame c) ≡ true → AreThere (casts_in facts) c → ⊥
-impossible_is_not_there seat facts c are single impossible there =
-    let last = last_is_carried c (one_has_some c.load single) in
+impossible_is_not_there : (seat : Identity) (facts : List Fact) (c : CastFields) → AreFactsOf seat facts → IsSome c.load → is_impossible seat facts (CastFrame c) ≡ true → AreThere (casts_in facts) c → ⊥
+impossible_is_not_there seat facts c are some impossible there =
+    let last = last_is_carried c some in
     let number = last.number_is in
     let both = and_parts (eqb c.sender seat.me) (ltb (delivered seat facts seat.me) (last_number c)) impossible in
     let above = ltb-true (delivered seat facts seat.me) (last_number c) both.1 in
@@ -67,11 +67,12 @@ answer_is_right seat limit entries bytes c are read of =
     let P : Result ArrivalSays ArriveRefusal → Type 0 = IsRight entries bytes c in
     cond_both (not (eqb c.group seat.group.number)) _ _ P (λ other. absurd (both_ways (not (eqb c.group seat.group.number)) (not_from_true (eqb c.group seat.group.number) (eq-eqb c.group seat.group.number of.number)) other))
     (λ _. cond_both (not (are_members seat.group.size (CastFrame c))) _ _ P (λ other. absurd (both_ways (not (are_members seat.group.size (CastFrame c))) (not_from_true (are_members seat.group.size (CastFrame c)) of.members) other))
-    (λ _. cond_both (is_impossible seat facts (CastFrame c)) _ _ P (λ impossible. refused entries bytes c arrivals.Impossible (impossible_is_not_there seat facts c are (read_casts_are_single bytes c read) impossible))
+    (λ _. cond_both (is_impossible seat facts (CastFrame c)) _ _ P (λ impossible. refused entries bytes c arrivals.Impossible (impossible_is_not_there seat facts c are (read_loads_fit bytes c read).some impossible))
     (λ _. cond_both (is_repeat facts (CastFrame c)) _ _ P (λ again. ((λ _. again), (λ _. refl)))
-    (λ new. cond_both (is_too_far seat facts (CastFrame c)) _ _ P (λ _. refused entries bytes c arrivals.TooFar (λ there. both_ways (is_repeat facts (CastFrame c)) new there))
+    (λ new. cond_both (is_overlap facts (CastFrame c)) _ _ P (λ _. refused entries bytes c arrivals.Overlap (λ there. both_ways (is_repeat facts (CastFrame c)) new there))
+    (λ _. cond_both (is_too_far seat facts (CastFrame c)) _ _ P (λ _. refused entries bytes c arrivals.TooFar (λ there. both_ways (is_repeat facts (CastFrame c)) new there))
     (λ _. cond_both (is_full limit entries) _ _ P (λ _. refused entries bytes c arrivals.HistoryFull (λ there. both_ways (is_repeat facts (CastFrame c)) new there))
-    (λ _. ((λ _. taken_is_there entries bytes _ c read), (λ _. refl))))))))
+    (λ _. ((λ _. taken_is_there entries bytes _ c read), (λ _. refl)))))))))
 
 pub accepted_is_there : AcceptedIsThere
 unfolding arrive_answer

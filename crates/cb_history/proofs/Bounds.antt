@@ -1,12 +1,12 @@
--- A view has at most as many messages as there are facts, where casts have one message each.
-use Rattle.std.proofs.Common.{◌≡◌, ℕ, zero, suc, ◌+◌, ◌≤◌, Bool, true, false, List, [], ◌∷◌, ◌++◌, length, Option, Some, None, cond, eqb, refl, ap, subst, append_assoc, arith}
-use Rattle.std.specs.List.{AllByRecursion}
+-- A view has at most as many messages for each fact as a frame can carry.
+use Rattle.std.proofs.Common.{◌≡◌, ℕ, zero, suc, ◌+◌, ◌*◌, ◌≤◌, Bool, true, false, List, [], ◌∷◌, ◌++◌, length, Option, Some, None, cond, eqb, refl, ap, subst, append_assoc, arith}
 use Rattle.std.proofs.lemmas.List.{append-nil, length-append}
+use Rattle.cb_frames.specs.declared.frame.TheConstants.{MOST_MESSAGES}
 use Rattle.cb_frames.specs.Fields.{CastFields, Carried, messages_of}
-use Rattle.cb_frames.proofs.Carried.{carries_payloads, load_has_one}
+use Rattle.cb_frames.proofs.Carried.{carries_payloads}
 use Rattle.cb_history.specs.Facts.{Fact, OwnCast, CastReceived, StatusReceived, OwnStatus, casts_in, messages_in}
 use Rattle.cb_history.specs.View.{count, is_among, next_delivery, with_next, drained, seen_from, view}
-use Rattle.cb_history.specs.Singles.{IsSingle}
+use Rattle.cb_history.proofs.Loads.{AllFit}
 use Rattle.cb_history.proofs.Lists.{messages_in-push}
 use Rattle.cb_history.proofs.Views.{left, left_more, left_shrinks, one_unless, unless_more, among_itself, next_is, expanded_is_there, ready_is_new}
 
@@ -78,16 +78,16 @@ view_of_casts : (size : ℕ) (facts : List Fact) → length (view size facts) �
 unfolding view
 view_of_casts size facts = let h = seen_from_at_most size [] [] facts (omega arith) in omega (arith, h)
 
--- these are at most as many as the facts, as a fact has one cast at most, where a cast has one message
-carried_at_most : (facts : List Fact) → AllByRecursion IsSingle (casts_in facts) → length (messages_in (casts_in facts)) ≤ length facts
-carried_at_most [] single = omega arith
-carried_at_most (OwnCast c ∷ facts) single = omega (arith, length-append (messages_of c) (messages_in (casts_in facts)), carries_payloads c, load_has_one c.load single.0, carried_at_most facts single.1)
-carried_at_most (CastReceived c ∷ facts) single = omega (arith, length-append (messages_of c) (messages_in (casts_in facts)), carries_payloads c, load_has_one c.load single.0, carried_at_most facts single.1)
-carried_at_most (StatusReceived s ∷ facts) single = let others = carried_at_most facts single in omega (arith, others)
-carried_at_most (OwnStatus s ∷ facts) single = let others = carried_at_most facts single in omega (arith, others)
+-- of these at most as many for each fact as a frame can carry, as a fact has one cast at most
+carried_at_most : (facts : List Fact) → AllFit (casts_in facts) → length (messages_in (casts_in facts)) ≤ MOST_MESSAGES * length facts
+carried_at_most [] fit = omega arith
+carried_at_most (OwnCast c ∷ facts) fit = let few = fit.0.few in omega (arith, length-append (messages_of c) (messages_in (casts_in facts)), carries_payloads c, few, carried_at_most facts fit.1)
+carried_at_most (CastReceived c ∷ facts) fit = let few = fit.0.few in omega (arith, length-append (messages_of c) (messages_in (casts_in facts)), carries_payloads c, few, carried_at_most facts fit.1)
+carried_at_most (StatusReceived s ∷ facts) fit = let others = carried_at_most facts fit in omega (arith, others)
+carried_at_most (OwnStatus s ∷ facts) fit = let others = carried_at_most facts fit in omega (arith, others)
 
-pub view_at_most : (size : ℕ) (facts : List Fact) → AllByRecursion IsSingle (casts_in facts) → length (view size facts) ≤ length facts
-view_at_most size facts single = omega (arith, view_of_casts size facts, carried_at_most facts single)
+pub view_at_most : (size : ℕ) (facts : List Fact) → AllFit (casts_in facts) → length (view size facts) ≤ MOST_MESSAGES * length facts
+view_at_most size facts fit = omega (arith, view_of_casts size facts, carried_at_most facts fit)
 
 one_or_none : (b : Bool) → cond b 1 0 ≤ 1
 one_or_none true = omega arith
@@ -100,5 +100,5 @@ count_at_most (m ∷ seen) k =
     let one = one_or_none (eqb m.sender k) in
     omega (arith, one, others)
 
-pub count_below : (size : ℕ) (facts : List Fact) (k : ℕ) → AllByRecursion IsSingle (casts_in facts) → count (view size facts) k ≤ length facts
-count_below size facts k single = omega (arith, view_at_most size facts single, count_at_most (view size facts) k)
+pub count_below : (size : ℕ) (facts : List Fact) (k : ℕ) → AllFit (casts_in facts) → count (view size facts) k ≤ MOST_MESSAGES * length facts
+count_below size facts k fit = omega (arith, view_at_most size facts fit, count_at_most (view size facts) k)

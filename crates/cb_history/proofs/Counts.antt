@@ -5,7 +5,7 @@ use Rattle.std.proofs.lemmas.List.{append-nil}
 use Rattle.cb_frames.specs.declared.frame.TheConstants.{LAST_NUMBER}
 use Rattle.cb_frames.specs.declared.frame.Change.{Change}
 use Rattle.cb_frames.specs.Fields.{payloads_of, CastFields, FrameFields, CastFrame, StatusFrame, RequestFrame, Carried, first_number, last_number}
-use Rattle.cb_frames.proofs.Carried.{one_has_some, carries_payloads, carries_few, carried_up_to_the_last, first_is_number, carried_is_of_cast}
+use Rattle.cb_frames.proofs.Carried.{carries_payloads, carries_few, carried_up_to_the_last, first_is_number, carried_is_of_cast}
 use Rattle.cb_frames.specs.Text.{pairs_from}
 use Rattle.cb_history.specs.Read.{frame_read}
 use Rattle.cb_frames.specs.Laws.{IsBytes, CanBeWritten}
@@ -23,7 +23,7 @@ use Rattle.cb_history.specs.CountLaws.{OwnCastsHaveNumbers, MessagesHaveNumbers,
 use Rattle.cb_history.proofs.Views.{IsIn, or_right, casts_in-append}
 use Rattle.cb_history.proofs.Lists.{flat_map-append, in_casts_push, or_false, among_is, among_by_order}
 use Rattle.cb_history.proofs.Names.{all_stand}
-use Rattle.cb_history.proofs.Loads.{casts_are_single}
+use Rattle.cb_history.proofs.Loads.{loads_there_fit}
 use Rattle.cb_history.proofs.ReadBack.{read_whole}
 use Rattle.cb_history.proofs.Bounds.{count_below}
 use Rattle.cb_history.proofs.Rising.{greatest_append, all_at_most, known_parts}
@@ -54,7 +54,7 @@ no_number_is_full seat facts n used =
 pub histories_leave_numbers : HistoriesLeaveNumbers
 histories_leave_numbers seat facts load are few some_few =
     let after = delivered seat facts seat.me + length (payloads_of load) in
-    let some : ltb LAST_NUMBER after ≡ false = le-ltb LAST_NUMBER after (omega (arith, few, some_few, count_below seat.group.size facts seat.me (casts_are_single seat facts are))) in
+    let some : ltb LAST_NUMBER after ≡ false = le-ltb LAST_NUMBER after (omega (arith, few, some_few, count_below seat.group.size facts seat.me (loads_there_fit seat facts are))) in
     ap (λ (b : Bool). ltb (stable seat facts + seat.group.window) after || b) some ∙ none_behind (ltb (stable seat facts + seat.group.window) after)
   where
     none_behind : (b : Bool) → (b || false) ≡ b
@@ -64,7 +64,7 @@ histories_leave_numbers seat facts load are few some_few =
 pub own_casts_have_numbers : OwnCastsHaveNumbers
 own_casts_have_numbers seat facts c own =
     let first : first_number c ≡ delivered seat facts seat.me + 1 = first_is_number c ∙ ap (λ (x : CastFields). x.number) own.next in
-    omega (arith, first, carried_up_to_the_last c (one_has_some c.load own.one), carries_payloads c, numbers_left seat facts (length (payloads_of c.load)) own.window)
+    omega (arith, first, carried_up_to_the_last c own.load.some, carries_payloads c, numbers_left seat facts (length (payloads_of c.load)) own.window)
 
 -- ---- messages that are there
 

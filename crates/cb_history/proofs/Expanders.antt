@@ -8,7 +8,7 @@ use Rattle.std.proofs.lemmas.List.Sums.{sum_by-cons}
 use Rattle.std.proofs.lemmas.List.FromFn.{get_or-map-range_with_len, length-map-range_with_len}
 use Rattle.cb_times.specs.Order.{field}
 use Rattle.cb_frames.specs.declared.frame.Change.{Change}
-use Rattle.cb_frames.specs.Fields.{CastFields, CastFrame, Carried, messages_of, growth_in, first_number, last_number}
+use Rattle.cb_frames.specs.Fields.{CastFields, CastFrame, Carried, growth_in, first_number, last_number}
 use Rattle.cb_frames.proofs.Carried.{carries_some, last_is_first}
 use Rattle.cb_diffs.specs.Expansion.{greatest, growth_of, expanded_field, expanded_time, AreMembers, IsNext, CarrySome, Expands}
 use Rattle.cb_diffs.specs.Expansion as expander
@@ -22,11 +22,10 @@ use Rattle.cb_history.specs.OwnFrameLaws.{IsOfTheGroup}
 use Rattle.cb_history.specs.BufferLaws.{IsCastOf}
 use Rattle.cb_history.specs.ExpanderLaws.{KeepsTimeOf, NewExpanderKeepsNothing, CastBehindIsNext, ExpanderTellsTheTime, OtherTimesAreKept, KeptTimesStay, OrderChangesNoTime}
 use Rattle.cb_history.proofs.Views.{IsIn}
-use Rattle.cb_history.proofs.Lists.{names_behind}
 use Rattle.cb_history.proofs.Names.{all_stand}
 use Rattle.cb_history.proofs.Loads.{some_at, some_of_all}
 use Rattle.cb_history.proofs.Times.{same_over_range, times_stay}
-use Rattle.cb_history.proofs.Agreement.{all_at, apart, one_begins, nothing_at_zero}
+use Rattle.cb_history.proofs.Agreement.{all_at, one_of_a_message, one_begins, nothing_at_zero}
 use Rattle.cb_diffs.proofs.Sums.{total}
 use Rattle.cb_history.proofs.Runs.{expanded_up_to_the_count}
 use Rattle.cb_history.proofs.Buffers.{cast_of_is_in}
@@ -34,18 +33,6 @@ use Rattle.cb_history.proofs.Singles.{singles_are_single, singles_are_the_same}
 use Rattle.cb_history.proofs.Arrivals.{singles_are_of_the_group}
 
 -- ---- one cast more in the sums
-
--- of two casts that are there and have a message of one name both are the same
-pub one_of_a_message : (casts : List CastFields) (c d : CastFields) (n : ℕ) → CarrySome casts → NamesDiffer (messages_in casts) → IsIn c casts → IsIn d casts → c.sender ≡ d.sender
-    → first_number c ≤ n → n ≤ last_number c → first_number d ≤ n → n ≤ last_number d → c ≡ d
-one_of_a_message [] c d n some differ there there' sender low high from upto = absurd there
-one_of_a_message (x ∷ casts) c d n some differ (inl here) (inl here') sender low high from upto = here ∙ sym here'
-one_of_a_message (x ∷ casts) c d n some differ (inl here) (inr later) sender low high from upto =
-    absurd (apart c d casts n (subst (λ (y : CastFields). CarrySome (y ∷ casts)) (sym here) some) (subst (λ (y : CastFields). NamesDiffer (messages_in (y ∷ casts))) (sym here) differ) later sender low high from upto)
-one_of_a_message (x ∷ casts) c d n some differ (inr later) (inl here) sender low high from upto =
-    absurd (apart d c casts n (subst (λ (y : CastFields). CarrySome (y ∷ casts)) (sym here) some) (subst (λ (y : CastFields). NamesDiffer (messages_in (y ∷ casts))) (sym here) differ) later (sym sender) from upto low high)
-one_of_a_message (x ∷ casts) c d n some differ (inr later) (inr later') sender low high from upto =
-    one_of_a_message casts c d n some.1 (names_behind (messages_of x) (messages_in casts) differ) later later' sender low high from upto
 
 pub one_of_a_name : (casts : List CastFields) (c d : CastFields) → CarrySome casts → NamesDiffer (messages_in casts) → IsIn c casts → IsIn d casts → c.sender ≡ d.sender → first_number c ≡ first_number d → c ≡ d
 one_of_a_name casts c d some differ there there' sender first =

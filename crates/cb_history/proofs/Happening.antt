@@ -5,7 +5,7 @@ use Rattle.std.proofs.lemmas.List.{append-nil, map-append, drop_at}
 use Rattle.cb_times.specs.Order.{field}
 use Rattle.cb_frames.specs.Fields.{CastFields, CastFrame, Carried, messages_of, first_number, last_number}
 use Rattle.cb_frames.specs.Carrying.{AreNumberedFrom}
-use Rattle.cb_frames.proofs.Carried.{one_has_some, first_is_number, carried_in_order}
+use Rattle.cb_frames.proofs.Carried.{first_is_number, carried_in_order}
 use Rattle.cb_delay.specs.declared.message.Message.{Message}
 use Rattle.cb_delay.specs.declared.message.Event.{Event}
 use Rattle.cb_delay.specs.declared.message.Event.TheVariants.{Cast, Deliver}
@@ -215,7 +215,7 @@ own_cast_makes_ready seat facts c m are expanded not_ready ready = (between coun
 
     upto : stamp seat.me ≤ last_number c
     upto =
-        subst (λ (n : ℕ). stamp seat.me ≤ n) (count_to_the_last seen c seat.me (one_has_some c.load (last_fact_is_a_step seat facts (OwnCast c) are).one) sender first)
+        subst (λ (n : ℕ). stamp seat.me ≤ n) (count_to_the_last seen c seat.me (last_fact_is_a_step seat facts (OwnCast c) are).load.some sender first)
         (subst (λ (n : ℕ). n ≤ count (seen ++ messages_of c) seat.me) (time_at seat.me are.member) (after.1.others seat.me (λ e. other (sym e))))
 
     before : stamp seat.me ≤ counted → MeetsRule size (casts_in facts) seen m

@@ -1,12 +1,11 @@
 -- What the entries of a legal history say.
-use Rattle.std.proofs.Common.{◌≡◌, ℕ, ◌<◌, Bool, true, false, not, ◌&&◌, eqb, ltb, List, [], ◌∷◌, ◌++◌, length, map, drop, Option, Some, None, Result, Ok, Err, refl, sym, ap, subst, ◌∙◌, arith}
+use Rattle.std.proofs.Common.{◌≡◌, ℕ, ◌<◌, Bool, true, false, not, ◌&&◌, eqb, List, [], ◌∷◌, ◌++◌, length, map, drop, Option, Some, None, Result, Ok, Err, refl, sym, ap, subst, ◌∙◌, arith}
 use Rattle.std.specs.List.{AllByRecursion}
-use Rattle.std.proofs.lemmas.Bool.{cond_both, eqb-true, ltb-false}
+use Rattle.std.proofs.lemmas.Bool.{cond_both, eqb-true}
 use Rattle.std.proofs.lemmas.List.{append-nil, length-append}
-use Rattle.cb_frames.specs.declared.frame.TheConstants.{LONGEST_PAYLOAD}
 use Rattle.cb_frames.specs.declared.fault.FrameFault.{FrameFault}
-use Rattle.cb_frames.specs.Fields.{Load, One, Many, CastFields, FrameFields, Carried, CastFrame, StatusFrame, RequestFrame}
-use Rattle.cb_frames.specs.Text.{IsLoad, text_of}
+use Rattle.cb_frames.specs.Fields.{Load, CastFields, FrameFields, Carried, CastFrame, StatusFrame, RequestFrame}
+use Rattle.cb_frames.specs.Text.{text_of}
 use Rattle.cb_history.specs.Read.{frame_read}
 use Rattle.cb_frames.specs.Laws.{IsBytes}
 use Rattle.cb_frames.proofs.Decoding.{reading_is_exact}
@@ -18,7 +17,7 @@ use Rattle.cb_history.specs.declared.answer.TickRefusal.{TickRefusal}
 use Rattle.cb_history.specs.declared.answer.Outgoing.{Outgoing}
 use Rattle.cb_history.specs.Group.{Identity, AreParameters}
 use Rattle.cb_history.specs.Facts.{EntryFields, CastEntry, ArriveEntry, TickEntry, Fact, OwnCast, CastReceived, StatusReceived, OwnStatus, said_by, cast_said, arrival_said, status_said, facts_of, casts_in}
-use Rattle.cb_history.specs.Answers.{is_full, is_too_many, next_cast, cast_answer, group_of, are_members, is_impossible, is_repeat, is_too_far, is_change, with_frame, deliveries, ArrivalSays, frame_answer, answer_to, arrive_answer, status_of, is_new_status, tick_answer}
+use Rattle.cb_history.specs.Answers.{is_full, next_cast, cast_answer, group_of, are_members, is_impossible, is_repeat, is_overlap, is_too_far, is_change, with_frame, deliveries, ArrivalSays, frame_answer, answer_to, arrive_answer, status_of, is_new_status, tick_answer}
 use Rattle.cb_history.specs.Legal.{Call, ToCast, ToTake, ToTick, OfBytes, cast_entry, arrive_entry, tick_entry, entry_of, room_for_one, AreLegal, NoEntries, OneMore}
 use Rattle.cb_history.specs.LegalFacts.{SaysNumbers, IsTaken, IsStep, AreLegalFacts, NoFacts, OneFactMore}
 use Rattle.cb_history.specs.HistoryLaws.{LegalHistoriesSayLegalFacts, EachEntrySaysOneFact, SaysItsText, EntriesSayTheirTexts, name_of, ArrivalsNameDeliveries}
@@ -26,9 +25,10 @@ use Rattle.cb_history.specs.LimitLaws.{EntriesSayLegalFacts}
 use Rattle.cb_history.specs.View.{view, message_in}
 use Rattle.cb_history.proofs.Lists.{flat_map-append}
 use Rattle.cb_history.proofs.Prefixes.{last_entry}
-use Rattle.cb_history.proofs.ReadBack.{cast_read, status_read, read_whole, frame_numbered, read_casts_are_single}
-use Rattle.cb_history.proofs.Written.{cast_can, status_can}
-use Rattle.cb_history.proofs.Counts.{numbers_left, read_numbers}
+use Rattle.cb_history.proofs.Loads.{answered}
+use Rattle.cb_history.proofs.ReadBack.{cast_read, status_read, read_whole, frame_numbered, read_loads_fit}
+use Rattle.cb_history.proofs.Written.{fitting_can, status_can}
+use Rattle.cb_history.proofs.Counts.{read_numbers}
 
 -- an entry that a call adds says a step
 record Added (seat : Identity) (entries : List EntryFields) (e : EntryFields) : Type 0 where
@@ -50,25 +50,22 @@ not_false false h = absurd cc
 
 -- ---- a cast
 
-cast_added : (seat : Identity) (entries : List EntryFields) (load : Load) (e : EntryFields) → Before seat entries → cast_entry (cast_answer seat (room_for_one entries) entries load) ≡ Some e → Added seat entries e
-unfolding cast_answer
-cast_added seat entries (Many payloads) e b = λ h. absurd cc
-cast_added seat entries (One payload) e b =
-    let load = One payload in
-    cond_both (ltb LONGEST_PAYLOAD (length payload)) _ _ (λ (r : Result CastFields CastFault). cast_entry r ≡ Some e → Added seat entries e) (λ _ h. absurd cc)
-    (λ short. cond_both (is_too_many seat (facts_of entries) 1) _ _ (λ (r : Result CastFields CastFault). cast_entry r ≡ Some e → Added seat entries e) (λ _ h. absurd cc)
-    (λ open_window. cond_both (is_full (room_for_one entries) entries) _ _ (λ (r : Result CastFields CastFault). cast_entry r ≡ Some e → Added seat entries e) (λ _ h. absurd cc)
-    (λ _ h.
-    let is : CastEntry (text_of (CastFrame (next_cast seat (facts_of entries) load))) ≡ e = cc in
-    let small : IsLoad load = ltb-false LONGEST_PAYLOAD (length payload) short in
-    let can = cast_can seat (facts_of entries) load b.group b.member b.facts_are tt (numbers_left seat (facts_of entries) 1 open_window) small in
-    let read = cast_read (next_cast seat (facts_of entries) load) tt can in
+cast_entered : (seat : Identity) (entries : List EntryFields) (load : Load) (e : EntryFields) (r : Result CastFields CastFault) → Before seat entries → cast_answer seat (room_for_one entries) entries load ≡ r → cast_entry r ≡ Some e → Added seat entries e
+cast_entered seat entries load e (Ok c) b answer h =
+    let a = answered seat (room_for_one entries) entries load c answer in
+    let can = fitting_can seat (facts_of entries) load b.group b.member b.facts_are a.fits a.window in
+    let read = cast_read (next_cast seat (facts_of entries) load) can in
+    let is : CastEntry (text_of (CastFrame (next_cast seat (facts_of entries) load))) ≡ e = ap (λ (x : CastFields). CastEntry (text_of (CastFrame x))) (sym a.next) ∙ cc in
     record {
       fact = OwnCast (next_cast seat (facts_of entries) load);
       said = ap said_by (sym is) ∙ ap cast_said read;
-      step = record { one = tt; load = small; window = open_window; next = refl };
+      step = record { load = a.fits; window = a.window; next = refl };
       text = subst SaysItsText is (next_cast seat (facts_of entries) load, read, refl);
-    })))
+    }
+cast_entered seat entries load e (Err fault) b answer h = absurd cc
+
+cast_added : (seat : Identity) (entries : List EntryFields) (load : Load) (e : EntryFields) → Before seat entries → cast_entry (cast_answer seat (room_for_one entries) entries load) ≡ Some e → Added seat entries e
+cast_added seat entries load e b h = cast_entered seat entries load e (cast_answer seat (room_for_one entries) entries load) b refl h
 
 -- ---- an arrival
 
@@ -86,7 +83,8 @@ frame_taken seat entries bytes e frame =
     (λ group. cond_both (not (are_members seat.group.size frame)) _ _ P (λ _ h. absurd cc)
     (λ members. cond_both (is_impossible seat (facts_of entries) frame) _ _ P (λ _ h. absurd cc)
     (λ possible. cond_both (is_repeat (facts_of entries) frame) _ _ P (λ _ h. absurd cc)
-    (λ new. cond_both (is_too_far seat (facts_of entries) frame) _ _ P (λ _ h. absurd cc)
+    (λ new. cond_both (is_overlap (facts_of entries) frame) _ _ P (λ _ h. absurd cc)
+    (λ apart. cond_both (is_too_far seat (facts_of entries) frame) _ _ P (λ _ h. absurd cc)
     (λ near. cond_both (is_change seat (facts_of entries) frame && is_full (room_for_one entries) entries) _ _ P (λ _ h. absurd cc)
     (λ fits. cond_both (is_change seat (facts_of entries) frame) _ _ P
     (λ change h. record {
@@ -99,11 +97,12 @@ frame_taken seat entries bytes e frame =
         members = not_false (are_members seat.group.size frame) members;
         possible = possible;
         new = new;
+        apart = apart;
         near = near;
         change = change;
       };
     })
-    (λ _ h. absurd cc)))))))
+    (λ _ h. absurd cc))))))))
 
 -- bytes that are a frame are its text
 received_as_text : (bytes : List ℕ) (names : List Name) (e : EntryFields) (f : FrameFields) → IsBytes bytes → frame_read bytes ≡ Ok f → ArriveEntry bytes names ≡ e → SaysItsText e
@@ -114,7 +113,7 @@ taken_says seat entries bytes e (CastFrame c) are read t = record {
   text = received_as_text bytes t.names e (CastFrame c) are read t.is;
   fact = CastReceived c;
   said = ap said_by (sym t.is) ∙ ap arrival_said read;
-  step = record { one = read_casts_are_single bytes c read; numbered = frame_numbered bytes c read; taken = t.taken (read_numbers bytes (CastFrame c) are read) };
+  step = record { load = read_loads_fit bytes c read; numbered = frame_numbered bytes c read; taken = t.taken (read_numbers bytes (CastFrame c) are read) };
 }
 taken_says seat entries bytes e (StatusFrame s) are read t = record {
   text = received_as_text bytes t.names e (StatusFrame s) are read t.is;

@@ -8,7 +8,7 @@ use Rattle.cb_frames.specs.declared.frame.TheConstants.{LAST_NUMBER, MOST_FRAMES
 use Rattle.cb_frames.specs.declared.frame.Range.{Range}
 use Rattle.cb_frames.specs.Fields.{IsSome, CastFields, CastFrame, messages_of, first_number, last_number}
 use Rattle.cb_frames.specs.Text.{text_of}
-use Rattle.cb_frames.proofs.Carried.{one_has_some, first_is_number, carried_up_to_the_last, carries_some, carried_is_of_cast, each_number_is_carried}
+use Rattle.cb_frames.proofs.Carried.{first_is_number, carried_up_to_the_last, carries_some, carried_is_of_cast, each_number_is_carried}
 use Rattle.cb_diffs.specs.Expansion.{CarrySome}
 use Rattle.cb_stability.specs.Ranges.{is_in, is_in_some, meets}
 use Rattle.cb_stability.specs.declared.window.Spanned.{Spanned}
@@ -245,7 +245,7 @@ put_is_own_cast seat facts c sent after are keeps puts =
     below = (acknowledged_is_delivered seat facts before).1
 
     some : IsSome c.load
-    some = one_has_some c.load (last_fact_is_a_step seat facts (OwnCast c) are).one
+    some = (last_fact_is_a_step seat facts (OwnCast c) are).load.some
 
     sender : c.sender ≡ seat.me
     sender = ap (λ (x : CastFields). x.sender) (last_fact_is_a_step seat facts (OwnCast c) are).next

@@ -1,9 +1,11 @@
 -- A legal history is what calls add without a limit, with at most so many entries as a history can have.
-use Rattle.std.proofs.Common.{refl, ◌<◌, ◌≤◌, Bool, cond, ltb, List, [], ◌∷◌, ◌++◌, length, Ok, Err, ap, arith}
+use Rattle.std.proofs.Common.{refl, ◌<◌, ◌≤◌, Bool, cond, eqb, ltb, List, [], ◌∷◌, ◌++◌, length, Ok, Err, ap, arith, inl, inr}
+use Rattle.std.proofs.lemmas.Bool.{cases_lt, lt-ltb}
 use Rattle.std.proofs.lemmas.List.{length-append}
 use Rattle.cb_history.specs.Group.{Identity}
-use Rattle.cb_frames.specs.declared.frame.TheConstants.{LONGEST_PAYLOAD}
-use Rattle.cb_history.specs.CastFault.{PayloadTooLong, WindowFull, HistoryFull}
+use Rattle.cb_frames.specs.declared.frame.TheConstants.{LONGEST_PAYLOAD, MOST_MESSAGES}
+use Rattle.cb_frames.specs.Fields.{payloads_of, load_bytes}
+use Rattle.cb_history.specs.CastFault.{EmptyBurst, BurstTooLong, PayloadTooLong, WindowFull, HistoryFull}
 use Rattle.cb_history.specs.Facts.{EntryFields, Fact, facts_of}
 use Rattle.cb_history.specs.Answers.{is_full, next_cast, cast_answer}
 use Rattle.cb_history.specs.Legal.{longest_history, AreLegal, NoEntries, OneMore}
@@ -12,7 +14,6 @@ use Rattle.cb_history.specs.LimitLaws.{LimitIsAdded, AreAddedInLimit, NoneAdded,
 use Rattle.cb_history.proofs.Calls.{entry_with_room, entry_in_limit, added_below}
 use Rattle.cb_history.proofs.Counts.{histories_leave_numbers}
 use Rattle.cb_history.proofs.Histories.{each_entry_says_one_fact, legal_histories_say_legal_facts}
-use Rattle.cb_frames.specs.Fields.{One, Many}
 
 pub limit_is_added : LimitIsAdded
 limit_is_added seat entries = (
@@ -62,10 +63,15 @@ legal_facts_in_limit seat facts = ((λ both. steps_in_limit seat facts both.0 bo
 
 pub legal_answers_by_stable : LegalAnswersByStable
 unfolding cast_answer
-legal_answers_by_stable seat limit entries (Many payloads) legal = refl
-legal_answers_by_stable seat limit entries (One payload) legal =
+legal_answers_by_stable seat limit entries load legal =
+    let n = length (payloads_of load) in
     let many = (each_entry_says_one_fact seat entries legal).1 in
     let few = legal.few in
-    let load = One payload in
-    ap (λ (b : Bool). cond (ltb LONGEST_PAYLOAD (length payload)) (Err PayloadTooLong) (cond b (Err WindowFull) (cond (is_full limit entries) (Err HistoryFull) (Ok (next_cast seat (facts_of entries) load)))))
-    (histories_leave_numbers seat (facts_of entries) load (legal_histories_say_legal_facts seat entries legal) (omega (arith, many, few)) (omega arith))
+    let facts = legal_histories_say_legal_facts seat entries legal in
+    elim (cases_lt MOST_MESSAGES n) [
+      | inl long ↦ rw (lt-ltb MOST_MESSAGES n long) refl
+      | inr fits ↦
+          ap (λ (b : Bool). cond (eqb n 0) (Err EmptyBurst) (cond (ltb MOST_MESSAGES n) (Err BurstTooLong) (cond (ltb LONGEST_PAYLOAD (length (load_bytes load))) (Err PayloadTooLong)
+          (cond b (Err WindowFull) (cond (is_full limit entries) (Err HistoryFull) (Ok (next_cast seat (facts_of entries) load)))))))
+          (histories_leave_numbers seat (facts_of entries) load facts (omega (arith, many, few)) fits)
+    ]

@@ -1,8 +1,8 @@
 -- Elements, names and counts of lists of messages.
-use Rattle.std.proofs.Common.{◌≡◌, ◌≢◌, ℕ, length, ◌+◌, ◌<◌, ◌≤◌, Bool, true, false, cond, ◌&&◌, ◌||◌, eqb, List, [], ◌∷◌, ◌++◌, refl, sym, ap, ◌∙◌, subst, append_assoc, arith, inl, inr, ◌⊎◌}
+use Rattle.std.proofs.Common.{◌≡◌, ◌≢◌, ℕ, zero, suc, length, take, ◌+◌, ◌<◌, ◌≤◌, Bool, true, false, cond, ◌&&◌, ◌||◌, eqb, List, [], ◌∷◌, ◌++◌, refl, sym, ap, ◌∙◌, subst, append_assoc, arith, inl, inr, ◌⊎◌}
 use Rattle.std.specs.List.{AllByRecursion, flat_map, list_all, list_any}
 use Rattle.std.proofs.lemmas.Bool.{eqb-true, eq-eqb, ne_eqb, cases_eq, and_right, or_cases}
-use Rattle.std.proofs.lemmas.List.{append-nil, length-append}
+use Rattle.std.proofs.lemmas.List.{append-nil, length-append, length-take-le}
 use Rattle.cb_frames.specs.Fields.{IsSome, CastFields, Carried, messages_of, first_number, last_number}
 use Rattle.cb_frames.specs.Carrying.{AreNumberedFrom}
 use Rattle.cb_frames.proofs.Carried.{load_has_one, row_within, carried_in_order, carries_payloads, carried_up_to_the_last}
@@ -229,6 +229,23 @@ pub count_of_others : (xs : List Carried) (c : CastFields) (k : ℕ) → c.sende
 count_of_others xs c k ne =
     let none = count_off_row c.sender (first_number c) k (messages_of c) ne (carried_in_order c) in
     omega (arith, count-append xs (messages_of c) k, none)
+
+-- and with the first ones of them
+row_front : (sender n j : ℕ) (ms : List Carried) → AreNumberedFrom sender n ms → AreNumberedFrom sender n (take j ms)
+row_front sender n zero ms row = tt
+row_front sender n (suc j) [] row = tt
+row_front sender n (suc j) (x ∷ ms) row = (row.0, row.1, row_front sender (n + 1) j ms row.2)
+
+pub count_of_first : (xs : List Carried) (c : CastFields) (k j : ℕ) → c.sender ≡ k → j ≤ length (messages_of c) → count (xs ++ take j (messages_of c)) k ≡ count xs k + j
+count_of_first xs c k j e most =
+    let row = row_front c.sender (first_number c) j (messages_of c) (carried_in_order c) in
+    let counted : count (take j (messages_of c)) k ≡ length (take j (messages_of c)) = ap (count (take j (messages_of c))) (sym e) ∙ count_of_row c.sender (first_number c) (take j (messages_of c)) row in
+    omega (arith, count-append xs (take j (messages_of c)) k, counted, length-take-le j (messages_of c) most)
+
+pub count_off_first : (xs : List Carried) (c : CastFields) (k j : ℕ) → c.sender ≢ k → count (xs ++ take j (messages_of c)) k ≡ count xs k
+count_off_first xs c k j ne =
+    let none = count_off_row c.sender (first_number c) k (take j (messages_of c)) ne (row_front c.sender (first_number c) j (messages_of c) (carried_in_order c)) in
+    omega (arith, count-append xs (take j (messages_of c)) k, none)
 
 -- with the messages of its sender's next cast there are as many as the cast's last number
 pub count_to_the_last : (xs : List Carried) (c : CastFields) (k : ℕ) → IsSome c.load → c.sender ≡ k → first_number c ≡ count xs k + 1 → count (xs ++ messages_of c) k ≡ last_number c

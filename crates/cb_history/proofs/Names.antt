@@ -1,21 +1,20 @@
 -- Names and order in the views of legal facts.
 use Rattle.std.proofs.Common.{◌≡◌, ◌≢◌, ℕ, ◌+◌, ◌<◌, ◌≤◌, Bool, true, false, ◌&&◌, eqb, ltb, List, [], ◌∷◌, ◌++◌, length, Some, refl, sym, ap, subst, ◌∙◌, arith, inl, inr}
-use Rattle.std.specs.List.{list_all}
+use Rattle.std.specs.List.{list_any}
 use Rattle.std.proofs.lemmas.Bool.{false_from_ne_true, eq-eqb, ltb-true, ltb-false}
 use Rattle.std.proofs.lemmas.List.{append-nil, length-append}
 use Rattle.cb_frames.specs.Fields.{IsSome, CastFields, CastFrame, Carried, messages_of, first_number, last_number}
-use Rattle.cb_frames.proofs.Carried.{one_has_some, first_is_number, carried_up_to_the_last, carries_some, carried_is_of_cast, carried_alone, first_is_carried}
+use Rattle.cb_frames.proofs.Carried.{first_is_number, carried_up_to_the_last, carries_some, carried_is_of_cast, first_is_carried}
 use Rattle.cb_history.specs.Group.{Identity}
 use Rattle.cb_history.specs.Facts.{Fact, OwnCast, CastReceived, StatusReceived, OwnStatus, casts_in, messages_in, is_there}
 use Rattle.cb_history.specs.View.{count, is_among, next_delivery, drain, view}
-use Rattle.cb_history.specs.Answers.{own_casts, delivered, is_repeat}
+use Rattle.cb_history.specs.Answers.{own_casts, delivered, is_overlap}
 use Rattle.cb_history.specs.LegalFacts.{IsCastTaken, IsStep, AreLegalFacts, NoFacts, OneFactMore}
 use Rattle.cb_history.specs.NameLaws.{InOrderAfter, NamesDiffer, NumberedFrom, ReceivedFromOthers, NamesStandOnce, OwnCastsAreNumbered, OwnMessagesAreOwn, ViewIsInOrder, ViewHoldsTheFirst, ViewIsOfCasts, IsOneOf, ViewIsAsCast}
-use Rattle.cb_history.specs.Singles.{IsSingle}
 use Rattle.cb_diffs.specs.Expansion.{CarrySome}
 use Rattle.cb_diffs.proofs.Sums.{carry_some-push}
 use Rattle.cb_history.proofs.Views.{IsIn, next_is, next_is_the_only_candidate, ready_is_new, expanded_is_there, casts_in-append, test_true, among_more, among_front, among_back}
-use Rattle.cb_history.proofs.Lists.{messages_in-push, in_append, in_push, in_casts_push, in_casts_front, in_casts_back, names_append, carried_names, in_is_among, among_is, count_of_messages, count_other, order_append, carried_order, order_push, among_by_order, order_bound}
+use Rattle.cb_history.proofs.Lists.{messages_in-push, in_append, in_push, in_casts_push, in_casts_front, in_casts_back, names_append, carried_names, in_is_among, among_is, count_of_messages, count_other, order_append, carried_order, order_push, among_by_order, order_bound, or_false}
 use Rattle.cb_history.proofs.Walks.{drain_keeps, view_own, view_received, view_status, view_reported, own_casts-own, own_casts-other}
 
 -- what is true of the casts, the view and the own casts
@@ -147,26 +146,21 @@ possible_own : (a b : Bool) → (a && b) ≡ false → a ≡ true → b ≡ fals
 possible_own true b h e = h
 possible_own false b h e = absurd cc
 
--- some message fails the test
-failing : (p : Carried → Bool) (ms : List Carried) → list_all p ms ≡ false → (m : Carried) × IsIn m ms × (p m ≡ false)
-failing p [] h = absurd cc
-failing p (x ∷ ms) h = either_fails p x ms (p x) refl h (λ later. failing p ms later)
-  where
-    either_fails : (p : Carried → Bool) (x : Carried) (ms : List Carried) (b : Bool) → p x ≡ b → (b && list_all p ms) ≡ false → (list_all p ms ≡ false → (m : Carried) × IsIn m ms × (p m ≡ false)) → (m : Carried) × IsIn m (x ∷ ms) × (p m ≡ false)
-    either_fails p x ms true e h go = let later = go h in (later.0, inr later.1, later.2)
-    either_fails p x ms false e h go = (x, inl refl, e)
+-- none of them passes the test
+none_of : (p : Carried → Bool) (ms : List Carried) (m : Carried) → list_any p ms ≡ false → IsIn m ms → p m ≡ false
+none_of p [] m none there = absurd there
+none_of p (x ∷ ms) m none (inl same) = ap p same ∙ (or_false (p x) (list_any p ms) none).0
+none_of p (x ∷ ms) m none (inr later) = none_of p ms m (or_false (p x) (list_any p ms) none).1 later
 
--- of the messages of a cast that is no repeat none is there: one is not, and a cast carries no other
-pub none_is_there : (facts : List Fact) (c : CastFields) → IsSingle c → is_repeat facts (CastFrame c) ≡ false → (m : Carried) → IsIn m (messages_of c) → is_among (messages_in (casts_in facts)) m ≡ false
-none_is_there facts c single new m there =
-    let one = failing (is_among (messages_in (casts_in facts))) (messages_of c) new in
-    subst (λ (x : Carried). is_among (messages_in (casts_in facts)) x ≡ false) (carried_alone c one.0 m single one.1 there) one.2
+-- of the messages of a cast that overlaps with none none is there
+pub none_is_there : (facts : List Fact) (c : CastFields) → is_overlap facts (CastFrame c) ≡ false → (m : Carried) → IsIn m (messages_of c) → is_among (messages_in (casts_in facts)) m ≡ false
+none_is_there facts c apart m there = none_of (is_among (messages_in (casts_in facts))) (messages_of c) m apart there
 
 -- a received cast is of another member: one of its own would be a repeat
 pub received_is_others : (seat : Identity) (facts : List Fact) (c : CastFields) → StandsAt seat facts → IsCastTaken seat facts c → c.sender ≢ seat.me
 received_is_others seat facts c s came own =
     let seen = view seat.group.size facts in
-    let some = one_has_some c.load came.one in
+    let some = came.load.some in
     let first = first_is_carried c some in
     let m : Carried = first.found in
     let bound = ltb-false (delivered seat facts seat.me) (last_number c) (possible_own (eqb c.sender seat.me) (ltb (delivered seat facts seat.me) (last_number c)) came.taken.possible (eq-eqb c.sender seat.me own)) in
@@ -176,7 +170,7 @@ received_is_others seat facts c s came own =
     let found = among_is seen m among in
     let there : is_among (messages_in (casts_in facts)) found.0 ≡ true = in_is_among (messages_in (casts_in facts)) found.0 (s.there found.0 found.1) in
     let again : is_there (casts_in facts) m.sender m.number ≡ true = subst (λ (k : ℕ). is_there (casts_in facts) k m.number ≡ true) found.2 (subst (λ (n : ℕ). is_there (casts_in facts) found.0.sender n ≡ true) found.3 there) in
-    let none : is_there (casts_in facts) m.sender m.number ≡ false = none_is_there facts c came.one came.taken.new m first.there in
+    let none : is_there (casts_in facts) m.sender m.number ≡ false = none_is_there facts c came.taken.apart m first.there in
     cc
 
 status_stands : (seat : Identity) (casts casts' : List CastFields) (seen seen' : List Carried) (own own' : List CastFields) → casts' ≡ casts → seen' ≡ seen → own' ≡ own → Stands seat casts seen own → Stands seat casts' seen' own'
@@ -186,11 +180,11 @@ status_stands seat casts casts' seen seen' own own' a b d s =
 step_stands : (seat : Identity) (facts : List Fact) (f : Fact) → seat.me < seat.group.size → IsStep seat facts f → StandsAt seat facts → StandsAt seat (facts ++ f ∷ [])
 step_stands seat facts (OwnCast c) member step s =
     status_stands seat (casts_in facts ++ c ∷ []) _ (view seat.group.size facts ++ messages_of c) _ (own_casts facts ++ c ∷ []) _ (casts_in-append facts (OwnCast c)) (view_own seat.group.size facts c) (own_casts-own facts c)
-    (own_stands seat (casts_in facts) (view seat.group.size facts) (own_casts facts) c member s (one_has_some c.load step.one) (ap (λ (x : CastFields). x.sender) step.next) (first_is_number c ∙ ap (λ (x : CastFields). x.number) step.next))
+    (own_stands seat (casts_in facts) (view seat.group.size facts) (own_casts facts) c member s step.load.some (ap (λ (x : CastFields). x.sender) step.next) (first_is_number c ∙ ap (λ (x : CastFields). x.number) step.next))
 step_stands seat facts (CastReceived c) member step s =
     status_stands seat (casts_in facts ++ c ∷ []) _ (drain seat.group.size (casts_in facts ++ c ∷ []) (view seat.group.size facts)) _ (own_casts facts) _ (casts_in-append facts (CastReceived c)) (view_received seat.group.size facts c) (own_casts-other facts (CastReceived c) tt)
-    (received_stands seat (casts_in facts) (view seat.group.size facts) (own_casts facts) c s (one_has_some c.load step.one)
-    (ltb-true c.sender seat.group.size (test_true (ltb c.sender seat.group.size) _ step.taken.members).0) step.numbered (received_is_others seat facts c s step) (none_is_there facts c step.one step.taken.new))
+    (received_stands seat (casts_in facts) (view seat.group.size facts) (own_casts facts) c s step.load.some
+    (ltb-true c.sender seat.group.size (test_true (ltb c.sender seat.group.size) _ step.taken.members).0) step.numbered (received_is_others seat facts c s step) (none_is_there facts c step.taken.apart))
 step_stands seat facts (StatusReceived t) member step s =
     status_stands seat (casts_in facts) _ (view seat.group.size facts) _ (own_casts facts) _ (casts_in-append facts (StatusReceived t) ∙ append-nil (casts_in facts)) (view_status seat.group.size facts t) (own_casts-other facts (StatusReceived t) tt) s
 step_stands seat facts (OwnStatus t) member step s =

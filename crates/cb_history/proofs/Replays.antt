@@ -1,15 +1,14 @@
 -- The call that an entry tells.
-use Rattle.std.proofs.Common.{◌≡◌, ℕ, zero, suc, ◌+◌, ◌<◌, ◌≤◌, ◌^◌, Bool, true, false, ltb, List, [], ◌∷◌, ◌++◌, length, Some, Result, Ok, Err, sym, ap, subst, ◌∙◌, append_assoc, refl, arith}
-use Rattle.std.specs.List.{AllByRecursion, flat_map}
-use Rattle.std.proofs.lemmas.Bool.{cond_both, ltb-false}
+use Rattle.std.proofs.Common.{◌≡◌, ℕ, zero, suc, ◌+◌, ◌<◌, ◌≤◌, ◌^◌, Bool, true, false, List, [], ◌∷◌, ◌++◌, length, Some, Result, Ok, Err, sym, ap, subst, ◌∙◌, append_assoc, refl, arith}
+use Rattle.std.specs.List.{AllByRecursion, concat, flat_map}
 use Rattle.std.proofs.lemmas.List.{append-nil, length-append, get_or-append-add}
 use Rattle.cb_varint.specs.Spelling.{HasTopBit}
 use Rattle.cb_varint.specs.Reading.{spelling}
 use Rattle.cb_varint.proofs.Spelled.{spelled}
 use Rattle.cb_frames.specs.declared.frame.TheConstants.{LONGEST_PAYLOAD}
 use Rattle.cb_frames.specs.declared.fault.FrameFault.{FrameFault}
-use Rattle.cb_frames.specs.Fields.{Load, One, Many, IsOne, load_bytes, CastFields, StatusFields, FrameFields, CastFrame, StatusFrame, RequestFrame}
-use Rattle.cb_frames.specs.Text.{cast_kind, status_kind, cast_numbers, status_numbers, with_load, payload_text, text_of}
+use Rattle.cb_frames.specs.Fields.{Load, One, Many, load_bytes, CastFields, StatusFields, FrameFields, CastFrame, StatusFrame, RequestFrame}
+use Rattle.cb_frames.specs.Text.{kind_of, status_kind, cast_numbers, status_numbers, with_load, payload_text, load_text, KeepsLoadRules, IsLoad, text_of}
 use Rattle.cb_history.specs.Read.{frame_read}
 use Rattle.cb_frames.specs.Laws.{IsBytes, CanBeWritten}
 use Rattle.cb_frames.proofs.Decoding.{reading_is_exact}
@@ -19,13 +18,13 @@ use Rattle.cb_history.specs.declared.answer.TickRefusal.{TickRefusal}
 use Rattle.cb_history.specs.declared.answer.Outgoing.{Outgoing}
 use Rattle.cb_history.specs.Group.{Identity, IsIdentity}
 use Rattle.cb_history.specs.Facts.{EntryFields, CastEntry, ArriveEntry, TickEntry, facts_of}
-use Rattle.cb_history.specs.Answers.{is_full, is_too_many, next_cast, cast_answer, answer_to, arrive_answer, status_of, tick_answer}
+use Rattle.cb_history.specs.Answers.{next_cast, cast_answer, answer_to, arrive_answer, status_of, tick_answer}
 use Rattle.cb_history.specs.Legal.{longest_history, Call, ToCast, ToTake, ToTick, OfBytes, cast_entry, arrive_entry, tick_entry, entry_of, room_for_one, AreLegal, NoEntries, OneMore, IsLegal}
 use Rattle.cb_history.specs.LegalFacts.{AreFactsOf}
 use Rattle.cb_history.specs.ReplayLaws.{load_said, call_of, bytes_in, EntryTellsItsCall, EntriesOfBytesTellBytes, LegalEntriesAreBytes, OneMoreIsDecided, AreReplayed, ReplayingDecides}
-use Rattle.cb_history.proofs.Counts.{numbers_left}
-use Rattle.cb_history.proofs.Written.{cast_can, status_can}
-use Rattle.cb_history.proofs.ReadBack.{cast_read, read_whole, read_casts_are_single}
+use Rattle.cb_history.proofs.Loads.{answered}
+use Rattle.cb_history.proofs.Written.{fitting_can, status_can}
+use Rattle.cb_history.proofs.ReadBack.{cast_read, read_whole}
 use Rattle.cb_history.proofs.Calls.{entry_with_room, entry_in_limit, added_below}
 use Rattle.cb_history.proofs.Prefixes.{last_entry, prefix_is_legal}
 use Rattle.cb_history.proofs.Histories.{frame_taken, entries_say_legal_facts, legal_histories_say_legal_facts, all_push}
@@ -43,6 +42,13 @@ both_are_bytes : (front back : List ℕ) → IsBytes front → IsBytes back → 
 both_are_bytes [] back are be = be
 both_are_bytes (b ∷ front) back are be = one_more_byte b (front ++ back) (are 0) (both_are_bytes front back (λ i. are (suc i)) be)
 
+front_is_bytes : (front back : List ℕ) → IsBytes (front ++ back) → IsBytes front
+front_is_bytes [] back bytes = no_bytes
+front_is_bytes (b ∷ front) back bytes = one_more_byte b front (bytes 0) (front_is_bytes front back (λ i. bytes (suc i)))
+
+back_is_bytes : (front back : List ℕ) → IsBytes (front ++ back) → IsBytes back
+back_is_bytes front back bytes i = subst (λ (n : ℕ). n < 256) (get_or-append-add front back i 0) (bytes (length front + i))
+
 top_bits_are_bytes : (front : List ℕ) → AllByRecursion HasTopBit front → IsBytes front
 top_bits_are_bytes [] all = no_bytes
 top_bits_are_bytes (b ∷ front) all = one_more_byte b front all.0.1 (top_bits_are_bytes front all.1)
@@ -57,12 +63,33 @@ pub numbers_are_bytes : (ns : List ℕ) → AllByRecursion (λ n. n < 2 ^ 32) ns
 numbers_are_bytes [] small = no_bytes
 numbers_are_bytes (n ∷ ns) small = both_are_bytes (spelling n) (flat_map spelling ns) (spelling_is_bytes n small.0) (numbers_are_bytes ns small.1)
 
-pub cast_is_bytes : (c : CastFields) (payload : List ℕ) → CanBeWritten (CastFrame (with_load c (One payload))) → IsBytes payload → IsBytes (text_of (CastFrame (with_load c (One payload))))
+payload_is_bytes : (payload : List ℕ) → length payload ≤ LONGEST_PAYLOAD → IsBytes payload → IsBytes (payload_text payload)
+payload_is_bytes payload short carried = both_are_bytes (spelling (length payload)) payload (spelling_is_bytes (length payload) (omega (arith, short))) carried
+
+payloads_are_bytes : (payloads : List (List ℕ)) → length (concat payloads) ≤ LONGEST_PAYLOAD → IsBytes (concat payloads) → IsBytes (flat_map payload_text payloads)
+payloads_are_bytes [] short carried = no_bytes
+payloads_are_bytes (payload ∷ payloads) short carried =
+    let both : length (payload ++ concat payloads) ≡ length payload + length (concat payloads) = length-append payload (concat payloads) in
+    let whole : length (payload ++ concat payloads) ≤ LONGEST_PAYLOAD = short in
+    both_are_bytes (payload_text payload) (flat_map payload_text payloads)
+    (payload_is_bytes payload (omega (arith, both, whole)) (front_is_bytes payload (concat payloads) carried))
+    (payloads_are_bytes payloads (omega (arith, both, whole)) (back_is_bytes payload (concat payloads) carried))
+
+load_is_written_in_bytes : (first : ℕ) (load : Load) → KeepsLoadRules first load → IsLoad load → IsBytes (load_bytes load) → IsBytes (load_text load)
+load_is_written_in_bytes first (One payload) rules short carried = payload_is_bytes payload short carried
+load_is_written_in_bytes first (Many payloads) rules short carried =
+    let few = rules.few in
+    both_are_bytes (spelling (length payloads)) (flat_map payload_text payloads) (spelling_is_bytes (length payloads) (omega (arith, few))) (payloads_are_bytes payloads short carried)
+
+kind_is_a_byte : (load : Load) → kind_of load < 256
+kind_is_a_byte (One payload) = omega arith
+kind_is_a_byte (Many payloads) = omega arith
+
+pub cast_is_bytes : (c : CastFields) (load : Load) → CanBeWritten (CastFrame (with_load c load)) → IsBytes (load_bytes load) → IsBytes (text_of (CastFrame (with_load c load)))
 unfolding text_of
-cast_is_bytes c payload can carried =
-    one_more_byte cast_kind (flat_map spelling (cast_numbers c) ++ payload_text payload) (omega arith)
-    (both_are_bytes (flat_map spelling (cast_numbers c)) (payload_text payload) (numbers_are_bytes (cast_numbers c) can.2)
-    (both_are_bytes (spelling (length payload)) payload (spelling_is_bytes (length payload) (omega (arith, can.1))) carried))
+cast_is_bytes c load can carried =
+    one_more_byte (kind_of load) (flat_map spelling (cast_numbers c) ++ load_text load) (kind_is_a_byte load)
+    (both_are_bytes (flat_map spelling (cast_numbers c)) (load_text load) (numbers_are_bytes (cast_numbers c) can.2) (load_is_written_in_bytes c.number load can.0.load can.1 carried))
 
 pub status_is_bytes : (s : StatusFields) → CanBeWritten (StatusFrame s) → IsBytes (text_of (StatusFrame s))
 unfolding text_of
@@ -74,21 +101,19 @@ status_is_bytes s can = one_more_byte status_kind (flat_map spelling (status_num
 abbrev Tells : Call → EntryFields → Type 0
 Tells call e = (call_of e ≡ call) × (OfBytes call → IsBytes (bytes_in e))
 
+cast_told : (seat : Identity) (entries : List EntryFields) (load : Load) (e : EntryFields) (r : Result CastFields CastFault) → AreFactsOf seat (facts_of entries) → cast_answer seat (room_for_one entries) entries load ≡ r → cast_entry r ≡ Some e → Tells (ToCast load) e
+cast_told seat entries load e (Ok c) are answer h =
+    let a = answered seat (room_for_one entries) entries load c answer in
+    let next = next_cast seat (facts_of entries) load in
+    let can = fitting_can seat (facts_of entries) load are.group are.member are.facts_are a.fits a.window in
+    let is : CastEntry (text_of (CastFrame next)) ≡ e = ap (λ (x : CastFields). CastEntry (text_of (CastFrame x))) (sym a.next) ∙ cc in (
+      ap call_of (sym is) ∙ ap (λ (r : Result FrameFields FrameFault). ToCast (load_said r)) (cast_read next can),
+      (λ bytes. subst (λ (x : EntryFields). IsBytes (bytes_in x)) is (cast_is_bytes next load can bytes)),
+    )
+cast_told seat entries load e (Err fault) are answer h = absurd cc
+
 cast_reported : (seat : Identity) (entries : List EntryFields) (load : Load) (e : EntryFields) → AreFactsOf seat (facts_of entries) → cast_entry (cast_answer seat (room_for_one entries) entries load) ≡ Some e → Tells (ToCast load) e
-unfolding cast_answer
-cast_reported seat entries (Many payloads) e are = λ h. absurd cc
-cast_reported seat entries (One payload) e are =
-    let c = next_cast seat (facts_of entries) (One payload) in
-    let P : Result CastFields CastFault → Type 0 = λ r. cast_entry r ≡ Some e → Tells (ToCast (One payload)) e in
-    cond_both (ltb LONGEST_PAYLOAD (length payload)) _ _ P (λ _ h. absurd cc)
-    (λ short. cond_both (is_too_many seat (facts_of entries) 1) _ _ P (λ _ h. absurd cc)
-    (λ free. cond_both (is_full (room_for_one entries) entries) _ _ P (λ _ h. absurd cc)
-    (λ _ h.
-    let is : CastEntry (text_of (CastFrame c)) ≡ e = cc in
-    let can = cast_can seat (facts_of entries) (One payload) are.group are.member are.facts_are tt (numbers_left seat (facts_of entries) 1 free) (ltb-false LONGEST_PAYLOAD (length payload) short) in (
-      ap call_of (sym is) ∙ ap (λ (r : Result FrameFields FrameFault). ToCast (load_said r)) (cast_read c tt can),
-      (λ bytes. subst (λ (x : EntryFields). IsBytes (bytes_in x)) is (cast_is_bytes c payload can bytes)),
-    ))))
+cast_reported seat entries load e are h = cast_told seat entries load e (cast_answer seat (room_for_one entries) entries load) are refl h
 
 arrival_reported : (seat : Identity) (entries : List EntryFields) (bytes : List ℕ) (e : EntryFields) (r : Result FrameFields FrameFault) → arrive_entry bytes (answer_to seat (room_for_one entries) entries r) ≡ Some e → Tells (ToTake bytes) e
 arrival_reported seat entries bytes e (Ok frame) h =
@@ -119,21 +144,24 @@ entry_tells_its_call seat limit entries call e most legal h =
 
 -- ---- what is read is bytes
 
-back_is_bytes : (front back : List ℕ) → IsBytes (front ++ back) → IsBytes back
-back_is_bytes front back bytes i = subst (λ (n : ℕ). n < 256) (get_or-append-add front back i 0) (bytes (length front + i))
+payloads_in_bytes : (payloads : List (List ℕ)) → IsBytes (flat_map payload_text payloads) → IsBytes (concat payloads)
+payloads_in_bytes [] bytes = no_bytes
+payloads_in_bytes (payload ∷ payloads) bytes =
+    both_are_bytes payload (concat payloads) (back_is_bytes (spelling (length payload)) payload (front_is_bytes (payload_text payload) (flat_map payload_text payloads) bytes))
+    (payloads_in_bytes payloads (back_is_bytes (payload_text payload) (flat_map payload_text payloads) bytes))
 
-text_is_bytes : (c : CastFields) (load : Load) → IsOne load → IsBytes (text_of (CastFrame (with_load c load))) → IsBytes (load_bytes load)
+load_in_bytes : (load : Load) → IsBytes (load_text load) → IsBytes (load_bytes load)
+load_in_bytes (One payload) bytes = back_is_bytes (spelling (length payload)) payload bytes
+load_in_bytes (Many payloads) bytes = payloads_in_bytes payloads (back_is_bytes (spelling (length payloads)) (flat_map payload_text payloads) bytes)
+
+text_is_bytes : (c : CastFields) → IsBytes (text_of (CastFrame c)) → IsBytes (load_bytes c.load)
 unfolding text_of
-text_is_bytes c (One payload) one bytes =
-    let front = flat_map spelling (cast_numbers c) in
-    let behind : front ++ payload_text payload ≡ (front ++ spelling (length payload)) ++ payload = sym (append_assoc front (spelling (length payload)) payload) in
-    back_is_bytes (cast_kind ∷ front ++ spelling (length payload)) payload (subst (λ (text : List ℕ). IsBytes (cast_kind ∷ text)) behind bytes)
-text_is_bytes c (Many payloads) one bytes = absurd one
+text_is_bytes c bytes = load_in_bytes c.load (back_is_bytes (kind_of c.load ∷ flat_map spelling (cast_numbers c)) (load_text c.load) bytes)
 
 load_is_bytes : (frame : List ℕ) (c : CastFields) → IsBytes frame → frame_read frame ≡ Ok (CastFrame c) → IsBytes (load_bytes c.load)
 load_is_bytes frame c bytes read =
     let text : frame ≡ text_of (CastFrame c) = one_text (CastFrame c) frame ((reading_is_exact.text frame (CastFrame c) bytes).0 (read_whole frame (CastFrame c) read)) in
-    text_is_bytes c c.load (read_casts_are_single frame c read) (subst IsBytes text bytes)
+    text_is_bytes c (subst IsBytes text bytes)
 
 said_is_bytes : (frame : List ℕ) (r : Result FrameFields FrameFault) → IsBytes frame → frame_read frame ≡ r → IsBytes (load_bytes (load_said r))
 said_is_bytes frame (Ok (CastFrame c)) bytes read = load_is_bytes frame c bytes read

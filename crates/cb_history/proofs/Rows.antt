@@ -1,12 +1,12 @@
 -- The worked examples of one member.
-use Rattle.std.proofs.Common.{◌≡◌, ℕ, true, false, List, [], ◌∷◌, map, replicate, Option, Some, None, Result, Ok, Err, refl, arith}
+use Rattle.std.proofs.Common.{◌≡◌, ℕ, true, false, List, [], ◌∷◌, ◌++◌, length, map, replicate, Option, Some, None, Result, Ok, Err, refl, arith}
 use Rattle.cb_varint.specs.Reading.{number_at, spelling}
 use Rattle.cb_frames.specs.declared.fault.FrameFault.TheVariants as faults
-use Rattle.cb_frames.specs.Fields.{One, Many, CastFields, CastFrame, messages_of, first_number, last_number}
+use Rattle.cb_frames.specs.Fields.{Load, One, Many, CastFields, CastFrame, messages_of, first_number, last_number}
 use Rattle.cb_frames.specs.Text.{text_of}
-use Rattle.cb_frames.specs.Reading.{frame_at, head_at, cast_at, status_at, request_at, pairs_at, pair_at}
+use Rattle.cb_frames.specs.Reading.{frame_at, head_at, cast_at, burst_at, payloads_at, next_payload_at, status_at, request_at, pairs_at, pair_at}
 use Rattle.cb_delay.specs.declared.message.Message.{Message}
-use Rattle.cb_history.specs.CastFault.{CastFault, BurstTooLong, PayloadTooLong, WindowFull, HistoryFull}
+use Rattle.cb_history.specs.CastFault.{CastFault, EmptyBurst, BurstTooLong, PayloadTooLong, WindowFull, HistoryFull}
 use Rattle.cb_history.specs.declared.answer.ArriveRefusal.TheVariants as arrivals
 use Rattle.cb_history.specs.declared.answer.TickRefusal.TheVariants as ticks
 use Rattle.cb_diffs.specs.Expansion.{expanded_time}
@@ -14,7 +14,7 @@ use Rattle.cb_history.specs.Group.{Identity, AreParameters}
 use Rattle.cb_history.specs.Facts.{EntryFields, facts_of, casts_in}
 use Rattle.cb_history.specs.View.{view, drained, time_of, expanded_in, message_in}
 use Rattle.cb_history.specs.Known.{missing, ranges_of, acknowledged_of, acknowledged, stable}
-use Rattle.cb_history.specs.Answers.{is_too_many, cast_answer, arrive_answer, tick_answer, window, Accepted, Repeat}
+use Rattle.cb_history.specs.Answers.{is_too_many, next_cast, cast_answer, burst_done, arrive_answer, tick_answer, window, Accepted, Repeat}
 use Rattle.cb_history.specs.Singles.{singles_from}
 use Rattle.cb_history.specs.Legal.{Call, ToCast, ToTake, ToTick, history_after}
 
@@ -225,18 +225,156 @@ an_empty_payload_is_cast : bytes_of (cast_answer (at 0) 100 [] (One [])) ≡ Som
 unfolding cast_answer arrive_answer tick_answer view drained frame_at head_at cast_at status_at request_at pairs_at pair_at number_at text_of spelling messages_of first_number last_number
 an_empty_payload_is_cast = refl
 
--- what begins as a burst is of no kind, whatever follows, and no burst is cast
-a_burst_is_of_no_kind : arrive_answer (at 1) 100 [] (33 ∷ 7 ∷ 0 ∷ 1 ∷ 0 ∷ 2 ∷ 1 ∷ 104 ∷ 1 ∷ 105 ∷ []) ≡ Err (arrivals.Malformed faults.UnknownKind)
-unfolding arrive_answer
-a_burst_is_of_no_kind = refl
+-- ---- bursts
 
-nor_is_what_is_cut_short : arrive_answer (at 1) 100 [] (33 ∷ []) ≡ Err (arrivals.Malformed faults.UnknownKind)
-unfolding arrive_answer
-nor_is_what_is_cut_short = refl
+-- the frames of "hi" and "yo" by member 0, and of "a" and "b" by member 1 that had delivered them
+abbrev two_greetings : Load
+two_greetings = Many ((104 ∷ 105 ∷ []) ∷ (121 ∷ 111 ∷ []) ∷ [])
 
-no_burst_is_cast : cast_answer (at 0) 100 [] (Many ((104 ∷ []) ∷ (105 ∷ []) ∷ [])) ≡ Err BurstTooLong
-unfolding cast_answer
-no_burst_is_cast = refl
+abbrev greetings : List ℕ
+greetings = 33 ∷ 7 ∷ 0 ∷ 1 ∷ 0 ∷ 2 ∷ 2 ∷ 104 ∷ 105 ∷ 2 ∷ 121 ∷ 111 ∷ []
+
+abbrev two_letters : Load
+two_letters = Many ((97 ∷ []) ∷ (98 ∷ []) ∷ [])
+
+abbrev letters : List ℕ
+letters = 33 ∷ 7 ∷ 1 ∷ 1 ∷ 1 ∷ 0 ∷ 2 ∷ 2 ∷ 1 ∷ 97 ∷ 1 ∷ 98 ∷ []
+
+abbrev a_letter : ℕ → ℕ → Message
+a_letter number letter = message 1 number (2 ∷ number ∷ 0 ∷ []) (letter ∷ [])
+
+a_burst_is_one_frame : bytes_of (cast_answer (at 0) 100 [] two_greetings) ≡ Some greetings
+unfolding cast_answer arrive_answer tick_answer view drained frame_at head_at cast_at burst_at payloads_at next_payload_at status_at request_at pairs_at pair_at number_at text_of spelling messages_of first_number last_number
+a_burst_is_one_frame = refl
+
+it_says_its_first_message : burst_done (at 0) [] (next_cast (at 0) [] two_greetings) ≡ record { first = record { sender = 0; number = 1 }; count = 2; time = 1 ∷ 0 ∷ 0 ∷ []; out = greetings }
+unfolding cast_answer arrive_answer tick_answer view drained frame_at head_at cast_at burst_at payloads_at next_payload_at status_at request_at pairs_at pair_at number_at text_of spelling messages_of first_number last_number
+it_says_its_first_message = refl
+
+another_says_what_is_new : bytes_of (cast_answer (at 1) 100 (after (at 1) (ToTake greetings ∷ [])) two_letters) ≡ Some letters
+unfolding cast_answer arrive_answer tick_answer view drained frame_at head_at cast_at burst_at payloads_at next_payload_at status_at request_at pairs_at pair_at number_at text_of spelling messages_of first_number last_number
+another_says_what_is_new = refl
+
+the_cast_behind_it_has_the_next_number : bytes_of (cast_answer (at 1) 100 (after (at 1) (ToTake greetings ∷ ToCast two_letters ∷ [])) (One (99 ∷ []))) ≡ Some (17 ∷ 7 ∷ 1 ∷ 3 ∷ 0 ∷ 1 ∷ 99 ∷ [])
+unfolding cast_answer arrive_answer tick_answer view drained frame_at head_at cast_at burst_at payloads_at next_payload_at status_at request_at pairs_at pair_at number_at text_of spelling messages_of first_number last_number
+the_cast_behind_it_has_the_next_number = refl
+
+whose_time_counts_all : time_of 3 (facts_of (after (at 1) (ToTake greetings ∷ ToCast two_letters ∷ ToCast (One (99 ∷ [])) ∷ []))) ≡ 2 ∷ 3 ∷ 0 ∷ []
+unfolding cast_answer arrive_answer tick_answer view drained frame_at head_at cast_at burst_at payloads_at next_payload_at status_at request_at pairs_at pair_at number_at text_of spelling messages_of first_number last_number
+whose_time_counts_all = refl
+
+a_burst_that_overtakes_waits : arrive_answer (at 2) 100 [] letters ≡ Ok (Accepted [] true [])
+unfolding cast_answer arrive_answer tick_answer view drained frame_at head_at cast_at burst_at payloads_at next_payload_at status_at request_at pairs_at pair_at number_at text_of spelling messages_of first_number last_number
+a_burst_that_overtakes_waits = refl
+
+and_all_is_delivered_one_by_one : arrive_answer (at 2) 100 (after (at 2) (ToTake letters ∷ [])) greetings ≡ Ok (Accepted (the_hi ∷ message 0 2 (2 ∷ 0 ∷ 0 ∷ []) (0x79 ∷ 0x6f ∷ []) ∷ a_letter 1 97 ∷ a_letter 2 98 ∷ []) true [])
+unfolding cast_answer arrive_answer tick_answer view drained frame_at head_at cast_at burst_at payloads_at next_payload_at status_at request_at pairs_at pair_at number_at text_of spelling messages_of first_number last_number
+and_all_is_delivered_one_by_one = refl
+
+its_history_has_two_entries : length (after (at 2) (ToTake letters ∷ ToTake greetings ∷ [])) ≡ 2
+unfolding cast_answer arrive_answer tick_answer view drained frame_at head_at cast_at burst_at payloads_at next_payload_at status_at request_at pairs_at pair_at number_at text_of spelling messages_of first_number last_number
+its_history_has_two_entries = refl
+
+its_time_counts_four_messages : time_of 3 (facts_of (after (at 2) (ToTake letters ∷ ToTake greetings ∷ []))) ≡ 2 ∷ 2 ∷ 0 ∷ []
+unfolding cast_answer arrive_answer tick_answer view drained frame_at head_at cast_at burst_at payloads_at next_payload_at status_at request_at pairs_at pair_at number_at text_of spelling messages_of first_number last_number
+its_time_counts_four_messages = refl
+
+the_first_burst_is_a_repeat : arrive_answer (at 2) 100 (after (at 2) (ToTake letters ∷ ToTake greetings ∷ [])) greetings ≡ Ok Repeat
+unfolding cast_answer arrive_answer tick_answer view drained frame_at head_at cast_at burst_at payloads_at next_payload_at status_at request_at pairs_at pair_at number_at text_of spelling messages_of first_number last_number
+the_first_burst_is_a_repeat = refl
+
+and_so_is_the_other : arrive_answer (at 2) 100 (after (at 2) (ToTake letters ∷ ToTake greetings ∷ [])) letters ≡ Ok Repeat
+unfolding cast_answer arrive_answer tick_answer view drained frame_at head_at cast_at burst_at payloads_at next_payload_at status_at request_at pairs_at pair_at number_at text_of spelling messages_of first_number last_number
+and_so_is_the_other = refl
+
+-- which bursts are cast, where the window is 4
+no_burst_is_empty : cast_answer (at 0) 100 [] (Many []) ≡ Err EmptyBurst
+unfolding cast_answer arrive_answer tick_answer view drained frame_at head_at cast_at burst_at payloads_at next_payload_at status_at request_at pairs_at pair_at number_at text_of spelling messages_of first_number last_number
+no_burst_is_empty = refl
+
+nor_has_it_33_messages : cast_answer (at 0) 100 [] (Many (replicate 33 [])) ≡ Err BurstTooLong
+unfolding cast_answer arrive_answer tick_answer view drained frame_at head_at cast_at burst_at payloads_at next_payload_at status_at request_at pairs_at pair_at number_at text_of spelling messages_of first_number last_number
+nor_has_it_33_messages = refl
+
+nor_has_it_more_bytes_than_one_payload : cast_answer (at 0) 100 [] (Many (replicate 1000 120 ∷ replicate 25 120 ∷ [])) ≡ Err PayloadTooLong
+unfolding cast_answer arrive_answer tick_answer view drained frame_at head_at cast_at burst_at payloads_at next_payload_at status_at request_at pairs_at pair_at number_at text_of spelling messages_of first_number last_number
+nor_has_it_more_bytes_than_one_payload = refl
+
+but_it_may_have_as_many : bytes_of (cast_answer (at 0) 100 [] (Many (replicate 1000 120 ∷ replicate 24 120 ∷ []))) ≡ Some (33 ∷ 7 ∷ 0 ∷ 1 ∷ 0 ∷ 2 ∷ 232 ∷ 7 ∷ replicate 1000 120 ++ 24 ∷ replicate 24 120)
+unfolding cast_answer arrive_answer tick_answer view drained frame_at head_at cast_at burst_at payloads_at next_payload_at status_at request_at pairs_at pair_at number_at text_of spelling messages_of first_number last_number
+but_it_may_have_as_many = refl
+
+five_are_more_than_the_window : cast_answer (at 0) 100 [] (Many (replicate 5 [])) ≡ Err WindowFull
+unfolding cast_answer arrive_answer tick_answer view drained frame_at head_at cast_at burst_at payloads_at next_payload_at status_at request_at pairs_at pair_at number_at text_of spelling messages_of first_number last_number
+five_are_more_than_the_window = refl
+
+four_are_not : bytes_of (cast_answer (at 0) 100 [] (Many (replicate 4 []))) ≡ Some (33 ∷ 7 ∷ 0 ∷ 1 ∷ 0 ∷ 4 ∷ 0 ∷ 0 ∷ 0 ∷ 0 ∷ [])
+unfolding cast_answer arrive_answer tick_answer view drained frame_at head_at cast_at burst_at payloads_at next_payload_at status_at request_at pairs_at pair_at number_at text_of spelling messages_of first_number last_number
+four_are_not = refl
+
+no_more_than_the_history : cast_answer (at 0) 1 (after (at 0) (ToCast (One []) ∷ [])) two_letters ≡ Err HistoryFull
+unfolding cast_answer arrive_answer tick_answer view drained frame_at head_at cast_at burst_at payloads_at next_payload_at status_at request_at pairs_at pair_at number_at text_of spelling messages_of first_number last_number
+no_more_than_the_history = refl
+
+-- a burst that is too far, and one of which one message came before
+a_burst_beyond_the_window : arrive_answer (at 2) 100 [] (33 ∷ 7 ∷ 0 ∷ 4 ∷ 0 ∷ 2 ∷ 0 ∷ 0 ∷ []) ≡ Err arrivals.TooFar
+unfolding cast_answer arrive_answer tick_answer view drained frame_at head_at cast_at burst_at payloads_at next_payload_at status_at request_at pairs_at pair_at number_at text_of spelling messages_of first_number last_number
+a_burst_beyond_the_window = refl
+
+the_second_of_two_comes_alone : arrive_answer (at 2) 100 [] (17 ∷ 7 ∷ 0 ∷ 2 ∷ 0 ∷ 0 ∷ []) ≡ Ok (Accepted [] true [])
+unfolding cast_answer arrive_answer tick_answer view drained frame_at head_at cast_at burst_at payloads_at next_payload_at status_at request_at pairs_at pair_at number_at text_of spelling messages_of first_number last_number
+the_second_of_two_comes_alone = refl
+
+then_no_burst_has_both : arrive_answer (at 2) 100 (after (at 2) (ToTake (17 ∷ 7 ∷ 0 ∷ 2 ∷ 0 ∷ 0 ∷ []) ∷ [])) (33 ∷ 7 ∷ 0 ∷ 1 ∷ 0 ∷ 2 ∷ 0 ∷ 0 ∷ []) ≡ Err arrivals.Overlap
+unfolding cast_answer arrive_answer tick_answer view drained frame_at head_at cast_at burst_at payloads_at next_payload_at status_at request_at pairs_at pair_at number_at text_of spelling messages_of first_number last_number
+then_no_burst_has_both = refl
+
+which_leaves_the_member_as_it_was : after (at 2) (ToTake (17 ∷ 7 ∷ 0 ∷ 2 ∷ 0 ∷ 0 ∷ []) ∷ ToTake (33 ∷ 7 ∷ 0 ∷ 1 ∷ 0 ∷ 2 ∷ 0 ∷ 0 ∷ []) ∷ []) ≡ after (at 2) (ToTake (17 ∷ 7 ∷ 0 ∷ 2 ∷ 0 ∷ 0 ∷ []) ∷ [])
+unfolding cast_answer arrive_answer tick_answer view drained frame_at head_at cast_at burst_at payloads_at next_payload_at status_at request_at pairs_at pair_at number_at text_of spelling messages_of first_number last_number
+which_leaves_the_member_as_it_was = refl
+
+and_the_first_delivers_both : arrive_answer (at 2) 100 (after (at 2) (ToTake (17 ∷ 7 ∷ 0 ∷ 2 ∷ 0 ∷ 0 ∷ []) ∷ [])) (17 ∷ 7 ∷ 0 ∷ 1 ∷ 0 ∷ 0 ∷ []) ≡ Ok (Accepted (message 0 1 (1 ∷ 0 ∷ 0 ∷ []) [] ∷ message 0 2 (2 ∷ 0 ∷ 0 ∷ []) [] ∷ []) true [])
+unfolding cast_answer arrive_answer tick_answer view drained frame_at head_at cast_at burst_at payloads_at next_payload_at status_at request_at pairs_at pair_at number_at text_of spelling messages_of first_number last_number
+and_the_first_delivers_both = refl
+
+-- of a burst of its own a member did not make the second message
+more_messages_than_it_cast : arrive_answer (at 0) 100 (after (at 0) (ToCast (One (104 ∷ 105 ∷ [])) ∷ [])) (33 ∷ 7 ∷ 0 ∷ 1 ∷ 0 ∷ 2 ∷ 2 ∷ 104 ∷ 105 ∷ 2 ∷ 121 ∷ 111 ∷ []) ≡ Err arrivals.Impossible
+unfolding cast_answer arrive_answer tick_answer view drained frame_at head_at cast_at burst_at payloads_at next_payload_at status_at request_at pairs_at pair_at number_at text_of spelling messages_of first_number last_number
+more_messages_than_it_cast = refl
+
+-- member 0 keeps its burst until all of it is stable, and gives it whole for any of its messages
+the_whole_burst_is_sent_again : arrive_answer (at 0) 100 (after (at 0) (ToCast two_greetings ∷ [])) (19 ∷ 7 ∷ 2 ∷ 0 ∷ 1 ∷ 1 ∷ 0 ∷ []) ≡ Ok (Accepted [] false (record { to = Some 2; bytes = greetings } ∷ []))
+unfolding cast_answer arrive_answer tick_answer view drained frame_at head_at cast_at burst_at payloads_at next_payload_at status_at request_at pairs_at pair_at number_at text_of spelling messages_of first_number last_number
+the_whole_burst_is_sent_again = refl
+
+-- what the others say who delivered its first message
+abbrev half_stable : List EntryFields
+half_stable = after (at 0) (ToCast two_greetings ∷ ToTake (18 ∷ 7 ∷ 1 ∷ 1 ∷ 0 ∷ 1 ∷ []) ∷ ToTake (18 ∷ 7 ∷ 2 ∷ 1 ∷ 0 ∷ 1 ∷ []) ∷ [])
+
+one_of_two_is_stable : stable (at 0) (facts_of half_stable) ≡ 1
+unfolding cast_answer arrive_answer tick_answer view drained frame_at head_at cast_at burst_at payloads_at next_payload_at status_at request_at pairs_at pair_at number_at text_of spelling messages_of first_number last_number
+one_of_two_is_stable = refl
+
+and_the_burst_is_still_sent : arrive_answer (at 0) 100 half_stable (19 ∷ 7 ∷ 2 ∷ 0 ∷ 1 ∷ 1 ∷ 0 ∷ []) ≡ Ok (Accepted [] false (record { to = Some 2; bytes = greetings } ∷ []))
+unfolding cast_answer arrive_answer tick_answer view drained frame_at head_at cast_at burst_at payloads_at next_payload_at status_at request_at pairs_at pair_at number_at text_of spelling messages_of first_number last_number
+and_the_burst_is_still_sent = refl
+
+there_is_room_for_three : bytes_of (cast_answer (at 0) 100 half_stable (Many (replicate 3 []))) ≡ Some (33 ∷ 7 ∷ 0 ∷ 3 ∷ 0 ∷ 3 ∷ 0 ∷ 0 ∷ 0 ∷ [])
+unfolding cast_answer arrive_answer tick_answer view drained frame_at head_at cast_at burst_at payloads_at next_payload_at status_at request_at pairs_at pair_at number_at text_of spelling messages_of first_number last_number
+there_is_room_for_three = refl
+
+and_not_for_four : cast_answer (at 0) 100 half_stable (Many (replicate 4 [])) ≡ Err WindowFull
+unfolding cast_answer arrive_answer tick_answer view drained frame_at head_at cast_at burst_at payloads_at next_payload_at status_at request_at pairs_at pair_at number_at text_of spelling messages_of first_number last_number
+and_not_for_four = refl
+
+-- bytes that begin as a burst and are none
+an_empty_burst_is_no_frame : arrive_answer (at 1) 100 [] (33 ∷ 7 ∷ 0 ∷ 1 ∷ 0 ∷ 0 ∷ []) ≡ Err (arrivals.Malformed faults.EmptyBurst)
+unfolding cast_answer arrive_answer tick_answer view drained frame_at head_at cast_at burst_at payloads_at next_payload_at status_at request_at pairs_at pair_at number_at text_of spelling messages_of first_number last_number
+an_empty_burst_is_no_frame = refl
+
+nor_is_one_cut_short : arrive_answer (at 1) 100 [] (33 ∷ []) ≡ Err (arrivals.Malformed faults.Short)
+unfolding cast_answer arrive_answer tick_answer view drained frame_at head_at cast_at burst_at payloads_at next_payload_at status_at request_at pairs_at pair_at number_at text_of spelling messages_of first_number last_number
+nor_is_one_cut_short = refl
 
 -- two forged casts that say more of member 0 than there can be
 a_forged_cast_is_kept : arrive_answer (at 2) 100 [] (17 ∷ 7 ∷ 1 ∷ 1 ∷ 1 ∷ 0 ∷ 255 ∷ 255 ∷ 255 ∷ 255 ∷ 15 ∷ 0 ∷ []) ≡ Ok (Accepted [] true [])

@@ -1,5 +1,5 @@
 -- The times of messages, and the views that they were cast in.
-use Rattle.std.proofs.Common.{◌≡◌, ◌≢◌, ℕ, zero, suc, ◌+◌, ◌-◌, ◌<◌, ◌≤◌, Bool, true, false, ◌||◌, cond, eqb, leb, List, [], ◌∷◌, ◌++◌, length, map, refl, sym, ap, subst, ◌∙◌, append_assoc, arith, inl, inr}
+use Rattle.std.proofs.Common.{◌≡◌, ◌≢◌, ℕ, zero, suc, ◌+◌, ◌-◌, ◌<◌, ◌≤◌, Bool, true, false, ◌||◌, cond, eqb, leb, List, [], ◌∷◌, ◌++◌, length, map, take, refl, sym, ap, subst, ◌∙◌, append_assoc, arith, inl, inr}
 use Rattle.std.specs.List.{list_any, list_all, range_with_len, sum_by}
 use Rattle.std.proofs.lemmas.Bool.{cases_eq, eq-eqb, ne_eqb, eqb-true, leb-true}
 use Rattle.std.proofs.lemmas.List.{append-nil, length-append}
@@ -7,7 +7,7 @@ use Rattle.std.proofs.lemmas.List.Sums.{sum_by_push}
 use Rattle.std.proofs.lemmas.List.FromFn.{length-map-range_with_len, get_or-map-range_with_len}
 use Rattle.cb_times.specs.Order.{field}
 use Rattle.cb_frames.specs.Fields.{IsSome, CastFields, Carried, messages_of, growth_in, first_number, last_number}
-use Rattle.cb_frames.proofs.Carried.{carried_up_to_the_last, last_is_first, HasNumber, first_is_carried}
+use Rattle.cb_frames.proofs.Carried.{carried_up_to_the_last, HasNumber, first_is_carried, each_number_is_carried}
 use Rattle.cb_diffs.specs.Expansion.{growth_of, expanded_field, CarrySome}
 use Rattle.cb_history.specs.Group.{Identity}
 use Rattle.cb_history.specs.Facts.{Fact, OwnCast, CastReceived, StatusReceived, OwnStatus, cast_in, casts_in, messages_in, is_there}
@@ -18,11 +18,11 @@ use Rattle.cb_history.specs.NameLaws.{NamesDiffer, NumberedFrom}
 use Rattle.cb_history.specs.TimeLaws.{TimesStay, OwnCastsTellTheView}
 use Rattle.cb_history.proofs.Views.{IsIn, casts_in-append, or_right}
 use Rattle.cb_history.proofs.Loads.{some_at}
-use Rattle.cb_history.proofs.Lists.{messages_in-push, in_front, in_back, names_apart, in_is_among, among_is, count-append, count_own, count_of_messages, count_of_others, among_by_order, order_bound}
+use Rattle.cb_history.proofs.Lists.{messages_in-push, in_front, in_back, names_apart, in_is_among, among_is, count-append, count_own, count_of_messages, count_of_others, count_of_first, count_off_first, among_by_order, order_bound}
 use Rattle.cb_history.proofs.Walks.{view_grows, view_own, own_casts-own, own_casts-other, IsNotOwn}
 use Rattle.cb_history.proofs.Names.{Stands, StandsAt, all_stand, received_is_others}
 use Rattle.cb_history.proofs.Counts.{count_at_most_last}
-use Rattle.cb_history.proofs.Prefixes.{prefix_of_facts_is_legal, last_fact_is_a_step}
+use Rattle.cb_history.proofs.Prefixes.{prefix_of_facts_is_legal}
 use Rattle.cb_history.proofs.Rising.{expanded_more}
 use Rattle.cb_diffs.proofs.Sums.{growth_of-other, growth_of-own}
 use Rattle.cb_diffs.proofs.Returning.{growth_in-differences}
@@ -284,8 +284,8 @@ own_is_expanded seat facts c m s there =
     (subst (IsIn m) (sym (view_own seat.group.size facts c)) (in_back m (view seat.group.size facts) (messages_of c) there))
 
 pub own_casts_tell_the_view : OwnCastsTellTheView
-own_casts_tell_the_view seat facts more c are =
-    same_over_range (expanded_field (casts_in (facts ++ OwnCast c ∷ more)) seat.me (first_number c)) (count (view seat.group.size (facts ++ OwnCast c ∷ []))) 0 seat.group.size
+own_casts_tell_the_view seat facts more c j are below =
+    same_over_range (expanded_field (casts_in (facts ++ OwnCast c ∷ more)) seat.me (first_number c + j)) (count (view seat.group.size facts ++ take (j + 1) (messages_of c))) 0 seat.group.size
     (λ k lt. stay k ∙ now_tells k (omega (arith, lt)))
   where
     regrouped : (facts ++ OwnCast c ∷ []) ++ more ≡ facts ++ OwnCast c ∷ more
@@ -300,28 +300,35 @@ own_casts_tell_the_view seat facts more c are =
     s : StandsAt seat (facts ++ OwnCast c ∷ [])
     s = all_stand seat (facts ++ OwnCast c ∷ []) now.member now.facts_are
 
-    number : (c.sender ≡ seat.me) × (last_number c ≡ count (view seat.group.size (facts ++ OwnCast c ∷ [])) seat.me)
-    number = own_number seat facts c s
+    sender : c.sender ≡ seat.me
+    sender = (own_number seat facts c s).0
 
-    first : HasNumber (messages_of c) c.sender (first_number c)
-    first = first_is_carried c (own_carries_some seat facts c s)
+    some : IsSome c.load
+    some = own_carries_some seat facts c s
 
-    -- the time of the first message stays
-    stay : (k : ℕ) → expanded_field (casts_in (facts ++ OwnCast c ∷ more)) seat.me (first_number c) k ≡ expanded_field (casts_in (facts ++ OwnCast c ∷ [])) seat.me (first_number c) k
+    number : ℕ
+    number = first_number c + j
+
+    one : HasNumber (messages_of c) c.sender number
+    one = each_number_is_carried c number some (omega arith) (omega (arith, below, carried_up_to_the_last c some))
+
+    -- the time of the message stays
+    stay : (k : ℕ) → expanded_field (casts_in (facts ++ OwnCast c ∷ more)) seat.me number k ≡ expanded_field (casts_in (facts ++ OwnCast c ∷ [])) seat.me number k
     stay k =
-        subst (λ (i : ℕ). expanded_field (casts_in (facts ++ OwnCast c ∷ more)) i (first_number c) k ≡ expanded_field (casts_in (facts ++ OwnCast c ∷ [])) i (first_number c) k) (first.sender_is ∙ number.0)
-        (subst (λ (n : ℕ). expanded_field (casts_in (facts ++ OwnCast c ∷ more)) first.found.sender n k ≡ expanded_field (casts_in (facts ++ OwnCast c ∷ [])) first.found.sender n k) first.number_is
-        (subst (λ (fs : List Fact). expanded_field (casts_in fs) first.found.sender first.found.number k ≡ expanded_field (casts_in (facts ++ OwnCast c ∷ [])) first.found.sender first.found.number k) regrouped
-        (times_stay seat (facts ++ OwnCast c ∷ []) more first.found k all (own_is_expanded seat facts c first.found s first.there))))
+        subst (λ (i : ℕ). expanded_field (casts_in (facts ++ OwnCast c ∷ more)) i number k ≡ expanded_field (casts_in (facts ++ OwnCast c ∷ [])) i number k) (one.sender_is ∙ sender)
+        (subst (λ (n : ℕ). expanded_field (casts_in (facts ++ OwnCast c ∷ more)) one.found.sender n k ≡ expanded_field (casts_in (facts ++ OwnCast c ∷ [])) one.found.sender n k) one.number_is
+        (subst (λ (fs : List Fact). expanded_field (casts_in fs) one.found.sender one.found.number k ≡ expanded_field (casts_in (facts ++ OwnCast c ∷ [])) one.found.sender one.found.number k) regrouped
+        (times_stay seat (facts ++ OwnCast c ∷ []) more one.found k all (own_is_expanded seat facts c one.found s one.there))))
 
-    -- and is the view's with it, since no other message is cast with it
-    now_tells : (k : ℕ) → k < seat.group.size → expanded_field (casts_in (facts ++ OwnCast c ∷ [])) seat.me (first_number c) k ≡ count (view seat.group.size (facts ++ OwnCast c ∷ [])) k
+    now_tells : (k : ℕ) → k < seat.group.size → expanded_field (casts_in (facts ++ OwnCast c ∷ [])) seat.me number k ≡ count (view seat.group.size facts ++ take (j + 1) (messages_of c)) k
     now_tells k lt = elim (cases_eq k seat.me) [
       | inl e ↦
-          let own : expanded_field (casts_in (facts ++ OwnCast c ∷ [])) seat.me (first_number c) k ≡ first_number c = ap (expanded_field (casts_in (facts ++ OwnCast c ∷ [])) seat.me (first_number c)) e ∙ own_field (casts_in (facts ++ OwnCast c ∷ [])) seat.me (first_number c) in
-          let at : count (view seat.group.size (facts ++ OwnCast c ∷ [])) k ≡ count (view seat.group.size (facts ++ OwnCast c ∷ [])) seat.me = ap (count (view seat.group.size (facts ++ OwnCast c ∷ []))) e in
-          omega (arith, own, at, number.1, last_is_first c (last_fact_is_a_step seat facts (OwnCast c) now).one)
-      | inr ne ↦ tells seat facts c (first_number c) k now.member now.facts_are lt ne (omega arith) ∙ sym (own_cast_counts seat facts c k number.0 ne)
+          let own : expanded_field (casts_in (facts ++ OwnCast c ∷ [])) seat.me number k ≡ number = ap (expanded_field (casts_in (facts ++ OwnCast c ∷ [])) seat.me number) e ∙ own_field (casts_in (facts ++ OwnCast c ∷ [])) seat.me number in
+          let counted = count_of_first (view seat.group.size facts) c k (j + 1) (sender ∙ sym e) (omega (arith, below)) in
+          let at : count (view seat.group.size facts) k ≡ count (view seat.group.size facts) seat.me = ap (count (view seat.group.size facts)) e in
+          let is : number ≡ first_number c + j = refl in
+          omega (arith, own, counted, at, is, own_first seat facts c s)
+      | inr ne ↦ tells seat facts c number k now.member now.facts_are lt ne (omega arith) ∙ sym (count_off_first (view seat.group.size facts) c k (j + 1) (λ e. ne (sym e ∙ sender)))
     ]
 
 -- ---- the delay rule at one field

@@ -1,5 +1,5 @@
 -- The next own cast and the own status can be written.
-use Rattle.std.proofs.Common.{◌≡◌, ◌≢◌, ℕ, zero, suc, ◌+◌, ◌-◌, ◌<◌, ◌≤◌, ◌^◌, Bool, true, not, eqb, ltb, List, [], ◌∷◌, length, map, refl, arith}
+use Rattle.std.proofs.Common.{◌≡◌, ◌≢◌, ℕ, zero, suc, ◌+◌, ◌-◌, ◌<◌, ◌≤◌, ◌^◌, Bool, true, false, not, eqb, ltb, List, [], ◌∷◌, length, map, refl, arith}
 use Rattle.std.specs.List.{AllByRecursion, filter, range_with_len}
 use Rattle.std.proofs.lemmas.Bool.{cond_both, ltb-true, eqb-false}
 use Rattle.std.proofs.lemmas.List.FromFn.{length-map-range_with_len, get_or-map-range_with_len}
@@ -11,13 +11,15 @@ use Rattle.cb_frames.specs.Text.{pairs_from, RisesFrom, IsChange, IsValue, Keeps
 use Rattle.cb_frames.specs.Laws.{CanBeWritten}
 use Rattle.cb_frames.proofs.Carried.{carries_few}
 use Rattle.cb_diffs.specs.Differences.{change_of, is_reported, differences}
+use Rattle.cb_history.specs.Load.{FitsFrame}
 use Rattle.cb_history.specs.Group.{Identity, AreParameters}
 use Rattle.cb_history.specs.Facts.{Fact}
 use Rattle.cb_history.specs.View.{count, view, time_of}
-use Rattle.cb_history.specs.Answers.{delivered, next_cast, status_of, upto_last_cast}
+use Rattle.cb_history.specs.Answers.{delivered, is_too_many, next_cast, status_of, upto_last_cast}
 use Rattle.cb_history.specs.LegalFacts.{AreLegalFacts}
 use Rattle.cb_history.proofs.Views.{test_true, not_true}
-use Rattle.cb_history.proofs.Counts.{count_at_most_last}
+use Rattle.cb_history.proofs.Loads.{fitting_keeps_rules}
+use Rattle.cb_history.proofs.Counts.{count_at_most_last, numbers_left}
 
 -- ---- lists made from the fields in their order
 
@@ -108,6 +110,13 @@ cast_can seat facts load group member legal rules left short =
         ),
       ),
     )
+
+-- so the next cast of a load that fits, where its messages are not too many
+pub fitting_can : (seat : Identity) (facts : List Fact) (load : Load) → AreParameters seat.group → seat.me < seat.group.size → AreLegalFacts seat facts → FitsFrame load → is_too_many seat facts (length (payloads_of load)) ≡ false
+    → CanBeWritten (CastFrame (next_cast seat facts load))
+fitting_can seat facts load group member legal fits window =
+    let left = numbers_left seat facts (length (payloads_of load)) window in
+    cast_can seat facts load group member legal (fitting_keeps_rules (delivered seat facts seat.me + 1) load fits (omega (arith, left))) left fits.short
 
 -- ---- the own status
 

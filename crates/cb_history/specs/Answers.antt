@@ -1,10 +1,10 @@
 -- What a member answers, as a function of its history. Every quantity is that of the view or of what is known.
 use Rattle.std.specs.Prelude.{ℕ, ◌+◌, Bool, true, false, ◌&&◌, ◌||◌, not, ◌==◌, nat_le, nat_lt, List, [], ◌∷◌, ◌++◌, length, take, drop, map, filter, Option, Some, None, Result, Ok, Err, if◌then◌else◌}
 use Rattle.std.specs.List.{list_any, list_all, range_with_len, flat_map}
-use Rattle.cb_frames.specs.declared.frame.TheConstants.{LONGEST_PAYLOAD, MOST_FRAMES, MOST_RANGES, LAST_NUMBER}
+use Rattle.cb_frames.specs.declared.frame.TheConstants.{LONGEST_PAYLOAD, MOST_FRAMES, MOST_MESSAGES, MOST_RANGES, LAST_NUMBER}
 use Rattle.cb_frames.specs.declared.frame.Range.{Range}
 use Rattle.cb_frames.specs.declared.fault.FrameFault.{FrameFault}
-use Rattle.cb_frames.specs.Fields.{Load, One, Many, payloads_of, load_bytes, CastFields, StatusFields, FrameFields, CastFrame, StatusFrame, RequestFrame, messages_of, first_number, last_number}
+use Rattle.cb_frames.specs.Fields.{Load, payloads_of, load_bytes, CastFields, StatusFields, FrameFields, CastFrame, StatusFrame, RequestFrame, messages_of, first_number, last_number}
 use Rattle.cb_frames.specs.Text.{text_of}
 use Rattle.cb_history.specs.Read.{frame_read}
 use Rattle.cb_delay.specs.declared.message.Message.{Message}
@@ -16,8 +16,9 @@ use Rattle.cb_history.specs.declared.answer.ArriveRefusal.TheVariants as arrival
 use Rattle.cb_history.specs.declared.answer.TickRefusal.{TickRefusal}
 use Rattle.cb_history.specs.declared.answer.TickRefusal.TheVariants as ticks
 use Rattle.cb_history.specs.declared.answer.CastDone.{CastDone}
+use Rattle.cb_history.specs.declared.answer.BurstDone.{BurstDone}
 use Rattle.cb_history.specs.declared.answer.Outgoing.{Outgoing}
-use Rattle.cb_history.specs.CastFault.{CastFault, BurstTooLong, PayloadTooLong, WindowFull, HistoryFull}
+use Rattle.cb_history.specs.CastFault.{CastFault, EmptyBurst, BurstTooLong, PayloadTooLong, WindowFull, HistoryFull}
 use Rattle.cb_history.specs.Group.{Identity}
 use Rattle.cb_history.specs.Facts.{EntryFields, Fact, OwnCast, CastReceived, StatusReceived, OwnStatus, facts_of, casts_in, is_there}
 use Rattle.cb_history.specs.View.{count, view, counts, time_of, message_in}
@@ -63,15 +64,11 @@ is_too_many seat facts n =
 abbrev pub is_window_full : Identity → List Fact → Bool
 is_window_full seat facts = is_too_many seat facts 1
 
--- it is a burst
-abbrev pub is_burst : Load → Bool
-is_burst (One payload) = false
-is_burst (Many payloads) = true
-
--- The frame of the cast, or why there is none. Members cast loads of one payload, and find each burst too long.
+-- The frame of the cast, or why there is none.
 unfoldable pub cast_answer : Identity → ℕ → List EntryFields → Load → Result CastFields CastFault
 cast_answer seat limit entries load =
-    if is_burst load then Err BurstTooLong else
+    if length (payloads_of load) == 0 then Err EmptyBurst else
+    if nat_lt MOST_MESSAGES (length (payloads_of load)) then Err BurstTooLong else
     if nat_lt LONGEST_PAYLOAD (length (load_bytes load)) then Err PayloadTooLong else
     if is_too_many seat (facts_of entries) (length (payloads_of load)) then Err WindowFull else
     if is_full limit entries then Err HistoryFull else
@@ -81,6 +78,15 @@ cast_answer seat limit entries load =
 abbrev pub cast_done : Identity → List Fact → CastFields → CastDone
 cast_done seat facts c = record {
   name = record { sender = seat.me; number = first_number c };
+  time = counts seat.group.size (view seat.group.size facts ++ take 1 (messages_of c));
+  out = text_of (CastFrame c);
+}
+
+-- of a burst: how many messages there are beside the name and the time of the first
+abbrev pub burst_done : Identity → List Fact → CastFields → BurstDone
+burst_done seat facts c = record {
+  first = record { sender = seat.me; number = first_number c };
+  count = length (payloads_of c.load);
   time = counts seat.group.size (view seat.group.size facts ++ take 1 (messages_of c));
   out = text_of (CastFrame c);
 }
@@ -112,6 +118,12 @@ abbrev pub is_repeat : List Fact → FrameFields → Bool
 is_repeat facts (CastFrame c) = list_all (λ m. is_there (casts_in facts) m.sender m.number) (messages_of c)
 is_repeat facts (StatusFrame s) = false
 is_repeat facts (RequestFrame r) = false
+
+-- a cast some message of which is there; no repeat, it has others that are not
+abbrev pub is_overlap : List Fact → FrameFields → Bool
+is_overlap facts (CastFrame c) = list_any (λ m. is_there (casts_in facts) m.sender m.number) (messages_of c)
+is_overlap facts (StatusFrame s) = false
+is_overlap facts (RequestFrame r) = false
 
 -- beyond the window above what is delivered
 abbrev pub is_too_far : Identity → List Fact → FrameFields → Bool
@@ -185,6 +197,7 @@ frame_answer seat limit entries facts frame =
     if not (are_members seat.group.size frame) then Err arrivals.BadMember else
     if is_impossible seat facts frame then Err arrivals.Impossible else
     if is_repeat facts frame then Ok Repeat else
+    if is_overlap facts frame then Err arrivals.Overlap else
     if is_too_far seat facts frame then Err arrivals.TooFar else
     if is_change seat facts frame && is_full limit entries then Err arrivals.HistoryFull else
     if is_change seat facts frame then Ok (Accepted (deliveries seat facts frame) true (sent_in_answer seat facts frame)) else

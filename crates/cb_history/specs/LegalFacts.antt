@@ -1,17 +1,16 @@
 -- The facts of a legal history, one after another.
 use Rattle.std.specs.Prelude.{◌≡◌, ℕ, ◌≤◌, ◌<◌, true, false, List, [], ◌∷◌, ◌++◌, length}
 use Rattle.cb_frames.specs.declared.frame.TheConstants.{LAST_NUMBER}
-use Rattle.cb_frames.specs.Fields.{IsOne, payloads_of, CastFields, first_number, last_number, StatusFields, FrameFields, CastFrame, StatusFrame, RequestFrame}
-use Rattle.cb_frames.specs.Text.{IsLoad}
+use Rattle.cb_frames.specs.Fields.{payloads_of, CastFields, first_number, last_number, StatusFields, FrameFields, CastFrame, StatusFrame, RequestFrame}
+use Rattle.cb_history.specs.Load.{FitsFrame}
 use Rattle.cb_history.specs.Group.{Identity, AreParameters}
 use Rattle.cb_history.specs.Facts.{Fact, OwnCast, CastReceived, StatusReceived, OwnStatus}
 use Rattle.cb_history.specs.Known.{value_in}
-use Rattle.cb_history.specs.Answers.{is_too_many, next_cast, group_of, are_members, is_impossible, is_repeat, is_too_far, is_change, status_of, is_new_status}
+use Rattle.cb_history.specs.Answers.{is_too_many, next_cast, group_of, are_members, is_impossible, is_repeat, is_overlap, is_too_far, is_change, status_of, is_new_status}
 
--- an own cast: the next one, of a load of one payload, for whose messages the window has room
+-- an own cast: the next one, of a load that a frame can carry, for whose messages the window has room
 pub record IsOwnCast (seat : Identity) (facts : List Fact) (c : CastFields) : Type 0 where
-  pub one : IsOne c.load
-  pub load : IsLoad c.load
+  pub load : FitsFrame c.load
   pub window : is_too_many seat facts (length (payloads_of c.load)) ≡ false
   pub next : c ≡ next_cast seat facts c.load
 
@@ -21,19 +20,21 @@ SaysNumbers (CastFrame c) = last_number c ≤ LAST_NUMBER
 SaysNumbers (StatusFrame s) = (k : ℕ) → value_in s.values k ≤ LAST_NUMBER
 SaysNumbers (RequestFrame r) = Unit {0}
 
--- a received frame, was not refused and changed the state: of the group and its members, possible, no repeat, not too far, and news
+-- A received frame that was not refused and changed the state: of the group and its members, possible, no repeat, no overlap, not too
+-- far, and news.
 pub record IsTaken (seat : Identity) (facts : List Fact) (frame : FrameFields) : Type 0 where
   pub numbers : SaysNumbers frame
   pub group : group_of frame ≡ seat.group.number
   pub members : are_members seat.group.size frame ≡ true
   pub possible : is_impossible seat facts frame ≡ false
   pub new : is_repeat facts frame ≡ false
+  pub apart : is_overlap facts frame ≡ false
   pub near : is_too_far seat facts frame ≡ false
   pub change : is_change seat facts frame ≡ true
 
--- a received cast, of a load of one payload; casts are numbered from 1
+-- a received cast, of a load that a frame can carry; casts are numbered from 1
 pub record IsCastTaken (seat : Identity) (facts : List Fact) (c : CastFields) : Type 0 where
-  pub one : IsOne c.load
+  pub load : FitsFrame c.load
   pub numbered : 1 ≤ first_number c
   pub taken : IsTaken seat facts (CastFrame c)
 

@@ -1,4 +1,5 @@
 pub mod Group
+pub mod Load
 pub mod CastFault
 pub mod Read
 pub mod Facts

@@ -1,12 +1,12 @@
 -- A legal history is what calls add without a limit, with at most so many entries as a history can have.
-use Rattle.std.specs.Prelude.{◌≡◌, ℕ, ◌+◌, ◌≤◌, ◌<◌, ◌↔◌, nat_lt, List, [], ◌∷◌, ◌++◌, length, Some, Result, Ok, Err, if◌then◌else◌}
-use Rattle.cb_frames.specs.declared.frame.TheConstants.{LONGEST_PAYLOAD}
+use Rattle.std.specs.Prelude.{◌≡◌, ◌==◌, ℕ, ◌+◌, ◌≤◌, ◌<◌, ◌↔◌, nat_lt, List, [], ◌∷◌, ◌++◌, length, Some, Result, Ok, Err, if◌then◌else◌}
+use Rattle.cb_frames.specs.declared.frame.TheConstants.{LONGEST_PAYLOAD, MOST_MESSAGES}
 use Rattle.cb_frames.specs.Fields.{Load, payloads_of, load_bytes, CastFields}
-use Rattle.cb_history.specs.CastFault.{CastFault, BurstTooLong, PayloadTooLong, WindowFull, HistoryFull}
+use Rattle.cb_history.specs.CastFault.{CastFault, EmptyBurst, BurstTooLong, PayloadTooLong, WindowFull, HistoryFull}
 use Rattle.cb_history.specs.Group.{Identity, IsIdentity}
 use Rattle.cb_history.specs.Facts.{EntryFields, Fact, facts_of}
 use Rattle.cb_history.specs.Known.{stable}
-use Rattle.cb_history.specs.Answers.{is_burst, is_full, delivered, next_cast, cast_answer}
+use Rattle.cb_history.specs.Answers.{is_full, delivered, next_cast, cast_answer}
 use Rattle.cb_history.specs.Legal.{longest_history, Call, OfBytes, entry_of, history_after, AreEntriesOf, IsLegal}
 use Rattle.cb_history.specs.LegalFacts.{IsStep, AreLegalFacts, AreFactsOf}
 
@@ -35,7 +35,8 @@ LegalFactsInLimit = (seat : Identity) (facts : List Fact) → (AreLegalFacts sea
 -- the answer to a cast where only what is stable fills the window
 abbrev pub answer_by_stable : Identity → ℕ → List EntryFields → Load → Result CastFields CastFault
 answer_by_stable seat limit entries load =
-    if is_burst load then Err BurstTooLong else
+    if length (payloads_of load) == 0 then Err EmptyBurst else
+    if nat_lt MOST_MESSAGES (length (payloads_of load)) then Err BurstTooLong else
     if nat_lt LONGEST_PAYLOAD (length (load_bytes load)) then Err PayloadTooLong else
     if nat_lt (stable seat (facts_of entries) + seat.group.window) (delivered seat (facts_of entries) seat.me + length (payloads_of load)) then Err WindowFull else
     if is_full limit entries then Err HistoryFull else

@@ -5,6 +5,8 @@ use Rattle.cb_history.specs.declared.answer.NewFault.{NewFault}
 use Rattle.cb_history.specs.declared.answer.NewFault.TheVariants as news
 use Rattle.cb_history.specs.declared.answer.CastRefusal.{CastRefusal}
 use Rattle.cb_history.specs.declared.answer.CastRefusal.TheVariants as casts
+use Rattle.cb_history.specs.declared.answer.BurstRefusal.{BurstRefusal}
+use Rattle.cb_history.specs.declared.answer.BurstRefusal.TheVariants as bursts
 use Rattle.cb_history.specs.declared.answer.ArriveRefusal.{ArriveRefusal}
 use Rattle.cb_history.specs.declared.answer.ArriveRefusal.TheVariants as arrivals
 use Rattle.cb_history.specs.declared.answer.TickRefusal.{TickRefusal}
@@ -23,11 +25,20 @@ cast_refusal_text casts.WindowFull = codes "WindowFull"
 cast_refusal_text casts.HistoryFull = codes "HistoryFull"
 cast_refusal_text casts.NoMemory = codes "NoMemory"
 
+abbrev pub burst_refusal_text : BurstRefusal → List ℕ
+burst_refusal_text bursts.EmptyBurst = codes "EmptyBurst"
+burst_refusal_text bursts.BurstTooLong = codes "BurstTooLong"
+burst_refusal_text bursts.PayloadTooLong = codes "PayloadTooLong"
+burst_refusal_text bursts.WindowFull = codes "WindowFull"
+burst_refusal_text bursts.HistoryFull = codes "HistoryFull"
+burst_refusal_text bursts.NoMemory = codes "NoMemory"
+
 abbrev pub arrive_refusal_text : ArriveRefusal → List ℕ
 arrive_refusal_text (arrivals.Malformed fault) = codes "Malformed(" ++ fault_text fault ++ codes ")"
 arrive_refusal_text arrivals.OtherGroup = codes "OtherGroup"
 arrive_refusal_text arrivals.BadMember = codes "BadMember"
 arrive_refusal_text arrivals.Impossible = codes "Impossible"
+arrive_refusal_text arrivals.Overlap = codes "Overlap"
 arrive_refusal_text arrivals.TooFar = codes "TooFar"
 arrive_refusal_text arrivals.HistoryFull = codes "HistoryFull"
 arrive_refusal_text arrivals.NoMemory = codes "NoMemory"

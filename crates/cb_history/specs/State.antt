@@ -1,13 +1,15 @@
 -- What a member holds, and what its calls do to it.
 use Rattle.std.specs.Prelude.{◌≡◌, ◌⊎◌, ℕ, ◌≤◌, Bool, List, length, map, Option, Result, Ok, Err}
 use Rattle.cb_frames.specs.Fields.{Load, CastFields, StatusFields, Carried}
-use Rattle.cb_frames.specs.Text.{IsLoad}
 use Rattle.cb_frames.specs.Reading.{HasValue}
 use Rattle.cb_history.specs.Read.{frame_read}
 use Rattle.cb_history.specs.declared.history.Entry.{Entry}
 use Rattle.cb_history.specs.declared.answer.CastDone.{CastDone}
 use Rattle.cb_history.specs.declared.answer.CastRefusal.{CastRefusal}
 use Rattle.cb_history.specs.declared.answer.CastRefusal.TheVariants as casts
+use Rattle.cb_history.specs.declared.answer.BurstDone.{BurstDone}
+use Rattle.cb_history.specs.declared.answer.BurstRefusal.{BurstRefusal}
+use Rattle.cb_history.specs.declared.answer.BurstRefusal.TheVariants as bursts
 use Rattle.cb_history.specs.declared.answer.Arrival.{Arrival}
 use Rattle.cb_history.specs.declared.answer.ArriveRefusal.{ArriveRefusal}
 use Rattle.cb_history.specs.declared.answer.ArriveRefusal.TheVariants as arrivals
@@ -15,14 +17,15 @@ use Rattle.cb_history.specs.declared.answer.Outgoing.{Outgoing}
 use Rattle.cb_history.specs.declared.answer.Ticked.{Ticked}
 use Rattle.cb_history.specs.declared.answer.TickRefusal.{TickRefusal}
 use Rattle.cb_history.specs.declared.answer.TickRefusal.TheVariants as ticks
-use Rattle.cb_history.specs.CastFault.{CastFault, TellsFaultOf}
+use Rattle.cb_history.specs.Load.{FitsFrame}
+use Rattle.cb_history.specs.CastFault.{CastFault, TellsFaultOf, TellsBurstFaultOf}
 use Rattle.cb_history.specs.Group.{Identity}
 use Rattle.cb_history.specs.Facts.{EntryFields, Fact, entry_fields, facts_of}
 use Rattle.cb_delay.specs.declared.message.Event.{Event}
 use Rattle.cb_history.specs.View.{view, time_of}
 use Rattle.cb_history.specs.Events.{events}
 use Rattle.cb_history.specs.Known.{missing, stable}
-use Rattle.cb_history.specs.Answers.{status_of, next_cast, cast_answer, cast_done, arrive_answer, ArrivalSays, arrival_says, tick_answer}
+use Rattle.cb_history.specs.Answers.{status_of, next_cast, cast_answer, cast_done, burst_done, arrive_answer, ArrivalSays, arrival_says, tick_answer}
 use Rattle.cb_history.specs.Legal.{longest_history, IsLegal, Call, ToCast, ToTake, ToTick, entry_of, history_after}
 
 -- the member, how many entries its history may have, and those that it has
@@ -96,7 +99,17 @@ pub record HasCast (old new : MemberState) (load : Load) (done : CastDone) : Typ
 
 -- or it was refused. A member that has to look at its whole history may be out of memory in place of most answers.
 abbrev pub RefusesCast : MemberState → Load → CastRefusal → Type 0
-RefusesCast m load refusal = TellsFaultOf refusal (answer_to_cast m load) ⊎ ((refusal ≡ casts.NoMemory) × IsLoad load)
+RefusesCast m load refusal = TellsFaultOf refusal (answer_to_cast m load) ⊎ ((refusal ≡ casts.NoMemory) × FitsFrame load)
+
+-- a burst of this load was cast
+pub record HasCastBurst (old new : MemberState) (load : Load) (done : BurstDone) : Type 0 where
+  pub answer : answer_to_cast old load ≡ Ok (next_cast old.seat (facts_in old) load)
+  pub reported : done ≡ burst_done old.seat (facts_in old) (next_cast old.seat (facts_in old) load)
+  pub after : new ≡ state_after old (ToCast load)
+
+-- or it was refused
+abbrev pub RefusesBurst : MemberState → Load → BurstRefusal → Type 0
+RefusesBurst m load refusal = TellsBurstFaultOf refusal (answer_to_cast m load) ⊎ ((refusal ≡ bursts.NoMemory) × FitsFrame load)
 
 -- received bytes were taken, or were a repeat
 pub record HasTaken (old new : MemberState) (bytes : List ℕ) (arrival : Arrival) : Type 0 where

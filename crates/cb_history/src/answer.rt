@@ -1,8 +1,9 @@
 //! What a member answers to a cast, an arrival and a tick.
 
 ghost use Rattle.std.specs.Prelude.{◌≡◌, Some};
-ghost use Rattle.cb_history.specs.Refusals.{arrive_refusal_text, cast_refusal_text, missing_fault_text, new_fault_text, tick_refusal_text};
+ghost use Rattle.cb_history.specs.Refusals.{arrive_refusal_text, burst_refusal_text, cast_refusal_text, missing_fault_text, new_fault_text, tick_refusal_text};
 ghost use Rattle.cb_history.specs.declared.answer.CastRefusal.TheVariants.{NoMemory as CastNoMemory};
+ghost use Rattle.cb_history.specs.declared.answer.BurstRefusal.TheVariants.{NoMemory as BurstNoMemory};
 ghost use Rattle.cb_history.specs.declared.answer.ArriveRefusal.TheVariants.{NoMemory as ArriveNoMemory};
 ghost use Rattle.cb_history.specs.declared.answer.TickRefusal.TheVariants.{NoMemory as TickNoMemory};
 ghost use Rattle.cb_history.specs.declared.answer.MissingFault.TheVariants.{NoMemory as MissingNoMemory};
@@ -93,6 +94,69 @@ impl<T: Drop> From<AllocFailed<T>> for CastRefusal {
     }
 }
 
+/// A burst that was cast: several messages in one frame, numbered one after another.
+#[derive(Debug, Drop)]
+pub struct BurstDone {
+    /// The name of the first message.
+    pub first: Name,
+    /// How many messages there are, 1 to 32.
+    pub count: u32,
+    /// The time of the first message. Each further one has one more in the member's own field.
+    pub time: VectorTime,
+    /// The frame, which goes to all others.
+    pub out: Bytes,
+}
+
+/// Why no burst was cast. The member is as it was.
+#[derive(Clone, Copy, Debug, PartialEq, Eq)]
+pub enum BurstRefusal {
+    /// There is no payload.
+    EmptyBurst,
+    /// There are more than 32 payloads.
+    BurstTooLong,
+    /// The payloads have more than 1,024 bytes together.
+    PayloadTooLong,
+    /// With these messages more own casts than the window would not be known to be delivered by every other member.
+    WindowFull,
+    /// The history has as many entries as its limit.
+    HistoryFull,
+    /// Out of memory.
+    NoMemory,
+}
+
+impl fmt::Display for BurstRefusal {
+    ghost output = { λ fault. Some (burst_refusal_text fault) };
+
+    fn fmt<W: fmt::Write>(&self, f: &mut fmt::Formatter<W>) -> fmt::Result {
+        f.write_str(match self {
+            BurstRefusal::EmptyBurst => "EmptyBurst",
+            BurstRefusal::BurstTooLong => "BurstTooLong",
+            BurstRefusal::PayloadTooLong => "PayloadTooLong",
+            BurstRefusal::WindowFull => "WindowFull",
+            BurstRefusal::HistoryFull => "HistoryFull",
+            BurstRefusal::NoMemory => "NoMemory",
+        })
+    }
+}
+
+impl Error for BurstRefusal {}
+
+impl From<AllocError> for BurstRefusal {
+    ghost from_gives = { λ _ e. e ≡ BurstNoMemory };
+
+    fn from(_refused: AllocError) -> BurstRefusal {
+        BurstRefusal::NoMemory
+    }
+}
+
+impl<T: Drop> From<AllocFailed<T>> for BurstRefusal {
+    ghost from_gives = { λ _ e. e ≡ BurstNoMemory };
+
+    fn from(_refused: AllocFailed<T>) -> BurstRefusal {
+        BurstRefusal::NoMemory
+    }
+}
+
 /// A frame to be sent: to all others, or to one member.
 #[derive(Debug, Drop)]
 pub struct Outgoing {
@@ -128,6 +192,8 @@ pub enum ArriveRefusal {
     BadMember,
     /// The frame says of this member what it never did, or asks its own sender.
     Impossible,
+    /// Some messages of the burst were received before, and others not: it is none that its sender cast.
+    Overlap,
     /// The cast is numbered above what is delivered of its sender and the window.
     TooFar,
     /// The frame would change the state, and the history has as many entries as its limit.
@@ -145,6 +211,7 @@ impl fmt::Display for ArriveRefusal {
             ArriveRefusal::OtherGroup => f.write_str("OtherGroup"),
             ArriveRefusal::BadMember => f.write_str("BadMember"),
             ArriveRefusal::Impossible => f.write_str("Impossible"),
+            ArriveRefusal::Overlap => f.write_str("Overlap"),
             ArriveRefusal::TooFar => f.write_str("TooFar"),
             ArriveRefusal::HistoryFull => f.write_str("HistoryFull"),
             ArriveRefusal::NoMemory => f.write_str("NoMemory"),

@@ -35,7 +35,7 @@ pub use histories::{
     calls_keep_histories_legal, histories_say_facts, legality_without_a_limit, prefixes_are_legal,
 };
 pub use knowledge::knowledge_grows;
-pub use loads::casts_carry_one_message;
+pub use loads::loads_fit_their_frames;
 pub use names::names_and_order;
 pub use own_frames::own_frames_are_of_the_group;
 pub use queue::queue_releases_the_next_delivery;

@@ -2,12 +2,14 @@
 
 ghost use Rattle.std.specs.Prelude.{◌≡◌, IfOk, IfErr, OnErr, map};
 ghost use Rattle.cb_frames.specs.Fields.{One};
+ghost use Rattle.cb_history.specs.Load.{many_of};
 ghost use Rattle.cb_history.specs.Facts.{entry_fields};
 ghost use Rattle.cb_history.specs.Known.{ranges_of};
-ghost use Rattle.cb_history.specs.State.{MemberState, events_in, missing_in, stable_in, time_in, HasCast, RefusesCast, HasTaken, RefusesArrival, HasTicked, RefusesTick};
+ghost use Rattle.cb_history.specs.State.{MemberState, events_in, missing_in, stable_in, time_in, HasCast, RefusesCast, HasCastBurst, RefusesBurst, HasTaken, RefusesArrival, HasTicked, RefusesTick};
 
 use crate::answer::{
-    Arrival, ArriveRefusal, CastDone, CastRefusal, MissingFault, TickRefusal, Ticked,
+    Arrival, ArriveRefusal, BurstDone, BurstRefusal, CastDone, CastRefusal, MissingFault,
+    TickRefusal, Ticked,
 };
 use crate::history::{Entry, History};
 use bytes::Bytes;
@@ -27,6 +29,13 @@ pub trait GroupMember {
     fn cast(&mut self, payload: &[u8]) -> Result<CastDone, CastRefusal>
         ensures done { IfOk result (HasCast (state self.old) (state self.new) (One payload.now)) }
         ensures refused { IfErr result (RefusesCast (state self.old) (One payload.now)) }
+        ensures same { OnErr result (state self.new ≡ state self.old) };
+
+    /// Casts a message of each payload, all in one frame. After a refusal the member is as it was.
+    fn cast_burst(&mut self, payloads: &[&[u8]]) -> Result<BurstDone, BurstRefusal>
+        ensures done { IfOk result (HasCastBurst (state self.old) (state self.new)
+            (many_of payloads.now)) }
+        ensures refused { IfErr result (RefusesBurst (state self.old) (many_of payloads.now)) }
         ensures same { OnErr result (state self.new ≡ state self.old) };
 
     /// Takes received bytes. After a refusal the member is as it was.
