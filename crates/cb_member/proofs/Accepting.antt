@@ -4,7 +4,7 @@ use Rattle.std.specs.Prelude.{option_map}
 use Rattle.std.specs.List.{slice_index_or}
 use Rattle.std.proofs.lemmas.List.{append-nil, append_cancel_left, drop_all, drop_at, length-append, length-map}
 use Rattle.cb_times.specs.declared.name.Name.{Name}
-use Rattle.cb_frames.specs.Fields.{CastFields, CastFrame, StatusFields, StatusFrame, cast_fields}
+use Rattle.cb_frames.specs.Fields.{CastFields, CastFrame, StatusFields, StatusFrame, unit_fields}
 use Rattle.cb_frames.specs.Laws.{IsBytes}
 use Rattle.cb_history.specs.Read.{frame_read}
 use Rattle.cb_delay.specs.declared.message.Event.{Event}
@@ -137,8 +137,8 @@ no_named o a none some = cc
 -- what was done to enter the cast
 pub record EntersSo (wanted : Wanted) (bytes : List ℕ) (arriving : Arriving) (old new : Recorder) (taken : Taken) (seen : List Event) (first : ℕ) (entry : Entry) : Type 0 where
   pub can : CanEnter wanted bytes old arriving
-  pub delivers : DeliversWith (cast_fields arriving.cast) old.state new.state old.events.items new.events.items
-  pub joins : JoinsEvents (cast_fields arriving.cast) arriving.course old.events.items new.events.items
+  pub delivers : DeliversWith (unit_fields arriving.unit) old.state new.state old.events.items new.events.items
+  pub joins : JoinsEvents (unit_fields arriving.unit) arriving.course old.events.items new.events.items
   pub limit : new.limit ≡ old.limit
   pub joined : new.entries.items ≡ old.entries.items ++ entry ∷ []
   pub seen_is : seen ≡ new.events.items
@@ -152,7 +152,7 @@ pub record EntersSo (wanted : Wanted) (bytes : List ℕ) (arriving : Arriving) (
 
 pub entered : (wanted : Wanted) (bytes : List ℕ) (arriving : Arriving) (old new : Recorder) (taken : Taken) (seen : List Event) (first : ℕ) (entry : Entry) → EntersSo wanted bytes arriving old new taken seen first entry → IsEntered wanted bytes old new taken
 entered wanted bytes arriving old new taken seen first entry e =
-    let c = cast_fields arriving.cast in
+    let c = unit_fields arriving.unit in
     let seat = old.state.seat in
     let facts = facts_held old in
     let are = facts_kept old e.can.kept in

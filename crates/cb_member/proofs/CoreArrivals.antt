@@ -3,7 +3,7 @@ use Rattle.std.proofs.Common.{◌≡◌, ◌≢◌, ℕ, ◌-◌, Bool, true, fa
 use Rattle.std.specs.Prelude.{option_map}
 use Rattle.std.proofs.lemmas.List.{append-nil, drop_at, length-append, length-map}
 use Rattle.cb_frames.specs.declared.fault.FrameFault.{FrameFault}
-use Rattle.cb_frames.specs.Fields.{CastFrame, FrameFields, StatusFields, StatusFrame, cast_fields}
+use Rattle.cb_frames.specs.Fields.{CastFrame, FrameFields, StatusFields, StatusFrame, unit_fields}
 use Rattle.cb_frames.specs.Laws.{IsBytes}
 use Rattle.cb_history.specs.Read.{frame_read}
 use Rattle.cb_delay.specs.declared.message.Event.{Event}
@@ -225,7 +225,7 @@ come_before noting noted bytes old mid new before between after heard enters sam
 -- what was done to take the cast
 pub record CameSo (wanted : Bool) (bytes : List ℕ) (coming : Coming) (old new : State) (before after : List Event) (heard : Heard) : Type 0 where
   pub can : CanCome wanted bytes old coming
-  pub delivers : DeliversWith (cast_fields coming.cast) old new before after
+  pub delivers : DeliversWith (unit_fields coming.unit) old new before after
   pub said : (messages : List Message) → received_says heard.received messages ≡ Accepted messages true []
   pub count : count_said heard.received ≡ length after - length before
   pub noted : (named : Named) → coming.noted ≡ Some named → option_map entry_fields heard.noted ≡ Some (ArriveEntry named.frame (map (λ m. m.name) (joined before after)))
@@ -233,7 +233,7 @@ pub record CameSo (wanted : Bool) (bytes : List ℕ) (coming : Coming) (old new 
 pub came_so : (wanted : Bool) (bytes : List ℕ) (coming : Coming) (old new : State) (before after : List Event) (heard : Heard) → CameSo wanted bytes coming old new before after heard
     → HasCome wanted bytes (core_of old) (core_of new) before after heard
 came_so wanted bytes coming old new before after heard c =
-    let cast = cast_fields coming.cast in
+    let cast = unit_fields coming.unit in
     takes_so wanted bytes (CastFrame cast) (CastReceived cast) old new before after heard (record {
       core = c.can.core_is;
       bytes_are = c.can.bytes_are;

@@ -1,163 +1,201 @@
 -- What a core answers to its own calls: casts and ticks.
-use Rattle.std.proofs.Common.{◌≡◌, ℕ, Bool, true, false, ◌&&◌, leb, List, [], ◌∷◌, ◌++◌, length, Option, Some, None, Result, Ok, Err, refl, sym, ap, subst, ◌∙◌, arith, inl, inr}
-use Rattle.std.specs.Prelude.{IfOk, OnOk, option_map, if◌then◌else◌}
+use Rattle.std.proofs.Common.{◌≡◌, ℕ, ◌≤◌, Bool, true, false, ◌&&◌, leb, List, [], ◌∷◌, ◌++◌, length, map, Option, Some, None, Result, Ok, Err, refl, sym, ap, subst, ◌∙◌, arith, inr}
+use Rattle.std.specs.Prelude.{IfOk, IsOk, OnOk, option_map, if◌then◌else◌}
 use Rattle.std.proofs.lemmas.Bool.{lt-leb}
-use Rattle.cb_frames.specs.Fields.{Load, load_bytes, StatusFrame}
-use Rattle.cb_frames.specs.Laws.{IsBytes}
+use Rattle.cb_frames.specs.declared.frame.TheConstants.{MOST_MESSAGES}
+use Rattle.cb_frames.specs.Fields.{Load, StatusFrame}
 use Rattle.cb_frames.specs.Text.{text_of}
 use Rattle.cb_delay.specs.declared.message.Event.{Event}
 use Rattle.cb_delay.specs.declared.message.Event.TheVariants as events
-use Rattle.cb_delay.specs.declared.message.Message.{Message}
-use Rattle.cb_history.specs.declared.answer.CastRefusal.{CastRefusal}
-use Rattle.cb_history.specs.declared.answer.CastRefusal.TheVariants as casts
+use Rattle.cb_history.specs.declared.answer.BurstDone.{BurstDone}
+use Rattle.cb_history.specs.declared.answer.CastDone.{CastDone}
 use Rattle.cb_history.specs.declared.answer.Outgoing.{Outgoing}
 use Rattle.cb_history.specs.declared.answer.TickRefusal.{TickRefusal}
 use Rattle.cb_history.specs.declared.answer.TickRefusal.TheVariants as ticks
 use Rattle.cb_history.specs.declared.answer.Ticked.{Ticked}
 use Rattle.cb_history.specs.declared.history.Entry.{Entry}
 use Rattle.cb_history.specs.declared.history.Entry.TheVariants as entries
+use Rattle.cb_history.specs.CastFault.{CastFault, IsFault}
+use Rattle.cb_history.specs.EventLaws.{new_events}
 use Rattle.cb_history.specs.Facts.{EntryFields, Fact, OwnCast, OwnStatus, CastEntry, TickEntry, cast_said, entry_fields, facts_of, status_said}
 use Rattle.cb_history.specs.Answers.{is_new_status, next_cast, requests, status_of, tick_answer}
 use Rattle.cb_history.specs.Legal.{ToCast, ToTick, cast_entry, room_for_one, tick_entry}
-use Rattle.cb_history.specs.State.{answer_to_cast, answer_to_tick, entry_by, facts_in, next_in}
-use Rattle.cb_frames.proofs.Carried.{first_is_number, carries_one, one_has_some}
+use Rattle.cb_history.specs.LegalFacts.{AreFactsOf}
+use Rattle.cb_history.specs.State.{MemberState, HasCast, HasCastBurst, answer_to_cast, answer_to_tick, entry_by, facts_in, next_in, state_after}
 use Rattle.cb_history.proofs.ReadBack.{cast_read, status_read}
 use Rattle.cb_history.proofs.Requests.{own_frames_have_texts}
-use Rattle.cb_history.proofs.Written.{cast_can}
+use Rattle.cb_history.proofs.Written.{fitting_can}
 use Rattle.cb_member.specs.declared.own_cast.Casting.{Casting}
 use Rattle.cb_member.specs.declared.state.State.{State}
-use Rattle.cb_member.specs.Casting.{CanCast, CanKeepCast, HasKept, IsCasting, IsSameButBlock, JudgesLoad, MakesCasting, RefusesExactly, RefusesLoad, next_message, next_text, next_time}
-use Rattle.cb_member.specs.CoreCalls.{AnswersCastInto, AnswersCastOnEach, AnswersTickOnEach, JoinsCastOnEach, MayCast}
+use Rattle.cb_member.specs.Casting.{CanCast, CanKeepCast, HasKept, IsCasting, IsSameButBlock, JudgesLoad, MakesCasting, RefusesLoad, as_cast_done, messages_made, next_text, time_of_last}
+use Rattle.cb_member.specs.CoreCalls.{AnswersBurstOnEach, AnswersCastOnEach, AnswersLoad, AnswersLoadInto, AnswersTickOnEach, CanKeepOnEach, CastsOnEach, HasJoinedMade, HasKeptMade, JoinsCastOnEach, MayCast}
 use Rattle.cb_member.specs.CoreMember.{Core, GoesOn, IsCore, OnEach, StandsFor, core_of, unlimited}
 use Rattle.cb_member.specs.State.{Keeps, OnAll}
 use Rattle.cb_member.specs.Telling.{HasReported}
-use Rattle.cb_member.proofs.Cores.{Grows, core_goes_on, facts_follow, facts_stand, goes_on_none, keeps_of, one_is_left, stands_then}
-use Rattle.cb_member.proofs.Judging.{casts_next, left_for, one_keeps}
-use Rattle.cb_member.proofs.Recording.{counts_long, is_ok_of}
+use Rattle.cb_member.proofs.Cores.{Grows, core_goes_on, facts_follow, facts_stand, goes_on_none, is_state, keeps_of, one_is_left, same_but_block, stands_then}
+use Rattle.cb_member.proofs.Judging.{casts_next, few_for}
+use Rattle.cb_member.proofs.Recording.{burst_told, can_keep_made, cast_told, is_ok_of, made_events, made_last, made_many}
 
 -- ---- casts that are refused
 
-pub refuses_cast : (load : Load) (old new : Core) (refusal : CastRefusal) → IsCore old → new ≡ old → OnEach old (λ m. RefusesExactly m load refusal) → AnswersCastOnEach load old new (Err refusal)
-refuses_cast load old new refusal is same refuses = record { core = subst IsCore (sym same) is; casts = tt; refused = refuses; same = same }
+pub refuses_load : {D R : Type 0} (Has : MemberState → MemberState → Load → D → Type 0) (Refuses : MemberState → Load → R → Type 0) (load : Load) (old new : Core) (refusal : R) → IsCore old → new ≡ old
+    → OnEach old (λ m. Refuses m load refusal) → AnswersLoad Has Refuses load old new (Err refusal)
+refuses_load Has Refuses load old new refusal is same refuses = record { core = subst IsCore (sym same) is; casts = tt; refused = refuses; same = same }
 
-pub refused_load : (core : State) (load : Load) (refusal : CastRefusal) → OnAll core (λ facts. RefusesLoad core.seat facts load refusal) → OnEach (core_of core) (λ m. RefusesExactly m load refusal)
-refused_load core load refusal refuses entries s = inl (refuses (facts_of entries) (facts_stand core entries s) (keeps_of core entries s) (room_for_one entries) entries refl)
+pub refuses_load_into : {R : Type 0} (Refuses : MemberState → Load → R → Type 0) (load : Load) (old new : Core) (before after : List Event) (refusal : R) → IsCore old → new ≡ old → after ≡ before
+    → OnEach old (λ m. Refuses m load refusal) → AnswersLoadInto Refuses load old new before after (Err refusal)
+refuses_load_into Refuses load old new before after refusal is same same_events refuses =
+    record { core = subst IsCore (sym same) is; casts = tt; refused = refuses; same = same; same_events = same_events }
+
+-- what is judged of a load is so on each history
+pub refused_load : (core : State) (load : Load) (told : Option CastFault) → OnAll core (λ facts. RefusesLoad core.seat facts load told) → OnEach (core_of core) (λ m. IsFault told (answer_to_cast m load))
+refused_load core load told refuses entries s = refuses (facts_of entries) (facts_stand core entries s) (keeps_of core entries s) (room_for_one entries) entries refl
 
 pub cast_next : (core : State) (load : Load) (entries : List EntryFields) → CanCast core load → StandsFor entries (core_of core)
     → answer_to_cast (unlimited core.seat entries) load ≡ Ok (next_cast core.seat (facts_of entries) load)
 cast_next core load entries can s = casts_next core (room_for_one entries) entries load (facts_stand core entries s) (keeps_of core entries s) can (one_is_left entries)
 
-pub no_memory : (core : State) (load : Load) (refusal : CastRefusal) → CanCast core load → refusal ≡ casts.NoMemory → OnEach (core_of core) (λ m. RefusesExactly m load refusal)
-no_memory core load refusal can is entries s =
-    inr (is, is_ok_of (answer_to_cast (unlimited core.seat entries) load) (next_cast core.seat (facts_of entries) load) (cast_next core load entries can s))
+-- so out of memory stands in place of a cast
+pub may_be_cast : (core : State) (load : Load) → CanCast core load → OnEach (core_of core) (λ m. IsOk (answer_to_cast m load))
+may_be_cast core load can entries s = is_ok_of (answer_to_cast (unlimited core.seat entries) load) (next_cast core.seat (facts_of entries) load) (cast_next core load entries can s)
+
+pub may_cast_so : {R : Type 0} (told_by : R → Option CastFault) (state : State) (load : Load) (result : Result (Unit {0}) R) → JudgesLoad told_by state load result → MayCast told_by load (core_of state) result
+may_cast_so told_by state load (Ok done) can = λ es s. cast_next state load es can s
+may_cast_so told_by state load (Err refusal) refuses = refused_load state load (told_by refusal) refuses
 
 -- ---- a cast that is made
 
 -- but for the block it is the same
-with_block : (old mid : State) → IsSameButBlock old mid → (facts : List Fact) → Keeps facts old → Keeps facts (record old { block = mid.block })
-with_block old mid block facts k = record { delivered = k.delivered; received = k.received; knows = k.knows; sent = k.sent }
+with_block : (old mid : State) → (facts : List Fact) → Keeps facts old → Keeps facts (record old { block = mid.block })
+with_block old mid facts k = record { delivered = k.delivered; received = k.received; knows = k.knows; sent = k.sent }
 
-pub can_keep : (old mid : State) (load : Load) (casting : Casting) → IsCore (core_of old) → CanCast old load → MakesCasting old load casting → IsSameButBlock old mid → CanKeepCast casting.message.time casting.sent mid
-can_keep old mid load casting is can makes block =
-    let keeps = keeps_of old is.entries is.stands in
-    let are = facts_stand old is.entries is.stands in
-    let made = makes (facts_of is.entries) are keeps in
-    subst (λ (state : State). CanKeepCast casting.message.time casting.sent state) (sym block) (record {
-      state_is = record { facts = facts_of is.entries; legal = are; keeps = with_block old mid block (facts_of is.entries) keeps };
-      room = omega (arith, can.room, one_has_some load can.one);
-      size = ap (λ (m : Message). length m.time) made.message ∙ counts_long old.seat.group.size _;
+-- so the cast that was made is still the next one
+pub can_keep : (load : Load) (old mid : State) (casting : Casting) → IsCore (core_of old) → CanCast old load → MakesCasting old load casting → IsSameButBlock old mid → CanKeepOnEach load mid casting
+can_keep load old mid casting is can makes block =
+    subst (λ (state : State). CanKeepOnEach load state casting) (sym block) (record {
+      core = is;
+      can = record { bytes = can.bytes; fits = can.fits; room = can.room };
+      makes = λ facts are k. makes facts are (record { delivered = k.delivered; received = k.received; knows = k.knows; sent = k.sent });
     })
 
--- what was done to cast the load
-pub record CastsSo (load : Load) (old mid new : State) (casting : Casting) (frame : List ℕ) : Type 0 where
-  pub core : IsCore (core_of old)
-  pub bytes : IsBytes (load_bytes load)
-  pub can : CanCast old load
-  pub makes : MakesCasting old load casting
-  pub block : IsSameButBlock old mid
-  pub copied : frame ≡ casting.out
-  pub keeps : HasKept casting.message.time casting.sent mid new
+-- it can be kept, with the time of its last message
+pub can_be_kept : (load : Load) (state : State) (casting : Casting) (time : List ℕ) (count : ℕ) → CanKeepOnEach load state casting → time ≡ time_of_last casting.first casting.others.items → count ≡ length (messages_made casting)
+    → CanKeepCast time casting.sent count state
+can_be_kept load state casting time count c at many =
+    let es = c.core.entries in
+    let s = c.core.stands in
+    can_keep_made state (facts_of es) load casting time count (is_state state c.core) c.can (c.makes (facts_of es) (facts_stand state es s) (keeps_of state es s)) at many
 
-module _ (load : Load) (old mid new : State) (casting : Casting) (frame : List ℕ) (c : CastsSo load old mid new casting frame) where
+-- its messages are few
+pub few_made : (load : Load) (state : State) (casting : Casting) (count : ℕ) → CanKeepOnEach load state casting → count ≡ length (messages_made casting) → count ≤ MOST_MESSAGES
+few_made load state casting count c many =
+    let es = c.core.entries in
+    let s = c.core.stands in
+    omega (arith, many, made_many state.seat (facts_of es) load casting (c.makes (facts_of es) (facts_stand state es s) (keeps_of state es s)), c.can.fits.few)
+
+-- what was done to keep it
+pub record KeepsSo (load : Load) (old new : State) (casting : Casting) (frame time : List ℕ) (count : ℕ) : Type 0 where
+  pub can : CanKeepOnEach load old casting
+  pub copied : frame ≡ casting.out
+  pub at : time ≡ time_of_last casting.first casting.others.items
+  pub many : count ≡ length (messages_made casting)
+  pub keeps : HasKept time casting.sent count old new
+
+module _ (load : Load) (old new : State) (casting : Casting) (frame time : List ℕ) (count : ℕ) (c : KeepsSo load old new casting frame time count) where
   module _ (es : List EntryFields) (s : StandsFor es (core_of old)) where
     made : IsCasting old.seat (facts_of es) load casting
-    made = c.makes (facts_of es) (facts_stand old es s) (keeps_of old es s)
+    made = c.can.makes (facts_of es) (facts_stand old es s) (keeps_of old es s)
 
     answer : answer_to_cast (unlimited old.seat es) load ≡ Ok (next_cast old.seat (facts_of es) load)
-    answer = cast_next old load es c.can s
+    answer = cast_next old load es c.can.can s
 
     grows : Grows (core_of old) es (ToCast load) (CastEntry (next_text old.seat (facts_of es) load)) (OwnCast (next_cast old.seat (facts_of es) load))
     grows =
         let are = facts_stand old es s in
-        let written = cast_can old.seat (facts_of es) load are.group are.member are.facts_are (one_keeps _ load c.can.one) (left_for old (facts_of es) load are (keeps_of old es s) c.can) c.can.short in
-        record { stands = s; bytes = c.bytes; by_call = ap cast_entry answer; says = ap cast_said (cast_read (next_cast old.seat (facts_of es) load) c.can.one written) }
+        let written = fitting_can old.seat (facts_of es) load are.group are.member are.facts_are c.can.can.fits (few_for old (facts_of es) load are (keeps_of old es s) c.can.can) in
+        record { stands = s; bytes = c.can.can.bytes; by_call = ap cast_entry answer; says = ap cast_said (cast_read (next_cast old.seat (facts_of es) load) written) }
 
-    kept : HasKept casting.message.time casting.sent (record old { block = mid.block }) new
-    kept = subst (λ (state : State). HasKept casting.message.time casting.sent state new) c.block c.keeps
-
-    time : casting.message.time ≡ next_time old.seat (facts_of es) load
-    time = ap (λ (m : Message). m.time) made.message
+    follows : AreFactsOf old.seat (facts_of es ++ OwnCast (next_cast old.seat (facts_of es) load) ∷ [])
+    follows = facts_follow (core_of old) es (ToCast load) _ _ grows
 
     stands_after : Keeps (facts_of es ++ OwnCast (next_cast old.seat (facts_of es) load) ∷ []) new
     stands_after =
-        kept.keeps (facts_of es) load (facts_follow (core_of old) es (ToCast load) _ _ grows) (with_block old mid c.block (facts_of es) (keeps_of old es s)) time made.sent
+        c.keeps.keeps (facts_of es) load follows (keeps_of old es s) (c.at ∙ made_last old.seat (facts_of es) load casting c.can.can.fits made) made.sent (c.many ∙ made_many old.seat (facts_of es) load casting made)
 
-  seat_after : new.seat ≡ old.seat
-  seat_after = c.keeps.seat ∙ ap (λ (s : State). s.seat) c.block
+    entered : entry_by (unlimited old.seat es) (ToCast load) ≡ Some (CastEntry frame)
+    entered = ap cast_entry answer ∙ ap (λ (text : List ℕ). Some (CastEntry text)) (sym made.out ∙ sym c.copied)
 
   goes_on : GoesOn (ToCast load) (core_of old) (core_of new)
   goes_on = record {
-    seat = seat_after;
-    stands = λ es s. stands_then (core_of old) es (ToCast load) _ _ (grows es s) new seat_after (stands_after es s);
+    seat = c.keeps.seat;
+    stands = λ es s. stands_then (core_of old) es (ToCast load) _ _ (grows es s) new c.keeps.seat (stands_after es s);
   }
 
-  pub casts_so : AnswersCastOnEach load (core_of old) (core_of new) (Ok (record { name = casting.message.name; time = casting.message.time; out = casting.out }, entries.Cast frame))
+  pub kept_is_core : IsCore (core_of new)
+  kept_is_core = core_goes_on (ToCast load) (core_of old) (core_of new) c.can.core goes_on
+
+  pub casts_so : CastsOnEach HasCastBurst load (core_of old) (core_of new) (record { first = casting.first.name; count = count; time = casting.first.time; out = casting.out }, entries.Cast frame)
   casts_so = record {
-    core = core_goes_on (ToCast load) (core_of old) (core_of new) c.core goes_on;
-    casts = record {
-      goes_on = goes_on;
-      done = λ es s. record { answer = answer es s; reported = rw (ap (λ (m : Message). m.name) (made es s).message, time es s, (made es s).out, first_is_number (next_cast old.seat (facts_of es) load), carries_one (next_cast old.seat (facts_of es) load) c.can.one) refl; after = refl };
-      entry = λ es s. ap cast_entry (answer es s) ∙ ap (λ (text : List ℕ). Some (CastEntry text)) (sym (made es s).out ∙ sym c.copied);
-    };
-    refused = tt;
-    same = tt;
+    goes_on = goes_on;
+    done = λ es s. record { answer = answer es s; reported = burst_told old.seat (facts_of es) load casting casting.first.time count (made es s) refl c.many; after = refl };
+    entry = entered;
   }
 
-  -- where the event is that of the message
-  pub joins_cast : (before : List Event) → AnswersCastInto load (core_of old) (core_of new) before (before ++ events.Cast casting.message ∷ []) (Ok (casting.out, entries.Cast frame))
-  joins_cast before = record {
-    core = core_goes_on (ToCast load) (core_of old) (core_of new) c.core goes_on;
-    casts = record {
-      goes_on = goes_on;
-      answer = answer;
-      frame = λ es s. (made es s).out;
-      entry = λ es s. ap cast_entry (answer es s) ∙ ap (λ (text : List ℕ). Some (CastEntry text)) (sym (made es s).out ∙ sym c.copied);
-      joins = λ es s. ap (λ (m : Message). before ++ events.Cast m ∷ []) (made es s).message;
-    };
-    refused = tt;
-    same = tt;
-    same_events = tt;
+  -- where the events are those of its messages
+  pub joins_so : (before after : List Event) → after ≡ before ++ map (λ m. events.Cast m) (messages_made casting) → JoinsCastOnEach load (core_of old) (core_of new) before after (casting.out, entries.Cast frame)
+  joins_so before after joined = record {
+    goes_on = goes_on;
+    answer = answer;
+    frame = λ es s. (made es s).out;
+    entry = entered;
+    joins = λ es s. joined ∙ ap (λ (more : List Event). before ++ more) (made_events old.seat (facts_of es) load casting (made es s) (follows es s));
   }
 
-pub refuses_cast_into : (load : Load) (old new : Core) (before after : List Event) (refusal : CastRefusal) → IsCore old → new ≡ old → after ≡ before → OnEach old (λ m. RefusesExactly m load refusal)
-    → AnswersCastInto load old new before after (Err refusal)
-refuses_cast_into load old new before after refusal is same same_events refuses =
-    record { core = subst IsCore (sym same) is; casts = tt; refused = refuses; same = same; same_events = same_events }
+-- ---- what is answered
 
-pub is_answered : (load : Load) (old new : Core) (before after : List Event) (result : Result (List ℕ × Entry) CastRefusal) → IfOk result (JoinsCastOnEach load old new before after)
+pub answers_burst : (load : Load) (old mid : State) (new : Core) (noted : BurstDone × Entry) {E : Type 0} → IsSameButBlock old mid → HasKeptMade {E = E} load (core_of mid) new (Ok noted) → AnswersBurstOnEach load (core_of old) new (Ok noted)
+answers_burst load old mid new noted block kept = record {
+  core = kept.core;
+  casts = subst (λ (core : Core). CastsOnEach HasCastBurst load core new noted) (same_but_block old mid block) kept.casts;
+  refused = tt;
+  same = tt;
+}
+
+-- of one message
+pub answers_cast : (load : Load) (old mid : State) (new : Core) (noted : BurstDone × Entry) (done : CastDone) {E : Type 0} → done ≡ as_cast_done noted.0 → IsSameButBlock old mid → HasKeptMade {E = E} load (core_of mid) new (Ok noted)
+    → AnswersCastOnEach load (core_of old) new (Ok (done, noted.1))
+answers_cast load old mid new noted done is block kept =
+    let casts = subst (λ (core : Core). CastsOnEach HasCastBurst load core new noted) (same_but_block old mid block) kept.casts in
+    record {
+      core = kept.core;
+      casts = record {
+        goes_on = casts.goes_on;
+        done = λ es s. subst (HasCast (unlimited old.seat es) (state_after (unlimited old.seat es) (ToCast load)) load) (sym is) (cast_told (unlimited old.seat es) (state_after (unlimited old.seat es) (ToCast load)) load noted.0 (casts.done es s));
+        entry = casts.entry;
+      };
+      refused = tt;
+      same = tt;
+    }
+
+pub answers_into : {R E : Type 0} (Refuses : MemberState → Load → R → Type 0) (load : Load) (old mid : State) (new : Core) (before after : List Event) (cast : List ℕ × Entry) → IsSameButBlock old mid
+    → HasJoinedMade {E = E} load (core_of mid) new before after (Ok cast) → AnswersLoadInto Refuses load (core_of old) new before after (Ok cast)
+answers_into Refuses load old mid new before after cast block joined = record {
+  core = joined.core;
+  casts = subst (λ (core : Core). JoinsCastOnEach load core new before after cast) (same_but_block old mid block) joined.casts;
+  refused = tt;
+  same = tt;
+  same_events = tt;
+}
+
+pub is_answered : {R : Type 0} (load : Load) (old new : Core) (before after : List Event) (result : Result (List ℕ × Entry) R) → IfOk result (JoinsCastOnEach load old new before after)
     → OnOk result (OnEach old (λ m. answer_to_cast m load ≡ Ok (next_in m load)))
 is_answered load old new before after (Ok cast) is = is.answer
 is_answered load old new before after (Err refusal) is = tt
 
-pub is_joined : (load : Load) (old new : Core) (before after : List Event) (result : Result (List ℕ × Entry) CastRefusal) → IfOk result (JoinsCastOnEach load old new before after)
-    → OnOk result (OnEach old (λ m. after ≡ before ++ events.Cast (next_message m.seat (facts_in m) load) ∷ []))
+pub is_joined : {R : Type 0} (load : Load) (old new : Core) (before after : List Event) (result : Result (List ℕ × Entry) R) → IfOk result (JoinsCastOnEach load old new before after)
+    → OnOk result (OnEach old (λ m. after ≡ before ++ new_events m.seat (facts_in m) (OwnCast (next_in m load))))
 is_joined load old new before after (Ok cast) is = is.joins
 is_joined load old new before after (Err refusal) is = tt
-
--- what is judged of a load is so on each history
-pub may_cast_so : (state : State) (load : Load) (result : Result (Unit {0}) CastRefusal) → JudgesLoad state load result → MayCast load (core_of state) result
-may_cast_so state load (Ok done) can = λ es s. cast_next state load es can s
-may_cast_so state load (Err refusal) refuses = λ es s. refuses (facts_of es) (facts_stand state es s) (keeps_of state es s) (room_for_one es) es refl
 
 -- ---- ticks
 

@@ -3,6 +3,7 @@ pub mod Acknowledging
 pub mod Alike
 pub mod Answering
 pub mod Arriving
+pub mod Bursting
 pub mod Casting
 pub mod CoreArrivals
 pub mod CoreCalls
@@ -28,6 +29,7 @@ pub mod Recording
 pub mod Rising
 pub mod Starting
 pub mod Staying
+pub mod TakenApart
 pub mod TakingIn
 pub mod Telling
 pub mod Ticks

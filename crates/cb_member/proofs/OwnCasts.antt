@@ -1,7 +1,7 @@
 -- What is kept is so of the facts with an own cast.
 use Rattle.std.proofs.Common.{◌≡◌, ◌≢◌, ℕ, Bool, true, false, List, ◌∷◌, [], ◌++◌, length, None, refl, sym, ap, subst, ◌∙◌, arith}
-use Rattle.cb_frames.specs.Fields.{Load, CastFields}
-use Rattle.cb_frames.proofs.Carried.{carries_one}
+use Rattle.cb_frames.specs.Fields.{Load, CastFields, payloads_of}
+use Rattle.cb_frames.proofs.Carried.{carries_payloads}
 use Rattle.cb_stability.specs.Sent.{Sent, Puts}
 use Rattle.cb_history.specs.Group.{Identity}
 use Rattle.cb_history.specs.Facts.{Fact, OwnCast, casts_in}
@@ -22,7 +22,6 @@ use Rattle.cb_history.proofs.Runs.{others_expand_nothing}
 use Rattle.cb_history.proofs.Expanders.{kept_times_stay}
 use Rattle.cb_history.proofs.RisingByCasts.{own_cast_tells_nothing}
 use Rattle.cb_history.proofs.Keeping.{put_is_own_cast}
-use Rattle.cb_history.proofs.Prefixes.{last_fact_is_a_step}
 use Rattle.cb_history.proofs.Statuses.{last_status_with_one_more}
 use Rattle.cb_member.specs.declared.delivery.Delivery.{Delivery}
 use Rattle.cb_member.specs.declared.reception.Reception.{Reception}
@@ -94,29 +93,29 @@ pub still_reported : (seat : Identity) (facts more : List Fact) (reported : Bool
 still_reported seat facts more true time same t = record { before = t.before; last = same ∙ t.last; said = t.said }
 still_reported seat facts more false time same t = same ∙ t
 
-sent_with_cast : (seat : Identity) (facts : List Fact) (load : Load) (time : List ℕ) (s : Sending) (window : Sent) → AreFactsOf seat (with_cast seat facts load) → HasSent seat facts s
-    → time ≡ next_time seat facts load
-    → Puts s.window window 1 (next_text seat facts load)
+sent_with_cast : (seat : Identity) (facts : List Fact) (load : Load) (time : List ℕ) (count : ℕ) (s : Sending) (window : Sent) → AreFactsOf seat (with_cast seat facts load) → HasSent seat facts s
+    → time ≡ next_time seat facts load → count ≡ length (payloads_of load)
+    → Puts s.window window count (next_text seat facts load)
     → HasSent seat (with_cast seat facts load) (record s { window = window; last_cast = time })
-sent_with_cast seat facts load time s window are has at put =
+sent_with_cast seat facts load time count s window are has at many put =
     let c = next_cast seat facts load in
     record {
       window = put_is_own_cast seat facts c s.window window are has.window
-          (subst (λ (n : ℕ). Puts s.window window n (next_text seat facts load)) (sym (ap length (carries_one c (last_fact_is_a_step seat facts (OwnCast c) are).one))) put);
+          (subst (λ (n : ℕ). Puts s.window window n (next_text seat facts load)) (many ∙ sym (carries_payloads c)) put);
       last_cast = at ∙ time_with_cast seat facts load ∙ ap (time_of seat.group.size) (sym (upto_own facts c));
       fields = has.fields;
       reported = still_reported seat facts (with_cast seat facts load) s.has_reported s.last_reported (last_status_with_one_more facts (OwnCast c) None) has.reported;
     }
 
 -- the state with the time and the frame of the next cast keeps that cast as well
-pub cast_keeps : (old : State) (facts : List Fact) (load : Load) (time last frame : List ℕ) (window : Sent) → AreFactsOf old.seat (facts ++ OwnCast (next_cast old.seat facts load) ∷ []) → Keeps facts old
-    → time ≡ next_time old.seat facts load → last ≡ next_time old.seat facts load → frame ≡ next_text old.seat facts load
-    → Puts old.sending.window window 1 frame
+pub cast_keeps : (old : State) (facts : List Fact) (load : Load) (time last frame : List ℕ) (count : ℕ) (window : Sent) → AreFactsOf old.seat (facts ++ OwnCast (next_cast old.seat facts load) ∷ []) → Keeps facts old
+    → time ≡ next_time old.seat facts load → last ≡ next_time old.seat facts load → frame ≡ next_text old.seat facts load → count ≡ length (payloads_of load)
+    → Puts old.sending.window window count frame
     → Keeps (facts ++ OwnCast (next_cast old.seat facts load) ∷ []) (record old { delivery = record old.delivery { time = time }; sending = record old.sending { window = window; last_cast = last } })
-cast_keeps old facts load time last frame window are keeps at last_at is put = record {
+cast_keeps old facts load time last frame count window are keeps at last_at is many put = record {
   delivered = delivered_with_cast old.seat facts load time old.delivery are keeps.delivered at;
   received = received_with_cast old.seat facts load old.reception are keeps.received;
   knows = known_with_cast old.seat facts load old.knowledge are keeps.knows;
-  sent = sent_with_cast old.seat facts load last old.sending window are keeps.sent last_at
-      (subst (Puts old.sending.window window 1) is put);
+  sent = sent_with_cast old.seat facts load last count old.sending window are keeps.sent last_at many
+      (subst (Puts old.sending.window window count) is put);
 }

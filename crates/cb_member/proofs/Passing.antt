@@ -288,7 +288,7 @@ module _ (c : CastFields) (old : State) (known_then : Knowledge) (time : List �
             let here : field known_then.known i ≡ value =
             ap (field known_then.known) e ∙ ap (λ (ns : List ℕ). field ns c.sender) hears.known ∙ get_or-set_same old.knowledge.known c.sender value 0 (sender_is_heard_of c old can) in
             let says : field time i ≡ first_number c = ap (field time) e ∙ own in
-            omega (arith, here, says, carries_some c (one_has_some c.load step.one))
+            omega (arith, here, says, carries_some c step.load.some)
         | inr ne ↦
             let there : field known_then.known i ≡ field old.knowledge.known i = ap (λ (ns : List ℕ). field ns i) hears.known ∙ get_or-set_other old.knowledge.known c.sender i value 0 ne in
             let upto = upto_known i not_me ne in

@@ -1,22 +1,50 @@
--- What is read of a member's parts.
-use Rattle.std.proofs.Common.{◌≡◌, ◌≢◌, ℕ, ◌<◌, List, length, Some, ap, subst, ◌∙◌, arith}
+-- What is read of bytes, and of a member's parts.
+use Rattle.std.proofs.Common.{◌≡◌, ◌≢◌, ℕ, ◌<◌, ◌≤◌, List, length, Some, Ok, ap, subst, ◌∙◌, arith}
 use Rattle.std.specs.Prelude.{slice_get}
 use Rattle.std.proofs.lemmas.List.FromFn.{length-map-range_with_len, get_or-map-range_with_len}
 use Rattle.cb_times.specs.Order.{field}
 use Rattle.cb_frames.specs.declared.frame.Range.{Range}
+use Rattle.cb_frames.specs.declared.frame.TheConstants.{LAST_NUMBER}
+use Rattle.cb_frames.specs.Fields.{CastFields, CastFrame, first_number, last_number}
+use Rattle.cb_frames.specs.Laws.{IsBytes, ReadingIsExact}
+use Rattle.cb_frames.specs.Text.{IsText, RisesFrom}
+use Rattle.cb_frames.proofs.Carried.{carries_few}
+use Rattle.cb_frames.proofs.Unique.{one_text, some_text}
 use Rattle.cb_gaps.specs.Buffer as buffers
 use Rattle.cb_gaps.specs.Buffer.{Buffer}
 use Rattle.cb_gaps.specs.Ranges.{AreRangesOf}
 use Rattle.cb_history.specs.Group.{Identity}
+use Rattle.cb_history.specs.Load.{FitsFrame}
+use Rattle.cb_history.specs.Read.{frame_read}
 use Rattle.cb_history.specs.Facts.{Fact}
 use Rattle.cb_history.specs.View.{count, view}
 use Rattle.cb_history.specs.Known.{known, missing, ranges_of}
 use Rattle.cb_history.specs.Answers.{delivered}
 use Rattle.cb_history.proofs.Buffers.{ranges_of_singles_are_asked_for}
+use Rattle.cb_history.proofs.ReadBack.{frame_numbered, read_loads_fit}
 use Rattle.cb_member.specs.declared.delivery.Delivery.{Delivery}
 use Rattle.cb_member.specs.declared.reception.Reception.{Reception}
 use Rattle.cb_member.specs.Reception.{HasReceivedAll}
 use Rattle.cb_member.specs.State.{HasDelivered}
+
+-- what every cast frame says that is read
+pub record IsReadCast (c : CastFields) : Type 0 where
+  pub rising : RisesFrom 0 c.changes
+  pub fits : FitsFrame c.load
+  pub numbered : 1 ≤ first_number c
+  pub numbers : last_number c ≤ LAST_NUMBER
+
+pub cast_says : ReadingIsExact → (bytes : List ℕ) (c : CastFields) → IsBytes bytes → frame_read bytes ≡ Ok (CastFrame c) → IsReadCast c
+cast_says exact bytes c are read =
+    let text = (exact.text bytes (CastFrame c) are).0 read in
+    let written = (some_text (CastFrame c)).0 (subst (IsText (CastFrame c)) (one_text (CastFrame c) bytes text) text) in
+    let small = written.2.1.1.0 in
+    record {
+      rising = text.0.changes.rising;
+      fits = read_loads_fit bytes c read;
+      numbered = frame_numbered bytes c read;
+      numbers = (carries_few c text.0).last (omega (arith, small));
+    }
 
 -- the time has a field for each member, which is how many of its messages are delivered
 pub time_long : (seat : Identity) (facts : List Fact) (d : Delivery) → HasDelivered seat facts d → length d.time ≡ seat.group.size

@@ -8,7 +8,7 @@ use Rattle.std.proofs.lemmas.List.Sums.{sum_by-cons}
 use Rattle.cb_times.specs.Order.{field}
 use Rattle.cb_frames.specs.declared.frame.Change.{Change}
 use Rattle.cb_frames.specs.Fields.{CastFields, Carried, first_number, growth_in}
-use Rattle.cb_frames.proofs.Carried.{carries_some, one_has_some}
+use Rattle.cb_frames.proofs.Carried.{carries_some}
 use Rattle.cb_delay.specs.Rule.{IsReady}
 use Rattle.cb_diffs.specs.Expansion.{expanded_field, time_of}
 use Rattle.cb_history.specs.Facts.{CastReceived, casts_in}
@@ -69,7 +69,7 @@ module _ (c : CastFields) (state : State) (can : CanFollow c state) where
   first_is_small =
       let step = last_fact_is_a_step state.seat can.facts (CastReceived c) can.legal in
       let upto = step.taken.numbers in
-      omega (arith, upto, carries_some c (one_has_some c.load step.one))
+      omega (arith, upto, carries_some c step.load.some)
 
   member : c.sender < size
   member = of_member state.seat can.facts c can.legal

@@ -12,6 +12,7 @@ use Rattle.std.proofs.lemmas.Bool.{cases_eq, eq-eqb, ne_eqb}
 use Rattle.std.proofs.lemmas.List.{append-nil, length-map, length-set, set-get_or, get_or-set_same, get_or-set_other}
 use Rattle.std.proofs.lemmas.List.Elements.{All-append, All-pop}
 use Rattle.std.proofs.lemmas.Option.{slice_get_within, slice_get-get_or, slice_get-map, slice_get_read, get_or_from_slice_get}
+use Rattle.cb_frames.specs.Carrying.{IsNumberedCast}
 use Rattle.cb_frames.specs.Fields.{IsSome, load_bytes, CastFields, Carried, messages_of, first_number, last_number}
 use Rattle.cb_delay.specs.declared.message.Message.{Message}
 use Rattle.cb_diffs.specs.Expansion.{expanded_time, IsNext as IsNextCast}
@@ -157,15 +158,16 @@ kept_leave (c ∷ singles) old new kept =
     (rest.0 ∙ ap (λ (b : Buffer). b.taken) kept.1, rest.1 ∙ ap (λ (b : Buffer). b.window) kept.1)
 
 -- a buffer that lacks a cast and has it in its window can keep its singles
-pub can_keep_in_turn : (delivered : ℕ) (c : CastFields) (r : Reception) (b : Buffer) → IsSome c.load → CanKeep delivered c r → slice_get r.buffers.items c.sender ≡ Some b → CanKeepInTurn delivered (singles_of c) b
-can_keep_in_turn delivered c r b some can at = subst (CanKeepInTurn delivered (singles_of c)) (one_buffer can.buffer b (sym can.at ∙ at)) (record {
+pub can_keep_in_turn : (delivered : ℕ) (c : CastFields) (r : Reception) (b : Buffer) → IsNumberedCast c → CanKeep delivered c r → slice_get r.buffers.items c.sender ≡ Some b → CanKeepInTurn delivered (singles_of c) b
+can_keep_in_turn delivered c r b is_numbered can at = subst (CanKeepInTurn delivered (singles_of c)) (one_buffer can.buffer b (sym can.at ∙ at)) (record {
   sender = c.sender;
   first = first_number c;
   upto_taken = can.upto_taken;
   numbered = singles_are_numbered c;
+  numbers = let last = is_numbered.1 in omega (arith, last, singles_are_as_many c, carried_up_to_the_last c is_numbered.0);
   single = singles_of_one c;
-  lacking = λ number low high. can.is_kept.0 number low (omega (arith, high, singles_are_as_many c, carried_up_to_the_last c some));
-  near = λ number low high. let near = can.is_kept.1 in omega (arith, near, high, singles_are_as_many c, carried_up_to_the_last c some);
+  lacking = λ number low high. can.is_kept.0 number low (omega (arith, high, singles_are_as_many c, carried_up_to_the_last c is_numbered.0));
+  near = λ number low high. let near = can.is_kept.1 in omega (arith, near, high, singles_are_as_many c, carried_up_to_the_last c is_numbered.0);
 })
 
 -- and the others once it has kept the first of them
@@ -176,11 +178,13 @@ can_keep_on delivered c singles old new can after =
     let taken : new.taken ≡ old.taken = ap (λ (b : Buffer). b.taken) after in
     let window : new.window ≡ old.window = ap (λ (b : Buffer). b.window) after in
     let upto = can.upto_taken in
+    let numbers = can.numbers in
     record {
       sender = can.sender;
       first = can.first + 1;
       upto_taken = omega (arith, upto, taken);
       numbered = subst (λ (k : ℕ). NumberedFrom can.sender (k + 1) singles) (last_is_first c alone ∙ begins) can.numbered.2;
+      numbers = omega (arith, numbers);
       single = can.single.1;
       lacking = λ number low high. lacks_still number c old new alone after (omega (arith, low, begins)) (can.lacking number (omega (arith, low)) (omega (arith, high)));
       near = λ number low high. let near = can.near number (omega (arith, low)) (omega (arith, high)) in omega (arith, near, window);
@@ -218,7 +222,7 @@ module _ (c : CastFields) (more : List (List ℕ)) (before after : Buffer) (stac
   now = singles_with_cast facts (CastReceived c) c refl
 
   some : IsSome c.load
-  some = one_has_some c.load (last_fact_is_a_step seat facts (CastReceived c) are).one
+  some = (last_fact_is_a_step seat facts (CastReceived c) are).load.some
 
   lacking : AreLacking before (first_number c) (last_number c)
   lacking = subst (λ (b : Buffer). AreLacking b (first_number c) (last_number c)) (one_buffer can.buffer before (sym can.at ∙ w.at)) can.is_kept.0

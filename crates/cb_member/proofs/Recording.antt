@@ -1,51 +1,50 @@
 -- What the calls of a recorder make before anything changes, and what is kept after them: casts and ticks.
-use Rattle.std.proofs.Common.{◌≡◌, ℕ, ◌+◌, ◌<◌, ◌≤◌, Bool, true, false, ◌&&◌, leb, List, [], ◌∷◌, ◌++◌, length, map, Some, None, Result, Ok, refl, sym, ap, subst, ◌∙◌, arith, inl, inr}
+use Rattle.std.proofs.Common.{◌≡◌, ℕ, ◌+◌, ◌<◌, ◌≤◌, Bool, true, false, ◌&&◌, leb, List, [], ◌∷◌, ◌++◌, length, map, take, Option, Some, None, Result, Ok, Err, refl, sym, ap, subst, ◌∙◌, append_assoc, arith, inl}
 use Rattle.std.specs.Prelude.{option_map, IsOk, nat_le, if◌then◌else◌}
+use Rattle.std.proofs.Math.Seq.{take-append-add}
 use Rattle.std.proofs.lemmas.Bool.{leb-true, leb-false, lt-leb, le-leb}
-use Rattle.std.proofs.lemmas.List.{append-nil, length-map}
+use Rattle.std.proofs.lemmas.List.{append-nil, length-append, length-map}
 use Rattle.std.proofs.lemmas.List.FromFn.{length-map-range_with_len}
-use Rattle.cb_frames.specs.Fields.{Load, load_bytes, payloads_of, Carried, CastFields, StatusFrame}
-use Rattle.cb_frames.specs.Laws.{IsBytes}
+use Rattle.cb_frames.specs.Carrying.{AreNumberedFrom}
+use Rattle.cb_frames.specs.Fields.{Load, payloads_of, Carried, CastFields, StatusFrame, first_number, messages_of}
 use Rattle.cb_frames.specs.Text.{text_of}
+use Rattle.cb_frames.proofs.Carried.{carried_in_order}
 use Rattle.cb_delay.specs.declared.message.Event.{Event}
 use Rattle.cb_delay.specs.declared.message.Event.TheVariants.{Cast}
 use Rattle.cb_delay.specs.declared.message.Message.{Message}
 use Rattle.cb_diffs.specs.Expansion.{expanded_time}
 use Rattle.cb_stability.specs.Sent.{room_of}
-use Rattle.cb_frames.proofs.Carried.{first_is_number, carries_one, one_has_some}
-use Rattle.cb_history.specs.declared.answer.CastRefusal.{CastRefusal}
-use Rattle.cb_history.specs.declared.answer.CastRefusal.TheVariants as casts
+use Rattle.cb_history.specs.declared.answer.BurstDone.{BurstDone}
 use Rattle.cb_history.specs.declared.answer.TickRefusal.TheVariants as ticks
 use Rattle.cb_history.specs.declared.history.Entry.{Entry}
-use Rattle.cb_history.specs.declared.history.Entry.TheVariants as entries
-use Rattle.cb_history.specs.CastFault.{CastFault}
+use Rattle.cb_history.specs.CastFault.{CastFault, HistoryFull, IsFault}
 use Rattle.cb_history.specs.Group.{Identity}
 use Rattle.cb_history.specs.Facts.{EntryFields, Fact, OwnCast, OwnStatus, CastEntry, TickEntry, cast_said, casts_in, entry_fields, said_by, status_said}
-use Rattle.cb_history.specs.View.{count, counts, message_in}
-use Rattle.cb_history.specs.Answers.{delivered, is_new_status, next_cast, requests, status_of, tick_answer}
+use Rattle.cb_history.specs.Load.{FitsFrame}
+use Rattle.cb_history.specs.View.{count, counts, message_in, view}
+use Rattle.cb_history.specs.Answers.{burst_done, is_new_status, next_cast, requests, status_of, tick_answer}
 use Rattle.cb_history.specs.EventLaws.{new_events}
 use Rattle.cb_history.specs.Legal.{ToCast, ToTick, cast_entry, tick_entry}
 use Rattle.cb_history.specs.LegalFacts.{AreFactsOf}
-use Rattle.cb_history.specs.State.{HasTicked, RefusesTick, answer_to_cast, answer_to_tick, entry_by}
-use Rattle.cb_history.proofs.Prefixes.{last_fact_is_a_step}
+use Rattle.cb_history.specs.State.{MemberState, HasCast, HasCastBurst, HasTicked, RefusesTick, answer_to_cast, answer_to_tick, entry_by}
 use Rattle.cb_history.proofs.ReadBack.{cast_read, status_read}
 use Rattle.cb_history.proofs.Requests.{own_frames_have_texts}
 use Rattle.cb_history.proofs.Times.{own_casts_tell_the_view}
 use Rattle.cb_history.proofs.Views.{casts_in-append}
-use Rattle.cb_history.proofs.Walks.{view_own}
-use Rattle.cb_history.proofs.Written.{cast_can}
+use Rattle.cb_history.proofs.Written.{fitting_can}
 use Rattle.cb_member.specs.declared.own_cast.Casting.{Casting}
 use Rattle.cb_member.specs.declared.recorder.EnteringCast.{EnteringCast}
 use Rattle.cb_member.specs.declared.recorder.Recorder.{Recorder}
 use Rattle.cb_member.specs.declared.recorder.Telling.{Telling}
 use Rattle.cb_member.specs.declared.state.State.{State}
-use Rattle.cb_member.specs.Casting.{next_time, next_message, CanCast, CanKeepCast, HasKept, IsCasting, IsSameButBlock, MakesCasting, RefusesExactly, RefusesLoad}
+use Rattle.cb_member.specs.Casting.{CanCast, CanKeepCast, HasKept, IsCasting, IsSameButBlock, MakesCasting, RefusesLoad, as_cast_done, message_at, messages_made, next_messages, next_time, time_of_last, timed}
 use Rattle.cb_member.specs.Entering.{CanEnterCast, IsCastDone, Tells}
 use Rattle.cb_member.specs.Recorder.{HasRoom, IsKept, IsSame, facts_held, held_by}
-use Rattle.cb_member.specs.State.{Keeps, OnAll}
+use Rattle.cb_member.specs.State.{IsState, Keeps, OnAll}
 use Rattle.cb_member.specs.Telling.{HasReported}
-use Rattle.cb_member.proofs.Entering.{Adds, after_entry, after_none, facts_kept, facts_may_follow, kept_over, kept_with_entry, kept_with_room, same_facts, state_kept}
-use Rattle.cb_member.proofs.Judging.{casts_next, left_for, one_keeps, refuses_history}
+use Rattle.cb_member.proofs.Casting.{first_is_next, last_is_next, next_many}
+use Rattle.cb_member.proofs.Entering.{Adds, after_entry, after_none, facts_kept, facts_may_follow, kept_over, kept_with_entry, kept_with_room, same_facts}
+use Rattle.cb_member.proofs.Judging.{casts_next, few_for, refuses_history}
 
 -- ---- room for an entry
 
@@ -60,14 +59,13 @@ fields_many r = length-map r.entries.items entry_fields
 
 -- ---- casts that are refused
 
-pub refused_load : (r : Recorder) (load : Load) (refusal : CastRefusal) → IsKept r → OnAll r.state (λ facts. RefusesLoad r.state.seat facts load refusal)
-    → RefusesExactly (held_by r) load refusal
-refused_load r load refusal k refuses = inl (refuses (facts_held r) (facts_kept r k) k.keeps r.limit (map entry_fields r.entries.items) refl)
+pub refused_load : (r : Recorder) (load : Load) (told : Option CastFault) → IsKept r → OnAll r.state (λ facts. RefusesLoad r.state.seat facts load told) → IsFault told (answer_to_cast (held_by r) load)
+refused_load r load told k refuses = refuses (facts_held r) (facts_kept r k) k.keeps r.limit (map entry_fields r.entries.items) refl
 
-pub refused_full : (r : Recorder) (load : Load) → IsKept r → CanCast r.state load → r.limit ≤ length r.entries.items → RefusesExactly (held_by r) load casts.HistoryFull
+pub refused_full : (r : Recorder) (load : Load) → IsKept r → CanCast r.state load → r.limit ≤ length r.entries.items → answer_to_cast (held_by r) load ≡ Err HistoryFull
 refused_full r load k can full =
     let many = fields_many r in
-    inl (refuses_history r.state r.limit (map entry_fields r.entries.items) load (facts_kept r k) k.keeps can (omega (arith, full, many)))
+    refuses_history r.state r.limit (map entry_fields r.entries.items) load (facts_kept r k) k.keeps can (omega (arith, full, many))
 
 pub cast_next : (r : Recorder) (load : Load) → IsKept r → CanCast r.state load → length r.entries.items < r.limit
     → answer_to_cast (held_by r) load ≡ Ok (next_cast r.state.seat (facts_held r) load)
@@ -78,8 +76,9 @@ cast_next r load k can few =
 pub is_ok_of : (a : Result CastFields CastFault) (c : CastFields) → a ≡ Ok c → IsOk a
 is_ok_of a c is = rw is refl
 
-pub no_memory : (r : Recorder) (load : Load) (refusal : CastRefusal) → IsKept r → CanCast r.state load → length r.entries.items < r.limit → refusal ≡ casts.NoMemory → RefusesExactly (held_by r) load refusal
-no_memory r load refusal k can few is = inr (is, is_ok_of (answer_to_cast (held_by r) load) (next_cast r.state.seat (facts_held r) load) (cast_next r load k can few))
+-- so out of memory stands in place of a cast
+pub may_be_cast : (r : Recorder) (load : Load) → IsKept r → CanCast r.state load → length r.entries.items < r.limit → IsOk (answer_to_cast (held_by r) load)
+may_be_cast r load k can few = is_ok_of (answer_to_cast (held_by r) load) (next_cast r.state.seat (facts_held r) load) (cast_next r load k can few)
 
 -- ---- a cast that can be entered
 
@@ -94,29 +93,41 @@ moved : (P : Identity → List Fact → Type 0) (old new : Recorder) → new.sta
 moved P old new seat entries p =
     subst (λ (s : Identity). P s (facts_held new)) (sym seat) (subst (P old.state.seat) (sym (same_facts old new entries)) p)
 
-pub can_enter_cast : (old mid new : Recorder) (load : Load) (frame time : List ℕ) (casting : Casting) → IsKept old → IsBytes (load_bytes load) → CanCast old.state load → length old.entries.items < old.limit
-    → MakesCasting old.state load casting → IsSameButBlock old.state mid.state → mid.limit ≡ old.limit → mid.entries ≡ old.entries → mid.events ≡ old.events
-    → IsSame mid new → HasRoom 1 new → frame ≡ casting.out → time ≡ casting.message.time → CanEnterCast load new (record { casting = casting; entry = entries.Cast frame; time = time })
-can_enter_cast old mid new load frame time casting k bytes can few makes block limit entries_same events_same same room copied at =
-    let state : new.state ≡ record old.state { block = mid.state.block } = same.state ∙ block in
+-- what the calls that cast have in hand before anything changes
+pub record Prepares (load : Load) (old mid new : Recorder) (entering : EnteringCast) : Type 0 where
+  pub kept : IsKept old
+  pub can : CanCast old.state load
+  pub few : length old.entries.items < old.limit
+  pub makes : MakesCasting old.state load entering.casting
+  pub block : IsSameButBlock old.state mid.state
+  pub limit : mid.limit ≡ old.limit
+  pub entries : mid.entries ≡ old.entries
+  pub events : mid.events ≡ old.events
+  pub same : IsSame mid new
+  pub entry : entry_fields entering.entry ≡ CastEntry entering.casting.out
+  pub time : entering.time ≡ entering.casting.first.time
+  pub room : HasRoom (length (messages_made entering.casting)) new
+
+pub can_enter_cast : (load : Load) (old mid new : Recorder) (entering : EnteringCast) → Prepares load old mid new entering → CanEnterCast load new entering
+can_enter_cast load old mid new entering p =
+    let state : new.state ≡ record old.state { block = mid.state.block } = p.same.state ∙ p.block in
     let seat : new.state.seat ≡ old.state.seat = ap (λ (s : State). s.seat) state in
-    let items : new.entries.items ≡ old.entries.items = same.entries ∙ ap (λ v. v.items) entries_same in
-    let kept = kept_with_room mid new same (kept_with_block old mid k block limit entries_same events_same) in
-    let can_now : CanCast new.state load = record { one = can.one; short = can.short; room = subst (λ (s : State). length (payloads_of load) ≤ room_of s.sending.window) (sym state) can.room } in
+    let items : new.entries.items ≡ old.entries.items = p.same.entries ∙ ap (λ v. v.items) p.entries in
+    let kept = kept_with_room mid new p.same (kept_with_block old mid p.kept p.block p.limit p.entries p.events) in
+    let can_now : CanCast new.state load = record { bytes = p.can.bytes; fits = p.can.fits; room = subst (λ (s : State). length (payloads_of load) ≤ room_of s.sending.window) (sym state) p.can.room } in
     let few_now : length new.entries.items < new.limit =
-    (let many = ap (λ (es : List Entry). length es) items in let most = same.limit ∙ limit in omega (arith, few, many, most)) in
-    let made : IsCasting new.state.seat (facts_held new) load casting =
-    moved (λ (s : Identity) (fs : List Fact). IsCasting s fs load casting) old new seat items (makes (facts_held old) (facts_kept old k) k.keeps) in
+    (let many = ap (λ (es : List Entry). length es) items in let most = p.same.limit ∙ p.limit in omega (arith, p.few, many, most)) in
+    let made : IsCasting new.state.seat (facts_held new) load entering.casting =
+    moved (λ (s : Identity) (fs : List Fact). IsCasting s fs load entering.casting) old new seat items (p.makes (facts_held old) (facts_kept old p.kept) p.kept.keeps) in
     record {
       kept = kept;
-      bytes = bytes;
       answer = cast_next new load kept can_now few_now;
       can = can_now;
       few = few_now;
       casting = made;
-      entry = ap (λ (text : List ℕ). CastEntry text) (copied ∙ made.out);
-      time = at;
-      room = room;
+      entry = p.entry ∙ ap (λ (text : List ℕ). CastEntry text) made.out;
+      time = p.time;
+      room = p.room;
     }
 
 -- ---- a cast that was entered
@@ -124,52 +135,110 @@ can_enter_cast old mid new load frame time casting k bytes can few makes block l
 pub counts_long : (size : ℕ) (seen : List Carried) → length (counts size seen) ≡ size
 counts_long size seen = length-map-range_with_len (count seen) 0 size
 
-pub can_keep_cast : (r : Recorder) (load : Load) (entering : EnteringCast) → CanEnterCast load r entering → CanKeepCast entering.time entering.casting.sent r.state
-can_keep_cast r load entering can = record {
-  state_is = state_kept r can.kept;
-  room = omega (arith, can.can.room, one_has_some load can.can.one);
-  size = ap (λ (time : List ℕ). length time) (can.time ∙ ap (λ (m : Message). m.time) can.casting.message) ∙ counts_long r.state.seat.group.size _;
-}
+-- as many messages are made as there are payloads
+pub made_many : (seat : Identity) (facts : List Fact) (load : Load) (casting : Casting) → IsCasting seat facts load casting → length (messages_made casting) ≡ length (payloads_of load)
+made_many seat facts load casting made = ap (λ (ms : List Message). length ms) made.messages ∙ next_many seat facts load
 
--- the time with the cast is what its frame tells
-pub cast_event : (seat : Identity) (facts : List Fact) (load : Load) → AreFactsOf seat (facts ++ OwnCast (next_cast seat facts load) ∷ [])
-    → new_events seat facts (OwnCast (next_cast seat facts load)) ≡ Cast (next_message seat facts load) ∷ []
-cast_event seat facts load are =
+-- and the last one has the time that is kept
+pub made_last : (seat : Identity) (facts : List Fact) (load : Load) (casting : Casting) → FitsFrame load → IsCasting seat facts load casting → time_of_last casting.first casting.others.items ≡ next_time seat facts load
+made_last seat facts load casting fits made = last_is_next seat facts load casting.first casting.others.items fits.some made.messages
+
+pub can_keep_made : (state : State) (facts : List Fact) (load : Load) (casting : Casting) (time : List ℕ) (count : ℕ) → IsState state → CanCast state load → IsCasting state.seat facts load casting
+    → time ≡ time_of_last casting.first casting.others.items → count ≡ length (messages_made casting) → CanKeepCast time casting.sent count state
+can_keep_made state facts load casting time count is can made at many =
+    let payloads = many ∙ made_many state.seat facts load casting made in
+    record {
+      state_is = is;
+      some = omega (arith, payloads, can.fits.some);
+      room = omega (arith, payloads, can.room);
+      size = ap (λ (ns : List ℕ). length ns) (at ∙ made_last state.seat facts load casting can.fits made) ∙ counts_long state.seat.group.size _;
+    }
+
+-- what is told of it
+pub burst_told : (seat : Identity) (facts : List Fact) (load : Load) (casting : Casting) (time : List ℕ) (count : ℕ) → IsCasting seat facts load casting → time ≡ casting.first.time → count ≡ length (messages_made casting)
+    → record { first = casting.first.name; count = count; time = time; out = casting.out } ≡ burst_done seat facts (next_cast seat facts load)
+burst_told seat facts load casting time count made at many =
+    let first = first_is_next seat facts load casting.first casting.others.items made.messages in
+    rw (first.name, many ∙ made_many seat facts load casting made, at ∙ first.time, made.out) refl
+
+-- of one message
+pub cast_told : (old new : MemberState) (load : Load) (done : BurstDone) → HasCastBurst old new load done → HasCast old new load (as_cast_done done)
+cast_told old new load done has = record { answer = has.answer; reported = ap as_cast_done has.reported; after = has.after }
+
+-- ---- the events of the messages
+
+number_at : (sender n : ℕ) (front : List Carried) (m : Carried) (rest : List Carried) → AreNumberedFrom sender n (front ++ m ∷ rest) → (m.sender ≡ sender) × (m.number ≡ n + length front)
+number_at sender n [] m rest row = (row.0, omega (arith, row.1))
+number_at sender n (x ∷ front) m rest row =
+    let found = number_at sender (n + 1) front m rest row.2 in
+    (found.0, omega (arith, found.1))
+
+take_up_to : (front : List Carried) (m : Carried) (rest : List Carried) → take (length front + 1) (front ++ m ∷ rest) ≡ front ++ m ∷ []
+take_up_to front m rest = take-append-add front (m ∷ rest) 1
+
+-- the messages behind these in an own cast have the times that its frame tells
+timed_events : (seat : Identity) (facts : List Fact) (c : CastFields) (front rest : List Carried) → AreFactsOf seat (facts ++ OwnCast c ∷ []) → c.sender ≡ seat.me → messages_of c ≡ front ++ rest
+    → map (λ m. Cast (message_in seat.group.size (casts_in facts ++ c ∷ []) m)) rest ≡ map (λ m. Cast m) (timed seat.group.size (view seat.group.size facts ++ front) rest)
+timed_events seat facts c front [] are mine split = refl
+timed_events seat facts c front (m ∷ rest) are mine split =
+    let size = seat.group.size in
+    let seen = view size facts in
+    let casts = casts_in facts ++ c ∷ [] in
+    let at = number_at c.sender (first_number c) front m rest (subst (AreNumberedFrom c.sender (first_number c)) split (carried_in_order c)) in
+    let within : length front < length (messages_of c) = omega (arith, ap (λ (ms : List Carried). length ms) split, length-append front (m ∷ rest)) in
+    let tells : expanded_time size casts m.sender m.number ≡ counts size ((seen ++ front) ++ m ∷ []) =
+    ap (λ (cs : List CastFields). expanded_time size cs m.sender m.number) (sym (casts_in-append facts (OwnCast c)))
+    ∙ ap (λ (i : ℕ). expanded_time size (casts_in (facts ++ OwnCast c ∷ [])) i m.number) (at.0 ∙ mine)
+    ∙ ap (expanded_time size (casts_in (facts ++ OwnCast c ∷ [])) seat.me) at.1
+    ∙ own_casts_tell_the_view seat facts [] c (length front) are within
+    ∙ ap (λ (ms : List Carried). counts size (seen ++ ms)) (ap (take (length front + 1)) split ∙ take_up_to front m rest)
+    ∙ ap (counts size) (sym (append_assoc seen front (m ∷ []))) in
+    let others : map (λ x. Cast (message_in size casts x)) rest ≡ map (λ x. Cast x) (timed size ((seen ++ front) ++ m ∷ []) rest) =
+    timed_events seat facts c (front ++ m ∷ []) rest are mine (split ∙ sym (append_assoc front (m ∷ []) rest))
+    ∙ ap (λ (ms : List Carried). map (λ x. Cast x) (timed size ms rest)) (sym (append_assoc seen front (m ∷ []))) in
+    ap (λ (time : List ℕ). Cast (record { name = record { sender = m.sender; number = m.number }; time = time; payload = m.payload }) ∷ map (λ x. Cast (message_in size casts x)) rest) tells
+    ∙ ap (λ (es : List Event). Cast (message_at size (seen ++ front) m) ∷ es) others
+
+pub cast_events : (seat : Identity) (facts : List Fact) (load : Load) → AreFactsOf seat (facts ++ OwnCast (next_cast seat facts load) ∷ [])
+    → new_events seat facts (OwnCast (next_cast seat facts load)) ≡ map (λ m. Cast m) (next_messages seat facts load)
+cast_events seat facts load are =
     let c = next_cast seat facts load in
-    let tells : expanded_time seat.group.size (casts_in facts ++ c ∷ []) seat.me (delivered seat facts seat.me + 1) ≡ next_time seat facts load =
-    ap (λ (cs : List CastFields). expanded_time seat.group.size cs seat.me (delivered seat facts seat.me + 1)) (sym (casts_in-append facts (OwnCast c)))
-    ∙ ap (expanded_time seat.group.size (casts_in (facts ++ OwnCast c ∷ [])) seat.me) (sym (first_is_number c))
-    ∙ own_casts_tell_the_view seat facts [] c are ∙ ap (counts seat.group.size) (view_own seat.group.size facts c) in
-    ap (map (λ (m : Carried). Cast (message_in seat.group.size (casts_in facts ++ c ∷ []) m))) (carries_one c (last_fact_is_a_step seat facts (OwnCast c) are).one)
-    ∙ ap (λ (time : List ℕ). Cast (record { name = record { sender = seat.me; number = delivered seat facts seat.me + 1 }; time = time; payload = load_bytes load }) ∷ []) tells
+    timed_events seat facts c [] (messages_of c) are refl refl
+    ∙ ap (λ (seen : List Carried). map (λ m. Cast m) (timed seat.group.size seen (messages_of c))) (append-nil (view seat.group.size facts))
 
-pub cast_done_well : (old new : Recorder) (load : Load) (entering : EnteringCast) → CanEnterCast load old entering → HasKept entering.time entering.casting.sent old.state new.state
-    → new.limit ≡ old.limit → new.entries.items ≡ old.entries.items ++ entering.entry ∷ [] → new.events.items ≡ old.events.items ++ Cast entering.casting.message ∷ []
-    → IsCastDone load old new entering (record { name = entering.casting.message.name; time = entering.time; out = entering.casting.out })
-cast_done_well old new load entering can keeps limit joined cast =
+-- so are the events of the messages that are made
+pub made_events : (seat : Identity) (facts : List Fact) (load : Load) (casting : Casting) → IsCasting seat facts load casting → AreFactsOf seat (facts ++ OwnCast (next_cast seat facts load) ∷ [])
+    → map (λ m. Cast m) (messages_made casting) ≡ new_events seat facts (OwnCast (next_cast seat facts load))
+made_events seat facts load casting made are = ap (map (λ (m : Message). Cast m)) made.messages ∙ sym (cast_events seat facts load are)
+
+pub cast_done_well : (old new : Recorder) (load : Load) (entering : EnteringCast) (time : List ℕ) (count : ℕ) → CanEnterCast load old entering → HasKept time entering.casting.sent count old.state new.state
+    → time ≡ time_of_last entering.casting.first entering.casting.others.items → count ≡ length (messages_made entering.casting)
+    → new.limit ≡ old.limit → new.entries.items ≡ old.entries.items ++ entering.entry ∷ [] → new.events.items ≡ old.events.items ++ map (λ m. Cast m) (messages_made entering.casting)
+    → IsCastDone load old new entering (record { first = entering.casting.first.name; count = count; time = entering.time; out = entering.casting.out })
+cast_done_well old new load entering time count can keeps at many limit joined cast =
     let seat = old.state.seat in
     let facts = facts_held old in
     let c = next_cast seat facts load in
     let are = facts_kept old can.kept in
-    let written = cast_can seat facts load are.group are.member are.facts_are (one_keeps _ load can.can.one) (left_for old.state facts load are can.kept.keeps can.can) can.can.short in
-    let time : entering.time ≡ next_time seat facts load = can.time ∙ ap (λ (m : Message). m.time) can.casting.message in
+    let written = fitting_can seat facts load are.group are.member are.facts_are can.can.fits (few_for old.state facts load are can.kept.keeps can.can) in
     let adds : Adds old new (ToCast load) entering.entry (OwnCast c) = record {
       kept = can.kept;
-      bytes = can.bytes;
+      bytes = can.can.bytes;
       few = can.few;
       by_call = ap cast_entry can.answer ∙ ap (λ (x : EntryFields). Some x) (sym can.entry);
-      says = ap said_by can.entry ∙ ap cast_said (cast_read c can.can.one written);
+      says = ap said_by can.entry ∙ ap cast_said (cast_read c written);
       seat = keeps.seat;
       limit = limit;
       joined = joined;
     } in
     let follows = facts_may_follow old new (ToCast load) entering.entry (OwnCast c) adds in
     record {
-      kept = kept_with_entry old new (ToCast load) entering.entry (OwnCast c) adds (keeps.keeps facts load follows can.kept.keeps time can.casting.sent)
-          (cast ∙ ap (λ (m : Message). old.events.items ++ Cast m ∷ []) can.casting.message ∙ ap (λ (es : List Event). old.events.items ++ es) (sym (cast_event seat facts load follows)));
+      kept = kept_with_entry old new (ToCast load) entering.entry (OwnCast c) adds
+          (keeps.keeps facts load follows can.kept.keeps (at ∙ made_last seat facts load entering.casting can.can.fits can.casting) can.casting.sent (many ∙ made_many seat facts load entering.casting can.casting))
+          (cast ∙ ap (λ (es : List Event). old.events.items ++ es) (made_events seat facts load entering.casting can.casting follows));
       done_is = record {
         answer = can.answer;
-        reported = rw (ap (λ (m : Message). m.name) can.casting.message, time, can.casting.out, first_is_number c, carries_one c can.can.one) refl;
+        reported = burst_told seat facts load entering.casting entering.time count can.casting can.time many;
         after = after_entry old new (ToCast load) entering.entry (OwnCast c) adds;
       };
       entry = adds.by_call;

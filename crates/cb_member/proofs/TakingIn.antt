@@ -8,6 +8,7 @@ use Rattle.std.proofs.lemmas.List.{length-set, get_or-set_same, get_or-set_other
 use Rattle.std.proofs.lemmas.List.FromFn.{length-map-range_with_len, map-range_with_len_more}
 use Rattle.cb_times.specs.Order.{field}
 use Rattle.cb_times.specs.declared.name.Name.{Name}
+use Rattle.cb_frames.specs.Carrying.{IsNumberedCast}
 use Rattle.cb_frames.specs.Fields.{CastFields, Carried, messages_of, first_number, last_number}
 use Rattle.cb_frames.proofs.Carried.{carried_is_of_cast}
 use Rattle.cb_delay.specs.declared.message.Message.{Message}
@@ -383,7 +384,13 @@ ends facts c old mid new are keeps seat same only all = record {
     takes : TakesIn facts c (expanded_count (casts_in (facts ++ CastReceived c ∷ [])) c.sender) (record new { seat = old.seat })
     takes = subst (TakesIn facts c (expanded_count (casts_in (facts ++ CastReceived c ∷ [])) c.sender)) (with_seat new old.seat (only.seat ∙ seat)) all.takes
 
--- the sender of a cast that may follow has a field in each time
+-- a cast that may follow has some message, and each has a number
+pub has_numbers : (c : CastFields) (state : State) → CanFollow c state → IsNumberedCast c
+has_numbers c state can =
+    let step = last_fact_is_a_step state.seat can.facts (CastReceived c) can.legal in
+    (step.load.some, step.taken.numbers)
+
+-- its sender has a field in each time
 pub sender_is_counted : (c : CastFields) (state : State) → CanFollow c state → c.sender < length state.delivery.time
 sender_is_counted c state can =
     let fits : length state.delivery.time ≡ state.seat.group.size =

@@ -5,7 +5,7 @@ use Rattle.cb_delay.specs.declared.message.Event.{Event}
 use Rattle.cb_delay.specs.declared.message.Event.TheVariants.{Deliver}
 use Rattle.cb_gaps.specs.declared.buffer.Admission.{Admission}
 use Rattle.cb_gaps.specs.declared.buffer.Admission.TheVariants as admissions
-use Rattle.cb_gaps.specs.declared.buffer.Admission.TheVariants.{Kept, Overlap, TooFar}
+use Rattle.cb_gaps.specs.declared.buffer.Admission.TheVariants.{Kept}
 use Rattle.cb_history.specs.declared.answer.ArriveRefusal.{ArriveRefusal}
 use Rattle.cb_history.specs.declared.answer.ArriveRefusal.TheVariants as arrivals
 use Rattle.cb_history.specs.Group.{Identity}
@@ -41,12 +41,12 @@ pub record IsNew (c : CastFields) (state : State) : Type 0 where
 abbrev pub own_verdict : ℕ → ℕ → Result Judged ArriveRefusal
 own_verdict delivered number = if nat_lt delivered number then Err arrivals.Impossible else Ok judged.Repeat
 
--- What follows from what a reorder buffer says of another member's cast. A cast of one message never overlaps.
+-- what follows from what a reorder buffer says of another member's cast
 abbrev pub FollowsFrom : Admission → Result Judged ArriveRefusal → Type 0
 FollowsFrom Kept verdict = verdict ≡ Ok judged.Taken
 FollowsFrom admissions.Repeat verdict = verdict ≡ Ok judged.Repeat
-FollowsFrom Overlap verdict = ⊥
-FollowsFrom TooFar verdict = verdict ≡ Err arrivals.TooFar
+FollowsFrom admissions.Overlap verdict = verdict ≡ Err arrivals.Overlap
+FollowsFrom admissions.TooFar verdict = verdict ≡ Err arrivals.TooFar
 
 -- what the rules say of a cast, as the answer that follows
 abbrev pub JudgesCast : State → CastFields → Result Judged ArriveRefusal → Type 0

@@ -1,32 +1,36 @@
 -- What a core answers to its calls, whatever history it stands for.
-use Rattle.std.specs.Prelude.{◌≡◌, ◌≢◌, ◌⊎◌, ℕ, Bool, true, false, List, [], ◌∷◌, ◌++◌, length, map, drop, Option, Some, None, option_map, Result, Ok, Err, IfOk, IfErr, OnErr}
-use Rattle.cb_frames.specs.Fields.{Load, CastFrame, cast_fields}
+use Rattle.std.specs.Prelude.{◌≡◌, ◌≢◌, ◌⊎◌, ℕ, Bool, true, false, List, ◌++◌, length, map, drop, Option, Some, None, option_map, Result, Ok, Err, IfOk, IfErr, OnErr}
+use Rattle.cb_frames.specs.Fields.{Load, CastFrame, unit_fields}
 use Rattle.cb_frames.specs.Laws.{IsBytes}
 use Rattle.cb_history.specs.Read.{frame_read}
 use Rattle.cb_frames.specs.Text.{text_of}
 use Rattle.cb_delay.specs.declared.message.Event.{Event}
-use Rattle.cb_delay.specs.declared.message.Event.TheVariants.{Cast, Deliver}
+use Rattle.cb_delay.specs.declared.message.Event.TheVariants.{Deliver}
 use Rattle.cb_delay.specs.declared.message.Message.{Message}
 use Rattle.cb_history.specs.declared.answer.ArriveRefusal.{ArriveRefusal}
 use Rattle.cb_history.specs.declared.answer.ArriveRefusal.TheVariants as refusals
+use Rattle.cb_history.specs.declared.answer.BurstDone.{BurstDone}
+use Rattle.cb_history.specs.declared.answer.BurstRefusal.{BurstRefusal}
 use Rattle.cb_history.specs.declared.answer.CastDone.{CastDone}
 use Rattle.cb_history.specs.declared.answer.CastRefusal.{CastRefusal}
 use Rattle.cb_history.specs.declared.answer.Ticked.{Ticked}
 use Rattle.cb_history.specs.declared.answer.TickRefusal.{TickRefusal}
 use Rattle.cb_history.specs.declared.history.Entry.{Entry}
-use Rattle.cb_history.specs.CastFault.{TellsFaultOf}
-use Rattle.cb_history.specs.Facts.{entry_fields}
+use Rattle.cb_history.specs.CastFault.{CastFault, IsFault}
+use Rattle.cb_history.specs.EventLaws.{new_events}
+use Rattle.cb_history.specs.Facts.{OwnCast, entry_fields}
 use Rattle.cb_history.specs.Legal.{ToCast, ToTake, ToTick}
-use Rattle.cb_history.specs.State.{MemberState, HasCast, HasTicked, RefusesArrival, RefusesTick, answer_to_arrival, answer_to_cast, entry_by, facts_in, next_in, state_after}
+use Rattle.cb_history.specs.State.{MemberState, HasCast, HasCastBurst, HasTicked, RefusesArrival, RefusesTick, answer_to_arrival, answer_to_cast, entry_by, facts_in, next_in, state_after}
 use Rattle.cb_member.specs.declared.core_member.arriving.Coming.{Coming}
 use Rattle.cb_member.specs.declared.core_member.arriving.Heard.{Heard}
 use Rattle.cb_member.specs.declared.core_member.arriving.Noting.{Noting}
 use Rattle.cb_member.specs.declared.core_member.arriving.Noting.TheVariants.{Unwanted, Wanted, Refused}
+use Rattle.cb_member.specs.declared.own_cast.Casting.{Casting}
 use Rattle.cb_member.specs.declared.recorder.arriving.Named.{Named}
 use Rattle.cb_member.specs.declared.recorder.taken.Received.{Received}
 use Rattle.cb_member.specs.declared.state.State.{State}
 use Rattle.cb_member.specs.Arriving.{IsNew}
-use Rattle.cb_member.specs.Casting.{RefusesExactly, next_message}
+use Rattle.cb_member.specs.Casting.{CanCast, MakesCasting, RefusesBurstExactly, RefusesExactly}
 use Rattle.cb_member.specs.CoreMember.{Core, GoesOn, IsCore, OnEach, core_of}
 use Rattle.cb_member.specs.Course.{CanGo, most}
 use Rattle.cb_member.specs.Knowledge.{delivered_by}
@@ -34,37 +38,80 @@ use Rattle.cb_member.specs.Received.{HasRoomForWanted, count_said, received_says
 
 -- ---- casts
 
--- a cast of this load was made, and this is its entry
-pub record CastsOnEach (load : Load) (old new : Core) (noted : CastDone × Entry) : Type 0 where
+-- a cast of this load was made and is answered so, and this is its entry
+pub record CastsOnEach {D : Type 0} (Has : MemberState → MemberState → Load → D → Type 0) (load : Load) (old new : Core) (noted : D × Entry) : Type 0 where
   pub goes_on : GoesOn (ToCast load) old new
-  pub done : OnEach old (λ m. HasCast m (state_after m (ToCast load)) load noted.0)
+  pub done : OnEach old (λ m. Has m (state_after m (ToCast load)) load noted.0)
   pub entry : OnEach old (λ m. entry_by m (ToCast load) ≡ Some (entry_fields noted.1))
 
-pub record AnswersCastOnEach (load : Load) (old new : Core) (result : Result (CastDone × Entry) CastRefusal) : Type 0 where
+pub record AnswersLoad {D R : Type 0} (Has : MemberState → MemberState → Load → D → Type 0) (Refuses : MemberState → Load → R → Type 0) (load : Load) (old new : Core)
+    (result : Result (D × Entry) R) : Type 0 where
   pub core : IsCore new
-  pub casts : IfOk result (CastsOnEach load old new)
-  pub refused : IfErr result (λ refusal. OnEach old (λ m. RefusesExactly m load refusal))
+  pub casts : IfOk result (CastsOnEach Has load old new)
+  pub refused : IfErr result (λ refusal. OnEach old (λ m. Refuses m load refusal))
   pub same : OnErr result (new ≡ old)
 
--- a cast of this load was made: its event joined the events, and this is its frame and its entry
+abbrev pub AnswersCastOnEach : Load → Core → Core → Result (CastDone × Entry) CastRefusal → Type 0
+AnswersCastOnEach load old new result = AnswersLoad HasCast RefusesExactly load old new result
+
+abbrev pub AnswersBurstOnEach : Load → Core → Core → Result (BurstDone × Entry) BurstRefusal → Type 0
+AnswersBurstOnEach load old new result = AnswersLoad HasCastBurst RefusesBurstExactly load old new result
+
+-- a cast of this load was made: its events joined the events, and this is its frame and its entry
 pub record JoinsCastOnEach (load : Load) (old new : Core) (before after : List Event) (cast : List ℕ × Entry) : Type 0 where
   pub goes_on : GoesOn (ToCast load) old new
   pub answer : OnEach old (λ m. answer_to_cast m load ≡ Ok (next_in m load))
   pub frame : OnEach old (λ m. cast.0 ≡ text_of (CastFrame (next_in m load)))
   pub entry : OnEach old (λ m. entry_by m (ToCast load) ≡ Some (entry_fields cast.1))
-  pub joins : OnEach old (λ m. after ≡ before ++ Cast (next_message m.seat (facts_in m) load) ∷ [])
+  pub joins : OnEach old (λ m. after ≡ before ++ new_events m.seat (facts_in m) (OwnCast (next_in m load)))
 
-pub record AnswersCastInto (load : Load) (old new : Core) (before after : List Event) (result : Result (List ℕ × Entry) CastRefusal) : Type 0 where
+pub record AnswersLoadInto {R : Type 0} (Refuses : MemberState → Load → R → Type 0) (load : Load) (old new : Core) (before after : List Event) (result : Result (List ℕ × Entry) R) : Type 0 where
   pub core : IsCore new
   pub casts : IfOk result (JoinsCastOnEach load old new before after)
-  pub refused : IfErr result (λ refusal. OnEach old (λ m. RefusesExactly m load refusal))
+  pub refused : IfErr result (λ refusal. OnEach old (λ m. Refuses m load refusal))
   pub same : OnErr result (new ≡ old)
   pub same_events : OnErr result (after ≡ before)
 
--- whether the definition answers a cast, or why it refuses one
-abbrev pub MayCast : Load → Core → Result (Unit {0}) CastRefusal → Type 0
-MayCast load core (Ok done) = OnEach core (λ m. answer_to_cast m load ≡ Ok (next_in m load))
-MayCast load core (Err refusal) = OnEach core (λ m. TellsFaultOf refusal (answer_to_cast m load))
+abbrev pub AnswersCastInto : Load → Core → Core → List Event → List Event → Result (List ℕ × Entry) CastRefusal → Type 0
+AnswersCastInto load old new before after result = AnswersLoadInto RefusesExactly load old new before after result
+
+abbrev pub AnswersBurstInto : Load → Core → Core → List Event → List Event → Result (List ℕ × Entry) BurstRefusal → Type 0
+AnswersBurstInto load old new before after result = AnswersLoadInto RefusesBurstExactly load old new before after result
+
+-- the next cast of this load is made
+pub record CanKeepOnEach (load : Load) (state : State) (casting : Casting) : Type 0 where
+  pub core : IsCore (core_of state)
+  pub can : CanCast state load
+  pub makes : MakesCasting state load casting
+
+pub record IsMade (casting : Casting) (state : State) : Type 0 where
+  pub load : Load
+  pub can : CanKeepOnEach load state casting
+
+-- it is kept, or there was no memory
+pub record HasKeptMade {E : Type 0} (load : Load) (old new : Core) (result : Result (BurstDone × Entry) E) : Type 0 where
+  pub core : IsCore new
+  pub casts : IfOk result (CastsOnEach HasCastBurst load old new)
+  pub same : OnErr result (new ≡ old)
+
+abbrev pub KeepsMade : {E : Type 0} → Casting → State → State → Result (BurstDone × Entry) E → Type 0
+KeepsMade casting old new result = (load : Load) → CanKeepOnEach load old casting → HasKeptMade load (core_of old) (core_of new) result
+
+-- so it is where its events join the events
+pub record HasJoinedMade {E : Type 0} (load : Load) (old new : Core) (before after : List Event) (result : Result (List ℕ × Entry) E) : Type 0 where
+  pub core : IsCore new
+  pub casts : IfOk result (JoinsCastOnEach load old new before after)
+  pub same : OnErr result (new ≡ old)
+  pub same_events : OnErr result (after ≡ before)
+
+abbrev pub JoinsMade : {E : Type 0} → Casting → State → State → List Event → List Event → Result (List ℕ × Entry) E → Type 0
+JoinsMade casting old new before after result =
+    (load : Load) → CanKeepOnEach load old casting → HasJoinedMade load (core_of old) (core_of new) before after result
+
+-- whether the definition answers a cast, or why it refuses one, as the refusals of the call tell it
+abbrev pub MayCast : {R : Type 0} → (R → Option CastFault) → Load → Core → Result (Unit {0}) R → Type 0
+MayCast told_by load core (Ok done) = OnEach core (λ m. answer_to_cast m load ≡ Ok (next_in m load))
+MayCast told_by load core (Err refusal) = OnEach core (λ m. IsFault (told_by refusal) (answer_to_cast m load))
 
 -- ---- ticks
 
@@ -144,9 +191,9 @@ pub record AnswersArrivalOnEach (noting : Noting) (bytes : List ℕ) (old new : 
 pub record CanCome (wanted : Bool) (bytes : List ℕ) (core : State) (coming : Coming) : Type 0 where
   pub core_is : IsCore (core_of core)
   pub bytes_are : IsBytes bytes
-  pub read : frame_read bytes ≡ Ok (CastFrame (cast_fields coming.cast))
-  pub new : IsNew (cast_fields coming.cast) core
-  pub can_go : CanGo (cast_fields coming.cast) coming.course core
+  pub read : frame_read bytes ≡ Ok (CastFrame (unit_fields coming.unit))
+  pub new : IsNew (unit_fields coming.unit) core
+  pub can_go : CanGo (unit_fields coming.unit) coming.course core
   pub noted : wanted ≡ true → (named : Named) × (coming.noted ≡ Some named)
   pub noted_fits : HasRoomForWanted bytes (most coming.course) coming.noted
 

@@ -1,6 +1,6 @@
 -- What is answered to received bytes, and what is made for that before anything changes.
 use Rattle.std.specs.Prelude.{◌≡◌, ℕ, ◌<◌, ◌≤◌, true, List, [], length, map, Option, Some, option_map, Result, Ok, IfOk, IfErr, OnErr}
-use Rattle.cb_frames.specs.Fields.{CastFrame, cast_fields}
+use Rattle.cb_frames.specs.Fields.{CastFrame, unit_fields}
 use Rattle.cb_frames.specs.Laws.{IsBytes}
 use Rattle.cb_history.specs.Read.{frame_read}
 use Rattle.cb_times.specs.declared.name.Name.{Name}
@@ -93,13 +93,13 @@ HasRoomForWanted bytes room named = (n : Named) → named ≡ Some n → HasRoom
 pub record CanEnter (wanted : Wanted) (bytes : List ℕ) (r : Recorder) (arriving : Arriving) : Type 0 where
   pub kept : IsKept r
   pub bytes_are : IsBytes bytes
-  pub read : frame_read bytes ≡ Ok (CastFrame (cast_fields arriving.cast))
-  pub new : IsNew (cast_fields arriving.cast) r.state
+  pub read : frame_read bytes ≡ Ok (CastFrame (unit_fields arriving.unit))
+  pub new : IsNew (unit_fields arriving.unit) r.state
   pub few : length r.entries.items < r.limit
-  pub can_go : CanGo (cast_fields arriving.cast) arriving.course r.state
+  pub can_go : CanGo (unit_fields arriving.unit) arriving.course r.state
   pub room : HasRoom (most arriving.course) r
   pub entry : HasRoomForNames bytes (most arriving.course) arriving.entry
-  pub copies : wanted.deliveries ≡ true → AreCopies (cast_fields arriving.cast) arriving.course r.state arriving.deliveries.items
+  pub copies : wanted.deliveries ≡ true → AreCopies (unit_fields arriving.unit) arriving.course r.state arriving.deliveries.items
   pub noted : wanted.entry ≡ true → (named : Named) × (arriving.noted ≡ Some named)
   pub noted_fits : HasRoomForWanted bytes (most arriving.course) arriving.noted
 

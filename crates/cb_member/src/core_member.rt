@@ -1,20 +1,22 @@
 //! A member that keeps no history: what it knows is all that it needs of one.
 
 ghost use Rattle.std.specs.Prelude.{◌≡◌, ◌≢◌, ◌↔◌, ◌⊎◌, ◌≤◌, ◌<◌, [], ◌∷◌, ◌++◌, length, IfOk, IfErr, OnErr, OnOk, Some, None, Ok, Err, true, false, option_map};
-ghost use Rattle.cb_delay.specs.declared.message.Event.TheVariants.{Cast as Cast_event};
 ghost use Rattle.cb_frames.specs.Fields.{One, CastFrame};
 ghost use Rattle.cb_frames.specs.Text.{text_of};
 ghost use Rattle.cb_history.specs.Answers.{is_new_status};
 ghost use Rattle.cb_history.specs.Group.{IsIdentity};
 ghost use Rattle.cb_history.specs.Legal.{ToCast, ToTake, ToTick};
-ghost use Rattle.cb_history.specs.Facts.{entry_fields};
+ghost use Rattle.cb_history.specs.CastFault.{burst_fault_told, fault_told};
+ghost use Rattle.cb_history.specs.EventLaws.{new_events};
+ghost use Rattle.cb_history.specs.Facts.{OwnCast, entry_fields};
+ghost use Rattle.cb_history.specs.Load.{many_of};
 ghost use Rattle.cb_history.specs.Known.{ranges_of};
-ghost use Rattle.cb_history.specs.State.{time_in, stable_in, missing_in, answer_to_cast, entry_by, facts_in, next_in, state_after, HasCast, HasTicked, RefusesTick};
-ghost use Rattle.cb_member.specs.Casting.{RefusesExactly, next_message};
+ghost use Rattle.cb_history.specs.State.{time_in, stable_in, missing_in, answer_to_cast, entry_by, facts_in, next_in, state_after, HasCast, HasCastBurst, HasTicked, RefusesTick};
+ghost use Rattle.cb_member.specs.Casting.{RefusesBurstExactly, RefusesExactly};
 ghost use Rattle.cb_member.specs.CoreCalls.{HasEntryOnEach, JoinsAs, MayCast, ReceivesOnEach, RefusesOnEach, RefusesWithin, joined};
 ghost use Rattle.cb_member.specs.Received.{count_said};
 ghost use Rattle.cb_member.specs.CoreMember.{GoesOn, OnEach, StandsFor};
-ghost use Rattle.cb_member.specs.CoreRuns.{Cast, IsCall, Take, Tick};
+ghost use Rattle.cb_member.specs.CoreRuns.{Burst, Cast, IsCall, Take, Tick};
 
 mod arriving;
 mod casting;
@@ -27,8 +29,8 @@ use bytes::Bytes;
 use cb_delay::Event;
 use cb_frames::Range;
 use cb_history::{
-    ArriveRefusal, CastDone, CastRefusal, Entry, Group, Identity, MissingFault, NewFault,
-    TickRefusal, Ticked,
+    ArriveRefusal, BurstDone, BurstRefusal, CastDone, CastRefusal, Entry, Group, Identity,
+    MissingFault, NewFault, TickRefusal, Ticked,
 };
 use cb_times::{NoMemory, VectorTime};
 use std::alloc::Global;
@@ -162,6 +164,45 @@ impl CoreMember {
         self.state.cast_unlimited(payload)
     }
 
+    /// Casts a message of each payload, all in one frame: 1 to 32 payloads of up to 1,024 bytes
+    /// together. Their numbers follow one another, and so do their times. Answers the first name,
+    /// how many messages there are, the first time and the frame that goes to all others.
+    ///
+    /// A refusal is the definition's, in the order of `BurstRefusal`; `NoMemory` stands only in
+    /// place of a burst.
+    pub fn cast_burst(&mut self, payloads: &[&[u8]]) -> Result<BurstDone, BurstRefusal>
+        ensures done { IfOk result (λ done. OnEach self.old (λ m. HasCastBurst m
+            (state_after m (ToCast (many_of payloads.now))) (many_of payloads.now) done)) }
+        ensures goes_on { OnOk result (GoesOn (ToCast (many_of payloads.now)) self.old self.new) }
+        ensures refused { IfErr result (λ refusal. OnEach self.old (λ m.
+            RefusesBurstExactly m (many_of payloads.now) refusal)) }
+        ensures no_limit { result ≢ Err BurstRefusal.HistoryFull }
+        ensures same { OnErr result (self.new ≡ self.old) }
+        ensures call { IsCall (Burst (many_of payloads.now) result) self.old self.new }
+    {
+        let (done, _entry) = self.cast_burst_noted(payloads)?;
+        Ok(done)
+    }
+
+    /// Casts a burst as `cast_burst` does, and hands out the one entry that a history would have of
+    /// it.
+    pub fn cast_burst_noted(
+        &mut self,
+        payloads: &[&[u8]],
+    ) -> Result<(BurstDone, Entry), BurstRefusal>
+        ensures done { IfOk result (λ noted. OnEach self.old (λ m. HasCastBurst m
+            (state_after m (ToCast (many_of payloads.now))) (many_of payloads.now) noted.0)) }
+        ensures entry { IfOk result (λ noted. OnEach self.old (λ m.
+            entry_by m (ToCast (many_of payloads.now)) ≡ Some (entry_fields noted.1))) }
+        ensures goes_on { OnOk result (GoesOn (ToCast (many_of payloads.now)) self.old self.new) }
+        ensures refused { IfErr result (λ refusal. OnEach self.old (λ m.
+            RefusesBurstExactly m (many_of payloads.now) refusal)) }
+        ensures no_limit { result ≢ Err BurstRefusal.HistoryFull }
+        ensures same { OnErr result (self.new ≡ self.old) }
+    {
+        self.state.cast_burst_unlimited(payloads)
+    }
+
     /// Casts a payload as `cast_noted` does, for a caller who keeps events: that of the cast joins
     /// them. Its frame is handed out, and the entry that a history would have of it.
     pub fn cast_into(
@@ -176,7 +217,7 @@ impl CoreMember {
         ensures entry { IfOk result (λ cast. OnEach self.old (λ m.
             entry_by m (ToCast (One payload.now)) ≡ Some (entry_fields cast.1))) }
         ensures joins { OnOk result (OnEach self.old (λ m. events.new.items ≡ events.old.items
-            ++ Cast_event (next_message m.seat (facts_in m) (One payload.now)) ∷ [])) }
+            ++ new_events m.seat (facts_in m) (OwnCast (next_in m (One payload.now))))) }
         ensures goes_on { OnOk result (GoesOn (ToCast (One payload.now)) self.old self.new) }
         ensures refused { IfErr result (λ refusal. OnEach self.old (λ m.
             RefusesExactly m (One payload.now) refusal)) }
@@ -187,12 +228,45 @@ impl CoreMember {
         self.state.cast_joining(payload, events)
     }
 
+    /// Casts a burst as `cast_burst_noted` does, for a caller who keeps events: those of its
+    /// messages join them. Its frame is handed out, and the entry that a history would have of it.
+    pub fn cast_burst_into(
+        &mut self,
+        payloads: &[&[u8]],
+        events: &mut Vec<Event>,
+    ) -> Result<(Bytes, Entry), BurstRefusal>
+        ensures answer { OnOk result (OnEach self.old (λ m. answer_to_cast m (many_of payloads.now)
+            ≡ Ok (next_in m (many_of payloads.now)))) }
+        ensures frame { IfOk result (λ cast. OnEach self.old (λ m.
+            cast.0 ≡ text_of (CastFrame (next_in m (many_of payloads.now))))) }
+        ensures entry { IfOk result (λ cast. OnEach self.old (λ m.
+            entry_by m (ToCast (many_of payloads.now)) ≡ Some (entry_fields cast.1))) }
+        ensures joins { OnOk result (OnEach self.old (λ m. events.new.items ≡ events.old.items
+            ++ new_events m.seat (facts_in m) (OwnCast (next_in m (many_of payloads.now))))) }
+        ensures goes_on { OnOk result (GoesOn (ToCast (many_of payloads.now)) self.old self.new) }
+        ensures refused { IfErr result (λ refusal. OnEach self.old (λ m.
+            RefusesBurstExactly m (many_of payloads.now) refusal)) }
+        ensures no_limit { result ≢ Err BurstRefusal.HistoryFull }
+        ensures same { OnErr result (self.new ≡ self.old) }
+        ensures same_events { OnErr result (events.new.items ≡ events.old.items) }
+    {
+        self.state.cast_burst_joining(payloads, events)
+    }
+
     /// Whether `cast` would cast the payload, if there is memory for it; else why not. This takes
     /// no memory.
     pub fn may_cast(&self, payload: &[u8]) -> Result<(), CastRefusal>
-        ensures { MayCast (One payload.now) self.now result }
+        ensures { MayCast fault_told (One payload.now) self.now result }
     {
         self.state.judge_payload(payload)
+    }
+
+    /// Whether `cast_burst` would cast the payloads, if there is memory for them; else why not. This
+    /// takes no memory.
+    pub fn may_cast_burst(&self, payloads: &[&[u8]]) -> Result<(), BurstRefusal>
+        ensures { MayCast burst_fault_told (many_of payloads.now) self.now result }
+    {
+        self.state.judge_payloads(payloads)
     }
 
     /// Takes received bytes. What they make ready is delivered: it joins the caller's events, whose
@@ -200,8 +274,9 @@ impl CoreMember {
     /// answered. Who keeps the list from call to call, and clears it, keeps its room.
     ///
     /// A refusal is the definition's, in the order of `ArriveRefusal`; a repeat is reported before
-    /// a cast that is too far ahead. `NoMemory` may stand in place of any answer for bytes that are
-    /// a frame; what is no frame is refused without memory.
+    /// a burst of which some messages were received and others not, and both before what is too far
+    /// ahead. `NoMemory` may stand in place of any answer for bytes that are a frame; what is no
+    /// frame is refused without memory.
     pub fn receive(
         &mut self,
         bytes: &Bytes,

@@ -14,6 +14,7 @@ mod delivery;
 mod knowledge;
 mod laws;
 mod member;
+mod own_burst;
 mod own_cast;
 mod reception;
 mod recorder;
@@ -26,9 +27,9 @@ mod tick;
 
 pub use cb_frames::{FrameFault, Range};
 pub use cb_history::{
-    Arrival, ArriveRefusal, BadGroup, CastDone, CastRefusal, Entry, Event, Group, GroupMember,
-    History, Identity, LONGEST_HISTORY, Message, MissingFault, Name, NewFault, Outgoing,
-    TickRefusal, Ticked,
+    Arrival, ArriveRefusal, BadGroup, BurstDone, BurstRefusal, CastDone, CastRefusal, Entry, Event,
+    Group, GroupMember, History, Identity, LONGEST_HISTORY, Message, MissingFault, Name, NewFault,
+    Outgoing, TickRefusal, Ticked,
 };
 pub use cb_times::{NoMemory, TimeOrder, VectorTime};
 pub use core_member::CoreMember;

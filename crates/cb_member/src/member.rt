@@ -6,17 +6,19 @@ ghost use Rattle.cb_history.specs.Group.{IsIdentity};
 ghost use Rattle.cb_history.specs.Legal.{longest_history, ToCast, ToTake, ToTick};
 ghost use Rattle.cb_history.specs.LegalHistory.{IsLegalHistory};
 ghost use Rattle.cb_history.specs.Facts.{entry_fields};
+ghost use Rattle.cb_history.specs.Load.{many_of};
 ghost use Rattle.cb_history.specs.Known.{ranges_of};
-ghost use Rattle.cb_history.specs.State.{IsMemberState, state_of, time_in, events_in, stable_in, missing_in, entry_by, HasCast, HasTaken, RefusesArrival, HasTicked, RefusesTick};
-ghost use Rattle.cb_member.specs.Casting.{RefusesExactly};
+ghost use Rattle.cb_history.specs.State.{IsMemberState, state_of, time_in, events_in, stable_in, missing_in, entry_by, HasCast, HasCastBurst, HasTaken, RefusesArrival, HasTicked, RefusesTick};
+ghost use Rattle.cb_member.specs.Casting.{RefusesExactly, RefusesBurstExactly};
 ghost use Rattle.cb_member.specs.Received.{HasReceivedFrame, HasTakenToSend};
 
 use crate::recorder::{Received, Recorder, Taken, Wanted};
 use bytes::Bytes;
 use cb_frames::Range;
 use cb_history::{
-    Arrival, ArriveRefusal, CastDone, CastRefusal, Entry, Event, Group, GroupMember, History,
-    Identity, LONGEST_HISTORY, MissingFault, NewFault, Outgoing, TickRefusal, Ticked,
+    Arrival, ArriveRefusal, BurstDone, BurstRefusal, CastDone, CastRefusal, Entry, Event, Group,
+    GroupMember, History, Identity, LONGEST_HISTORY, MissingFault, NewFault, Outgoing, TickRefusal,
+    Ticked,
 };
 use cb_times::{NoMemory, VectorTime};
 use std::alloc::Global;
@@ -155,11 +157,39 @@ impl Member {
         self.recorder.cast_noted(payload)
     }
 
+    /// Casts a message of each payload, all in one frame: 1 to 32 payloads of up to 1,024 bytes together. Their numbers follow one another,
+    /// and so do their times. Answers the first name, how many messages there are, the first time and the frame that goes to all others.
+    ///
+    /// A refusal is that of the definition, in the order of `BurstRefusal`; `NoMemory` stands only in place of a burst. After a refusal
+    /// the member is as it was.
+    pub fn cast_burst(&mut self, payloads: &[&[u8]]) -> Result<BurstDone, BurstRefusal>
+        ensures done { IfOk result (HasCastBurst self.old self.new (many_of payloads.now)) }
+        ensures refused { IfErr result (RefusesBurstExactly self.old (many_of payloads.now)) }
+        ensures same { OnErr result (self.new ≡ self.old) }
+    {
+        self.recorder.cast_burst(payloads)
+    }
+
+    /// Casts a burst as `cast_burst` does, and hands out a copy of the one entry that was added.
+    pub fn cast_burst_noted(
+        &mut self,
+        payloads: &[&[u8]],
+    ) -> Result<(BurstDone, Entry), BurstRefusal>
+        ensures done { IfOk result (λ noted.
+            HasCastBurst self.old self.new (many_of payloads.now) noted.0) }
+        ensures entry { IfOk result (λ noted. entry_by self.old (ToCast (many_of payloads.now))
+            ≡ Some (entry_fields noted.1)) }
+        ensures refused { IfErr result (RefusesBurstExactly self.old (many_of payloads.now)) }
+        ensures same { OnErr result (self.new ≡ self.old) }
+    {
+        self.recorder.cast_burst_noted(payloads)
+    }
+
     /// Takes received bytes: delivers what they make ready, or answers a request. The deliveries stand at the end of the events.
     ///
-    /// A refusal is that of the definition, in the order of `ArriveRefusal`; a repeat is reported before a cast that is too far ahead.
-    /// `NoMemory` may stand in place of any answer for bytes that are a frame; what is no frame is refused without memory. After a
-    /// refusal the member is as it was.
+    /// A refusal is that of the definition, in the order of `ArriveRefusal`; a repeat is reported before a burst of which some messages
+    /// were received and others not, and both before what is too far ahead. `NoMemory` may stand in place of any answer for bytes that are
+    /// a frame; what is no frame is refused without memory. After a refusal the member is as it was.
     pub fn receive(&mut self, bytes: &Bytes) -> Result<Received, ArriveRefusal>
         ensures taken { IfOk result (HasReceivedFrame self.old self.new bytes.now) }
         ensures refused { IfErr result (RefusesArrival self.old bytes.now) }
@@ -256,6 +286,10 @@ impl GroupMember for Member {
 
     fn cast(&mut self, payload: &[u8]) -> Result<CastDone, CastRefusal> {
         Member::cast(self, payload)
+    }
+
+    fn cast_burst(&mut self, payloads: &[&[u8]]) -> Result<BurstDone, BurstRefusal> {
+        Member::cast_burst(self, payloads)
     }
 
     fn arrive(&mut self, bytes: &Bytes) -> Result<Arrival, ArriveRefusal> {

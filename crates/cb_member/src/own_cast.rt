@@ -1,37 +1,51 @@
 //! Casting: what a cast is made of before anything changes, and what is kept of it.
 
-ghost use Rattle.std.specs.Prelude.{◌≡◌, ◌<◌, ℕ, List, IfOk};
+ghost use Rattle.std.specs.Prelude.{◌≡◌, ◌+◌, ◌<◌, ◌≤◌, ◌++◌, ◌∷◌, ℕ, List, [], IfOk, length, map};
+ghost use Rattle.std.specs.Vec.{vec_capacity, vec_len};
+ghost use Rattle.cb_delay.specs.declared.message.Event.TheVariants.{Cast as Cast_event};
 ghost use Rattle.cb_frames.specs.Fields.{Load, One, cast_fields};
 ghost use Rattle.cb_frames.specs.Text.{with_load};
 ghost use Rattle.cb_stability.specs.Sent.{room_of};
 ghost use Rattle.cb_history.specs.Answers.{next_cast};
+ghost use Rattle.cb_history.specs.CastFault.{fault_told};
 ghost use Rattle.cb_member.specs.State.{IsState, OnAll};
-ghost use Rattle.cb_member.specs.Casting.{next_message, CanCast, JudgesLoad, MakesCasting, IsSameButBlock, CanKeepCast, HasKept};
+ghost use Rattle.cb_member.specs.Casting.{messages_made, time_of_last, next_messages, CanCast, JudgesLoad, MakesCasting, IsSameButBlock, CanKeepCast, HasKept};
 
 use crate::state::State;
 use crate::text::{another, cast_text, payload_in};
 use bytes::Bytes;
-use cb_delay::Message;
+use cb_delay::{Event, Message};
 use cb_diffs::difference;
 use cb_frames::{Cast, LONGEST_PAYLOAD};
 use cb_history::CastRefusal;
 use cb_times::{Name, NoMemory, VectorTime};
 
-/// A cast that can be kept without memory.
+/// A cast of one message or several that can be kept without memory.
 #[derive(Drop)]
 pub struct Casting {
-    /// The message as its sender's events have it.
-    pub message: Message,
-    /// Its frame, and the frame once more, which may have to be sent again.
+    /// The first message as its sender's events have it. It is no part of a list, which a cast of one message thus does not have.
+    pub first: Message,
+    /// The messages behind it, in the order of their numbers.
+    pub others: Vec<Message>,
+    /// Their frame, and the frame once more, which may have to be sent again.
     pub out: Bytes,
     pub sent: Bytes,
+}
+
+impl Casting {
+    /// How many messages there are.
+    pub fn count(&self) -> usize
+        ensures { result ≡ length (messages_made self.now) }
+    {
+        1 + self.others.len()
+    }
 }
 
 impl State {
     /// Whether the payload may be cast. This takes no memory, and how much room the history has is not asked.
     pub fn judge_payload(&self, payload: &[u8]) -> Result<(), CastRefusal>
         requires { IsState self.now }
-        ensures { JudgesLoad self.now (One payload.now) result }
+        ensures { JudgesLoad fault_told self.now (One payload.now) result }
     {
         if payload.len() > LONGEST_PAYLOAD {
             return Err(CastRefusal::PayloadTooLong);
@@ -51,13 +65,19 @@ impl State {
     {
         let cast = self.next_cast()?;
         let out = cast_text(&mut self.block, &cast, payload)?;
-        let message = self.message_of(&cast, payload_in(&out, payload)?)?;
+        let first = self.message_of(&cast, payload_in(&out, payload)?)?;
         let sent = another(&out)?;
-        Ok(Casting { message, out, sent })
+        let others = Vec::new(self.alloc);
+        Ok(Casting {
+            first,
+            others,
+            out,
+            sent,
+        })
     }
 
     /// The next own cast but for its payload, which is copied once, into the frame.
-    fn next_cast(&self) -> Result<Cast, NoMemory>
+    pub fn next_cast(&self) -> Result<Cast, NoMemory>
         requires state { IsState self.now }
         requires room { 0 < room_of self.now.sending.window }
         ensures { IfOk result (λ cast. OnAll self.now (λ facts. (load : Load)
@@ -81,8 +101,8 @@ impl State {
         requires room { 0 < room_of self.now.sending.window }
         requires next { OnAll self.now (λ facts. with_load (cast_fields cast.now) (One payload)
             ≡ next_cast self.now.seat facts (One payload)) }
-        ensures { IfOk result (λ message. OnAll self.now (λ facts. message
-            ≡ next_message self.now.seat facts (One payload))) }
+        ensures { IfOk result (λ message. OnAll self.now (λ facts. message ∷ []
+            ≡ next_messages self.now.seat facts (One payload))) }
     {
         let mut time = self.delivery.time.copy()?;
         time.add_one(self.seat.me());
@@ -96,13 +116,35 @@ impl State {
         })
     }
 
-    /// Keeps the cast that was made. This takes no memory.
-    pub fn keep_cast(&mut self, time: &VectorTime, sent: Bytes)
-        requires { CanKeepCast time.now sent self.old }
-        ensures { HasKept time.now sent self.old self.new }
+    /// Keeps the cast that was made, of so many messages, with which this is the time. This takes no memory.
+    pub fn keep_cast(&mut self, time: &VectorTime, sent: Bytes, count: u32)
+        requires { CanKeepCast time.now sent count self.old }
+        ensures { HasKept time.now sent count self.old self.new }
     {
         self.delivery.time.copy_from(time);
         self.sending.last_cast.copy_from(time);
-        self.sending.window.put(sent, 1);
+        self.sending.window.put(sent, count);
+    }
+}
+
+/// Puts the events of these casts behind the others, which have room for them.
+pub fn push_casts(events: &mut Vec<Event>, first: Message, others: Vec<Message>)
+    requires { vec_len events.old + (1 + length others.items) ≤ vec_capacity events.old }
+    ensures { events.new.items ≡ events.old.items
+        ++ map (λ message. Cast_event message) (first ∷ others.items) }
+{
+    events.push_reserved(Event::Cast(first));
+    for message in others {
+        events.push_reserved(Event::Cast(message));
+    }
+}
+
+/// The time of the last of these messages, which is the member's with all of them.
+pub fn last_time<'a>(first: &'a Message, others: &'a [Message]) -> &'a VectorTime
+    ensures { result.now ≡ time_of_last first.now others.now }
+{
+    match others.last() {
+        Some(message) => &message.time,
+        None => &first.time,
     }
 }

@@ -1,4 +1,4 @@
-//! The casts received from others, until the delay queue has them.
+//! The casts and bursts received from others, until the delay queue has them.
 
 ghost use Rattle.std.specs.Prelude.{◌≡◌, ◌<◌, ◌+◌, true, None, IfOk, IfSome, IfNone, OnOk, OnSome, length, map};
 ghost use Rattle.std.specs.FinMap as fin;
@@ -6,13 +6,14 @@ ghost use Rattle.cb_times.specs.Group.{IsGroupSize, IsWindow};
 ghost use Rattle.cb_diffs.specs.Expansion.{IsGrown, time_of};
 ghost use Rattle.cb_diffs.specs.Expansion.{IsNext as IsNextCast};
 ghost use Rattle.cb_gaps.specs.Buffer.{IsNext, Takes};
-ghost use Rattle.cb_frames.specs.Fields.{cast_fields, first_number, last_number, messages_of};
+ghost use Rattle.cb_frames.specs.Fields.{cast_fields, unit_fields, first_number, last_number, messages_of};
+ghost use Rattle.cb_frames.specs.Carrying.{IsNumberedCast};
 ghost use Rattle.cb_member.specs.Reception.{IsNewReception, IsAlike, HasPlaceFor, spares_of};
 ghost use Rattle.cb_member.specs.Singles.{KeepsSingles, times_in};
 ghost use Rattle.cb_member.specs.Taking.{WouldExpand, CanKeep, KeepsCast, IsReceiving, ExpandsNext, HasNoNextOf, Tells};
 ghost use Rattle.cb_member.specs.Passing.{IsInOrder, TakesAt, TakesInOrder, message_at};
 
-use crate::singles::{Singles, Spares, last_of};
+use crate::singles::{Singles, Spares};
 use cb_delay::Message;
 use cb_diffs::Expander;
 use cb_frames::{Cast, Unit};
@@ -20,7 +21,7 @@ use cb_gaps::Reorder;
 use cb_times::{Name, NoMemory, VectorTime};
 use std::alloc::Global;
 
-/// The singles of received casts that wait for those before them, and the times of those that don't.
+/// The singles of received casts and bursts that wait for those before them, and the times of those that don't.
 #[derive(Drop)]
 pub struct Reception {
     /// One for each member; the member's own stays empty.
@@ -60,13 +61,14 @@ impl Reception {
         })
     }
 
-    /// How many more messages of the sender could be expanded, were this cast there as well.
-    pub fn would_expand(&self, cast: &Cast) -> u32
-        requires { cast.now.sender < length self.now.buffers.items }
-        ensures { WouldExpand cast.now.sender (first_number (cast_fields cast.now))
-            (last_number (cast_fields cast.now)) self.now result }
+    /// How many more messages of the sender could be expanded, were this unit there as well.
+    pub fn would_expand(&self, unit: &Unit) -> u32
+        requires numbered { IsNumberedCast (unit_fields unit.now) }
+        requires member { (unit_fields unit.now).sender < length self.now.buffers.items }
+        ensures { WouldExpand (unit_fields unit.now).sender (first_number (unit_fields unit.now))
+            (last_number (unit_fields unit.now)) self.now result }
     {
-        self.buffers[cast.sender as usize].ready_with(cast.number, last_of(cast))
+        self.buffers[unit.sender() as usize].ready_with(unit.first(), unit.last())
     }
 
     /// Makes room for so many spares more of this sender.
@@ -78,16 +80,18 @@ impl Reception {
         self.spares[sender as usize].reserve(count)
     }
 
-    /// Keeps the singles of a cast of another member until those before them are received, and what is made for them.
-    pub fn keep(&mut self, delivered: u32, cast: Cast, spares: Spares)
-        requires can_keep { CanKeep delivered (cast_fields cast) self.old }
-        requires many { length (times_in spares) ≡ length (messages_of (cast_fields cast)) }
-        requires place { HasPlaceFor cast.sender (length (times_in spares)) self.old }
-        ensures { KeepsCast (cast_fields cast) (times_in spares) self.old self.new }
+    /// Keeps the singles of a unit of another member until those before them are received, and what is made for them.
+    pub fn keep(&mut self, delivered: u32, unit: Unit, spares: Spares)
+        requires numbered { IsNumberedCast (unit_fields unit) }
+        requires can_keep { CanKeep delivered (unit_fields unit) self.old }
+        requires many { length (times_in spares) ≡ length (messages_of (unit_fields unit)) }
+        requires place { HasPlaceFor (unit_fields unit).sender (length (times_in spares))
+            self.old }
+        ensures { KeepsCast (unit_fields unit) (times_in spares) self.old self.new }
     {
-        let sender = cast.sender as usize;
+        let sender = unit.sender() as usize;
         spares.put_on(&mut self.spares[sender]);
-        Singles::of(cast).keep_in(&mut self.buffers[sender], delivered);
+        Singles::of(unit).keep_in(&mut self.buffers[sender], delivered);
     }
 
     /// Whether the cast is its sender's next one, and none of the sender's waits behind it.
@@ -106,7 +110,7 @@ impl Reception {
         ensures takes { TakesInOrder (cast_fields cast) self.old self.new result }
         ensures message { result ≡ message_at (cast_fields cast) time }
     {
-        self.buffers[cast.sender as usize].take_in_order(last_of(&cast));
+        self.buffers[cast.sender as usize].take_in_order(cast.number);
         self.expander.take(&cast, &time);
         Message {
             name: name_of(&cast),

@@ -4,21 +4,24 @@ ghost use Rattle.std.specs.Prelude.{◌≡◌, ◌≤◌, IfOk, IfErr, OnOk, Som
 ghost use Rattle.cb_frames.specs.Fields.{One};
 ghost use Rattle.cb_history.specs.Facts.{entry_fields, TickEntry};
 ghost use Rattle.cb_history.specs.Group.{IsIdentity};
+ghost use Rattle.cb_history.specs.Load.{many_of};
 ghost use Rattle.cb_history.specs.Legal.{longest_history, ToCast, ToTick};
 ghost use Rattle.cb_history.specs.State.{entry_by, HasTicked, RefusesTick};
-ghost use Rattle.cb_member.specs.Casting.{RefusesExactly};
+ghost use Rattle.cb_member.specs.Casting.{RefusesBurstExactly, RefusesExactly, as_cast_done};
 ghost use Rattle.cb_member.specs.Recorder.{IsKept, IsNewRecorder, IsSame, HasRoom, held_by};
-ghost use Rattle.cb_member.specs.Entering.{AnswersCast, AnswersTick, CanEnterCast, IsEnteringCast, EntersCast, Tells};
+ghost use Rattle.cb_member.specs.Entering.{AnswersBurst, AnswersCast, AnswersTick, CanEnterCast, HasRoomForCast, IsEnteringCast, EntersCast, Tells};
 
 pub mod arriving;
 mod taken;
 
-use crate::own_cast::Casting;
+use crate::own_cast::{Casting, last_time, push_casts};
 use crate::state::State;
 use crate::text::another;
 use bytes::Bytes;
 use cb_delay::Event;
-use cb_history::{CastDone, CastRefusal, Entry, Identity, Outgoing, TickRefusal, Ticked};
+use cb_history::{
+    BurstDone, BurstRefusal, CastDone, CastRefusal, Entry, Identity, Outgoing, TickRefusal, Ticked,
+};
 use cb_times::{NoMemory, VectorTime, make_room};
 use std::alloc::Global;
 pub use taken::{Received, Taken, Wanted};
@@ -87,7 +90,7 @@ impl Recorder {
         ensures { AnswersCast (λ done. done) (One payload.now) self.old self.new result }
     {
         let entering = self.prepare_cast(payload)?;
-        Ok(self.enter_cast(entering))
+        Ok(of_one(self.enter_cast(entering)))
     }
 
     /// Casts a message of this payload, and hands out a copy of the entry that it adds.
@@ -99,6 +102,31 @@ impl Recorder {
             (ToCast (One payload.now)) ≡ Some (entry_fields noted.1)) }
     {
         let entering = self.prepare_cast(payload)?;
+        let noted = entering.entry.copy()?;
+        Ok((of_one(self.enter_cast(entering)), noted))
+    }
+
+    /// Casts a message of each payload, all in one frame.
+    pub fn cast_burst(&mut self, payloads: &[&[u8]]) -> Result<BurstDone, BurstRefusal>
+        requires { IsKept self.old }
+        ensures { AnswersBurst (λ done. done) (many_of payloads.now) self.old self.new result }
+    {
+        let entering = self.prepare_burst(payloads)?;
+        Ok(self.enter_cast(entering))
+    }
+
+    /// Casts a burst as `cast_burst` does, and hands out a copy of the entry that it adds.
+    pub fn cast_burst_noted(
+        &mut self,
+        payloads: &[&[u8]],
+    ) -> Result<(BurstDone, Entry), BurstRefusal>
+        requires { IsKept self.old }
+        ensures answers { AnswersBurst (λ noted. noted.0) (many_of payloads.now) self.old self.new
+            result }
+        ensures entry { IfOk result (λ noted. entry_by (held_by self.old)
+            (ToCast (many_of payloads.now)) ≡ Some (entry_fields noted.1)) }
+    {
+        let entering = self.prepare_burst(payloads)?;
         let noted = entering.entry.copy()?;
         Ok((self.enter_cast(entering), noted))
     }
@@ -116,11 +144,38 @@ impl Recorder {
             return Err(CastRefusal::HistoryFull);
         }
         let casting = self.state.make(payload)?;
-        let time = casting.message.time.copy()?;
+        let entering = self.with_room(casting)?;
+        Ok(entering)
+    }
+
+    /// Makes all that the burst needs, and room for it. What is kept stays as it was.
+    fn prepare_burst(&mut self, payloads: &[&[u8]]) -> Result<EnteringCast, BurstRefusal>
+        requires { IsKept self.old }
+        ensures kept { IsKept self.new }
+        ensures same { held_by self.new ≡ held_by self.old }
+        ensures can { IfOk result (CanEnterCast (many_of payloads.now) self.new) }
+        ensures refused { IfErr result
+            (RefusesBurstExactly (held_by self.old) (many_of payloads.now)) }
+    {
+        self.state.judge_payloads(payloads)?;
+        if self.is_full() {
+            return Err(BurstRefusal::HistoryFull);
+        }
+        let casting = self.state.make_burst(payloads)?;
+        let entering = self.with_room(casting)?;
+        Ok(entering)
+    }
+
+    /// Makes room for a cast that was made, its entry, and a copy of its first time. What is kept stays as it was.
+    fn with_room(&mut self, casting: Casting) -> Result<EnteringCast, NoMemory>
+        ensures same { IsSame self.old self.new }
+        ensures entering { IfOk result (HasRoomForCast casting self.new) }
+    {
+        let time = casting.first.time.copy()?;
         let entry = Entry::Cast {
             frame: another(&casting.out)?,
         };
-        self.reserve(1)?;
+        self.reserve(casting.count())?;
         Ok(EnteringCast {
             casting,
             entry,
@@ -129,7 +184,7 @@ impl Recorder {
     }
 
     /// Enters a cast that was made. This takes no memory.
-    fn enter_cast(&mut self, entering: EnteringCast) -> CastDone
+    fn enter_cast(&mut self, entering: EnteringCast) -> BurstDone
         requires { IsEnteringCast entering self.old }
         ensures { EntersCast entering self.old self.new result }
     {
@@ -138,12 +193,24 @@ impl Recorder {
             entry,
             time,
         } = entering;
-        let Casting { message, out, sent } = casting;
-        let name = message.name;
-        self.state.keep_cast(&time, sent);
-        self.events.push_reserved(Event::Cast(message));
+        let count = casting.count() as u32;
+        let Casting {
+            first: message,
+            others,
+            out,
+            sent,
+        } = casting;
+        let first = message.name;
+        self.state
+            .keep_cast(last_time(&message, &others), sent, count);
+        push_casts(&mut self.events, message, others);
         self.entries.push_reserved(entry);
-        CastDone { name, time, out }
+        BurstDone {
+            first,
+            count,
+            time,
+            out,
+        }
     }
 
     /// Reports the status to all, and asks for what is missing.
@@ -221,6 +288,23 @@ impl Recorder {
         ensures { result ≡ nat_le self.now.limit (length self.now.entries.items) }
     {
         self.entries.len() >= self.limit
+    }
+}
+
+/// What is told of a cast of one message.
+pub fn of_one(done: BurstDone) -> CastDone
+    ensures { result ≡ as_cast_done done }
+{
+    let BurstDone {
+        first,
+        count: _,
+        time,
+        out,
+    } = done;
+    CastDone {
+        name: first,
+        time,
+        out,
     }
 }
 

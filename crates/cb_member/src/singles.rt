@@ -1,69 +1,105 @@
-//! A received cast as its singles, casts that carry its messages one by one, and the spares for their times.
+//! A received unit as its singles, casts that carry its messages one by one, and the spares for their times.
 //!
-//! The member judges a cast as a whole and keeps its singles. While a cast carries one message, its single is the cast itself.
+//! The member judges a unit as a whole and keeps its singles. That of a cast is the cast itself.
 
-ghost use Rattle.std.specs.Prelude.{◌≡◌, ◌+◌, ◌≤◌, ◌++◌, ◌∷◌, [], ◌↔◌, All, IfOk, IfSome, IfNone, IsTrue, length};
+ghost use Rattle.std.specs.Prelude.{◌≡◌, ◌+◌, ◌<◌, ◌≤◌, ◌++◌, ◌∷◌, [], All, IfOk, IfSome, IfNone, length};
 ghost use Rattle.std.specs.Vec.{vec_capacity, vec_len};
 ghost use Rattle.cb_times.specs.Group.{IsGroupSize};
-ghost use Rattle.cb_frames.specs.Fields.{cast_fields, last_number, messages_of};
+ghost use Rattle.cb_frames.specs.declared.frame.TheConstants.{LAST_NUMBER};
+ghost use Rattle.cb_frames.specs.Fields.{One, IsSome, burst_fields, cast_fields, unit_fields};
 ghost use Rattle.cb_history.specs.BufferLaws.{AreKept};
 ghost use Rattle.cb_history.specs.Singles.{IsSingle, singles_of};
-ghost use Rattle.cb_member.specs.Singles.{AreSparesFor, CanKeepInTurn, left_in, times_in};
+ghost use Rattle.cb_member.specs.Singles.{AreSparesFor, CanKeepInTurn, HaveNumbers, left_in, times_in};
 
-use cb_frames::{Cast, Unit};
+use bytes::Bytes;
+use cb_frames::{Burst, Cast, Unit};
 use cb_gaps::Reorder;
 use cb_times::{NoMemory, VectorTime};
 use std::alloc::Global;
+use std::vec::IntoIter;
 
-/// The singles of a cast, in the order of their numbers. They take no memory.
+/// The singles of a unit, in the order of their numbers. They share its bytes, and take no memory.
 #[derive(Drop)]
 pub struct Singles {
+    /// The first of those that are left, which alone may change a field.
     next: Option<Cast>,
+    /// The payloads of the others.
+    others: IntoIter<Bytes>,
 }
 
-/// Times to write over, one for each message of a cast. The first is no part of a list, which a cast of one message thus does not have.
+/// Times to write over, one for each message of a unit. The first is no part of a list, which a cast thus does not have.
 #[derive(Drop)]
 pub struct Spares {
     first: VectorTime,
     others: Vec<VectorTime>,
 }
 
-/// How many messages a cast carries.
-#[tactic(auto, using(cb_frames::proofs::Carried::carries_one))]
-fn count_of(_cast: &Cast) -> usize
-    ensures { result ≡ length (messages_of (cast_fields _cast.now)) }
+/// The cast of a unit that carries one message.
+pub fn only_cast(unit: Unit) -> Cast
+    requires { IsSingle (unit_fields unit) }
+    ensures { cast_fields result ≡ unit_fields unit }
 {
-    1
-}
-
-/// The number of its last message.
-#[tactic(auto, using(cb_frames::proofs::Carried::last_is_number))]
-pub fn last_of(cast: &Cast) -> u32
-    ensures { result ≡ last_number (cast_fields cast.now) }
-{
-    cast.number
-}
-
-/// Whether it carries one message, and so is its own single.
-pub fn is_single(cast: &Cast) -> bool
-    ensures { IsTrue result ↔ IsSingle (cast_fields cast.now) }
-{
-    count_of(cast) == 1
+    match unit {
+        Unit::One(cast) => cast,
+        Unit::Many(_) => unreachable!("it carries one message"),
+    }
 }
 
 impl Singles {
-    pub fn of(cast: Cast) -> Singles
+    pub fn of(unit: Unit) -> Singles
+        ensures { left_in result ≡ singles_of (unit_fields unit) }
+    {
+        match unit {
+            Unit::One(cast) => Singles::of_cast(cast),
+            Unit::Many(burst) => Singles::of_burst(burst),
+        }
+    }
+
+    fn of_cast(cast: Cast) -> Singles
         ensures { left_in result ≡ singles_of (cast_fields cast) }
     {
-        Singles { next: Some(cast) }
+        let others = Vec::new(*cast.changes.allocator()).into_iter();
+        Singles {
+            next: Some(cast),
+            others,
+        }
+    }
+
+    fn of_burst(burst: Burst) -> Singles
+        ensures { left_in result ≡ singles_of (burst_fields burst) }
+    {
+        let Burst {
+            group,
+            sender,
+            first,
+            changes,
+            payloads,
+        } = burst;
+        let mut others = payloads.into_iter();
+        let next = match others.next() {
+            Some(payload) => Some(Cast {
+                group,
+                sender,
+                number: first,
+                changes,
+                payload,
+            }),
+            None => None,
+        };
+        Singles { next, others }
     }
 
     fn next(&mut self) -> Option<Cast>
+        requires { HaveNumbers self.old }
         ensures some { IfSome result (λ single.
             left_in self.old ≡ cast_fields single ∷ left_in self.new) }
         ensures none { IfNone result (left_in self.old ≡ []) }
     {
-        self.next.take()
+        let single = self.next.take()?;
+        if let Some(payload) = self.others.next() {
+            self.next = Some(single_behind(&single, payload));
+        }
+        Some(single)
     }
 
     /// Keeps them in their sender's buffer, of whose messages so many are delivered.
@@ -78,16 +114,37 @@ impl Singles {
     }
 }
 
+/// The single of this payload behind that one. Only the first of a burst changes a field.
+fn single_behind(single: &Cast, payload: Bytes) -> Cast
+    requires { single.now.number < LAST_NUMBER }
+    ensures { cast_fields result ≡ record {
+      group = single.now.group;
+      sender = single.now.sender;
+      number = single.now.number + 1;
+      changes = [];
+      load = One payload;
+    } }
+{
+    Cast {
+        group: single.group,
+        sender: single.sender,
+        number: single.number + 1,
+        changes: Vec::new(*single.changes.allocator()),
+        payload,
+    }
+}
+
 impl Spares {
-    /// For a cast in a group of this size.
-    pub fn for_cast(alloc: Global, size: u32, cast: &Cast) -> Result<Spares, NoMemory>
-        requires { IsGroupSize size }
-        ensures { IfOk result (λ spares. AreSparesFor (cast_fields cast.now) size
+    /// For a unit in a group of this size.
+    pub fn for_cast(alloc: Global, size: u32, unit: &Unit) -> Result<Spares, NoMemory>
+        requires group { IsGroupSize size }
+        requires some { IsSome (unit_fields unit.now).load }
+        ensures { IfOk result (λ spares. AreSparesFor (unit_fields unit.now) size
             (times_in spares)) }
     {
         let first = VectorTime::zero(alloc, size)?;
         let mut others = Vec::new(alloc);
-        for _ in 1..count_of(cast) {
+        for _ in 1..unit.count() {
             others.push(VectorTime::zero(alloc, size)?)?;
         }
         Ok(Spares { first, others })

@@ -1,23 +1,23 @@
-//! A cast of another member, up to what waits for the delay rule.
+//! A cast or a burst of another member, up to what waits for the delay rule.
 
-ghost use Rattle.cb_frames.specs.Fields.{cast_fields};
+ghost use Rattle.cb_frames.specs.Fields.{unit_fields};
 ghost use Rattle.cb_member.specs.Singles.{times_in};
 ghost use Rattle.cb_member.specs.Taking.{CanTakeIn, TakesInCast, IsTakingIn, OnlyTakesIn, TakesAll};
 
 use crate::delivery::hold_next;
-use crate::singles::{Spares, last_of};
+use crate::singles::Spares;
 use crate::state::State;
-use cb_frames::Cast;
+use cb_frames::Unit;
 
 impl State {
-    /// Keeps a cast of another member, and lets wait for the delay rule what can be expanded by it. It takes no memory.
-    pub fn take_in(&mut self, cast: Cast, spares: Spares)
-        requires { CanTakeIn (cast_fields cast) (times_in spares) self.old }
-        ensures { TakesInCast (cast_fields cast) self.old self.new }
+    /// Keeps a unit of another member, and lets wait for the delay rule what can be expanded by it. It takes no memory.
+    pub fn take_in(&mut self, unit: Unit, spares: Spares)
+        requires { CanTakeIn (unit_fields unit) (times_in spares) self.old }
+        ensures { TakesInCast (unit_fields unit) self.old self.new }
     {
-        let (sender, last) = (cast.sender, last_of(&cast));
+        let (sender, last) = (unit.sender(), unit.last());
         let delivered = self.delivery.time.get(sender);
-        self.reception.keep(delivered, cast, spares);
+        self.reception.keep(delivered, unit, spares);
         self.knowledge.hear(sender, last);
         self.take_all(sender);
     }

@@ -1,27 +1,26 @@
-//! The course of a received cast: one of five ways, told before anything changes, with what is made for it.
+//! The course of a received cast or burst: one of five ways, told before anything changes, with what is made for it.
 //!
-//! `LetsGo` would do for every cast. The others are for what comes most, and cost less; those in order are for a cast of one message.
+//! `LetsGo` would do for all of them. The others are for what comes most, and cost less; those in order are for a single cast.
 
 ghost use Rattle.std.specs.Prelude.{◌≡◌, ◌≢◌, ◌≤◌, ◌+◌, ◌↔◌, All, IfOk, IsTrue, length};
 ghost use Rattle.std.specs.FinMap as map;
 ghost use Rattle.cb_times.specs.Order.{field};
-ghost use Rattle.cb_frames.specs.Fields.{cast_fields, first_number};
+ghost use Rattle.cb_frames.specs.Fields.{cast_fields, unit_fields, first_number};
 ghost use Rattle.cb_delay.specs.Rule.{IsReady};
 ghost use Rattle.cb_diffs.specs.Expansion.{AreMembers};
-ghost use Rattle.cb_history.specs.Singles.{IsSingle};
 ghost use Rattle.cb_member.specs.Singles.{AreSparesFor, times_in};
 ghost use Rattle.cb_member.specs.State.{IsAlike};
 ghost use Rattle.cb_member.specs.Taking.{CanFollow};
 ghost use Rattle.cb_member.specs.Passing.{IsInOrder};
 ghost use Rattle.cb_member.specs.Course.{CanGo, HasTime, most};
 
-use crate::singles::{Spares, is_single};
+use crate::singles::Spares;
 use crate::state::State;
-use cb_frames::Cast;
+use cb_frames::{Cast, Unit};
 use cb_times::{NoMemory, VectorTime};
 use std::alloc::AllocError;
 
-/// What a cast does that is taken, and what is made for it, so that nothing then takes memory.
+/// What a unit does that is taken, and what is made for it, so that nothing then takes memory.
 #[derive(Drop)]
 pub enum Course {
     /// It comes before its turn, and waits for the casts before it; nothing is delivered. `spares` are for the times of its messages.
@@ -51,22 +50,25 @@ impl Course {
 }
 
 impl State {
-    /// The course of a cast that no rule refuses. Only what the delay queue remembers, and room, is changed by asking.
-    pub fn course_of(&mut self, cast: &Cast) -> Result<Course, NoMemory>
-        requires { CanFollow (cast_fields cast.now) self.old }
+    /// The course of a unit that no rule refuses. Only what the delay queue remembers, and room, is changed by asking.
+    pub fn course_of(&mut self, unit: &Unit) -> Result<Course, NoMemory>
+        requires { CanFollow (unit_fields unit.now) self.old }
         ensures same { IsAlike self.old self.new }
-        ensures course { IfOk result (λ course. CanGo (cast_fields cast.now) course self.new) }
+        ensures course { IfOk result (λ course. CanGo (unit_fields unit.now) course self.new) }
     {
-        if is_single(cast) && self.reception.is_in_order(cast) {
-            self.course_in_order(cast)
-        } else {
-            self.course_of_others(cast)
+        match unit {
+            Unit::One(cast) => {
+                if self.reception.is_in_order(cast) {
+                    return self.course_in_order(cast);
+                }
+                self.course_of_others(unit)
+            }
+            Unit::Many(_burst) => self.course_of_others(unit),
         }
     }
 
     fn course_in_order(&mut self, cast: &Cast) -> Result<Course, NoMemory>
         requires can { CanFollow (cast_fields cast.now) self.old }
-        requires single { IsSingle (cast_fields cast.now) }
         requires in_order { IsInOrder cast.now.sender (first_number (cast_fields cast.now))
             self.old.reception }
         ensures same { IsAlike self.old self.new }
@@ -96,30 +98,30 @@ impl State {
             && changes_are_reached(cast, time.as_slice(), counts.as_slice())
     }
 
-    fn course_of_others(&mut self, cast: &Cast) -> Result<Course, NoMemory>
-        requires { CanFollow (cast_fields cast.now) self.old }
+    fn course_of_others(&mut self, unit: &Unit) -> Result<Course, NoMemory>
+        requires { CanFollow (unit_fields unit.now) self.old }
         ensures same { IsAlike self.old self.new }
-        ensures course { IfOk result (λ course. CanGo (cast_fields cast.now) course self.new) }
+        ensures course { IfOk result (λ course. CanGo (unit_fields unit.now) course self.new) }
     {
-        let spares = Spares::for_cast(self.alloc, self.seat.group().size(), cast)?;
-        let more = self.reception.would_expand(cast);
+        let spares = Spares::for_cast(self.alloc, self.seat.group().size(), unit)?;
+        let more = self.reception.would_expand(unit);
         if more == 0 && self.delivery.has_none_ready() {
-            self.reception.reserve(cast.sender, spares.len())?;
+            self.reception.reserve(unit.sender(), spares.len())?;
             return Ok(Course::Early { spares });
         }
-        self.letting_go(cast, spares)
+        self.letting_go(unit, spares)
     }
 
     /// The course of one that may let all go that waits.
-    fn letting_go(&mut self, cast: &Cast, spares: Spares) -> Result<Course, NoMemory>
-        requires can { CanFollow (cast_fields cast.now) self.old }
-        requires spares_are { AreSparesFor (cast_fields cast.now) self.old.seat.group.size
+    fn letting_go(&mut self, unit: &Unit, spares: Spares) -> Result<Course, NoMemory>
+        requires can { CanFollow (unit_fields unit.now) self.old }
+        requires spares_are { AreSparesFor (unit_fields unit.now) self.old.seat.group.size
             (times_in spares) }
         ensures same { IsAlike self.old self.new }
-        ensures course { IfOk result (λ course. CanGo (cast_fields cast.now) course self.new) }
+        ensures course { IfOk result (λ course. CanGo (unit_fields unit.now) course self.new) }
     {
-        self.reception.reserve(cast.sender, spares.len())?;
-        let more = self.reception.would_expand(cast);
+        self.reception.reserve(unit.sender(), spares.len())?;
+        let more = self.reception.would_expand(unit);
         let most = self.most_with(more)?;
         Ok(Course::LetsGo { spares, most })
     }

@@ -1,7 +1,8 @@
-//! Copies of what a cast will deliver, for a caller who wants messages of its own.
+//! Copies of what a cast or a burst will deliver, for a caller who wants messages of its own.
 
 ghost use Rattle.std.specs.Prelude.{◌≡◌, ◌∷◌, [], IfOk};
-ghost use Rattle.cb_frames.specs.Fields.{cast_fields};
+ghost use Rattle.cb_frames.specs.Fields.{unit_fields};
+ghost use Rattle.cb_history.specs.Singles.{IsSingle};
 ghost use Rattle.cb_member.specs.Course.{CanGo, CanLetGoAt};
 ghost use Rattle.cb_member.specs.Knowledge.{delivered_by};
 ghost use Rattle.cb_member.specs.Foreseen.{AreCopies, AreDeliveries};
@@ -11,46 +12,50 @@ use crate::arrival::course::Course;
 use crate::singles::Spares;
 use crate::state::State;
 use cb_delay::{Event, Message};
-use cb_frames::Cast;
+use cb_frames::Unit;
 use cb_times::{Name, NoMemory, VectorTime};
 use std::alloc::Global;
 
 impl State {
-    /// Copies of the messages that the cast will deliver on its course, while nothing changes.
-    pub fn foreseen(&self, cast: &Cast, course: &Course) -> Result<Vec<Message>, NoMemory>
-        requires { CanGo (cast_fields cast.now) course.now self.now }
-        ensures { IfOk result (λ copies. AreCopies (cast_fields cast.now) course.now self.now
+    /// Copies of the messages that the unit will deliver on its course, while nothing changes.
+    pub fn foreseen(&self, unit: &Unit, course: &Course) -> Result<Vec<Message>, NoMemory>
+        requires { CanGo (unit_fields unit.now) course.now self.now }
+        ensures { IfOk result (λ copies. AreCopies (unit_fields unit.now) course.now self.now
             copies.items) }
     {
         match course {
             Course::Early { .. } | Course::Waits { .. } => Ok(Vec::new(self.alloc)),
-            Course::Alone { time } => alone(self.alloc, cast, time),
-            Course::LeadsOn { most, .. } => self.delivered_by_twin(cast, *most),
-            Course::LetsGo { most, .. } => self.delivered_by_twin(cast, *most),
+            Course::Alone { time } => alone(self.alloc, unit, time),
+            Course::LeadsOn { most, .. } => self.delivered_by_twin(unit, *most),
+            Course::LetsGo { most, .. } => self.delivered_by_twin(unit, *most),
         }
     }
 
     /// What a copy of the state delivers. Rarely is more than one message delivered, and then only is this paid.
-    fn delivered_by_twin(&self, cast: &Cast, most: usize) -> Result<Vec<Message>, NoMemory>
-        requires { CanLetGoAt (cast_fields cast.now) most self.now }
-        ensures { IfOk result (λ copies. AreDeliveries (cast_fields cast.now) self.now
+    fn delivered_by_twin(&self, unit: &Unit, most: usize) -> Result<Vec<Message>, NoMemory>
+        requires { CanLetGoAt (unit_fields unit.now) most self.now }
+        ensures { IfOk result (λ copies. AreDeliveries (unit_fields unit.now) self.now
             copies.items) }
     {
         let mut twin = self.copy()?;
-        let spares = Spares::for_cast(self.alloc, self.seat.group().size(), cast)?;
-        twin.reception.reserve(cast.sender, spares.len())?;
+        let spares = Spares::for_cast(self.alloc, self.seat.group().size(), unit)?;
+        twin.reception.reserve(unit.sender(), spares.len())?;
         let mut events = Vec::with_capacity(self.alloc, most)?;
-        twin.take_cast(cast.copy()?, Course::LetsGo { spares, most }, &mut events);
+        twin.take_cast(unit.copy()?, Course::LetsGo { spares, most }, &mut events);
         drop(twin);
         messages_of(self.alloc, events)
     }
 }
 
 #[tactic(auto, using(cb_frames::proofs::Carried::first_is_number))]
-fn alone(alloc: Global, cast: &Cast, time: &VectorTime) -> Result<Vec<Message>, NoMemory>
+fn alone(alloc: Global, unit: &Unit, time: &VectorTime) -> Result<Vec<Message>, NoMemory>
+    requires { IsSingle (unit_fields unit.now) }
     ensures { IfOk result (λ copies. copies.items
-        ≡ message_at (cast_fields cast.now) time.now ∷ []) }
+        ≡ message_at (unit_fields unit.now) time.now ∷ []) }
 {
+    let Unit::One(cast) = unit else {
+        unreachable!("it carries one message")
+    };
     let message = Message {
         name: Name {
             sender: cast.sender,

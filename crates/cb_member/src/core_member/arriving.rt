@@ -2,7 +2,7 @@
 
 ghost use Rattle.std.specs.Prelude.{◌≡◌, ◌≤◌, ◌+◌, ℕ, List, true, IfOk, Ok, None, []};
 ghost use Rattle.std.specs.Vec.{vec_capacity, vec_len};
-ghost use Rattle.cb_frames.specs.Fields.{cast_fields, request_fields, status_fields, CastFrame, RequestFrame, StatusFrame};
+ghost use Rattle.cb_frames.specs.Fields.{request_fields, status_fields, unit_fields, CastFrame, RequestFrame, StatusFrame};
 ghost use Rattle.cb_frames.specs.Laws.{IsBytes};
 ghost use Rattle.cb_history.specs.Read.{frame_read};
 ghost use Rattle.cb_delay.specs.declared.message.Event.{Event as Events};
@@ -23,7 +23,7 @@ use crate::recorder::arriving::{Named, heard_in, read};
 use crate::state::State;
 use bytes::Bytes;
 use cb_delay::Event;
-use cb_frames::{Cast, Frame, Request, Status, each_is_a_text_or_a_fault};
+use cb_frames::{Frame, Request, Status, Unit, each_is_a_text_or_a_fault};
 use cb_history::{ArriveRefusal, Entry, Outgoing};
 use cb_times::{NoMemory, make_room};
 use std::alloc::Global;
@@ -46,10 +46,10 @@ pub struct Heard {
     pub noted: Option<Entry>,
 }
 
-/// A cast that can be taken, and the room for the names of what it may deliver, where they are wanted.
+/// A cast or a burst that can be taken, and the room for the names of what it may deliver, where they are wanted.
 #[derive(Drop)]
 pub struct Coming {
-    pub cast: Cast,
+    pub unit: Unit,
     pub course: Course,
     pub noted: Option<Named>,
 }
@@ -81,8 +81,8 @@ impl State {
             events.old.items events.new.items result }
     {
         match read(self.alloc, bytes) {
-            Ok(Frame::Cast(cast)) => self.receive_cast(bytes, cast, noting, events),
-            Ok(Frame::Burst(_)) => unreachable!("no burst is read"),
+            Ok(Frame::Cast(cast)) => self.receive_cast(bytes, Unit::One(cast), noting, events),
+            Ok(Frame::Burst(burst)) => self.receive_cast(bytes, Unit::Many(burst), noting, events),
             Ok(Frame::Status(status)) => self.receive_status(bytes, &status, noting),
             Ok(Frame::Request(request)) => self.receive_request(&request),
             Err(refusal) => Err(refusal),
@@ -92,19 +92,19 @@ impl State {
     fn receive_cast(
         &mut self,
         bytes: &Bytes,
-        cast: Cast,
+        unit: Unit,
         noting: Noting,
         events: &mut Vec<Event>,
     ) -> Result<Heard, ArriveRefusal>
         requires core { IsCore (core_of self.old) }
         requires bytes { IsBytes bytes.now }
-        requires read { frame_read bytes.now ≡ Ok (CastFrame (cast_fields cast)) }
+        requires read { frame_read bytes.now ≡ Ok (CastFrame (unit_fields unit)) }
         ensures { AnswersArrivalOnEach noting bytes.now (core_of self.old) (core_of self.new)
             events.old.items events.new.items result }
     {
         // asked for what is true of every text
         each_is_a_text_or_a_fault();
-        match self.judge_cast(&cast) {
+        match self.judge_cast(&unit) {
             Ok(Judged::Repeat) => return Ok(not_noted(Received::Repeat)),
             Ok(Judged::Taken) => {}
             Err(refusal) => return Err(refusal),
@@ -114,30 +114,30 @@ impl State {
             Noting::Wanted => true,
             Noting::Refused => return Err(ArriveRefusal::HistoryFull),
         };
-        let coming = self.prepare_coming(bytes, cast, noted, events)?;
+        let coming = self.prepare_coming(bytes, unit, noted, events)?;
         Ok(self.enter_coming(coming, events))
     }
 
-    /// Makes room for all that the cast may deliver, and for its names. What is known stays as it
+    /// Makes room for all that the unit may deliver, and for its names. What is known stays as it
     /// was.
     fn prepare_coming(
         &mut self,
         bytes: &Bytes,
-        cast: Cast,
+        unit: Unit,
         noted: bool,
         events: &mut Vec<Event>,
     ) -> Result<Coming, NoMemory>
         requires core { IsCore (core_of self.old) }
         requires bytes { IsBytes bytes.now }
-        requires read { frame_read bytes.now ≡ Ok (CastFrame (cast_fields cast)) }
-        requires new { IsNew (cast_fields cast) self.old }
+        requires read { frame_read bytes.now ≡ Ok (CastFrame (unit_fields unit)) }
+        requires new { IsNew (unit_fields unit) self.old }
         ensures same { core_of self.new ≡ core_of self.old }
         ensures same_events { events.new.items ≡ events.old.items }
         ensures can { IfOk result (CanCome noted bytes.now self.new) }
         ensures room { IfOk result (λ coming. vec_len events.new + most coming.course
             ≤ vec_capacity events.new) }
     {
-        let course = self.course_of(&cast)?;
+        let course = self.course_of(&unit)?;
         let most = course.most();
         make_room(events, most)?;
         let noted = if noted {
@@ -146,25 +146,25 @@ impl State {
             None
         };
         Ok(Coming {
-            cast,
+            unit,
             course,
             noted,
         })
     }
 
-    /// Takes the cast; what it delivers joins the events. This takes no memory.
+    /// Takes the unit; what it delivers joins the events. This takes no memory.
     fn enter_coming(&mut self, coming: Coming, events: &mut Vec<Event>) -> Heard
         requires coming { IsComing coming self.old }
         requires room { vec_len events.old + most coming.course ≤ vec_capacity events.old }
         ensures { Comes coming self.old self.new events.old.items events.new.items result }
     {
         let Coming {
-            cast,
+            unit,
             course,
             noted,
         } = coming;
         let first = events.len();
-        self.take_cast(cast, course, events);
+        self.take_cast(unit, course, events);
         let noted = match noted {
             Some(named) => Some(named.entry(&events[first..])),
             None => None,

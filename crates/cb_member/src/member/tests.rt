@@ -1,7 +1,8 @@
-//! Which course a cast takes. Each would do that lets all go, so no clause says that a cast takes the cheapest one.
+//! Which course a cast takes. Each would do that lets all go, so no clause says that a cast takes the cheapest one. And what bursts do
+//! that arrive: their values are from outside.
 
 ghost use Rattle.std.specs.Prelude.{◌≡◌, Ok};
-ghost use Rattle.cb_frames.specs.Fields.{cast_fields, CastFrame};
+ghost use Rattle.cb_frames.specs.Fields.{unit_fields, CastFrame};
 ghost use Rattle.cb_frames.specs.Laws.{IsBytes};
 ghost use Rattle.cb_history.specs.Read.{frame_read};
 ghost use Rattle.cb_member.specs.Recorder.{IsKept};
@@ -12,8 +13,9 @@ use crate::member::Member;
 use crate::recorder::Recorder;
 use crate::recorder::arriving::read;
 use bytes::Bytes;
-use cb_frames::{Cast, Frame, each_is_a_text_or_a_fault};
-use cb_history::Group;
+use cb_delay::Message;
+use cb_frames::{Frame, Unit, each_is_a_text_or_a_fault};
+use cb_history::{Arrival, ArriveRefusal, Group};
 use std::alloc::Global;
 use std::process::Abort;
 
@@ -39,6 +41,13 @@ const LATE_ANSWER: &[u8] = b"\x11\x07\x01\x01\x01\x00\x02\x02yo";
 
 const SECOND_ANSWER: &[u8] = b"\x11\x07\x01\x02\x00\x03yes";
 
+/// A burst of the first two messages of member 0, one of member 1 that had delivered them, and one of the next two of member 0.
+const GREETING: &[u8] = b"\x21\x07\x00\x01\x00\x02\x02hi\x02yo";
+
+const ANSWERS: &[u8] = b"\x21\x07\x01\x01\x01\x00\x02\x02\x01a\x01b";
+
+const LATER: &[u8] = b"\x21\x07\x00\x03\x00\x02\x00\x00";
+
 /// What member 2 received before, the frame that comes then, and its course.
 type Row = (&'static [&'static [u8]], &'static [u8], Way);
 
@@ -55,6 +64,11 @@ fn a_cast_takes_the_cheapest_course(rt: HostRuntime) {
         (&[ANSWER], SECOND_ANSWER, Way::Waits),
         // it closes a gap
         (&[SECOND], FIRST, Way::LetsGo),
+        // a burst is never expanded at once
+        (&[], GREETING, Way::LetsGo),
+        (&[], ANSWERS, Way::LetsGo),
+        (&[], LATER, Way::Early),
+        (&[FIRST], GREETING, Way::Nowhere),
         (&[FIRST], FIRST, Way::Nowhere),
     ];
     for (before, frame, way) in ROWS {
@@ -65,8 +79,7 @@ fn a_cast_takes_the_cheapest_course(rt: HostRuntime) {
 }
 
 fn member_after(rt: &impl Abort, alloc: Global, frames: &[&'static [u8]]) -> Member {
-    let group = Group::new(7, 3, 4).expect(rt, "the numbers are those of a group");
-    let mut member = Member::new(alloc, group, 2, 100).expect(rt, "a member");
+    let mut member = member_at(rt, alloc, 2);
     for frame in frames {
         let received = member.receive(&Bytes::from_static(frame));
         received.expect(rt, "the frame is taken");
@@ -79,15 +92,16 @@ fn way_at(alloc: Global, member: Member, frame: &'static [u8]) -> Way {
     let bytes = Bytes::from_static(frame);
     let Member { recorder } = member;
     match read(alloc, &bytes) {
-        Ok(Frame::Cast(cast)) => way_of(recorder, &bytes, cast),
-        Ok(Frame::Burst(_)) | Ok(Frame::Status(_)) | Ok(Frame::Request(_)) | Err(_) => Way::Nowhere,
+        Ok(Frame::Cast(cast)) => way_of(recorder, &bytes, Unit::One(cast)),
+        Ok(Frame::Burst(burst)) => way_of(recorder, &bytes, Unit::Many(burst)),
+        Ok(Frame::Status(_)) | Ok(Frame::Request(_)) | Err(_) => Way::Nowhere,
     }
 }
 
-fn way_of(recorder: Recorder, bytes: &Bytes, cast: Cast) -> Way
+fn way_of(recorder: Recorder, bytes: &Bytes, unit: Unit) -> Way
     requires kept { IsKept recorder }
     requires bytes { IsBytes bytes.now }
-    requires read { frame_read bytes.now ≡ Ok (CastFrame (cast_fields cast)) }
+    requires read { frame_read bytes.now ≡ Ok (CastFrame (unit_fields unit)) }
 {
     // asked for what is true of every text
     each_is_a_text_or_a_fault();
@@ -99,12 +113,12 @@ fn way_of(recorder: Recorder, bytes: &Bytes, cast: Cast) -> Way
     } = recorder;
     drop(entries);
     drop(events);
-    match state.judge_cast(&cast) {
+    match state.judge_cast(&unit) {
         Ok(Judged::Taken) => {}
         Ok(Judged::Repeat) => return Way::Nowhere,
         Err(_refusal) => return Way::Nowhere,
     }
-    match state.course_of(&cast) {
+    match state.course_of(&unit) {
         Ok(course) => named(&course),
         Err(_no_memory) => Way::Nowhere,
     }
@@ -118,4 +132,156 @@ fn named(course: &Course) -> Way {
         Course::LeadsOn { .. } => Way::LeadsOn,
         Course::LetsGo { .. } => Way::LetsGo,
     }
+}
+
+/// What a frame does.
+#[derive(Clone, Copy)]
+enum Does {
+    /// It delivers messages with these names and times.
+    Delivers(&'static [Delivered]),
+    Repeats,
+    IsRefused(ArriveRefusal),
+}
+
+/// A sender, a number and a time.
+type Delivered = (u32, u32, [u32; 3]);
+
+/// Who receives, the frames that come one after another, and how many entries the history has then.
+type Arrivals = (u32, &'static [(&'static [u8], Does)], usize);
+
+#[test]
+fn a_burst_is_judged_as_a_whole_and_delivered_one_by_one(rt: HostRuntime) {
+    const ROWS: &[Arrivals] = &[
+        // an answer overtakes what it answers; then each comes once more
+        (
+            2,
+            &[
+                (ANSWERS, Does::Delivers(&[])),
+                (
+                    GREETING,
+                    Does::Delivers(&[
+                        (0, 1, [1, 0, 0]),
+                        (0, 2, [2, 0, 0]),
+                        (1, 1, [2, 1, 0]),
+                        (1, 2, [2, 2, 0]),
+                    ]),
+                ),
+                (GREETING, Does::Repeats),
+                (ANSWERS, Does::Repeats),
+            ],
+            2,
+        ),
+        // its last number counts; some of its messages are kept, and others not
+        (
+            2,
+            &[
+                (FOURTH, Does::IsRefused(ArriveRefusal::TooFar)),
+                (EMPTY_SECOND, Does::Delivers(&[])),
+                (EMPTY_BOTH, Does::IsRefused(ArriveRefusal::Overlap)),
+                (
+                    EMPTY_FIRST,
+                    Does::Delivers(&[(0, 1, [1, 0, 0]), (0, 2, [2, 0, 0])]),
+                ),
+                (EMPTY_BOTH, Does::Repeats),
+            ],
+            2,
+        ),
+        // some are delivered, and others not
+        (
+            2,
+            &[
+                (FIRST, Does::Delivers(&[(0, 1, [1, 0, 0])])),
+                (GREETING, Does::IsRefused(ArriveRefusal::Overlap)),
+                (SECOND, Does::Delivers(&[(0, 2, [2, 0, 0])])),
+            ],
+            2,
+        ),
+        // it closes a gap, behind which a burst waits
+        (
+            2,
+            &[
+                (LATER, Does::Delivers(&[])),
+                (
+                    GREETING,
+                    Does::Delivers(&[
+                        (0, 1, [1, 0, 0]),
+                        (0, 2, [2, 0, 0]),
+                        (0, 3, [3, 0, 0]),
+                        (0, 4, [4, 0, 0]),
+                    ]),
+                ),
+            ],
+            2,
+        ),
+        // all of it is there before anything is delivered: a message that is forged to count its first one comes behind its second one
+        (
+            0,
+            &[
+                (FORGED, Does::Delivers(&[])),
+                (
+                    COUNTED,
+                    Does::Delivers(&[(1, 1, [0, 1, 0]), (1, 2, [0, 2, 0]), (2, 1, [0, 1, 1])]),
+                ),
+            ],
+            2,
+        ),
+        // nobody cast it but the receiver, who did not
+        (
+            0,
+            &[(GREETING, Does::IsRefused(ArriveRefusal::Impossible))],
+            0,
+        ),
+    ];
+    for (receiver, frames, entries) in ROWS {
+        let mut member = member_at(&rt, rt.alloc(), *receiver);
+        let mut as_said = true;
+        for (frame, does) in *frames {
+            let answer = member.arrive(&Bytes::from_static(frame));
+            as_said = as_said && is_answer(answer, *does);
+        }
+        let count = member.history().len();
+        drop(member);
+        assert_eq!(rt; (as_said, count), (true, *entries));
+    }
+}
+
+/// Bursts and casts of messages that say nothing: the fourth and the fifth message of member 0, its first two, each of them alone, the
+/// first two of member 1, and one of member 2 that counts the first one of member 1.
+const FOURTH: &[u8] = b"\x21\x07\x00\x04\x00\x02\x00\x00";
+
+const EMPTY_BOTH: &[u8] = b"\x21\x07\x00\x01\x00\x02\x00\x00";
+
+const EMPTY_FIRST: &[u8] = b"\x11\x07\x00\x01\x00\x00";
+
+const EMPTY_SECOND: &[u8] = b"\x11\x07\x00\x02\x00\x00";
+
+const COUNTED: &[u8] = b"\x21\x07\x01\x01\x00\x02\x00\x00";
+
+const FORGED: &[u8] = b"\x11\x07\x02\x01\x01\x01\x01\x00";
+
+fn member_at(rt: &impl Abort, alloc: Global, me: u32) -> Member {
+    let group = Group::new(7, 3, 4).expect(rt, "the numbers are those of a group");
+    Member::new(alloc, group, me, 100).expect(rt, "a member")
+}
+
+fn is_answer(answer: Result<Arrival, ArriveRefusal>, does: Does) -> bool {
+    match (answer, does) {
+        (Ok(Arrival::Accepted { deliveries, .. }), Does::Delivers(wanted)) => {
+            are_messages(&deliveries, wanted)
+        }
+        (Ok(Arrival::Repeat), Does::Repeats) => true,
+        (Err(refusal), Does::IsRefused(wanted)) => refusal == wanted,
+        _ => false,
+    }
+}
+
+fn are_messages(messages: &[Message], wanted: &[Delivered]) -> bool {
+    messages.len() == wanted.len() && messages.iter().zip(wanted).all(is_message)
+}
+
+fn is_message(both: (&Message, &Delivered)) -> bool {
+    let (message, (sender, number, time)) = both;
+    message.name.sender == *sender
+        && message.name.number == *number
+        && message.time.as_slice() == time.as_slice()
 }

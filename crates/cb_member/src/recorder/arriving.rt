@@ -1,12 +1,8 @@
 //! Received bytes: a frame is distinguished by its kind once; what is wanted of it is made before anything changes.
 
-ghost use Rattle.std.specs.Prelude.{◌≡◌, ◌≢◌, ◌<◌, ℕ, if◌then◌else◌, IfOk, IfErr, List, Ok, Err, None, [], length};
-ghost use Rattle.cb_frames.specs.declared.fault.FrameFault.TheVariants.{UnknownKind};
-ghost use Rattle.cb_frames.specs.declared.frame.Burst.{Burst as Bursts};
-ghost use Rattle.cb_frames.specs.declared.frame.Frame.TheVariants as Frames;
-ghost use Rattle.cb_frames.specs.Fields.{cast_fields, fields_of, request_fields, status_fields, CastFrame, RequestFrame, StatusFrame};
+ghost use Rattle.std.specs.Prelude.{◌≡◌, ◌<◌, ℕ, IfOk, IfErr, List, Ok, Err, None, [], length};
+ghost use Rattle.cb_frames.specs.Fields.{fields_of, request_fields, status_fields, unit_fields, CastFrame, RequestFrame, StatusFrame};
 ghost use Rattle.cb_frames.specs.Laws.{IsBytes};
-ghost use Rattle.cb_frames.specs.Reading.{frame_at};
 ghost use Rattle.cb_history.specs.Read.{frame_read};
 ghost use Rattle.cb_history.specs.Facts.{ArriveEntry, entry_fields};
 ghost use Rattle.cb_member.specs.Answering.{RefusesBytes};
@@ -24,18 +20,15 @@ use crate::recorder::taken::{Received, Taken, Wanted};
 use crate::text::another;
 use bytes::Bytes;
 use cb_delay::{Event, Message};
-use cb_frames::{Cast, Frame, FrameFault, Request, Status, decode, each_is_a_text_or_a_fault};
+use cb_frames::{Frame, FrameFault, Request, Status, Unit, decode, each_is_a_text_or_a_fault};
 use cb_history::{ArriveRefusal, Entry, Names};
 use cb_times::NoMemory;
 use std::alloc::Global;
 
-/// The first byte of a burst frame.
-const BURST: u8 = 0x21;
-
-/// A cast that can be entered, and what is made for it before anything changes.
+/// A cast or a burst that can be entered, and what is made for it before anything changes.
 #[derive(Drop)]
 pub struct Arriving {
-    pub cast: Cast,
+    pub unit: Unit,
     pub course: Course,
     pub entry: Named,
     /// What the caller wants of it.
@@ -57,8 +50,8 @@ impl Recorder {
         ensures { AnswersBytes wanted bytes.now self.old self.new result }
     {
         match read(self.state.alloc, bytes) {
-            Ok(Frame::Cast(cast)) => self.take_cast(bytes, cast, wanted),
-            Ok(Frame::Burst(_)) => unreachable!("no burst is read"),
+            Ok(Frame::Cast(cast)) => self.take_cast(bytes, Unit::One(cast), wanted),
+            Ok(Frame::Burst(burst)) => self.take_cast(bytes, Unit::Many(burst), wanted),
             Ok(Frame::Status(status)) => self.take_status(bytes, &status, wanted),
             Ok(Frame::Request(request)) => self.answer(&request),
             Err(refusal) => Err(refusal),
@@ -68,17 +61,17 @@ impl Recorder {
     fn take_cast(
         &mut self,
         bytes: &Bytes,
-        cast: Cast,
+        unit: Unit,
         wanted: Wanted,
     ) -> Result<Taken, ArriveRefusal>
         requires kept { IsKept self.old }
         requires bytes { IsBytes bytes.now }
-        requires read { frame_read bytes.now ≡ Ok (CastFrame (cast_fields cast)) }
+        requires read { frame_read bytes.now ≡ Ok (CastFrame (unit_fields unit)) }
         ensures { AnswersBytes wanted bytes.now self.old self.new result }
     {
         // asked for what is true of every text
         each_is_a_text_or_a_fault();
-        match self.state.judge_cast(&cast) {
+        match self.state.judge_cast(&unit) {
             Ok(Judged::Repeat) => return Ok(unchanged(self.state.alloc, Received::Repeat)),
             Ok(Judged::Taken) => {}
             Err(refusal) => return Err(refusal),
@@ -86,26 +79,26 @@ impl Recorder {
         if self.is_full() {
             return Err(ArriveRefusal::HistoryFull);
         }
-        let arriving = self.prepare(bytes, cast, wanted)?;
+        let arriving = self.prepare(bytes, unit, wanted)?;
         Ok(self.enter(arriving))
     }
 
-    /// Makes what the cast needs, and what the caller wants of it. What is kept stays as it was.
-    fn prepare(&mut self, bytes: &Bytes, cast: Cast, wanted: Wanted) -> Result<Arriving, NoMemory>
+    /// Makes what the unit needs, and what the caller wants of it. What is kept stays as it was.
+    fn prepare(&mut self, bytes: &Bytes, unit: Unit, wanted: Wanted) -> Result<Arriving, NoMemory>
         requires kept { IsKept self.old }
         requires bytes { IsBytes bytes.now }
-        requires read { frame_read bytes.now ≡ Ok (CastFrame (cast_fields cast)) }
-        requires new { IsNew (cast_fields cast) self.old.state }
+        requires read { frame_read bytes.now ≡ Ok (CastFrame (unit_fields unit)) }
+        requires new { IsNew (unit_fields unit) self.old.state }
         requires few { length self.old.entries.items < self.old.limit }
         ensures kept { IsKept self.new }
         ensures same { held_by self.new ≡ held_by self.old }
         ensures can { IfOk result (CanEnter wanted bytes.now self.new) }
     {
-        let course = self.state.course_of(&cast)?;
+        let course = self.state.course_of(&unit)?;
         let most = course.most();
         self.reserve(most)?;
         let deliveries = if wanted.deliveries {
-            self.state.foreseen(&cast, &course)?
+            self.state.foreseen(&unit, &course)?
         } else {
             Vec::new(self.state.alloc)
         };
@@ -116,27 +109,27 @@ impl Recorder {
         };
         Ok(Arriving {
             entry: Named::with_room(self.state.alloc, bytes, most)?,
-            cast,
+            unit,
             course,
             deliveries,
             noted,
         })
     }
 
-    /// Takes the cast, and enters it with the names of what it delivers. This takes no memory.
+    /// Takes the unit, and enters it with the names of what it delivers. This takes no memory.
     fn enter(&mut self, arriving: Arriving) -> Taken
         requires { IsEntering arriving self.old }
         ensures { Enters arriving self.old self.new result }
     {
         let Arriving {
-            cast,
+            unit,
             course,
             entry,
             deliveries,
             noted,
         } = arriving;
         let first = self.events.len();
-        self.state.take_cast(cast, course, &mut self.events);
+        self.state.take_cast(unit, course, &mut self.events);
         let delivered = &self.events[first..];
         let noted = match noted {
             Some(named) => Some(named.entry(delivered)),
@@ -259,30 +252,17 @@ fn fitted(mut names: Names) -> Names
     names
 }
 
-/// The frame of the bytes, which is no burst. What is no frame is refused without memory.
+/// The frame of the bytes. What is no frame is refused without memory.
 pub fn read(alloc: Global, bytes: &Bytes) -> Result<Frame, ArriveRefusal>
     ensures frame { IfOk result (λ frame. frame_read bytes.now ≡ Ok (fields_of frame)) }
-    ensures no_burst { (burst : Bursts) → result ≢ Ok (Frames.Burst burst) }
     ensures refused { IfErr result (RefusesBytes bytes.now) }
     ensures bytes { IsBytes bytes.now }
 {
-    if begins_a_burst(bytes.as_slice()) {
-        return Err(ArriveRefusal::Malformed(FrameFault::UnknownKind));
-    }
     match decode(alloc, bytes) {
         Ok(frame) => Ok(frame),
         Err(FrameFault::NoMemory) => Err(ArriveRefusal::NoMemory),
         Err(fault) => Err(ArriveRefusal::Malformed(fault)),
     }
-}
-
-/// Whether the bytes begin as a burst does. Members know no bursts: whatever follows, it is no frame to them.
-fn begins_a_burst(text: &[u8]) -> bool
-    ensures read { frame_read text.now
-        ≡ (if result then Err UnknownKind else frame_at text.now) }
-    ensures bytes { IsBytes text.now }
-{
-    text.first() == Some(&BURST)
 }
 
 /// The answer to what added no entry.

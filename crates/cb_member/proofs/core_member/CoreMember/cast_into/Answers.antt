@@ -2,7 +2,7 @@ use Rattle.std.proofs.lemmas.Result.{IfOk-weaker}
 use Rattle.cb_frames.specs.Fields.{One}
 use Rattle.cb_member.specs.CoreMember.{core_of}
 use Rattle.cb_member.proofs.CoreCalls.{is_answered, is_joined}
-use Rattle.cb_member.proofs.NeverFull.{cast_into_never_full}
+use Rattle.cb_member.proofs.NeverFull.{cast_never_full}
 use Rattle.cb_member.proofs.core_member.CoreMember.cast_into.Goals as goal
 
 pub returns-clause-answer : goal.returns-clause-answer
@@ -15,5 +15,4 @@ pub returns-clause-joins : goal.returns-clause-joins
 returns-clause-joins c = rw (← c.self.view_is) (is_joined (One c.args.payload.now) (core_of c.self.inside.state) _ _ _ c.cast_joining.result c.cast_joining.ensures.casts)
 
 pub returns-clause-no_limit : goal.returns-clause-no_limit
-returns-clause-no_limit c =
-    cast_into_never_full (One c.args.payload.now) (core_of c.self.inside.state) _ c.args.events.now.items _ c.cast_joining.result c.self.invariant c.cast_joining.ensures
+returns-clause-no_limit c = cast_never_full (One c.args.payload.now) (core_of c.self.inside.state) c.cast_joining.result c.self.invariant c.cast_joining.ensures.refused

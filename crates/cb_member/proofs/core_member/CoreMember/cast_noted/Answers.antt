@@ -8,4 +8,4 @@ pub returns-clause-done : goal.returns-clause-done
 returns-clause-done c = rw (← c.self.view_is) (IfOk-weaker c.cast_unlimited.result _ _ (λ noted is. is.done) c.cast_unlimited.ensures.casts)
 
 pub returns-clause-no_limit : goal.returns-clause-no_limit
-returns-clause-no_limit c = cast_never_full (One c.args.payload.now) (core_of c.self.inside.state) _ c.cast_unlimited.result c.self.invariant c.cast_unlimited.ensures
+returns-clause-no_limit c = cast_never_full (One c.args.payload.now) (core_of c.self.inside.state) c.cast_unlimited.result c.self.invariant c.cast_unlimited.ensures.refused

@@ -3,6 +3,7 @@ use Rattle.std.proofs.lemmas.Option.{slice_get_within}
 use Rattle.cb_times.specs.declared.name.Name.{Name}
 use Rattle.cb_delay.specs.declared.message.Message.{Message}
 use Rattle.cb_frames.specs.Fields.{cast_fields, last_number}
+use Rattle.cb_frames.proofs.Carried.{cast_ends}
 use Rattle.cb_gaps.specs.Buffer.{Buffer}
 use Rattle.cb_member.specs.Passing.{message_at}
 use Rattle.cb_member.proofs.Receiving.{one_buffer, vec_at}
@@ -23,7 +24,7 @@ returns-clause-takes c =
     let message : (let m : Message = record { name = c.name_of.result; time = c.args.time; payload = c.args.cast.payload } in m) ≡ message_at (cast_fields c.args.cast) c.args.time =
     ap (λ (n : Name). let m : Message = record { name = n; time = c.args.time; payload = c.args.cast.payload } in m) c.name_of.ensures in
     takes_in_order (cast_fields c.args.cast) c.args.self.now c.requires.can _ _
-    (ap (set buffers sender) (c.take_in_order.ensures ∙ ap (λ (n : ℕ). record c.index_mut.result.now { taken = n }) c.last_of.ensures ∙ ap (λ (b : Buffer). record b { taken = last_number (cast_fields c.args.cast) }) is)) refl
+    (ap (set buffers sender) (c.take_in_order.ensures ∙ ap (λ (n : ℕ). record c.index_mut.result.now { taken = n }) (cast_ends c.args.cast) ∙ ap (λ (b : Buffer). record b { taken = last_number (cast_fields c.args.cast) }) is)) refl
     (record { time = c.args.time; expands = c.take.ensures; message_is = message })
 
 pub returns-clause-message : goal.returns-clause-message

@@ -1,5 +1,5 @@
 use Rattle.std.proofs.Common.{◌≡◌, ℕ, true, Some, refl, sym, ap, subst, rules, tests}
-use Rattle.cb_frames.specs.Fields.{cast_fields}
+use Rattle.cb_frames.specs.Fields.{unit_fields}
 use Rattle.cb_member.specs.declared.recorder.arriving.Named.{Named}
 use Rattle.cb_member.specs.Course.{CanGo}
 use Rattle.cb_member.specs.Foreseen.{AreCopies}
@@ -36,7 +36,7 @@ pub returns-clause-can : goal.returns-clause-can
 returns-clause-can c =
     let old = c.args.self.now in
     let new = c.reserve.new.self in
-    let cast = cast_fields c.args.cast in
+    let cast = unit_fields c.args.unit in
     let course = c.in_ok-course.course in
     let same = c.in_ok-reserve.ensures.same in
     let most_is = c.most-most.ensures in

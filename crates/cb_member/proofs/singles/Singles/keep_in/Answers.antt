@@ -3,7 +3,11 @@ use Rattle.cb_frames.specs.Fields.{CastFields, cast_fields}
 use Rattle.cb_history.specs.BufferLaws.{AreKept}
 use Rattle.cb_member.specs.Singles.{CanKeepInTurn, left_in}
 use Rattle.cb_member.proofs.Receiving.{can_keep_on, first_is_kept}
+use Rattle.cb_member.proofs.TakenApart.{have_numbers}
 use Rattle.cb_member.proofs.singles.Singles.keep_in.Goals as goal
+
+pub next-requires : goal.next-requires
+next-requires c = have_numbers c.args.delivered c.singles.left c.singles.buffer c.singles.invariant.can
 
 pub singles-preserved : goal.singles-preserved
 singles-preserved c =

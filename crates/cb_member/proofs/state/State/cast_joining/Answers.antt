@@ -1,9 +1,11 @@
-use Rattle.std.proofs.Common.{refl, arith}
+use Rattle.std.proofs.Common.{inl, inr, refl, ◌∙◌}
 use Rattle.std.proofs.lemmas.Result.{err_from_is_err_and}
 use Rattle.cb_frames.specs.Fields.{One}
+use Rattle.cb_history.specs.CastFault.{fault_told}
+use Rattle.cb_member.specs.Casting.{RefusesExactly}
 use Rattle.cb_member.specs.CoreMember.{core_of}
 use Rattle.cb_member.proofs.Cores.{is_state, same_but_block}
-use Rattle.cb_member.proofs.CoreCalls.{can_keep, joins_cast, no_memory, refused_load, refuses_cast_into}
+use Rattle.cb_member.proofs.CoreCalls.{answers_into, can_keep, may_be_cast, refused_load, refuses_load_into}
 use Rattle.cb_member.proofs.state.State.cast_joining.Goals as goal
 
 pub judge_payload-requires : goal.judge_payload-requires
@@ -13,15 +15,8 @@ pub returns-in_err-judge_payload : goal.returns-in_err-judge_payload
 returns-in_err-judge_payload c =
     let exit = err_from_is_err_and c.from_residual.result c.from_residual.ensures.1 in
     let core = core_of c.args.self.now in
-    rw (exit.1, exit.2) (refuses_cast_into (One c.args.payload.now) core core c.args.events.now.items c.args.events.now.items c.in_err-judge_payload.field-0.0 c.requires refl refl
-    (refused_load c.args.self.now (One c.args.payload.now) c.in_err-judge_payload.field-0.0 c.in_err-judge_payload.ensures))
-
-pub returns-in_err-make_room : goal.returns-in_err-make_room
-returns-in_err-make_room c =
-    let exit = err_from_is_err_and c.from_residual-in_err-make_room.result c.from_residual-in_err-make_room.ensures.1 in
-    let core = core_of c.args.self.now in
-    rw exit.1 (refuses_cast_into (One c.args.payload.now) core core c.args.events.now.items _ exit.0 c.requires refl c.in_err-make_room.ensures.items
-    (no_memory c.args.self.now (One c.args.payload.now) exit.0 c.in_ok-judge_payload.ensures exit.2))
+    rw (exit.1, exit.2) (refuses_load_into RefusesExactly (One c.args.payload.now) core core c.args.events.now.items c.args.events.now.items c.in_err-judge_payload.field-0.0 c.requires refl refl
+    (λ es s. inl (refused_load c.args.self.now (One c.args.payload.now) (fault_told c.in_err-judge_payload.field-0.0) c.in_err-judge_payload.ensures es s)))
 
 pub make-requires-clause-state : goal.make-requires-clause-state
 make-requires-clause-state c = is_state c.args.self.now c.requires
@@ -29,31 +24,24 @@ make-requires-clause-state c = is_state c.args.self.now c.requires
 pub returns-in_err-casting : goal.returns-in_err-casting
 returns-in_err-casting c =
     let exit = err_from_is_err_and c.from_residual-in_err-casting.result c.from_residual-in_err-casting.ensures.1 in
-    rw exit.1 (refuses_cast_into (One c.args.payload.now) (core_of c.args.self.now) _ c.args.events.now.items _ exit.0 c.requires (same_but_block c.args.self.now _ c.in_err-casting.ensures.same) c.in_ok-make_room.ensures.items
-    (no_memory c.args.self.now (One c.args.payload.now) exit.0 c.in_ok-judge_payload.ensures exit.2))
+    rw exit.1 (refuses_load_into RefusesExactly (One c.args.payload.now) (core_of c.args.self.now) _ c.args.events.now.items c.args.events.now.items exit.0 c.requires (same_but_block c.args.self.now _ c.in_err-casting.ensures.same) refl
+    (λ es s. inr (exit.2, may_be_cast c.args.self.now (One c.args.payload.now) c.in_ok-judge_payload.ensures es s)))
 
-pub returns-in_err-another : goal.returns-in_err-another
-returns-in_err-another c =
-    let exit = err_from_is_err_and c.from_residual-in_err-another.result c.from_residual-in_err-another.ensures.1 in
-    rw exit.1 (refuses_cast_into (One c.args.payload.now) (core_of c.args.self.now) _ c.args.events.now.items _ exit.0 c.requires (same_but_block c.args.self.now _ c.in_ok-casting.ensures.same) c.in_ok-make_room.ensures.items
-    (no_memory c.args.self.now (One c.args.payload.now) exit.0 c.in_ok-judge_payload.ensures exit.2))
+pub join_made-requires : goal.join_made-requires
+join_made-requires c = record {
+  load = One c.args.payload.now;
+  can = can_keep (One c.args.payload.now) c.args.self.now _ c.in_ok-casting.casting c.requires c.in_ok-judge_payload.ensures c.in_ok-casting.ensures.made c.in_ok-casting.ensures.same;
+}
 
-pub keep_cast-requires : goal.keep_cast-requires
-keep_cast-requires c =
-    can_keep c.args.self.now _ (One c.args.payload.now) c.in_ok-casting.casting c.requires c.in_ok-judge_payload.ensures c.in_ok-casting.ensures.made c.in_ok-casting.ensures.same
+pub returns-in_err-joined : goal.returns-in_err-joined
+returns-in_err-joined c =
+    let exit = err_from_is_err_and c.from_residual-in_err-joined.result c.from_residual-in_err-joined.ensures.1 in
+    let can = can_keep (One c.args.payload.now) c.args.self.now _ c.in_ok-casting.casting c.requires c.in_ok-judge_payload.ensures c.in_ok-casting.ensures.made c.in_ok-casting.ensures.same in
+    let kept = c.in_err-joined.ensures (One c.args.payload.now) can in
+    rw exit.1 (refuses_load_into RefusesExactly (One c.args.payload.now) (core_of c.args.self.now) _ c.args.events.now.items _ exit.0 c.requires (kept.same ∙ same_but_block c.args.self.now _ c.in_ok-casting.ensures.same) kept.same_events
+    (λ es s. inr (exit.2, may_be_cast c.args.self.now (One c.args.payload.now) c.in_ok-judge_payload.ensures es s)))
 
 pub returns : goal.returns
 returns c =
-    let old = core_of c.args.self.now in
-    let new = core_of c.keep_cast.new.self in
-    let before = c.args.events.now.items in
-    let joined = joins_cast (One c.args.payload.now) c.args.self.now _ c.keep_cast.new.self c.in_ok-casting.casting c.in_ok-another.field-0 (record {
-      core = c.requires;
-      bytes = λ i. omega (arith, c.type_inv.payload i);
-      can = c.in_ok-judge_payload.ensures;
-      makes = c.in_ok-casting.ensures.made;
-      block = c.in_ok-casting.ensures.same;
-      copied = c.in_ok-another.ensures;
-      keeps = c.keep_cast.ensures;
-    }) in
-    rw (c.push_reserved.ensures.items, c.in_ok-make_room.ensures.items) (joined before)
+    let can = can_keep (One c.args.payload.now) c.args.self.now _ c.in_ok-casting.casting c.requires c.in_ok-judge_payload.ensures c.in_ok-casting.ensures.made c.in_ok-casting.ensures.same in
+    answers_into RefusesExactly (One c.args.payload.now) c.args.self.now _ _ c.args.events.now.items _ c.in_ok-joined.joined c.in_ok-casting.ensures.same (c.in_ok-joined.ensures (One c.args.payload.now) can)

@@ -10,11 +10,11 @@ use Rattle.cb_member.proofs.state.State.course_in_order.Goals as goal
 use Rattle.cb_member.proofs.state.State.course_in_order.Goals.{then-is_ready_in_order+else-leaves_waiting, else-is_ready_in_order+else-has_none_ready}
 
 pub time_ahead-requires : goal.time_ahead-requires
-time_ahead-requires c = record { next = is_next (cast_fields c.args.cast.now) c.args.self.now c.requires.can c.requires.single c.requires.in_order }
+time_ahead-requires c = record { next = is_next (cast_fields c.args.cast.now) c.args.self.now c.requires.can tt c.requires.in_order }
 
 pub is_ready_in_order-requires : goal.is_ready_in_order-requires
 is_ready_in_order-requires c =
-    has_its_time (cast_fields c.args.cast.now) c.in_ok-time.time c.args.self.now c.requires.can c.requires.single c.requires.in_order c.in_ok-time.ensures.time c.in_ok-time.ensures.size
+    has_its_time (cast_fields c.args.cast.now) c.in_ok-time.time c.args.self.now c.requires.can tt c.requires.in_order c.in_ok-time.ensures.time c.in_ok-time.ensures.size
 
 pub leaves_waiting-requires-clause-size : goal.leaves_waiting-requires-clause-size
 leaves_waiting-requires-clause-size c = time_fits_queue (cast_fields c.args.cast.now) c.args.self.now c.requires.can
@@ -29,7 +29,7 @@ returns-then-leaves_waiting-clause-course c =
     let same = c.leaves_waiting.ensures.same in
     record {
       has_time = has_time_alike (cast_fields c.args.cast.now) c.in_ok-time.time c.args.self.now _ (with_settled c.args.self.now c.leaves_waiting.new.self same)
-          (has_its_time (cast_fields c.args.cast.now) c.in_ok-time.time c.args.self.now c.requires.can c.requires.single c.requires.in_order c.in_ok-time.ensures.time c.in_ok-time.ensures.size);
+          (has_its_time (cast_fields c.args.cast.now) c.in_ok-time.time c.args.self.now c.requires.can tt c.requires.in_order c.in_ok-time.ensures.time c.in_ok-time.ensures.size);
       ready = subst (λ (time : List ℕ). IsReady c.args.cast.now.sender (field c.in_ok-time.time) (field time)) (sym same.time) (c.is_ready_in_order.ensures.0 c.if-is_ready_in_order.true);
       leaves = leaves_alike c.args.cast.now.sender c.args.self.now.delivery c.leaves_waiting.new.self same (c.leaves_waiting.ensures.leaves c.if-leaves_waiting.true);
     }
@@ -42,7 +42,7 @@ returns-then-has_none_ready-clause-course c =
     let same = c.has_none_ready.ensures.same in
     record {
       has_time = has_time_alike (cast_fields c.args.cast.now) c.in_ok-time.time c.args.self.now _ (with_settled c.args.self.now c.has_none_ready.new.self same)
-          (has_its_time (cast_fields c.args.cast.now) c.in_ok-time.time c.args.self.now c.requires.can c.requires.single c.requires.in_order c.in_ok-time.ensures.time c.in_ok-time.ensures.size);
+          (has_its_time (cast_fields c.args.cast.now) c.in_ok-time.time c.args.self.now c.requires.can tt c.requires.in_order c.in_ok-time.ensures.time c.in_ok-time.ensures.size);
       not_ready = λ ready. true≢false (sym (c.is_ready_in_order.ensures.1 (subst (λ (time : List ℕ). IsReady c.args.cast.now.sender (field c.in_ok-time.time) (field time)) same.time ready)) ∙ c.if-is_ready_in_order.false);
       none_ready = none_ready_alike c.args.self.now.delivery c.has_none_ready.new.self same (c.has_none_ready.ensures.none c.if-has_none_ready.true);
     }
@@ -51,7 +51,7 @@ pub returns-clause-course : goal.returns-clause-course
 returns-clause-course c =
     let cast = cast_fields c.args.cast.now in
     let state = c.args.self.now in
-    let has = has_its_time cast c.in_ok-time.time state c.requires.can c.requires.single c.requires.in_order c.in_ok-time.ensures.time c.in_ok-time.ensures.size in
+    let has = has_its_time cast c.in_ok-time.time state c.requires.can tt c.requires.in_order c.in_ok-time.ensures.time c.in_ok-time.ensures.size in
     elim c.if-is_ready_in_order.branch [
       | then-is_ready_in_order+else-leaves_waiting w ↦
           leads_on cast c.in_ok-time.time state _ c.in_ok-most.most has

@@ -1,5 +1,5 @@
-use Rattle.std.proofs.Common.{◌≡◌, ◌∙◌, ℕ, ap, sym, subst}
-use Rattle.cb_frames.specs.Fields.{CastFields, cast_fields}
+use Rattle.std.proofs.Common.{◌≡◌, ◌∙◌, ℕ, length, ap, arith, sym, subst}
+use Rattle.cb_frames.specs.Fields.{CastFields, unit_fields}
 use Rattle.cb_history.specs.Group.{Parameters}
 use Rattle.cb_member.specs.Arriving.{DeliversWith}
 use Rattle.cb_member.specs.Course.{HoldsAtMost}
@@ -8,9 +8,20 @@ use Rattle.cb_member.specs.Knowledge.{delivered_by}
 use Rattle.cb_member.specs.Reception.{HasPlaceFor}
 use Rattle.cb_member.specs.Singles.{AreSparesFor, times_in}
 use Rattle.cb_member.specs.Taking.{CanTakeIn}
-use Rattle.cb_member.proofs.Alike.{alike_again, with_room}
+use Rattle.cb_member.proofs.Alike.{alike_again, can_follow_alike, with_room}
+use Rattle.cb_member.proofs.Courses.{has_stack}
 use Rattle.cb_member.proofs.Foreseeing.{are_its_deliveries, can_let_go, foretold}
+use Rattle.cb_member.proofs.TakingIn.{has_numbers}
 use Rattle.cb_member.proofs.state.State.delivered_by_twin.Goals as goal
+
+pub for_cast-requires-clause-some : goal.for_cast-requires-clause-some
+for_cast-requires-clause-some c = (has_numbers (unit_fields c.args.unit.now) c.args.self.now c.requires.can).0
+
+pub reserve-requires : goal.reserve-requires
+reserve-requires c =
+    let unit = unit_fields c.args.unit.now in
+    let of = c.sender.ensures in
+    omega (arith, of, has_stack unit c.in_ok-twin.twin (can_follow_alike unit c.args.self.now c.in_ok-twin.twin c.in_ok-twin.ensures c.requires.can))
 
 pub take_cast-requires-clause-can : goal.take_cast-requires-clause-can
 take_cast-requires-clause-can c =
@@ -18,14 +29,14 @@ take_cast-requires-clause-can c =
     let same = alike_again c.args.self.now c.in_ok-twin.twin twin c.in_ok-twin.ensures (with_room c.in_ok-twin.twin c.reserve.new.self c.reserve.ensures.same) in
     let spares = times_in c.in_ok-spares.spares in
     let size : c.size.result ≡ c.args.self.now.seat.group.size = c.size.ensures.size ∙ ap (λ (g : Parameters). g.size) c.group.ensures.group in
-    let are = subst (λ (n : ℕ). AreSparesFor (cast_fields c.args.cast.now) n spares) size c.in_ok-spares.ensures in
-    let place = subst (λ (n : ℕ). HasPlaceFor c.args.cast.now.sender n c.reserve.new.self) c.len.ensures c.in_ok-reserve.ensures.place in
+    let are = subst (λ (n : ℕ). AreSparesFor (unit_fields c.args.unit.now) n spares) size c.in_ok-spares.ensures in
+    let place = subst (λ (i : ℕ). HasPlaceFor i (length spares) c.reserve.new.self) c.sender.ensures (subst (λ (n : ℕ). HasPlaceFor c.sender.result n c.reserve.new.self) c.len.ensures c.in_ok-reserve.ensures.place) in
     subst (λ (cast : CastFields). CanTakeIn cast spares twin × HoldsAtMost cast twin c.args.most) (sym c.in_ok-copy.ensures)
-    (can_let_go (cast_fields c.args.cast.now) c.args.most spares c.args.self.now twin same c.requires are place)
+    (can_let_go (unit_fields c.args.unit.now) c.args.most spares c.args.self.now twin same c.requires are place)
 
 pub returns : goal.returns
 returns c =
-    let cast = cast_fields c.args.cast.now in
+    let cast = unit_fields c.args.unit.now in
     let twin = record c.in_ok-twin.twin { reception = c.reserve.new.self } in
     let before = c.in_ok-events.events.items in
     let after = c.take_cast.new.events.items in

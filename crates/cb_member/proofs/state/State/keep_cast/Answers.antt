@@ -16,7 +16,7 @@ copy_from-requires-2 c =
 pub returns : goal.returns
 returns c = record {
   seat = refl;
-  keeps = λ facts load are keeps at is.
-      cast_keeps c.args.self.now facts load c.copy_from.new.self c.copy_from-2.new.self c.args.sent c.put.new.self are keeps
-      (c.copy_from.ensures.copied ∙ at) (c.copy_from-2.ensures.copied ∙ at) is c.put.ensures;
+  keeps = λ facts load are keeps at is many.
+      cast_keeps c.args.self.now facts load c.copy_from.new.self c.copy_from-2.new.self c.args.sent c.args.count c.put.new.self are keeps
+      (c.copy_from.ensures.copied ∙ at) (c.copy_from-2.ensures.copied ∙ at) is many c.put.ensures;
 }

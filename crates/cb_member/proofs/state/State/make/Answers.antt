@@ -3,8 +3,9 @@ use Rattle.std.specs.List.{flat_map}
 use Rattle.cb_varint.specs.Reading.{spelling}
 use Rattle.cb_frames.specs.Fields.{One, CastFields, CastFrame, cast_fields}
 use Rattle.cb_frames.specs.Text.{KeepsCastRules, cast_kind, cast_numbers, text_of}
+use Rattle.cb_delay.specs.declared.message.Message.{Message}
 use Rattle.cb_history.proofs.Written.{next_keeps}
-use Rattle.cb_member.specs.Casting.{next_message}
+use Rattle.cb_member.specs.Casting.{next_messages}
 use Rattle.cb_member.proofs.Casting.{text_ends}
 use Rattle.cb_member.proofs.state.State.make.Goals as goal
 
@@ -31,8 +32,8 @@ returns-clause-made c facts are keeps =
     let load = One c.args.payload.now in
     let out = c.in_ok-out.ensures ∙ ap (λ (cast : CastFields). text_of (CastFrame cast)) (c.in_ok-cast.ensures facts are keeps load) in
     record {
-      message = c.in_ok-message.ensures facts are (record { delivered = keeps.delivered; received = keeps.received; knows = keeps.knows; sent = keeps.sent })
-          ∙ ap (λ (bytes : List ℕ). next_message c.args.self.now.seat facts (One bytes)) c.in_ok-payload_in.ensures;
+      messages = ap (λ (others : List Message). c.in_ok-first.first ∷ others) c.new-others.ensures.items ∙ c.in_ok-first.ensures facts are (record { delivered = keeps.delivered; received = keeps.received; knows = keeps.knows; sent = keeps.sent })
+          ∙ ap (λ (bytes : List ℕ). next_messages c.args.self.now.seat facts (One bytes)) c.in_ok-payload_in.ensures;
       out = out;
       sent = c.in_ok-sent.ensures ∙ out;
     }

@@ -1,4 +1,4 @@
-use Rattle.std.proofs.Common.{◌≡◌, ◌∙◌, ℕ, List, set, ◌+◌, length, ap, arith}
+use Rattle.std.proofs.Common.{◌≡◌, ◌∙◌, ℕ, List, [], ◌∷◌, set, ◌+◌, length, ap, arith}
 use Rattle.cb_times.specs.Order.{field}
 use Rattle.cb_delay.specs.declared.message.Message.{Message}
 use Rattle.cb_frames.specs.Fields.{CastFields}
@@ -23,6 +23,6 @@ returns c facts are keeps =
     let me = c.args.self.now.seat.me in
     let counted : c.add_one.new.self ≡ set c.in_ok-time.time me (field c.in_ok-time.time me + 1) =
     c.add_one.ensures ∙ ap (λ (k : ℕ). set c.in_ok-time.time k (field c.in_ok-time.time k + 1)) c.me.ensures.me in
-    ap (λ (time : List ℕ). let m : Message = record { name = record { sender = c.args.cast.now.sender; number = c.args.cast.now.number }; time = time; payload = c.args.payload } in m) counted
+    ap (λ (time : List ℕ). let m : Message = record { name = record { sender = c.args.cast.now.sender; number = c.args.cast.now.number }; time = time; payload = c.args.payload } in m ∷ []) counted
     ∙ message_is_next c.args.self.now facts c.args.payload c.in_ok-time.time c.args.cast.now.sender c.args.cast.now.number are keeps c.in_ok-time.ensures.equal
     (ap (λ (x : CastFields). x.sender) is) (ap (λ (x : CastFields). x.number) is)

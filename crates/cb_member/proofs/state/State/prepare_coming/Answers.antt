@@ -1,5 +1,5 @@
 use Rattle.std.proofs.Common.{◌≡◌, ℕ, true, Some, sym, subst, rules, tests}
-use Rattle.cb_frames.specs.Fields.{cast_fields}
+use Rattle.cb_frames.specs.Fields.{unit_fields}
 use Rattle.cb_member.specs.declared.recorder.arriving.Named.{Named}
 use Rattle.cb_member.specs.CoreMember.{IsCore}
 use Rattle.cb_member.specs.Received.{HasRoomForNames, HasRoomForWanted}
@@ -28,7 +28,7 @@ returns-clause-can c =
       core_is = subst IsCore (sym (same_core old new same)) c.requires.core;
       bytes_are = c.requires.bytes;
       read = c.requires.read;
-      new = is_new_alike (cast_fields c.args.cast) old new same c.requires.new;
+      new = is_new_alike (unit_fields c.args.unit) old new same c.requires.new;
       can_go = c.in_ok-course.ensures.course;
       noted = noted;
       noted_fits = subst (λ (n : ℕ). HasRoomForWanted c.args.bytes.now n c.if-noted.noted) most_is fits;

@@ -1,9 +1,6 @@
-use Rattle.std.proofs.Common.{◌≤◌, ℕ, ◌∙◌, [], Ok, refl, sym, ap, subst, rules}
-use Rattle.cb_frames.specs.declared.frame.TheConstants.{LAST_NUMBER}
-use Rattle.cb_frames.specs.Fields.{cast_fields, CastFrame}
-use Rattle.cb_frames.proofs.Carried.{last_is_number}
+use Rattle.std.proofs.Common.{◌∙◌, [], Ok, refl, sym, ap, subst}
+use Rattle.cb_frames.specs.Fields.{unit_fields, CastFrame}
 use Rattle.cb_history.specs.Answers.{Repeat}
-use Rattle.cb_history.proofs.ReadBack.{frame_numbered, read_whole}
 use Rattle.cb_member.specs.declared.arrival.cast.Judged.{Judged}
 use Rattle.cb_member.specs.declared.core_member.arriving.Heard.{Heard}
 use Rattle.cb_member.specs.Arriving.{JudgesCast}
@@ -11,6 +8,7 @@ use Rattle.cb_member.specs.CoreCalls.{is_told, may_add}
 use Rattle.cb_member.specs.CoreMember.{core_of}
 use Rattle.cb_member.specs.Received.{count_said, received_says}
 use Rattle.cb_member.proofs.Cores.{is_state}
+use Rattle.cb_member.proofs.Reading.{cast_says}
 use Rattle.cb_member.proofs.CoreArrivals.{Enters, answered_on_each, answers_unchanged, come_before, refused_frame, refuses_arrival, refuses_entry}
 use Rattle.cb_member.proofs.state.State.receive_cast.Goals as goal
 use Rattle.cb_member.proofs.state.State.receive_cast.Goals.{in-Unwanted, in-Wanted}
@@ -18,22 +16,21 @@ use Rattle.cb_member.proofs.state.State.receive_cast.Goals.{in-Unwanted, in-Want
 pub judge_cast-requires-clause-state : goal.judge_cast-requires-clause-state
 judge_cast-requires-clause-state c = is_state c.args.self.now c.requires.core
 
-pub judge_cast-requires-clause-numbers : goal.judge_cast-requires-clause-numbers
-judge_cast-requires-clause-numbers c =
-    let small : c.args.cast.number ≤ LAST_NUMBER = search rules in
-    subst (λ (n : ℕ). n ≤ LAST_NUMBER) (sym (last_is_number (cast_fields c.args.cast) tt)) small
+pub judge_cast-requires-clause-rising : goal.judge_cast-requires-clause-rising
+judge_cast-requires-clause-rising c = (cast_says c.each_is_a_text_or_a_fault.ensures.reading c.args.bytes.now (unit_fields c.args.unit) c.requires.bytes c.requires.read).rising
+
+pub judge_cast-requires-clause-fits : goal.judge_cast-requires-clause-fits
+judge_cast-requires-clause-fits c = (cast_says c.each_is_a_text_or_a_fault.ensures.reading c.args.bytes.now (unit_fields c.args.unit) c.requires.bytes c.requires.read).fits
 
 pub judge_cast-requires-clause-numbered : goal.judge_cast-requires-clause-numbered
-judge_cast-requires-clause-numbered c = frame_numbered c.args.bytes.now (cast_fields c.args.cast) c.requires.read
+judge_cast-requires-clause-numbered c = (cast_says c.each_is_a_text_or_a_fault.ensures.reading c.args.bytes.now (unit_fields c.args.unit) c.requires.bytes c.requires.read).numbered
 
-pub judge_cast-requires-clause-rising : goal.judge_cast-requires-clause-rising
-judge_cast-requires-clause-rising c =
-    let frame = CastFrame (cast_fields c.args.cast) in
-    ((c.each_is_a_text_or_a_fault.ensures.reading.text c.args.bytes.now frame c.requires.bytes).0 (read_whole c.args.bytes.now frame c.requires.read)).0.changes.rising
+pub judge_cast-requires-clause-numbers : goal.judge_cast-requires-clause-numbers
+judge_cast-requires-clause-numbers c = (cast_says c.each_is_a_text_or_a_fault.ensures.reading c.args.bytes.now (unit_fields c.args.unit) c.requires.bytes c.requires.read).numbers
 
 pub returns-in-Ok-Repeat : goal.returns-in-Ok-Repeat
 returns-in-Ok-Repeat c =
-    let cast = cast_fields c.args.cast in
+    let cast = unit_fields c.args.unit in
     let state = c.args.self.now in
     let repeat = subst (λ (j : Judged). JudgesCast state cast (Ok j)) c.in-Ok-Repeat.field-0-is c.in-Ok-Repeat.ensures in
     answers_unchanged c.args.noting c.args.bytes.now (core_of state) Repeat c.not_noted.result c.args.events.now.items c.requires.core
@@ -45,11 +42,11 @@ pub returns-in-Err : goal.returns-in-Err
 returns-in-Err c =
     let state = c.args.self.now in
     refuses_arrival c.args.noting c.args.bytes.now (core_of state) (core_of state) c.args.events.now.items c.args.events.now.items c.in-Err.refusal c.requires.core refl refl
-    (refused_frame state c.args.bytes.now (CastFrame (cast_fields c.args.cast)) c.in-Err.refusal c.requires.read c.in-Err.ensures)
+    (refused_frame state c.args.bytes.now (CastFrame (unit_fields c.args.unit)) c.in-Err.refusal c.requires.read c.in-Err.ensures)
 
 pub returns-in-Refused : goal.returns-in-Refused
 returns-in-Refused c =
-    let cast = cast_fields c.args.cast in
+    let cast = unit_fields c.args.unit in
     let state = c.args.self.now in
     let taken = subst (λ (j : Judged). JudgesCast state cast (Ok j)) c.in-Ok-Taken.field-0-is c.in-Ok-Taken.ensures in
     refuses_entry c.args.noting c.args.bytes.now state (CastFrame cast) c.args.events.now.items c.requires.core (ap may_add c.in-Refused.is) c.requires.read taken.changes

@@ -1,6 +1,6 @@
 use Rattle.std.proofs.Common.{◌∙◌, ℕ, List, drop, length, refl, sym, subst}
 use Rattle.std.specs.List.{All}
-use Rattle.cb_frames.specs.Fields.{cast_fields}
+use Rattle.cb_frames.specs.Fields.{unit_fields}
 use Rattle.cb_delay.specs.declared.message.Event.{Event}
 use Rattle.cb_member.specs.Knowledge.{HasTimeOf, LearnsAll, delivered_by}
 use Rattle.cb_member.specs.Sending.{TrimsToStable}
@@ -9,7 +9,7 @@ use Rattle.cb_member.proofs.state.State.take_cast.Goals as goal
 
 pub acknowledge-requires-clause-senders : goal.acknowledge-requires-clause-senders
 acknowledge-requires-clause-senders c =
-    let cast = cast_fields c.args.cast in
+    let cast = unit_fields c.args.unit in
     let before = c.args.events.now.items in
     let after = c.go.new.events.items in
     let can = can_follow cast c.args.course c.args.self.now c.requires.can in
@@ -19,7 +19,7 @@ acknowledge-requires-clause-senders c =
 
 pub returns-clause-delivers : goal.returns-clause-delivers
 returns-clause-delivers c =
-    let cast = cast_fields c.args.cast in
+    let cast = unit_fields c.args.unit in
     let before = c.args.events.now.items in
     let after = c.go.new.events.items in
     let mid = c.go.new.self in
