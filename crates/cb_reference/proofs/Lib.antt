@@ -1,6 +1,5 @@
 pub mod Walks
 pub mod Messages
-pub mod Singles
 pub mod Numbers
 pub mod Bounds
 pub mod Casting

@@ -1,16 +1,15 @@
--- What the values of the plain program stand for.
+-- What the facts of the plain program stand for.
 use Rattle.std.specs.Prelude.{ℕ, List, [], ◌∷◌, min, Option, Some, None}
 use Rattle.std.specs.Borrow.{Bor}
-use Rattle.cb_frames.specs.declared.frame.Cast.{Cast}
 use Rattle.cb_frames.specs.declared.frame.Status.{Status}
-use Rattle.cb_frames.specs.Fields.{CastFields, StatusFields, cast_fields, status_fields}
+use Rattle.cb_frames.specs.Fields.{StatusFields, status_fields}
 use Rattle.cb_reference.specs.declared.facts.Fact.{Fact as PlainFact}
 use Rattle.cb_reference.specs.declared.facts.Fact.TheVariants as plain
 use Rattle.cb_history.specs.Facts.{Fact, OwnCast, CastReceived, StatusReceived, OwnStatus}
 
 abbrev pub fact_of : PlainFact → Fact
-fact_of (plain.OwnCast c) = OwnCast (cast_fields c)
-fact_of (plain.CastReceived c) = CastReceived (cast_fields c)
+fact_of (plain.OwnCast c) = OwnCast c
+fact_of (plain.CastReceived c) = CastReceived c
 fact_of (plain.StatusReceived s) = StatusReceived (status_fields s)
 fact_of (plain.OwnStatus s) = OwnStatus (status_fields s)
 
@@ -18,14 +17,6 @@ fact_of (plain.OwnStatus s) = OwnStatus (status_fields s)
 abbrev pub as_facts : Option PlainFact → List Fact
 as_facts None = []
 as_facts (Some fact) = fact_of fact ∷ []
-
--- a cast that is referred to
-abbrev pub cast_of : Bor Cast → CastFields
-cast_of c = cast_fields c.now
-
-abbrev pub as_casts : Option (Bor Cast) → List CastFields
-as_casts None = []
-as_casts (Some c) = cast_of c ∷ []
 
 -- the lesser of the least so far and one more number
 abbrev pub lesser_of : Option ℕ → ℕ → ℕ

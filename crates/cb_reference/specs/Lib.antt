@@ -4,3 +4,4 @@ pub mod Messages
 pub mod Past
 pub mod Requests
 pub mod Arrivals
+pub mod Casting

@@ -1,10 +1,10 @@
 -- What the plain member reads of bytes.
-use Rattle.cb_frames.specs.declared.frame.Frame.{Frame}
-use Rattle.cb_frames.specs.declared.frame.Frame.TheVariants as frames
+use Rattle.cb_frames.specs.Fields.{FrameFields, CastFrame, StatusFrame, RequestFrame, status_fields, request_fields}
+use Rattle.cb_reference.specs.declared.reading.FrameRead.{FrameRead}
+use Rattle.cb_reference.specs.declared.reading.FrameRead.TheVariants as frames
 
--- it is no burst
-abbrev pub IsNoBurst : Frame → Type 0
-IsNoBurst (frames.Cast c) = Unit {0}
-IsNoBurst (frames.Burst b) = ⊥
-IsNoBurst (frames.Status s) = Unit {0}
-IsNoBurst (frames.Request r) = Unit {0}
+-- what a frame that was read says
+abbrev pub read_fields : FrameRead → FrameFields
+read_fields (frames.Cast c) = CastFrame c
+read_fields (frames.Status s) = StatusFrame (status_fields s)
+read_fields (frames.Request r) = RequestFrame (request_fields r)

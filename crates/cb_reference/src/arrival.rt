@@ -2,7 +2,7 @@
 
 ghost use Rattle.std.specs.Prelude.{◌≡◌, IfOk, IfErr, map, drop, length};
 ghost use Rattle.cb_times.specs.Group.{IsGroupSize};
-ghost use Rattle.cb_frames.specs.Fields.{FrameFields, fields_of};
+ghost use Rattle.cb_frames.specs.Fields.{FrameFields};
 ghost use Rattle.cb_frames.specs.Laws.{IsBytes};
 ghost use Rattle.cb_frames.specs.Reading.{HasValue};
 ghost use Rattle.cb_history.specs.Read.{frame_read};
@@ -10,22 +10,23 @@ ghost use Rattle.cb_history.specs.Facts.{casts_in};
 ghost use Rattle.cb_history.specs.View.{view, message_in};
 ghost use Rattle.cb_history.specs.Answers.{with_frame};
 ghost use Rattle.cb_history.specs.State.{view_in, answer_to_arrival, facts_in, RefusesArrival};
-ghost use Rattle.cb_reference.specs.Facts.{fact_of, cast_of};
+ghost use Rattle.cb_reference.specs.Facts.{fact_of};
 ghost use Rattle.cb_reference.specs.Messages.{carried_of};
-ghost use Rattle.cb_reference.specs.Reading.{IsNoBurst};
+ghost use Rattle.cb_reference.specs.Reading.{read_fields};
 ghost use Rattle.cb_reference.specs.Arrivals.{IsReadRefusal, IsAccepting, TakesFrame};
 
 mod cast;
 mod request;
 mod status;
 
+use crate::casts::{Casts, Message};
 use crate::events::message_in;
 use crate::facts::{Fact, casts_in};
 use crate::member::ReferenceMember;
-use crate::reading::read;
-use crate::view::{Message, view};
+use crate::reading::{FrameRead, read};
+use crate::view::view;
 use bytes::Bytes;
-use cb_frames::{Cast, Frame, FrameFault};
+use cb_frames::FrameFault;
 use cb_history::{Arrival, ArriveRefusal, Entry, Message as Delivery, Names, Outgoing};
 use cb_times::NoMemory;
 use std::alloc::Global;
@@ -47,17 +48,15 @@ pub fn answer_arrival(member: &ReferenceMember, bytes: &Bytes) -> Result<Accepti
     ensures bytes { IsBytes bytes.now }
 {
     match frame_of(member.allocator(), bytes)? {
-        Frame::Cast(cast) => cast::answer(member, cast, bytes),
-        Frame::Burst(_) => unreachable!("a member reads no burst"),
-        Frame::Status(status) => status::answer(member, status, bytes),
-        Frame::Request(request) => request::answer(member, &request, bytes),
+        FrameRead::Cast(cast) => cast::answer(member, cast, bytes),
+        FrameRead::Status(status) => status::answer(member, status, bytes),
+        FrameRead::Request(request) => request::answer(member, &request, bytes),
     }
 }
 
 /// The frame of the bytes. What is no frame is refused without memory.
-fn frame_of(alloc: Global, bytes: &Bytes) -> Result<Frame, ArriveRefusal>
-    ensures frame { IfOk result (λ frame. frame_read bytes.now ≡ Ok (fields_of frame)) }
-    ensures single { IfOk result IsNoBurst }
+fn frame_of(alloc: Global, bytes: &Bytes) -> Result<FrameRead, ArriveRefusal>
+    ensures frame { IfOk result (λ frame. frame_read bytes.now ≡ Ok (read_fields frame)) }
     ensures refused { IfErr result (IsReadRefusal bytes.now) }
     ensures bytes { IsBytes bytes.now }
 {
@@ -72,12 +71,12 @@ fn frame_of(alloc: Global, bytes: &Bytes) -> Result<Frame, ArriveRefusal>
 fn messages_in(
     alloc: Global,
     size: u32,
-    casts: &[&Cast],
+    casts: &Casts<'_>,
     messages: &[Message<'_>],
 ) -> Result<Vec<Delivery>, NoMemory>
     requires { IsGroupSize size }
     ensures { IfOk result (λ deliveries. deliveries.items
-        ≡ map (message_in size (map cast_of casts.now)) (map carried_of messages.now)) }
+        ≡ map (message_in size casts.now) (map carried_of messages.now)) }
 {
     let mut deliveries = Vec::new(alloc);
     for message in messages {
@@ -104,7 +103,7 @@ fn deliveries(
     ensures { IfOk result (λ deliveries. deliveries.items ≡ map (message_in size (casts_in
         (map fact_of facts.now))) (drop before (view size (map fact_of facts.now)))) }
 {
-    let casts = casts_in(alloc, facts)?;
+    let casts = Casts::of(alloc, &casts_in(alloc, facts)?)?;
     let seen = view(alloc, size, facts)?;
     messages_in(alloc, size, &casts, later(&seen, before))
 }

@@ -1,18 +1,17 @@
 //! Messages as a caller sees them: with their times, and as casts and deliveries.
 
-ghost use Rattle.std.specs.Prelude.{◌≡◌, IfOk, map};
+ghost use Rattle.std.specs.Prelude.{◌≡◌, IfOk};
 ghost use Rattle.cb_times.specs.Group.{IsGroupSize};
 ghost use Rattle.cb_diffs.specs.Expansion.{expanded_time};
 ghost use Rattle.cb_history.specs.State.{events_in, facts_in};
 ghost use Rattle.cb_history.specs.View.{message_in};
 ghost use Rattle.cb_history.specs.Facts.{casts_in};
 ghost use Rattle.cb_history.specs.Events.{event_in, events};
-ghost use Rattle.cb_reference.specs.Facts.{cast_of};
 ghost use Rattle.cb_reference.specs.Messages.{carried_of};
 
+use crate::casts::{Casts, Message};
 use crate::past::Past;
-use crate::view::{Message, expanded_field};
-use cb_frames::Cast;
+use crate::view::expanded_field;
 use cb_history::{Event, Message as Delivery};
 use cb_times::{Name, NoMemory, VectorTime};
 use std::alloc::Global;
@@ -21,13 +20,12 @@ use std::alloc::Global;
 fn expanded_time(
     alloc: Global,
     size: u32,
-    casts: &[&Cast],
+    casts: &Casts<'_>,
     sender: u32,
     number: u32,
 ) -> Result<VectorTime, NoMemory>
     requires { IsGroupSize size }
-    ensures { IfOk result (λ time. time
-        ≡ expanded_time size (map cast_of casts.now) sender number) }
+    ensures { IfOk result (λ time. time ≡ expanded_time size casts.now sender number) }
 {
     let mut time = VectorTime::zero(alloc, size)?;
     for k in 0..size {
@@ -40,11 +38,11 @@ fn expanded_time(
 pub fn message_in(
     alloc: Global,
     size: u32,
-    casts: &[&Cast],
+    casts: &Casts<'_>,
     message: Message<'_>,
 ) -> Result<Delivery, NoMemory>
     requires { IsGroupSize size }
-    ensures { IfOk result (λ delivery. delivery ≡ message_in size (map cast_of casts.now)
+    ensures { IfOk result (λ delivery. delivery ≡ message_in size casts.now
         (carried_of message.entry)) }
 {
     Ok(Delivery {

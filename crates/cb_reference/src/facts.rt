@@ -3,22 +3,24 @@
 ghost use Rattle.std.specs.Prelude.{◌≡◌, ◌≤◌, IfOk, map, length};
 ghost use Rattle.cb_history.specs.Read.{frame_read};
 ghost use Rattle.cb_history.specs.Facts.{entry_fields, cast_said, arrival_said, status_said, said_by, facts_of, cast_in, casts_in};
-ghost use Rattle.cb_reference.specs.Facts.{fact_of, as_facts, cast_of, as_casts};
+ghost use Rattle.cb_reference.specs.Facts.{fact_of, as_facts};
+ghost use Rattle.cb_reference.specs.Messages.{cast_of, as_casts};
 
-use crate::reading::read;
+use crate::casts::CastRead;
+use crate::reading::{FrameRead, read};
 use bytes::Bytes;
-use cb_frames::{Cast, Frame, FrameFault, Status};
+use cb_frames::{FrameFault, Status};
 use cb_history::Entry;
 use cb_times::NoMemory;
 use std::alloc::{AllocError, Global};
 
 /// What an entry says.
-#[derive(Debug, Drop)]
+#[derive(Drop)]
 pub enum Fact {
     /// The member cast this.
-    OwnCast(Cast),
+    OwnCast(CastRead),
     /// The cast was received.
-    CastReceived(Cast),
+    CastReceived(CastRead),
     /// The status was received.
     StatusReceived(Status),
     /// The member reported this status.
@@ -29,10 +31,9 @@ fn cast_said(alloc: Global, frame: &Bytes) -> Result<Option<Fact>, NoMemory>
     ensures { IfOk result (λ fact. as_facts fact ≡ cast_said (frame_read frame.now)) }
 {
     match read(alloc, frame) {
-        Ok(Frame::Cast(cast)) => Ok(Some(Fact::OwnCast(cast))),
-        Ok(Frame::Status(_)) => Ok(None),
-        Ok(Frame::Request(_)) => Ok(None),
-        Ok(Frame::Burst(_)) => unreachable!("a member reads no burst"),
+        Ok(FrameRead::Cast(cast)) => Ok(Some(Fact::OwnCast(cast))),
+        Ok(FrameRead::Status(_)) => Ok(None),
+        Ok(FrameRead::Request(_)) => Ok(None),
         Err(FrameFault::NoMemory) => Err(AllocError),
         Err(_) => Ok(None),
     }
@@ -42,10 +43,9 @@ fn arrival_said(alloc: Global, frame: &Bytes) -> Result<Option<Fact>, NoMemory>
     ensures { IfOk result (λ fact. as_facts fact ≡ arrival_said (frame_read frame.now)) }
 {
     match read(alloc, frame) {
-        Ok(Frame::Cast(cast)) => Ok(Some(Fact::CastReceived(cast))),
-        Ok(Frame::Status(status)) => Ok(Some(Fact::StatusReceived(status))),
-        Ok(Frame::Request(_)) => Ok(None),
-        Ok(Frame::Burst(_)) => unreachable!("a member reads no burst"),
+        Ok(FrameRead::Cast(cast)) => Ok(Some(Fact::CastReceived(cast))),
+        Ok(FrameRead::Status(status)) => Ok(Some(Fact::StatusReceived(status))),
+        Ok(FrameRead::Request(_)) => Ok(None),
         Err(FrameFault::NoMemory) => Err(AllocError),
         Err(_) => Ok(None),
     }
@@ -55,10 +55,9 @@ fn status_said(alloc: Global, frame: &Bytes) -> Result<Option<Fact>, NoMemory>
     ensures { IfOk result (λ fact. as_facts fact ≡ status_said (frame_read frame.now)) }
 {
     match read(alloc, frame) {
-        Ok(Frame::Status(status)) => Ok(Some(Fact::OwnStatus(status))),
-        Ok(Frame::Cast(_)) => Ok(None),
-        Ok(Frame::Request(_)) => Ok(None),
-        Ok(Frame::Burst(_)) => unreachable!("a member reads no burst"),
+        Ok(FrameRead::Status(status)) => Ok(Some(Fact::OwnStatus(status))),
+        Ok(FrameRead::Cast(_)) => Ok(None),
+        Ok(FrameRead::Request(_)) => Ok(None),
         Err(FrameFault::NoMemory) => Err(AllocError),
         Err(_) => Ok(None),
     }
@@ -90,7 +89,7 @@ pub fn facts_of(alloc: Global, entries: &[Entry]) -> Result<Vec<Fact>, NoMemory>
 }
 
 /// The cast that a fact has.
-pub fn cast_in(fact: &Fact) -> Option<&Cast>
+pub fn cast_in(fact: &Fact) -> Option<&CastRead>
     ensures { as_casts result ≡ cast_in (fact_of fact.now) }
 {
     match fact {
@@ -102,7 +101,7 @@ pub fn cast_in(fact: &Fact) -> Option<&Cast>
 }
 
 /// The casts among the facts.
-pub fn casts_in(alloc: Global, facts: &[Fact]) -> Result<Vec<&Cast>, NoMemory>
+pub fn casts_in(alloc: Global, facts: &[Fact]) -> Result<Vec<&CastRead>, NoMemory>
     ensures { IfOk result (λ casts. map cast_of casts.items ≡ casts_in (map fact_of facts.now)) }
 {
     let mut casts = Vec::new(alloc);

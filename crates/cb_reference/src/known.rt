@@ -9,13 +9,14 @@ ghost use Rattle.cb_history.specs.State.{missing_in, stable_in, facts_in};
 ghost use Rattle.cb_history.specs.Facts.{casts_in, is_there, numbers_between};
 ghost use Rattle.cb_history.specs.View.{view};
 ghost use Rattle.cb_history.specs.Known.{greatest_of, value_in, reported_of, counted_in_times, known, expanded_count, missing, ranges_of, reported_by, counted_by, acknowledged, least_of, stable};
-ghost use Rattle.cb_reference.specs.Facts.{fact_of, cast_of, lesser_of};
+ghost use Rattle.cb_reference.specs.Facts.{fact_of, lesser_of};
 ghost use Rattle.cb_reference.specs.Messages.{carried_of};
 
+use crate::casts::{Casts, Message};
 use crate::facts::Fact;
 use crate::past::Past;
-use crate::view::{Message, expanded_field, is_expanded, is_there, message_of};
-use cb_frames::{Cast, Change, Range};
+use crate::view::{expanded_field, is_expanded, is_there};
+use cb_frames::{Change, Range};
 use cb_times::NoMemory;
 use std::alloc::Global;
 
@@ -31,13 +32,12 @@ pub fn value_in(values: &[Change], k: u32) -> u32
     0
 }
 
-#[tactic(auto, using(cb_frames::proofs::Carried::last_is_number))]
 fn reported_of(i: u32, fact: &Fact) -> u32
     ensures { result ≡ greatest_of (reported_of i (fact_of fact.now)) }
 {
     match fact {
         Fact::OwnCast(_) => 0,
-        Fact::CastReceived(cast) => { if cast.sender == i { cast.number } else { 0 } }
+        Fact::CastReceived(cast) => { if cast.sender() == i { cast.last() } else { 0 } }
         Fact::StatusReceived(status) => value_in(&status.values, i),
         Fact::OwnStatus(_) => 0,
     }
@@ -56,14 +56,12 @@ fn reported(facts: &[Fact], i: u32) -> u32
 }
 
 /// What the times say of it that can be known.
-#[tactic(auto, unfolding(cb_frames::specs::Fields::messages_of))]
-fn counted_in_times(casts: &[&Cast], i: u32) -> u32
-    ensures { result ≡ greatest_of (counted_in_times (map cast_of casts.now) i) }
+fn counted_in_times(casts: &Casts<'_>, i: u32) -> u32
+    ensures { result ≡ greatest_of (counted_in_times casts.now i) }
 {
     let mut greatest: u32 = 0;
-    for cast in casts {
-        let message = message_of(cast);
-        if is_expanded(casts, message) {
+    for message in casts.messages() {
+        if is_expanded(casts, *message) {
             greatest = greatest.max(expanded_field(casts, message.sender, message.number, i));
         }
     }
@@ -71,14 +69,12 @@ fn counted_in_times(casts: &[&Cast], i: u32) -> u32
 }
 
 /// How many casts of sender i are expanded.
-#[tactic(auto, unfolding(cb_frames::specs::Fields::messages_of))]
-fn expanded_count(casts: &[&Cast], i: u32) -> u32
-    ensures { result ≡ expanded_count (map cast_of casts.now) i }
+fn expanded_count(casts: &Casts<'_>, i: u32) -> u32
+    ensures { result ≡ expanded_count casts.now i }
 {
     let mut greatest: u32 = 0;
-    for cast in casts {
-        let message = message_of(cast);
-        if is_expanded(casts, message) && message.sender == i {
+    for message in casts.messages() {
+        if is_expanded(casts, *message) && message.sender == i {
             greatest = greatest.max(message.number);
         }
     }
@@ -115,8 +111,8 @@ fn reported_in_statuses(facts: &[Fact], k: u32, me: u32) -> u32
 }
 
 /// What the times of the delivered messages of member k say of it.
-fn counted_by(casts: &[&Cast], seen: &[Message<'_>], k: u32, me: u32) -> u32
-    ensures { result ≡ greatest_of (counted_by (map cast_of casts.now)
+fn counted_by(casts: &Casts<'_>, seen: &[Message<'_>], k: u32, me: u32) -> u32
+    ensures { result ≡ greatest_of (counted_by casts.now
         (map carried_of seen.now) k me) }
 {
     let mut greatest: u32 = 0;
@@ -140,13 +136,13 @@ fn lesser(least: Option<u32>, count: u32) -> u32
 /// The numbers after `low` up to `high` that no cast of the sender has.
 fn absent(
     alloc: Global,
-    casts: &[&Cast],
+    casts: &Casts<'_>,
     sender: u32,
     low: u32,
     high: u32,
 ) -> Result<Vec<u32>, NoMemory>
-    ensures { IfOk result (λ numbers. numbers.items ≡ filter (λ n. not (is_there
-        (map cast_of casts.now) sender n)) (numbers_between low high)) }
+    ensures { IfOk result (λ numbers. numbers.items ≡ filter (λ n. not (is_there casts.now
+        sender n)) (numbers_between low high)) }
 {
     let mut numbers = Vec::new(alloc);
     for below in 0..high.saturating_sub(low) {

@@ -7,6 +7,7 @@
 
 mod arrival;
 mod cast;
+mod casts;
 mod events;
 mod facts;
 mod known;

@@ -7,12 +7,15 @@ ghost use Rattle.cb_history.specs.View.{time_of};
 ghost use Rattle.cb_history.specs.Events.{events};
 ghost use Rattle.cb_history.specs.Known.{missing, ranges_of, stable};
 ghost use Rattle.cb_frames.specs.Fields.{One};
+ghost use Rattle.cb_history.specs.CastFault.{burst_fault_told, fault_told};
+ghost use Rattle.cb_history.specs.Load.{many_of};
 ghost use Rattle.cb_history.specs.Legal.{longest_history, ToCast, ToTake, ToTick, IsLegal, and_entry};
 ghost use Rattle.cb_history.specs.LegalHistory.{IsLegalHistory};
-ghost use Rattle.cb_history.specs.State.{state_of, events_in, missing_in, stable_in, time_in, IsMemberState, facts_in, entry_by, HasCast, RefusesCast, HasTaken, RefusesArrival, HasTicked, RefusesTick};
+ghost use Rattle.cb_history.specs.State.{state_of, events_in, missing_in, stable_in, time_in, IsMemberState, facts_in, entry_by, HasCast, RefusesCast, HasCastBurst, RefusesBurst, HasTaken, RefusesArrival, HasTicked, RefusesTick};
+ghost use Rattle.cb_reference.specs.Casting.{load_of, IsOfOne};
 
 use crate::arrival::{Accepting, answer_arrival};
-use crate::cast::{Casting, answer_cast};
+use crate::cast::{Casting, Load, answer_cast};
 use crate::events::events_of;
 use crate::facts::facts_of;
 use crate::known::{missing, stable};
@@ -21,8 +24,8 @@ use crate::tick::{Ticking, answer_tick};
 use bytes::Bytes;
 use cb_frames::Range;
 use cb_history::{
-    Arrival, ArriveRefusal, CastDone, CastRefusal, Entry, Event, Group, GroupMember, History,
-    Identity, LONGEST_HISTORY, MissingFault, NewFault, TickRefusal, Ticked,
+    Arrival, ArriveRefusal, BurstDone, BurstRefusal, CastDone, CastRefusal, Entry, Event, Group,
+    GroupMember, History, Identity, LONGEST_HISTORY, MissingFault, NewFault, TickRefusal, Ticked,
 };
 use cb_times::{NoMemory, VectorTime};
 use std::alloc::Global;
@@ -182,7 +185,50 @@ impl ReferenceMember {
         ensures refused { IfErr result (RefusesCast self.old (One payload.now)) }
         ensures same { OnErr result (self.new ≡ self.old) }
     {
-        let casting = answer_cast(self, payload)?;
+        match self.cast_load(Load::One(payload)) {
+            Ok((done, noted)) => Ok((as_one(done), noted)),
+            Err(refusal) => Err(refusal_of_one(refusal)),
+        }
+    }
+
+    /// Casts a message of each payload, all in one frame.
+    ///
+    /// A refusal is that of the definition, in the order of `BurstRefusal`. `NoMemory` may stand in place of any answer but the first
+    /// three.
+    pub fn cast_burst(&mut self, payloads: &[&[u8]]) -> Result<BurstDone, BurstRefusal>
+        ensures done { IfOk result (HasCastBurst self.old self.new (many_of payloads.now)) }
+        ensures refused { IfErr result (RefusesBurst self.old (many_of payloads.now)) }
+        ensures same { OnErr result (self.new ≡ self.old) }
+    {
+        let (done, _noted) = self.cast_burst_noted(payloads)?;
+        Ok(done)
+    }
+
+    /// Casts payloads as `cast_burst` does, and hands out a copy of the entry that was added.
+    pub fn cast_burst_noted(
+        &mut self,
+        payloads: &[&[u8]],
+    ) -> Result<(BurstDone, Entry), BurstRefusal>
+        ensures done { IfOk result (λ noted. HasCastBurst self.old self.new
+            (many_of payloads.now) noted.0) }
+        ensures entry { IfOk result (λ noted. entry_by self.old (ToCast (many_of payloads.now))
+            ≡ Some (entry_fields noted.1)) }
+        ensures refused { IfErr result (RefusesBurst self.old (many_of payloads.now)) }
+        ensures same { OnErr result (self.new ≡ self.old) }
+    {
+        self.cast_load(Load::Many(payloads))
+    }
+
+    /// Casts the load, and hands out a copy of the entry that was added.
+    fn cast_load(&mut self, load: Load<'_>) -> Result<(BurstDone, Entry), BurstRefusal>
+        ensures done { IfOk result (λ noted. HasCastBurst self.old self.new (load_of load.entry)
+            noted.0) }
+        ensures entry { IfOk result (λ noted. entry_by self.old (ToCast (load_of load.entry))
+            ≡ Some (entry_fields noted.1)) }
+        ensures refused { IfErr result (RefusesBurst self.old (load_of load.entry)) }
+        ensures same { OnErr result (self.new ≡ self.old) }
+    {
+        let casting = answer_cast(self, load)?;
         let Casting { done, entry } = casting;
         let noted = enter_cast(&mut self.entries, entry)?;
         Ok((done, noted))
@@ -249,6 +295,10 @@ impl GroupMember for ReferenceMember {
         ReferenceMember::cast(self, payload)
     }
 
+    fn cast_burst(&mut self, payloads: &[&[u8]]) -> Result<BurstDone, BurstRefusal> {
+        ReferenceMember::cast_burst(self, payloads)
+    }
+
     fn arrive(&mut self, bytes: &Bytes) -> Result<Arrival, ArriveRefusal> {
         ReferenceMember::arrive(self, bytes)
     }
@@ -275,6 +325,38 @@ impl GroupMember for ReferenceMember {
 
     fn entries(&self) -> Result<Vec<Entry>, NoMemory> {
         Entry::copies(self.allocator(), self.history())
+    }
+}
+
+/// What is said of a cast of one message.
+fn as_one(done: BurstDone) -> CastDone
+    ensures { result ≡ record { name = done.first; time = done.time; out = done.out } }
+{
+    let BurstDone {
+        first,
+        time,
+        out,
+        ..
+    } = done;
+    CastDone {
+        name: first,
+        time,
+        out,
+    }
+}
+
+/// The refusal of a load that is one payload.
+fn refusal_of_one(refusal: BurstRefusal) -> CastRefusal
+    requires { IsOfOne refusal }
+    ensures { burst_fault_told refusal ≡ fault_told result }
+{
+    match refusal {
+        BurstRefusal::EmptyBurst => unreachable!("there is a payload"),
+        BurstRefusal::BurstTooLong => unreachable!("there is one payload"),
+        BurstRefusal::PayloadTooLong => CastRefusal::PayloadTooLong,
+        BurstRefusal::WindowFull => CastRefusal::WindowFull,
+        BurstRefusal::HistoryFull => CastRefusal::HistoryFull,
+        BurstRefusal::NoMemory => CastRefusal::NoMemory,
     }
 }
 

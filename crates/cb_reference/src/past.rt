@@ -7,13 +7,14 @@ ghost use Rattle.cb_history.specs.Group.{IsIdentity};
 ghost use Rattle.cb_history.specs.Facts.{casts_in};
 ghost use Rattle.cb_history.specs.View.{time_of, view};
 ghost use Rattle.cb_history.specs.Legal.{longest_history};
-ghost use Rattle.cb_reference.specs.Facts.{fact_of, cast_of};
+ghost use Rattle.cb_reference.specs.Facts.{fact_of};
 ghost use Rattle.cb_reference.specs.Messages.{carried_of};
+ghost use Rattle.cb_reference.specs.Past.{most_seen};
 
+use crate::casts::{Casts, Message};
 use crate::facts::{Fact, casts_in};
 use crate::member::ReferenceMember;
-use crate::view::{Message, count, counts, view};
-use cb_frames::Cast;
+use crate::view::{count, counts, view};
 use cb_history::Identity;
 use cb_times::{NoMemory, VectorTime};
 use std::alloc::Global;
@@ -24,14 +25,14 @@ use std::marker::Model;
 pub struct Past<'a> {
     member: &'a ReferenceMember,
     facts: &'a [Fact],
-    casts: Vec<&'a Cast>,
+    casts: Casts<'a>,
     seen: Vec<Message<'a>>,
 }
 
 impl<'a> Model for Past<'a> {
     ghost use Rattle.std.specs.Prelude.{map};
     ghost use Rattle.cb_history.specs.State.{MemberState};
-    ghost use Rattle.cb_reference.specs.Facts.{fact_of, cast_of};
+    ghost use Rattle.cb_reference.specs.Facts.{fact_of};
     ghost use Rattle.cb_reference.specs.Messages.{carried_of};
     ghost use Rattle.cb_reference.specs.Past.{IsPast};
 
@@ -39,8 +40,8 @@ impl<'a> Model for Past<'a> {
 
     ghost view = { λ p. p.member.now };
 
-    ghost invariant = { λ p. IsPast p.member.now (map fact_of p.facts.now)
-        (map cast_of p.casts.items) (map carried_of p.seen.items) };
+    ghost invariant = { λ p. IsPast p.member.now (map fact_of p.facts.now) p.casts
+        (map carried_of p.seen.items) };
 }
 
 impl<'a> Past<'a> {
@@ -50,7 +51,7 @@ impl<'a> Past<'a> {
         ensures { IfOk result (λ past. past ≡ member.now) }
     {
         let alloc = member.allocator();
-        let casts = casts_in(alloc, facts)?;
+        let casts = Casts::of(alloc, &casts_in(alloc, facts)?)?;
         let seen = view(alloc, member.seat().group().size(), facts)?;
         Ok(Past {
             member,
@@ -114,23 +115,24 @@ impl<'a> Past<'a> {
     }
 
     /// The casts among the facts.
-    pub fn casts(&self) -> &[&'a Cast]
-        ensures { map cast_of result.now ≡ casts_in (facts_in self.now) }
+    pub fn casts(&self) -> &Casts<'a>
+        ensures { result.now ≡ casts_in (facts_in self.now) }
     {
-        self.casts.as_slice()
+        &self.casts
     }
 
     /// The own casts and the deliveries, in order.
     pub fn seen(&self) -> &[Message<'a>]
         ensures seen { map carried_of result.now ≡ view_in self.now }
-        ensures few { length result.now ≤ longest_history }
+        ensures few { length result.now ≤ most_seen }
     {
         self.seen.as_slice()
     }
 
     /// How many messages of member k are delivered, own casts included.
     pub fn delivered(&self, k: u32) -> usize
-        ensures { result ≡ delivered self.now.seat (facts_in self.now) k }
+        ensures count { result ≡ delivered self.now.seat (facts_in self.now) k }
+        ensures few { result ≤ most_seen }
     {
         count(self.seen(), k)
     }

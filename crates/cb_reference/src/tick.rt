@@ -10,17 +10,19 @@ ghost use Rattle.cb_history.specs.Facts.{entry_fields, TickEntry};
 ghost use Rattle.cb_history.specs.View.{count};
 ghost use Rattle.cb_history.specs.Known.{value_in, missing, ranges_of};
 ghost use Rattle.cb_history.specs.Answers.{status_of, last_status, is_new_status, request_to, requests};
-ghost use Rattle.cb_history.specs.Legal.{longest_history, ToTick, tick_entry};
+ghost use Rattle.cb_history.specs.Legal.{ToTick, tick_entry};
 ghost use Rattle.cb_history.specs.State.{missing_in, status_in, answer_to_tick, entry_by, facts_in};
 ghost use Rattle.cb_reference.specs.Facts.{fact_of, as_status};
 ghost use Rattle.cb_reference.specs.Messages.{carried_of};
+ghost use Rattle.cb_reference.specs.Past.{most_seen};
 ghost use Rattle.cb_reference.specs.Requests.{request_sent};
 
+use crate::casts::Message;
 use crate::facts::{Fact, facts_of};
 use crate::known::{missing, value_in};
 use crate::member::ReferenceMember;
 use crate::past::Past;
-use crate::view::{Message, count};
+use crate::view::count;
 use bytes::Bytes;
 use cb_frames::{Change, Frame, MOST_RANGES, Range, Request, Status, frame_text};
 use cb_history::{Entry, Identity, Outgoing, TickRefusal, Ticked};
@@ -29,7 +31,7 @@ use std::alloc::Global;
 
 /// The counts of these messages that are not 0.
 fn values_of(alloc: Global, size: u32, seen: &[Message<'_>]) -> Result<Vec<Change>, NoMemory>
-    requires { length seen.now ≤ longest_history }
+    requires { length seen.now ≤ most_seen }
     ensures { IfOk result (λ values. values.items ≡ filter (λ d. nat_lt 0 d.amount) (map
         (λ k. record { field = k; amount = count (map carried_of seen.now) k })
         (range_with_len 0 size))) }

@@ -1,51 +1,37 @@
 //! What the member has delivered, by a walk over the facts.
 
-ghost use Rattle.std.specs.Prelude.{◌≡◌, ◌<◌, ◌≤◌, ◌^◌, ◌==◌, ◌&&◌, ◌++◌, IfOk, OnOk, map, min, length};
+ghost use Rattle.std.specs.Prelude.{◌≡◌, ◌≤◌, ◌==◌, ◌&&◌, ◌++◌, IfOk, OnOk, map, min, ℕ};
 ghost use Rattle.std.specs.List.{list_any};
 ghost use Rattle.cb_times.specs.Group.{IsGroupSize};
-ghost use Rattle.cb_frames.specs.Fields.{cast_fields, messages_of, growth_in};
+ghost use Rattle.cb_frames.specs.declared.frame.TheConstants.{LAST_NUMBER};
+ghost use Rattle.cb_frames.specs.Fields.{messages_of, growth_in};
 ghost use Rattle.cb_diffs.specs.Expansion.{growth_of, expanded_field, greatest};
 ghost use Rattle.cb_history.specs.Facts.{cast_in, is_there, messages_in};
 ghost use Rattle.cb_history.specs.View.{count, is_expanded, is_among, is_in_time, is_ready, next_delivery, drain, seen_after, view, counts};
-ghost use Rattle.cb_reference.specs.Facts.{fact_of, cast_of};
-ghost use Rattle.cb_reference.specs.Messages.{carried_of, as_carried, best_of};
+ghost use Rattle.cb_reference.specs.Facts.{fact_of};
+ghost use Rattle.cb_reference.specs.Messages.{cast_of, carried_of, as_carried, best_of};
 
+use crate::casts::{CastRead, Casts, Message};
 use crate::facts::Fact;
-use bytes::Bytes;
-use cb_frames::{Cast, Change};
+use cb_frames::Change;
 use cb_times::{NoMemory, VectorTime};
 use std::alloc::Global;
 
-/// A message that a cast carries.
-#[derive(Clone, Copy, Drop)]
-pub struct Message<'a> {
-    pub sender: u32,
-    pub number: u32,
-    pub payload: &'a Bytes,
-}
-
-pub fn message_of(cast: &Cast) -> Message<'_>
-    ensures { carried_of result
-        ≡ record {
-          sender = cast.now.sender;
-          number = cast.now.number;
-          payload = cast.now.payload;
-        } }
+/// One of these messages is message `number` of the sender.
+fn has(messages: &[Message<'_>], sender: u32, number: u32) -> bool
+    ensures { result ≡ list_any (λ m. m.sender == sender && m.number == number)
+        (map carried_of messages.now) }
 {
-    Message {
-        sender: cast.sender,
-        number: cast.number,
-        payload: &cast.payload,
-    }
+    messages
+        .iter()
+        .any(|m| m.sender == sender && m.number == number)
 }
 
 /// Some cast carries message `number` of the sender.
-pub fn is_there(casts: &[&Cast], sender: u32, number: u32) -> bool
-    ensures { result ≡ is_there (map cast_of casts.now) sender number }
+pub fn is_there(casts: &Casts<'_>, sender: u32, number: u32) -> bool
+    ensures { result ≡ is_there casts.now sender number }
 {
-    casts
-        .iter()
-        .any(|cast| cast.sender == sender && cast.number == number)
+    has(casts.messages(), sender, number)
 }
 
 /// How many of these messages are member k's.
@@ -58,7 +44,7 @@ pub fn count(seen: &[Message<'_>], k: u32) -> usize
 fn is_among(seen: &[Message<'_>], message: Message<'_>) -> bool
     ensures { result ≡ is_among (map carried_of seen.now) (carried_of message.entry) }
 {
-    seen.iter().any(|m| m.sender == message.sender && m.number == message.number)
+    has(seen, message.sender, message.number)
 }
 
 /// By how much the changes say that field k has grown, held at the greatest number.
@@ -74,34 +60,33 @@ fn growth_in(changes: &[Change], k: u32) -> u32
     growth
 }
 
-#[tactic(auto, using(cb_frames::proofs::Carried::first_is_number))]
-fn growth_of(sender: u32, number: u32, k: u32, cast: &Cast) -> u32
-    ensures { result ≡ min greatest (growth_of sender number k (cast_fields cast.now)) }
+fn growth_of(sender: u32, number: u32, k: u32, cast: &CastRead) -> u32
+    ensures { result ≡ min greatest (growth_of sender number k cast.now) }
 {
-    if cast.sender == sender && cast.number <= number {
-        growth_in(&cast.changes, k)
+    if cast.sender() == sender && cast.first() <= number {
+        growth_in(cast.changes(), k)
     } else {
         0
     }
 }
 
 /// Field k of the time of a message, which its sender's casts add up to.
-pub fn expanded_field(casts: &[&Cast], sender: u32, number: u32, k: u32) -> u32
-    ensures { result ≡ expanded_field (map cast_of casts.now) sender number k }
+pub fn expanded_field(casts: &Casts<'_>, sender: u32, number: u32, k: u32) -> u32
+    ensures { result ≡ expanded_field casts.now sender number k }
 {
     if k == sender {
         return number;
     }
     let mut sum: u32 = 0;
-    for cast in casts {
+    for cast in casts.frames() {
         sum = sum.saturating_add(growth_of(sender, number, k, cast));
     }
     sum
 }
 
 /// All casts of its sender from the first up to it are there.
-pub fn is_expanded(casts: &[&Cast], message: Message<'_>) -> bool
-    ensures { result ≡ is_expanded (map cast_of casts.now) (carried_of message.entry) }
+pub fn is_expanded(casts: &Casts<'_>, message: Message<'_>) -> bool
+    ensures { result ≡ is_expanded casts.now (carried_of message.entry) }
 {
     for below in 0..message.number {
         if !is_there(casts, message.sender, below + 1) {
@@ -112,8 +97,8 @@ pub fn is_expanded(casts: &[&Cast], message: Message<'_>) -> bool
 }
 
 /// The delay rule at field k.
-fn is_in_time(casts: &[&Cast], seen: &[Message<'_>], message: Message<'_>, k: u32) -> bool
-    ensures { result ≡ is_in_time (map cast_of casts.now) (map carried_of seen.now)
+fn is_in_time(casts: &Casts<'_>, seen: &[Message<'_>], message: Message<'_>, k: u32) -> bool
+    ensures { result ≡ is_in_time casts.now (map carried_of seen.now)
         (carried_of message.entry) k }
 {
     let field = expanded_field(casts, message.sender, message.number, k) as usize;
@@ -126,8 +111,8 @@ fn is_in_time(casts: &[&Cast], seen: &[Message<'_>], message: Message<'_>, k: u3
 }
 
 /// The message was not delivered yet, and meets the delay rule at every field.
-fn is_ready(size: u32, casts: &[&Cast], seen: &[Message<'_>], message: Message<'_>) -> bool
-    ensures { result ≡ is_ready size (map cast_of casts.now) (map carried_of seen.now)
+fn is_ready(size: u32, casts: &Casts<'_>, seen: &[Message<'_>], message: Message<'_>) -> bool
+    ensures { result ≡ is_ready size casts.now (map carried_of seen.now)
         (carried_of message.entry) }
 {
     !is_among(seen, message) && (0..size).all(|k| is_in_time(casts, seen, message, k))
@@ -144,27 +129,24 @@ fn better<'a>(best: Option<Message<'a>>, message: Message<'a>) -> Message<'a>
 }
 
 /// The message to be delivered next.
-#[tactic(auto, unfolding(cb_frames::specs::Fields::messages_of))]
-fn next_delivery<'a>(size: u32, casts: &[&'a Cast], seen: &[Message<'_>]) -> Option<Message<'a>>
-    ensures { as_carried result ≡ next_delivery size (map cast_of casts.now)
-        (map carried_of seen.now) }
+fn next_delivery<'a>(size: u32, casts: &Casts<'a>, seen: &[Message<'_>]) -> Option<Message<'a>>
+    ensures { as_carried result ≡ next_delivery size casts.now (map carried_of seen.now) }
 {
     let mut next = None;
-    for cast in casts {
-        let message = message_of(cast);
-        if is_expanded(casts, message) && is_ready(size, casts, seen, message) {
-            next = Some(better(next, message));
+    for message in casts.messages() {
+        if is_expanded(casts, *message) && is_ready(size, casts, seen, *message) {
+            next = Some(better(next, *message));
         }
     }
     next
 }
 
 /// Delivers as long as a message is ready.
-fn drain<'a>(size: u32, casts: &[&'a Cast], seen: &mut Vec<Message<'a>>) -> Result<(), NoMemory>
-    ensures { OnOk result (map carried_of seen.new.items ≡ drain size (map cast_of casts.now)
+fn drain<'a>(size: u32, casts: &Casts<'a>, seen: &mut Vec<Message<'a>>) -> Result<(), NoMemory>
+    ensures { OnOk result (map carried_of seen.new.items ≡ drain size casts.now
         (map carried_of seen.old.items)) }
 {
-    for _delivered in 0..casts.len() {
+    for _delivered in 0..casts.messages().len() {
         let Some(message) = next_delivery(size, casts, seen) else {
             return Ok(());
         };
@@ -174,11 +156,11 @@ fn drain<'a>(size: u32, casts: &[&'a Cast], seen: &mut Vec<Message<'a>>) -> Resu
 }
 
 /// What one more fact makes of the casts and of the messages seen.
-#[tactic(auto, unfolding(cb_frames::specs::Fields::messages_of))]
 fn see<'a>(
+    alloc: Global,
     size: u32,
     fact: &'a Fact,
-    casts: &mut Vec<&'a Cast>,
+    casts: &mut Vec<&'a CastRead>,
     seen: &mut Vec<Message<'a>>,
 ) -> Result<(), NoMemory>
     ensures casts { OnOk result (map cast_of casts.new.items ≡ map cast_of casts.old.items
@@ -189,12 +171,11 @@ fn see<'a>(
     match fact {
         Fact::OwnCast(cast) => {
             casts.push(cast)?;
-            seen.push(message_of(cast))?;
-            Ok(())
+            seen.extend_from_slice(&cast.messages(alloc)?)
         }
         Fact::CastReceived(cast) => {
             casts.push(cast)?;
-            drain(size, casts, seen)
+            drain(size, &Casts::of(alloc, casts)?, seen)
         }
         Fact::StatusReceived(_) | Fact::OwnStatus(_) => Ok(()),
     }
@@ -203,14 +184,13 @@ fn see<'a>(
 /// The own casts and the deliveries, in order.
 #[tactic(auto, unfolding(cb_history::specs::View::view))]
 pub fn view(alloc: Global, size: u32, facts: &[Fact]) -> Result<Vec<Message<'_>>, NoMemory>
-    ensures seen { IfOk result (λ seen. map carried_of seen.items
+    ensures { IfOk result (λ seen. map carried_of seen.items
         ≡ view size (map fact_of facts.now)) }
-    ensures few { IfOk result (λ seen. length seen.items ≤ length facts.now) }
 {
     let mut casts = Vec::new(alloc);
     let mut seen = Vec::new(alloc);
     for fact in facts {
-        see(size, fact, &mut casts, &mut seen)?;
+        see(alloc, size, fact, &mut casts, &mut seen)?;
     }
     Ok(seen)
 }
@@ -218,7 +198,7 @@ pub fn view(alloc: Global, size: u32, facts: &[Fact]) -> Result<Vec<Message<'_>>
 /// How many messages of each member are in the view.
 pub fn counts(alloc: Global, size: u32, seen: &[Message<'_>]) -> Result<VectorTime, NoMemory>
     requires group { IsGroupSize size }
-    requires few { length seen.now < 2 ^ 32 }
+    requires few { (j : ℕ) → count (map carried_of seen.now) j ≤ LAST_NUMBER }
     ensures { IfOk result (λ time. time ≡ counts size (map carried_of seen.now)) }
 {
     let mut time = VectorTime::zero(alloc, size)?;

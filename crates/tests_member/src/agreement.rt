@@ -31,8 +31,15 @@ const SEED: u32 = 1;
 /// No run has as many entries.
 const ROOM: usize = 100_000;
 
-/// A payload that has a byte too many.
+/// A payload that has a byte too many, and payloads that have it together.
 const TOO_LONG: &[u8] = &[0; 1_025];
+
+const TOO_LONG_TOGETHER: &[&[u8]] = &[&[0; 1_000], &[0; 25]];
+
+/// A payload too many.
+const EMPTY: &[u8] = b"";
+
+const TOO_MANY: &[&[u8]] = &[EMPTY; 33];
 
 /// A member without history, by the calls that hand out entries and by the others.
 #[derive(Drop)]
@@ -77,7 +84,9 @@ impl Cores {
     fn silent_answer(&mut self, alloc: Global, call: Call<'_>) -> Result<String, Fail> {
         let text = cores::answer(alloc, &mut self.silent, call)?;
         match call {
-            Call::Cast(_) | Call::Take(_) | Call::Tick => self.noting.counted(alloc, text),
+            Call::Cast(_) | Call::Burst(_) | Call::Take(_) | Call::Tick => self
+                .noting
+                .counted(alloc, text),
             _ => Ok(text),
         }
     }
@@ -211,6 +220,15 @@ pub fn is_same_message(one: &Message, other: &Message) -> bool {
         && one.payload == other.payload
 }
 
+/// A cast that no member makes.
+fn too_long(dice: &mut Dice) -> Call<'static> {
+    match dice.below(3) {
+        0 => Call::Cast(TOO_LONG),
+        1 => Call::Burst(TOO_LONG_TOGETHER),
+        _ => Call::Burst(TOO_MANY),
+    }
+}
+
 fn random_group(size: u32, dice: &mut Dice) -> Result<Group, Fail> {
     let number = dice.near(299);
     let window = dice.below(8).saturating_add(1);
@@ -294,8 +312,9 @@ impl Trial {
     /// A call of any kind.
     fn call<R: Abort>(&mut self, rt: &R, alloc: Global, dice: &mut Dice) -> Result<(), Fail> {
         match dice.below(32) {
-            0..=3 => self.send(rt, alloc, Call::Cast(&[dice.byte()])),
-            4 => self.forms.call(rt, alloc, Call::Cast(TOO_LONG)),
+            0..=2 => self.send(rt, alloc, Call::Cast(&[dice.byte()])),
+            3 => self.send_burst(rt, alloc, dice),
+            4 => self.forms.call(rt, alloc, too_long(dice)),
             5 | 6 => self.send(rt, alloc, Call::Tick),
             7 | 8 => {
                 let member = dice.below(self.group.size());
@@ -308,6 +327,14 @@ impl Trial {
                 self.forms.call(rt, alloc, Call::Take(&frame))
             }
         }
+    }
+
+    /// A burst of up to four payloads, sometimes of none.
+    fn send_burst<R: Abort>(&mut self, rt: &R, alloc: Global, dice: &mut Dice) -> Result<(), Fail> {
+        let bytes = [dice.byte(), dice.byte(), dice.byte()];
+        let payloads: [&[u8]; 4] = [&bytes[..1], &[], &bytes[1..], &bytes];
+        let count = dice.place(5).min(payloads.len());
+        self.send(rt, alloc, Call::Burst(&payloads[..count]))
     }
 
     /// A call that sends a frame to the others.

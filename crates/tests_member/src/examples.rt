@@ -3,11 +3,18 @@
 //! They are tables, and run over any member. What a call did is compared as one text: how many entries the history has then, and the
 //! answer; what is read, by itself. Bytes are in hexadecimal.
 
+mod bursts;
 pub mod calls;
 pub mod cores;
 mod courses;
 mod five;
 
+pub use crate::examples::bursts::{
+    A_BURST_AND_ITS_ANSWER, A_BURST_IS_DELIVERED_BEFORE_WHAT_ITS_FIRST_MESSAGE_MAKES_READY,
+    A_BURST_IS_REFUSED_BY_THE_FIRST_RULE_THAT_IT_BREAKS, A_BURST_IS_SENT_AGAIN_WHOLE,
+    A_BURST_OF_WHICH_A_PART_IS_THERE_OVERLAPS, A_BURST_THAT_ARRIVES_IS_REFUSED_BY_THE_FIRST_RULE,
+    A_BURST_THAT_OVERTAKES_WAITS,
+};
 use crate::examples::calls::{Call, Script, group_of, hexadecimal, play};
 pub use crate::examples::calls::{Made, run_each};
 pub use crate::examples::courses::{
@@ -342,28 +349,6 @@ pub const A_FRAME_IS_REFUSED_BY_THE_FIRST_RULE_THAT_IT_BREAKS: &[Script<'static>
         (Call::Take(b"\x11\x07\x03\x01\x00\x00"), "1: BadMember"),
         (Call::Take(b"\x11\x07\x40"), "1: Malformed(BadIndex)"),
         (Call::Time, "[1,0,0]"),
-    ],
-}];
-
-/// Whatever follows its first byte: "hi" and "yo" by member 0, no payload, and nothing.
-pub const A_BURST_IS_OF_NO_KIND: &[Script<'static>] = &[Script {
-    number: 7,
-    size: 3,
-    window: 4,
-    me: 1,
-    limit: 100,
-    calls: &[
-        (
-            Call::Take(b"\x21\x07\x00\x01\x00\x02\x02hi\x02yo"),
-            "0: Malformed(UnknownKind)",
-        ),
-        (
-            Call::Take(b"\x21\x07\x00\x01\x00\x00"),
-            "0: Malformed(UnknownKind)",
-        ),
-        (Call::Take(b"\x21"), "0: Malformed(UnknownKind)"),
-        (Call::Missing(0), ""),
-        (Call::Take(HI), "1: changed, 0.1 [1,0,0] (6869)"),
     ],
 }];
 

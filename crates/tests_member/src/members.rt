@@ -1,6 +1,7 @@
 //! The worked examples by the plain member, by the quick one and by the one without history, and a few more by the plain one.
 
 use crate::examples;
+use crate::examples::calls::Script;
 use bytes::Bytes;
 use cb_history::{CastDone, Entry, Group, History, NewFault};
 use cb_member::Member;
@@ -75,6 +76,13 @@ fn is_cast_of(entry: &Entry, done: &CastDone) -> bool {
     }
 }
 
+fn noted_burst(member: &mut ReferenceMember) -> Result<Option<Entry>, Fail> {
+    match member.cast_burst_noted(&[b"hi", b"yo"]) {
+        Ok((_, entry)) => Ok(Some(entry)),
+        Err(_) => Err(Fail::new("a burst")),
+    }
+}
+
 fn noted_arrival(
     member: &mut ReferenceMember,
     bytes: &'static [u8],
@@ -96,6 +104,14 @@ fn noted_tick(member: &mut ReferenceMember) -> Result<Option<Entry>, Fail> {
 fn a_noted_cast_hands_out_its_entry(rt: HostRuntime) -> Result<(), Fail> {
     let mut member = first_of_three(&rt, rt.alloc())?;
     let entry = noted_cast(&rt, &mut member)?;
+    keeps(&rt, member, entry);
+    Ok(())
+}
+
+#[test]
+fn a_noted_burst_hands_out_its_entry(rt: HostRuntime) -> Result<(), Fail> {
+    let mut member = first_of_three(&rt, rt.alloc())?;
+    let entry = noted_burst(&mut member)?;
     keeps(&rt, member, entry);
     Ok(())
 }
@@ -234,9 +250,22 @@ fn a_history_of_one_entry_is_soon_full(rt: HostRuntime) -> Result<(), Fail> {
     )
 }
 
+/// All tables of bursts.
 #[test]
-fn a_burst_is_of_no_kind(rt: HostRuntime) -> Result<(), Fail> {
-    examples::run_each(&rt, rt.alloc(), examples::A_BURST_IS_OF_NO_KIND)
+fn bursts_are_cast_taken_refused_and_sent_again(rt: HostRuntime) -> Result<(), Fail> {
+    const TABLES: &[&[Script<'static>]] = &[
+        examples::A_BURST_AND_ITS_ANSWER,
+        examples::A_BURST_THAT_OVERTAKES_WAITS,
+        examples::A_BURST_IS_REFUSED_BY_THE_FIRST_RULE_THAT_IT_BREAKS,
+        examples::A_BURST_OF_WHICH_A_PART_IS_THERE_OVERLAPS,
+        examples::A_BURST_IS_SENT_AGAIN_WHOLE,
+        examples::A_BURST_IS_DELIVERED_BEFORE_WHAT_ITS_FIRST_MESSAGE_MAKES_READY,
+        examples::A_BURST_THAT_ARRIVES_IS_REFUSED_BY_THE_FIRST_RULE,
+    ];
+    for scripts in TABLES {
+        examples::run_each(&rt, rt.alloc(), scripts)?;
+    }
+    Ok(())
 }
 
 #[test]

@@ -140,12 +140,17 @@ const NEW: &[u8] = b"\x11\x07\x02\x01\x00\x00";
 /// What member 0 is asked for.
 const NO: &[u8] = b"\x11\x07\x00\x01\x00\x02no";
 
-/// A burst of "hi" and "yo", one that is cut, and no more than the first byte of one.
-const BURSTS: &[&[u8]] = &[
-    b"\x21\x07\x00\x01\x00\x02\x02hi\x02yo",
-    b"\x21\x07",
-    b"\x21",
-];
+/// The first two casts of member 1 as a burst, and the two behind them.
+const HI_SO: &[u8] = b"\x21\x07\x01\x01\x00\x02\x02hi\x02so";
+
+const LATER: &[u8] = b"\x21\x07\x01\x03\x00\x02\x00\x00";
+
+/// A burst without messages, one that is cut, and no more than the first byte of one.
+const NONE: &[u8] = b"\x21\x07\x01\x01\x00\x00";
+
+const CUT_BURST: &[u8] = b"\x21\x07";
+
+const BURST_KIND: &[u8] = b"\x21";
 
 /// Member 0, which has cast "no".
 fn speaker(rt: &impl Abort, alloc: Global) -> Member {
@@ -181,16 +186,21 @@ const DELIVERS_1: Said = Ok(Did::Accepted(1, true, 0));
 
 const DELIVERS_2: Said = Ok(Did::Accepted(2, true, 0));
 
+const DELIVERS_3: Said = Ok(Did::Accepted(3, true, 0));
+
 const DELIVERS_4: Said = Ok(Did::Accepted(4, true, 0));
 
 const SENDS: Said = Ok(Did::Accepted(0, false, 1));
 
 const SHORT: Said = Err(ArriveRefusal::Malformed(FrameFault::Short));
 
-const UNKNOWN: Said = Err(ArriveRefusal::Malformed(FrameFault::UnknownKind));
+const EMPTY: Said = Err(ArriveRefusal::Malformed(FrameFault::EmptyBurst));
+
+const OVERLAPS: Said = Err(ArriveRefusal::Overlap);
 
 /// In each order: a cast that waits for nothing, one that comes before its question, one that comes again, a status, a request. Then
-/// gaps of two senders, and an own cast that makes a forged one ready, which goes at the next cast, whatever that is.
+/// gaps of two senders, and an own cast that makes a forged one ready, which goes at the next cast, whatever that is. Then bursts: in
+/// order, behind what waits for them, before their turn, over a part of them, and none.
 const ORDERS: &[&[(Step, Said)]] = &[
     &[
         (Step::Take(HI), DELIVERS_1),
@@ -252,6 +262,40 @@ const ORDERS: &[&[(Step, Said)]] = &[
         (Step::Take(AHEAD), WAITS),
         (Step::Cast, NOTHING),
         (Step::Take(NEW), DELIVERS_2),
+    ],
+    &[
+        (Step::Take(HI_SO), DELIVERS_2),
+        (Step::Take(HI), REPEATS),
+        (Step::Take(HI_SO), REPEATS),
+        (Step::Take(YO), DELIVERS_1),
+        (Step::Take(LATER), DELIVERS_2),
+    ],
+    &[
+        (Step::Take(YO), WAITS),
+        (Step::Take(HI_SO), DELIVERS_3),
+        (Step::Take(LATER), DELIVERS_2),
+    ],
+    &[
+        (Step::Take(LATER), WAITS),
+        (Step::Take(LATER), REPEATS),
+        (Step::Take(HI_SO), DELIVERS_4),
+    ],
+    &[
+        (Step::Take(OK), WAITS),
+        (Step::Take(HI_SO), OVERLAPS),
+        (Step::Take(HI), DELIVERS_2),
+        (Step::Take(HI_SO), REPEATS),
+    ],
+    &[
+        (Step::Take(AHEAD), WAITS),
+        (Step::Cast, NOTHING),
+        (Step::Take(HI_SO), OVERLAPS),
+        (Step::Take(LATER), DELIVERS_1),
+    ],
+    &[
+        (Step::Take(NONE), EMPTY),
+        (Step::Take(CUT_BURST), SHORT),
+        (Step::Take(BURST_KIND), SHORT),
     ],
 ];
 
@@ -323,20 +367,6 @@ fn plays(rt: &impl Abort, alloc: Global, order: &[(Step, Said)]) {
     for (step, said) in order {
         four.takes(rt, *step, *said);
     }
-    four.end(rt);
-}
-
-#[test]
-fn what_begins_as_a_burst_is_refused_and_changes_nothing(rt: HostRuntime) {
-    for bytes in BURSTS {
-        refuse(&rt, rt.alloc(), bytes);
-    }
-}
-
-fn refuse(rt: &impl Abort, alloc: Global, bytes: &'static [u8]) {
-    let mut four = Four::new(rt, alloc);
-    four.take(rt, bytes, UNKNOWN);
-    are_same(rt, &four.receives, speaker(rt, alloc));
     four.end(rt);
 }
 

@@ -1,21 +1,22 @@
 //! The answer to a received cast.
 
 ghost use Rattle.std.specs.Prelude.{◌≡◌, IfOk, IfErr, map};
-ghost use Rattle.std.specs.List.{list_all};
-ghost use Rattle.cb_frames.specs.Fields.{cast_fields, CastFrame};
-ghost use Rattle.cb_history.specs.Answers.{are_members, is_impossible, is_too_far};
-ghost use Rattle.cb_history.specs.Facts.{OwnCast, CastReceived};
+ghost use Rattle.std.specs.List.{list_all, list_any};
+ghost use Rattle.cb_frames.specs.Fields.{CastFrame, messages_of};
+ghost use Rattle.cb_history.specs.Answers.{are_members, is_impossible, is_overlap, is_repeat, is_too_far};
+ghost use Rattle.cb_history.specs.Facts.{OwnCast, CastReceived, casts_in, is_there};
 ghost use Rattle.cb_history.specs.State.{facts_in};
+ghost use Rattle.cb_reference.specs.Messages.{carried_of};
 ghost use Rattle.cb_reference.specs.Arrivals.{answer_to_frame, IsAccepting, JudgesCast, MayRefuse};
 
 use crate::arrival::status::are_fields;
 use crate::arrival::{Accepting, take};
+use crate::casts::{CastRead, Message};
 use crate::facts::{Fact, facts_of};
 use crate::member::ReferenceMember;
 use crate::past::Past;
 use crate::view::is_there;
 use bytes::Bytes;
-use cb_frames::Cast;
 use cb_history::{Arrival, ArriveRefusal};
 
 /// What the rules say of a cast that is not refused.
@@ -27,39 +28,59 @@ pub enum Judged {
 }
 
 /// The sender and the fields are of the group.
-fn are_members(size: u32, cast: &Cast) -> bool
-    ensures { result ≡ are_members size (CastFrame (cast_fields cast.now)) }
+fn are_members(size: u32, cast: &CastRead) -> bool
+    ensures { result ≡ are_members size (CastFrame cast.now) }
 {
-    cast.sender < size && are_fields(size, &cast.changes)
+    cast.sender() < size && are_fields(size, cast.changes())
 }
 
 /// It would be a cast of the member itself that it did not make.
-#[tactic(auto, using(cb_frames::proofs::Carried::last_is_number))]
-fn is_impossible(past: &Past<'_>, cast: &Cast) -> bool
+fn is_impossible(past: &Past<'_>, cast: &CastRead) -> bool
     ensures { result ≡ is_impossible past.now.seat (facts_in past.now) (CastFrame
-        (cast_fields cast.now)) }
+        cast.now) }
 {
     let me = past.me();
-    cast.sender == me && past.delivered(me) < cast.number as usize
+    cast.sender() == me && past.delivered(me) < cast.last() as usize
 }
 
 /// Beyond the window above what is delivered.
-#[tactic(auto, using(cb_frames::proofs::Carried::last_is_number))]
-fn is_too_far(past: &Past<'_>, cast: &Cast) -> bool
+fn is_too_far(past: &Past<'_>, cast: &CastRead) -> bool
     ensures { result ≡ is_too_far past.now.seat (facts_in past.now) (CastFrame
-        (cast_fields cast.now)) }
+        cast.now) }
 {
-    past.delivered(cast.sender)
+    past.delivered(cast.sender())
         .saturating_add(past.window() as usize)
-        < cast.number as usize
+        < cast.last() as usize
 }
 
-/// The first rule that the cast breaks, or what it does.
-#[tactic(auto, unfolding(cb_frames::specs::Fields::messages_of))]
-fn first_broken(past: &Past<'_>, cast: &Cast) -> Result<Judged, ArriveRefusal>
-    ensures { JudgesCast past.now (cast_fields cast.now) result }
+/// All of these messages are there.
+fn are_there(past: &Past<'_>, messages: &[Message<'_>]) -> bool
+    ensures { result ≡ list_all (λ m. is_there (casts_in (facts_in past.now)) m.sender m.number)
+        (map carried_of messages.now) }
 {
-    if cast.group != past.seat().group().number() {
+    let casts = past.casts();
+    messages.iter().all(|m| is_there(casts, m.sender, m.number))
+}
+
+/// Some of these messages is there.
+fn is_some_there(past: &Past<'_>, messages: &[Message<'_>]) -> bool
+    ensures { result ≡ list_any (λ m. is_there (casts_in (facts_in past.now)) m.sender m.number)
+        (map carried_of messages.now) }
+{
+    let casts = past.casts();
+    messages.iter().any(|m| is_there(casts, m.sender, m.number))
+}
+
+/// The first rule that the cast of these messages breaks, or what it does.
+fn first_broken(
+    past: &Past<'_>,
+    cast: &CastRead,
+    messages: &[Message<'_>],
+) -> Result<Judged, ArriveRefusal>
+    requires { map carried_of messages.now ≡ messages_of cast.now }
+    ensures { JudgesCast past.now cast.now result }
+{
+    if cast.group() != past.seat().group().number() {
         return Err(ArriveRefusal::OtherGroup);
     }
     if !are_members(past.size(), cast) {
@@ -68,8 +89,11 @@ fn first_broken(past: &Past<'_>, cast: &Cast) -> Result<Judged, ArriveRefusal>
     if is_impossible(past, cast) {
         return Err(ArriveRefusal::Impossible);
     }
-    if is_there(past.casts(), cast.sender, cast.number) {
+    if are_there(past, messages) {
         return Ok(Judged::Repeat);
+    }
+    if is_some_there(past, messages) {
+        return Err(ArriveRefusal::Overlap);
     }
     if is_too_far(past, cast) {
         return Err(ArriveRefusal::TooFar);
@@ -80,28 +104,35 @@ fn first_broken(past: &Past<'_>, cast: &Cast) -> Result<Judged, ArriveRefusal>
     Ok(Judged::Taken)
 }
 
-/// Judges the frame as `first_broken` does, and drops the past.
-fn judge(past: Past<'_>, cast: &Cast) -> Result<Judged, ArriveRefusal>
-    ensures { JudgesCast past.entry (cast_fields cast.now) result }
+/// Judges the frame as `first_broken` does, and drops the past and the messages.
+fn judge(
+    past: Past<'_>,
+    cast: &CastRead,
+    messages: Vec<Message<'_>>,
+) -> Result<Judged, ArriveRefusal>
+    requires { map carried_of messages.items ≡ messages_of cast.now }
+    ensures { JudgesCast past.entry cast.now result }
 {
-    first_broken(&past, cast)
+    first_broken(&past, cast, &messages)
 }
 
 /// The answer to a cast.
 pub fn answer(
     member: &ReferenceMember,
-    cast: Cast,
+    cast: CastRead,
     bytes: &Bytes,
 ) -> Result<Accepting, ArriveRefusal>
     ensures accepted { IfOk result (IsAccepting member.now bytes.now
-        (answer_to_frame member.now (CastFrame (cast_fields cast)))) }
+        (answer_to_frame member.now (CastFrame cast))) }
     ensures refused { IfErr result (MayRefuse (answer_to_frame member.now (CastFrame
-        (cast_fields cast)))) }
+        cast))) }
 {
-    let mut facts = facts_of(member.allocator(), member.history())?;
+    let alloc = member.allocator();
+    let mut facts = facts_of(alloc, member.history())?;
     let past = Past::of(member, &facts)?;
     let before = past.seen().len();
-    let judged = judge(past, &cast)?;
+    let messages = cast.messages(alloc)?;
+    let judged = judge(past, &cast, messages)?;
     match judged {
         Judged::Repeat => Ok(Accepting {
             arrival: Arrival::Repeat,

@@ -1,38 +1,67 @@
 //! The answer to a received request: frames that are sent again.
 
-ghost use Rattle.std.specs.Prelude.{◌≡◌, Ok, Err, IfOk, IfErr, map};
-ghost use Rattle.cb_frames.specs.Fields.{cast_fields, request_fields, RequestFrame};
+ghost use Rattle.std.specs.Prelude.{◌≡◌, ◌&&◌, [], ◌∷◌, nat_le, Ok, Err, IfOk, IfErr, map};
+ghost use Rattle.std.specs.List.{list_any};
+ghost use Rattle.cb_frames.specs.Fields.{request_fields, messages_of, CastFields, CastFrame, RequestFrame};
+ghost use Rattle.cb_frames.specs.Text.{text_of};
 ghost use Rattle.cb_history.specs.Read.{frame_read};
 ghost use Rattle.cb_history.specs.Facts.{entry_fields, facts_of, cast_said, said_by};
 ghost use Rattle.cb_history.specs.Answers.{are_members, is_asked_for, own_casts, sent_in_answer};
 ghost use Rattle.cb_history.specs.State.{facts_in};
+ghost use Rattle.cb_reference.specs.Messages.{carried_of};
 ghost use Rattle.cb_reference.specs.Requests.{as_texts, asked_texts, first_asked};
 ghost use Rattle.cb_reference.specs.Arrivals.{answer_to_frame, IsAccepting, JudgesRequest, MayRefuse};
 
 use crate::arrival::Accepting;
+use crate::casts::{CastRead, Message};
 use crate::facts::facts_of;
 use crate::known::stable;
 use crate::member::ReferenceMember;
 use crate::past::Past;
-use crate::reading::read;
+use crate::reading::{FrameRead, read};
 use bytes::Bytes;
-use cb_frames::{Cast, Frame, FrameFault, MOST_FRAMES, Range, Request, one_text};
+use cb_frames::{FrameFault, MOST_FRAMES, Range, Request, one_text};
 use cb_history::{Arrival, ArriveRefusal, Entry, Outgoing};
 use cb_times::NoMemory;
 use std::alloc::{AllocError, Global};
 
-/// Some message of the cast is asked for.
-fn is_asked_for(ranges: &[Range], cast: &Cast) -> bool
-    ensures { result ≡ is_asked_for ranges.now (cast_fields cast.now) }
+/// One of the ranges has the number.
+fn is_in_some(ranges: &[Range], number: u32) -> bool
+    ensures { result ≡ list_any (λ r. nat_le r.first number && nat_le number r.last) ranges.now }
 {
-    let number = cast.number;
     ranges
         .iter()
         .any(|range| range.first <= number && number <= range.last)
 }
 
+/// Some of these messages is asked for.
+fn is_asked_for(ranges: &[Range], messages: &[Message<'_>]) -> bool
+    ensures { (cast : CastFields) → map carried_of messages.now ≡ messages_of cast
+        → result ≡ is_asked_for ranges.now cast }
+{
+    messages.iter().any(|m| is_in_some(ranges, m.number))
+}
+
+/// The bytes of an own cast where it is above what is stable and asked for.
+fn text_if_asked(
+    alloc: Global,
+    cast: &CastRead,
+    frame: &Bytes,
+    stable: u32,
+    ranges: &[Range],
+) -> Result<Option<Bytes>, NoMemory>
+    requires { frame.now ≡ text_of (CastFrame cast.now) }
+    ensures { IfOk result (λ text. as_texts text
+        ≡ asked_texts stable ranges.now (cast.now ∷ [])) }
+{
+    if stable < cast.last() && is_asked_for(ranges, &cast.messages(alloc)?) {
+        Ok(Some(frame.clone()?))
+    } else {
+        Ok(None)
+    }
+}
+
 /// The bytes of an own cast that is above what is stable and asked for.
-#[tactic(auto, using(cb_frames::proofs::Carried::last_is_number))]
 fn asked_text(
     alloc: Global,
     frame: &Bytes,
@@ -44,16 +73,9 @@ fn asked_text(
 {
     one_text();
     match read(alloc, frame) {
-        Ok(Frame::Cast(cast)) => {
-            if stable < cast.number && is_asked_for(ranges, &cast) {
-                Ok(Some(frame.clone()?))
-            } else {
-                Ok(None)
-            }
-        }
-        Ok(Frame::Status(_)) => Ok(None),
-        Ok(Frame::Request(_)) => Ok(None),
-        Ok(Frame::Burst(_)) => unreachable!("a member reads no burst"),
+        Ok(FrameRead::Cast(cast)) => text_if_asked(alloc, &cast, frame, stable, ranges),
+        Ok(FrameRead::Status(_)) => Ok(None),
+        Ok(FrameRead::Request(_)) => Ok(None),
         Err(FrameFault::NoMemory) => Err(AllocError),
         Err(_) => Ok(None),
     }

@@ -11,11 +11,12 @@ ghost use Rattle.cb_reference.specs.Messages.{carried_of};
 ghost use Rattle.cb_reference.specs.Arrivals.{answer_to_frame, IsAccepting, JudgesStatus, MayRefuse};
 
 use crate::arrival::{Accepting, take};
+use crate::casts::Message;
 use crate::facts::{Fact, facts_of};
 use crate::known::{acknowledged, known, value_in};
 use crate::member::ReferenceMember;
 use crate::past::Past;
-use crate::view::{Message, count};
+use crate::view::count;
 use bytes::Bytes;
 use cb_frames::{Change, Status};
 use cb_history::{Arrival, ArriveRefusal};

@@ -117,14 +117,14 @@ fn cast(alloc: Global, target: &Target<'_>, dice: &mut Dice) -> Result<Bytes, Fa
     ))
 }
 
-/// Two messages of a byte each.
+/// Up to four messages of a byte each.
 fn burst(alloc: Global, target: &Target<'_>, dice: &mut Dice) -> Result<Bytes, Fail> {
     let sender = target.member(dice);
     let group = target.number(dice);
     let first = dice.near(target.delivered(sender)).max(1);
     let changes = changes(alloc, target, dice, sender)?;
     let mut payloads = Vec::new(alloc);
-    for _ in 0..2 {
+    for _ in 0..=dice.below(4) {
         payloads.push(Bytes::copy_from_slice(alloc, &[dice.byte()])?)?;
     }
     Ok(text(
@@ -178,7 +178,7 @@ pub fn forged(alloc: Global, target: &Target<'_>, dice: &mut Dice) -> Result<Byt
     match dice.below(16) {
         0..=2 => request(alloc, target, dice),
         3..=8 => status(alloc, target, dice),
-        9 => burst(alloc, target, dice),
+        9..=11 => burst(alloc, target, dice),
         _ => cast(alloc, target, dice),
     }
 }

@@ -88,7 +88,8 @@ fn sent_by(
     dice: &mut Dice,
 ) -> Result<Vec<Outgoing>, Fail> {
     match dice.below(8) {
-        0..=2 => cast_by(alloc, member, dice.byte()),
+        0 | 1 => cast_by(alloc, member, dice.byte()),
+        2 => burst_by(alloc, member, dice),
         3 => reported_by(alloc, member),
         _ => answered_by(alloc, member, came),
     }
@@ -97,6 +98,20 @@ fn sent_by(
 fn cast_by(alloc: Global, member: &mut Member, payload: u8) -> Result<Vec<Outgoing>, Fail> {
     let mut sent = Vec::new(alloc);
     if let Ok(done) = member.cast(&[payload]) {
+        let to = None;
+        let bytes = done.out;
+        sent.push(Outgoing { to, bytes })?;
+    }
+    Ok(sent)
+}
+
+/// A burst of up to three messages.
+fn burst_by(alloc: Global, member: &mut Member, dice: &mut Dice) -> Result<Vec<Outgoing>, Fail> {
+    let bytes = [dice.byte(), dice.byte()];
+    let payloads: [&[u8]; 3] = [&bytes[..1], &bytes[1..], &[]];
+    let count = dice.place(3).saturating_add(1).min(payloads.len());
+    let mut sent = Vec::new(alloc);
+    if let Ok(done) = member.cast_burst(&payloads[..count]) {
         let to = None;
         let bytes = done.out;
         sent.push(Outgoing { to, bytes })?;

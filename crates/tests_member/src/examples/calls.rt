@@ -2,10 +2,10 @@
 
 use crate::examples::cores;
 use bytes::Bytes;
-use cb_frames::{Cast, Frame, Range, decode};
+use cb_frames::{Change, Frame, Range, decode};
 use cb_history::{
-    Arrival, ArriveRefusal, CastDone, CastRefusal, Entry, Event, Group, GroupMember, Message,
-    MissingFault, Name, Outgoing, TickRefusal, Ticked,
+    Arrival, ArriveRefusal, BurstDone, BurstRefusal, CastDone, CastRefusal, Entry, Event, Group,
+    GroupMember, Message, MissingFault, Name, Outgoing, TickRefusal, Ticked,
 };
 use cb_member::Member;
 use cb_reference::ReferenceMember;
@@ -38,6 +38,8 @@ impl Made for Member {
 pub enum Call<'a> {
     /// To cast this payload.
     Cast(&'a [u8]),
+    /// To cast a message of each of these payloads.
+    Burst(&'a [&'a [u8]]),
     /// To take these bytes, which were received.
     Take(&'a [u8]),
     /// To report to the others what it has.
@@ -125,6 +127,24 @@ pub fn cast_text(alloc: Global, answer: &Result<CastDone, CastRefusal>) -> Resul
     }
 }
 
+/// The name and the time of the first message, how many there are, and the frame.
+pub fn burst_text(alloc: Global, answer: &Result<BurstDone, BurstRefusal>) -> Result<String, Fail> {
+    match answer {
+        Ok(
+            BurstDone {
+                first,
+                count,
+                time,
+                out,
+            },
+        ) => {
+            let out = hexadecimal(alloc, out.as_slice())?;
+            Ok(format!(in alloc; "{first} {time} {count} {out}")?)
+        }
+        Err(refusal) => Ok(format!(in alloc; "{refusal}")?),
+    }
+}
+
 pub fn arrival_text(
     alloc: Global,
     answer: &Result<Arrival, ArriveRefusal>,
@@ -161,7 +181,7 @@ pub fn tick_text(alloc: Global, answer: &Result<Ticked, TickRefusal>) -> Result<
 /// What a call that changes something did: how many entries there are after it, and its answer.
 pub fn answer<M: Made>(alloc: Global, member: &mut M, call: Call<'_>) -> Result<String, Fail> {
     match call {
-        Call::Cast(_) | Call::Take(_) | Call::Tick => {
+        Call::Cast(_) | Call::Burst(_) | Call::Take(_) | Call::Tick => {
             let text = changing(alloc, member, call)?;
             counted(alloc, member, text)
         }
@@ -179,6 +199,7 @@ pub fn counted<M: Made>(alloc: Global, member: &M, text: String) -> Result<Strin
 fn changing<M: Made>(alloc: Global, member: &mut M, call: Call<'_>) -> Result<String, Fail> {
     match call {
         Call::Cast(payload) => cast_text(alloc, &member.cast(payload)),
+        Call::Burst(payloads) => burst_text(alloc, &member.cast_burst(payloads)),
         Call::Take(bytes) => taken_text(alloc, member, bytes),
         Call::Tick => tick_text(alloc, &member.tick()),
         _ => Err(Fail::new("a call that reads")),
@@ -352,15 +373,18 @@ fn raised_by(alloc: Global, entry: &Entry, name: Name, field: u32) -> u32 {
     };
     match decode(alloc, frame) {
         Ok(Frame::Cast(cast)) if cast.sender == name.sender && cast.number <= name.number => {
-            amount_in(&cast, field)
+            amount_in(&cast.changes, field)
+        }
+        Ok(Frame::Burst(burst)) if burst.sender == name.sender && burst.first <= name.number => {
+            amount_in(&burst.changes, field)
         }
         _ => 0,
     }
 }
 
 /// A cast names each field once at most.
-fn amount_in(cast: &Cast, field: u32) -> u32 {
-    match cast.changes.iter().find(|change| change.field == field) {
+fn amount_in(changes: &[Change], field: u32) -> u32 {
+    match changes.iter().find(|change| change.field == field) {
         Some(change) => change.amount,
         None => 0,
     }

@@ -1,12 +1,13 @@
 //! Calls of a member that keeps no history, whose texts are those of a member whose history has room.
 
 use crate::examples::calls::{
-    Call, Script, arrival_text, cast_text, entries, events, group_of, missing, tick_text, time_of,
+    Call, Script, arrival_text, burst_text, cast_text, entries, events, group_of, missing,
+    tick_text, time_of,
 };
 use bytes::Bytes;
 use cb_history::{
-    Arrival, ArriveRefusal, CastDone, CastRefusal, Entry, Event, Group, Message, TickRefusal,
-    Ticked,
+    Arrival, ArriveRefusal, BurstDone, BurstRefusal, CastDone, CastRefusal, Entry, Event, Group,
+    Message, Name, TickRefusal, Ticked,
 };
 use cb_member::{CoreMember, Received};
 use std::alloc::Global;
@@ -25,6 +26,7 @@ pub fn core_of(alloc: Global, group: Group, me: u32) -> Result<CoreMember, Fail>
 pub fn answer(alloc: Global, core: &mut CoreMember, call: Call<'_>) -> Result<String, Fail> {
     match call {
         Call::Cast(payload) => cast_text(alloc, &core.cast(payload)),
+        Call::Burst(payloads) => burst_text(alloc, &core.cast_burst(payloads)),
         Call::Take(bytes) => taken_text(alloc, core, bytes),
         Call::Tick => tick_text(alloc, &core.tick()),
         _ => reading(alloc, core, call),
@@ -80,7 +82,7 @@ impl Noting {
     /// What the call did: of one that changes something also how many entries were handed out until then.
     pub fn answer(&mut self, alloc: Global, call: Call<'_>) -> Result<String, Fail> {
         match call {
-            Call::Cast(_) | Call::Take(_) | Call::Tick => {
+            Call::Cast(_) | Call::Burst(_) | Call::Take(_) | Call::Tick => {
                 let text = self.changing(alloc, call)?;
                 self.counted(alloc, text)
             }
@@ -100,6 +102,7 @@ impl Noting {
     fn changing(&mut self, alloc: Global, call: Call<'_>) -> Result<String, Fail> {
         match call {
             Call::Cast(payload) => cast_text(alloc, &self.cast(alloc, payload)?),
+            Call::Burst(payloads) => burst_text(alloc, &self.cast_burst(alloc, payloads)?),
             Call::Take(bytes) => self.taken_text(alloc, bytes),
             Call::Tick => tick_text(alloc, &self.tick()?),
             _ => Err(Fail::new("a call that reads")),
@@ -119,6 +122,35 @@ impl Noting {
             }
             Err(refusal) => Ok(Err(refusal)),
         }
+    }
+
+    fn cast_burst(
+        &mut self,
+        alloc: Global,
+        payloads: &[&[u8]],
+    ) -> Result<Result<BurstDone, BurstRefusal>, Fail> {
+        match self.core.cast_burst_noted(payloads) {
+            Ok((done, entry)) => {
+                self.entries.push(entry)?;
+                self.keep_burst(alloc, &done, payloads)?;
+                Ok(Ok(done))
+            }
+            Err(refusal) => Ok(Err(refusal)),
+        }
+    }
+
+    /// An event for each message, of which each further one has one more in the own field of its time.
+    fn keep_burst(
+        &mut self,
+        alloc: Global,
+        done: &BurstDone,
+        payloads: &[&[u8]],
+    ) -> Result<(), Fail> {
+        for (number, payload) in (done.first.number..).zip(payloads) {
+            self.events
+                .push(burst_event(alloc, done, number, payload)?)?;
+        }
+        Ok(())
     }
 
     fn taken_text(&mut self, alloc: Global, bytes: &[u8]) -> Result<String, Fail> {
@@ -187,6 +219,24 @@ fn cast_event(alloc: Global, done: &CastDone, payload: &[u8]) -> Result<Event, F
     Ok(Event::Cast(Message {
         name: done.name,
         time: done.time.copy()?,
+        payload: Bytes::copy_from_slice(alloc, payload)?,
+    }))
+}
+
+fn burst_event(
+    alloc: Global,
+    done: &BurstDone,
+    number: u32,
+    payload: &[u8],
+) -> Result<Event, Fail> {
+    let sender = done.first.sender;
+    let mut time = done.time.copy()?;
+    if sender < time.size() {
+        time.set(sender, number);
+    }
+    Ok(Event::Cast(Message {
+        name: Name { sender, number },
+        time,
         payload: Bytes::copy_from_slice(alloc, payload)?,
     }))
 }

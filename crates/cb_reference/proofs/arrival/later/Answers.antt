@@ -1,6 +1,6 @@
 use Rattle.std.proofs.Common.{◌≡◌, ◌-◌, ◌∙◌, ℕ, List, map, min, drop, length, ap, sym, arith}
 use Rattle.std.proofs.lemmas.List.{drop_min, drop-map, take_all, length-drop}
-use Rattle.cb_reference.specs.declared.view.Message.{Message}
+use Rattle.cb_reference.specs.declared.casts.Message.{Message}
 use Rattle.cb_reference.specs.Messages.{carried_of}
 use Rattle.cb_reference.proofs.arrival.later.Goals as goal
 

@@ -1,6 +1,7 @@
 use Rattle.std.proofs.Common.{◌≡◌, ◌++◌, map, drop}
 use Rattle.cb_history.specs.Facts.{casts_in}
-use Rattle.cb_reference.specs.Facts.{fact_of, cast_of}
+use Rattle.cb_reference.specs.Facts.{fact_of}
+use Rattle.cb_reference.specs.Messages.{cast_of}
 use Rattle.cb_reference.proofs.facts.casts_in.Given as goal
 
 -- the casts so far, and those of the other facts

@@ -1,14 +1,13 @@
-use Rattle.std.proofs.Common.{ℕ, ◌+◌, ◌-◌, not, map, arith, rules, tests}
+use Rattle.std.proofs.Common.{ℕ, ◌+◌, ◌-◌, not, arith, rules, tests}
 use Rattle.cb_history.specs.Facts.{is_there, numbers_between}
 use Rattle.std.specs.List.{filter}
-use Rattle.cb_reference.specs.Facts.{cast_of}
 use Rattle.cb_reference.proofs.Numbers.{kept_more, left_more}
 use Rattle.cb_reference.proofs.known.absent.Goals as goal
 use Rattle.cb_reference.proofs.known.absent.Goals.{then-not-is_there+in_ok-push, else-not-is_there}
 
 pub loop-below-preserved : goal.loop-below-preserved
 loop-below-preserved c =
-    let test = λ (n : ℕ). not (is_there (map cast_of c.args.casts.now) c.args.sender n) in
+    let test = λ (n : ℕ). not (is_there c.args.casts.now c.args.sender n) in
     let whole = filter test (numbers_between c.args.low c.args.high) in
     elim c.if-not-is_there.branch [
       | then-not-is_there+in_ok-push w ↦

@@ -1,6 +1,6 @@
 use Rattle.std.proofs.Common.{◌≡◌, eqb, ◌∙◌, rules}
 use Rattle.std.specs.List.{count_by}
-use Rattle.cb_reference.specs.declared.view.Message.{Message}
+use Rattle.cb_reference.specs.declared.casts.Message.{Message}
 use Rattle.cb_reference.proofs.Messages.{count_carried}
 use Rattle.cb_reference.proofs.view.count.Goals as goal
 

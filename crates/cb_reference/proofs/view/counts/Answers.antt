@@ -1,13 +1,11 @@
 use Rattle.std.proofs.Common.{map, arith}
-use Rattle.std.proofs.lemmas.List.{length-map}
 use Rattle.cb_history.specs.View.{count}
 use Rattle.cb_reference.specs.Messages.{carried_of}
-use Rattle.cb_history.proofs.Bounds.{count_at_most}
 use Rattle.cb_reference.proofs.Bounds.{fields_are}
 use Rattle.cb_reference.proofs.view.counts.Goals as goal
 
 pub overflow_cast-count : goal.overflow_cast-count
-overflow_cast-count c = omega (arith, c.count.ensures, count_at_most (map carried_of c.args.seen.now) c.loop-k.k, length-map c.args.seen.now carried_of)
+overflow_cast-count c = omega (arith, c.count.ensures, c.requires.few c.loop-k.k)
 
 pub returns : goal.returns
 returns c = fields_are (count (map carried_of c.args.seen.now)) c.args.size c.loop-k.time c.loop-k.invariant.size (λ j lt. c.loop-k.invariant.counted j (omega (arith, lt)))

@@ -1,6 +1,7 @@
 use Rattle.std.proofs.Common.{◌≡◌, map, drop}
 use Rattle.cb_history.specs.View.{seen_from, view}
-use Rattle.cb_reference.specs.Facts.{fact_of, cast_of}
+use Rattle.cb_reference.specs.Facts.{fact_of}
+use Rattle.cb_reference.specs.Messages.{cast_of}
 use Rattle.cb_reference.specs.Messages.{carried_of}
 use Rattle.cb_reference.proofs.view.view.Given as goal
 

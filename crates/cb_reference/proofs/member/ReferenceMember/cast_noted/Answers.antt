@@ -1,16 +1,5 @@
-use Rattle.std.proofs.Common.{map, Some, Result, ap, sym, ◌∙◌, arith, refl}
-use Rattle.cb_frames.specs.Fields.{One, CastFields}
-use Rattle.cb_history.specs.CastFault.{CastFault}
-use Rattle.cb_history.specs.Facts.{EntryFields, entry_fields}
-use Rattle.cb_history.specs.Legal.{ToCast, cast_entry}
-use Rattle.cb_history.specs.State.{MemberState}
-use Rattle.cb_reference.proofs.Calls.{called}
+use Rattle.cb_reference.proofs.Casting.{refusal_is_of_one}
 use Rattle.cb_reference.proofs.member.ReferenceMember.cast_noted.Goals as goal
 
-pub invariant_of-self-2 : goal.invariant_of-self-2
-invariant_of-self-2 c =
-    let s = c.self.inside in
-    let m : MemberState = record { seat = s.seat; limit = s.limit; entries = map entry_fields s.entries.items } in
-    called m c.args.self.now s.entries.items c.enter_cast.new.entries.items (Some c.in_ok-casting.casting.entry) (ToCast (One c.args.payload.now)) c.self.view_is refl c.self.invariant (λ i. omega (arith, c.type_inv.payload i))
-    (ap (λ (e : EntryFields). Some e) c.in_ok-casting.ensures.entry ∙ sym (ap (λ (r : Result CastFields CastFault). cast_entry r) c.in_ok-casting.ensures.answer)) (λ some. c.in_ok-casting.ensures.room)
-    c.in_ok-noted.ensures.added (λ within some. c.in_ok-noted.ensures.room s.limit (some refl))
+pub refusal_of_one-requires : goal.refusal_of_one-requires
+refusal_of_one-requires c = refusal_is_of_one c.args.self.now c.args.payload.now c.in-Err.refusal c.in-Err.ensures.refused
