@@ -1,13 +1,14 @@
 -- The three kinds of calls, answer by answer.
-use Rattle.std.proofs.Common.{◌≡◌, ℕ, ◌+◌, ◌<◌, ◌≤◌, Bool, true, false, not, ◌&&◌, ◌||◌, eqb, ltb, List, [], ◌∷◌, ◌++◌, length, map, Option, Some, None, Result, Ok, Err, refl, sym, ap, subst, ◌∙◌, inl, inr}
+use Rattle.std.proofs.Common.{◌≡◌, ℕ, ◌<◌, ◌≤◌, Bool, true, false, not, ◌&&◌, ◌||◌, eqb, ltb, List, [], ◌∷◌, ◌++◌, length, map, Option, Some, None, Result, Ok, Err, refl, sym, ap, subst, ◌∙◌, arith, inl, inr}
 use Rattle.std.specs.List.{AllByRecursion, list_any}
-use Rattle.std.proofs.lemmas.Bool.{cond_both, eq-eqb, eqb-true, ltb-false, and_parts}
+use Rattle.std.proofs.lemmas.Bool.{cond_both, eq-eqb, eqb-true, eqb-false, ltb-false, and_parts}
 use Rattle.std.proofs.lemmas.List.{append-nil}
 use Rattle.cb_times.specs.declared.name.Name.{Name}
-use Rattle.cb_frames.specs.declared.frame.TheConstants.{LONGEST_PAYLOAD, LAST_NUMBER}
+use Rattle.cb_frames.specs.declared.frame.TheConstants.{LONGEST_PAYLOAD, MOST_MESSAGES}
 use Rattle.cb_frames.specs.declared.fault.FrameFault.{FrameFault}
-use Rattle.cb_frames.specs.Fields.{Load, One, Many, IsOne, payloads_of, load_bytes, CastFields, StatusFields, FrameFields, CastFrame, StatusFrame, RequestFrame, Carried, messages_of}
-use Rattle.cb_frames.specs.Text.{IsLoad, KeepsLoadRules, text_of}
+use Rattle.cb_frames.specs.Fields.{Load, payloads_of, load_bytes, CastFields, StatusFields, FrameFields, CastFrame, StatusFrame, RequestFrame, Carried, messages_of}
+use Rattle.cb_frames.specs.Text.{text_of}
+use Rattle.cb_history.specs.Load.{FitsFrame}
 use Rattle.cb_history.specs.Read.{frame_read}
 use Rattle.cb_frames.specs.Laws.{IsBytes}
 use Rattle.cb_delay.specs.declared.message.Message.{Message}
@@ -16,10 +17,10 @@ use Rattle.cb_history.specs.declared.answer.ArriveRefusal.TheVariants as arrival
 use Rattle.cb_history.specs.declared.answer.TickRefusal.{TickRefusal}
 use Rattle.cb_history.specs.declared.answer.TickRefusal.TheVariants as ticks
 use Rattle.cb_history.specs.declared.answer.Outgoing.{Outgoing}
-use Rattle.cb_history.specs.CastFault.{CastFault, BurstTooLong, PayloadTooLong, WindowFull, HistoryFull}
+use Rattle.cb_history.specs.CastFault.{CastFault, EmptyBurst, BurstTooLong, PayloadTooLong, WindowFull, HistoryFull}
 use Rattle.cb_history.specs.Group.{Identity}
 use Rattle.cb_history.specs.Facts.{EntryFields, CastEntry, ArriveEntry, TickEntry, Fact, OwnCast, CastReceived, StatusReceived, OwnStatus, cast_said, status_said, facts_of, casts_in, messages_in, is_there}
-use Rattle.cb_history.specs.Answers.{is_burst, is_full, is_too_many, delivered, next_cast, cast_answer, group_of, are_members, is_impossible, is_repeat, is_too_far, is_change, deliveries, sent_in_answer, own_casts, ArrivalSays, Accepted, Repeat, frame_answer, answer_to, arrive_answer, status_of, is_new_status, requests, tick_answer}
+use Rattle.cb_history.specs.Answers.{is_full, is_too_many, next_cast, cast_answer, group_of, are_members, is_impossible, is_repeat, is_overlap, is_too_far, is_change, deliveries, sent_in_answer, own_casts, ArrivalSays, Accepted, Repeat, frame_answer, answer_to, arrive_answer, status_of, is_new_status, requests, tick_answer}
 use Rattle.cb_history.specs.Legal.{Call, ToCast, ToTake, ToTick, cast_entry, arrive_entry, tick_entry, and_entry, history_after, AreEntriesOf}
 use Rattle.cb_history.specs.LegalFacts.{AreFactsOf}
 use Rattle.cb_history.proofs.Views.{IsIn, casts_in-append}
@@ -28,14 +29,13 @@ use Rattle.cb_history.proofs.Walks.{own_casts-own, own_casts-other}
 use Rattle.cb_history.proofs.Histories.{said_facts}
 use Rattle.cb_history.proofs.Calls.{calls_keep_entries}
 use Rattle.cb_history.proofs.Buffers.{cast_of_is_in, in_is_cast_of}
-use Rattle.cb_history.proofs.ReadBack.{cast_read as cast_reads, status_read}
+use Rattle.cb_history.proofs.ReadBack.{status_read}
 use Rattle.cb_history.proofs.Requests.{own_frames_have_texts}
 use Rattle.cb_schedules.specs.Schedule.{Setting, IsSetting, seat_at, Calls, Answer, CastAnswer, ArrivalAnswer, TickAnswer, frames_sent, answer_of, GroupState}
 use Rattle.cb_schedules.specs.Messages.{facts_at, messages_read, received_by, has_arrived, cast_read, sent_casts}
 use Rattle.cb_schedules.specs.Honest.{SaysWhatIsSo, IsHonest}
 use Rattle.cb_schedules.specs.Consistent.{IsConsistent}
-use Rattle.cb_history.proofs.Counts.{numbers_left}
-use Rattle.cb_schedules.proofs.Sending.{cast_is_honest, status_is_honest, requests_are_honest, resent_are_honest, sent_is_honest}
+use Rattle.cb_schedules.proofs.Sending.{next_cast_reads, cast_is_honest, status_is_honest, requests_are_honest, resent_are_honest, sent_is_honest}
 use Rattle.cb_schedules.proofs.Calling.{any-append, or_none, is_named, facts_push, after, own_now, IsGood, good, still_honest}
 use Rattle.cb_schedules.proofs.Lists.{all_weaken, any_in}
 
@@ -43,14 +43,9 @@ use Rattle.cb_schedules.proofs.Lists.{all_weaken, any_in}
 there_push_is : (cs : List CastFields) (c : CastFields) (m : Name) → is_there (cs ++ c ∷ []) m.sender m.number ≡ (is_there cs m.sender m.number || list_any (is_named m) (messages_of c))
 there_push_is cs c m = ap (list_any (is_named m)) (messages_in-push cs c) ∙ any-append (is_named m) (messages_in cs) (messages_of c)
 
--- a load that is no burst is of one payload, and keeps the rules
-no_burst : (load : Load) → is_burst load ≡ false → IsOne load
-no_burst (One payload) single = tt
-no_burst (Many payloads) single = absurd cc
-
-one_keeps_the_rules : (first : ℕ) (load : Load) → IsOne load → KeepsLoadRules first load
-one_keeps_the_rules first (One payload) one = tt
-one_keeps_the_rules first (Many payloads) one = absurd one
+-- a list that is not empty has some element
+some_are : {A : Type 0} (xs : List A) → eqb (length xs) 0 ≡ false → 1 ≤ length xs
+some_are xs some = let ne = eqb-false (length xs) 0 some in omega (arith, ne)
 
 -- what is there already adds nothing
 absorbed : (b p : Bool) → (p ≡ true → b ≡ true) → (b || p) ≡ b
@@ -95,13 +90,16 @@ module _ (setting : Setting) (is : IsSetting setting) (s : GroupState) (inv : Is
     abbrev CastGood : Result CastFields CastFault → Type 0
     CastGood r = AreEntriesOf (seat_at setting i) (and_entry now (cast_entry r)) → IsGood setting is s inv i lt (ToCast load) (and_entry now (cast_entry r)) (CastAnswer r)
 
+    refuses : (fault : CastFault) → CastGood (Err fault)
+    refuses fault _ = same_history (ToCast load) (CastAnswer (Err fault)) tt nothing_received
+
     brings_itself : received_by i (Calls i (ToCast load)) (CastAnswer (Ok cast)) ≡ messages_of cast
     brings_itself = rw (eq-eqb i i refl) refl
 
-    made : IsOne load → delivered me said me.me + length (payloads_of load) ≤ LAST_NUMBER → IsLoad load → CastGood (Ok cast)
-    made one left short legal =
+    made : FitsFrame load → is_too_many me said (length (payloads_of load)) ≡ false → CastGood (Ok cast)
+    made fits free legal =
         good setting is s inv i lt (ToCast load) with_cast (CastAnswer (Ok cast)) legal (inr (OwnCast cast, push, tt)) (
-          cast_is_honest setting.group (facts_at s) i are (after setting is s inv i lt (ToCast load) with_cast (CastAnswer (Ok cast))) load one bytes left short
+          cast_is_honest setting.group (facts_at s) i are load fits free (after setting is s inv i lt (ToCast load) with_cast (CastAnswer (Ok cast))) bytes
               (in_is_cast_of cast (own_casts (after setting is s inv i lt (ToCast load) with_cast (CastAnswer (Ok cast)) i))
               (subst (λ (fs : List Fact). IsIn cast (own_casts fs)) (own_now setting is s inv i lt (ToCast load) with_cast (CastAnswer (Ok cast)))
               (subst (IsIn cast) (sym all_own) (in_back cast (own_casts said) (cast ∷ []) (inl refl))))),
@@ -119,7 +117,7 @@ module _ (setting : Setting) (is : IsSetting setting) (s : GroupState) (inv : Is
         with_cast = now ++ CastEntry (text_of (CastFrame cast)) ∷ []
 
         read : frame_read (text_of (CastFrame cast)) ≡ Ok (CastFrame cast)
-        read = cast_reads cast one ((own_frames_have_texts me said are).0 load (one_keeps_the_rules (delivered me said i + 1) load one) left short)
+        read = next_cast_reads setting.group (facts_at s) i are load fits free
 
         push : facts_of (now ++ CastEntry (text_of (CastFrame cast)) ∷ []) ≡ said ++ OwnCast cast ∷ []
         push = facts_push now (CastEntry (text_of (CastFrame cast))) (OwnCast cast) (ap cast_said read)
@@ -130,11 +128,16 @@ module _ (setting : Setting) (is : IsSetting setting) (s : GroupState) (inv : Is
     pub cast_is_good : IsGood setting is s inv i lt (ToCast load) (history_after me setting.limit now (ToCast load)) (answer_of me setting.limit now (ToCast load))
     unfolding cast_answer
     cast_is_good =
-        cond_both (is_burst load) _ _ CastGood (λ _ _. same_history (ToCast load) (CastAnswer (Err BurstTooLong)) tt nothing_received)
-        (λ single. cond_both (ltb LONGEST_PAYLOAD (length (load_bytes load))) _ _ CastGood (λ _ _. same_history (ToCast load) (CastAnswer (Err PayloadTooLong)) tt nothing_received)
-        (λ short. cond_both (is_too_many me said (length (payloads_of load))) _ _ CastGood (λ _ _. same_history (ToCast load) (CastAnswer (Err WindowFull)) tt nothing_received)
-        (λ free. cond_both (is_full setting.limit now) _ _ CastGood (λ _ _. same_history (ToCast load) (CastAnswer (Err HistoryFull)) tt nothing_received)
-        (λ _. made (no_burst load single) (numbers_left me said (length (payloads_of load)) free) (ltb-false LONGEST_PAYLOAD (length (load_bytes load)) short)))))
+        cond_both (eqb (length (payloads_of load)) 0) _ _ CastGood (λ _. refuses EmptyBurst)
+        (λ some. cond_both (ltb MOST_MESSAGES (length (payloads_of load))) _ _ CastGood (λ _. refuses BurstTooLong)
+        (λ few. cond_both (ltb LONGEST_PAYLOAD (length (load_bytes load))) _ _ CastGood (λ _. refuses PayloadTooLong)
+        (λ short. cond_both (is_too_many me said (length (payloads_of load))) _ _ CastGood (λ _. refuses WindowFull)
+        (λ free. cond_both (is_full setting.limit now) _ _ CastGood (λ _. refuses HistoryFull)
+        (λ _. made (record {
+          some = some_are (payloads_of load) some;
+          few = ltb-false MOST_MESSAGES (length (payloads_of load)) few;
+          short = ltb-false LONGEST_PAYLOAD (length (load_bytes load)) short;
+        }) free)))))
         (calls_keep_entries me setting.limit now (ToCast load) (inv.legal i lt) bytes)
 
   -- ---- a tick
@@ -238,9 +241,10 @@ module _ (setting : Setting) (is : IsSetting setting) (s : GroupState) (inv : Is
         (λ _. cond_both (not (are_members setting.group.size frame)) _ _ ArrivalGood (λ _. refused arrivals.BadMember)
         (λ _. cond_both (is_impossible me said frame) _ _ ArrivalGood (λ _. refused arrivals.Impossible)
         (λ _. cond_both (is_repeat said frame) _ _ ArrivalGood (again frame read)
+        (λ _. cond_both (is_overlap said frame) _ _ ArrivalGood (λ _. refused arrivals.Overlap)
         (λ _. cond_both (is_too_far me said frame) _ _ ArrivalGood (λ _. refused arrivals.TooFar)
         (λ _. cond_both (is_change me said frame && is_full setting.limit now) _ _ ArrivalGood (λ _. refused arrivals.HistoryFull)
-        (λ _. cond_both (is_change me said frame) _ _ ArrivalGood (changed frame (deliveries me said frame) read so) (unchanged frame read)))))))
+        (λ _. cond_both (is_change me said frame) _ _ ArrivalGood (changed frame (deliveries me said frame) read so) (unchanged frame read))))))))
 
     pub arrival_is_good : IsGood setting is s inv i lt (ToTake bytes) (history_after me setting.limit now (ToTake bytes)) (answer_of me setting.limit now (ToTake bytes))
     unfolding arrive_answer

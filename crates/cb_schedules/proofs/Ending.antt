@@ -13,7 +13,7 @@ use Rattle.cb_history.specs.Read.{frame_read}
 use Rattle.cb_history.specs.declared.answer.ArriveRefusal.{ArriveRefusal}
 use Rattle.cb_history.specs.declared.answer.Outgoing.{Outgoing}
 use Rattle.cb_history.specs.Known.{stable}
-use Rattle.cb_history.specs.Answers.{own_casts, window, is_full, group_of, are_members, is_impossible, is_repeat, is_too_far, is_change, is_asked_for, sent_in_answer, ArrivalSays, frame_answer, answer_to, arrive_answer}
+use Rattle.cb_history.specs.Answers.{own_casts, window, is_full, group_of, are_members, is_impossible, is_repeat, is_overlap, is_too_far, is_change, is_asked_for, sent_in_answer, ArrivalSays, frame_answer, answer_to, arrive_answer}
 use Rattle.cb_history.specs.Legal.{ToTake}
 use Rattle.cb_history.proofs.Views.{filter_in}
 use Rattle.cb_schedules.specs.Schedule.{Setting, IsSetting, seat_at, Step, CastStep, ArriveStep, TickStep, Schedule, SentFrame, Asked, OfNoMember, ArrivalAnswer, frames_sent, sent_by, answer_of, GroupState, handed_over, after_asked, step_after, run_from}
@@ -54,9 +54,10 @@ answer_puts_out P setting s i frame none sent =
     (λ _. cond_both (not (are_members setting.group.size frame)) _ _ Right (λ _. none)
     (λ _. cond_both (is_impossible (seat_at setting i) (facts_at s i) frame) _ _ Right (λ _. none)
     (λ _. cond_both (is_repeat (facts_at s i) frame) _ _ Right (λ _. none)
+    (λ _. cond_both (is_overlap (facts_at s i) frame) _ _ Right (λ _. none)
     (λ _. cond_both (is_too_far (seat_at setting i) (facts_at s i) frame) _ _ Right (λ _. none)
     (λ _. cond_both (is_change (seat_at setting i) (facts_at s i) frame && is_full setting.limit (s.histories i)) _ _ Right (λ _. none)
-    (λ _. cond_both (is_change (seat_at setting i) (facts_at s i) frame) _ _ Right (λ _. sent) (λ _. sent)))))))
+    (λ _. cond_both (is_change (seat_at setting i) (facts_at s i) frame) _ _ Right (λ _. sent) (λ _. sent))))))))
 
 casts_in_answer : (setting : Setting) (s : GroupState) → IsConsistent setting s → (i : ℕ) (frame : FrameFields) → AllByRecursion (λ out. IsCast out.bytes) (sent_in_answer (seat_at setting i) (facts_at s i) frame)
 casts_in_answer setting s inv i (CastFrame c) = tt

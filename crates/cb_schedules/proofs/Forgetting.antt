@@ -1,6 +1,6 @@
 -- Cores run as members do whose histories are never full.
 use Rattle.std.proofs.Common.{◌≡◌, ℕ, suc, ◌≤◌, Bool, true, false, cond, not, ◌&&◌, eqb, ltb, List, [], ◌∷◌, ◌++◌, length, map, Option, None, Result, Ok, Err, refl, sym, ap, subst, ◌∙◌, arith}
-use Rattle.cb_frames.specs.declared.frame.TheConstants.{LONGEST_PAYLOAD}
+use Rattle.cb_frames.specs.declared.frame.TheConstants.{LONGEST_PAYLOAD, MOST_MESSAGES}
 use Rattle.cb_frames.specs.declared.fault.FrameFault.{FrameFault}
 use Rattle.cb_frames.specs.Fields.{Load, payloads_of, load_bytes, CastFields, FrameFields, StatusFrame}
 use Rattle.cb_frames.specs.Text.{text_of}
@@ -10,10 +10,10 @@ use Rattle.cb_history.specs.declared.answer.ArriveRefusal.TheVariants as arrival
 use Rattle.cb_history.specs.declared.answer.TickRefusal.{TickRefusal}
 use Rattle.cb_history.specs.declared.answer.TickRefusal.TheVariants as ticks
 use Rattle.cb_history.specs.declared.answer.Outgoing.{Outgoing}
-use Rattle.cb_history.specs.CastFault.{CastFault, BurstTooLong, PayloadTooLong, WindowFull, HistoryFull}
+use Rattle.cb_history.specs.CastFault.{CastFault, EmptyBurst, BurstTooLong, PayloadTooLong, WindowFull, HistoryFull}
 use Rattle.cb_history.specs.Group.{Parameters, AreParameters, Identity}
 use Rattle.cb_history.specs.Facts.{EntryFields, facts_of}
-use Rattle.cb_history.specs.Answers.{is_burst, is_full, is_too_many, next_cast, cast_answer, group_of, are_members, is_impossible, is_repeat, is_too_far, is_change, deliveries, sent_in_answer, ArrivalSays, Accepted, Repeat, frame_answer, answer_to, arrive_answer, status_of, is_new_status, requests, tick_answer}
+use Rattle.cb_history.specs.Answers.{is_full, is_too_many, next_cast, cast_answer, group_of, are_members, is_impossible, is_repeat, is_overlap, is_too_far, is_change, deliveries, sent_in_answer, ArrivalSays, Accepted, Repeat, frame_answer, answer_to, arrive_answer, status_of, is_new_status, requests, tick_answer}
 use Rattle.cb_history.specs.Legal.{Call, ToCast, ToTake, ToTick, cast_entry, arrive_entry, tick_entry, entry_of, and_entry, room_for_one}
 use Rattle.cb_history.proofs.Calls.{room_left}
 use Rattle.cb_schedules.specs.Schedule.{Setting, seat_at, Step, CastStep, ArriveStep, TickStep, Schedule, Asked, Calls, OfNoMember, OfNoFrame, OfNoBytes, Answer, CastAnswer, ArrivalAnswer, TickAnswer, answer_of, frames_sent, sent_by, GroupState, with_history, asked_by, after_asked, step_after, nothing_yet, run_from, run}
@@ -27,31 +27,35 @@ use Rattle.cb_schedules.proofs.Room.{none_full}
 -- ---- an answer that is not that the history is full is the same with room for one entry
 
 -- the tests of an answer, of which `none` is that no entry is left
-abbrev a_cast : Bool → Bool → Bool → CastFields → Bool → Result CastFields CastFault
-a_cast burst long closed c none = cond burst (Err BurstTooLong) (cond long (Err PayloadTooLong) (cond closed (Err WindowFull) (cond none (Err HistoryFull) (Ok c))))
+abbrev a_cast : Bool → Bool → Bool → Bool → CastFields → Bool → Result CastFields CastFault
+a_cast empty many long closed c none =
+    cond empty (Err EmptyBurst) (cond many (Err BurstTooLong) (cond long (Err PayloadTooLong) (cond closed (Err WindowFull) (cond none (Err HistoryFull) (Ok c)))))
 
-cast_free : (burst long closed : Bool) (c : CastFields) (none : Bool) → IsNotFull (CastAnswer (a_cast burst long closed c none)) → a_cast burst long closed c none ≡ a_cast burst long closed c false
-cast_free true long closed c none free = refl
-cast_free false true closed c none free = refl
-cast_free false false true c none free = refl
-cast_free false false false c true free = absurd (free refl)
-cast_free false false false c false free = refl
+cast_free : (empty many long closed : Bool) (c : CastFields) (none : Bool) → IsNotFull (CastAnswer (a_cast empty many long closed c none)) → a_cast empty many long closed c none ≡ a_cast empty many long closed c false
+cast_free true many long closed c none free = refl
+cast_free false true long closed c none free = refl
+cast_free false false true closed c none free = refl
+cast_free false false false true c none free = refl
+cast_free false false false false c true free = absurd (free refl)
+cast_free false false false false c false free = refl
 
-abbrev an_arrival : Bool → Bool → Bool → Bool → Bool → Bool → ArrivalSays → ArrivalSays → Bool → Result ArrivalSays ArriveRefusal
-an_arrival group members impossible repeat far change changed unchanged none =
-    cond (not group) (Err arrivals.OtherGroup) (cond (not members) (Err arrivals.BadMember) (cond impossible (Err arrivals.Impossible) (cond repeat (Ok Repeat) (cond far (Err arrivals.TooFar)
-    (cond (change && none) (Err arrivals.HistoryFull) (cond change (Ok changed) (Ok unchanged)))))))
+abbrev an_arrival : Bool → Bool → Bool → Bool → Bool → Bool → Bool → ArrivalSays → ArrivalSays → Bool → Result ArrivalSays ArriveRefusal
+an_arrival group members impossible repeat overlap far change changed unchanged none =
+    cond (not group) (Err arrivals.OtherGroup) (cond (not members) (Err arrivals.BadMember) (cond impossible (Err arrivals.Impossible) (cond repeat (Ok Repeat) (cond overlap (Err arrivals.Overlap)
+    (cond far (Err arrivals.TooFar) (cond (change && none) (Err arrivals.HistoryFull) (cond change (Ok changed) (Ok unchanged))))))))
 
-arrival_free : (group members impossible repeat far change : Bool) (changed unchanged : ArrivalSays) (none : Bool) → IsNotFull (ArrivalAnswer (an_arrival group members impossible repeat far change changed unchanged none))
-    → an_arrival group members impossible repeat far change changed unchanged none ≡ an_arrival group members impossible repeat far change changed unchanged false
-arrival_free false members impossible repeat far change changed unchanged none free = refl
-arrival_free true false impossible repeat far change changed unchanged none free = refl
-arrival_free true true true repeat far change changed unchanged none free = refl
-arrival_free true true false true far change changed unchanged none free = refl
-arrival_free true true false false true change changed unchanged none free = refl
-arrival_free true true false false false false changed unchanged none free = refl
-arrival_free true true false false false true changed unchanged true free = absurd (free refl)
-arrival_free true true false false false true changed unchanged false free = refl
+arrival_free : (group members impossible repeat overlap far change : Bool) (changed unchanged : ArrivalSays) (none : Bool)
+    → IsNotFull (ArrivalAnswer (an_arrival group members impossible repeat overlap far change changed unchanged none))
+    → an_arrival group members impossible repeat overlap far change changed unchanged none ≡ an_arrival group members impossible repeat overlap far change changed unchanged false
+arrival_free false members impossible repeat overlap far change changed unchanged none free = refl
+arrival_free true false impossible repeat overlap far change changed unchanged none free = refl
+arrival_free true true true repeat overlap far change changed unchanged none free = refl
+arrival_free true true false true overlap far change changed unchanged none free = refl
+arrival_free true true false false true far change changed unchanged none free = refl
+arrival_free true true false false false true change changed unchanged none free = refl
+arrival_free true true false false false false false changed unchanged none free = refl
+arrival_free true true false false false false true changed unchanged true free = absurd (free refl)
+arrival_free true true false false false false true changed unchanged false free = refl
 
 abbrev a_tick : Bool → List Outgoing → Bool → Result (Bool × List Outgoing) TickRefusal
 a_tick new out none = cond (new && none) (Err ticks.HistoryFull) (Ok (new, out))
@@ -68,8 +72,11 @@ module _ (seat : Identity) (limit : ℕ) (entries : List EntryFields) where
   cast_same : (load : Load) → IsNotFull (CastAnswer (cast_answer seat limit entries load)) → cast_answer seat limit entries load ≡ cast_answer seat room entries load
   unfolding cast_answer
   cast_same load free =
-      let answer : Bool → Result CastFields CastFault = a_cast (is_burst load) (ltb LONGEST_PAYLOAD (length (load_bytes load))) (is_too_many seat (facts_of entries) (length (payloads_of load))) (next_cast seat (facts_of entries) load) in
-      cast_free (is_burst load) (ltb LONGEST_PAYLOAD (length (load_bytes load))) (is_too_many seat (facts_of entries) (length (payloads_of load))) (next_cast seat (facts_of entries) load) (is_full limit entries) free ∙ sym (ap answer (room_left entries))
+      let count = length (payloads_of load) in
+      let long : Bool = ltb LONGEST_PAYLOAD (length (load_bytes load)) in
+      let closed : Bool = is_too_many seat (facts_of entries) count in
+      let answer : Bool → Result CastFields CastFault = a_cast (eqb count 0) (ltb MOST_MESSAGES count) long closed (next_cast seat (facts_of entries) load) in
+      cast_free (eqb count 0) (ltb MOST_MESSAGES count) long closed (next_cast seat (facts_of entries) load) (is_full limit entries) free ∙ sym (ap answer (room_left entries))
 
   frame_same : (frame : FrameFields) → IsNotFull (ArrivalAnswer (frame_answer seat limit entries (facts_of entries) frame))
       → frame_answer seat limit entries (facts_of entries) frame ≡ frame_answer seat room entries (facts_of entries) frame
@@ -79,8 +86,9 @@ module _ (seat : Identity) (limit : ℕ) (entries : List EntryFields) where
       let changed : ArrivalSays = Accepted (deliveries seat facts frame) true (sent_in_answer seat facts frame) in
       let unchanged : ArrivalSays = Accepted [] false (sent_in_answer seat facts frame) in
       let answer : Bool → Result ArrivalSays ArriveRefusal =
-      an_arrival group (are_members seat.group.size frame) (is_impossible seat facts frame) (is_repeat facts frame) (is_too_far seat facts frame) (is_change seat facts frame) changed unchanged in
-      arrival_free group (are_members seat.group.size frame) (is_impossible seat facts frame) (is_repeat facts frame) (is_too_far seat facts frame) (is_change seat facts frame) changed unchanged (is_full limit entries) free
+      an_arrival group (are_members seat.group.size frame) (is_impossible seat facts frame) (is_repeat facts frame) (is_overlap facts frame) (is_too_far seat facts frame) (is_change seat facts frame) changed unchanged in
+      arrival_free group (are_members seat.group.size frame) (is_impossible seat facts frame) (is_repeat facts frame) (is_overlap facts frame) (is_too_far seat facts frame) (is_change seat facts frame) changed unchanged
+      (is_full limit entries) free
       ∙ sym (ap answer (room_left entries))
 
   read_same : (r : Result FrameFields FrameFault) → IsNotFull (ArrivalAnswer (answer_to seat limit entries r)) → answer_to seat limit entries r ≡ answer_to seat room entries r

@@ -2,9 +2,9 @@
 use Rattle.std.proofs.Common.{◌≡◌, ℕ, true, List, [], ◌∷◌, drop, map, Some, None, Ok, Err, refl}
 use Rattle.cb_varint.specs.Reading.{number_at, spelling}
 use Rattle.cb_times.specs.declared.name.Name.{Name}
-use Rattle.cb_frames.specs.Fields.{One, messages_of, first_number, last_number}
+use Rattle.cb_frames.specs.Fields.{One, Many, messages_of, first_number, last_number}
 use Rattle.cb_frames.specs.Text.{text_of}
-use Rattle.cb_frames.specs.Reading.{frame_at, head_at, cast_at, status_at, request_at, pairs_at, pair_at}
+use Rattle.cb_frames.specs.Reading.{frame_at, head_at, cast_at, burst_at, payloads_at, next_payload_at, status_at, request_at, pairs_at, pair_at}
 use Rattle.cb_delay.specs.declared.message.Message.{Message}
 use Rattle.cb_delay.specs.declared.message.Event.TheVariants.{Deliver}
 use Rattle.cb_history.specs.declared.answer.ArriveRefusal.TheVariants as arrivals
@@ -75,6 +75,22 @@ what_is_delivered = refl
 the_last_is_a_repeat : drop 6 (answers (run_of_cores three losing)) ≡ ArrivalAnswer (Ok Repeat) ∷ []
 unfolding step_of_cores cores_from step_after cast_answer arrive_answer tick_answer view drained frame_at head_at cast_at status_at request_at pairs_at pair_at number_at text_of spelling messages_of first_number last_number
 the_last_is_a_repeat = refl
+
+-- ---- bursts
+
+-- core 0 casts "hi" and "yo" at once, core 1 takes them and casts "a" and "b" at once; at core 2 "a" and "b" arrive first
+abbrev in_bursts : Schedule
+in_bursts =
+    CastStep 0 (Many ((104 ∷ 105 ∷ []) ∷ (121 ∷ 111 ∷ []) ∷ [])) ∷ ArriveStep 1 0 ∷ CastStep 1 (Many ((97 ∷ []) ∷ (98 ∷ []) ∷ [])) ∷ ArriveStep 2 1 ∷ ArriveStep 2 0 ∷ []
+
+a_core_delivers_bursts : drop 3 (answers (run_of_cores three in_bursts))
+    ≡ ArrivalAnswer (Ok (Accepted [] true []))
+    ∷ ArrivalAnswer (Ok (Accepted
+    (message 0 1 (1 ∷ 0 ∷ 0 ∷ []) (104 ∷ 105 ∷ []) ∷ message 0 2 (2 ∷ 0 ∷ 0 ∷ []) (121 ∷ 111 ∷ []) ∷ message 1 1 (2 ∷ 1 ∷ 0 ∷ []) (97 ∷ []) ∷ message 1 2 (2 ∷ 2 ∷ 0 ∷ []) (98 ∷ []) ∷ [])
+    true []))
+    ∷ []
+unfolding step_of_cores cores_from step_after cast_answer arrive_answer tick_answer view drained frame_at head_at cast_at burst_at payloads_at next_payload_at status_at request_at pairs_at pair_at number_at text_of spelling messages_of first_number last_number
+a_core_delivers_bursts = refl
 
 -- ---- steps that name nothing
 

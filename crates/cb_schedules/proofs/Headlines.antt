@@ -19,7 +19,7 @@ use Rattle.cb_history.specs.Known.{stable}
 use Rattle.cb_history.specs.Answers.{delivered, own_casts, answer_to, arrive_answer}
 use Rattle.cb_history.specs.Legal.{Call, ToCast, ToTake, ToTick}
 use Rattle.cb_history.specs.OwnFrameLaws.{IsOfTheGroup}
-use Rattle.cb_history.proofs.Views.{IsIn, filter_in}
+use Rattle.cb_history.proofs.Views.{filter_in}
 use Rattle.cb_history.proofs.Names.{one_of_is_in}
 use Rattle.cb_history.proofs.Buffers.{cast_of_is_in, in_is_cast_of}
 use Rattle.cb_schedules.specs.Schedule.{Setting, IsSetting, seat_at, Step, Schedule, SentFrame, Asked, answer_of, GroupState, after_asked, step_after, nothing_yet, run_from, run}
@@ -29,7 +29,7 @@ use Rattle.cb_schedules.specs.Consistent.{IsConsistent}
 use Rattle.cb_schedules.specs.SentLaws.{WasSent, SentCastsAreOwn, OneNameSameBytes, SentStatusesAreSo, NobodyAsksItself, CastsThereAreOwn, EventsHaveTimesFromBytes, HeardOfIsCast, DeliveredIsCast, TimesTellOwnCasts, AcknowledgedIsDeliveredThere, StableIsDeliveredEverywhere, StableStandsInEvents, SendersStayNear, IsNoRefusal, IsRefusedByFullHistoryAlone, ArrivalsAreWelcome}
 use Rattle.cb_schedules.specs.Headline.{IsCausalBroadcast, DeliversClosedArrivals, TimesTellHappenedBefore, Headline, EachSchedule, StepsExtendTheStamped, StepsExtendTheCausal}
 use Rattle.cb_schedules.proofs.Stamping.{events_count}
-use Rattle.cb_schedules.proofs.Members.{holder_inside, reported_at_most, is_own, own_is_there, delivered_at_most, inside, stands_at}
+use Rattle.cb_schedules.proofs.Members.{holder_inside, reported_at_most, is_own, delivered_at_most, own_of_a_number}
 use Rattle.cb_schedules.proofs.Sending.{honest_text}
 use Rattle.cb_schedules.proofs.Courses.{IsFair, asked_is, step_goes_on, runs_are_consistent, starts}
 use Rattle.cb_schedules.proofs.Moments.{called, has_seen, seen_has, own_cast_of, has_clock, has_there}
@@ -37,7 +37,6 @@ use Rattle.cb_schedules.proofs.Closing.{seen_number, seen_is_closed, closed_is_s
 use Rattle.cb_schedules.proofs.FromBytes.{time_is_clock}
 use Rattle.cb_schedules.proofs.Knowing.{acknowledged_is_so, heard_is_so, stable_is_so, near_is_so, is_welcome}
 use Rattle.cb_schedules.proofs.Lists.{all_both, all_at_index}
-use Rattle.cb_history.proofs.Expanders.{one_of_a_name}
 
 -- a group has another member
 another : (i size : ℕ) → 2 ≤ size → (k : ℕ) × (k < size) × (k ≢ i)
@@ -122,15 +121,12 @@ module _ (setting : Setting) (s : GroupState) (inv : IsConsistent setting s) whe
   sent_casts_are_own frame c sent read = let it = says frame (CastFrame c) sent read in (it.0, it.2)
 
   pub one_name_same_bytes : OneNameSameBytes setting s
-  one_name_same_bytes frame other c d sent sent' read read' sender number =
+  one_name_same_bytes frame other c d n sent sent' read read' sender holds holds' =
       let a = says frame (CastFrame c) sent read in
       let b = says other (CastFrame d) sent' read' in
-      let own : IsIn c (own_casts (facts_at s c.sender)) = cast_of_is_in c (own_casts (facts_at s c.sender)) a.0 in
-      let here = own_is_there (facts_at s c.sender) c own in
-      let other_own : IsIn d (own_casts (facts_at s c.sender)) = subst (λ (i : ℕ). IsIn d (own_casts (facts_at s i))) (sym sender) (cast_of_is_in d (own_casts (facts_at s d.sender)) b.0) in
-      let lt = inside setting.group (facts_at s) inv.together c.sender c here in
-      let stands = stands_at setting.group (facts_at s) inv.together c.sender lt in
-      let same : c ≡ d = one_of_a_name (casts_in (facts_at s c.sender)) c d stands.some stands.names here (own_is_there (facts_at s c.sender) d other_own) sender number in
+      let own = cast_of_is_in c (own_casts (facts_at s c.sender)) a.0 in
+      let own' = cast_of_is_in d (own_casts (facts_at s d.sender)) b.0 in
+      let same : c ≡ d = own_of_a_number setting.group (facts_at s) inv.together c d n own own' sender holds.0 holds.1 holds'.0 holds'.1 in
       a.2 ∙ ap (λ (x : CastFields). text_of (CastFrame x)) same ∙ sym b.2
 
   pub sent_statuses_are_so : SentStatusesAreSo setting s

@@ -1,19 +1,19 @@
 -- What members know of each other is so: what is stable, everybody has delivered, and no arrival is refused but by a full history.
-use Rattle.std.proofs.Common.{◌≡◌, ◌≢◌, ℕ, ◌+◌, ◌<◌, ◌≤◌, Bool, true, false, not, cond, ◌&&◌, ◌||◌, eqb, ltb, List, [], ◌∷◌, ◌++◌, map, refl, ap, subst, arith, inl, inr}
+use Rattle.std.proofs.Common.{◌≡◌, ◌≢◌, ℕ, ◌+◌, ◌<◌, ◌≤◌, Bool, true, false, not, cond, ◌&&◌, ◌||◌, eqb, ltb, List, [], ◌∷◌, ◌++◌, map, refl, sym, ap, subst, ◌∙◌, arith, inl, inr}
 use Rattle.std.specs.List.{AllByRecursion, flat_map, filter, list_any, range_with_len}
-use Rattle.std.proofs.lemmas.Bool.{cond_both, cases_eq, eqb-true, ltb-true, eq-eqb, ne_eqb, and_parts}
+use Rattle.std.proofs.lemmas.Bool.{cond_both, cases_eq, eqb-true, ltb-true, eq-eqb, ne_eqb, and_parts, both_ways}
 use Rattle.cb_frames.specs.declared.frame.Change.{Change}
-use Rattle.cb_frames.specs.Fields.{CastFields, FrameFields, CastFrame, StatusFrame, RequestFrame, Carried, last_number}
-use Rattle.cb_frames.proofs.Carried.{last_is_carried}
+use Rattle.cb_frames.specs.Fields.{CastFields, FrameFields, CastFrame, StatusFrame, RequestFrame, Carried, messages_of, last_number}
+use Rattle.cb_frames.proofs.Carried.{carried_is_of_cast, last_is_carried}
 use Rattle.cb_diffs.specs.Expansion.{expanded_field}
 use Rattle.cb_history.specs.Group.{Parameters, Identity}
-use Rattle.cb_history.specs.Facts.{EntryFields, Fact, OwnCast, CastReceived, StatusReceived, OwnStatus, casts_in, messages_in}
+use Rattle.cb_history.specs.Facts.{EntryFields, Fact, OwnCast, CastReceived, StatusReceived, OwnStatus, casts_in, messages_in, is_there}
 use Rattle.cb_history.specs.View.{view, is_expanded, expanded_in}
 use Rattle.cb_history.specs.Known.{greatest_of, value_in, reported_of, counted_in_times, known, reported_by, counted_by, acknowledged, least_of, stable}
-use Rattle.cb_history.specs.Answers.{delivered, own_casts, is_full, group_of, are_members, is_impossible, is_repeat, is_too_far, is_change, frame_answer}
+use Rattle.cb_history.specs.Answers.{delivered, own_casts, is_full, group_of, are_members, is_impossible, is_repeat, is_overlap, is_too_far, is_change, frame_answer}
 use Rattle.cb_history.specs.OwnFrameLaws.{IsOfTheGroup}
 use Rattle.cb_history.proofs.Views.{IsIn, filter_in, in_filter}
-use Rattle.cb_history.proofs.Lists.{carried_there}
+use Rattle.cb_history.proofs.Lists.{carried_there, all_of}
 use Rattle.cb_history.proofs.Loads.{some_at}
 use Rattle.cb_history.proofs.Times.{seen_is_expanded}
 use Rattle.cb_history.proofs.Rising.{greatest_append, all_at_most}
@@ -22,8 +22,8 @@ use Rattle.cb_history.proofs.Runs.{message_is_there, own_is_delivered}
 use Rattle.cb_history.proofs.Buffers.{cast_of_is_in}
 use Rattle.cb_schedules.specs.Honest.{member_of, SaysWhatIsSo, IsSo, AreTogether}
 use Rattle.cb_schedules.specs.SentLaws.{IsNoRefusal}
-use Rattle.cb_schedules.proofs.Members.{stands_at, inside, own_is_there, told_at_most, reported_at_most, delivered_at_most}
-use Rattle.cb_schedules.proofs.Lists.{in_map}
+use Rattle.cb_schedules.proofs.Members.{carrier_there, stands_at, inside, is_own, own_is_there, own_of_a_number, told_at_most, reported_at_most, delivered_at_most}
+use Rattle.cb_schedules.proofs.Lists.{in_map, any_in}
 use Rattle.cb_history.proofs.Keeping.{in_range}
 
 -- ---- lists
@@ -176,6 +176,28 @@ module _ (group : Parameters) (facts : ℕ → List Fact) (h : AreTogether group
         omega (arith, value, most, less)) impossible
     is_possible (RequestFrame r) so itself = so (eqb-true r.requester r.asked itself)
 
+    -- Where one of its messages is there, it is there itself, and so are all of them: it is a repeat, and no overlap.
+    repeats : (c : CastFields) → IsIn c (own_casts (facts c.sender)) → (m : Carried) → IsIn m (messages_of c) → is_there (casts_in (facts j)) m.sender m.number ≡ true → is_repeat (facts j) (CastFrame c) ≡ true
+    repeats c own m has there =
+        let d = carrier_there (casts_in (facts j)) m.sender m.number there in
+        let of = carried_is_of_cast c m has in
+        let of_d = carried_is_of_cast d.cast d.found d.has in
+        let number = d.number_is in
+        let low = of_d.low in
+        let high = of_d.high in
+        let sender = sym of.sender_is ∙ sym d.sender_is ∙ of_d.sender_is in
+        let same : c ≡ d.cast = own_of_a_number group facts h c d.cast m.number own (is_own group facts h j d.cast d.there) sender of.low of.high (omega (arith, low, number)) (omega (arith, high, number)) in
+        let here : IsIn c (casts_in (facts j)) = subst (λ (x : CastFields). IsIn x (casts_in (facts j))) (sym same) d.there in
+        all_of (λ (x : Carried). is_there (casts_in (facts j)) x.sender x.number) (messages_of c) (λ x is_of.
+        message_is_there (casts_in (facts j)) x x.sender x.number (carried_there (casts_in (facts j)) c x here is_of) refl refl)
+
+    pub is_apart : (frame : FrameFields) → SaysWhatIsSo group facts frame → is_repeat (facts j) frame ≡ false → is_overlap (facts j) frame ≡ true → ⊥
+    is_apart (CastFrame c) so new overlap =
+        let (m, has, there) = any_in (λ (x : Carried). is_there (casts_in (facts j)) x.sender x.number) (messages_of c) overlap in
+        both_ways (is_repeat (facts j) (CastFrame c)) new (repeats c (cast_of_is_in c (own_casts (facts c.sender)) so) m has there)
+    is_apart (StatusFrame s) so new overlap = let none : false ≡ true = overlap in absurd cc
+    is_apart (RequestFrame r) so new overlap = let none : false ≡ true = overlap in absurd cc
+
     -- nor is it too far
     pub is_near : (frame : FrameFields) → SaysWhatIsSo group facts frame → is_too_far me (facts j) frame ≡ true → ⊥
     is_near (CastFrame c) so far =
@@ -198,6 +220,7 @@ module _ (group : Parameters) (facts : ℕ → List Fact) (h : AreTogether group
         (λ _. cond_both (not (are_members group.size frame)) _ _ IsNoRefusal (λ other. absurd (not_false (are_members group.size frame) other of.members))
         (λ _. cond_both (is_impossible me (facts j) frame) _ _ IsNoRefusal (λ yes. absurd (is_possible frame so yes))
         (λ _. cond_both (is_repeat (facts j) frame) _ _ IsNoRefusal (λ _. tt)
+        (λ new. cond_both (is_overlap (facts j) frame) _ _ IsNoRefusal (λ yes. absurd (is_apart frame so new yes))
         (λ _. cond_both (is_too_far me (facts j) frame) _ _ IsNoRefusal (λ yes. absurd (is_near frame so yes))
         (λ _. cond_both (is_change me (facts j) frame && is_full limit entries) _ _ IsNoRefusal (λ _. refl)
-        (λ _. cond_both (is_change me (facts j) frame) _ _ IsNoRefusal (λ _. tt) (λ _. tt)))))))
+        (λ _. cond_both (is_change me (facts j) frame) _ _ IsNoRefusal (λ _. tt) (λ _. tt))))))))

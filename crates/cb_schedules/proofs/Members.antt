@@ -1,10 +1,10 @@
 -- What the members of a group have to do with each other, at one moment.
-use Rattle.std.proofs.Common.{◌≡◌, ℕ, ◌+◌, ◌<◌, ◌≤◌, true, List, [], ◌∷◌, Some, refl, sym, ap, subst, ◌∙◌, arith, inl, inr}
+use Rattle.std.proofs.Common.{◌≡◌, ℕ, ◌+◌, ◌<◌, ◌≤◌, true, max, List, [], ◌∷◌, Some, refl, sym, ap, subst, ◌∙◌, arith, inl, inr}
 use Rattle.std.specs.Prelude.{slice_get}
 use Rattle.std.specs.List.{AllByRecursion}
 use Rattle.std.proofs.lemmas.Bool.{cases_lt, eq-eqb}
 use Rattle.cb_frames.specs.Fields.{CastFields, Carried, messages_of, first_number, last_number}
-use Rattle.cb_frames.proofs.Carried.{carried_is_of_cast}
+use Rattle.cb_frames.proofs.Carried.{carried_is_of_cast, carries_some}
 use Rattle.cb_delay.specs.declared.message.Event.TheVariants.{Cast}
 use Rattle.cb_diffs.specs.Expansion.{expanded_field}
 use Rattle.cb_causality.proofs.Counting.{get_map}
@@ -15,19 +15,19 @@ use Rattle.cb_history.specs.Answers.{delivered, own_casts}
 use Rattle.cb_history.specs.Events.{event_in}
 use Rattle.cb_history.specs.LegalFacts.{AreFactsOf}
 use Rattle.cb_history.specs.NameLaws.{NumberedFrom}
-use Rattle.cb_history.specs.TimeLaws.{SameFrames}
+use Rattle.cb_history.specs.TimeLaws.{HaveOneNumber, SameFrames}
 use Rattle.cb_history.proofs.Views.{IsIn}
 use Rattle.cb_history.proofs.Lists.{carried_there, carrier, among_is, in_is_among}
 use Rattle.cb_history.proofs.Names.{Stands, all_stand, view_holds_the_first}
 use Rattle.cb_history.proofs.Times.{seen_is_expanded}
 use Rattle.cb_history.proofs.InTime.{times_are_reached}
-use Rattle.cb_history.proofs.Agreement.{times_agree}
+use Rattle.cb_history.proofs.Agreement.{one_of_a_message, times_agree}
 use Rattle.cb_history.proofs.Delivering.{one_message}
 use Rattle.cb_history.proofs.Buffers.{cast_of_is_in}
 use Rattle.cb_history.proofs.Runs.{message_there, message_is_there, own_is_delivered}
 use Rattle.cb_schedules.specs.Honest.{member_of, IsSo, events_of, AreTogether}
 use Rattle.cb_schedules.proofs.Lists.{all_from, index_of}
-use Rattle.cb_history.proofs.Expanders.{one_of_a_name}
+use Rattle.cb_history.proofs.Loads.{some_at}
 
 -- ---- casts and messages
 
@@ -125,14 +125,33 @@ module _ (group : Parameters) (facts : ℕ → List Fact) (h : AreTogether group
       let s = stands_at i (holder_inside i m (own_message_is_there (facts i) m own)) in
       seen_is_expanded (member_of group i) (casts_in (facts i)) (view group.size (facts i)) (own_casts (facts i)) m s (own_in_view i m own)
 
+  -- own casts cut a member's numbers into pieces apart: two that have one number are one
+  pub own_of_a_number : (c d : CastFields) (n : ℕ) → IsIn c (own_casts (facts c.sender)) → IsIn d (own_casts (facts d.sender)) → c.sender ≡ d.sender
+      → first_number c ≤ n → n ≤ last_number c → first_number d ≤ n → n ≤ last_number d → c ≡ d
+  own_of_a_number c d n own own' sender low high from upto =
+      let here = own_is_there (facts c.sender) c own in
+      let there = own_is_there (facts c.sender) d (subst (λ (i : ℕ). IsIn d (own_casts (facts i))) (sym sender) own') in
+      let stands = stands_at c.sender (inside c.sender c here) in
+      one_of_a_message (casts_in (facts c.sender)) c d n stands.some stands.names here there sender low high from upto
+
+  own_has_some : (c : CastFields) → IsIn c (own_casts (facts c.sender)) → first_number c ≤ last_number c
+  own_has_some c own =
+      let here = own_is_there (facts c.sender) c own in
+      carries_some c (some_at (casts_in (facts c.sender)) c (stands_at c.sender (inside c.sender c here)).some here)
+
   -- who has own casts alone has the same frames of a sender
   pub same_frames : (casts : List CastFields) → ((c : CastFields) → IsIn c casts → IsIn c (own_casts (facts c.sender))) → (i : ℕ) → i < group.size → SameFrames casts (casts_in (facts i)) i
   same_frames casts are_own i lt =
-      all_from (λ (c : CastFields). AllByRecursion (λ (d : CastFields). c.sender ≡ i → d.sender ≡ i → first_number c ≡ first_number d → c.changes ≡ d.changes) (casts_in (facts i))) casts (λ c there.
-      all_from (λ (d : CastFields). c.sender ≡ i → d.sender ≡ i → first_number c ≡ first_number d → c.changes ≡ d.changes) (casts_in (facts i)) (λ d there' e f at.
-      let own : IsIn c (casts_in (facts i)) = own_is_there (facts i) c (subst (λ (k : ℕ). IsIn c (own_casts (facts k))) e (are_own c there)) in
-      let stands = stands_at i lt in
-      ap (λ (x : CastFields). x.changes) (one_of_a_name (casts_in (facts i)) c d stands.some stands.names own there' (e ∙ sym f) at)))
+      all_from (λ (c : CastFields). AllByRecursion (λ (d : CastFields). c.sender ≡ i → d.sender ≡ i → HaveOneNumber c d → (first_number c ≡ first_number d) × (c.changes ≡ d.changes)) (casts_in (facts i))) casts (λ c there.
+      all_from (λ (d : CastFields). c.sender ≡ i → d.sender ≡ i → HaveOneNumber c d → (first_number c ≡ first_number d) × (c.changes ≡ d.changes)) (casts_in (facts i)) (λ d there' e f both.
+      let own = are_own c there in
+      let own' = is_own i d there' in
+      let up = both.0 in
+      let down = both.1 in
+      let some = own_has_some c own in
+      let some' = own_has_some d own' in
+      let same = own_of_a_number c d (max (first_number c) (first_number d)) own own' (e ∙ sym f) (omega arith) (omega (arith, some, down)) (omega arith) (omega (arith, some', up)) in
+      (ap first_number same, ap (λ (x : CastFields). x.changes) same)))
 
   -- and where it can tell the time of a message, it tells its sender's
   pub time_is_senders : (j : ℕ) (now : List Fact) (m : Carried) (k : ℕ) → AreFactsOf (member_of group j) now → ((c : CastFields) → IsIn c (casts_in now) → IsIn c (own_casts (facts c.sender)))

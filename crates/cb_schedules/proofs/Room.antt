@@ -1,7 +1,7 @@
 -- A history that has an entry left for each step is never found full.
 use Rattle.std.proofs.Common.{◌≡◌, ℕ, ◌+◌, ◌<◌, ◌≤◌, Bool, true, not, ◌&&◌, eqb, ltb, List, [], ◌∷◌, ◌++◌, length, Option, Some, None, Result, Ok, Err, sym, subst, arith}
 use Rattle.std.proofs.lemmas.Bool.{cond_both, eqb-true, leb-true, and_parts}
-use Rattle.cb_frames.specs.declared.frame.TheConstants.{LONGEST_PAYLOAD}
+use Rattle.cb_frames.specs.declared.frame.TheConstants.{LONGEST_PAYLOAD, MOST_MESSAGES}
 use Rattle.cb_frames.specs.declared.fault.FrameFault.{FrameFault}
 use Rattle.cb_frames.specs.Fields.{Load, payloads_of, load_bytes, CastFields, FrameFields}
 use Rattle.cb_history.specs.Read.{frame_read}
@@ -11,7 +11,7 @@ use Rattle.cb_history.specs.declared.answer.Outgoing.{Outgoing}
 use Rattle.cb_history.specs.CastFault.{CastFault}
 use Rattle.cb_history.specs.Group.{Identity}
 use Rattle.cb_history.specs.Facts.{EntryFields, facts_of}
-use Rattle.cb_history.specs.Answers.{is_burst, is_full, is_too_many, cast_answer, group_of, are_members, is_impossible, is_repeat, is_too_far, is_change, ArrivalSays, frame_answer, answer_to, arrive_answer, is_new_status, tick_answer}
+use Rattle.cb_history.specs.Answers.{is_full, is_too_many, cast_answer, group_of, are_members, is_impossible, is_repeat, is_overlap, is_too_far, is_change, ArrivalSays, frame_answer, answer_to, arrive_answer, is_new_status, tick_answer}
 use Rattle.cb_history.specs.Legal.{Call, ToCast, ToTake, ToTick, entry_of, and_entry, history_after}
 use Rattle.cb_schedules.specs.Schedule.{Setting, seat_at, Step, Schedule, Asked, Calls, OfNoMember, OfNoFrame, OfNoBytes, CastAnswer, ArrivalAnswer, TickAnswer, answer_of, GroupState, asked_by, after_asked, step_after}
 use Rattle.cb_schedules.specs.Rounds.{IsNotFull}
@@ -27,10 +27,11 @@ module _ (seat : Identity) (limit : ℕ) (entries : List EntryFields) (room : le
   unfolding cast_answer
   cast_not_full load =
       let Fine : Result CastFields CastFault → Type 0 = λ r. IsNotFull (CastAnswer r) in
-      cond_both (is_burst load) _ _ Fine (λ _ e. cc)
+      cond_both (eqb (length (payloads_of load)) 0) _ _ Fine (λ _ e. cc)
+      (λ _. cond_both (ltb MOST_MESSAGES (length (payloads_of load))) _ _ Fine (λ _ e. cc)
       (λ _. cond_both (ltb LONGEST_PAYLOAD (length (load_bytes load))) _ _ Fine (λ _ e. cc)
       (λ _. cond_both (is_too_many seat (facts_of entries) (length (payloads_of load))) _ _ Fine (λ _ e. cc)
-      (λ _. cond_both (is_full limit entries) _ _ Fine (λ full. absurd (never_full full)) (λ _. tt))))
+      (λ _. cond_both (is_full limit entries) _ _ Fine (λ full. absurd (never_full full)) (λ _. tt)))))
 
   frame_not_full : (frame : FrameFields) → IsNotFull (ArrivalAnswer (frame_answer seat limit entries (facts_of entries) frame))
   frame_not_full frame =
@@ -39,10 +40,11 @@ module _ (seat : Identity) (limit : ℕ) (entries : List EntryFields) (room : le
       (λ _. cond_both (not (are_members seat.group.size frame)) _ _ Fine (λ _ e. cc)
       (λ _. cond_both (is_impossible seat (facts_of entries) frame) _ _ Fine (λ _ e. cc)
       (λ _. cond_both (is_repeat (facts_of entries) frame) _ _ Fine (λ _. tt)
+      (λ _. cond_both (is_overlap (facts_of entries) frame) _ _ Fine (λ _ e. cc)
       (λ _. cond_both (is_too_far seat (facts_of entries) frame) _ _ Fine (λ _ e. cc)
       (λ _. cond_both (is_change seat (facts_of entries) frame && is_full limit entries) _ _ Fine
       (λ full. absurd (never_full (and_parts (is_change seat (facts_of entries) frame) (is_full limit entries) full).1))
-      (λ _. cond_both (is_change seat (facts_of entries) frame) _ _ Fine (λ _. tt) (λ _. tt)))))))
+      (λ _. cond_both (is_change seat (facts_of entries) frame) _ _ Fine (λ _. tt) (λ _. tt))))))))
 
   answer_not_full : (r : Result FrameFields FrameFault) → IsNotFull (ArrivalAnswer (answer_to seat limit entries r))
   answer_not_full (Ok frame) = frame_not_full frame

@@ -2,9 +2,9 @@
 use Rattle.std.proofs.Common.{◌≡◌, ℕ, List, [], ◌∷◌, ◌++◌, length, map, Some, None, refl, arith}
 use Rattle.std.specs.List.{range_with_len}
 use Rattle.cb_varint.specs.Reading.{number_at, spelling}
-use Rattle.cb_frames.specs.Fields.{One, messages_of, first_number, last_number}
+use Rattle.cb_frames.specs.Fields.{One, Many, messages_of, first_number, last_number}
 use Rattle.cb_frames.specs.Text.{text_of}
-use Rattle.cb_frames.specs.Reading.{frame_at, head_at, cast_at, status_at, request_at, pairs_at, pair_at}
+use Rattle.cb_frames.specs.Reading.{frame_at, head_at, cast_at, burst_at, payloads_at, next_payload_at, status_at, request_at, pairs_at, pair_at}
 use Rattle.cb_history.specs.View.{view, drained}
 use Rattle.cb_history.specs.Known.{known, stable}
 use Rattle.cb_history.specs.Answers.{delivered, cast_answer, arrive_answer, tick_answer}
@@ -91,6 +91,20 @@ how_many_outcomes : length (outcomes_of three (run three lost) (steps_of_rounds 
 unfolding steps_of_rounds round_steps ticked answered step_after run_from cast_answer arrive_answer tick_answer view drained frame_at head_at cast_at status_at request_at pairs_at pair_at number_at text_of spelling messages_of first_number last_number
 how_many_outcomes = refl
 
+-- ---- a burst among them
+
+-- member 0 casts a burst of three and one more, and member 2 once; nothing arrives
+abbrev burst_lost : Schedule
+burst_lost = CastStep 0 (Many ((97 ∷ []) ∷ (98 ∷ []) ∷ (99 ∷ []) ∷ [])) ∷ CastStep 0 (One (100 ∷ [])) ∷ CastStep 2 (One (101 ∷ [])) ∷ []
+
+all_have_the_burst : counts_at (after_rounds three 2 (run three burst_lost)) ≡ (4 ∷ 0 ∷ 1 ∷ []) ∷ (4 ∷ 0 ∷ 1 ∷ []) ∷ (4 ∷ 0 ∷ 1 ∷ []) ∷ []
+unfolding steps_of_rounds round_steps ticked answered step_after run_from cast_answer arrive_answer tick_answer view drained frame_at head_at cast_at burst_at payloads_at next_payload_at status_at request_at pairs_at pair_at number_at text_of spelling messages_of first_number last_number
+all_have_the_burst = refl
+
+then_it_is_stable : stable_at (after_rounds three 3 (run three burst_lost)) ≡ 4 ∷ 0 ∷ 1 ∷ []
+unfolding steps_of_rounds round_steps ticked answered step_after run_from cast_answer arrive_answer tick_answer view drained frame_at head_at cast_at burst_at payloads_at next_payload_at status_at request_at pairs_at pair_at number_at text_of spelling messages_of first_number last_number
+then_it_is_stable = refl
+
 -- ---- one number more than an answer has frames
 
 -- two members with a window of 65
@@ -105,6 +119,14 @@ all_lost = map (λ k. CastStep 0 (One [])) (range_with_len 0 65)
 two_are_too_few : map (λ n. delivered (seat_at wide 1) (facts_at (after_rounds wide n (run wide all_lost)) 1) 0) (1 ∷ 2 ∷ 3 ∷ []) ≡ 0 ∷ 64 ∷ 65 ∷ []
 unfolding steps_of_rounds round_steps ticked answered step_after run_from cast_answer arrive_answer tick_answer view drained frame_at head_at cast_at status_at request_at pairs_at pair_at number_at text_of spelling messages_of first_number last_number
 two_are_too_few = refl
+
+-- in three bursts they are three frames, and come at once
+abbrev bursts_lost : Schedule
+bursts_lost = map (λ n. CastStep 0 (Many (map (λ k. []) (range_with_len 0 n)))) (32 ∷ 32 ∷ 1 ∷ [])
+
+bursts_are_few_frames : map (λ n. delivered (seat_at wide 1) (facts_at (after_rounds wide n (run wide bursts_lost)) 1) 0) (1 ∷ 2 ∷ []) ≡ 0 ∷ 65 ∷ []
+unfolding steps_of_rounds round_steps ticked answered step_after run_from cast_answer arrive_answer tick_answer view drained frame_at head_at cast_at burst_at payloads_at next_payload_at status_at request_at pairs_at pair_at number_at text_of spelling messages_of first_number last_number
+bursts_are_few_frames = refl
 
 -- ---- how many rounds
 

@@ -1,19 +1,20 @@
 -- Worked schedules of three members.
-use Rattle.std.proofs.Common.{◌≡◌, ℕ, true, false, List, [], ◌∷◌, length, map, drop, option_map, Some, None, Err, refl, arith}
+use Rattle.std.proofs.Common.{◌≡◌, ℕ, true, false, List, [], ◌∷◌, length, map, take, drop, option_map, Some, None, Ok, Err, refl, arith}
 use Rattle.std.specs.Prelude.{slice_get}
+use Rattle.std.specs.List.{range_with_len}
 use Rattle.cb_varint.specs.Reading.{number_at, spelling}
 use Rattle.cb_times.specs.declared.name.Name.{Name}
 use Rattle.cb_frames.specs.Fields.{One, Many, messages_of, first_number, last_number}
 use Rattle.cb_frames.specs.Text.{text_of}
-use Rattle.cb_frames.specs.Reading.{frame_at, head_at, cast_at, status_at, request_at, pairs_at, pair_at}
+use Rattle.cb_frames.specs.Reading.{frame_at, head_at, cast_at, burst_at, payloads_at, next_payload_at, status_at, request_at, pairs_at, pair_at}
 use Rattle.cb_delay.specs.declared.message.Message.{Message}
-use Rattle.cb_delay.specs.declared.message.Event.TheVariants.{Deliver}
+use Rattle.cb_delay.specs.declared.message.Event.TheVariants.{Cast, Deliver}
 use Rattle.cb_causality.specs.declared.event.CausalEvent.TheVariants as causal
 use Rattle.cb_history.specs.declared.answer.ArriveRefusal.TheVariants as arrivals
-use Rattle.cb_history.specs.CastFault.{BurstTooLong}
-use Rattle.cb_history.specs.View.{view, drained}
+use Rattle.cb_history.specs.CastFault.{EmptyBurst, BurstTooLong, WindowFull}
+use Rattle.cb_history.specs.View.{view, drained, time_of}
 use Rattle.cb_history.specs.Known.{known, stable}
-use Rattle.cb_history.specs.Answers.{delivered, cast_answer, arrive_answer, tick_answer}
+use Rattle.cb_history.specs.Answers.{delivered, cast_answer, arrive_answer, tick_answer, Repeat}
 use Rattle.cb_schedules.specs.Schedule.{Setting, IsSetting, seat_at, CastStep, ArriveStep, TickStep, Schedule, Answer, CastAnswer, ArrivalAnswer, NoSuchMember, NoSuchFrame, NoBytes, GroupState, asked_by, step_after, run_from, run}
 use Rattle.cb_schedules.specs.RunLaws.{AsksForNothing}
 use Rattle.cb_schedules.specs.Messages.{facts_at, stamped_lists, causal_lists, arrived_at, has_arrived, IsClosedArrival, time_from_bytes}
@@ -161,19 +162,100 @@ they_change_nothing : (run three naming_nothing).histories 0 ≡ []
 unfolding step_after run_from cast_answer arrive_answer tick_answer view drained frame_at head_at cast_at status_at request_at pairs_at pair_at number_at text_of spelling messages_of first_number last_number
 they_change_nothing = refl
 
--- ---- a burst
+-- ---- bursts
 
--- member 0 is to cast "hi" and "yo" at once
-abbrev two_at_once : Schedule
-two_at_once = CastStep 0 (Many ((104 ∷ 105 ∷ []) ∷ (121 ∷ 111 ∷ []) ∷ [])) ∷ []
+-- member 0 casts "hi" and "yo" at once, member 1 takes them and casts "a" and "b" at once; at member 2 first "a" and "b" arrive
+abbrev burst_first : Schedule
+burst_first = CastStep 0 (Many ((104 ∷ 105 ∷ []) ∷ (121 ∷ 111 ∷ []) ∷ [])) ∷ ArriveStep 1 0 ∷ CastStep 1 (Many ((97 ∷ []) ∷ (98 ∷ []) ∷ [])) ∷ ArriveStep 2 1 ∷ []
 
-it_is_refused : answers (run three two_at_once) ≡ CastAnswer (Err BurstTooLong) ∷ []
-unfolding step_after run_from cast_answer
-it_is_refused = refl
+-- and then "hi" and "yo"
+abbrev then_its_cause : Schedule
+then_its_cause =
+    CastStep 0 (Many ((104 ∷ 105 ∷ []) ∷ (121 ∷ 111 ∷ []) ∷ [])) ∷ ArriveStep 1 0 ∷ CastStep 1 (Many ((97 ∷ []) ∷ (98 ∷ []) ∷ [])) ∷ ArriveStep 2 1 ∷ ArriveStep 2 0 ∷ []
 
-and_nothing_is_sent : (run three two_at_once).sent ≡ []
-unfolding step_after run_from cast_answer
-and_nothing_is_sent = refl
+-- a frame for each, in which the second one says once that both messages of the first are before its own
+bursts_that_were_sent : map (λ f. f.bytes) (run three then_its_cause).sent
+    ≡ (33 ∷ 7 ∷ 0 ∷ 1 ∷ 0 ∷ 2 ∷ 2 ∷ 104 ∷ 105 ∷ 2 ∷ 121 ∷ 111 ∷ []) ∷ (33 ∷ 7 ∷ 1 ∷ 1 ∷ 1 ∷ 0 ∷ 2 ∷ 2 ∷ 1 ∷ 97 ∷ 1 ∷ 98 ∷ []) ∷ []
+unfolding step_after run_from cast_answer arrive_answer tick_answer view drained frame_at head_at cast_at burst_at payloads_at next_payload_at status_at request_at pairs_at pair_at number_at text_of spelling messages_of first_number last_number
+bursts_that_were_sent = refl
+
+a_burst_is_a_cast_of_each : stamped_lists three (run three then_its_cause) 0 ≡ Cast (message 0 1 (1 ∷ 0 ∷ 0 ∷ []) (104 ∷ 105 ∷ [])) ∷ Cast (message 0 2 (2 ∷ 0 ∷ 0 ∷ []) (121 ∷ 111 ∷ [])) ∷ []
+unfolding step_after run_from cast_answer arrive_answer tick_answer view drained frame_at head_at cast_at burst_at payloads_at next_payload_at status_at request_at pairs_at pair_at number_at text_of spelling messages_of first_number last_number
+a_burst_is_a_cast_of_each = refl
+
+the_burst_waits : stamped_lists three (run three burst_first) 2 ≡ []
+unfolding step_after run_from cast_answer arrive_answer tick_answer view drained frame_at head_at cast_at burst_at payloads_at next_payload_at status_at request_at pairs_at pair_at number_at text_of spelling messages_of first_number last_number
+the_burst_waits = refl
+
+but_all_of_it_has_arrived : map (λ m. m.number) (arrived_at (run three burst_first) 2) ≡ 1 ∷ 2 ∷ []
+unfolding step_after run_from cast_answer arrive_answer tick_answer view drained frame_at head_at cast_at burst_at payloads_at next_payload_at status_at request_at pairs_at pair_at number_at text_of spelling messages_of first_number last_number
+but_all_of_it_has_arrived = refl
+
+then_all_are_delivered : stamped_lists three (run three then_its_cause) 2
+    ≡ Deliver (message 0 1 (1 ∷ 0 ∷ 0 ∷ []) (104 ∷ 105 ∷ []))
+    ∷ Deliver (message 0 2 (2 ∷ 0 ∷ 0 ∷ []) (121 ∷ 111 ∷ []))
+    ∷ Deliver (message 1 1 (2 ∷ 1 ∷ 0 ∷ []) (97 ∷ []))
+    ∷ Deliver (message 1 2 (2 ∷ 2 ∷ 0 ∷ []) (98 ∷ []))
+    ∷ []
+unfolding step_after run_from cast_answer arrive_answer tick_answer view drained frame_at head_at cast_at burst_at payloads_at next_payload_at status_at request_at pairs_at pair_at number_at text_of spelling messages_of first_number last_number
+then_all_are_delivered = refl
+
+the_time_in_the_end : time_of 3 (facts_at (run three then_its_cause) 2) ≡ 2 ∷ 2 ∷ 0 ∷ []
+unfolding step_after run_from cast_answer arrive_answer tick_answer view drained frame_at head_at cast_at burst_at payloads_at next_payload_at status_at request_at pairs_at pair_at number_at text_of spelling messages_of first_number last_number
+the_time_in_the_end = refl
+
+an_entry_for_each_burst : map (λ k. length ((run three then_its_cause).histories k)) (0 ∷ 1 ∷ 2 ∷ []) ≡ 1 ∷ 2 ∷ 2 ∷ []
+unfolding step_after run_from cast_answer arrive_answer tick_answer view drained frame_at head_at cast_at burst_at payloads_at next_payload_at status_at request_at pairs_at pair_at number_at text_of spelling messages_of first_number last_number
+an_entry_for_each_burst = refl
+
+-- the time of a message inside a burst, from the bytes
+the_time_inside : time_from_bytes three (run three then_its_cause) (name 1 2) ≡ 2 ∷ 2 ∷ 0 ∷ []
+unfolding step_after run_from cast_answer arrive_answer tick_answer view drained frame_at head_at cast_at burst_at payloads_at next_payload_at status_at request_at pairs_at pair_at number_at text_of spelling messages_of first_number last_number
+the_time_inside = refl
+
+-- both bursts once more at member 2, and one cast more of member 1
+abbrev and_on : Schedule
+and_on =
+    CastStep 0 (Many ((104 ∷ 105 ∷ []) ∷ (121 ∷ 111 ∷ []) ∷ [])) ∷ ArriveStep 1 0 ∷ CastStep 1 (Many ((97 ∷ []) ∷ (98 ∷ []) ∷ []))
+    ∷ ArriveStep 2 1 ∷ ArriveStep 2 0 ∷ ArriveStep 2 0 ∷ ArriveStep 2 1 ∷ CastStep 1 (One (99 ∷ [])) ∷ []
+
+both_are_repeats : take 2 (drop 5 (answers (run three and_on))) ≡ ArrivalAnswer (Ok Repeat) ∷ ArrivalAnswer (Ok Repeat) ∷ []
+unfolding step_after run_from cast_answer arrive_answer tick_answer view drained frame_at head_at cast_at burst_at payloads_at next_payload_at status_at request_at pairs_at pair_at number_at text_of spelling messages_of first_number last_number
+both_are_repeats = refl
+
+-- which says nothing new of member 0
+the_next_cast : drop 2 (map (λ f. f.bytes) (run three and_on).sent) ≡ (17 ∷ 7 ∷ 1 ∷ 3 ∷ 0 ∷ 1 ∷ 99 ∷ []) ∷ []
+unfolding step_after run_from cast_answer arrive_answer tick_answer view drained frame_at head_at cast_at burst_at payloads_at next_payload_at status_at request_at pairs_at pair_at number_at text_of spelling messages_of first_number last_number
+the_next_cast = refl
+
+its_time : time_from_bytes three (run three and_on) (name 1 3) ≡ 2 ∷ 3 ∷ 0 ∷ []
+unfolding step_after run_from cast_answer arrive_answer tick_answer view drained frame_at head_at cast_at burst_at payloads_at next_payload_at status_at request_at pairs_at pair_at number_at text_of spelling messages_of first_number last_number
+its_time = refl
+
+-- Of a burst and a cast the burst is lost to member 1. It asks for both numbers, and gets the burst's frame once.
+abbrev losing_a_burst : Schedule
+losing_a_burst = CastStep 0 (Many ((97 ∷ []) ∷ (98 ∷ []) ∷ [])) ∷ CastStep 0 (One (99 ∷ [])) ∷ ArriveStep 1 1 ∷ TickStep 1 ∷ ArriveStep 0 3 ∷ ArriveStep 1 4 ∷ []
+
+the_burst_is_asked_for : drop 3 (run three losing_a_burst).sent
+    ≡ record { from = 1; to = Some 0; bytes = 19 ∷ 7 ∷ 1 ∷ 0 ∷ 1 ∷ 0 ∷ 1 ∷ [] } ∷ record { from = 0; to = Some 1; bytes = 33 ∷ 7 ∷ 0 ∷ 1 ∷ 0 ∷ 2 ∷ 1 ∷ 97 ∷ 1 ∷ 98 ∷ [] } ∷ []
+unfolding step_after run_from cast_answer arrive_answer tick_answer view drained frame_at head_at cast_at burst_at payloads_at next_payload_at status_at request_at pairs_at pair_at number_at text_of spelling messages_of first_number last_number
+the_burst_is_asked_for = refl
+
+and_all_three_are_delivered : delivered (seat_at three 1) (facts_at (run three losing_a_burst) 1) 0 ≡ 3
+unfolding step_after run_from cast_answer arrive_answer tick_answer view drained frame_at head_at cast_at burst_at payloads_at next_payload_at status_at request_at pairs_at pair_at number_at text_of spelling messages_of first_number last_number
+and_all_three_are_delivered = refl
+
+-- a burst of nothing, one of too many messages, and one that the window of four has no room for
+abbrev refused_bursts : Schedule
+refused_bursts = CastStep 0 (Many []) ∷ CastStep 0 (Many (map (λ n. []) (range_with_len 0 33))) ∷ CastStep 0 (Many ([] ∷ [] ∷ [] ∷ [] ∷ [] ∷ [])) ∷ CastStep 0 (Many ([] ∷ [] ∷ [] ∷ [] ∷ [])) ∷ []
+
+three_are_refused : take 3 (answers (run three refused_bursts)) ≡ CastAnswer (Err EmptyBurst) ∷ CastAnswer (Err BurstTooLong) ∷ CastAnswer (Err WindowFull) ∷ []
+unfolding step_after run_from cast_answer arrive_answer tick_answer view drained frame_at head_at cast_at burst_at payloads_at next_payload_at status_at request_at pairs_at pair_at number_at text_of spelling messages_of first_number last_number
+three_are_refused = refl
+
+and_four_have_room : delivered (seat_at three 0) (facts_at (run three refused_bursts) 0) 0 ≡ 4
+unfolding step_after run_from cast_answer arrive_answer tick_answer view drained frame_at head_at cast_at burst_at payloads_at next_payload_at status_at request_at pairs_at pair_at number_at text_of spelling messages_of first_number last_number
+and_four_have_room = refl
 
 -- ---- the laws speak of these schedules: the setting is one
 
@@ -190,6 +272,9 @@ the_setting = record {
 -- so after each of them the headline holds
 the_headline : Headline three (run three in_the_end)
 the_headline = each_schedule Headline headline_holds three in_the_end the_setting
+
+the_headline_of_bursts : Headline three (run three then_its_cause)
+the_headline_of_bursts = each_schedule Headline headline_holds three then_its_cause the_setting
 
 -- member 2 has delivered "yo" in the end, and so, by the headline, it is a closed arrival
 yo_is_closed : IsClosedArrival three (run three in_the_end) 2 (name 1 1)

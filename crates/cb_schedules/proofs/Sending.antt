@@ -1,28 +1,29 @@
 -- What a member sends is a frame of the group that says what is so.
-use Rattle.std.proofs.Common.{◌≡◌, ◌≢◌, ℕ, ◌+◌, ◌<◌, ◌≤◌, not, eqb, ltb, List, [], ◌∷◌, length, take, Some, Result, Ok, Err, refl, sym, ap, subst, arith, inl, inr}
+use Rattle.std.proofs.Common.{◌≡◌, ◌≢◌, ℕ, ◌<◌, ◌≤◌, false, not, eqb, ltb, List, [], ◌∷◌, length, take, Some, Result, Ok, Err, refl, sym, ap, subst, arith, inl, inr}
 use Rattle.std.specs.List.{AllByRecursion, flat_map, filter, range_with_len}
 use Rattle.std.proofs.lemmas.Bool.{cond_both, eqb-false}
 use Rattle.cb_varint.specs.Reading.{spelling}
-use Rattle.cb_frames.specs.declared.frame.TheConstants.{LAST_NUMBER, MOST_RANGES, MOST_FRAMES}
+use Rattle.cb_frames.specs.declared.frame.TheConstants.{MOST_RANGES, MOST_FRAMES}
 use Rattle.cb_frames.specs.declared.frame.Range.{Range}
 use Rattle.cb_frames.specs.declared.fault.FrameFault.{FrameFault}
-use Rattle.cb_frames.specs.Fields.{Load, One, Many, IsOne, payloads_of, load_bytes, CastFields, RequestFields, FrameFields, CastFrame, StatusFrame, RequestFrame, last_number}
-use Rattle.cb_frames.specs.Text.{IsLoad, text_of, request_kind, request_numbers}
+use Rattle.cb_frames.specs.Fields.{Load, payloads_of, load_bytes, CastFields, RequestFields, FrameFields, CastFrame, StatusFrame, RequestFrame, last_number}
+use Rattle.cb_frames.specs.Text.{text_of, request_kind, request_numbers}
+use Rattle.cb_history.specs.Load.{FitsFrame}
 use Rattle.cb_history.specs.Read.{frame_read}
-use Rattle.cb_frames.specs.Laws.{IsBytes}
+use Rattle.cb_frames.specs.Laws.{IsBytes, CanBeWritten}
 use Rattle.cb_frames.proofs.Decoding.{reading_is_exact, text_is_read}
 use Rattle.cb_frames.proofs.Unique.{one_text, some_text}
 use Rattle.cb_history.specs.declared.answer.Outgoing.{Outgoing}
 use Rattle.cb_history.specs.Group.{Parameters, IsIdentity}
 use Rattle.cb_history.specs.Facts.{Fact}
 use Rattle.cb_history.specs.Known.{missing, ranges_of, stable}
-use Rattle.cb_history.specs.Answers.{delivered, next_cast, status_of, own_casts, window, is_asked_for, sent_in_answer, request_to, requests}
+use Rattle.cb_history.specs.Answers.{is_too_many, delivered, next_cast, status_of, own_casts, window, is_asked_for, sent_in_answer, request_to, requests}
 use Rattle.cb_history.specs.LegalFacts.{AreFactsOf}
 use Rattle.cb_history.specs.BufferLaws.{IsCastOf}
 use Rattle.cb_history.proofs.Views.{IsIn, filter_in, not_true}
 use Rattle.cb_history.proofs.Lists.{in_append, in_one}
 use Rattle.cb_history.proofs.ReadBack.{cast_read as cast_reads, status_read, read_whole}
-use Rattle.cb_history.proofs.Written.{each_from}
+use Rattle.cb_history.proofs.Written.{each_from, fitting_can}
 use Rattle.cb_history.proofs.Requests.{own_frames_have_texts}
 use Rattle.cb_history.proofs.OwnFrames.{own_casts_are_of_the_group, own_statuses_are_of_the_group, own_requests_are_of_the_group}
 use Rattle.cb_history.proofs.Replays.{one_more_byte, numbers_are_bytes, cast_is_bytes, status_is_bytes}
@@ -39,20 +40,26 @@ module _ (group : Parameters) (facts : ℕ → List Fact) (i : ℕ) (are : AreFa
   is_seat : IsIdentity (member_of group i)
   is_seat = record { group = are.group; member = are.member }
 
-  -- the next cast of one payload, once it is an own cast
-  pub cast_is_honest : (after : ℕ → List Fact) (load : Load) → IsOne load → IsBytes (load_bytes load) → delivered (member_of group i) (facts i) i + length (payloads_of load) ≤ LAST_NUMBER → IsLoad load
-      → IsCastOf (next_cast (member_of group i) (facts i) load) (own_casts (after i)) → IsHonest group after (text_of (CastFrame (next_cast (member_of group i) (facts i) load)))
-  cast_is_honest after (One payload) one bytes left short own =
-      let cast = next_cast (member_of group i) (facts i) (One payload) in
-      let can = (own_frames_have_texts (member_of group i) (facts i) are).0 (One payload) tt left short in
-      record {
-        are_bytes = cast_is_bytes cast payload can bytes;
-        frame = CastFrame cast;
-        read = cast_reads cast tt can;
-        of_group = own_casts_are_of_the_group (member_of group i) (facts i) (One payload) is_seat;
-        so = own;
-      }
-  cast_is_honest after (Many payloads) one bytes left short own = absurd one
+  -- the next cast of a load that fits a frame, where its messages are not too many
+  module _ (load : Load) (fits : FitsFrame load) (few : is_too_many (member_of group i) (facts i) (length (payloads_of load)) ≡ false) where
+    abbrev cast : CastFields
+    cast = next_cast (member_of group i) (facts i) load
+
+    cast_can : CanBeWritten (CastFrame cast)
+    cast_can = fitting_can (member_of group i) (facts i) load are.group are.member are.facts_are fits few
+
+    pub next_cast_reads : frame_read (text_of (CastFrame cast)) ≡ Ok (CastFrame cast)
+    next_cast_reads = cast_reads cast cast_can
+
+    -- once it is an own cast
+    pub cast_is_honest : (after : ℕ → List Fact) → IsBytes (load_bytes load) → IsCastOf cast (own_casts (after i)) → IsHonest group after (text_of (CastFrame cast))
+    cast_is_honest after bytes own = record {
+      are_bytes = cast_is_bytes cast load cast_can bytes;
+      frame = CastFrame cast;
+      read = next_cast_reads;
+      of_group = own_casts_are_of_the_group (member_of group i) (facts i) load is_seat;
+      so = own;
+    }
 
   -- the status
   pub status_is_honest : IsHonest group facts (text_of (StatusFrame (status_of (member_of group i) (facts i))))

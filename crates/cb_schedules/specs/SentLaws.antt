@@ -1,7 +1,7 @@
 -- What is true of the frames that were sent, of the answers, and of what members know of each other, after every schedule.
 use Rattle.std.specs.Prelude.{◌≡◌, ◌≢◌, ℕ, ◌+◌, ◌<◌, ◌≤◌, Some, None, Result, Ok, Err, slice_get}
 use Rattle.std.specs.List.{AllByRecursion}
-use Rattle.cb_frames.specs.Fields.{CastFields, StatusFields, RequestFields, CastFrame, StatusFrame, RequestFrame, Carried, first_number}
+use Rattle.cb_frames.specs.Fields.{CastFields, StatusFields, RequestFields, CastFrame, StatusFrame, RequestFrame, Carried, first_number, last_number}
 use Rattle.cb_frames.specs.Text.{text_of}
 use Rattle.cb_history.specs.Read.{frame_read}
 use Rattle.cb_delay.specs.declared.message.Event.{Event}
@@ -32,11 +32,15 @@ SentCastsAreOwn setting s =
     (frame : SentFrame) (c : CastFields) → WasSent s frame → frame_read frame.bytes ≡ Ok (CastFrame c)
     → IsCastOf c (own_casts (facts_at s c.sender)) × (frame.bytes ≡ text_of (CastFrame c))
 
--- so cast frames with one name have the same bytes
+-- the cast holds the name of its sender's message with this number
+abbrev pub HoldsNumber : CastFields → ℕ → Type 0
+HoldsNumber c n = (first_number c ≤ n) × (n ≤ last_number c)
+
+-- so cast frames that hold one name, each perhaps beside others, have the same bytes
 abbrev pub OneNameSameBytes : Setting → GroupState → Type 0
 OneNameSameBytes setting s =
-    (frame other : SentFrame) (c d : CastFields) → WasSent s frame → WasSent s other → frame_read frame.bytes ≡ Ok (CastFrame c) → frame_read other.bytes ≡ Ok (CastFrame d)
-    → c.sender ≡ d.sender → first_number c ≡ first_number d → frame.bytes ≡ other.bytes
+    (frame other : SentFrame) (c d : CastFields) (n : ℕ) → WasSent s frame → WasSent s other → frame_read frame.bytes ≡ Ok (CastFrame c) → frame_read other.bytes ≡ Ok (CastFrame d)
+    → c.sender ≡ d.sender → HoldsNumber c n → HoldsNumber d n → frame.bytes ≡ other.bytes
 
 -- every status that was sent says of each member no more than its sender has delivered, and nobody asks itself
 abbrev pub SentStatusesAreSo : Setting → GroupState → Type 0
@@ -114,7 +118,7 @@ abbrev pub IsRefusedByFullHistoryAlone : Answer → Type 0
 IsRefusedByFullHistoryAlone (ArrivalAnswer r) = IsNoRefusal r
 IsRefusedByFullHistoryAlone other = Unit {0}
 
--- No arrival is answered Malformed, OtherGroup, BadMember, Impossible or TooFar: the one refusal that there is says that the history is
--- full.
+-- No arrival is answered Malformed, OtherGroup, BadMember, Impossible, Overlap or TooFar: the one refusal that there is says that the
+-- history is full.
 abbrev pub ArrivalsAreWelcome : Setting → GroupState → Type 0
 ArrivalsAreWelcome setting s = AllByRecursion (λ outcome. IsRefusedByFullHistoryAlone outcome.answer) s.outcomes

@@ -27,7 +27,7 @@ pub fn causal_broadcast_without_histories()
     ensures arrivals { EachScheduleOfCores NoArrivalIsRefused }
 {}
 
-/// Cast frames of cores with one name have the same bytes, nobody has heard of a cast that was not made, what a sender knows to be
+/// Cast frames of cores that hold one name have the same bytes, nobody has heard of a cast that was not made, what a sender knows to be
 /// stable every other core has delivered, and a sender has cast at most a window more than each other one has delivered of it. So nobody
 /// lacks a frame that its sender has freed.
 pub fn what_cores_know_is_so()

@@ -3,8 +3,9 @@
 ghost use Rattle.cb_schedules.specs.Headline.{EachSchedule};
 ghost use Rattle.cb_schedules.specs.SentLaws.{NobodyAsksItself, OneNameSameBytes, SentCastsAreOwn, SentStatusesAreSo};
 
-/// Every cast frame that was sent is byte for byte an own cast of its sender, so cast frames with one name have the same bytes. Every
-/// status that was sent says of each member no more than its sender has delivered; every request has two different members of the group.
+/// Every cast frame that was sent is byte for byte an own cast of its sender, so cast frames that hold one name have the same bytes.
+/// Every status that was sent says of each member no more than its sender has delivered; every request has two different members of the
+/// group.
 pub fn sent_frames_say_what_is_so()
     ensures casts { EachSchedule SentCastsAreOwn }
     ensures bytes { EachSchedule OneNameSameBytes }

@@ -23,7 +23,7 @@ pub fn histories_stay_within_their_limit()
 {}
 
 /// Each step of a schedule extends the members' events, with their times, by steps of the stamped machine, and without their times by steps of
-/// the causal machine: a cast by one, an arrival by as many as it delivers.
+/// the causal machine: a cast by as many as it has messages, an arrival by as many as it delivers.
 pub fn steps_extend_the_machines()
     ensures stamped { StepsExtendTheStamped }
     ensures causal { StepsExtendTheCausal }

@@ -21,8 +21,8 @@ pub fn what_is_stable_is_delivered_everywhere()
     ensures near { EachSchedule SendersStayNear }
 {}
 
-/// No arrival of a schedule is answered Malformed, OtherGroup, BadMember, Impossible or TooFar. The one refusal that there is says that the
-/// history is full.
+/// No arrival of a schedule is answered Malformed, OtherGroup, BadMember, Impossible, Overlap or TooFar. The one refusal that there is says
+/// that the history is full.
 pub fn arrivals_are_welcome()
     ensures { EachSchedule ArrivalsAreWelcome }
 {}
