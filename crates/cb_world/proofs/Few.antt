@@ -4,7 +4,7 @@ use Rattle.std.specs.List.{range_with_len}
 use Rattle.std.proofs.lemmas.Bool.{cond_both}
 use Rattle.std.proofs.lemmas.List.{length-map}
 use Rattle.std.proofs.lemmas.List.FromFn.{length-range_with_len}
-use Rattle.cb_frames.specs.declared.frame.TheConstants.{LONGEST_PAYLOAD, MOST_FRAMES}
+use Rattle.cb_frames.specs.declared.frame.TheConstants.{LONGEST_PAYLOAD, MOST_FRAMES, MOST_MESSAGES}
 use Rattle.cb_frames.specs.declared.frame.Range.{Range}
 use Rattle.cb_frames.specs.declared.fault.FrameFault.{FrameFault}
 use Rattle.cb_frames.specs.Fields.{Load, payloads_of, load_bytes, CastFields, FrameFields, CastFrame, StatusFrame, RequestFrame}
@@ -15,11 +15,11 @@ use Rattle.cb_history.specs.declared.answer.TickRefusal.{TickRefusal}
 use Rattle.cb_history.specs.declared.answer.ArriveRefusal.TheVariants as arrivals
 use Rattle.cb_history.specs.declared.answer.TickRefusal.TheVariants as ticks
 use Rattle.cb_history.specs.declared.answer.Outgoing.{Outgoing}
-use Rattle.cb_history.specs.CastFault.{CastFault, BurstTooLong, PayloadTooLong, WindowFull, HistoryFull}
+use Rattle.cb_history.specs.CastFault.{CastFault, EmptyBurst, BurstTooLong, PayloadTooLong, WindowFull, HistoryFull}
 use Rattle.cb_history.specs.Group.{Identity}
 use Rattle.cb_history.specs.Facts.{EntryFields, Fact, facts_of}
 use Rattle.cb_history.specs.Known.{missing, ranges_of}
-use Rattle.cb_history.specs.Answers.{is_burst, is_full, is_too_many, next_cast, cast_answer, group_of, are_members, is_impossible, is_repeat, is_too_far, is_change, deliveries, is_asked_for, window, sent_in_answer, ArrivalSays, Accepted, Repeat, answer_to, arrive_answer, status_of, is_new_status, request_to, requests, tick_answer}
+use Rattle.cb_history.specs.Answers.{is_full, is_too_many, next_cast, cast_answer, group_of, are_members, is_impossible, is_repeat, is_overlap, is_too_far, is_change, deliveries, is_asked_for, window, sent_in_answer, ArrivalSays, Accepted, Repeat, answer_to, arrive_answer, status_of, is_new_status, request_to, requests, tick_answer}
 use Rattle.cb_history.specs.Legal.{Call, ToCast, ToTake, ToTick}
 use Rattle.cb_schedules.specs.Schedule.{Answer, CastAnswer, ArrivalAnswer, TickAnswer, answer_of, frames_sent}
 use Rattle.cb_world.specs.declared.taking.TheConstants.{MOST_SENT_OUT}
@@ -66,10 +66,11 @@ module _ (seat : Identity) (limit : ℕ) (entries : List EntryFields) where
   unfolding cast_answer
   few_in_a_cast load =
       let P : Result CastFields CastFault → Type 0 = λ r. Few (CastAnswer r) in
-      cond_both (is_burst load) _ _ P (λ _. no_cast BurstTooLong)
+      cond_both (eqb (length (payloads_of load)) 0) _ _ P (λ _. no_cast EmptyBurst)
+      (λ _. cond_both (ltb MOST_MESSAGES (length (payloads_of load))) _ _ P (λ _. no_cast BurstTooLong)
       (λ _. cond_both (ltb LONGEST_PAYLOAD (length (load_bytes load))) _ _ P (λ _. no_cast PayloadTooLong)
       (λ _. cond_both (is_too_many seat (facts_of entries) (length (payloads_of load))) _ _ P (λ _. no_cast WindowFull)
-      (λ _. cond_both (is_full limit entries) _ _ P (λ _. no_cast HistoryFull) (λ _. one_cast (next_cast seat (facts_of entries) load)))))
+      (λ _. cond_both (is_full limit entries) _ _ P (λ _. no_cast HistoryFull) (λ _. one_cast (next_cast seat (facts_of entries) load))))))
 
   none_asked_for : length {A = Outgoing} [] ≤ MOST_SENT_OUT
   none_asked_for = omega arith
@@ -99,10 +100,11 @@ module _ (seat : Identity) (limit : ℕ) (entries : List EntryFields) where
       (λ _. cond_both (not (are_members seat.group.size frame)) _ _ P (λ _. arrival_refused arrivals.BadMember)
       (λ _. cond_both (is_impossible seat facts frame) _ _ P (λ _. arrival_refused arrivals.Impossible)
       (λ _. cond_both (is_repeat facts frame) _ _ P (λ _. repeated)
+      (λ _. cond_both (is_overlap facts frame) _ _ P (λ _. arrival_refused arrivals.Overlap)
       (λ _. cond_both (is_too_far seat facts frame) _ _ P (λ _. arrival_refused arrivals.TooFar)
       (λ _. cond_both (is_change seat facts frame && is_full limit entries) _ _ P (λ _. arrival_refused arrivals.HistoryFull)
       (λ _. cond_both (is_change seat facts frame) (Ok (Accepted (deliveries seat facts frame) true (sent_in_answer seat facts frame))) (Ok (Accepted [] false (sent_in_answer seat facts frame))) P
-      (λ _. few_asked_for facts frame) (λ _. few_asked_for facts frame)))))))
+      (λ _. few_asked_for facts frame) (λ _. few_asked_for facts frame))))))))
 
   few_in_an_arrival : (bytes : List ℕ) → Few (ArrivalAnswer (arrive_answer seat limit entries bytes))
   unfolding arrive_answer

@@ -1,3 +1,4 @@
+pub mod Bursts
 pub mod Few
 pub mod Lists
 pub mod Starting

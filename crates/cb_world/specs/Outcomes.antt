@@ -1,13 +1,14 @@
 -- What the program reports of a step, against what the definition answers.
 use Rattle.std.specs.Prelude.{◌≡◌, ℕ, Bool, List, [], ◌∷◌, ◌++◌, length, Option, Some, Ok, Err}
 use Rattle.cb_times.specs.declared.name.Name.{Name}
+use Rattle.cb_frames.specs.Fields.{Load, One, Many, CastFields}
 use Rattle.cb_delay.specs.declared.message.Message.{Message}
 use Rattle.cb_history.specs.declared.answer.ArriveRefusal.{ArriveRefusal}
 use Rattle.cb_history.specs.declared.answer.TickRefusal.{TickRefusal}
-use Rattle.cb_history.specs.CastFault.{CastFault, fault_told}
+use Rattle.cb_history.specs.CastFault.{CastFault, fault_told, burst_fault_told}
 use Rattle.cb_history.specs.Group.{Identity}
 use Rattle.cb_history.specs.Facts.{Fact}
-use Rattle.cb_history.specs.Answers.{Accepted, Repeat, cast_done}
+use Rattle.cb_history.specs.Answers.{Accepted, Repeat, cast_done, burst_done}
 use Rattle.cb_schedules.specs.Schedule.{Setting, seat_at, Step, Schedule, SentFrame, Asked, Calls, OfNoMember, OfNoFrame, OfNoBytes, asked_by, GroupState, run, CastAnswer, ArrivalAnswer, TickAnswer, NoSuchMember, NoSuchFrame, NoBytes, answer_of, frames_sent}
 use Rattle.cb_schedules.specs.Schedule as schedules
 use Rattle.cb_schedules.specs.Messages.{facts_at}
@@ -23,6 +24,7 @@ sent_fields sent = record { from = sent.from; to = sent.to; bytes = sent.bytes }
 -- an answer without the frames that it sends; of a refused cast the fault, which want of memory is not
 pub data Reported : Type 0 where
   CastReported : Name → List ℕ → Reported
+  BurstReported : Name → ℕ → List ℕ → Reported
   CastRefused : Option CastFault → Reported
   AcceptedReported : List Message → Bool → Reported
   RepeatReported : Reported
@@ -37,6 +39,8 @@ pub data Reported : Type 0 where
 abbrev pub reported : Answer → Reported
 reported (answers.Cast name time) = CastReported name time
 reported (answers.CastRefused refusal) = CastRefused (fault_told refusal)
+reported (answers.Burst first count time) = BurstReported first count time
+reported (answers.BurstRefused refusal) = CastRefused (burst_fault_told refusal)
 reported (answers.Accepted deliveries changed) = AcceptedReported deliveries.items changed
 reported answers.Repeat = RepeatReported
 reported (answers.ArrivalRefused refusal) = ArrivalRefused refusal
@@ -52,9 +56,15 @@ answer_to setting s OfNoMember = NoSuchMember
 answer_to setting s OfNoFrame = NoSuchFrame
 answer_to setting s OfNoBytes = NoBytes
 
--- What is reported of a member's answer: of a cast its name and its time.
+-- What is reported of a cast of this load: its name and its time; of a burst those of its first message, and how many there are.
+abbrev pub cast_reported : Identity → List Fact → CastFields → Load → Reported
+cast_reported seat facts c (One payload) = CastReported (cast_done seat facts c).name (cast_done seat facts c).time
+cast_reported seat facts c (Many payloads) =
+    BurstReported (burst_done seat facts c).first (burst_done seat facts c).count (burst_done seat facts c).time
+
+-- what is reported of a member's answer
 abbrev pub reported_by : Identity → List Fact → schedules.Answer → Reported
-reported_by seat facts (CastAnswer (Ok c)) = CastReported (cast_done seat facts c).name (cast_done seat facts c).time
+reported_by seat facts (CastAnswer (Ok c)) = cast_reported seat facts c c.load
 reported_by seat facts (CastAnswer (Err fault)) = CastRefused (Some fault)
 reported_by seat facts (ArrivalAnswer (Ok (Accepted deliveries changed out))) = AcceptedReported deliveries changed
 reported_by seat facts (ArrivalAnswer (Ok Repeat)) = RepeatReported

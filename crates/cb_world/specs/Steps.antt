@@ -1,6 +1,6 @@
 -- The steps of the program as those of a schedule.
 use Rattle.std.specs.Prelude.{ℕ}
-use Rattle.cb_frames.specs.Fields.{One}
+use Rattle.cb_frames.specs.Fields.{One, Many}
 use Rattle.cb_schedules.specs.Schedule.{CastStep, ArriveStep, TickStep}
 use Rattle.cb_schedules.specs.Schedule as schedules
 use Rattle.cb_world.specs.declared.step.Step.{Step}
@@ -8,6 +8,7 @@ use Rattle.cb_world.specs.declared.step.Step.TheVariants as steps
 
 abbrev pub step_fields : Step → schedules.Step
 step_fields (steps.Cast i payload) = CastStep i (One payload)
+step_fields (steps.Burst i payloads) = CastStep i (Many payloads.items)
 step_fields (steps.Arrive j number) = ArriveStep j number
 step_fields (steps.Tick i) = TickStep i
 

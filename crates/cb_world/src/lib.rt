@@ -7,12 +7,14 @@
 #![tactic(auto)]
 
 mod outcome;
+mod payloads;
 mod run;
 mod step;
 mod taking;
 mod world;
 
 pub use outcome::{Answer, Outcome, Sent};
+pub use payloads::payload_slices;
 pub use run::{Run, play};
 pub use step::Step;
 pub use world::{PlayFault, World};

@@ -1,7 +1,7 @@
 //! The outcome of a step.
 
 use bytes::Bytes;
-use cb_member::{ArriveRefusal, CastRefusal, Message, Name, TickRefusal, VectorTime};
+use cb_member::{ArriveRefusal, BurstRefusal, CastRefusal, Message, Name, TickRefusal, VectorTime};
 
 /// A frame that was sent.
 #[derive(Debug, Drop)]
@@ -20,6 +20,14 @@ pub enum Answer {
         time: VectorTime,
     },
     CastRefused(CastRefusal),
+    /// The name and the time of the first message, and how many there are, 1 to 32. Each further one is numbered one higher and
+    /// has one more in its sender's field.
+    Burst {
+        first: Name,
+        count: u32,
+        time: VectorTime,
+    },
+    BurstRefused(BurstRefusal),
     /// The messages that the frame delivered, and whether the member's state changed.
     Accepted {
         deliveries: Vec<Message>,

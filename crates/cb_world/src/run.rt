@@ -60,7 +60,7 @@ impl Run {
         self.world.history(j)
     }
 
-    /// All frames that were sent, by their numbers. Cast frames with one name have the same bytes.
+    /// All frames that were sent, by their numbers. Cast frames that hold one name have the same bytes.
     pub fn frames(&self) -> &[Sent]
         ensures frames { map sent_fields result.now ≡ (run_in self.now).sent }
         ensures bytes { OneNameSameBytes self.now.setting (run_in self.now) }

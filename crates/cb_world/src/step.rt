@@ -3,6 +3,7 @@
 ghost use Rattle.std.specs.Prelude.{◌≡◌, IfOk};
 ghost use Rattle.cb_world.specs.Steps.{member_of, step_fields};
 
+use crate::payloads::payload_copies;
 use bytes::Bytes;
 use cb_member::NoMemory;
 
@@ -11,6 +12,8 @@ use cb_member::NoMemory;
 pub enum Step {
     /// The member casts this payload.
     Cast(u32, Bytes),
+    /// The member casts these payloads in one frame.
+    Burst(u32, Vec<Bytes>),
     /// The frame of this number arrives at the member. Frames are numbered from 0, in the order in which they were sent.
     Arrive(u32, usize),
     /// The member ticks.
@@ -24,17 +27,21 @@ impl Step {
     {
         match self {
             Step::Cast(i, _payload) => *i,
+            Step::Burst(i, _payloads) => *i,
             Step::Arrive(j, _number) => *j,
             Step::Tick(i) => *i,
         }
     }
 
-    /// A copy of the step; a payload is shared.
+    /// A copy of the step; payloads are shared.
     pub fn copy(&self) -> Result<Step, NoMemory>
         ensures { IfOk result (λ step. step_fields step ≡ step_fields self.now) }
     {
         Ok(match self {
             Step::Cast(i, payload) => Step::Cast(*i, payload.clone()?),
+            Step::Burst(i, payloads) => {
+                Step::Burst(*i, payload_copies(*payloads.allocator(), payloads)?)
+            }
             Step::Arrive(j, number) => Step::Arrive(*j, *number),
             Step::Tick(i) => Step::Tick(*i),
         })

@@ -2,7 +2,8 @@
 
 ghost use Rattle.std.specs.Prelude.{◌≡◌, ℕ, ◌+◌, ◌≤◌, [], ◌∷◌, ◌++◌, true, IfOk, OnErr, map, slice_get};
 ghost use Rattle.std.specs.Vec.{vec_capacity, vec_len};
-ghost use Rattle.cb_frames.specs.Fields.{One};
+ghost use Rattle.cb_frames.specs.Fields.{One, Many, load_bytes};
+ghost use Rattle.cb_history.specs.Load.{many_of};
 ghost use Rattle.cb_history.specs.Legal.{ToCast, ToTake, ToTick};
 ghost use Rattle.cb_schedules.specs.Schedule.{are_bytes, handed_over, sent_by};
 ghost use Rattle.cb_world.specs.declared.taking.TheConstants.{MOST_SENT_OUT};
@@ -11,11 +12,13 @@ ghost use Rattle.cb_world.specs.Steps.{step_fields};
 ghost use Rattle.cb_world.specs.Taking.{asks, HasAnswered, HasDone, Takes};
 
 use crate::outcome::{Answer, Sent};
+use crate::payloads::payload_slices;
 use crate::step::Step;
 use bytes::Bytes;
 use cb_frames::MOST_FRAMES;
 use cb_member::{
-    Arrival, ArriveRefusal, CastDone, CastRefusal, Member, NoMemory, Outgoing, TickRefusal, Ticked,
+    Arrival, ArriveRefusal, BurstDone, BurstRefusal, CastDone, CastRefusal, Member, NoMemory,
+    Outgoing, TickRefusal, Ticked,
 };
 use std::alloc::AllocError;
 
@@ -56,6 +59,54 @@ fn cast(member: &mut Member, payload: &[u8], sent: &mut Vec<Sent>) -> Result<Ans
         Err(CastRefusal::NoMemory) => Err(AllocError),
         Err(refusal) => Ok(Answer::CastRefused(refusal)),
     }
+}
+
+/// Casts the payloads in one frame.
+fn burst(member: &mut Member, payloads: &[&[u8]], sent: &mut Vec<Sent>) -> Result<Answer, NoMemory>
+    requires { vec_len sent.old + MOST_SENT_OUT ≤ vec_capacity sent.old }
+    ensures done { IfOk result (HasAnswered member.old member.new (ToCast (many_of payloads.now))
+        (map sent_fields sent.old.items) (map sent_fields sent.new.items)) }
+    ensures same { OnErr result (member.new ≡ member.old) }
+    ensures sent { OnErr result (sent.new.items ≡ sent.old.items) }
+{
+    let from = member.seat().me();
+    match member.cast_burst(payloads) {
+        Ok(
+            BurstDone {
+                first,
+                count,
+                time,
+                out,
+            },
+        ) => {
+            let to = None;
+            sent.push_reserved(Sent {
+                from,
+                to,
+                bytes: out,
+            });
+            Ok(Answer::Burst { first, count, time })
+        }
+        Err(BurstRefusal::NoMemory) => Err(AllocError),
+        Err(refusal) => Ok(Answer::BurstRefused(refusal)),
+    }
+}
+
+fn cast_all(
+    member: &mut Member,
+    payloads: &Vec<Bytes>,
+    sent: &mut Vec<Sent>,
+) -> Result<Answer, NoMemory>
+    requires { vec_len sent.old + MOST_SENT_OUT ≤ vec_capacity sent.old }
+    ensures done { IfOk result (HasAnswered member.old member.new (ToCast (Many payloads.now.items))
+        (map sent_fields sent.old.items) (map sent_fields sent.new.items)) }
+    ensures bytes { IfOk result (λ _.
+        are_bytes (load_bytes (Many payloads.now.items)) ≡ true) }
+    ensures same { OnErr result (member.new ≡ member.old) }
+    ensures sent { OnErr result (sent.new.items ≡ sent.old.items) }
+{
+    let slices = payload_slices(*payloads.allocator(), payloads)?;
+    burst(member, &slices, sent)
 }
 
 fn arrive(member: &mut Member, bytes: &Bytes, sent: &mut Vec<Sent>) -> Result<Answer, NoMemory>
@@ -136,6 +187,7 @@ fn call(member: &mut Member, step: &Step, sent: &mut Vec<Sent>) -> Result<Answer
 {
     match step {
         Step::Cast(_, payload) => cast(member, payload.as_slice(), sent),
+        Step::Burst(_, payloads) => cast_all(member, payloads, sent),
         Step::Arrive(_, number) => hand_over(member, *number, sent),
         Step::Tick(_) => tick(member, sent),
     }
