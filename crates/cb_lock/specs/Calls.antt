@@ -1,11 +1,14 @@
 -- What the calls of a member under a lock answer and leave.
-use Rattle.std.specs.Prelude.{◌≡◌, ◌⊎◌, ℕ, ◌+◌, ◌≤◌, List, [], ◌∷◌, length, map, Option, Some, None, option_map, Result, Err, IfOk, IfErr, OnErr, OnOk, if◌then◌else◌}
+use Rattle.std.specs.Prelude.{◌≡◌, ◌⊎◌, ℕ, ◌+◌, ◌≤◌, List, [], ◌∷◌, length, map, Option, Some, None, Result, Err, IfOk, IfErr, OnErr, OnOk, if◌then◌else◌}
 use Rattle.std.specs.declared.vec.Vec.{Vec}
 use Rattle.std.specs.declared.alloc.Global.{Global}
-use Rattle.cb_frames.specs.Fields.{Load, One}
+use Rattle.cb_frames.specs.Fields.{Load, One, Many}
 use Rattle.cb_history.specs.declared.answer.CastDone.{CastDone}
 use Rattle.cb_history.specs.declared.answer.CastRefusal.{CastRefusal}
 use Rattle.cb_history.specs.declared.answer.CastRefusal.TheVariants as casts
+use Rattle.cb_history.specs.declared.answer.BurstDone.{BurstDone}
+use Rattle.cb_history.specs.declared.answer.BurstRefusal.{BurstRefusal}
+use Rattle.cb_history.specs.declared.answer.BurstRefusal.TheVariants as bursts
 use Rattle.cb_history.specs.declared.answer.Arrival.{Arrival}
 use Rattle.cb_history.specs.declared.answer.Arrival.TheVariants as reported
 use Rattle.cb_history.specs.declared.answer.ArriveRefusal.{ArriveRefusal}
@@ -13,17 +16,24 @@ use Rattle.cb_history.specs.declared.answer.ArriveRefusal.TheVariants as arrival
 use Rattle.cb_history.specs.declared.answer.Outgoing.{Outgoing}
 use Rattle.cb_history.specs.declared.answer.Ticked.{Ticked}
 use Rattle.cb_history.specs.declared.answer.TickRefusal.{TickRefusal}
-use Rattle.cb_history.specs.CastFault.{TellsFaultOf}
+use Rattle.cb_history.specs.CastFault.{TellsFaultOf, TellsBurstFaultOf}
 use Rattle.cb_history.specs.Facts.{EntryFields, CastEntry, ArriveEntry, TickEntry}
 use Rattle.cb_history.specs.Legal.{ToCast, ToTake, ToTick}
-use Rattle.cb_history.specs.State.{MemberState, IsMemberState, HasCast, HasTaken, HasTicked, RefusesTick, answer_to_cast, answer_to_arrival, entry_by, state_after}
+use Rattle.cb_history.specs.State.{MemberState, IsMemberState, HasCast, HasCastBurst, HasTaken, HasTicked, RefusesTick, answer_to_cast, answer_to_arrival, entry_by, state_after}
 use Rattle.cb_member.specs.Received.{HasTakenToSend}
+use Rattle.cb_lock.specs.declared.payloads.Payloads.{Payloads}
+use Rattle.cb_lock.specs.declared.payloads.Payloads.TheVariants as given
+use Rattle.cb_lock.specs.declared.payloads.Tried.{Tried}
+use Rattle.cb_lock.specs.declared.payloads.Tried.TheVariants as tried
 use Rattle.cb_lock.specs.Receipts.{SeatState, and_claim}
 
 -- ---- the entry that an answer reports, where it reports one
 
 abbrev pub reported_by_cast : CastDone → Option EntryFields
 reported_by_cast done = Some (CastEntry done.out)
+
+abbrev pub reported_by_burst : BurstDone → Option EntryFields
+reported_by_burst done = Some (CastEntry done.out)
 
 abbrev pub reported_by_arrival : List ℕ → Arrival → Option EntryFields
 reported_by_arrival bytes (reported.Accepted deliveries changed out) = if changed then Some (ArriveEntry bytes (map (λ m. m.name) deliveries.items)) else None
@@ -48,6 +58,9 @@ and_receipt seat m e = record { parts = seat.parts; receipts = and_claim seat.re
 abbrev pub MayRefuseCast : MemberState → Load → CastRefusal → Type 0
 MayRefuseCast m load refusal = TellsFaultOf refusal (answer_to_cast m load) ⊎ (refusal ≡ casts.NoMemory)
 
+abbrev pub MayRefuseBurst : MemberState → Load → BurstRefusal → Type 0
+MayRefuseBurst m load refusal = TellsBurstFaultOf refusal (answer_to_cast m load) ⊎ (refusal ≡ bursts.NoMemory)
+
 abbrev pub MayRefuseArrival : MemberState → List ℕ → ArriveRefusal → Type 0
 MayRefuseArrival m bytes refusal = (answer_to_arrival m bytes ≡ Err refusal) ⊎ (refusal ≡ arrivals.NoMemory)
 
@@ -69,14 +82,34 @@ pub record CastsOn (m : MemberState) (old new : SeatState) (load : Load) (result
   pub entry : IfOk result (λ done. entry_by m (ToCast load) ≡ reported_by_cast done)
   pub none : OnErr result (new ≡ old)
 
--- A payload that was given was cast, or refused; without one the seat stays.
-abbrev pub CastsIfGiven : MemberState → SeatState → SeatState → Option (Vec ℕ Global × Result CastDone CastRefusal) → Type 0
-CastsIfGiven m old new (Some (payload, result)) = CastsOn m old new (One payload.items) result
+-- So of a burst.
+pub record BurstsOn (m : MemberState) (old new : SeatState) (load : Load) (result : Result BurstDone BurstRefusal) : Type 0 where
+  pub done : IfOk result (HasCastBurst m (state_after m (ToCast load)) load)
+  pub refused : IfErr result (MayRefuseBurst m load)
+  pub receipt : IfOk result (λ done. new ≡ and_receipt old m (reported_by_burst done))
+  pub entry : IfOk result (λ done. entry_by m (ToCast load) ≡ reported_by_burst done)
+  pub none : OnErr result (new ≡ old)
+
+-- ---- payloads that are cast, and handed back with the answer
+
+-- the load of a burst of these payloads
+abbrev pub all_of : List (Vec ℕ Global) → Load
+all_of payloads = Many (map (λ payload. payload.items) payloads)
+
+-- These payloads were cast, or refused.
+abbrev pub TriesOn : MemberState → SeatState → SeatState → Tried → Type 0
+TriesOn m old new (tried.One payload result) = CastsOn m old new (One payload.items) result
+TriesOn m old new (tried.Many payloads result) = BurstsOn m old new (all_of payloads.items) result
+
+-- So of those that were given; without any the seat stays.
+abbrev pub CastsIfGiven : MemberState → SeatState → SeatState → Option Tried → Type 0
+CastsIfGiven m old new (Some t) = TriesOn m old new t
 CastsIfGiven m old new None = new ≡ old
 
--- the payload that is handed back, where one was given
-abbrev pub given : Option (Vec ℕ Global × Result CastDone CastRefusal) → Option (Vec ℕ Global)
-given cast = option_map (λ c. c.0) cast
+-- the payloads that are handed back
+abbrev pub payloads_of : Tried → Payloads
+payloads_of (tried.One payload result) = given.One payload
+payloads_of (tried.Many payloads result) = given.Many payloads
 
 pub record ArrivesOn (m : MemberState) (old new : SeatState) (bytes : List ℕ) (result : Result Arrival ArriveRefusal) : Type 0 where
   pub taken : IfOk result (HasTaken m (state_after m (ToTake bytes)) bytes)

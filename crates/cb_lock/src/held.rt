@@ -4,16 +4,19 @@ ghost use Rattle.std.specs.Prelude.{◌≡◌, ◌+◌, ◌≤◌, ◌<◌, [], 
 ghost use Rattle.std.specs.Vec.{vec_capacity, vec_len};
 ghost use Rattle.cb_frames.specs.Fields.{One};
 ghost use Rattle.cb_history.specs.Legal.{ToCast, ToTake, ToTick};
-ghost use Rattle.cb_history.specs.State.{IsMemberState, HasCast, HasTaken, HasTicked, entry_by};
+ghost use Rattle.cb_history.specs.State.{IsMemberState, HasCast, HasCastBurst, HasTaken, HasTicked, entry_by};
 ghost use Rattle.cb_history.specs.Facts.{entry_fields};
+ghost use Rattle.cb_history.specs.Load.{many_of};
 ghost use Rattle.cb_member.specs.Received.{HasTakenToSend};
 ghost use Rattle.cb_lock.specs.Receipts.{receipt_fields, and_claim, entered};
-ghost use Rattle.cb_lock.specs.Calls.{MayRefuseCast, MayRefuseArrival, MayRefuseTick, and_receipt, reported_by_cast, reported_by_arrival, reported_by_tick};
+ghost use Rattle.cb_lock.specs.Calls.{MayRefuseCast, MayRefuseBurst, MayRefuseArrival, MayRefuseTick, TriesOn, all_of, and_receipt, payloads_of, reported_by_cast, reported_by_burst, reported_by_arrival, reported_by_tick};
 
+use crate::payloads::{Payloads, Tried};
 use crate::seat::{Receipt, Seat};
 use bytes::Bytes;
 use cb_member::{
-    Arrival, ArriveRefusal, CastDone, CastRefusal, Entry, Member, Outgoing, TickRefusal, Ticked,
+    Arrival, ArriveRefusal, BurstDone, BurstRefusal, CastDone, CastRefusal, Entry, Member,
+    NoMemory, Outgoing, TickRefusal, Ticked,
 };
 use cb_times::make_room;
 use std::alloc::Global;
@@ -79,6 +82,79 @@ impl<L: Ledger> Held<L> {
         let (done, entry) = member.cast_noted(payload)?;
         enter(member, book, receipts, share, Some(entry));
         Ok(done)
+    }
+
+    /// Casts a message of each of these payloads, all in one frame, as the member does, and appends one receipt to the seat: that of
+    /// their one entry.
+    ///
+    /// `NoMemory` may stand in place of any refusal. After a refusal the member and the seat are as they were.
+    pub fn cast_burst(
+        &mut self,
+        seat: &mut Seat<L>,
+        payloads: &[&[u8]],
+    ) -> Result<BurstDone, BurstRefusal>
+        ensures done { IfOk result (HasCastBurst self.old self.new (many_of payloads.now)) }
+        ensures refused { IfErr result (MayRefuseBurst self.old (many_of payloads.now)) }
+        ensures same { OnErr result (self.new ≡ self.old) }
+        ensures receipt { IfOk result (λ done. seat.new
+            ≡ and_receipt seat.old self.old (reported_by_burst done)) }
+        ensures entry { IfOk result (λ done. entry_by self.old (ToCast (many_of payloads.now))
+            ≡ reported_by_burst done) }
+        ensures none { OnErr result (seat.new ≡ seat.old) }
+        ensures parts { seat.new.parts ≡ seat.old.parts }
+        ensures covered { length seat.old.receipts ≤ length self.old.entries }
+        ensures legal { IsMemberState self.old }
+    {
+        let Held { member, book } = self;
+        let Seat { receipts, share } = seat;
+        book.audit(share);
+        make_room(receipts, 1)?;
+        let (done, entry) = member.cast_burst_noted(payloads)?;
+        enter(member, book, receipts, share, Some(entry));
+        Ok(done)
+    }
+
+    /// Casts these payloads, and hands them back with the answer.
+    pub(crate) fn try_to_cast(&mut self, seat: &mut Seat<L>, payloads: Payloads) -> Tried
+        ensures payloads { payloads_of result ≡ payloads }
+        ensures tried { TriesOn self.old seat.old seat.new result }
+        ensures parts { seat.new.parts ≡ seat.old.parts }
+        ensures covered { length seat.old.receipts ≤ length self.old.entries }
+        ensures legal { IsMemberState self.old }
+    {
+        match payloads {
+            Payloads::One(payload) => {
+                let answer = self.cast(seat, &payload);
+                Tried::One(payload, answer)
+            }
+            Payloads::Many(payloads) => {
+                let answer = self.cast_all(seat, &payloads);
+                Tried::Many(payloads, answer)
+            }
+        }
+    }
+
+    /// Casts a burst of payloads that are owned.
+    fn cast_all(
+        &mut self,
+        seat: &mut Seat<L>,
+        payloads: &[Vec<u8>],
+    ) -> Result<BurstDone, BurstRefusal>
+        ensures done { IfOk result (HasCastBurst self.old self.new (all_of payloads.now)) }
+        ensures refused { IfErr result (MayRefuseBurst self.old (all_of payloads.now)) }
+        ensures same { OnErr result (self.new ≡ self.old) }
+        ensures receipt { IfOk result (λ done. seat.new
+            ≡ and_receipt seat.old self.old (reported_by_burst done)) }
+        ensures entry { IfOk result (λ done. entry_by self.old (ToCast (all_of payloads.now))
+            ≡ reported_by_burst done) }
+        ensures none { OnErr result (seat.new ≡ seat.old) }
+        ensures parts { seat.new.parts ≡ seat.old.parts }
+        ensures covered { length seat.old.receipts ≤ length self.old.entries }
+        ensures legal { IsMemberState self.old }
+    {
+        self.audit(seat);
+        let slices = slices_of(*seat.receipts.allocator(), payloads)?;
+        self.cast_burst(seat, &slices)
     }
 
     /// Takes received bytes, as the member does, and appends a receipt to the seat where an entry was added.
@@ -172,9 +248,21 @@ impl<L: Ledger> Held<L> {
         ensures same { self.new ≡ self.old }
         ensures seat { seat.new ≡ seat.old }
         ensures covered { length seat.old.receipts ≤ length self.old.entries }
+        ensures legal { IsMemberState self.old }
     {
         self.book.audit(&mut seat.share);
     }
+}
+
+fn slices_of(alloc: Global, payloads: &[Vec<u8>]) -> Result<Vec<&[u8]>, NoMemory>
+    ensures { IfOk result (λ slices. map (λ slice. slice.now) slices.items
+        ≡ map (λ payload. payload.items) payloads.now) }
+{
+    let mut slices = Vec::with_capacity(alloc, payloads.len())?;
+    for payload in payloads {
+        slices.push(payload.as_slice())?;
+    }
+    Ok(slices)
 }
 
 /// Records the entry that the member added, where it did: a receipt more, and one more in the share and in the book.

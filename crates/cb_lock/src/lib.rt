@@ -10,11 +10,13 @@
 
 mod closing;
 mod held;
+mod payloads;
 mod seat;
 mod shared;
 
 pub use closing::{CloseFault, CloseRefusal, Closed};
 pub use held::Held;
+pub use payloads::{Payloads, Tried};
 pub use seat::{Receipt, Seat};
 pub use shared::SharedMember;
 

@@ -1,17 +1,20 @@
 //! The member behind its lock.
 
-ghost use Rattle.std.specs.Prelude.{◌≡◌, ◌+◌, ◌<◌, ◌≤◌, ◌↔◌, [], IfOk, IfErr, length};
+ghost use Rattle.std.specs.Prelude.{◌≡◌, ◌+◌, ◌<◌, ◌≤◌, ◌↔◌, [], IfOk, IfErr, length, option_map};
 ghost use Rattle.std.specs.Fn.{FnOnceTakesAt, FnOnceReturnsAt};
 ghost use Rattle.cb_frames.specs.Fields.{One};
-ghost use Rattle.cb_lock.specs.Calls.{CoversReceipts, OnSome, CastsIfGiven, CastsOn, ArrivesOn, ReceivesOn, TicksOn, given};
+ghost use Rattle.cb_history.specs.Load.{many_of};
+ghost use Rattle.cb_lock.specs.Calls.{CoversReceipts, OnSome, CastsIfGiven, CastsOn, BurstsOn, TriesOn, ArrivesOn, ReceivesOn, TicksOn, payloads_of};
 ghost use Rattle.cb_lock.specs.Closing.{IsFault, IsClosed};
 
 use crate::closing::{CloseFault, CloseRefusal, Closed, fault_of};
 use crate::held::Held;
+use crate::payloads::{Payloads, Tried};
 use crate::seat::Seat;
 use bytes::Bytes;
 use cb_member::{
-    Arrival, ArriveRefusal, CastDone, CastRefusal, Identity, Member, Outgoing, TickRefusal, Ticked,
+    Arrival, ArriveRefusal, BurstDone, BurstRefusal, CastDone, CastRefusal, Identity, Member,
+    Outgoing, TickRefusal, Ticked,
 };
 use std::alloc::Global;
 use std::sync::ledger::{Blank, Ledger};
@@ -56,6 +59,30 @@ impl<L: Ledger> SharedMember<L> {
         ensures parts { seat.new.parts ≡ seat.old.parts }
     {
         self.held.lock(rt).cast(seat, payload)
+    }
+
+    /// Casts a message of each of these payloads, all in one frame, as the member does, and appends one receipt to the seat: that of
+    /// their one entry.
+    pub fn cast_burst(
+        &self,
+        rt: &impl Wait,
+        seat: &mut Seat<L>,
+        payloads: &[&[u8]],
+    ) -> Result<BurstDone, BurstRefusal>
+        ensures answer { OnSome seat.old (λ m. BurstsOn m seat.old seat.new (many_of payloads.now)
+            result) }
+        ensures parts { seat.new.parts ≡ seat.old.parts }
+    {
+        self.held.lock(rt).cast_burst(seat, payloads)
+    }
+
+    /// Casts one payload or a burst, and hands the payloads back with the answer.
+    pub fn try_to_cast(&self, rt: &impl Wait, seat: &mut Seat<L>, payloads: Payloads) -> Tried
+        ensures payloads { payloads_of result ≡ payloads }
+        ensures answer { OnSome seat.old (λ m. TriesOn m seat.old seat.new result) }
+        ensures parts { seat.new.parts ≡ seat.old.parts }
+    {
+        self.held.lock(rt).try_to_cast(seat, payloads)
     }
 
     /// Takes received bytes, as the member does, and appends a receipt to the seat where an entry was added.
@@ -111,18 +138,18 @@ impl<L: Ledger> SharedMember<L> {
         f(held.member())
     }
 
-    /// Shows the member to `f` under the lock, and casts the payload that `f` answers, where it answers one: nothing comes between.
+    /// Shows the member to `f` under the lock, and casts the payloads that `f` answers, where it answers any: nothing comes between.
     ///
-    /// The payload is handed back with the outcome of it. It is as if `with_state` and `cast` were called, but the lock is taken once.
-    pub fn cast_with<R, F: FnOnce(&Member) -> (R, Option<Vec<u8>>)>(
+    /// The payloads are handed back with the answer. It is as if `with_state` and `try_to_cast` were called, but the lock is taken once.
+    pub fn cast_with<R, F: FnOnce(&Member) -> (R, Option<Payloads>)>(
         &self,
         rt: &impl Wait,
         seat: &mut Seat<L>,
         f: F,
-    ) -> (R, Option<(Vec<u8>, Result<CastDone, CastRefusal>)>)
+    ) -> (R, Option<Tried>)
         requires { (m : _) → CoversReceipts seat.old m → FnOnceTakesAt F.FnOnce f m }
         ensures answer { OnSome seat.old (λ m.
-            FnOnceReturnsAt F.FnOnce f m (result.0, given result.1)
+            FnOnceReturnsAt F.FnOnce f m (result.0, option_map payloads_of result.1)
             × CastsIfGiven m seat.old seat.new result.1) }
         ensures parts { seat.new.parts ≡ seat.old.parts }
     {
@@ -130,10 +157,7 @@ impl<L: Ledger> SharedMember<L> {
         held.audit(seat);
         match f(held.member()) {
             (said, None) => (said, None),
-            (said, Some(payload)) => {
-                let cast = held.cast(seat, &payload);
-                (said, Some((payload, cast)))
-            }
+            (said, Some(payloads)) => (said, Some(held.try_to_cast(seat, payloads))),
         }
     }
 

@@ -3,7 +3,7 @@
 ghost use Rattle.std.specs.Prelude.{◌≡◌, ◌≤◌, []};
 
 use super::{claims_all, closed, member, said, seats};
-use crate::{Seat, SharedMember};
+use crate::{Payloads, Seat, SharedMember, Tried};
 use bytes::Bytes;
 use cb_member::Member;
 use std::alloc::Global;
@@ -16,6 +16,7 @@ use std::test::*;
 /// What is asked of a member.
 enum Call {
     Cast(&'static [u8]),
+    Burst(&'static [&'static [u8]]),
     Take(&'static [u8]),
     Tick,
 }
@@ -36,6 +37,22 @@ const HI: &[u8] = b"\x11\x07\x00\x01\x00\x02hi";
 const YO: &[u8] = b"\x11\x07\x01\x01\x01\x00\x01\x02yo";
 
 const OK: &[u8] = b"\x11\x07\x01\x02\x00\x02ok";
+
+/// Member 0 casts "hi" and "yo" in one frame.
+const HI_AND_YO: &[u8] = b"\x21\x07\x00\x01\x00\x02\x02hi\x02yo";
+
+/// Member 1 casts "a" and "b" behind both.
+const A_AND_B: &[u8] = b"\x21\x07\x01\x01\x01\x00\x02\x02\x01a\x01b";
+
+const EMPTY: &[u8] = b"";
+
+/// More payloads than a burst may have.
+const TOO_MANY: &[&[u8]] = &[EMPTY; 33];
+
+const LONG: &[u8] = b"a payload of thirty-three letters";
+
+/// More bytes than the payloads of a burst may have.
+const TOO_LONG: &[&[u8]] = &[LONG; 32];
 
 const A: &[u8] = b"\x11\x07\x00\x01\x00\x01a";
 
@@ -162,6 +179,64 @@ const SCRIPTS: &[Script] = &[
             (Call::Cast(b"x"), "HistoryFull"),
         ],
     },
+    // two messages in one frame, which are one entry; what comes behind them counts both
+    Script {
+        me: 0,
+        window: 4,
+        limit: 2,
+        calls: &[
+            (
+                Call::Burst(&[b"hi", b"yo"]),
+                "0.1 2 [1,0,0] 21070001000202686902796f",
+            ),
+            (Call::Take(HI_AND_YO), "repeat"),
+            (Call::Take(A_AND_B), "changed 1.1 1.2"),
+            (Call::Take(A_AND_B), "repeat"),
+            (Call::Burst(&[b"c"]), "HistoryFull"),
+        ],
+    },
+    Script {
+        me: 2,
+        window: 4,
+        limit: 100,
+        calls: &[
+            (Call::Take(A_AND_B), "changed"),
+            (Call::Take(HI_AND_YO), "changed 0.1 0.2 1.1 1.2"),
+            (Call::Take(HI_AND_YO), "repeat"),
+            (
+                Call::Burst(&[b"", b"c"]),
+                "2.1 2 [2,2,1] 21070201020002000202000163",
+            ),
+            (Call::Tick, "entered, to all: 12070203000200020002"),
+        ],
+    },
+    // a burst needs room for all of its messages, and is sent again whole
+    Script {
+        me: 0,
+        window: 4,
+        limit: 100,
+        calls: &[
+            (Call::Burst(&[]), "EmptyBurst"),
+            (Call::Burst(TOO_MANY), "BurstTooLong"),
+            (Call::Burst(TOO_LONG), "PayloadTooLong"),
+            (Call::Burst(&[EMPTY; 5]), "WindowFull"),
+            (
+                Call::Burst(&[b"hi", b"yo"]),
+                "0.1 2 [1,0,0] 21070001000202686902796f",
+            ),
+            (
+                Call::Take(b"\x13\x07\x02\x00\x01\x01\x00"),
+                "unchanged, to 2: 21070001000202686902796f",
+            ),
+            (Call::Take(b"\x12\x07\x01\x01\x00\x01"), "changed"),
+            (Call::Take(b"\x12\x07\x02\x01\x00\x01"), "changed"),
+            (Call::Burst(&[EMPTY; 4]), "WindowFull"),
+            (
+                Call::Burst(&[b"a", b"b", b"c"]),
+                "0.3 3 [3,0,0] 210700030003016101620163",
+            ),
+        ],
+    },
     // what can't be is refused
     Script {
         me: 0,
@@ -228,6 +303,7 @@ fn run_plain(rt: &impl Abort, alloc: Global, script: &Script) -> Member {
 fn plain_answer(rt: &impl Abort, alloc: Global, member: &mut Member, call: &Call) -> String {
     let said = match call {
         Call::Cast(payload) => said::by_cast(alloc, member.cast(payload)),
+        Call::Burst(payloads) => said::by_burst(alloc, member.cast_burst(payloads)),
         Call::Take(bytes) => said::by_arrival(alloc, member.arrive(&Bytes::from_static(bytes))),
         Call::Tick => said::by_tick(alloc, member.tick()),
     };
@@ -258,12 +334,32 @@ fn locked_answer<L: Ledger>(
 ) -> String {
     let said = match call {
         Call::Cast(payload) => said::by_cast(alloc, shared.cast(rt, seat, payload)),
+        Call::Burst(payloads) => said::by_burst(alloc, shared.cast_burst(rt, seat, payloads)),
         Call::Take(bytes) => {
             said::by_arrival(alloc, shared.arrive(rt, seat, &Bytes::from_static(bytes)))
         }
         Call::Tick => said::by_tick(alloc, shared.tick(rt, seat)),
     };
     said.expect(rt, "memory")
+}
+
+#[test]
+fn a_burst_of_two_has_one_receipt(rt: HostRuntime) {
+    has_one_receipt::<Brand, _>(&rt, rt.alloc(), Blank::new(1));
+}
+
+fn has_one_receipt<L: Ledger, R: Wait + Abort>(rt: &R, alloc: Global, blank: Blank)
+    requires name { blank.name ≡ L.name }
+    requires parts { (blank.parts ≡ L.parts) × (1 ≤ blank.parts) }
+{
+    let member = member(rt, alloc, (3, 4), 0, 100);
+    let (shared, mut seat) = SharedMember::<L>::new(alloc, blank, member);
+    drop(shared.cast_burst(rt, &mut seat, &[b"hi", b"yo"]));
+    let receipts = seat.receipts().len();
+    let member = closed(rt, shared, seats(rt, alloc, seat, None));
+    let counts = (receipts, member.history().len(), member.events().len());
+    drop(member);
+    assert_eq!(rt; counts, (1, 1, 2));
 }
 
 /// The calls of the scripts, with frames received and casts said under the lock: the receipts and the history are as before.
@@ -297,6 +393,7 @@ fn receive_call<L: Ledger>(
 ) {
     match call {
         Call::Cast(payload) => say(rt, alloc, shared, seat, payload),
+        Call::Burst(payloads) => say_all(rt, alloc, shared, seat, payloads),
         Call::Take(bytes) => drop(shared.receive(rt, seat, Bytes::from_static(bytes))),
         Call::Tick => drop(shared.tick(rt, seat)),
     }
@@ -310,12 +407,40 @@ fn say<L: Ledger>(
     seat: &mut Seat<L>,
     payload: &[u8],
 ) {
-    let given = Vec::from_slice(alloc, payload).ok();
-    let (seen, cast) = shared.cast_with(rt, seat, move |member| (member.events().len(), given));
-    let is_back = cast
-        .as_ref()
-        .is_some_and(|(back, _cast)| back.as_slice() == payload);
-    drop(cast);
+    let given = Vec::from_slice(alloc, payload).expect(rt, "memory");
+    let given = Some(Payloads::One(given));
+    let (seen, tried) = shared.cast_with(rt, seat, move |member| (member.events().len(), given));
+    let is_back = matches!(&tried, Some(Tried::One(back, _answer)) if back.as_slice() == payload);
+    drop(tried);
     assert!(rt; is_back);
     assert!(rt; seen <= 16);
+}
+
+/// So are those of a burst.
+fn say_all<L: Ledger>(
+    rt: &(impl Wait + Abort),
+    alloc: Global,
+    shared: &SharedMember<L>,
+    seat: &mut Seat<L>,
+    payloads: &[&[u8]],
+) {
+    let given = Some(Payloads::Many(owned(rt, alloc, payloads)));
+    let (seen, tried) = shared.cast_with(rt, seat, move |member| (member.events().len(), given));
+    let is_back = matches!(&tried, Some(Tried::Many(back, _answer)) if are_same(back, payloads));
+    drop(tried);
+    assert!(rt; is_back);
+    assert!(rt; seen <= 16);
+}
+
+fn owned(rt: &impl Abort, alloc: Global, payloads: &[&[u8]]) -> Vec<Vec<u8>> {
+    let mut all = Vec::new(alloc);
+    for payload in payloads {
+        let copy = Vec::from_slice(alloc, payload).expect(rt, "memory");
+        all.push(copy).expect(rt, "memory");
+    }
+    all
+}
+
+fn are_same(back: &[Vec<u8>], payloads: &[&[u8]]) -> bool {
+    back.iter().map(Vec::as_slice).eq(payloads.iter().copied())
 }

@@ -2,7 +2,8 @@
 
 use bytes::Bytes;
 use cb_member::{
-    Arrival, ArriveRefusal, CastDone, CastRefusal, Message, Outgoing, TickRefusal, Ticked,
+    Arrival, ArriveRefusal, BurstDone, BurstRefusal, CastDone, CastRefusal, Message, Outgoing,
+    TickRefusal, Ticked,
 };
 use std::alloc::{AllocError, Global};
 
@@ -50,6 +51,15 @@ pub fn by_cast(alloc: Global, answer: Result<CastDone, CastRefusal>) -> Result<S
     said
 }
 
+pub fn by_burst(
+    alloc: Global,
+    answer: Result<BurstDone, BurstRefusal>,
+) -> Result<String, AllocError> {
+    let said = of_burst(alloc, &answer);
+    drop(answer);
+    said
+}
+
 pub fn by_arrival(
     alloc: Global,
     answer: Result<Arrival, ArriveRefusal>,
@@ -70,6 +80,24 @@ fn of_cast(alloc: Global, answer: &Result<CastDone, CastRefusal>) -> Result<Stri
         Ok(CastDone { name, time, out }) => {
             let out = hexadecimal(alloc, out)?;
             format!(in alloc; "{name} {time} {out}")
+        }
+        Err(refusal) => format!(in alloc; "{refusal}"),
+    }
+}
+
+/// The first name, how many messages there are, and the rest as of a cast.
+fn of_burst(alloc: Global, answer: &Result<BurstDone, BurstRefusal>) -> Result<String, AllocError> {
+    match answer {
+        Ok(
+            BurstDone {
+                first,
+                count,
+                time,
+                out,
+            },
+        ) => {
+            let out = hexadecimal(alloc, out)?;
+            format!(in alloc; "{first} {count} {time} {out}")
         }
         Err(refusal) => format!(in alloc; "{refusal}"),
     }
