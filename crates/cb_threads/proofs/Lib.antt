@@ -2,3 +2,4 @@ pub mod Telling
 pub mod Order
 pub mod Planning
 pub mod Sending
+pub mod Bundles

@@ -3,3 +3,4 @@ pub mod FaultText
 pub mod Reports
 pub mod Groups
 pub mod Talking
+pub mod Bundles

@@ -9,6 +9,7 @@
 #![tactic(auto)]
 
 mod ended;
+mod gathering;
 mod group;
 mod life;
 mod limits;
@@ -24,6 +25,7 @@ pub use cb_links::{
     ChannelInlet, ChannelLink, ChannelOutlet, Inlet, LONGEST_FRAME, LinkFault, Outlet, Received,
     TcpInlet, TcpLink, TcpOutlet, UdpInlet, UdpLink, UdpOutlet, Unsent, each_frame_fits,
 };
+pub use gathering::Gathering;
 pub use group::{GroupFault, run_group};
 pub use limits::{Limits, Stop};
 pub use member::run_member;

@@ -8,6 +8,11 @@ pub enum Talk {
     /// To cast this payload. One that finds the window or the history full, or no memory, is tried
     /// again before the talker is asked again; one that is too long is dropped.
     Cast(Vec<u8>),
+    /// To cast a message of each of these payloads, all in one frame: 1 to 32, of up to 1,024 bytes
+    /// together. A burst that finds the window or the history full, or no memory, is tried again
+    /// before the talker is asked again, so one of more messages than the group's window waits for
+    /// ever. One without payloads, of too many, or of too many bytes is dropped.
+    Burst(Vec<Vec<u8>>),
     /// Nothing now.
     Idle,
     /// Nothing any more.

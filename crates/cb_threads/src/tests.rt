@@ -3,9 +3,11 @@
 ghost use Rattle.std.specs.Prelude.{◌≡◌, []};
 
 mod at_once;
+mod bursts;
 mod closing;
 mod ending;
 mod faults;
+mod gathering;
 mod group;
 mod naps;
 mod parts;

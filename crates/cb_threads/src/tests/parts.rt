@@ -357,7 +357,7 @@ impl Pace for Hasty {
     }
 }
 
-/// What counts the casts that it is given, and sends nothing.
+/// What counts the cast frames that it is given, bursts among them, and sends nothing.
 #[derive(Drop)]
 pub struct Counter {
     pub casts: u32,
@@ -371,7 +371,7 @@ impl Outlet for Counter {
     }
 
     fn send<R: Wait>(&mut self, _rt: &R, out: &Outgoing) -> Result<(), LinkFault> {
-        if out.bytes.as_slice().first() == Some(&0x11) {
+        if matches!(out.bytes.as_slice().first(), Some(&0x11 | &0x21)) {
             self.casts = self.casts.saturating_add(1);
         }
         Ok(())

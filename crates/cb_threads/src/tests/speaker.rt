@@ -73,7 +73,8 @@ fn sent<L: Ledger + Send + Sync, R: Threads + Wait + Clock + Abort + Sync>(
     report.outlet.map(|outlet| outlet.casts)
 }
 
-fn inlet(rt: &impl Abort, alloc: Global) -> ChannelInlet {
+/// To which nobody sends.
+pub fn inlet(rt: &impl Abort, alloc: Global) -> ChannelInlet {
     let mut links = ChannelLink::group(alloc, 2).expect(rt, "links");
     let (inlet, outlet) = links.pop().expect(rt, "a link");
     drop(outlet);

@@ -1,17 +1,18 @@
 //! The worker that casts what the talker says.
 
-ghost use Rattle.std.specs.Prelude.{◌≡◌, ◌≢◌, ◌+◌, IfErr, IfOk, MatchResult, None, OnErr, Some, drop, length};
+ghost use Rattle.std.specs.Prelude.{◌≡◌, ◌+◌, IfOk, MatchResult, None, Some, drop, if◌then◌else◌, length};
 ghost use Rattle.cb_history.specs.State.{events_in};
-ghost use Rattle.cb_history.specs.declared.answer.CastRefusal.TheVariants.{PayloadTooLong};
 ghost use Rattle.cb_links.specs.Counts.{held};
-ghost use Rattle.cb_threads.specs.Talking.{cast_of, turn_of};
-ghost use Rattle.cb_threads.specs.declared.workers.turns.Turn.TheVariants.{Idle};
+ghost use Rattle.cb_lock.specs.declared.payloads.Payloads.TheVariants.{Many, One};
+ghost use Rattle.cb_threads.specs.declared.workers.turns.Turn.TheVariants.{Done, Idle};
+ghost use Rattle.cb_threads.specs.Talking.{burst_may_pass, cast_of, left_by, may_pass, turn_by, turn_of};
 
 use crate::limits::Ending;
 use crate::talker::{Talk, Talker};
 use crate::workers::turns::{Failed, Place, Role, Turn};
 use bytes::Bytes;
-use cb_member::{CastDone, CastRefusal, Event, Member, NoMemory, Outgoing};
+use cb_lock::{Payloads, Tried};
+use cb_member::{BurstRefusal, CastRefusal, Event, Member, NoMemory, Outgoing};
 use std::alloc::Global;
 use std::mem;
 use std::sync::Wait;
@@ -26,8 +27,8 @@ struct Said {
     count: usize,
 }
 
-/// Casts what the talker says, at most one message in each turn, until it has finished: what it has
-/// seen of its member's events, and what it wants to cast.
+/// Casts what the talker says, at most one message or one burst in each turn, until it has finished:
+/// what it has seen of its member's events, and what it wants to cast.
 #[derive(Drop)]
 pub struct Talking<T> {
     talker: T,
@@ -36,7 +37,7 @@ pub struct Talking<T> {
     /// What the news are copied into, kept from one time to the next.
     room: Vec<Event>,
     /// What could not be cast yet.
-    waiting: Option<Vec<u8>>,
+    waiting: Option<Payloads>,
 }
 
 impl<T: Talker + Send + Drop> Role for Talking<T> {
@@ -53,7 +54,7 @@ impl<T: Talker + Send + Drop> Role for Talking<T> {
         place: &mut Place<'_, L>,
     ) -> Result<Turn, Failed> {
         Ok(match self.waiting.take() {
-            Some(payload) => self.cast(rt, place, payload),
+            Some(payloads) => self.cast(rt, place, payloads),
             None => self.ask(rt, place),
         })
     }
@@ -84,10 +85,10 @@ impl<T: Talker> Talking<T> {
         if self.talker.is_quick() {
             return self.ask_in_place(rt, place);
         }
-        let (said, payload) = self.ask_with_copies(rt, place);
+        let (said, payloads) = self.ask_with_copies(rt, place);
         self.see(said);
-        match payload {
-            Some(payload) => self.cast(rt, place, payload),
+        match payloads {
+            Some(payloads) => self.cast(rt, place, payloads),
             None => said.turn,
         }
     }
@@ -96,14 +97,14 @@ impl<T: Talker> Talking<T> {
     /// is dropped.
     fn ask_in_place<L: Ledger, R: Wait>(&mut self, rt: &R, place: &mut Place<'_, L>) -> Turn {
         let (talker, seen) = (&mut self.talker, self.seen);
-        let (said, cast) = place.desk.shared.cast_with(
+        let (said, tried) = place.desk.shared.cast_with(
             rt,
             &mut place.seat,
             move |member| asked(talker, news_in(member, seen)),
         );
         self.see(said);
-        match cast {
-            Some((payload, cast)) => self.hand_on(rt, place, payload, cast),
+        match tried {
+            Some(tried) => self.hand_on(rt, place, tried),
             None => said.turn,
         }
     }
@@ -120,7 +121,7 @@ impl<T: Talker> Talking<T> {
         &mut self,
         rt: &R,
         place: &mut Place<'_, L>,
-    ) -> (Said, Option<Vec<u8>>) {
+    ) -> (Said, Option<Payloads>) {
         match self.news(rt, place) {
             Ok(news) => {
                 let answer = asked(&mut self.talker, &news);
@@ -157,67 +158,95 @@ impl<T: Talker> Talking<T> {
         &mut self,
         rt: &R,
         place: &mut Place<'_, L>,
-        payload: Vec<u8>,
+        payloads: Payloads,
     ) -> Turn {
-        let cast = place.desk.shared.cast(rt, &mut place.seat, &payload);
-        self.hand_on(rt, place, payload, cast)
+        let tried = place.desk.shared.try_to_cast(rt, &mut place.seat, payloads);
+        self.hand_on(rt, place, tried)
     }
 
-    /// Hands a cast to the sender. A payload that the window, the history or memory has no room for
-    /// waits; one that is too long is dropped.
+    /// Hands what was cast to the sender. What the window, the history or memory has no room for
+    /// waits; what never can be cast is dropped.
     fn hand_on<L: Ledger, R: Wait>(
         &mut self,
         rt: &R,
         place: &mut Place<'_, L>,
-        payload: Vec<u8>,
-        cast: Result<CastDone, CastRefusal>,
+        tried: Tried,
     ) -> Turn
-        ensures sent { IfOk cast (λ _. self.new.waiting ≡ self.old.waiting) }
-        ensures waits { IfErr cast (λ refusal. refusal ≢ PayloadTooLong
-            → self.new.waiting ≡ Some payload) }
-        ensures dropped { IfErr cast (λ refusal. refusal ≡ PayloadTooLong
-            → self.new.waiting ≡ None) }
-        ensures quiet { OnErr cast (result ≡ Idle) }
+        ensures waiting { self.new.waiting ≡ left_by self.old.waiting tried }
+        ensures turn { result ≡ turn_by tried }
     {
-        match cast {
-            Ok(done) => {
-                place.post.put(rt, to_all(done.out));
+        match outcome(tried) {
+            Ok(out) => {
+                place.post.put(rt, to_all(out));
                 Turn::Done
             }
-            Err(refusal) => {
-                self.waiting = left_to_cast(payload, refusal);
+            Err(left) => {
+                self.waiting = left;
                 Turn::Idle
             }
         }
     }
 }
 
+/// The frame that was cast, or what is to be cast again.
+fn outcome(tried: Tried) -> Result<Bytes, Option<Payloads>>
+    ensures left { (before : _) → MatchResult result (λ _. left_by before tried ≡ before)
+        (λ left. left_by before tried ≡ left) }
+    ensures turn { MatchResult result (λ _. turn_by tried ≡ Done) (λ _. turn_by tried ≡ Idle) }
+{
+    match tried {
+        Tried::One(payload, answer) => match answer {
+            Ok(done) => Ok(done.out),
+            Err(refusal) => Err(left_to_cast(payload, refusal)),
+        },
+        Tried::Many(payloads, answer) => match answer {
+            Ok(done) => Ok(done.out),
+            Err(refusal) => Err(left_of_burst(payloads, refusal)),
+        },
+    }
+}
+
 /// What is to be cast again behind a refusal: the payload, but for one that is too long, which
 /// never can be cast.
-fn left_to_cast(payload: Vec<u8>, refusal: CastRefusal) -> Option<Vec<u8>>
-    ensures dropped { refusal ≡ PayloadTooLong → result ≡ None }
-    ensures waits { refusal ≢ PayloadTooLong → result ≡ Some payload }
+fn left_to_cast(payload: Vec<u8>, refusal: CastRefusal) -> Option<Payloads>
+    ensures { result ≡ if may_pass refusal then Some (One payload) else None }
 {
     match refusal {
         CastRefusal::PayloadTooLong => None,
-        CastRefusal::WindowFull | CastRefusal::HistoryFull | CastRefusal::NoMemory => Some(payload),
+        CastRefusal::WindowFull | CastRefusal::HistoryFull | CastRefusal::NoMemory => {
+            Some(Payloads::One(payload))
+        }
+    }
+}
+
+/// So of a burst: but for one that is empty, of too many payloads or of too many bytes.
+fn left_of_burst(payloads: Vec<Vec<u8>>, refusal: BurstRefusal) -> Option<Payloads>
+    ensures { result ≡ if burst_may_pass refusal then Some (Many payloads) else None }
+{
+    match refusal {
+        BurstRefusal::EmptyBurst | BurstRefusal::BurstTooLong | BurstRefusal::PayloadTooLong =>
+            None,
+        BurstRefusal::WindowFull | BurstRefusal::HistoryFull | BurstRefusal::NoMemory => {
+            Some(Payloads::Many(payloads))
+        }
     }
 }
 
 /// What becomes of the turn where nothing is cast, how many of so many news the talker saw, and what
 /// it wants to cast. Out of memory it saw none, and is shown the same again.
-fn parted(answer: Result<Talk, NoMemory>, count: usize) -> (Said, Option<Vec<u8>>)
+fn parted(answer: Result<Talk, NoMemory>, count: usize) -> (Said, Option<Payloads>)
     ensures seen { MatchResult answer (λ _. result.0.count ≡ count) (λ _. result.0.count ≡ 0) }
     ensures turn { IfOk answer (λ talk. result.0.turn ≡ turn_of talk) }
     ensures cast { IfOk answer (λ talk. result.1 ≡ cast_of talk) }
 {
-    let (turn, count, payload) = match answer {
-        Ok(Talk::Cast(payload)) => (Turn::Done, count, Some(payload)),
+    let (turn, count, payloads) = match answer {
+        Ok(Talk::Cast(payload)) => (Turn::Done, count, Some(Payloads::One(payload))),
+        Ok(Talk::Burst(payloads)) => (Turn::Done, count, Some(Payloads::Many(payloads))),
         Ok(Talk::Idle) => (Turn::Idle, count, None),
         Ok(Talk::Finished) => (Turn::Finished, count, None),
         Err(_refused) => (Turn::Idle, 0, None),
     };
-    (Said { turn, count }, payload)
+    (Said { turn, count }, payloads)
 }
 
 fn to_all(bytes: Bytes) -> Outgoing {
@@ -225,7 +254,7 @@ fn to_all(bytes: Bytes) -> Outgoing {
 }
 
 /// What the talker says to the news.
-fn asked<T: Talker>(talker: &mut T, news: &[Event]) -> (Said, Option<Vec<u8>>) {
+fn asked<T: Talker>(talker: &mut T, news: &[Event]) -> (Said, Option<Payloads>) {
     parted(talker.next(news), news.len())
 }
 
