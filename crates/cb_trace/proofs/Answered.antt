@@ -3,7 +3,7 @@ use Rattle.std.proofs.Common.{◌≡◌, ◌⊎◌, ℕ, Bool, true, false, not,
 use Rattle.std.specs.List.{AllByRecursion, range_with_len}
 use Rattle.std.proofs.lemmas.Bool.{cond_both}
 use Rattle.cb_times.specs.declared.name.Name.{Name}
-use Rattle.cb_frames.specs.declared.frame.TheConstants.{LONGEST_PAYLOAD}
+use Rattle.cb_frames.specs.declared.frame.TheConstants.{LONGEST_PAYLOAD, MOST_MESSAGES}
 use Rattle.cb_frames.specs.declared.frame.Range.{Range}
 use Rattle.cb_frames.specs.declared.fault.FrameFault.{FrameFault}
 use Rattle.cb_frames.specs.Fields.{Load, payloads_of, load_bytes, CastFields, RequestFields, FrameFields, CastFrame, StatusFrame, RequestFrame}
@@ -14,11 +14,11 @@ use Rattle.cb_history.specs.declared.answer.ArriveRefusal.TheVariants as arrival
 use Rattle.cb_history.specs.declared.answer.TickRefusal.{TickRefusal}
 use Rattle.cb_history.specs.declared.answer.TickRefusal.TheVariants as ticks
 use Rattle.cb_history.specs.declared.answer.Outgoing.{Outgoing}
-use Rattle.cb_history.specs.CastFault.{CastFault, BurstTooLong, PayloadTooLong, WindowFull, HistoryFull}
+use Rattle.cb_history.specs.CastFault.{CastFault, EmptyBurst, BurstTooLong, PayloadTooLong, WindowFull, HistoryFull}
 use Rattle.cb_history.specs.Group.{Identity}
 use Rattle.cb_history.specs.Facts.{EntryFields, CastEntry, ArriveEntry, TickEntry, Fact, facts_of}
 use Rattle.cb_history.specs.Known.{missing, ranges_of}
-use Rattle.cb_history.specs.Answers.{is_burst, is_full, is_too_many, next_cast, cast_answer, group_of, are_members, is_impossible, is_repeat, is_too_far, is_change, deliveries, sent_in_answer, ArrivalSays, Accepted, Repeat, frame_answer, answer_to, arrive_answer, status_of, is_new_status, request_to, requests, tick_answer}
+use Rattle.cb_history.specs.Answers.{is_full, is_too_many, next_cast, cast_answer, group_of, are_members, is_impossible, is_repeat, is_overlap, is_too_far, is_change, deliveries, sent_in_answer, ArrivalSays, Accepted, Repeat, frame_answer, answer_to, arrive_answer, status_of, is_new_status, request_to, requests, tick_answer}
 use Rattle.cb_history.specs.Legal.{Call, ToCast, ToTake, ToTick, cast_entry, arrive_entry, tick_entry, entry_of}
 use Rattle.cb_history.specs.ReplayLaws.{call_of}
 use Rattle.cb_history.proofs.Views.{IsIn}
@@ -33,7 +33,8 @@ module _ (seat : Identity) (limit other : ℕ) (entries : List EntryFields) (sam
   unfolding cast_answer
   cast_room load =
       let r : Bool → Result CastFields CastFault = λ full.
-      if is_burst load then Err BurstTooLong else
+      if eqb (length (payloads_of load)) 0 then Err EmptyBurst else
+      if ltb MOST_MESSAGES (length (payloads_of load)) then Err BurstTooLong else
       if ltb LONGEST_PAYLOAD (length (load_bytes load)) then Err PayloadTooLong else
       if is_too_many seat (facts_of entries) (length (payloads_of load)) then Err WindowFull else
       if full then Err HistoryFull else Ok (next_cast seat (facts_of entries) load) in
@@ -46,6 +47,7 @@ module _ (seat : Identity) (limit other : ℕ) (entries : List EntryFields) (sam
       if not (are_members seat.group.size frame) then Err arrivals.BadMember else
       if is_impossible seat facts frame then Err arrivals.Impossible else
       if is_repeat facts frame then Ok Repeat else
+      if is_overlap facts frame then Err arrivals.Overlap else
       if is_too_far seat facts frame then Err arrivals.TooFar else
       if is_change seat facts frame && full then Err arrivals.HistoryFull else
       if is_change seat facts frame then Ok (Accepted (deliveries seat facts frame) true (sent_in_answer seat facts frame)) else
@@ -111,9 +113,10 @@ frame_quiet seat limit entries facts frame bytes e =
     cond_both (not (are_members seat.group.size frame)) _ _ P (λ _ is. refl) (λ _.
     cond_both (is_impossible seat facts frame) _ _ P (λ _ is. refl) (λ _.
     cond_both (is_repeat facts frame) _ _ P (λ _ is. refl) (λ _.
+    cond_both (is_overlap facts frame) _ _ P (λ _ is. refl) (λ _.
     cond_both (is_too_far seat facts frame) _ _ P (λ _ is. refl) (λ _.
     cond_both (is_change seat facts frame && is_full limit entries) _ _ P (λ _ is. refl) (λ _.
-    cond_both (is_change seat facts frame) _ _ P (λ change. accepted_quiet bytes e seat facts frame change) (λ _ is. absurd cc)))))))
+    cond_both (is_change seat facts frame) _ _ P (λ change. accepted_quiet bytes e seat facts frame change) (λ _ is. absurd cc))))))))
 
 answer_quiet : (seat : Identity) (limit : ℕ) (entries : List EntryFields) (r : Result FrameFields FrameFault) (bytes : List ℕ) (e : EntryFields) → Quiet bytes e (answer_to seat limit entries r)
 answer_quiet seat limit entries (Ok frame) bytes e is = frame_quiet seat limit entries (facts_of entries) frame bytes e is

@@ -14,8 +14,8 @@ pub record IsFirstFrame (sent : List SentFrame) (bytes : List ℕ) (number : ℕ
   pub bytes_are : frame.bytes ≡ bytes
   pub first : (i : ℕ) (f : SentFrame) → i < number → slice_get sent i ≡ Some f → f.bytes ≢ bytes
 
--- The step that makes the entry, where these frames were sent: a cast of its payload, an arrival of the first frame with its bytes, or a
--- tick.
+-- The step that makes the entry, where these frames were sent: a cast of what its frame carries, an arrival of the first frame with its
+-- bytes, or a tick.
 abbrev pub IsStepOf : List SentFrame → ℕ → EntryFields → Step → Type 0
 IsStepOf sent k (CastEntry frame) step = step ≡ CastStep k (load_said (frame_read frame))
 IsStepOf sent k (ArriveEntry frame delivered) step = (number : ℕ) × IsFirstFrame sent frame number × (step ≡ ArriveStep k number)

@@ -15,7 +15,7 @@ ghost use Rattle.cb_trace.specs.Search.{IsJoined, HasLeft, IsFirstLeft};
 ghost use Rattle.cb_trace.specs.JointRun.{AreLegalWithin};
 ghost use Rattle.cb_trace.specs.Auditing.{entries_at};
 
-use crate::replaying::payload_of;
+use crate::load::Load;
 use bytes::Bytes;
 use cb_member::{Entry, History, NoMemory};
 use cb_world::{Sent, Step, World};
@@ -48,8 +48,8 @@ fn step_of(
 {
     match entry {
         Entry::Cast { frame } => {
-            let payload = payload_of(alloc, frame)?;
-            Ok(Some(Step::Cast(k, payload)))
+            let load = Load::of(alloc, frame)?;
+            Ok(Some(load.step(k)))
         }
         Entry::Arrive { frame, .. } => match number_of(first_frames, frame) {
             Some(number) => Ok(Some(Step::Arrive(k, number))),

@@ -15,6 +15,7 @@ mod fault;
 mod joining;
 mod joint;
 mod laws;
+mod load;
 mod reading;
 mod replaying;
 mod spelling;

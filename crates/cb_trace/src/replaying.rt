@@ -3,19 +3,21 @@
 ghost use Rattle.std.specs.Prelude.{◌≡◌, ◌<◌, [], IfOk, Some, map, option_map};
 ghost use Rattle.std.specs.Bool.{Decides};
 ghost use Rattle.cb_frames.specs.Fields.{One};
-ghost use Rattle.cb_history.specs.Read.{frame_read};
 ghost use Rattle.cb_history.specs.Facts.{entry_fields};
 ghost use Rattle.cb_history.specs.Legal.{longest_history, ToCast, ToTake, ToTick};
-ghost use Rattle.cb_history.specs.ReplayLaws.{call_of, load_said};
+ghost use Rattle.cb_history.specs.Load.{many_of};
+ghost use Rattle.cb_history.specs.ReplayLaws.{call_of};
 ghost use Rattle.cb_trace.specs.Auditing.{seat_of};
+ghost use Rattle.cb_trace.specs.Loads.{load_fields};
 ghost use Rattle.cb_trace.specs.Replaying.{SaysAdded, SaysFirstWrong};
 
+use crate::load::Load;
 use bytes::Bytes;
-use cb_frames::{Frame, FrameFault, decode};
 use cb_member::{
-    ArriveRefusal, CastRefusal, Entry, History, LONGEST_HISTORY, Member, Name, NewFault, NoMemory,
-    TickRefusal,
+    ArriveRefusal, BurstRefusal, CastRefusal, Entry, History, LONGEST_HISTORY, Member, Name,
+    NewFault, NoMemory, TickRefusal,
 };
+use cb_world::payload_slices;
 use std::alloc::{AllocError, Global};
 
 /// The number of the first entry that a fresh member does not give, called as the entries tell; `None` where the history is legal.
@@ -58,22 +60,29 @@ fn gives(alloc: Global, member: &mut Member, entry: &Entry) -> Result<bool, NoMe
 {
     match entry {
         Entry::Cast { frame } => {
-            let payload = payload_of(alloc, frame)?;
-            casts(member, payload.as_slice(), entry)
+            let load = Load::of(alloc, frame)?;
+            casts_load(alloc, member, &load, entry)
         }
         Entry::Arrive { frame, .. } => takes(member, frame, entry),
         Entry::Tick { .. } => ticks(member, entry),
     }
 }
 
-/// What a cast frame casts; no byte of a frame that is none.
-pub fn payload_of(alloc: Global, frame: &Bytes) -> Result<Bytes, NoMemory>
-    ensures { IfOk result (λ payload. One payload ≡ load_said (frame_read frame.now)) }
+fn casts_load(
+    alloc: Global,
+    member: &mut Member,
+    load: &Load,
+    entry: &Entry,
+) -> Result<bool, NoMemory>
+    ensures { IfOk result (SaysAdded member.old member.new (ToCast (load_fields load.now))
+        (entry_fields entry.now)) }
 {
-    match decode(alloc, frame) {
-        Ok(Frame::Cast(cast)) => Ok(cast.payload),
-        Err(FrameFault::NoMemory) => Err(AllocError),
-        _ => Ok(Bytes::new()),
+    match load {
+        Load::One(payload) => casts(member, payload.as_slice(), entry),
+        Load::Many(payloads) => {
+            let slices = payload_slices(alloc, payloads)?;
+            casts_burst(member, &slices, entry)
+        }
     }
 }
 
@@ -84,6 +93,17 @@ fn casts(member: &mut Member, payload: &[u8], entry: &Entry) -> Result<bool, NoM
     match member.cast_noted(payload) {
         Ok((_done, noted)) => Ok(is_same(&noted, entry)),
         Err(CastRefusal::NoMemory) => Err(AllocError),
+        Err(_refusal) => Ok(false),
+    }
+}
+
+fn casts_burst(member: &mut Member, payloads: &[&[u8]], entry: &Entry) -> Result<bool, NoMemory>
+    ensures { IfOk result (SaysAdded member.old member.new (ToCast (many_of payloads.now))
+        (entry_fields entry.now)) }
+{
+    match member.cast_burst_noted(payloads) {
+        Ok((_done, noted)) => Ok(is_same(&noted, entry)),
+        Err(BurstRefusal::NoMemory) => Err(AllocError),
         Err(_refusal) => Ok(false),
     }
 }
