@@ -54,6 +54,10 @@ done << 'END'
 117 a received cast that comes early
 119 a received status that is news
 120 a received request that is answered
+124 a burst
+125 a burst that arrives and waits
+126 a burst that arrives and delivers four messages
+127 a request that is answered by a burst
 200 new, without history
 202 cast, without history
 203 an arrival that waits, without history
@@ -69,10 +73,14 @@ done << 'END'
 218 a received cast that lets another go, without history
 219 a received status that is news, without history
 220 a received request that is answered, without history
+224 a burst, without history
+225 a burst that arrives and waits, without history
+226 a burst that arrives and delivers four messages, without history
+227 a request that is answered by a burst, without history
 END
-# a payload too long, bytes that are no frame, a full history and a full window take no memory, nor do casts for which all room is
+# a payload too long, no payloads, bytes that are no frame, a full history and a full window take no memory, nor do casts for which all room is
 # there; where room for deliveries is all that is wanted, less is asked for once more is refused
-for status in 101 109 110 112 118 121 201 204 209 212 214 221; do
+for status in 101 109 110 112 118 121 122 123 201 204 209 212 214 221 222 223; do
     [ -z "${refused[$status]:-}" ] || { echo "row $status wants memory"; exit 1; }
 done
 [ $((total + ${refused[0]:-0})) = "$most" ] || { echo "a status that no row has"; exit 1; }

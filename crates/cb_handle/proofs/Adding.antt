@@ -1,42 +1,35 @@
 -- What a call adds to a history that is not kept, and to its events.
 use Rattle.std.proofs.Common.{◌≡◌, ◌⊎◌, ℕ, Bool, true, false, ◌&&◌, not, eqb, List, [], ◌∷◌, ◌++◌, length, drop, map, Option, Some, None, Result, Ok, Err, refl, sym, ap, subst, ◌∙◌, arith, inl, inr}
-use Rattle.std.specs.Prelude.{if◌then◌else◌, nat_lt}
+use Rattle.std.specs.Prelude.{if◌then◌else◌}
 use Rattle.std.specs.List.{flat_map}
-use Rattle.std.proofs.lemmas.Bool.{ltb-false}
 use Rattle.std.proofs.lemmas.List.{append-nil, drop_at}
-use Rattle.cb_frames.specs.declared.frame.TheConstants.{LONGEST_PAYLOAD}
 use Rattle.cb_frames.specs.declared.fault.FrameFault.{FrameFault}
-use Rattle.cb_frames.specs.Fields.{Load, load_bytes, payloads_of, Carried, CastFields, FrameFields, StatusFields, CastFrame, StatusFrame, RequestFrame}
+use Rattle.cb_frames.specs.Fields.{Load, Carried, FrameFields, StatusFields, CastFrame, StatusFrame, RequestFrame}
 use Rattle.cb_history.specs.Read.{frame_read}
-use Rattle.cb_frames.specs.Text.{IsLoad, text_of}
+use Rattle.cb_frames.specs.Text.{text_of}
 use Rattle.cb_delay.specs.declared.message.Event.{Event}
-use Rattle.cb_delay.specs.declared.message.Event.TheVariants.{Cast, Deliver}
+use Rattle.cb_delay.specs.declared.message.Event.TheVariants.{Deliver}
 use Rattle.cb_delay.specs.declared.message.Message.{Message}
 use Rattle.cb_history.specs.declared.answer.ArriveRefusal.{ArriveRefusal}
 use Rattle.cb_history.specs.declared.answer.ArriveRefusal.TheVariants as arrivals
 use Rattle.cb_history.specs.declared.answer.Outgoing.{Outgoing}
-use Rattle.cb_history.specs.Answers.{ArrivalSays, Accepted, Repeat, answer_to, are_members, arrive_answer, cast_answer, deliveries, group_of, is_burst, is_change, is_full, is_impossible, is_repeat, is_too_far, is_too_many, next_cast, sent_in_answer, status_of}
+use Rattle.cb_history.specs.Answers.{ArrivalSays, Accepted, Repeat, answer_to, are_members, arrive_answer, cast_answer, deliveries, group_of, is_change, is_full, is_impossible, is_overlap, is_repeat, is_too_far, next_cast, sent_in_answer, status_of}
 use Rattle.cb_history.specs.EventLaws.{new_events}
 use Rattle.cb_history.specs.Events.{events}
-use Rattle.cb_history.specs.CastFault.{CastFault, BurstTooLong, PayloadTooLong, WindowFull, HistoryFull}
 use Rattle.cb_history.specs.Facts.{EntryFields, Fact, OwnCast, CastReceived, StatusReceived, OwnStatus, CastEntry, ArriveEntry, TickEntry, arrival_said, cast_said, casts_in, facts_of, said_by, status_said}
 use Rattle.cb_history.specs.Group.{Identity}
 use Rattle.cb_history.specs.Legal.{AreEntriesOf, and_entry, arrive_entry, room_for_one}
 use Rattle.cb_history.specs.LegalFacts.{AreFactsOf}
 use Rattle.cb_history.specs.View.{message_in, view}
-use Rattle.cb_history.proofs.Calls.{loads_cast_are_of_one}
-use Rattle.cb_history.proofs.Counts.{numbers_left}
 use Rattle.cb_history.proofs.Happening.{events_with_one_more}
 use Rattle.cb_history.proofs.Histories.{entries_say_legal_facts}
 use Rattle.cb_history.proofs.Lists.{flat_map-append}
+use Rattle.cb_history.proofs.Loads.{answered}
 use Rattle.cb_history.proofs.ReadBack.{cast_read, status_read}
 use Rattle.cb_history.proofs.Requests.{own_frames_have_texts}
 use Rattle.cb_history.proofs.Walks.{view_status}
-use Rattle.cb_history.proofs.Written.{cast_can}
-use Rattle.cb_member.specs.Casting.{next_message}
+use Rattle.cb_history.proofs.Written.{fitting_can}
 use Rattle.cb_member.specs.Received.{deliveries_in}
-use Rattle.cb_member.proofs.Judging.{one_keeps}
-use Rattle.cb_member.proofs.Recording.{cast_event}
 
 pub joined : (es : List EntryFields) (o : Option EntryFields) → es ++ and_entry [] o ≡ and_entry es o
 joined es None = append-nil es
@@ -53,37 +46,16 @@ with_fact seat es e fact legal said =
 
 -- ---- a cast
 
-by_cast_rules : (burst long window full : Bool) (next c : CastFields)
-    → (let r : Result CastFields CastFault = if burst then Err BurstTooLong else if long then Err PayloadTooLong else if window then Err WindowFull else if full then Err HistoryFull else Ok next in r) ≡ Ok c
-    → (long ≡ false) × (window ≡ false)
-by_cast_rules true long window full next c says = absurd cc
-by_cast_rules false true window full next c says = absurd cc
-by_cast_rules false false true full next c says = absurd cc
-by_cast_rules false false false true next c says = absurd cc
-by_cast_rules false false false false next c says = (refl, refl)
-
-can_be_cast : (seat : Identity) (limit : ℕ) (es : List EntryFields) (load : Load) (c : CastFields) → cast_answer seat limit es load ≡ Ok c
-    → (nat_lt LONGEST_PAYLOAD (length (load_bytes load)) ≡ false) × (is_too_many seat (facts_of es) (length (payloads_of load)) ≡ false)
-unfolding cast_answer
-can_be_cast seat limit es load c says =
-    by_cast_rules (is_burst load) (nat_lt LONGEST_PAYLOAD (length (load_bytes load))) (is_too_many seat (facts_of es) (length (payloads_of load))) (is_full limit es) (next_cast seat (facts_of es) load) c says
-
--- the entry of a cast that is answered says that cast, and the event is its message
+-- the entry of a cast that is answered says that cast, and the events are its messages
 pub cast_adds : (seat : Identity) (limit : ℕ) (es : List EntryFields) (load : Load) → AreFactsOf seat (facts_of es)
     → cast_answer seat limit es load ≡ Ok (next_cast seat (facts_of es) load) → AreEntriesOf seat (es ++ CastEntry (text_of (CastFrame (next_cast seat (facts_of es) load))) ∷ [])
-    → events seat (facts_of (es ++ CastEntry (text_of (CastFrame (next_cast seat (facts_of es) load))) ∷ [])) ≡ events seat (facts_of es) ++ Cast (next_message seat (facts_of es) load) ∷ []
+    → events seat (facts_of (es ++ CastEntry (text_of (CastFrame (next_cast seat (facts_of es) load))) ∷ [])) ≡ events seat (facts_of es) ++ new_events seat (facts_of es) (OwnCast (next_cast seat (facts_of es) load))
 cast_adds seat limit es load are says legal =
-    let c = next_cast seat (facts_of es) load in
-    let e = CastEntry (text_of (CastFrame c)) in
-    let one = loads_cast_are_of_one seat limit es load c says in
-    let can = can_be_cast seat limit es load c says in
-    let small : IsLoad load = ltb-false LONGEST_PAYLOAD (length (load_bytes load)) can.0 in
-    let written = cast_can seat (facts_of es) load are.group are.member are.facts_are (one_keeps _ load one) (numbers_left seat (facts_of es) (length (payloads_of load)) can.1) small in
-    let said : said_by e ≡ OwnCast c ∷ [] = ap cast_said (cast_read c one written) in
-    let more : facts_of (es ++ e ∷ []) ≡ facts_of es ++ OwnCast c ∷ [] =
-    flat_map-append said_by es (e ∷ []) ∙ ap (λ (fs : List Fact). facts_of es ++ fs) (append-nil (said_by e) ∙ said) in
-    let after = subst (AreFactsOf seat) more (entries_say_legal_facts seat (es ++ e ∷ []) legal).0 in
-    with_fact seat es e (OwnCast c) legal said ∙ ap (λ (xs : List Event). events seat (facts_of es) ++ xs) (cast_event seat (facts_of es) load after)
+    let facts = facts_of es in
+    let c = next_cast seat facts load in
+    let is = answered seat limit es load c says in
+    let written = fitting_can seat facts load are.group are.member are.facts_are is.fits is.window in
+    with_fact seat es (CastEntry (text_of (CastFrame c))) (OwnCast c) legal (ap cast_said (cast_read c written))
 
 -- ---- a tick
 
@@ -109,26 +81,27 @@ record News (seat : Identity) (es : List EntryFields) (bytes : List ℕ) (says :
   change : is_change seat (facts_of es) frame ≡ true
   is : says ≡ Accepted (deliveries seat (facts_of es) frame) true out
 
-by_frame_rules : (other strange impossible repeat far change full : Bool) (ds : List Message) (out : List Outgoing) (bytes : List ℕ) (says : ArrivalSays)
+by_frame_rules : (other strange impossible repeat overlap far change full : Bool) (ds : List Message) (out : List Outgoing) (bytes : List ℕ) (says : ArrivalSays)
     → (let r : Result ArrivalSays ArriveRefusal =
     if other then Err arrivals.OtherGroup else if strange then Err arrivals.BadMember else if impossible then Err arrivals.Impossible else
-    if repeat then Ok Repeat else if far then Err arrivals.TooFar else if change && full then Err arrivals.HistoryFull else
+    if repeat then Ok Repeat else if overlap then Err arrivals.Overlap else if far then Err arrivals.TooFar else if change && full then Err arrivals.HistoryFull else
     if change then Ok (Accepted ds true out) else Ok (Accepted [] false out) in r) ≡ Ok says
     → Silent bytes says ⊎ ((change ≡ true) × (says ≡ Accepted ds true out))
-by_frame_rules true strange impossible repeat far change full ds out bytes says h = absurd cc
-by_frame_rules false true impossible repeat far change full ds out bytes says h = absurd cc
-by_frame_rules false false true repeat far change full ds out bytes says h = absurd cc
-by_frame_rules false false false true far change full ds out bytes says h = let e : Repeat ≡ says = cc in inl (subst (Silent bytes) e (refl, refl))
-by_frame_rules false false false false true change full ds out bytes says h = absurd cc
-by_frame_rules false false false false false true true ds out bytes says h = absurd cc
-by_frame_rules false false false false false true false ds out bytes says h = let e : says ≡ Accepted ds true out = cc in inr (refl, e)
-by_frame_rules false false false false false false full ds out bytes says h = let e : Accepted [] false out ≡ says = cc in inl (subst (Silent bytes) e (refl, refl))
+by_frame_rules true strange impossible repeat overlap far change full ds out bytes says h = absurd cc
+by_frame_rules false true impossible repeat overlap far change full ds out bytes says h = absurd cc
+by_frame_rules false false true repeat overlap far change full ds out bytes says h = absurd cc
+by_frame_rules false false false true overlap far change full ds out bytes says h = let e : Repeat ≡ says = cc in inl (subst (Silent bytes) e (refl, refl))
+by_frame_rules false false false false true far change full ds out bytes says h = absurd cc
+by_frame_rules false false false false false true change full ds out bytes says h = absurd cc
+by_frame_rules false false false false false false true true ds out bytes says h = absurd cc
+by_frame_rules false false false false false false true false ds out bytes says h = let e : says ≡ Accepted ds true out = cc in inr (refl, e)
+by_frame_rules false false false false false false false full ds out bytes says h = let e : Accepted [] false out ≡ says = cc in inl (subst (Silent bytes) e (refl, refl))
 
 read_says : (seat : Identity) (es : List EntryFields) (bytes : List ℕ) (r : Result FrameFields FrameFault) (says : ArrivalSays) → frame_read bytes ≡ r → answer_to seat (room_for_one es) es r ≡ Ok says → Silent bytes says ⊎ News seat es bytes says
 read_says seat es bytes (Err fault) says read h = absurd cc
 read_says seat es bytes (Ok frame) says read h =
     let facts = facts_of es in
-    elim (by_frame_rules (not (eqb (group_of frame) seat.group.number)) (not (are_members seat.group.size frame)) (is_impossible seat facts frame) (is_repeat facts frame) (is_too_far seat facts frame)
+    elim (by_frame_rules (not (eqb (group_of frame) seat.group.number)) (not (are_members seat.group.size frame)) (is_impossible seat facts frame) (is_repeat facts frame) (is_overlap facts frame) (is_too_far seat facts frame)
     (is_change seat facts frame) (is_full (room_for_one es) es) (deliveries seat facts frame) (sent_in_answer seat facts frame) bytes says h) [
       | inl silent ↦ inl silent
       | inr news ↦ inr (record { frame = frame; out = sent_in_answer seat facts frame; read = read; change = news.0; is = news.1 })

@@ -15,6 +15,7 @@ use Rattle.cb_handle.specs.Kept.{KeptMember, gone, limit_for, limit_of}
 use Rattle.cb_handle.specs.declared.held.Held.{Held}
 use Rattle.cb_handle.specs.Calling.{loaded_part, received_row, with_loaded}
 use Rattle.cb_handle.specs.Parts.{behind}
+use Rattle.cb_handle.specs.Payloads.{payloads_in}
 
 a_short_list_leaves_the_rest : copied {X = ℕ} (1 ∷ 2 ∷ []) (7 ∷ 8 ∷ 9 ∷ []) ≡ 1 ∷ 2 ∷ 9 ∷ []
 a_short_list_leaves_the_rest = refl
@@ -77,6 +78,9 @@ a_repeat_is_told = refl
 
 a_part_of_what_is_loaded : (held : Held) → loaded_part (with_loaded held (5 ∷ 6 ∷ 7 ∷ 8 ∷ 9 ∷ [])) 1 3 ≡ 6 ∷ 7 ∷ 8 ∷ []
 a_part_of_what_is_loaded held = refl
+
+payloads_lie_one_after_another : payloads_in (1 ∷ 2 ∷ 3 ∷ 4 ∷ 5 ∷ []) (2 ∷ 0 ∷ 1 ∷ []) ≡ (1 ∷ 2 ∷ []) ∷ [] ∷ (3 ∷ []) ∷ []
+payloads_lie_one_after_another = refl
 
 -- ---- members with a history, and without
 

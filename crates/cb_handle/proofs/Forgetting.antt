@@ -10,23 +10,21 @@ use Rattle.cb_delay.specs.declared.message.Event.TheVariants as events
 use Rattle.cb_delay.specs.declared.message.Message.{Message}
 use Rattle.cb_history.specs.declared.answer.ArriveRefusal.{ArriveRefusal}
 use Rattle.cb_history.specs.declared.answer.ArriveRefusal.TheVariants as refusals
-use Rattle.cb_history.specs.declared.answer.CastRefusal.{CastRefusal}
-use Rattle.cb_history.specs.declared.answer.CastRefusal.TheVariants as casts
 use Rattle.cb_history.specs.declared.answer.Ticked.{Ticked}
 use Rattle.cb_history.specs.declared.answer.TickRefusal.{TickRefusal}
 use Rattle.cb_history.specs.declared.answer.TickRefusal.TheVariants as ticks
 use Rattle.cb_history.specs.Answers.{ArrivalSays, is_full, is_new_status, next_cast, status_of}
 use Rattle.cb_history.specs.Events as listed
-use Rattle.cb_history.specs.CastFault.{CastFault, TellsFaultOf}
-use Rattle.cb_history.specs.Facts.{EntryFields, CastEntry, TickEntry, facts_of}
+use Rattle.cb_history.specs.CastFault.{CastFault, HistoryFull, IsFault}
+use Rattle.cb_history.specs.EventLaws.{new_events}
+use Rattle.cb_history.specs.Facts.{EntryFields, OwnCast, CastEntry, TickEntry, facts_of}
 use Rattle.cb_history.specs.Group.{Identity}
 use Rattle.cb_history.specs.Legal.{AreEntriesOf, Call, ToCast, ToTake, ToTick, and_entry, arrive_entry, cast_entry, tick_entry, room_for_one}
 use Rattle.cb_history.specs.LegalFacts.{AreFactsOf}
-use Rattle.cb_history.specs.State.{HasTicked as HasTickedSo, RefusesArrival, RefusesTick, answer_to_arrival, answer_to_cast, answer_to_tick, entry_by, events_in, facts_in, next_in, state_after}
+use Rattle.cb_history.specs.State.{MemberState, HasTicked as HasTickedSo, RefusesArrival, RefusesTick, answer_to_arrival, answer_to_cast, answer_to_tick, entry_by, events_in, facts_in, next_in, state_after}
 use Rattle.cb_history.proofs.Histories.{entries_say_legal_facts}
 use Rattle.cb_member.specs.declared.recorder.taken.Received as taken
 use Rattle.cb_member.specs.declared.recorder.taken.Received.TheVariants as takens
-use Rattle.cb_member.specs.Casting.{RefusesExactly, next_message}
 use Rattle.cb_member.specs.CoreMember.{Core, GoesOn as CoreGoesOn, OnEach as OnEachCore, StandsFor, grown_by, unlimited}
 use Rattle.cb_member.specs.CoreCalls.{HasReceivedWith, JoinsAs, MayCast, RefusesWithin}
 use Rattle.cb_member.specs.Received.{count_said, deliveries_in, received_says}
@@ -57,26 +55,31 @@ module _ (old core : Core) (call : Call) (goes : CoreGoesOn call old core) (es :
 
 -- ---- refusals
 
-pub cast_refused_full : (old : KeptMember) (load : Load) (refusal : CastRefusal) → Full old ≡ true → MayCast load old.core (Err refusal) ⊎ ((refusal ≡ casts.HistoryFull) × MayCast load old.core (Ok tt))
-    → OnEach old (λ m. RefusesExactly m load refusal)
-cast_refused_full old load refusal full (inl refuses) es st = inl (cast_refused old.core.seat (limit_of old es) es load refusal (refuses es st.stands))
-cast_refused_full old load refusal full (inr may) es st =
-    inl (subst (λ (r : CastRefusal). TellsFaultOf r (answer_to_cast (state_with old es) load)) (sym may.0)
-    (cast_full old.core.seat (limit_of old es) es load (next_cast old.core.seat (facts_of es) load) (has_none old full es st) (may.1 es st.stands)))
-
 is_ok_then : (r : Result CastFields CastFault) (c : CastFields) → r ≡ Ok c → IsOk r
 is_ok_then r c is = rw is refl
 
-pub cast_lacks_memory : (old : KeptMember) (load : Load) (refusal : CastRefusal) → Full old ≡ false → MayCast load old.core (Err refusal) ⊎ ((refusal ≡ casts.NoMemory) × MayCast load old.core (Ok tt))
-    → OnEach old (λ m. RefusesExactly m load refusal)
-cast_lacks_memory old load refusal room (inl refuses) es st = inl (cast_refused old.core.seat (limit_of old es) es load refusal (refuses es st.stands))
-cast_lacks_memory old load refusal room (inr may) es st =
-    inr (may.0, is_ok_then _ (next_cast old.core.seat (facts_of es) load) (cast_same old.core.seat (limit_of old es) es load (has_room old room es st) ∙ may.1 es st.stands))
+-- of a cast or of a burst: which fault a refusal tells, and which is that of memory
+module _ {R : Type 0} (told : R → Option CastFault) (no_memory : R) where
+  abbrev pub Refuses : MemberState → Load → R → Type 0
+  Refuses m load refusal = IsFault (told refusal) (answer_to_cast m load) ⊎ ((refusal ≡ no_memory) × IsOk (answer_to_cast m load))
 
-pub cast_refused_so : (old : KeptMember) (load : Load) (refusal : CastRefusal) → Full old ≡ false → OnEachCore old.core (λ m. RefusesExactly m load refusal) → OnEach old (λ m. RefusesExactly m load refusal)
-cast_refused_so old load refusal room refuses es st =
-    subst (λ (r : Result CastFields CastFault). TellsFaultOf refusal r ⊎ ((refusal ≡ casts.NoMemory) × IsOk r))
-    (sym (cast_same old.core.seat (limit_of old es) es load (has_room old room es st))) (refuses es st.stands)
+  pub cast_refused_full : (old : KeptMember) (load : Load) (full refusal : R) → told full ≡ Some HistoryFull → Full old ≡ true
+      → MayCast told load old.core (Err refusal) ⊎ ((refusal ≡ full) × MayCast told load old.core (Ok tt)) → OnEach old (λ m. Refuses m load refusal)
+  cast_refused_full old load full refusal tells on (inl refuses) es st = inl (cast_refused old.core.seat (limit_of old es) es load (told refusal) (refuses es st.stands))
+  cast_refused_full old load full refusal tells on (inr may) es st =
+      inl (subst (λ (fault : Option CastFault). IsFault fault (answer_to_cast (state_with old es) load)) (sym (ap told may.0 ∙ tells))
+      (cast_full old.core.seat (limit_of old es) es load (next_cast old.core.seat (facts_of es) load) (has_none old on es st) (may.1 es st.stands)))
+
+  pub cast_lacks_memory : (old : KeptMember) (load : Load) (refusal : R) → Full old ≡ false
+      → MayCast told load old.core (Err refusal) ⊎ ((refusal ≡ no_memory) × MayCast told load old.core (Ok tt)) → OnEach old (λ m. Refuses m load refusal)
+  cast_lacks_memory old load refusal room (inl refuses) es st = inl (cast_refused old.core.seat (limit_of old es) es load (told refusal) (refuses es st.stands))
+  cast_lacks_memory old load refusal room (inr may) es st =
+      inr (may.0, is_ok_then _ (next_cast old.core.seat (facts_of es) load) (cast_same old.core.seat (limit_of old es) es load (has_room old room es st) ∙ may.1 es st.stands))
+
+  pub cast_refused_so : (old : KeptMember) (load : Load) (refusal : R) → Full old ≡ false → OnEachCore old.core (λ m. Refuses m load refusal) → OnEach old (λ m. Refuses m load refusal)
+  cast_refused_so old load refusal room refuses es st =
+      subst (λ (r : Result CastFields CastFault). IsFault (told refusal) r ⊎ ((refusal ≡ no_memory) × IsOk r))
+      (sym (cast_same old.core.seat (limit_of old es) es load (has_room old room es st))) (refuses es st.stands)
 
 arrival_refused_at : (old : KeptMember) (bytes : List ℕ) (refusal : ArriveRefusal) (es : List EntryFields) → RefusesArrival (unlimited old.core.seat es) bytes refusal → RefusesArrival (state_with old es) bytes refusal
 arrival_refused_at old bytes refusal es (inl says) = inl (arrival_refused old.core.seat (limit_of old es) es bytes refusal says)
@@ -152,7 +155,7 @@ pub record Did (call : Call) (old new : KeptMember) (after : List Event) (entry 
 
 module _ (old new : KeptMember) (load : Load) (frame : List ℕ) (after : List Event) (entry : EntryFields) (did : Did (ToCast load) old new after (Some entry)) (room : Full old ≡ false)
     (answer : OnEachCore old.core (λ m. answer_to_cast m load ≡ Ok (next_in m load)))
-    (joins : OnEachCore old.core (λ m. after ≡ old.events ++ events.Cast (next_message m.seat (facts_in m) load) ∷ [])) where
+    (joins : OnEachCore old.core (λ m. after ≡ old.events ++ new_events m.seat (facts_in m) (OwnCast (next_in m load)))) where
   cast_answer_is : OnEach old (λ m. answer_to_cast m load ≡ Ok (next_in m load))
   cast_answer_is es st = cast_same old.core.seat (limit_of old es) es load (has_room old room es st) ∙ answer es st.stands
 
@@ -167,7 +170,7 @@ module _ (old new : KeptMember) (load : Load) (frame : List ℕ) (after : List E
     same = λ es st. ap cast_entry (cast_same old.core.seat (limit_of old es) es load (has_room old room es st)) ∙ did.noted es st.stands;
     fits = fits_when old (ToCast load) (Some entry) did.kept (inl room) did.noted;
     adds = λ es s. (
-      events.Cast (next_message old.core.seat (facts_of es) load) ∷ [],
+      new_events old.core.seat (facts_of es) (OwnCast (next_cast old.core.seat (facts_of es) load)),
       joins es s,
       sym (ap (λ (x : Option EntryFields). listed.events old.core.seat (facts_of (and_entry es x))) (ap cast_entry (answer es s))
           ∙ cast_adds old.core.seat (room_for_one es) es load (facts_before old.core new.core (ToCast load) did.goes es s) (answer es s)

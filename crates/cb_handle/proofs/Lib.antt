@@ -6,5 +6,6 @@ pub mod Adding
 pub mod Limits
 pub mod Keeping
 pub mod Forgetting
+mod LongBursts
 pub mod Parts
 mod Examples

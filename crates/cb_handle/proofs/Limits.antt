@@ -1,8 +1,8 @@
 -- Where a history has room, or a call adds nothing, its answer is the one without a limit; else the history is full.
-use Rattle.std.proofs.Common.{◌≡◌, ◌≢◌, ◌⊎◌, ℕ, Bool, true, false, ◌&&◌, not, ◌==◌, List, [], ◌∷◌, length, None, Result, Ok, Err, refl, sym, ap, ◌∙◌, inl, inr}
+use Rattle.std.proofs.Common.{◌≡◌, ◌≢◌, ◌⊎◌, ℕ, Bool, true, false, ◌&&◌, not, ◌==◌, List, [], ◌∷◌, length, Option, Some, None, Result, Ok, Err, refl, sym, ap, ◌∙◌, inl, inr}
 use Rattle.std.specs.Prelude.{if◌then◌else◌, nat_le, nat_lt}
 use Rattle.std.proofs.lemmas.Bool.{cases_Bool, eq-eqb}
-use Rattle.cb_frames.specs.declared.frame.TheConstants.{LONGEST_PAYLOAD}
+use Rattle.cb_frames.specs.declared.frame.TheConstants.{LONGEST_PAYLOAD, MOST_MESSAGES}
 use Rattle.cb_frames.specs.declared.fault.FrameFault.{FrameFault}
 use Rattle.cb_frames.specs.Fields.{Load, load_bytes, payloads_of, CastFields, FrameFields}
 use Rattle.cb_frames.specs.Reading.{HasValue}
@@ -10,15 +10,13 @@ use Rattle.cb_history.specs.Read.{frame_read}
 use Rattle.cb_delay.specs.declared.message.Message.{Message}
 use Rattle.cb_history.specs.declared.answer.ArriveRefusal.{ArriveRefusal}
 use Rattle.cb_history.specs.declared.answer.ArriveRefusal.TheVariants as arrivals
-use Rattle.cb_history.specs.declared.answer.CastRefusal.{CastRefusal}
-use Rattle.cb_history.specs.declared.answer.CastRefusal.TheVariants as casts
 use Rattle.cb_history.specs.declared.answer.Outgoing.{Outgoing}
 use Rattle.cb_history.specs.declared.answer.TickRefusal.{TickRefusal}
 use Rattle.cb_history.specs.declared.answer.TickRefusal.TheVariants as ticks
 use Rattle.cb_frames.specs.Fields.{StatusFrame}
 use Rattle.cb_frames.specs.Text.{text_of}
-use Rattle.cb_history.specs.Answers.{ArrivalSays, Accepted, Repeat, answer_to, are_members, arrive_answer, cast_answer, deliveries, group_of, is_burst, is_change, is_full, is_impossible, is_new_status, is_repeat, is_too_far, is_too_many, next_cast, requests, sent_in_answer, status_of, tick_answer}
-use Rattle.cb_history.specs.CastFault.{CastFault, BurstTooLong, PayloadTooLong, WindowFull, HistoryFull, TellsFaultOf}
+use Rattle.cb_history.specs.Answers.{ArrivalSays, Accepted, Repeat, answer_to, are_members, arrive_answer, cast_answer, deliveries, group_of, is_change, is_full, is_impossible, is_new_status, is_overlap, is_repeat, is_too_far, is_too_many, next_cast, requests, sent_in_answer, status_of, tick_answer}
+use Rattle.cb_history.specs.CastFault.{CastFault, EmptyBurst, BurstTooLong, PayloadTooLong, WindowFull, HistoryFull, IsFault}
 use Rattle.cb_history.specs.Facts.{EntryFields, facts_of}
 use Rattle.cb_history.specs.Group.{Identity}
 use Rattle.cb_history.specs.Legal.{arrive_entry, room_for_one, tick_entry}
@@ -51,79 +49,91 @@ no_room_is_left n es kept same on = elim (cases_Bool (n == 0)) [
 
 -- ---- casts
 
-abbrev cast_rules : Bool → Bool → Bool → CastFields → Bool → Result CastFields CastFault
-cast_rules burst long window c full = if burst then Err BurstTooLong else if long then Err PayloadTooLong else if window then Err WindowFull else if full then Err HistoryFull else Ok c
+abbrev cast_rules : (empty many long window : Bool) → CastFields → Bool → Result CastFields CastFault
+cast_rules empty many long window c full =
+    if empty then Err EmptyBurst else if many then Err BurstTooLong else if long then Err PayloadTooLong else if window then Err WindowFull else if full then Err HistoryFull else Ok c
 
-cast_refused_by : (burst long window full : Bool) (c : CastFields) (fault : CastFault) → cast_rules burst long window c false ≡ Err fault → cast_rules burst long window c full ≡ Err fault
-cast_refused_by true long window full c fault h = h
-cast_refused_by false true window full c fault h = h
-cast_refused_by false false true full c fault h = h
-cast_refused_by false false false full c fault h = absurd cc
+cast_refused_by : (empty many long window full : Bool) (c : CastFields) (fault : CastFault) → cast_rules empty many long window c false ≡ Err fault → cast_rules empty many long window c full ≡ Err fault
+cast_refused_by true many long window full c fault h = h
+cast_refused_by false true long window full c fault h = h
+cast_refused_by false false true window full c fault h = h
+cast_refused_by false false false true full c fault h = h
+cast_refused_by false false false false full c fault h = absurd cc
 
-cast_full_by : (burst long window : Bool) (c d : CastFields) → cast_rules burst long window c false ≡ Ok d → cast_rules burst long window c true ≡ Err HistoryFull
-cast_full_by true long window c d h = absurd cc
-cast_full_by false true window c d h = absurd cc
-cast_full_by false false true c d h = absurd cc
-cast_full_by false false false c d h = refl
+cast_full_by : (empty many long window : Bool) (c d : CastFields) → cast_rules empty many long window c false ≡ Ok d → cast_rules empty many long window c true ≡ Err HistoryFull
+cast_full_by true many long window c d h = absurd cc
+cast_full_by false true long window c d h = absurd cc
+cast_full_by false false true window c d h = absurd cc
+cast_full_by false false false true c d h = absurd cc
+cast_full_by false false false false c d h = refl
 
-module _ (seat : Identity) (limit : ℕ) (es : List EntryFields) where
-  abbrev cast_with : Load → Bool → Result CastFields CastFault
-  cast_with load full = cast_rules (is_burst load) (nat_lt LONGEST_PAYLOAD (length (load_bytes load))) (is_too_many seat (facts_of es) (length (payloads_of load))) (next_cast seat (facts_of es) load) full
+module _ (seat : Identity) (limit : ℕ) (es : List EntryFields) (load : Load) where
+  abbrev many : ℕ
+  many = length (payloads_of load)
 
-  cast_limited : (n : ℕ) (load : Load) → cast_answer seat n es load ≡ cast_with load (is_full n es)
+  abbrev next : CastFields
+  next = next_cast seat (facts_of es) load
+
+  abbrev cast_with : Bool → Result CastFields CastFault
+  cast_with full = cast_rules (many == 0) (nat_lt MOST_MESSAGES many) (nat_lt LONGEST_PAYLOAD (length (load_bytes load))) (is_too_many seat (facts_of es) many) next full
+
+  cast_limited : (n : ℕ) → cast_answer seat n es load ≡ cast_with (is_full n es)
   unfolding cast_answer
-  cast_limited n load = refl
+  cast_limited n = refl
 
-  cast_free : (load : Load) → cast_answer seat (room_for_one es) es load ≡ cast_with load false
-  cast_free load = cast_limited (room_for_one es) load ∙ ap (cast_with load) (room_left es)
+  cast_free : cast_answer seat (room_for_one es) es load ≡ cast_with false
+  cast_free = cast_limited (room_for_one es) ∙ ap cast_with (room_left es)
 
-  pub cast_same : (load : Load) → is_full limit es ≡ false → cast_answer seat limit es load ≡ cast_answer seat (room_for_one es) es load
-  cast_same load room = cast_limited limit load ∙ ap (cast_with load) room ∙ sym (cast_free load)
+  pub cast_same : is_full limit es ≡ false → cast_answer seat limit es load ≡ cast_answer seat (room_for_one es) es load
+  cast_same room = cast_limited limit ∙ ap cast_with room ∙ sym cast_free
 
-  cast_fault : (load : Load) (fault : CastFault) → cast_answer seat (room_for_one es) es load ≡ Err fault → cast_answer seat limit es load ≡ Err fault
-  cast_fault load fault h =
-      cast_limited limit load ∙ cast_refused_by (is_burst load) (nat_lt LONGEST_PAYLOAD (length (load_bytes load))) (is_too_many seat (facts_of es) (length (payloads_of load))) (is_full limit es) (next_cast seat (facts_of es) load) fault (sym (cast_free load) ∙ h)
+  cast_fault : (fault : CastFault) → cast_answer seat (room_for_one es) es load ≡ Err fault → cast_answer seat limit es load ≡ Err fault
+  cast_fault fault h =
+      cast_limited limit
+      ∙ cast_refused_by (many == 0) (nat_lt MOST_MESSAGES many) (nat_lt LONGEST_PAYLOAD (length (load_bytes load))) (is_too_many seat (facts_of es) many) (is_full limit es) next fault (sym cast_free ∙ h)
 
-  pub cast_refused : (load : Load) (refusal : CastRefusal) → TellsFaultOf refusal (cast_answer seat (room_for_one es) es load) → TellsFaultOf refusal (cast_answer seat limit es load)
-  cast_refused load casts.PayloadTooLong h = cast_fault load PayloadTooLong h
-  cast_refused load casts.WindowFull h = cast_fault load WindowFull h
-  cast_refused load casts.HistoryFull h = cast_fault load HistoryFull h
-  cast_refused load casts.NoMemory h = absurd h
+  pub cast_refused : (told : Option CastFault) → IsFault told (cast_answer seat (room_for_one es) es load) → IsFault told (cast_answer seat limit es load)
+  cast_refused (Some fault) h = cast_fault fault h
+  cast_refused None h = absurd h
 
-  pub cast_full : (load : Load) (c : CastFields) → is_full limit es ≡ true → cast_answer seat (room_for_one es) es load ≡ Ok c → cast_answer seat limit es load ≡ Err HistoryFull
-  cast_full load c full h =
-      cast_limited limit load ∙ ap (cast_with load) full ∙ cast_full_by (is_burst load) (nat_lt LONGEST_PAYLOAD (length (load_bytes load))) (is_too_many seat (facts_of es) (length (payloads_of load))) (next_cast seat (facts_of es) load) c (sym (cast_free load) ∙ h)
+  pub cast_full : (c : CastFields) → is_full limit es ≡ true → cast_answer seat (room_for_one es) es load ≡ Ok c → cast_answer seat limit es load ≡ Err HistoryFull
+  cast_full c full h =
+      cast_limited limit ∙ ap cast_with full
+      ∙ cast_full_by (many == 0) (nat_lt MOST_MESSAGES many) (nat_lt LONGEST_PAYLOAD (length (load_bytes load))) (is_too_many seat (facts_of es) many) next c (sym cast_free ∙ h)
 
 -- ---- received bytes
 
-abbrev frame_rules : (other strange impossible repeat far change : Bool) (ds : List Message) (out : List Outgoing) (full : Bool) → Result ArrivalSays ArriveRefusal
-frame_rules other strange impossible repeat far change ds out full =
+abbrev frame_rules : (other strange impossible repeat overlap far change : Bool) (ds : List Message) (out : List Outgoing) (full : Bool) → Result ArrivalSays ArriveRefusal
+frame_rules other strange impossible repeat overlap far change ds out full =
     if other then Err arrivals.OtherGroup else if strange then Err arrivals.BadMember else if impossible then Err arrivals.Impossible else
-    if repeat then Ok Repeat else if far then Err arrivals.TooFar else if change && full then Err arrivals.HistoryFull else
+    if repeat then Ok Repeat else if overlap then Err arrivals.Overlap else if far then Err arrivals.TooFar else if change && full then Err arrivals.HistoryFull else
     if change then Ok (Accepted ds true out) else Ok (Accepted [] false out)
 
 -- with no room it is the same, or would be a change
-by_rules : (other strange impossible repeat far change full : Bool) (ds : List Message) (out : List Outgoing) (bytes : List ℕ)
-    → (frame_rules other strange impossible repeat far change ds out full ≡ frame_rules other strange impossible repeat far change ds out false)
-    ⊎ (frame_rules other strange impossible repeat far change ds out false ≡ Ok (Accepted ds true out))
-by_rules true strange impossible repeat far change full ds out bytes = inl refl
-by_rules false true impossible repeat far change full ds out bytes = inl refl
-by_rules false false true repeat far change full ds out bytes = inl refl
-by_rules false false false true far change full ds out bytes = inl refl
-by_rules false false false false true change full ds out bytes = inl refl
-by_rules false false false false false true true ds out bytes = inr refl
-by_rules false false false false false true false ds out bytes = inl refl
-by_rules false false false false false false full ds out bytes = inl refl
+by_rules : (other strange impossible repeat overlap far change full : Bool) (ds : List Message) (out : List Outgoing) (bytes : List ℕ)
+    → (frame_rules other strange impossible repeat overlap far change ds out full ≡ frame_rules other strange impossible repeat overlap far change ds out false)
+    ⊎ (frame_rules other strange impossible repeat overlap far change ds out false ≡ Ok (Accepted ds true out))
+by_rules true strange impossible repeat overlap far change full ds out bytes = inl refl
+by_rules false true impossible repeat overlap far change full ds out bytes = inl refl
+by_rules false false true repeat overlap far change full ds out bytes = inl refl
+by_rules false false false true overlap far change full ds out bytes = inl refl
+by_rules false false false false true far change full ds out bytes = inl refl
+by_rules false false false false false true change full ds out bytes = inl refl
+by_rules false false false false false false true true ds out bytes = inr refl
+by_rules false false false false false false true false ds out bytes = inl refl
+by_rules false false false false false false false full ds out bytes = inl refl
 
-full_by : (other strange impossible repeat far change : Bool) (ds : List Message) (out : List Outgoing) (bytes : List ℕ)
-    → arrive_entry bytes (frame_rules other strange impossible repeat far change ds out false) ≢ None → frame_rules other strange impossible repeat far change ds out true ≡ Err arrivals.HistoryFull
-full_by true strange impossible repeat far change ds out bytes some = absurd (some refl)
-full_by false true impossible repeat far change ds out bytes some = absurd (some refl)
-full_by false false true repeat far change ds out bytes some = absurd (some refl)
-full_by false false false true far change ds out bytes some = absurd (some refl)
-full_by false false false false true change ds out bytes some = absurd (some refl)
-full_by false false false false false true ds out bytes some = refl
-full_by false false false false false false ds out bytes some = absurd (some refl)
+full_by : (other strange impossible repeat overlap far change : Bool) (ds : List Message) (out : List Outgoing) (bytes : List ℕ)
+    → arrive_entry bytes (frame_rules other strange impossible repeat overlap far change ds out false) ≢ None
+    → frame_rules other strange impossible repeat overlap far change ds out true ≡ Err arrivals.HistoryFull
+full_by true strange impossible repeat overlap far change ds out bytes some = absurd (some refl)
+full_by false true impossible repeat overlap far change ds out bytes some = absurd (some refl)
+full_by false false true repeat overlap far change ds out bytes some = absurd (some refl)
+full_by false false false true overlap far change ds out bytes some = absurd (some refl)
+full_by false false false false true far change ds out bytes some = absurd (some refl)
+full_by false false false false false true change ds out bytes some = absurd (some refl)
+full_by false false false false false false true ds out bytes some = refl
+full_by false false false false false false false ds out bytes some = absurd (some refl)
 
 -- the answer with this limit is the one without, or that is a change
 abbrev pub Limited : (free limited : Result ArrivalSays ArriveRefusal) → Type 0
@@ -134,7 +144,7 @@ module _ (seat : Identity) (limit : ℕ) (es : List EntryFields) where
   abbrev frame_with : FrameFields → Bool → Result ArrivalSays ArriveRefusal
   frame_with frame full =
       let facts = facts_of es in
-      frame_rules (not (group_of frame == seat.group.number)) (not (are_members seat.group.size frame)) (is_impossible seat facts frame) (is_repeat facts frame) (is_too_far seat facts frame)
+      frame_rules (not (group_of frame == seat.group.number)) (not (are_members seat.group.size frame)) (is_impossible seat facts frame) (is_repeat facts frame) (is_overlap facts frame) (is_too_far seat facts frame)
       (is_change seat facts frame) (deliveries seat facts frame) (sent_in_answer seat facts frame) full
 
   read_limited : (bytes : List ℕ) (r : Result FrameFields FrameFault) → Limited (answer_to seat (room_for_one es) es r) (answer_to seat limit es r)
@@ -142,7 +152,7 @@ module _ (seat : Identity) (limit : ℕ) (es : List EntryFields) where
   read_limited bytes (Ok frame) =
       let facts = facts_of es in
       let free : answer_to seat (room_for_one es) es (Ok frame) ≡ frame_with frame false = ap (frame_with frame) (room_left es) in
-      elim (by_rules (not (group_of frame == seat.group.number)) (not (are_members seat.group.size frame)) (is_impossible seat facts frame) (is_repeat facts frame) (is_too_far seat facts frame)
+      elim (by_rules (not (group_of frame == seat.group.number)) (not (are_members seat.group.size frame)) (is_impossible seat facts frame) (is_repeat facts frame) (is_overlap facts frame) (is_too_far seat facts frame)
       (is_change seat facts frame) (is_full limit es) (deliveries seat facts frame) (sent_in_answer seat facts frame) bytes) [
         | inl same ↦ inl (same ∙ sym free)
         | inr change ↦ inr (deliveries seat facts frame, sent_in_answer seat facts frame, free ∙ change)
@@ -152,7 +162,7 @@ module _ (seat : Identity) (limit : ℕ) (es : List EntryFields) where
   full_read bytes (Err fault) full some = absurd (some refl)
   full_read bytes (Ok frame) full some =
       let facts = facts_of es in
-      ap (frame_with frame) full ∙ full_by (not (group_of frame == seat.group.number)) (not (are_members seat.group.size frame)) (is_impossible seat facts frame) (is_repeat facts frame) (is_too_far seat facts frame)
+      ap (frame_with frame) full ∙ full_by (not (group_of frame == seat.group.number)) (not (are_members seat.group.size frame)) (is_impossible seat facts frame) (is_repeat facts frame) (is_overlap facts frame) (is_too_far seat facts frame)
       (is_change seat facts frame) (deliveries seat facts frame) (sent_in_answer seat facts frame) bytes (λ none. some (ap (arrive_entry bytes) (ap (frame_with frame) (room_left es)) ∙ none))
 
   pub arrival_limited : (bytes : List ℕ) → Limited (arrive_answer seat (room_for_one es) es bytes) (arrive_answer seat limit es bytes)

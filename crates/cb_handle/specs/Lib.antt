@@ -7,3 +7,4 @@ pub mod Kept
 pub mod Opening
 pub mod Calling
 pub mod Parts
+pub mod Payloads

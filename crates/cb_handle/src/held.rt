@@ -4,7 +4,8 @@ ghost use Rattle.std.specs.Prelude.{◌≡◌, ◌⊎◌, ◌↔◌, ◌≤◌, 
 ghost use Rattle.cb_frames.specs.Fields.{One};
 ghost use Rattle.cb_history.specs.State.{time_in, stable_in, missing_in, RefusesArrival, RefusesTick};
 ghost use Rattle.cb_history.specs.Known.{ranges_of};
-ghost use Rattle.cb_member.specs.Casting.{RefusesExactly};
+ghost use Rattle.cb_history.specs.Load.{many_of};
+ghost use Rattle.cb_member.specs.Casting.{RefusesBurstExactly, RefusesExactly};
 ghost use Rattle.cb_member.specs.Received.{received_says, sent_by};
 ghost use Rattle.cb_handle.specs.Copies.{copied};
 ghost use Rattle.cb_handle.specs.Frames.{frames_of, ShowsFrame, ShowsFrames};
@@ -12,16 +13,21 @@ ghost use Rattle.cb_handle.specs.Events.{ShowsEvent, ShowsEvents};
 ghost use Rattle.cb_handle.specs.Entries.{ShowsEntry, range_row};
 ghost use Rattle.cb_handle.specs.Opening.{RefusesToOpen, IsNewOf};
 ghost use Rattle.cb_handle.specs.Parts.{HasReceivedParts, Leaves, RefusesParts};
+ghost use Rattle.cb_handle.specs.Payloads.{AreThere, RefusesPayloads, burst_in};
 ghost use Rattle.cb_handle.specs.Calling.{OnEach, seat_held, events_held, entries_held, HasCastToSend, HasReceivedToSend, HasTickedToSend, RefusesBytes, HasReceivedLoaded, RefusesLoaded, with_loaded, AreLoaded, counts_of, row_of};
 
 use crate::copies::{copy_front, from};
 use crate::frames::{Frames, show_frame, show_frames};
 use crate::kept::Kept;
+use crate::payloads::{are_enough, cut};
 use crate::reading::{entry_at, event_at, events_from, show_ranges};
 use crate::received::ReceivedBlock;
 use crate::rows::{Counts, EntryHead, EventHead, FrameHead, Name, Range, Received};
 use bytes::Bytes;
-use cb_member::{ArriveRefusal, CastRefusal, Group, MissingFault, NewFault, TickRefusal};
+use cb_frames::MOST_MESSAGES;
+use cb_member::{
+    ArriveRefusal, BurstRefusal, CastRefusal, Group, MissingFault, NewFault, TickRefusal,
+};
 use std::alloc::{AllocError, Global};
 
 /// A member with the frames of its last call that was done, and bytes of which received frames are parts.
@@ -54,6 +60,15 @@ pub enum LoadedRefusal {
     NotLoaded,
     /// The part is refused as received bytes are.
     Refused(ArriveRefusal),
+}
+
+/// Why payloads that lie in a caller's bytes were not cast.
+#[derive(Clone, Copy, Debug, PartialEq, Eq)]
+pub enum PayloadsRefusal {
+    /// There are fewer bytes than their lengths say.
+    NotThere,
+    /// The burst is refused.
+    Refused(BurstRefusal),
 }
 
 impl Held {
@@ -98,6 +113,44 @@ impl Held {
                 Ok(())
             }
             Err(refusal) => Err(refusal),
+        }
+    }
+
+    /// Casts the messages of these payloads in one frame, which is the one frame. After a refusal nothing has changed.
+    pub fn cast_burst(&mut self, payloads: &[&[u8]]) -> Result<(), BurstRefusal>
+        ensures done { OnOk result (HasCastToSend self.old self.new (many_of payloads.now)) }
+        ensures refused { IfErr result (λ refusal. OnEach self.old (λ m.
+            RefusesBurstExactly m (many_of payloads.now) refusal)) }
+        ensures same { OnErr result (self.new ≡ self.old) }
+    {
+        match self.kept.cast_burst(payloads) {
+            Ok(frame) => {
+                self.frames = Frames::of_cast(frame);
+                Ok(())
+            }
+            Err(refusal) => Err(refusal),
+        }
+    }
+
+    /// Casts payloads of these lengths as `cast_burst` casts payloads; they lie one after another from the front of the bytes on. After a
+    /// refusal nothing has changed.
+    pub fn cast_burst_in(&mut self, bytes: &[u8], lengths: &[usize]) -> Result<(), PayloadsRefusal>
+        ensures there { OnOk result (AreThere bytes.now lengths.now) }
+        ensures done { OnOk result (HasCastToSend self.old self.new
+            (burst_in bytes.now lengths.now)) }
+        ensures refused { IfErr result (RefusesPayloads self.old bytes.now lengths.now) }
+        ensures same { OnErr result (self.new ≡ self.old) }
+    {
+        if !are_enough(bytes.len(), lengths) {
+            return Err(PayloadsRefusal::NotThere);
+        }
+        if lengths.len() > MOST_MESSAGES {
+            return Err(PayloadsRefusal::Refused(BurstRefusal::BurstTooLong));
+        }
+        let payloads = cut(bytes, lengths);
+        match self.cast_burst(payloads.as_slice()) {
+            Ok(()) => Ok(()),
+            Err(refusal) => Err(PayloadsRefusal::Refused(refusal)),
         }
     }
 

@@ -2,12 +2,14 @@
 
 ghost use Rattle.std.specs.Prelude.{◌≡◌, ◌≢◌, ◌↔◌, ◌⊎◌, ◌+◌, ◌≤◌, ◌<◌, ◌==◌, ◌&&◌, not, length, map, drop, nat_le, option_map, IfOk, IfErr, OnErr, None, Ok, Err, true, false, if◌then◌else◌};
 ghost use Rattle.cb_frames.specs.Fields.{One};
+ghost use Rattle.cb_history.specs.CastFault.{burst_fault_told, fault_told};
+ghost use Rattle.cb_history.specs.Load.{many_of};
 ghost use Rattle.cb_history.specs.Known.{ranges_of};
 ghost use Rattle.std.specs.Vec.{vec_capacity, vec_len};
 ghost use Rattle.cb_history.specs.Facts.{entry_fields};
 ghost use Rattle.cb_history.specs.Legal.{and_entry, longest_history};
 ghost use Rattle.cb_history.specs.State.{missing_in, stable_in, time_in, RefusesArrival, RefusesTick};
-ghost use Rattle.cb_member.specs.Casting.{RefusesExactly};
+ghost use Rattle.cb_member.specs.Casting.{RefusesBurstExactly, RefusesExactly};
 ghost use Rattle.cb_member.specs.CoreCalls.{MayCast};
 ghost use Rattle.cb_handle.specs.Kept.{OnEach, seat_of, events_of, entries_of};
 ghost use Rattle.cb_handle.specs.Opening.{IsNew};
@@ -17,8 +19,8 @@ ghost use Rattle.cb_handle.specs.Parts.{HasReceivedBehind};
 use bytes::Bytes;
 use cb_history::LONGEST_HISTORY;
 use cb_member::{
-    ArriveRefusal, CastRefusal, CoreMember, Entry, Event, Group, MissingFault, NewFault, Outgoing,
-    Range, Received, TickRefusal, VectorTime,
+    ArriveRefusal, BurstRefusal, CastRefusal, CoreMember, Entry, Event, Group, MissingFault,
+    NewFault, Outgoing, Range, Received, TickRefusal, VectorTime,
 };
 use cb_times::make_room;
 use std::alloc::Global;
@@ -86,6 +88,31 @@ impl Kept {
         };
         let (events, entries) = (self.events.len(), self.entries.len());
         match self.core.cast_into(payload, &mut self.events) {
+            Ok((frame, entry)) => {
+                enter(&mut self.entries, Some(entry));
+                forget(self.limit, &mut self.entries, entries);
+                forget(self.limit, &mut self.events, events);
+                Ok(frame)
+            }
+            Err(refusal) => Err(refusal),
+        }
+    }
+
+    /// Casts the messages of these payloads in one frame, and hands it out. After a refusal nothing has changed.
+    pub fn cast_burst(&mut self, payloads: &[&[u8]]) -> Result<Bytes, BurstRefusal>
+        ensures done { IfOk result (HasCast self.old self.new (many_of payloads.now)) }
+        ensures refused { IfErr result (λ refusal. OnEach self.old (λ m.
+            RefusesBurstExactly m (many_of payloads.now) refusal)) }
+        ensures same { OnErr result (self.new ≡ self.old) }
+    {
+        if is_full(self.limit, &self.entries) {
+            return Err(burst_refusal_or(&self.core, payloads, BurstRefusal::HistoryFull));
+        }
+        let Ok(()) = make_room(&mut self.entries, 1) else {
+            return Err(burst_refusal_or(&self.core, payloads, BurstRefusal::NoMemory));
+        };
+        let (events, entries) = (self.events.len(), self.entries.len());
+        match self.core.cast_burst_into(payloads, &mut self.events) {
             Ok((frame, entry)) => {
                 enter(&mut self.entries, Some(entry));
                 forget(self.limit, &mut self.entries, entries);
@@ -191,10 +218,21 @@ fn is_full(limit: usize, entries: &Vec<Entry>) -> bool
 
 /// Why the core refuses the payload, or else this.
 fn refusal_or(core: &CoreMember, payload: &[u8], other: CastRefusal) -> CastRefusal
-    ensures { MayCast (One payload.now) core.now (Err result)
-        ⊎ ((result ≡ other) × MayCast (One payload.now) core.now (Ok tt)) }
+    ensures { MayCast fault_told (One payload.now) core.now (Err result)
+        ⊎ ((result ≡ other) × MayCast fault_told (One payload.now) core.now (Ok tt)) }
 {
     match core.may_cast(payload) {
+        Ok(()) => other,
+        Err(refusal) => refusal,
+    }
+}
+
+/// Why the core refuses the payloads, or else this.
+fn burst_refusal_or(core: &CoreMember, payloads: &[&[u8]], other: BurstRefusal) -> BurstRefusal
+    ensures { MayCast burst_fault_told (many_of payloads.now) core.now (Err result)
+        ⊎ ((result ≡ other) × MayCast burst_fault_told (many_of payloads.now) core.now (Ok tt)) }
+{
+    match core.may_cast_burst(payloads) {
         Ok(()) => other,
         Err(refusal) => refusal,
     }

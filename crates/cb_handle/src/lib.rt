@@ -11,13 +11,14 @@ mod frames;
 mod handle;
 mod held;
 mod kept;
+mod payloads;
 mod reading;
 mod received;
 mod rows;
 
 pub use frames::Frames;
 pub use handle::{Handle, closed, put, take};
-pub use held::{Held, LoadedRefusal, NoneThere, OpenFault};
+pub use held::{Held, LoadedRefusal, NoneThere, OpenFault, PayloadsRefusal};
 pub use kept::Kept;
 pub use rows::{
     ARRIVE, CAST, Counts, EntryHead, EventHead, FrameHead, Name, Range, Received, TICK,

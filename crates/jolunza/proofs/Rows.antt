@@ -4,13 +4,15 @@ use Rattle.std.specs.Prelude.{Ok, Err}
 use Rattle.cb_frames.specs.declared.fault.FrameFault.TheVariants.{Short}
 use Rattle.cb_history.specs.declared.answer.NewFault.TheVariants as news
 use Rattle.cb_history.specs.declared.answer.CastRefusal.TheVariants as casts
+use Rattle.cb_history.specs.declared.answer.BurstRefusal.TheVariants as bursts
 use Rattle.cb_history.specs.declared.answer.ArriveRefusal.TheVariants as arrivals
 use Rattle.cb_history.specs.declared.answer.TickRefusal.TheVariants as ticks
 use Rattle.cb_history.specs.declared.answer.MissingFault.TheVariants as missings
 use Rattle.cb_handle.specs.declared.held.LoadedRefusal.TheVariants as loadeds
 use Rattle.cb_handle.specs.declared.held.OpenFault.TheVariants as opens
+use Rattle.cb_handle.specs.declared.held.PayloadsRefusal.TheVariants as payloads
 use Rattle.jolunza.specs.declared.code.TheConstants.{CLOSED, NONE_THERE}
-use Rattle.jolunza.specs.Codes.{open_code, cast_code, arrive_code, loaded_code, tick_code, missing_code, answer_code}
+use Rattle.jolunza.specs.Codes.{open_code, cast_code, burst_code, payloads_code, arrive_code, loaded_code, tick_code, missing_code, answer_code}
 
 done : answer_code cast_code (Ok tt) ≡ 0
 done = refl
@@ -83,3 +85,27 @@ not_loaded = refl
 
 a_loaded_part_of_another_group : loaded_code (loadeds.Refused arrivals.OtherGroup) ≡ 9
 a_loaded_part_of_another_group = refl
+
+payloads_that_are_not_there : payloads_code payloads.NotThere ≡ 13
+payloads_that_are_not_there = refl
+
+overlap : arrive_code arrivals.Overlap ≡ 14
+overlap = refl
+
+empty_burst : answer_code payloads_code (Err (payloads.Refused bursts.EmptyBurst)) ≡ 15
+empty_burst = refl
+
+burst_too_long : burst_code bursts.BurstTooLong ≡ 16
+burst_too_long = refl
+
+payloads_too_long : burst_code bursts.PayloadTooLong ≡ 6
+payloads_too_long = refl
+
+window_full_for_a_burst : burst_code bursts.WindowFull ≡ 7
+window_full_for_a_burst = refl
+
+history_full_at_a_burst : burst_code bursts.HistoryFull ≡ 8
+history_full_at_a_burst = refl
+
+no_memory_for_a_burst : burst_code bursts.NoMemory ≡ 2
+no_memory_for_a_burst = refl

@@ -18,8 +18,10 @@ use Rattle.cb_handle.specs.Entries.{range_row}
 use Rattle.cb_handle.specs.Opening.{RefusesToOpen, IsNewOf}
 use Rattle.cb_handle.specs.Calling.{OnEach, seat_held, HasCastToSend, HasReceivedToSend, HasTickedToSend, RefusesBytes, HasReceivedLoaded, RefusesLoaded, with_loaded}
 use Rattle.cb_handle.specs.Parts.{HasReceivedParts, RefusesParts}
+use Rattle.cb_handle.specs.declared.held.PayloadsRefusal.{PayloadsRefusal}
+use Rattle.cb_handle.specs.Payloads.{AreThere, RefusesPayloads, burst_in}
 use Rattle.jolunza.specs.declared.code.TheConstants.{DONE, CLOSED, NO_MEMORY, BAD_MEMBER, NONE_THERE}
-use Rattle.jolunza.specs.Codes.{open_code, cast_code, arrive_code, loaded_code, tick_code}
+use Rattle.jolunza.specs.Codes.{open_code, cast_code, payloads_code, arrive_code, loaded_code, tick_code}
 
 -- a closed handle stays closed and answers so; an open one stays open, and what it holds does this
 abbrev pub Calls : (Held → Held → ℕ → Type 0) → Option Held → Option Held → ℕ → Type 0
@@ -36,6 +38,10 @@ pub record IsDoneOr (Done : Type 0) (R : Type 0) (code_of : R → ℕ) (Refuses 
 abbrev pub Casts : Load → Held → Held → ℕ → Type 0
 Casts load before after code =
     IsDoneOr (HasCastToSend before after load) CastRefusal cast_code (λ refusal. OnEach before (λ m. RefusesExactly m load refusal)) before after code
+
+abbrev pub CastsBurst : List ℕ → List ℕ → Held → Held → ℕ → Type 0
+CastsBurst bytes lengths before after code =
+    IsDoneOr (AreThere bytes lengths × HasCastToSend before after (burst_in bytes lengths)) PayloadsRefusal payloads_code (RefusesPayloads before bytes lengths) before after code
 
 abbrev pub Receives : List ℕ → Received → Held → Held → ℕ → Type 0
 Receives bytes received before after code =

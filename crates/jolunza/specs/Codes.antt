@@ -3,6 +3,8 @@ use Rattle.std.specs.Prelude.{ℕ, Result, Ok, Err}
 use Rattle.cb_history.specs.declared.answer.NewFault.TheVariants as news
 use Rattle.cb_history.specs.declared.answer.CastRefusal.{CastRefusal}
 use Rattle.cb_history.specs.declared.answer.CastRefusal.TheVariants as casts
+use Rattle.cb_history.specs.declared.answer.BurstRefusal.{BurstRefusal}
+use Rattle.cb_history.specs.declared.answer.BurstRefusal.TheVariants as bursts
 use Rattle.cb_history.specs.declared.answer.ArriveRefusal.{ArriveRefusal}
 use Rattle.cb_history.specs.declared.answer.ArriveRefusal.TheVariants as arrivals
 use Rattle.cb_history.specs.declared.answer.TickRefusal.{TickRefusal}
@@ -14,7 +16,9 @@ use Rattle.cb_handle.specs.declared.held.LoadedRefusal.TheVariants as loadeds
 use Rattle.cb_handle.specs.declared.held.NoneThere.{NoneThere}
 use Rattle.cb_handle.specs.declared.held.OpenFault.{OpenFault}
 use Rattle.cb_handle.specs.declared.held.OpenFault.TheVariants as opens
-use Rattle.jolunza.specs.declared.code.TheConstants.{DONE, NO_MEMORY, BAD_GROUP, BAD_MEMBER, BAD_LIMIT, PAYLOAD_TOO_LONG, WINDOW_FULL, HISTORY_FULL, OTHER_GROUP, IMPOSSIBLE, TOO_FAR, MALFORMED, NONE_THERE}
+use Rattle.cb_handle.specs.declared.held.PayloadsRefusal.{PayloadsRefusal}
+use Rattle.cb_handle.specs.declared.held.PayloadsRefusal.TheVariants as payloads
+use Rattle.jolunza.specs.declared.code.TheConstants.{DONE, NO_MEMORY, BAD_GROUP, BAD_MEMBER, BAD_LIMIT, PAYLOAD_TOO_LONG, WINDOW_FULL, HISTORY_FULL, OTHER_GROUP, IMPOSSIBLE, TOO_FAR, MALFORMED, NONE_THERE, OVERLAP, EMPTY_BURST, BURST_TOO_LONG}
 
 abbrev pub open_code : OpenFault → ℕ
 open_code opens.BadGroup = BAD_GROUP
@@ -28,11 +32,24 @@ cast_code casts.WindowFull = WINDOW_FULL
 cast_code casts.HistoryFull = HISTORY_FULL
 cast_code casts.NoMemory = NO_MEMORY
 
+abbrev pub burst_code : BurstRefusal → ℕ
+burst_code bursts.EmptyBurst = EMPTY_BURST
+burst_code bursts.BurstTooLong = BURST_TOO_LONG
+burst_code bursts.PayloadTooLong = PAYLOAD_TOO_LONG
+burst_code bursts.WindowFull = WINDOW_FULL
+burst_code bursts.HistoryFull = HISTORY_FULL
+burst_code bursts.NoMemory = NO_MEMORY
+
+abbrev pub payloads_code : PayloadsRefusal → ℕ
+payloads_code payloads.NotThere = NONE_THERE
+payloads_code (payloads.Refused refusal) = burst_code refusal
+
 abbrev pub arrive_code : ArriveRefusal → ℕ
 arrive_code (arrivals.Malformed fault) = MALFORMED
 arrive_code arrivals.OtherGroup = OTHER_GROUP
 arrive_code arrivals.BadMember = BAD_MEMBER
 arrive_code arrivals.Impossible = IMPOSSIBLE
+arrive_code arrivals.Overlap = OVERLAP
 arrive_code arrivals.TooFar = TOO_FAR
 arrive_code arrivals.HistoryFull = HISTORY_FULL
 arrive_code arrivals.NoMemory = NO_MEMORY

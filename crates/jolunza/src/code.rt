@@ -1,10 +1,10 @@
 //! The codes that the calls answer.
 
 ghost use Rattle.std.specs.Prelude.{◌≡◌};
-ghost use Rattle.jolunza.specs.Codes.{answer_code, open_code, cast_code, arrive_code, loaded_code, tick_code, missing_code, reading_code};
+ghost use Rattle.jolunza.specs.Codes.{answer_code, open_code, cast_code, burst_code, payloads_code, arrive_code, loaded_code, tick_code, missing_code, reading_code};
 
-use cb_handle::{LoadedRefusal, NoneThere, OpenFault};
-use cb_member::{ArriveRefusal, CastRefusal, MissingFault, NewFault, TickRefusal};
+use cb_handle::{LoadedRefusal, NoneThere, OpenFault, PayloadsRefusal};
+use cb_member::{ArriveRefusal, BurstRefusal, CastRefusal, MissingFault, NewFault, TickRefusal};
 
 pub const DONE: u32 = 0;
 
@@ -33,8 +33,14 @@ pub const TOO_FAR: u32 = 11;
 
 pub const MALFORMED: u32 = 12;
 
-/// There is no frame, event or entry of this index, or not so many bytes are loaded.
+/// There is no frame, event or entry of this index, or not so many bytes are loaded or given.
 pub const NONE_THERE: u32 = 13;
+
+pub const OVERLAP: u32 = 14;
+
+pub const EMPTY_BURST: u32 = 15;
+
+pub const BURST_TOO_LONG: u32 = 16;
 
 pub fn of_open(fault: OpenFault) -> u32
     ensures { result ≡ open_code fault }
@@ -59,6 +65,29 @@ pub fn of_cast(answer: Result<(), CastRefusal>) -> u32
     }
 }
 
+pub fn of_burst(refusal: BurstRefusal) -> u32
+    ensures { result ≡ burst_code refusal }
+{
+    match refusal {
+        BurstRefusal::EmptyBurst => EMPTY_BURST,
+        BurstRefusal::BurstTooLong => BURST_TOO_LONG,
+        BurstRefusal::PayloadTooLong => PAYLOAD_TOO_LONG,
+        BurstRefusal::WindowFull => WINDOW_FULL,
+        BurstRefusal::HistoryFull => HISTORY_FULL,
+        BurstRefusal::NoMemory => NO_MEMORY,
+    }
+}
+
+pub fn of_payloads(answer: Result<(), PayloadsRefusal>) -> u32
+    ensures { result ≡ answer_code payloads_code answer }
+{
+    match answer {
+        Ok(()) => DONE,
+        Err(PayloadsRefusal::NotThere) => NONE_THERE,
+        Err(PayloadsRefusal::Refused(refusal)) => of_burst(refusal),
+    }
+}
+
 pub fn of_arrival(refusal: ArriveRefusal) -> u32
     ensures { result ≡ arrive_code refusal }
 {
@@ -67,6 +96,7 @@ pub fn of_arrival(refusal: ArriveRefusal) -> u32
         ArriveRefusal::OtherGroup => OTHER_GROUP,
         ArriveRefusal::BadMember => BAD_MEMBER,
         ArriveRefusal::Impossible => IMPOSSIBLE,
+        ArriveRefusal::Overlap => OVERLAP,
         ArriveRefusal::TooFar => TOO_FAR,
         ArriveRefusal::HistoryFull => HISTORY_FULL,
         ArriveRefusal::NoMemory => NO_MEMORY,

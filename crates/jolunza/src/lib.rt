@@ -13,7 +13,7 @@ ghost use Rattle.cb_handle.specs.Events.{ShowsEvent, ShowsEvents};
 ghost use Rattle.cb_handle.specs.Entries.{ShowsEntry};
 ghost use Rattle.cb_handle.specs.Calling.{OnEach, counts_of, entries_held, events_held};
 ghost use Rattle.jolunza.specs.declared.code.TheConstants.{DONE};
-ghost use Rattle.jolunza.specs.Calls.{Calls, Casts, Receives, Loads, ReceivesLoaded, ReceivesParts, Ticks, Reads, IsDone, ShowsAt, ShowsMissing, Opens};
+ghost use Rattle.jolunza.specs.Calls.{Calls, Casts, CastsBurst, Receives, Loads, ReceivesLoaded, ReceivesParts, Ticks, Reads, IsDone, ShowsAt, ShowsMissing, Opens};
 
 mod code;
 #[cfg(test)]
@@ -72,6 +72,25 @@ pub extern "C" fn jolunza_cast(alloc: Global, handle: &mut Handle, payload: &[u8
     let answer = held.cast(payload);
     put(handle, held);
     code::of_cast(answer)
+}
+
+/// Casts the messages of a burst. Their payloads are of these lengths and lie one after another, from the front on; their one frame, to
+/// all others, is the one that is to be sent.
+#[unsafe(no_mangle)]
+pub extern "C" fn jolunza_cast_burst(
+    alloc: Global,
+    handle: &mut Handle,
+    payloads: &[u8],
+    lengths: &[usize],
+) -> u32
+    ensures { Calls (CastsBurst payloads.now lengths.now) handle.old.held handle.new.held result }
+{
+    let Some(mut held) = take(alloc, handle) else {
+        return CLOSED;
+    };
+    let answer = held.cast_burst_in(payloads, lengths);
+    put(handle, held);
+    code::of_payloads(answer)
 }
 
 /// Takes received bytes. The frames that are to be sent answer a request; what is delivered are the last events.

@@ -2,6 +2,7 @@
 //! examples.
 
 mod bulk;
+mod bursts;
 mod codes;
 mod forgetting;
 mod loading;

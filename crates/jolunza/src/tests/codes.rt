@@ -6,9 +6,9 @@ use crate::code::{
     NONE_THERE, OTHER_GROUP, PAYLOAD_TOO_LONG, TOO_FAR, WINDOW_FULL,
 };
 use crate::{
-    jolunza_cast, jolunza_close, jolunza_count, jolunza_entry, jolunza_event, jolunza_events,
-    jolunza_frame, jolunza_frames, jolunza_load, jolunza_missing, jolunza_open, jolunza_receive,
-    jolunza_receive_loaded, jolunza_stable, jolunza_tick, jolunza_time,
+    jolunza_cast, jolunza_cast_burst, jolunza_close, jolunza_count, jolunza_entry, jolunza_event,
+    jolunza_events, jolunza_frame, jolunza_frames, jolunza_load, jolunza_missing, jolunza_open,
+    jolunza_receive, jolunza_receive_loaded, jolunza_stable, jolunza_tick, jolunza_time,
 };
 use cb_handle::{Counts, EntryHead, EventHead, FrameHead, Handle, Name, Range, Received, closed};
 use std::alloc::Global;
@@ -55,6 +55,7 @@ fn a_closed_handle_answers_so(rt: HostRuntime) {
         delivered: 5,
     };
     assert_eq!(rt; jolunza_cast(alloc, &mut handle, b"hi"), CLOSED);
+    assert_eq!(rt; jolunza_cast_burst(alloc, &mut handle, b"", &[1]), CLOSED);
     assert_eq!(rt;
         jolunza_receive(alloc, &mut handle, HI, &mut received),
         CLOSED

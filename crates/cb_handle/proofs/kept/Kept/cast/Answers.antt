@@ -1,5 +1,7 @@
 use Rattle.std.proofs.Common.{◌∙◌, Some, map, true, false, refl}
 use Rattle.cb_frames.specs.Fields.{One}
+use Rattle.cb_history.specs.declared.answer.CastRefusal.TheVariants as casts
+use Rattle.cb_history.specs.CastFault.{fault_told}
 use Rattle.cb_history.specs.Facts.{entry_fields}
 use Rattle.cb_history.specs.Legal.{ToCast}
 use Rattle.cb_handle.specs.Kept.{KeptMember}
@@ -10,7 +12,7 @@ use Rattle.cb_handle.proofs.kept.Kept.cast.Goals as goal
 pub returns-then-is_full-clause-refused : goal.returns-then-is_full-clause-refused
 returns-then-is_full-clause-refused c =
     let old : KeptMember = record { core = c.self.inside.core; limit = c.self.inside.limit; entries = map entry_fields c.self.inside.entries.items; events = c.self.inside.events.items } in
-    rw (← c.self.view_is) (cast_refused_full old (One c.args.payload.now) c.refusal_or.result (full_is c.self.inside.limit c.self.inside.entries.items c.is_full.result true c.is_full.ensures c.if-is_full.true) c.refusal_or.ensures)
+    rw (← c.self.view_is) (cast_refused_full fault_told casts.NoMemory old (One c.args.payload.now) casts.HistoryFull c.refusal_or.result refl (full_is c.self.inside.limit c.self.inside.entries.items c.is_full.result true c.is_full.ensures c.if-is_full.true) c.refusal_or.ensures)
 
 pub invariant_of-self : goal.invariant_of-self
 invariant_of-self c = rw c.make_room.ensures.items c.self.invariant
@@ -18,7 +20,7 @@ invariant_of-self c = rw c.make_room.ensures.items c.self.invariant
 pub returns-in_default-clause-refused : goal.returns-in_default-clause-refused
 returns-in_default-clause-refused c =
     let old : KeptMember = record { core = c.self.inside.core; limit = c.self.inside.limit; entries = map entry_fields c.self.inside.entries.items; events = c.self.inside.events.items } in
-    rw (← c.self.view_is) (cast_lacks_memory old (One c.args.payload.now) c.refusal_or-in_default.result (full_is c.self.inside.limit c.self.inside.entries.items c.is_full.result false c.is_full.ensures c.if-is_full.false) c.refusal_or-in_default.ensures)
+    rw (← c.self.view_is) (cast_lacks_memory fault_told casts.NoMemory old (One c.args.payload.now) c.refusal_or-in_default.result (full_is c.self.inside.limit c.self.inside.entries.items c.is_full.result false c.is_full.ensures c.if-is_full.false) c.refusal_or-in_default.ensures)
 
 pub invariant_of-self-in-Ok-cast_into : goal.invariant_of-self-in-Ok-cast_into
 invariant_of-self-in-Ok-cast_into c =
@@ -58,4 +60,4 @@ returns-in-Ok-cast_into-clause-done c =
 pub returns-in-Err-clause-refused : goal.returns-in-Err-clause-refused
 returns-in-Err-clause-refused c =
     let old : KeptMember = record { core = c.self.inside.core; limit = c.self.inside.limit; entries = map entry_fields c.self.inside.entries.items; events = c.self.inside.events.items } in
-    rw (← c.self.view_is) (cast_refused_so old (One c.args.payload.now) c.in-Err.refusal (full_is c.self.inside.limit c.self.inside.entries.items c.is_full.result false c.is_full.ensures c.if-is_full.false) c.in-Err.ensures.refused)
+    rw (← c.self.view_is) (cast_refused_so fault_told casts.NoMemory old (One c.args.payload.now) c.in-Err.refusal (full_is c.self.inside.limit c.self.inside.entries.items c.is_full.result false c.is_full.ensures c.if-is_full.false) c.in-Err.ensures.refused)
