@@ -25,13 +25,22 @@ abbrev pub digits_text : List ℕ → List ℕ
 digits_text [] = codes "-"
 digits_text (byte ∷ bytes) = encode_lower (byte ∷ bytes)
 
+-- a payload behind a space
+abbrev pub payload_word : List ℕ → List ℕ
+payload_word payload = codes " " ++ digits_text payload
+
 -- the payloads of a load, each behind a space
 abbrev pub load_text : Load → List ℕ
-load_text (One payload) = codes " " ++ digits_text payload
-load_text (Many payloads) = flat_map (λ payload. codes " " ++ digits_text payload) payloads
+load_text (One payload) = payload_word payload
+load_text (Many payloads) = flat_map payload_word payloads
+
+-- how the line of a step begins that casts the load
+abbrev pub cast_verb : Load → List ℕ
+cast_verb (One payload) = codes "cast "
+cast_verb (Many payloads) = codes "burst "
 
 unfoldable pub step_text : Step → List ℕ
-step_text (CastStep i load) = parameter_text (codes "cast ") i ++ load_text load ++ codes "\n"
+step_text (CastStep i load) = parameter_text (cast_verb load) i ++ load_text load ++ codes "\n"
 step_text (ArriveStep j number) = parameter_text (codes "arrive ") j ++ parameter_text (codes " ") number ++ codes "\n"
 step_text (TickStep i) = parameter_text (codes "tick ") i ++ codes "\n"
 

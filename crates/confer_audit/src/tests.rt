@@ -102,6 +102,30 @@ end
         false,
         "group 4294967295 size 2 window 256 history 3\ntick 0\ncast 0 -\ncast 0 000a\narrive 1 2\n",
     ),
+    // bursts of two messages, of one, and of an empty one between others
+    (
+        "cbcast 1 group 7 size 3 window 8
+member 0 entries 2
+cast 21070001000202686902796f
+cast 21070003000102686f
+member 1 entries 2
+arrive 21070001000202686902796f 0.1 0.2
+cast 21070101010002030161000162
+member 2 entries 2
+arrive 21070101010002030161000162 -
+arrive 21070001000202686902796f 0.1 0.2 1.1 1.2 1.3
+end
+",
+        false,
+        "group 7 size 3 window 8 history 2
+burst 0 6869 796f
+burst 0 686f
+arrive 1 0
+burst 1 61 - 62
+arrive 2 2
+arrive 2 0
+",
+    ),
     (
         "cbcast 1 group 0 size 2 window 1\nmember 0 entries 0\nmember 1 entries 0\nend\n",
         false,

@@ -2,10 +2,10 @@
 
 ghost use Rattle.std.specs.Prelude.{◌≡◌, ◌++◌, IfOk, OnOk, map};
 ghost use Rattle.std.specs.List.{flat_map};
-ghost use Rattle.cb_frames.specs.Fields.{One};
+ghost use Rattle.cb_frames.specs.Fields.{One, Many};
 ghost use Rattle.cb_schedules.specs.Schedule.{CastStep, ArriveStep, TickStep};
 ghost use Rattle.cb_world.specs.Steps.{step_fields};
-ghost use Rattle.confer_audit.specs.Audit.{first_text, digits_text, script_text, step_text};
+ghost use Rattle.confer_audit.specs.Audit.{first_text, digits_text, load_text, payload_word, script_text, step_text};
 
 use bytes::Bytes;
 use cb_member::{Group, NoMemory};
@@ -54,6 +54,7 @@ fn put_step(out: &mut Vec<u8>, step: &Step) -> Result<(), NoMemory>
 {
     match step {
         Step::Cast(i, payload) => put_cast(out, *i, payload),
+        Step::Burst(i, payloads) => put_burst(out, *i, payloads),
         Step::Arrive(j, number) => put_arrive(out, *j, *number),
         Step::Tick(i) => put_tick(out, *i),
     }
@@ -68,6 +69,33 @@ fn put_cast(out: &mut Vec<u8>, i: u32, payload: &Bytes) -> Result<(), NoMemory>
     out.extend_from_slice(b" ")?;
     put_digits(out, payload)?;
     out.extend_from_slice(b"\n")
+}
+
+#[tactic(auto, unfolding(crate::specs::Audit::step_text))]
+fn put_burst(out: &mut Vec<u8>, i: u32, payloads: &[Bytes]) -> Result<(), NoMemory>
+    ensures { OnOk result (out.new.items
+        ≡ out.old.items ++ step_text (CastStep i (Many payloads.now))) }
+{
+    put_parameter(out, b"burst ", i as usize)?;
+    put_payloads(out, payloads)?;
+    out.extend_from_slice(b"\n")
+}
+
+/// The payloads of a burst, each behind a space.
+fn put_payloads(out: &mut Vec<u8>, payloads: &[Bytes]) -> Result<(), NoMemory>
+    ensures { OnOk result (out.new.items ≡ out.old.items ++ load_text (Many payloads.now)) }
+{
+    for payload in payloads {
+        put_behind_space(out, payload)?;
+    }
+    Ok(())
+}
+
+fn put_behind_space(out: &mut Vec<u8>, payload: &Bytes) -> Result<(), NoMemory>
+    ensures { OnOk result (out.new.items ≡ out.old.items ++ payload_word payload.now) }
+{
+    out.extend_from_slice(b" ")?;
+    put_digits(out, payload)
 }
 
 #[tactic(auto, unfolding(crate::specs::Audit::step_text))]

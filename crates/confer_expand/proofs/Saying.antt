@@ -1,24 +1,20 @@
 -- The answers to lines, one after another.
-use Rattle.std.proofs.Common.{map, ◌≡◌, ℕ, ◌+◌, Bool, true, false, ◌||◌, List, [], ◌∷◌, ◌++◌, length, take, drop, refl, sym, ap, subst, ◌∙◌, append_assoc, Result, Ok, Err}
+use Rattle.std.proofs.Common.{◌≡◌, ℕ, ◌+◌, Bool, true, false, ◌||◌, List, [], ◌∷◌, ◌++◌, length, take, drop, refl, sym, ap, subst, ◌∙◌, append_assoc, Result, Ok, Err}
 use Rattle.std.specs.Prelude.{is_err, is_ok, OnOk, if◌then◌else◌, Some, None, codes}
-use Rattle.std.specs.Fmt.{decimal}
 use Rattle.std.proofs.Math.Bool.{or-true, or-false}
 use Rattle.std.proofs.lemmas.List.{append-nil}
 use Rattle.memchr.specs.Find.{IsFirstByte, is_byte}
-use Rattle.cb_times.specs.Time.{text_of}
-use Rattle.cb_frames.specs.declared.frame.Cast.{Cast}
-use Rattle.cb_frames.specs.Fields.{CastFields, cast_fields}
-use Rattle.cb_frames.proofs.Carried.{first_is_number, carries_one}
-use Rattle.cb_diffs.specs.Expansion.{expanded_time}
+use Rattle.cb_frames.specs.declared.frame.Unit.{Unit as Carrying}
+use Rattle.cb_frames.specs.Fields.{CastFields, unit_fields}
 use Rattle.cb_diffs.specs.Laws.{IsKept}
-use Rattle.confer_expand.specs.Answers.{outcome, message_text, answer_texts, accepted_after}
+use Rattle.confer_expand.specs.Answers.{outcome, answer_texts, accepted_after}
 use Rattle.confer_expand.specs.Lines.{line_feed, ended, unended, as_lines, answers, any_refused, accepted_through}
 use Rattle.confer_expand.specs.declared.refusal.Refusal.{Refusal}
 use Rattle.confer_expand.specs.Refusals.{refusal_text}
 use Rattle.confer_expand.specs.Steps.{GivesAccepted}
-use Rattle.confer_text.specs.Texts.{payload_text}
-use Rattle.confer_expand.specs.Texts.{accepted_text}
-use Rattle.confer_expand.specs.Progress.{Group, SameGroup, Said, Says, SaysAfter, SaysFirst}
+use Rattle.confer_expand.specs.Texts.{cast_lines}
+use Rattle.confer_expand.specs.Progress.{Group, SameGroup, SameButTime, Said, Says, SaysAfter, SaysFirst}
+use Rattle.confer_expand.proofs.Showing.{cast_lines_are}
 use Rattle.confer_expand.proofs.Cutting.{ended-line, unended-line, ended-no_feed, unended-no_feed, none_found}
 
 -- ---- lines behind lines
@@ -136,27 +132,27 @@ taken_all begun₀ piece old new before now begun rest t found =
 
 -- ---- one line
 
--- a line that is accepted
-pub says_accepted : (line : List ℕ) (cast : Cast) (old new : Group) (before now : Said)
-    → ((accepted : List CastFields) → IsKept (length old.kept) accepted old.kept → GivesAccepted accepted line old new (Ok cast))
-    → SameGroup old new → now.text ≡ before.text ++ (accepted_text cast new.time ++ line_feed ∷ []) → now.refused ≡ before.refused
+-- a line that is accepted: its messages are printed, and that changes no more than the time
+pub says_accepted : (line : List ℕ) (unit : Carrying) (old mid new : Group) (before now : Said)
+    → ((accepted : List CastFields) → IsKept (length old.kept) accepted old.kept → GivesAccepted accepted line old mid (Ok unit))
+    → SameGroup old mid → SameButTime mid new → now.text ≡ before.text ++ cast_lines (unit_fields unit) mid.time → now.refused ≡ before.refused
     → Says (line ∷ []) old new before now
-says_accepted line cast old new before now gives same text refused = record {
-  number = same.number;
-  size = same.size;
+says_accepted line unit old mid new before now gives same stays text refused = record {
+  number = stays.number ∙ same.number;
+  size = ap length stays.kept ∙ same.size;
   after = λ accepted kept.
       let size = length old.kept in
+      let c : CastFields = unit_fields unit in
       let given = gives accepted kept in
       let is = given.0 in
-      let casts : List CastFields = accepted ++ cast_fields cast ∷ [] in
-      let time : expanded_time size casts cast.sender cast.number ≡ new.time = ap (expanded_time size casts cast.sender) (sym (first_is_number (cast_fields cast))) ∙ sym given.1.time in
-      let shown : answer_texts size accepted (outcome old.number size accepted line) ≡ accepted_text cast new.time ∷ [] = ap (answer_texts size accepted) is
-      ∙ ap (map (message_text size casts)) (carries_one (cast_fields cast) tt)
-      ∙ ap (λ (t : List ℕ). (decimal cast.sender ++ codes "." ++ decimal cast.number ++ codes " " ++ text_of t ++ codes " " ++ payload_text cast.payload) ∷ []) time in
+      let shown : answers old.number size accepted (line ∷ []) ≡ cast_lines c mid.time =
+      append-nil (as_lines (answer_texts size accepted (outcome old.number size accepted line))) ∙ ap (λ (r : Result CastFields Refusal). as_lines (answer_texts size accepted r)) is
+      ∙ sym (cast_lines_are size (accepted ++ c ∷ []) c mid.time given.1.times) in
       record {
-        text = text ∙ ap (λ (t : List ℕ). before.text ++ t) (sym (one_answer size accepted (outcome old.number size accepted line) (accepted_text cast new.time) shown));
+        text = text ∙ ap (λ (t : List ℕ). before.text ++ t) (sym shown);
         refusal = refused ∙ sym (or-false before.refused) ∙ ap (λ (b : Bool). before.refused || (b || false)) (sym (ap is_err is));
-        kept_are = subst (λ (r : Result CastFields Refusal). IsKept size (accepted_after accepted r) new.kept) (sym is) given.1.kept;
+        kept_are = subst (λ (r : Result CastFields Refusal). IsKept size (accepted_after accepted r) new.kept) (sym is)
+            (subst (IsKept size (accepted ++ c ∷ [])) (sym stays.kept) given.1.kept);
       };
 }
 

@@ -6,9 +6,7 @@ use Rattle.hex.specs.declared.error.FromHexError.{FromHexError}
 use Rattle.hex.specs.Hex.{decode_of}
 use Rattle.cb_times.specs.Time.{text_of}
 use Rattle.cb_frames.specs.declared.fault.FrameFault.{FrameFault}
-use Rattle.cb_frames.specs.declared.fault.FrameFault.TheVariants as faults
 use Rattle.cb_frames.specs.Fields.{CastFields, FrameFields, CastFrame, StatusFrame, RequestFrame, Carried, messages_of, first_number}
-use Rattle.cb_frames.specs.Text.{burst_kind}
 use Rattle.cb_frames.specs.Reading.{frame_at}
 use Rattle.cb_diffs.specs.declared.expander.ExpandFault.TheVariants as expands
 use Rattle.cb_diffs.specs.Expansion.{greatest, expanded_time, last_in}
@@ -27,11 +25,6 @@ abbrev pub ◌>>=◌ : {A B : Type 0} → Result A Refusal → (A → Result B R
 abbrev pub or_bad_hex : Result (List ℕ) FromHexError → Result (List ℕ) Refusal
 or_bad_hex (Ok bytes) = Ok bytes
 or_bad_hex (Err fault) = Err refusals.BadHex
-
--- the frame whose text the bytes are, or their first fault, where what begins as a burst is of no kind, as it is to members
-abbrev pub single_frame_at : List ℕ → Result FrameFields FrameFault
-single_frame_at [] = frame_at []
-single_frame_at (kind ∷ bytes) = if kind == burst_kind then Err faults.UnknownKind else frame_at (kind ∷ bytes)
 
 abbrev pub cast_or_refusal : Result FrameFields FrameFault → Result CastFields Refusal
 cast_or_refusal (Ok (CastFrame c)) = Ok c
@@ -54,7 +47,7 @@ accept group size accepted c =
 unfoldable pub outcome : ℕ → ℕ → List CastFields → List ℕ → Result CastFields Refusal
 outcome group size accepted line = do
   bytes ← or_bad_hex (decode_of line)
-  c ← cast_or_refusal (single_frame_at bytes)
+  c ← cast_or_refusal (frame_at bytes)
   accept group size accepted c
 
 -- ---- what is printed

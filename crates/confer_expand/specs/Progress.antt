@@ -41,6 +41,11 @@ pub record SameGroup (old new : Group) : Type 0 where
   pub number : new.number ≡ old.number
   pub size : length new.kept ≡ length old.kept
 
+-- what is known of the group stays, but for the time
+pub record SameButTime (old new : Group) : Type 0 where
+  pub number : new.number ≡ old.number
+  pub kept : new.kept ≡ old.kept
+
 -- no cast was accepted yet
 pub record IsFresh (number size : ℕ) (g : Group) : Type 0 where
   pub number_is : g.number ≡ number

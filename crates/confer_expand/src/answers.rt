@@ -2,16 +2,12 @@
 
 use crate::expansion::Expansion;
 use crate::fault::LineFault;
+use crate::messages::{LONGEST_ANSWER, show};
 use crate::refusal::Refusal;
-use cb_frames::{Cast, LONGEST_PAYLOAD};
-use cb_times::{NoMemory, VectorTime};
-use confer_text::{LONGEST_TIME, put_fault, put_number, put_payload, put_time};
+use cb_times::NoMemory;
+use confer_text::put_fault;
 use std::alloc::Global;
 use std::marker::Model;
-
-/// The most bytes of the answer to an accepted cast, with its line feed: a name, a time and a payload, which may
-/// take two bytes a byte and two more, and what stands behind each.
-const LONGEST_ANSWER: usize = 24 + LONGEST_TIME + 2 * LONGEST_PAYLOAD + 2;
 
 /// Answers to lines, one behind the other. A clause sees their text, and whether one of them is a refusal.
 #[derive(Drop)]
@@ -72,8 +68,9 @@ impl Answers {
     {
         self.text.reserve(LONGEST_ANSWER)?;
         match expansion.accept(line) {
-            Ok(cast) => {
-                show(&mut self.text, &cast, expansion.time());
+            Ok(unit) => {
+                show(&mut self.text, &unit, expansion);
+                drop(unit);
                 Ok(())
             }
             Err(LineFault::Refused(refusal)) => self.refuse(refusal),
@@ -92,40 +89,4 @@ impl Answers {
         self.refused = true;
         Ok(())
     }
-}
-
-ghost use Rattle.std.specs.Prelude.{◌≡◌, ◌≤◌, ◌+◌, ◌∷◌, ◌++◌, [], OnOk, vec_capacity, vec_len, length};
-ghost use Rattle.cb_frames.specs.declared.frame.TheConstants.{LONGEST_PAYLOAD};
-ghost use Rattle.confer_text.specs.Texts.{PutsAtMost};
-ghost use Rattle.confer_expand.specs.declared.answers.TheConstants.{LONGEST_ANSWER};
-ghost use Rattle.confer_expand.specs.Lines.{line_feed};
-ghost use Rattle.confer_expand.specs.Texts.{accepted_text};
-
-/// Puts an accepted cast with its time behind the text, for which memory is reserved.
-fn show(text: &mut Vec<u8>, cast: &Cast, time: &VectorTime)
-    requires short { length cast.now.payload ≤ LONGEST_PAYLOAD }
-    requires reserved { vec_len text.old + LONGEST_ANSWER ≤ vec_capacity text.old }
-    ensures { text.new.items
-        ≡ text.old.items ++ (accepted_text cast.now time.now ++ line_feed ∷ []) }
-{
-    let Ok(()) = put_accepted(text, cast, time) else {
-        unreachable!("memory is reserved");
-    };
-}
-
-/// Puts an accepted cast with its time behind the text.
-fn put_accepted(text: &mut Vec<u8>, cast: &Cast, time: &VectorTime) -> Result<(), NoMemory>
-    requires { length cast.now.payload ≤ LONGEST_PAYLOAD }
-    ensures line { OnOk result (text.new.items
-        ≡ text.old.items ++ (accepted_text cast.now time.now ++ line_feed ∷ [])) }
-    ensures room { PutsAtMost LONGEST_ANSWER text.old text.new result }
-{
-    put_number(text, cast.sender)?;
-    text.extend_from_slice(b".")?;
-    put_number(text, cast.number)?;
-    text.extend_from_slice(b" ")?;
-    put_time(text, time)?;
-    text.extend_from_slice(b" ")?;
-    put_payload(text, &cast.payload)?;
-    text.extend_from_slice(b"\n")
 }

@@ -3,9 +3,9 @@
 use crate::fault::LineFault;
 use crate::refusal::Refusal;
 use bytes::Bytes;
-use cb_diffs::Expander;
-use cb_frames::{Cast, Frame, FrameFault};
-use cb_times::{NoMemory, VectorTime};
+use cb_diffs::{ExpandFault, Expander};
+use cb_frames::{Frame, FrameFault, Unit};
+use cb_times::{Name, NoMemory, VectorTime};
 use hex::FromHexError;
 use std::alloc::{AllocError, Global};
 use std::marker::Model;
@@ -18,7 +18,7 @@ pub struct Expansion {
     group: u32,
     /// Keeps the time of each member's last accepted cast.
     expander: Expander,
-    /// The time of the cast that was accepted last: made once, and written over.
+    /// The time of a message of the cast that was accepted last, at first of its first one: made once, and written over.
     time: VectorTime,
 }
 
@@ -34,13 +34,14 @@ impl Model for Expansion {
 }
 
 impl Expansion {
-    ghost use Rattle.std.specs.Prelude.{◌≡◌, ℕ, List, [], length, IfOk, OnErr};
-    ghost use Rattle.cb_frames.specs.Fields.{CastFields, cast_fields};
+    ghost use Rattle.std.specs.Prelude.{◌≡◌, ◌≢◌, ◌↔◌, ◌<◌, ℕ, List, [], length, slice_set, IfOk, OnErr, OnOk, Err};
+    ghost use Rattle.cb_frames.specs.Carrying.{IsNumbered};
+    ghost use Rattle.cb_frames.specs.Fields.{CastFields, unit_fields};
     ghost use Rattle.cb_times.specs.Group.{IsGroupSize};
-    ghost use Rattle.cb_times.specs.Time.{IsTime};
+    ghost use Rattle.cb_diffs.specs.Expansion.{Expands, IsNotNext, IsStrange};
     ghost use Rattle.cb_diffs.specs.Laws.{IsKept};
     ghost use Rattle.confer_expand.specs.Progress.{IsFresh, SameGroup};
-    ghost use Rattle.confer_expand.specs.Steps.{GivesAccepted, GivesTime};
+    ghost use Rattle.confer_expand.specs.Steps.{GivesAccepted, GivesTime, IsRead};
 
     /// For a group of that many members, none of whose casts were accepted.
     pub fn new(alloc: Global, group: u32, size: u32) -> Result<Expansion, NoMemory>
@@ -57,53 +58,81 @@ impl Expansion {
         })
     }
 
-    /// The time of the cast that was accepted last.
+    /// The time of the first message of what was accepted last, or of that to which `move_to` moved it.
     pub fn time(&self) -> &VectorTime
         ensures { result.now ≡ self.now.time }
     {
         &self.time
     }
 
-    /// The cast that the line is. Its time is then `time`.
+    /// Moves `time` on to this message of what was accepted last: between its messages no field but the sender's grows.
+    pub fn move_to(&mut self, name: Name)
+        requires { name.sender < length self.old.kept }
+        ensures { self.new
+            ≡ record self.old { time = slice_set self.old.time name.sender name.number } }
+    {
+        self.time.set(name.sender, name.number);
+    }
+
+    /// The cast or burst that the line is. The time of its first message is then `time`.
     #[tactic(auto, unfolding(crate::specs::Answers::outcome))]
-    pub fn accept(&mut self, line: &[u8]) -> Result<Cast, LineFault>
+    pub fn accept(&mut self, line: &[u8]) -> Result<Unit, LineFault>
         ensures gives { (accepted : List CastFields)
             → IsKept (length self.old.kept) accepted self.old.kept
             → GivesAccepted accepted line.now self.old self.new result }
-        ensures short { IfOk result (λ cast. length cast.payload ≤ LONGEST_PAYLOAD) }
+        ensures read { IfOk result IsRead }
+        ensures member { IfOk result (λ unit. (unit_fields unit).sender < length self.new.kept) }
         ensures same { SameGroup self.old self.new }
         ensures err { OnErr result (self.new ≡ self.old) }
     {
         let bytes = bytes_of(self.alloc, line)?;
-        let cast = cast_of(self.alloc, &bytes)?;
-        match self.expand(&cast) {
-            Ok(()) => Ok(cast),
+        let unit = unit_of(self.alloc, &bytes)?;
+        match self.expand(&unit) {
+            Ok(()) => Ok(unit),
             Err(fault) => Err(fault),
         }
     }
 
-    fn expand(&mut self, cast: &Cast) -> Result<(), LineFault>
+    fn expand(&mut self, unit: &Unit) -> Result<(), LineFault>
+        requires { IsNumbered unit.now }
         ensures gives { (accepted : List CastFields)
             → IsKept (length self.old.kept) accepted self.old.kept
-            → GivesTime accepted (cast_fields cast.now) self.old self.new result }
+            → GivesTime accepted (unit_fields unit.now) self.old self.new result }
+        ensures member { OnOk result ((unit_fields unit.now).sender < length self.new.kept) }
         ensures same { SameGroup self.old self.new }
         ensures err { OnErr result (self.new ≡ self.old) }
     {
-        if cast.group != self.group {
+        if unit.group() != self.group {
             return Err(LineFault::Refused(Refusal::OtherGroup));
         }
-        match self.expander.expand_into(cast, &mut self.time) {
+        match self.take(unit) {
             Ok(()) => Ok(()),
             Err(fault) => Err(LineFault::Refused(Refusal::Expand(fault))),
         }
     }
+
+    /// Expands the sender's next cast or burst.
+    fn take(&mut self, unit: &Unit) -> Result<(), ExpandFault>
+        requires { IsNumbered unit.now }
+        ensures ok { OnOk result
+            (Expands self.old.kept (unit_fields unit.now) self.new.time self.new.kept) }
+        ensures bad_member { (result ≡ Err ExpandFault.BadMember)
+            ↔ IsStrange self.old.kept (unit_fields unit.now) }
+        ensures not_next { (expected found : ℕ)
+            → (result ≡ Err (ExpandFault.NotNext expected found))
+            ↔ IsNotNext self.old.kept (unit_fields unit.now) expected found }
+        ensures never_for_memory { result ≢ Err ExpandFault.NoMemory }
+        ensures number { self.new.number ≡ self.old.number }
+        ensures err { OnErr result (self.new ≡ self.old) }
+    {
+        match unit {
+            Unit::One(cast) => self.expander.expand_into(cast, &mut self.time),
+            Unit::Many(burst) => self.expander.burst_into(burst, &mut self.time),
+        }
+    }
 }
 
-ghost use Rattle.std.specs.Prelude.{◌≡◌, ◌≤◌};
-ghost use Rattle.cb_frames.specs.declared.frame.TheConstants.{LONGEST_PAYLOAD};
-ghost use Rattle.cb_frames.specs.Reading.{frame_at};
-ghost use Rattle.confer_expand.specs.Answers.{single_frame_at};
-ghost use Rattle.confer_expand.specs.Steps.{GivesBytes, GivesCast};
+ghost use Rattle.confer_expand.specs.Steps.{GivesBytes, GivesUnit};
 
 fn bytes_of(alloc: Global, line: &[u8]) -> Result<Bytes, LineFault>
     ensures { GivesBytes line.now result }
@@ -119,26 +148,13 @@ fn bytes_of(alloc: Global, line: &[u8]) -> Result<Bytes, LineFault>
     }
 }
 
-/// The first byte of a burst.
-const BURST: u8 = 0x21;
-
-/// The cast that the bytes are. A burst is of no kind that has a time here, whatever follows its first byte.
-fn cast_of(alloc: Global, bytes: &Bytes) -> Result<Cast, LineFault>
-    ensures { GivesCast bytes.now result }
-{
-    match bytes.as_slice().first() {
-        Some(&BURST) => Err(LineFault::Refused(Refusal::Frame(FrameFault::UnknownKind))),
-        _other => single_cast(alloc, bytes),
-    }
-}
-
-fn single_cast(alloc: Global, bytes: &Bytes) -> Result<Cast, LineFault>
-    requires { single_frame_at bytes.now ≡ frame_at bytes.now }
-    ensures { GivesCast bytes.now result }
+/// The cast or burst that the bytes are.
+fn unit_of(alloc: Global, bytes: &Bytes) -> Result<Unit, LineFault>
+    ensures { GivesUnit bytes.now result }
 {
     match cb_frames::decode(alloc, bytes) {
-        Ok(Frame::Cast(cast)) => Ok(cast),
-        Ok(Frame::Burst(_)) => unreachable!("it would begin with another byte"),
+        Ok(Frame::Cast(cast)) => Ok(Unit::One(cast)),
+        Ok(Frame::Burst(burst)) => Ok(Unit::Many(burst)),
         Ok(Frame::Status(_) | Frame::Request(_)) => Err(LineFault::Refused(Refusal::NotACast)),
         Err(FrameFault::NoMemory) => Err(LineFault::NoMemory(AllocError)),
         Err(fault) => Err(LineFault::Refused(Refusal::Frame(fault))),

@@ -1,15 +1,16 @@
-//! `confer expand`: cast frames in hexadecimal, a frame a line, and for each its message with its vector
-//! time, or why it is refused.
+//! `confer expand`: casts and bursts in hexadecimal, a frame a line, and for each its messages with their
+//! vector times, or why it is refused.
 //!
 //! From the streams down: `streams` reads and writes, `lines` cuts what was read into lines, `answers`
-//! answers one line and writes the answer, and `expansion` finds its cast and the cast's time. Stands on
-//! `cb_frames` and `cb_diffs`.
+//! answers one line, `messages` writes the lines of its messages, and `expansion` finds the cast or burst that
+//! it is and its time. Stands on `cb_frames` and `cb_diffs`.
 #![tactic(auto)]
 
 mod answers;
 mod expansion;
 mod fault;
 mod lines;
+mod messages;
 mod refusal;
 mod streams;
 

@@ -19,7 +19,7 @@ pub enum Refusal {
     NotACast,
     /// The frame is of another group.
     OtherGroup,
-    /// The cast names no member of the group, or is not its sender's next one.
+    /// The cast or burst names no member of the group, or does not begin with its sender's next number.
     Expand(ExpandFault),
 }
 

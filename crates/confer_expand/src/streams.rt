@@ -61,8 +61,8 @@ fn answer_last<W: Write>(output: &mut W, lines: &mut Lines) -> Result<bool, Line
     }
 }
 
-/// Reads lines of hexadecimal to the end of the input, and writes for each the time of the cast that it is,
-/// or why it is refused. Whether a line was refused.
+/// Reads lines of hexadecimal to the end of the input, and writes for each the messages of the cast or burst that
+/// it is, with their times, or why it is refused. Whether a line was refused.
 ///
 /// Output is written once for each read; memory does not grow with the number of lines.
 pub fn expand_lines<R: Read, W: Write>(

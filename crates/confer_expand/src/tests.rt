@@ -68,6 +68,42 @@ fn a_cast_out_of_its_senders_order_is_refused(rt: HostRuntime) {
     expands_made(&rt, rt.alloc(), lines, true, text);
 }
 
+/// Lines with bursts among them, and what is written of each.
+const BURSTS: &[(&[u8], bool, &str)] = &[
+    (
+        b"21070001000202686902796f\n210701010100020201610162\n11070103000163\n",
+        false,
+        "0.1 [1,0,0] \"hi\"\n0.2 [2,0,0] \"yo\"\n1.1 [2,1,0] \"a\"\n1.2 [2,2,0] \"b\"\n1.3 [2,3,0] \"c\"\n",
+    ),
+    (
+        b"21070001000202686902796f\n21070002000202686902796f\n21070003000101ff\n",
+        true,
+        "0.1 [1,0,0] \"hi\"\n0.2 [2,0,0] \"yo\"\nrefused NotNext expected 3 found 2\n0.3 [3,0,0] xff\n",
+    ),
+    (
+        b"11070101000162\n210701010002000000\n21070002000100\n2107010200020000",
+        true,
+        "1.1 [0,1,0] \"b\"\nrefused Trailing\nrefused NotNext expected 1 found 2\n1.2 [0,2,0] \"\"\n1.3 [0,3,0] \"\"\n",
+    ),
+    (
+        b"21070201010005020000\n2107020301010102016101620000\n210702030101010201610162",
+        true,
+        "2.1 [5,0,1] \"\"\n2.2 [5,0,2] \"\"\nrefused Trailing\n2.3 [5,1,3] \"a\"\n2.4 [5,1,4] \"b\"\n",
+    ),
+];
+
+/// A function, since a constant would be looked through in the proof of the loop.
+fn bursts() -> &'static [(&'static [u8], bool, &'static str)] {
+    BURSTS
+}
+
+#[test]
+fn a_burst_has_a_line_for_each_message_and_its_increments_count_once(rt: HostRuntime) {
+    for (lines, refused, text) in bursts() {
+        expands(&rt, rt.alloc(), lines, *refused, text);
+    }
+}
+
 /// Lines, and what is written of each.
 const NO_FRAMES: &[(&[u8], bool, &str)] = &[
     (b"", false, ""),
@@ -76,10 +112,31 @@ const NO_FRAMES: &[(&[u8], bool, &str)] = &[
     (b"110700010002686\n", true, "refused BadHex\n"),
     (b"11 07\n", true, "refused BadHex\n"),
     (b"14\n", true, "refused UnknownKind\n"),
-    (b"21\n", true, "refused UnknownKind\n"),
-    (b"21070001000202686902796f\n", true, "refused UnknownKind\n"),
-    (b"2108000100010161\n", true, "refused UnknownKind\n"),
-    (b"210700010000\n", true, "refused UnknownKind\n"),
+    (b"21\n", true, "refused Short\n"),
+    (b"2107000100020268690279\n", true, "refused Short\n"),
+    (b"210700010000\n", true, "refused EmptyBurst\n"),
+    (b"210700010021\n", true, "refused BurstTooLong\n"),
+    (b"2107000100028008\n", true, "refused Short\n"),
+    (b"2107000100028108\n", true, "refused PayloadTooLong\n"),
+    (b"210700010001016162\n", true, "refused Trailing\n"),
+    (b"2108000100010161\n", true, "refused OtherGroup\n"),
+    (b"2107030100010161\n", true, "refused BadMember\n"),
+    (b"21070001010301010161\n", true, "refused BadMember\n"),
+    (
+        b"2107000200010161\n",
+        true,
+        "refused NotNext expected 1 found 2\n",
+    ),
+    (
+        b"210700ffffffff0f00010161\n",
+        true,
+        "refused NotNext expected 1 found 4294967295\n",
+    ),
+    (
+        b"210700ffffffff0f000201610162\n",
+        true,
+        "refused BurstTooLong\n",
+    ),
     (b"120702\n", true, "refused Short\n"),
     (b"1307020000\n", true, "refused BadRange\n"),
     (b"12070200\n", true, "refused NotACast\n"),
@@ -249,41 +306,69 @@ fn the_longest_input_is_read_and_of_a_longer_one_each_line_within_the_limit(rt: 
     answers_letters(&rt, rt.alloc(), 67_108_890, Err(LinesFault::TooLong));
 }
 
-/// A cast by the last of 64 members with the greatest numbers and the longest payload, which is not plain.
-fn longest_frame(rt: &impl Abort, alloc: Global) -> String {
+/// A cast or a burst by the last of 64 members with the greatest numbers, which carries this.
+fn longest_frame(rt: &impl Abort, alloc: Global, kind: &str, carried: String) -> String {
     let times = "00ffffffff0f".repeat(alloc, 63).expect(rt, "memory");
-    let payload = "ff".repeat(alloc, 1024).expect(rt, "memory");
-    let frame = joined(
-        rt,
-        alloc,
-        &[
-            "11ffffffff0f3f013f",
-            times.as_str(),
-            "8008",
-            payload.as_str(),
-        ],
-    );
+    let parts = [kind, "ffffffff0f3f013f", times.as_str(), carried.as_str()];
+    let frame = joined(rt, alloc, &parts);
     drop(times);
-    drop(payload);
+    drop(carried);
     frame
+}
+
+/// What is written of a frame of the greatest group, which is accepted.
+fn written(rt: &impl Abort, alloc: Global, frame: String) -> Vec<u8> {
+    let mut input = reading(frame.as_bytes());
+    let mut output = writing(alloc);
+    input.most = 4096;
+    let answer = expand_lines(alloc, 4_294_967_295, 64, &mut input, &mut output);
+    drop(input);
+    drop(frame);
+    let text = output.text;
+    assert_eq!(rt; answer, Ok(false));
+    text
+}
+
+/// The answer to the frame begins with its first name and its time, and ends with its last payload.
+fn is_whole(rt: &impl Abort, alloc: Global, frame: String, length: usize) {
+    let text = written(rt, alloc, frame);
+    let begins = text.starts_with(b"63.1 [4294967295,");
+    let ends = text.ends_with(b"ff\n");
+    let count = text.len();
+    drop(text);
+    assert!(rt; begins && ends && count == length, "{count}");
 }
 
 #[test]
 fn the_longest_answers_are_whole(rt: HostRuntime) {
-    let frame = longest_frame(&rt, rt.alloc());
-    let mut input = reading(frame.as_bytes());
-    let mut output = writing(rt.alloc());
-    input.most = 4096;
-    let answer = expand_lines(rt.alloc(), 4_294_967_295, 64, &mut input, &mut output);
-    drop(input);
-    drop(frame);
-    is_longest_answer(&rt, &output.text);
-    drop(output);
-    assert_eq!(rt; answer, Ok(false));
+    let alloc = rt.alloc();
+    let payload = "ff".repeat(alloc, 1024).expect(&rt, "memory");
+    let carried = joined(&rt, alloc, &["8008", payload.as_str()]);
+    drop(payload);
+    let frame = longest_frame(&rt, alloc, "11", carried);
+    is_whole(
+        &rt,
+        alloc,
+        frame,
+        4 + 1 + 1 + 63 * 11 + 1 + 1 + 1 + 1 + 2048 + 1,
+    );
 }
 
-fn is_longest_answer(rt: &impl Abort, text: &[u8]) {
-    assert!(rt; text.starts_with(b"63.1 [4294967295,"));
-    assert!(rt; text.ends_with(b"ff\n"));
-    assert_eq!(rt; text.len(), 4 + 1 + 1 + 63 * 11 + 1 + 1 + 1 + 1 + 2048 + 1);
+#[test]
+fn a_burst_of_32_messages_has_32_whole_lines(rt: HostRuntime) {
+    let alloc = rt.alloc();
+    let payload = "ff".repeat(alloc, 32).expect(&rt, "memory");
+    let one = joined(&rt, alloc, &["20", payload.as_str()]);
+    drop(payload);
+    let all = one.repeat(alloc, 32).expect(&rt, "memory");
+    drop(one);
+    let carried = joined(&rt, alloc, &["20", all.as_str()]);
+    drop(all);
+    let frame = longest_frame(&rt, alloc, "21", carried);
+    is_whole(
+        &rt,
+        alloc,
+        frame,
+        32 * (3 + 1 + 1 + 63 * 11 + 1 + 1 + 1 + 64 + 1) + 2 * 55,
+    );
 }

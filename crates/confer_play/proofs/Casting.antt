@@ -2,13 +2,13 @@
 use Rattle.std.proofs.Common.{◌≡◌, ◌≢◌, ℕ, zero, suc, ◌+◌, ◌<◌, ◌≤◌, Bool, true, false, ltb, List, [], ◌∷◌, ◌++◌, length, map, Option, Some, None, Result, Ok, Err, refl, sym, ap, subst, ◌∙◌, arith, ◌⊎◌, inl, inr}
 use Rattle.std.specs.Prelude.{slice_get}
 use Rattle.std.specs.List.{AllByRecursion}
-use Rattle.std.proofs.lemmas.Bool.{cases_eq, eq-eqb, ne_eqb, cond_both, ltb-false}
+use Rattle.std.proofs.lemmas.Bool.{cases_eq, eq-eqb, ne_eqb, cond_both}
 use Rattle.std.proofs.lemmas.List.{append-nil, map-append}
 use Rattle.cb_times.specs.declared.name.Name.{Name}
-use Rattle.cb_frames.specs.declared.frame.TheConstants.{LONGEST_PAYLOAD, LAST_NUMBER}
 use Rattle.cb_frames.specs.declared.fault.FrameFault.{FrameFault}
-use Rattle.cb_frames.specs.Fields.{Load, One, Many, payloads_of, load_bytes, numbered, messages_of, CastFields, FrameFields, CastFrame, StatusFrame, RequestFrame}
-use Rattle.cb_frames.specs.Text.{IsLoad, text_of}
+use Rattle.cb_frames.specs.Fields.{Load, payloads_of, load_bytes, numbered, messages_of, CastFields, FrameFields, CastFrame, StatusFrame, RequestFrame}
+use Rattle.cb_frames.specs.Laws.{CanBeWritten}
+use Rattle.cb_frames.specs.Text.{text_of}
 use Rattle.cb_frames.proofs.Carried.{IsIn}
 use Rattle.cb_history.specs.Read.{frame_read}
 use Rattle.cb_delay.specs.declared.message.Message.{Message}
@@ -24,19 +24,19 @@ use Rattle.cb_history.specs.declared.answer.Outgoing.{Outgoing}
 use Rattle.cb_history.specs.CastFault.{CastFault}
 use Rattle.cb_history.specs.Group.{Identity}
 use Rattle.cb_history.specs.Facts.{EntryFields, CastEntry, ArriveEntry, TickEntry, Fact, OwnCast, CastReceived, StatusReceived, OwnStatus, cast_said, arrival_said, status_said, said_by, casts_in, facts_of}
-use Rattle.cb_history.specs.Answers.{is_full, is_too_many, delivered, next_cast, cast_answer, ArrivalSays, Accepted, Repeat, arrive_answer, tick_answer}
+use Rattle.cb_history.specs.Answers.{next_cast, cast_answer, ArrivalSays, Accepted, Repeat, arrive_answer, tick_answer}
 use Rattle.cb_history.specs.Events.{events}
 use Rattle.cb_history.specs.EventLaws.{new_events}
 use Rattle.cb_history.specs.View.{message_in}
 use Rattle.cb_history.specs.Legal.{Call, ToCast, ToTake, ToTick, cast_entry, arrive_entry, tick_entry, entry_of, and_entry, history_after, AreEntriesOf}
 use Rattle.cb_history.specs.LegalFacts.{AreFactsOf}
-use Rattle.cb_history.proofs.Counts.{numbers_left}
+use Rattle.cb_history.proofs.Loads.{answered}
 use Rattle.cb_history.proofs.Lists.{flat_map-append}
 use Rattle.cb_history.proofs.Happening.{events_with_one_more}
 use Rattle.cb_history.proofs.Histories.{entries_say_legal_facts}
 use Rattle.cb_history.proofs.Calls.{calls_keep_entries}
 use Rattle.cb_history.proofs.ReadBack.{cast_read}
-use Rattle.cb_history.proofs.Requests.{own_frames_have_texts}
+use Rattle.cb_history.proofs.Written.{fitting_can}
 use Rattle.cb_schedules.specs.Schedule.{Setting, IsSetting, Step, CastStep, ArriveStep, TickStep, SentFrame, seat_at, Asked, Calls, OfNoMember, OfNoFrame, OfNoBytes, are_bytes, asked_by, handed_over, after_asked, step_after, with_history, GroupState}
 use Rattle.cb_schedules.specs.Messages.{stamped_lists, causal_lists}
 use Rattle.cb_schedules.specs.Consistent.{IsConsistent}
@@ -163,26 +163,18 @@ module _ (setting : Setting) (is : IsSetting setting) (s : GroupState) (inv : Is
   are : AreFactsOf (seat_at setting i) (facts_of (s.histories i))
   are = inv.together.legal i lt
 
+  cast_entered : (load : Load) (r : Result CastFields CastFault) → cast_answer seat setting.limit now load ≡ r → AddsOne (ToCast load) (cast_entry r)
+  cast_entered load (Err fault) is = adds_none (ToCast load)
+  cast_entered load (Ok c) is = λ e at.
+      let cast = answered seat setting.limit now load c is in
+      let can = fitting_can seat (facts_of now) load are.group are.member are.facts_are cast.fits cast.window in
+      let read : frame_read (text_of (CastFrame c)) ≡ Ok (CastFrame c) = cast_read c (subst (λ (d : CastFields). CanBeWritten (CastFrame d)) (sym cast.next) can) in
+      let same : CastEntry (text_of (CastFrame c)) ≡ e = cc in
+      subst (λ (x : EntryFields). SaysOne (ToCast load) (said_by x)) same
+      (subst (λ (r : Result FrameFields FrameFault). SaysOne (ToCast load) (cast_said r)) (sym read) (ap (λ (d : CastFields). ToCast d.load) (sym cast.next)))
+
   cast_adds : (load : Load) → AddsOne (ToCast load) (cast_entry (cast_answer seat setting.limit now load))
-  unfolding cast_answer
-  cast_adds (Many payloads) = adds_none (ToCast (Many payloads))
-  cast_adds (One payload) =
-      cond_both (ltb LONGEST_PAYLOAD (length payload)) _ _ Adds (λ _. adds_none (ToCast (One payload)))
-      (λ short. cond_both (is_too_many seat (facts_of now) 1) _ _ Adds (λ _. adds_none (ToCast (One payload)))
-      (λ free. cond_both (is_full setting.limit now) _ _ Adds (λ _. adds_none (ToCast (One payload))) (λ _. made (numbers_left seat (facts_of now) 1 free) (ltb-false LONGEST_PAYLOAD (length payload) short))))
-    where
-      Adds : Result CastFields CastFault → Type 0
-      Adds r = AddsOne (ToCast (One payload)) (cast_entry r)
-
-      cast : CastFields
-      cast = next_cast seat (facts_of now) (One payload)
-
-      made : delivered seat (facts_of now) seat.me + 1 ≤ LAST_NUMBER → IsLoad (One payload) → Adds (Ok cast)
-      made left short e at =
-          let read : frame_read (text_of (CastFrame cast)) ≡ Ok (CastFrame cast) = cast_read cast tt ((own_frames_have_texts seat (facts_of now) are).0 (One payload) tt left short) in
-          let same : CastEntry (text_of (CastFrame cast)) ≡ e = cc in
-          subst (λ (x : EntryFields). SaysOne (ToCast (One payload)) (said_by x)) same
-          (subst (λ (r : Result FrameFields FrameFault). SaysOne (ToCast (One payload)) (cast_said r)) (sym read) refl)
+  cast_adds load = cast_entered load (cast_answer seat setting.limit now load) refl
 
   call_goes_on : (call : Call) → IsFair setting s call → GoOn call (events seat (facts_of now)) (events seat (facts_of (history_after seat setting.limit now call)))
   call_goes_on (ToCast load) fair =

@@ -6,13 +6,28 @@ use Rattle.std.specs.Io.KnownBytes.{Appends}
 use Rattle.std.proofs.lemmas.List.{map-append}
 use Rattle.std.proofs.lemmas.Option.{slice_get_read}
 use denote.Ref.{Bor}
-use Rattle.cb_frames.specs.Fields.{One}
+use Rattle.cb_frames.specs.Fields.{One, Many}
 use Rattle.cb_schedules.specs.Schedule.{Setting, CastStep}
 use Rattle.confer_play.specs.declared.script.ScriptStep.{ScriptStep}
 use Rattle.confer_play.specs.declared.script.LineFault.{LineFault}
 use Rattle.confer_play.specs.Play.{IsPayloadWord}
 use Rattle.confer_play.specs.Playing.{ScriptOrder, Takes, order_of, IsRunText}
-use Rattle.confer_play.specs.ScriptText.{spaced, labelled, IsFirstLine, Orders, EachOrders, AreScript, IsScript, RunsScript, WritesRun}
+use Rattle.confer_play.specs.ScriptText.{spaced, labelled, ArePayloadWords, IsFirstLine, Orders, EachOrders, AreScript, IsScript, RunsScript, WritesRun}
+
+-- ---- one more of some
+
+take_one : {X : Type 0} (xs : List X) (i : ℕ) (x : X) → slice_get xs i ≡ Some x → take (suc i) xs ≡ take i xs ++ x ∷ []
+take_one [] i x at = absurd (cc at)
+take_one (y ∷ ys) zero x at = let same : y ≡ x = cc in ap (λ z. z ∷ []) same
+take_one (y ∷ ys) (suc i) x at = ap (λ zs. y ∷ zs) (take_one ys i x at)
+
+taken_one_more : (texts : List (Bor (List ℕ))) (i : ℕ) (text : Bor (List ℕ)) → i < length texts → text ≡ get_or texts i text
+    → map (λ t. t.now) (take (i + 1) texts) ≡ map (λ t. t.now) (take i texts) ++ (text.now ∷ [])
+taken_one_more texts i text within read =
+    let up : suc i ≡ i + 1 = omega arith in
+    let at : slice_get texts i ≡ Some text = slice_get_read texts (length texts) i text refl within read in
+    ap (λ (n : ℕ). map (λ (t : Bor (List ℕ)). t.now) (take n texts)) (sym up) ∙ ap (map (λ (t : Bor (List ℕ)). t.now)) (take_one texts i text at)
+    ∙ map-append (λ (t : Bor (List ℕ)). t.now) (take i texts) (text ∷ [])
 
 -- ---- one line
 
@@ -23,6 +38,26 @@ behind text verb rest word r is same says =
 
 pub says_cast : (words word : List ℕ) (i : ℕ) (payload : List ℕ) → words ≡ spaced (decimal i) word → IsPayloadWord word payload → Orders (spaced (codes "cast") words) (Takes (CastStep i (One payload)))
 says_cast words word i payload is spelled = (word, ap (spaced (codes "cast")) is, spelled)
+
+pub says_burst : (words text : List ℕ) (i : ℕ) (payloads : List (List ℕ)) → words ≡ spaced (decimal i) text → ArePayloadWords (slice_split (λ b. b == 32) text) payloads
+    → Orders (spaced (codes "burst") words) (Takes (CastStep i (Many payloads)))
+says_burst words text i payloads is spelled = (text, ap (spaced (codes "burst")) is, spelled)
+
+payload_more : (words payloads : List (List ℕ)) (word payload : List ℕ) → ArePayloadWords words payloads → IsPayloadWord word payload → ArePayloadWords (words ++ word ∷ []) (payloads ++ payload ∷ [])
+payload_more [] [] word payload each spelled = (spelled, tt)
+payload_more [] (p ∷ ps) word payload each spelled = absurd each
+payload_more (w ∷ ws) [] word payload each spelled = absurd each
+payload_more (w ∷ ws) (p ∷ ps) word payload each spelled = (each.0, payload_more ws ps word payload each.1 spelled)
+
+pub adds_payload : (word payload : List ℕ) (before after : List (List ℕ)) → IsPayloadWord word payload → after ≡ before ++ payload ∷ []
+    → (words : List (List ℕ)) → ArePayloadWords words before → ArePayloadWords (words ++ word ∷ []) after
+adds_payload word payload before after spelled pushed words each = subst (ArePayloadWords (words ++ word ∷ [])) (sym pushed) (payload_more words before word payload each spelled)
+
+pub one_word_more : (words : List (Bor (List ℕ))) (i : ℕ) (word : Bor (List ℕ)) (before after : List (List ℕ)) → i < length words → word ≡ get_or words i word
+    → ArePayloadWords (map (λ w. w.now) (take i words)) before → ((ws : List (List ℕ)) → ArePayloadWords ws before → ArePayloadWords (ws ++ (word.now ∷ [])) after)
+    → ArePayloadWords (map (λ w. w.now) (take (i + 1) words)) after
+one_word_more words i word before after within read each adds =
+    subst (λ (ws : List (List ℕ)). ArePayloadWords ws after) (sym (taken_one_more words i word within read)) (adds (map (λ (w : Bor (List ℕ)). w.now) (take i words)) each)
 
 pub first_line : (text behind_group behind_size behind_window word digits : List ℕ) (g n w h : ℕ) (setting : Setting) → text ≡ labelled (codes "group") g behind_group → behind_group ≡ labelled (codes "size") n behind_size
     → behind_size ≡ labelled (codes "window") w behind_window → behind_window ≡ spaced word digits → word ≡ codes "history" → digits ≡ decimal h
@@ -46,21 +81,11 @@ adds_line line step before after says pushed lines each =
     subst (EachOrders (lines ++ line ∷ [])) (sym (ap (map order_of) pushed ∙ map-append order_of before (step ∷ [])))
     (each_more lines (map order_of before) line (order_of step) each says)
 
-take_one : {X : Type 0} (xs : List X) (i : ℕ) (x : X) → slice_get xs i ≡ Some x → take (suc i) xs ≡ take i xs ++ x ∷ []
-take_one [] i x at = absurd (cc at)
-take_one (y ∷ ys) zero x at = let same : y ≡ x = cc in ap (λ z. z ∷ []) same
-take_one (y ∷ ys) (suc i) x at = ap (λ zs. y ∷ zs) (take_one ys i x at)
-
 pub one_line_more : (lines : List (Bor (List ℕ))) (i : ℕ) (line : Bor (List ℕ)) (before after : List ScriptOrder) → i < length lines → line ≡ get_or lines i line
     → EachOrders (map (λ l. l.now) (take i lines)) before → ((ls : List (List ℕ)) → EachOrders ls before → EachOrders (ls ++ (line.now ∷ [])) after)
     → EachOrders (map (λ l. l.now) (take (i + 1) lines)) after
 one_line_more lines i line before after within read each adds =
-    let up : suc i ≡ i + 1 = omega arith in
-    let at : slice_get lines i ≡ Some line = slice_get_read lines (length lines) i line refl within read in
-    let parts : map (λ (l : Bor (List ℕ)). l.now) (take (i + 1) lines) ≡ map (λ (l : Bor (List ℕ)). l.now) (take i lines) ++ (line.now ∷ []) =
-    ap (λ (n : ℕ). map (λ (l : Bor (List ℕ)). l.now) (take n lines)) (sym up) ∙ ap (map (λ (l : Bor (List ℕ)). l.now)) (take_one lines i line at)
-    ∙ map-append (λ (l : Bor (List ℕ)). l.now) (take i lines) (line ∷ []) in
-    subst (λ (ls : List (List ℕ)). EachOrders ls after) (sym parts) (adds (map (λ (l : Bor (List ℕ)). l.now) (take i lines)) each)
+    subst (λ (ls : List (List ℕ)). EachOrders ls after) (sym (taken_one_more lines i line within read)) (adds (map (λ (l : Bor (List ℕ)). l.now) (take i lines)) each)
 
 pub are_script : (all rest : List (Bor (List ℕ))) (first : Bor (List ℕ)) (setting : Setting) (orders : List ScriptOrder) → all ≡ first ∷ rest → IsFirstLine first.now setting
     → EachOrders (map (λ line. line.now) rest) orders → AreScript (map (λ line. line.now) all) setting orders

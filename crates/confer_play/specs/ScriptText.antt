@@ -21,10 +21,18 @@ abbrev pub IsFirstLine : List ℕ → Setting → Type 0
 IsFirstLine line setting =
     line ≡ labelled (codes "group") setting.group.number (labelled (codes "size") setting.group.size (labelled (codes "window") setting.group.window (spaced (codes "history") (decimal setting.limit))))
 
--- a further line says this order; none says that several payloads are cast at once
+-- each word is that of its payload
+abbrev pub ArePayloadWords : List (List ℕ) → List (List ℕ) → Type 0
+ArePayloadWords [] [] = Unit {0}
+ArePayloadWords [] (payload ∷ payloads) = ⊥
+ArePayloadWords (word ∷ words) [] = ⊥
+ArePayloadWords (word ∷ words) (payload ∷ payloads) = IsPayloadWord word payload × ArePayloadWords words payloads
+
+-- A further line says this order. Of a burst it has a word for each payload, with one space between each two; so there is at least one.
 abbrev pub Orders : List ℕ → ScriptOrder → Type 0
 Orders line (Takes (CastStep i (One payload))) = (word : List ℕ) × (line ≡ labelled (codes "cast") i word) × IsPayloadWord word payload
-Orders line (Takes (CastStep i (Many payloads))) = ⊥
+Orders line (Takes (CastStep i (Many payloads))) =
+    (words : List ℕ) × (line ≡ labelled (codes "burst") i words) × ArePayloadWords (slice_split (λ b. b == 32) words) payloads
 Orders line (Takes (ArriveStep j number)) = line ≡ labelled (codes "arrive") j (decimal number)
 Orders line (Takes (TickStep i)) = line ≡ spaced (codes "tick") (decimal i)
 Orders line (Composes i (SayLine room text)) = (line ≡ labelled (codes "say") i (spaced room text)) × (room ≢ [])

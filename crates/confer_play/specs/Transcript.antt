@@ -1,11 +1,12 @@
 -- What is printed of the steps of a script and of the members behind them.
-use Rattle.std.specs.Prelude.{ℕ, suc, List, [], ◌∷◌, ◌++◌, Bool, true, false, codes, Option, Some, None, flat_map, length}
+use Rattle.std.specs.Prelude.{ℕ, suc, ◌+◌, ◌-◌, List, [], ◌∷◌, ◌++◌, Bool, true, false, codes, Option, Some, None, flat_map, length}
 use Rattle.std.specs.Fmt.{decimal}
 use Rattle.hex.specs.Hex.{encode_lower}
+use Rattle.cb_times.specs.declared.name.Name.{Name}
 use Rattle.cb_times.specs.Name.{name_text}
 use Rattle.cb_times.specs.Time.{text_of}
 use Rattle.cb_delay.specs.declared.message.Message.{Message}
-use Rattle.cb_history.specs.Refusals.{arrive_refusal_text, cast_refusal_text, tick_refusal_text}
+use Rattle.cb_history.specs.Refusals.{arrive_refusal_text, burst_refusal_text, cast_refusal_text, tick_refusal_text}
 use Rattle.cb_history.specs.State.{MemberState, time_in, stable_in}
 use Rattle.cb_world.specs.declared.outcome.Answer.{Answer}
 use Rattle.cb_world.specs.declared.outcome.Answer.TheVariants as answers
@@ -26,10 +27,19 @@ abbrev pub ticked_text : Bool → List ℕ
 ticked_text true = codes " tick entered\n"
 ticked_text false = codes " tick same\n"
 
+-- the name of the last of so many messages, of which this is the name of the first
+abbrev pub last_name : Name → ℕ → Name
+last_name first count = record { sender = first.sender; number = first.number + count - 1 }
+
+unfoldable pub names_text : Name → ℕ → List ℕ
+names_text first count = name_text first ++ codes " " ++ name_text (last_name first count)
+
 -- what the member answered
 abbrev pub answer_text : Answer → List ℕ
 answer_text (answers.Cast name time) = codes " cast " ++ name_text name ++ codes " " ++ text_of time ++ codes "\n"
 answer_text (answers.CastRefused refusal) = refused_text (cast_refusal_text refusal)
+answer_text (answers.Burst first count time) = codes " burst " ++ names_text first count ++ codes " " ++ text_of time ++ codes "\n"
+answer_text (answers.BurstRefused refusal) = refused_text (burst_refusal_text refusal)
 answer_text (answers.Accepted deliveries changed) = accepted_text changed
 answer_text answers.Repeat = codes " arrive repeat\n"
 answer_text (answers.ArrivalRefused refusal) = refused_text (arrive_refusal_text refusal)

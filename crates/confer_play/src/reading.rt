@@ -6,10 +6,11 @@ ghost use Rattle.std.specs.Prelude.{◌≡◌, ◌==◌, ◌⊎◌, ◌++◌, �
 ghost use Rattle.std.specs.List.{slice_split};
 ghost use Rattle.confer_play.specs.Play.{IsNoScript};
 ghost use Rattle.confer_play.specs.Playing.{order_of, setting_in};
-ghost use Rattle.confer_play.specs.ScriptText.{AreScript, EachOrders, IsFirstLine, IsScript, Orders, labelled, spaced};
+ghost use Rattle.confer_play.specs.ScriptText.{ArePayloadWords, AreScript, EachOrders, IsFirstLine, IsScript, Orders, labelled, spaced};
 
 use crate::fault::ScriptFault;
 use crate::script::{LineFault, Script, ScriptStep, Setting, halves, number, payload};
+use bytes::Bytes;
 use cb_member::{Group, LONGEST_HISTORY};
 use cb_rooms::Line;
 use cb_times::{Name, NoMemory};
@@ -190,6 +191,7 @@ fn verb_of(alloc: Global, text: &str) -> Result<ScriptStep<'_>, LineFault>
     let (verb, rest) = split(text)?;
     match verb {
         "cast" => cast_of(alloc, rest),
+        "burst" => burst_of(alloc, rest),
         "arrive" => arrive_of(rest),
         "tick" => tick_of(rest),
         "say" => say_of(rest),
@@ -205,8 +207,62 @@ fn cast_of<'a>(alloc: Global, words: &'a str) -> Result<ScriptStep<'a>, LineFaul
     ensures { IfOk result (λ step. Orders (spaced (codes "cast") words.now) (order_of step)) }
 {
     let (i, hex) = numbered(words)?;
-    let payload = payload(alloc, hex)?;
+    let payload = payload(alloc, hex.as_bytes())?;
     Ok(ScriptStep::Take(Step::Cast(i, payload)))
+}
+
+/// `I HEX ..`, behind `burst`: a word for each payload, and at least one.
+#[tactic(auto, using(crate::proofs::ScriptLines::says_burst))]
+fn burst_of<'a>(alloc: Global, words: &'a str) -> Result<ScriptStep<'a>, LineFault>
+    ensures { IfOk result (λ step. Orders (spaced (codes "burst") words.now) (order_of step)) }
+{
+    let (i, text) = numbered(words)?;
+    let payloads = payloads_in(alloc, text.as_bytes())?;
+    Ok(ScriptStep::Take(Step::Burst(i, payloads)))
+}
+
+/// The payloads whose words these are, with one space between each two.
+fn payloads_in(alloc: Global, text: &[u8]) -> Result<Vec<Bytes>, LineFault>
+    ensures { IfOk result (λ payloads.
+        ArePayloadWords (slice_split (λ b. b == 32) text.now) payloads.items) }
+{
+    let words = words_of(alloc, text)?;
+    let payloads = payloads_of(alloc, &words);
+    drop(words);
+    payloads
+}
+
+fn words_of(alloc: Global, text: &[u8]) -> Result<Vec<&[u8]>, NoMemory>
+    ensures { IfOk result (λ words. map (λ word. word.now) words.items
+        ≡ slice_split (λ b. b == 32) text.now) }
+{
+    text.split(|byte| *byte == b' ').collect(alloc)
+}
+
+#[tactic(auto, using(crate::proofs::ScriptLines::one_word_more))]
+fn payloads_of(alloc: Global, words: &[&[u8]]) -> Result<Vec<Bytes>, LineFault>
+    ensures { IfOk result (λ payloads.
+        ArePayloadWords (map (λ word. word.now) words.now) payloads.items) }
+{
+    let mut payloads = Vec::new(alloc);
+    for word in words {
+        if let Err(fault) = add_payload(alloc, word, &mut payloads) {
+            drop(payloads);
+            return Err(fault);
+        }
+    }
+    Ok(payloads)
+}
+
+/// One payload more, of this word.
+#[tactic(auto, using(crate::proofs::ScriptLines::adds_payload))]
+fn add_payload(alloc: Global, word: &[u8], payloads: &mut Vec<Bytes>) -> Result<(), LineFault>
+    ensures { OnOk result ((words : List (List ℕ)) → ArePayloadWords words payloads.old.items
+        → ArePayloadWords (words ++ (word.now ∷ [])) payloads.new.items) }
+{
+    let payload = payload(alloc, word)?;
+    payloads.push(payload).map_err(AllocError::from)?;
+    Ok(())
 }
 
 /// `J F`, behind `arrive`.

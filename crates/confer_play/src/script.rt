@@ -98,12 +98,12 @@ pub fn number(word: &str) -> Result<u32, LineFault>
 
 /// A payload: `-` for none, else two digits for each byte, in either case of letters. `NoLine` is answered
 /// only of a word that is none.
-pub fn payload(alloc: Global, word: &str) -> Result<Bytes, LineFault>
+pub fn payload(alloc: Global, word: &[u8]) -> Result<Bytes, LineFault>
     ensures ok { IfOk result (λ payload. IsPayloadWord word.now payload) }
     ensures no_line { (result ≡ Err NoLine)
         → (payload : List ℕ) → ¬ IsPayloadWord word.now payload }
 {
-    if word == "-" {
+    if word == b"-".as_slice() {
         return Ok(Bytes::new());
     }
     if word.is_empty() {

@@ -100,6 +100,8 @@ const FIRST: &str = "group 7 size 2 window 4 history 100";
 const NUMBERS: &[(&str, &str)] = &[
     ("cast 2 -", "refused NoSuchMember"),
     ("cast 4294967295 aBcDeF", "refused NoSuchMember"),
+    ("burst 2 -", "refused NoSuchMember"),
+    ("burst 4294967295 aB - cD", "refused NoSuchMember"),
     ("arrive 2 0", "refused NoSuchMember"),
     ("arrive 4294967295 4294967295", "refused NoSuchMember"),
     ("arrive 0 0", "refused NoSuchFrame"),
@@ -187,6 +189,72 @@ fn is_printed(rt: &impl Abort, alloc: Global, payload: &str, field: &str, printe
     let arrival = "\n2 arrive accepted changed\n = 0.1 [1,0] ";
     let text = joined(rt, alloc, &[frame, field, arrival, printed, MEMBERS]);
     prints_made(rt, alloc, script, text);
+}
+
+/// Bursts of a member of a group of two, what each is answered, and how the member stands then.
+const BURSTS: &[(&str, &str, &str)] = &[
+    (
+        "6869 - 796F",
+        "burst 0.1 0.3 [1,0]\n > 0 all 210700010003026869000279\
+         6f",
+        "[3,0] stable 0 entries 1",
+    ),
+    (
+        "6869",
+        "burst 0.1 0.1 [1,0]\n > 0 all 2107000100010268\
+         69",
+        "[1,0] stable 0 entries 1",
+    ),
+    (
+        "- - - -",
+        "burst 0.1 0.4 [1,0]\n > 0 all 21070001000400000000",
+        "[4,0] stable 0 entries 1",
+    ),
+    (
+        "- - - - -",
+        "refused WindowFull",
+        "[0,0] stable 0 entries 0",
+    ),
+];
+
+fn bursts() -> &'static [(&'static str, &'static str, &'static str)] {
+    BURSTS
+}
+
+#[test]
+fn a_burst_is_one_frame_with_the_names_of_its_first_and_last_message(rt: HostRuntime) {
+    for (payloads, answer, member) in bursts() {
+        is_burst(&rt, rt.alloc(), payloads, answer, member);
+    }
+}
+
+fn is_burst(rt: &impl Abort, alloc: Global, payloads: &str, answer: &str, member: &str) {
+    let script = joined(rt, alloc, &[FIRST, "\nburst 0 ", payloads]);
+    let others = "\nmember 1 time [0,0] stable 0 entries 0\n";
+    let text = joined(
+        rt,
+        alloc,
+        &["1 ", answer, "\nmember 0 time ", member, others],
+    );
+    prints_made(rt, alloc, script, text);
+}
+
+#[test]
+fn a_burst_of_33_messages_or_of_1025_bytes_is_refused(rt: HostRuntime) {
+    let many = " -".repeat(rt.alloc(), 33).expect(&rt, "memory");
+    refuses_burst(&rt, rt.alloc(), &many, "refused BurstTooLong");
+    drop(many);
+    let long = "0a".repeat(rt.alloc(), 1024).expect(&rt, "memory");
+    let payloads = joined(&rt, rt.alloc(), &[" ", long.as_str(), " 0a"]);
+    drop(long);
+    refuses_burst(&rt, rt.alloc(), &payloads, "refused PayloadTooLong");
+    drop(payloads);
+}
+
+fn refuses_burst(rt: &impl Abort, alloc: Global, payloads: &str, answer: &str) {
+    let step = joined(rt, alloc, &["burst 0", payloads]);
+    answers(rt, alloc, FIRST, &step, answer);
+    drop(step);
 }
 
 #[test]
@@ -318,6 +386,29 @@ const LINES: &[&str] = &[
     "cast 0 hi",
     "cast 0 \u{00e9}",
     "cast 0 6\u{0660}",
+    "burst",
+    "burst ",
+    "burst 0",
+    "burst 0 ",
+    "burst 0 00 ",
+    "burst 0 00  00",
+    "burst 0 - -  ",
+    "burst 0 00 0",
+    "burst 0 00 0g",
+    "burst 0 00 --",
+    "burst 0 00\t00",
+    "burst 0 00 00\r",
+    " burst 0 00",
+    "burst  0 00",
+    "burst 0  00",
+    "burst\t0 00",
+    "Burst 0 00",
+    "bursts 0 00",
+    "burst -1 00",
+    "burst 01 00",
+    "burst 4294967296 00",
+    "burst 00",
+    "burst - 00",
     "arrive",
     "arrive ",
     "arrive 0",

@@ -11,13 +11,13 @@ ghost use Rattle.cb_times.specs.Name.{name_text};
 ghost use Rattle.cb_times.specs.Time.{text_of};
 ghost use Rattle.confer_text.specs.Texts.{parameter_text};
 ghost use Rattle.confer_play.specs.Playing.{behind_bar, screen_lines, screen_part};
-ghost use Rattle.confer_play.specs.Transcript.{accepted_text, answer_text, deliveries_text, delivery_text, frame_text, frames_text, member_text, receiver_text, refused_text, step_text, ticked_text};
+ghost use Rattle.confer_play.specs.Transcript.{accepted_text, answer_text, deliveries_text, delivery_text, frame_text, frames_text, member_text, names_text, receiver_text, refused_text, step_text, ticked_text};
 
 use cb_member::{Member, Message, Name, VectorTime};
 use cb_rooms::ComposeFault;
 use cb_times::NoMemory;
 use cb_world::{Answer, Outcome, Sent};
-use confer_text::{put_fault, put_hex, put_name, put_parameter, put_payload, put_time};
+use confer_text::{put_fault, put_hex, put_name, put_number, put_parameter, put_payload, put_time};
 use std::alloc::Global;
 
 /// The lines of a step of this number, counted from 1: what was answered, what was delivered, and the frames that
@@ -49,6 +49,8 @@ fn put_answer(text: &mut Vec<u8>, number: usize, answer: &Answer) -> Result<(), 
     match answer {
         Answer::Cast { name, time } => put_cast(text, *name, time),
         Answer::CastRefused(refusal) => put_fault(text, " refused ", *refusal),
+        Answer::Burst { first, count, time } => put_burst(text, *first, *count, time),
+        Answer::BurstRefused(refusal) => put_fault(text, " refused ", *refusal),
         Answer::Accepted { changed, .. } => put_accepted(text, *changed),
         Answer::Repeat => text.extend_from_slice(b" arrive repeat\n"),
         Answer::ArrivalRefused(refusal) => put_fault(text, " refused ", *refusal),
@@ -68,6 +70,29 @@ fn put_cast(text: &mut Vec<u8>, name: Name, time: &VectorTime) -> Result<(), NoM
     text.extend_from_slice(b" ")?;
     put_time(text, time)?;
     text.extend_from_slice(b"\n")
+}
+
+fn put_burst(text: &mut Vec<u8>, first: Name, count: u32, time: &VectorTime) -> Result<(), NoMemory>
+    ensures { OnOk result (text.new.items ≡ text.old.items ++ (codes " burst "
+        ++ names_text first count ++ codes " " ++ text_of time.now ++ codes "\n")) }
+{
+    text.extend_from_slice(b" burst ")?;
+    put_names(text, first, count)?;
+    text.extend_from_slice(b" ")?;
+    put_time(text, time)?;
+    text.extend_from_slice(b"\n")
+}
+
+/// The names of the first and of the last of so many messages.
+#[tactic(auto, unfolding(confer_text::specs::Texts::parameter_text, crate::specs::Transcript::names_text))]
+fn put_names(text: &mut Vec<u8>, first: Name, count: u32) -> Result<(), NoMemory>
+    ensures { OnOk result (text.new.items ≡ text.old.items ++ names_text first count) }
+{
+    let behind = first.number as usize + count as usize;
+    put_name(text, first)?;
+    text.extend_from_slice(b" ")?;
+    put_number(text, first.sender)?;
+    put_parameter(text, b".", behind.saturating_sub(1))
 }
 
 fn put_accepted(text: &mut Vec<u8>, changed: bool) -> Result<(), NoMemory>

@@ -107,9 +107,10 @@ pub record SaysNext (p : Participant) (payload : List ℕ) : Type 0 where
 
 -- ---- a turn
 
--- what it says of itself, and counts
+-- what it says of itself, and counts; it casts no bursts
 abbrev pub Says : Participant → Participant → Talk → Type 0
 Says before after (talks.Cast payload) = SaysNext (record after { cast = before.cast }) payload.items × (after.cast ≡ min (before.cast + 1) 4294967295)
+Says before after (talks.Burst payloads) = ⊥
 Says before after talks.Idle = after.cast ≡ before.cast
 Says before after talks.Finished = (after.cast ≡ before.cast) × (after.to_cast ≤ after.cast) × (after.to_show ≤ after.shown)
 

@@ -130,7 +130,7 @@ fn answer_to(rt: &impl Abort, participant: &mut Participant, event: Event) -> (b
         .expect(rt, "memory");
     let is_answer = match &talk {
         Talk::Cast(payload) => payload.as_slice() == b"\x02\x00\x01yes".as_slice(),
-        Talk::Idle | Talk::Finished => false,
+        Talk::Burst(_) | Talk::Idle | Talk::Finished => false,
     };
     drop(talk);
     drop(event);

@@ -109,7 +109,7 @@ fn expand_command<'a>(alloc: Global) -> Result<Command<'a>, AllocError>
 {
     let expand = Command::new(alloc, "expand")
         .about(
-            "Reads cast frames in hexadecimal, a frame a line, and prints the vector time of each",
+            "Reads cast frames in hexadecimal, a frame a line, and prints the vector time of each message",
         )
         .long_about(help::EXPAND);
     let in_group = with_option(Ok(expand), group_option(alloc));

@@ -16,7 +16,7 @@ asked for,
 /// Of `confer expand`.
 pub const EXPAND: &str = "\
 Reads cast frames of one group in hexadecimal from standard input, a frame a line, and prints the name, the \
-vector time and the payload of each, or why it is refused.
+vector time and the payload of each message, or why the frame is refused.
 
 Example:
   $ echo 1107000100026869 | confer expand --group 7 --size 3

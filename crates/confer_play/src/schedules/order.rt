@@ -4,6 +4,33 @@
 
 use crate::schedules::Schedule;
 
+const A_BURST_OVERTAKES_THE_ONE_THAT_IT_ANSWERS: Schedule = Schedule {
+    script: r#"group 7 size 3 window 4 history 100
+burst 0 6869 796f
+arrive 1 0
+burst 1 61 62
+arrive 2 1
+arrive 2 0
+"#,
+    text: r#"1 burst 0.1 0.2 [1,0,0]
+ > 0 all 21070001000202686902796f
+2 arrive accepted changed
+ = 0.1 [1,0,0] "hi"
+ = 0.2 [2,0,0] "yo"
+3 burst 1.1 1.2 [2,1,0]
+ > 1 all 210701010100020201610162
+4 arrive accepted changed
+5 arrive accepted changed
+ = 0.1 [1,0,0] "hi"
+ = 0.2 [2,0,0] "yo"
+ = 1.1 [2,1,0] "a"
+ = 1.2 [2,2,0] "b"
+member 0 time [2,0,0] stable 0 entries 1
+member 1 time [2,2,0] stable 0 entries 2
+member 2 time [2,2,0] stable 0 entries 2
+"#,
+};
+
 const AN_ANSWER_OVERTAKES_ITS_QUESTION: Schedule = Schedule {
     script: r#"group 7 size 3 window 4 history 100
 cast 0 6869
@@ -160,6 +187,7 @@ member 2 time [0,0,0] stable 0 entries 0
 };
 
 const ALL: &[Schedule] = &[
+    A_BURST_OVERTAKES_THE_ONE_THAT_IT_ANSWERS,
     AN_ANSWER_OVERTAKES_ITS_QUESTION,
     FIVE_MEMBERS_IN_A_RING,
     TWO_ANSWER_AT_ONCE,

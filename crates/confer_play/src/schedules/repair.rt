@@ -4,6 +4,41 @@
 
 use crate::schedules::Schedule;
 
+const A_BURST_IS_LOST_AND_GIVEN_WHOLE: Schedule = Schedule {
+    script: r#"group 7 size 3 window 4 history 100
+burst 0 61 62 63
+cast 0 64
+arrive 1 0
+arrive 2 1
+tick 2
+arrive 0 3
+arrive 2 4
+"#,
+    text: r#"1 burst 0.1 0.3 [1,0,0]
+ > 0 all 210700010003016101620163
+2 cast 0.4 [4,0,0]
+ > 1 all 11070004000164
+3 arrive accepted changed
+ = 0.1 [1,0,0] "a"
+ = 0.2 [2,0,0] "b"
+ = 0.3 [3,0,0] "c"
+4 arrive accepted changed
+5 tick entered
+ > 2 all 12070200
+ > 3 0 13070200010002
+6 arrive accepted same
+ > 4 2 210700010003016101620163
+7 arrive accepted changed
+ = 0.1 [1,0,0] "a"
+ = 0.2 [2,0,0] "b"
+ = 0.3 [3,0,0] "c"
+ = 0.4 [4,0,0] "d"
+member 0 time [4,0,0] stable 0 entries 2
+member 1 time [3,0,0] stable 0 entries 1
+member 2 time [4,0,0] stable 0 entries 3
+"#,
+};
+
 const A_FRAME_COMES_AGAIN: Schedule = Schedule {
     script: r#"group 7 size 2 window 4 history 100
 cast 0 6869
@@ -279,6 +314,7 @@ member 2 time [4,3,3] stable 0 entries 13
 };
 
 const ALL: &[Schedule] = &[
+    A_BURST_IS_LOST_AND_GIVEN_WHOLE,
     A_FRAME_COMES_AGAIN,
     A_LOSS_AND_ITS_REPAIR,
     A_REQUEST_COMES_LATE,

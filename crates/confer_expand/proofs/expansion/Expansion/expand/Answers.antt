@@ -1,23 +1,13 @@
-use Rattle.std.proofs.Common.{length, sym, ap, subst, ◌∙◌}
-use Rattle.cb_frames.specs.Fields.{cast_fields}
-use Rattle.cb_diffs.specs.Laws.{IsKept}
+use Rattle.std.proofs.Common.{sym, ap, ◌∙◌}
+use Rattle.cb_frames.specs.Fields.{unit_fields}
 use Rattle.confer_expand.specs.Progress.{Group}
-use Rattle.confer_expand.specs.Steps.{GivesTime}
-use Rattle.confer_expand.proofs.Accepting.{as_line, gives_time}
+use Rattle.confer_expand.proofs.Accepting.{accepts, refuses}
 use Rattle.confer_expand.proofs.expansion.Expansion.expand.Goals as goal
-use Rattle.confer_expand.proofs.expansion.Expansion.expand.Goals.{in-Ok, in-Err}
 
-pub returns-clause-gives : goal.returns-clause-gives
-unfolding as_line
-returns-clause-gives c accepted =
-    let new : Group = record { number = c.self.inside.group; kept = c.expand_into.new.self; time = c.expand_into.new.into } in
-    let before : Group = record { number = c.self.inside.group; kept = c.self.inside.expander; time = c.self.inside.time } in
-    let given = gives_time c.expand_into.result before new accepted
-    (cast_fields c.args.cast.now) c.if-cast-self.false in
-    subst (λ (old : Group). IsKept (length old.kept) accepted old.kept → GivesTime accepted (cast_fields c.args.cast.now) old new c.match-expand_into.result) c.self.view_is
-    (λ kept.
-    let all = given kept c.expand_into.ensures.ok c.expand_into.ensures.bad_member c.expand_into.ensures.not_next c.expand_into.ensures.never_for_memory in
-    elim c.match-expand_into.branch [
-      | in-Ok w ↦ subst (GivesTime accepted (cast_fields c.args.cast.now) before new) (ap as_line w.in-Ok.is ∙ sym w.result-is) all
-      | in-Err w ↦ subst (GivesTime accepted (cast_fields c.args.cast.now) before new) (ap as_line w.in-Err.is ∙ sym w.result-is) all
-    ])
+pub returns-in-Ok-clause-gives : goal.returns-in-Ok-clause-gives
+returns-in-Ok-clause-gives c accepted kept =
+    accepts c.args.self.now c.take.new.self accepted (unit_fields c.args.unit.now) (sym c.group.ensures ∙ c.if-group-self.false ∙ ap (λ (g : Group). g.number) c.self.view_is) kept c.in-Ok.ensures.ok
+
+pub returns-in-Err-clause-gives : goal.returns-in-Err-clause-gives
+returns-in-Err-clause-gives c accepted kept =
+    refuses c.in-Err.fault c.args.self.now accepted (unit_fields c.args.unit.now) (sym c.group.ensures ∙ c.if-group-self.false ∙ ap (λ (g : Group). g.number) c.self.view_is) kept c.in-Err.ensures.bad_member c.in-Err.ensures.not_next c.in-Err.ensures.never_for_memory
