@@ -8,7 +8,7 @@ use thiserror::Error;
 /// Why there was no run.
 #[derive(Debug, Drop, Error)]
 pub enum Fault {
-    #[error("the words are SIZE WINDOW PAYLOAD CASTS LINK")]
+    #[error("the words are SIZE WINDOW PAYLOAD CASTS LINK BURST, BURST no more than WINDOW")]
     Words,
     #[error("out of memory")]
     NoMemory,

@@ -1,5 +1,6 @@
 //! A whole group of members in threads: each casts so many messages, and the group ends when each has seen all of them. Prints how many were
-//! delivered; with a sixth word, whatever it is, also how many cast frames were received, repeats among them.
+//! delivered. A sixth word says how many messages are gathered into a burst; with a seventh, whatever it is, the cast frames that were received
+//! are printed too, repeats among them.
 //!
 //! `bench/plain_group.rs` is the same program in plain Rust, and `bench/group.sh` measures both.
 #![tactic(auto)]
@@ -42,7 +43,7 @@ fn main(rt: HostRuntime) -> ExitCode {
         return fails(&rt, Fault::Words);
     };
     let printed = match run(&rt, rt.alloc(), plan) {
-        Ok(ran) => print(&rt, ran, words.len() > 6),
+        Ok(ran) => print(&rt, ran, words.len() > 7),
         Err(fault) => Err(fault),
     };
     match printed {

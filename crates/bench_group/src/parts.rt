@@ -10,8 +10,8 @@ use std::sync::Wait;
 use std::thread::sleep;
 use std::time::{Clock, Duration};
 
-/// The first byte of a cast frame.
-const CAST: u8 = 0x11;
+/// The first bytes of cast frames, of one message and of several.
+const CASTS: [u8; 2] = [0x11, 0x21];
 
 /// An inlet that counts the cast frames that it receives.
 #[derive(Drop)]
@@ -41,7 +41,13 @@ impl<I: Inlet> Inlet for Counting<I> {
 }
 
 fn is_cast(received: &Result<Received, LinkFault>) -> bool {
-    matches!(received, Ok(Received::Frame(frame)) if frame.as_slice().first() == Some(&CAST))
+    match received {
+        Ok(Received::Frame(frame)) => frame
+            .as_slice()
+            .first()
+            .is_some_and(|kind| CASTS.contains(kind)),
+        _ => false,
+    }
 }
 
 /// A millisecond between two ticks.

@@ -1,6 +1,6 @@
 //! What the words say of the run.
 
-use cb_frames::LONGEST_PAYLOAD;
+use cb_frames::{LONGEST_PAYLOAD, MOST_MESSAGES};
 use cb_history::Group;
 
 /// The number of the group, which only the frames say.
@@ -21,6 +21,8 @@ pub struct Plan {
     pub payload: usize,
     pub casts: u32,
     pub link: LinkKind,
+    /// How many messages are gathered into a burst, no more than the window; 1 for casts alone.
+    pub burst: usize,
 }
 
 /// The plan that the words say, of which the first is the program's name.
@@ -28,7 +30,8 @@ pub fn plan_of(words: &[String]) -> Option<Plan> {
     let (size, window) = (number(words, 1)?, number(words, 2)?);
     let group = Group::new(NUMBER, size, window).ok()?;
     let payload = number(words, 3)? as usize;
-    if payload > LONGEST_PAYLOAD {
+    let burst = burst_of(words)?;
+    if payload > LONGEST_PAYLOAD || burst > window {
         return None;
     }
     Some(Plan {
@@ -36,7 +39,20 @@ pub fn plan_of(words: &[String]) -> Option<Plan> {
         payload,
         casts: number(words, 4)?,
         link: link_kind(words.get(5)?.as_str())?,
+        burst: burst as usize,
     })
+}
+
+/// The sixth word, where there is one.
+fn burst_of(words: &[String]) -> Option<u32> {
+    if words.len() <= 6 {
+        return Some(1);
+    }
+    let burst = number(words, 6)?;
+    if burst == 0 || burst as usize > MOST_MESSAGES {
+        return None;
+    }
+    Some(burst)
 }
 
 fn link_kind(word: &str) -> Option<LinkKind> {

@@ -5,7 +5,8 @@ use crate::parts::{Caster, Counting, Millisecond};
 use crate::plan::{LinkKind, Plan};
 use cb_member::LONGEST_HISTORY;
 use cb_threads::{
-    ChannelLink, GroupReport, Inlet, Limits, MemberReport, Outlet, TcpLink, UdpLink, run_group,
+    ChannelLink, Gathering, GroupReport, Inlet, Limits, MemberReport, Outlet, TcpLink, UdpLink,
+    run_group,
 };
 use std::alloc::Global;
 use std::net::{Net, TcpListener, TcpStream};
@@ -55,7 +56,7 @@ fn run_over<I: Inlet + Send + Drop, O: Outlet + Send + Drop, R: Threads + Wait +
     let mut talkers = Vec::new(alloc);
     for _member in 0..plan.group.size() {
         paces.push(Millisecond)?;
-        talkers.push(Caster::new(alloc, plan))?;
+        talkers.push(Gathering::new(Caster::new(alloc, plan), plan.burst))?;
     }
     let limits = Limits { turns: u64::MAX };
     match run_group(
@@ -84,7 +85,9 @@ fn counting<I: Drop, O: Drop>(
     Ok(all)
 }
 
-fn counted<I: Drop, O: Drop>(ran: GroupReport<Counting<I>, O, Millisecond, Caster>) -> Ran {
+fn counted<I: Drop, O: Drop>(
+    ran: GroupReport<Counting<I>, O, Millisecond, Gathering<Caster>>,
+) -> Ran {
     let mut sum = Ran {
         deliveries: 0,
         arrivals: 0,
@@ -96,7 +99,7 @@ fn counted<I: Drop, O: Drop>(ran: GroupReport<Counting<I>, O, Millisecond, Caste
     sum
 }
 
-fn arrivals<I, O>(report: &MemberReport<Counting<I>, O, Millisecond, Caster>) -> u64 {
+fn arrivals<I, O>(report: &MemberReport<Counting<I>, O, Millisecond, Gathering<Caster>>) -> u64 {
     match &report.inlet {
         Some(inlet) => inlet.casts,
         None => 0,

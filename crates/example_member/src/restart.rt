@@ -60,18 +60,30 @@ fn replay(alloc: Global, group: Group, me: u32, entries: &[Entry]) -> anyhow::Re
 
 fn call_again(alloc: Global, member: &mut Member, entry: &Entry) -> anyhow::Result<()> {
     match entry {
-        Entry::Cast { frame } => drop(member.cast(&payload_of(alloc, frame)?)?),
+        Entry::Cast { frame } => cast_again(alloc, member, frame)?,
         Entry::Arrive { frame, .. } => drop(member.arrive(frame)?),
         Entry::Tick { .. } => drop(member.tick()?),
     }
     Ok(())
 }
-// GUIDE: end
 
-/// The payload of a cast frame; of other bytes none.
-fn payload_of(alloc: Global, frame: &Bytes) -> anyhow::Result<Bytes> {
-    match decode(alloc, frame)? {
-        Frame::Cast(cast) => Ok(cast.payload),
-        _other => Ok(Bytes::new()),
+/// A burst of one payload is a burst too: the kind of the frame tells which call made it.
+fn cast_again(alloc: Global, member: &mut Member, frame: &Bytes) -> anyhow::Result<()> {
+    let cast = decode(alloc, frame)?;
+    match &cast {
+        Frame::Cast(cast) => drop(member.cast(&cast.payload)?),
+        Frame::Burst(burst) => burst_again(alloc, member, &burst.payloads)?,
+        Frame::Status(_) | Frame::Request(_) => {}
     }
+    Ok(())
 }
+
+fn burst_again(alloc: Global, member: &mut Member, payloads: &[Bytes]) -> anyhow::Result<()> {
+    let mut slices = Vec::with_capacity(alloc, payloads.len())?;
+    for payload in payloads {
+        slices.push(payload.as_slice())?;
+    }
+    drop(member.cast_burst(&slices)?);
+    Ok(())
+}
+// GUIDE: end

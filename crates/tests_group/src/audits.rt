@@ -110,6 +110,69 @@ cast 11070201000163
 end
 ";
 
+/// A burst of member 0's, and one of member 1's that is ahead of it at member 2. The last cast of member 0 is a burst of one message.
+const BURSTS: &str = "cbcast 1 group 7 size 3 window 4
+member 0 entries 2
+cast 21070001000202686902796f
+cast 210700030001022d2d
+member 1 entries 2
+arrive 21070001000202686902796f 0.1 0.2
+cast 210701010100020201610162
+member 2 entries 2
+arrive 210701010100020201610162 -
+arrive 21070001000202686902796f 0.1 0.2 1.1 1.2
+end
+";
+
+/// The trace of bursts, with what is put in place of a part of it, and the fault that it has then.
+const DAMAGED_BURSTS: [(&str, &str, AuditFault); 5] = [
+    // the first message alone is delivered
+    (
+        " 0.1 0.2\ncast",
+        " 0.1\ncast",
+        AuditFault::WrongAnswer {
+            member: 1,
+            entry: 1,
+        },
+    ),
+    // it begins with a number that is not the next
+    (
+        "cast 210700030001022d2d",
+        "cast 210700020001022d2d",
+        AuditFault::WrongAnswer {
+            member: 0,
+            entry: 2,
+        },
+    ),
+    // more messages than the window has room for
+    (
+        "cast 210700030001022d2d",
+        "cast 210700030003000000",
+        AuditFault::WrongAnswer {
+            member: 0,
+            entry: 2,
+        },
+    ),
+    // a burst without a message
+    (
+        "cast 210700030001022d2d",
+        "cast 210700030000",
+        AuditFault::WrongAnswer {
+            member: 0,
+            entry: 2,
+        },
+    ),
+    // a cast of member 1's second message, which came in a burst
+    (
+        "arrive 210701010100020201610162 -\narrive 21070001000202686902796f 0.1 0.2 1.1 1.2\n",
+        "arrive 11070102000162 -\narrive 21070001000202686902796f 0.1 0.2\n",
+        AuditFault::Unsent {
+            member: 2,
+            entry: 1,
+        },
+    ),
+];
+
 /// Two members cast before anything arrives.
 const AT_ONCE: &str = "cbcast 1 group 7 size 3 window 4
 member 0 entries 1
@@ -171,9 +234,22 @@ fn steps_of(alloc: Global, joint: &Joint) -> Result<String, Fail> {
 fn line_of(alloc: Global, step: &Step) -> Result<String, Fail> {
     Ok(match step {
         Step::Cast(i, payload) => format!(in alloc; "cast {i} {}\n", encode(alloc, payload)?)?,
+        Step::Burst(i, payloads) => {
+            format!(in alloc; "burst {i}{}\n", words_of(alloc, payloads)?)?
+        }
         Step::Arrive(j, number) => format!(in alloc; "arrive {j} {number}\n")?,
         Step::Tick(i) => format!(in alloc; "tick {i}\n")?,
     })
+}
+
+/// The payloads, each behind a space.
+fn words_of(alloc: Global, payloads: &[Bytes]) -> Result<String, Fail> {
+    let mut words = String::new(alloc);
+    for payload in payloads {
+        words.push_str(" ")?;
+        words.push_str(&encode(alloc, payload)?)?;
+    }
+    Ok(words)
 }
 
 fn name((sender, number): (u32, u32)) -> Name {
@@ -203,6 +279,21 @@ fn is_run_of(
 fn the_worked_trace_is_a_run_of_these_steps(rt: HostRuntime) -> Result<(), Fail> {
     let steps = "cast 0 6869\narrive 1 0\ncast 1 796f\narrive 2 1\narrive 2 0\n";
     is_run_of(&rt, rt.alloc(), WORKED, 2, steps)
+}
+
+#[test]
+fn bursts_are_steps_of_their_own(rt: HostRuntime) -> Result<(), Fail> {
+    let steps =
+        "burst 0 6869 796f\nburst 0 2d2d\narrive 1 0\nburst 1 61 62\narrive 2 2\narrive 2 0\n";
+    is_run_of(&rt, rt.alloc(), BURSTS, 2, steps)
+}
+
+#[test]
+fn the_messages_of_a_burst_are_one_before_the_other(rt: HostRuntime) -> Result<(), Fail> {
+    assert_eq!(rt; before(rt.alloc(), BURSTS, (0, 1), (0, 2))?, Ok(true));
+    assert_eq!(rt; before(rt.alloc(), BURSTS, (0, 2), (1, 1))?, Ok(true));
+    assert_eq!(rt; before(rt.alloc(), BURSTS, (1, 2), (0, 3))?, Ok(false));
+    Ok(())
 }
 
 #[test]
@@ -258,6 +349,15 @@ fn each_damage_has_its_fault(rt: HostRuntime) -> Result<(), Fail> {
 }
 
 #[test]
+fn each_damage_to_a_burst_has_its_fault(rt: HostRuntime) -> Result<(), Fail> {
+    for (old, new, fault) in &DAMAGED_BURSTS {
+        let text = with(rt.alloc(), BURSTS, old, new)?;
+        assert_eq!(rt; fault_of(rt.alloc(), &text)?, Some(*fault));
+    }
+    Ok(())
+}
+
+#[test]
 fn a_circle_has_no_order(rt: HostRuntime) -> Result<(), Fail> {
     let unsent = AuditFault::Unsent {
         member: 0,
@@ -294,13 +394,22 @@ fn next(seed: &mut u32) -> u32 {
     *seed >> 8
 }
 
-fn random_step(seed: &mut u32, sent: usize) -> Step {
-    let member = next(seed) % 3;
-    match next(seed) % 4 {
-        0 => Step::Cast(member, Bytes::from_static(b"x")),
-        1 => Step::Tick(member),
-        _ => Step::Arrive(member, next(seed) as usize % sent.max(1)),
+fn random_burst(alloc: Global, seed: &mut u32, member: u32) -> Result<Step, Fail> {
+    let mut payloads = Vec::new(alloc);
+    for _ in 0..next(seed) % 4 {
+        payloads.push(Bytes::from_static(b"y"))?;
     }
+    Ok(Step::Burst(member, payloads))
+}
+
+fn random_step(alloc: Global, seed: &mut u32, sent: usize) -> Result<Step, Fail> {
+    let member = next(seed) % 3;
+    Ok(match next(seed) % 8 {
+        0 => Step::Cast(member, Bytes::from_static(b"x")),
+        1 => random_burst(alloc, seed, member)?,
+        2 | 3 => Step::Tick(member),
+        _ => Step::Arrive(member, next(seed) as usize % sent.max(1)),
+    })
 }
 
 /// A world that took some steps by chance.
@@ -308,7 +417,7 @@ fn driven(alloc: Global, group: Group, seed: u32) -> Result<World, Fail> {
     let mut world = World::new(alloc, group, 100)?;
     let mut seed = seed;
     for _ in 0..40 {
-        let step = random_step(&mut seed, world.frames().len());
+        let step = random_step(alloc, &mut seed, world.frames().len())?;
         world.step(&step)?;
     }
     Ok(world)

@@ -2,8 +2,8 @@
 use bytes::Bytes;
 use cb_frames::FrameFault;
 use cb_history::{
-    ArriveRefusal, BadGroup, CastRefusal, Entry, Group, History, Identity, MissingFault, Name,
-    Names, NewFault, TickRefusal,
+    ArriveRefusal, BadGroup, BurstRefusal, CastRefusal, Entry, Group, History, Identity,
+    MissingFault, Name, Names, NewFault, TickRefusal,
 };
 use std::alloc::Global;
 use std::fmt;
@@ -53,8 +53,15 @@ fn a_refusal_prints_its_name(rt: HostRuntime) {
     prints(&rt, alloc, &CastRefusal::WindowFull, "WindowFull");
     prints(&rt, alloc, &CastRefusal::HistoryFull, "HistoryFull");
     prints(&rt, alloc, &CastRefusal::NoMemory, "NoMemory");
+    prints(&rt, alloc, &BurstRefusal::EmptyBurst, "EmptyBurst");
+    prints(&rt, alloc, &BurstRefusal::BurstTooLong, "BurstTooLong");
+    prints(&rt, alloc, &BurstRefusal::PayloadTooLong, "PayloadTooLong");
+    prints(&rt, alloc, &BurstRefusal::WindowFull, "WindowFull");
+    prints(&rt, alloc, &BurstRefusal::HistoryFull, "HistoryFull");
+    prints(&rt, alloc, &BurstRefusal::NoMemory, "NoMemory");
     let malformed = ArriveRefusal::Malformed(FrameFault::BadIndex);
     prints(&rt, alloc, &malformed, "Malformed(BadIndex)");
+    prints(&rt, alloc, &ArriveRefusal::Overlap, "Overlap");
     prints(&rt, alloc, &ArriveRefusal::TooFar, "TooFar");
     prints(&rt, alloc, &TickRefusal::HistoryFull, "HistoryFull");
     prints(&rt, alloc, &NewFault::BadLimit, "BadLimit");

@@ -1,7 +1,7 @@
 //! Runs of whole schedules.
 
 use bytes::Bytes;
-use cb_member::{Event, Group, Name};
+use cb_member::{BurstRefusal, Event, Group, Name};
 use cb_world::{Answer, PlayFault, Run, Step, play};
 use std::alloc::Global;
 use std::process::Abort;
@@ -12,7 +12,15 @@ const YO: &[u8] = &[0x11, 7, 1, 1, 1, 0, 1, 2, b'y', b'o'];
 
 const OK: &[u8] = &[0x11, 7, 1, 2, 0, 2, b'o', b'k'];
 
+const HI_AND_YO: &[u8] = &[0x21, 7, 0, 1, 0, 2, 2, b'h', b'i', 2, b'y', b'o'];
+
+const A_AND_B: &[u8] = &[0x21, 7, 1, 1, 1, 0, 2, 2, 1, b'a', 1, b'b'];
+
+const C: &[u8] = &[0x11, 7, 1, 3, 0, 1, b'c'];
+
 const STATUS: &[u8] = &[0x12, 7, 1, 1, 0, 1];
+
+const NOTHING: &[u8] = &[];
 
 const LONG: &[u8] = &[0; 1_025];
 
@@ -25,10 +33,27 @@ fn cast(i: u32, payload: &'static [u8]) -> Step {
     Step::Cast(i, Bytes::from_static(payload))
 }
 
+fn burst(rt: &impl Abort, alloc: Global, i: u32, payloads: &[&'static [u8]]) -> Step {
+    let mut shared = Vec::new(alloc);
+    for payload in payloads {
+        shared
+            .push(Bytes::from_static(payload))
+            .expect(rt, "memory");
+    }
+    Step::Burst(i, shared)
+}
+
 fn word(answer: &Answer) -> &'static str {
     match answer {
         Answer::Cast { .. } => "cast",
         Answer::CastRefused(_refusal) => "cast refused",
+        Answer::Burst { count: 1, .. } => "burst of one",
+        Answer::Burst { .. } => "burst",
+        Answer::BurstRefused(BurstRefusal::EmptyBurst) => "no payload",
+        Answer::BurstRefused(BurstRefusal::BurstTooLong) => "too many",
+        Answer::BurstRefused(BurstRefusal::PayloadTooLong) => "too many bytes",
+        Answer::BurstRefused(BurstRefusal::WindowFull) => "no room for all",
+        Answer::BurstRefused(_refusal) => "burst refused",
         Answer::Accepted { changed: true, .. } => "changed",
         Answer::Accepted { .. } => "same",
         Answer::Repeat => "repeat",
@@ -200,4 +225,90 @@ fn a_delivered_message_is_copied(rt: HostRuntime) {
     );
     assert_eq!(rt; copy.time.as_slice(), [1, 1, 0].as_slice());
     assert_eq!(rt; copy.payload.as_slice(), b"yo".as_slice());
+}
+
+/// The first message of the burst that the step made, and how many there are.
+fn assert_burst(rt: &impl Abort, run: &Run, step: usize, first: Name, count: u32, time: &[u32]) {
+    let Some(
+        Answer::Burst {
+            first: name,
+            count: many,
+            time: at,
+        },
+    ) = run.outcomes().get(step).map(|outcome| &outcome.answer)
+    else {
+        panic!(rt; "a burst");
+    };
+    assert_eq!(rt; (*name, *many, at.as_slice()), (first, count, time));
+}
+
+fn assert_times(rt: &impl Abort, run: &Run, j: u32, times: &[&[u32]]) {
+    let events = run.events(j).expect(rt, "a member");
+    assert_eq!(rt; events.len(), times.len());
+    for (event, time) in events.iter().zip(times) {
+        assert_eq!(rt; event.message().time.as_slice(), *time);
+    }
+}
+
+#[test]
+fn a_burst_that_overtakes_another_waits_for_all_of_it(rt: HostRuntime) {
+    let steps = [
+        burst(&rt, rt.alloc(), 0, &[b"hi", b"yo"]),
+        Step::Arrive(1, 0),
+        burst(&rt, rt.alloc(), 1, &[b"a", b"b"]),
+        Step::Arrive(2, 1),
+        Step::Arrive(2, 0),
+        cast(1, b"c"),
+        Step::Arrive(2, 0),
+        Step::Arrive(2, 1),
+    ];
+    let run = run_of(&rt, rt.alloc(), &steps);
+    let rows = &[
+        ("burst", 0, 1),
+        ("changed", 1, 0),
+        ("burst", 1, 1),
+        ("changed", 2, 0),
+        ("changed", 2, 0),
+        ("cast", 2, 1),
+        ("repeat", 3, 0),
+        ("repeat", 3, 0),
+    ];
+    assert_outcomes(&rt, &run, rows);
+    assert_frames(&rt, &run, &[HI_AND_YO, A_AND_B, C]);
+    assert_names(&rt, &run, 2, &[(0, 1), (0, 2), (1, 1), (1, 2)]);
+    let times: [&[u32]; 4] = [&[1, 0, 0], &[2, 0, 0], &[2, 1, 0], &[2, 2, 0]];
+    assert_times(&rt, &run, 2, &times);
+    assert_eq!(rt; run.history(2).map(|entries| entries.len()), Some(2));
+    let first = Name {
+        sender: 1,
+        number: 1,
+    };
+    assert_burst(&rt, &run, 2, first, 2, &[2, 1, 0]);
+}
+
+#[test]
+fn a_burst_is_refused_as_a_whole(rt: HostRuntime) {
+    let steps = [
+        burst(&rt, rt.alloc(), 0, &[]),
+        burst(&rt, rt.alloc(), 0, &[NOTHING; 33]),
+        burst(&rt, rt.alloc(), 0, &[b"", LONG]),
+        burst(&rt, rt.alloc(), 0, &[NOTHING; 5]),
+        burst(&rt, rt.alloc(), 3, &[b""]),
+        burst(&rt, rt.alloc(), 0, &[b""]),
+        burst(&rt, rt.alloc(), 0, &[NOTHING; 4]),
+        burst(&rt, rt.alloc(), 0, &[NOTHING; 3]),
+    ];
+    let run = run_of(&rt, rt.alloc(), &steps);
+    let rows = &[
+        ("no payload", 0, 0),
+        ("too many", 0, 0),
+        ("too many bytes", 0, 0),
+        ("no room for all", 0, 0),
+        ("no such member", 0, 0),
+        ("burst of one", 0, 1),
+        ("no room for all", 1, 0),
+        ("burst", 1, 1),
+    ];
+    assert_outcomes(&rt, &run, rows);
+    assert_eq!(rt; run.history(0).map(|entries| entries.len()), Some(2));
 }
