@@ -20,7 +20,7 @@ HEADER, BUILD = "bindings/c/jolunza.h", "bindings/build.sh"
 RUST, PYTHON = "bindings/rust/src/sys.rs", "bindings/python/jolunza.py"
 EXPORTS, CRATES = "crates/jolunza/src/lib.rt", ("jolunza", "cb_handle")
 LIMITS = {"LONGEST_PAYLOAD": "crates/cb_frames/src/frame.rt", "LONGEST_FRAME": "crates/cb_frames/src/frame.rt",
-          "MOST_MEMBERS": "crates/cb_times/src/group.rt"}
+          "MOST_MEMBERS": "crates/cb_times/src/group.rt", "MOST_MESSAGES": "crates/cb_frames/src/frame.rt"}
 
 
 class Said(NamedTuple):

@@ -18,6 +18,9 @@ CHANGES = [
     (HEADER, "JOLUNZA_TOO_FAR = 11", "JOLUNZA_TOO_FAR = 12", "JOLUNZA_TOO_FAR"),
     (HEADER, "JOLUNZA_TICK = 2", "JOLUNZA_TICK = 3", "JOLUNZA_TICK"),
     (HEADER, "JOLUNZA_LONGEST_FRAME 1456", "JOLUNZA_LONGEST_FRAME 1455", "JOLUNZA_LONGEST_FRAME"),
+    (HEADER, "JOLUNZA_MOST_MESSAGES 32", "JOLUNZA_MOST_MESSAGES 33", "JOLUNZA_MOST_MESSAGES"),
+    (HEADER, "JOLUNZA_BURST_TOO_LONG = 16", "JOLUNZA_BURST_TOO_LONG = 17", "JOLUNZA_BURST_TOO_LONG"),
+    (HEADER, "const size_t *lengths, size_t count);", "size_t count, const size_t *lengths);", "jolunza_cast_burst"),
     (HEADER, "JOLUNZA_VERSION 1", "JOLUNZA_VERSION 2", "the version"),
     (HEADER, "bool is_repeat;", "uint8_t is_repeat;", "jolunza_received"),
     (HEADER, "size_t delivered;\n} jolunza_entry_head", "uint32_t delivered;\n} jolunza_entry_head", "jolunza_entry_head"),
@@ -44,6 +47,7 @@ CHANGES = [
     (EXPORTS, "fn jolunza_entry(", "fn jolunza_entries(", "function jolunza_entry"),
     (ROWS, "pub is_entered: bool,", "pub is_entered: u32,", "jolunza_received"),
     (ROWS, "pub first: u32,", "pub first: u64,", "jolunza_range"),
+    (CODES, "pub const OVERLAP: u32 = 14;", "", "JOLUNZA_OVERLAP"),
     (CODES, "pub const WINDOW_FULL: u32 = 7;", "pub const WINDOW_FULL: u32 = 8;", "JOLUNZA_WINDOW_FULL"),
     (BUILD, "JOLUNZA_1 {", "JOLUNZA_2 {", "the version"),
 ]

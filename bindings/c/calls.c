@@ -112,6 +112,7 @@ static void test_closed(jolunza_handle *handle)
 
     untouched();
     CHECK(cast(handle, "hi") == JOLUNZA_CLOSED);
+    CHECK(jolunza_cast_burst(handle, BYTES('h', 'i'), (const size_t[]){1, 1}, 2) == JOLUNZA_CLOSED);
     CHECK(receive(handle, BYTES(0x11, 7, 1, 1, 0, 0)) == JOLUNZA_CLOSED);
     CHECK(jolunza_load(handle, BYTES(0x11, 7, 1, 1, 0, 0)) == JOLUNZA_CLOSED);
     CHECK(jolunza_receive_loaded(handle, 0, 0, &f->received) == JOLUNZA_CLOSED);
@@ -212,6 +213,53 @@ static void test_cast(void)
     jolunza_close(&handle);
 }
 
+/* Casts payloads of these lengths from the front of the text. */
+static uint32_t cast_burst(jolunza_handle *handle, const char *text, const size_t *lengths, size_t count)
+{
+    return jolunza_cast_burst(handle, (const uint8_t *)text, strlen(text), lengths, count);
+}
+
+/* The burst is refused with this code, and all is as it was. */
+static void refuses_burst(jolunza_handle *handle, uint32_t code, size_t length, const size_t *lengths, size_t count)
+{
+    static const uint8_t payloads[2 * JOLUNZA_LONGEST_PAYLOAD];
+    jolunza_counts before = counts_of(handle);
+
+    CHECK(jolunza_cast_burst(handle, payloads, length, lengths, count) == code);
+    CHECK(counts(handle, before.frames, before.events, before.entries));
+    CHECK(is_frame(handle, 0, TO_ALL, BYTES(0x21, 7, 0, 1, 0, 2, 2, 'h', 'i', 2, 'y', 'o')));
+}
+
+/* The first fault counts. Two casts and the history's one entry are there. */
+static void test_burst_refused(void)
+{
+    static const size_t none[JOLUNZA_MOST_MESSAGES + 1], beyond[] = {1, SIZE_MAX}, one_more[] = {1024, 1};
+    jolunza_handle handle = JOLUNZA_CLOSED_HANDLE;
+    size_t ones[JOLUNZA_MOST_MESSAGES + 1];
+
+    for (size_t i = 0; i < JOLUNZA_MOST_MESSAGES + 1; i++)
+        ones[i] = 1;
+    CHECK(jolunza_open(&handle, GROUP, SIZE, WINDOW, 0, 1) == JOLUNZA_DONE);
+    CHECK(cast_burst(&handle, "hiyo", (const size_t[]){2, 2}, 2) == JOLUNZA_DONE);
+    refuses_burst(&handle, JOLUNZA_NONE_THERE, 0, ones, 1);
+    refuses_burst(&handle, JOLUNZA_NONE_THERE, 32, ones, 33);
+    refuses_burst(&handle, JOLUNZA_NONE_THERE, 2, beyond, 2);
+    refuses_burst(&handle, JOLUNZA_NONE_THERE, 1024, one_more, 2);
+    refuses_burst(&handle, JOLUNZA_EMPTY_BURST, 9, none, 0);
+    refuses_burst(&handle, JOLUNZA_BURST_TOO_LONG, 0, none, 33);
+    refuses_burst(&handle, JOLUNZA_BURST_TOO_LONG, 33, ones, 33);
+    refuses_burst(&handle, JOLUNZA_PAYLOAD_TOO_LONG, 1025, one_more, 2);
+    refuses_burst(&handle, JOLUNZA_WINDOW_FULL, 0, none, 3);
+    refuses_burst(&handle, JOLUNZA_WINDOW_FULL, 32, ones, 32);
+    refuses_burst(&handle, JOLUNZA_HISTORY_FULL, 0, none, 2);
+    refuses_burst(&handle, JOLUNZA_HISTORY_FULL, 1025, one_more, 1);
+    jolunza_close(&handle);
+    CHECK(jolunza_open(&handle, GROUP, SIZE, 256, 0, 1) == JOLUNZA_DONE);
+    CHECK(jolunza_cast_burst(&handle, (const uint8_t *)"", 0, none, JOLUNZA_MOST_MESSAGES) == JOLUNZA_DONE);
+    CHECK(counts(&handle, 1, JOLUNZA_MOST_MESSAGES, 1));
+    jolunza_close(&handle);
+}
+
 static bool has_received(bool is_repeat, bool is_entered, size_t delivered)
 {
     return filled.received.is_repeat == is_repeat && filled.received.is_entered == is_entered
@@ -260,6 +308,51 @@ static void test_receive(void)
     CHECK(has_received(false, false, 0));
     CHECK(counts(&handle, 1, 3, 3));
     CHECK(is_frame(&handle, 0, 2, BYTES(0x11, 7, 0, 1, 0, 2, 'h', 'i')));
+    jolunza_close(&handle);
+}
+
+/* Member 1 takes a burst and casts one: an event of each message, with a time of its own, and one entry. */
+static void test_burst(size_t limit)
+{
+    static const uint8_t hi_yo[] = {0x21, 7, 0, 1, 0, 2, 2, 'h', 'i', 2, 'y', 'o'};
+    jolunza_handle handle = JOLUNZA_CLOSED_HANDLE;
+    size_t more = limit > 0 ? 2 : 0;
+    struct filled *f = &filled;
+
+    CHECK(jolunza_open(&handle, GROUP, SIZE, WINDOW, 1, limit) == JOLUNZA_DONE);
+    CHECK(receive(&handle, hi_yo, sizeof hi_yo) == JOLUNZA_DONE);
+    CHECK(has_received(false, true, 2));
+    CHECK(counts(&handle, 0, 2, 1));
+    CHECK(receive(&handle, hi_yo, sizeof hi_yo) == JOLUNZA_DONE);
+    CHECK(has_received(true, false, 0));
+    /* a byte behind the last payload is not looked at */
+    CHECK(cast_burst(&handle, "abc", (const size_t[]){1, 1}, 2) == JOLUNZA_DONE);
+    CHECK(counts(&handle, 1, 2 + more, limit > 0 ? 2 : 1));
+    CHECK(is_frame(&handle, 0, TO_ALL, BYTES(0x21, 7, 1, 1, 1, 0, 2, 2, 1, 'a', 1, 'b')));
+    CHECK(jolunza_events(&handle, more, f->events, 4, f->bytes, 9, f->times, 16, &f->count) == JOLUNZA_DONE);
+    CHECK(f->count == 2 && memcmp(f->bytes, "ab", 2) == 0);
+    CHECK(f->events[0].is_own && f->events[0].number == 1 && f->events[1].is_own && f->events[1].number == 2);
+    CHECK(memcmp(f->times, (const uint32_t[]){2, 1, 0, 2, 2, 0}, 6 * sizeof f->times[0]) == 0);
+    CHECK(jolunza_entry(&handle, more / 2, &f->entry, f->bytes, 12, f->names, 4) == JOLUNZA_DONE);
+    CHECK(f->entry.kind == JOLUNZA_CAST && f->entry.length == 12 && f->entry.delivered == 0);
+    CHECK(cast(&handle, "c") == JOLUNZA_DONE);
+    CHECK(is_frame(&handle, 0, TO_ALL, BYTES(0x11, 7, 1, 3, 0, 1, 'c')));
+    jolunza_close(&handle);
+}
+
+/* Of the second burst 0.2 is there and 0.1 is not. */
+static void test_overlap(void)
+{
+    jolunza_handle handle = JOLUNZA_CLOSED_HANDLE;
+
+    open_new(&handle, 2);
+    refuses(&handle, JOLUNZA_TOO_FAR, BYTES(0x21, 7, 0, 4, 0, 2, 0, 0));
+    CHECK(receive(&handle, BYTES(0x11, 7, 0, 2, 0, 0)) == JOLUNZA_DONE);
+    refuses(&handle, JOLUNZA_OVERLAP, BYTES(0x21, 7, 0, 1, 0, 2, 0, 0));
+    refuses(&handle, JOLUNZA_MALFORMED, BYTES(0x21, 7, 0, 1, 0, 0));
+    refuses(&handle, JOLUNZA_MALFORMED, BYTES(0x21, 7, 0, 1, 0, 33));
+    CHECK(receive(&handle, BYTES(0x11, 7, 0, 1, 0, 0)) == JOLUNZA_DONE);
+    CHECK(has_received(false, true, 2));
     jolunza_close(&handle);
 }
 
@@ -692,7 +785,11 @@ int main(void)
     test_handles();
     test_open();
     test_cast();
+    test_burst_refused();
     test_receive();
+    test_burst(LIMIT);
+    test_burst(0);
+    test_overlap();
     test_load(LIMIT);
     test_load(0);
     test_parts(LIMIT);

@@ -9,7 +9,8 @@
  * A member keeps its history, of at most `history_max` entries, or none where that is 0: then its memory is bounded by group
  * and window, no history is ever full, and events and entries are counted from 0 in each call of cast, receive or tick: there
  * are those of the last one that was done. Either way what is new are the last ones: after a receive events from
- * counts.events - received.delivered on, after a cast one event, and one entry where the call has changed the member.
+ * counts.events - received.delivered on, after a cast one event, after a burst one for each payload, and one entry where the
+ * call has changed the member.
  *
  * What the caller has to uphold, since no check can:
  *  1. A handle begins as JOLUNZA_CLOSED_HANDLE (all bytes 0), and only these functions write to it.
@@ -32,12 +33,17 @@
 extern "C" {
 #endif
 
+/*
+ * A program goes on with each library of the version that it was made with. A later one may have more calls and codes; of a
+ * code that you don't know is true what is of all but DONE: nothing has changed. A received frame is dropped then.
+ */
 #define JOLUNZA_VERSION 1
 
-/* The longest payload and the longest frame, in bytes, and the most members. */
+/* The longest payload, or all payloads of a burst, and the longest frame, in bytes; the most members, and messages of a burst. */
 #define JOLUNZA_LONGEST_PAYLOAD 1024
 #define JOLUNZA_LONGEST_FRAME 1456
 #define JOLUNZA_MOST_MEMBERS 64
+#define JOLUNZA_MOST_MESSAGES 32
 
 /* What the calls answer. */
 enum jolunza_code {
@@ -47,14 +53,20 @@ enum jolunza_code {
     JOLUNZA_BAD_GROUP = 3,        /* open: the size is not 2 to 64, or the window not 1 to 256 */
     JOLUNZA_BAD_MEMBER = 4,       /* open, receive, missing: a number that no member of the group has; missing: its own too */
     JOLUNZA_BAD_LIMIT = 5,        /* open: the limit of the history is above 16,777,216 */
-    JOLUNZA_PAYLOAD_TOO_LONG = 6, /* cast: more than 1,024 bytes */
-    JOLUNZA_WINDOW_FULL = 7,      /* cast: wait for the others' statuses, keep the payload, try again */
-    JOLUNZA_HISTORY_FULL = 8,     /* cast, receive, tick: as many entries as the limit; begin a new group number (never at 0) */
+    JOLUNZA_PAYLOAD_TOO_LONG = 6, /* cast: more than 1,024 bytes; cast_burst: all payloads together */
+    JOLUNZA_WINDOW_FULL = 7,      /* cast, cast_burst: wait for the others' statuses, keep the payloads, try again; a burst wants
+                                     room for all its messages, and one of more than the window never has it */
+    JOLUNZA_HISTORY_FULL = 8,     /* cast, cast_burst, receive, tick: as many entries as the limit; begin a new group number
+                                     (never at 0) */
     JOLUNZA_OTHER_GROUP = 9,      /* receive: drop the frame */
     JOLUNZA_IMPOSSIBLE = 10,      /* receive: it says of this member what it never did; drop the frame */
     JOLUNZA_TOO_FAR = 11,         /* receive: beyond the window; drop the frame, it comes again */
     JOLUNZA_MALFORMED = 12,       /* receive: no frame; drop the bytes */
-    JOLUNZA_NONE_THERE = 13       /* frame, event, entry: the index is not below the count; of a part: it is not loaded */
+    JOLUNZA_NONE_THERE = 13,      /* frame, event, entry: the index is not below the count; of a part: it is not loaded;
+                                     cast_burst: the lengths say more bytes than there are */
+    JOLUNZA_OVERLAP = 14,         /* receive: a part of the burst was received before, and a part was not; drop the frame */
+    JOLUNZA_EMPTY_BURST = 15,     /* cast_burst: no payload */
+    JOLUNZA_BURST_TOO_LONG = 16   /* cast_burst: more than 32 payloads */
 };
 
 /* A member, or nothing. */
@@ -67,7 +79,7 @@ typedef struct jolunza_handle {
 
 /* How many there are to be read. */
 typedef struct jolunza_counts {
-    size_t frames;  /* of the last call of cast, receive or tick that was done */
+    size_t frames;  /* of the last call of cast, receive or tick that was done; a cast is said of a burst too */
     size_t events;  /* since the member was opened; without a history, of that call */
     size_t entries; /* of its history; without one, of that call: 1 or 0, or one of each part that changed the member */
 } jolunza_counts;
@@ -127,6 +139,16 @@ void jolunza_close(jolunza_handle *handle);
 
 /* Casts a message. The one frame to be sent goes to all others; the last event is the message. */
 uint32_t jolunza_cast(jolunza_handle *handle, const uint8_t *payload, size_t length);
+
+/*
+ * Casts `count` messages in one frame, which goes to all others; the last `count` events are the messages. Their payloads lie one
+ * after another from the front of `payloads` on, which has `length` bytes, and `lengths` says how long each is. One is also a
+ * burst. Bytes behind the last payload are not looked at. The message of each has a number and a time of its own, as if they
+ * were cast one by one; there is one entry of all.
+ * NONE_THERE where the lengths say more bytes than `length`, before EMPTY_BURST, BURST_TOO_LONG, PAYLOAD_TOO_LONG, WINDOW_FULL,
+ * HISTORY_FULL, or NO_MEMORY.
+ */
+uint32_t jolunza_cast_burst(jolunza_handle *handle, const uint8_t *payloads, size_t length, const size_t *lengths, size_t count);
 
 /*
  * Takes received bytes: one frame, whole. The frames to be sent answer a request: there are none where it is a repeat or entered.

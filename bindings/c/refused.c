@@ -122,9 +122,9 @@ static void add_entries(jolunza_handle *handle)
 {
     jolunza_entry_head head;
     uint8_t frame[JOLUNZA_LONGEST_FRAME];
-    jolunza_name names[CASTS];
+    jolunza_name names[2 * CASTS];
 
-    for (size_t i = 0; jolunza_entry(handle, i, &head, frame, sizeof frame, names, CASTS) == JOLUNZA_DONE; i++) {
+    for (size_t i = 0; jolunza_entry(handle, i, &head, frame, sizeof frame, names, 2 * CASTS) == JOLUNZA_DONE; i++) {
         add_number(head.kind);
         add(frame, head.length);
         add(names, head.delivered * sizeof names[0]);
@@ -167,7 +167,7 @@ static void receive_all(jolunza_handle *handle, const struct frame *frames, size
         TRY(handle, jolunza_receive(handle, frames[i].bytes, frames[i].head.length, &received));
 }
 
-/* Member 0 casts; every fifth frame is lost, the others come in pairs, the later one first. */
+/* Member 0 casts, every fourth time a burst of two; every fifth frame is lost, the others come in pairs, the later one first. */
 static void cast_some(jolunza_handle *of_0, jolunza_handle *of_1)
 {
     static const uint8_t payload[20] = "twenty bytes of text";
@@ -175,7 +175,10 @@ static void cast_some(jolunza_handle *of_0, jolunza_handle *of_1)
     jolunza_received received;
 
     for (int i = 0; i < CASTS; i++) {
-        TRY(of_0, jolunza_cast(of_0, payload, sizeof payload));
+        if (i % 4 == 3)
+            TRY(of_0, jolunza_cast_burst(of_0, payload, sizeof payload, (const size_t[]){6, 14}, 2));
+        else
+            TRY(of_0, jolunza_cast(of_0, payload, sizeof payload));
         MUST(frames_of(of_0, &frames[i]) == 1);
         if (i % 2 == 0)
             continue;
@@ -245,7 +248,7 @@ static uint64_t run(size_t limit, long before_the_refusal)
     TRY(&of_1, jolunza_open(&of_1, GROUP, SIZE, WINDOW, 1, limit));
     cast_some(&of_0, &of_1);
     repair(&of_0, &of_1);
-    MUST(jolunza_stable(&of_0, &stable) == JOLUNZA_DONE && stable == CASTS);
+    MUST(jolunza_stable(&of_0, &stable) == JOLUNZA_DONE && stable == CASTS + CASTS / 4);
     ends = digest_of(&of_0) ^ 3 * digest_of(&of_1);
     jolunza_close(&of_0);
     jolunza_close(&of_1);

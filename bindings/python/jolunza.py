@@ -27,6 +27,7 @@ from typing import Any, Iterator, NamedTuple, Optional, Sequence, Union
 LONGEST_PAYLOAD = 1024
 LONGEST_FRAME = 1456
 MOST_MEMBERS = 64
+MOST_MESSAGES = 32
 
 Given = Union[bytes, bytearray, memoryview]
 
@@ -48,6 +49,9 @@ class Code(enum.IntEnum):
     TOO_FAR = 11
     MALFORMED = 12
     NONE_THERE = 13
+    OVERLAP = 14
+    EMPTY_BURST = 15
+    BURST_TOO_LONG = 16
 
 
 class Kind(enum.IntEnum):
@@ -171,6 +175,10 @@ FUNCTIONS: dict[str, tuple[Any, list[tuple[str, Any]]]] = {
     ),
     "jolunza_close": (None, [HANDLE]),
     "jolunza_cast": (c_uint32, [HANDLE, ("payload", c_char_p), ("length", c_size_t)]),
+    "jolunza_cast_burst": (
+        c_uint32,
+        [HANDLE, ("payloads", c_char_p), ("length", c_size_t), ("lengths", const_size_t), ("count", c_size_t)],
+    ),
     "jolunza_receive": (
         c_uint32,
         [HANDLE, ("bytes", c_char_p), ("length", c_size_t), ("received", POINTER(jolunza_received))],
@@ -302,7 +310,7 @@ class Member:
     Who wants to come back opens it anew and repeats the calls that changed it.
 
     Its history has at most `history_max` entries. With 0 it keeps none: its memory stays bounded, HISTORY_FULL never comes, and events
-    and entries are those of the last call of `cast`, `receive` or `tick` that was done.
+    and entries are those of the last call of `cast`, `cast_burst`, `receive` or `tick` that was done.
     """
 
     # Room for so many at a time; one of the longest fits at least, so a bulk copy answers 0 only at the end.
@@ -341,6 +349,14 @@ class Member:
         given = _given(payload)
         with self._lock:
             self._call("cast", given, len(given))
+
+    def cast_burst(self, payloads: Sequence[Given]) -> None:
+        """Casts the messages of a burst, 1 to 32, in one frame, which goes to all others; the last events are the messages, each with a
+        number and a time of its own. There is one entry of all."""
+        given = [_given(payload) for payload in payloads]
+        joined, lengths = b"".join(given), (c_size_t * len(given))(*map(len, given))
+        with self._lock:
+            self._call("cast_burst", joined, len(joined), lengths, len(given))
 
     def receive(self, frame: Given) -> Received:
         """Takes received bytes: one frame, whole. The last `delivered` events are new, and frames to be sent answer a request."""
@@ -386,7 +402,7 @@ class Member:
         return Counts(counts.frames, counts.events, counts.entries)
 
     def frames(self) -> list[Frame]:
-        """The frames to be sent of the last call of `cast`, `receive` or `tick` that was done."""
+        """The frames to be sent of the last call of `cast`, `cast_burst`, `receive` or `tick` that was done."""
         with self._lock:
             frames: list[Frame] = []
             more = self._frames(0)

@@ -1,4 +1,5 @@
-"""What a member did, in a file, so that it can come back: the casts, the bytes received and the ticks that changed it, in order.
+"""What a member did, in a file, so that it can come back: the casts, the bursts, the bytes received and the ticks that changed it, in
+order.
 
 A record is written before anything of its call is sent or shown. So a process that is killed has sent nothing that its journal lacks.
 A record that is cut off at the end of the file is dropped. To outlive a failure of power as well, call `os.fsync` after each write.
@@ -9,19 +10,36 @@ from __future__ import annotations
 import fcntl
 import struct
 import zlib
-from typing import Iterator, NamedTuple, Optional
+from typing import Iterable, Iterator, NamedTuple, Optional
 
 from jolunza import Kind, Member, Received
 
 HEAD = struct.Struct("<BI")  # the kind, and how many bytes
 CHECK = struct.Struct("<I")
+LENGTH = struct.Struct("<I")  # of a payload of a burst
+
+# The kind of a burst's record, behind those of entries: of these a burst is a CAST.
+BURST = 3
 
 
 class Record(NamedTuple):
-    """A call: the payload of a cast, the bytes received, or nothing for a tick."""
+    """A call: the payload of a cast, the bytes received, nothing for a tick, or the payloads of a burst, each behind its length."""
 
-    kind: Kind
+    kind: int
     given: bytes
+
+    @classmethod
+    def of_burst(cls, payloads: Iterable[bytes]) -> Record:
+        return cls(BURST, b"".join(LENGTH.pack(len(payload)) + payload for payload in payloads))
+
+    def payloads(self) -> list[bytes]:
+        """Those of a burst."""
+        found, at = [], 0
+        while at < len(self.given):
+            (length,) = LENGTH.unpack_from(self.given, at)
+            at += LENGTH.size + length
+            found.append(self.given[at - length : at])
+        return found
 
     def text(self) -> bytes:
         body = HEAD.pack(self.kind, len(self.given)) + self.given
@@ -38,7 +56,7 @@ def records(text: bytes) -> Iterator[Record]:
             return
         if CHECK.unpack_from(text, behind - CHECK.size)[0] != zlib.crc32(text[at : behind - CHECK.size]):
             raise ValueError(f"the journal is damaged at byte {at}")
-        yield Record(Kind(kind), text[at + HEAD.size : behind - CHECK.size])
+        yield Record(kind if kind == BURST else Kind(kind), text[at + HEAD.size : behind - CHECK.size])
         at = behind
 
 
@@ -46,6 +64,8 @@ def make(member: Member, record: Record) -> Optional[Received]:
     """Makes the call, again or for the first time."""
     if record.kind == Kind.CAST:
         member.cast(record.given)
+    elif record.kind == BURST:
+        member.cast_burst(record.payloads())
     elif record.kind == Kind.ARRIVE:
         return member.receive(record.given)
     else:

@@ -25,7 +25,7 @@
 //! }
 //! ```
 //!
-//! After [`Member::cast`], [`Member::receive`] and [`Member::tick`] send [`Member::frames`], each whole and as it is,
+//! After [`Member::cast`], [`Member::cast_burst`], [`Member::receive`] and [`Member::tick`] send [`Member::frames`], each whole and as it is,
 //! and show [`Member::new_events`]. Tick now and then: a tick says what the member has, and asks for what it misses.
 //!
 //! A member goes to another thread, and no two threads use one at a time:
@@ -64,7 +64,7 @@ pub use frames::{Frame, Frames};
 pub use member::{Counts, Member, Name, Received, Settings};
 pub use refusal::Refusal;
 
-/// The most bytes of a payload.
+/// The most bytes of a payload, and of all payloads of a burst.
 pub const LONGEST_PAYLOAD: usize = sys::JOLUNZA_LONGEST_PAYLOAD;
 
 /// The most bytes of a frame, so that it fits one datagram.
@@ -72,6 +72,9 @@ pub const LONGEST_FRAME: usize = sys::JOLUNZA_LONGEST_FRAME;
 
 /// The most members of a group.
 pub const MOST_MEMBERS: usize = sys::JOLUNZA_MOST_MEMBERS;
+
+/// The most payloads of a burst.
+pub const MOST_MESSAGES: usize = sys::JOLUNZA_MOST_MESSAGES;
 
 /// The greatest limit of a history, in entries.
 pub const LONGEST_HISTORY: usize = 16_777_216;

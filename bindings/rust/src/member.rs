@@ -21,7 +21,8 @@ pub struct Settings {
     /// The member's own number, from 0.
     pub me: u32,
     /// The most entries of its history, up to 16,777,216. With 0 it keeps none: its memory stays bounded, `HistoryFull`
-    /// never comes, and events and entries are those of the last call of `cast`, `receive` or `tick` that was done.
+    /// never comes, and events and entries are those of the last call of `cast`, `cast_burst`, `receive` or `tick` that
+    /// was done.
     pub history_max: usize,
 }
 
@@ -52,7 +53,7 @@ pub struct Received {
 /// How many there are to be read.
 #[derive(Clone, Copy, Debug, PartialEq, Eq)]
 pub struct Counts {
-    /// Of the last call of `cast`, `receive` or `tick` that was done.
+    /// Of the last call of `cast`, `cast_burst`, `receive` or `tick` that was done.
     pub frames: usize,
     /// Since the member was opened; without a history, of that call.
     pub events: usize,
@@ -80,7 +81,7 @@ pub struct Member {
     entry: EntryBuffer,
 }
 
-/// The frames that a call left: none, the one of a cast, or any number.
+/// The frames that a call left: none, the one of a cast or a burst, or any number.
 #[derive(Clone, Copy)]
 enum Left {
     NoFrame,
@@ -119,6 +120,29 @@ impl Member {
     pub fn cast(&mut self, payload: &[u8]) -> Result<(), Refusal> {
         answered(unsafe { sys::jolunza_cast(self.handle.get(), payload.as_ptr(), payload.len()) })?;
         self.add_events(1);
+        self.left = Left::OneFrame;
+        Ok(())
+    }
+
+    /// Casts the messages of a burst, 1 to 32, in one frame, which is for all others; the last events are the messages,
+    /// each with a number and a time of its own. There is one entry of all.
+    ///
+    /// ```
+    /// # use jolunza::{Member, Refusal, Settings};
+    /// # let open = |me| Member::open(Settings { group: 7, size: 3, window: 4, me, history_max: 100 });
+    /// # let (mut anna, mut bert) = (open(0)?, open(1)?);
+    /// anna.cast_burst(&[b"when?", b"where?"])?;
+    /// bert.receive(anna.frames().next().unwrap().bytes)?;
+    /// let shown: Vec<_> = bert.new_events().map(|event| (event.name.number, event.payload.to_vec())).collect();
+    /// assert_eq!(shown, [(1, b"when?".to_vec()), (2, b"where?".to_vec())]);
+    /// # Ok::<(), Refusal>(())
+    /// ```
+    pub fn cast_burst(&mut self, payloads: &[&[u8]]) -> Result<(), Refusal> {
+        let bytes = payloads.concat();
+        let lengths: Vec<usize> = payloads.iter().map(|payload| payload.len()).collect();
+        let (at, count) = (lengths.as_ptr(), lengths.len());
+        answered(unsafe { sys::jolunza_cast_burst(self.handle.get(), bytes.as_ptr(), bytes.len(), at, count) })?;
+        self.add_events(payloads.len());
         self.left = Left::OneFrame;
         Ok(())
     }
@@ -230,7 +254,7 @@ impl Member {
         self.unshown += more;
     }
 
-    /// The frames of the last call of `cast`, `receive` or `tick` that was done.
+    /// The frames of the last call of `cast`, `cast_burst`, `receive` or `tick` that was done.
     #[inline]
     pub fn frames(&mut self) -> Frames<'_> {
         match self.left {

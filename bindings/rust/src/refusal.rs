@@ -18,11 +18,12 @@ pub enum Refusal {
     BadMember = sys::JOLUNZA_BAD_MEMBER,
     /// `open`: the limit of the history is above 16,777,216.
     BadLimit = sys::JOLUNZA_BAD_LIMIT,
-    /// `cast`: more than 1,024 bytes.
+    /// `cast`: more than 1,024 bytes; `cast_burst`: all payloads together.
     PayloadTooLong = sys::JOLUNZA_PAYLOAD_TOO_LONG,
-    /// `cast`: wait for the others' statuses, keep the payload, try again.
+    /// `cast`, `cast_burst`: wait for the others' statuses, keep the payloads, try again. A burst wants room for all its
+    /// messages; one of more than the window never has it.
     WindowFull = sys::JOLUNZA_WINDOW_FULL,
-    /// `cast`, `receive`, `tick`: as many entries as the limit. Begin a new group number. Never without a
+    /// `cast`, `cast_burst`, `receive`, `tick`: as many entries as the limit. Begin a new group number. Never without a
     /// history.
     HistoryFull = sys::JOLUNZA_HISTORY_FULL,
     /// `receive`: drop the frame.
@@ -36,10 +37,16 @@ pub enum Refusal {
     /// `receive_loaded`: not all of these bytes are loaded. Of an index that is not below the count a `Member` answers
     /// `None` instead.
     NoneThere = sys::JOLUNZA_NONE_THERE,
+    /// `receive`: a part of the burst was received before, and a part was not. Drop the frame.
+    Overlap = sys::JOLUNZA_OVERLAP,
+    /// `cast_burst`: no payload.
+    EmptyBurst = sys::JOLUNZA_EMPTY_BURST,
+    /// `cast_burst`: more than 32 payloads.
+    BurstTooLong = sys::JOLUNZA_BURST_TOO_LONG,
 }
 
 impl Refusal {
-    const ALL: [Refusal; 13] = [
+    const ALL: [Refusal; 16] = [
         Refusal::Closed,
         Refusal::NoMemory,
         Refusal::BadGroup,
@@ -53,6 +60,9 @@ impl Refusal {
         Refusal::TooFar,
         Refusal::Malformed,
         Refusal::NoneThere,
+        Refusal::Overlap,
+        Refusal::EmptyBurst,
+        Refusal::BurstTooLong,
     ];
 
     /// The code in jolunza.h.
@@ -85,7 +95,7 @@ impl fmt::Display for Refusal {
             Refusal::BadGroup => "a group has 2 to 64 members and a window of 1 to 256",
             Refusal::BadMember => "the group has no member of this number",
             Refusal::BadLimit => "a history has at most 16,777,216 entries",
-            Refusal::PayloadTooLong => "a payload has at most 1,024 bytes",
+            Refusal::PayloadTooLong => "a payload, or all of a burst, has at most 1,024 bytes",
             Refusal::WindowFull => "the window is full: wait for the others' statuses and try again",
             Refusal::HistoryFull => "the history is full: begin a new group number",
             Refusal::OtherGroup => "the frame is of another group: drop it",
@@ -93,6 +103,9 @@ impl fmt::Display for Refusal {
             Refusal::TooFar => "the frame is beyond the window: drop it, it comes again",
             Refusal::Malformed => "the bytes are no frame: drop them",
             Refusal::NoneThere => "the index is not below the count, or the bytes are not loaded",
+            Refusal::Overlap => "a part of the burst was received before: drop the frame",
+            Refusal::EmptyBurst => "a burst has a payload",
+            Refusal::BurstTooLong => "a burst has at most 32 payloads",
         })
     }
 }

@@ -7,6 +7,7 @@ use std::ffi::c_void;
 pub const JOLUNZA_LONGEST_PAYLOAD: usize = 1024;
 pub const JOLUNZA_LONGEST_FRAME: usize = 1456;
 pub const JOLUNZA_MOST_MEMBERS: usize = 64;
+pub const JOLUNZA_MOST_MESSAGES: usize = 32;
 
 pub const JOLUNZA_DONE: u32 = 0;
 pub const JOLUNZA_CLOSED: u32 = 1;
@@ -22,6 +23,9 @@ pub const JOLUNZA_IMPOSSIBLE: u32 = 10;
 pub const JOLUNZA_TOO_FAR: u32 = 11;
 pub const JOLUNZA_MALFORMED: u32 = 12;
 pub const JOLUNZA_NONE_THERE: u32 = 13;
+pub const JOLUNZA_OVERLAP: u32 = 14;
+pub const JOLUNZA_EMPTY_BURST: u32 = 15;
+pub const JOLUNZA_BURST_TOO_LONG: u32 = 16;
 
 #[repr(C)]
 #[derive(Debug)]
@@ -102,6 +106,14 @@ extern "C" {
     pub fn jolunza_close(handle: *mut jolunza_handle);
 
     pub fn jolunza_cast(handle: *mut jolunza_handle, payload: *const u8, length: usize) -> u32;
+
+    pub fn jolunza_cast_burst(
+        handle: *mut jolunza_handle,
+        payloads: *const u8,
+        length: usize,
+        lengths: *const usize,
+        count: usize,
+    ) -> u32;
 
     pub fn jolunza_receive(
         handle: *mut jolunza_handle,

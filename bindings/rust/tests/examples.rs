@@ -2,7 +2,7 @@
 
 mod text;
 
-use jolunza::{Counts, Entry, Frame, Member, Name, Refusal, Settings, LONGEST_FRAME, LONGEST_PAYLOAD};
+use jolunza::{Counts, Entry, Frame, Member, Name, Refusal, Settings, LONGEST_FRAME, LONGEST_PAYLOAD, MOST_MESSAGES};
 use text::{bytes_of, hexadecimal, printed_time};
 
 const EXAMPLES: &str = include_str!("worked_examples.txt");
@@ -23,6 +23,7 @@ fn answer(member: &mut Member, call: &str) -> String {
     let (word, rest) = call.split_once(' ').unwrap_or((call, ""));
     match word {
         "cast" => counted(member, |member| cast(member, &bytes_of(rest))),
+        "burst" => counted(member, |member| burst(member, rest)),
         "take" => counted(member, |member| take(member, &bytes_of(rest))),
         "tick" => counted(member, tick),
         "time" => printed_time(&member.time()),
@@ -49,6 +50,24 @@ fn cast(member: &mut Member, payload: &[u8]) -> Result<String, Refusal> {
     let frames: Vec<Frame> = member.frames().collect();
     let [Frame { to: None, bytes }] = frames[..] else { panic!("{frames:?}") };
     Ok(format!("{name} {}", hexadecimal(bytes)))
+}
+
+fn burst(member: &mut Member, words: &str) -> Result<String, Refusal> {
+    let payloads: Vec<Vec<u8>> = words.split_whitespace().map(bytes_of).collect();
+    let before = member.counts();
+    member.cast_burst(&payloads.iter().map(Vec::as_slice).collect::<Vec<_>>())?;
+    assert_eq!(
+        member.counts(),
+        Counts { frames: 1, events: before.events + payloads.len(), entries: before.entries + 1 }
+    );
+    let mut messages = Vec::new();
+    for (event, payload) in member.events(before.events..).zip(&payloads) {
+        assert_eq!((event.is_own, event.payload), (true, &payload[..]));
+        messages.push(format!("{} {}", event.name, printed_time(event.time)));
+    }
+    let frames: Vec<Frame> = member.frames().collect();
+    let [Frame { to: None, bytes }] = frames[..] else { panic!("{frames:?}") };
+    Ok(format!("{} {}", messages.join(", "), hexadecimal(bytes)))
 }
 
 fn take(member: &mut Member, bytes: &[u8]) -> Result<String, Refusal> {
@@ -166,6 +185,24 @@ fn a_payload_has_at_most_1024_bytes() {
     assert_eq!(receiver.receive(&longer), Err(Refusal::Malformed));
 }
 
+#[test]
+fn a_burst_has_1_to_32_payloads_of_1024_bytes_together() {
+    let (bytes, most) = ([b'x'; 2 * LONGEST_PAYLOAD], LONGEST_PAYLOAD / MOST_MESSAGES);
+    let mut sender = open(7, 3, 256, 0, 100);
+    assert_eq!(sender.cast_burst(&[]), Err(Refusal::EmptyBurst));
+    assert_eq!(sender.cast_burst(&[&bytes[..1]; MOST_MESSAGES + 1]), Err(Refusal::BurstTooLong));
+    assert_eq!(sender.cast_burst(&[&bytes[..]; 100]), Err(Refusal::BurstTooLong));
+    let mut payloads = [&bytes[..most]; MOST_MESSAGES];
+    payloads[5] = &bytes[..most + 1];
+    assert_eq!(sender.cast_burst(&payloads), Err(Refusal::PayloadTooLong));
+    payloads[31] = &bytes[..most - 1];
+    assert_eq!((sender.counts().events, sender.cast_burst(&payloads)), (0, Ok(())));
+    let mut receiver = open(7, 3, 256, 1, 0);
+    let received = receiver.receive(sender.frames().next().unwrap().bytes).unwrap();
+    assert_eq!((received.is_entered, received.delivered), (true, MOST_MESSAGES));
+    assert!(receiver.new_events().map(|event| event.payload).eq(payloads));
+}
+
 /// More than fit at once into what the wrapper begins with.
 #[test]
 fn at_most_64_frames_are_sent_again_at_once() {
@@ -197,10 +234,10 @@ fn longest_cast(number: &[u8]) -> Vec<u8> {
     with_longest_changes(0x11, number, &[&[0x80, 0x08][..], &[7; LONGEST_PAYLOAD]].concat())
 }
 
-/// A burst that ends at the last number, of eight payloads of 128 bytes and 24 of none.
-fn longest_burst() -> Vec<u8> {
+/// A burst of eight payloads of 128 bytes and 24 of none.
+fn longest_burst(number: &[u8]) -> Vec<u8> {
     let payload = [&[0x80, 0x01][..], &[7; 128]].concat();
-    with_longest_changes(0x21, &[0xe0, 0xff, 0xff, 0xff, 0x0f], &[&[32][..], &payload.repeat(8), &[0; 24]].concat())
+    with_longest_changes(0x21, number, &[&[32][..], &payload.repeat(8), &[0; 24]].concat())
 }
 
 #[test]
@@ -213,11 +250,17 @@ fn the_longest_cast_has_1417_bytes() {
     assert_eq!(member.entry(0), Some(Entry::Arrive { frame: &first, delivered: &[] }));
 }
 
+/// It ends at the last number.
 #[test]
-fn the_longest_frame_is_a_burst_which_members_refuse() {
-    let mut member = open(u32::MAX, 64, 256, 1, 100);
-    let longest = longest_burst();
-    assert_eq!((longest.len(), member.receive(&longest)), (LONGEST_FRAME, Err(Refusal::Malformed)));
+fn the_longest_frame_is_a_burst() {
+    let mut member = open(u32::MAX, 64, 32, 1, 100);
+    let longest = longest_burst(&[0xe0, 0xff, 0xff, 0xff, 0x0f]);
+    assert_eq!((longest.len(), member.receive(&longest)), (LONGEST_FRAME, Err(Refusal::TooFar)));
+    let beyond = longest_burst(&[0xe1, 0xff, 0xff, 0xff, 0x0f]);
+    assert_eq!(member.receive(&beyond), Err(Refusal::Malformed));
+    let first = longest_burst(&[1]);
+    assert_eq!(member.receive(&first).map(|received| received.is_entered), Ok(true));
+    assert_eq!(member.entry(0), Some(Entry::Arrive { frame: &first, delivered: &[] }));
 }
 
 /// The events are read in pieces, each at once, and from anywhere.
@@ -269,6 +312,11 @@ fn without_a_history_the_last_call_is_shown() {
     let own = |number| Name { sender: 2, number };
     let names = |member: &mut Member| member.new_events().map(|event| event.name).collect::<Vec<_>>();
     let mut member = open(7, 3, 4, 2, 0);
+    member.cast_burst(&[b"p", b"q"]).unwrap();
+    assert_eq!(names(&mut member), [own(1), own(2)]);
+    assert_eq!(member.counts(), Counts { frames: 1, events: 2, entries: 1 });
+    assert!(matches!(member.entry(0), Some(Entry::Cast { frame }) if frame.ends_with(b"\x01p\x01q")));
+    member = open(7, 3, 4, 2, 0);
     member.cast(b"a").unwrap();
     member.cast(b"b").unwrap();
     assert_eq!(names(&mut member), [own(2)], "2.1 was not asked for in time");

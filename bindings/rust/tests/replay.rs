@@ -26,9 +26,22 @@ fn open(me: u32, history_max: usize) -> Member {
 fn call(member: &mut Member, line: &str) -> Result<(), Refusal> {
     match line.split_once(' ') {
         Some(("cast", word)) => member.cast(&bytes_of(word)),
+        Some(("burst", words)) => {
+            let payloads: Vec<Vec<u8>> = words.split(' ').map(bytes_of).collect();
+            member.cast_burst(&payloads.iter().map(Vec::as_slice).collect::<Vec<_>>())
+        }
         Some(("receive", word)) => member.receive(&bytes_of(word)).map(drop),
         None if line == "tick" => member.tick(),
         _ => panic!("{line}"),
+    }
+}
+
+/// A call that casts the bytes, as one message or as the halves and an end without bytes, as the first of them says.
+fn cast_or_burst(bytes: &[u8]) -> String {
+    let (front, back) = bytes.split_at(bytes.len() / 2);
+    match bytes[0] % 2 {
+        0 => format!("cast {}", hexadecimal(bytes)),
+        _ => format!("burst {} {} -", hexadecimal(front), hexadecimal(back)),
     }
 }
 
@@ -39,9 +52,10 @@ fn frames(member: &mut Member) -> Vec<(Option<u32>, Vec<u8>)> {
 
 /// What the last call of a member without a history was, as its entry tells; None where it changed nothing.
 fn entered(member: &mut Member) -> Option<String> {
-    let payload = member.events(..).next().map(|event| hexadecimal(event.payload));
+    let payloads: Vec<String> = member.events(..).map(|event| hexadecimal(event.payload)).collect();
     Some(match member.entry(0)? {
-        Entry::Cast { .. } => format!("cast {}", payload.expect("a cast is an event")),
+        Entry::Cast { frame: [0x21, ..] } => format!("burst {}", payloads.join(" ")),
+        Entry::Cast { .. } => format!("cast {}", payloads.join(" ")),
         Entry::Arrive { frame, .. } => format!("receive {}", hexadecimal(frame)),
         Entry::Tick { .. } => "tick".into(),
     })
@@ -134,7 +148,7 @@ impl Group {
         let me = dice.below(SIZE.into()) as u32;
         match dice.below(10) {
             0 => self.call(me, "tick"),
-            1 => self.call(me, &format!("cast {}", hexadecimal(&dice.0.to_le_bytes()))),
+            1 => self.call(me, &cast_or_burst(&dice.0.to_le_bytes())),
             _ => self.bring(),
         }
     }

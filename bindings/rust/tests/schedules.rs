@@ -74,6 +74,7 @@ impl Play {
             "cast" => Ok(bytes_of(words[2])),
             "say" => player.conference.say(words[2], words[3]),
             "answer" => player.conference.answer(name_of(words[2]), words[3]),
+            "burst" => return self.burst(place, line.split(' ').skip(2)),
             "arrive" => return self.arrive(place, words[2]),
             "tick" => return self.tick(place),
             "screen" => return self.screen(place),
@@ -90,6 +91,17 @@ impl Play {
         let done = member.cast(payload);
         let time = member.time();
         self.answered(place, done, |_| format!("cast {place}.{} {}", time[place], printed_time(&time)));
+    }
+
+    /// The time is that of the first message.
+    fn burst<'w>(&mut self, place: usize, words: impl Iterator<Item = &'w str>) {
+        let payloads: Vec<Vec<u8>> = words.map(bytes_of).collect();
+        let member = &mut self.players[place].member;
+        let mut time = member.time();
+        let done = member.cast_burst(&payloads.iter().map(Vec::as_slice).collect::<Vec<_>>());
+        time[place] += 1;
+        let (first, last) = (time[place], member.time()[place]);
+        self.answered(place, done, |()| format!("burst {place}.{first} {place}.{last} {}", printed_time(&time)));
     }
 
     fn arrive(&mut self, place: usize, frame: &str) {

@@ -18,6 +18,8 @@ pub enum Record {
     Say(Vec<u8>),
     /// The first that waited was cast.
     Cast,
+    /// The first so many that waited were cast in one frame.
+    Burst(usize),
     Arrive(Vec<u8>),
     Tick,
 }
@@ -29,6 +31,7 @@ impl Record {
             Record::Room(name) => format!("room {name}"),
             Record::Say(payload) => format!("say {}", hexadecimal(payload)),
             Record::Cast => "cast".into(),
+            Record::Burst(count) => format!("burst {count}"),
             Record::Arrive(bytes) => format!("arrive {}", hexadecimal(bytes)),
             Record::Tick => "tick".into(),
         }
@@ -41,6 +44,7 @@ impl Record {
             Some(("group", word)) => Some(Record::Group(decimal(word)?)),
             Some(("room", word)) => is_room(word).then(|| Record::Room(word.into())),
             Some(("say", word)) => Some(Record::Say(bytes_in(word)?)),
+            Some(("burst", word)) => Some(Record::Burst(decimal(word)? as usize)),
             Some(("arrive", word)) => Some(Record::Arrive(bytes_in(word)?)),
             _ => None,
         }
@@ -135,7 +139,8 @@ mod tests {
 
     fn some_records() -> Vec<Record> {
         let (say, arrive) = (Record::Say(b"\x01\x04planhi".to_vec()), Record::Arrive(vec![0x12, 0x07, 0xff]));
-        vec![Record::Group(7), Record::Room("plan".into()), say, Record::Cast, arrive, Record::Tick, Record::Group(8)]
+        let front = vec![Record::Group(7), Record::Room("plan".into()), say, Record::Cast, Record::Burst(32)];
+        [front, vec![arrive, Record::Tick, Record::Group(8)]].concat()
     }
 
     #[test]
@@ -157,8 +162,8 @@ mod tests {
         let whole = fs::read(&path).unwrap();
         fs::write(&path, &whole[..whole.len() - 3]).unwrap();
         let (mut journal, found) = Journal::open(&path, &SETTINGS).unwrap();
-        assert_eq!(found, some_records()[..6]);
-        journal.write(&some_records()[6..]).unwrap();
+        assert_eq!(found, some_records()[..7]);
+        journal.write(&some_records()[7..]).unwrap();
         assert_eq!(fs::read(&path).unwrap(), whole);
         fs::remove_file(&path).unwrap();
     }

@@ -59,7 +59,7 @@ impl Session {
 
     /// Does what a record says, writes it down where it changed something, and then sends and shows what came of it.
     pub fn make(&mut self, record: Record) -> io::Result<Result<(), Refusal>> {
-        let is_call = matches!(record, Record::Cast | Record::Arrive(_) | Record::Tick);
+        let is_call = matches!(record, Record::Cast | Record::Burst(_) | Record::Arrive(_) | Record::Tick);
         let before = self.state.member.counts().entries;
         if let Err(refusal) = self.state.apply(&record) {
             return Ok(Err(refusal));
@@ -95,7 +95,7 @@ impl Session {
     /// Casts what waits, as far as the window lets it.
     pub fn cast_waiting(&mut self) -> io::Result<()> {
         while !self.is_used_up && !self.state.waiting.is_empty() {
-            if let Err(refusal) = self.make(Record::Cast)? {
+            if let Err(refusal) = self.make(self.state.next_cast())? {
                 self.say_once(format!("{refusal:?}: {refusal}. What you say waits"));
                 break;
             }

@@ -2,7 +2,7 @@
 
 use crate::journal::Record;
 use crate::lines::Conference;
-use jolunza::{Member, Refusal, Settings};
+use jolunza::{Member, Refusal, Settings, LONGEST_PAYLOAD, MOST_MESSAGES};
 use std::collections::VecDeque;
 
 #[derive(Debug)]
@@ -38,6 +38,14 @@ impl State {
                 self.member.cast(payload)?;
                 self.waiting.pop_front();
             }
+            Record::Burst(count) => {
+                let payloads: Vec<&[u8]> = self.waiting.iter().take(*count).map(Vec::as_slice).collect();
+                if payloads.len() < *count {
+                    return Err(Refusal::NoneThere);
+                }
+                self.member.cast_burst(&payloads)?;
+                self.waiting.drain(..*count);
+            }
             Record::Arrive(bytes) => drop(self.member.receive(bytes)?),
             Record::Tick => self.member.tick()?,
         }
@@ -54,6 +62,21 @@ impl State {
 
     pub fn own_casts(&self) -> u32 {
         self.member.time()[self.member.settings().me as usize]
+    }
+
+    /// The next cast of what waits: all that one frame can have, or the first.
+    pub fn next_cast(&self) -> Record {
+        let open = self.member.settings().window - (self.own_casts() - self.member.stable());
+        let mut room = LONGEST_PAYLOAD;
+        let fits = |payload: &&Vec<u8>| {
+            let left = room.checked_sub(payload.len());
+            room = left.unwrap_or(room);
+            left.is_some()
+        };
+        match self.waiting.iter().take(MOST_MESSAGES.min(open as usize)).take_while(fits).count() {
+            0 | 1 => Record::Cast,
+            count => Record::Burst(count),
+        }
     }
 
     /// Everybody is known to have what this member said.
@@ -92,6 +115,31 @@ mod tests {
         state.apply(&Record::Cast).unwrap();
         let payloads: Vec<_> = state.member.new_events().map(|event| event.payload.to_vec()).collect();
         assert_eq!(payloads, [b"\x01\x04maina", b"\x01\x04mainb"]);
+    }
+
+    #[test]
+    fn what_waits_is_cast_as_far_as_it_fits() {
+        let mut state = State::new(Settings { group: 7, size: 2, window: 5, me: 0, history_max: 100 }).unwrap();
+        assert_eq!(state.next_cast(), Record::Cast);
+        assert_eq!(state.apply(&Record::Burst(1)), Err(Refusal::NoneThere));
+        for (text, next) in [("a", Record::Cast), ("b", Record::Burst(2)), (&"c".repeat(1_018), Record::Burst(2))] {
+            state.apply(&say(text)).unwrap();
+            assert_eq!(state.next_cast(), next);
+        }
+        assert_eq!(state.apply(&Record::Burst(4)), Err(Refusal::NoneThere));
+        assert_eq!(state.apply(&Record::Burst(3)), Err(Refusal::PayloadTooLong));
+        assert_eq!(state.apply(&Record::Burst(2)), Ok(()));
+        assert_eq!((state.waiting.len(), state.own_casts(), state.next_cast()), (1, 2, Record::Cast));
+        state.apply(&Record::Cast).unwrap();
+        for text in ["d", "e", "f"] {
+            state.apply(&say(text)).unwrap();
+        }
+        assert_eq!(state.next_cast(), Record::Burst(2));
+        assert_eq!(state.apply(&Record::Burst(3)), Err(Refusal::WindowFull));
+        state.apply(&Record::Burst(2)).unwrap();
+        assert_eq!((state.next_cast(), state.own_casts()), (Record::Cast, 5));
+        let numbers: Vec<_> = state.member.new_events().map(|event| event.name.number).collect();
+        assert_eq!(numbers, [1, 2, 3, 4, 5]);
     }
 
     #[test]
