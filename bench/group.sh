@@ -4,9 +4,12 @@
 #   group.sh             processor time for each delivery, deliveries for each second, and which part of the cast frames that came were
 #                        repeats; runs of some 200,000 deliveries and more, the best of three by processor time. The plain program is
 #                        measured twice: with the protocol alone, and with the duties that the proved one has beside it (`plain_group.rs`)
+#   group.sh burst       processor time for each delivery and deliveries for each second where 1, 4, 8 and 32 messages go in a burst, over
+#                        channels with window 64 and over UDP with window 32. The plain program has no bursts: it gathers as many frames
+#                        into one datagram, or into one piece of memory. Both cast so many at once only where the window has room for all
 #   group.sh count       instructions (cachegrind) and system calls of a delivery, of runs with a tenth of the casts; the least of three.
 #                        The plain program has the protocol alone
-#   group.sh [count] 10  the same with a tenth of the casts
+#   group.sh [burst | count] 10   the same with a tenth of the casts
 # Valgrind runs one thread at a time and slowly, so that more ticks and repeats come to a delivery, and counts of a group in threads
 # differ from run to run; one that takes more than two minutes is no run. System calls are counted by the system for perf (Debian's
 # package linux-perf), at full speed; where it can't, by strace (package strace), which stops the threads at each call. Where there is no
@@ -18,8 +21,8 @@ here=$(cd "$(dirname "$0")" && pwd)
 work=$(mktemp -d)
 trap 'rm -rf "$work"' EXIT
 how=time
-if [ "${1:-}" = count ]; then
-    how=count
+if [ "${1:-}" = count ] || [ "${1:-}" = burst ]; then
+    how=$1
     shift
 fi
 proved=${PROVED:-$here/../crates/bench_group/out/bench_group}
@@ -42,8 +45,8 @@ CALLS = [
 ]
 
 
-def words_of(link, size, window, casts):
-    return [str(size), str(window), "32", str(casts), link]
+def words_of(link, size, window, casts, burst=1):
+    return [str(size), str(window), "32", str(casts), link, str(burst)]
 
 
 def measure(program, words):
@@ -78,6 +81,22 @@ def print_times():
         repeats = [100 * (1 - 1 / run[2]) for run in (theirs, ours)]
         print(f"{link:8} {size:4} {window:6} {theirs[0]:7.2f} {duties[0]:7.2f} {ours[0]:7.2f} {ours[0] / theirs[0]:6.2f} {ours[0] / duties[0]:6.2f}"
               f" {1e6 / theirs[1]:10.0f} {1e6 / ours[1]:9.0f}    {repeats[0]:13.1f} {repeats[1]:7.1f}", flush=True)
+
+
+def print_bursts():
+    print("                           processor us for a delivery, ratios to both    deliveries a second")
+    print("link     size window burst   plain  duties  proved  ratio  ratio      plain    proved")
+    for link, window in [("channel", 64), ("udp", 32)]:
+        for size, casts in sizes[:2]:
+            for burst in [1, 4, 8, 32]:
+                words = words_of(link, size, window, max(casts // divisor, 1), burst)
+                theirs = measure(plain, words)
+                duties = measure(plain, [*words, "duties"])
+                ours = measure(proved, [*words, "arrivals"])
+                if not theirs[3] == duties[3] == ours[3]:
+                    sys.exit(f"{' '.join(words)}: {theirs[3]} and {duties[3]} deliveries, but proved {ours[3]}")
+                print(f"{link:8} {size:4} {window:6} {burst:5} {theirs[0]:7.2f} {duties[0]:7.2f} {ours[0]:7.2f}"
+                      f" {ours[0] / theirs[0]:6.2f} {ours[0] / duties[0]:6.2f} {1e6 / theirs[1]:10.0f} {1e6 / ours[1]:9.0f}", flush=True)
 
 
 def count_once(counter, command):
@@ -135,5 +154,5 @@ def print_counts():
         print(line, flush=True)
 
 
-print_counts() if how == "count" else print_times()
+{"count": print_counts, "burst": print_bursts, "time": print_times}[how]()
 END

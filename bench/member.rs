@@ -315,6 +315,7 @@ pub trait Record {
     fn add_tick(&mut self, status: &Frame);
 
     /// The deliveries with their times, where each has so many fields.
+    #[allow(dead_code)]
     fn delivered(&self, deliveries: Range<usize>, size: usize) -> impl Iterator<Item = (&Event, &[u32])>;
 
     /// How many events there are.
@@ -547,6 +548,12 @@ impl<const FIELDS: usize, R: Record> Member<FIELDS, R> {
             self.trimmed += 1;
         }
         stable
+    }
+
+    /// Whether the window has room for so many casts more.
+    #[allow(dead_code)]
+    pub fn has_room(&mut self, count: usize) -> bool {
+        self.now[self.me] as usize + count <= (self.trim() + self.window) as usize
     }
 
     fn head(&mut self, kind: u8) {

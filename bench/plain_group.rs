@@ -1,7 +1,11 @@
 //! A group of causal broadcast members in threads, in plain Rust with std alone and no proof: what the proved group (`crates/bench_group`) is
-//! measured against. Words: SIZE WINDOW PAYLOAD CASTS LINK, CASTS of each member, LINK `channel`, `udp` or `tcp`.
+//! measured against. Words: SIZE WINDOW PAYLOAD CASTS LINK BURST, CASTS of each member, LINK `channel`, `udp` or `tcp`.
 //!
-//! A sixth word, whatever it is, has it do what the proved group does for its callers beside the protocol: each worker keeps a receipt of every
+//! With a BURST of 2 to 32, over channels or UDP, so many messages are cast at once where the window has room for all of them, and their frames
+//! go in one packet: one piece of memory over channels, one datagram over UDP. It has no frames of several messages: each has its own
+//! differences and its own entry.
+//!
+//! A seventh word, whatever it is, has it do what the proved group does for its callers beside the protocol: each worker keeps a receipt of every
 //! entry that it made, and at the end the receipts of all are compared with the history; a talker is shown a copy of every event of its
 //! member, outside the lock; an arrival hands its deliveries out.
 //!
@@ -31,6 +35,11 @@ const TICK: Duration = Duration::from_millis(1);
 /// The most bytes of a frame, and how many are read at once from a stream.
 const LONGEST_FRAME: usize = 1417;
 const PIECE: usize = 4096;
+
+/// The first byte of a packet, in which each frame stands behind its length of two bytes, and the most bytes that it may have.
+const PACKET: u8 = 0x21;
+const LONGEST_PACKET: usize = 1 + MOST_MESSAGES * (2 + LONGEST_FRAME);
+const MOST_MESSAGES: usize = 32;
 
 trait Inlet: Send {
     /// A frame, where one comes within a millisecond.
@@ -78,6 +87,21 @@ impl Inlet for UdpInlet {
         let mut room = [0; LONGEST_FRAME + 1];
         match self.0.recv(&mut room) {
             Ok(count) => Some(Frame::from(&room[..count])),
+            Err(_) => {
+                thread::sleep(TICK);
+                None
+            }
+        }
+    }
+}
+
+/// One that receives packets too, into room that is there once.
+struct PacketInlet(UdpSocket, Box<[u8]>);
+
+impl Inlet for PacketInlet {
+    fn receive(&mut self) -> Option<Frame> {
+        match self.0.recv(&mut self.1) {
+            Ok(count) => Some(Frame::from(&self.1[..count])),
             Err(_) => {
                 thread::sleep(TICK);
                 None
@@ -238,7 +262,7 @@ fn channels(size: usize) -> Vec<Link> {
     from.into_iter().enumerate().map(link).collect()
 }
 
-fn sockets(size: usize) -> std::io::Result<Vec<Link>> {
+fn sockets(size: usize, burst: usize) -> std::io::Result<Vec<Link>> {
     let socket = || {
         let socket = UdpSocket::bind("127.0.0.1:0")?;
         socket.set_nonblocking(true)?;
@@ -249,7 +273,11 @@ fn sockets(size: usize) -> std::io::Result<Vec<Link>> {
     let mut links = Vec::new();
     for (me, from) in from.into_iter().enumerate() {
         let outlet = UdpOutlet { me, socket: socket()?, to: to.clone() };
-        links.push((Box::new(UdpInlet(from)) as Box<dyn Inlet>, Box::new(outlet) as Box<dyn Outlet>));
+        let inlet: Box<dyn Inlet> = match burst {
+            1 => Box::new(UdpInlet(from)),
+            _ => Box::new(PacketInlet(from, vec![0; LONGEST_PACKET].into())),
+        };
+        links.push((inlet, Box::new(outlet) as Box<dyn Outlet>));
     }
     Ok(links)
 }
@@ -369,32 +397,65 @@ fn close<const FIELDS: usize>(member: &Member<FIELDS>, seats: &[Seat]) {
 struct Group {
     casts: usize,
     all: usize,
+    burst: usize,
     payload: Vec<u8>,
     talking: AtomicUsize,
     stop: AtomicBool,
     has_duties: bool,
 }
 
+/// The frame, or those in the packet.
+fn unpack(frame: Frame, frames: &mut Vec<Frame>) {
+    if frame[0] != PACKET {
+        frames.push(frame);
+        return;
+    }
+    let mut rest = &frame[1..];
+    while let Some((length, behind)) = rest.split_first_chunk() {
+        let (part, behind) = behind.split_at(usize::from(u16::from_le_bytes(*length)));
+        frames.push(Frame::from(part));
+        rest = behind;
+    }
+}
+
+/// The frame, or a packet of all of them.
+fn pack(frames: &mut Vec<Frame>, packet: &mut Vec<u8>) -> Frame {
+    if frames.len() == 1 {
+        return frames.remove(0);
+    }
+    packet.clear();
+    packet.push(PACKET);
+    for frame in frames.drain(..) {
+        packet.extend((frame.len() as u16).to_le_bytes());
+        packet.extend_from_slice(&frame);
+    }
+    Frame::from(&packet[..])
+}
+
 fn receive<const FIELDS: usize>(group: &Group, member: &Mutex<Member<FIELDS>>, mut inlet: Box<dyn Inlet>, out: Sender<Outgoing>) -> (u64, Seat) {
     let mut casts = 0;
     let mut seat = Seat::new(group);
-    let mut answers = Vec::new();
+    let (mut frames, mut answers) = (Vec::new(), Vec::new());
     while !group.stop.load(Ordering::SeqCst) {
         let Some(frame) = inlet.receive() else {
             continue;
         };
-        casts += u64::from(frame[0] == 0x11);
+        unpack(frame, &mut frames);
         let mut deliveries = Vec::new();
         {
             let mut member = member.lock().unwrap();
-            let arrival = member.arrive(&frame, &mut answers);
-            if let (true, Ok(Arrival::Accepted(events, changed))) = (group.has_duties, arrival) {
-                copy_events(&member, events.start, &mut deliveries);
-                if changed {
-                    seat.record(&member);
+            for frame in &frames {
+                casts += u64::from(frame[0] == 0x11);
+                let arrival = member.arrive(frame, &mut answers);
+                if let (true, Ok(Arrival::Accepted(events, changed))) = (group.has_duties, arrival) {
+                    copy_events(&member, events.start, &mut deliveries);
+                    if changed {
+                        seat.record(&member);
+                    }
                 }
             }
         }
+        frames.clear();
         drop(deliveries);
         for answer in answers.drain(..) {
             let _ = out.send(answer);
@@ -421,10 +482,22 @@ fn tick<const FIELDS: usize>(group: &Group, member: &Mutex<Member<FIELDS>>, out:
     seat
 }
 
+/// Casts as many messages as go at once, where the window has room for all of them.
+fn cast_all<const FIELDS: usize>(group: &Group, member: &mut Member<FIELDS>, count: usize, seat: &mut Seat, frames: &mut Vec<Frame>) -> Result<(), CastRefusal> {
+    if count > 1 && !member.has_room(count) {
+        return Err(CastRefusal::WindowFull);
+    }
+    for _ in 0..count {
+        frames.push(member.cast(&group.payload)?);
+        seat.record(member);
+    }
+    Ok(())
+}
+
 fn speak<const FIELDS: usize>(group: &Group, member: &Mutex<Member<FIELDS>>, out: Sender<Outgoing>) -> Seat {
     let mut seat = Seat::new(group);
     let (mut made, mut seen, mut is_refused) = (0, 0, false);
-    let mut news = Vec::new();
+    let (mut news, mut frames, mut packet) = (Vec::new(), Vec::new(), Vec::new());
     while !group.stop.load(Ordering::SeqCst) {
         if group.has_duties && !is_refused {
             copy_events(&member.lock().unwrap(), seen, &mut news);
@@ -432,19 +505,14 @@ fn speak<const FIELDS: usize>(group: &Group, member: &Mutex<Member<FIELDS>>, out
             news.clear();
         }
         if made < group.casts {
-            let cast = {
-                let mut member = member.lock().unwrap();
-                let cast = member.cast(&group.payload);
-                if cast.is_ok() {
-                    seat.record(&member);
-                }
-                cast
-            };
+            let count = group.burst.min(group.casts - made);
+            let cast = cast_all(group, &mut member.lock().unwrap(), count, &mut seat, &mut frames);
             is_refused = cast.is_err();
             match cast {
-                Ok(frame) => {
+                Ok(()) => {
+                    let frame = pack(&mut frames, &mut packet);
                     let _ = out.send(Outgoing { to: None, frame });
-                    made += 1;
+                    made += count;
                     continue;
                 }
                 Err(CastRefusal::WindowFull) => {}
@@ -492,11 +560,12 @@ fn run_member<const FIELDS: usize>(group: &Group, size: usize, window: u32, me: 
     (came, (member.record.events.len() - group.casts) as u64)
 }
 
-fn run<const FIELDS: usize>([size, window, payload, casts]: [usize; 4], links: Vec<Link>, has_duties: bool) -> (u64, u64) {
+fn run<const FIELDS: usize>([size, window, payload, casts, burst]: [usize; 5], links: Vec<Link>, has_duties: bool) -> (u64, u64) {
     let window = window as u32;
     let group = Group {
         casts,
         all: casts * size,
+        burst,
         payload: vec![b'a'; payload],
         talking: AtomicUsize::new(size),
         stop: AtomicBool::new(false),
@@ -512,17 +581,24 @@ fn run<const FIELDS: usize>([size, window, payload, casts]: [usize; 4], links: V
 
 fn main() -> ExitCode {
     let words: Vec<String> = env::args().skip(1).collect();
-    let numbers: Vec<usize> = words.iter().filter_map(|word| word.parse().ok()).collect();
-    let &[size @ 2..=64, window @ 1..=256, payload @ 0..=1024, casts] = &numbers[..] else {
-        eprintln!("plain_group SIZE WINDOW PAYLOAD CASTS LINK");
-        return ExitCode::from(2);
+    let numbers: Vec<usize> = words.iter().take(6).filter_map(|word| word.parse().ok()).collect();
+    let (size, window, payload, casts, burst) = match numbers[..] {
+        [size, window, payload, casts] => (size, window, payload, casts, 1),
+        [size, window, payload, casts, burst] => (size, window, payload, casts, burst),
+        _ => (0, 0, 0, 0, 0),
     };
-    let links = match words.get(4).map(String::as_str) {
-        Some("udp") => sockets(size).expect("sockets"),
-        Some("tcp") => connections(size).expect("connections"),
+    let link = words.get(4).map_or("channel", String::as_str);
+    let is_plan = (2..=64).contains(&size) && (1..=256).contains(&window) && payload <= 1024;
+    if !is_plan || !(1..=MOST_MESSAGES.min(window)).contains(&burst) || (burst > 1 && link == "tcp") {
+        eprintln!("plain_group SIZE WINDOW PAYLOAD CASTS LINK BURST");
+        return ExitCode::from(2);
+    }
+    let links = match link {
+        "udp" => sockets(size, burst).expect("sockets"),
+        "tcp" => connections(size).expect("connections"),
         _ => channels(size),
     };
-    let (plan, has_duties) = ([size, window, payload, casts], words.len() > 5);
+    let (plan, has_duties) = ([size, window, payload, casts, burst], words.len() > 6);
     let (came, deliveries) = match size {
         ..=4 => run::<4>(plan, links, has_duties),
         ..=16 => run::<16>(plan, links, has_duties),
