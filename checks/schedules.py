@@ -13,12 +13,12 @@ THEMES = [
     (
         "order",
         "What waits for what",
-        ["an_answer_overtakes_its_question", "five_members_in_a_ring", "two_answer_at_once", "two_casts_come_reversed"],
+        ["a_burst_overtakes_the_one_that_it_answers", "an_answer_overtakes_its_question", "five_members_in_a_ring", "two_answer_at_once", "two_casts_come_reversed"],
     ),
     (
         "repair",
         "What is lost, repeated or late, and how it is repaired",
-        ["a_frame_comes_again", "a_loss_and_its_repair", "a_request_comes_late", "all_is_lost_and_two_rounds_repair_it"],
+        ["a_burst_is_lost_and_given_whole", "a_frame_comes_again", "a_loss_and_its_repair", "a_request_comes_late", "all_is_lost_and_two_rounds_repair_it"],
     ),
     (
         "limits",

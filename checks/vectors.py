@@ -1,7 +1,8 @@
 #!/usr/bin/env python3
 """Runs what docs/PROTOCOL.md and docs/PROGRAM.md show by the program, as the trial build makes it, and compares.
 
-In PROTOCOL a line '`confer expand ..`, alone:' or '.., in order:' is followed by a table: a frame, and the line printed of it.
+In PROTOCOL a line '`confer expand ..`, alone:' or '.., in order:' is followed by a table: a frame, and what is printed of it, a
+line for each message of a burst.
 In PROGRAM a line '`confer ..`, status S:' is followed by two blocks: the input, and what is printed of it.
 A line that begins with '`confer' and has no such form, or nothing behind it, is a fault before anything is run.
 One build for each command line, some two minutes each: checks/vectors.py [PART OF A COMMAND LINE]
@@ -25,9 +26,9 @@ def rows(lines):
     found = []
     for line in lines:
         if line.startswith("|"):
-            cells = re.findall(r"`([^`]*)`", line)
-            if cells:
-                found.append((cells[0].replace(" ", ""), cells[1]))
+            frame, printed = (re.findall(r"`([^`]*)`", cell) for cell in line.split("|")[1:3])
+            if frame:
+                found.append((frame[0].replace(" ", ""), "\n".join(printed)))
         elif line.strip() or found:
             break
     return found
