@@ -1,5 +1,5 @@
 #!/usr/bin/env bash
-# Lets a member without a history cast in bursts until no number is left, through the library for C: bindings/c/greatest.c, some two
+# Lets a member without a history cast in bursts until no number is left, through the library for C: bindings/c/greatest.c, some nine
 # minutes. It wants gcc and the library (bindings/build.sh); LIBRARY=FOLDER takes another build.
 set -eu
 top=$(cd "$(dirname "$0")/.." && pwd)
