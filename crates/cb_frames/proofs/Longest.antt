@@ -9,7 +9,7 @@ use Rattle.cb_varint.proofs.Turns.{length_1, length_2}
 use Rattle.cb_frames.specs.declared.frame.TheConstants.{LAST_MEMBER, LONGEST_PAYLOAD}
 use Rattle.cb_frames.specs.declared.frame.Change.{Change}
 use Rattle.cb_frames.specs.declared.frame.Range.{Range}
-use Rattle.cb_frames.specs.Fields.{Load, One, Many, CastFrame, StatusFrame, RequestFrame}
+use Rattle.cb_frames.specs.Fields.{Load, One, Many, CastFrame, StatusFrame, RequestFrame, HelpFrame}
 use Rattle.cb_frames.specs.Text.{SpellAll, ArePayloads, IsLoad, IsLoadText, KeepsLoadRules, pairs_from, RisesFrom, ranges_from, IsChange, IsValue}
 use Rattle.cb_frames.specs.StreamLaws.{LongestFrame}
 
@@ -155,6 +155,16 @@ longest_frame (RequestFrame r) text is =
     let asked = small_number r.asked _ _ (omega (arith, is.0.asked)) count in
     let requester = small_number r.requester _ _ (omega (arith, is.0.requester)) asked in
     let all = any_number r.group _ _ requester in
+    let within = all.bound is.1.0 is.1.1 in
+    let len = ap length is.1.2 in
+    omega (arith, len, within, is.0.few)
+longest_frame (HelpFrame h) text is =
+    let tail = of_ranges 1 h.ranges in
+    let count = small_number (length h.ranges) _ _ (omega (arith, is.0.few)) tail in
+    let sender = small_number h.sender _ _ (omega (arith, is.0.sender)) count in
+    let helper = small_number h.helper _ _ (omega (arith, is.0.helper)) sender in
+    let requester = small_number h.requester _ _ (omega (arith, is.0.requester)) helper in
+    let all = any_number h.group _ _ requester in
     let within = all.bound is.1.0 is.1.1 in
     let len = ap length is.1.2 in
     omega (arith, len, within, is.0.few)

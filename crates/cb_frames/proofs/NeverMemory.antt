@@ -6,10 +6,10 @@ use Rattle.cb_varint.specs.Reading.{number_at as number_and_length}
 use Rattle.cb_frames.specs.declared.frame.TheConstants.{LAST_MEMBER, LAST_NUMBER, LONGEST_PAYLOAD, MOST_MESSAGES, MOST_RANGES}
 use Rattle.cb_frames.specs.declared.fault.FrameFault.{FrameFault}
 use Rattle.cb_frames.specs.declared.fault.FrameFault.TheVariants as faults
-use Rattle.cb_frames.specs.Fields.{FrameFields, CastFrame, StatusFrame, RequestFrame}
+use Rattle.cb_frames.specs.Fields.{FrameFields, CastFrame, StatusFrame, RequestFrame, HelpFrame}
 use Rattle.cb_frames.specs.Fault.{any_number, member_rule, message_rule, messages_rule, length_rule, ranges_rule, Pairs, change_pairs, value_pairs, range_pairs}
-use Rattle.cb_frames.specs.Text.{cast_kind, burst_kind, status_kind, request_kind}
-use Rattle.cb_frames.specs.Reading.{◌>>=◌, behind_number, number_at, unless, field_at, pair_at, pairs_at, run_at, end_at, payload_at, next_payload_at, payloads_at, head_at, cast_at, burst_at, status_at, request_at, frame_at}
+use Rattle.cb_frames.specs.Text.{cast_kind, burst_kind, status_kind, request_kind, help_kind}
+use Rattle.cb_frames.specs.Reading.{◌>>=◌, behind_number, number_at, unless, field_at, pair_at, pairs_at, run_at, end_at, payload_at, next_payload_at, payloads_at, head_at, cast_at, burst_at, status_at, request_at, help_at, frame_at}
 
 -- a fault, where there is one, that the bytes have
 abbrev IsOfBytes : FrameFault → Type 0
@@ -114,6 +114,9 @@ any_rule n = tt
 sender_rule : (n : ℕ) → Rules (member_rule n)
 sender_rule n = one_rule (ltb LAST_MEMBER n) faults.BadIndex (λ e. absurd cc)
 
+ranges_rules : (n : ℕ) → Rules (ranges_rule n)
+ranges_rules n = two_rules (eqb n 0) (ltb MOST_RANGES n) faults.BadRange faults.BadRange (λ e. absurd cc) (λ e. absurd cc)
+
 three_rules : (a b d : Bool) (fault other third : FrameFault) → IsOfBytes fault → IsOfBytes other → IsOfBytes third → Rules (cond a (Some fault) (cond b (Some other) (cond d (Some third) None)))
 three_rules true b d fault other third h k l = h
 three_rules false b d fault other third h k l = two_rules b d other third k l
@@ -175,23 +178,36 @@ request_reads bytes =
     then (field_at any_number bytes) _ (field_reads any_number bytes any_rule)
     (λ group. then (field_at member_rule group.1) _ (field_reads member_rule group.1 sender_rule)
     (λ requester. then (field_at member_rule requester.1) _ (field_reads member_rule requester.1 sender_rule)
-    (λ asked. then (field_at ranges_rule asked.1) _ (field_reads ranges_rule asked.1 (λ n. two_rules (eqb n 0) (ltb MOST_RANGES n) faults.BadRange faults.BadRange (λ e. absurd cc) (λ e. absurd cc)))
+    (λ asked. then (field_at ranges_rule asked.1) _ (field_reads ranges_rule asked.1 ranges_rules)
     (λ count. then (pairs_at range_pairs count.0 1 count.1) _ (pairs_read range_pairs count.0 1 count.1 ranges_read)
     (λ ranges. then (end_at ranges.1) _ (end_reads ranges.1) (λ end. tt))))))
 
-by_kind : (cast burst status request : Bool) (fields : List ℕ)
+help_reads : (bytes : List ℕ) → Reads (help_at bytes)
+unfolding help_at
+help_reads bytes =
+    then (field_at any_number bytes) _ (field_reads any_number bytes any_rule)
+    (λ group. then (field_at member_rule group.1) _ (field_reads member_rule group.1 sender_rule)
+    (λ requester. then (field_at member_rule requester.1) _ (field_reads member_rule requester.1 sender_rule)
+    (λ helper. then (field_at member_rule helper.1) _ (field_reads member_rule helper.1 sender_rule)
+    (λ sender. then (field_at ranges_rule sender.1) _ (field_reads ranges_rule sender.1 ranges_rules)
+    (λ count. then (pairs_at range_pairs count.0 1 count.1) _ (pairs_read range_pairs count.0 1 count.1 ranges_read)
+    (λ ranges. then (end_at ranges.1) _ (end_reads ranges.1) (λ end. tt)))))))
+
+by_kind : (cast burst status request help : Bool) (fields : List ℕ)
     → Reads (cond cast (cast_at fields >>= λ c. Ok (CastFrame c)) (cond burst (burst_at fields >>= λ c. Ok (CastFrame c))
-    (cond status (status_at fields >>= λ s. Ok (StatusFrame s)) (cond request (request_at fields >>= λ r. Ok (RequestFrame r)) (Err faults.UnknownKind)))))
-by_kind true burst status request fields = then (cast_at fields) (λ c. Ok (CastFrame c)) (cast_reads fields) (λ c. tt)
-by_kind false true status request fields = then (burst_at fields) (λ c. Ok (CastFrame c)) (burst_reads fields) (λ c. tt)
-by_kind false false true request fields = then (status_at fields) (λ s. Ok (StatusFrame s)) (status_reads fields) (λ s. tt)
-by_kind false false false true fields = then (request_at fields) (λ r. Ok (RequestFrame r)) (request_reads fields) (λ r. tt)
-by_kind false false false false fields = λ e. absurd cc
+    (cond status (status_at fields >>= λ s. Ok (StatusFrame s)) (cond request (request_at fields >>= λ r. Ok (RequestFrame r))
+    (cond help (help_at fields >>= λ h. Ok (HelpFrame h)) (Err faults.UnknownKind))))))
+by_kind true burst status request help fields = then (cast_at fields) (λ c. Ok (CastFrame c)) (cast_reads fields) (λ c. tt)
+by_kind false true status request help fields = then (burst_at fields) (λ c. Ok (CastFrame c)) (burst_reads fields) (λ c. tt)
+by_kind false false true request help fields = then (status_at fields) (λ s. Ok (StatusFrame s)) (status_reads fields) (λ s. tt)
+by_kind false false false true help fields = then (request_at fields) (λ r. Ok (RequestFrame r)) (request_reads fields) (λ r. tt)
+by_kind false false false false true fields = then (help_at fields) (λ h. Ok (HelpFrame h)) (help_reads fields) (λ h. tt)
+by_kind false false false false false fields = λ e. absurd cc
 
 frame_reads : (bytes : List ℕ) → Reads (frame_at bytes)
 unfolding frame_at
 frame_reads [] = λ e. absurd cc
-frame_reads (kind ∷ fields) = by_kind (eqb kind cast_kind) (eqb kind burst_kind) (eqb kind status_kind) (eqb kind request_kind) fields
+frame_reads (kind ∷ fields) = by_kind (eqb kind cast_kind) (eqb kind burst_kind) (eqb kind status_kind) (eqb kind request_kind) (eqb kind help_kind) fields
 
 of_result : (r : Result FrameFields FrameFault) → Reads r → r ≢ Err faults.NoMemory
 of_result (Ok f) h e = absurd cc

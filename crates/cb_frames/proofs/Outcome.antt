@@ -8,10 +8,10 @@ use Rattle.cb_frames.specs.declared.frame.TheConstants.{LAST_MEMBER, LONGEST_PAY
 use Rattle.cb_frames.specs.declared.frame.Change.{Change}
 use Rattle.cb_frames.specs.declared.fault.FrameFault.{FrameFault}
 use Rattle.cb_frames.specs.declared.fault.FrameFault.TheVariants.{UnknownKind, Trailing}
-use Rattle.cb_frames.specs.Fields.{Load, One, Many, CastFields, StatusFields, RequestFields, FrameFields, CastFrame, StatusFrame, RequestFrame}
-use Rattle.cb_frames.specs.Text.{cast_kind, burst_kind, status_kind, request_kind, kind_of, ArePayloads, IsLoadText, IsBurst, KeepsLoadRules, AreChanges, SpellAll, pairs_from, ranges_from, cast_numbers, status_numbers, request_numbers, KeepsCastRules, KeepsStatusRules, KeepsRequestRules, IsLoad, IsText}
-use Rattle.cb_frames.specs.Fault.{Field, Number, any_number, member_rule, message_rule, messages_rule, length_rule, ranges_rule, Pairs, change_pairs, value_pairs, range_pairs, pairs_field, payloads_field, payload_field, burst_payloads_field, end_field, carrying_field, cast_field, burst_field, status_field, request_field, IsWrong, FirstFaultOf, FirstFault}
-use Rattle.cb_frames.specs.Reading.{◌>>=◌, field_at, pair_at, pairs_at, run_at, payload_at, next_payload_at, payloads_at, end_at, CastHead, carrying, head_at, cast_at, burst_at, status_at, request_at, frame_at}
+use Rattle.cb_frames.specs.Fields.{Load, One, Many, CastFields, StatusFields, RequestFields, HelpFields, FrameFields, CastFrame, StatusFrame, RequestFrame, HelpFrame}
+use Rattle.cb_frames.specs.Text.{cast_kind, burst_kind, status_kind, request_kind, help_kind, kind_of, ArePayloads, IsLoadText, IsBurst, KeepsLoadRules, AreChanges, SpellAll, pairs_from, ranges_from, cast_numbers, status_numbers, request_numbers, help_numbers, KeepsCastRules, KeepsStatusRules, KeepsRequestRules, KeepsHelpRules, IsLoad, IsText}
+use Rattle.cb_frames.specs.Fault.{Field, Number, any_number, member_rule, message_rule, messages_rule, length_rule, ranges_rule, Pairs, change_pairs, value_pairs, range_pairs, pairs_field, payloads_field, payload_field, burst_payloads_field, end_field, carrying_field, cast_field, burst_field, status_field, request_field, help_field, IsWrong, FirstFaultOf, FirstFault}
+use Rattle.cb_frames.specs.Reading.{◌>>=◌, field_at, pair_at, pairs_at, run_at, payload_at, next_payload_at, payloads_at, end_at, CastHead, carrying, head_at, cast_at, burst_at, status_at, request_at, help_at, frame_at}
 use Rattle.cb_varint.proofs.Fronts.{IsBytes}
 use Rattle.cb_frames.proofs.Fronts.{bind_cases, Found, FieldOutcome, field_outcome, RunFound, run_cases, fault_here, fault_later, Opens, Opens-none, Opens-one}
 use Rattle.cb_frames.proofs.SaidPairs.{member_kept, message_kept, messages_kept, length_kept, ranges_kept, Says, are_changes, are_values, are_ranges}
@@ -430,6 +430,54 @@ request_outcome bytes fits =
     (λ e wrong. at_group e (fault_here _ group.1 e wrong)))
     (λ e wrong. fault_here request_field bytes e wrong)
 
+-- ---- a help frame
+
+abbrev pub IsHelpText : HelpFields → List ℕ → Type 0
+IsHelpText h bytes = KeepsHelpRules h × SpellAll (help_numbers h) bytes
+
+abbrev pub HelpOutcome : List ℕ → Result HelpFields FrameFault → Type 0
+HelpOutcome bytes (Ok h) = IsHelpText h bytes
+HelpOutcome bytes (Err e) = FirstFaultOf help_field bytes e
+
+pub help_outcome : (bytes : List ℕ) → IsBytes bytes → HelpOutcome bytes (help_at bytes)
+unfolding help_at
+help_outcome bytes fits =
+    field_cases any_number bytes _ (HelpOutcome bytes) fits
+    (λ group g.
+    let at_group : (e : FrameFault) → FirstFaultOf (λ before. help_field (group.0 ∷ before)) group.1 e → FirstFaultOf help_field bytes e = λ e f. fault_later help_field group.0 g.text group.1 bytes e (g.spelled, g.kept) g.parts f in
+    field_cases member_rule group.1 _ (HelpOutcome bytes) g.rest_fits
+    (λ requester q.
+    let at_requester : (e : FrameFault) → FirstFaultOf (λ before. help_field (group.0 ∷ requester.0 ∷ before)) requester.1 e → FirstFaultOf help_field bytes e = λ e f. at_group e (fault_later _ requester.0 q.text requester.1 group.1 e (q.spelled, q.kept) q.parts f) in
+    field_cases member_rule requester.1 _ (HelpOutcome bytes) q.rest_fits
+    (λ helper h.
+    let at_helper : (e : FrameFault) → FirstFaultOf (λ before. help_field (group.0 ∷ requester.0 ∷ helper.0 ∷ before)) helper.1 e → FirstFaultOf help_field bytes e = λ e f. at_requester e (fault_later _ helper.0 h.text helper.1 requester.1 e (h.spelled, h.kept) h.parts f) in
+    field_cases member_rule helper.1 _ (HelpOutcome bytes) h.rest_fits
+    (λ sender s.
+    let at_sender : (e : FrameFault) → FirstFaultOf (λ before. help_field (group.0 ∷ requester.0 ∷ helper.0 ∷ sender.0 ∷ before)) sender.1 e → FirstFaultOf help_field bytes e = λ e f. at_helper e (fault_later _ sender.0 s.text sender.1 helper.1 e (s.spelled, s.kept) s.parts f) in
+    field_cases ranges_rule sender.1 _ (HelpOutcome bytes) s.rest_fits
+    (λ count k.
+    let at_count : (e : FrameFault) → FirstFaultOf (pairs_field range_pairs end_field count.0 1) count.1 e → FirstFaultOf help_field bytes e = λ e f. at_sender e (fault_later _ count.0 k.text count.1 sender.1 e (k.spelled, k.kept) k.parts f) in
+    pairs_cases range_pairs end_field count.0 1 count.1 _ (HelpOutcome bytes) k.rest_fits
+    (λ ranges d.
+    end_cases ranges.1 _ (HelpOutcome bytes)
+    (λ nothing.
+    let are = are_ranges 1 ranges.0 d.numbers d.says in
+    let few = ranges_kept count.0 k.kept in
+    let o = Opens-one group.0 _ g.text group.1 bytes ranges.1 g.spelled g.parts
+    (Opens-one requester.0 _ q.text requester.1 group.1 ranges.1 q.spelled q.parts
+    (Opens-one helper.0 _ h.text helper.1 requester.1 ranges.1 h.spelled h.parts
+    (Opens-one sender.0 _ s.text sender.1 helper.1 ranges.1 s.spelled s.parts
+    (Opens-one count.0 d.numbers k.text count.1 sender.1 ranges.1 k.spelled k.parts d.opens)))) in
+    let spelled : SpellAll (group.0 ∷ requester.0 ∷ helper.0 ∷ sender.0 ∷ length ranges.0 ∷ ranges_from 1 ranges.0) bytes = rw (d.count_is, ← are.1) (all_opened _ bytes ranges.1 o nothing) in
+    (record { requester = member_kept requester.0 q.kept; helper = member_kept helper.0 h.kept; sender = member_kept sender.0 s.kept; some = rw d.count_is few.0; few = rw d.count_is few.1; ranges = are.0 }, spelled))
+    (λ e f. at_count e (d.through e f)))
+    at_count)
+    (λ e wrong. at_sender e (fault_here _ sender.1 e wrong)))
+    (λ e wrong. at_helper e (fault_here _ helper.1 e wrong)))
+    (λ e wrong. at_requester e (fault_here _ requester.1 e wrong)))
+    (λ e wrong. at_group e (fault_here _ group.1 e wrong)))
+    (λ e wrong. fault_here help_field bytes e wrong)
+
 -- ---- a frame
 
 abbrev pub FrameOutcome : List ℕ → Result FrameFields FrameFault → Type 0
@@ -455,8 +503,12 @@ of_request : (bytes : List ℕ) (r : Result RequestFields FrameFault) → Reques
 of_request bytes (Ok q) o = (o.0, (bytes, o.1, refl))
 of_request bytes (Err fault) o = o
 
-unknown : (kind : ℕ) (bytes : List ℕ) → eqb kind cast_kind ≡ false → eqb kind burst_kind ≡ false → eqb kind status_kind ≡ false → eqb kind request_kind ≡ false → FrameOutcome (kind ∷ bytes) (Err UnknownKind)
-unknown kind bytes c b s r = rw (c, b, s, r) refl
+of_help : (bytes : List ℕ) (r : Result HelpFields FrameFault) → HelpOutcome bytes r → FrameOutcome (help_kind ∷ bytes) (r >>= λ h. Ok (HelpFrame h))
+of_help bytes (Ok h) o = (o.0, (bytes, o.1, refl))
+of_help bytes (Err fault) o = o
+
+unknown : (kind : ℕ) (bytes : List ℕ) → eqb kind cast_kind ≡ false → eqb kind burst_kind ≡ false → eqb kind status_kind ≡ false → eqb kind request_kind ≡ false → eqb kind help_kind ≡ false → FrameOutcome (kind ∷ bytes) (Err UnknownKind)
+unknown kind bytes c b s r h = rw (c, b, s, r, h) refl
 
 pub frame_outcome : (bytes : List ℕ) → IsBytes bytes → FrameOutcome bytes (frame_at bytes)
 unfolding frame_at
@@ -466,14 +518,17 @@ frame_outcome (kind ∷ bytes) fits =
     let burst = burst_at bytes >>= λ c. Ok (CastFrame c) in
     let status = status_at bytes >>= λ s. Ok (StatusFrame s) in
     let request = request_at bytes >>= λ r. Ok (RequestFrame r) in
+    let help = cond (eqb kind help_kind) (help_at bytes >>= λ h. Ok (HelpFrame h)) (Err UnknownKind) in
     let fit : IsBytes bytes = λ i. fits (suc i) in
     let Goal : Result FrameFields FrameFault → Type 0 = FrameOutcome (kind ∷ bytes) in
-    cond_both (eqb kind cast_kind) cast (cond (eqb kind burst_kind) burst (cond (eqb kind status_kind) status (cond (eqb kind request_kind) request (Err UnknownKind)))) Goal
+    cond_both (eqb kind cast_kind) cast (cond (eqb kind burst_kind) burst (cond (eqb kind status_kind) status (cond (eqb kind request_kind) request help))) Goal
     (λ is. subst (λ (k : ℕ). FrameOutcome (k ∷ bytes) cast) (sym (eqb-true kind cast_kind is)) (of_cast bytes (cast_at bytes) (cast_outcome bytes fit)))
-    (λ no_cast. cond_both (eqb kind burst_kind) burst (cond (eqb kind status_kind) status (cond (eqb kind request_kind) request (Err UnknownKind))) Goal
+    (λ no_cast. cond_both (eqb kind burst_kind) burst (cond (eqb kind status_kind) status (cond (eqb kind request_kind) request help)) Goal
     (λ is. subst (λ (k : ℕ). FrameOutcome (k ∷ bytes) burst) (sym (eqb-true kind burst_kind is)) (of_burst bytes (burst_at bytes) (burst_outcome bytes fit)))
-    (λ no_burst. cond_both (eqb kind status_kind) status (cond (eqb kind request_kind) request (Err UnknownKind)) Goal
+    (λ no_burst. cond_both (eqb kind status_kind) status (cond (eqb kind request_kind) request help) Goal
     (λ is. subst (λ (k : ℕ). FrameOutcome (k ∷ bytes) status) (sym (eqb-true kind status_kind is)) (of_status bytes (status_at bytes) (status_outcome bytes fit)))
-    (λ no_status. cond_both (eqb kind request_kind) request (Err UnknownKind) Goal
+    (λ no_status. cond_both (eqb kind request_kind) request help Goal
     (λ is. subst (λ (k : ℕ). FrameOutcome (k ∷ bytes) request) (sym (eqb-true kind request_kind is)) (of_request bytes (request_at bytes) (request_outcome bytes fit)))
-    (λ no_request. unknown kind bytes no_cast no_burst no_status no_request))))
+    (λ no_request. cond_both (eqb kind help_kind) (help_at bytes >>= λ h. Ok (HelpFrame h)) (Err UnknownKind) Goal
+    (λ is. subst (λ (k : ℕ). FrameOutcome (k ∷ bytes) (help_at bytes >>= λ h. Ok (HelpFrame h))) (sym (eqb-true kind help_kind is)) (of_help bytes (help_at bytes) (help_outcome bytes fit)))
+    (λ no_help. unknown kind bytes no_cast no_burst no_status no_request no_help)))))

@@ -11,8 +11,8 @@ use Rattle.cb_varint.specs.Spelling.{Spells}
 use Rattle.cb_frames.specs.declared.frame.TheConstants.{LAST_MEMBER, LAST_NUMBER, LONGEST_PAYLOAD}
 use Rattle.cb_frames.specs.declared.frame.Change.{Change}
 use Rattle.cb_frames.specs.declared.frame.Range.{Range}
-use Rattle.cb_frames.specs.Fields.{Load, Many, CastFrame, CastFields, StatusFields, RequestFields}
-use Rattle.cb_frames.specs.Text.{SpellAll, AppendsNumbers, AppendsPayloads, ArePayloads, IsLoad, IsLoadText, IsText, KeepsCastRules, burst_kind, kind_of, pairs_from, ranges_from, cast_numbers, status_numbers, request_numbers, AreChanges, AreValues, AreRanges}
+use Rattle.cb_frames.specs.Fields.{Load, Many, CastFrame, CastFields, StatusFields, RequestFields, HelpFields}
+use Rattle.cb_frames.specs.Text.{SpellAll, AppendsNumbers, AppendsPayloads, ArePayloads, IsLoad, IsLoadText, IsText, KeepsCastRules, burst_kind, kind_of, pairs_from, ranges_from, cast_numbers, status_numbers, request_numbers, help_numbers, AreChanges, AreValues, AreRanges}
 use Rattle.cb_frames.specs.Parts.{AreChangesBut}
 
 -- ---- a list whose elements each fit behind the one before
@@ -257,6 +257,18 @@ request_written (Ok x) q count a b d e f g count_is group requester asked ranges
     (one_then_all q.asked after_asked d e g asked
     (one_then_all (length q.ranges) (ranges_from 1 q.ranges) e f g (subst (λ (n : ℕ). Appends (λ text. Spells text n) e f) count_is ranges) pairs)))
 request_written (Err x) q count a b d e f g count_is group requester asked ranges pairs = tt
+
+pub help_written : {E : Type 0} (r : Result (Unit {0}) E) (h : HelpFields) (count : ℕ) (a b d e f g i : List ℕ) → count ≡ length h.ranges
+    → Appends (λ text. Spells text h.group) a b → Appends (λ text. Spells text h.requester) b d → Appends (λ text. Spells text h.helper) d e → Appends (λ text. Spells text h.sender) e f → Appends (λ text. Spells text count) f g
+    → OnOk r (Appends (SpellAll (ranges_from 1 h.ranges)) g i) → OnOk r (Appends (SpellAll (help_numbers h)) a i)
+help_written (Ok x) h count a b d e f g i count_is group requester helper sender ranges pairs =
+    let after_sender = length h.ranges ∷ ranges_from 1 h.ranges in
+    one_then_all h.group (h.requester ∷ h.helper ∷ h.sender ∷ after_sender) a b i group
+    (one_then_all h.requester (h.helper ∷ h.sender ∷ after_sender) b d i requester
+    (one_then_all h.helper (h.sender ∷ after_sender) d e i helper
+    (one_then_all h.sender after_sender e f i sender
+    (one_then_all (length h.ranges) (ranges_from 1 h.ranges) f g i (subst (λ (n : ℕ). Appends (λ text. Spells text n) f g) count_is ranges) pairs))))
+help_written (Err x) h count a b d e f g i count_is group requester helper sender ranges pairs = tt
 
 -- ---- payloads
 

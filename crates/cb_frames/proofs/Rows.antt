@@ -3,12 +3,12 @@ use Rattle.std.proofs.Common.{◌≡◌, ℕ, List, [], ◌∷◌, Some, None, O
 use Rattle.cb_varint.specs.declared.fault.NumberFault.TheVariants as numbers
 use Rattle.cb_varint.specs.Spelling.{Spells}
 use Rattle.cb_frames.specs.declared.fault.FrameFault.TheVariants as faults
-use Rattle.cb_frames.specs.Fields.{One, Many, numbered, last_from, CastFields, StatusFields, RequestFields, CastFrame, StatusFrame, RequestFrame, messages_of, first_number, last_number}
+use Rattle.cb_frames.specs.Fields.{One, Many, numbered, last_from, CastFields, StatusFields, RequestFields, HelpFields, CastFrame, StatusFrame, RequestFrame, HelpFrame, messages_of, first_number, last_number}
 use Rattle.cb_frames.specs.Carrying.{AreNumberedFrom}
 use Rattle.cb_varint.specs.Reading.{number_at, spelling}
-use Rattle.cb_frames.specs.Reading.{run_at, payload_at, frame_at, head_at, cast_at, burst_at, next_payload_at, payloads_at, status_at, request_at, pairs_at, pair_at}
+use Rattle.cb_frames.specs.Reading.{run_at, payload_at, frame_at, head_at, cast_at, burst_at, next_payload_at, payloads_at, status_at, request_at, help_at, pairs_at, pair_at}
 use Rattle.cb_frames.specs.Text.{text_of}
-use Rattle.cb_frames.specs.Fault.{Field, Number, Run, End, length_rule, messages_rule, cast_field, burst_field, status_field, request_field, FirstFaultOf}
+use Rattle.cb_frames.specs.Fault.{Field, Number, Run, End, length_rule, messages_rule, cast_field, burst_field, status_field, request_field, help_field, FirstFaultOf}
 
 -- the first cast of member 0 of group 7, "hi"
 abbrev hi : CastFields
@@ -93,6 +93,18 @@ reads_asked = refl
 writes_asked : text_of (RequestFrame asked) ≡ 0x13 ∷ 7 ∷ 2 ∷ 0 ∷ 3 ∷ 1 ∷ 1 ∷ 0 ∷ 0 ∷ 2 ∷ 3 ∷ []
 unfolding text_of spelling
 writes_asked = refl
+
+-- member 2 misses 1 to 2 of member 0, and asks member 1
+abbrev helped : HelpFields
+helped = record { group = 7; requester = 2; helper = 1; sender = 0; ranges = record { first = 1; last = 2 } ∷ [] }
+
+reads_helped : frame_at (0x23 ∷ 7 ∷ 2 ∷ 1 ∷ 0 ∷ 1 ∷ 0 ∷ 1 ∷ []) ≡ Ok (HelpFrame helped)
+unfolding frame_at help_at pairs_at pair_at number_at
+reads_helped = refl
+
+writes_helped : text_of (HelpFrame helped) ≡ 0x23 ∷ 7 ∷ 2 ∷ 1 ∷ 0 ∷ 1 ∷ 0 ∷ 1 ∷ []
+unfolding text_of spelling
+writes_helped = refl
 
 -- the first two casts of member 0, "hi" and "yo", in one frame
 abbrev hi_yo : CastFields
@@ -216,6 +228,22 @@ ends_above_the_greatest : frame_at (0x13 ∷ 7 ∷ 2 ∷ 0 ∷ 1 ∷ 0 ∷ 255 �
 unfolding frame_at head_at cast_at burst_at next_payload_at payloads_at status_at request_at pairs_at pair_at number_at
 ends_above_the_greatest = refl
 
+help_for_nothing : frame_at (0x23 ∷ 7 ∷ 2 ∷ 1 ∷ 0 ∷ 0 ∷ []) ≡ Err faults.BadRange
+unfolding frame_at help_at pairs_at pair_at number_at
+help_for_nothing = refl
+
+no_such_helper : frame_at (0x23 ∷ 7 ∷ 2 ∷ 64 ∷ []) ≡ Err faults.BadIndex
+unfolding frame_at help_at pairs_at pair_at number_at
+no_such_helper = refl
+
+nobodys_casts : frame_at (0x23 ∷ 7 ∷ 2 ∷ 1 ∷ 64 ∷ []) ≡ Err faults.BadIndex
+unfolding frame_at help_at pairs_at pair_at number_at
+nobodys_casts = refl
+
+a_byte_behind_a_help_frame : frame_at (0x23 ∷ 7 ∷ 2 ∷ 1 ∷ 0 ∷ 1 ∷ 0 ∷ 1 ∷ 0 ∷ []) ≡ Err faults.Trailing
+unfolding frame_at help_at pairs_at pair_at number_at
+a_byte_behind_a_help_frame = refl
+
 a_value_of_nothing : frame_at (0x12 ∷ 7 ∷ 2 ∷ 1 ∷ 0 ∷ 0 ∷ []) ≡ Err faults.ZeroDifference
 unfolding frame_at head_at cast_at burst_at next_payload_at payloads_at status_at request_at pairs_at pair_at number_at
 a_value_of_nothing = refl
@@ -252,6 +280,9 @@ nothing_behind_the_values = refl
 
 nothing_behind_the_ranges : request_field (7 ∷ 2 ∷ 0 ∷ 1 ∷ 1 ∷ 1 ∷ []) ≡ End
 nothing_behind_the_ranges = refl
+
+nothing_behind_the_ranges_of_help : help_field (7 ∷ 2 ∷ 1 ∷ 0 ∷ 1 ∷ 0 ∷ 1 ∷ []) ≡ End
+nothing_behind_the_ranges_of_help = refl
 
 as_many_messages : messages_rule 1 32 ≡ None
 as_many_messages = refl

@@ -10,7 +10,7 @@ use Rattle.cb_varint.proofs.Fronts.{IsBytes}
 use Rattle.cb_frames.specs.declared.fault.FrameFault.{FrameFault}
 use Rattle.cb_frames.specs.declared.fault.StreamFault.{StreamFault}
 use Rattle.cb_frames.specs.declared.fault.StreamFault.TheVariants.{BadLength, BadFrame, NoMemory}
-use Rattle.cb_frames.specs.Fields.{FrameFields, CastFrame, StatusFrame, RequestFrame}
+use Rattle.cb_frames.specs.Fields.{FrameFields, CastFrame, StatusFrame, RequestFrame, HelpFrame}
 use Rattle.cb_frames.specs.Text.{IsText}
 use Rattle.cb_frames.specs.Fault.{FirstFault}
 use Rattle.cb_frames.specs.Reading.{frame_at}
@@ -42,6 +42,7 @@ some_kind : (f : FrameFields) (text : List ℕ) → IsText f text → 1 ≤ leng
 some_kind (CastFrame c) text is = omega (arith, ap length is.2.4)
 some_kind (StatusFrame s) text is = omega (arith, ap length is.1.2)
 some_kind (RequestFrame r) text is = omega (arith, ap length is.1.2)
+some_kind (HelpFrame h) text is = omega (arith, ap length is.1.2)
 
 pub has_length : (f : FrameFields) (text : List ℕ) → IsText f text → IsLength (length text)
 has_length f text is = (some_kind f text is, longest_frame f text is)

@@ -1,5 +1,5 @@
 -- Bytes are the text of one frame, or have one first fault.
-use Rattle.std.proofs.Common.{◌≡◌, ℕ, suc, ◌+◌, ◌<◌, ◌≤◌, ◌^◌, List, [], ◌∷◌, ◌++◌, length, drop, take, Option, Some, None, MatchOption, Ok, Err, refl, sym, ap, subst, ◌∙◌, arith, inl, inr, append_assoc}
+use Rattle.std.proofs.Common.{◌≡◌, ◌≢◌, ℕ, suc, ◌+◌, ◌<◌, ◌≤◌, ◌^◌, List, [], ◌∷◌, ◌++◌, length, drop, take, Option, Some, None, MatchOption, Ok, Err, refl, sym, ap, subst, ◌∙◌, arith, inl, inr, append_assoc}
 use Rattle.std.specs.List.{AllByRecursion, concat, flat_map}
 use Rattle.std.proofs.lemmas.List.{append-nil, length-append, drop_at}
 use Rattle.cb_varint.specs.declared.fault.NumberFault.{NumberFault}
@@ -13,9 +13,9 @@ use Rattle.cb_frames.specs.declared.frame.Range.{Range}
 use Rattle.cb_frames.specs.declared.fault.FrameFault.{FrameFault}
 use Rattle.cb_frames.specs.declared.fault.FrameFault.TheVariants.{UnknownKind}
 use Rattle.cb_frames.specs.NumberFaults.{as_frame_fault}
-use Rattle.cb_frames.specs.Fields.{Load, One, Many, CastFields, StatusFields, RequestFields, CastFrame, StatusFrame, RequestFrame}
-use Rattle.cb_frames.specs.Text.{cast_kind, burst_kind, status_kind, request_kind, kind_of, ArePayloads, IsLoad, IsLoadText, KeepsLoadRules, payload_text, load_text, SpellAll, pairs_from, ranges_from, cast_numbers, status_numbers, request_numbers, KeepsCastRules, KeepsStatusRules, KeepsRequestRules, text_of}
-use Rattle.cb_frames.specs.Fault.{Field, Number, Run, End, Pairs, change_pairs, value_pairs, range_pairs, pairs_field, payloads_field, payload_field, burst_payloads_field, carrying_field, end_field, cast_field, burst_field, status_field, request_field, kind_fields, Accepts, Follows, IsWrong, FirstFaultOf, FirstFault}
+use Rattle.cb_frames.specs.Fields.{Load, One, Many, CastFields, StatusFields, RequestFields, HelpFields, CastFrame, StatusFrame, RequestFrame, HelpFrame}
+use Rattle.cb_frames.specs.Text.{cast_kind, burst_kind, status_kind, request_kind, help_kind, kind_of, ArePayloads, IsLoad, IsLoadText, KeepsLoadRules, payload_text, load_text, SpellAll, pairs_from, ranges_from, cast_numbers, status_numbers, request_numbers, help_numbers, KeepsCastRules, KeepsStatusRules, KeepsRequestRules, KeepsHelpRules, text_of}
+use Rattle.cb_frames.specs.Fault.{Field, Number, Run, End, Pairs, change_pairs, value_pairs, range_pairs, pairs_field, payloads_field, payload_field, burst_payloads_field, carrying_field, end_field, cast_field, burst_field, status_field, request_field, help_field, kind_fields, Accepts, Follows, IsWrong, FirstFaultOf, FirstFault}
 use Rattle.cb_frames.proofs.SaidPairs.{keeps_member, keeps_message, keeps_length, keeps_messages, keeps_ranges, Says, says_changes, says_values, says_ranges, says_one}
 use Rattle.std.proofs.Math.Seq.{take-append_seam}
 use Rattle.cb_frames.specs.Laws.{NoneBeginsAnother, OneText, SomeText, OneFault, TextHasNoFault}
@@ -214,6 +214,21 @@ request_whole r numbers rules spelled =
     (number_whole _ r.asked _ requester.1 asked.0 asked.1 [] (asked.2, keeps_member r.asked rules.asked) asked.4
     (number_whole _ (length r.ranges) _ asked.1 count.0 count.1 [] (count.2, keeps_ranges (length r.ranges) rules.some rules.few) count.4 tail)))
 
+help_whole : (h : HelpFields) (numbers : List ℕ) → KeepsHelpRules h → SpellAll (help_numbers h) numbers → IsWhole help_field (help_numbers h) (numbers ++ [])
+help_whole h numbers rules spelled =
+    let requester = spelled.3 in
+    let helper = requester.3 in
+    let sender = helper.3 in
+    let count = sender.3 in
+    let behind = pairs_whole range_pairs end_field 1 h.ranges (ranges_from 1 h.ranges) [] count.1 [] (says_ranges 1 h.ranges rules.ranges) count.3 end_whole in
+    let tail : IsWhole (pairs_field range_pairs end_field (length h.ranges) 1) (ranges_from 1 h.ranges) (count.1 ++ []) =
+    subst (λ (ns : List ℕ). IsWhole (pairs_field range_pairs end_field (length h.ranges) 1) ns (count.1 ++ [])) (append-nil (ranges_from 1 h.ranges)) behind in
+    number_whole help_field h.group _ numbers spelled.0 spelled.1 [] (spelled.2, refl) spelled.4
+    (number_whole _ h.requester _ spelled.1 requester.0 requester.1 [] (requester.2, keeps_member h.requester rules.requester) requester.4
+    (number_whole _ h.helper _ requester.1 helper.0 helper.1 [] (helper.2, keeps_member h.helper rules.helper) helper.4
+    (number_whole _ h.sender _ helper.1 sender.0 sender.1 [] (sender.2, keeps_member h.sender rules.sender) sender.4
+    (number_whole _ (length h.ranges) _ sender.1 count.0 count.1 [] (count.2, keeps_ranges (length h.ranges) rules.some rules.few) count.4 tail))))
+
 -- ---- its numbers and its load determine a frame
 
 abbrev first_of : List (List ℕ) → List ℕ
@@ -247,6 +262,14 @@ request_is r s g q a k =
     ∙ ap (λ (x : ℕ). record { group = s.group; requester = x; asked = r.asked; ranges = r.ranges }) q
     ∙ ap (λ (x : ℕ). record { group = s.group; requester = s.requester; asked = x; ranges = r.ranges }) a
     ∙ ap (λ (x : List Range). record { group = s.group; requester = s.requester; asked = s.asked; ranges = x }) k
+
+help_is : (h i : HelpFields) → h.group ≡ i.group → h.requester ≡ i.requester → h.helper ≡ i.helper → h.sender ≡ i.sender → h.ranges ≡ i.ranges → h ≡ i
+help_is h i g q a s k =
+    ap (λ (x : ℕ). record { group = x; requester = h.requester; helper = h.helper; sender = h.sender; ranges = h.ranges }) g
+    ∙ ap (λ (x : ℕ). record { group = i.group; requester = x; helper = h.helper; sender = h.sender; ranges = h.ranges }) q
+    ∙ ap (λ (x : ℕ). record { group = i.group; requester = i.requester; helper = x; sender = h.sender; ranges = h.ranges }) a
+    ∙ ap (λ (x : ℕ). record { group = i.group; requester = i.requester; helper = i.helper; sender = x; ranges = h.ranges }) s
+    ∙ ap (λ (x : List Range). record { group = i.group; requester = i.requester; helper = i.helper; sender = i.sender; ranges = x }) k
 
 -- the texts of lists of as many payloads tell these
 payloads_once : (payloads others : List (List ℕ)) (text other : List ℕ) → length payloads ≡ length others → ArePayloads payloads text → ArePayloads others other → text ≡ other → payloads ≡ others
@@ -317,6 +340,17 @@ same_request r s p q e =
     let pairs = says_one range_pairs 1 r.ranges s.ranges (ranges_from 1 r.ranges) (ranges_from 1 s.ranges) [] [] (says_ranges 1 r.ranges p.ranges) (says_ranges 1 s.ranges q.ranges) count (ap (λ (ns : List ℕ). ns ++ []) tail) in
     request_is r s group requester asked pairs.0
 
+same_help : (h i : HelpFields) → KeepsHelpRules h → KeepsHelpRules i → help_numbers h ≡ help_numbers i → h ≡ i
+same_help h i p q e =
+    let group : h.group ≡ i.group = cc in
+    let requester : h.requester ≡ i.requester = cc in
+    let helper : h.helper ≡ i.helper = cc in
+    let sender : h.sender ≡ i.sender = cc in
+    let count : length h.ranges ≡ length i.ranges = cc in
+    let tail : ranges_from 1 h.ranges ≡ ranges_from 1 i.ranges = cc in
+    let pairs = says_one range_pairs 1 h.ranges i.ranges (ranges_from 1 h.ranges) (ranges_from 1 i.ranges) [] [] (says_ranges 1 h.ranges p.ranges) (says_ranges 1 i.ranges q.ranges) count (ap (λ (ns : List ℕ). ns ++ []) tail) in
+    help_is h i group requester helper sender pairs.0
+
 abbrev tail_after : List ℕ → List ℕ
 tail_after [] = []
 tail_after (x ∷ xs) = xs
@@ -338,9 +372,9 @@ other_kind : (a b : ℕ) (bytes more text text' : List ℕ) → bytes ≡ a ∷ 
 other_kind a b bytes more text text' f g = ap head_of (ap (λ (t : List ℕ). t ++ more) (sym f) ∙ g)
 
 -- a frame of casts has no other frame's kind
-not_casts : (load : Load) (kind : ℕ) → kind_of load ≡ kind → cast_kind < kind → kind < burst_kind → ⊥
-not_casts (One payload) kind is above below = omega (arith, is, above)
-not_casts (Many payloads) kind is above below = omega (arith, is, below)
+not_casts : (load : Load) (kind : ℕ) → kind_of load ≡ kind → kind ≢ cast_kind → kind ≢ burst_kind → ⊥
+not_casts (One payload) kind is no_cast no_burst = no_cast (sym is)
+not_casts (Many payloads) kind is no_cast no_burst = no_burst (sym is)
 
 pub none_begins_another : NoneBeginsAnother
 none_begins_another (CastFrame c) (CastFrame d) bytes more f g =
@@ -355,12 +389,21 @@ none_begins_another (StatusFrame s) (StatusFrame t) bytes more f g =
 none_begins_another (RequestFrame r) (RequestFrame s) bytes more f g =
     let same = one_kind request_field request_kind (request_numbers r) (request_numbers s) bytes more (f.1.0 ++ []) (g.1.0 ++ []) (without _ _ _ f.1.2) (without _ _ _ g.1.2) (request_whole r f.1.0 f.0 f.1.1) (request_whole s g.1.0 g.0 g.1.1) in
     (ap RequestFrame (same_request r s f.0 g.0 same.0), same.1)
-none_begins_another (CastFrame c) (StatusFrame t) bytes more f g = absurd (not_casts c.load status_kind (other_kind _ _ _ more _ _ f.2.4 g.1.2) (omega arith) (omega arith))
-none_begins_another (CastFrame c) (RequestFrame s) bytes more f g = absurd (not_casts c.load request_kind (other_kind _ _ _ more _ _ f.2.4 g.1.2) (omega arith) (omega arith))
-none_begins_another (StatusFrame s) (CastFrame d) bytes more f g = absurd (not_casts d.load status_kind (sym (other_kind _ _ _ more _ _ f.1.2 g.2.4)) (omega arith) (omega arith))
+none_begins_another (HelpFrame h) (HelpFrame i) bytes more f g =
+    let same = one_kind help_field help_kind (help_numbers h) (help_numbers i) bytes more (f.1.0 ++ []) (g.1.0 ++ []) (without _ _ _ f.1.2) (without _ _ _ g.1.2) (help_whole h f.1.0 f.0 f.1.1) (help_whole i g.1.0 g.0 g.1.1) in
+    (ap HelpFrame (same_help h i f.0 g.0 same.0), same.1)
+none_begins_another (CastFrame c) (StatusFrame t) bytes more f g = absurd (not_casts c.load status_kind (other_kind _ _ _ more _ _ f.2.4 g.1.2) (λ e. omega (arith, e)) (λ e. omega (arith, e)))
+none_begins_another (CastFrame c) (RequestFrame s) bytes more f g = absurd (not_casts c.load request_kind (other_kind _ _ _ more _ _ f.2.4 g.1.2) (λ e. omega (arith, e)) (λ e. omega (arith, e)))
+none_begins_another (CastFrame c) (HelpFrame i) bytes more f g = absurd (not_casts c.load help_kind (other_kind _ _ _ more _ _ f.2.4 g.1.2) (λ e. omega (arith, e)) (λ e. omega (arith, e)))
+none_begins_another (StatusFrame s) (CastFrame d) bytes more f g = absurd (not_casts d.load status_kind (sym (other_kind _ _ _ more _ _ f.1.2 g.2.4)) (λ e. omega (arith, e)) (λ e. omega (arith, e)))
 none_begins_another (StatusFrame s) (RequestFrame r) bytes more f g = absurd (omega (arith, other_kind _ _ _ more _ _ f.1.2 g.1.2))
-none_begins_another (RequestFrame r) (CastFrame d) bytes more f g = absurd (not_casts d.load request_kind (sym (other_kind _ _ _ more _ _ f.1.2 g.2.4)) (omega arith) (omega arith))
+none_begins_another (StatusFrame s) (HelpFrame h) bytes more f g = absurd (omega (arith, other_kind _ _ _ more _ _ f.1.2 g.1.2))
+none_begins_another (RequestFrame r) (CastFrame d) bytes more f g = absurd (not_casts d.load request_kind (sym (other_kind _ _ _ more _ _ f.1.2 g.2.4)) (λ e. omega (arith, e)) (λ e. omega (arith, e)))
 none_begins_another (RequestFrame r) (StatusFrame s) bytes more f g = absurd (omega (arith, other_kind _ _ _ more _ _ f.1.2 g.1.2))
+none_begins_another (RequestFrame r) (HelpFrame h) bytes more f g = absurd (omega (arith, other_kind _ _ _ more _ _ f.1.2 g.1.2))
+none_begins_another (HelpFrame h) (CastFrame d) bytes more f g = absurd (not_casts d.load help_kind (sym (other_kind _ _ _ more _ _ f.1.2 g.2.4)) (λ e. omega (arith, e)) (λ e. omega (arith, e)))
+none_begins_another (HelpFrame h) (StatusFrame s) bytes more f g = absurd (omega (arith, other_kind _ _ _ more _ _ f.1.2 g.1.2))
+none_begins_another (HelpFrame h) (RequestFrame r) bytes more f g = absurd (omega (arith, other_kind _ _ _ more _ _ f.1.2 g.1.2))
 
 cast_has_no_fault : (load : Load) (values text : List ℕ) (e : FrameFault) → IsWhole (carrying_field (load_field load)) values text → FirstFault (kind_of load ∷ text) e → ⊥
 cast_has_no_fault (One payload) values text e whole fault = whole_has_no_fault cast_field values text e whole fault
@@ -376,6 +419,9 @@ text_has_no_fault (StatusFrame s) bytes e f fault =
 text_has_no_fault (RequestFrame r) bytes e f fault =
     let at : FirstFault (request_kind ∷ f.1.0 ++ []) e = subst (λ (t : List ℕ). FirstFault t e) (without _ _ _ f.1.2) fault in
     whole_has_no_fault request_field (request_numbers r) (f.1.0 ++ []) e (request_whole r f.1.0 f.0 f.1.1) at
+text_has_no_fault (HelpFrame h) bytes e f fault =
+    let at : FirstFault (help_kind ∷ f.1.0 ++ []) e = subst (λ (t : List ℕ). FirstFault t e) (without _ _ _ f.1.2) fault in
+    whole_has_no_fault help_field (help_numbers h) (f.1.0 ++ []) e (help_whole h f.1.0 f.0 f.1.1) at
 
 same_kind_fault : (o : Option (List ℕ → Field)) (bytes : List ℕ) (e d : FrameFault) → MatchOption o (e ≡ UnknownKind) (λ fields. FirstFaultOf fields bytes e) → MatchOption o (d ≡ UnknownKind) (λ fields. FirstFaultOf fields bytes d) → e ≡ d
 same_kind_fault None bytes e d p q = p ∙ sym q
@@ -399,6 +445,7 @@ pub one_text : OneText
 unfolding text_of
 one_text (StatusFrame s) bytes f = f.1.2 ∙ ap (λ (t : List ℕ). status_kind ∷ t) (spelled_all (status_numbers s) f.1.0 f.1.1)
 one_text (RequestFrame r) bytes f = f.1.2 ∙ ap (λ (t : List ℕ). request_kind ∷ t) (spelled_all (request_numbers r) f.1.0 f.1.1)
+one_text (HelpFrame h) bytes f = f.1.2 ∙ ap (λ (t : List ℕ). help_kind ∷ t) (spelled_all (help_numbers h) f.1.0 f.1.1)
 one_text (CastFrame c) bytes f =
     f.2.4 ∙ ap (λ (t : List ℕ). kind_of c.load ∷ t ++ f.2.1) (spelled_all (cast_numbers c) f.2.0 f.2.2)
     ∙ ap (λ (t : List ℕ). kind_of c.load ∷ flat_map spelling (cast_numbers c) ++ t) (one_load_text c.load f.2.1 f.2.3)
@@ -434,3 +481,4 @@ some_text (CastFrame c) = (
 )
 some_text (StatusFrame s) = (λ t. (t.0, omega arith, all_small (status_numbers s) t.1.0 t.1.1), λ w. (w.0, (flat_map spelling (status_numbers s), all_spelled (status_numbers s) w.2, refl)))
 some_text (RequestFrame r) = (λ t. (t.0, omega arith, all_small (request_numbers r) t.1.0 t.1.1), λ w. (w.0, (flat_map spelling (request_numbers r), all_spelled (request_numbers r) w.2, refl)))
+some_text (HelpFrame h) = (λ t. (t.0, omega arith, all_small (help_numbers h) t.1.0 t.1.1), λ w. (w.0, (flat_map spelling (help_numbers h), all_spelled (help_numbers h) w.2, refl)))

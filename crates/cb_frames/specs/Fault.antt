@@ -11,7 +11,7 @@ use Rattle.cb_frames.specs.declared.frame.Range.{Range}
 use Rattle.cb_frames.specs.declared.fault.FrameFault.{FrameFault}
 use Rattle.cb_frames.specs.declared.fault.FrameFault.TheVariants.{Short, UnknownKind, BadIndex, ZeroNumber, ZeroDifference, OwnField, BadRange, EmptyBurst, BurstTooLong, PayloadTooLong, Trailing}
 use Rattle.cb_frames.specs.NumberFaults.{as_frame_fault}
-use Rattle.cb_frames.specs.Text.{cast_kind, burst_kind, status_kind, request_kind}
+use Rattle.cb_frames.specs.Text.{cast_kind, burst_kind, status_kind, request_kind, help_kind}
 
 -- a field: a number with what is wrong with a value of it, a run of so many bytes, whatever they are, or the end of the frame
 pub data Field : Type 0 where
@@ -163,13 +163,23 @@ request_field (group ∷ requester ∷ []) = Number member_rule
 request_field (group ∷ requester ∷ asked ∷ []) = Number ranges_rule
 request_field (group ∷ requester ∷ asked ∷ count ∷ pairs) = pairs_field range_pairs end_field count 1 pairs
 
+-- of a help frame: group, requester, helper, sender, count of ranges, the ranges, which begin at number 1 or later
+abbrev pub help_field : List ℕ → Field
+help_field [] = Number any_number
+help_field (group ∷ []) = Number member_rule
+help_field (group ∷ requester ∷ []) = Number member_rule
+help_field (group ∷ requester ∷ helper ∷ []) = Number member_rule
+help_field (group ∷ requester ∷ helper ∷ sender ∷ []) = Number ranges_rule
+help_field (group ∷ requester ∷ helper ∷ sender ∷ count ∷ pairs) = pairs_field range_pairs end_field count 1 pairs
+
 -- the fields of each kind of frame
 abbrev pub kind_fields : ℕ → Option (List ℕ → Field)
 kind_fields kind =
     if kind == cast_kind then Some cast_field else
     if kind == burst_kind then Some burst_field else
     if kind == status_kind then Some status_field else
-    if kind == request_kind then Some request_field else None
+    if kind == request_kind then Some request_field else
+    if kind == help_kind then Some help_field else None
 
 -- ---- the longest front of whole good fields, and what is wrong behind it
 

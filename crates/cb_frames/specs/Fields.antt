@@ -9,6 +9,7 @@ use Rattle.cb_frames.specs.declared.frame.Unit.{Unit as Carrying}
 use Rattle.cb_frames.specs.declared.frame.Unit.TheVariants as units
 use Rattle.cb_frames.specs.declared.frame.Status.{Status}
 use Rattle.cb_frames.specs.declared.frame.Request.{Request}
+use Rattle.cb_frames.specs.declared.frame.Help.{Help}
 use Rattle.cb_frames.specs.declared.frame.Frame.{Frame}
 use Rattle.cb_frames.specs.declared.frame.Frame.TheVariants as frames
 
@@ -54,11 +55,19 @@ pub record RequestFields : Type 0 where
   pub asked : ℕ
   pub ranges : List Range
 
+pub record HelpFields : Type 0 where
+  pub group : ℕ
+  pub requester : ℕ
+  pub helper : ℕ
+  pub sender : ℕ
+  pub ranges : List Range
+
 -- a frame, by its kind
 pub data FrameFields : Type 0 where
   CastFrame : CastFields → FrameFields
   StatusFrame : StatusFields → FrameFields
   RequestFrame : RequestFields → FrameFields
+  HelpFrame : HelpFields → FrameFields
 
 abbrev pub cast_fields : Cast → CastFields
 cast_fields c = record { group = c.group; sender = c.sender; number = c.number; changes = c.changes.items; load = One c.payload }
@@ -76,11 +85,15 @@ status_fields s = record { group = s.group; sender = s.sender; values = s.values
 abbrev pub request_fields : Request → RequestFields
 request_fields r = record { group = r.group; requester = r.requester; asked = r.asked; ranges = r.ranges.items }
 
+abbrev pub help_fields : Help → HelpFields
+help_fields h = record { group = h.group; requester = h.requester; helper = h.helper; sender = h.sender; ranges = h.ranges.items }
+
 abbrev pub fields_of : Frame → FrameFields
 fields_of (frames.Cast c) = CastFrame (cast_fields c)
 fields_of (frames.Burst b) = CastFrame (burst_fields b)
 fields_of (frames.Status s) = StatusFrame (status_fields s)
 fields_of (frames.Request r) = RequestFrame (request_fields r)
+fields_of (frames.Help h) = HelpFrame (help_fields h)
 
 -- A message that a cast frame carries.
 pub record Carried : Type 0 where

@@ -4,8 +4,8 @@ use Rattle.std.specs.List.{AllByRecursion}
 use Rattle.cb_frames.specs.declared.frame.TheConstants.{LONGEST_PAYLOAD}
 use Rattle.cb_frames.specs.declared.fault.FrameFault.{FrameFault}
 use Rattle.cb_frames.specs.declared.fault.FrameFault.TheVariants as faults
-use Rattle.cb_frames.specs.Fields.{FrameFields, CastFrame, StatusFrame, RequestFrame}
-use Rattle.cb_frames.specs.Text.{IsText, KeepsRules, cast_numbers, status_numbers, request_numbers, payload_bytes, text_of}
+use Rattle.cb_frames.specs.Fields.{FrameFields, CastFrame, StatusFrame, RequestFrame, HelpFrame}
+use Rattle.cb_frames.specs.Text.{IsText, KeepsRules, cast_numbers, status_numbers, request_numbers, help_numbers, payload_bytes, text_of}
 use Rattle.cb_frames.specs.Fault.{FirstFault}
 use Rattle.cb_frames.specs.Reading.{frame_at}
 
@@ -22,6 +22,7 @@ abbrev pub numbers_of : FrameFields → List ℕ
 numbers_of (CastFrame c) = cast_numbers c
 numbers_of (StatusFrame s) = status_numbers s
 numbers_of (RequestFrame r) = request_numbers r
+numbers_of (HelpFrame h) = help_numbers h
 
 abbrev pub CanBeWritten : FrameFields → Type 0
 CanBeWritten f = KeepsRules f × (length (payload_bytes f) ≤ LONGEST_PAYLOAD) × AllByRecursion (λ n. n < 2 ^ 32) (numbers_of f)

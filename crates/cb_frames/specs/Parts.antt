@@ -10,7 +10,8 @@ use Rattle.cb_frames.specs.declared.reading.CastParts.{CastParts}
 use Rattle.cb_frames.specs.declared.reading.BurstParts.{BurstParts}
 use Rattle.cb_frames.specs.declared.reading.StatusParts.{StatusParts}
 use Rattle.cb_frames.specs.declared.reading.RequestParts.{RequestParts}
-use Rattle.cb_frames.specs.Fields.{One, Many, payloads_of, CastFields, StatusFields, RequestFields}
+use Rattle.cb_frames.specs.declared.reading.HelpParts.{HelpParts}
+use Rattle.cb_frames.specs.Fields.{One, Many, payloads_of, CastFields, StatusFields, RequestFields, HelpFields}
 use Rattle.cb_frames.specs.Text.{AreChanges, AreValues}
 use Rattle.cb_frames.specs.Reading.{CastHead, carrying}
 use Rattle.cb_frames.specs.Fault.{Pairs, change_pairs, value_pairs}
@@ -71,6 +72,9 @@ pub record AreStatusParts (p : StatusParts) (s : StatusFields) : Type 0 where
 
 abbrev pub request_parts_fields : RequestParts → RequestFields
 request_parts_fields p = record { group = p.group; requester = p.requester; asked = p.asked; ranges = p.ranges.items }
+
+abbrev pub help_parts_fields : HelpParts → HelpFields
+help_parts_fields p = record { group = p.group; requester = p.requester; helper = p.helper; sender = p.sender; ranges = p.ranges.items }
 
 -- the pairs of a cast, in which its sender's own field may not stand, or of a status, in which every field may
 abbrev pub pairs_but : Option ℕ → Pairs Change

@@ -6,8 +6,8 @@ use Rattle.cb_frames.specs.declared.frame.Change.{Change}
 use Rattle.cb_frames.specs.declared.fault.FrameFault.{FrameFault}
 use Rattle.cb_frames.specs.declared.fault.FrameFault.TheVariants as faults
 use Rattle.cb_frames.specs.NumberFaults.{as_frame_fault}
-use Rattle.cb_frames.specs.Fields.{Load, One, Many, CastFields, StatusFields, RequestFields, FrameFields, CastFrame, StatusFrame, RequestFrame, messages_of}
-use Rattle.cb_frames.specs.Text.{cast_kind, burst_kind, status_kind, request_kind}
+use Rattle.cb_frames.specs.Fields.{Load, One, Many, CastFields, StatusFields, RequestFields, HelpFields, FrameFields, CastFrame, StatusFrame, RequestFrame, HelpFrame, messages_of}
+use Rattle.cb_frames.specs.Text.{cast_kind, burst_kind, status_kind, request_kind, help_kind}
 use Rattle.cb_frames.specs.Fault.{any_number, member_rule, message_rule, messages_rule, length_rule, ranges_rule, Pairs, change_pairs, value_pairs, range_pairs}
 
 infixl 10 ◌>>=◌
@@ -129,19 +129,32 @@ request_at bytes = do
   end ← end_at ranges.1
   Ok (record { group = group.0; requester = requester.0; asked = asked.0; ranges = ranges.0 })
 
+unfoldable pub help_at : List ℕ → Result HelpFields FrameFault
+help_at bytes = do
+  group ← field_at any_number bytes
+  requester ← field_at member_rule group.1
+  helper ← field_at member_rule requester.1
+  sender ← field_at member_rule helper.1
+  count ← field_at ranges_rule sender.1
+  ranges ← pairs_at range_pairs count.0 1 count.1
+  end ← end_at ranges.1
+  Ok (record { group = group.0; requester = requester.0; helper = helper.0; sender = sender.0; ranges = ranges.0 })
+
 unfoldable pub frame_at : List ℕ → Result FrameFields FrameFault
 frame_at [] = Err faults.Short
 frame_at (kind ∷ bytes) =
     if kind == cast_kind then (cast_at bytes >>= λ c. Ok (CastFrame c)) else
     if kind == burst_kind then (burst_at bytes >>= λ c. Ok (CastFrame c)) else
     if kind == status_kind then (status_at bytes >>= λ s. Ok (StatusFrame s)) else
-    if kind == request_kind then (request_at bytes >>= λ r. Ok (RequestFrame r)) else Err faults.UnknownKind
+    if kind == request_kind then (request_at bytes >>= λ r. Ok (RequestFrame r)) else
+    if kind == help_kind then (help_at bytes >>= λ h. Ok (HelpFrame h)) else Err faults.UnknownKind
 
 -- how many messages the frame carries whose text the bytes are; bytes that are no frame carry none
 abbrev pub count_of : FrameFields → ℕ
 count_of (CastFrame c) = length (messages_of c)
 count_of (StatusFrame s) = 0
 count_of (RequestFrame r) = 0
+count_of (HelpFrame h) = 0
 
 abbrev pub count_read : Result FrameFields FrameFault → ℕ
 count_read (Ok f) = count_of f

@@ -6,7 +6,7 @@ use Rattle.cb_varint.specs.Reading.{spelling}
 use Rattle.cb_frames.specs.declared.frame.TheConstants.{LAST_MEMBER, LAST_NUMBER, LONGEST_PAYLOAD, MOST_MESSAGES, MOST_RANGES}
 use Rattle.cb_frames.specs.declared.frame.Change.{Change}
 use Rattle.cb_frames.specs.declared.frame.Range.{Range}
-use Rattle.cb_frames.specs.Fields.{Load, One, Many, load_bytes, CastFields, StatusFields, RequestFields, FrameFields, CastFrame, StatusFrame, RequestFrame}
+use Rattle.cb_frames.specs.Fields.{Load, One, Many, load_bytes, CastFields, StatusFields, RequestFields, HelpFields, FrameFields, CastFrame, StatusFrame, RequestFrame, HelpFrame}
 
 -- the first byte of a cast frame that carries one payload, and of a burst
 abbrev pub cast_kind : ℕ
@@ -19,12 +19,15 @@ abbrev pub kind_of : Load → ℕ
 kind_of (One payload) = cast_kind
 kind_of (Many payloads) = burst_kind
 
--- of a status frame, and of a request
+-- of a status frame, of a request, and of a help frame
 abbrev pub status_kind : ℕ
 status_kind = 0x12
 
 abbrev pub request_kind : ℕ
 request_kind = 0x13
+
+abbrev pub help_kind : ℕ
+help_kind = 0x23
 
 -- numbers, spelled one after another
 abbrev pub SpellAll : List ℕ → List ℕ → Type 0
@@ -54,12 +57,15 @@ ranges_from least (r ∷ ranges) = (r.first - least) ∷ (r.last - r.first) ∷ 
 abbrev pub cast_numbers : CastFields → List ℕ
 cast_numbers c = c.group ∷ c.sender ∷ c.number ∷ length c.changes ∷ pairs_from 0 c.changes
 
--- those of a status frame, and of a request
+-- those of a status frame, of a request, and of a help frame
 abbrev pub status_numbers : StatusFields → List ℕ
 status_numbers s = s.group ∷ s.sender ∷ length s.values ∷ pairs_from 0 s.values
 
 abbrev pub request_numbers : RequestFields → List ℕ
 request_numbers r = r.group ∷ r.requester ∷ r.asked ∷ length r.ranges ∷ ranges_from 1 r.ranges
+
+abbrev pub help_numbers : HelpFields → List ℕ
+help_numbers h = h.group ∷ h.requester ∷ h.helper ∷ h.sender ∷ length h.ranges ∷ ranges_from 1 h.ranges
 
 -- a field of another member's, grown
 pub record IsChange (sender : ℕ) (d : Change) : Type 0 where
@@ -115,11 +121,20 @@ pub record KeepsRequestRules (r : RequestFields) : Type 0 where
   pub few : length r.ranges ≤ MOST_RANGES
   pub ranges : AreRanges 1 r.ranges
 
+pub record KeepsHelpRules (h : HelpFields) : Type 0 where
+  pub requester : h.requester ≤ LAST_MEMBER
+  pub helper : h.helper ≤ LAST_MEMBER
+  pub sender : h.sender ≤ LAST_MEMBER
+  pub some : 1 ≤ length h.ranges
+  pub few : length h.ranges ≤ MOST_RANGES
+  pub ranges : AreRanges 1 h.ranges
+
 -- the rules that a value has to keep to have a text
 abbrev pub KeepsRules : FrameFields → Type 0
 KeepsRules (CastFrame c) = KeepsCastRules c
 KeepsRules (StatusFrame s) = KeepsStatusRules s
 KeepsRules (RequestFrame r) = KeepsRequestRules r
+KeepsRules (HelpFrame h) = KeepsHelpRules h
 
 -- what a frame may carry
 abbrev pub IsLoad : Load → Type 0
@@ -130,6 +145,7 @@ abbrev pub payload_bytes : FrameFields → List ℕ
 payload_bytes (CastFrame c) = load_bytes c.load
 payload_bytes (StatusFrame s) = []
 payload_bytes (RequestFrame r) = []
+payload_bytes (HelpFrame h) = []
 
 -- the cast with this load in place of its own
 abbrev pub with_load : CastFields → Load → CastFields
@@ -163,6 +179,7 @@ IsText (CastFrame c) bytes = KeepsCastRules c × IsLoad c.load
     × ((numbers carried : List ℕ) × SpellAll (cast_numbers c) numbers × IsLoadText c.load carried × (bytes ≡ kind_of c.load ∷ numbers ++ carried))
 IsText (StatusFrame s) bytes = KeepsStatusRules s × ((numbers : List ℕ) × SpellAll (status_numbers s) numbers × (bytes ≡ status_kind ∷ numbers))
 IsText (RequestFrame r) bytes = KeepsRequestRules r × ((numbers : List ℕ) × SpellAll (request_numbers r) numbers × (bytes ≡ request_kind ∷ numbers))
+IsText (HelpFrame h) bytes = KeepsHelpRules h × ((numbers : List ℕ) × SpellAll (help_numbers h) numbers × (bytes ≡ help_kind ∷ numbers))
 
 -- the same bytes as a function, for the layers above: what has a text has this one
 abbrev pub payload_text : List ℕ → List ℕ
@@ -176,3 +193,4 @@ unfoldable pub text_of : FrameFields → List ℕ
 text_of (CastFrame c) = kind_of c.load ∷ flat_map spelling (cast_numbers c) ++ load_text c.load
 text_of (StatusFrame s) = status_kind ∷ flat_map spelling (status_numbers s)
 text_of (RequestFrame r) = request_kind ∷ flat_map spelling (request_numbers r)
+text_of (HelpFrame h) = help_kind ∷ flat_map spelling (help_numbers h)

@@ -23,10 +23,10 @@ pub const MOST_MESSAGES: usize = 32;
 /// two bytes, each of its other numbers as long as it can be.
 pub const LONGEST_FRAME: usize = 1456;
 
-/// The most ranges of a request.
+/// The most ranges of a request and of a help frame.
 pub const MOST_RANGES: usize = 32;
 
-/// The most frames that are sent in answer to one request.
+/// The most frames that are sent in answer to one request or help frame.
 pub const MOST_FRAMES: usize = 64;
 
 /// A field of a vector time, 0 to 63, and by how much it has grown, or what it is; at least 1.
@@ -137,6 +137,21 @@ pub struct Request {
     pub ranges: Vec<Range>,
 }
 
+/// Which casts of a sender a member lacks, sent to a third member, the helper, that has delivered them.
+#[derive(Debug, PartialEq, Eq, Drop)]
+pub struct Help {
+    /// The number of the group.
+    pub group: u32,
+    /// Who misses them, 0 to 63.
+    pub requester: u32,
+    /// Who is asked for them, 0 to 63.
+    pub helper: u32,
+    /// Whose casts they are, 0 to 63.
+    pub sender: u32,
+    /// The numbers asked for: 1 to 32 ranges, rising, which neither touch nor overlap.
+    pub ranges: Vec<Range>,
+}
+
 /// A frame of any kind.
 #[derive(Debug, PartialEq, Eq, Drop)]
 pub enum Frame {
@@ -144,4 +159,5 @@ pub enum Frame {
     Burst(Burst),
     Status(Status),
     Request(Request),
+    Help(Help),
 }

@@ -1,7 +1,7 @@
 //! The frames of the protocol as values and as bytes: each frame has one text, and no frame's text begins another's.
 //!
-//! Stands on `cb_varint`, whose numbers are the fields, and on `bytes`. There are four kinds of frames: a cast, a burst of casts, a status
-//! and a request.
+//! Stands on `cb_varint`, whose numbers are the fields, and on `bytes`. There are five kinds of frames: a cast, a burst of casts, a status,
+//! a request and a help frame.
 #![tactic(auto)]
 
 mod block;
@@ -21,7 +21,7 @@ pub use block::FrameBlock;
 pub use counting::message_count;
 pub use fault::{EncodeFault, FrameFault, StreamFault};
 pub use frame::{
-    Burst, Cast, Change, Frame, LAST_MEMBER, LAST_NUMBER, LONGEST_FRAME, LONGEST_PAYLOAD,
+    Burst, Cast, Change, Frame, Help, LAST_MEMBER, LAST_NUMBER, LONGEST_FRAME, LONGEST_PAYLOAD,
     MOST_FRAMES, MOST_MESSAGES, MOST_RANGES, Range, Request, Status, Unit,
 };
 pub use laws::{

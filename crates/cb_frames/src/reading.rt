@@ -5,16 +5,16 @@
 ghost use Rattle.std.specs.Prelude.{◌≡◌, ◌≤◌, ◌++◌, ◌∷◌, [], List, ℕ, IfErr, IfOk, MatchResult};
 ghost use Rattle.std.specs.List.{All};
 ghost use Rattle.cb_frames.specs.declared.fault.FrameFault.{FrameFault as Fault};
-ghost use Rattle.cb_frames.specs.Fields.{CastFields, FrameFields, StatusFields, fields_of, cast_fields, burst_fields, status_fields, request_fields};
+ghost use Rattle.cb_frames.specs.Fields.{CastFields, FrameFields, StatusFields, fields_of, cast_fields, burst_fields, status_fields, request_fields, help_fields};
 ghost use Rattle.cb_frames.specs.Text.{IsText};
 ghost use Rattle.cb_frames.specs.Fault.{FirstFault};
-ghost use Rattle.cb_frames.specs.Reading.{Answers, AnswersAs, Gives, payload_at, end_at, head_at, cast_at, burst_at, status_at, request_at, frame_at};
+ghost use Rattle.cb_frames.specs.Reading.{Answers, AnswersAs, Gives, payload_at, end_at, head_at, cast_at, burst_at, status_at, request_at, help_at, frame_at};
 ghost use Rattle.cb_frames.specs.Laws.{IsBytes, MayFail};
-ghost use Rattle.cb_frames.specs.Parts.{IsHeadBefore, IsPlaceIn, ArePartsOf, AreBurstParts, AreStatusParts, request_parts_fields};
+ghost use Rattle.cb_frames.specs.Parts.{IsHeadBefore, IsPlaceIn, ArePartsOf, AreBurstParts, AreStatusParts, request_parts_fields, help_parts_fields};
 
 use crate::fault::FrameFault;
 use crate::frame::{
-    Burst, Cast, Change, Frame, MOST_MESSAGES, MOST_RANGES, Range, Request, Status,
+    Burst, Cast, Change, Frame, Help, MOST_MESSAGES, MOST_RANGES, Range, Request, Status,
 };
 use crate::numbers::{
     count_of_messages, count_of_ranges, member, message_number, number, payload_length,
@@ -36,6 +36,9 @@ pub const STATUS: u8 = 0x12;
 
 /// The first byte of a request.
 pub const REQUEST: u8 = 0x13;
+
+/// The first byte of a help frame.
+pub const HELP: u8 = 0x23;
 
 /// What a cast or a burst says before what it carries; out of memory without its changes.
 #[derive(Drop)]
@@ -76,6 +79,16 @@ struct RequestParts {
     group: u32,
     requester: u32,
     asked: u32,
+    ranges: ArrayVec<Range, MOST_RANGES>,
+}
+
+/// A help frame that was read.
+#[derive(Drop)]
+struct HelpParts {
+    group: u32,
+    requester: u32,
+    helper: u32,
+    sender: u32,
     ranges: ArrayVec<Range, MOST_RANGES>,
 }
 
@@ -178,6 +191,26 @@ fn request_parts(bytes: &[u8]) -> Result<RequestParts, FrameFault>
         group,
         requester,
         asked,
+        ranges,
+    })
+}
+
+#[tactic(auto, unfolding(crate::specs::Reading::help_at))]
+fn help_parts(bytes: &[u8]) -> Result<HelpParts, FrameFault>
+    ensures { Answers help_parts_fields result (help_at bytes.now) }
+{
+    let (group, rest) = number(bytes)?;
+    let (requester, rest) = member(rest)?;
+    let (helper, rest) = member(rest)?;
+    let (sender, rest) = member(rest)?;
+    let (count, rest) = count_of_ranges(rest)?;
+    let (ranges, rest) = all_ranges(count, rest)?;
+    end(rest)?;
+    Ok(HelpParts {
+        group,
+        requester,
+        helper,
+        sender,
         ranges,
     })
 }
@@ -288,6 +321,29 @@ fn read_request(alloc: Global, fields: &[u8]) -> Result<Request, FrameFault>
     request(alloc, &parts)
 }
 
+fn help(alloc: Global, parts: &HelpParts) -> Result<Help, FrameFault>
+    ensures { MatchResult result
+        (λ help. help_fields help ≡ help_parts_fields parts.now)
+        (λ fault. fault ≡ FrameFault.NoMemory) }
+{
+    Ok(Help {
+        group: parts.group,
+        requester: parts.requester,
+        helper: parts.helper,
+        sender: parts.sender,
+        ranges: Vec::from_slice(alloc, parts.ranges.as_slice())?,
+    })
+}
+
+/// The help frame of these fields, out of line as a request is.
+#[inline(never)]
+fn read_help(alloc: Global, fields: &[u8]) -> Result<Help, FrameFault>
+    ensures { Gives help_fields result (help_at fields.now) }
+{
+    let parts = help_parts(fields)?;
+    help(alloc, &parts)
+}
+
 /// The cast of these fields, which are all of the bytes but the first one.
 #[inline(always)]
 fn read_cast(alloc: Global, bytes: &Bytes, fields: &[u8]) -> Result<Cast, FrameFault>
@@ -325,6 +381,7 @@ fn frame(alloc: Global, bytes: &Bytes, text: &[u8]) -> Result<Frame, FrameFault>
             Ok(Frame::Status(status(parts)?))
         }
         Some((&REQUEST, fields)) => Ok(Frame::Request(read_request(alloc, fields)?)),
+        Some((&HELP, fields)) => Ok(Frame::Help(read_help(alloc, fields)?)),
         Some(_) => Err(FrameFault::UnknownKind),
     }
 }

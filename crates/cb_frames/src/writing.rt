@@ -3,17 +3,17 @@
 ghost use Rattle.std.specs.Prelude.{◌≡◌, ◌≤◌, ◌<◌, ◌+◌, ◌++◌, ◌↔◌, ◌⊎◌, [], ◌∷◌, List, ℕ, length, Option, IsTrue, IfOk, OnOk, MatchResult};
 ghost use Rattle.std.specs.List.{concat};
 ghost use Rattle.cb_varint.specs.Spelling.{Spells};
-ghost use Rattle.cb_frames.specs.Fields.{One, FrameFields, CastFrame, StatusFrame, RequestFrame, fields_of, cast_fields, burst_fields, status_fields, request_fields};
-ghost use Rattle.cb_frames.specs.Text.{SpellAll, AppendsNumbers, AppendsPayloads, IsBurst, IsLoad, HasLongPayload, BreaksRule, pairs_from, ranges_from, cast_numbers, status_numbers, request_numbers, AreRanges, KeepsCastRules, KeepsStatusRules, KeepsRequestRules, KeepsRules, payload_bytes, with_load, IsText, text_of};
+ghost use Rattle.cb_frames.specs.Fields.{One, FrameFields, CastFrame, StatusFrame, RequestFrame, HelpFrame, fields_of, cast_fields, burst_fields, status_fields, request_fields, help_fields};
+ghost use Rattle.cb_frames.specs.Text.{SpellAll, AppendsNumbers, AppendsPayloads, IsBurst, IsLoad, HasLongPayload, BreaksRule, pairs_from, ranges_from, cast_numbers, status_numbers, request_numbers, help_numbers, AreRanges, KeepsCastRules, KeepsStatusRules, KeepsRequestRules, KeepsHelpRules, KeepsRules, payload_bytes, with_load, IsText, text_of};
 ghost use Rattle.cb_frames.specs.Parts.{AreChangesBut};
 
 use crate::fault::EncodeFault;
 use crate::frame::{
-    Burst, Cast, Change, Frame, LAST_MEMBER, LAST_NUMBER, LONGEST_PAYLOAD, MOST_MESSAGES,
+    Burst, Cast, Change, Frame, Help, LAST_MEMBER, LAST_NUMBER, LONGEST_PAYLOAD, MOST_MESSAGES,
     MOST_RANGES, Range, Request, Status,
 };
 use crate::laws::one_text;
-use crate::reading::{BURST, CAST, REQUEST, STATUS};
+use crate::reading::{BURST, CAST, HELP, REQUEST, STATUS};
 use bytes::Bytes;
 use std::alloc::{AllocError, Global};
 
@@ -88,6 +88,18 @@ fn keeps_request_rules(request: &Request) -> bool
         && are_ranges(ranges)
 }
 
+fn keeps_help_rules(help: &Help) -> bool
+    ensures { IsTrue result ↔ KeepsHelpRules (help_fields help.now) }
+{
+    let ranges = &help.ranges;
+    help.requester <= LAST_MEMBER
+        && help.helper <= LAST_MEMBER
+        && help.sender <= LAST_MEMBER
+        && !ranges.is_empty()
+        && ranges.len() <= MOST_RANGES
+        && are_ranges(ranges)
+}
+
 fn keeps_rules(frame: &Frame) -> bool
     ensures { IsTrue result ↔ KeepsRules (fields_of frame.now) }
 {
@@ -96,6 +108,7 @@ fn keeps_rules(frame: &Frame) -> bool
         Frame::Burst(burst) => keeps_burst_rules(burst),
         Frame::Status(status) => keeps_status_rules(status),
         Frame::Request(request) => keeps_request_rules(request),
+        Frame::Help(help) => keeps_help_rules(help),
     }
 }
 
@@ -190,6 +203,19 @@ fn put_request(out: &mut Vec<u8>, request: &Request) -> Result<(), AllocError>
     cb_varint::put(request.asked, out)?;
     cb_varint::put(request.ranges.len() as u32, out)?;
     put_ranges(out, &request.ranges)
+}
+
+fn put_help(out: &mut Vec<u8>, help: &Help) -> Result<(), AllocError>
+    requires { KeepsHelpRules (help_fields help.now) }
+    ensures { OnOk result (AppendsNumbers out.old.items out.new.items
+        (help_numbers (help_fields help.now))) }
+{
+    cb_varint::put(help.group, out)?;
+    cb_varint::put(help.requester, out)?;
+    cb_varint::put(help.helper, out)?;
+    cb_varint::put(help.sender, out)?;
+    cb_varint::put(help.ranges.len() as u32, out)?;
+    put_ranges(out, &help.ranges)
 }
 
 /// What a text has at most beside its group, the number of a cast, its changes and its payloads: the kind, numbers of members, counts,
@@ -301,6 +327,17 @@ fn request_text(alloc: Global, request: &Request) -> Result<Vec<u8>, AllocError>
     Ok(out)
 }
 
+/// The text of a help frame that keeps the rules.
+fn help_text(alloc: Global, help: &Help) -> Result<Vec<u8>, AllocError>
+    requires { KeepsHelpRules (help_fields help.now) }
+    ensures { IfOk result (λ bytes. IsText (HelpFrame (help_fields help.now)) bytes.items) }
+{
+    let mut out = Vec::new(alloc);
+    out.push(HELP)?;
+    put_help(&mut out, help)?;
+    Ok(out)
+}
+
 /// The text of a frame that keeps the rules, its payload's among them.
 fn text(alloc: Global, frame: &Frame) -> Result<Vec<u8>, AllocError>
     requires rules { KeepsRules (fields_of frame.now) }
@@ -312,6 +349,7 @@ fn text(alloc: Global, frame: &Frame) -> Result<Vec<u8>, AllocError>
         Frame::Burst(burst) => burst_text(alloc, burst),
         Frame::Status(status) => status_text(alloc, status),
         Frame::Request(request) => request_text(alloc, request),
+        Frame::Help(help) => help_text(alloc, help),
     }
 }
 
@@ -336,7 +374,7 @@ fn has_long_payload(frame: &Frame) -> bool
     match frame {
         Frame::Cast(cast) => cast.payload.len() > LONGEST_PAYLOAD,
         Frame::Burst(burst) => !are_short(&burst.payloads),
-        Frame::Status(_) | Frame::Request(_) => false,
+        Frame::Status(_) | Frame::Request(_) | Frame::Help(_) => false,
     }
 }
 

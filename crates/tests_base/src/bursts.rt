@@ -1,7 +1,7 @@
 //! Burst frames as values and as bytes.
 
 use crate::asserts::{holds_at, same};
-use crate::frames::{changes_of, has_fault, many};
+use crate::frames::{changes_of, decoded, has_fault, is_whole_only, many};
 use bytes::Bytes;
 use cb_frames::{
     Burst, Change, EncodeFault, Frame, FrameFault, FrameReader, LAST_NUMBER, MOST_MESSAGES, decode,
@@ -92,6 +92,7 @@ const COUNTS: &[(&[u8], u32)] = &[
     (b"\x21\x07\x02\xff\xff\xff\xff\x0f\x00\x01\x00", 1),
     (b"\x11\x07\x00\x01\x00\x02hi", 1),
     (b"\x12\x07\x02\x00", 0),
+    (b"\x23\x07\x02\x01\x00\x01\x00\x01", 0),
     // What is no frame carries nothing, whatever it begins with.
     (b"\x21\x07\x00\x01\x00\x02\x02hi\x02y", 0),
     (b"\x11\x07\x00\x01\x00\x02hi\x00", 0),
@@ -163,48 +164,11 @@ fn the_lengths_of_payloads_are_added(rt: HostRuntime) {
     );
 }
 
-/// What is wrong with the bytes. A frame that they are has these as its text.
-fn decoded(rt: &impl Abort, alloc: Global, text: &[u8]) -> Option<FrameFault> {
-    let bytes = Bytes::copy_from_slice(alloc, text).expect(rt, "memory");
-    let fault = match decode(alloc, &bytes) {
-        Ok(frame) => {
-            is_written_as(rt, alloc, &frame, text);
-            drop(frame);
-            None
-        }
-        Err(fault) => Some(fault),
-    };
-    drop(bytes);
-    fault
-}
-
-fn is_written_as(rt: &impl Abort, alloc: Global, frame: &Frame, text: &[u8]) {
-    let bytes = encode(alloc, frame).expect(rt, "a text");
-    let is_same = bytes.as_slice() == text;
-    drop(bytes);
-    holds_at(rt, is_same, &text);
-}
-
 #[test]
 fn a_part_of_a_burst_is_short_and_a_byte_more_is_trailing(rt: HostRuntime) {
     for (_, text) in TEXTS {
-        let mut longer = text.to_vec(rt.alloc()).expect(&rt, "memory");
-        longer.push(0).expect(&rt, "memory");
-        for length in 0..=longer.len() {
-            is_cut(&rt, rt.alloc(), &longer[..length], text.len());
-        }
-        drop(longer);
+        is_whole_only(&rt, rt.alloc(), text);
     }
-}
-
-/// The text has so many bytes, of which these are the first ones, or which these begin with.
-fn is_cut(rt: &impl Abort, alloc: Global, bytes: &[u8], whole: usize) {
-    let expected = match bytes.len() {
-        length if length < whole => Some(FrameFault::Short),
-        length if length > whole => Some(FrameFault::Trailing),
-        _ => None,
-    };
-    same(rt, (bytes, decoded(rt, alloc, bytes)), (bytes, expected));
 }
 
 /// Each is a frame, which is written so, or has a fault that is not of memory.

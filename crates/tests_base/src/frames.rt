@@ -3,14 +3,14 @@
 use crate::asserts::{holds_at, same, says};
 use bytes::Bytes;
 use cb_frames::{
-    Cast, Change, EncodeFault, Frame, FrameBlock, FrameFault, LAST_NUMBER, Range, Request, Status,
-    decode, encode,
+    Cast, Change, EncodeFault, Frame, FrameBlock, FrameFault, Help, LAST_NUMBER, Range, Request,
+    Status, decode, encode,
 };
 use std::alloc::Global;
 use std::process::Abort;
 use std::test::*;
 
-/// What a frame is made of; a request is of group 7.
+/// What a frame is made of; a request and a help frame are of group 7.
 #[derive(Clone, Copy, Debug, Drop)]
 enum Parts<'a> {
     Cast {
@@ -27,6 +27,11 @@ enum Parts<'a> {
     Request {
         requester: u32,
         asked: u32,
+        ranges: &'a [Range],
+    },
+    Help {
+        /// Requester, helper and sender.
+        members: [u32; 3],
         ranges: &'a [Range],
     },
 }
@@ -57,6 +62,18 @@ fn frame(rt: &impl Abort, alloc: Global, parts: &Parts<'_>) -> Frame {
             asked,
             ranges: Vec::from_slice(alloc, ranges).expect(rt, "memory"),
         }),
+        Parts::Help { members, ranges } => Frame::Help(help(rt, alloc, members, ranges)),
+    }
+}
+
+fn help(rt: &impl Abort, alloc: Global, members: [u32; 3], ranges: &[Range]) -> Help {
+    let [requester, helper, sender] = members;
+    Help {
+        group: 7,
+        requester,
+        helper,
+        sender,
+        ranges: Vec::from_slice(alloc, ranges).expect(rt, "memory"),
     }
 }
 
@@ -386,6 +403,83 @@ fn a_request_says_its_ranges_by_their_distances(rt: HostRuntime) {
     are_texts(&rt, rt.alloc(), REQUESTS);
 }
 
+const HELPS: &[(Parts<'static>, &[u8])] = &[
+    (
+        Parts::Help {
+            members: [2, 1, 0],
+            ranges: &[Range { first: 1, last: 2 }],
+        },
+        b"\x23\x07\x02\x01\x00\x01\x00\x01",
+    ),
+    (
+        Parts::Help {
+            members: [0, 63, 1],
+            ranges: &[
+                Range { first: 2, last: 3 },
+                Range {
+                    first: 5,
+                    last: LAST_NUMBER,
+                },
+            ],
+        },
+        b"\x23\x07\x00\x3f\x01\x02\x01\x01\x00\xfa\xff\xff\xff\x0f",
+    ),
+];
+
+#[test]
+fn a_help_frame_says_who_misses_who_is_asked_and_whose_casts(rt: HostRuntime) {
+    are_texts(&rt, rt.alloc(), HELPS);
+}
+
+#[test]
+fn a_part_of_a_help_frame_is_short_and_a_byte_more_is_trailing(rt: HostRuntime) {
+    for (_, text) in HELPS {
+        is_whole_only(&rt, rt.alloc(), text);
+    }
+}
+
+/// The text is a frame, what it begins with is short, and with a byte behind it it is none.
+pub fn is_whole_only(rt: &impl Abort, alloc: Global, text: &[u8]) {
+    let mut longer = text.to_vec(alloc).expect(rt, "memory");
+    longer.push(0).expect(rt, "memory");
+    for length in 0..=longer.len() {
+        is_cut(rt, alloc, &longer[..length], text.len());
+    }
+    drop(longer);
+}
+
+/// The text has so many bytes, of which these are the first ones, or which these begin with.
+fn is_cut(rt: &impl Abort, alloc: Global, bytes: &[u8], whole: usize) {
+    let expected = match bytes.len() {
+        length if length < whole => Some(FrameFault::Short),
+        length if length > whole => Some(FrameFault::Trailing),
+        _ => None,
+    };
+    same(rt, (bytes, decoded(rt, alloc, bytes)), (bytes, expected));
+}
+
+/// What is wrong with the bytes. A frame that they are has these as its text.
+pub fn decoded(rt: &impl Abort, alloc: Global, text: &[u8]) -> Option<FrameFault> {
+    let bytes = Bytes::copy_from_slice(alloc, text).expect(rt, "memory");
+    let fault = match decode(alloc, &bytes) {
+        Ok(frame) => {
+            is_written_as(rt, alloc, &frame, text);
+            drop(frame);
+            None
+        }
+        Err(fault) => Some(fault),
+    };
+    drop(bytes);
+    fault
+}
+
+fn is_written_as(rt: &impl Abort, alloc: Global, frame: &Frame, text: &[u8]) {
+    let bytes = encode(alloc, frame).expect(rt, "a text");
+    let is_same = bytes.as_slice() == text;
+    drop(bytes);
+    holds_at(rt, is_same, &text);
+}
+
 const UP_TO_THE_LAST: &[(Parts<'static>, &[u8])] = &[(
     Parts::Request {
         requester: 0,
@@ -435,14 +529,33 @@ fn a_request_has_at_most_32_ranges(rt: HostRuntime) {
 }
 
 #[test]
+fn a_help_frame_has_at_most_32_ranges(rt: HostRuntime) {
+    let ranges = ranges_of(&rt, rt.alloc(), 32);
+    let parts = [b"\x23\x07\x02\x01\x00\x20".as_slice(), b"\x00\x00", b""];
+    let text = text_of(&rt, rt.alloc(), parts, 32);
+    let parts = Parts::Help {
+        members: [2, 1, 0],
+        ranges: &ranges,
+    };
+    is_text(&rt, rt.alloc(), &parts, &text);
+    drop(text);
+    drop(ranges);
+}
+
+#[test]
 fn a_33rd_range_has_no_text(rt: HostRuntime) {
     let ranges = ranges_of(&rt, rt.alloc(), 33);
-    let parts = Parts::Request {
+    let request = Parts::Request {
         requester: 2,
         asked: 0,
         ranges: &ranges,
     };
-    has_no_text(&rt, rt.alloc(), &parts, EncodeFault::BadField);
+    let help = Parts::Help {
+        members: [2, 1, 0],
+        ranges: &ranges,
+    };
+    has_no_text(&rt, rt.alloc(), &request, EncodeFault::BadField);
+    has_no_text(&rt, rt.alloc(), &help, EncodeFault::BadField);
     drop(ranges);
 }
 
@@ -494,6 +607,20 @@ const FAULTS: &[(&[u8], FrameFault)] = &[
     (b"\x13\x07\x02\x40", FrameFault::BadIndex),
     (b"\x13\x07\x02\x00\x01\x01", FrameFault::Short),
     (b"\x13\x07\x02\x00\x01\x01\x01\x00", FrameFault::Trailing),
+    // So has a help frame, which names three members.
+    (b"\x23\x07\x40", FrameFault::BadIndex),
+    (b"\x23\x07\x02\x40", FrameFault::BadIndex),
+    (b"\x23\x07\x02\x01\x40", FrameFault::BadIndex),
+    (b"\x23\x07\x02\x01\x00\x00", FrameFault::BadRange),
+    (b"\x23\x07\x02\x01\x00\x21", FrameFault::BadRange),
+    (
+        b"\x23\x07\x02\x01\x00\x01\xff\xff\xff\xff\x0f",
+        FrameFault::BadRange,
+    ),
+    (
+        b"\x23\x07\x02\x01\x00\x01\x00\xff\xff\xff\xff\x0f",
+        FrameFault::BadRange,
+    ),
     (b"\x12\x07\x40", FrameFault::BadIndex),
     (b"\x12\x07\x02\x01\x40", FrameFault::BadIndex),
     (b"\x12\x07\x02\x02\x3f\x01\x00", FrameFault::BadIndex),
@@ -668,9 +795,36 @@ const BROKEN_REQUESTS: &[Parts<'static>] = &[
     },
 ];
 
+const BROKEN_HELPS: &[Parts<'static>] = &[
+    Parts::Help {
+        members: [64, 1, 0],
+        ranges: &[Range { first: 1, last: 1 }],
+    },
+    Parts::Help {
+        members: [2, 64, 0],
+        ranges: &[Range { first: 1, last: 1 }],
+    },
+    Parts::Help {
+        members: [2, 1, 64],
+        ranges: &[Range { first: 1, last: 1 }],
+    },
+    Parts::Help {
+        members: [2, 1, 0],
+        ranges: &[],
+    },
+    Parts::Help {
+        members: [2, 1, 0],
+        ranges: &[Range { first: 0, last: 1 }],
+    },
+    Parts::Help {
+        members: [2, 1, 0],
+        ranges: &[Range { first: 1, last: 1 }, Range { first: 2, last: 2 }],
+    },
+];
+
 #[test]
 fn values_that_break_a_rule_have_no_text(rt: HostRuntime) {
-    for rows in [BROKEN_CASTS, BROKEN_STATUSES, BROKEN_REQUESTS] {
+    for rows in [BROKEN_CASTS, BROKEN_STATUSES, BROKEN_REQUESTS, BROKEN_HELPS] {
         for parts in rows {
             has_no_text(&rt, rt.alloc(), parts, EncodeFault::BadField);
         }
