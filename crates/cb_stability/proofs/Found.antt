@@ -5,7 +5,7 @@ use Rattle.std.proofs.lemmas.Bool.Decides.{nat_tests}
 use Rattle.std.proofs.lemmas.List.{append_assoc, length-append}
 use Rattle.cb_frames.specs.declared.frame.Range.{Range}
 use Rattle.cb_stability.specs.Ranges.{is_in, meets}
-use Rattle.cb_stability.specs.declared.window.Spanned.{Spanned}
+use Rattle.cb_stability.specs.declared.ring.Spanned.{Spanned}
 use Rattle.cb_stability.specs.Sent.{is_in_ranges, first_in}
 
 -- a range meets the numbers from first to last where one of them is in it

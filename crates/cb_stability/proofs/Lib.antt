@@ -1,6 +1,9 @@
 pub mod Minima
 pub mod Unknown
 pub mod Windows
+pub mod HelperWindows
 pub mod Found
 pub mod Learning
+pub mod KnownRows
 pub mod WindowRows
+pub mod HelperRows

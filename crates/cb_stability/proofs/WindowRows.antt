@@ -1,7 +1,7 @@
 -- Worked windows: frames of one message and of several.
 use Rattle.std.proofs.Common.{◌≡◌, ℕ, List, [], ◌∷◌, arith, refl}
 use Rattle.cb_frames.specs.declared.frame.Range.{Range}
-use Rattle.cb_stability.specs.declared.window.Spanned.{Spanned}
+use Rattle.cb_stability.specs.declared.ring.Spanned.{Spanned}
 use Rattle.cb_stability.specs.Sent.{Sent, spanned, Puts, Trims, AreInARow, room_of, frames_in}
 
 abbrev range : ℕ → ℕ → Range

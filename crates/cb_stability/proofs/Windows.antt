@@ -6,7 +6,7 @@ use Rattle.std.proofs.lemmas.Bool.{cases_lt, lt-leb, lt-ltb, le-leb, le-ltb}
 use Rattle.std.proofs.lemmas.List.{drop_all, length-append}
 use Rattle.circular_buffer.specs.Buffer.{keep_last}
 use Rattle.cb_frames.specs.declared.frame.TheConstants.{LAST_NUMBER}
-use Rattle.cb_stability.specs.declared.window.Spanned.{Spanned}
+use Rattle.cb_stability.specs.declared.ring.Spanned.{Spanned}
 use Rattle.cb_stability.specs.Sent.{Sent, spanned, sent_of, Puts, Trims, FollowUpTo, AreInARow, IsSentWindow, room_of}
 
 -- ---- frames one after another
@@ -20,7 +20,7 @@ counted : (trimmed put : ℕ) (frames : List Spanned) → AreInARow trimmed put 
 counted trimmed put [] row = omega (arith, row)
 counted trimmed put (frame ∷ frames) row = omega (arith, row.2, follow_counted put frame.last frames row.3)
 
-follow_more : (put before count : ℕ) (frames : List Spanned) (bytes : List ℕ) → 1 ≤ count → FollowUpTo put before frames
+pub follow_more : (put before count : ℕ) (frames : List Spanned) (bytes : List ℕ) → 1 ≤ count → FollowUpTo put before frames
     → FollowUpTo (put + count) before (frames ++ spanned (put + 1) (put + count) bytes ∷ [])
 follow_more put before count [] bytes some row = (omega (arith, row), omega (arith, some), refl)
 follow_more put before count (frame ∷ frames) bytes some row = (row.0, row.1, follow_more put frame.last count frames bytes some row.2)
@@ -33,27 +33,27 @@ row_more trimmed put count (frame ∷ frames) bytes some row = (row.0, row.1, ro
 -- ---- frames above a number
 
 -- each ends behind the one before it
-abbrev Rise : ℕ → List Spanned → Type 0
+abbrev pub Rise : ℕ → List Spanned → Type 0
 Rise before [] = Unit {0}
 Rise before (frame ∷ frames) = (before < frame.last) × Rise frame.last frames
 
-follow_rise : (put before : ℕ) (frames : List Spanned) → FollowUpTo put before frames → Rise before frames
+pub follow_rise : (put before : ℕ) (frames : List Spanned) → FollowUpTo put before frames → Rise before frames
 follow_rise put before [] row = tt
 follow_rise put before (frame ∷ frames) row = (omega (arith, row.0, row.1), follow_rise put frame.last frames row.2)
 
-row_rises : (trimmed put : ℕ) (frames : List Spanned) → AreInARow trimmed put frames → Rise trimmed frames
+pub row_rises : (trimmed put : ℕ) (frames : List Spanned) → AreInARow trimmed put frames → Rise trimmed frames
 row_rises trimmed put [] row = tt
 row_rises trimmed put (frame ∷ frames) row = (row.2, follow_rise put frame.last frames row.3)
 
 -- the frames with a number above this one
-abbrev above : ℕ → List Spanned → List Spanned
+abbrev pub above : ℕ → List Spanned → List Spanned
 above number frames = filter (λ frame. ltb number frame.last) frames
 
 -- the frames behind those at the front that have none
-abbrev behind : ℕ → List Spanned → List Spanned
+abbrev pub behind : ℕ → List Spanned → List Spanned
 behind number frames = drop (prefix_len (λ frame. leb frame.last number) frames) frames
 
-all_above : (number before : ℕ) (frames : List Spanned) → number ≤ before → Rise before frames → above number frames ≡ frames
+pub all_above : (number before : ℕ) (frames : List Spanned) → number ≤ before → Rise before frames → above number frames ≡ frames
 all_above number before [] low rise = refl
 all_above number before (frame ∷ frames) low rise =
     rw (lt-ltb number frame.last (omega (arith, low, rise.0)))
@@ -62,7 +62,7 @@ all_above number before (frame ∷ frames) low rise =
 drop_more : (n : ℕ) (frame : Spanned) (frames : List Spanned) → drop (1 + n) (frame ∷ frames) ≡ drop n frames
 drop_more n frame frames = let e : 1 + n ≡ suc n = omega arith in ap (λ (k : ℕ). drop k (frame ∷ frames)) e
 
-behind_are_above : (number before : ℕ) (frames : List Spanned) → Rise before frames → behind number frames ≡ above number frames
+pub behind_are_above : (number before : ℕ) (frames : List Spanned) → Rise before frames → behind number frames ≡ above number frames
 behind_are_above number before [] rise = refl
 behind_are_above number before (frame ∷ frames) rise =
     elim (cases_lt number frame.last) as (λ _. behind number (frame ∷ frames) ≡ above number (frame ∷ frames)) [
@@ -75,7 +75,7 @@ behind_are_above number before (frame ∷ frames) rise =
     ]
 
 module _ (number put : ℕ) (high : number ≤ put) where
-  follow_above : (before : ℕ) (frames : List Spanned) → before ≤ number → FollowUpTo put before frames → AreInARow number put (above number frames)
+  pub follow_above : (before : ℕ) (frames : List Spanned) → before ≤ number → FollowUpTo put before frames → AreInARow number put (above number frames)
   follow_above before [] low row = omega (arith, low, high, row)
   follow_above before (frame ∷ frames) low row =
       elim (cases_lt number frame.last) as (λ _. AreInARow number put (above number (frame ∷ frames))) [
@@ -94,6 +94,20 @@ module _ (number put : ℕ) (high : number ≤ put) where
             (row.0, omega (arith, row.1, grows), lt, row.3)
         | inr le ↦ rw (le-ltb number frame.last le) (follow_above frame.last frames le row.3)
       ]
+
+-- ---- what is trimmed
+
+module _ (window put trimmed : ℕ) (frames : List Spanned) (rise : Rise trimmed frames) (number upto : ℕ) (capped : upto ≡ min number put) where
+  pub trim_nothing : upto ≤ trimmed → Trims (sent_of window put trimmed frames) (sent_of window put trimmed frames) number
+  trim_nothing before = record {
+    window = refl;
+    put = refl;
+    now_trimmed = omega (arith, capped, before);
+    now_kept = sym (all_above trimmed trimmed frames (omega arith) rise);
+  }
+
+  pub trim_gives : trimmed < upto → Trims (sent_of window put trimmed frames) (sent_of window put upto (behind upto frames)) number
+  trim_gives more = record { window = refl; put = refl; now_trimmed = omega (arith, capped, more); now_kept = behind_are_above upto trimmed frames rise }
 
 -- ---- windows
 
@@ -138,27 +152,14 @@ module _ (window put trimmed : ℕ) (frames : List Spanned) (is : IsSentWindow (
     pub put_gives : Puts (sent_of window put trimmed frames) (sent_of window (put + count) trimmed longer) count bytes
     put_gives = record { window = refl; now_put = refl; trimmed = refl; now_kept = refl }
 
-  module _ (number upto : ℕ) (capped : upto ≡ min number put) where
-    pub trim_nothing : upto ≤ trimmed → Trims (sent_of window put trimmed frames) (sent_of window put trimmed frames) number
-    trim_nothing before = record {
-      window = refl;
-      put = refl;
-      now_trimmed = omega (arith, capped, before);
-      now_kept = sym (all_above trimmed trimmed frames (omega arith) (row_rises trimmed put frames is.in_a_row));
+  module _ (number upto : ℕ) (capped : upto ≡ min number put) (more : trimmed < upto) where
+    pub trim_keeps : IsSentWindow (sent_of window put upto (behind upto frames))
+    trim_keeps = record {
+      width = is.width;
+      room = omega (arith, is.room, more);
+      trimmed_at_most = omega (arith, capped);
+      put_at_most = is.put_at_most;
+      in_a_row =
+          rw (behind_are_above upto trimmed frames (row_rises trimmed put frames is.in_a_row))
+          (row_above upto put (omega (arith, capped)) trimmed frames (omega (arith, more)) is.in_a_row);
     }
-
-    module _ (more : trimmed < upto) where
-      freed : behind upto frames ≡ above upto frames
-      freed = behind_are_above upto trimmed frames (row_rises trimmed put frames is.in_a_row)
-
-      pub trim_keeps : IsSentWindow (sent_of window put upto (behind upto frames))
-      trim_keeps = record {
-        width = is.width;
-        room = omega (arith, is.room, more);
-        trimmed_at_most = omega (arith, capped);
-        put_at_most = is.put_at_most;
-        in_a_row = rw freed (row_above upto put (omega (arith, capped)) trimmed frames (omega (arith, more)) is.in_a_row);
-      }
-
-      pub trim_gives : Trims (sent_of window put trimmed frames) (sent_of window put upto (behind upto frames)) number
-      trim_gives = record { window = refl; put = refl; now_trimmed = omega (arith, capped, more); now_kept = freed }

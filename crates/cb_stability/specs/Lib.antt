@@ -3,3 +3,4 @@ pub mod Rows
 pub mod Minima
 pub mod Ranges
 pub mod Sent
+pub mod Helper

@@ -1,4 +1,4 @@
--- What a sent window keeps.
+-- What a window keeps of the frames that one member sent: its own, or a helper's.
 use Rattle.std.specs.Prelude.{◌≡◌, ℕ, ◌+◌, ◌-◌, ◌<◌, ◌≤◌, Bool, List, [], ◌∷◌, ◌++◌, filter, map, take, min, max, nat_lt, refl}
 use Rattle.std.specs.List.{list_any}
 use Rattle.std.specs.Coded.{Coded, code_by, coded×, coded_list, coded_ℕ}
@@ -6,9 +6,10 @@ use Rattle.cb_times.specs.Group.{IsWindow}
 use Rattle.cb_frames.specs.declared.frame.TheConstants.{LAST_NUMBER, MOST_FRAMES}
 use Rattle.cb_frames.specs.declared.frame.Range.{Range}
 use Rattle.cb_stability.specs.Ranges.{meets}
-use Rattle.cb_stability.specs.declared.window.Spanned.{Spanned}
+use Rattle.cb_stability.specs.declared.ring.Spanned.{Spanned}
 
--- for how many numbers there is room, the last number put, the last number trimmed, and the frames kept
+-- for how many numbers there is room, or in a helper's for how many frames, the last number put, the last number trimmed,
+-- and the frames kept
 pub record Sent : Type 0 where
   pub window : ℕ
   pub put : ℕ
@@ -70,7 +71,7 @@ AreInARow trimmed put [] = trimmed ≡ put
 AreInARow trimmed put (frame ∷ frames) =
     (1 ≤ frame.first) × (frame.first ≤ trimmed + 1) × (trimmed < frame.last) × FollowUpTo put frame.last frames
 
--- what is true of every window; so no more frames are kept than numbers have room
+-- what is true of every sent window; so no more frames are kept than numbers have room
 pub record IsSentWindow (sent : Sent) : Type 0 where
   pub width : IsWindow sent.window
   pub room : sent.put - sent.trimmed ≤ sent.window

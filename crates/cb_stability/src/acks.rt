@@ -1,7 +1,7 @@
 //! The acknowledgements: a row of counts for each member, and of each sender the least count of the others.
 ghost use Rattle.std.specs.Prelude.{◌≡◌, ◌-◌, ◌<◌, length, replicate, IfOk};
 ghost use Rattle.cb_times.specs.Group.{IsGroupSize};
-ghost use Rattle.cb_stability.specs.Known.{count, IsUnknown, IsKnown, Learns, IsStable, IsCountOfOther};
+ghost use Rattle.cb_stability.specs.Known.{count, IsUnknown, IsKnown, Learns, LearnsTime, IsNextNews, IsStable, IsCountOfOther};
 ghost use Rattle.cb_stability.specs.Rows.{AreRows, known_of};
 ghost use Rattle.cb_stability.specs.Minima.{minimum, minimum_with, IsMinimum, IsBeforeRise};
 
@@ -12,8 +12,9 @@ use std::marker::Model;
 /// How many casts of each sender every member of a group is known to have delivered.
 ///
 /// Members are numbered from 0 to the size of the group less one. What a member says of its deliveries, in an
-/// acknowledgement of its own or in a cast, is given to `learn`; `stable` then says how many casts of a sender need not be
-/// kept any longer, since every other member has delivered them. Only `new` and `copy` take memory.
+/// acknowledgement of its own or in a cast, is given to `learn`, or for all senders at once to `learn_time`; `stable` then
+/// says how many casts of a sender need not be kept any longer, since every other member has delivered them. Only `new` and
+/// `copy` take memory.
 #[derive(Debug, Drop)]
 pub struct Acks {
     /// Each member's counts, one for each sender.
@@ -80,6 +81,37 @@ impl Acks {
         if member != sender && count < delivered {
             count_down(&mut self.minima[sender as usize], count, &self.rows, sender);
         }
+    }
+
+    /// This member is known to have delivered as many casts of each sender as the time says.
+    ///
+    /// Each of its counts becomes the greater of what it was and the sender's field, as if all were given to `learn`.
+    pub fn learn_time(&mut self, member: u32, time: &VectorTime)
+        requires of_group { member < self.old.size }
+        requires of_time { length time.now ≡ self.old.size }
+        ensures { LearnsTime self.old self.new member time.now }
+    {
+        let mut from = 0;
+        while let Some(sender) = self.next_news(member, time, from) {
+            self.learn(member, sender, time.get(sender));
+            from = sender + 1;
+        }
+    }
+
+    // The first sender from this one on of which the time says more than is known of the member.
+    fn next_news(&self, member: u32, time: &VectorTime, from: u32) -> Option<u32>
+        requires of_group { member < self.now.size }
+        requires of_time { length time.now ≡ self.now.size }
+        ensures { IsNextNews self.now member time.now from result }
+    {
+        let counts = self.rows[member as usize].as_slice();
+        let fields = time.as_slice();
+        for sender in from..time.size() {
+            if counts[sender as usize] < fields[sender as usize] {
+                return Some(sender);
+            }
+        }
+        None
     }
 
     /// How many casts of this sender the member is known to have delivered.

@@ -1,12 +1,20 @@
 //! Acknowledgements and the frames kept until they are stable: the sender's side of repair.
 //!
 //! A cast is stable once every other member has delivered it. `Acks` says of each sender how far its casts are stable;
-//! a `SentWindow` keeps a member's own frames until then, so that it can send them again. Stands on `cb_times`, on
-//! `cb_frames` for ranges of numbers, and on `bytes` and `circular_buffer` for the frames.
+//! a `SentWindow` keeps a member's own frames until then, so that it can send them again, and a `HelperWindow` the last of
+//! another member's, so that it can hand them on. Stands on `cb_times`, on `cb_frames` for ranges of numbers, and on `bytes`
+//! and `circular_buffer` for the frames.
 #![tactic(auto)]
 
 mod acks;
+#[cfg(test)]
+mod fixtures;
+mod helper_window;
+mod laws;
+mod ring;
 mod window;
 
 pub use acks::Acks;
+pub use helper_window::HelperWindow;
+pub use laws::helper_windows_keep_the_last_frames;
 pub use window::SentWindow;

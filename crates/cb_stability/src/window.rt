@@ -1,12 +1,11 @@
 //! The window of a member's own frames that are not stable yet: a ring in the order of their numbers.
-ghost use Rattle.std.specs.Prelude.{◌≡◌, ◌≤◌, [], ◌∷◌, ◌++◌, drop, nat_le, if◌then◌else◌, IfOk, OnOk};
-ghost use Rattle.std.specs.List.{prefix_len};
-ghost use Rattle.circular_buffer.specs.Buffer.{buffer};
+ghost use Rattle.std.specs.Prelude.{◌≡◌, ◌≤◌, IfOk};
 ghost use Rattle.cb_times.specs.Group.{IsWindow};
-ghost use Rattle.cb_stability.specs.Sent.{IsFresh, IsSentWindow, Puts, Trims, room_of, is_in_ranges, first_in, frames_in};
+ghost use Rattle.cb_stability.specs.Sent.{IsFresh, IsSentWindow, Puts, Trims, room_of, frames_in};
 
+use crate::ring::{Spanned, copies, copies_in, free_up_to};
 use bytes::Bytes;
-use cb_frames::{MOST_FRAMES, Range};
+use cb_frames::Range;
 use cb_times::NoMemory;
 use circular_buffer::HeapCircularBuffer;
 use std::alloc::Global;
@@ -28,14 +27,6 @@ pub struct SentWindow {
     trimmed: u32,
     /// Those of which some number is put and not trimmed. The ring's capacity is the window.
     frames: HeapCircularBuffer<Spanned>,
-}
-
-/// A frame, and the numbers of the first and of the last message in it.
-#[derive(Debug, Drop)]
-struct Spanned {
-    first: u32,
-    last: u32,
-    bytes: Bytes,
 }
 
 impl Model for SentWindow {
@@ -138,88 +129,6 @@ impl SentWindow {
         let numbers = u32::MAX - self.put;
         places.min(numbers)
     }
-}
-
-impl Spanned {
-    fn copy(&self) -> Result<Spanned, NoMemory>
-        ensures { IfOk result (λ copy. copy ≡ self.now) }
-    {
-        Ok(Spanned {
-            first: self.first,
-            last: self.last,
-            bytes: self.bytes.clone()?,
-        })
-    }
-}
-
-// A ring of the same frames, with as many places.
-fn copies(frames: &HeapCircularBuffer<Spanned>) -> Result<HeapCircularBuffer<Spanned>, NoMemory>
-    ensures { IfOk result (λ copies. copies ≡ frames.now) }
-{
-    let mut copies = HeapCircularBuffer::with_capacity(*frames.allocator(), frames.capacity())?;
-    for frame in frames {
-        copies.push_back(frame.copy()?);
-    }
-    Ok(copies)
-}
-
-// Frees the frames at the front that have no number above this one.
-fn free_up_to(frames: &mut HeapCircularBuffer<Spanned>, number: u32)
-    ensures { let freed = prefix_len (λ frame. nat_le frame.last number) frames.old.items in
-        frames.new ≡ buffer (drop freed frames.old.items) frames.old.capacity }
-{
-    let left = frames.len().saturating_sub(count_up_to(frames, number));
-    frames.truncate_front(left);
-}
-
-// How many these are.
-fn count_up_to(frames: &HeapCircularBuffer<Spanned>, number: u32) -> usize
-    ensures { result ≡ prefix_len (λ frame. nat_le frame.last number) frames.now.items }
-{
-    frames
-        .iter()
-        .take_while(|frame| frame.last <= number)
-        .count()
-}
-
-// Of the frames the first in some range.
-fn copies_in(
-    alloc: Global,
-    frames: &HeapCircularBuffer<Spanned>,
-    ranges: &[Range],
-) -> Result<Vec<Bytes>, NoMemory>
-    ensures { IfOk result (λ copies. copies.items ≡ first_in ranges.now frames.now.items) }
-{
-    let mut copies = Vec::new(alloc);
-    for frame in frames {
-        if copies.len() == MOST_FRAMES {
-            break;
-        }
-        copy_if_in_some(&mut copies, frame, ranges)?;
-    }
-    Ok(copies)
-}
-
-// The frame is copied where some range asks for one of its numbers.
-fn copy_if_in_some(
-    copies: &mut Vec<Bytes>,
-    frame: &Spanned,
-    ranges: &[Range],
-) -> Result<(), NoMemory>
-    ensures { let with_it = copies.old.items ++ frame.now.bytes ∷ [] in
-        OnOk result (copies.new.items
-        ≡ (if is_in_ranges ranges.now frame.now then with_it else copies.old.items)) }
-{
-    if is_in_some(ranges, frame) {
-        copies.push(frame.bytes.clone()?)?;
-    }
-    Ok(())
-}
-
-fn is_in_some(ranges: &[Range], frame: &Spanned) -> bool
-    ensures { result ≡ is_in_ranges ranges.now frame.now }
-{
-    ranges.iter().any(|range| frame.first.max(range.first) <= frame.last.min(range.last))
 }
 
 #[cfg(test)]

@@ -67,6 +67,31 @@ fn what_is_stable_rises_with_the_last_who_stood_at_the_least(rt: HostRuntime) {
 }
 
 #[test]
+fn a_time_tells_of_each_sender_as_if_it_were_learnt_alone(rt: HostRuntime) {
+    let mut acks = Acks::new(rt.alloc(), 3).expect(&rt, "memory");
+    let mut time = VectorTime::zero(rt.alloc(), 3).expect(&rt, "memory");
+    acks.learn(1, 0, 2);
+    acks.learn(2, 0, 1);
+    acks.learn(2, 1, 4);
+    time.set(0, 3);
+    time.set(1, 3);
+    time.set(2, 7);
+    acks.learn_time(2, &time);
+    let learnt = [acks.learnt(2, 0), acks.learnt(2, 1), acks.learnt(2, 2)];
+    let others = [acks.learnt(0, 1), acks.learnt(1, 0), acks.learnt(1, 2)];
+    let stable = [acks.stable(0), acks.stable(1), acks.stable(2)];
+    acks.learn_time(0, &time);
+    acks.learn_time(1, &time);
+    let behind_all = [acks.stable(0), acks.stable(1), acks.stable(2)];
+    drop(time);
+    drop(acks);
+    are(&rt, &learnt, &[3, 4, 7]);
+    are(&rt, &others, &[0, 2, 0]);
+    are(&rt, &stable, &[2, 0, 0]);
+    are(&rt, &behind_all, &[3, 3, 7]);
+}
+
+#[test]
 fn a_copy_goes_on_alike_and_what_one_learns_the_other_does_not(rt: HostRuntime) {
     let mut acks = Acks::new(rt.alloc(), 3).expect(&rt, "memory");
     acks.learn(1, 0, 2);

@@ -2,12 +2,9 @@
 ghost use Rattle.cb_times.specs.Group.{IsWindow};
 
 use super::*;
+use crate::fixtures::{are_of, frame_of, numbers_to_65, range};
 use std::process::Abort;
 use std::test::*;
-
-const fn range(first: u32, last: u32) -> Range {
-    Range { first, last }
-}
 
 // With this many frames put, each the four bytes of its number.
 fn window_with(rt: &impl Abort, alloc: Global, window: u32, count: u32) -> SentWindow
@@ -42,25 +39,12 @@ fn window_of_three(rt: &impl Abort, alloc: Global) -> SentWindow {
     sent
 }
 
-fn frame_of(rt: &impl Abort, alloc: Global, number: u32) -> Bytes {
-    Bytes::copy_from_slice(alloc, &number.to_be_bytes()).expect(rt, "memory")
-}
-
 // The frames given for these ranges are those of these numbers.
 fn gives(rt: &impl Abort, sent: &SentWindow, ranges: &[Range], numbers: &[u32]) {
     let frames = sent.frames_in(ranges).expect(rt, "memory");
     let are_these = are_of(&frames, numbers);
     drop(frames);
     assert!(rt; are_these, "they are not {numbers:?}");
-}
-
-fn are_of(frames: &[Bytes], numbers: &[u32]) -> bool {
-    frames.len() == numbers.len() && frames.iter().zip(numbers).all(is_of)
-}
-
-fn is_of(pair: (&Bytes, &u32)) -> bool {
-    let (frame, number) = pair;
-    frame.as_slice() == number.to_be_bytes().as_slice()
 }
 
 fn has_room(rt: &impl Abort, sent: &SentWindow, room: u32) {
@@ -104,15 +88,6 @@ fn of_65_frames_asked_for_the_first_64_are_given(rt: HostRuntime) {
     gives(&rt, &sent, &[range(2, 65)], &numbers);
     gives(&rt, &sent, &[range(66, 66)], &[66]);
     drop(sent);
-}
-
-/// 2 to 65.
-fn numbers_to_65() -> [u32; 64] {
-    let mut numbers = [0; 64];
-    for (number, at) in (2..).zip(numbers.iter_mut()) {
-        *at = number;
-    }
-    numbers
 }
 
 #[test]

@@ -1,5 +1,5 @@
 use Rattle.cb_stability.proofs.Found.{IsFoundSoFar}
-use Rattle.cb_stability.proofs.window.copies_in.Given as goal
+use Rattle.cb_stability.proofs.ring.copies_in.Given as goal
 
 abbrev pub invariant-loop-frame : goal.invariant-loop-frame
 invariant-loop-frame l = IsFoundSoFar l.ranges l.frames.items l.frame-iterator l.copies.items

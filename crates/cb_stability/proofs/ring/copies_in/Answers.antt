@@ -1,6 +1,6 @@
 use Rattle.std.proofs.Common.{◌≢◌, length, arith}
 use Rattle.cb_stability.proofs.Found.{found_more}
-use Rattle.cb_stability.proofs.window.copies_in.Goals as goal
+use Rattle.cb_stability.proofs.ring.copies_in.Goals as goal
 
 pub loop-frame-preserved : goal.loop-frame-preserved
 loop-frame-preserved c =

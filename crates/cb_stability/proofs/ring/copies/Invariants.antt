@@ -1,5 +1,5 @@
 use Rattle.std.proofs.Common.{◌≡◌, ◌++◌}
-use Rattle.cb_stability.proofs.window.copies.Given as goal
+use Rattle.cb_stability.proofs.ring.copies.Given as goal
 
 -- the copies so far, and the frames to come, are all of them
 abbrev pub invariant-loop-frame : goal.invariant-loop-frame

@@ -1,6 +1,6 @@
 use Rattle.std.proofs.Common.{refl}
 use Rattle.cb_stability.proofs.Windows.{keep_last-drop}
-use Rattle.cb_stability.proofs.window.free_up_to.Goals as goal
+use Rattle.cb_stability.proofs.ring.free_up_to.Goals as goal
 
 pub returns : goal.returns
 returns c =
