@@ -37,7 +37,7 @@ same_cast false false false true none least c e room h = h
 same_cast false false false false true least c e room h = absurd cc
 same_cast false false false false false least c e room h = rw (room refl) h
 
-abbrev an_arrival : Bool → Bool → Bool → Bool → Bool → Bool → Bool → Bool → ArrivalSays → ArrivalSays → Result ArrivalSays ArriveRefusal
+abbrev pub an_arrival : Bool → Bool → Bool → Bool → Bool → Bool → Bool → Bool → ArrivalSays → ArrivalSays → Result ArrivalSays ArriveRefusal
 an_arrival group members impossible repeat overlap far change none changed unchanged =
     cond (not group) (Err arrivals.OtherGroup) (cond (not members) (Err arrivals.BadMember) (cond impossible (Err arrivals.Impossible) (cond repeat (Ok Repeat) (cond overlap (Err arrivals.Overlap)
     (cond far (Err arrivals.TooFar) (cond (change && none) (Err arrivals.HistoryFull) (cond change (Ok changed) (Ok unchanged))))))))

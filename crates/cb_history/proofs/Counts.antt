@@ -4,7 +4,7 @@ use Rattle.std.specs.List.{AllByRecursion, flat_map}
 use Rattle.std.proofs.lemmas.List.{append-nil}
 use Rattle.cb_frames.specs.declared.frame.TheConstants.{LAST_NUMBER}
 use Rattle.cb_frames.specs.declared.frame.Change.{Change}
-use Rattle.cb_frames.specs.Fields.{payloads_of, CastFields, FrameFields, CastFrame, StatusFrame, RequestFrame, Carried, first_number, last_number}
+use Rattle.cb_frames.specs.Fields.{payloads_of, CastFields, FrameFields, CastFrame, StatusFrame, RequestFrame, HelpFrame, Carried, first_number, last_number}
 use Rattle.cb_frames.proofs.Carried.{carries_payloads, carries_few, carried_up_to_the_last, first_is_number, carried_is_of_cast}
 use Rattle.cb_frames.specs.Text.{pairs_from}
 use Rattle.cb_history.specs.Read.{frame_read}
@@ -171,6 +171,7 @@ written_numbers : (f : FrameFields) → CanBeWritten f → SaysNumbers f
 written_numbers (CastFrame c) can = (carries_few c can.0).last (omega (arith, can.2.1.1.0))
 written_numbers (StatusFrame s) can = values_small 0 s.values can.2.1.1.1
 written_numbers (RequestFrame r) can = tt
+written_numbers (HelpFrame h) can = tt
 
 pub read_numbers : (bytes : List ℕ) (f : FrameFields) → IsBytes bytes → frame_read bytes ≡ Ok f → SaysNumbers f
 read_numbers bytes f are read =

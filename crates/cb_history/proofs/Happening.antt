@@ -58,7 +58,7 @@ with_more seat facts f more are grown =
 
 -- ---- new events
 
-none_counted : (ms : List Carried) (k : ℕ) (m : Carried) → count ms k ≡ 0 → IsIn m ms → m.sender ≢ k
+pub none_counted : (ms : List Carried) (k : ℕ) (m : Carried) → count ms k ≡ 0 → IsIn m ms → m.sender ≢ k
 none_counted [] k m none there = absurd there
 none_counted (x ∷ ms) k m none there =
     elim (cases_eq x.sender k) [
@@ -75,7 +75,7 @@ others_deliver seat casts (m ∷ ms) other =
     rw (ne_eqb m.sender seat.me (other m (inl refl))) (ap (λ (es : List Event). Deliver (message_in seat.group.size casts m) ∷ es) (others_deliver seat casts ms (λ n later. other n (inr later))))
 
 -- no own message is among those that a cast of another delivers
-delivered_of_others : (seat : Identity) (facts : List Fact) (c : CastFields) (more : List Carried) → AreFactsOf seat (facts ++ CastReceived c ∷ []) → view seat.group.size (facts ++ CastReceived c ∷ []) ≡ view seat.group.size facts ++ more → count more seat.me ≡ 0
+pub delivered_of_others : (seat : Identity) (facts : List Fact) (c : CastFields) (more : List Carried) → AreFactsOf seat (facts ++ CastReceived c ∷ []) → view seat.group.size (facts ++ CastReceived c ∷ []) ≡ view seat.group.size facts ++ more → count more seat.me ≡ 0
 delivered_of_others seat facts c more are grown =
     let before = prefix_of_facts_is_legal seat facts (CastReceived c ∷ []) are in
     let s = all_stand seat facts before.member before.facts_are in

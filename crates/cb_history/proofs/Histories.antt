@@ -4,7 +4,7 @@ use Rattle.std.specs.List.{AllByRecursion}
 use Rattle.std.proofs.lemmas.Bool.{cond_both, eqb-true}
 use Rattle.std.proofs.lemmas.List.{append-nil, length-append}
 use Rattle.cb_frames.specs.declared.fault.FrameFault.{FrameFault}
-use Rattle.cb_frames.specs.Fields.{Load, CastFields, FrameFields, Carried, CastFrame, StatusFrame, RequestFrame}
+use Rattle.cb_frames.specs.Fields.{Load, CastFields, FrameFields, Carried, CastFrame, StatusFrame, RequestFrame, HelpFrame}
 use Rattle.cb_frames.specs.Text.{text_of}
 use Rattle.cb_history.specs.Read.{frame_read}
 use Rattle.cb_frames.specs.Laws.{IsBytes}
@@ -122,6 +122,7 @@ taken_says seat entries bytes e (StatusFrame s) are read t = record {
   step = t.taken (read_numbers bytes (StatusFrame s) are read);
 }
 taken_says seat entries bytes e (RequestFrame r) are read t = let none : false ≡ true = (t.taken tt).change in absurd cc
+taken_says seat entries bytes e (HelpFrame q) are read t = let none : false ≡ true = (t.taken tt).change in absurd cc
 
 arrival_added : (seat : Identity) (entries : List EntryFields) (bytes : List ℕ) (e : EntryFields) (r : Result FrameFields FrameFault) → IsBytes bytes → frame_read bytes ≡ r → arrive_entry bytes (answer_to seat (room_for_one entries) entries r) ≡ Some e → Added seat entries e
 arrival_added seat entries bytes e (Ok frame) are read h = taken_says seat entries bytes e frame are read (frame_taken seat entries bytes e frame h)
@@ -225,6 +226,7 @@ said_facts entries bytes names frame read =
     with_said facts (CastFrame c) = refl
     with_said facts (StatusFrame s) = refl
     with_said facts (RequestFrame r) = append-nil facts
+    with_said facts (HelpFrame h) = append-nil facts
 
 taken_names : (seat : Identity) (entries : List EntryFields) (bytes frame : List ℕ) (delivered : List Name) (f : FrameFields) → frame_read bytes ≡ Ok f → Taken seat entries bytes (ArriveEntry frame delivered) f
     → delivered ≡ map name_of (drop (length (view seat.group.size (facts_of entries))) (view seat.group.size (facts_of (entries ++ ArriveEntry frame delivered ∷ []))))

@@ -11,7 +11,7 @@ use Rattle.cb_frames.specs.Text.{text_of}
 use Rattle.cb_frames.proofs.Carried.{first_is_number, carried_up_to_the_last, carries_some, carried_is_of_cast, each_number_is_carried}
 use Rattle.cb_diffs.specs.Expansion.{CarrySome}
 use Rattle.cb_stability.specs.Ranges.{is_in, is_in_some, meets}
-use Rattle.cb_stability.specs.declared.window.Spanned.{Spanned}
+use Rattle.cb_stability.specs.declared.ring.Spanned.{Spanned}
 use Rattle.cb_stability.specs.Sent.{spanned, is_in_ranges, room_of}
 use Rattle.cb_stability.proofs.Found.{meets_a_number}
 use Rattle.cb_stability.proofs.Windows.{room_for}
@@ -38,7 +38,7 @@ use Rattle.cb_history.proofs.RisingByCasts.{own_cast_tells_nothing}
 le_then : (a b d : ℕ) → a ≤ b → b ≤ d → a ≤ d
 le_then a b d p q = omega (arith, p, q)
 
-least_at_most : (g : ℕ → ℕ) (ks : List ℕ) (k : ℕ) → IsIn k ks → least_of (map g ks) ≤ g k
+pub least_at_most : (g : ℕ → ℕ) (ks : List ℕ) (k : ℕ) → IsIn k ks → least_of (map g ks) ≤ g k
 least_at_most g [] k there = absurd there
 least_at_most g (j ∷ []) k (inl same) = subst (λ (i : ℕ). g j ≤ g i) (sym same) (omega arith)
 least_at_most g (j ∷ []) k (inr none) = absurd none
@@ -46,7 +46,7 @@ least_at_most g (j ∷ i ∷ ks) k (inl same) = subst (λ (x : ℕ). least_of (m
 least_at_most g (j ∷ i ∷ ks) k (inr later) = let rest = least_at_most g (i ∷ ks) k later in omega (arith, rest)
 
 -- what is at most each is at most the least
-at_most_least : (g : ℕ → ℕ) (ks : List ℕ) (n k : ℕ) → IsIn k ks → ((j : ℕ) → IsIn j ks → n ≤ g j) → n ≤ least_of (map g ks)
+pub at_most_least : (g : ℕ → ℕ) (ks : List ℕ) (n k : ℕ) → IsIn k ks → ((j : ℕ) → IsIn j ks → n ≤ g j) → n ≤ least_of (map g ks)
 at_most_least g [] n k there each = absurd there
 at_most_least g (j ∷ []) n k there each = each j (inl refl)
 at_most_least g (j ∷ i ∷ ks) n k there each =
@@ -54,8 +54,13 @@ at_most_least g (j ∷ i ∷ ks) n k there each =
     let rest = at_most_least g (i ∷ ks) n i (inl refl) (λ x later. each x (inr later)) in
     omega (arith, here, rest)
 
-abbrev others_of : Identity → List ℕ
-others_of seat = filter (λ k. not (eqb k seat.me)) (range_with_len 0 seat.group.size)
+pub same_over : (g h : ℕ → ℕ) (ks : List ℕ) → ((k : ℕ) → IsIn k ks → g k ≡ h k) → map g ks ≡ map h ks
+same_over g h [] same = refl
+same_over g h (k ∷ ks) same = ap (λ (n : ℕ). n ∷ map g ks) (same k (inl refl)) ∙ ap (λ (ns : List ℕ). h k ∷ ns) (same_over g h ks (λ j later. same j (inr later)))
+
+-- the members other than i
+abbrev pub others_of : ℕ → ℕ → List ℕ
+others_of size i = filter (λ k. not (eqb k i)) (range_with_len 0 size)
 
 pub in_range : (a n k : ℕ) → a ≤ k → k < a + n → IsIn k (range_with_len a n)
 in_range a zero k low high = absurd (omega (arith, low, high))
@@ -70,28 +75,28 @@ range_in a zero k there = absurd there
 range_in a (suc n) k (inl same) = omega (arith, same)
 range_in a (suc n) k (inr later) = let rest = range_in (a + 1) n k later in omega (arith, rest)
 
-unequal : (k me : ℕ) → not (eqb k me) ≡ true → k ≢ me
-unequal k me h e = let yes = eq-eqb k me e in let no : not true ≡ true = ap not (sym yes) ∙ h in cc
+unequal : (k i : ℕ) → not (eqb k i) ≡ true → k ≢ i
+unequal k i h e = let yes = eq-eqb k i e in let no : not true ≡ true = ap not (sym yes) ∙ h in cc
 
-other_in : (seat : Identity) (k : ℕ) → k < seat.group.size → k ≢ seat.me → IsIn k (others_of seat)
-other_in seat k lt ne = in_filter (λ j. not (eqb j seat.me)) (range_with_len 0 seat.group.size) k (rw (ne_eqb k seat.me ne) refl) (in_range 0 seat.group.size k (omega arith) (omega (arith, lt)))
+pub other_in : (size i k : ℕ) → k < size → k ≢ i → IsIn k (others_of size i)
+other_in size i k lt ne = in_filter (λ j. not (eqb j i)) (range_with_len 0 size) k (rw (ne_eqb k i ne) refl) (in_range 0 size k (omega arith) (omega (arith, lt)))
 
-other_is : (seat : Identity) (k : ℕ) → IsIn k (others_of seat) → (k < seat.group.size) × (k ≢ seat.me)
-other_is seat k there =
-    let found = filter_in (λ j. not (eqb j seat.me)) (range_with_len 0 seat.group.size) k there in
-    let small = range_in 0 seat.group.size k found.1 in
-    (omega (arith, small), unequal k seat.me found.0)
+pub other_is : (size i k : ℕ) → IsIn k (others_of size i) → (k < size) × (k ≢ i)
+other_is size i k there =
+    let found = filter_in (λ j. not (eqb j i)) (range_with_len 0 size) k there in
+    let small = range_in 0 size k found.1 in
+    (omega (arith, small), unequal k i found.0)
 
 pub least_known_is_stable : LeastKnownIsStable
 least_known_is_stable seat facts known n knows is_stable reached =
     let k = reached.0 in
     let small : k < seat.group.size = subst (λ (s : ℕ). k < s) knows.of_size reached.1 in
-    let at : n ≡ acknowledged seat facts k = reached.3 ∙ knows.learnt k small reached.2 in
-    let there = other_in seat k small reached.2 in
-    let low = least_at_most (acknowledged seat facts) (others_of seat) k there in
-    let high = at_most_least (acknowledged seat facts) (others_of seat) n k there (λ j other.
-    let is = other_is seat j other in
-    subst (λ (m : ℕ). n ≤ m) (knows.learnt j is.0 is.1) (is_stable j (subst (λ (s : ℕ). j < s) (sym knows.of_size) is.0) is.1)) in
+    let at : n ≡ acknowledged seat facts k = reached.3 ∙ knows.learnt k seat.me small knows.member reached.2 in
+    let there = other_in seat.group.size seat.me k small reached.2 in
+    let low = least_at_most (acknowledged seat facts) (others_of seat.group.size seat.me) k there in
+    let high = at_most_least (acknowledged seat facts) (others_of seat.group.size seat.me) n k there (λ j other.
+    let is = other_is seat.group.size seat.me j other in
+    subst (λ (m : ℕ). n ≤ m) (knows.learnt j seat.me is.0 knows.member is.1) (is_stable j (subst (λ (s : ℕ). j < s) (sym knows.of_size) is.0) is.1)) in
     omega (arith, low, high, at)
 
 -- ---- the own casts above a number
@@ -215,11 +220,9 @@ frames_in_are_sent_in_answer seat facts sent r are keeps asked =
 -- ---- one more own cast
 
 others_same : (seat : Identity) (facts : List Fact) (c : CastFields) → AreFactsOf seat (facts ++ OwnCast c ∷ []) → stable seat (facts ++ OwnCast c ∷ []) ≡ stable seat facts
-others_same seat facts c are = ap least_of (same_over (others_of seat) (λ k there. let is = other_is seat k there in (own_cast_tells_nothing seat facts c k are is.0 is.1).1))
-  where
-    same_over : (ks : List ℕ) → ((k : ℕ) → IsIn k ks → acknowledged seat (facts ++ OwnCast c ∷ []) k ≡ acknowledged seat facts k) → map (acknowledged seat (facts ++ OwnCast c ∷ [])) ks ≡ map (acknowledged seat facts) ks
-    same_over [] same = refl
-    same_over (k ∷ ks) same = ap (λ (n : ℕ). n ∷ map (acknowledged seat (facts ++ OwnCast c ∷ [])) ks) (same k (inl refl)) ∙ ap (λ (ns : List ℕ). acknowledged seat facts k ∷ ns) (same_over ks (λ j later. same j (inr later)))
+others_same seat facts c are =
+    ap least_of (same_over (acknowledged seat (facts ++ OwnCast c ∷ [])) (acknowledged seat facts) (others_of seat.group.size seat.me)
+    (λ k there. let is = other_is seat.group.size seat.me k there in (own_cast_tells_nothing seat facts c k are is.0 is.1).1))
 
 pub put_is_own_cast : PutIsOwnCast
 put_is_own_cast seat facts c sent after are keeps puts =

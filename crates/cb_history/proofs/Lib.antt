@@ -13,6 +13,7 @@ pub mod Limits
 pub mod Written
 pub mod Histories
 pub mod Calls
+pub mod Before
 pub mod Growth
 pub mod Times
 pub mod Acknowledged
@@ -29,6 +30,7 @@ pub mod Queueing
 pub mod Runs
 pub mod Singles
 pub mod Keeping
+pub mod EverySender
 pub mod Buffers
 pub mod Statuses
 pub mod OwnFrames

@@ -9,9 +9,9 @@ use Rattle.cb_varint.proofs.Spelled.{spelled}
 use Rattle.cb_frames.specs.declared.frame.TheConstants.{LONGEST_PAYLOAD}
 use Rattle.cb_frames.specs.declared.fault.FrameFault.{FrameFault}
 use Rattle.cb_frames.specs.Fields.{Load, One, Many, CastFields, StatusFields, FrameFields, CastFrame, StatusFrame, first_number}
-use Rattle.cb_frames.specs.Text.{cast_kind, burst_kind, status_kind, request_kind, pairs_from, cast_numbers, status_numbers, with_load, payload_text, load_text, text_of}
+use Rattle.cb_frames.specs.Text.{cast_kind, burst_kind, status_kind, request_kind, help_kind, pairs_from, cast_numbers, status_numbers, with_load, payload_text, load_text, text_of}
 use Rattle.cb_frames.specs.Fault.{any_number, member_rule, message_rule, messages_rule, length_rule, Pairs, change_pairs, value_pairs}
-use Rattle.cb_frames.specs.Reading.{number_at, unless, field_at, pair_at, pairs_at, run_at, end_at, payload_at, next_payload_at, payloads_at, CastHead, carrying, head_at, cast_at, burst_at, status_at, request_at, frame_at}
+use Rattle.cb_frames.specs.Reading.{number_at, unless, field_at, pair_at, pairs_at, run_at, end_at, payload_at, next_payload_at, payloads_at, CastHead, carrying, head_at, cast_at, burst_at, status_at, request_at, help_at, frame_at}
 use Rattle.cb_frames.specs.Laws.{CanBeWritten}
 use Rattle.cb_frames.proofs.Carried.{first_is_number}
 use Rattle.cb_frames.proofs.SaidPairs.{keeps_member, keeps_message, keeps_messages, keeps_length, message_kept, messages_kept, length_kept, Said, Says, says_changes, says_values}
@@ -303,7 +303,9 @@ frame_says (kind ∷ bytes) c =
     (λ _. bind_cases (status_at bytes) _ P (λ s e h. absurd cc) (λ f e h. absurd cc))
     (λ _. cond_both (eqb kind request_kind) _ _ P
     (λ _. bind_cases (request_at bytes) _ P (λ q e h. absurd cc) (λ f e h. absurd cc))
-    (λ _ h. absurd cc))))
+    (λ _. cond_both (eqb kind help_kind) _ _ P
+    (λ _. bind_cases (help_at bytes) _ P (λ q e h. absurd cc) (λ f e h. absurd cc))
+    (λ _ h. absurd cc)))))
 
 pub frame_numbered : (bytes : List ℕ) (c : CastFields) → frame_read bytes ≡ Ok (CastFrame c) → 1 ≤ first_number c
 frame_numbered bytes c read = (frame_says bytes c read).numbered

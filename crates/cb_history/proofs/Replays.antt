@@ -7,7 +7,7 @@ use Rattle.cb_varint.specs.Reading.{spelling}
 use Rattle.cb_varint.proofs.Spelled.{spelled}
 use Rattle.cb_frames.specs.declared.frame.TheConstants.{LONGEST_PAYLOAD}
 use Rattle.cb_frames.specs.declared.fault.FrameFault.{FrameFault}
-use Rattle.cb_frames.specs.Fields.{Load, One, Many, load_bytes, CastFields, StatusFields, FrameFields, CastFrame, StatusFrame, RequestFrame}
+use Rattle.cb_frames.specs.Fields.{Load, One, Many, load_bytes, CastFields, StatusFields, FrameFields, CastFrame, StatusFrame, RequestFrame, HelpFrame}
 use Rattle.cb_frames.specs.Text.{kind_of, status_kind, cast_numbers, status_numbers, with_load, payload_text, load_text, KeepsLoadRules, IsLoad, text_of}
 use Rattle.cb_history.specs.Read.{frame_read}
 use Rattle.cb_frames.specs.Laws.{IsBytes, CanBeWritten}
@@ -167,6 +167,7 @@ said_is_bytes : (frame : List ℕ) (r : Result FrameFields FrameFault) → IsByt
 said_is_bytes frame (Ok (CastFrame c)) bytes read = load_is_bytes frame c bytes read
 said_is_bytes frame (Ok (StatusFrame s)) bytes read = no_bytes
 said_is_bytes frame (Ok (RequestFrame r)) bytes read = no_bytes
+said_is_bytes frame (Ok (HelpFrame h)) bytes read = no_bytes
 said_is_bytes frame (Err fault) bytes read = no_bytes
 
 pub entries_of_bytes_tell_bytes : EntriesOfBytesTellBytes

@@ -171,7 +171,7 @@ own_status_tells_nothing seat facts s k =
 
 -- ---- what is stable
 
-least_rises : (g h : ℕ → ℕ) (ks : List ℕ) → ((k : ℕ) → g k ≤ h k) → least_of (map g ks) ≤ least_of (map h ks)
+pub least_rises : (g h : ℕ → ℕ) (ks : List ℕ) → ((k : ℕ) → g k ≤ h k) → least_of (map g ks) ≤ least_of (map h ks)
 least_rises g h [] le = omega arith
 least_rises g h (k ∷ []) le = le k
 least_rises g h (k ∷ i ∷ ks) le =

@@ -112,9 +112,9 @@ counted_append casts seen later k i =
     ap (λ (ms : List Carried). greatest_of (map time ms)) (filter-append own seen later) ∙ ap greatest_of (map-append time (filter own seen) (filter own later))
     ∙ greatest_append (map time (filter own seen)) (map time (filter own later))
 
-acknowledged_by : (seat : Identity) (facts : List Fact) (c : CastFields) (later : List Carried) (k i : ℕ) → IsNew (casts_in facts) c → StandsAt seat facts
+counted_with_one_more : (seat : Identity) (facts : List Fact) (c : CastFields) (later : List Carried) (k i : ℕ) → IsNew (casts_in facts) c → StandsAt seat facts
     → counted_at (casts_in facts ++ c ∷ []) (view seat.group.size facts ++ later) k i ≡ max (counted_at (casts_in facts) (view seat.group.size facts) k i) (greatest_of (counted_by (casts_in facts ++ c ∷ []) later k i))
-acknowledged_by seat facts c later k i new s =
+counted_with_one_more seat facts c later k i new s =
     counted_append (casts_in facts ++ c ∷ []) (view seat.group.size facts) later k i
     ∙ ap (λ (ns : List ℕ). max (greatest_of ns) (greatest_of (counted_by (casts_in facts ++ c ∷ []) later k i)))
     (counted_same (casts_in facts) c (view seat.group.size facts) k i new (λ m there. seen_is_expanded seat (casts_in facts) (view seat.group.size facts) (own_casts facts) m s there))
@@ -128,7 +128,7 @@ cast_is_acknowledged_of seat facts c k i later are grown =
     let more = acknowledged_more seat facts (CastReceived c) k i in
     let parts = acknowledged_parts seat facts k i in
     let seen : counted_at (casts_in facts ++ c ∷ []) (view seat.group.size (facts ++ CastReceived c ∷ [])) k i ≡ counted_at (casts_in facts ++ c ∷ []) (view seat.group.size facts ++ later) k i = ap (λ (ms : List Carried). counted_at (casts_in facts ++ c ∷ []) ms k i) grown in
-    let counted = acknowledged_by seat facts c later k i (is_new seat facts (CastReceived c) c s refl) (all_stand seat facts before.member before.facts_are) in
+    let counted = counted_with_one_more seat facts c later k i (is_new seat facts (CastReceived c) c s refl) (all_stand seat facts before.member before.facts_are) in
     omega (arith, more, parts, seen, counted)
 
 -- ---- and of this member's casts
@@ -215,7 +215,7 @@ own_cast_acknowledges_nothing seat facts c k i are other =
     let more = acknowledged_more seat facts (OwnCast c) k i in
     let parts = acknowledged_parts seat facts k i in
     let seen : counted_at (casts_in facts ++ c ∷ []) (view seat.group.size (facts ++ OwnCast c ∷ [])) k i ≡ counted_at (casts_in facts ++ c ∷ []) (view seat.group.size facts ++ messages_of c) k i = ap (λ (ms : List Carried). counted_at (casts_in facts ++ c ∷ []) ms k i) (view_own seat.group.size facts c) in
-    let counted = acknowledged_by seat facts c (messages_of c) k i (is_new seat facts (OwnCast c) c s refl) (all_stand seat facts before.member before.facts_are) in
+    let counted = counted_with_one_more seat facts c (messages_of c) k i (is_new seat facts (OwnCast c) c s refl) (all_stand seat facts before.member before.facts_are) in
     let none : greatest_of (counted_by (casts_in facts ++ c ∷ []) (messages_of c) k i) ≡ 0 =
     ap greatest_of (none_counted_by (casts_in facts ++ c ∷ []) c.sender (first_number c) k i (messages_of c) (carried_in_order c) (λ e. other (sym e ∙ own))) in
     omega (arith, more, parts, seen, counted, none)

@@ -4,7 +4,7 @@ use Rattle.cb_varint.specs.Reading.{number_at, spelling}
 use Rattle.cb_frames.specs.declared.fault.FrameFault.TheVariants as faults
 use Rattle.cb_frames.specs.Fields.{Load, One, Many, CastFields, CastFrame, messages_of, first_number, last_number}
 use Rattle.cb_frames.specs.Text.{text_of}
-use Rattle.cb_frames.specs.Reading.{frame_at, head_at, cast_at, burst_at, payloads_at, next_payload_at, status_at, request_at, pairs_at, pair_at}
+use Rattle.cb_frames.specs.Reading.{frame_at, head_at, cast_at, burst_at, payloads_at, next_payload_at, status_at, request_at, help_at, pairs_at, pair_at}
 use Rattle.cb_delay.specs.declared.message.Message.{Message}
 use Rattle.cb_history.specs.CastFault.{CastFault, EmptyBurst, BurstTooLong, PayloadTooLong, WindowFull, HistoryFull}
 use Rattle.cb_history.specs.declared.answer.ArriveRefusal.TheVariants as arrivals
@@ -13,8 +13,9 @@ use Rattle.cb_diffs.specs.Expansion.{expanded_time}
 use Rattle.cb_history.specs.Group.{Identity, AreParameters}
 use Rattle.cb_history.specs.Facts.{EntryFields, facts_of, casts_in}
 use Rattle.cb_history.specs.View.{view, drained, time_of, expanded_in, message_in}
-use Rattle.cb_history.specs.Known.{missing, ranges_of, acknowledged_of, acknowledged, stable}
+use Rattle.cb_history.specs.Known.{missing, ranges_of, acknowledged_of, stable_of, acknowledged, stable}
 use Rattle.cb_history.specs.Answers.{is_too_many, next_cast, cast_answer, burst_done, arrive_answer, tick_answer, window, Accepted, Repeat}
+use Rattle.cb_history.specs.BeforeHelpers.{arrive_answer_before}
 use Rattle.cb_history.specs.Singles.{singles_from}
 use Rattle.cb_history.specs.Legal.{Call, ToCast, ToTake, ToTick, history_after}
 
@@ -376,6 +377,28 @@ nor_is_one_cut_short : arrive_answer (at 1) 100 [] (33 ∷ []) ≡ Err (arrivals
 unfolding cast_answer arrive_answer tick_answer view drained frame_at head_at cast_at burst_at payloads_at next_payload_at status_at request_at pairs_at pair_at number_at text_of spelling messages_of first_number last_number
 nor_is_one_cut_short = refl
 
+-- ---- help frames, of member 1
+
+nobody_helps_itself : arrive_answer (at 1) 100 [] (35 ∷ 7 ∷ 1 ∷ 1 ∷ 0 ∷ 1 ∷ 0 ∷ 0 ∷ []) ≡ Err arrivals.Impossible
+unfolding cast_answer arrive_answer tick_answer view drained frame_at head_at cast_at status_at request_at help_at pairs_at pair_at number_at text_of spelling messages_of first_number last_number
+nobody_helps_itself = refl
+
+nobody_asks_for_its_own_casts : arrive_answer (at 1) 100 [] (35 ∷ 7 ∷ 2 ∷ 1 ∷ 2 ∷ 1 ∷ 0 ∷ 0 ∷ []) ≡ Err arrivals.Impossible
+unfolding cast_answer arrive_answer tick_answer view drained frame_at head_at cast_at status_at request_at help_at pairs_at pair_at number_at text_of spelling messages_of first_number last_number
+nobody_asks_for_its_own_casts = refl
+
+the_sender_is_no_helper : arrive_answer (at 1) 100 [] (35 ∷ 7 ∷ 2 ∷ 1 ∷ 1 ∷ 1 ∷ 0 ∷ 0 ∷ []) ≡ Err arrivals.Impossible
+unfolding cast_answer arrive_answer tick_answer view drained frame_at head_at cast_at status_at request_at help_at pairs_at pair_at number_at text_of spelling messages_of first_number last_number
+the_sender_is_no_helper = refl
+
+each_of_the_three_is_a_member : arrive_answer (at 1) 100 [] (35 ∷ 7 ∷ 2 ∷ 1 ∷ 3 ∷ 1 ∷ 0 ∷ 0 ∷ []) ≡ Err arrivals.BadMember
+unfolding cast_answer arrive_answer tick_answer view drained frame_at head_at cast_at status_at request_at help_at pairs_at pair_at number_at text_of spelling messages_of first_number last_number
+each_of_the_three_is_a_member = refl
+
+another_member_answers_nothing : arrive_answer (at 0) 100 (after (at 0) (ToCast (One (104 ∷ 105 ∷ [])) ∷ [])) (35 ∷ 7 ∷ 2 ∷ 1 ∷ 0 ∷ 1 ∷ 0 ∷ 0 ∷ []) ≡ Ok (Accepted [] false [])
+unfolding cast_answer arrive_answer tick_answer view drained frame_at head_at cast_at status_at request_at help_at pairs_at pair_at number_at text_of spelling messages_of first_number last_number
+another_member_answers_nothing = refl
+
 -- two forged casts that say more of member 0 than there can be
 a_forged_cast_is_kept : arrive_answer (at 2) 100 [] (17 ∷ 7 ∷ 1 ∷ 1 ∷ 1 ∷ 0 ∷ 255 ∷ 255 ∷ 255 ∷ 255 ∷ 15 ∷ 0 ∷ []) ≡ Ok (Accepted [] true [])
 unfolding cast_answer arrive_answer tick_answer view drained frame_at head_at cast_at status_at request_at pairs_at pair_at number_at text_of spelling messages_of first_number last_number
@@ -438,6 +461,55 @@ a_status_acknowledges_the_others_casts = refl
 a_lower_status_takes_nothing_back : acknowledged_of (at 0) (facts_of (after (at 0) (ToTake (18 ∷ 7 ∷ 1 ∷ 1 ∷ 2 ∷ 3 ∷ []) ∷ ToTake (18 ∷ 7 ∷ 1 ∷ 2 ∷ 1 ∷ 1 ∷ 0 ∷ 2 ∷ []) ∷ []))) 1 2 ≡ 3
 unfolding cast_answer arrive_answer tick_answer view drained frame_at head_at cast_at status_at request_at pairs_at pair_at number_at text_of spelling messages_of first_number last_number
 a_lower_status_takes_nothing_back = refl
+
+-- so it knows that all of member 1's are delivered by both others, and not of member 2's
+the_others_casts_are_stable_when_both_others_delivered_them : stable_of (at 0) (facts_of (after (at 0) (ToCast (One (104 ∷ 105 ∷ [])) ∷ ToTake after_both ∷ ToTake ok ∷ ToTake yo ∷ []))) 1 ≡ 2
+unfolding cast_answer arrive_answer tick_answer view drained frame_at head_at cast_at status_at request_at pairs_at pair_at number_at text_of spelling messages_of first_number last_number
+the_others_casts_are_stable_when_both_others_delivered_them = refl
+
+and_not_before : stable_of (at 0) (facts_of (after (at 0) (ToCast (One (104 ∷ 105 ∷ [])) ∷ ToTake after_both ∷ ToTake ok ∷ ToTake yo ∷ []))) 2 ≡ 0
+unfolding cast_answer arrive_answer tick_answer view drained frame_at head_at cast_at status_at request_at pairs_at pair_at number_at text_of spelling messages_of first_number last_number
+and_not_before = refl
+
+-- "a" and "b" of member 0 at member 1, and what member 2 says of them
+abbrev letter_a : List ℕ
+letter_a = 17 ∷ 7 ∷ 0 ∷ 1 ∷ 0 ∷ 1 ∷ 97 ∷ []
+
+abbrev letter_b : List ℕ
+letter_b = 17 ∷ 7 ∷ 0 ∷ 2 ∷ 0 ∷ 1 ∷ 98 ∷ []
+
+abbrev both_from : ℕ → List ℕ
+both_from k = 18 ∷ 7 ∷ k ∷ 1 ∷ 0 ∷ 2 ∷ []
+
+what_one_alone_delivered_is_not_stable : stable_of (at 1) (facts_of (after (at 1) (ToTake letter_a ∷ ToTake letter_b ∷ []))) 0 ≡ 0
+unfolding cast_answer arrive_answer tick_answer view drained frame_at head_at cast_at status_at request_at pairs_at pair_at number_at text_of spelling messages_of first_number last_number
+what_one_alone_delivered_is_not_stable = refl
+
+what_all_others_delivered_is : stable_of (at 1) (facts_of (after (at 1) (ToTake letter_a ∷ ToTake letter_b ∷ ToTake (both_from 2) ∷ []))) 0 ≡ 2
+unfolding cast_answer arrive_answer tick_answer view drained frame_at head_at cast_at status_at request_at pairs_at pair_at number_at text_of spelling messages_of first_number last_number
+what_all_others_delivered_is = refl
+
+the_member_itself_is_one_of_them : stable_of (at 1) (facts_of (after (at 1) (ToTake letter_a ∷ ToTake (both_from 2) ∷ []))) 0 ≡ 1
+unfolding cast_answer arrive_answer tick_answer view drained frame_at head_at cast_at status_at request_at pairs_at pair_at number_at text_of spelling messages_of first_number last_number
+the_member_itself_is_one_of_them = refl
+
+-- member 2 has both letters, and learns only that member 1 has them too
+deliveries_of_the_others_casts_are_news : arrive_answer (at 2) 100 (after (at 2) (ToTake letter_a ∷ ToTake letter_b ∷ [])) (both_from 1) ≡ Ok (Accepted [] true [])
+unfolding cast_answer arrive_answer tick_answer view drained frame_at head_at cast_at status_at request_at pairs_at pair_at number_at text_of spelling messages_of first_number last_number
+deliveries_of_the_others_casts_are_news = refl
+
+but_not_twice : arrive_answer (at 2) 100 (after (at 2) (ToTake letter_a ∷ ToTake letter_b ∷ ToTake (both_from 1) ∷ [])) (both_from 1) ≡ Ok (Accepted [] false [])
+unfolding cast_answer arrive_answer tick_answer view drained frame_at head_at cast_at status_at request_at pairs_at pair_at number_at text_of spelling messages_of first_number last_number
+but_not_twice = refl
+
+before_helpers_they_were_none : arrive_answer_before (at 2) 100 (after (at 2) (ToTake letter_a ∷ ToTake letter_b ∷ [])) (both_from 1) ≡ Ok (Accepted [] false [])
+unfolding cast_answer arrive_answer arrive_answer_before tick_answer view drained frame_at head_at cast_at status_at request_at pairs_at pair_at number_at text_of spelling messages_of first_number last_number
+before_helpers_they_were_none = refl
+
+-- the second cast of member 1 came first, so that its status says nothing new of its casts
+what_a_sender_says_of_its_own_casts_is_no_delivery : arrive_answer (at 0) 100 (after (at 0) (ToTake ok ∷ [])) (18 ∷ 7 ∷ 1 ∷ 1 ∷ 1 ∷ 2 ∷ []) ≡ Ok (Accepted [] false [])
+unfolding cast_answer arrive_answer tick_answer view drained frame_at head_at cast_at status_at request_at pairs_at pair_at number_at text_of spelling messages_of first_number last_number
+what_a_sender_says_of_its_own_casts_is_no_delivery = refl
 
 -- payloads of the greatest length, and of one byte more, where the window is full too
 the_longest_payload_is_cast : bytes_of (cast_answer (at 0) 100 [] (One (replicate 1024 120))) ≡ Some (17 ∷ 7 ∷ 0 ∷ 1 ∷ 0 ∷ 128 ∷ 8 ∷ replicate 1024 120)

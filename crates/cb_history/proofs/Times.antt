@@ -172,7 +172,7 @@ begin_before : (facts : List Fact) (f : Fact) (number : ℕ) → IsNotOwn f → 
 begin_before facts f number other upto d there = upto d (subst (IsIn d) (sym (own_casts-other facts f other)) there)
 
 -- an own cast leaves the counts of the others
-own_cast_counts : (seat : Identity) (facts : List Fact) (c : CastFields) (k : ℕ) → c.sender ≡ seat.me → k ≢ seat.me → count (view seat.group.size (facts ++ OwnCast c ∷ [])) k ≡ count (view seat.group.size facts) k
+pub own_cast_counts : (seat : Identity) (facts : List Fact) (c : CastFields) (k : ℕ) → c.sender ≡ seat.me → k ≢ seat.me → count (view seat.group.size (facts ++ OwnCast c ∷ [])) k ≡ count (view seat.group.size facts) k
 own_cast_counts seat facts c k sender other = ap (λ (ms : List Carried). count ms k) (view_own seat.group.size facts c) ∙ count_of_others (view seat.group.size facts) c k (λ e. other (sym e ∙ sender))
 
 pub time_at : (size : ℕ) (facts : List Fact) (k : ℕ) → k < size → field (time_of size facts) k ≡ count (view size facts) k

@@ -4,7 +4,7 @@ use Rattle.std.specs.List.{list_any, list_all, range_with_len, flat_map}
 use Rattle.cb_frames.specs.declared.frame.TheConstants.{LONGEST_PAYLOAD, MOST_FRAMES, MOST_MESSAGES, MOST_RANGES, LAST_NUMBER}
 use Rattle.cb_frames.specs.declared.frame.Range.{Range}
 use Rattle.cb_frames.specs.declared.fault.FrameFault.{FrameFault}
-use Rattle.cb_frames.specs.Fields.{Load, payloads_of, load_bytes, CastFields, StatusFields, FrameFields, CastFrame, StatusFrame, RequestFrame, messages_of, first_number, last_number}
+use Rattle.cb_frames.specs.Fields.{Load, payloads_of, load_bytes, CastFields, StatusFields, FrameFields, CastFrame, StatusFrame, RequestFrame, HelpFrame, messages_of, first_number, last_number}
 use Rattle.cb_frames.specs.Text.{text_of}
 use Rattle.cb_history.specs.Read.{frame_read}
 use Rattle.cb_delay.specs.declared.message.Message.{Message}
@@ -22,7 +22,7 @@ use Rattle.cb_history.specs.CastFault.{CastFault, EmptyBurst, BurstTooLong, Payl
 use Rattle.cb_history.specs.Group.{Identity}
 use Rattle.cb_history.specs.Facts.{EntryFields, Fact, OwnCast, CastReceived, StatusReceived, OwnStatus, facts_of, casts_in, is_there}
 use Rattle.cb_history.specs.View.{count, view, counts, time_of, message_in}
-use Rattle.cb_history.specs.Known.{value_in, known, missing, ranges_of, acknowledged, stable}
+use Rattle.cb_history.specs.Known.{value_in, known, missing, ranges_of, acknowledged_of, stable}
 
 -- how many messages of member k the member has delivered, its own casts included
 abbrev pub delivered : Identity → List Fact → ℕ → ℕ
@@ -98,57 +98,66 @@ abbrev pub are_members : ℕ → FrameFields → Bool
 are_members size (CastFrame c) = nat_lt c.sender size && list_all (λ d. nat_lt d.field size) c.changes
 are_members size (StatusFrame s) = nat_lt s.sender size && list_all (λ d. nat_lt d.field size) s.values
 are_members size (RequestFrame r) = nat_lt r.requester size && nat_lt r.asked size
+are_members size (HelpFrame h) = nat_lt h.requester size && nat_lt h.helper size && nat_lt h.sender size
 
 abbrev pub group_of : FrameFields → ℕ
 group_of (CastFrame c) = c.group
 group_of (StatusFrame s) = s.group
 group_of (RequestFrame r) = r.group
+group_of (HelpFrame h) = h.group
 
 -- The frame says of this member what it never did: a cast that it did not make, a time of its own that it has not reached, or more
--- deliveries of its casts than it made. Or the asked member asks itself.
+-- deliveries of its casts than it made. Or the asked member asks itself, or a help frame names one member twice.
 abbrev pub is_impossible : Identity → List Fact → FrameFields → Bool
 is_impossible seat facts (CastFrame c) = c.sender == seat.me && nat_lt (delivered seat facts seat.me) (last_number c)
 is_impossible seat facts (StatusFrame s) =
     if s.sender == seat.me then list_any (λ d. nat_lt (delivered seat facts d.field) d.amount) s.values else
     nat_lt (delivered seat facts seat.me) (value_in s.values seat.me)
 is_impossible seat facts (RequestFrame r) = r.requester == r.asked
+is_impossible seat facts (HelpFrame h) = h.requester == h.helper || h.requester == h.sender || h.helper == h.sender
 
 -- a cast all of whose messages are there: own ones, expanded ones, kept ones
 abbrev pub is_repeat : List Fact → FrameFields → Bool
 is_repeat facts (CastFrame c) = list_all (λ m. is_there (casts_in facts) m.sender m.number) (messages_of c)
 is_repeat facts (StatusFrame s) = false
 is_repeat facts (RequestFrame r) = false
+is_repeat facts (HelpFrame h) = false
 
 -- a cast some message of which is there; no repeat, it has others that are not
 abbrev pub is_overlap : List Fact → FrameFields → Bool
 is_overlap facts (CastFrame c) = list_any (λ m. is_there (casts_in facts) m.sender m.number) (messages_of c)
 is_overlap facts (StatusFrame s) = false
 is_overlap facts (RequestFrame r) = false
+is_overlap facts (HelpFrame h) = false
 
 -- beyond the window above what is delivered
 abbrev pub is_too_far : Identity → List Fact → FrameFields → Bool
 is_too_far seat facts (CastFrame c) = nat_lt (delivered seat facts c.sender + seat.group.window) (last_number c)
 is_too_far seat facts (StatusFrame s) = false
 is_too_far seat facts (RequestFrame r) = false
+is_too_far seat facts (HelpFrame h) = false
 
--- a status of another that raises what is known of some other sender's casts, or of the deliveries of this member's
+-- a status of another that raises what is known of the casts of some other than this member, or what is known that its own sender
+-- has delivered of some other's casts
 abbrev pub is_news : Identity → List Fact → StatusFields → Bool
 is_news seat facts s =
     not (s.sender == seat.me)
     && (list_any (λ k. not (k == seat.me) && nat_lt (known facts k) (value_in s.values k)) (range_with_len 0 seat.group.size)
-    || nat_lt (acknowledged seat facts s.sender) (value_in s.values seat.me))
+    || list_any (λ i. not (i == s.sender) && nat_lt (acknowledged_of seat facts s.sender i) (value_in s.values i)) (range_with_len 0 seat.group.size))
 
 -- the frame, which is neither refused so far nor a repeat, would change the state
 abbrev pub is_change : Identity → List Fact → FrameFields → Bool
 is_change seat facts (CastFrame c) = true
 is_change seat facts (StatusFrame s) = is_news seat facts s
 is_change seat facts (RequestFrame r) = false
+is_change seat facts (HelpFrame h) = false
 
 -- the facts with this frame
 abbrev pub with_frame : List Fact → FrameFields → List Fact
 with_frame facts (CastFrame c) = facts ++ CastReceived c ∷ []
 with_frame facts (StatusFrame s) = facts ++ StatusReceived s ∷ []
 with_frame facts (RequestFrame r) = facts
+with_frame facts (HelpFrame h) = facts
 
 -- the messages that are delivered by it
 abbrev pub deliveries : Identity → List Fact → FrameFields → List Message
@@ -171,7 +180,7 @@ window seat facts = filter (λ c. nat_lt (stable seat facts) (last_number c)) (o
 abbrev pub is_asked_for : List Range → CastFields → Bool
 is_asked_for ranges c = list_any (λ m. list_any (λ r. nat_le r.first m.number && nat_le m.number r.last) ranges) (messages_of c)
 
--- what is sent in answer: to a request at the asked member the first frames of the window that it asks for
+-- what is sent in answer: to a request at the asked member the first frames of the window that it asks for, to others nothing
 abbrev pub sent_in_answer : Identity → List Fact → FrameFields → List Outgoing
 sent_in_answer seat facts (CastFrame c) = []
 sent_in_answer seat facts (StatusFrame s) = []
@@ -179,6 +188,7 @@ sent_in_answer seat facts (RequestFrame r) =
     if r.asked == seat.me then
     map (λ c. record { to = Some r.requester; bytes = text_of (CastFrame c) }) (take MOST_FRAMES (filter (is_asked_for r.ranges) (window seat facts)))
     else []
+sent_in_answer seat facts (HelpFrame h) = []
 
 -- what an arrival that is not refused says: the deliveries, whether the state changed, and what is sent; or that it is a repeat
 pub data ArrivalSays : Type 0 where

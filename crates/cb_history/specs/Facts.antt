@@ -3,7 +3,7 @@ use Rattle.std.specs.Prelude.{ℕ, List, [], ◌∷◌, Result, Ok, Err, Bool, �
 use Rattle.std.specs.List.{flat_map, list_any, range_with_len}
 use Rattle.cb_times.specs.declared.name.Name.{Name}
 use Rattle.cb_frames.specs.declared.fault.FrameFault.{FrameFault}
-use Rattle.cb_frames.specs.Fields.{CastFields, StatusFields, FrameFields, CastFrame, StatusFrame, RequestFrame, Carried, messages_of}
+use Rattle.cb_frames.specs.Fields.{CastFields, StatusFields, FrameFields, CastFrame, StatusFrame, RequestFrame, HelpFrame, Carried, messages_of}
 use Rattle.cb_history.specs.Read.{frame_read}
 use Rattle.cb_history.specs.declared.history.Entry.{Entry}
 use Rattle.cb_history.specs.declared.history.Entry.TheVariants as entries
@@ -30,18 +30,21 @@ abbrev pub cast_said : Result FrameFields FrameFault → List Fact
 cast_said (Ok (CastFrame c)) = OwnCast c ∷ []
 cast_said (Ok (StatusFrame s)) = []
 cast_said (Ok (RequestFrame r)) = []
+cast_said (Ok (HelpFrame h)) = []
 cast_said (Err fault) = []
 
 abbrev pub arrival_said : Result FrameFields FrameFault → List Fact
 arrival_said (Ok (CastFrame c)) = CastReceived c ∷ []
 arrival_said (Ok (StatusFrame s)) = StatusReceived s ∷ []
 arrival_said (Ok (RequestFrame r)) = []
+arrival_said (Ok (HelpFrame h)) = []
 arrival_said (Err fault) = []
 
 abbrev pub status_said : Result FrameFields FrameFault → List Fact
 status_said (Ok (StatusFrame s)) = OwnStatus s ∷ []
 status_said (Ok (CastFrame c)) = []
 status_said (Ok (RequestFrame r)) = []
+status_said (Ok (HelpFrame h)) = []
 status_said (Err fault) = []
 
 -- what an entry says, read from its bytes; an entry whose bytes can't stand there says nothing

@@ -73,16 +73,24 @@ abbrev pub acknowledged_of : Identity → List Fact → ℕ → ℕ → ℕ
 acknowledged_of seat facts k i =
     greatest_of (flat_map (reported_by k i) facts ++ counted_by (casts_in facts) (view seat.group.size facts) k i)
 
--- ---- own casts
-
--- how many of its casts the member knows that k has delivered
-abbrev pub acknowledged : Identity → List Fact → ℕ → ℕ
-acknowledged seat facts k = acknowledged_of seat facts k seat.me
+-- that any member k has delivered: of itself it knows what it has delivered
+abbrev pub acknowledged_by : Identity → List Fact → ℕ → ℕ → ℕ
+acknowledged_by seat facts k i = if k == seat.me then count (view seat.group.size facts) i else acknowledged_of seat facts k i
 
 abbrev pub least_of : List ℕ → ℕ
 least_of [] = 0
 least_of (n ∷ []) = n
 least_of (n ∷ m ∷ ns) = min n (least_of (m ∷ ns))
+
+-- and that every member other than i has delivered
+abbrev pub stable_of : Identity → List Fact → ℕ → ℕ
+stable_of seat facts i = least_of (map (λ k. acknowledged_by seat facts k i) (filter (λ k. not (k == i)) (range_with_len 0 seat.group.size)))
+
+-- ---- own casts
+
+-- how many of its casts the member knows that k has delivered
+abbrev pub acknowledged : Identity → List Fact → ℕ → ℕ
+acknowledged seat facts k = acknowledged_of seat facts k seat.me
 
 -- how many of its casts the member knows that every other member has delivered
 abbrev pub stable : Identity → List Fact → ℕ

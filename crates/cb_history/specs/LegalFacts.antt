@@ -1,7 +1,7 @@
 -- The facts of a legal history, one after another.
 use Rattle.std.specs.Prelude.{◌≡◌, ℕ, ◌≤◌, ◌<◌, true, false, List, [], ◌∷◌, ◌++◌, length}
 use Rattle.cb_frames.specs.declared.frame.TheConstants.{LAST_NUMBER}
-use Rattle.cb_frames.specs.Fields.{payloads_of, CastFields, first_number, last_number, StatusFields, FrameFields, CastFrame, StatusFrame, RequestFrame}
+use Rattle.cb_frames.specs.Fields.{payloads_of, CastFields, first_number, last_number, StatusFields, FrameFields, CastFrame, StatusFrame, RequestFrame, HelpFrame}
 use Rattle.cb_history.specs.Load.{FitsFrame}
 use Rattle.cb_history.specs.Group.{Identity, AreParameters}
 use Rattle.cb_history.specs.Facts.{Fact, OwnCast, CastReceived, StatusReceived, OwnStatus}
@@ -19,6 +19,7 @@ abbrev pub SaysNumbers : FrameFields → Type 0
 SaysNumbers (CastFrame c) = last_number c ≤ LAST_NUMBER
 SaysNumbers (StatusFrame s) = (k : ℕ) → value_in s.values k ≤ LAST_NUMBER
 SaysNumbers (RequestFrame r) = Unit {0}
+SaysNumbers (HelpFrame h) = Unit {0}
 
 -- A received frame that was not refused and changed the state: of the group and its members, possible, no repeat, no overlap, not too
 -- far, and news.

@@ -11,6 +11,7 @@ pub mod Events
 pub mod Legal
 pub mod LegalFacts
 pub mod LegalHistory
+pub mod BeforeHelpers
 pub mod State
 pub mod ViewLaws
 pub mod NameLaws
@@ -35,3 +36,4 @@ pub mod ExpanderLaws
 pub mod ReplayLaws
 pub mod WaitingLaws
 pub mod LoadLaws
+pub mod BeforeLaws

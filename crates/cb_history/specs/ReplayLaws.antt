@@ -2,7 +2,7 @@
 use Rattle.std.specs.Prelude.{◌≡◌, ◌↔◌, ℕ, ◌≤◌, List, [], ◌∷◌, ◌++◌, Some, Result, Ok, Err}
 use Rattle.std.specs.List.{AllByRecursion}
 use Rattle.cb_frames.specs.declared.fault.FrameFault.{FrameFault}
-use Rattle.cb_frames.specs.Fields.{Load, One, FrameFields, CastFrame, StatusFrame, RequestFrame}
+use Rattle.cb_frames.specs.Fields.{Load, One, FrameFields, CastFrame, StatusFrame, RequestFrame, HelpFrame}
 use Rattle.cb_history.specs.Read.{frame_read}
 use Rattle.cb_frames.specs.Laws.{IsBytes}
 use Rattle.cb_history.specs.Group.{Identity, IsIdentity}
@@ -14,6 +14,7 @@ abbrev pub load_said : Result FrameFields FrameFault → Load
 load_said (Ok (CastFrame c)) = c.load
 load_said (Ok (StatusFrame s)) = One []
 load_said (Ok (RequestFrame r)) = One []
+load_said (Ok (HelpFrame h)) = One []
 load_said (Err fault) = One []
 
 -- the call that an entry determines: a cast of what its frame carries, an arrival of its bytes, or a tick

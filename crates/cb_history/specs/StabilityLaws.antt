@@ -3,27 +3,35 @@ use Rattle.std.specs.Prelude.{◌≡◌, ◌≢◌, ℕ, ◌<◌, ◌≤◌, ◌
 use Rattle.cb_frames.specs.Fields.{CastFields, RequestFields, CastFrame, RequestFrame, messages_of, first_number, last_number}
 use Rattle.cb_frames.specs.Text.{text_of}
 use Rattle.cb_stability.specs.Known as acks
-use Rattle.cb_stability.specs.declared.window.Spanned.{Spanned}
+use Rattle.cb_stability.specs.declared.ring.Spanned.{Spanned}
 use Rattle.cb_stability.specs.Sent.{Sent, spanned, Puts, Trims, room_of, frames_in}
 use Rattle.cb_history.specs.declared.answer.Outgoing.{Outgoing}
 use Rattle.cb_history.specs.Group.{Identity}
 use Rattle.cb_history.specs.Facts.{Fact, OwnCast}
-use Rattle.cb_history.specs.Known.{acknowledged, stable}
+use Rattle.cb_history.specs.Known.{acknowledged_of, stable_of, stable}
 use Rattle.cb_history.specs.Answers.{delivered, window, is_own_cast, is_window_full, sent_in_answer}
 use Rattle.cb_history.specs.LegalFacts.{AreFactsOf}
 
 -- ---- acknowledgements
 
--- of each other member is learnt how many of this member's casts it is known to have delivered
+-- of each other member is learnt how many casts of each sender it is known to have delivered, and of the member itself how many it has
 pub record KnowsAcknowledged (seat : Identity) (facts : List Fact) (known : acks.Known) : Type 0 where
+  pub member : seat.me < seat.group.size
   pub of_size : known.size ≡ seat.group.size
-  pub learnt : (k : ℕ) → k < seat.group.size → k ≢ seat.me → acks.count known k seat.me ≡ acknowledged seat facts k
+  pub learnt : (k i : ℕ) → k < seat.group.size → i < seat.group.size → k ≢ seat.me → acks.count known k i ≡ acknowledged_of seat facts k i
+  pub own : (i : ℕ) → i < seat.group.size → acks.count known seat.me i ≡ delivered seat facts i
 
 -- the least count that is known of the others is what is stable
 abbrev pub LeastKnownIsStable : Type 0
 LeastKnownIsStable =
     (seat : Identity) (facts : List Fact) (known : acks.Known) (n : ℕ) → KnowsAcknowledged seat facts known
     → acks.IsStable known seat.me n → acks.IsCountOfOther known seat.me n → n ≡ stable seat facts
+
+-- so it is with the casts of every sender
+abbrev pub LeastKnownIsStableOf : Type 0
+LeastKnownIsStableOf =
+    (seat : Identity) (facts : List Fact) (known : acks.Known) (i n : ℕ) → i < seat.group.size → KnowsAcknowledged seat facts known
+    → acks.IsStable known i n → acks.IsCountOfOther known i n → n ≡ stable_of seat facts i
 
 -- ---- the sent window
 

@@ -1,5 +1,5 @@
 -- What a member holds, and what its calls do to it.
-use Rattle.std.specs.Prelude.{◌≡◌, ◌⊎◌, ℕ, ◌≤◌, Bool, List, length, map, Option, Result, Ok, Err}
+use Rattle.std.specs.Prelude.{◌≡◌, ◌⊎◌, ℕ, ◌≤◌, Bool, nat_lt, List, length, map, Option, Some, None, Result, Ok, Err, if◌then◌else◌}
 use Rattle.cb_frames.specs.Fields.{Load, CastFields, StatusFields, Carried}
 use Rattle.cb_frames.specs.Reading.{HasValue}
 use Rattle.cb_history.specs.Read.{frame_read}
@@ -24,7 +24,7 @@ use Rattle.cb_history.specs.Facts.{EntryFields, Fact, entry_fields, facts_of}
 use Rattle.cb_delay.specs.declared.message.Event.{Event}
 use Rattle.cb_history.specs.View.{view, time_of}
 use Rattle.cb_history.specs.Events.{events}
-use Rattle.cb_history.specs.Known.{missing, stable}
+use Rattle.cb_history.specs.Known.{missing, stable, stable_of}
 use Rattle.cb_history.specs.Answers.{status_of, next_cast, cast_answer, cast_done, burst_done, arrive_answer, ArrivalSays, arrival_says, tick_answer}
 use Rattle.cb_history.specs.Legal.{longest_history, IsLegal, Call, ToCast, ToTake, ToTick, entry_of, history_after}
 
@@ -64,6 +64,10 @@ missing_in m i = missing m.seat (facts_in m) i
 
 abbrev pub stable_in : MemberState → ℕ
 stable_in m = stable m.seat (facts_in m)
+
+-- of the casts of i, where the group has a member i
+abbrev pub stable_of_in : MemberState → ℕ → Option ℕ
+stable_of_in m i = if nat_lt i m.seat.group.size then Some (stable_of m.seat (facts_in m) i) else None
 
 -- what it would cast next
 abbrev pub next_in : MemberState → Load → CastFields

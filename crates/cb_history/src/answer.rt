@@ -190,7 +190,7 @@ pub enum ArriveRefusal {
     OtherGroup,
     /// The frame names a member, or a field, that the group does not have.
     BadMember,
-    /// The frame says of this member what it never did, or asks its own sender.
+    /// The frame says of this member what it never did, asks its own sender, or is a help frame that names one member twice.
     Impossible,
     /// Some messages of the burst were received before, and others not: it is none that its sender cast.
     Overlap,

@@ -1,6 +1,7 @@
 //! What the definitions of one member imply, as contracts of functions that do nothing: a file for each subject.
 
 mod arrivals;
+mod before;
 mod buffers;
 mod counts;
 mod deliveries;
@@ -24,6 +25,7 @@ mod waiting;
 mod windows;
 
 pub use arrivals::accepted_casts_are_there;
+pub use before::{answers_are_as_before, old_histories_are_legal};
 pub use buffers::reorder_buffers_hold_what_waits;
 pub use counts::counts_are_numbers;
 pub use deliveries::{deliveries_come_one_by_one, readiness_is_the_delay_rule};
@@ -34,7 +36,7 @@ pub use gaps::missing_numbers;
 pub use histories::{
     calls_keep_histories_legal, histories_say_facts, legality_without_a_limit, prefixes_are_legal,
 };
-pub use knowledge::knowledge_grows;
+pub use knowledge::{knowledge_grows, knowledge_of_every_sender_grows};
 pub use loads::loads_fit_their_frames;
 pub use names::names_and_order;
 pub use own_frames::own_frames_are_of_the_group;

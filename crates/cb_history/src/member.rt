@@ -5,7 +5,7 @@ ghost use Rattle.cb_frames.specs.Fields.{One};
 ghost use Rattle.cb_history.specs.Load.{many_of};
 ghost use Rattle.cb_history.specs.Facts.{entry_fields};
 ghost use Rattle.cb_history.specs.Known.{ranges_of};
-ghost use Rattle.cb_history.specs.State.{MemberState, events_in, missing_in, stable_in, time_in, HasCast, RefusesCast, HasCastBurst, RefusesBurst, HasTaken, RefusesArrival, HasTicked, RefusesTick};
+ghost use Rattle.cb_history.specs.State.{MemberState, events_in, missing_in, stable_in, stable_of_in, time_in, HasCast, RefusesCast, HasCastBurst, RefusesBurst, HasTaken, RefusesArrival, HasTicked, RefusesTick};
 
 use crate::answer::{
     Arrival, ArriveRefusal, BurstDone, BurstRefusal, CastDone, CastRefusal, MissingFault,
@@ -66,6 +66,10 @@ pub trait GroupMember {
     /// How many own casts are known to be delivered by every other member.
     fn stable(&self) -> Result<u32, NoMemory>
         ensures { IfOk result (λ count. count ≡ stable_in (state self.now)) };
+
+    /// How many casts of member i are known to be delivered by every member but i; `None` where the group has no member i.
+    fn stable_of(&self, i: u32) -> Result<Option<u32>, NoMemory>
+        ensures { IfOk result (λ count. count ≡ stable_of_in (state self.now) i) };
 
     /// All that the member did, in order.
     fn entries(&self) -> Result<Vec<Entry>, NoMemory>

@@ -1,10 +1,12 @@
 //! Acknowledgements and the sent window.
 
-ghost use Rattle.cb_history.specs.StabilityLaws.{LeastKnownIsStable, NoRoomIsFull, FramesInAreSentInAnswer, PutIsOwnCast, TrimIsStable};
+ghost use Rattle.cb_history.specs.StabilityLaws.{LeastKnownIsStable, LeastKnownIsStableOf, NoRoomIsFull, FramesInAreSentInAnswer, PutIsOwnCast, TrimIsStable};
 
-/// Acknowledgements that have learnt of each other member what it is known to have delivered of the own casts give what is stable.
+/// Acknowledgements that have learnt of each other member what it is known to have delivered, and of the member itself what it has
+/// delivered, give what is stable of the own casts and of every sender's.
 pub fn acknowledgements_give_what_is_stable()
-    ensures { LeastKnownIsStable }
+    ensures own { LeastKnownIsStable }
+    ensures every { LeastKnownIsStableOf }
 {}
 
 /// A sent window that keeps the own casts above stable has no room exactly where the member's window is full, and the frames in the
