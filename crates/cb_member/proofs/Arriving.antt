@@ -1,5 +1,5 @@
 -- What is kept is so of the facts with a cast of another member, once it is taken in and delivered.
-use Rattle.std.proofs.Common.{◌≡◌, ℕ, ◌+◌, ◌-◌, ◌<◌, ◌≤◌, max, inl, inr, List, [], ◌∷◌, ◌++◌, length, length-append, map, drop, take, None, refl, sym, ap, subst, ◌∙◌, arith}
+use Rattle.std.proofs.Common.{◌≡◌, ◌≢◌, ◌⊎◌, ℕ, ◌+◌, ◌-◌, ◌<◌, ◌≤◌, max, cond, eqb, inl, inr, List, [], ◌∷◌, ◌++◌, length, length-append, map, drop, take, None, refl, sym, ap, subst, ◌∙◌, arith}
 use Rattle.std.specs.List.{All}
 use Rattle.std.proofs.lemmas.Bool.{cases_eq, eq-eqb, ne_eqb}
 use Rattle.std.proofs.lemmas.List.{drop_at, take_rest}
@@ -14,17 +14,20 @@ use Rattle.cb_diffs.specs.Expansion.{expanded_field}
 use Rattle.cb_stability.specs.Known as acks
 use Rattle.cb_history.specs.Group.{Identity}
 use Rattle.cb_history.specs.Facts.{Fact, CastReceived, casts_in}
-use Rattle.cb_history.specs.View.{view, time_of, drain, message_in}
-use Rattle.cb_history.specs.Known.{greatest_of, acknowledged, counted_by}
-use Rattle.cb_history.specs.Answers.{deliveries}
+use Rattle.cb_history.specs.View.{count, view, time_of, drain, message_in}
+use Rattle.cb_history.specs.Known.{greatest_of, acknowledged_of, counted_by}
+use Rattle.cb_history.specs.Answers.{deliveries, delivered}
 use Rattle.cb_history.specs.LegalFacts.{AreFactsOf}
 use Rattle.cb_history.specs.NameLaws.{IsOneOf}
 use Rattle.cb_history.specs.StabilityLaws.{KnowsAcknowledged}
 use Rattle.cb_history.proofs.Views.{casts_in-append}
 use Rattle.cb_history.proofs.Walks.{view_received}
 use Rattle.cb_history.proofs.Delivering.{in_field}
+use Rattle.cb_history.proofs.Happening.{delivered_of_others, none_counted}
+use Rattle.cb_history.proofs.Lists.{count-append}
+use Rattle.cb_history.proofs.Names.{one_of_is_in}
 use Rattle.cb_history.proofs.Times.{upto_other}
-use Rattle.cb_history.proofs.RisingByCasts.{cast_is_acknowledged}
+use Rattle.cb_history.proofs.RisingByCasts.{cast_is_acknowledged_of}
 use Rattle.cb_history.proofs.Statuses.{last_status_with_one_more}
 use Rattle.cb_member.specs.declared.arrival.course.Course.{Course}
 use Rattle.cb_member.specs.declared.arrival.course.Course.TheVariants.{Early, Waits as Waiting, Alone, LeadsOn, LetsGo}
@@ -34,7 +37,7 @@ use Rattle.cb_member.specs.declared.state.State.{State}
 use Rattle.cb_member.specs.Arriving.{DeliversOn}
 use Rattle.cb_member.specs.Course.{CanGo, TakesAndDelivers}
 use Rattle.cb_member.specs.Delivery.{IsDrained, Waits, delivered_in}
-use Rattle.cb_member.specs.Knowledge.{HasTimeOf, KnowsFacts, LearnsAll, delivered_by, reported_in}
+use Rattle.cb_member.specs.Knowledge.{HasTimeOf, KnowsFacts, LearnsAll, delivered_by, reached_in, reported_in}
 use Rattle.cb_member.specs.Reception.{HasReceivedAll}
 use Rattle.cb_member.specs.Sending.{HasSent, TrimsToStable}
 use Rattle.cb_member.specs.State.{HasDelivered, Keeps}
@@ -130,31 +133,70 @@ module _ (facts : List Fact) (c : CastFields) (old mid : State) (before after : 
 
   -- ---- what it acknowledges
 
-  reported_by_it : (ms : List Carried) (k : ℕ) → reported_in seat.me (map (message_in size casts) ms) k ≡ counted_by casts ms k seat.me
-  reported_by_it [] k = refl
-  reported_by_it (m ∷ ms) k = elim (cases_eq m.sender k) [
-    | inl e ↦ rw (eq-eqb m.sender k e, reported_by_it ms k, in_field size (expanded_field casts m.sender m.number) seat.me is.legal.member) refl
-    | inr ne ↦ rw (ne_eqb m.sender k ne) (reported_by_it ms k)
+  reported_by_it : (i : ℕ) → i < size → (ms : List Carried) (k : ℕ) → reported_in i (map (message_in size casts) ms) k ≡ counted_by casts ms k i
+  reported_by_it i within [] k = refl
+  reported_by_it i within (m ∷ ms) k = elim (cases_eq m.sender k) [
+    | inl e ↦ rw (eq-eqb m.sender k e, reported_by_it i within ms k, in_field size (expanded_field casts m.sender m.number) i within) refl
+    | inr ne ↦ rw (ne_eqb m.sender k ne) (reported_by_it i within ms k)
+  ]
+
+  -- where none is of i, nothing is reached of it, else as many as the time counts
+  reached_by_it : (time : List ℕ) (ms : List Carried) (i : ℕ)
+      → ((count ms i ≡ 0) × (greatest_of (reached_in time (map (message_in size casts) ms) i) ≡ 0)) ⊎ (greatest_of (reached_in time (map (message_in size casts) ms) i) ≡ field time i)
+  reached_by_it time [] i = inl (refl, refl)
+  reached_by_it time (m ∷ ms) i = elim (cases_eq m.sender i) [
+    | inl e ↦ inr (rw (eq-eqb m.sender i e) (elim (reached_by_it time ms i) [
+      | inl none ↦ omega (arith, none.1)
+      | inr some ↦ omega (arith, some)
+    ]))
+    | inr ne ↦
+        let other : cond {A = ℕ} (eqb m.sender i) 1 0 ≡ 0 = rw (ne_eqb m.sender i ne) refl in
+        let counted : count (m ∷ ms) i ≡ count ms i = omega (arith, other) in
+        let reached : greatest_of (reached_in time (map (message_in size casts) (m ∷ ms)) i) ≡ greatest_of (reached_in time (map (message_in size casts) ms) i) = rw (ne_eqb m.sender i ne) refl in
+        elim (reached_by_it time ms i) [
+          | inl none ↦ inl (counted ∙ none.0, reached ∙ none.1)
+          | inr some ↦ inr (reached ∙ some)
+        ]
   ]
 
   acks_before : mid.knowledge.acks ≡ old.knowledge.acks
   acks_before = is.only.acks
 
-  knows_acknowledged : (k : acks.Known) → LearnsAll seat.me messages mid.knowledge.acks k → KnowsAcknowledged seat now k
+  pub acks_size : mid.knowledge.acks.size ≡ size
+  acks_size = ap (λ (known : acks.Known). known.size) acks_before ∙ is.keeps.knows.acknowledged.of_size
+
+  time_then : (i : ℕ) → i < size → field mid.delivery.time i ≡ delivered seat facts i + count is.drained.more i
+  time_then i within =
+      ap (λ (time : List ℕ). field time i) is.drained.waits.time ∙ in_field size (count (view size facts ++ is.drained.more)) i within
+      ∙ count-append (view size facts) is.drained.more i
+
+  own_is_delivered : (known : acks.Known) → LearnsAll seat.me mid.delivery.time messages mid.knowledge.acks known → (i : ℕ) → i < size → acks.count known seat.me i ≡ delivered seat now i
+  own_is_delivered known learns i within =
+      let learnt : acks.count known seat.me i ≡ max (delivered seat facts i) (greatest_of (reached_in mid.delivery.time messages i)) =
+      learns.own i ∙ ap (λ (n : ℕ). max n (greatest_of (reached_in mid.delivery.time messages i))) (ap (λ (k : acks.Known). acks.count k seat.me i) acks_before ∙ is.keeps.knows.acknowledged.own i within) in
+      let grown : delivered seat now i ≡ delivered seat facts i + count is.drained.more i = ap (λ (ms : List Carried). count ms i) view_grows ∙ count-append (view size facts) is.drained.more i in
+      elim (reached_by_it mid.delivery.time is.drained.more i) [
+        | inl none ↦ omega (arith, learnt, grown, none.0, none.1)
+        | inr some ↦ omega (arith, learnt, grown, some, time_then i within)
+      ]
+
+  knows_acknowledged : (k : acks.Known) → LearnsAll seat.me mid.delivery.time messages mid.knowledge.acks k → KnowsAcknowledged seat now k
   knows_acknowledged k learns = record {
-    of_size = learns.of_size ∙ ap (λ (known : acks.Known). known.size) acks_before ∙ is.keeps.knows.acknowledged.of_size;
-    learnt = λ j lt other.
-        learns.learnt j
-        ∙ ap (λ (known : acks.Known). max (acks.count known j seat.me) (greatest_of (reported_in seat.me messages j))) acks_before
-        ∙ ap (λ (n : ℕ). max n (greatest_of (reported_in seat.me messages j))) (is.keeps.knows.acknowledged.learnt j lt other)
-        ∙ ap (λ (ns : List ℕ). max (acknowledged seat facts j) (greatest_of ns)) (reported_by_it is.drained.more j)
-        ∙ ap (λ (cs : List CastFields). max (acknowledged seat facts j) (greatest_of (counted_by cs is.drained.more j seat.me))) casts_are
-        ∙ sym (cast_is_acknowledged seat facts c j is.drained.more is.legal view_grows);
+    member = is.legal.member;
+    of_size = learns.of_size ∙ acks_size;
+    learnt = λ j i member within other.
+        learns.others j i (omega (arith, within, acks_size)) other
+        ∙ ap (λ (known : acks.Known). max (acks.count known j i) (greatest_of (reported_in i messages j))) acks_before
+        ∙ ap (λ (n : ℕ). max n (greatest_of (reported_in i messages j))) (is.keeps.knows.acknowledged.learnt j i member within other)
+        ∙ ap (λ (ns : List ℕ). max (acknowledged_of seat facts j i) (greatest_of ns)) (reported_by_it i within is.drained.more j)
+        ∙ ap (λ (cs : List CastFields). max (acknowledged_of seat facts j i) (greatest_of (counted_by cs is.drained.more j i))) casts_are
+        ∙ sym (cast_is_acknowledged_of seat facts c j i is.drained.more is.legal view_grows);
+    own = own_is_delivered k learns;
   }
 
   -- ---- what may have to be sent again
 
-  sent_with_it : (k : acks.Known) (s : Sending) → LearnsAll seat.me messages mid.knowledge.acks k → TrimsToStable seat.me k mid.sending.window s.window → s ≡ record mid.sending { window = s.window } → HasSent seat now s
+  sent_with_it : (k : acks.Known) (s : Sending) → LearnsAll seat.me mid.delivery.time messages mid.knowledge.acks k → TrimsToStable seat.me k mid.sending.window s.window → s ≡ record mid.sending { window = s.window } → HasSent seat now s
   sent_with_it k s learns trims rest =
       let before : HasSent seat facts mid.sending = subst (HasSent seat facts) (sym is.only.sending) is.keeps.sent in
       let after : HasSent seat now (record mid.sending { window = s.window }) = record {
@@ -167,40 +209,44 @@ module _ (facts : List Fact) (c : CastFields) (old mid : State) (before after : 
 
   -- ---- the times of what is delivered
 
-  timed : (ms : List Carried) → ((m : Carried) → IsOneOf m ms → m.sender < size) → All (HasTimeOf size) (map (message_in size casts) ms)
-  timed [] members = All-nil (HasTimeOf size)
-  timed (m ∷ ms) members = All-cons (HasTimeOf size) (message_in size casts m) (map (message_in size casts) ms)
-      (record { sender = members m (inl refl); time = length-map-range_with_len (expanded_field casts m.sender m.number) 0 size })
+  timed : (ms : List Carried) → ((m : Carried) → IsOneOf m ms → (m.sender < size) × (m.sender ≢ seat.me)) → All (HasTimeOf seat.me size) (map (message_in size casts) ms)
+  timed [] members = All-nil (HasTimeOf seat.me size)
+  timed (m ∷ ms) members = All-cons (HasTimeOf seat.me size) (message_in size casts m) (map (message_in size casts) ms)
+      (record { sender = (members m (inl refl)).0; other = (members m (inl refl)).1; time = length-map-range_with_len (expanded_field casts m.sender m.number) 0 size })
       (timed ms (λ n there. members n (inr there)))
 
   later : (front ms : List Carried) (m : Carried) → IsOneOf m ms → IsOneOf m (front ++ ms)
   later [] ms m there = there
   later (n ∷ front) ms m there = inr (later front ms m there)
 
-  pub acks_size : mid.knowledge.acks.size ≡ size
-  acks_size = ap (λ (known : acks.Known). known.size) acks_before ∙ is.keeps.knows.acknowledged.of_size
+  mid_seat : mid.seat ≡ seat
+  mid_seat = is.only.seat
 
-  pub have_times : All (HasTimeOf mid.knowledge.acks.size) (delivered_by (drop (length before) after))
+  pub have_times : All (HasTimeOf mid.seat.me mid.knowledge.acks.size) (delivered_by (drop (length before) after))
   have_times =
       let way = is.drained.waits.way in
-      let each : All (HasTimeOf size) messages = timed is.drained.more (λ m there. way.members m (way.of_casts m (later (view size facts) is.drained.more m there))) in
-      subst (All (HasTimeOf mid.knowledge.acks.size)) (sym delivered_since) (subst (λ (n : ℕ). All (HasTimeOf n) messages) (sym acks_size) each)
+      let none = delivered_of_others seat facts c is.drained.more is.legal view_grows in
+      let each : All (HasTimeOf seat.me size) messages =
+      timed is.drained.more (λ m there. (way.members m (way.of_casts m (later (view size facts) is.drained.more m there)), none_counted is.drained.more seat.me m none (one_of_is_in m is.drained.more there))) in
+      let here : All (HasTimeOf mid.seat.me size) messages = subst (λ (me : ℕ). All (HasTimeOf me size) messages) (sym (ap (λ (s : Identity). s.me) mid_seat)) each in
+      subst (All (HasTimeOf mid.seat.me mid.knowledge.acks.size)) (sym delivered_since) (subst (λ (n : ℕ). All (HasTimeOf mid.seat.me n) messages) (sym acks_size) here)
+
+  -- the time that is delivered has as many fields as what is acknowledged
+  pub time_fits_acks : length mid.delivery.time ≡ mid.knowledge.acks.size
+  time_fits_acks = ap (λ (time : List ℕ). length time) is.drained.waits.time ∙ length-map-range_with_len (count (view size facts ++ is.drained.more)) 0 size ∙ sym acks_size
 
   -- ---- all of it
 
   module _ (new : State) (same_seat : new.seat ≡ mid.seat) (same_delivery : new.delivery ≡ mid.delivery) (same_reception : new.reception ≡ mid.reception) (same_known : new.knowledge.known ≡ mid.knowledge.known)
-      (learns : LearnsAll mid.seat.me (delivered_by (drop (length before) after)) mid.knowledge.acks new.knowledge.acks)
+      (learns : LearnsAll mid.seat.me mid.delivery.time (delivered_by (drop (length before) after)) mid.knowledge.acks new.knowledge.acks)
       (trims : TrimsToStable mid.seat.me new.knowledge.acks mid.sending.window new.sending.window)
       (rest : new.sending ≡ record mid.sending { window = new.sending.window }) where
     seat_is : new.seat ≡ seat
     seat_is = same_seat ∙ is.only.seat
 
-    mid_seat : mid.seat ≡ seat
-    mid_seat = is.only.seat
-
-    learnt : LearnsAll seat.me messages mid.knowledge.acks new.knowledge.acks
-    learnt = subst (λ (me : ℕ). LearnsAll me messages mid.knowledge.acks new.knowledge.acks) (ap (λ (s : Identity). s.me) mid_seat)
-        (subst (λ (ms : List Message). LearnsAll mid.seat.me ms mid.knowledge.acks new.knowledge.acks) delivered_since learns)
+    learnt : LearnsAll seat.me mid.delivery.time messages mid.knowledge.acks new.knowledge.acks
+    learnt = subst (λ (me : ℕ). LearnsAll me mid.delivery.time messages mid.knowledge.acks new.knowledge.acks) (ap (λ (s : Identity). s.me) mid_seat)
+        (subst (λ (ms : List Message). LearnsAll mid.seat.me mid.delivery.time ms mid.knowledge.acks new.knowledge.acks) delivered_since learns)
 
     trimmed : TrimsToStable seat.me new.knowledge.acks mid.sending.window new.sending.window
     trimmed = subst (λ (me : ℕ). TrimsToStable me new.knowledge.acks mid.sending.window new.sending.window) (ap (λ (s : Identity). s.me) mid_seat) trims

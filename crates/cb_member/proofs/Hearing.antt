@@ -5,15 +5,18 @@ use Rattle.std.proofs.lemmas.Bool.{cases_eq, eq-eqb, ne_eqb, ltb-true}
 use Rattle.std.proofs.lemmas.List.{append-nil, drop_all}
 use Rattle.cb_times.specs.Order.{field}
 use Rattle.cb_frames.specs.declared.frame.Change.{Change}
-use Rattle.cb_frames.specs.Fields.{StatusFields, StatusFrame}
-use Rattle.cb_stability.specs.Known.{count}
+use Rattle.cb_frames.specs.Fields.{Carried, StatusFields, StatusFrame}
+use Rattle.cb_stability.specs.Known.{Known, count}
 use Rattle.cb_history.specs.Group.{Identity}
 use Rattle.cb_history.specs.Facts.{Fact, StatusReceived, casts_in}
+use Rattle.cb_history.specs.View as view
 use Rattle.cb_history.specs.View.{message_in, time_of, view}
-use Rattle.cb_history.specs.Known.{acknowledged, known, value_in}
+use Rattle.cb_history.specs.Known.{acknowledged_of, known, value_in}
 use Rattle.cb_history.specs.Answers.{deliveries, delivered, is_news}
 use Rattle.cb_history.specs.LegalFacts.{AreFactsOf}
-use Rattle.cb_history.proofs.Rising.{status_is_acknowledged, status_is_known}
+use Rattle.cb_history.specs.StabilityLaws.{KnowsAcknowledged}
+use Rattle.cb_history.proofs.Prefixes.{last_fact_is_a_step}
+use Rattle.cb_history.proofs.Rising.{status_is_acknowledged_of, status_is_known}
 use Rattle.cb_history.proofs.Statuses.{last_status_with_one_more}
 use Rattle.cb_history.proofs.Times.{upto_other}
 use Rattle.cb_history.proofs.Views.{casts_in-append}
@@ -60,38 +63,62 @@ tells_is seat facts k values knows =
       | inr other ↦ ap (λ (n : ℕ). not (eqb i seat.me) && ltb n (value_in values i)) (knows.heard i (omega (arith, lt)) other)
     ])
 
--- a status of another is news where it tells more of casts, or of this member's that its sender delivered
+-- the value of a status for member i says more than its sender k is known to have delivered of i, who is not k
+abbrev pub acknowledges_more : ℕ → Known → List Change → ℕ → Bool
+acknowledges_more k acks values i = not (eqb i k) && ltb (count acks k i) (value_in values i)
+
+acknowledges_is : (seat : Identity) (facts : List Fact) (known : Known) (k : ℕ) (values : List Change) → KnowsAcknowledged seat facts known → k < seat.group.size → k ≢ seat.me
+    → list_any (acknowledges_more k known values) (range_with_len 0 seat.group.size) ≡ list_any (λ i. not (eqb i k) && ltb (acknowledged_of seat facts k i) (value_in values i)) (range_with_len 0 seat.group.size)
+acknowledges_is seat facts known k values knows member other =
+    any_over (acknowledges_more k known values) (λ i. not (eqb i k) && ltb (acknowledged_of seat facts k i) (value_in values i)) 0 seat.group.size
+    (λ i lt. ap (λ (n : ℕ). not (eqb i k) && ltb n (value_in values i)) (knows.learnt k i member (omega (arith, lt)) other))
+
+-- a status of another is news where it tells more of casts, or of what its sender delivered
 pub news_is : (seat : Identity) (facts : List Fact) (k : Knowledge) (s : StatusFields) → KnowsFacts seat facts k → s.sender ≢ seat.me → s.sender < seat.group.size
-    → is_news seat facts s ≡ (list_any (tells_more seat.me k.known s.values) (range_with_len 0 seat.group.size) || ltb (count k.acks s.sender seat.me) (value_in s.values seat.me))
+    → is_news seat facts s ≡ (list_any (tells_more seat.me k.known s.values) (range_with_len 0 seat.group.size) || list_any (acknowledges_more s.sender k.acks s.values) (range_with_len 0 seat.group.size))
 news_is seat facts k s knows other small =
+    let told = tells_is seat facts k s.values knows in
+    let acknowledged = acknowledges_is seat facts k.acks s.sender s.values knows.acknowledged small other in
     rw (ne_eqb s.sender seat.me other)
-    (ap (λ (b : Bool). b || ltb (acknowledged seat facts s.sender) (value_in s.values seat.me)) (sym (tells_is seat facts k s.values knows))
-    ∙ ap (λ (n : ℕ). list_any (tells_more seat.me k.known s.values) (range_with_len 0 seat.group.size) || ltb n (value_in s.values seat.me)) (sym (knows.acknowledged.learnt s.sender small other)))
+    (ap (λ (b : Bool). b || list_any (λ i. not (eqb i s.sender) && ltb (acknowledged_of seat facts s.sender i) (value_in s.values i)) (range_with_len 0 seat.group.size)) (sym told)
+    ∙ ap (λ (b : Bool). list_any (tells_more seat.me k.known s.values) (range_with_len 0 seat.group.size) || b) (sym acknowledged))
 
 -- ---- what is kept with one more status that came
 
 no_cast_heard : (facts : List Fact) (s : StatusFields) → casts_in (facts ++ StatusReceived s ∷ []) ≡ casts_in facts
 no_cast_heard facts s = casts_in-append facts (StatusReceived s) ∙ append-nil (casts_in facts)
 
-knows_more : (seat : Identity) (facts : List Fact) (s : StatusFields) (old new : Knowledge) → HearsStatus seat.me s old new → KnowsFacts seat facts old → KnowsFacts seat (facts ++ StatusReceived s ∷ []) new
-knows_more seat facts s old new hears knows = record {
+-- a member's own status is no news to it
+status_of_other : (seat : Identity) (facts : List Fact) (s : StatusFields) → AreFactsOf seat (facts ++ StatusReceived s ∷ []) → s.sender ≢ seat.me
+status_of_other seat facts s are own =
+    let news : is_news seat facts s ≡ true = (last_fact_is_a_step seat facts (StatusReceived s) are).change in
+    let none : is_news seat facts s ≡ false = rw (eq-eqb s.sender seat.me own) refl in
+    absurd (let both : false ≡ true = sym none ∙ news in cc)
+
+knows_more : (seat : Identity) (facts : List Fact) (s : StatusFields) (old new : Knowledge) → AreFactsOf seat (facts ++ StatusReceived s ∷ []) → HearsStatus s old new → KnowsFacts seat facts old
+    → KnowsFacts seat (facts ++ StatusReceived s ∷ []) new
+knows_more seat facts s old new are hears knows = record {
   fields = hears.known.fields ∙ knows.fields;
   heard = λ i lt other.
       hears.known.raised i (omega (arith, lt, knows.fields)) ∙ ap (λ (n : ℕ). max n (value_in s.values i)) (knows.heard i lt other) ∙ sym (status_is_known facts s i);
   acknowledged = record {
-    of_size = hears.acks.size ∙ knows.acknowledged.of_size;
-    learnt = λ k lt other. by_sender k (knows.acknowledged.learnt k lt other) ∙ sym (status_is_acknowledged seat facts s k);
+    member = knows.acknowledged.member;
+    of_size = hears.acks.of_size ∙ knows.acknowledged.of_size;
+    learnt = λ k i member within other. by_sender k i (knows.acknowledged.learnt k i member within other) ∙ sym (status_is_acknowledged_of seat facts s k i);
+    own = λ i within.
+        hears.acks.members seat.me i (λ e. status_of_other seat facts s are (sym e)) ∙ knows.acknowledged.own i within
+        ∙ ap (λ (ms : List Carried). view.count ms i) (sym (view_status seat.group.size facts s));
   };
 }
   where
-    by_sender : (k : ℕ) → count old.acks k seat.me ≡ acknowledged seat facts k
-        → count new.acks k seat.me ≡ cond (eqb s.sender k) (max (acknowledged seat facts k) (value_in s.values seat.me)) (acknowledged seat facts k)
-    by_sender k was = elim (cases_eq s.sender k) [
+    by_sender : (k i : ℕ) → count old.acks k i ≡ acknowledged_of seat facts k i
+        → count new.acks k i ≡ cond (eqb s.sender k) (max (acknowledged_of seat facts k i) (value_in s.values i)) (acknowledged_of seat facts k i)
+    by_sender k i was = elim (cases_eq s.sender k) [
       | inl own ↦
           rw (eq-eqb s.sender k own)
-          (ap (λ (m : ℕ). count new.acks m seat.me) (sym own) ∙ hears.acks.learned
-          ∙ ap (λ (n : ℕ). max n (value_in s.values seat.me)) (ap (λ (m : ℕ). count old.acks m seat.me) own ∙ was))
-      | inr other ↦ rw (ne_eqb s.sender k other) (hears.acks.members k seat.me (λ e. other (sym e)) ∙ was)
+          (ap (λ (m : ℕ). count new.acks m i) (sym own) ∙ hears.acks.said i
+          ∙ ap (λ (n : ℕ). max n (value_in s.values i)) (ap (λ (m : ℕ). count old.acks m i) own ∙ was))
+      | inr other ↦ rw (ne_eqb s.sender k other) (hears.acks.members k i (λ e. other (sym e)) ∙ was)
     ]
 
 reported_stays : (seat : Identity) (facts : List Fact) (s : StatusFields) (reported : Bool) (time : List ℕ) → TellsLast seat facts reported time → TellsLast seat (facts ++ StatusReceived s ∷ []) reported time
@@ -111,12 +138,12 @@ sent_stays seat facts s k old new are knows trims rest sent =
 
 -- the state that knows what the status says, and keeps what is not stable then, keeps the status as well
 pub heard_keeps : (state : State) (facts : List Fact) (s : StatusFields) (knowledge : Knowledge) (sending : Sending) → AreFactsOf state.seat (facts ++ StatusReceived s ∷ []) → Keeps facts state
-    → HearsStatus state.seat.me s state.knowledge knowledge → TrimsToStable state.seat.me knowledge.acks state.sending.window sending.window → sending ≡ record state.sending { window = sending.window }
+    → HearsStatus s state.knowledge knowledge → TrimsToStable state.seat.me knowledge.acks state.sending.window sending.window → sending ≡ record state.sending { window = sending.window }
     → Keeps (facts ++ StatusReceived s ∷ []) (record state { knowledge = knowledge; sending = sending })
 heard_keeps state facts s knowledge sending are keeps hears trims rest =
     let seat = state.seat in
     let now = facts ++ StatusReceived s ∷ [] in
-    let knows = knows_more seat facts s state.knowledge knowledge hears keeps.knows in
+    let knows = knows_more seat facts s state.knowledge knowledge are hears keeps.knows in
     record {
       delivered = delivered_stays seat facts now state.delivery (no_cast_heard facts s) (view_status seat.group.size facts s) keeps.delivered;
       received = received_stays seat facts now state.reception (no_cast_heard facts s) keeps.received;

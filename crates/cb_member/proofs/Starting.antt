@@ -107,7 +107,7 @@ unfolding view
 nothing_known seat k is new = record {
   fields = ap length new.known ∙ length-replicate seat.group.size 0;
   heard = λ i lt other. ap (λ (ns : List ℕ). field ns i) new.known ∙ get_or-replicate seat.group.size i 0 0 lt;
-  acknowledged = record { of_size = new.acks.of_size; learnt = λ j lt other. new.acks.none j seat.me };
+  acknowledged = record { member = is.member; of_size = new.acks.of_size; learnt = λ j i member within other. new.acks.none j i; own = λ i within. new.acks.none seat.me i };
 }
 
 nothing_sent : (seat : Identity) (s : Sending) → IsIdentity seat → IsNewSending seat.group.size seat.group.window s → HasSent seat [] s

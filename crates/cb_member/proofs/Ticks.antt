@@ -10,7 +10,7 @@ use Rattle.cb_history.specs.View.{count, time_of}
 use Rattle.cb_history.specs.Known.{acknowledged, stable, least_of}
 use Rattle.cb_history.specs.Answers.{own_casts, status_of, is_new_status, says_the_time}
 use Rattle.cb_history.specs.StabilityLaws.{KeepsOwnCasts, spanned_frame}
-use Rattle.cb_history.proofs.Rising.{own_status_tells_nothing}
+use Rattle.cb_history.proofs.Rising.{own_status_acknowledges_nothing, own_status_tells_nothing}
 use Rattle.cb_history.proofs.Statuses.{last_status_with_one_more, new_status_is_a_new_time}
 use Rattle.cb_history.proofs.Times.{upto_other}
 use Rattle.cb_history.proofs.Views.{casts_in-append}
@@ -77,8 +77,10 @@ knows_stays seat facts s k knows = record {
   fields = knows.fields;
   heard = λ i lt other. knows.heard i lt other ∙ sym ((own_status_tells_nothing seat facts s i).0);
   acknowledged = record {
+    member = knows.acknowledged.member;
     of_size = knows.acknowledged.of_size;
-    learnt = λ i lt other. knows.acknowledged.learnt i lt other ∙ sym ((own_status_tells_nothing seat facts s i).1);
+    learnt = λ k i member within other. knows.acknowledged.learnt k i member within other ∙ sym (own_status_acknowledges_nothing seat facts s k i);
+    own = λ i within. knows.acknowledged.own i within ∙ ap (λ (ms : List Carried). count ms i) (sym (view_reported seat.group.size facts s));
   };
 }
 

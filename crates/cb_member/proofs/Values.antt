@@ -1,11 +1,12 @@
 -- The values of a status name each member once: one look at each of them finds what a look for each member would.
-use Rattle.std.proofs.Common.{◌≡◌, ◌≢◌, ℕ, zero, suc, ◌+◌, ◌-◌, ◌<◌, ◌≤◌, max, Bool, true, false, not, eqb, ltb, ◌&&◌, ◌||◌, List, [], ◌∷◌, length, set, refl, sym, ap, ◌∙◌, arith, inl, inr}
+use Rattle.std.proofs.Common.{◌≡◌, ◌≢◌, ℕ, zero, suc, ◌+◌, ◌-◌, ◌<◌, ◌≤◌, max, Bool, true, false, not, eqb, ltb, ◌&&◌, ◌||◌, List, [], ◌∷◌, length, set, refl, sym, ap, subst, ◌∙◌, arith, inl, inr}
 use Rattle.std.specs.List.{list_all, list_any, range_with_len}
 use Rattle.std.proofs.lemmas.Bool.{cases_eq, eq-eqb, le-ltb, ne_eqb, ltb-true}
 use Rattle.std.proofs.lemmas.List.{get_or-set_other, get_or-set_same}
 use Rattle.cb_times.specs.Order.{field}
 use Rattle.cb_frames.specs.declared.frame.Change.{Change}
 use Rattle.cb_frames.specs.Text.{RisesFrom}
+use Rattle.cb_stability.specs.Known.{Known, Learns, count}
 use Rattle.cb_history.specs.Known.{value_in}
 use Rattle.cb_member.proofs.Telling.{row_more}
 
@@ -92,28 +93,36 @@ told_from me size least heard (d ∷ values) within rises small =
     (any_same p (tells_more me heard values) (d.field + 1) (size - (d.field + 1)) (λ k from. ap (λ (n : ℕ). not (eqb k me) && ltb (field heard k) n) (behind_value d values k (omega (arith, from))))
     ∙ told_from me size (d.field + 1) heard values (omega (arith, below)) rises.1 parts.1)
 
-pub told_by_values : (me size : ℕ) (heard : List ℕ) (values : List Change) → RisesFrom 0 values → list_all (λ d. ltb d.field size) values ≡ true
+told_by_values : (me size : ℕ) (heard : List ℕ) (values : List Change) → RisesFrom 0 values → list_all (λ d. ltb d.field size) values ≡ true
     → list_any (tells_more me heard values) (range_with_len 0 size) ≡ list_any (is_more me heard) values
 told_by_values me size heard values rises small =
     let all : size ≡ size - 0 = omega arith in
     ap (λ (n : ℕ). list_any (tells_more me heard values) (range_with_len 0 n)) all ∙ told_from me size 0 heard values (omega arith) rises small
 
+-- two searches are one for what either looks for
+any_of_both : (p q : Change → Bool) (ds : List Change) → (list_any p ds || list_any q ds) ≡ list_any (λ d. p d || q d) ds
+any_of_both p q [] = refl
+any_of_both p q (d ∷ ds) = by_cases (p d) (q d) (list_any p ds) (list_any q ds) ∙ ap (λ (b : Bool). (p d || q d) || b) (any_of_both p q ds)
+  where
+    by_cases : (a b c e : Bool) → ((a || c) || (b || e)) ≡ ((a || b) || (c || e))
+    by_cases true b c e = refl
+    by_cases false true true e = refl
+    by_cases false true false e = refl
+    by_cases false false c e = refl
+
+pub told_by_both : (me k size : ℕ) (heard row : List ℕ) (values : List Change) → RisesFrom 0 values → list_all (λ d. ltb d.field size) values ≡ true
+    → (list_any (tells_more me heard values) (range_with_len 0 size) || list_any (tells_more k row values) (range_with_len 0 size)) ≡ list_any (λ d. is_more me heard d || is_more k row d) values
+told_by_both me k size heard row values rises small =
+    ap (λ (b : Bool). b || list_any (tells_more k row values) (range_with_len 0 size)) (told_by_values me size heard values rises small)
+    ∙ ap (λ (b : Bool). list_any (is_more me heard) values || b) (told_by_values k size row values rises small)
+    ∙ any_of_both (is_more me heard) (is_more k row) values
+
 -- ---- the search over the values, on the way
 
-pub own_is_no_more : (me : ℕ) (heard : List ℕ) (d : Change) → d.field ≡ me → is_more me heard d ≡ false
-own_is_no_more me heard d own = rw (eq-eqb d.field me own) refl
-
-pub other_is_more : (me : ℕ) (heard : List ℕ) (d : Change) → d.field ≢ me → is_more me heard d ≡ ltb (field heard d.field) d.amount
-other_is_more me heard d other = rw (ne_eqb d.field me other) refl
-
--- of the first value it does not hold: the search goes on behind it
-pub any_skips : (p : Change → Bool) (d : Change) (rest : List Change) (so_far all : Bool) → p d ≡ false → (so_far || list_any p (d ∷ rest)) ≡ all → (so_far || list_any p rest) ≡ all
-any_skips p d rest so_far all fails h = ap (λ (b : Bool). so_far || (b || list_any p rest)) (sym fails) ∙ h
-
--- it holds of the first value: the search is at its end
-pub any_finds : (p : Change → Bool) (d : Change) (rest : List Change) (so_far all : Bool) → p d ≡ true → (so_far || list_any p (d ∷ rest)) ≡ all → true ≡ all
-any_finds p d rest true all holds h = h
-any_finds p d rest false all holds h = ap (λ (b : Bool). b || list_any p rest) (sym holds) ∙ h
+-- the first value is looked at, and the search goes on behind it
+pub any_goes_on : (p : Change → Bool) (d : Change) (rest : List Change) (so_far now all : Bool) → now ≡ (so_far || p d) → (so_far || list_any p (d ∷ rest)) ≡ all → (now || list_any p rest) ≡ all
+any_goes_on p d rest true now all is h = ap (λ (b : Bool). b || list_any p rest) is ∙ h
+any_goes_on p d rest false now all is h = ap (λ (b : Bool). b || list_any p rest) is ∙ h
 
 pub any_ends : (p : Change → Bool) (so_far all : Bool) → (so_far || list_any p []) ≡ all → so_far ≡ all
 any_ends p true all h = h
@@ -165,4 +174,19 @@ raised_by_one d values old new k rises within is = elim (cases_eq d.field k) [
       let now : field new k ≡ field old k = ap (λ (ns : List ℕ). field ns k) is ∙ get_or-set_other old d.field k (max (field old d.field) d.amount) 0 (λ e. other (sym e)) in
       let said : value_in (d ∷ values) k ≡ value_in values k = rw (ne_eqb d.field k other) refl in
       ap (λ (n : ℕ). max n (value_in values k)) now ∙ ap (max (field old k)) (sym said)
+]
+
+-- the first value was learnt of member k, and what is left gives the rest
+pub learnt_by_one : (d : Change) (values : List Change) (k : ℕ) (old new : Known) (i : ℕ) → RisesFrom (d.field + 1) values → Learns old new k d.field d.amount
+    → max (count new k i) (value_in values i) ≡ max (count old k i) (value_in (d ∷ values) i)
+learnt_by_one d values k old new i rises l = elim (cases_eq d.field i) [
+  | inl own ↦
+      let none : value_in values i ≡ 0 = nothing_said (d.field + 1) i values rises (omega (arith, own)) in
+      let now : count new k i ≡ max (count old k i) d.amount = subst (λ (j : ℕ). count new k j ≡ max (count old k j) d.amount) own l.learned in
+      let said : value_in (d ∷ values) i ≡ d.amount = ap (value_in (d ∷ values)) (sym own) ∙ own_value d values in
+      omega (arith, none, now, said)
+  | inr other ↦
+      let now : count new k i ≡ count old k i = l.senders k i (λ e. other (sym e)) in
+      let said : value_in (d ∷ values) i ≡ value_in values i = rw (ne_eqb d.field i other) refl in
+      ap (λ (n : ℕ). max n (value_in values i)) now ∙ ap (max (count old k i)) (sym said)
 ]

@@ -7,6 +7,7 @@ ghost use Rattle.cb_frames.specs.Text.{RisesFrom};
 pub mod cast;
 pub mod course;
 pub mod foreseen;
+pub mod help;
 pub mod request;
 pub mod status;
 

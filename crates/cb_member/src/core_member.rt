@@ -11,7 +11,7 @@ ghost use Rattle.cb_history.specs.EventLaws.{new_events};
 ghost use Rattle.cb_history.specs.Facts.{OwnCast, entry_fields};
 ghost use Rattle.cb_history.specs.Load.{many_of};
 ghost use Rattle.cb_history.specs.Known.{ranges_of};
-ghost use Rattle.cb_history.specs.State.{time_in, stable_in, missing_in, answer_to_cast, entry_by, facts_in, next_in, state_after, HasCast, HasCastBurst, HasTicked, RefusesTick};
+ghost use Rattle.cb_history.specs.State.{time_in, stable_in, stable_of_in, missing_in, answer_to_cast, entry_by, facts_in, next_in, state_after, HasCast, HasCastBurst, HasTicked, RefusesTick};
 ghost use Rattle.cb_member.specs.Casting.{RefusesBurstExactly, RefusesExactly};
 ghost use Rattle.cb_member.specs.CoreCalls.{HasEntryOnEach, JoinsAs, MayCast, ReceivesOnEach, RefusesOnEach, RefusesWithin, joined};
 ghost use Rattle.cb_member.specs.Received.{count_said};
@@ -104,6 +104,14 @@ impl CoreMember {
         ensures { OnEach self.now (λ m. result ≡ stable_in m) }
     {
         self.state.knowledge.acks.stable(self.state.seat.me())
+    }
+
+    /// How many casts of member i are known to be delivered by every other member, this one included; `None` where the group has no
+    /// member i.
+    pub fn stable_of(&self, i: u32) -> Option<u32>
+        ensures { OnEach self.now (λ m. result ≡ stable_of_in m i) }
+    {
+        self.state.stable_of(i)
     }
 
     /// The casts of member i that are missing, as rising ranges that neither touch nor overlap.

@@ -8,7 +8,7 @@ ghost use Rattle.cb_history.specs.LegalHistory.{IsLegalHistory};
 ghost use Rattle.cb_history.specs.Facts.{entry_fields};
 ghost use Rattle.cb_history.specs.Load.{many_of};
 ghost use Rattle.cb_history.specs.Known.{ranges_of};
-ghost use Rattle.cb_history.specs.State.{IsMemberState, state_of, time_in, events_in, stable_in, missing_in, entry_by, HasCast, HasCastBurst, HasTaken, RefusesArrival, HasTicked, RefusesTick};
+ghost use Rattle.cb_history.specs.State.{IsMemberState, state_of, time_in, events_in, stable_in, stable_of_in, missing_in, entry_by, HasCast, HasCastBurst, HasTaken, RefusesArrival, HasTicked, RefusesTick};
 ghost use Rattle.cb_member.specs.Casting.{RefusesExactly, RefusesBurstExactly};
 ghost use Rattle.cb_member.specs.Received.{HasReceivedFrame, HasTakenToSend};
 
@@ -110,6 +110,14 @@ impl Member {
     {
         let state = &self.recorder.state;
         state.knowledge.acks.stable(state.seat.me())
+    }
+
+    /// How many casts of member i are known to be delivered by every other member, this one included; `None` where the group has no
+    /// member i.
+    pub fn stable_of(&self, i: u32) -> Option<u32>
+        ensures { result ≡ stable_of_in self.now i }
+    {
+        self.recorder.state.stable_of(i)
     }
 
     /// The casts of member i that are missing, as rising ranges that neither touch nor overlap.
@@ -318,6 +326,10 @@ impl GroupMember for Member {
 
     fn stable(&self) -> Result<u32, NoMemory> {
         Ok(Member::stable(self))
+    }
+
+    fn stable_of(&self, i: u32) -> Result<Option<u32>, NoMemory> {
+        Ok(Member::stable_of(self, i))
     }
 
     fn entries(&self) -> Result<Vec<Entry>, NoMemory> {

@@ -121,7 +121,9 @@ impl State {
         requires { CanKeepCast time.now sent count self.old }
         ensures { HasKept time.now sent count self.old self.new }
     {
+        let me = self.seat.me();
         self.delivery.time.copy_from(time);
+        self.knowledge.acks.learn(me, me, time.get(me));
         self.sending.last_cast.copy_from(time);
         self.sending.window.put(sent, count);
     }

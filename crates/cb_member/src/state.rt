@@ -1,8 +1,8 @@
 //! All that a member has to know of its history, and what it does with that.
 
-ghost use Rattle.std.specs.Prelude.{◌≡◌, ◌≢◌, ◌<◌, IfOk, length};
+ghost use Rattle.std.specs.Prelude.{◌≡◌, ◌≢◌, ◌<◌, IfOk, Some, None, length, nat_lt, if◌then◌else◌};
 ghost use Rattle.cb_history.specs.Group.{IsIdentity};
-ghost use Rattle.cb_history.specs.Known.{missing, ranges_of};
+ghost use Rattle.cb_history.specs.Known.{missing, ranges_of, stable_of};
 ghost use Rattle.cb_member.specs.State.{IsNewState, IsState, IsAlike, OnAll};
 
 use crate::delivery::Delivery;
@@ -59,6 +59,19 @@ impl State {
             sending: self.sending.copy()?,
             block: FrameBlock::new(self.alloc),
         })
+    }
+
+    /// How many casts of member i every other member is known to have delivered; none where the group has no member i.
+    pub fn stable_of(&self, i: u32) -> Option<u32>
+        requires { IsState self.now }
+        ensures { OnAll self.now (λ facts. result ≡ (if nat_lt i self.now.seat.group.size
+            then Some (stable_of self.now.seat facts i) else None)) }
+    {
+        if i < self.seat.group().size() {
+            Some(self.knowledge.acks.stable(i))
+        } else {
+            None
+        }
     }
 
     /// The casts of member i that are missing.

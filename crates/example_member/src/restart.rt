@@ -73,7 +73,7 @@ fn cast_again(alloc: Global, member: &mut Member, frame: &Bytes) -> anyhow::Resu
     match &cast {
         Frame::Cast(cast) => drop(member.cast(&cast.payload)?),
         Frame::Burst(burst) => burst_again(alloc, member, &burst.payloads)?,
-        Frame::Status(_) | Frame::Request(_) => {}
+        Frame::Status(_) | Frame::Request(_) | Frame::Help(_) => {}
     }
     Ok(())
 }

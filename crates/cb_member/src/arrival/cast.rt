@@ -70,8 +70,8 @@ impl State {
     {
         let before = events.len();
         self.go(unit, course, events);
-        let me = self.seat.me();
-        self.knowledge.acknowledge(me, &events[before..]);
+        let (me, time) = (self.seat.me(), &self.delivery.time);
+        self.knowledge.acknowledge(me, time, &events[before..]);
         self.sending.trim(me, &self.knowledge.acks);
     }
 

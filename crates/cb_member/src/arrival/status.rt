@@ -1,16 +1,17 @@
 //! A received status.
 
-ghost use Rattle.std.specs.Prelude.{◌≡◌, ◌≢◌, true, nat_lt, length};
+ghost use Rattle.std.specs.Prelude.{◌≡◌, ◌≢◌, ◌<◌, true, nat_lt, length};
 ghost use Rattle.std.specs.List.{list_any};
 ghost use Rattle.cb_times.specs.Order.{field};
 ghost use Rattle.cb_frames.specs.Fields.{status_fields, StatusFrame};
 ghost use Rattle.cb_frames.specs.Text.{RisesFrom};
 ghost use Rattle.cb_history.specs.Answers.{are_members};
 ghost use Rattle.cb_member.specs.State.{IsState};
-ghost use Rattle.cb_member.specs.Hearing.{CanHear, HasHeard, IsSaid, JudgesStatus, Weighs};
+ghost use Rattle.cb_member.specs.Hearing.{CanHear, HasHeard, IsSaid, JudgesStatus, Weighs, says_more};
 ghost use Rattle.cb_member.specs.Knowledge.{AreValuesOf};
 
 use crate::arrival::are_fields;
+use crate::knowledge::Knowledge;
 use crate::state::State;
 use cb_frames::{Change, Status};
 use cb_history::{ArriveRefusal, Identity};
@@ -36,8 +37,8 @@ pub struct Verdict {
 pub struct Said {
     /// How many of its casts the status' sender delivered.
     pub of_me: u32,
-    /// Whether they say more of another sender's casts than was heard of.
-    pub tells_of_casts: bool,
+    /// Whether they say more than was known of what others cast, or of what the status' sender delivered.
+    pub tells_more: bool,
 }
 
 impl State {
@@ -101,12 +102,11 @@ impl State {
         requires rising { RisesFrom 0 status.now.values.items }
         ensures { Weighs self.now (status_fields status.now) result }
     {
-        let me = self.seat.me();
-        let said = said_by(self.seat, &self.knowledge.known, &status.values);
-        let acknowledges = self.knowledge.acks.learnt(status.sender, me) < said.of_me;
+        let said = said_by(self.seat, &self.knowledge, status);
+        let made = counted(self.delivery.time.as_slice(), self.seat.me());
         Verdict {
-            is_impossible: counted(self.delivery.time.as_slice(), me) < said.of_me,
-            is_news: said.tells_of_casts | acknowledges,
+            is_impossible: made < said.of_me,
+            is_news: said.tells_more,
         }
     }
 
@@ -115,9 +115,8 @@ impl State {
         requires { CanHear (status_fields status.now) self.old }
         ensures { HasHeard (status_fields status.now) self.old self.new }
     {
-        let me = self.seat.me();
-        self.knowledge.hear_status(me, status);
-        self.sending.trim(me, &self.knowledge.acks);
+        self.knowledge.hear_status(status);
+        self.sending.trim(self.seat.me(), &self.knowledge.acks);
     }
 }
 
@@ -145,23 +144,32 @@ fn is_ahead(time: &VectorTime, values: &[Change]) -> bool
         .any(|value| counted(counts, value.field) < value.amount)
 }
 
-/// What the values say to this member.
-fn said_by(seat: Identity, known: &VectorTime, values: &[Change]) -> Said
-    requires known { length known.now ≡ seat.group.size }
-    requires values { AreValuesOf seat.group.size values.now }
-    ensures { IsSaid seat known.now values.now result }
+/// What the values of another's status say to this member.
+fn said_by(seat: Identity, knowledge: &Knowledge, status: &Status) -> Said
+    requires known { length knowledge.now.known ≡ seat.group.size }
+    requires acks { knowledge.now.acks.size ≡ seat.group.size }
+    requires sender { status.now.sender < seat.group.size }
+    requires values { AreValuesOf seat.group.size status.now.values.items }
+    ensures { IsSaid seat knowledge.now (status_fields status.now) result }
 {
-    let (me, counts) = (seat.me(), known.as_slice());
-    let (mut of_me, mut tells_of_casts) = (0, false);
-    for value in values {
+    let me = seat.me();
+    let (mut of_me, mut tells_more) = (0, false);
+    for value in &status.values {
         if value.field == me {
             of_me = value.amount;
-        } else if counted(counts, value.field) < value.amount {
-            tells_of_casts = true;
         }
+        tells_more |= says_more(me, knowledge, status.sender, *value);
     }
-    Said {
-        of_me,
-        tells_of_casts,
-    }
+    Said { of_me, tells_more }
+}
+
+/// Whether the value says more than was known: of what its field cast, or of how much of that the member k delivered.
+fn says_more(me: u32, knowledge: &Knowledge, k: u32, value: Change) -> bool
+    requires member { k < knowledge.now.acks.size }
+    requires of_group { value.field < knowledge.now.acks.size }
+    ensures { result ≡ says_more me knowledge.now k value }
+{
+    let (known, acks) = (&knowledge.known, &knowledge.acks);
+    value.field != me && counted(known.as_slice(), value.field) < value.amount
+        || value.field != k && acks.learnt(k, value.field) < value.amount
 }

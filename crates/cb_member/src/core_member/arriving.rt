@@ -2,7 +2,7 @@
 
 ghost use Rattle.std.specs.Prelude.{◌≡◌, ◌≤◌, ◌+◌, ℕ, List, true, IfOk, Ok, None, []};
 ghost use Rattle.std.specs.Vec.{vec_capacity, vec_len};
-ghost use Rattle.cb_frames.specs.Fields.{request_fields, status_fields, unit_fields, CastFrame, RequestFrame, StatusFrame};
+ghost use Rattle.cb_frames.specs.Fields.{help_fields, request_fields, status_fields, unit_fields, CastFrame, HelpFrame, RequestFrame, StatusFrame};
 ghost use Rattle.cb_frames.specs.Laws.{IsBytes};
 ghost use Rattle.cb_history.specs.Read.{frame_read};
 ghost use Rattle.cb_delay.specs.declared.message.Event.{Event as Events};
@@ -17,13 +17,14 @@ ghost use Rattle.cb_member.specs.Received.{count_said, received_says};
 
 use crate::arrival::cast::Judged;
 use crate::arrival::course::Course;
+use crate::arrival::help::judge_help;
 use crate::arrival::status;
 use crate::recorder::Received;
 use crate::recorder::arriving::{Named, heard_in, read};
 use crate::state::State;
 use bytes::Bytes;
 use cb_delay::Event;
-use cb_frames::{Frame, Request, Status, Unit, each_is_a_text_or_a_fault};
+use cb_frames::{Frame, Help, Request, Status, Unit, each_is_a_text_or_a_fault};
 use cb_history::{ArriveRefusal, Entry, Outgoing};
 use cb_times::{NoMemory, make_room};
 use std::alloc::Global;
@@ -80,13 +81,16 @@ impl State {
         ensures { AnswersArrivalOnEach noting bytes.now (core_of self.old) (core_of self.new)
             events.old.items events.new.items result }
     {
-        match read(self.alloc, bytes) {
-            Ok(Frame::Cast(cast)) => self.receive_cast(bytes, Unit::One(cast), noting, events),
-            Ok(Frame::Burst(burst)) => self.receive_cast(bytes, Unit::Many(burst), noting, events),
-            Ok(Frame::Status(status)) => self.receive_status(bytes, &status, noting),
-            Ok(Frame::Request(request)) => self.receive_request(&request),
-            Err(refusal) => Err(refusal),
-        }
+        // one call for both, so that it is compiled in place
+        let unit = match read(self.alloc, bytes) {
+            Ok(Frame::Cast(cast)) => Unit::One(cast),
+            Ok(Frame::Burst(burst)) => Unit::Many(burst),
+            Ok(Frame::Status(status)) => return self.receive_status(bytes, &status, noting),
+            Ok(Frame::Request(request)) => return self.receive_request(&request),
+            Ok(Frame::Help(help)) => return self.receive_help(&help),
+            Err(refusal) => return Err(refusal),
+        };
+        self.receive_cast(bytes, unit, noting, events)
     }
 
     fn receive_cast(
@@ -226,6 +230,23 @@ impl State {
     {
         match self.answer_request(request) {
             Ok(out) => Ok(not_noted(nothing(false, out))),
+            Err(refusal) => Err(refusal),
+        }
+    }
+
+    /// A help frame changes nothing, and nothing is sent.
+    fn receive_help(&self, help: &Help) -> Result<Heard, ArriveRefusal>
+        requires { IsCore (core_of self.now) }
+        ensures { (noting : Notings) (bytes : List ℕ) (events : List Events)
+            → frame_read bytes ≡ Ok (HelpFrame (help_fields help.now))
+            → AnswersArrivalOnEach noting bytes (core_of self.now) (core_of self.now) events events
+            result }
+    {
+        match judge_help(self.seat, help) {
+            Ok(()) => {
+                let out = Vec::new(self.alloc);
+                Ok(not_noted(nothing(false, out)))
+            }
             Err(refusal) => Err(refusal),
         }
     }

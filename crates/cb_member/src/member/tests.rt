@@ -1,5 +1,5 @@
 //! Which course a cast takes. Each would do that lets all go, so no clause says that a cast takes the cheapest one. And what bursts do
-//! that arrive: their values are from outside.
+//! that arrive, and statuses of what others delivered: their values are from outside.
 
 ghost use Rattle.std.specs.Prelude.{◌≡◌, Ok};
 ghost use Rattle.cb_frames.specs.Fields.{unit_fields, CastFrame};
@@ -94,7 +94,7 @@ fn way_at(alloc: Global, member: Member, frame: &'static [u8]) -> Way {
     match read(alloc, &bytes) {
         Ok(Frame::Cast(cast)) => way_of(recorder, &bytes, Unit::One(cast)),
         Ok(Frame::Burst(burst)) => way_of(recorder, &bytes, Unit::Many(burst)),
-        Ok(Frame::Status(_)) | Ok(Frame::Request(_)) | Err(_) => Way::Nowhere,
+        Ok(Frame::Status(_)) | Ok(Frame::Request(_)) | Ok(Frame::Help(_)) | Err(_) => Way::Nowhere,
     }
 }
 
@@ -242,6 +242,38 @@ fn a_burst_is_judged_as_a_whole_and_delivered_one_by_one(rt: HostRuntime) {
         let count = member.history().len();
         drop(member);
         assert_eq!(rt; (as_said, count), (true, *entries));
+    }
+}
+
+/// Member 2 delivered the first two messages of member 0.
+const SAID: &[u8] = b"\x12\x07\x02\x01\x00\x02";
+
+/// A frame, whether it changes anything, and how many casts of member 0 are stable then.
+type Told = (&'static [u8], bool, u32);
+
+#[test]
+fn what_others_delivered_is_learnt_of_every_sender(rt: HostRuntime) {
+    const ROWS: &[Told] = &[
+        (FIRST, true, 0),
+        (SECOND, true, 0),
+        (SAID, true, 2),
+        (SAID, false, 2),
+    ];
+    let mut member = member_at(&rt, rt.alloc(), 1);
+    for (frame, changed, stable) in ROWS {
+        let answer = member.arrive(&Bytes::from_static(frame));
+        assert_eq!(rt;
+            (changes(answer), member.stable_of(0)),
+            (*changed, Some(*stable))
+        );
+    }
+    assert_eq!(rt; member.stable_of(3), None);
+}
+
+fn changes(answer: Result<Arrival, ArriveRefusal>) -> bool {
+    match answer {
+        Ok(Arrival::Accepted { changed, .. }) => changed,
+        Ok(Arrival::Repeat) | Err(_) => false,
     }
 }
 

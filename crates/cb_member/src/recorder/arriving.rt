@@ -1,7 +1,7 @@
 //! Received bytes: a frame is distinguished by its kind once; what is wanted of it is made before anything changes.
 
 ghost use Rattle.std.specs.Prelude.{◌≡◌, ◌<◌, ℕ, IfOk, IfErr, List, Ok, Err, None, [], length};
-ghost use Rattle.cb_frames.specs.Fields.{fields_of, request_fields, status_fields, unit_fields, CastFrame, RequestFrame, StatusFrame};
+ghost use Rattle.cb_frames.specs.Fields.{fields_of, help_fields, request_fields, status_fields, unit_fields, CastFrame, HelpFrame, RequestFrame, StatusFrame};
 ghost use Rattle.cb_frames.specs.Laws.{IsBytes};
 ghost use Rattle.cb_history.specs.Read.{frame_read};
 ghost use Rattle.cb_history.specs.Facts.{ArriveEntry, entry_fields};
@@ -14,13 +14,16 @@ ghost use Rattle.cb_member.specs.declared.recorder.taken.Wanted.{Wanted as Wants
 
 use crate::arrival::cast::Judged;
 use crate::arrival::course::Course;
+use crate::arrival::help::judge_help;
 use crate::arrival::status;
 use crate::recorder::Recorder;
 use crate::recorder::taken::{Received, Taken, Wanted};
 use crate::text::another;
 use bytes::Bytes;
 use cb_delay::{Event, Message};
-use cb_frames::{Frame, FrameFault, Request, Status, Unit, decode, each_is_a_text_or_a_fault};
+use cb_frames::{
+    Frame, FrameFault, Help, Request, Status, Unit, decode, each_is_a_text_or_a_fault,
+};
 use cb_history::{ArriveRefusal, Entry, Names};
 use cb_times::NoMemory;
 use std::alloc::Global;
@@ -49,13 +52,16 @@ impl Recorder {
         requires { IsKept self.old }
         ensures { AnswersBytes wanted bytes.now self.old self.new result }
     {
-        match read(self.state.alloc, bytes) {
-            Ok(Frame::Cast(cast)) => self.take_cast(bytes, Unit::One(cast), wanted),
-            Ok(Frame::Burst(burst)) => self.take_cast(bytes, Unit::Many(burst), wanted),
-            Ok(Frame::Status(status)) => self.take_status(bytes, &status, wanted),
-            Ok(Frame::Request(request)) => self.answer(&request),
-            Err(refusal) => Err(refusal),
-        }
+        // one call for both, so that it is compiled in place
+        let unit = match read(self.state.alloc, bytes) {
+            Ok(Frame::Cast(cast)) => Unit::One(cast),
+            Ok(Frame::Burst(burst)) => Unit::Many(burst),
+            Ok(Frame::Status(status)) => return self.take_status(bytes, &status, wanted),
+            Ok(Frame::Request(request)) => return self.answer(&request),
+            Ok(Frame::Help(help)) => return self.answer_help(&help),
+            Err(refusal) => return Err(refusal),
+        };
+        self.take_cast(bytes, unit, wanted)
     }
 
     fn take_cast(
@@ -205,6 +211,19 @@ impl Recorder {
                     out,
                 },
             )),
+            Err(refusal) => Err(refusal),
+        }
+    }
+
+    /// A help frame changes nothing, and nothing is sent.
+    fn answer_help(&self, help: &Help) -> Result<Taken, ArriveRefusal>
+        requires { IsKept self.now }
+        ensures { (wanted : Wants) (bytes : List ℕ)
+            → frame_read bytes ≡ Ok (HelpFrame (help_fields help.now))
+            → AnswersBytes wanted bytes self.now self.now result }
+    {
+        match judge_help(self.state.seat, help) {
+            Ok(()) => Ok(unchanged(self.state.alloc, nothing(self.state.alloc, false))),
             Err(refusal) => Err(refusal),
         }
     }

@@ -10,3 +10,6 @@ returns-in-Err c = answers_refusal c.args.wanted c.args.bytes.now c.args.self.no
 
 pub returns-in-Ok-Request : goal.returns-in-Ok-Request
 returns-in-Ok-Request c = c.answer.ensures c.args.wanted c.args.bytes.now (c.in-Ok-Request.ensures.frame ∙ ap (λ (f : Frame). let read : Result FrameFields FrameFault = Ok (fields_of f) in read) c.in-Ok-Request.field-0-is)
+
+pub returns-in-Ok-Help : goal.returns-in-Ok-Help
+returns-in-Ok-Help c = c.answer_help.ensures c.args.wanted c.args.bytes.now (c.in-Ok-Help.ensures.frame ∙ ap (λ (f : Frame). let read : Result FrameFields FrameFault = Ok (fields_of f) in read) c.in-Ok-Help.field-0-is)

@@ -17,3 +17,7 @@ returns-in-Ok-Request c =
 
 pub returns-in-Ok-Status : goal.returns-in-Ok-Status
 returns-in-Ok-Status c = c.receive_status.ensures c.args.events.now.items
+
+pub returns-in-Ok-Help : goal.returns-in-Ok-Help
+returns-in-Ok-Help c =
+    c.receive_help.ensures c.args.noting c.args.bytes.now c.args.events.now.items (c.in-Ok-Help.ensures.frame ∙ ap (λ (f : Frame). let read : Result FrameFields FrameFault = Ok (fields_of f) in read) c.in-Ok-Help.field-0-is)

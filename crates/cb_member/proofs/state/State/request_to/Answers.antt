@@ -13,6 +13,6 @@ frame_text-requires-clause-rules c =
     let ranges = c.deref.result.now in
     (requested seat state.facts c.args.i ranges (fields_of c.in-Some.frame) state.legal c.requires.of_group
     (c.deref.ensures.value ∙ c.in_ok-ranges.ensures state.facts state.legal state.keeps)
-    (ap (option_map fields_of) (sym c.in-Some.is) ∙ c.in_ok-request_of.ensures
+    (ap (option_map fields_of) (sym c.in-Some.is) ∙ c.in_ok-request_of.ensures.frame
     ∙ ap (λ (n : ℕ). request_for n c.me.result c.args.i ranges) (c.number.ensures ∙ ap (λ (g : Parameters). g.number) c.group.ensures.group)
     ∙ ap (λ (n : ℕ). request_for seat.group.number n c.args.i ranges) c.me.ensures.me)).0
