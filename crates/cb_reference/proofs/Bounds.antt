@@ -4,7 +4,7 @@ use Rattle.std.specs.List.{range_with_len}
 use Rattle.std.proofs.lemmas.List.{length-append, same_lists, get_or_default}
 use Rattle.std.proofs.lemmas.List.FromFn.{length-map-range_with_len, get_or-map-range_with_len}
 use Rattle.cb_frames.specs.declared.fault.FrameFault.{FrameFault}
-use Rattle.cb_frames.specs.Fields.{FrameFields, CastFrame, StatusFrame, RequestFrame}
+use Rattle.cb_frames.specs.Fields.{FrameFields, CastFrame, StatusFrame, RequestFrame, HelpFrame}
 use Rattle.cb_frames.specs.declared.frame.TheConstants.{MOST_MESSAGES}
 use Rattle.cb_history.specs.Read.{frame_read}
 use Rattle.cb_history.specs.State.{MemberState, IsMemberState, facts_in}
@@ -19,18 +19,21 @@ cast_at_most : (r : Result FrameFields FrameFault) → length (cast_said r) ≤ 
 cast_at_most (Ok (CastFrame c)) = omega arith
 cast_at_most (Ok (StatusFrame s)) = omega arith
 cast_at_most (Ok (RequestFrame r)) = omega arith
+cast_at_most (Ok (HelpFrame h)) = omega arith
 cast_at_most (Err e) = omega arith
 
 arrival_at_most : (r : Result FrameFields FrameFault) → length (arrival_said r) ≤ 1
 arrival_at_most (Ok (CastFrame c)) = omega arith
 arrival_at_most (Ok (StatusFrame s)) = omega arith
 arrival_at_most (Ok (RequestFrame r)) = omega arith
+arrival_at_most (Ok (HelpFrame h)) = omega arith
 arrival_at_most (Err e) = omega arith
 
 status_at_most : (r : Result FrameFields FrameFault) → length (status_said r) ≤ 1
 status_at_most (Ok (CastFrame c)) = omega arith
 status_at_most (Ok (StatusFrame s)) = omega arith
 status_at_most (Ok (RequestFrame r)) = omega arith
+status_at_most (Ok (HelpFrame h)) = omega arith
 status_at_most (Err e) = omega arith
 
 said_at_most : (e : EntryFields) → length (said_by e) ≤ 1

@@ -1,7 +1,7 @@
 -- What the plain member makes of a received frame.
 use Rattle.std.specs.Prelude.{◌≡◌, ◌⊎◌, ℕ, ◌<◌, true, false, List, [], length, map, Some, IsSome, option_map, Result, Ok, Err}
 use Rattle.cb_frames.specs.declared.fault.FrameFault.{FrameFault}
-use Rattle.cb_frames.specs.Fields.{FrameFields, CastFields, StatusFields, RequestFields, CastFrame, StatusFrame, RequestFrame}
+use Rattle.cb_frames.specs.Fields.{FrameFields, CastFields, StatusFields, RequestFields, HelpFields, CastFrame, StatusFrame, RequestFrame, HelpFrame}
 use Rattle.cb_frames.specs.Reading.{HasValue}
 use Rattle.cb_history.specs.Read.{frame_read}
 use Rattle.cb_history.specs.declared.answer.ArriveRefusal.{ArriveRefusal}
@@ -34,10 +34,15 @@ JudgesStatus m s (Ok news.News) =
 JudgesStatus m s (Ok news.NoNews) = answer_to_frame m (StatusFrame s) ≡ Ok (Accepted [] false [])
 JudgesStatus m s (Err refusal) = answer_to_frame m (StatusFrame s) ≡ Err refusal
 
--- and of a request, which changes nothing
+-- of a request, which changes nothing
 abbrev pub JudgesRequest : MemberState → RequestFields → Result (Unit {0}) ArriveRefusal → Type 0
 JudgesRequest m r (Ok done) = answer_to_frame m (RequestFrame r) ≡ Ok (Accepted [] false (sent_in_answer m.seat (facts_in m) (RequestFrame r)))
 JudgesRequest m r (Err refusal) = answer_to_frame m (RequestFrame r) ≡ Err refusal
+
+-- and of a help frame, which changes nothing and is answered by nothing
+abbrev pub JudgesHelp : MemberState → HelpFields → Result (Unit {0}) ArriveRefusal → Type 0
+JudgesHelp m h (Ok done) = answer_to_frame m (HelpFrame h) ≡ Ok (Accepted [] false [])
+JudgesHelp m h (Err refusal) = answer_to_frame m (HelpFrame h) ≡ Err refusal
 
 -- bytes that are no frame, or out of memory for a frame
 abbrev pub IsReadRefusal : List ℕ → ArriveRefusal → Type 0

@@ -16,6 +16,7 @@ ghost use Rattle.cb_reference.specs.Reading.{read_fields};
 ghost use Rattle.cb_reference.specs.Arrivals.{IsReadRefusal, IsAccepting, TakesFrame};
 
 mod cast;
+mod help;
 mod request;
 mod status;
 
@@ -51,6 +52,7 @@ pub fn answer_arrival(member: &ReferenceMember, bytes: &Bytes) -> Result<Accepti
         FrameRead::Cast(cast) => cast::answer(member, cast, bytes),
         FrameRead::Status(status) => status::answer(member, status, bytes),
         FrameRead::Request(request) => request::answer(member, &request, bytes),
+        FrameRead::Help(help) => help::answer(member, &help, bytes),
     }
 }
 

@@ -34,6 +34,7 @@ fn cast_said(alloc: Global, frame: &Bytes) -> Result<Option<Fact>, NoMemory>
         Ok(FrameRead::Cast(cast)) => Ok(Some(Fact::OwnCast(cast))),
         Ok(FrameRead::Status(_)) => Ok(None),
         Ok(FrameRead::Request(_)) => Ok(None),
+        Ok(FrameRead::Help(_)) => Ok(None),
         Err(FrameFault::NoMemory) => Err(AllocError),
         Err(_) => Ok(None),
     }
@@ -46,6 +47,7 @@ fn arrival_said(alloc: Global, frame: &Bytes) -> Result<Option<Fact>, NoMemory>
         Ok(FrameRead::Cast(cast)) => Ok(Some(Fact::CastReceived(cast))),
         Ok(FrameRead::Status(status)) => Ok(Some(Fact::StatusReceived(status))),
         Ok(FrameRead::Request(_)) => Ok(None),
+        Ok(FrameRead::Help(_)) => Ok(None),
         Err(FrameFault::NoMemory) => Err(AllocError),
         Err(_) => Ok(None),
     }
@@ -58,6 +60,7 @@ fn status_said(alloc: Global, frame: &Bytes) -> Result<Option<Fact>, NoMemory>
         Ok(FrameRead::Status(status)) => Ok(Some(Fact::OwnStatus(status))),
         Ok(FrameRead::Cast(_)) => Ok(None),
         Ok(FrameRead::Request(_)) => Ok(None),
+        Ok(FrameRead::Help(_)) => Ok(None),
         Err(FrameFault::NoMemory) => Err(AllocError),
         Err(_) => Ok(None),
     }

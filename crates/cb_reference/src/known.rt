@@ -8,7 +8,7 @@ ghost use Rattle.cb_frames.specs.Text.{AreRanges};
 ghost use Rattle.cb_history.specs.State.{missing_in, stable_in, facts_in};
 ghost use Rattle.cb_history.specs.Facts.{casts_in, is_there, numbers_between};
 ghost use Rattle.cb_history.specs.View.{view};
-ghost use Rattle.cb_history.specs.Known.{greatest_of, value_in, reported_of, counted_in_times, known, expanded_count, missing, ranges_of, reported_by, counted_by, acknowledged, least_of, stable};
+ghost use Rattle.cb_history.specs.Known.{greatest_of, value_in, reported_of, counted_in_times, known, expanded_count, missing, ranges_of, reported_by, counted_by, acknowledged_of, acknowledged_by, least_of, stable_of};
 ghost use Rattle.cb_reference.specs.Facts.{fact_of, lesser_of};
 ghost use Rattle.cb_reference.specs.Messages.{carried_of};
 
@@ -81,15 +81,15 @@ fn expanded_count(casts: &Casts<'_>, i: u32) -> u32
     greatest
 }
 
-fn reported_by(k: u32, me: u32, fact: &Fact) -> u32
-    ensures { result ≡ greatest_of (reported_by k me (fact_of fact.now)) }
+fn reported_by(k: u32, i: u32, fact: &Fact) -> u32
+    ensures { result ≡ greatest_of (reported_by k i (fact_of fact.now)) }
 {
     match fact {
         Fact::OwnCast(_) => 0,
         Fact::CastReceived(_) => 0,
         Fact::StatusReceived(status) => {
             if status.sender == k {
-                value_in(&status.values, me)
+                value_in(&status.values, i)
             } else {
                 0
             }
@@ -98,27 +98,27 @@ fn reported_by(k: u32, me: u32, fact: &Fact) -> u32
     }
 }
 
-/// What the statuses of member k say of how many of this member's casts it has delivered.
+/// What the statuses of member k say of how many casts of member i it has delivered.
 #[tactic(auto, using(crate::proofs::Numbers::greatest_more))]
-fn reported_in_statuses(facts: &[Fact], k: u32, me: u32) -> u32
-    ensures { result ≡ greatest_of (flat_map (reported_by k me) (map fact_of facts.now)) }
+fn reported_in_statuses(facts: &[Fact], k: u32, i: u32) -> u32
+    ensures { result ≡ greatest_of (flat_map (reported_by k i) (map fact_of facts.now)) }
 {
     let mut greatest: u32 = 0;
     for fact in facts {
-        greatest = greatest.max(reported_by(k, me, fact));
+        greatest = greatest.max(reported_by(k, i, fact));
     }
     greatest
 }
 
 /// What the times of the delivered messages of member k say of it.
-fn counted_by(casts: &Casts<'_>, seen: &[Message<'_>], k: u32, me: u32) -> u32
+fn counted_by(casts: &Casts<'_>, seen: &[Message<'_>], k: u32, i: u32) -> u32
     ensures { result ≡ greatest_of (counted_by casts.now
-        (map carried_of seen.now) k me) }
+        (map carried_of seen.now) k i) }
 {
     let mut greatest: u32 = 0;
     for message in seen {
         if message.sender == k {
-            greatest = greatest.max(expanded_field(casts, message.sender, message.number, me));
+            greatest = greatest.max(expanded_field(casts, message.sender, message.number, i));
         }
     }
     greatest
@@ -162,27 +162,45 @@ pub fn known(past: &Past<'_>, i: u32) -> u32
     reported(past.facts(), i).max(counted_in_times(past.casts(), i))
 }
 
-/// How many of its casts the member knows that member k has delivered.
+/// How many casts of member i the member knows that another, k, has delivered.
 #[tactic(auto, using(cb_history::proofs::Rising::greatest_append))]
-pub fn acknowledged(past: &Past<'_>, k: u32) -> u32
-    ensures { result ≡ acknowledged past.now.seat (facts_in past.now) k }
+pub fn acknowledged_of(past: &Past<'_>, k: u32, i: u32) -> u32
+    ensures { result ≡ acknowledged_of past.now.seat (facts_in past.now) k i }
 {
-    let me = past.me();
-    let reported = reported_in_statuses(past.facts(), k, me);
-    reported.max(counted_by(past.casts(), past.seen(), k, me))
+    let reported = reported_in_statuses(past.facts(), k, i);
+    reported.max(counted_by(past.casts(), past.seen(), k, i))
 }
 
-/// How many of its casts the member knows that every other member has delivered.
-pub fn stable(past: &Past<'_>) -> u32
-    ensures { result ≡ stable_in past.now }
+/// How many that any member k has delivered: of itself it knows what it has delivered.
+fn acknowledged_by(past: &Past<'_>, k: u32, i: u32) -> u32
+    ensures { result ≡ acknowledged_by past.now.seat (facts_in past.now) k i }
+{
+    if k == past.me() {
+        past.delivered(i) as u32
+    } else {
+        acknowledged_of(past, k, i)
+    }
+}
+
+/// How many casts of member i the member knows that every member other than i has delivered.
+pub fn stable_of(past: &Past<'_>, i: u32) -> u32
+    ensures { result ≡ stable_of past.now.seat (facts_in past.now) i }
 {
     let mut least: Option<u32> = None;
     for k in 0..past.size() {
-        if k != past.me() {
-            least = Some(lesser(least, acknowledged(past, k)));
+        if k != i {
+            least = Some(lesser(least, acknowledged_by(past, k, i)));
         }
     }
     least.unwrap_or(0)
+}
+
+/// How many of its casts the member knows that every other member has delivered.
+#[tactic(auto, using(cb_history::proofs::EverySender::stable_of_me))]
+pub fn stable(past: &Past<'_>) -> u32
+    ensures { result ≡ stable_in past.now }
+{
+    stable_of(past, past.me())
 }
 
 /// The numbers of casts of member i that the member lacks.

@@ -11,14 +11,14 @@ ghost use Rattle.cb_history.specs.CastFault.{burst_fault_told, fault_told};
 ghost use Rattle.cb_history.specs.Load.{many_of};
 ghost use Rattle.cb_history.specs.Legal.{longest_history, ToCast, ToTake, ToTick, IsLegal, and_entry};
 ghost use Rattle.cb_history.specs.LegalHistory.{IsLegalHistory};
-ghost use Rattle.cb_history.specs.State.{state_of, events_in, missing_in, stable_in, time_in, IsMemberState, facts_in, entry_by, HasCast, RefusesCast, HasCastBurst, RefusesBurst, HasTaken, RefusesArrival, HasTicked, RefusesTick};
+ghost use Rattle.cb_history.specs.State.{state_of, events_in, missing_in, stable_in, stable_of_in, time_in, IsMemberState, facts_in, entry_by, HasCast, RefusesCast, HasCastBurst, RefusesBurst, HasTaken, RefusesArrival, HasTicked, RefusesTick};
 ghost use Rattle.cb_reference.specs.Casting.{load_of, IsOfOne};
 
 use crate::arrival::{Accepting, answer_arrival};
 use crate::cast::{Casting, Load, answer_cast};
 use crate::events::events_of;
 use crate::facts::facts_of;
-use crate::known::{missing, stable};
+use crate::known::{missing, stable, stable_of};
 use crate::past::Past;
 use crate::tick::{Ticking, answer_tick};
 use bytes::Bytes;
@@ -162,6 +162,19 @@ impl ReferenceMember {
         let facts = facts_of(self.allocator(), self.history())?;
         let past = Past::of(self, &facts)?;
         Ok(stable(&past))
+    }
+
+    /// How many casts of member i are known to be delivered by every other member, this one included; `None` where the group has no
+    /// member i.
+    pub fn stable_of(&self, i: u32) -> Result<Option<u32>, NoMemory>
+        ensures { IfOk result (λ count. count ≡ stable_of_in self.now i) }
+    {
+        if i >= self.seat().group().size() {
+            return Ok(None);
+        }
+        let facts = facts_of(self.allocator(), self.history())?;
+        let past = Past::of(self, &facts)?;
+        Ok(Some(stable_of(&past, i)))
     }
 
     /// Casts a message of this payload.
@@ -321,6 +334,10 @@ impl GroupMember for ReferenceMember {
 
     fn stable(&self) -> Result<u32, NoMemory> {
         ReferenceMember::stable(self)
+    }
+
+    fn stable_of(&self, i: u32) -> Result<Option<u32>, NoMemory> {
+        ReferenceMember::stable_of(self, i)
     }
 
     fn entries(&self) -> Result<Vec<Entry>, NoMemory> {

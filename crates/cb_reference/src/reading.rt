@@ -10,7 +10,7 @@ ghost use Rattle.cb_reference.specs.Reading.{read_fields};
 
 use crate::casts::CastRead;
 use bytes::Bytes;
-use cb_frames::{Frame, FrameFault, Request, Status, Unit, decode};
+use cb_frames::{Frame, FrameFault, Help, Request, Status, Unit, decode};
 use std::alloc::Global;
 
 /// A frame that was read.
@@ -19,6 +19,7 @@ pub enum FrameRead {
     Cast(CastRead),
     Status(Status),
     Request(Request),
+    Help(Help),
 }
 
 /// The frame of the bytes, or their first fault. A fault is answered without memory.
@@ -43,5 +44,6 @@ fn as_read(frame: Frame) -> FrameRead
         Frame::Burst(burst) => FrameRead::Cast(CastRead::of(Unit::Many(burst))),
         Frame::Status(status) => FrameRead::Status(status),
         Frame::Request(request) => FrameRead::Request(request),
+        Frame::Help(help) => FrameRead::Help(help),
     }
 }

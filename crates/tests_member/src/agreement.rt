@@ -311,7 +311,7 @@ impl Trial {
 
     /// A call of any kind.
     fn call<R: Abort>(&mut self, rt: &R, alloc: Global, dice: &mut Dice) -> Result<(), Fail> {
-        match dice.below(32) {
+        match dice.below(34) {
             0..=2 => self.send(rt, alloc, Call::Cast(&[dice.byte()])),
             3 => self.send_burst(rt, alloc, dice),
             4 => self.forms.call(rt, alloc, too_long(dice)),
@@ -322,6 +322,10 @@ impl Trial {
             }
             9 => self.forms.call(rt, alloc, Call::Stable),
             10 => self.forms.call(rt, alloc, Call::Time),
+            11 | 12 => {
+                let member = dice.below(self.group.size());
+                self.forms.call(rt, alloc, Call::StableOf(member))
+            }
             _ => {
                 let frame = self.frame(alloc, dice)?;
                 self.forms.call(rt, alloc, Call::Take(&frame))
@@ -378,7 +382,12 @@ impl Trial {
         }
         for member in 0..=self.group.size() {
             self.forms.call(rt, alloc, Call::Missing(member))?;
+            self.forms.call(rt, alloc, Call::StableOf(member))?;
         }
+        assert_eq!(rt;
+            self.forms.quick.stable_of(self.me),
+            Some(self.forms.quick.stable())
+        );
         assert!(rt; self.forms.has_same_events()?);
         assert!(rt; are_same_events(self.forms.reader.events(), self.forms.quick.events()));
         if let Some(cores) = &self.forms.cores {

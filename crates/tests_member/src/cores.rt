@@ -139,8 +139,14 @@ impl Both {
     fn read_alike(&self) -> bool {
         self.core.time().as_slice() == self.member.time().as_slice()
             && self.core.stable() == self.member.stable()
+            && self.has_stable_alike(1)
+            && self.has_stable_alike(2)
             && self.misses_alike(1)
             && self.misses_alike(2)
+    }
+
+    fn has_stable_alike(&self, i: u32) -> bool {
+        self.core.stable_of(i) == self.member.stable_of(i)
     }
 
     fn misses_alike(&self, i: u32) -> bool {

@@ -8,6 +8,8 @@ pub mod calls;
 pub mod cores;
 mod courses;
 mod five;
+mod help;
+mod statuses;
 
 pub use crate::examples::bursts::{
     A_BURST_AND_ITS_ANSWER, A_BURST_IS_DELIVERED_BEFORE_WHAT_ITS_FIRST_MESSAGE_MAKES_READY,
@@ -25,6 +27,13 @@ pub use crate::examples::courses::{
 pub use crate::examples::five::{
     A_MEMBER_OF_FIVE_ASKS_FOR_WHAT_IT_LACKS, a_member_of_five_casts_and_tells_its_time,
     a_member_of_five_casts_behind_200_more,
+};
+pub use crate::examples::help::{
+    A_HELP_FRAME_CHANGES_NOTHING, A_HELP_FRAME_IS_REFUSED_BY_THE_FIRST_RULE_THAT_IT_BREAKS,
+};
+pub use crate::examples::statuses::{
+    A_STATUS_IS_NEWS_BY_THE_DELIVERIES_OF_EVERY_SENDER,
+    OF_EVERY_SENDER_THE_LEAST_COUNT_OF_THE_OTHERS_IS_STABLE,
 };
 use bytes::Bytes;
 use cb_history::{Arrival, Name, Outgoing};

@@ -278,6 +278,38 @@ fn a_frame_is_refused_by_the_first_rule_that_it_breaks(rt: HostRuntime) -> Resul
 }
 
 #[test]
+fn a_help_frame_is_refused_by_the_first_rule_that_it_breaks(rt: HostRuntime) -> Result<(), Fail> {
+    examples::run_each(
+        &rt,
+        rt.alloc(),
+        examples::A_HELP_FRAME_IS_REFUSED_BY_THE_FIRST_RULE_THAT_IT_BREAKS,
+    )
+}
+
+#[test]
+fn a_help_frame_changes_nothing(rt: HostRuntime) -> Result<(), Fail> {
+    examples::run_each(&rt, rt.alloc(), examples::A_HELP_FRAME_CHANGES_NOTHING)
+}
+
+#[test]
+fn a_status_is_news_by_the_deliveries_of_every_sender(rt: HostRuntime) -> Result<(), Fail> {
+    examples::run_each(
+        &rt,
+        rt.alloc(),
+        examples::A_STATUS_IS_NEWS_BY_THE_DELIVERIES_OF_EVERY_SENDER,
+    )
+}
+
+#[test]
+fn of_every_sender_the_least_count_of_the_others_is_stable(rt: HostRuntime) -> Result<(), Fail> {
+    examples::run_each(
+        &rt,
+        rt.alloc(),
+        examples::OF_EVERY_SENDER_THE_LEAST_COUNT_OF_THE_OTHERS_IS_STABLE,
+    )
+}
+
+#[test]
 fn an_empty_payload_is_cast(rt: HostRuntime) -> Result<(), Fail> {
     examples::run_each(&rt, rt.alloc(), examples::AN_EMPTY_PAYLOAD_IS_CAST)
 }

@@ -76,6 +76,7 @@ fn asked_text(
         Ok(FrameRead::Cast(cast)) => text_if_asked(alloc, &cast, frame, stable, ranges),
         Ok(FrameRead::Status(_)) => Ok(None),
         Ok(FrameRead::Request(_)) => Ok(None),
+        Ok(FrameRead::Help(_)) => Ok(None),
         Err(FrameFault::NoMemory) => Err(AllocError),
         Err(_) => Ok(None),
     }

@@ -4,7 +4,7 @@ ghost use Rattle.std.specs.Prelude.{◌≡◌, ◌&&◌, not, ◌==◌, IfOk, If
 ghost use Rattle.std.specs.List.{list_any, list_all, range_with_len};
 ghost use Rattle.cb_frames.specs.Fields.{status_fields, StatusFrame};
 ghost use Rattle.cb_history.specs.View.{count};
-ghost use Rattle.cb_history.specs.Known.{known, value_in};
+ghost use Rattle.cb_history.specs.Known.{known, acknowledged_of, value_in};
 ghost use Rattle.cb_history.specs.Answers.{are_members, is_impossible, is_news};
 ghost use Rattle.cb_history.specs.State.{facts_in};
 ghost use Rattle.cb_reference.specs.Messages.{carried_of};
@@ -13,7 +13,7 @@ ghost use Rattle.cb_reference.specs.Arrivals.{answer_to_frame, IsAccepting, Judg
 use crate::arrival::{Accepting, take};
 use crate::casts::Message;
 use crate::facts::{Fact, facts_of};
-use crate::known::{acknowledged, known, value_in};
+use crate::known::{acknowledged_of, known, value_in};
 use crate::member::ReferenceMember;
 use crate::past::Past;
 use crate::view::count;
@@ -71,14 +71,27 @@ fn tells_of_casts(past: &Past<'_>, values: &[Change]) -> bool
     false
 }
 
+/// Some value says that the sender has delivered more of another's casts than the member knows.
+fn tells_of_deliveries(past: &Past<'_>, sender: u32, values: &[Change]) -> bool
+    ensures { result ≡ list_any (λ i. not (i == sender)
+        && nat_lt (acknowledged_of past.now.seat (facts_in past.now) sender i)
+        (value_in values.now i)) (range_with_len 0 past.now.seat.group.size) }
+{
+    for i in 0..past.size() {
+        if i != sender && acknowledged_of(past, sender, i) < value_in(values, i) {
+            return true;
+        }
+    }
+    false
+}
+
 /// A status of another that raises what is known.
 fn is_news(past: &Past<'_>, status: &Status) -> bool
     ensures { result ≡ is_news past.now.seat (facts_in past.now) (status_fields status.now) }
 {
-    let me = past.me();
-    status.sender != me
+    status.sender != past.me()
         && (tells_of_casts(past, &status.values)
-            || acknowledged(past, status.sender) < value_in(&status.values, me))
+            || tells_of_deliveries(past, status.sender, &status.values))
 }
 
 /// What the rules say of a status that is not refused.

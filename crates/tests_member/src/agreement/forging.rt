@@ -2,7 +2,7 @@
 
 use crate::agreement::dice::Dice;
 use bytes::Bytes;
-use cb_frames::{Burst, Cast, Change, Frame, LAST_MEMBER, Range, Request, Status, encode};
+use cb_frames::{Burst, Cast, Change, Frame, Help, LAST_MEMBER, Range, Request, Status, encode};
 use cb_history::Group;
 use std::alloc::Global;
 use std::test::Fail;
@@ -173,12 +173,36 @@ fn request(alloc: Global, target: &Target<'_>, dice: &mut Dice) -> Result<Bytes,
     ))
 }
 
+/// One asks another, the one that is deceived mostly, for casts of a third. Now and then two of them are one.
+fn help(alloc: Global, target: &Target<'_>, dice: &mut Dice) -> Result<Bytes, Fail> {
+    let helper = if dice.one_in(4) {
+        target.member(dice)
+    } else {
+        target.me
+    };
+    let group = target.number(dice);
+    let requester = target.member(dice);
+    let sender = target.member(dice);
+    let ranges = ranges(alloc, dice, target.delivered(sender))?;
+    Ok(text(
+        alloc,
+        Frame::Help(Help {
+            group,
+            requester,
+            helper,
+            sender,
+            ranges,
+        }),
+    ))
+}
+
 /// A frame of any kind with fields near those that could be true.
 pub fn forged(alloc: Global, target: &Target<'_>, dice: &mut Dice) -> Result<Bytes, Fail> {
-    match dice.below(16) {
+    match dice.below(19) {
         0..=2 => request(alloc, target, dice),
         3..=8 => status(alloc, target, dice),
         9..=11 => burst(alloc, target, dice),
+        12..=14 => help(alloc, target, dice),
         _ => cast(alloc, target, dice),
     }
 }

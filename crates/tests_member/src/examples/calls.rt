@@ -44,11 +44,12 @@ pub enum Call<'a> {
     Take(&'a [u8]),
     /// To report to the others what it has.
     Tick,
-    /// Its time, events, entries, how many own casts are stable, and what is missing of a member.
+    /// Its time, events, entries, how many own casts are stable, how many of a member's, and what is missing of one.
     Time,
     Events,
     Entries,
     Stable,
+    StableOf(u32),
     Missing(u32),
     /// The time of a received message, delivered or not, as its sender's casts in the history add up.
     TimeOf(Name),
@@ -218,6 +219,7 @@ fn reading<M: Made>(alloc: Global, member: &M, call: Call<'_>) -> Result<String,
         Call::Events => events_text(alloc, member),
         Call::Entries => entries_text(alloc, member),
         Call::Stable => stable_text(alloc, member),
+        Call::StableOf(i) => count_text(alloc, member.stable_of(i)?),
         Call::Missing(i) => missing_text(alloc, member, i),
         Call::TimeOf(name) => time_of_text(alloc, member, name),
         _ => Err(Fail::new("a call that changes something")),
@@ -238,6 +240,14 @@ fn entries_text<M: Made>(alloc: Global, member: &M) -> Result<String, Fail> {
 
 fn stable_text<M: Made>(alloc: Global, member: &M) -> Result<String, Fail> {
     Ok(member.stable()?.to_string(alloc)?)
+}
+
+/// The count, of who is none nothing.
+pub fn count_text(alloc: Global, count: Option<u32>) -> Result<String, Fail> {
+    match count {
+        Some(count) => Ok(count.to_string(alloc)?),
+        None => Ok(format!(in alloc; "none")?),
+    }
 }
 
 fn missing_text<M: Made>(alloc: Global, member: &M, i: u32) -> Result<String, Fail> {

@@ -1,8 +1,8 @@
 //! Calls of a member that keeps no history, whose texts are those of a member whose history has room.
 
 use crate::examples::calls::{
-    Call, Script, arrival_text, burst_text, cast_text, entries, events, group_of, missing,
-    tick_text, time_of,
+    Call, Script, arrival_text, burst_text, cast_text, count_text, entries, events, group_of,
+    missing, tick_text, time_of,
 };
 use bytes::Bytes;
 use cb_history::{
@@ -57,6 +57,7 @@ fn reading(alloc: Global, core: &CoreMember, call: Call<'_>) -> Result<String, F
     match call {
         Call::Time => Ok(core.time().to_string(alloc)?),
         Call::Stable => Ok(core.stable().to_string(alloc)?),
+        Call::StableOf(i) => count_text(alloc, core.stable_of(i)),
         Call::Missing(i) => missing(alloc, &core.missing(i)),
         _ => Err(Fail::new("a call that a core knows")),
     }

@@ -6,5 +6,5 @@ use Rattle.cb_reference.proofs.known.counted_by.Given as goal
 -- the greatest number so far, or that of the other messages
 abbrev pub invariant-loop-message : goal.invariant-loop-message
 invariant-loop-message l =
-    max l.greatest (greatest_of (counted_by l.casts (map carried_of (drop l.message-index l.seen)) l.k l.me))
-    ≡ greatest_of (counted_by l.casts (map carried_of l.seen) l.k l.me)
+    max l.greatest (greatest_of (counted_by l.casts (map carried_of (drop l.message-index l.seen)) l.k l.i))
+    ≡ greatest_of (counted_by l.casts (map carried_of l.seen) l.k l.i)

@@ -6,4 +6,4 @@ use Rattle.cb_reference.proofs.known.reported_in_statuses.Given as goal
 
 -- the greatest number so far, or that of the other facts
 abbrev pub invariant-loop-fact : goal.invariant-loop-fact
-invariant-loop-fact l = max l.greatest (greatest_of (flat_map (reported_by l.k l.me) (map fact_of (drop l.fact-index l.facts)))) ≡ greatest_of (flat_map (reported_by l.k l.me) (map fact_of l.facts))
+invariant-loop-fact l = max l.greatest (greatest_of (flat_map (reported_by l.k l.i) (map fact_of (drop l.fact-index l.facts)))) ≡ greatest_of (flat_map (reported_by l.k l.i) (map fact_of l.facts))
