@@ -6,7 +6,7 @@ use Rattle.std.proofs.lemmas.List.{append-nil}
 use Rattle.cb_times.specs.declared.name.Name.{Name}
 use Rattle.cb_frames.specs.declared.frame.TheConstants.{LONGEST_PAYLOAD, MOST_MESSAGES}
 use Rattle.cb_frames.specs.declared.fault.FrameFault.{FrameFault}
-use Rattle.cb_frames.specs.Fields.{Load, payloads_of, load_bytes, CastFields, StatusFields, FrameFields, CastFrame, StatusFrame, RequestFrame, Carried, messages_of}
+use Rattle.cb_frames.specs.Fields.{Load, payloads_of, load_bytes, CastFields, StatusFields, FrameFields, CastFrame, StatusFrame, RequestFrame, HelpFrame, Carried, messages_of}
 use Rattle.cb_frames.specs.Text.{text_of}
 use Rattle.cb_history.specs.Load.{FitsFrame}
 use Rattle.cb_history.specs.Read.{frame_read}
@@ -207,6 +207,7 @@ module _ (setting : Setting) (is : IsSetting setting) (s : GroupState) (inv : Is
         (subst (λ (n : ℕ). is_there (casts_in said) x.sender n ≡ true) (eqb-true x.number m.number names.1) there)))
     again (StatusFrame t) read repeat _ = let none : false ≡ true = repeat in absurd cc
     again (RequestFrame r) read repeat _ = let none : false ≡ true = repeat in absurd cc
+    again (HelpFrame h) read repeat _ = let none : false ≡ true = repeat in absurd cc
 
     changed : (frame : FrameFields) (ds : List Message) → frame_read bytes ≡ Ok frame → SaysWhatIsSo setting.group (facts_at s) frame → is_change me said frame ≡ true → ArrivalGood (Ok (Accepted ds true (sent_in_answer me said frame)))
     changed (CastFrame c) ds read so change legal =
@@ -225,6 +226,7 @@ module _ (setting : Setting) (is : IsSetting setting) (s : GroupState) (inv : Is
         (λ m. news_of (StatusFrame t) says m read ∙ or_none (is_there (casts_in said) m.sender m.number)
         ∙ sym (ap (λ (cs : List CastFields). is_there cs m.sender m.number) (ap casts_in push ∙ casts_in-append said (StatusReceived t) ∙ append-nil (casts_in said))))
     changed (RequestFrame r) ds read so change legal = let none : false ≡ true = change in absurd cc
+    changed (HelpFrame h) ds read so change legal = let none : false ≡ true = change in absurd cc
 
     unchanged : (frame : FrameFields) → frame_read bytes ≡ Ok frame → is_change me said frame ≡ false → ArrivalGood (Ok (Accepted [] false (sent_in_answer me said frame)))
     unchanged (CastFrame c) read change legal = let none : true ≡ false = change in absurd cc
@@ -234,6 +236,8 @@ module _ (setting : Setting) (is : IsSetting setting) (s : GroupState) (inv : Is
         same_history (ToTake bytes) (ArrivalAnswer (Ok (Accepted [] false (sent_in_answer me said (RequestFrame r)))))
         (resent_are_honest setting.group (facts_at s) i are own_is_honest (RequestFrame r))
         (λ m. news_of (RequestFrame r) (Accepted [] false (sent_in_answer me said (RequestFrame r))) m read ∙ or_none (is_there (casts_in said) m.sender m.number))
+    unchanged (HelpFrame h) read change legal =
+        same_history (ToTake bytes) (ArrivalAnswer (Ok (Accepted [] false []))) tt (λ m. news_of (HelpFrame h) (Accepted [] false []) m read ∙ or_none (is_there (casts_in said) m.sender m.number))
 
     by_frame : (frame : FrameFields) → frame_read bytes ≡ Ok frame → SaysWhatIsSo setting.group (facts_at s) frame → ArrivalGood (frame_answer me setting.limit now said frame)
     by_frame frame read so =

@@ -13,7 +13,7 @@ use Rattle.cb_frames.proofs.Unique.{some_text}
 use Rattle.cb_history.specs.declared.answer.Outgoing.{Outgoing}
 use Rattle.cb_history.specs.Facts.{EntryFields, facts_of, casts_in, is_there}
 use Rattle.cb_history.specs.View.{view}
-use Rattle.cb_history.specs.Known.{known, missing, ranges_of, acknowledged, stable}
+use Rattle.cb_history.specs.Known.{known, missing, ranges_of, acknowledged_of, stable}
 use Rattle.cb_history.specs.Answers.{delivered, own_casts, window, is_asked_for, sent_in_answer, status_of, request_to}
 use Rattle.cb_history.specs.ArrivalLaws.{AreThere}
 use Rattle.cb_history.specs.GapLaws.{IsMissing}
@@ -68,9 +68,10 @@ module _ (setting : Setting) (s t : GroupState) (inv : IsConsistent setting s) (
 
   -- ---- statuses
 
-  -- what member j hears of member i: how many casts it made, and how many of j's casts it has delivered
+  -- what member j hears of member i: how many casts it made, and how many casts of each other member it has delivered
   pub status_comes : (i j : ℕ) → i < setting.group.size → j < setting.group.size → j ≢ i
-      → (cast_count setting s i ≤ known (facts_at t j) i) × (delivered (seat_at setting i) (facts_at s i) j ≤ acknowledged (seat_at setting j) (facts_at t j) i)
+      → (cast_count setting s i ≤ known (facts_at t j) i)
+      × ((k : ℕ) → k < setting.group.size → k ≢ i → delivered (seat_at setting i) (facts_at s i) k ≤ acknowledged_of (seat_at setting j) (facts_at t j) i k)
   status_comes i j lt_i lt_j ne =
       let k = w.ticks i lt_i in
       let said : StatusFields = status_of (seat_at setting i) (facts_at k.now i) in
@@ -80,10 +81,11 @@ module _ (setting : Setting) (s t : GroupState) (inv : IsConsistent setting s) (
       let heard = status_is_heard (seat_at setting j) setting.limit (a.now.histories j) (text_of (StatusFrame said)) said read (λ e. ne (sym e)) a.welcome a.room in
       let then_heard : IsHeard (seat_at setting j) said (facts_at a.next j) = subst (λ (es : List EntryFields). IsHeard (seat_at setting j) said (facts_of es)) (sym a.history) heard in
       let to_end = answered_to_end a.next a.after in
-      let own_value = (status_says_the_time (seat_at setting i) (facts_at k.now i) i).0 lt_i in
-      let value = (status_says_the_time (seat_at setting i) (facts_at k.now i) j).0 lt_j in (
+      let own_value = (status_says_the_time (seat_at setting i) (facts_at k.now i) i).0 lt_i in (
         omega (arith, own_value, then_heard.known i lt_i (λ e. ne (sym e)), delivered_later s k.now k.before (seat_at setting i) i i, known_later a.next t to_end j i),
-        omega (arith, value, then_heard.acknowledged, delivered_later s k.now k.before (seat_at setting i) i j, acknowledged_later a.next t to_end (seat_at setting j) j i),
+        (λ l lt_l other.
+            let value = (status_says_the_time (seat_at setting i) (facts_at k.now i) l).0 lt_l in
+            omega (arith, value, then_heard.acknowledged l lt_l other, delivered_later s k.now k.before (seat_at setting i) i l, acknowledged_later a.next t to_end (seat_at setting j) j i l)),
       )
 
   -- ---- what member j lacks of member i, and has heard of

@@ -4,11 +4,11 @@ use Rattle.std.proofs.lemmas.List.{length-append}
 use Rattle.cb_history.specs.Group.{Parameters, AreParameters}
 use Rattle.cb_schedules.specs.Schedule.{Setting, IsSetting, ArriveStep, Schedule, SentFrame, GroupState, step_after, nothing_yet, run_from, run}
 use Rattle.cb_schedules.specs.Rounds.{tick_steps, receivers, arrivals_from, arrivals_since, ticked, answered, round_steps, steps_of_rounds, after_rounds, FindNoneFull}
-use Rattle.cb_schedules.specs.RoundLaws.{EverybodyHasEverything, EverybodyHasTheSame, NothingIsMissing, EverythingIsStable, rounds_to_deliver, rounds_to_be_stable}
+use Rattle.cb_schedules.specs.RoundLaws.{EverybodyHasEverything, EverybodyHasTheSame, NothingIsMissing, EverythingIsStable, EverybodyKnowsWhatIsStable, rounds_to_deliver, rounds_to_be_stable}
 use Rattle.cb_schedules.specs.Forgetting.{with_room_behind, cores_from, run_of_cores}
 use Rattle.cb_schedules.specs.ForgettingRounds.{ticked_cores, answered_cores, round_of_cores, rounds_of_cores, cores_after_rounds, BehindRoundsOfCores, NoCoreChangesAnyMore}
 use Rattle.cb_schedules.proofs.Room.{none_full, step_adds, room_enough}
-use Rattle.cb_schedules.proofs.RoundLaws.{rounds_deliver, then_all_have_the_same, then_nothing_is_missing, rounds_make_stable, then_nothing_changes}
+use Rattle.cb_schedules.proofs.RoundLaws.{rounds_deliver, then_all_have_the_same, then_nothing_is_missing, rounds_make_stable, rounds_tell_what_is_stable, then_nothing_changes}
 use Rattle.cb_schedules.proofs.Forgetting.{cores_run_alike}
 
 -- each history has so many entries left
@@ -181,6 +181,13 @@ cores_make_stable setting steps are =
     let room = roomy setting.group steps n 0 in
     subst (EverythingIsStable setting) (sym (rounds_run_alike setting.group steps n 0))
     (rounds_make_stable room steps (is_roomy setting.group steps n 0 are) (none_full_in_rounds setting.group steps n 0))
+
+pub cores_tell_what_is_stable : BehindRoundsOfCores rounds_to_be_stable EverybodyKnowsWhatIsStable
+cores_tell_what_is_stable setting steps are =
+    let n = rounds_to_be_stable setting in
+    let room = roomy setting.group steps n 0 in
+    subst (EverybodyKnowsWhatIsStable setting) (sym (rounds_run_alike setting.group steps n 0))
+    (rounds_tell_what_is_stable room steps (is_roomy setting.group steps n 0 are) (none_full_in_rounds setting.group steps n 0))
 
 pub cores_change_no_more : BehindRoundsOfCores rounds_to_be_stable NoCoreChangesAnyMore
 cores_change_no_more setting steps are more k none =

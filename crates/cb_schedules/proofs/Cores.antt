@@ -6,12 +6,12 @@ use Rattle.cb_times.specs.declared.name.Name.{Name}
 use Rattle.cb_schedules.specs.Schedule.{Setting, Answer, CastAnswer, ArrivalAnswer, TickAnswer, NoSuchMember, NoSuchFrame, NoBytes, Outcome, GroupState, run}
 use Rattle.cb_schedules.specs.Messages.{IsClosedArrival}
 use Rattle.cb_schedules.specs.Headline.{Headline, IsCausalBroadcast, DeliversClosedArrivals, TimesTellHappenedBefore}
-use Rattle.cb_schedules.specs.SentLaws.{IsRefusedByFullHistoryAlone, ArrivalsAreWelcome, OneNameSameBytes, HeardOfIsCast, StableIsDeliveredEverywhere, SendersStayNear}
+use Rattle.cb_schedules.specs.SentLaws.{IsRefusedByFullHistoryAlone, ArrivalsAreWelcome, OneNameSameBytes, HeardOfIsCast, StableIsDeliveredEverywhere, StableOfStandsInEvents, SendersStayNear}
 use Rattle.cb_schedules.specs.StepLaws.{ListsGoOn}
 use Rattle.cb_schedules.specs.Rounds.{IsNotFull}
 use Rattle.cb_schedules.specs.Forgetting.{run_of_cores}
 use Rattle.cb_schedules.specs.ForgettingLaws.{EachScheduleOfCores, EachStepOfCoresGoesOn, IsNotRefused, NoArrivalIsRefused}
-use Rattle.cb_schedules.proofs.Headlines.{each_schedule, headline_holds, arrivals_are_welcome, one_name_same_bytes, heard_of_is_cast, stable_is_delivered_everywhere, senders_stay_near}
+use Rattle.cb_schedules.proofs.Headlines.{each_schedule, headline_holds, arrivals_are_welcome, one_name_same_bytes, heard_of_is_cast, stable_is_delivered_everywhere, stable_of_stands_in_events, senders_stay_near}
 use Rattle.cb_schedules.proofs.StepByStep.{lists_go_on}
 use Rattle.cb_schedules.proofs.Forgetting.{cores_run_as_members, each_of_cores, no_core_is_full, with_room}
 
@@ -96,6 +96,10 @@ heard_of_by_cores_is_cast setting steps are = each_of_cores HeardOfIsCast (each_
 pub stable_of_cores_is_delivered : EachScheduleOfCores StableIsDeliveredEverywhere
 stable_of_cores_is_delivered setting steps are =
     each_of_cores StableIsDeliveredEverywhere (each_schedule StableIsDeliveredEverywhere stable_is_delivered_everywhere) setting.group steps are
+
+pub stable_of_stands_in_events_of_cores : EachScheduleOfCores StableOfStandsInEvents
+stable_of_stands_in_events_of_cores setting steps are =
+    each_of_cores StableOfStandsInEvents (each_schedule StableOfStandsInEvents stable_of_stands_in_events) setting.group steps are
 
 pub cores_stay_near : EachScheduleOfCores SendersStayNear
 cores_stay_near setting steps are = each_of_cores SendersStayNear (each_schedule SendersStayNear senders_stay_near) setting.group steps are

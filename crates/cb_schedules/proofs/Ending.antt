@@ -7,7 +7,7 @@ use Rattle.std.proofs.lemmas.List.{append-nil}
 use Rattle.std.proofs.Math.Seq.{drop-append_seam}
 use Rattle.cb_frames.specs.declared.frame.TheConstants.{MOST_FRAMES}
 use Rattle.cb_frames.specs.declared.fault.FrameFault.{FrameFault}
-use Rattle.cb_frames.specs.Fields.{CastFields, FrameFields, CastFrame, StatusFrame, RequestFrame, last_number}
+use Rattle.cb_frames.specs.Fields.{CastFields, FrameFields, CastFrame, StatusFrame, RequestFrame, HelpFrame, last_number}
 use Rattle.cb_frames.specs.Text.{text_of}
 use Rattle.cb_history.specs.Read.{frame_read}
 use Rattle.cb_history.specs.declared.answer.ArriveRefusal.{ArriveRefusal}
@@ -68,6 +68,7 @@ casts_in_answer setting s inv i (RequestFrame r) =
     let asked = filter_in (is_asked_for r.ranges) (window (seat_at setting i) (facts_at s i)) c (in_take MOST_FRAMES (filter (is_asked_for r.ranges) (window (seat_at setting i) (facts_at s i))) c there) in
     (c, own_cast_read setting s inv i c (filter_in (λ c. ltb (stable (seat_at setting i) (facts_at s i)) (last_number c)) (own_casts (facts_at s i)) c asked.1).1)))
     (λ _. tt)
+casts_in_answer setting s inv i (HelpFrame h) = tt
 
 arrival_puts_out_casts : (setting : Setting) (s : GroupState) → IsConsistent setting s → (i : ℕ) (bytes : List ℕ) → PutsOutCasts (arrive_answer (seat_at setting i) setting.limit (s.histories i) bytes)
 unfolding arrive_answer

@@ -4,7 +4,7 @@ use Rattle.std.specs.List.{AllByRecursion}
 use Rattle.std.proofs.lemmas.Bool.{cases_eq, false_from_ne_true}
 use Rattle.std.proofs.lemmas.List.{append-nil}
 use Rattle.cb_frames.specs.declared.frame.Change.{Change}
-use Rattle.cb_frames.specs.Fields.{CastFields, StatusFields, FrameFields, CastFrame, StatusFrame, RequestFrame, Carried, first_number}
+use Rattle.cb_frames.specs.Fields.{CastFields, StatusFields, FrameFields, CastFrame, StatusFrame, RequestFrame, HelpFrame, Carried, first_number}
 use Rattle.cb_frames.proofs.Carried.{carried_is_of_cast}
 use Rattle.cb_causality.specs.Lists.{Appends}
 use Rattle.cb_history.specs.Group.{Parameters}
@@ -64,6 +64,7 @@ module _ (group : Parameters) (facts after : ℕ → List Fact) (j : ℕ) (f : F
   says_stays (CastFrame c) so = cast_stays c.sender c so
   says_stays (StatusFrame s) so = reported_stays s so
   says_stays (RequestFrame r) so = so
+  says_stays (HelpFrame h) so = so
 
   pub honest_stays : (bytes : List ℕ) → IsHonest group facts bytes → IsHonest group after bytes
   honest_stays bytes honest = record {

@@ -1,9 +1,9 @@
 -- The headline, and what else is true after every schedule.
-use Rattle.std.proofs.Common.{◌≡◌, ◌≢◌, ℕ, zero, suc, ◌<◌, ◌≤◌, true, ltb, [], ◌∷◌, Result, Ok, refl, sym, ap, subst, ◌∙◌, inl, inr, arith}
+use Rattle.std.proofs.Common.{◌≡◌, ◌≢◌, ℕ, zero, suc, ◌<◌, ◌≤◌, true, ◌&&◌, ltb, [], ◌∷◌, Result, Ok, refl, sym, ap, subst, ◌∙◌, inl, inr, arith}
 use Rattle.std.proofs.lemmas.Bool.{cases_eq, cases_lt, ltb-true, and_parts}
 use Rattle.cb_times.specs.declared.name.Name.{Name}
 use Rattle.cb_frames.specs.declared.fault.FrameFault.{FrameFault}
-use Rattle.cb_frames.specs.Fields.{CastFields, FrameFields, CastFrame, StatusFrame, RequestFrame, Carried}
+use Rattle.cb_frames.specs.Fields.{CastFields, FrameFields, CastFrame, StatusFrame, RequestFrame, HelpFrame, Carried}
 use Rattle.cb_frames.specs.Text.{text_of}
 use Rattle.cb_history.specs.Read.{frame_read}
 use Rattle.cb_causality.specs.declared.event.CausalEvent.TheVariants as causal
@@ -15,18 +15,19 @@ use Rattle.cb_causality.proofs.Extending.{extension_erases}
 use Rattle.cb_causality.proofs.OneMessage.{one_name_one_message}
 use Rattle.cb_history.specs.Facts.{casts_in, messages_in}
 use Rattle.cb_history.specs.View.{view, is_among, is_expanded, expanded_in}
-use Rattle.cb_history.specs.Known.{stable}
+use Rattle.cb_history.specs.Known.{stable_of}
 use Rattle.cb_history.specs.Answers.{delivered, own_casts, answer_to, arrive_answer}
 use Rattle.cb_history.specs.Legal.{Call, ToCast, ToTake, ToTick}
 use Rattle.cb_history.specs.OwnFrameLaws.{IsOfTheGroup}
 use Rattle.cb_history.proofs.Views.{filter_in}
+use Rattle.cb_history.proofs.EverySender.{stable_of_me}
 use Rattle.cb_history.proofs.Names.{one_of_is_in}
 use Rattle.cb_history.proofs.Buffers.{cast_of_is_in, in_is_cast_of}
 use Rattle.cb_schedules.specs.Schedule.{Setting, IsSetting, seat_at, Step, Schedule, SentFrame, Asked, answer_of, GroupState, after_asked, step_after, nothing_yet, run_from, run}
 use Rattle.cb_schedules.specs.Messages.{facts_at, stamped_lists, WasCast, HasDelivered, time_from_bytes}
 use Rattle.cb_schedules.specs.Honest.{member_of, SaysWhatIsSo, IsHonest}
 use Rattle.cb_schedules.specs.Consistent.{IsConsistent}
-use Rattle.cb_schedules.specs.SentLaws.{WasSent, SentCastsAreOwn, OneNameSameBytes, SentStatusesAreSo, NobodyAsksItself, CastsThereAreOwn, EventsHaveTimesFromBytes, HeardOfIsCast, DeliveredIsCast, TimesTellOwnCasts, AcknowledgedIsDeliveredThere, StableIsDeliveredEverywhere, StableStandsInEvents, SendersStayNear, IsNoRefusal, IsRefusedByFullHistoryAlone, ArrivalsAreWelcome}
+use Rattle.cb_schedules.specs.SentLaws.{WasSent, SentCastsAreOwn, OneNameSameBytes, SentStatusesAreSo, NobodyAsksItself, HelpersAreThird, CastsThereAreOwn, EventsHaveTimesFromBytes, HeardOfIsCast, DeliveredIsCast, TimesTellOwnCasts, AcknowledgedOfIsDeliveredThere, AcknowledgedIsDeliveredThere, StableOfIsDeliveredEverywhere, StableOfStandsInEvents, StableIsDeliveredEverywhere, StableStandsInEvents, SendersStayNear, IsNoRefusal, IsRefusedByFullHistoryAlone, ArrivalsAreWelcome}
 use Rattle.cb_schedules.specs.Headline.{IsCausalBroadcast, DeliversClosedArrivals, TimesTellHappenedBefore, Headline, EachSchedule, StepsExtendTheStamped, StepsExtendTheCausal}
 use Rattle.cb_schedules.proofs.Stamping.{events_count}
 use Rattle.cb_schedules.proofs.Members.{holder_inside, reported_at_most, is_own, delivered_at_most, own_of_a_number}
@@ -35,7 +36,7 @@ use Rattle.cb_schedules.proofs.Courses.{IsFair, asked_is, step_goes_on, runs_are
 use Rattle.cb_schedules.proofs.Moments.{called, has_seen, seen_has, own_cast_of, has_clock, has_there}
 use Rattle.cb_schedules.proofs.Closing.{seen_number, seen_is_closed, closed_is_seen}
 use Rattle.cb_schedules.proofs.FromBytes.{time_is_clock}
-use Rattle.cb_schedules.proofs.Knowing.{acknowledged_is_so, heard_is_so, stable_is_so, near_is_so, is_welcome}
+use Rattle.cb_schedules.proofs.Knowing.{acknowledged_of_is_so, heard_is_so, stable_of_is_so, stable_is_so, near_is_so, is_welcome}
 use Rattle.cb_schedules.proofs.Lists.{all_both, all_at_index}
 
 -- a group has another member
@@ -138,11 +139,24 @@ module _ (setting : Setting) (s : GroupState) (inv : IsConsistent setting s) whe
       let both = and_parts (ltb r.requester setting.group.size) (ltb r.asked setting.group.size) it.1.members in
       (ltb-true r.requester setting.group.size both.0, ltb-true r.asked setting.group.size both.1, it.0)
 
+  pub helpers_are_third : HelpersAreThird setting s
+  helpers_are_third frame h sent read =
+      let it = says frame (HelpFrame h) sent read in
+      let all = and_parts (ltb h.requester setting.group.size && ltb h.helper setting.group.size) (ltb h.sender setting.group.size) it.1.members in
+      let both = and_parts (ltb h.requester setting.group.size) (ltb h.helper setting.group.size) all.0 in
+      (ltb-true h.requester setting.group.size both.0, ltb-true h.helper setting.group.size both.1, ltb-true h.sender setting.group.size all.1, it.0.0, it.0.1, it.0.2)
+
   pub casts_there_are_own : CastsThereAreOwn setting s
   casts_there_are_own j c there = in_is_cast_of c (own_casts (facts_at s c.sender)) (is_own setting.group (facts_at s) inv.together j c (cast_of_is_in c (casts_in (facts_at s j)) there))
 
+  pub acknowledged_of_is_delivered_there : AcknowledgedOfIsDeliveredThere setting s
+  acknowledged_of_is_delivered_there j k i lt small = acknowledged_of_is_so setting.group (facts_at s) inv.together j k i lt small
+
   pub acknowledged_is_delivered_there : AcknowledgedIsDeliveredThere setting s
-  acknowledged_is_delivered_there i k lt = acknowledged_is_so setting.group (facts_at s) inv.together i k lt
+  acknowledged_is_delivered_there i k lt = acknowledged_of_is_delivered_there i k i lt lt
+
+  pub stable_of_is_delivered_everywhere : StableOfIsDeliveredEverywhere setting s
+  stable_of_is_delivered_everywhere j i k lt small lt_k ne = stable_of_is_so setting.group (facts_at s) inv.together j i k lt small lt_k ne
 
   pub stable_is_delivered_everywhere : StableIsDeliveredEverywhere setting s
   stable_is_delivered_everywhere i j lt lt_j ne = stable_is_so setting.group (facts_at s) inv.together i j lt lt_j ne
@@ -160,17 +174,21 @@ module _ (setting : Setting) (s : GroupState) (inv : IsConsistent setting s) whe
   counted : (j i : ℕ) → counts_of (stamped_lists setting s j) i ≡ delivered (seat_at setting j) (facts_at s j) i
   counted j i = events_count (seat_at setting j) (casts_in (facts_at s j)) (view setting.group.size (facts_at s j)) i
 
-  -- some other member has delivered what is stable, and its sender has cast that
-  stable_is_cast : (i : ℕ) → i < setting.group.size → stable (seat_at setting i) (facts_at s i) ≤ delivered (seat_at setting i) (facts_at s i) i
-  stable_is_cast i lt =
-      let other = another i setting.group.size (inv.legal i lt).group.size.two_or_more in
-      omega (arith, stable_is_delivered_everywhere i other.0 lt other.1 other.2, delivered_is_cast other.0 i other.1 lt)
+  -- some other member has delivered what is stable of the casts of i, and i has cast that
+  stable_of_is_cast : (j i : ℕ) → j < setting.group.size → i < setting.group.size → stable_of (seat_at setting j) (facts_at s j) i ≤ delivered (seat_at setting i) (facts_at s i) i
+  stable_of_is_cast j i lt small =
+      let other = another i setting.group.size (inv.legal i small).group.size.two_or_more in
+      omega (arith, stable_of_is_delivered_everywhere j i other.0 lt small other.1 other.2, delivered_is_cast other.0 i other.1 small)
 
-  pub stable_stands_in_events : StableStandsInEvents setting s
-  stable_stands_in_events i j lt lt_j = elim (cases_eq j i) [
-    | inl same ↦ subst (λ (k : ℕ). stable (seat_at setting i) (facts_at s i) ≤ counts_of (stamped_lists setting s k) i) (sym same) (omega (arith, counted i i, stable_is_cast i lt))
-    | inr other ↦ omega (arith, counted j i, stable_is_delivered_everywhere i j lt lt_j other)
+  pub stable_of_stands_in_events : StableOfStandsInEvents setting s
+  stable_of_stands_in_events j i k lt small lt_k = elim (cases_eq k i) [
+    | inl same ↦ subst (λ (l : ℕ). stable_of (seat_at setting j) (facts_at s j) i ≤ counts_of (stamped_lists setting s l) i) (sym same) (omega (arith, counted i i, stable_of_is_cast j i lt small))
+    | inr other ↦ omega (arith, counted k i, stable_of_is_delivered_everywhere j i k lt small lt_k other)
   ]
+
+  -- so of the casts of the member itself
+  pub stable_stands_in_events : StableStandsInEvents setting s
+  stable_stands_in_events i j lt lt_j = subst (λ (n : ℕ). n ≤ counts_of (stamped_lists setting s j) i) (stable_of_me (seat_at setting i) (facts_at s i)) (stable_of_stands_in_events i i j lt lt lt_j)
 
   pub times_tell_own_casts : TimesTellOwnCasts setting s
   times_tell_own_casts j m one =

@@ -12,7 +12,7 @@ use Rattle.cb_history.specs.declared.answer.TickRefusal.{TickRefusal}
 use Rattle.cb_history.specs.declared.answer.Outgoing.{Outgoing}
 use Rattle.cb_history.specs.Group.{Identity}
 use Rattle.cb_history.specs.Facts.{EntryFields, Fact, StatusReceived, facts_of, casts_in}
-use Rattle.cb_history.specs.Known.{value_in, known, acknowledged}
+use Rattle.cb_history.specs.Known.{value_in, known, acknowledged_of}
 use Rattle.cb_history.specs.Answers.{is_full, are_members, is_impossible, is_news, sent_in_answer, ArrivalSays, answer_to, arrive_answer, status_of, is_new_status, requests, tick_answer}
 use Rattle.cb_history.specs.Legal.{ToTake, arrive_entry, and_entry, history_after}
 use Rattle.cb_history.specs.LegalFacts.{AreFactsOf}
@@ -20,7 +20,7 @@ use Rattle.cb_history.specs.OwnFrameLaws.{IsOfTheGroup}
 use Rattle.cb_history.specs.ArrivalLaws.{AreThere}
 use Rattle.cb_history.proofs.Views.{IsIn}
 use Rattle.cb_history.proofs.Lists.{or_false}
-use Rattle.cb_history.proofs.Rising.{status_is_known, status_is_acknowledged}
+use Rattle.cb_history.proofs.Rising.{status_is_known, status_is_acknowledged_of}
 use Rattle.cb_history.proofs.Histories.{said_facts}
 use Rattle.cb_history.proofs.Arrivals.{accepted_is_there}
 use Rattle.cb_history.proofs.Keeping.{in_range}
@@ -59,28 +59,32 @@ under_true : (a b : Bool) → a ≡ true → (a && b) ≡ false → b ≡ false
 under_true true b e h = h
 under_true false b e h = absurd cc
 
--- what these facts know of the casts, and of the deliveries of this member's, is at least what the status says
+-- what these facts know of the casts, and of what its sender has delivered of the others, is at least what the status says
 pub record IsHeard (seat : Identity) (t : StatusFields) (facts : List Fact) : Type 0 where
   pub known : (k : ℕ) → k < seat.group.size → k ≢ seat.me → value_in t.values k ≤ known facts k
-  pub acknowledged : value_in t.values seat.me ≤ acknowledged seat facts t.sender
+  pub acknowledged : (i : ℕ) → i < seat.group.size → i ≢ t.sender → value_in t.values i ≤ acknowledged_of seat facts t.sender i
 
 no_news_is_heard : (seat : Identity) (t : StatusFields) (facts : List Fact) → t.sender ≢ seat.me → is_news seat facts t ≡ false → IsHeard seat t facts
 no_news_is_heard seat t facts other none =
     let news = under_true (not (eqb t.sender seat.me)) _ (rw (ne_eqb t.sender seat.me other) refl) none in
-    let parts = or_false (list_any (λ k. not (eqb k seat.me) && ltb (known facts k) (value_in t.values k)) (range_with_len 0 seat.group.size)) (ltb (acknowledged seat facts t.sender) (value_in t.values seat.me)) news in
+    let raises_known : ℕ → Bool = λ k. not (eqb k seat.me) && ltb (known facts k) (value_in t.values k) in
+    let raises_acknowledged : ℕ → Bool = λ i. not (eqb i t.sender) && ltb (acknowledged_of seat facts t.sender i) (value_in t.values i) in
+    let parts = or_false (list_any raises_known (range_with_len 0 seat.group.size)) (list_any raises_acknowledged (range_with_len 0 seat.group.size)) news in
     record {
       known = λ k lt ne.
-          let here = none_of (λ k. not (eqb k seat.me) && ltb (known facts k) (value_in t.values k)) (range_with_len 0 seat.group.size) k parts.0 (in_range 0 seat.group.size k (omega arith) (omega (arith, lt))) in
+          let here = none_of raises_known (range_with_len 0 seat.group.size) k parts.0 (in_range 0 seat.group.size k (omega arith) (omega (arith, lt))) in
           ltb-false (known facts k) (value_in t.values k) (under_true (not (eqb k seat.me)) _ (rw (ne_eqb k seat.me ne) refl) here);
-      acknowledged = ltb-false (acknowledged seat facts t.sender) (value_in t.values seat.me) parts.1;
+      acknowledged = λ i lt ne.
+          let here = none_of raises_acknowledged (range_with_len 0 seat.group.size) i parts.1 (in_range 0 seat.group.size i (omega arith) (omega (arith, lt))) in
+          ltb-false (acknowledged_of seat facts t.sender i) (value_in t.values i) (under_true (not (eqb i t.sender)) _ (rw (ne_eqb i t.sender ne) refl) here);
     }
 
 taken_is_heard : (seat : Identity) (t : StatusFields) (facts : List Fact) → IsHeard seat t (facts ++ StatusReceived t ∷ [])
 taken_is_heard seat t facts =
     record {
       known = λ k lt ne. let reported = status_is_known facts t k in omega (arith, reported);
-      acknowledged =
-          let reported : acknowledged seat (facts ++ StatusReceived t ∷ []) t.sender ≡ max (acknowledged seat facts t.sender) (value_in t.values seat.me) = status_is_acknowledged seat facts t t.sender ∙ rw (eq-eqb t.sender t.sender refl) refl in
+      acknowledged = λ i lt ne.
+          let reported : acknowledged_of seat (facts ++ StatusReceived t ∷ []) t.sender i ≡ max (acknowledged_of seat facts t.sender i) (value_in t.values i) = status_is_acknowledged_of seat facts t t.sender i ∙ rw (eq-eqb t.sender t.sender refl) refl in
           omega (arith, reported);
     }
 

@@ -1,30 +1,31 @@
 -- What members know of each other is so: what is stable, everybody has delivered, and no arrival is refused but by a full history.
 use Rattle.std.proofs.Common.{◌≡◌, ◌≢◌, ℕ, ◌+◌, ◌<◌, ◌≤◌, Bool, true, false, not, cond, ◌&&◌, ◌||◌, eqb, ltb, List, [], ◌∷◌, ◌++◌, map, refl, sym, ap, subst, ◌∙◌, arith, inl, inr}
-use Rattle.std.specs.List.{AllByRecursion, flat_map, filter, list_any, range_with_len}
-use Rattle.std.proofs.lemmas.Bool.{cond_both, cases_eq, eqb-true, ltb-true, eq-eqb, ne_eqb, and_parts, both_ways}
+use Rattle.std.specs.List.{AllByRecursion, flat_map, list_any}
+use Rattle.std.proofs.lemmas.Bool.{cond_both, cases_eq, eqb-true, ltb-true, eq-eqb, and_parts, or_cases, both_ways}
 use Rattle.cb_frames.specs.declared.frame.Change.{Change}
-use Rattle.cb_frames.specs.Fields.{CastFields, FrameFields, CastFrame, StatusFrame, RequestFrame, Carried, messages_of, last_number}
+use Rattle.cb_frames.specs.Fields.{CastFields, FrameFields, CastFrame, StatusFrame, RequestFrame, HelpFrame, Carried, messages_of, last_number}
 use Rattle.cb_frames.proofs.Carried.{carried_is_of_cast, last_is_carried}
 use Rattle.cb_diffs.specs.Expansion.{expanded_field}
 use Rattle.cb_history.specs.Group.{Parameters, Identity}
 use Rattle.cb_history.specs.Facts.{EntryFields, Fact, OwnCast, CastReceived, StatusReceived, OwnStatus, casts_in, messages_in, is_there}
 use Rattle.cb_history.specs.View.{view, is_expanded, expanded_in}
-use Rattle.cb_history.specs.Known.{greatest_of, value_in, reported_of, counted_in_times, known, reported_by, counted_by, acknowledged, least_of, stable}
+use Rattle.cb_history.specs.Known.{greatest_of, value_in, reported_of, counted_in_times, known, reported_by, counted_by, acknowledged_of, acknowledged_by, stable_of, stable}
 use Rattle.cb_history.specs.Answers.{delivered, own_casts, is_full, group_of, are_members, is_impossible, is_repeat, is_overlap, is_too_far, is_change, frame_answer}
 use Rattle.cb_history.specs.OwnFrameLaws.{IsOfTheGroup}
-use Rattle.cb_history.proofs.Views.{IsIn, filter_in, in_filter}
+use Rattle.cb_history.proofs.Views.{IsIn, filter_in}
 use Rattle.cb_history.proofs.Lists.{carried_there, all_of}
 use Rattle.cb_history.proofs.Loads.{some_at}
 use Rattle.cb_history.proofs.Times.{seen_is_expanded}
 use Rattle.cb_history.proofs.Rising.{greatest_append, all_at_most}
+use Rattle.cb_history.proofs.EverySender.{stable_of_me}
 use Rattle.cb_history.proofs.Windows.{own_casts_are_near_stable}
 use Rattle.cb_history.proofs.Runs.{message_is_there, own_is_delivered}
 use Rattle.cb_history.proofs.Buffers.{cast_of_is_in}
 use Rattle.cb_schedules.specs.Honest.{member_of, SaysWhatIsSo, IsSo, AreTogether}
 use Rattle.cb_schedules.specs.SentLaws.{IsNoRefusal}
 use Rattle.cb_schedules.proofs.Members.{carrier_there, stands_at, inside, is_own, own_is_there, own_of_a_number, told_at_most, reported_at_most, delivered_at_most}
-use Rattle.cb_schedules.proofs.Lists.{in_map, any_in}
-use Rattle.cb_history.proofs.Keeping.{in_range}
+use Rattle.cb_schedules.proofs.Lists.{any_in}
+use Rattle.cb_history.proofs.Keeping.{least_at_most, others_of, other_in}
 
 -- ---- lists
 
@@ -39,13 +40,6 @@ each_below g most (m ∷ ms) each =
     let here = each m (inl refl) in
     let others = each_below g most ms (λ n later. each n (inr later)) in
     omega (arith, here, others)
-
-least_below : (ns : List ℕ) (n : ℕ) → IsIn n ns → least_of ns ≤ n
-least_below [] n there = absurd there
-least_below (m ∷ []) n (inl same) = omega (arith, same)
-least_below (m ∷ []) n (inr later) = absurd later
-least_below (m ∷ l ∷ ns) n (inl same) = omega (arith, same)
-least_below (m ∷ l ∷ ns) n (inr later) = let others = least_below (l ∷ ns) n later in omega (arith, others)
 
 -- ---- what a member knows
 
@@ -69,29 +63,35 @@ module _ (group : Parameters) (facts : ℕ → List Fact) (h : AreTogether group
       (λ other. others)
 
   -- from the times of delivered messages
-  counted_below : (i k : ℕ) → i < group.size → greatest_of (counted_by (casts_in (facts i)) (view group.size (facts i)) k i) ≤ has_delivered k i
-  counted_below i k lt =
-      all_at_most (λ m. eqb m.sender k) (λ m. expanded_field (casts_in (facts i)) m.sender m.number i) (has_delivered k i) (view group.size (facts i)) (λ m there of_k.
-      let stands = stands_at group facts h i lt in
+  counted_below : (j k i : ℕ) → j < group.size → i < group.size → greatest_of (counted_by (casts_in (facts j)) (view group.size (facts j)) k i) ≤ has_delivered k i
+  counted_below j k i lt small =
+      all_at_most (λ m. eqb m.sender k) (λ m. expanded_field (casts_in (facts j)) m.sender m.number i) (has_delivered k i) (view group.size (facts j)) (λ m there of_k.
+      let stands = stands_at group facts h j lt in
       let there_too = stands.there m there in
-      let expanded = seen_is_expanded (member_of group i) (casts_in (facts i)) (view group.size (facts i)) (own_casts (facts i)) m stands there in
-      let told = told_at_most group facts h i m i lt there_too expanded in
-      subst (λ (j : ℕ). expanded_field (casts_in (facts i)) m.sender m.number i ≤ has_delivered j i) (eqb-true m.sender k of_k) told)
+      let expanded = seen_is_expanded (member_of group j) (casts_in (facts j)) (view group.size (facts j)) (own_casts (facts j)) m stands there in
+      let told = told_at_most group facts h j m i small there_too expanded in
+      subst (λ (l : ℕ). expanded_field (casts_in (facts j)) m.sender m.number i ≤ has_delivered l i) (eqb-true m.sender k of_k) told)
 
   -- so what is acknowledged is delivered
-  pub acknowledged_is_so : (i k : ℕ) → i < group.size → acknowledged (member_of group i) (facts i) k ≤ has_delivered k i
-  acknowledged_is_so i k lt =
-      let parts = greatest_append (flat_map (reported_by k i) (facts i)) (counted_by (casts_in (facts i)) (view group.size (facts i)) k i) in
-      omega (arith, parts, reported_below i k (facts i) (h.so i), counted_below i k lt)
+  pub acknowledged_of_is_so : (j k i : ℕ) → j < group.size → i < group.size → acknowledged_of (member_of group j) (facts j) k i ≤ has_delivered k i
+  acknowledged_of_is_so j k i lt small =
+      let parts = greatest_append (flat_map (reported_by k i) (facts j)) (counted_by (casts_in (facts j)) (view group.size (facts j)) k i) in
+      omega (arith, parts, reported_below i k (facts j) (h.so j), counted_below j k i lt small)
 
-  -- and what is stable, every other member has delivered
+  acknowledged_by_is_so : (j k i : ℕ) → j < group.size → i < group.size → acknowledged_by (member_of group j) (facts j) k i ≤ has_delivered k i
+  acknowledged_by_is_so j k i lt small =
+      cond_both (eqb k j) (has_delivered j i) (acknowledged_of (member_of group j) (facts j) k i) (λ (n : ℕ). n ≤ has_delivered k i)
+      (λ same. subst (λ (l : ℕ). has_delivered l i ≤ has_delivered k i) (eqb-true k j same) (omega arith)) (λ other. acknowledged_of_is_so j k i lt small)
+
+  -- and what is stable of the casts of i, every member but i has delivered
+  pub stable_of_is_so : (j i k : ℕ) → j < group.size → i < group.size → k < group.size → k ≢ i → stable_of (member_of group j) (facts j) i ≤ has_delivered k i
+  stable_of_is_so j i k lt small lt_k ne =
+      let least = least_at_most (λ l. acknowledged_by (member_of group j) (facts j) l i) (others_of group.size i) k (other_in group.size i k lt_k ne) in
+      omega (arith, least, acknowledged_by_is_so j k i lt small)
+
+  -- so of the casts of the member itself
   pub stable_is_so : (i j : ℕ) → i < group.size → j < group.size → j ≢ i → stable (member_of group i) (facts i) ≤ has_delivered j i
-  stable_is_so i j lt lt_j ne =
-      let other : not (eqb j i) ≡ true = rw (ne_eqb j i ne) refl in
-      let one = in_map (acknowledged (member_of group i) (facts i)) (filter (λ k. not (eqb k i)) (range_with_len 0 group.size)) j
-      (in_filter (λ k. not (eqb k i)) (range_with_len 0 group.size) j other (in_range 0 group.size j (omega arith) (omega (arith, lt_j)))) in
-      let least = least_below (map (acknowledged (member_of group i) (facts i)) (filter (λ k. not (eqb k i)) (range_with_len 0 group.size))) (acknowledged (member_of group i) (facts i) j) one in
-      omega (arith, least, acknowledged_is_so i j lt)
+  stable_is_so i j lt lt_j ne = subst (λ (n : ℕ). n ≤ has_delivered j i) (stable_of_me (member_of group i) (facts i)) (stable_of_is_so i i j lt lt lt_j ne)
 
   -- so it has cast at most a window more
   pub near_is_so : (i j : ℕ) → i < group.size → j < group.size → has_delivered i i ≤ has_delivered j i + group.window
@@ -175,6 +175,14 @@ module _ (group : Parameters) (facts : ℕ → List Fact) (h : AreTogether group
         let less = ltb-true (has_delivered j j) (value_in s.values j) above in
         omega (arith, value, most, less)) impossible
     is_possible (RequestFrame r) so itself = so (eqb-true r.requester r.asked itself)
+    is_possible (HelpFrame h) so twice =
+        elim (or_cases (eqb h.requester h.helper || eqb h.requester h.sender) (eqb h.helper h.sender) twice) [
+          | inl with_requester ↦ elim (or_cases (eqb h.requester h.helper) (eqb h.requester h.sender) with_requester) [
+            | inl same ↦ so.0 (eqb-true h.requester h.helper same)
+            | inr same ↦ so.1 (eqb-true h.requester h.sender same)
+          ]
+          | inr same ↦ so.2 (eqb-true h.helper h.sender same)
+        ]
 
     -- Where one of its messages is there, it is there itself, and so are all of them: it is a repeat, and no overlap.
     repeats : (c : CastFields) → IsIn c (own_casts (facts c.sender)) → (m : Carried) → IsIn m (messages_of c) → is_there (casts_in (facts j)) m.sender m.number ≡ true → is_repeat (facts j) (CastFrame c) ≡ true
@@ -197,6 +205,7 @@ module _ (group : Parameters) (facts : ℕ → List Fact) (h : AreTogether group
         both_ways (is_repeat (facts j) (CastFrame c)) new (repeats c (cast_of_is_in c (own_casts (facts c.sender)) so) m has there)
     is_apart (StatusFrame s) so new overlap = let none : false ≡ true = overlap in absurd cc
     is_apart (RequestFrame r) so new overlap = let none : false ≡ true = overlap in absurd cc
+    is_apart (HelpFrame h) so new overlap = let none : false ≡ true = overlap in absurd cc
 
     -- nor is it too far
     pub is_near : (frame : FrameFields) → SaysWhatIsSo group facts frame → is_too_far me (facts j) frame ≡ true → ⊥
@@ -209,6 +218,7 @@ module _ (group : Parameters) (facts : ℕ → List Fact) (h : AreTogether group
         omega (arith, number, beyond, near)
     is_near (StatusFrame s) so far = let none : false ≡ true = far in absurd cc
     is_near (RequestFrame r) so far = let none : false ≡ true = far in absurd cc
+    is_near (HelpFrame h) so far = let none : false ≡ true = far in absurd cc
 
     not_false : (b : Bool) → not b ≡ true → b ≡ true → ⊥
     not_false true turned e = absurd cc

@@ -5,18 +5,18 @@ use Rattle.std.specs.List.{AllByRecursion}
 use Rattle.std.proofs.lemmas.Bool.{cond_both, eqb-true}
 use Rattle.std.proofs.lemmas.List.{append-nil}
 use Rattle.cb_frames.specs.declared.fault.FrameFault.{FrameFault}
-use Rattle.cb_frames.specs.Fields.{Load, CastFields, FrameFields, CastFrame, StatusFrame, RequestFrame}
+use Rattle.cb_frames.specs.Fields.{Load, CastFields, FrameFields, CastFrame, StatusFrame, RequestFrame, HelpFrame}
 use Rattle.cb_history.specs.Read.{frame_read}
 use Rattle.cb_history.specs.declared.answer.ArriveRefusal.{ArriveRefusal}
 use Rattle.cb_history.specs.declared.answer.TickRefusal.{TickRefusal}
 use Rattle.cb_history.specs.declared.answer.Outgoing.{Outgoing}
 use Rattle.cb_history.specs.Group.{Identity}
 use Rattle.cb_history.specs.Facts.{EntryFields, ArriveEntry, TickEntry, Fact, OwnCast, CastReceived, StatusReceived, OwnStatus, arrival_said, status_said, said_by, facts_of, casts_in, messages_in, cast_in, is_there}
-use Rattle.cb_history.specs.Known.{known, expanded_count, acknowledged}
+use Rattle.cb_history.specs.Known.{known, expanded_count, acknowledged_of}
 use Rattle.cb_history.specs.Answers.{delivered, own_casts, ArrivalSays, Accepted, Repeat, arrive_answer, tick_answer}
 use Rattle.cb_history.specs.Legal.{Call, ToCast, ToTake, ToTick, arrive_entry, tick_entry, and_entry, history_after}
 use Rattle.cb_history.proofs.Lists.{flat_map-append}
-use Rattle.cb_history.proofs.Rising.{known_rises, nothing_falls}
+use Rattle.cb_history.proofs.Rising.{known_rises, acknowledged_of_rises}
 use Rattle.cb_history.proofs.Times.{count_grows}
 use Rattle.cb_history.proofs.Runs.{count_rises}
 use Rattle.cb_history.proofs.Arrivals.{there_stays}
@@ -78,12 +78,14 @@ arrival_is_no_cast : (r : Result FrameFields FrameFault) → own_casts (arrival_
 arrival_is_no_cast (Ok (CastFrame c)) = refl
 arrival_is_no_cast (Ok (StatusFrame s)) = refl
 arrival_is_no_cast (Ok (RequestFrame r)) = refl
+arrival_is_no_cast (Ok (HelpFrame h)) = refl
 arrival_is_no_cast (Err fault) = refl
 
 status_is_no_cast : (r : Result FrameFields FrameFault) → own_casts (status_said r) ≡ []
 status_is_no_cast (Ok (CastFrame c)) = refl
 status_is_no_cast (Ok (StatusFrame s)) = refl
 status_is_no_cast (Ok (RequestFrame r)) = refl
+status_is_no_cast (Ok (HelpFrame h)) = refl
 status_is_no_cast (Err fault) = refl
 
 one_entry : (entries : List EntryFields) (e : EntryFields) → own_casts (said_by e) ≡ [] → MoreFacts (facts_of entries) (facts_of (entries ++ e ∷ []))
@@ -172,8 +174,8 @@ module _ (s t : GroupState) (later : IsLater s t) where
   pub known_later : (j i : ℕ) → known (facts_at s j) i ≤ known (facts_at t j) i
   known_later j i = later_grows (λ fs. known fs i) (λ fs f. known_rises fs f i) (facts_at s j) (facts_at t j) (later.facts j)
 
-  pub acknowledged_later : (seat : Identity) (i k : ℕ) → acknowledged seat (facts_at s i) k ≤ acknowledged seat (facts_at t i) k
-  acknowledged_later seat i k = later_grows (λ fs. acknowledged seat fs k) (λ fs f. (nothing_falls seat fs f).1 k) (facts_at s i) (facts_at t i) (later.facts i)
+  pub acknowledged_later : (seat : Identity) (j k i : ℕ) → acknowledged_of seat (facts_at s j) k i ≤ acknowledged_of seat (facts_at t j) k i
+  acknowledged_later seat j k i = later_grows (λ fs. acknowledged_of seat fs k i) (λ fs f. acknowledged_of_rises seat fs f k i) (facts_at s j) (facts_at t j) (later.facts j)
 
   pub delivered_later : (seat : Identity) (j i : ℕ) → delivered seat (facts_at s j) i ≤ delivered seat (facts_at t j) i
   delivered_later seat j i = later_grows (λ fs. delivered seat fs i) (λ fs f. count_grows seat.group.size fs f i) (facts_at s j) (facts_at t j) (later.facts j)

@@ -1,46 +1,48 @@
 -- When everything is delivered, one round more makes it stable, and then nothing changes any more.
-use Rattle.std.proofs.Common.{◌≡◌, ◌≢◌, ℕ, zero, suc, ◌<◌, ◌≤◌, Bool, true, false, not, ◌&&◌, eqb, ltb, List, [], ◌∷◌, ◌++◌, map, Option, Some, None, Result, refl, sym, ap, subst, ◌∙◌, append_assoc, arith, inl, inr}
+use Rattle.std.proofs.Common.{◌≡◌, ◌≢◌, ℕ, zero, suc, ◌<◌, ◌≤◌, Bool, true, false, not, ◌&&◌, eqb, ltb, List, [], ◌∷◌, ◌++◌, Option, Some, None, Result, refl, sym, ap, subst, ◌∙◌, append_assoc, arith, inl, inr}
 use Rattle.std.specs.List.{filter, list_any, range_with_len}
-use Rattle.std.proofs.lemmas.Bool.{cond_both, cases_eq, eq-eqb, eqb-true, ne_eqb, le-ltb, both_ways}
+use Rattle.std.proofs.lemmas.Bool.{cond_both, cases_eq, cases_lt, eq-eqb, eqb-true, le-ltb, both_ways}
 use Rattle.std.proofs.lemmas.List.{append-nil}
 use mathlib.Core.Path.{fun_ext}
 use Rattle.cb_frames.specs.declared.fault.FrameFault.{FrameFault}
-use Rattle.cb_frames.specs.Fields.{Load, CastFields, StatusFields, FrameFields, CastFrame, StatusFrame, RequestFrame, Carried, messages_of, last_number}
+use Rattle.cb_frames.specs.Fields.{Load, CastFields, StatusFields, FrameFields, CastFrame, StatusFrame, RequestFrame, HelpFrame, Carried, messages_of, last_number}
 use Rattle.cb_frames.proofs.Carried.{carried_is_of_cast}
 use Rattle.cb_frames.specs.Text.{text_of}
+use Rattle.cb_diffs.specs.Expansion.{expanded_field}
 use Rattle.cb_history.specs.declared.answer.ArriveRefusal.{ArriveRefusal}
 use Rattle.cb_history.specs.declared.answer.TickRefusal.{TickRefusal}
 use Rattle.cb_history.specs.declared.answer.Outgoing.{Outgoing}
 use Rattle.cb_history.specs.Group.{Identity}
 use Rattle.cb_history.specs.Facts.{EntryFields, TickEntry, Fact, OwnCast, CastReceived, StatusReceived, OwnStatus, status_said, facts_of, casts_in, is_there}
 use Rattle.cb_history.specs.View.{view, counts}
-use Rattle.cb_history.specs.Known.{value_in, known, acknowledged, least_of, stable}
+use Rattle.cb_history.specs.Known.{value_in, known, acknowledged_of, acknowledged_by, acknowledged, stable}
 use Rattle.cb_history.specs.Answers.{delivered, own_casts, is_full, are_members, is_impossible, is_repeat, is_news, ArrivalSays, frame_answer, answer_to, arrive_answer, status_of, last_status, says_the_time, is_new_status, tick_answer}
 use Rattle.cb_history.specs.Legal.{Call, ToCast, ToTake, ToTick, arrive_entry, tick_entry, and_entry, history_after}
 use Rattle.cb_history.specs.LegalFacts.{AreFactsOf}
 use Rattle.cb_history.proofs.Views.{IsIn, all_in_range}
-use Rattle.cb_history.proofs.Lists.{all_of, carried_there, both_false}
+use Rattle.cb_history.proofs.Lists.{all_of, carried_there, both_false, among_is}
+use Rattle.cb_history.proofs.Names.{view_holds_the_first}
 use Rattle.cb_history.proofs.Walks.{view_reported}
-use Rattle.cb_history.proofs.Times.{seen_is_there, all_from_range, count_grows}
+use Rattle.cb_history.proofs.Times.{seen_is_there, all_from_range, count_grows, own_field}
 use Rattle.cb_history.proofs.Statuses.{last_status_with_one_more, new_status_is_a_new_time}
 use Rattle.cb_history.proofs.Prefixes.{prefix_of_facts_is_legal, last_fact_is_a_step}
 use Rattle.cb_history.proofs.ReadBack.{status_read}
 use Rattle.cb_history.proofs.Requests.{own_frames_have_texts}
-use Rattle.cb_history.proofs.RisingByCasts.{delivered_is_known}
+use Rattle.cb_history.proofs.Rising.{acknowledged_parts}
+use Rattle.cb_history.proofs.RisingByCasts.{one_at_most, delivered_is_known}
 use Rattle.cb_history.proofs.Acknowledged.{acknowledged_is_delivered}
 use Rattle.cb_history.proofs.Buffers.{cast_of_is_in}
-use Rattle.cb_history.proofs.Keeping.{in_range, range_in}
-use Rattle.cb_history.proofs.Views.{filter_in, in_filter, not_true}
+use Rattle.cb_history.proofs.Keeping.{at_most_least, others_of, other_in, other_is, range_in}
 use Rattle.cb_schedules.specs.Schedule.{Setting, IsSetting, seat_at, Step, Asked, Calls, TickAnswer, GroupState, with_history, after_asked, step_after, run_from}
 use Rattle.cb_schedules.specs.Messages.{facts_at}
 use Rattle.cb_schedules.specs.Honest.{SaysWhatIsSo, IsHonest}
 use Rattle.cb_schedules.specs.Consistent.{IsConsistent}
 use Rattle.cb_schedules.specs.Rounds.{IsNotFull}
-use Rattle.cb_schedules.specs.RoundLaws.{IsNoCastStep, EverythingIsStable, NothingChangesAnyMore, cast_count}
+use Rattle.cb_schedules.specs.RoundLaws.{IsNoCastStep, EverythingIsStable, EverybodyKnowsWhatIsStable, NothingChangesAnyMore, cast_count}
 use Rattle.cb_schedules.proofs.Calling.{facts_push}
 use Rattle.cb_schedules.proofs.Courses.{IsFair, asked_is, step_goes_on}
 use Rattle.cb_schedules.proofs.Members.{own_is_there, own_sender, delivered_at_most, stands_at, inside}
-use Rattle.cb_schedules.proofs.Knowing.{value_below, own_number}
+use Rattle.cb_schedules.proofs.Knowing.{value_below, stable_of_is_so, own_number}
 use Rattle.cb_schedules.proofs.Later.{IsLater, grows, no_cast, delivered_later, cast_count_later, later_joins}
 use Rattle.cb_schedules.proofs.Waves.{Waves}
 use Rattle.cb_schedules.proofs.Asking.{status_comes}
@@ -99,12 +101,28 @@ all_old seat facts (f ∷ more) are most old =
     subst (λ (fs : List Fact). is_new_status seat fs ≡ false) joined
     (all_old seat (facts ++ f ∷ []) more all (λ k lt. let here = few k lt in omega (arith, here, count_grows seat.group.size facts f k)) one)
 
+-- ---- a member's messages count themselves
+
+-- so what is delivered of it is known to be delivered by it
+own_column_is_known : (seat : Identity) (facts : List Fact) (k : ℕ) → AreFactsOf seat facts → delivered seat facts k ≤ acknowledged_of seat facts k k
+own_column_is_known seat facts k are = elim (cases_lt 0 (delivered seat facts k)) [
+  | inr none ↦ omega (arith, none)
+  | inl some ↦
+      let last : Carried = record { sender = k; number = delivered seat facts k; payload = [] } in
+      let found = among_is (view seat.group.size facts) last ((view_holds_the_first seat facts last are).1 (omega (arith, some), omega arith)) in
+      let most = one_at_most (λ m. eqb m.sender k) (λ m. expanded_field (casts_in facts) m.sender m.number k) (view seat.group.size facts) found.0 found.1 (eq-eqb found.0.sender k found.2) in
+      let own : expanded_field (casts_in facts) found.0.sender found.0.number k ≡ delivered seat facts k =
+      ap (λ (j : ℕ). expanded_field (casts_in facts) j found.0.number k) found.2 ∙ own_field (casts_in facts) k found.0.number ∙ found.3 in
+      let parts = acknowledged_parts seat facts k k in
+      omega (arith, most, own, parts)
+]
+
 -- ---- a quiet group
 
--- Everything is delivered everywhere, every sender knows it, and every member's last status says its time.
+-- Everything is delivered everywhere, every other member knows it of each, and every member's last status says its time.
 pub record IsQuiet (setting : Setting) (facts : ℕ → List Fact) : Type 0 where
   pub everywhere : (j i : ℕ) → j < setting.group.size → i < setting.group.size → delivered (seat_at setting j) (facts j) i ≡ delivered (seat_at setting i) (facts i) i
-  pub known_there : (j i : ℕ) → j < setting.group.size → i < setting.group.size → j ≢ i → delivered (seat_at setting j) (facts j) j ≤ acknowledged (seat_at setting j) (facts j) i
+  pub known_there : (m j i : ℕ) → m < setting.group.size → j < setting.group.size → i < setting.group.size → m ≢ j → delivered (seat_at setting j) (facts j) i ≤ acknowledged_of (seat_at setting m) (facts m) j i
   pub reported : (j : ℕ) → j < setting.group.size → is_new_status (seat_at setting j) (facts j) ≡ false
 
 -- a round from where everything is delivered ends so
@@ -135,24 +153,21 @@ module _ (setting : Setting) (s t : GroupState) (inv : IsConsistent setting s) (
       subst (λ (fs : List Fact). delivered (seat_at setting j) fs i ≤ delivered (seat_at setting j) (facts_at k.next j) i) m.is
       (omega (arith, still_delivered j i lt lt_i, count_is i lt_i, all j i lt lt_i, now, tick))) next_reported)
 
+  -- its status tells member m how far j has got with the others, and its messages how far with itself
+  then_known : (m j i : ℕ) → m < setting.group.size → j < setting.group.size → i < setting.group.size → m ≢ j → delivered (seat_at setting j) (facts_at t j) i ≤ acknowledged_of (seat_at setting m) (facts_at t m) j i
+  then_known m j i lt_m lt_j lt_i ne = elim (cases_eq i j) [
+    | inl own ↦
+        let told = own_column_is_known (seat_at setting m) (facts_at t m) j (w.end_consistent.together.legal m lt_m) in
+        subst (λ (k : ℕ). delivered (seat_at setting j) (facts_at t j) k ≤ acknowledged_of (seat_at setting m) (facts_at t m) j k) (sym own) (omega (arith, told, still_delivered m j lt_m lt_j))
+    | inr other ↦
+        let comes = (status_comes setting s t inv w j m lt_j lt_m ne).1 i lt_i other in
+        omega (arith, comes, all j i lt_j lt_i, still_delivered j i lt_j lt_i, count_is i lt_i)
+  ]
+
   pub round_makes_quiet : IsQuiet setting (facts_at t)
-  round_makes_quiet = record {
-    everywhere = still_delivered;
-    known_there = λ j i lt_j lt_i ne.
-        let comes = (status_comes setting s t inv w i j lt_i lt_j ne).1 in
-        omega (arith, comes, all i j lt_i lt_j, count_is j lt_j);
-    reported = then_reported;
-  }
+  round_makes_quiet = record { everywhere = still_delivered; known_there = then_known; reported = then_reported }
 
 -- ---- it is stable
-
-at_least : (g : ℕ → ℕ) (ks : List ℕ) (n k : ℕ) → IsIn k ks → ((j : ℕ) → IsIn j ks → n ≤ g j) → n ≤ least_of (map g ks)
-at_least g [] n k there each = absurd there
-at_least g (j ∷ []) n k there each = each j (inl refl)
-at_least g (j ∷ i ∷ ks) n k there each =
-    let here = each j (inl refl) in
-    let rest = at_least g (i ∷ ks) n i (inl refl) (λ l later. each l (inr later)) in
-    omega (arith, here, rest)
 
 filter_none : (p : CastFields → Bool) (casts : List CastFields) → ((c : CastFields) → IsIn c casts → p c ≡ false) → filter p casts ≡ []
 filter_none p [] each = refl
@@ -169,13 +184,21 @@ module _ (setting : Setting) (s : GroupState) (inv : IsConsistent setting s) (qu
       let are = inv.together.legal i lt in
       let most = (acknowledged_is_delivered (seat_at setting i) (facts_at s i) are).1 in
       let (k, lt_k, ne) = another setting.group.size i are.group.size.two_or_more in
-      let others = filter (λ k. not (eqb k i)) (range_with_len 0 setting.group.size) in
-      let there = in_filter (λ k. not (eqb k i)) (range_with_len 0 setting.group.size) k (rw (ne_eqb k i ne) refl) (in_range 0 setting.group.size k (omega arith) (omega (arith, lt_k))) in
-      let low = at_least (acknowledged (seat_at setting i) (facts_at s i)) others (delivered (seat_at setting i) (facts_at s i) i) k there (λ j other.
-      let parts = filter_in (λ k. not (eqb k i)) (range_with_len 0 setting.group.size) j other in
-      let small = range_in 0 setting.group.size j parts.1 in
-      quiet.known_there i j lt (omega (arith, small)) (λ e. both_ways (eqb j i) (not_true (eqb j i) parts.0) (eq-eqb j i (sym e)))) in
+      let low = at_most_least (acknowledged (seat_at setting i) (facts_at s i)) (others_of setting.group.size i) (delivered (seat_at setting i) (facts_at s i) i) k (other_in setting.group.size i k lt_k ne) (λ j there.
+      let other = other_is setting.group.size i j there in
+      omega (arith, quiet.everywhere j i other.0 lt, quiet.known_there i j i lt other.0 lt (λ e. other.1 (sym e)))) in
       omega (arith, most, low)
+
+  pub everybody_knows_what_is_stable : EverybodyKnowsWhatIsStable setting s
+  everybody_knows_what_is_stable j i lt_j lt =
+      let (k, lt_k, ne) = another setting.group.size i (inv.together.legal i lt).group.size.two_or_more in
+      let most = stable_of_is_so setting.group (facts_at s) inv.together j i k lt_j lt lt_k ne in
+      let low = at_most_least (λ l. acknowledged_by (seat_at setting j) (facts_at s j) l i) (others_of setting.group.size i) (cast_count setting s i) k (other_in setting.group.size i k lt_k ne) (λ l there.
+      let lt_l = (other_is setting.group.size i l there).0 in
+      cond_both (eqb l j) (delivered (seat_at setting j) (facts_at s j) i) (acknowledged_of (seat_at setting j) (facts_at s j) l i) (λ (n : ℕ). cast_count setting s i ≤ n)
+      (λ _. omega (arith, quiet.everywhere j i lt_j lt))
+      (λ other. omega (arith, quiet.everywhere l i lt_l lt, quiet.known_there j l i lt_j lt_l lt (λ e. both_ways (eqb l j) other (eq-eqb l j (sym e)))))) in
+      omega (arith, most, low, quiet.everywhere k i lt_k lt)
 
   pub everything_is_stable : EverythingIsStable setting s
   everything_is_stable i lt = (
@@ -222,14 +245,18 @@ module _ (setting : Setting) (s : GroupState) (inv : IsConsistent setting s) (qu
       | inr other ↦
           let value = λ (k : ℕ). value_below (delivered (seat_at setting t.sender) (facts_at s t.sender)) t.values k so.reached in
           and_false (not (eqb t.sender i)) _
-          (both_false (list_any (λ k. not (eqb k i) && ltb (known (facts_at s i) k) (value_in t.values k)) (range_with_len 0 setting.group.size)) (ltb (acknowledged (seat_at setting i) (facts_at s i) t.sender) (value_in t.values i))
+          (both_false (list_any (λ k. not (eqb k i) && ltb (known (facts_at s i) k) (value_in t.values k)) (range_with_len 0 setting.group.size))
+          (list_any (λ k. not (eqb k t.sender) && ltb (acknowledged_of (seat_at setting i) (facts_at s i) t.sender k) (value_in t.values k)) (range_with_len 0 setting.group.size))
           (none_in_list (λ k. not (eqb k i) && ltb (known (facts_at s i) k) (value_in t.values k)) (range_with_len 0 setting.group.size) (λ k there.
           let small = range_in 0 setting.group.size k there in
           let said = value k in
           and_false (not (eqb k i)) (ltb (known (facts_at s i) k) (value_in t.values k)) (le-ltb (known (facts_at s i) k) (value_in t.values k)
           (omega (arith, said, most_of t.sender k so.member (omega (arith, small)), delivered_is_known (seat_at setting i) (facts_at s i) k (inv.together.legal i lt))))))
-          (let said = value i in le-ltb (acknowledged (seat_at setting i) (facts_at s i) t.sender) (value_in t.values i)
-          (omega (arith, said, most_of t.sender i so.member lt, quiet.known_there i t.sender lt so.member (λ e. other (sym e))))))
+          (none_in_list (λ k. not (eqb k t.sender) && ltb (acknowledged_of (seat_at setting i) (facts_at s i) t.sender k) (value_in t.values k)) (range_with_len 0 setting.group.size) (λ k there.
+          let small = range_in 0 setting.group.size k there in
+          let said = value k in
+          and_false (not (eqb k t.sender)) (ltb (acknowledged_of (seat_at setting i) (facts_at s i) t.sender k) (value_in t.values k)) (le-ltb (acknowledged_of (seat_at setting i) (facts_at s i) t.sender k) (value_in t.values k)
+          (omega (arith, said, quiet.known_there i t.sender k lt so.member (omega (arith, small)) (λ e. other (sym e))))))))
     ]
 
     abbrev Unchanged : List ℕ → Result ArrivalSays ArriveRefusal → Type 0
@@ -251,6 +278,10 @@ module _ (setting : Setting) (s : GroupState) (inv : IsConsistent setting s) (qu
         cond_both (not (eqb r.group setting.group.number)) _ _ (Unchanged bytes) (λ _. refl)
         (λ _. cond_both (not (are_members setting.group.size (RequestFrame r))) _ _ (Unchanged bytes) (λ _. refl)
         (λ _. cond_both (is_impossible (seat_at setting i) (facts_at s i) (RequestFrame r)) _ _ (Unchanged bytes) (λ _. refl) (λ _. refl)))
+    frame_changes_nothing bytes (HelpFrame h) so =
+        cond_both (not (eqb h.group setting.group.number)) _ _ (Unchanged bytes) (λ _. refl)
+        (λ _. cond_both (not (are_members setting.group.size (HelpFrame h))) _ _ (Unchanged bytes) (λ _. refl)
+        (λ _. cond_both (is_impossible (seat_at setting i) (facts_at s i) (HelpFrame h)) _ _ (Unchanged bytes) (λ _. refl) (λ _. refl)))
 
     arrival_changes_nothing : (bytes : List ℕ) → IsHonest setting.group (facts_at s) bytes → history_after (seat_at setting i) setting.limit (s.histories i) (ToTake bytes) ≡ s.histories i
     unfolding arrive_answer

@@ -12,7 +12,7 @@ use Rattle.cb_schedules.specs.Messages.{facts_at}
 use Rattle.cb_schedules.specs.Consistent.{IsConsistent}
 use Rattle.cb_schedules.specs.Headline.{IsCausalBroadcast, EachSchedule}
 use Rattle.cb_schedules.specs.Rounds.{round_steps, steps_of_rounds, after_rounds, FindNoneFull}
-use Rattle.cb_schedules.specs.RoundLaws.{EverybodyHasEverything, EverybodyHasTheSame, NothingIsMissing, EverythingIsStable, NothingChangesAnyMore, BehindRounds, rounds_to_deliver, rounds_to_be_stable, FurtherRoundsAreQuiet, one_round, RoundsAreSteps, RoundsCastNothing, AnswersPutNothingOut, EachArrivesOnce, EverybodyHasHeard, RoundsExpand, ArrivedEverywhereIsDelivered, TheseAreFew}
+use Rattle.cb_schedules.specs.RoundLaws.{EverybodyHasEverything, EverybodyHasTheSame, NothingIsMissing, EverythingIsStable, EverybodyKnowsWhatIsStable, NothingChangesAnyMore, BehindRounds, rounds_to_deliver, rounds_to_be_stable, FurtherRoundsAreQuiet, one_round, RoundsAreSteps, RoundsCastNothing, AnswersPutNothingOut, EachArrivesOnce, EverybodyHasHeard, RoundsExpand, ArrivedEverywhereIsDelivered, TheseAreFew}
 use Rattle.cb_schedules.proofs.GoingOn.{runs_join}
 use Rattle.cb_schedules.proofs.Courses.{runs_are_consistent}
 use Rattle.cb_schedules.proofs.Headlines.{each_schedule, headline_holds}
@@ -21,7 +21,7 @@ use Rattle.cb_schedules.proofs.Happening.{FindNoneFullFrom, none_full_from}
 use Rattle.cb_schedules.proofs.Waves.{waves_of}
 use Rattle.cb_schedules.proofs.Asking.{cast_comes}
 use Rattle.cb_schedules.proofs.Repairing.{rounds_cast_nothing, next_round, rounds_are_later, consistent_behind, last_round, none_full_before, heard_behind, HasAll, all_behind, has_everything, has_the_same, none_missing, all_delivered, arrived_is_delivered}
-use Rattle.cb_schedules.proofs.Quieting.{IsQuiet, round_makes_quiet, everything_is_stable, quiet_stays}
+use Rattle.cb_schedules.proofs.Quieting.{IsQuiet, round_makes_quiet, everything_is_stable, everybody_knows_what_is_stable, quiet_stays}
 use Rattle.cb_schedules.proofs.Ending.{round_ends_there}
 use Rattle.cb_schedules.proofs.Once.{arrives_once}
 
@@ -134,6 +134,10 @@ still_causal = behind_rounds rounds_to_deliver IsCausalBroadcast (λ setting s i
 
 pub rounds_make_stable : BehindRounds rounds_to_be_stable EverythingIsStable
 rounds_make_stable setting steps is none = everything_is_stable setting (after_rounds setting (rounds_to_be_stable setting) (run setting steps)) (consistent_then setting steps is (rounds_to_be_stable setting)) (is_quiet setting steps is none)
+
+pub rounds_tell_what_is_stable : BehindRounds rounds_to_be_stable EverybodyKnowsWhatIsStable
+rounds_tell_what_is_stable setting steps is none =
+    everybody_knows_what_is_stable setting (after_rounds setting (rounds_to_be_stable setting) (run setting steps)) (consistent_then setting steps is (rounds_to_be_stable setting)) (is_quiet setting steps is none)
 
 pub then_nothing_changes : BehindRounds rounds_to_be_stable NothingChangesAnyMore
 then_nothing_changes setting steps is none = quiet_stays setting is (after_rounds setting (rounds_to_be_stable setting) (run setting steps)) (consistent_then setting steps is (rounds_to_be_stable setting)) (is_quiet setting steps is none)

@@ -6,7 +6,7 @@ use Rattle.cb_frames.specs.Fields.{One, Many, messages_of, first_number, last_nu
 use Rattle.cb_frames.specs.Text.{text_of}
 use Rattle.cb_frames.specs.Reading.{frame_at, head_at, cast_at, burst_at, payloads_at, next_payload_at, status_at, request_at, pairs_at, pair_at}
 use Rattle.cb_history.specs.View.{view, drained}
-use Rattle.cb_history.specs.Known.{known, stable}
+use Rattle.cb_history.specs.Known.{known, stable_of, stable}
 use Rattle.cb_history.specs.Answers.{delivered, cast_answer, arrive_answer, tick_answer}
 use Rattle.cb_schedules.specs.Schedule.{Setting, IsSetting, nothing_yet, seat_at, CastStep, ArriveStep, TickStep, Schedule, GroupState, step_after, run_from, run}
 use Rattle.cb_schedules.specs.Messages.{facts_at}
@@ -31,6 +31,10 @@ counts_at s = map (λ j. map (λ i. delivered (seat_at three j) (facts_at s j) i
 
 abbrev stable_at : GroupState → List ℕ
 stable_at s = map (λ i. stable (seat_at three i) (facts_at s i)) (0 ∷ 1 ∷ 2 ∷ [])
+
+-- what each member knows to be stable of each sender's casts
+abbrev known_stable_at : GroupState → List (List ℕ)
+known_stable_at s = map (λ j. map (stable_of (seat_at three j) (facts_at s j)) (0 ∷ 1 ∷ 2 ∷ [])) (0 ∷ 1 ∷ 2 ∷ [])
 
 abbrev entries_at : GroupState → List ℕ
 entries_at s = map (λ k. length (s.histories k)) (0 ∷ 1 ∷ 2 ∷ [])
@@ -77,8 +81,13 @@ then_stable : stable_at (after_rounds three 3 (run three lost)) ≡ 2 ∷ 0 ∷ 
 unfolding steps_of_rounds round_steps ticked answered step_after run_from cast_answer arrive_answer tick_answer view drained frame_at head_at cast_at status_at request_at pairs_at pair_at number_at text_of spelling messages_of first_number last_number
 then_stable = refl
 
+-- and each member knows it of each sender
+all_know_it : known_stable_at (after_rounds three 3 (run three lost)) ≡ (2 ∷ 0 ∷ 1 ∷ []) ∷ (2 ∷ 0 ∷ 1 ∷ []) ∷ (2 ∷ 0 ∷ 1 ∷ []) ∷ []
+unfolding steps_of_rounds round_steps ticked answered step_after run_from cast_answer arrive_answer tick_answer view drained frame_at head_at cast_at status_at request_at pairs_at pair_at number_at text_of spelling messages_of first_number last_number
+all_know_it = refl
+
 -- and no round after it adds an entry
-how_long_they_are : map (λ n. entries_at (after_rounds three n (run three lost))) (2 ∷ 3 ∷ 4 ∷ []) ≡ (5 ∷ 6 ∷ 5 ∷ []) ∷ (8 ∷ 7 ∷ 8 ∷ []) ∷ (8 ∷ 7 ∷ 8 ∷ []) ∷ []
+how_long_they_are : map (λ n. entries_at (after_rounds three n (run three lost))) (2 ∷ 3 ∷ 4 ∷ []) ≡ (5 ∷ 6 ∷ 5 ∷ []) ∷ (8 ∷ 9 ∷ 8 ∷ []) ∷ (8 ∷ 9 ∷ 8 ∷ []) ∷ []
 unfolding steps_of_rounds round_steps ticked answered step_after run_from cast_answer arrive_answer tick_answer view drained frame_at head_at cast_at status_at request_at pairs_at pair_at number_at text_of spelling messages_of first_number last_number
 how_long_they_are = refl
 

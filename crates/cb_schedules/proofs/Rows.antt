@@ -13,8 +13,8 @@ use Rattle.cb_causality.specs.declared.event.CausalEvent.TheVariants as causal
 use Rattle.cb_history.specs.declared.answer.ArriveRefusal.TheVariants as arrivals
 use Rattle.cb_history.specs.CastFault.{EmptyBurst, BurstTooLong, WindowFull}
 use Rattle.cb_history.specs.View.{view, drained, time_of}
-use Rattle.cb_history.specs.Known.{known, stable}
-use Rattle.cb_history.specs.Answers.{delivered, cast_answer, arrive_answer, tick_answer, Repeat}
+use Rattle.cb_history.specs.Known.{known, stable_of, stable}
+use Rattle.cb_history.specs.Answers.{delivered, cast_answer, arrive_answer, tick_answer, Accepted, Repeat}
 use Rattle.cb_schedules.specs.Schedule.{Setting, IsSetting, seat_at, CastStep, ArriveStep, TickStep, Schedule, Answer, CastAnswer, ArrivalAnswer, NoSuchMember, NoSuchFrame, NoBytes, GroupState, asked_by, step_after, run_from, run}
 use Rattle.cb_schedules.specs.RunLaws.{AsksForNothing}
 use Rattle.cb_schedules.specs.Messages.{facts_at, stamped_lists, causal_lists, arrived_at, has_arrived, IsClosedArrival, time_from_bytes}
@@ -309,6 +309,28 @@ and_delivered_by_the_first = refl
 and_by_the_second : delivered (seat_at three 2) (facts_at (run three reported_back) 2) 0 ≡ 1
 unfolding step_after run_from cast_answer arrive_answer tick_answer view drained frame_at head_at cast_at status_at request_at pairs_at pair_at number_at text_of spelling messages_of first_number last_number
 and_by_the_second = refl
+
+-- ---- and what a third member knows of it: the status of member 2 and its own delivery are enough
+
+abbrev reported_to_a_third : Schedule
+reported_to_a_third = CastStep 0 (One (97 ∷ [])) ∷ ArriveStep 1 0 ∷ ArriveStep 2 0 ∷ TickStep 2 ∷ ArriveStep 1 1 ∷ []
+
+-- member 1 has that cast and hears of no other by the status: what is news is that member 2 has it too
+it_is_news : map (λ o. o.answer) (drop 4 (run three reported_to_a_third).outcomes) ≡ ArrivalAnswer (Ok (Accepted [] true [])) ∷ []
+unfolding step_after run_from cast_answer arrive_answer tick_answer view drained frame_at head_at cast_at status_at request_at pairs_at pair_at number_at text_of spelling messages_of first_number last_number
+it_is_news = refl
+
+known_to_a_third : stable_of (seat_at three 1) (facts_at (run three reported_to_a_third) 1) 0 ≡ 1
+unfolding step_after run_from cast_answer arrive_answer tick_answer view drained frame_at head_at cast_at status_at request_at pairs_at pair_at number_at text_of spelling messages_of first_number last_number
+known_to_a_third = refl
+
+and_not_before : stable_of (seat_at three 1) (facts_at (run three (take 4 reported_to_a_third)) 1) 0 ≡ 0
+unfolding step_after run_from cast_answer arrive_answer tick_answer view drained frame_at head_at cast_at status_at request_at pairs_at pair_at number_at text_of spelling messages_of first_number last_number
+and_not_before = refl
+
+nor_to_the_sender : stable (seat_at three 0) (facts_at (run three reported_to_a_third) 0) ≡ 0
+unfolding step_after run_from cast_answer arrive_answer tick_answer view drained frame_at head_at cast_at status_at request_at pairs_at pair_at number_at text_of spelling messages_of first_number last_number
+nor_to_the_sender = refl
 
 -- ---- the one refusal of an arrival: no entry is left, and then nothing has arrived
 

@@ -6,7 +6,7 @@ use Rattle.cb_varint.specs.Reading.{spelling}
 use Rattle.cb_frames.specs.declared.frame.TheConstants.{MOST_RANGES, MOST_FRAMES}
 use Rattle.cb_frames.specs.declared.frame.Range.{Range}
 use Rattle.cb_frames.specs.declared.fault.FrameFault.{FrameFault}
-use Rattle.cb_frames.specs.Fields.{Load, payloads_of, load_bytes, CastFields, RequestFields, FrameFields, CastFrame, StatusFrame, RequestFrame, last_number}
+use Rattle.cb_frames.specs.Fields.{Load, payloads_of, load_bytes, CastFields, RequestFields, FrameFields, CastFrame, StatusFrame, RequestFrame, HelpFrame, last_number}
 use Rattle.cb_frames.specs.Text.{text_of, request_kind, request_numbers}
 use Rattle.cb_history.specs.Load.{FitsFrame}
 use Rattle.cb_history.specs.Read.{frame_read}
@@ -118,6 +118,7 @@ module _ (group : Parameters) (facts : ℕ → List Fact) (i : ℕ) (are : AreFa
       let asked = filter_in (is_asked_for r.ranges) (window (member_of group i) (facts i)) c (in_take MOST_FRAMES (filter (is_asked_for r.ranges) (window (member_of group i) (facts i))) c there) in
       each c (filter_in (λ c. ltb (stable (member_of group i) (facts i)) (last_number c)) (own_casts (facts i)) c asked.1).1))
       (λ _. tt)
+  resent_are_honest each (HelpFrame h) = tt
 
 -- ---- frames that were sent
 
@@ -125,6 +126,7 @@ read_as : (r : Result FrameFields FrameFault) (c : CastFields) → IsIn c (cast_
 read_as (Ok (CastFrame d)) c there = ap (λ (x : CastFields). Ok (CastFrame x)) (sym (in_one c d there))
 read_as (Ok (StatusFrame s)) c there = absurd there
 read_as (Ok (RequestFrame r)) c there = absurd there
+read_as (Ok (HelpFrame h)) c there = absurd there
 read_as (Err fault) c there = absurd there
 
 -- a cast among sent frames is the reading of one of them

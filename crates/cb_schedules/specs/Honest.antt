@@ -1,7 +1,7 @@
 -- What is true of all members of a group together at every moment: the invariant of a run.
 use Rattle.std.specs.Prelude.{◌≡◌, ◌≢◌, ℕ, ◌<◌, ◌≤◌, List, [], None, Ok}
 use Rattle.std.specs.List.{AllByRecursion}
-use Rattle.cb_frames.specs.Fields.{StatusFields, FrameFields, CastFrame, StatusFrame, RequestFrame}
+use Rattle.cb_frames.specs.Fields.{StatusFields, FrameFields, CastFrame, StatusFrame, RequestFrame, HelpFrame}
 use Rattle.cb_history.specs.Read.{frame_read}
 use Rattle.cb_frames.specs.Laws.{IsBytes}
 use Rattle.cb_causality.specs.StampedMachine.{StampedLists, StampedRun}
@@ -30,6 +30,7 @@ abbrev pub SaysWhatIsSo : Parameters → (ℕ → List Fact) → FrameFields →
 SaysWhatIsSo group facts (CastFrame c) = IsCastOf c (own_casts (facts c.sender))
 SaysWhatIsSo group facts (StatusFrame s) = IsReported group facts s
 SaysWhatIsSo group facts (RequestFrame r) = r.requester ≢ r.asked
+SaysWhatIsSo group facts (HelpFrame h) = (h.requester ≢ h.helper) × (h.requester ≢ h.sender) × (h.helper ≢ h.sender)
 
 -- so with what an entry says
 abbrev pub IsSo : Parameters → (ℕ → List Fact) → Fact → Type 0

@@ -5,7 +5,7 @@ use Rattle.std.specs.Int.{div_ceil}
 use Rattle.cb_times.specs.declared.name.Name.{Name}
 use Rattle.cb_frames.specs.declared.frame.TheConstants.{MOST_FRAMES}
 use Rattle.cb_history.specs.Facts.{casts_in}
-use Rattle.cb_history.specs.Known.{known, expanded_count, missing, stable}
+use Rattle.cb_history.specs.Known.{known, expanded_count, missing, stable_of, stable}
 use Rattle.cb_history.specs.Answers.{delivered, own_casts, window}
 use Rattle.cb_schedules.specs.Schedule.{Setting, IsSetting, seat_at, Step, CastStep, ArriveStep, TickStep, Schedule, SentFrame, GroupState, run_from, run}
 use Rattle.cb_schedules.specs.Messages.{facts_at, has_arrived, WasCast, HasDelivered}
@@ -157,6 +157,11 @@ abbrev pub EverythingIsStable : Setting → GroupState → Type 0
 EverythingIsStable setting s =
     (i : ℕ) → i < setting.group.size
     → (stable (seat_at setting i) (facts_at s i) ≡ cast_count setting s i) × (window (seat_at setting i) (facts_at s i) ≡ [])
+
+-- and every member knows of the casts of each member that all are delivered everywhere
+abbrev pub EverybodyKnowsWhatIsStable : Setting → GroupState → Type 0
+EverybodyKnowsWhatIsStable setting s =
+    (j i : ℕ) → j < setting.group.size → i < setting.group.size → stable_of (seat_at setting j) (facts_at s j) i ≡ cast_count setting s i
 
 -- a step that is a tick or an arrival
 abbrev pub IsNoCastStep : Step → Type 0

@@ -1,7 +1,7 @@
 -- What is true of the frames that were sent, of the answers, and of what members know of each other, after every schedule.
 use Rattle.std.specs.Prelude.{◌≡◌, ◌≢◌, ℕ, ◌+◌, ◌<◌, ◌≤◌, Some, None, Result, Ok, Err, slice_get}
 use Rattle.std.specs.List.{AllByRecursion}
-use Rattle.cb_frames.specs.Fields.{CastFields, StatusFields, RequestFields, CastFrame, StatusFrame, RequestFrame, Carried, first_number, last_number}
+use Rattle.cb_frames.specs.Fields.{CastFields, StatusFields, RequestFields, HelpFields, CastFrame, StatusFrame, RequestFrame, HelpFrame, Carried, first_number, last_number}
 use Rattle.cb_frames.specs.Text.{text_of}
 use Rattle.cb_history.specs.Read.{frame_read}
 use Rattle.cb_delay.specs.declared.message.Event.{Event}
@@ -14,7 +14,7 @@ use Rattle.cb_history.specs.View.{expanded_in, view, next_delivery}
 use Rattle.cb_history.specs.NameLaws.{IsOneOf}
 use Rattle.cb_diffs.specs.Expansion.{expanded_field}
 use Rattle.cb_history.specs.Answers.{delivered, own_casts, ArrivalSays}
-use Rattle.cb_history.specs.Known.{known, acknowledged, stable}
+use Rattle.cb_history.specs.Known.{known, acknowledged_of, acknowledged, stable_of, stable}
 use Rattle.cb_history.specs.BufferLaws.{IsCastOf}
 use Rattle.cb_schedules.specs.Schedule.{Setting, seat_at, SentFrame, Answer, ArrivalAnswer, GroupState}
 use Rattle.cb_schedules.specs.Messages.{facts_at, stamped_lists, time_from_bytes}
@@ -51,6 +51,13 @@ NobodyAsksItself setting s =
     (frame : SentFrame) (r : RequestFields) → WasSent s frame → frame_read frame.bytes ≡ Ok (RequestFrame r)
     → (r.requester < setting.group.size) × (r.asked < setting.group.size) × (r.requester ≢ r.asked)
 
+-- every help frame that was sent names three different members of the group
+abbrev pub HelpersAreThird : Setting → GroupState → Type 0
+HelpersAreThird setting s =
+    (frame : SentFrame) (h : HelpFields) → WasSent s frame → frame_read frame.bytes ≡ Ok (HelpFrame h)
+    → (h.requester < setting.group.size) × (h.helper < setting.group.size) × (h.sender < setting.group.size)
+    × (h.requester ≢ h.helper) × (h.requester ≢ h.sender) × (h.helper ≢ h.sender)
+
 -- ---- what was received
 
 -- every cast that is there with a member is an own cast of its sender
@@ -69,10 +76,27 @@ NothingReadyIsLeftAnywhere setting s =
 
 -- ---- what members know
 
--- of how many of its casts a member knows that another has delivered them, that one has delivered at least as many
+-- of how many casts of a sender a member knows that another has delivered them, that one has delivered at least as many
+abbrev pub AcknowledgedOfIsDeliveredThere : Setting → GroupState → Type 0
+AcknowledgedOfIsDeliveredThere setting s =
+    (j k i : ℕ) → j < setting.group.size → i < setting.group.size → acknowledged_of (seat_at setting j) (facts_at s j) k i ≤ delivered (seat_at setting k) (facts_at s k) i
+
+-- so of its own casts
 abbrev pub AcknowledgedIsDeliveredThere : Setting → GroupState → Type 0
 AcknowledgedIsDeliveredThere setting s =
     (i k : ℕ) → i < setting.group.size → acknowledged (seat_at setting i) (facts_at s i) k ≤ delivered (seat_at setting k) (facts_at s k) i
+
+-- what a member knows to be stable of the casts of i, every member other than i has delivered, that member itself too
+abbrev pub StableOfIsDeliveredEverywhere : Setting → GroupState → Type 0
+StableOfIsDeliveredEverywhere setting s =
+    (j i k : ℕ) → j < setting.group.size → i < setting.group.size → k < setting.group.size → k ≢ i
+    → stable_of (seat_at setting j) (facts_at s j) i ≤ delivered (seat_at setting k) (facts_at s k) i
+
+-- so each member's list of events, also that of i, has at least as many messages of i
+abbrev pub StableOfStandsInEvents : Setting → GroupState → Type 0
+StableOfStandsInEvents setting s =
+    (j i k : ℕ) → j < setting.group.size → i < setting.group.size → k < setting.group.size
+    → stable_of (seat_at setting j) (facts_at s j) i ≤ counts_of (stamped_lists setting s k) i
 
 -- what a sender knows to be stable, every other member has delivered: nobody misses what is trimmed
 abbrev pub StableIsDeliveredEverywhere : Setting → GroupState → Type 0

@@ -20,6 +20,7 @@ pub use invariant::{
 };
 pub use knowledge::{
     arrivals_are_welcome, what_is_heard_of_is_cast, what_is_stable_is_delivered_everywhere,
+    what_is_stable_of_any_sender_is_delivered_everywhere,
 };
 pub use rounds::{
     a_few_rounds_repair_whatever_was_lost, a_round_is_a_tick_of_each_and_its_arrivals,

@@ -20,4 +20,5 @@ pub use laws::{
     runs_go_on_step_by_step, sent_frames_say_what_is_so, steps_extend_the_machines,
     then_nothing_changes_any_more, what_cores_know_is_so, what_has_arrived_everywhere_is_delivered,
     what_is_heard_of_is_cast, what_is_stable_is_delivered_everywhere,
+    what_is_stable_of_any_sender_is_delivered_everywhere,
 };

@@ -1,14 +1,15 @@
 //! The frames that were sent, after every schedule.
 
 ghost use Rattle.cb_schedules.specs.Headline.{EachSchedule};
-ghost use Rattle.cb_schedules.specs.SentLaws.{NobodyAsksItself, OneNameSameBytes, SentCastsAreOwn, SentStatusesAreSo};
+ghost use Rattle.cb_schedules.specs.SentLaws.{HelpersAreThird, NobodyAsksItself, OneNameSameBytes, SentCastsAreOwn, SentStatusesAreSo};
 
 /// Every cast frame that was sent is byte for byte an own cast of its sender, so cast frames that hold one name have the same bytes.
-/// Every status that was sent says of each member no more than its sender has delivered; every request has two different members of the
-/// group.
+/// Every status that was sent says of each member no more than its sender has delivered. Every request has two different members of the
+/// group, and every help frame three.
 pub fn sent_frames_say_what_is_so()
     ensures casts { EachSchedule SentCastsAreOwn }
     ensures bytes { EachSchedule OneNameSameBytes }
     ensures statuses { EachSchedule SentStatusesAreSo }
     ensures requests { EachSchedule NobodyAsksItself }
+    ensures helps { EachSchedule HelpersAreThird }
 {}

@@ -1,7 +1,7 @@
 //! What members know of each other, and what they answer, after every schedule.
 
 ghost use Rattle.cb_schedules.specs.Headline.{EachSchedule};
-ghost use Rattle.cb_schedules.specs.SentLaws.{AcknowledgedIsDeliveredThere, ArrivalsAreWelcome, DeliveredIsCast, HeardOfIsCast, SendersStayNear, StableIsDeliveredEverywhere, StableStandsInEvents, TimesTellOwnCasts};
+ghost use Rattle.cb_schedules.specs.SentLaws.{AcknowledgedIsDeliveredThere, AcknowledgedOfIsDeliveredThere, ArrivalsAreWelcome, DeliveredIsCast, HeardOfIsCast, SendersStayNear, StableIsDeliveredEverywhere, StableOfIsDeliveredEverywhere, StableOfStandsInEvents, StableStandsInEvents, TimesTellOwnCasts};
 
 /// Nobody has delivered, or heard of, more of a member's messages than it has cast: so nothing is asked for that is not. No time that a
 /// member can compute says more of its own casts than it made.
@@ -19,6 +19,14 @@ pub fn what_is_stable_is_delivered_everywhere()
     ensures stable { EachSchedule StableIsDeliveredEverywhere }
     ensures events { EachSchedule StableStandsInEvents }
     ensures near { EachSchedule SendersStayNear }
+{}
+
+/// So it is with the casts of all: of how many casts of a third member a member knows that another has delivered them, that one has
+/// delivered. What a member knows to be stable of the casts of any sender, every member but that sender has delivered, itself too.
+pub fn what_is_stable_of_any_sender_is_delivered_everywhere()
+    ensures acknowledged { EachSchedule AcknowledgedOfIsDeliveredThere }
+    ensures stable { EachSchedule StableOfIsDeliveredEverywhere }
+    ensures events { EachSchedule StableOfStandsInEvents }
 {}
 
 /// No arrival of a schedule is answered Malformed, OtherGroup, BadMember, Impossible, Overlap or TooFar. The one refusal that there is says

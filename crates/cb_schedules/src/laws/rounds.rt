@@ -4,7 +4,8 @@ ghost use Rattle.cb_schedules.specs.Headline.{EachSchedule, IsCausalBroadcast};
 ghost use Rattle.cb_schedules.specs.RoundLaws.{AnswersPutNothingOut, ArrivedEverywhereIsDelivered};
 ghost use Rattle.cb_schedules.specs.RoundLaws.{BehindRounds, EachArrivesOnce, EachTicksOnce};
 ghost use Rattle.cb_schedules.specs.RoundLaws.{EverybodyHasEverything, EverybodyHasHeard};
-ghost use Rattle.cb_schedules.specs.RoundLaws.{EverybodyHasTheSame, EverythingIsStable};
+ghost use Rattle.cb_schedules.specs.RoundLaws.{EverybodyHasTheSame, EverybodyKnowsWhatIsStable};
+ghost use Rattle.cb_schedules.specs.RoundLaws.{EverythingIsStable};
 ghost use Rattle.cb_schedules.specs.RoundLaws.{FurtherRoundsAreQuiet, NothingChangesAnyMore};
 ghost use Rattle.cb_schedules.specs.RoundLaws.{NothingIsMissing, NothingOldArrives};
 ghost use Rattle.cb_schedules.specs.RoundLaws.{RoomForEachStepIsEnough, RoundsAreSteps, TheseAreFew};
@@ -56,9 +57,11 @@ pub fn a_few_rounds_repair_whatever_was_lost()
     ensures few { TheseAreFew }
 {}
 
-/// After one round more every member knows that all its casts are delivered everywhere, and keeps none of their frames.
+/// After one round more every member knows that all its casts are delivered everywhere, and keeps none of their frames. It knows it
+/// of the casts of all others too.
 pub fn one_round_more_makes_everything_stable()
-    ensures { BehindRounds rounds_to_be_stable EverythingIsStable }
+    ensures stable { BehindRounds rounds_to_be_stable EverythingIsStable }
+    ensures known { BehindRounds rounds_to_be_stable EverybodyKnowsWhatIsStable }
 {}
 
 /// From then on no history changes, whatever ticks and whatever arrives, until somebody casts. So every further round is quiet.
