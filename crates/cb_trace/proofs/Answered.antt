@@ -6,7 +6,7 @@ use Rattle.cb_times.specs.declared.name.Name.{Name}
 use Rattle.cb_frames.specs.declared.frame.TheConstants.{LONGEST_PAYLOAD, MOST_MESSAGES}
 use Rattle.cb_frames.specs.declared.frame.Range.{Range}
 use Rattle.cb_frames.specs.declared.fault.FrameFault.{FrameFault}
-use Rattle.cb_frames.specs.Fields.{Load, payloads_of, load_bytes, CastFields, RequestFields, FrameFields, CastFrame, StatusFrame, RequestFrame}
+use Rattle.cb_frames.specs.Fields.{Load, payloads_of, load_bytes, CastFields, RequestFields, FrameFields, CastFrame, StatusFrame, RequestFrame, HelpFrame}
 use Rattle.cb_frames.specs.Text.{text_of}
 use Rattle.cb_history.specs.Read.{frame_read}
 use Rattle.cb_history.specs.declared.answer.ArriveRefusal.{ArriveRefusal}
@@ -105,6 +105,7 @@ accepted_quiet : (bytes : List ℕ) (e : EntryFields) (seat : Identity) (facts :
 accepted_quiet bytes e seat facts (CastFrame c) change is = refl
 accepted_quiet bytes e seat facts (StatusFrame s) change is = refl
 accepted_quiet bytes e seat facts (RequestFrame r) change is = absurd cc
+accepted_quiet bytes e seat facts (HelpFrame h) change is = absurd cc
 
 frame_quiet : (seat : Identity) (limit : ℕ) (entries : List EntryFields) (facts : List Fact) (frame : FrameFields) (bytes : List ℕ) (e : EntryFields) → Quiet bytes e (frame_answer seat limit entries facts frame)
 frame_quiet seat limit entries facts frame bytes e =

@@ -4,7 +4,7 @@ use Rattle.std.proofs.lemmas.Bool.{ne_eqb}
 use Rattle.cb_varint.specs.Reading.{number_at, spelling}
 use Rattle.cb_frames.specs.Fields.{One, messages_of, first_number, last_number}
 use Rattle.cb_frames.specs.Text.{text_of}
-use Rattle.cb_frames.specs.Reading.{frame_at, head_at, cast_at, status_at, request_at, pairs_at, pair_at}
+use Rattle.cb_frames.specs.Reading.{frame_at, head_at, cast_at, status_at, request_at, help_at, pairs_at, pair_at}
 use Rattle.cb_times.specs.declared.name.Name.{Name}
 use Rattle.cb_history.specs.Group.{Parameters}
 use Rattle.cb_history.specs.Facts.{EntryFields, CastEntry, ArriveEntry}
@@ -157,3 +157,8 @@ the_second_is_given = refl
 requests_are_not_given : entry_of (seat_of group 2) longest_history [] (call_of (ArriveEntry (0x13 ∷ 0x07 ∷ 0x00 ∷ 0x02 ∷ 0x01 ∷ 0x00 ∷ 0x00 ∷ []) [])) ≡ None
 unfolding cast_answer arrive_answer tick_answer view drained frame_at head_at cast_at status_at request_at pairs_at pair_at number_at text_of spelling messages_of first_number last_number
 requests_are_not_given = refl
+
+-- nor does a help frame
+help_frames_are_not_given : entry_of (seat_of group 2) longest_history [] (call_of (ArriveEntry (0x23 ∷ 0x07 ∷ 0x02 ∷ 0x01 ∷ 0x00 ∷ 0x01 ∷ 0x00 ∷ 0x01 ∷ []) [])) ≡ None
+unfolding cast_answer arrive_answer tick_answer view drained frame_at head_at cast_at status_at help_at pairs_at pair_at number_at text_of spelling messages_of first_number last_number
+help_frames_are_not_given = refl

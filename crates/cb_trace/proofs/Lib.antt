@@ -18,5 +18,6 @@ pub mod Searching
 pub mod OneStep
 pub mod Asked
 pub mod Audited
+pub mod Before
 mod Rows
 mod JointRows

@@ -4,8 +4,8 @@ use Rattle.std.specs.Prelude.{slice_get}
 use Rattle.std.specs.List.{AllByRecursion}
 use Rattle.std.proofs.lemmas.Bool.{cond_both}
 use Rattle.cb_frames.specs.declared.fault.FrameFault.{FrameFault}
-use Rattle.cb_frames.specs.Fields.{Load, One, Many, FrameFields, CastFrame, StatusFrame, RequestFrame, RequestFields}
-use Rattle.cb_frames.specs.Text.{text_of, kind_of, status_kind, request_kind}
+use Rattle.cb_frames.specs.Fields.{Load, One, Many, FrameFields, CastFrame, StatusFrame, RequestFrame, HelpFrame, RequestFields}
+use Rattle.cb_frames.specs.Text.{text_of, kind_of, status_kind, request_kind, help_kind}
 use Rattle.cb_history.specs.Read.{frame_read}
 use Rattle.cb_times.specs.declared.name.Name.{Name}
 use Rattle.cb_history.specs.declared.answer.ArriveRefusal.{ArriveRefusal}
@@ -50,12 +50,14 @@ abbrev first_byte : FrameFields → ℕ
 first_byte (CastFrame c) = kind_of c.load
 first_byte (StatusFrame s) = status_kind
 first_byte (RequestFrame r) = request_kind
+first_byte (HelpFrame h) = help_kind
 
 text_begins : (f : FrameFields) → (rest : List ℕ) × (text_of f ≡ first_byte f ∷ rest)
 unfolding text_of
 text_begins (CastFrame c) = (_, refl)
 text_begins (StatusFrame s) = (_, refl)
 text_begins (RequestFrame r) = (_, refl)
+text_begins (HelpFrame h) = (_, refl)
 
 same_head : (a b : ℕ) (xs ys : List ℕ) → a ∷ xs ≡ b ∷ ys → a ≡ b
 same_head a b xs ys e = cc
@@ -68,6 +70,7 @@ request_kinds : (f : FrameFields) → first_byte f ≡ request_kind → (s : Req
 request_kinds (CastFrame c) e = absurd (carries_nothing c.load e)
 request_kinds (StatusFrame s) e = absurd (omega (arith, e))
 request_kinds (RequestFrame s) e = (s, refl)
+request_kinds (HelpFrame h) e = absurd (omega (arith, e))
 
 text_is_no_request : (f : FrameFields) (r : RequestFields) → text_of f ≡ text_of (RequestFrame r) → (s : RequestFields) × (f ≡ RequestFrame s)
 text_is_no_request f r e =

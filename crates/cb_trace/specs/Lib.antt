@@ -8,6 +8,7 @@ pub mod JointOrder
 pub mod JointRun
 pub mod AuditLaws
 pub mod Auditing
+pub mod BeforeLaws
 pub mod Loads
 pub mod Replaying
 pub mod Search

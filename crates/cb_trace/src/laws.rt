@@ -1,9 +1,11 @@
 //! The laws of traces, as contracts of functions that do nothing.
 
+mod before;
 mod joint;
 
 ghost use Rattle.cb_trace.specs.Laws.{OneReading, OneBadLine};
 
+pub use before::old_traces_are_legal;
 pub use joint::{joint_orders_are_schedules, no_joint_order_is_missed};
 
 /// No text is the trace of two lists of histories, and no text has two first bad lines. A trace has none.

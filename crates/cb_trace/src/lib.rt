@@ -25,6 +25,9 @@ mod writing;
 pub use auditing::audit;
 pub use fault::{AuditFault, QueryFault, TraceFault, WriteFault};
 pub use joint::Joint;
-pub use laws::{a_text_is_read_in_one_way, joint_orders_are_schedules, no_joint_order_is_missed};
+pub use laws::{
+    a_text_is_read_in_one_way, joint_orders_are_schedules, no_joint_order_is_missed,
+    old_traces_are_legal,
+};
 pub use reading::read_trace;
 pub use writing::write_trace;

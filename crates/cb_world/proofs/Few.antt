@@ -7,7 +7,7 @@ use Rattle.std.proofs.lemmas.List.FromFn.{length-range_with_len}
 use Rattle.cb_frames.specs.declared.frame.TheConstants.{LONGEST_PAYLOAD, MOST_FRAMES, MOST_MESSAGES}
 use Rattle.cb_frames.specs.declared.frame.Range.{Range}
 use Rattle.cb_frames.specs.declared.fault.FrameFault.{FrameFault}
-use Rattle.cb_frames.specs.Fields.{Load, payloads_of, load_bytes, CastFields, FrameFields, CastFrame, StatusFrame, RequestFrame}
+use Rattle.cb_frames.specs.Fields.{Load, payloads_of, load_bytes, CastFields, FrameFields, CastFrame, StatusFrame, RequestFrame, HelpFrame}
 use Rattle.cb_frames.specs.Text.{text_of}
 use Rattle.cb_history.specs.Read.{frame_read}
 use Rattle.cb_history.specs.declared.answer.ArriveRefusal.{ArriveRefusal}
@@ -82,6 +82,7 @@ module _ (seat : Identity) (limit : ℕ) (entries : List EntryFields) where
   few_asked_for : (facts : List Fact) (frame : FrameFields) → length (sent_in_answer seat facts frame) ≤ MOST_SENT_OUT
   few_asked_for facts (CastFrame c) = none_asked_for
   few_asked_for facts (StatusFrame s) = none_asked_for
+  few_asked_for facts (HelpFrame h) = none_asked_for
   few_asked_for facts (RequestFrame r) =
       cond_both (eqb r.asked seat.me) _ _ (λ (out : List Outgoing). length out ≤ MOST_SENT_OUT) (λ _. first_asked_for r.requester (filter (is_asked_for r.ranges) (window seat facts))) (λ _. none_asked_for)
 

@@ -6,7 +6,7 @@ use Rattle.hex.specs.declared.error.FromHexError.{FromHexError}
 use Rattle.hex.specs.Hex.{decode_of}
 use Rattle.cb_times.specs.Time.{text_of}
 use Rattle.cb_frames.specs.declared.fault.FrameFault.{FrameFault}
-use Rattle.cb_frames.specs.Fields.{CastFields, FrameFields, CastFrame, StatusFrame, RequestFrame, Carried, messages_of, first_number}
+use Rattle.cb_frames.specs.Fields.{CastFields, FrameFields, CastFrame, StatusFrame, RequestFrame, HelpFrame, Carried, messages_of, first_number}
 use Rattle.cb_frames.specs.Reading.{frame_at}
 use Rattle.cb_diffs.specs.declared.expander.ExpandFault.TheVariants as expands
 use Rattle.cb_diffs.specs.Expansion.{greatest, expanded_time, last_in}
@@ -30,6 +30,7 @@ abbrev pub cast_or_refusal : Result FrameFields FrameFault → Result CastFields
 cast_or_refusal (Ok (CastFrame c)) = Ok c
 cast_or_refusal (Ok (StatusFrame s)) = Err refusals.NotACast
 cast_or_refusal (Ok (RequestFrame r)) = Err refusals.NotACast
+cast_or_refusal (Ok (HelpFrame h)) = Err refusals.NotACast
 cast_or_refusal (Err fault) = Err (refusals.Frame fault)
 
 abbrev pub are_members : ℕ → CastFields → Bool

@@ -155,7 +155,9 @@ fn unit_of(alloc: Global, bytes: &Bytes) -> Result<Unit, LineFault>
     match cb_frames::decode(alloc, bytes) {
         Ok(Frame::Cast(cast)) => Ok(Unit::One(cast)),
         Ok(Frame::Burst(burst)) => Ok(Unit::Many(burst)),
-        Ok(Frame::Status(_) | Frame::Request(_)) => Err(LineFault::Refused(Refusal::NotACast)),
+        Ok(Frame::Status(_) | Frame::Request(_) | Frame::Help(_)) => {
+            Err(LineFault::Refused(Refusal::NotACast))
+        }
         Err(FrameFault::NoMemory) => Err(LineFault::NoMemory(AllocError)),
         Err(fault) => Err(LineFault::Refused(Refusal::Frame(fault))),
     }

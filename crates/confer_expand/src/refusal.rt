@@ -15,7 +15,7 @@ pub enum Refusal {
     BadHex,
     /// The bytes are no frame.
     Frame(FrameFault),
-    /// The frame is a status or a request.
+    /// The frame is a status, a request or a help frame.
     NotACast,
     /// The frame is of another group.
     OtherGroup,

@@ -6,7 +6,7 @@ use Rattle.std.proofs.lemmas.Bool.{cases_eq, eq-eqb, ne_eqb, cond_both}
 use Rattle.std.proofs.lemmas.List.{append-nil, map-append}
 use Rattle.cb_times.specs.declared.name.Name.{Name}
 use Rattle.cb_frames.specs.declared.fault.FrameFault.{FrameFault}
-use Rattle.cb_frames.specs.Fields.{Load, payloads_of, load_bytes, numbered, messages_of, CastFields, FrameFields, CastFrame, StatusFrame, RequestFrame}
+use Rattle.cb_frames.specs.Fields.{Load, payloads_of, load_bytes, numbered, messages_of, CastFields, FrameFields, CastFrame, StatusFrame, RequestFrame, HelpFrame}
 use Rattle.cb_frames.specs.Laws.{CanBeWritten}
 use Rattle.cb_frames.specs.Text.{text_of}
 use Rattle.cb_frames.proofs.Carried.{IsIn}
@@ -124,12 +124,14 @@ arrival_says_one : (call : Call) (r : Result FrameFields FrameFault) → SaysOne
 arrival_says_one call (Ok (CastFrame c)) = tt
 arrival_says_one call (Ok (StatusFrame s)) = tt
 arrival_says_one call (Ok (RequestFrame r)) = tt
+arrival_says_one call (Ok (HelpFrame h)) = tt
 arrival_says_one call (Err fault) = tt
 
 status_says_one : (call : Call) (r : Result FrameFields FrameFault) → SaysOne call (status_said r)
 status_says_one call (Ok (CastFrame c)) = tt
 status_says_one call (Ok (StatusFrame s)) = tt
 status_says_one call (Ok (RequestFrame r)) = tt
+status_says_one call (Ok (HelpFrame h)) = tt
 status_says_one call (Err fault) = tt
 
 abbrev AddsOne : Call → Option EntryFields → Type 0

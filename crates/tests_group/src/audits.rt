@@ -11,7 +11,7 @@ use std::process::Abort;
 use std::test::Fail;
 
 /// The worked trace, with what is put in place of a part of it, and the fault that it has then.
-const DAMAGED: [(&str, &str, AuditFault); 9] = [
+const DAMAGED: [(&str, &str, AuditFault); 10] = [
     // member 1 takes a frame that nobody sent
     (
         "entries 1\ncast 1107000100026869\n",
@@ -70,6 +70,15 @@ const DAMAGED: [(&str, &str, AuditFault); 9] = [
     (
         "arrive 1107010101000102796f -",
         "arrive 13070002010000 -",
+        AuditFault::WrongAnswer {
+            member: 2,
+            entry: 1,
+        },
+    ),
+    // a help frame, which makes none either
+    (
+        "arrive 1107010101000102796f -",
+        "arrive 2307020100010001 -",
         AuditFault::WrongAnswer {
             member: 2,
             entry: 1,
