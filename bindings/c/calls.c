@@ -126,6 +126,7 @@ static void test_closed(jolunza_handle *handle)
     CHECK(jolunza_entry(handle, 0, &f->entry, f->bytes, sizeof f->bytes, f->names, 4) == JOLUNZA_CLOSED);
     CHECK(jolunza_time(handle, f->times, 16) == JOLUNZA_CLOSED);
     CHECK(jolunza_stable(handle, f->times) == JOLUNZA_CLOSED);
+    CHECK(jolunza_stable_of(handle, 0, f->times) == JOLUNZA_CLOSED);
     CHECK(jolunza_missing(handle, 1, f->ranges, 4, &f->count) == JOLUNZA_CLOSED);
     CHECK(IS_UNTOUCHED(filled));
     CHECK(!handle->is_open);
@@ -733,6 +734,24 @@ static void test_time_and_stable(void)
     jolunza_close(&handle);
 }
 
+static void test_stable_of(void)
+{
+    jolunza_handle handle = JOLUNZA_CLOSED_HANDLE;
+    struct filled *f = &filled;
+
+    open_with_events(&handle);
+    CHECK(jolunza_stable_of(&handle, 3, f->times) == JOLUNZA_BAD_MEMBER);
+    CHECK(IS_UNTOUCHED(filled));
+    CHECK(jolunza_stable_of(&handle, 0, f->times) == JOLUNZA_DONE && f->times[0] == 0 && IS_UNTOUCHED(f->times[1]));
+    CHECK(receive(&handle, BYTES(0x12, 7, 2, 2, 0, 1, 0, 1)) == JOLUNZA_DONE);
+    CHECK(jolunza_stable_of(&handle, 0, f->times) == JOLUNZA_DONE && f->times[0] == 1);
+    CHECK(jolunza_stable_of(&handle, 1, f->times) == JOLUNZA_DONE && f->times[0] == 0);
+    CHECK(receive(&handle, BYTES(0x12, 7, 0, 2, 0, 1, 0, 1)) == JOLUNZA_DONE);
+    CHECK(jolunza_stable_of(&handle, 1, f->times) == JOLUNZA_DONE && f->times[0] == 1);
+    CHECK(jolunza_stable_of(&handle, 2, f->times) == JOLUNZA_DONE && f->times[0] == 0);
+    jolunza_close(&handle);
+}
+
 static void test_missing(void)
 {
     jolunza_handle handle = JOLUNZA_CLOSED_HANDLE;
@@ -802,6 +821,7 @@ int main(void)
     test_events();
     test_entry();
     test_time_and_stable();
+    test_stable_of();
     test_missing();
     test_moves();
     printf("%u passed, %u failed\n", passed, failed);

@@ -51,7 +51,7 @@ enum jolunza_code {
     JOLUNZA_CLOSED = 1,           /* the handle holds no member */
     JOLUNZA_NO_MEMORY = 2,        /* try again */
     JOLUNZA_BAD_GROUP = 3,        /* open: the size is not 2 to 64, or the window not 1 to 256 */
-    JOLUNZA_BAD_MEMBER = 4,       /* open, receive, missing: a number that no member of the group has; missing: its own too */
+    JOLUNZA_BAD_MEMBER = 4,       /* open, receive, missing, stable_of: a number that no member of the group has; missing: its own too */
     JOLUNZA_BAD_LIMIT = 5,        /* open: the limit of the history is above 16,777,216 */
     JOLUNZA_PAYLOAD_TOO_LONG = 6, /* cast: more than 1,024 bytes; cast_burst: all payloads together */
     JOLUNZA_WINDOW_FULL = 7,      /* cast, cast_burst: wait for the others' statuses, keep the payloads, try again; a burst wants
@@ -215,6 +215,12 @@ uint32_t jolunza_time(jolunza_handle *handle, uint32_t *time, size_t capacity);
 
 /* How many own casts every other member is known to have delivered. */
 uint32_t jolunza_stable(jolunza_handle *handle, uint32_t *count);
+
+/*
+ * How many casts of a member, this one or another, every member other than it is known to have delivered; this one knows what it
+ * has delivered itself. BAD_MEMBER where the group has no such member.
+ */
+uint32_t jolunza_stable_of(jolunza_handle *handle, uint32_t member, uint32_t *count);
 
 /* The casts of another member that are missing, as rising ranges, as far as they fit; `count` tells how many there are. */
 uint32_t jolunza_missing(jolunza_handle *handle, uint32_t member, jolunza_range *ranges, size_t capacity, size_t *count);

@@ -143,6 +143,10 @@ static uint64_t digest_of(jolunza_handle *handle)
     add(time, sizeof time);
     add_number(jolunza_stable(handle, &stable));
     add_number(stable);
+    for (uint32_t member = 0; member < SIZE; member++) {
+        add_number(jolunza_stable_of(handle, member, &stable));
+        add_number(stable);
+    }
     return digest;
 }
 

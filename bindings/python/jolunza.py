@@ -256,6 +256,7 @@ FUNCTIONS: dict[str, tuple[Any, list[tuple[str, Any]]]] = {
     ),
     "jolunza_time": (c_uint32, [HANDLE, ("time", POINTER(c_uint32)), ("capacity", c_size_t)]),
     "jolunza_stable": (c_uint32, [HANDLE, ("count", POINTER(c_uint32))]),
+    "jolunza_stable_of": (c_uint32, [HANDLE, ("member", c_uint32), ("count", POINTER(c_uint32))]),
     "jolunza_missing": (
         c_uint32,
         [
@@ -440,6 +441,13 @@ class Member:
         count = c_uint32()
         with self._lock:
             self._call("stable", byref(count))
+        return count.value
+
+    def stable_of(self, member: int) -> int:
+        """How many casts of a member every member other than it is known to have delivered; of this one as `stable`."""
+        count = c_uint32()
+        with self._lock:
+            self._call("stable_of", _number(member, 32), byref(count))
         return count.value
 
     def missing(self, member: int) -> list[range]:

@@ -66,6 +66,7 @@ def calls(member: Member) -> tuple[Callable[[], object], ...]:
         lambda: list(member.entries()),
         member.time,
         member.stable,
+        lambda: member.stable_of(1),
         lambda: member.missing(1),
     )
 
@@ -106,7 +107,7 @@ class Case(unittest.TestCase):
 def state(member: Member) -> tuple[object, ...]:
     """All that can be read of it."""
     read = (member.counts(), member.frames(), list(member.events()), list(member.entries()))
-    return (*read, member.time(), member.stable(), missing(member))
+    return (*read, member.time(), member.stable(), [member.stable_of(other) for other in range(3)], missing(member))
 
 
 def missing(member: Member) -> list[list[range]]:
@@ -125,11 +126,12 @@ class WorkedExamples(Case):
 
     def test_a_cast(self) -> None:
         member = opened(0)
-        self.assertEqual(state(member), (Counts(0, 0, 0), [], [], [], (0, 0, 0), 0, [[], []]))
+        told = [0, 0, 0], [[], []]
+        self.assertEqual(state(member), (Counts(0, 0, 0), [], [], [], (0, 0, 0), 0, *told))
         member.cast(b"hi")
         event = Event(True, Name(0, 1), (1, 0, 0), b"hi")
         entry = Entry(Kind.CAST, HI, ())
-        self.assertEqual(state(member), (Counts(1, 1, 1), [Frame(None, HI)], [event], [entry], (1, 0, 0), 0, [[], []]))
+        self.assertEqual(state(member), (Counts(1, 1, 1), [Frame(None, HI)], [event], [entry], (1, 0, 0), 0, *told))
 
     def test_a_payload_without_bytes(self) -> None:
         member = opened(0)
@@ -143,7 +145,8 @@ class WorkedExamples(Case):
         member.cast_burst((b"hi", memoryview(b"yo")))
         events = [Event(True, Name(0, 1), (1, 0, 0), b"hi"), Event(True, Name(0, 2), (2, 0, 0), b"yo")]
         entry = Entry(Kind.CAST, HI_YO, ())
-        self.assertEqual(state(member), (Counts(1, 2, 1), [Frame(None, HI_YO)], events, [entry], (2, 0, 0), 0, [[], []]))
+        told = [0, 0, 0], [[], []]
+        self.assertEqual(state(member), (Counts(1, 2, 1), [Frame(None, HI_YO)], events, [entry], (2, 0, 0), 0, *told))
 
     def test_a_burst_answers_a_burst(self) -> None:
         member = after(1, HI_YO)
@@ -296,6 +299,12 @@ class Refusals(Case):
         self.assertEqual([len(event.payload) for event in member.events()], [1023, 0, 1])
         self.refuses(Code.WINDOW_FULL, member, Record.of_burst([b"", b""]))
         self.refuses(Code.HISTORY_FULL, member, Record.of_burst([b""]))
+
+    def test_of_what_is_stable(self) -> None:
+        for member in (3, 0xFFFF_FFFF):
+            with self.assertRaises(Refusal) as raised:
+                opened(1).stable_of(member)
+            self.assertEqual(raised.exception.code, Code.BAD_MEMBER)
 
     def test_of_missing(self) -> None:
         for member in (1, 3, 0xFFFF_FFFF):
@@ -507,6 +516,8 @@ class Values(Case):
                 Member(*given)
         with self.assertRaises(OverflowError):
             opened(0).missing((1 << 32) + 1)
+        with self.assertRaises(OverflowError):
+            opened(0).stable_of(1 << 32)
         for read in (opened(0).events, opened(0).entries):
             with self.assertRaises(OverflowError):
                 list(read(-1))

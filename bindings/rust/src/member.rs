@@ -312,6 +312,14 @@ impl Member {
         count
     }
 
+    /// How many casts of a member every member other than it is known to have delivered; of this one as `stable`. `BadMember` of
+    /// who is none.
+    pub fn stable_of(&self, member: u32) -> Result<u32, Refusal> {
+        let mut count = 0;
+        answered(unsafe { sys::jolunza_stable_of(self.handle.get(), member, &mut count) })?;
+        Ok(count)
+    }
+
     /// The casts of another member that are missing, as rising ranges. `BadMember` of this one and of who is none.
     pub fn missing(&self, member: u32) -> Result<Vec<RangeInclusive<u32>>, Refusal> {
         let mut ranges = [sys::jolunza_range::default(); MOST_RANGES];

@@ -197,6 +197,8 @@ extern "C" {
 
     pub fn jolunza_stable(handle: *mut jolunza_handle, count: *mut u32) -> u32;
 
+    pub fn jolunza_stable_of(handle: *mut jolunza_handle, member: u32, count: *mut u32) -> u32;
+
     pub fn jolunza_missing(
         handle: *mut jolunza_handle,
         member: u32,

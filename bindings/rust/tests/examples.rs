@@ -28,6 +28,7 @@ fn answer(member: &mut Member, call: &str) -> String {
         "tick" => counted(member, tick),
         "time" => printed_time(&member.time()),
         "stable" => member.stable().to_string(),
+        "stable_of" => stable_of(member, rest.parse().unwrap()),
         "missing" => missing(member, rest.parse().unwrap()),
         "events" => events(member),
         "entries" => entries(member),
@@ -102,6 +103,13 @@ fn frames(member: &mut Member) -> String {
     assert_eq!(frames.len(), count);
     let to = |to: Option<u32>| to.map_or("all".into(), |member| member.to_string());
     frames.map(|frame| format!(", to {}: {}", to(frame.to), hexadecimal(frame.bytes))).collect()
+}
+
+fn stable_of(member: &Member, other: u32) -> String {
+    match member.stable_of(other) {
+        Ok(count) => count.to_string(),
+        Err(refusal) => format!("{refusal:?}"),
+    }
 }
 
 fn missing(member: &Member, other: u32) -> String {
@@ -351,7 +359,7 @@ fn bytes_that_are_no_frame_are_malformed() {
                   PayloadTooLong Trailing";
     let mut member = open(7, 3, 4, 0, 100);
     let mut rows = 0;
-    for line in page.lines().filter(|line| line.starts_with("| `1")) {
+    for line in page.lines().filter(|line| line.starts_with("| `1") || line.starts_with("| `23")) {
         let cells: Vec<&str> = line.split(" | ").collect();
         let fault = cells[1].strip_prefix("`refused ").map(|rest| rest.trim_end_matches(['`', ' ', '|']));
         if fault.is_some_and(|fault| faults.split(' ').any(|word| word == fault)) {

@@ -64,7 +64,7 @@ fn entered(member: &mut Member) -> Option<String> {
 /// All that can be read of a member, as text; without a history not what its last call added.
 fn reading(member: &mut Member) -> Vec<String> {
     let mut lines = vec![format!("{:?} {}", member.time(), member.stable())];
-    lines.extend((0..SIZE).map(|other| format!("{:?}", member.missing(other))));
+    lines.extend((0..SIZE).map(|other| format!("{:?} {:?}", member.stable_of(other), member.missing(other))));
     if member.settings().history_max == 0 {
         return lines;
     }

@@ -4,7 +4,7 @@ use Rattle.std.specs.Prelude.{if◌then◌else◌}
 use Rattle.std.specs.List.{flat_map}
 use Rattle.std.proofs.lemmas.List.{append-nil, drop_at}
 use Rattle.cb_frames.specs.declared.fault.FrameFault.{FrameFault}
-use Rattle.cb_frames.specs.Fields.{Load, Carried, FrameFields, StatusFields, CastFrame, StatusFrame, RequestFrame}
+use Rattle.cb_frames.specs.Fields.{Load, Carried, FrameFields, StatusFields, CastFrame, StatusFrame, RequestFrame, HelpFrame}
 use Rattle.cb_history.specs.Read.{frame_read}
 use Rattle.cb_frames.specs.Text.{text_of}
 use Rattle.cb_delay.specs.declared.message.Event.{Event}
@@ -127,6 +127,7 @@ frame_adds seat es bytes (StatusFrame s) read change legal =
     with_fact seat es _ (StatusReceived s) legal (ap arrival_said read)
     ∙ ap (λ (ms : List Message). events seat (facts_of es) ++ map (λ (m : Message). Deliver m) ms) (sym (none_by_status seat (facts_of es) s))
 frame_adds seat es bytes (RequestFrame r) read change legal = absurd cc
+frame_adds seat es bytes (HelpFrame h) read change legal = absurd cc
 
 pub arrival_adds : (seat : Identity) (es : List EntryFields) (bytes : List ℕ) (says : ArrivalSays) → arrive_answer seat (room_for_one es) es bytes ≡ Ok says
     → AreEntriesOf seat (and_entry es (arrive_entry bytes (Ok says)))

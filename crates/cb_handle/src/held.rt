@@ -2,7 +2,7 @@
 
 ghost use Rattle.std.specs.Prelude.{◌≡◌, ◌⊎◌, ◌↔◌, ◌≤◌, [], length, drop, slice_get, map, IfOk, IfErr, OnOk, OnErr, MatchOption, Ok, Err, ◌==◌, ◌+◌, slice_range, if◌then◌else◌};
 ghost use Rattle.cb_frames.specs.Fields.{One};
-ghost use Rattle.cb_history.specs.State.{time_in, stable_in, missing_in, RefusesArrival, RefusesTick};
+ghost use Rattle.cb_history.specs.State.{time_in, stable_in, stable_of_in, missing_in, RefusesArrival, RefusesTick};
 ghost use Rattle.cb_history.specs.Known.{ranges_of};
 ghost use Rattle.cb_history.specs.Load.{many_of};
 ghost use Rattle.cb_member.specs.Casting.{RefusesBurstExactly, RefusesExactly};
@@ -388,6 +388,13 @@ impl Held {
         ensures { OnEach self.now (λ m. result ≡ stable_in m) }
     {
         self.kept.stable()
+    }
+
+    /// How many casts of a member every member other than it is known to have delivered; `None` where the group has no such member.
+    pub fn stable_of(&self, member: u32) -> Option<u32>
+        ensures { OnEach self.now (λ m. result ≡ stable_of_in m member) }
+    {
+        self.kept.stable_of(member)
     }
 
     /// Shows the casts of a member that are missing, and tells how many ranges they are.

@@ -8,7 +8,7 @@ ghost use Rattle.cb_history.specs.Known.{ranges_of};
 ghost use Rattle.std.specs.Vec.{vec_capacity, vec_len};
 ghost use Rattle.cb_history.specs.Facts.{entry_fields};
 ghost use Rattle.cb_history.specs.Legal.{and_entry, longest_history};
-ghost use Rattle.cb_history.specs.State.{missing_in, stable_in, time_in, RefusesArrival, RefusesTick};
+ghost use Rattle.cb_history.specs.State.{missing_in, stable_in, stable_of_in, time_in, RefusesArrival, RefusesTick};
 ghost use Rattle.cb_member.specs.Casting.{RefusesBurstExactly, RefusesExactly};
 ghost use Rattle.cb_member.specs.CoreCalls.{MayCast};
 ghost use Rattle.cb_handle.specs.Kept.{OnEach, seat_of, events_of, entries_of};
@@ -196,6 +196,13 @@ impl Kept {
         ensures { OnEach self.now (λ m. result ≡ stable_in m) }
     {
         self.core.stable()
+    }
+
+    /// How many casts of a member every member other than it is known to have delivered; `None` where the group has no such member.
+    pub fn stable_of(&self, member: u32) -> Option<u32>
+        ensures { OnEach self.now (λ m. result ≡ stable_of_in m member) }
+    {
+        self.core.stable_of(member)
     }
 
     /// The casts of a member that are missing.

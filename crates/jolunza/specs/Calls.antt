@@ -6,7 +6,7 @@ use Rattle.cb_history.specs.declared.answer.ArriveRefusal.{ArriveRefusal}
 use Rattle.cb_history.specs.declared.answer.TickRefusal.{TickRefusal}
 use Rattle.cb_history.specs.Group.{Parameters}
 use Rattle.cb_history.specs.Known.{ranges_of}
-use Rattle.cb_history.specs.State.{missing_in, RefusesTick}
+use Rattle.cb_history.specs.State.{missing_in, stable_of_in, RefusesTick}
 use Rattle.cb_member.specs.Casting.{RefusesExactly}
 use Rattle.cb_handle.specs.declared.held.Held.{Held}
 use Rattle.cb_handle.specs.declared.held.LoadedRefusal.{LoadedRefusal}
@@ -84,6 +84,14 @@ pub record ShowsMissing (member : ℕ) (ranges new_ranges : List Range) (count :
   pub bad_member : code ≡ BAD_MEMBER → ((seat_held held).group.size ≤ member) ⊎ (member ≡ (seat_held held).me)
   pub other_code : code ≢ BAD_MEMBER → ¬ (((seat_held held).group.size ≤ member) ⊎ (member ≡ (seat_held held).me))
   pub codes : (code ≡ DONE) ⊎ ((code ≡ BAD_MEMBER) ⊎ (code ≡ NO_MEMORY))
+
+-- the count is told, or there is no such member
+abbrev pub TellsCount : Option ℕ → ℕ → ℕ → Type 0
+TellsCount None count code = code ≡ BAD_MEMBER
+TellsCount (Some stable) count code = (code ≡ DONE) × (count ≡ stable)
+
+abbrev pub ShowsStable : ℕ → ℕ → Held → ℕ → Type 0
+ShowsStable member count held code = OnEach held (λ m. TellsCount (stable_of_in m member) count code)
 
 -- the handle holds the new member, or nothing, and the code tells why
 abbrev pub Opens : Parameters → ℕ → ℕ → Option Held → ℕ → Type 0

@@ -13,7 +13,7 @@ ghost use Rattle.cb_handle.specs.Events.{ShowsEvent, ShowsEvents};
 ghost use Rattle.cb_handle.specs.Entries.{ShowsEntry};
 ghost use Rattle.cb_handle.specs.Calling.{OnEach, counts_of, entries_held, events_held};
 ghost use Rattle.jolunza.specs.declared.code.TheConstants.{DONE};
-ghost use Rattle.jolunza.specs.Calls.{Calls, Casts, CastsBurst, Receives, Loads, ReceivesLoaded, ReceivesParts, Ticks, Reads, IsDone, ShowsAt, ShowsMissing, Opens};
+ghost use Rattle.jolunza.specs.Calls.{Calls, Casts, CastsBurst, Receives, Loads, ReceivesLoaded, ReceivesParts, Ticks, Reads, IsDone, ShowsAt, ShowsMissing, ShowsStable, Opens};
 
 mod code;
 #[cfg(test)]
@@ -21,7 +21,7 @@ mod tests;
 mod told;
 
 use crate::code::{CLOSED, DONE, NO_MEMORY};
-use crate::told::{tell_loaded, tell_missing, tell_parts, tell_received};
+use crate::told::{tell_loaded, tell_missing, tell_parts, tell_received, tell_stable};
 use cb_handle::{
     Counts, EntryHead, EventHead, FrameHead, Handle, Held, Name, Range, Received, put, take,
 };
@@ -346,6 +346,26 @@ pub extern "C" fn jolunza_stable(alloc: Global, handle: &mut Handle, count: &mut
     *count = held.stable();
     put(handle, held);
     DONE
+}
+
+/// How many casts of a member every member other than it is known to have delivered; the casts of this one as `jolunza_stable` does.
+#[unsafe(no_mangle)]
+pub extern "C" fn jolunza_stable_of(
+    alloc: Global,
+    handle: &mut Handle,
+    member: u32,
+    count: &mut u32,
+) -> u32
+    ensures shows { Calls (Reads (ShowsStable member count.new))
+        handle.old.held handle.new.held result }
+    ensures same { result ≢ DONE → count.new ≡ count.old }
+{
+    let Some(held) = take(alloc, handle) else {
+        return CLOSED;
+    };
+    let answer = held.stable_of(member);
+    put(handle, held);
+    tell_stable(answer, count)
 }
 
 /// The casts of another member that are missing, as far as they fit.

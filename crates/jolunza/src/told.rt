@@ -1,10 +1,10 @@
 //! What a call that is done fills besides its code.
 
-ghost use Rattle.std.specs.Prelude.{◌≡◌, MatchResult};
+ghost use Rattle.std.specs.Prelude.{◌≡◌, MatchOption, MatchResult};
 ghost use Rattle.jolunza.specs.Codes.{arrive_code, loaded_code, missing_code};
-ghost use Rattle.jolunza.specs.declared.code.TheConstants.{DONE};
+ghost use Rattle.jolunza.specs.declared.code.TheConstants.{DONE, BAD_MEMBER};
 
-use crate::code::{self, DONE};
+use crate::code::{self, BAD_MEMBER, DONE};
 use cb_handle::{LoadedRefusal, Received};
 use cb_member::{ArriveRefusal, MissingFault};
 
@@ -58,5 +58,19 @@ pub fn tell_missing(answer: Result<usize, MissingFault>, count: &mut usize) -> u
             DONE
         }
         Err(fault) => code::of_missing(fault),
+    }
+}
+
+/// Fills in how many casts are stable, where the group has the member.
+pub fn tell_stable(answer: Option<u32>, stable: &mut u32) -> u32
+    ensures { MatchOption answer ((result ≡ BAD_MEMBER) × (stable.new ≡ stable.old))
+        (λ told. (result ≡ DONE) × (stable.new ≡ told)) }
+{
+    match answer {
+        Some(told) => {
+            *stable = told;
+            DONE
+        }
+        None => BAD_MEMBER,
     }
 }

@@ -8,7 +8,8 @@ use crate::code::{
 use crate::{
     jolunza_cast, jolunza_cast_burst, jolunza_close, jolunza_count, jolunza_entry, jolunza_event,
     jolunza_events, jolunza_frame, jolunza_frames, jolunza_load, jolunza_missing, jolunza_open,
-    jolunza_receive, jolunza_receive_loaded, jolunza_stable, jolunza_tick, jolunza_time,
+    jolunza_receive, jolunza_receive_loaded, jolunza_stable, jolunza_stable_of, jolunza_tick,
+    jolunza_time,
 };
 use cb_handle::{Counts, EntryHead, EventHead, FrameHead, Handle, Name, Range, Received, closed};
 use std::alloc::Global;
@@ -103,6 +104,7 @@ fn reads(rt: &impl Abort, alloc: Global, handle: &mut Handle, one: u32, all: u32
         all
     );
     assert_eq!(rt; jolunza_stable(alloc, handle, &mut stable), all);
+    assert_eq!(rt; jolunza_stable_of(alloc, handle, 2, &mut stable), all);
     assert_eq!(rt;
         jolunza_missing(alloc, handle, 1, &mut ranges, &mut many),
         all

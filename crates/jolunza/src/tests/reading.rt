@@ -1,10 +1,10 @@
 //! What is read of one frame, event and entry, and of a member's quantities.
 
 use super::{FIRST, FOURTH, HI, cast, member_of_three, receive};
-use crate::code::DONE;
+use crate::code::{BAD_MEMBER, DONE};
 use crate::{
     jolunza_close, jolunza_count, jolunza_entry, jolunza_event, jolunza_frame, jolunza_missing,
-    jolunza_receive, jolunza_stable, jolunza_tick, jolunza_time,
+    jolunza_receive, jolunza_stable, jolunza_stable_of, jolunza_tick, jolunza_time,
 };
 use cb_handle::{
     ARRIVE, CAST, Counts, EntryHead, EventHead, FrameHead, Handle, Name, Range, Received, TICK,
@@ -246,5 +246,32 @@ fn what_is_asked_for_is_sent_again_and_what_all_have_is_stable(rt: HostRuntime) 
     assert_eq!(rt; stable, 1);
     assert_eq!(rt; jolunza_time(alloc, &mut handle, &mut time), DONE);
     assert_eq!(rt; time, [3, 0, 0, 9]);
+    jolunza_close(alloc, &mut handle);
+}
+
+/// So many casts of that member are stable.
+fn are_stable(rt: &impl Abort, alloc: Global, handle: &mut Handle, member: u32, count: u32) {
+    let mut stable = 9;
+    let code = jolunza_stable_of(alloc, handle, member, &mut stable);
+    assert_eq!(rt; code, DONE);
+    assert_eq!(rt; stable, count);
+}
+
+/// Member 1 has "hi" of member 0, and is then told that member 2 has it.
+#[test]
+fn what_all_but_its_sender_have_is_stable(rt: HostRuntime) {
+    let alloc = rt.alloc();
+    let mut handle = member_of_three(&rt, alloc, 1);
+    receive(&rt, alloc, &mut handle, HI);
+    are_stable(&rt, alloc, &mut handle, 0, 0);
+    let status = b"\x12\x07\x02\x01\x00\x01";
+    assert!(rt; receive(&rt, alloc, &mut handle, status).is_entered);
+    are_stable(&rt, alloc, &mut handle, 0, 1);
+    are_stable(&rt, alloc, &mut handle, 1, 0);
+    are_stable(&rt, alloc, &mut handle, 2, 0);
+    let mut stable = 9;
+    let code = jolunza_stable_of(alloc, &mut handle, 3, &mut stable);
+    assert_eq!(rt; code, BAD_MEMBER);
+    assert_eq!(rt; stable, 9);
     jolunza_close(alloc, &mut handle);
 }
