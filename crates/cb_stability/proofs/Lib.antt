@@ -7,3 +7,6 @@ pub mod Learning
 pub mod KnownRows
 pub mod WindowRows
 pub mod HelperRows
+pub mod Placing
+pub mod Passed
+pub mod RelayRows

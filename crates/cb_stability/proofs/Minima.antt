@@ -1,13 +1,13 @@
--- Of each sender the least count of the others, and how many stand at it.
-use Rattle.std.proofs.Common.{◌≡◌, ◌≢◌, ℕ, zero, suc, ◌+◌, ◌<◌, ◌≤◌, ◌⊎◌, inl, inr, true, false, List, [], length, replicate, get_or, set, ◌-◌, sym, ◌∙◌, ap, subst, arith, refl}
+-- Of a sender the least count of the others, and how many stand at it.
+use Rattle.std.proofs.Common.{◌≡◌, ◌≢◌, ℕ, zero, suc, ◌+◌, ◌<◌, ◌≤◌, ◌⊎◌, inl, inr, true, false, List, [], length, get_or, ◌-◌, sym, ◌∙◌, ap, subst, arith, refl}
 use Rattle.std.specs.Prelude.{◌==◌, nat_lt, if◌then◌else◌}
-use Rattle.std.proofs.lemmas.List.{get_or_default, get_or-replicate, length-replicate, length-set, get_or-set_same, get_or-set_other}
+use Rattle.std.proofs.lemmas.List.{get_or_default}
 use Rattle.std.proofs.lemmas.Bool.{cases_lt}
 use Rattle.std.proofs.lemmas.Bool.Decides.{eqb_tells, nat_tests}
 use Rattle.cb_stability.specs.declared.acks.Minimum.{Minimum}
-use Rattle.cb_stability.specs.Known.{Known, count, Learns, IsUnknown, IsCountOfOther}
+use Rattle.cb_stability.specs.Known.{Known, count, IsUnknown, IsCountOfOther}
 use Rattle.cb_stability.specs.Rows.{known_of}
-use Rattle.cb_stability.specs.Minima.{minimum, one_if, standing_at, IsMinimum, IsBeforeRise, AreMinima, minimum_with}
+use Rattle.cb_stability.specs.Minima.{minimum, one_if, standing_at, IsMinimum, IsBeforeRise, minimum_with}
 
 module _ (known : Known) (i c : ℕ) where
   -- the sender does not count, nor does who has another count
@@ -265,95 +265,51 @@ module _ (rows : List (List ℕ)) (i : ℕ) where
 
 -- ---- what a report changes
 
-module _ (rows later : List (List ℕ)) (long : length later ≡ length rows) where
-  -- a minimum stays where the others' counts do
-  pub minimum_kept : (i : ℕ) (m : Minimum) → ((k : ℕ) → k ≢ i → count (known_of later) k i ≡ count (known_of rows) k i)
-      → IsMinimum rows i m → IsMinimum later i m
-  minimum_kept i m same is = record {
-    stable = λ k below other. let past = is.stable k (omega (arith, below, long)) other in omega (arith, past, same k other);
-    standing =
-        is.standing
-        ∙ sym (same_standing (known_of rows) (known_of later) i m.least (length rows) (λ k _ other. same k other))
-        ∙ ap (standing_at (known_of later) i m.least) (sym long);
-    some = is.some;
-  }
-
-module _ (rows later : List (List ℕ)) (k i c : ℕ) (learns : Learns (known_of rows) (known_of later) k i c) where
-  -- the others' counts of a sender stay where the report is late, of the sender by itself or of another sender
-  counts_kept : (j : ℕ) → (j ≢ i) ⊎ ((k ≡ i) ⊎ (c ≤ count (known_of rows) k i))
-      → (m : ℕ) → m ≢ j → count (known_of later) m j ≡ count (known_of rows) m j
-  counts_kept j (inl beside) m other = learns.senders m j beside
-  counts_kept j (inr (inl own)) m other =
-      elim (eqb_tells m k) as (λ _. count (known_of later) m j ≡ count (known_of rows) m j) [
-        | inl at ↦ learns.senders m j (λ e. other (at.1 ∙ own ∙ sym e))
-        | inr apart ↦ learns.members m j apart.1
-      ]
-  counts_kept j (inr (inr late)) m other =
-      elim (eqb_tells m k) as (λ _. count (known_of later) m j ≡ count (known_of rows) m j) [
-        | inr apart ↦ learns.members m j apart.1
-        | inl at ↦ elim (eqb_tells j i) [
-          | inr beside ↦ learns.senders m j beside.1
-          | inl here ↦
-              let same : count (known_of later) k i ≡ count (known_of rows) k i = omega (arith, learns.learned, late) in
-              ap (λ (x : ℕ). count (known_of later) x j) at.1
-              ∙ ap (count (known_of later) k) here.1
-              ∙ same
-              ∙ sym (ap (count (known_of rows) k) here.1)
-              ∙ sym (ap (λ (x : ℕ). count (known_of rows) x j) at.1)
+-- of the sender i only the member k may have another count than before
+module _ (rows later : List (List ℕ)) (long : length later ≡ length rows) (k i : ℕ)
+    (members : (x : ℕ) → x ≢ k → count (known_of later) x i ≡ count (known_of rows) x i) (m : Minimum) (is : IsMinimum rows i m) where
+  others_stay : (k ≡ i) ⊎ (count (known_of later) k i ≡ count (known_of rows) k i)
+      → (x : ℕ) → x ≢ i → count (known_of later) x i ≡ count (known_of rows) x i
+  others_stay nothing x other =
+      elim (eqb_tells x k) as (λ _. count (known_of later) x i ≡ count (known_of rows) x i) [
+        | inr apart ↦ members x apart.1
+        | inl at ↦ elim nothing [
+          | inl own ↦ absurd (other (at.1 ∙ own))
+          | inr same ↦ rw at.1 same
         ]
       ]
 
-  module _ (minima : List Minimum) (are : AreMinima rows minima) where
-    pub minima_kept : (k ≡ i) ⊎ (c ≤ count (known_of rows) k i) → AreMinima later minima
-    minima_kept nothing = record {
-      of_each = are.of_each ∙ sym learns.size;
-      right = λ j d below.
-          minimum_kept rows later learns.size j (get_or minima j d) (counts_kept j (inr nothing))
-          (are.right j d (omega (arith, below, learns.size)));
-    }
+  -- its minimum stays where that is the sender itself, or has no greater count
+  pub minimum_stays : (k ≡ i) ⊎ (count (known_of later) k i ≡ count (known_of rows) k i) → IsMinimum later i m
+  minimum_stays nothing =
+      let same = others_stay nothing in
+      record {
+        stable = λ x below other. let past = is.stable x (omega (arith, below, long)) other in omega (arith, past, same x other);
+        standing =
+            is.standing
+            ∙ sym (same_standing (known_of rows) (known_of later) i m.least (length rows) (λ x _ other. same x other))
+            ∙ ap (standing_at (known_of later) i m.least) (sym long);
+        some = is.some;
+      }
 
-    -- the minimum of the sender, before who rose is taken from those at it
-    module _ (d : Minimum) (within : i < length rows) (of_group : k < length rows) (other : k ≢ i) (rises : count (known_of rows) k i < c) where
-      pub before_rise : IsBeforeRise later i (count (known_of rows) k i) (get_or minima i d)
-      before_rise =
-          let m = get_or minima i d in
-          let is = are.right i d within in
-          record {
-            stable = λ x below beside.
-                elim (eqb_tells x k) as (λ _. m.least ≤ count (known_of later) x i) [
-                  | inl at ↦
-                      let same = ap (λ (y : ℕ). count (known_of later) y i) at.1 in
-                      let past = is.stable k of_group other in
-                      omega (arith, same, learns.learned, past)
-                  | inr apart ↦
-                      let past = is.stable x (omega (arith, below, learns.size)) beside in
-                      omega (arith, past, learns.members x i apart.1)
-                ];
-            within = is.stable k of_group other;
-            standing =
-                let past = is.stable k of_group other in
-                is.standing
-                ∙ one_fewer (known_of rows) (known_of later) i m.least k other
-                (λ e. absurd (omega (arith, e, learns.learned, rises, past)))
-                (λ x apart. learns.members x i apart) (length rows) of_group
-                ∙ ap (λ n. standing_at (known_of later) i m.least n + one_if (count (known_of rows) k i == m.least)) (sym learns.size);
-            some = is.some;
-          }
-
-    module _ (m : Minimum) (within : i < length rows) (is : IsMinimum later i m) where
-      pub minima_set : AreMinima later (set minima i m)
-      minima_set = record {
-        of_each = length-set minima i m ∙ are.of_each ∙ sym learns.size;
-        right = λ j d below.
-            elim (eqb_tells j i) as (λ _. IsMinimum later j (get_or (set minima i m) j d)) [
-              | inl here ↦
-                  subst (λ (x : ℕ). IsMinimum later x (get_or (set minima i m) x d)) (sym here.1)
-                  (subst (λ (y : Minimum). IsMinimum later i y) (sym (get_or-set_same minima i m d (omega (arith, within, are.of_each)))) is)
-              | inr beside ↦
-                  subst (λ (y : Minimum). IsMinimum later j y) (sym (get_or-set_other minima i j m d beside.1))
-                  (minimum_kept rows later learns.size j (get_or minima j d) (counts_kept j (inl beside.1))
-                  (are.right j d (omega (arith, below, learns.size))))
+  -- and elsewhere it is the minimum before who rose is taken from those at it
+  pub before_rise : k < length rows → k ≢ i → count (known_of rows) k i < count (known_of later) k i
+      → IsBeforeRise later i (count (known_of rows) k i) m
+  before_rise of_group other rises =
+      let there = is.stable k of_group other in
+      record {
+        stable = λ x below beside.
+            elim (eqb_tells x k) as (λ _. m.least ≤ count (known_of later) x i) [
+              | inl at ↦ let same = ap (λ (y : ℕ). count (known_of later) y i) at.1 in omega (arith, same, rises, there)
+              | inr apart ↦ let past = is.stable x (omega (arith, below, long)) beside in omega (arith, past, members x apart.1)
             ];
+        within = there;
+        standing =
+            is.standing
+            ∙ one_fewer (known_of rows) (known_of later) i m.least k other (λ e. absurd (omega (arith, e, rises, there))) members
+            (length rows) of_group
+            ∙ ap (λ n. standing_at (known_of later) i m.least n + one_if (count (known_of rows) k i == m.least)) (sym long);
+        some = is.some;
       }
 
 -- ---- where nothing is known
@@ -372,19 +328,11 @@ module _ (known : Known) (i : ℕ) (zero_all : (k : ℕ) → count known k i ≡
         | inr apart ↦ omega (arith, stands known i 0 n apart.1 (zero_all n), all_others_stand n (omega (arith, within, apart.1)), within, apart.1)
       ]
 
-module _ (size : ℕ) (rows : List (List ℕ)) (unknown : IsUnknown size (known_of rows)) (two : 2 ≤ size) where
-  zero_minimum : (i : ℕ) → i < length rows → IsMinimum rows i (minimum 0 (size - 1))
-  zero_minimum i within = record {
-    stable = λ k _ _. omega arith;
-    standing = omega (arith, all_others_stand (known_of rows) i (λ k. unknown.none k i) (length rows) within, unknown.of_size);
-    some = omega (arith, two);
-  }
-
-  -- all others stand at 0
-  pub zero_minima_are : AreMinima rows (replicate size (minimum 0 (size - 1)))
-  zero_minima_are = record {
-    of_each = length-replicate size (minimum 0 (size - 1)) ∙ sym unknown.of_size;
-    right = λ i d within.
-        subst (λ (m : Minimum). IsMinimum rows i m)
-        (sym (get_or-replicate size i (minimum 0 (size - 1)) d (omega (arith, within, unknown.of_size)))) (zero_minimum i within);
-  }
+-- all others stand at 0
+pub zero_minimum : (size : ℕ) (rows : List (List ℕ)) → IsUnknown size (known_of rows) → 2 ≤ size → (i : ℕ) → i < length rows
+    → IsMinimum rows i (minimum 0 (size - 1))
+zero_minimum size rows unknown two i within = record {
+  stable = λ k _ _. omega arith;
+  standing = omega (arith, all_others_stand (known_of rows) i (λ k. unknown.none k i) (length rows) within, unknown.of_size);
+  some = omega (arith, two);
+}

@@ -128,7 +128,7 @@ keep_last-drop k frames =
     ]
 
 -- and one that has room keeps all
-keep_last-all : (n : ℕ) (frames : List Spanned) → length frames ≤ n → keep_last n frames ≡ frames
+pub keep_last-all : (n : ℕ) (frames : List Spanned) → length frames ≤ n → keep_last n frames ≡ frames
 keep_last-all n frames room = let e : length frames - n ≡ 0 = omega (arith, room) in ap (λ (k : ℕ). drop k frames) e
 
 module _ (window put trimmed : ℕ) (frames : List Spanned) (is : IsSentWindow (sent_of window put trimmed frames)) where

@@ -1,5 +1,5 @@
 -- What is known of how far the members of a group have delivered.
-use Rattle.std.specs.Prelude.{◌≡◌, ◌≢◌, ℕ, ◌<◌, ◌≤◌, List, [], slice_index, slice_index_or, max, Option, None, Some, refl}
+use Rattle.std.specs.Prelude.{◌≡◌, ◌≢◌, ℕ, ◌<◌, ◌≤◌, List, [], slice_index, slice_index_or, max, refl}
 use Rattle.cb_times.specs.Group.{IsGroupSize}
 use Rattle.std.specs.Coded.{Coded, code_by, coded×, coded_list, coded_ℕ}
 
@@ -30,16 +30,6 @@ pub record LearnsTime (old new : Known) (k : ℕ) (time : List ℕ) : Type 0 whe
   pub learned : (i : ℕ) → i < old.size → count new k i ≡ max (count old k i) (slice_index time i)
   pub members : (m i : ℕ) → m ≢ k → count new m i ≡ count old m i
   pub senders : (m i : ℕ) → old.size ≤ i → count new m i ≡ count old m i
-
--- of these senders the time says no more of member k than is known
-abbrev pub SaysNoMore : Known → ℕ → List ℕ → ℕ → ℕ → Type 0
-SaysNoMore known k time from upto = (i : ℕ) → from ≤ i → i < upto → slice_index time i ≤ count known k i
-
--- the first sender from this one on of which it says more
-abbrev pub IsNextNews : Known → ℕ → List ℕ → ℕ → Option ℕ → Type 0
-IsNextNews known k time from None = SaysNoMore known k time from known.size
-IsNextNews known k time from (Some sender) =
-    (from ≤ sender) × (sender < known.size) × (count known k sender < slice_index time sender) × SaysNoMore known k time from sender
 
 -- every member other than the sender i is known to have delivered its casts up to this number
 abbrev pub IsStable : Known → ℕ → ℕ → Type 0

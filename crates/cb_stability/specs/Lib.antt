@@ -4,3 +4,4 @@ pub mod Minima
 pub mod Ranges
 pub mod Sent
 pub mod Helper
+pub mod Relays

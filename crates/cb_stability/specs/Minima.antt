@@ -1,5 +1,5 @@
--- Of each sender the least count of the others, and how many have just that.
-use Rattle.std.specs.Prelude.{◌≡◌, Bool, ℕ, zero, suc, ◌+◌, ◌<◌, ◌≤◌, ◌==◌, ◌&&◌, not, nat_lt, if◌then◌else◌, List, length, get_or}
+-- Of a sender the least count of the others, and how many have just that.
+use Rattle.std.specs.Prelude.{◌≡◌, Bool, ℕ, zero, suc, ◌+◌, ◌<◌, ◌≤◌, ◌==◌, ◌&&◌, not, nat_lt, if◌then◌else◌, List, length}
 use Rattle.cb_stability.specs.declared.acks.Minimum.{Minimum}
 use Rattle.cb_stability.specs.Known.{Known, count, IsStable}
 use Rattle.cb_stability.specs.Rows.{known_of}
@@ -28,11 +28,6 @@ pub record IsBeforeRise (rows : List (List ℕ)) (i count : ℕ) (m : Minimum) :
   pub within : m.least ≤ count
   pub standing : m.standing ≡ standing_at (known_of rows) i m.least (length rows) + one_if (count == m.least)
   pub some : 0 < m.standing
-
--- a minimum for each sender
-pub record AreMinima (rows : List (List ℕ)) (minima : List Minimum) : Type 0 where
-  pub of_each : length minima ≡ length rows
-  pub right : (i : ℕ) (d : Minimum) → i < length rows → IsMinimum rows i (get_or minima i d)
 
 -- with one more count
 abbrev pub minimum_with : Minimum → ℕ → Minimum

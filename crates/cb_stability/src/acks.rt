@@ -1,9 +1,9 @@
-//! The acknowledgements: a row of counts for each member, and of each sender the least count of the others.
-ghost use Rattle.std.specs.Prelude.{◌≡◌, ◌-◌, ◌<◌, length, replicate, IfOk};
+//! The acknowledgements: a row of counts for each member, and of one sender the least count of the others.
+ghost use Rattle.std.specs.Prelude.{◌≡◌, ◌<◌, length, IfOk};
 ghost use Rattle.cb_times.specs.Group.{IsGroupSize};
-ghost use Rattle.cb_stability.specs.Known.{count, IsUnknown, IsKnown, Learns, LearnsTime, IsNextNews, IsStable, IsCountOfOther};
+ghost use Rattle.cb_stability.specs.Known.{count, IsUnknown, IsKnown, Learns, LearnsTime, IsStable, IsCountOfOther};
 ghost use Rattle.cb_stability.specs.Rows.{AreRows, known_of};
-ghost use Rattle.cb_stability.specs.Minima.{minimum, minimum_with, IsMinimum, IsBeforeRise};
+ghost use Rattle.cb_stability.specs.Minima.{minimum_with, IsMinimum, IsBeforeRise};
 
 use cb_times::{NoMemory, VectorTime};
 use std::alloc::Global;
@@ -13,14 +13,17 @@ use std::marker::Model;
 ///
 /// Members are numbered from 0 to the size of the group less one. What a member says of its deliveries, in an
 /// acknowledgement of its own or in a cast, is given to `learn`, or for all senders at once to `learn_time`; `stable` then
-/// says how many casts of a sender need not be kept any longer, since every other member has delivered them. Only `new` and
-/// `copy` take memory.
+/// says how many casts of a sender need not be kept any longer, since every other member has delivered them. That reads a
+/// count of each member, but for the one sender that is watched: who asks of it often says so by `watch`. Only `new` and `copy`
+/// take memory.
 #[derive(Debug, Drop)]
 pub struct Acks {
     /// Each member's counts, one for each sender.
     rows: Vec<VectorTime>,
-    /// For each sender the least count of the others. It moves when the last who stands at it rises.
-    minima: Vec<Minimum>,
+    /// The sender of which the minimum is kept.
+    watched: u32,
+    /// Its least count of the others. It moves when the last who stands at it rises.
+    minimum: Minimum,
 }
 
 // The least of the counts that all members but the sender have for it, and how many of them have just that.
@@ -31,9 +34,10 @@ struct Minimum {
 }
 
 impl Model for Acks {
+    ghost use Rattle.std.specs.Prelude.{◌<◌, length};
     ghost use Rattle.cb_stability.specs.Known.{Known, known_code};
     ghost use Rattle.cb_stability.specs.Rows.{AreRows, known_of};
-    ghost use Rattle.cb_stability.specs.Minima.{AreMinima};
+    ghost use Rattle.cb_stability.specs.Minima.{IsMinimum};
 
     ghost Value = { Known };
 
@@ -42,7 +46,8 @@ impl Model for Acks {
     ghost view = { λ acks. known_of acks.rows.items };
 
     ghost invariant = { λ acks. AreRows acks.rows.items
-        × AreMinima acks.rows.items acks.minima.items };
+        × acks.watched < length acks.rows.items
+        × IsMinimum acks.rows.items acks.watched acks.minimum };
 }
 
 impl Acks {
@@ -55,8 +60,15 @@ impl Acks {
         for _ in 0..size {
             rows.push(VectorTime::zero(alloc, size)?)?;
         }
-        let minima = zero_minima(alloc, size)?;
-        Ok(Acks { rows, minima })
+        let minimum = Minimum {
+            least: 0,
+            standing: size - 1,
+        };
+        Ok(Acks {
+            rows,
+            watched: 0,
+            minimum,
+        })
     }
 
     /// Acknowledgements of their own, by which the same is known. The only error is out of memory.
@@ -64,8 +76,20 @@ impl Acks {
         ensures { IfOk result (λ copy. copy ≡ self.now) }
     {
         let rows = VectorTime::copies(*self.rows.allocator(), &self.rows)?;
-        let minima = Vec::from_slice(*self.minima.allocator(), &self.minima)?;
-        Ok(Acks { rows, minima })
+        Ok(Acks {
+            rows,
+            watched: self.watched,
+            minimum: self.minimum,
+        })
+    }
+
+    /// From now on it is kept how much of this sender is stable, for who asks that often. What is known stays.
+    pub fn watch(&mut self, sender: u32)
+        requires { sender < self.old.size }
+        ensures { self.new ≡ self.old }
+    {
+        self.minimum = minimum_of(&self.rows, sender);
+        self.watched = sender;
     }
 
     /// This member is known to have delivered so many casts of this sender.
@@ -78,8 +102,8 @@ impl Acks {
         ensures { Learns self.old self.new member sender delivered }
     {
         let count = raise(&mut self.rows, member, sender, delivered);
-        if member != sender && count < delivered {
-            count_down(&mut self.minima[sender as usize], count, &self.rows, sender);
+        if sender == self.watched && member != sender && count < delivered {
+            count_down(&mut self.minimum, count, &self.rows, sender);
         }
     }
 
@@ -91,27 +115,12 @@ impl Acks {
         requires of_time { length time.now ≡ self.old.size }
         ensures { LearnsTime self.old self.new member time.now }
     {
-        let mut from = 0;
-        while let Some(sender) = self.next_news(member, time, from) {
-            self.learn(member, sender, time.get(sender));
-            from = sender + 1;
+        let watched = self.watched;
+        let count = self.learnt(member, watched);
+        raise_all(&mut self.rows, member, time);
+        if member != watched && count < time.get(watched) {
+            count_down(&mut self.minimum, count, &self.rows, watched);
         }
-    }
-
-    // The first sender from this one on of which the time says more than is known of the member.
-    fn next_news(&self, member: u32, time: &VectorTime, from: u32) -> Option<u32>
-        requires of_group { member < self.now.size }
-        requires of_time { length time.now ≡ self.now.size }
-        ensures { IsNextNews self.now member time.now from result }
-    {
-        let counts = self.rows[member as usize].as_slice();
-        let fields = time.as_slice();
-        for sender in from..time.size() {
-            if counts[sender as usize] < fields[sender as usize] {
-                return Some(sender);
-            }
-        }
-        None
     }
 
     /// How many casts of this sender the member is known to have delivered.
@@ -132,20 +141,11 @@ impl Acks {
         ensures reached { IsCountOfOther self.now sender result }
         ensures known { IsKnown self.now }
     {
-        self.minima[sender as usize].least
+        if sender == self.watched {
+            return self.minimum.least;
+        }
+        minimum_of(&self.rows, sender).least
     }
-}
-
-// Where all counts are 0, all others stand at 0.
-fn zero_minima(alloc: Global, size: u32) -> Result<Vec<Minimum>, NoMemory>
-    requires { IsGroupSize size }
-    ensures { IfOk result (λ minima. minima.items ≡ replicate size (minimum 0 (size - 1))) }
-{
-    let minimum = Minimum {
-        least: 0,
-        standing: size - 1,
-    };
-    vec![in alloc; minimum; size as usize]
 }
 
 // Raises the member's count to what it has delivered, and answers what it was.
@@ -163,6 +163,17 @@ fn raise(rows: &mut [VectorTime], member: u32, sender: u32, delivered: u32) -> u
         row.set(sender, delivered);
     }
     count
+}
+
+// Raises each of the member's counts to what the time says.
+fn raise_all(rows: &mut [VectorTime], member: u32, time: &VectorTime)
+    requires rows { AreRows rows.old }
+    requires of_group { member < length rows.old }
+    requires of_time { length time.now ≡ length rows.old }
+    ensures rows { AreRows rows.new }
+    ensures learns { LearnsTime (known_of rows.old) (known_of rows.new) member time.now }
+{
+    rows[member as usize].raise(time);
 }
 
 // One of the others had this count, and has a greater one now.

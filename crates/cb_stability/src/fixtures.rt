@@ -1,4 +1,4 @@
-//! Frames by their numbers, for the tests of both windows.
+//! Frames by their numbers, for the tests of the windows and the relays.
 use bytes::Bytes;
 use cb_frames::Range;
 use std::alloc::Global;

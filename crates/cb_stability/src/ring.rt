@@ -1,4 +1,4 @@
-//! Rings of frames in the order of their numbers, of which both windows are made.
+//! Rings of frames in the order of their numbers, of which the windows and the relays are made.
 ghost use Rattle.std.specs.Prelude.{◌≡◌, [], ◌∷◌, ◌++◌, drop, nat_le, if◌then◌else◌, IfOk, OnOk};
 ghost use Rattle.std.specs.List.{prefix_len};
 ghost use Rattle.circular_buffer.specs.Buffer.{buffer};
@@ -78,8 +78,8 @@ pub fn copies_in(
     Ok(copies)
 }
 
-// The frame is copied where some range asks for one of its numbers.
-fn copy_if_in_some(
+/// The frame is copied where some range asks for one of its numbers.
+pub fn copy_if_in_some(
     copies: &mut Vec<Bytes>,
     frame: &Spanned,
     ranges: &[Range],

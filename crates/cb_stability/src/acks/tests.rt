@@ -92,6 +92,24 @@ fn a_time_tells_of_each_sender_as_if_it_were_learnt_alone(rt: HostRuntime) {
 }
 
 #[test]
+fn what_is_stable_of_a_sender_is_the_same_where_it_is_watched(rt: HostRuntime) {
+    let mut acks = Acks::new(rt.alloc(), 3).expect(&rt, "memory");
+    acks.learn(0, 1, 4);
+    acks.learn(2, 1, 6);
+    let before = [acks.stable(0), acks.stable(1)];
+    acks.watch(1);
+    let watched = [acks.stable(0), acks.stable(1), acks.learnt(2, 1)];
+    acks.learn(1, 0, 2);
+    acks.learn(2, 0, 3);
+    acks.learn(0, 1, 7);
+    let later = [acks.stable(0), acks.stable(1)];
+    drop(acks);
+    are(&rt, &before, &[0, 4]);
+    are(&rt, &watched, &[0, 4, 6]);
+    are(&rt, &later, &[2, 6]);
+}
+
+#[test]
 fn a_copy_goes_on_alike_and_what_one_learns_the_other_does_not(rt: HostRuntime) {
     let mut acks = Acks::new(rt.alloc(), 3).expect(&rt, "memory");
     acks.learn(1, 0, 2);
@@ -113,6 +131,7 @@ fn a_copy_goes_on_alike_and_what_one_learns_the_other_does_not(rt: HostRuntime) 
 #[test]
 fn in_the_largest_group_the_last_member_counts_too(rt: HostRuntime) {
     let mut acks = Acks::new(rt.alloc(), 64).expect(&rt, "memory");
+    acks.watch(5);
     for member in 0..63 {
         acks.learn(member, 5, 4294967295);
     }

@@ -1,10 +1,13 @@
-use Rattle.std.proofs.Common.{◌<◌, length}
 use Rattle.cb_stability.proofs.Minima.{minimum_reached}
 use Rattle.cb_stability.proofs.acks.Acks.stable.Goals as goal
+
+pub returns-then-sender-self-clause-reached : goal.returns-then-sender-self-clause-reached
+returns-then-sender-self-clause-reached c =
+    let s = c.self.inside in
+    rw (c.if-sender-self.true, ← c.self.view_is) (minimum_reached s.rows.items s.watched s.minimum c.self.invariant.2)
 
 pub returns-clause-reached : goal.returns-clause-reached
 returns-clause-reached c =
     let s = c.self.inside in
-    let from_group : c.args.sender < length s.rows.items = rw (← c.self.view_is) at c.requires in
-    let is = rw (← c.index.ensures) at (c.self.invariant.1.right c.args.sender c.index.result.now from_group) in
-    rw (← c.self.view_is) (minimum_reached s.rows.items c.args.sender c.index.result.now is)
+    let is = rw c.deref.ensures.value at c.minimum_of.ensures in
+    rw (← c.self.view_is) (minimum_reached s.rows.items c.args.sender c.minimum_of.result is)
