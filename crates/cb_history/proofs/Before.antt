@@ -15,7 +15,7 @@ use Rattle.cb_history.specs.Group.{Identity}
 use Rattle.cb_history.specs.Facts.{EntryFields, CastEntry, ArriveEntry, TickEntry, Fact, cast_said, arrival_said, status_said, said_by, facts_of}
 use Rattle.cb_history.specs.Known.{value_in, known, acknowledged_of}
 use Rattle.cb_history.specs.Answers.{is_full, group_of, are_members, is_impossible, is_repeat, is_overlap, is_too_far, is_news, is_change, deliveries, sent_in_answer, Accepted, frame_answer, answer_to, arrive_answer, cast_answer, status_of, tick_answer}
-use Rattle.cb_history.specs.Legal.{Call, ToCast, ToTake, ToTick, arrive_entry, cast_entry, tick_entry, entry_of, room_for_one, AreLegal, NoEntries, OneMore}
+use Rattle.cb_history.specs.Legal.{Call, ToCast, ToTake, ToTick, ToHelp, arrive_entry, cast_entry, tick_entry, entry_of, room_for_one, AreLegal, NoEntries, OneMore}
 use Rattle.cb_history.specs.BeforeHelpers.{frame_before, said_before, facts_before, acknowledged_before, is_news_before, is_change_before, sent_before, frame_answer_before, answer_to_before, cast_answer_before, arrive_answer_before, tick_answer_before, entry_before, AreLegalBefore, NoneBefore, OneMoreBefore}
 use Rattle.cb_history.specs.BeforeLaws.{LegalBeforeIsLegal, IsNoHelp, ReadAsBefore, FactsAsBefore, StableAsBefore, CastsAsBefore, TicksAsBefore, NewsBeforeIsNews, ArrivalsAsBefore}
 use Rattle.cb_history.proofs.Views.{test_true, not_true}
@@ -182,6 +182,7 @@ entered seat limit entries (ToTake bytes) e member h = arrival_entered seat limi
 entered seat limit entries ToTick e member h =
     ap (λ (facts : List Fact). tick_entry (text_of (StatusFrame (status_of seat facts))) (tick_answer seat limit entries)) (facts_as_before entries)
     ∙ ap (tick_entry (text_of (StatusFrame (status_of seat (facts_before entries))))) (ticks_as_before seat limit entries) ∙ h
+entered seat limit entries (ToHelp i) e member h = h
 
 still_legal : (seat : Identity) (entries : List EntryFields) → seat.me < seat.group.size → AreLegalBefore seat entries → AreLegal seat entries
 still_legal seat _ member NoneBefore = NoEntries

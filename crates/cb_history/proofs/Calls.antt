@@ -17,7 +17,7 @@ use Rattle.cb_history.specs.declared.answer.Outgoing.{Outgoing}
 use Rattle.cb_history.specs.Group.{Identity}
 use Rattle.cb_history.specs.Facts.{EntryFields, facts_of}
 use Rattle.cb_history.specs.Answers.{is_full, is_too_many, next_cast, cast_answer, group_of, are_members, is_impossible, is_repeat, is_overlap, is_too_far, is_change, deliveries, sent_in_answer, ArrivalSays, Accepted, Repeat, answer_to, arrive_answer, status_of, is_new_status, requests, tick_answer}
-use Rattle.cb_history.specs.Legal.{longest_history, Call, ToCast, ToTake, ToTick, OfBytes, cast_entry, arrive_entry, tick_entry, entry_of, and_entry, room_for_one, OneMore, AreEntriesOf, IsLegal}
+use Rattle.cb_history.specs.Legal.{longest_history, Call, ToCast, ToTake, ToTick, ToHelp, OfBytes, cast_entry, arrive_entry, tick_entry, entry_of, and_entry, room_for_one, OneMore, AreEntriesOf, IsLegal}
 use Rattle.cb_history.specs.HistoryLaws.{CallsKeepLegal}
 use Rattle.cb_history.specs.LimitLaws.{CallsKeepEntries}
 
@@ -79,6 +79,7 @@ entry_same seat limit other entries (ToTake bytes) e room h = taken_same seat li
 entry_same seat limit other entries ToTick e room h =
     same_tick (is_new_status seat (facts_of entries)) (is_full limit entries) (is_full other entries)
     (record { to = None; bytes = text_of (StatusFrame (status_of seat (facts_of entries))) } ∷ requests seat (facts_of entries)) (text_of (StatusFrame (status_of seat (facts_of entries)))) e room h
+entry_same seat limit other entries (ToHelp i) e room h = h
 
 -- what a call adds with some limit, it adds where one entry is left
 pub entry_with_room : (seat : Identity) (limit : ℕ) (entries : List EntryFields) (call : Call) (e : EntryFields) → entry_of seat limit entries call ≡ Some e → entry_of seat (room_for_one entries) entries call ≡ Some e
@@ -130,6 +131,7 @@ has_room seat limit entries (ToTake bytes) e h = taken_has_room seat limit entri
 has_room seat limit entries ToTick e h =
     tick_has_room (is_new_status seat (facts_of entries)) (is_full limit entries)
     (record { to = None; bytes = text_of (StatusFrame (status_of seat (facts_of entries))) } ∷ requests seat (facts_of entries)) (text_of (StatusFrame (status_of seat (facts_of entries)))) e h
+has_room seat limit entries (ToHelp i) e h = absurd cc
 
 pub added_below : (seat : Identity) (limit : ℕ) (entries : List EntryFields) (call : Call) (e : EntryFields) → entry_of seat limit entries call ≡ Some e → length entries < limit
 added_below seat limit entries call e h = leb-false limit (length entries) (has_room seat limit entries call e h)

@@ -18,7 +18,7 @@ use Rattle.cb_history.specs.declared.answer.Outgoing.{Outgoing}
 use Rattle.cb_history.specs.Group.{Identity, AreParameters}
 use Rattle.cb_history.specs.Facts.{EntryFields, CastEntry, ArriveEntry, TickEntry, Fact, OwnCast, CastReceived, StatusReceived, OwnStatus, said_by, cast_said, arrival_said, status_said, facts_of, casts_in}
 use Rattle.cb_history.specs.Answers.{is_full, next_cast, cast_answer, group_of, are_members, is_impossible, is_repeat, is_overlap, is_too_far, is_change, with_frame, deliveries, ArrivalSays, frame_answer, answer_to, arrive_answer, status_of, is_new_status, tick_answer}
-use Rattle.cb_history.specs.Legal.{Call, ToCast, ToTake, ToTick, OfBytes, cast_entry, arrive_entry, tick_entry, entry_of, room_for_one, AreLegal, NoEntries, OneMore}
+use Rattle.cb_history.specs.Legal.{Call, ToCast, ToTake, ToTick, ToHelp, OfBytes, cast_entry, arrive_entry, tick_entry, entry_of, room_for_one, AreLegal, NoEntries, OneMore}
 use Rattle.cb_history.specs.LegalFacts.{SaysNumbers, IsTaken, IsStep, AreLegalFacts, NoFacts, OneFactMore}
 use Rattle.cb_history.specs.HistoryLaws.{LegalHistoriesSayLegalFacts, EachEntrySaysOneFact, SaysItsText, EntriesSayTheirTexts, name_of, ArrivalsNameDeliveries}
 use Rattle.cb_history.specs.LimitLaws.{EntriesSayLegalFacts}
@@ -157,6 +157,7 @@ call_added : (seat : Identity) (entries : List EntryFields) (call : Call) (e : E
 call_added seat entries (ToCast load) e b are h = cast_added seat entries load e b h
 call_added seat entries (ToTake bytes) e b are h = arrive_added seat entries bytes e are h
 call_added seat entries ToTick e b are h = tick_added seat entries e b h
+call_added seat entries (ToHelp i) e b are h = absurd cc
 
 facts_push : (seat : Identity) (entries : List EntryFields) (e : EntryFields) (fact : Fact) → said_by e ≡ fact ∷ [] → facts_of (entries ++ e ∷ []) ≡ facts_of entries ++ fact ∷ []
 facts_push seat entries e fact said = flat_map-append said_by entries (e ∷ []) ∙ ap (λ (fs : List Fact). facts_of entries ++ fs) (append-nil (said_by e) ∙ said)
@@ -260,6 +261,7 @@ unfolding arrive_answer
 call_names seat entries (ToCast load) frame delivered h = absurd (no_cast (cast_answer seat (room_for_one entries) entries load) frame delivered h)
 call_names seat entries (ToTake bytes) frame delivered h = arrival_names seat entries bytes frame delivered (frame_read bytes) refl h
 call_names seat entries ToTick frame delivered h = absurd (no_tick (text_of (StatusFrame (status_of seat (facts_of entries)))) (tick_answer seat (room_for_one entries) entries) frame delivered h)
+call_names seat entries (ToHelp i) frame delivered h = absurd cc
 
 pub arrivals_name_deliveries : ArrivalsNameDeliveries
 arrivals_name_deliveries seat entries frame delivered legal =

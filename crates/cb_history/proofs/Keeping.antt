@@ -101,7 +101,7 @@ least_known_is_stable seat facts known n knows is_stable reached =
 
 -- ---- the own casts above a number
 
-filter_of_map : {A B : Type 0} (f : A → B) (p : B → Bool) (xs : List A) → filter p (map f xs) ≡ map f (filter (λ x. p (f x)) xs)
+pub filter_of_map : {A B : Type 0} (f : A → B) (p : B → Bool) (xs : List A) → filter p (map f xs) ≡ map f (filter (λ x. p (f x)) xs)
 filter_of_map f p [] = refl
 filter_of_map {B = B} f p (x ∷ xs) = picked (p (f x)) (filter_of_map f p xs)
   where
@@ -180,7 +180,7 @@ asked_as_spans ranges c some = same_tests (is_asked_for ranges c) (is_in_ranges 
         any_of (λ x. is_in_some ranges x.number) (messages_of c) m.found m.there
         (any_of (is_in m.found.number) ranges range.0 range.1 (subst (λ (k : ℕ). is_in k range.0 ≡ true) (sym m.number_is) n.3))
 
-spans_asked : (ranges : List Range) (casts : List CastFields) → CarrySome casts → map spanned_frame (filter (is_asked_for ranges) casts) ≡ filter (is_in_ranges ranges) (map spanned_frame casts)
+pub spans_asked : (ranges : List Range) (casts : List CastFields) → CarrySome casts → map spanned_frame (filter (is_asked_for ranges) casts) ≡ filter (is_in_ranges ranges) (map spanned_frame casts)
 spans_asked ranges [] some = refl
 spans_asked ranges (c ∷ casts) some = picked (is_asked_for ranges c) (is_in_ranges ranges (spanned_frame c)) (asked_as_spans ranges c some.0) (spans_asked ranges casts some.1)
   where
@@ -204,7 +204,7 @@ some_picked p (c ∷ casts) some = kept (p c) (some_picked p casts some.1)
     kept true rest = (some.0, rest)
     kept false rest = rest
 
-take_frames : (n : ℕ) (casts : List CastFields) (requester : ℕ)
+pub take_frames : (n : ℕ) (casts : List CastFields) (requester : ℕ)
     → map (λ c. sent_to requester (text_of (CastFrame c))) (take n casts) ≡ map (sent_to requester) (map (λ frame. frame.bytes) (take n (map spanned_frame casts)))
 take_frames zero casts requester = refl
 take_frames (suc n) [] requester = refl

@@ -1,4 +1,5 @@
 mod Rows
+mod HelpRows
 pub mod Views
 pub mod Loads
 pub mod Lists
@@ -39,3 +40,5 @@ pub mod Arrivals
 pub mod Expanders
 pub mod Replays
 pub mod Taking
+pub mod Whole
+pub mod Relays

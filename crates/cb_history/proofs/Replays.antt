@@ -19,7 +19,7 @@ use Rattle.cb_history.specs.declared.answer.Outgoing.{Outgoing}
 use Rattle.cb_history.specs.Group.{Identity, IsIdentity}
 use Rattle.cb_history.specs.Facts.{EntryFields, CastEntry, ArriveEntry, TickEntry, facts_of}
 use Rattle.cb_history.specs.Answers.{next_cast, cast_answer, answer_to, arrive_answer, status_of, tick_answer}
-use Rattle.cb_history.specs.Legal.{longest_history, Call, ToCast, ToTake, ToTick, OfBytes, cast_entry, arrive_entry, tick_entry, entry_of, room_for_one, AreLegal, NoEntries, OneMore, IsLegal}
+use Rattle.cb_history.specs.Legal.{longest_history, Call, ToCast, ToTake, ToTick, ToHelp, OfBytes, cast_entry, arrive_entry, tick_entry, entry_of, room_for_one, AreLegal, NoEntries, OneMore, IsLegal}
 use Rattle.cb_history.specs.LegalFacts.{AreFactsOf}
 use Rattle.cb_history.specs.ReplayLaws.{load_said, call_of, bytes_in, EntryTellsItsCall, EntriesOfBytesTellBytes, LegalEntriesAreBytes, OneMoreIsDecided, AreReplayed, ReplayingDecides}
 use Rattle.cb_history.proofs.Loads.{answered}
@@ -137,6 +137,7 @@ call_reported seat entries (ToCast load) e are h = cast_reported seat entries lo
 call_reported seat entries (ToTake bytes) e are h = arrival_reported seat entries bytes e (frame_read bytes) h
 call_reported seat entries ToTick e are h =
     tick_reported seat entries e are (status_entered (text_of (StatusFrame (status_of seat (facts_of entries)))) (tick_answer seat (room_for_one entries) entries) e h)
+call_reported seat entries (ToHelp i) e are h = absurd cc
 
 pub entry_tells_its_call : EntryTellsItsCall
 entry_tells_its_call seat limit entries call e most legal h =

@@ -23,6 +23,7 @@ use Rattle.cb_history.specs.Group.{Identity}
 use Rattle.cb_history.specs.Facts.{EntryFields, Fact, OwnCast, CastReceived, StatusReceived, OwnStatus, facts_of, casts_in, is_there}
 use Rattle.cb_history.specs.View.{count, view, counts, time_of, message_in}
 use Rattle.cb_history.specs.Known.{value_in, known, missing, ranges_of, acknowledged_of, stable}
+use Rattle.cb_history.specs.Helping.{handed_on}
 
 -- how many messages of member k the member has delivered, its own casts included
 abbrev pub delivered : Identity → List Fact → ℕ → ℕ
@@ -180,7 +181,8 @@ window seat facts = filter (λ c. nat_lt (stable seat facts) (last_number c)) (o
 abbrev pub is_asked_for : List Range → CastFields → Bool
 is_asked_for ranges c = list_any (λ m. list_any (λ r. nat_le r.first m.number && nat_le m.number r.last) ranges) (messages_of c)
 
--- what is sent in answer: to a request at the asked member the first frames of the window that it asks for, to others nothing
+-- What is sent in answer: to a request at the asked member the first frames of the window that it asks for, to a help frame at its
+-- helper the first such frames that this member hands on; to others nothing.
 abbrev pub sent_in_answer : Identity → List Fact → FrameFields → List Outgoing
 sent_in_answer seat facts (CastFrame c) = []
 sent_in_answer seat facts (StatusFrame s) = []
@@ -188,7 +190,10 @@ sent_in_answer seat facts (RequestFrame r) =
     if r.asked == seat.me then
     map (λ c. record { to = Some r.requester; bytes = text_of (CastFrame c) }) (take MOST_FRAMES (filter (is_asked_for r.ranges) (window seat facts)))
     else []
-sent_in_answer seat facts (HelpFrame h) = []
+sent_in_answer seat facts (HelpFrame h) =
+    if h.helper == seat.me then
+    map (λ c. record { to = Some h.requester; bytes = text_of (CastFrame c) }) (take MOST_FRAMES (filter (is_asked_for h.ranges) (handed_on seat facts h.sender)))
+    else []
 
 -- what an arrival that is not refused says: the deliveries, whether the state changed, and what is sent; or that it is a repeat
 pub data ArrivalSays : Type 0 where

@@ -19,7 +19,7 @@ use Rattle.cb_history.specs.Facts.{EntryFields, CastEntry, ArriveEntry, TickEntr
 use Rattle.cb_history.specs.View.{view}
 use Rattle.cb_history.specs.Known.{greatest_of, least_of, value_in, known, reported_by, counted_by}
 use Rattle.cb_history.specs.Answers.{delivered, is_full, next_cast, group_of, are_members, is_impossible, is_repeat, is_overlap, is_too_far, deliveries, own_casts, is_asked_for, ArrivalSays, Accepted, Repeat, status_of, is_new_status, requests}
-use Rattle.cb_history.specs.Legal.{longest_history, Call, ToCast, ToTake, ToTick, OfBytes, cast_entry, arrive_entry, tick_entry, room_for_one}
+use Rattle.cb_history.specs.Legal.{longest_history, Call, ToCast, ToTake, ToTick, ToHelp, OfBytes, cast_entry, arrive_entry, tick_entry, room_for_one}
 
 -- bytes of the kind that help frames have now were no frame
 abbrev pub frame_before : List ℕ → Result FrameFields FrameFault
@@ -120,6 +120,7 @@ abbrev pub entry_before : Identity → ℕ → List EntryFields → Call → Opt
 entry_before seat limit entries (ToCast load) = cast_entry (cast_answer_before seat limit entries load)
 entry_before seat limit entries (ToTake bytes) = arrive_entry bytes (arrive_answer_before seat limit entries bytes)
 entry_before seat limit entries ToTick = tick_entry (text_of (StatusFrame (status_of seat (facts_before entries)))) (tick_answer_before seat limit entries)
+entry_before seat limit entries (ToHelp i) = None
 
 -- each entry is the one that some call added to the entries before it
 pub data AreLegalBefore (seat : Identity) : List EntryFields → Type 0 where

@@ -16,17 +16,19 @@ use Rattle.cb_history.specs.Answers.{cast_answer, arrive_answer, tick_answer, st
 abbrev pub longest_history : ℕ
 longest_history = LONGEST_HISTORY
 
--- what is asked of a member: to cast a load, to take a received frame, to tick
+-- what is asked of a member: to cast a load, to take a received frame, to tick, to ask a third member for what it lacks of a sender
 pub data Call : Type 0 where
   ToCast : Load → Call
   ToTake : List ℕ → Call
   ToTick : Call
+  ToHelp : ℕ → Call
 
 -- what is cast and what is received are bytes
 abbrev pub OfBytes : Call → Type 0
 OfBytes (ToCast load) = IsBytes (load_bytes load)
 OfBytes (ToTake bytes) = IsBytes bytes
 OfBytes ToTick = Unit {0}
+OfBytes (ToHelp i) = Unit {0}
 
 -- the entry that an answer adds, where it adds one
 abbrev pub cast_entry : Result CastFields CastFault → Option EntryFields
@@ -46,6 +48,7 @@ abbrev pub entry_of : Identity → ℕ → List EntryFields → Call → Option 
 entry_of seat limit entries (ToCast load) = cast_entry (cast_answer seat limit entries load)
 entry_of seat limit entries (ToTake bytes) = arrive_entry bytes (arrive_answer seat limit entries bytes)
 entry_of seat limit entries ToTick = tick_entry (text_of (StatusFrame (status_of seat (facts_of entries)))) (tick_answer seat limit entries)
+entry_of seat limit entries (ToHelp i) = None
 
 -- the history after a call
 abbrev pub and_entry : List EntryFields → Option EntryFields → List EntryFields

@@ -5,6 +5,7 @@ pub mod Read
 pub mod Facts
 pub mod View
 pub mod Known
+pub mod Helping
 pub mod Answers
 pub mod Refusals
 pub mod Events
@@ -26,6 +27,7 @@ pub mod QueueLaws
 pub mod ExpansionLaws
 pub mod StabilityLaws
 pub mod BufferLaws
+pub mod RelayLaws
 pub mod StatusLaws
 pub mod OwnFrameLaws
 pub mod WindowLaws

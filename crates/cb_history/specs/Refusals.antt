@@ -13,6 +13,8 @@ use Rattle.cb_history.specs.declared.answer.TickRefusal.{TickRefusal}
 use Rattle.cb_history.specs.declared.answer.TickRefusal.TheVariants as ticks
 use Rattle.cb_history.specs.declared.answer.MissingFault.{MissingFault}
 use Rattle.cb_history.specs.declared.answer.MissingFault.TheVariants as missings
+use Rattle.cb_history.specs.declared.answer.HelpFault.{HelpFault}
+use Rattle.cb_history.specs.declared.answer.HelpFault.TheVariants as helps
 
 abbrev pub new_fault_text : NewFault → List ℕ
 new_fault_text news.BadMember = codes "BadMember"
@@ -50,3 +52,7 @@ tick_refusal_text ticks.NoMemory = codes "NoMemory"
 abbrev pub missing_fault_text : MissingFault → List ℕ
 missing_fault_text missings.BadMember = codes "BadMember"
 missing_fault_text missings.NoMemory = codes "NoMemory"
+
+abbrev pub help_fault_text : HelpFault → List ℕ
+help_fault_text helps.BadMember = codes "BadMember"
+help_fault_text helps.NoMemory = codes "NoMemory"

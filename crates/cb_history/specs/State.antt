@@ -1,5 +1,5 @@
 -- What a member holds, and what its calls do to it.
-use Rattle.std.specs.Prelude.{◌≡◌, ◌⊎◌, ℕ, ◌≤◌, Bool, nat_lt, List, length, map, Option, Some, None, Result, Ok, Err, if◌then◌else◌}
+use Rattle.std.specs.Prelude.{◌≡◌, ◌≢◌, ◌⊎◌, ℕ, ◌<◌, ◌≤◌, Bool, nat_lt, List, length, map, Option, Some, None, Result, Ok, Err, if◌then◌else◌}
 use Rattle.cb_frames.specs.Fields.{Load, CastFields, StatusFields, Carried}
 use Rattle.cb_frames.specs.Reading.{HasValue}
 use Rattle.cb_history.specs.Read.{frame_read}
@@ -17,6 +17,8 @@ use Rattle.cb_history.specs.declared.answer.Outgoing.{Outgoing}
 use Rattle.cb_history.specs.declared.answer.Ticked.{Ticked}
 use Rattle.cb_history.specs.declared.answer.TickRefusal.{TickRefusal}
 use Rattle.cb_history.specs.declared.answer.TickRefusal.TheVariants as ticks
+use Rattle.cb_history.specs.declared.answer.HelpFault.{HelpFault}
+use Rattle.cb_history.specs.declared.answer.HelpFault.TheVariants as helps
 use Rattle.cb_history.specs.Load.{FitsFrame}
 use Rattle.cb_history.specs.CastFault.{CastFault, TellsFaultOf, TellsBurstFaultOf}
 use Rattle.cb_history.specs.Group.{Identity}
@@ -25,6 +27,7 @@ use Rattle.cb_delay.specs.declared.message.Event.{Event}
 use Rattle.cb_history.specs.View.{view, time_of}
 use Rattle.cb_history.specs.Events.{events}
 use Rattle.cb_history.specs.Known.{missing, stable, stable_of}
+use Rattle.cb_history.specs.Helping.{help_answer}
 use Rattle.cb_history.specs.Answers.{status_of, next_cast, cast_answer, cast_done, burst_done, arrive_answer, ArrivalSays, arrival_says, tick_answer}
 use Rattle.cb_history.specs.Legal.{longest_history, IsLegal, Call, ToCast, ToTake, ToTick, entry_of, history_after}
 
@@ -95,6 +98,9 @@ answer_to_arrival m bytes = arrive_answer m.seat m.limit m.entries bytes
 abbrev pub answer_to_tick : MemberState → Result (Bool × List Outgoing) TickRefusal
 answer_to_tick m = tick_answer m.seat m.limit m.entries
 
+abbrev pub answer_to_help : MemberState → ℕ → Result (Option Outgoing) HelpFault
+answer_to_help m i = help_answer m.seat m.entries i
+
 -- a cast of this load was made
 pub record HasCast (old new : MemberState) (load : Load) (done : CastDone) : Type 0 where
   pub answer : answer_to_cast old load ≡ Ok (next_cast old.seat (facts_in old) load)
@@ -132,3 +138,8 @@ pub record HasTicked (old new : MemberState) (ticked : Ticked) : Type 0 where
 
 abbrev pub RefusesTick : MemberState → TickRefusal → Type 0
 RefusesTick m refusal = (answer_to_tick m ≡ Err refusal) ⊎ (refusal ≡ ticks.NoMemory)
+
+-- help was not asked for; there is memory enough where the sender is none that has missing casts
+abbrev pub RefusesHelp : MemberState → ℕ → HelpFault → Type 0
+RefusesHelp m i fault =
+    (answer_to_help m i ≡ Err fault) ⊎ ((fault ≡ helps.NoMemory) × (i < m.seat.group.size) × (i ≢ m.seat.me))

@@ -1,12 +1,13 @@
-//! What a member answers to a cast, an arrival and a tick.
+//! What a member answers to a cast, an arrival, a tick, and when it is to ask a third member for what it lacks.
 
 ghost use Rattle.std.specs.Prelude.{◌≡◌, Some};
-ghost use Rattle.cb_history.specs.Refusals.{arrive_refusal_text, burst_refusal_text, cast_refusal_text, missing_fault_text, new_fault_text, tick_refusal_text};
+ghost use Rattle.cb_history.specs.Refusals.{arrive_refusal_text, burst_refusal_text, cast_refusal_text, help_fault_text, missing_fault_text, new_fault_text, tick_refusal_text};
 ghost use Rattle.cb_history.specs.declared.answer.CastRefusal.TheVariants.{NoMemory as CastNoMemory};
 ghost use Rattle.cb_history.specs.declared.answer.BurstRefusal.TheVariants.{NoMemory as BurstNoMemory};
 ghost use Rattle.cb_history.specs.declared.answer.ArriveRefusal.TheVariants.{NoMemory as ArriveNoMemory};
 ghost use Rattle.cb_history.specs.declared.answer.TickRefusal.TheVariants.{NoMemory as TickNoMemory};
 ghost use Rattle.cb_history.specs.declared.answer.MissingFault.TheVariants.{NoMemory as MissingNoMemory};
+ghost use Rattle.cb_history.specs.declared.answer.HelpFault.TheVariants.{NoMemory as HelpNoMemory};
 
 use bytes::Bytes;
 use cb_delay::Message;
@@ -319,5 +320,43 @@ impl<T: Drop> From<AllocFailed<T>> for MissingFault {
 
     fn from(_refused: AllocFailed<T>) -> MissingFault {
         MissingFault::NoMemory
+    }
+}
+
+/// Why no third member was asked for the missing casts of a member.
+#[derive(Clone, Copy, Debug, PartialEq, Eq)]
+pub enum HelpFault {
+    /// The member is none of the group, or it is the member itself, which misses none of its own casts.
+    BadMember,
+    /// Out of memory.
+    NoMemory,
+}
+
+impl fmt::Display for HelpFault {
+    ghost output = { λ fault. Some (help_fault_text fault) };
+
+    fn fmt<W: fmt::Write>(&self, f: &mut fmt::Formatter<W>) -> fmt::Result {
+        f.write_str(match self {
+            HelpFault::BadMember => "BadMember",
+            HelpFault::NoMemory => "NoMemory",
+        })
+    }
+}
+
+impl Error for HelpFault {}
+
+impl From<AllocError> for HelpFault {
+    ghost from_gives = { λ _ e. e ≡ HelpNoMemory };
+
+    fn from(_refused: AllocError) -> HelpFault {
+        HelpFault::NoMemory
+    }
+}
+
+impl<T: Drop> From<AllocFailed<T>> for HelpFault {
+    ghost from_gives = { λ _ e. e ≡ HelpNoMemory };
+
+    fn from(_refused: AllocFailed<T>) -> HelpFault {
+        HelpFault::NoMemory
     }
 }

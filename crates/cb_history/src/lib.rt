@@ -15,8 +15,8 @@ pub mod laws;
 mod member;
 
 pub use answer::{
-    Arrival, ArriveRefusal, BurstDone, BurstRefusal, CastDone, CastRefusal, MissingFault, NewFault,
-    Outgoing, TickRefusal, Ticked,
+    Arrival, ArriveRefusal, BurstDone, BurstRefusal, CastDone, CastRefusal, HelpFault,
+    MissingFault, NewFault, Outgoing, TickRefusal, Ticked,
 };
 pub use cb_delay::{Event, Message, Name};
 pub use group::{BadGroup, Group, Identity};

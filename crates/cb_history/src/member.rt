@@ -1,15 +1,15 @@
 //! What every member of a group does, whichever way it keeps what it has to know.
 
-ghost use Rattle.std.specs.Prelude.{◌≡◌, IfOk, IfErr, OnErr, map};
+ghost use Rattle.std.specs.Prelude.{◌≡◌, IfOk, IfErr, OnErr, Ok, map};
 ghost use Rattle.cb_frames.specs.Fields.{One};
 ghost use Rattle.cb_history.specs.Load.{many_of};
 ghost use Rattle.cb_history.specs.Facts.{entry_fields};
 ghost use Rattle.cb_history.specs.Known.{ranges_of};
-ghost use Rattle.cb_history.specs.State.{MemberState, events_in, missing_in, stable_in, stable_of_in, time_in, HasCast, RefusesCast, HasCastBurst, RefusesBurst, HasTaken, RefusesArrival, HasTicked, RefusesTick};
+ghost use Rattle.cb_history.specs.State.{MemberState, answer_to_help, events_in, missing_in, stable_in, stable_of_in, time_in, HasCast, RefusesCast, HasCastBurst, RefusesBurst, HasTaken, RefusesArrival, HasTicked, RefusesTick, RefusesHelp};
 
 use crate::answer::{
-    Arrival, ArriveRefusal, BurstDone, BurstRefusal, CastDone, CastRefusal, MissingFault,
-    TickRefusal, Ticked,
+    Arrival, ArriveRefusal, BurstDone, BurstRefusal, CastDone, CastRefusal, HelpFault,
+    MissingFault, Outgoing, TickRefusal, Ticked,
 };
 use crate::history::{Entry, History};
 use bytes::Bytes;
@@ -49,6 +49,12 @@ pub trait GroupMember {
         ensures done { IfOk result (HasTicked (state self.old) (state self.new)) }
         ensures refused { IfErr result (RefusesTick (state self.old)) }
         ensures same { OnErr result (state self.new ≡ state self.old) };
+
+    /// The frame that asks a third member for the missing casts of member i: it goes to the first one, other than both, that is known to
+    /// have delivered the first of them. `None` where none is missing, or nobody is known to have it. Nothing changes.
+    fn help(&self, i: u32) -> Result<Option<Outgoing>, HelpFault>
+        ensures asked { IfOk result (λ out. answer_to_help (state self.now) i ≡ Ok out) }
+        ensures refused { IfErr result (RefusesHelp (state self.now) i) };
 
     /// How many messages of each member are delivered, own casts included.
     fn time(&self) -> Result<VectorTime, NoMemory>
