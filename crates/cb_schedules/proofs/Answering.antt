@@ -1,7 +1,7 @@
--- The three kinds of calls, answer by answer.
-use Rattle.std.proofs.Common.{◌≡◌, ℕ, ◌<◌, ◌≤◌, Bool, true, false, not, ◌&&◌, ◌||◌, eqb, ltb, List, [], ◌∷◌, ◌++◌, length, map, Option, Some, None, Result, Ok, Err, refl, sym, ap, subst, ◌∙◌, arith, inl, inr}
+-- The four kinds of calls, answer by answer.
+use Rattle.std.proofs.Common.{◌≡◌, ℕ, ◌<◌, ◌≤◌, Bool, true, false, not, ◌&&◌, ◌||◌, eqb, ltb, leb, List, [], ◌∷◌, ◌++◌, length, map, Option, Some, None, Result, Ok, Err, refl, sym, ap, subst, ◌∙◌, arith, inl, inr}
 use Rattle.std.specs.List.{AllByRecursion, list_any}
-use Rattle.std.proofs.lemmas.Bool.{cond_both, eq-eqb, eqb-true, eqb-false, ltb-false, and_parts}
+use Rattle.std.proofs.lemmas.Bool.{cond_both, eq-eqb, eqb-true, eqb-false, ltb-false, leb-false, and_parts}
 use Rattle.std.proofs.lemmas.List.{append-nil}
 use Rattle.cb_times.specs.declared.name.Name.{Name}
 use Rattle.cb_frames.specs.declared.frame.TheConstants.{LONGEST_PAYLOAD, MOST_MESSAGES}
@@ -17,25 +17,28 @@ use Rattle.cb_history.specs.declared.answer.ArriveRefusal.TheVariants as arrival
 use Rattle.cb_history.specs.declared.answer.TickRefusal.{TickRefusal}
 use Rattle.cb_history.specs.declared.answer.TickRefusal.TheVariants as ticks
 use Rattle.cb_history.specs.declared.answer.Outgoing.{Outgoing}
+use Rattle.cb_history.specs.declared.answer.HelpFault.{HelpFault}
 use Rattle.cb_history.specs.CastFault.{CastFault, EmptyBurst, BurstTooLong, PayloadTooLong, WindowFull, HistoryFull}
 use Rattle.cb_history.specs.Group.{Identity}
 use Rattle.cb_history.specs.Facts.{EntryFields, CastEntry, ArriveEntry, TickEntry, Fact, OwnCast, CastReceived, StatusReceived, OwnStatus, cast_said, status_said, facts_of, casts_in, messages_in, is_there}
+use Rattle.cb_history.specs.Helping.{help_answer}
 use Rattle.cb_history.specs.Answers.{is_full, is_too_many, next_cast, cast_answer, group_of, are_members, is_impossible, is_repeat, is_overlap, is_too_far, is_change, deliveries, sent_in_answer, own_casts, ArrivalSays, Accepted, Repeat, frame_answer, answer_to, arrive_answer, status_of, is_new_status, requests, tick_answer}
-use Rattle.cb_history.specs.Legal.{Call, ToCast, ToTake, ToTick, cast_entry, arrive_entry, tick_entry, and_entry, history_after, AreEntriesOf}
+use Rattle.cb_history.specs.Legal.{Call, ToCast, ToTake, ToTick, ToHelp, cast_entry, arrive_entry, tick_entry, and_entry, history_after, AreEntriesOf}
 use Rattle.cb_history.specs.LegalFacts.{AreFactsOf}
 use Rattle.cb_history.proofs.Views.{IsIn, casts_in-append}
-use Rattle.cb_history.proofs.Lists.{in_back, in_push, messages_in-push, each_of}
+use Rattle.cb_history.proofs.Lists.{in_back, in_push, messages_in-push, each_of, or_false}
 use Rattle.cb_history.proofs.Walks.{own_casts-own, own_casts-other}
 use Rattle.cb_history.proofs.Histories.{said_facts}
 use Rattle.cb_history.proofs.Calls.{calls_keep_entries}
 use Rattle.cb_history.proofs.Buffers.{cast_of_is_in, in_is_cast_of}
 use Rattle.cb_history.proofs.ReadBack.{status_read}
 use Rattle.cb_history.proofs.Requests.{own_frames_have_texts}
-use Rattle.cb_schedules.specs.Schedule.{Setting, IsSetting, seat_at, Calls, Answer, CastAnswer, ArrivalAnswer, TickAnswer, frames_sent, answer_of, GroupState}
+use Rattle.cb_schedules.specs.Schedule.{Setting, IsSetting, seat_at, Calls, Answer, CastAnswer, ArrivalAnswer, TickAnswer, HelpAnswer, frames_sent, answer_of, GroupState}
 use Rattle.cb_schedules.specs.Messages.{facts_at, messages_read, received_by, has_arrived, cast_read, sent_casts}
 use Rattle.cb_schedules.specs.Honest.{SaysWhatIsSo, IsHonest}
 use Rattle.cb_schedules.specs.Consistent.{IsConsistent}
-use Rattle.cb_schedules.proofs.Sending.{next_cast_reads, cast_is_honest, status_is_honest, requests_are_honest, resent_are_honest, sent_is_honest}
+use Rattle.cb_schedules.proofs.Members.{is_own}
+use Rattle.cb_schedules.proofs.Sending.{next_cast_reads, cast_is_honest, status_is_honest, requests_are_honest, asking_is_honest, resent_are_honest, sent_is_honest}
 use Rattle.cb_schedules.proofs.Calling.{any-append, or_none, is_named, facts_push, after, own_now, IsGood, good, still_honest}
 use Rattle.cb_schedules.proofs.Lists.{all_weaken, any_in}
 
@@ -66,8 +69,11 @@ module _ (setting : Setting) (is : IsSetting setting) (s : GroupState) (inv : Is
   are : AreFactsOf (seat_at setting i) (facts_of (s.histories i))
   are = inv.together.legal i lt
 
-  own_is_honest : (c : CastFields) → IsIn c (own_casts said) → IsHonest setting.group (facts_at s) (text_of (CastFrame c))
-  own_is_honest c own = sent_is_honest setting.group (facts_at s) s.sent c inv.honest (cast_of_is_in c (sent_casts s) (inv.sent i c (in_is_cast_of c (own_casts said) own)))
+  -- a cast that is there is an own cast of its sender, and that one was sent
+  there_is_honest : (c : CastFields) → IsIn c (casts_in said) → IsHonest setting.group (facts_at s) (text_of (CastFrame c))
+  there_is_honest c there =
+      let own = is_own setting.group (facts_at s) inv.together i c there in
+      sent_is_honest setting.group (facts_at s) s.sent c inv.honest (cast_of_is_in c (sent_casts s) (inv.sent c.sender c (in_is_cast_of c (own_casts (facts_at s c.sender)) own)))
 
   -- a call that adds no entry, and brings nothing that is not there
   same_history : (call : Call) (answer : Answer) → AllByRecursion (λ out. IsHonest setting.group (facts_at s) out.bytes) (frames_sent answer)
@@ -177,6 +183,22 @@ module _ (setting : Setting) (is : IsSetting setting) (s : GroupState) (inv : Is
       (λ _. reported (is_new_status me said)) (λ _ _. same_history ToTick (TickAnswer (Ok (is_new_status me said, outs))) goes_out nothing_received))
       (calls_keep_entries me setting.limit now ToTick (inv.legal i lt) tt)
 
+  -- ---- asking for help
+
+  abbrev HelpHonest : Result (Option Outgoing) HelpFault → Type 0
+  HelpHonest r = AllByRecursion (λ out. IsHonest setting.group (facts_at s) out.bytes) (frames_sent (HelpAnswer r))
+
+  help_is_honest : (k : ℕ) → HelpHonest (help_answer me now k)
+  unfolding help_answer
+  help_is_honest k =
+      cond_both (leb setting.group.size k || eqb k i) _ _ HelpHonest (λ _. tt)
+      (λ other.
+      let both = or_false (leb setting.group.size k) (eqb k i) other in
+      asking_is_honest setting.group (facts_at s) i are k (leb-false setting.group.size k both.0) (eqb-false k i both.1))
+
+  pub help_is_good : (k : ℕ) → IsGood setting is s inv i lt (ToHelp k) (history_after me setting.limit now (ToHelp k)) (answer_of me setting.limit now (ToHelp k))
+  help_is_good k = same_history (ToHelp k) (HelpAnswer (help_answer me now k)) (help_is_honest k) nothing_received
+
   -- ---- an arrival
 
   module _ (bytes : List ℕ) (honest : IsHonest setting.group (facts_at s) bytes) where
@@ -234,10 +256,12 @@ module _ (setting : Setting) (is : IsSetting setting) (s : GroupState) (inv : Is
         same_history (ToTake bytes) (ArrivalAnswer (Ok (Accepted [] false []))) tt (λ m. news_of (StatusFrame t) (Accepted [] false []) m read ∙ or_none (is_there (casts_in said) m.sender m.number))
     unchanged (RequestFrame r) read change legal =
         same_history (ToTake bytes) (ArrivalAnswer (Ok (Accepted [] false (sent_in_answer me said (RequestFrame r)))))
-        (resent_are_honest setting.group (facts_at s) i are own_is_honest (RequestFrame r))
+        (resent_are_honest setting.group (facts_at s) i are there_is_honest (RequestFrame r))
         (λ m. news_of (RequestFrame r) (Accepted [] false (sent_in_answer me said (RequestFrame r))) m read ∙ or_none (is_there (casts_in said) m.sender m.number))
     unchanged (HelpFrame h) read change legal =
-        same_history (ToTake bytes) (ArrivalAnswer (Ok (Accepted [] false []))) tt (λ m. news_of (HelpFrame h) (Accepted [] false []) m read ∙ or_none (is_there (casts_in said) m.sender m.number))
+        same_history (ToTake bytes) (ArrivalAnswer (Ok (Accepted [] false (sent_in_answer me said (HelpFrame h)))))
+        (resent_are_honest setting.group (facts_at s) i are there_is_honest (HelpFrame h))
+        (λ m. news_of (HelpFrame h) (Accepted [] false (sent_in_answer me said (HelpFrame h))) m read ∙ or_none (is_there (casts_in said) m.sender m.number))
 
     by_frame : (frame : FrameFields) → frame_read bytes ≡ Ok frame → SaysWhatIsSo setting.group (facts_at s) frame → ArrivalGood (frame_answer me setting.limit now said frame)
     by_frame frame read so =

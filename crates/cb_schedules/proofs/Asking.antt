@@ -1,6 +1,6 @@
 -- What a round brings: everybody hears of every cast, and gets what it lacks of the first casts above those that it has expanded.
-use Rattle.std.proofs.Common.{◌≡◌, ◌≢◌, ℕ, ◌+◌, ◌<◌, ◌≤◌, Bool, true, false, not, eqb, ltb, List, [], ◌∷◌, map, take, Some, None, Ok, refl, sym, subst, ◌∙◌, arith, inl, inr}
-use Rattle.std.specs.List.{flat_map, filter, range_with_len}
+use Rattle.std.proofs.Common.{◌≡◌, ◌≢◌, ℕ, ◌+◌, ◌<◌, ◌≤◌, Bool, true, false, not, eqb, ltb, List, [], ◌∷◌, map, take, Some, None, Ok, refl, sym, ap, subst, ◌∙◌, arith, inl, inr}
+use Rattle.std.specs.List.{filter, range_with_len}
 use Rattle.std.proofs.lemmas.Bool.{cases_lt, eq-eqb, ne_eqb, lt-ltb}
 use Rattle.cb_frames.specs.declared.frame.TheConstants.{MOST_RANGES, MOST_FRAMES}
 use Rattle.cb_frames.specs.declared.frame.Range.{Range}
@@ -18,7 +18,7 @@ use Rattle.cb_history.specs.Answers.{delivered, own_casts, window, is_asked_for,
 use Rattle.cb_history.specs.ArrivalLaws.{AreThere}
 use Rattle.cb_history.specs.GapLaws.{IsMissing}
 use Rattle.cb_history.proofs.Views.{IsIn, filter_in, in_filter}
-use Rattle.cb_history.proofs.Lists.{in_front, in_back, each_of}
+use Rattle.cb_history.proofs.Lists.{each_of}
 use Rattle.cb_history.proofs.Keeping.{in_range}
 use Rattle.cb_history.proofs.Times.{seen_is_there}
 use Rattle.cb_history.proofs.Statuses.{status_says_the_time}
@@ -37,17 +37,12 @@ use Rattle.cb_schedules.proofs.Members.{HasCarrier, stands_at, own_is_there}
 use Rattle.cb_schedules.proofs.Moments.{own_cast_of}
 use Rattle.cb_schedules.proofs.Sending.{sent_frame, honest_text}
 use Rattle.cb_schedules.proofs.Knowing.{stable_is_so, near_is_so}
-use Rattle.cb_schedules.proofs.Lists.{in_map}
+use Rattle.cb_schedules.proofs.Lists.{in_map, in_flat}
 use Rattle.cb_schedules.proofs.Later.{IsLater, later_joins, known_later, acknowledged_later, delivered_later, there_later, expanded_later, cast_count_later}
 use Rattle.cb_schedules.proofs.Happening.{other_receives}
 use Rattle.cb_schedules.proofs.Covering.{is_in_some, first_ranges_cover, taken_ranges_are, above_least, missing_ranges_are, missing_is_in_some, Rising, numbered_rises, filtered_rises, first_frames_cover, asked_for_is, is_asked}
 use Rattle.cb_schedules.proofs.Hearing.{IsHeard, request_is_answered, status_is_heard, cast_is_taken}
 use Rattle.cb_schedules.proofs.Waves.{Ticks, Takes, Waves}
-
-in_flat : {A B : Type 0} (g : A → List B) (xs : List A) (x : A) (b : B) → IsIn x xs → IsIn b (g x) → IsIn b (flat_map g xs)
-in_flat g [] x b there here = absurd there
-in_flat g (y ∷ xs) x b (inl same) here = in_front b (g y) (flat_map g xs) (subst (λ z. IsIn b (g z)) same here)
-in_flat g (y ∷ xs) x b (inr later) here = in_back b (g y) (flat_map g xs) (in_flat g xs x b later here)
 
 -- an own cast is read from its text
 pub own_cast_read : (setting : Setting) (s : GroupState) → IsConsistent setting s → (i : ℕ) (c : CastFields) → IsIn c (own_casts (facts_at s i)) → frame_read (text_of (CastFrame c)) ≡ Ok (CastFrame c)
@@ -56,7 +51,20 @@ own_cast_read setting s inv i c own =
     let honest = all_at (λ (frame : SentFrame). IsHonest setting.group (facts_at s) frame.bytes) s.sent frame inv.honest at in
     subst (λ (bytes : List ℕ). frame_read bytes ≡ Ok (CastFrame c)) (honest_text setting.group (facts_at s) frame.bytes (CastFrame c) honest read) read
 
-module _ (setting : Setting) (s t : GroupState) (inv : IsConsistent setting s) (w : Waves setting s t) where
+-- a frame that is an own cast of i, taken by member j, brings each of its messages
+pub own_cast_comes : (setting : Setting) (s t now : GroupState) (i j n : ℕ) → i < setting.group.size → j < setting.group.size → IsConsistent setting now → (c : HasCarrier (own_casts (facts_at now i)) i n) (frame : SentFrame)
+    → frame.bytes ≡ text_of (CastFrame c.cast) → Takes setting s t frame j → is_there (casts_in (facts_at t j)) i n ≡ true
+own_cast_comes setting s t now i j n lt_i lt_j inv_now c frame text b =
+    let read = ap frame_read text ∙ own_cast_read setting now inv_now i c.cast c.there in
+    let of_group = casts_are_of_the_group (seat_at setting i) (facts_at now i) c.cast (inv_now.together.legal i lt_i) (in_is_cast_of c.cast (casts_in (facts_at now i)) (own_is_there (facts_at now i) c.cast c.there)) in
+    let taken = cast_is_taken (seat_at setting j) setting.limit (b.now.histories j) frame.bytes c.cast (b.consistent.together.legal j lt_j) read of_group b.welcome b.room in
+    let then_there : AreThere (casts_in (facts_at b.next j)) c.cast = subst (λ (es : List EntryFields). AreThere (casts_in (facts_of es)) c.cast) (sym b.history) taken in
+    let here = each_of (λ (m : Carried). is_there (casts_in (facts_at b.next j)) m.sender m.number) (messages_of c.cast) c.found then_there c.has in
+    there_later b.next t b.after j i n
+    (subst (λ (k : ℕ). is_there (casts_in (facts_at b.next j)) i k ≡ true) c.number_is
+    (subst (λ (k : ℕ). is_there (casts_in (facts_at b.next j)) k c.found.number ≡ true) c.sender_is here))
+
+module _ (Lives : ℕ → Type 0) (setting : Setting) (s t : GroupState) (inv : IsConsistent setting s) (w : Waves Lives setting s t) where
   answered_to_end : (next : GroupState) → IsLater next w.answered → IsLater next t
   answered_to_end next later = later_joins next w.answered t later w.to_end
 
@@ -68,21 +76,23 @@ module _ (setting : Setting) (s t : GroupState) (inv : IsConsistent setting s) (
 
   -- ---- statuses
 
-  -- what member j hears of member i: how many casts it made, and how many casts of each other member it has delivered
-  pub status_comes : (i j : ℕ) → i < setting.group.size → j < setting.group.size → j ≢ i
-      → (cast_count setting s i ≤ known (facts_at t j) i)
+  -- what member j hears of member i: how many casts of each member but j, and so how many it made itself; and that it has delivered
+  -- so many of each other one
+  pub status_comes : (i j : ℕ) → i < setting.group.size → j < setting.group.size → Lives i → Lives j → j ≢ i
+      → ((k : ℕ) → k < setting.group.size → k ≢ j → delivered (seat_at setting i) (facts_at s i) k ≤ known (facts_at t j) k)
       × ((k : ℕ) → k < setting.group.size → k ≢ i → delivered (seat_at setting i) (facts_at s i) k ≤ acknowledged_of (seat_at setting j) (facts_at t j) i k)
-  status_comes i j lt_i lt_j ne =
-      let k = w.ticks i lt_i in
+  status_comes i j lt_i lt_j live_i live_j ne =
+      let k = w.ticks i lt_i live_i in
       let said : StatusFields = status_of (seat_at setting i) (facts_at k.now i) in
       let out : Outgoing = record { to = None; bytes = text_of (StatusFrame said) } in
-      let a = w.asked (sent_by i out) j (k.sends out (inl refl)) (other_receives setting.group.size i j lt_j ne) lt_j in
+      let a = w.asked (sent_by i out) j (k.sends out (inl refl)) (other_receives setting.group.size i j lt_j ne) lt_j live_j in
       let read = status_read said (own_frames_have_texts (seat_at setting i) (facts_at k.now i) (k.consistent.together.legal i lt_i)).1 in
       let heard = status_is_heard (seat_at setting j) setting.limit (a.now.histories j) (text_of (StatusFrame said)) said read (λ e. ne (sym e)) a.welcome a.room in
       let then_heard : IsHeard (seat_at setting j) said (facts_at a.next j) = subst (λ (es : List EntryFields). IsHeard (seat_at setting j) said (facts_of es)) (sym a.history) heard in
-      let to_end = answered_to_end a.next a.after in
-      let own_value = (status_says_the_time (seat_at setting i) (facts_at k.now i) i).0 lt_i in (
-        omega (arith, own_value, then_heard.known i lt_i (λ e. ne (sym e)), delivered_later s k.now k.before (seat_at setting i) i i, known_later a.next t to_end j i),
+      let to_end = answered_to_end a.next a.after in (
+        (λ l lt_l other.
+            let value = (status_says_the_time (seat_at setting i) (facts_at k.now i) l).0 lt_l in
+            omega (arith, value, then_heard.known l lt_l other, delivered_later s k.now k.before (seat_at setting i) i l, known_later a.next t to_end j l)),
         (λ l lt_l other.
             let value = (status_says_the_time (seat_at setting i) (facts_at k.now i) l).0 lt_l in
             omega (arith, value, then_heard.acknowledged l lt_l other, delivered_later s k.now k.before (seat_at setting i) i l, acknowledged_later a.next t to_end (seat_at setting j) j i l)),
@@ -90,7 +100,7 @@ module _ (setting : Setting) (s t : GroupState) (inv : IsConsistent setting s) (
 
   -- ---- what member j lacks of member i, and has heard of
 
-  module _ (i j n : ℕ) (lt_i : i < setting.group.size) (lt_j : j < setting.group.size) (ne : j ≢ i) (low : 1 ≤ n) (cast : n ≤ cast_count setting s i) where
+  module _ (i j n : ℕ) (lt_i : i < setting.group.size) (lt_j : j < setting.group.size) (live_i : Lives i) (live_j : Lives j) (ne : j ≢ i) (low : 1 ≤ n) (cast : n ≤ cast_count setting s i) where
     abbrev Comes : Type 0
     Comes = is_there (casts_in (facts_at t j)) i n ≡ true
 
@@ -109,19 +119,6 @@ module _ (setting : Setting) (s t : GroupState) (inv : IsConsistent setting s) (
         let there = seen_is_there (seat_at setting i) (casts_in (facts_at now i)) (view setting.group.size (facts_at now i)) (own_casts (facts_at now i)) i n (stands_at setting.group (facts_at now) inv_now.together i lt_i) low (was_cast now inv_now later) in
         let c = own_cast_of setting.group (facts_at now) inv_now.together i (record { sender = i; number = n }) there in
         record { cast = c.cast; there = c.own; found = c.found; has = c.has; sender_is = c.sender_is; number_is = c.number_is }
-
-    -- an own cast of i that was sent in answer comes
-    answer_comes : (now : GroupState) → IsConsistent setting now → (c : HasCarrier (own_casts (facts_at now i)) i n)
-        → Takes setting w.answered t (sent_by i (record { to = Some j; bytes = text_of (CastFrame c.cast) })) j → Comes
-    answer_comes now inv_now c b =
-        let read = own_cast_read setting now inv_now i c.cast c.there in
-        let of_group = casts_are_of_the_group (seat_at setting i) (facts_at now i) c.cast (inv_now.together.legal i lt_i) (in_is_cast_of c.cast (casts_in (facts_at now i)) (own_is_there (facts_at now i) c.cast c.there)) in
-        let taken = cast_is_taken (seat_at setting j) setting.limit (b.now.histories j) (text_of (CastFrame c.cast)) c.cast (b.consistent.together.legal j lt_j) read of_group b.welcome b.room in
-        let then_there : AreThere (casts_in (facts_at b.next j)) c.cast = subst (λ (es : List EntryFields). AreThere (casts_in (facts_of es)) c.cast) (sym b.history) taken in
-        let here = each_of (λ (m : Carried). is_there (casts_in (facts_at b.next j)) m.sender m.number) (messages_of c.cast) c.found then_there c.has in
-        there_later b.next t b.after j i n
-        (subst (λ (k : ℕ). is_there (casts_in (facts_at b.next j)) i k ≡ true) c.number_is
-        (subst (λ (k : ℕ). is_there (casts_in (facts_at b.next j)) k c.found.number ≡ true) c.sender_is here))
 
     -- a request for ranges from above `begin` that name the number, which is among the first that the answer can have
     module _ (begin : ℕ) (ranges : List Range) (rise : AreRanges (begin + 1) ranges) (names : is_in_some ranges n ≡ true) (near : n ≤ begin + MOST_FRAMES) where
@@ -173,11 +170,11 @@ module _ (setting : Setting) (s t : GroupState) (inv : IsConsistent setting s) (
             let puts = request_is_answered (seat_at setting i) setting.limit (a.now.histories i) (text_of (RequestFrame asked_fields)) asked_fields read a.welcome in
             let all : sent_in_answer (seat_at setting i) (facts_at a.now i) (RequestFrame asked_fields) ≡ map (λ c. record { to = Some j; bytes = text_of (CastFrame c) }) (take MOST_FRAMES (asked_casts a.now)) = rw (eq-eqb i i refl) refl in
             let there = in_map (λ c. record { to = Some j; bytes = text_of (CastFrame c) }) (take MOST_FRAMES (asked_casts a.now)) c.cast first in
-            answer_comes a.now a.consistent c (w.taken (sent_by i out) j (a.sends out (subst (IsIn out) (sym (puts ∙ all)) there)) (inl refl) lt_j)
+            own_cast_comes setting w.answered t a.now i j n lt_i lt_j a.consistent c (sent_by i out) refl (w.taken (sent_by i out) j (a.sends out (subst (IsIn out) (sym (puts ∙ all)) there)) (inl refl) lt_j live_j)
       ]
 
     -- so it comes where it is lacking at j's tick
-    module _ (heard : cast_count setting s i ≤ known (facts_at s j) i) (near : n ≤ expanded_at s j i + MOST_FRAMES) where
+    module _ (heard : n ≤ known (facts_at s j) i) (near : n ≤ expanded_at s j i + MOST_FRAMES) where
       lacking_comes : (k : Ticks setting s w.asking j) → is_there (casts_in (facts_at k.now j)) i n ≡ false → (ranges : List Range) → ranges_of (missing (seat_at setting j) (facts_at k.now j) i) ≡ ranges → Comes
       unfolding text_of
       lacking_comes k lacks ranges is =
@@ -186,7 +183,7 @@ module _ (setting : Setting) (s t : GroupState) (inv : IsConsistent setting s) (
           let close = near_is_so setting.group (facts_at k.now) k.consistent.together i j lt_i lt_j in
           let lacking : IsMissing (seat_at setting j) facts i n = record {
             above = lacking_is_above (casts_in facts) i n low lacks;
-            heard_of = omega (arith, cast, heard, known_later s k.now k.before j i);
+            heard_of = omega (arith, heard, known_later s k.now k.before j i);
             in_window = omega (arith, close, was_cast k.now k.consistent k.before);
             not_there = lacks;
           } in
@@ -205,7 +202,7 @@ module _ (setting : Setting) (s t : GroupState) (inv : IsConsistent setting s) (
               let here : IsIn out (request_to (seat_at setting j) i (ranges_of (missing (seat_at setting j) (facts_at k.now j) i))) = subst (λ (rs : List Range). IsIn out (request_to (seat_at setting j) i rs)) (sym is) (inl refl) in
               let other = in_filter (λ k. not (eqb k j)) (range_with_len 0 setting.group.size) i (rw (ne_eqb i j (λ e. ne (sym e))) refl) (in_range 0 setting.group.size i (omega arith) (omega (arith, lt_i))) in
               let there = in_flat (λ l. request_to (seat_at setting j) l (ranges_of (missing (seat_at setting j) (facts_at k.now j) l))) (filter (λ k. not (eqb k j)) (range_with_len 0 setting.group.size)) i out other here in
-              let a = w.asked (sent_by j out) i (k.sends out (inr there)) (inl refl) lt_i in
+              let a = w.asked (sent_by j out) i (k.sends out (inr there)) (inl refl) lt_i live_i in
               let can = (own_frames_have_texts (seat_at setting j) (facts_at k.now j) (k.consistent.together.legal j lt_j)).2 i r ranges lt_i is in
               let read = text_is_read (text_of (RequestFrame q)) (RequestFrame q) a.honest.are_bytes ((some_text (RequestFrame q)).1 can) in
               request_brings (expanded_at k.now j i) first (taken_ranges_are MOST_RANGES (expanded_at k.now j i + 1) (r ∷ ranges) rise)
@@ -213,7 +210,7 @@ module _ (setting : Setting) (s t : GroupState) (inv : IsConsistent setting s) (
 
       pub cast_comes : is_there (casts_in (facts_at t j)) i n ≡ true
       cast_comes =
-          let k = w.ticks j lt_j in
+          let k = w.ticks j lt_j live_j in
           decided k (is_there (casts_in (facts_at k.now j)) i n) refl
         where
           decided : (k : Ticks setting s w.asking j) (b : Bool) → is_there (casts_in (facts_at k.now j)) i n ≡ b → is_there (casts_in (facts_at t j)) i n ≡ true

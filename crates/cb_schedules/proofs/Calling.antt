@@ -14,13 +14,13 @@ use Rattle.cb_history.specs.declared.answer.Outgoing.{Outgoing}
 use Rattle.cb_history.specs.Group.{Identity}
 use Rattle.cb_history.specs.Facts.{EntryFields, Fact, said_by, facts_of, casts_in, is_there}
 use Rattle.cb_history.specs.Answers.{own_casts}
-use Rattle.cb_history.specs.Legal.{Call, ToCast, ToTake, ToTick, AreEntriesOf}
+use Rattle.cb_history.specs.Legal.{Call, ToCast, ToTake, ToTick, ToHelp, AreEntriesOf}
 use Rattle.cb_history.specs.LegalFacts.{AreFactsOf}
 use Rattle.cb_history.proofs.Views.{IsIn}
 use Rattle.cb_history.proofs.Lists.{flat_map-append, in_front, in_back}
 use Rattle.cb_history.proofs.Histories.{entries_say_legal_facts}
 use Rattle.cb_history.proofs.Buffers.{cast_of_is_in, in_is_cast_of}
-use Rattle.cb_schedules.specs.Schedule.{Setting, IsSetting, seat_at, SentFrame, Calls, Answer, CastAnswer, ArrivalAnswer, TickAnswer, NoSuchMember, NoSuchFrame, NoBytes, frames_sent, sent_by, GroupState, with_history}
+use Rattle.cb_schedules.specs.Schedule.{Setting, IsSetting, seat_at, SentFrame, Calls, Answer, CastAnswer, ArrivalAnswer, TickAnswer, HelpAnswer, NoSuchMember, NoSuchFrame, NoBytes, frames_sent, sent_by, GroupState, with_history}
 use Rattle.cb_schedules.specs.Messages.{facts_at, stamped_lists, received_by, arrived_at, has_arrived, cast_read, sent_casts}
 use Rattle.cb_schedules.specs.Honest.{member_of, IsHonest, events_of, AreTogether}
 use Rattle.cb_schedules.specs.Consistent.{IsConsistent}
@@ -64,6 +64,7 @@ received_elsewhere j i (ToCast load) (CastAnswer (Ok c)) ne = rw (ne_eqb i j ne)
 received_elsewhere j i (ToCast load) (CastAnswer (Err fault)) ne = refl
 received_elsewhere j i (ToCast load) (ArrivalAnswer r) ne = refl
 received_elsewhere j i (ToCast load) (TickAnswer r) ne = refl
+received_elsewhere j i (ToCast load) (HelpAnswer r) ne = refl
 received_elsewhere j i (ToCast load) NoSuchMember ne = refl
 received_elsewhere j i (ToCast load) NoSuchFrame ne = refl
 received_elsewhere j i (ToCast load) NoBytes ne = refl
@@ -71,10 +72,12 @@ received_elsewhere j i (ToTake bytes) (ArrivalAnswer (Ok says)) ne = rw (ne_eqb 
 received_elsewhere j i (ToTake bytes) (ArrivalAnswer (Err refusal)) ne = refl
 received_elsewhere j i (ToTake bytes) (CastAnswer r) ne = refl
 received_elsewhere j i (ToTake bytes) (TickAnswer r) ne = refl
+received_elsewhere j i (ToTake bytes) (HelpAnswer r) ne = refl
 received_elsewhere j i (ToTake bytes) NoSuchMember ne = refl
 received_elsewhere j i (ToTake bytes) NoSuchFrame ne = refl
 received_elsewhere j i (ToTake bytes) NoBytes ne = refl
 received_elsewhere j i ToTick answer ne = refl
+received_elsewhere j i (ToHelp k) answer ne = refl
 
 pub facts_push : (entries : List EntryFields) (e : EntryFields) (fact : Fact) → said_by e ≡ fact ∷ [] → facts_of (entries ++ e ∷ []) ≡ facts_of entries ++ fact ∷ []
 facts_push entries e fact said = flat_map-append said_by entries (e ∷ []) ∙ ap (λ (fs : List Fact). facts_of entries ++ fs) (append-nil (said_by e) ∙ said)

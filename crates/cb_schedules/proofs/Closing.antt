@@ -65,11 +65,11 @@ module _ (group : Parameters) (facts : ℕ → List Fact) (h : AreTogether group
   pub seen_number : (m : Name) → j < group.size → Seen m → (1 ≤ m.number) × (m.number ≤ delivered (member_of group j) (facts j) m.sender)
   seen_number m lt seen = (view_holds_the_first (member_of group j) (facts j) (called m) (h.legal j lt)).0 seen
 
-  number_seen : (m : Name) → j < group.size → 1 ≤ m.number → m.number ≤ delivered (member_of group j) (facts j) m.sender → Seen m
+  pub number_seen : (m : Name) → j < group.size → 1 ≤ m.number → m.number ≤ delivered (member_of group j) (facts j) m.sender → Seen m
   number_seen m lt low high = (view_holds_the_first (member_of group j) (facts j) (called m) (h.legal j lt)).1 (low, high)
 
   -- what happened before a delivered message is delivered
-  past_is_seen : (m earlier : Name) (c : HasOwnCast group facts h j m) → Seen m → 1 ≤ earlier.number → HappenedBefore (erased (events_of group facts)) earlier m → Seen earlier
+  pub past_is_seen : (m earlier : Name) (c : HasOwnCast group facts h j m) → Seen m → 1 ≤ earlier.number → HappenedBefore (erased (events_of group facts)) earlier m → Seen earlier
   past_is_seen m earlier c seen low before =
       let number = seen_number m c.member seen in
       let expanded = expands m c (λ k low high. delivered_there m.sender k c.member low (omega (arith, high, number.1))) in

@@ -12,7 +12,7 @@ use Rattle.cb_schedules.proofs.RoundLaws.{rounds_deliver, then_all_have_the_same
 use Rattle.cb_schedules.proofs.Forgetting.{cores_run_alike}
 
 -- each history has so many entries left
-abbrev HasLeft : Setting → GroupState → ℕ → Type 0
+abbrev pub HasLeft : Setting → GroupState → ℕ → Type 0
 HasLeft setting s count = (k : ℕ) → length (s.histories k) + count ≤ setting.limit
 
 run_adds : (setting : Setting) (s : GroupState) (steps : Schedule) (k : ℕ) → length ((run_from setting s steps).histories k) ≤ length (s.histories k) + length steps
@@ -37,11 +37,11 @@ module _ (setting : Setting) where
   unlimited = with_room_behind [] setting.group
 
   -- steps for which there is room run alike
-  alike : (s : GroupState) (steps : Schedule) → HasLeft setting s (length steps) → cores_from group s steps ≡ run_from setting s steps
+  pub alike : (s : GroupState) (steps : Schedule) → HasLeft setting s (length steps) → cores_from group s steps ≡ run_from setting s steps
   alike s steps left = cores_run_alike setting s steps (none_full setting s steps left)
 
   -- and leave the rest of the room
-  leaves : (s : GroupState) (steps : Schedule) (more : ℕ) → HasLeft setting s (length steps + more) → HasLeft setting (run_from setting s steps) more
+  pub leaves : (s : GroupState) (steps : Schedule) (more : ℕ) → HasLeft setting s (length steps + more) → HasLeft setting (run_from setting s steps) more
   leaves s steps more left k = let has = left k in let adds = run_adds setting s steps k in omega (arith, has, adds)
 
   module _ (s : GroupState) where
@@ -104,50 +104,67 @@ module _ (setting : Setting) where
 
 -- ---- behind a schedule
 
-module _ (group : Parameters) (steps : Schedule) (n more : ℕ) where
+-- steps that follow a schedule, by the state behind it, and some steps more
+module _ (group : Parameters) (steps : Schedule) (more : ℕ) (of_cores : GroupState → Schedule) where
   abbrev start : GroupState
   start = run_of_cores group steps
 
-  -- the group, with room for these steps, so many rounds of cores and some steps more
-  abbrev pub roomy : Setting
-  roomy = record { group = group; limit = suc (length steps + (length (rounds_of_cores group n (run_of_cores group steps)) + more)) }
+  -- the group, with room for all of them
+  abbrev pub room_for : Setting
+  room_for = record { group = group; limit = suc (length steps + (length (of_cores (run_of_cores group steps)) + more)) }
 
-  starts_with : HasLeft roomy nothing_yet (length steps + (length (rounds_of_cores group n start) + more))
+  starts_with : HasLeft room_for nothing_yet (length steps + (length (of_cores start) + more))
   starts_with k = omega arith
 
-  start_alike : start ≡ run roomy steps
-  start_alike = alike roomy nothing_yet steps (λ k. omega arith)
+  pub start_alike : start ≡ run room_for steps
+  start_alike = alike room_for nothing_yet steps (λ k. omega arith)
 
-  left_then : HasLeft roomy (run roomy steps) (length (rounds_of_cores group n start) + more)
-  left_then = leaves roomy nothing_yet steps (length (rounds_of_cores group n start) + more) starts_with
+  left_then : HasLeft room_for (run room_for steps) (length (of_cores start) + more)
+  left_then = leaves room_for nothing_yet steps (length (of_cores start) + more) starts_with
 
-  left_for : HasLeft roomy (run roomy steps) (length (rounds_of_cores group n (run roomy steps)))
-  left_for k = let has = left_then k in let same = ap (λ (t : GroupState). length (rounds_of_cores group n t)) start_alike in omega (arith, has, same)
+  left_for : HasLeft room_for (run room_for steps) (length (of_cores (run room_for steps)))
+  left_for k = let has = left_then k in let same = ap (λ (t : GroupState). length (of_cores t)) start_alike in omega (arith, has, same)
 
-  rounds_are : rounds_of_cores group n (run roomy steps) ≡ steps_of_rounds roomy n (run roomy steps)
-  rounds_are = rounds_alike roomy n (run roomy steps) left_for
+  -- where they are those of members when there is room for them
+  module _ (of_members : GroupState → Schedule) (same_steps : (s : GroupState) → HasLeft room_for s (length (of_cores s)) → of_cores s ≡ of_members s) where
+    steps_are : of_cores (run room_for steps) ≡ of_members (run room_for steps)
+    steps_are = same_steps (run room_for steps) left_for
 
-  left_for_steps : HasLeft roomy (run roomy steps) (length (steps_of_rounds roomy n (run roomy steps)))
-  left_for_steps k = let has = left_for k in let same = ap length rounds_are in omega (arith, has, same)
+    left_for_steps : HasLeft room_for (run room_for steps) (length (of_members (run room_for steps)))
+    left_for_steps k = let has = left_for k in let same = ap length steps_are in omega (arith, has, same)
 
-  -- no history is found full in them
+    -- no history is found full in them
+    pub none_full_in_steps : FindNoneFull room_for (run room_for steps) (of_members (run room_for steps))
+    none_full_in_steps = room_enough room_for (run room_for steps) (of_members (run room_for steps)) left_for_steps
+
+    -- and they leave what they leave of members
+    pub steps_run_alike : cores_from group start (of_cores start) ≡ run_from room_for (run room_for steps) (of_members (run room_for steps))
+    steps_run_alike =
+        ap (λ (t : GroupState). cores_from group t (of_cores t)) start_alike
+        ∙ ap (cores_from group (run room_for steps)) steps_are
+        ∙ alike room_for (run room_for steps) (of_members (run room_for steps)) left_for_steps
+
+    left_behind_steps : HasLeft room_for (run_from room_for (run room_for steps) (of_members (run room_for steps))) more
+    left_behind_steps =
+        leaves room_for (run room_for steps) (of_members (run room_for steps)) more
+        (λ k. let has = left_then k in
+        let same = ap length steps_are in
+        let begun = ap (λ (t : GroupState). length (of_cores t)) start_alike in
+        omega (arith, has, same, begun))
+
+-- such steps are so many rounds
+module _ (group : Parameters) (steps : Schedule) (n more : ℕ) where
+  abbrev pub roomy : Setting
+  roomy = room_for group steps more (rounds_of_cores group n)
+
   pub none_full_in_rounds : FindNoneFull roomy (run roomy steps) (steps_of_rounds roomy n (run roomy steps))
-  none_full_in_rounds = room_enough roomy (run roomy steps) (steps_of_rounds roomy n (run roomy steps)) left_for_steps
+  none_full_in_rounds = none_full_in_steps group steps more (rounds_of_cores group n) (steps_of_rounds roomy n) (rounds_alike roomy n)
 
-  -- and they leave what they leave of members
-  pub rounds_run_alike : cores_after_rounds group n start ≡ after_rounds roomy n (run roomy steps)
-  rounds_run_alike =
-      ap (cores_after_rounds group n) start_alike
-      ∙ ap (cores_from group (run roomy steps)) rounds_are
-      ∙ alike roomy (run roomy steps) (steps_of_rounds roomy n (run roomy steps)) left_for_steps
+  pub rounds_run_alike : cores_after_rounds group n (run_of_cores group steps) ≡ after_rounds roomy n (run roomy steps)
+  rounds_run_alike = steps_run_alike group steps more (rounds_of_cores group n) (steps_of_rounds roomy n) (rounds_alike roomy n)
 
   pub left_behind : HasLeft roomy (after_rounds roomy n (run roomy steps)) more
-  left_behind =
-      leaves roomy (run roomy steps) (steps_of_rounds roomy n (run roomy steps)) more
-      (λ k. let has = left_then k in
-      let same = ap length rounds_are in
-      let begun = ap (λ (t : GroupState). length (rounds_of_cores group n t)) start_alike in
-      omega (arith, has, same, begun))
+  left_behind = left_behind_steps group steps more (rounds_of_cores group n) (steps_of_rounds roomy n) (rounds_alike roomy n)
 
 is_roomy : (group : Parameters) (steps : Schedule) (n more : ℕ) → AreParameters group → IsSetting (roomy group steps n more)
 is_roomy group steps n more are = record { group = are; one_or_more = omega arith }

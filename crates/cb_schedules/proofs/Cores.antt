@@ -3,15 +3,17 @@ use Rattle.std.proofs.Common.{◌≡◌, ℕ, List, [], ◌∷◌, ◌++◌, Ok,
 use Rattle.std.specs.List.{AllByRecursion}
 use Rattle.std.proofs.lemmas.List.{length-append}
 use Rattle.cb_times.specs.declared.name.Name.{Name}
-use Rattle.cb_schedules.specs.Schedule.{Setting, Answer, CastAnswer, ArrivalAnswer, TickAnswer, NoSuchMember, NoSuchFrame, NoBytes, Outcome, GroupState, run}
+use Rattle.cb_schedules.specs.Schedule.{Setting, Answer, CastAnswer, ArrivalAnswer, TickAnswer, HelpAnswer, NoSuchMember, NoSuchFrame, NoBytes, Outcome, GroupState, run}
 use Rattle.cb_schedules.specs.Messages.{IsClosedArrival}
 use Rattle.cb_schedules.specs.Headline.{Headline, IsCausalBroadcast, DeliversClosedArrivals, TimesTellHappenedBefore}
 use Rattle.cb_schedules.specs.SentLaws.{IsRefusedByFullHistoryAlone, ArrivalsAreWelcome, OneNameSameBytes, HeardOfIsCast, StableIsDeliveredEverywhere, StableOfStandsInEvents, SendersStayNear}
 use Rattle.cb_schedules.specs.StepLaws.{ListsGoOn}
+use Rattle.cb_schedules.specs.HelpLaws.{NothingLackedIsForgotten, NothingLackedIsFreed}
 use Rattle.cb_schedules.specs.Rounds.{IsNotFull}
 use Rattle.cb_schedules.specs.Forgetting.{run_of_cores}
 use Rattle.cb_schedules.specs.ForgettingLaws.{EachScheduleOfCores, EachStepOfCoresGoesOn, IsNotRefused, NoArrivalIsRefused}
 use Rattle.cb_schedules.proofs.Headlines.{each_schedule, headline_holds, arrivals_are_welcome, one_name_same_bytes, heard_of_is_cast, stable_is_delivered_everywhere, stable_of_stands_in_events, senders_stay_near}
+use Rattle.cb_schedules.proofs.Lacking.{nothing_lacked_is_forgotten, nothing_lacked_is_freed}
 use Rattle.cb_schedules.proofs.StepByStep.{lists_go_on}
 use Rattle.cb_schedules.proofs.Forgetting.{cores_run_as_members, each_of_cores, no_core_is_full, with_room}
 
@@ -72,6 +74,7 @@ not_refused (CastAnswer r) free welcome = tt
 not_refused (ArrivalAnswer (Ok says)) free welcome = tt
 not_refused (ArrivalAnswer (Err refusal)) free welcome = free welcome
 not_refused (TickAnswer r) free welcome = tt
+not_refused (HelpAnswer r) free welcome = tt
 not_refused NoSuchMember free welcome = tt
 not_refused NoSuchFrame free welcome = tt
 not_refused NoBytes free welcome = tt
@@ -103,3 +106,11 @@ stable_of_stands_in_events_of_cores setting steps are =
 
 pub cores_stay_near : EachScheduleOfCores SendersStayNear
 cores_stay_near setting steps are = each_of_cores SendersStayNear (each_schedule SendersStayNear senders_stay_near) setting.group steps are
+
+-- ---- what cores keep
+
+pub nothing_cores_lack_is_forgotten : EachScheduleOfCores NothingLackedIsForgotten
+nothing_cores_lack_is_forgotten setting steps are = each_of_cores NothingLackedIsForgotten (each_schedule NothingLackedIsForgotten nothing_lacked_is_forgotten) setting.group steps are
+
+pub nothing_cores_lack_is_freed : EachScheduleOfCores NothingLackedIsFreed
+nothing_cores_lack_is_freed setting steps are = each_of_cores NothingLackedIsFreed (each_schedule NothingLackedIsFreed nothing_lacked_is_freed) setting.group steps are

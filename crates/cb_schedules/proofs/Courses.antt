@@ -11,15 +11,15 @@ use Rattle.cb_causality.specs.StampedMachine.{StampedStep, StampedRun}
 use Rattle.cb_causality.specs.Extension.{Extends, Still}
 use Rattle.cb_history.specs.Group.{Parameters}
 use Rattle.cb_history.specs.View.{view, next_delivery}
-use Rattle.cb_history.specs.Legal.{Call, ToCast, ToTake, ToTick, NoEntries}
+use Rattle.cb_history.specs.Legal.{Call, ToCast, ToTake, ToTick, ToHelp, NoEntries}
 use Rattle.cb_history.proofs.Lists.{flat_map-append}
 use Rattle.cb_history.proofs.Histories.{entries_say_legal_facts}
-use Rattle.cb_schedules.specs.Schedule.{Setting, IsSetting, Step, CastStep, ArriveStep, TickStep, Schedule, SentFrame, Asked, Calls, OfNoMember, OfNoFrame, OfNoBytes, Answer, NoSuchMember, NoSuchFrame, NoBytes, GroupState, seat_at, are_bytes, handed_over, asked_by, and_nothing, after_asked, step_after, nothing_yet, run_from, run}
+use Rattle.cb_schedules.specs.Schedule.{Setting, IsSetting, Step, CastStep, ArriveStep, TickStep, HelpStep, Schedule, SentFrame, Asked, Calls, OfNoMember, OfNoFrame, OfNoBytes, Answer, NoSuchMember, NoSuchFrame, NoBytes, GroupState, seat_at, are_bytes, handed_over, asked_by, and_nothing, after_asked, step_after, nothing_yet, run_from, run}
 use Rattle.cb_schedules.specs.Messages.{facts_at, stamped_lists, arrived_at, has_arrived, received_by}
 use Rattle.cb_schedules.specs.Honest.{IsHonest, events_of}
 use Rattle.cb_schedules.specs.Consistent.{IsConsistent}
 use Rattle.cb_schedules.proofs.Calling.{is_named}
-use Rattle.cb_schedules.proofs.Answering.{cast_is_good, tick_is_good, arrival_is_good}
+use Rattle.cb_schedules.proofs.Answering.{cast_is_good, tick_is_good, help_is_good, arrival_is_good}
 use Rattle.cb_schedules.proofs.Lists.{all_at_index}
 
 -- ---- the start
@@ -60,6 +60,7 @@ abbrev pub IsFair : Setting → GroupState → Call → Type 0
 IsFair setting s (ToCast load) = IsBytes (load_bytes load)
 IsFair setting s (ToTake bytes) = IsHonest setting.group (facts_at s) bytes
 IsFair setting s ToTick = Unit {0}
+IsFair setting s (ToHelp k) = Unit {0}
 
 -- what is so of each fair call of a member, and of nothing, is so of what a step asks for
 pub asked_is : (setting : Setting) (s : GroupState) → AllByRecursion (λ (frame : SentFrame). IsHonest setting.group (facts_at s) frame.bytes) s.sent → (P : Asked → Type 0)
@@ -77,6 +78,8 @@ asked_is setting s honest P calls none no_frame no_bytes (ArriveStep j number) =
         calls j (ToTake frame.bytes) (ltb-true j setting.group.size inside) (all_at_index (λ (frame : SentFrame). IsHonest setting.group (facts_at s) frame.bytes) s.sent number frame honest e)
 asked_is setting s honest P calls none no_frame no_bytes (TickStep i) =
     cond_both (ltb i setting.group.size) _ _ P (λ inside. calls i ToTick (ltb-true i setting.group.size inside) tt) (λ _. none)
+asked_is setting s honest P calls none no_frame no_bytes (HelpStep j i) =
+    cond_both (ltb j setting.group.size) _ _ P (λ inside. calls j (ToHelp i) (ltb-true j setting.group.size inside) tt) (λ _. none)
 
 -- ---- one step
 
@@ -105,6 +108,7 @@ call_goes_on : (setting : Setting) → IsSetting setting → (s : GroupState) �
 call_goes_on setting is s inv i (ToCast load) lt fair = cast_is_good setting is s inv i lt load fair
 call_goes_on setting is s inv i (ToTake bytes) lt fair = arrival_is_good setting is s inv i lt bytes fair
 call_goes_on setting is s inv i ToTick lt fair = tick_is_good setting is s inv i lt
+call_goes_on setting is s inv i (ToHelp k) lt fair = help_is_good setting is s inv i lt k
 
 pub step_goes_on : (setting : Setting) → IsSetting setting → (s : GroupState) → IsConsistent setting s → (step : Step) → GoesOn setting s (step_after setting s step)
 unfolding step_after

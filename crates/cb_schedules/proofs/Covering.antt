@@ -49,6 +49,13 @@ above_least least n (r ∷ ranges) are some = elim (is_or (is_within n r) (is_in
   | inr later ↦ let rest = above_least (r.last + 2) n ranges are.3 later in let first = are.0 in let filled = are.1 in omega (arith, rest, first, filled)
 ]
 
+-- where the least of them lies in one, the first begins there
+pub begins_at_least : (n : ℕ) (r : Range) (ranges : List Range) → AreRanges n (r ∷ ranges) → is_in_some (r ∷ ranges) n ≡ true → r.first ≡ n
+begins_at_least n r ranges are some = elim (is_or (is_within n r) (is_in_some ranges n) some) [
+  | inl here ↦ let w = within_is n r here in let first = are.0 in omega (arith, w.0, first)
+  | inr later ↦ let rest = above_least (r.last + 2) n ranges are.3 later in let first = are.0 in let filled = are.1 in absurd (omega (arith, rest, first, filled))
+]
+
 -- so each range takes two numbers at least
 pub first_ranges_cover : (limit low n : ℕ) (ranges : List Range) → AreRanges (low + 1) ranges → is_in_some ranges n ≡ true → n ≤ low + 2 * limit → is_in_some (take limit ranges) n ≡ true
 first_ranges_cover limit low n [] are some most = absurd cc
@@ -99,7 +106,7 @@ abbrev pub Rising : ℕ → List CastFields → Type 0
 Rising low [] = Unit {0}
 Rising low (c ∷ casts) = (low ≤ first_number c) × IsSome c.load × Rising (last_number c + 1) casts
 
-rising_from : (low lower : ℕ) (casts : List CastFields) → lower ≤ low → Rising low casts → Rising lower casts
+pub rising_from : (low lower : ℕ) (casts : List CastFields) → lower ≤ low → Rising low casts → Rising lower casts
 rising_from low lower [] le rise = tt
 rising_from low lower (c ∷ casts) le rise = let first = rise.0 in (omega (arith, le, first), rise.1, rise.2)
 

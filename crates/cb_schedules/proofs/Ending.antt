@@ -13,14 +13,17 @@ use Rattle.cb_history.specs.Read.{frame_read}
 use Rattle.cb_history.specs.declared.answer.ArriveRefusal.{ArriveRefusal}
 use Rattle.cb_history.specs.declared.answer.Outgoing.{Outgoing}
 use Rattle.cb_history.specs.Known.{stable}
+use Rattle.cb_history.specs.Helping.{handed_on}
 use Rattle.cb_history.specs.Answers.{own_casts, window, is_full, group_of, are_members, is_impossible, is_repeat, is_overlap, is_too_far, is_change, is_asked_for, sent_in_answer, ArrivalSays, frame_answer, answer_to, arrive_answer}
 use Rattle.cb_history.specs.Legal.{ToTake}
 use Rattle.cb_history.proofs.Views.{filter_in}
-use Rattle.cb_schedules.specs.Schedule.{Setting, IsSetting, seat_at, Step, CastStep, ArriveStep, TickStep, Schedule, SentFrame, Asked, OfNoMember, ArrivalAnswer, frames_sent, sent_by, answer_of, GroupState, handed_over, after_asked, step_after, run_from}
+use Rattle.cb_schedules.specs.Schedule.{Setting, IsSetting, seat_at, Step, CastStep, ArriveStep, TickStep, HelpStep, Schedule, SentFrame, Asked, OfNoMember, ArrivalAnswer, frames_sent, sent_by, answer_of, GroupState, handed_over, after_asked, step_after, run_from}
 use Rattle.cb_schedules.specs.Messages.{facts_at}
 use Rattle.cb_schedules.specs.Consistent.{IsConsistent}
 use Rattle.cb_schedules.specs.Rounds.{tick_steps, receivers, arrivals_from, arrivals_since, ticked, answered, round_steps}
 use Rattle.cb_schedules.proofs.Lists.{all_map, all_both, in_take}
+use Rattle.cb_schedules.proofs.Members.{is_own}
+use Rattle.cb_schedules.proofs.Handing.{handed_on_is_there}
 use Rattle.cb_schedules.proofs.Courses.{step_goes_on, consistent_from}
 use Rattle.cb_schedules.proofs.Happening.{get_behind}
 use Rattle.cb_schedules.proofs.Asking.{own_cast_read}
@@ -46,7 +49,7 @@ sent_are_casts i (out ∷ outs) all = (all.0, sent_are_casts i outs all.1)
 -- ---- one arrival
 
 -- a frame that is answered by its rules sends what is sent in answer, or nothing
-answer_puts_out : (P : List Outgoing → Type 0) (setting : Setting) (s : GroupState) (i : ℕ) (frame : FrameFields) → P [] → P (sent_in_answer (seat_at setting i) (facts_at s i) frame)
+pub answer_puts_out : (P : List Outgoing → Type 0) (setting : Setting) (s : GroupState) (i : ℕ) (frame : FrameFields) → P [] → P (sent_in_answer (seat_at setting i) (facts_at s i) frame)
     → P (frames_sent (ArrivalAnswer (frame_answer (seat_at setting i) setting.limit (s.histories i) (facts_at s i) frame)))
 answer_puts_out P setting s i frame none sent =
     let Right : Result ArrivalSays ArriveRefusal → Type 0 = λ r. P (frames_sent (ArrivalAnswer r)) in
@@ -68,7 +71,12 @@ casts_in_answer setting s inv i (RequestFrame r) =
     let asked = filter_in (is_asked_for r.ranges) (window (seat_at setting i) (facts_at s i)) c (in_take MOST_FRAMES (filter (is_asked_for r.ranges) (window (seat_at setting i) (facts_at s i))) c there) in
     (c, own_cast_read setting s inv i c (filter_in (λ c. ltb (stable (seat_at setting i) (facts_at s i)) (last_number c)) (own_casts (facts_at s i)) c asked.1).1)))
     (λ _. tt)
-casts_in_answer setting s inv i (HelpFrame h) = tt
+casts_in_answer setting s inv i (HelpFrame h) =
+    cond_both (eqb h.helper i) _ _ (AllByRecursion (λ (out : Outgoing). IsCast out.bytes))
+    (λ _. all_map (λ (out : Outgoing). IsCast out.bytes) (λ c. record { to = Some h.requester; bytes = text_of (CastFrame c) }) (take MOST_FRAMES (filter (is_asked_for h.ranges) (handed_on (seat_at setting i) (facts_at s i) h.sender))) (λ c there.
+    let asked = filter_in (is_asked_for h.ranges) (handed_on (seat_at setting i) (facts_at s i) h.sender) c (in_take MOST_FRAMES (filter (is_asked_for h.ranges) (handed_on (seat_at setting i) (facts_at s i) h.sender)) c there) in
+    (c, own_cast_read setting s inv c.sender c (is_own setting.group (facts_at s) inv.together i c (handed_on_is_there (seat_at setting i) (facts_at s i) h.sender c asked.1)))))
+    (λ _. tt)
 
 arrival_puts_out_casts : (setting : Setting) (s : GroupState) → IsConsistent setting s → (i : ℕ) (bytes : List ℕ) → PutsOutCasts (arrive_answer (seat_at setting i) setting.limit (s.histories i) bytes)
 unfolding arrive_answer
@@ -94,11 +102,13 @@ abbrev IsArrival : Step → Type 0
 IsArrival (CastStep i load) = ⊥
 IsArrival (ArriveStep j number) = Unit {0}
 IsArrival (TickStep i) = ⊥
+IsArrival (HelpStep j i) = ⊥
 
 arrival_sends_casts : (setting : Setting) (s : GroupState) → IsConsistent setting s → (step : Step) → IsArrival step → SendsCasts s (step_after setting s step)
 unfolding step_after
 arrival_sends_casts setting s inv (CastStep i load) is = absurd is
 arrival_sends_casts setting s inv (TickStep i) is = absurd is
+arrival_sends_casts setting s inv (HelpStep j i) is = absurd is
 arrival_sends_casts setting s inv (ArriveStep j number) is =
     cond_both (ltb j setting.group.size) (handed_over j (slice_get s.sent number)) OfNoMember (λ (asked : Asked). SendsCasts s (after_asked setting s asked))
     (λ _. handed (slice_get s.sent number)) (λ _. ([], sym (append-nil s.sent), tt))
@@ -129,11 +139,13 @@ abbrev BringsCast : List SentFrame → Step → Type 0
 BringsCast sent (CastStep i load) = ⊥
 BringsCast sent (ArriveStep j number) = (frame : SentFrame) × (slice_get sent number ≡ Some frame) × IsCast frame.bytes
 BringsCast sent (TickStep i) = ⊥
+BringsCast sent (HelpStep j i) = ⊥
 
 bringing_sends_nothing : (setting : Setting) (s : GroupState) (step : Step) → BringsCast s.sent step → (step_after setting s step).sent ≡ s.sent
 unfolding step_after
 bringing_sends_nothing setting s (CastStep i load) brings = absurd brings
 bringing_sends_nothing setting s (TickStep i) brings = absurd brings
+bringing_sends_nothing setting s (HelpStep j i) brings = absurd brings
 bringing_sends_nothing setting s (ArriveStep j number) brings =
     cond_both (ltb j setting.group.size) (handed_over j (slice_get s.sent number)) OfNoMember (λ (asked : Asked). (after_asked setting s asked).sent ≡ s.sent)
     (λ _. subst (λ (found : Option SentFrame). (after_asked setting s (handed_over j found)).sent ≡ s.sent) (sym brings.1) (taken brings.0 brings.2)) (λ _. refl)

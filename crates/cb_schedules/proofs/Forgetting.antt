@@ -14,9 +14,9 @@ use Rattle.cb_history.specs.CastFault.{CastFault, EmptyBurst, BurstTooLong, Payl
 use Rattle.cb_history.specs.Group.{Parameters, AreParameters, Identity}
 use Rattle.cb_history.specs.Facts.{EntryFields, facts_of}
 use Rattle.cb_history.specs.Answers.{is_full, is_too_many, next_cast, cast_answer, group_of, are_members, is_impossible, is_repeat, is_overlap, is_too_far, is_change, deliveries, sent_in_answer, ArrivalSays, Accepted, Repeat, frame_answer, answer_to, arrive_answer, status_of, is_new_status, requests, tick_answer}
-use Rattle.cb_history.specs.Legal.{Call, ToCast, ToTake, ToTick, cast_entry, arrive_entry, tick_entry, entry_of, and_entry, room_for_one}
+use Rattle.cb_history.specs.Legal.{Call, ToCast, ToTake, ToTick, ToHelp, cast_entry, arrive_entry, tick_entry, entry_of, and_entry, room_for_one}
 use Rattle.cb_history.proofs.Calls.{room_left}
-use Rattle.cb_schedules.specs.Schedule.{Setting, seat_at, Step, CastStep, ArriveStep, TickStep, Schedule, Asked, Calls, OfNoMember, OfNoFrame, OfNoBytes, Answer, CastAnswer, ArrivalAnswer, TickAnswer, answer_of, frames_sent, sent_by, GroupState, with_history, asked_by, after_asked, step_after, nothing_yet, run_from, run}
+use Rattle.cb_schedules.specs.Schedule.{Setting, seat_at, Step, CastStep, ArriveStep, TickStep, HelpStep, Schedule, Asked, Calls, OfNoMember, OfNoFrame, OfNoBytes, Answer, CastAnswer, ArrivalAnswer, TickAnswer, answer_of, frames_sent, sent_by, GroupState, with_history, asked_by, after_asked, step_after, nothing_yet, run_from, run}
 use Rattle.cb_schedules.specs.Headline.{EachSchedule}
 use Rattle.cb_schedules.specs.Rounds.{IsNotFull}
 use Rattle.cb_schedules.specs.Forgetting.{after_asked_of_cores, step_of_cores, cores_from, run_of_cores}
@@ -111,6 +111,7 @@ module _ (seat : Identity) (limit : ℕ) (entries : List EntryFields) where
   call_same (ToCast load) free = let same = cast_same load free in (ap CastAnswer same, ap cast_entry same)
   call_same (ToTake bytes) free = let same = arrive_same bytes free in (ap ArrivalAnswer same, ap (arrive_entry bytes) same)
   call_same ToTick free = let same = tick_same free in (ap TickAnswer same, ap (tick_entry (text_of (StatusFrame (status_of seat (facts_of entries))))) same)
+  call_same (ToHelp i) free = (refl, refl)
 
 -- ---- a step
 
@@ -141,6 +142,7 @@ module _ (setting : Setting) (s : GroupState) where
   step_alike (CastStep i load) free = asked_alike (asked_by setting s.sent (CastStep i load)) free
   step_alike (ArriveStep j number) free = asked_alike (asked_by setting s.sent (ArriveStep j number)) free
   step_alike (TickStep i) free = asked_alike (asked_by setting s.sent (TickStep i)) free
+  step_alike (HelpStep j i) free = asked_alike (asked_by setting s.sent (HelpStep j i)) free
 
 -- ---- runs
 

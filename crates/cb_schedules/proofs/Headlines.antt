@@ -17,7 +17,7 @@ use Rattle.cb_history.specs.Facts.{casts_in, messages_in}
 use Rattle.cb_history.specs.View.{view, is_among, is_expanded, expanded_in}
 use Rattle.cb_history.specs.Known.{stable_of}
 use Rattle.cb_history.specs.Answers.{delivered, own_casts, answer_to, arrive_answer}
-use Rattle.cb_history.specs.Legal.{Call, ToCast, ToTake, ToTick}
+use Rattle.cb_history.specs.Legal.{Call, ToCast, ToTake, ToTick, ToHelp}
 use Rattle.cb_history.specs.OwnFrameLaws.{IsOfTheGroup}
 use Rattle.cb_history.proofs.Views.{filter_in}
 use Rattle.cb_history.proofs.EverySender.{stable_of_me}
@@ -202,6 +202,7 @@ pub call_is_welcome : (setting : Setting) (s : GroupState) → IsConsistent sett
 unfolding arrive_answer
 call_is_welcome setting s inv i (ToCast load) lt fair = tt
 call_is_welcome setting s inv i ToTick lt fair = tt
+call_is_welcome setting s inv i (ToHelp k) lt fair = tt
 call_is_welcome setting s inv i (ToTake bytes) lt fair =
     subst (λ (r : Result FrameFields FrameFault). IsNoRefusal (answer_to (seat_at setting i) setting.limit (s.histories i) r)) (sym fair.read)
     (is_welcome setting.group (facts_at s) inv.together i lt setting.limit (s.histories i) fair.frame fair.of_group fair.so)

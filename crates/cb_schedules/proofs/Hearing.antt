@@ -1,10 +1,10 @@
 -- One call of one member in a round: what a tick sends, and the outcome of an arrival that is not refused.
-use Rattle.std.proofs.Common.{◌≡◌, ◌≢◌, ℕ, ◌<◌, ◌≤◌, Bool, true, false, not, ◌&&◌, eqb, ltb, List, [], ◌∷◌, ◌++◌, max, None, Result, Ok, Err, refl, sym, ap, subst, ◌∙◌, arith, inl, inr}
+use Rattle.std.proofs.Common.{◌≡◌, ◌≢◌, ℕ, ◌<◌, ◌≤◌, Bool, true, false, not, ◌&&◌, ◌||◌, eqb, ltb, leb, List, [], ◌∷◌, ◌++◌, max, Option, None, Result, Ok, Err, refl, sym, ap, subst, ◌∙◌, arith, inl, inr}
 use Rattle.std.specs.Prelude.{IsOk}
 use Rattle.std.specs.List.{list_any, range_with_len}
-use Rattle.std.proofs.lemmas.Bool.{cond_both, ne_eqb, eq-eqb, ltb-false}
+use Rattle.std.proofs.lemmas.Bool.{cond_both, ne_eqb, eq-eqb, eqb-true, ltb-false, leb-true, or_cases}
 use Rattle.cb_frames.specs.declared.fault.FrameFault.{FrameFault}
-use Rattle.cb_frames.specs.Fields.{CastFields, StatusFields, RequestFields, FrameFields, CastFrame, StatusFrame, RequestFrame}
+use Rattle.cb_frames.specs.Fields.{CastFields, StatusFields, RequestFields, HelpFields, FrameFields, CastFrame, StatusFrame, RequestFrame, HelpFrame}
 use Rattle.cb_frames.specs.Text.{text_of}
 use Rattle.cb_history.specs.Read.{frame_read}
 use Rattle.cb_history.specs.declared.answer.ArriveRefusal.{ArriveRefusal}
@@ -12,7 +12,9 @@ use Rattle.cb_history.specs.declared.answer.TickRefusal.{TickRefusal}
 use Rattle.cb_history.specs.declared.answer.Outgoing.{Outgoing}
 use Rattle.cb_history.specs.Group.{Identity}
 use Rattle.cb_history.specs.Facts.{EntryFields, Fact, StatusReceived, facts_of, casts_in}
-use Rattle.cb_history.specs.Known.{value_in, known, acknowledged_of}
+use Rattle.cb_history.specs.declared.answer.HelpFault.{HelpFault}
+use Rattle.cb_history.specs.Known.{value_in, known, missing, ranges_of, acknowledged_of}
+use Rattle.cb_history.specs.Helping.{help_for, help_answer}
 use Rattle.cb_history.specs.Answers.{is_full, are_members, is_impossible, is_news, sent_in_answer, ArrivalSays, answer_to, arrive_answer, status_of, is_new_status, requests, tick_answer}
 use Rattle.cb_history.specs.Legal.{ToTake, arrive_entry, and_entry, history_after}
 use Rattle.cb_history.specs.LegalFacts.{AreFactsOf}
@@ -47,6 +49,29 @@ request_is_answered seat limit entries bytes q read =
     (cond_both (not (eqb q.group seat.group.number)) _ _ Right (λ _ e. absurd cc)
     (λ _. cond_both (not (are_members seat.group.size (RequestFrame q))) _ _ Right (λ _ e. absurd cc)
     (λ _. cond_both (is_impossible seat (facts_of entries) (RequestFrame q)) _ _ Right (λ _ e. absurd cc) (λ _ _. refl))))
+
+-- what is sent at the arrival of a help frame
+pub help_is_answered : (seat : Identity) (limit : ℕ) (entries : List EntryFields) (bytes : List ℕ) (h : HelpFields) → frame_read bytes ≡ Ok (HelpFrame h) → IsNoRefusal (arrive_answer seat limit entries bytes)
+    → frames_sent (ArrivalAnswer (arrive_answer seat limit entries bytes)) ≡ sent_in_answer seat (facts_of entries) (HelpFrame h)
+unfolding arrive_answer
+help_is_answered seat limit entries bytes h read =
+    let Right : Result ArrivalSays ArriveRefusal → Type 0 = λ r. IsNoRefusal r → frames_sent (ArrivalAnswer r) ≡ sent_in_answer seat (facts_of entries) (HelpFrame h) in
+    subst (λ (r : Result FrameFields FrameFault). Right (answer_to seat limit entries r)) (sym read)
+    (cond_both (not (eqb h.group seat.group.number)) _ _ Right (λ _ e. absurd cc)
+    (λ _. cond_both (not (are_members seat.group.size (HelpFrame h))) _ _ Right (λ _ e. absurd cc)
+    (λ _. cond_both (is_impossible seat (facts_of entries) (HelpFrame h)) _ _ Right (λ _ e. absurd cc) (λ _ _. refl))))
+
+-- what is sent where help is asked for
+pub help_puts_out : (seat : Identity) (entries : List EntryFields) (i : ℕ) → i < seat.group.size → i ≢ seat.me
+    → help_answer seat entries i ≡ Ok (help_for seat (facts_of entries) i (ranges_of (missing seat (facts_of entries) i)))
+unfolding help_answer
+help_puts_out seat entries i lt ne =
+    cond_both (leb seat.group.size i || eqb i seat.me) _ _ (λ (r : Result (Option Outgoing) HelpFault). r ≡ Ok (help_for seat (facts_of entries) i (ranges_of (missing seat (facts_of entries) i))))
+    (λ bad. elim (or_cases (leb seat.group.size i) (eqb i seat.me) bad) [
+      | inl outside ↦ let le = leb-true seat.group.size i outside in absurd (omega (arith, lt, le))
+      | inr own ↦ absurd (ne (eqb-true i seat.me own))
+    ])
+    (λ _. refl)
 
 -- ---- a status
 

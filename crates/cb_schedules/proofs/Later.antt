@@ -14,13 +14,13 @@ use Rattle.cb_history.specs.Group.{Identity}
 use Rattle.cb_history.specs.Facts.{EntryFields, ArriveEntry, TickEntry, Fact, OwnCast, CastReceived, StatusReceived, OwnStatus, arrival_said, status_said, said_by, facts_of, casts_in, messages_in, cast_in, is_there}
 use Rattle.cb_history.specs.Known.{known, expanded_count, acknowledged_of}
 use Rattle.cb_history.specs.Answers.{delivered, own_casts, ArrivalSays, Accepted, Repeat, arrive_answer, tick_answer}
-use Rattle.cb_history.specs.Legal.{Call, ToCast, ToTake, ToTick, arrive_entry, tick_entry, and_entry, history_after}
+use Rattle.cb_history.specs.Legal.{Call, ToCast, ToTake, ToTick, ToHelp, arrive_entry, tick_entry, and_entry, history_after}
 use Rattle.cb_history.proofs.Lists.{flat_map-append}
 use Rattle.cb_history.proofs.Rising.{known_rises, acknowledged_of_rises}
 use Rattle.cb_history.proofs.Times.{count_grows}
 use Rattle.cb_history.proofs.Runs.{count_rises}
 use Rattle.cb_history.proofs.Arrivals.{there_stays}
-use Rattle.cb_schedules.specs.Schedule.{Setting, seat_at, Step, CastStep, ArriveStep, TickStep, Schedule, SentFrame, Asked, Calls, OfNoMember, OfNoFrame, OfNoBytes, Answer, NoSuchMember, NoSuchFrame, NoBytes, frames_sent, sent_by, answer_of, GroupState, handed_over, asked_by, and_nothing, and_answer, after_asked, step_after, run_from}
+use Rattle.cb_schedules.specs.Schedule.{Setting, seat_at, Step, CastStep, ArriveStep, TickStep, HelpStep, Schedule, SentFrame, Asked, Calls, OfNoMember, OfNoFrame, OfNoBytes, Answer, NoSuchMember, NoSuchFrame, NoBytes, frames_sent, sent_by, answer_of, GroupState, handed_over, asked_by, and_nothing, and_answer, after_asked, step_after, run_from}
 use Rattle.cb_schedules.specs.Messages.{facts_at}
 use Rattle.cb_schedules.specs.Consistent.{IsConsistent}
 use Rattle.cb_schedules.specs.RoundLaws.{IsNoCastStep}
@@ -73,6 +73,7 @@ abbrev IsNoCast : Call → Type 0
 IsNoCast (ToCast load) = ⊥
 IsNoCast (ToTake bytes) = Unit {0}
 IsNoCast ToTick = Unit {0}
+IsNoCast (ToHelp i) = Unit {0}
 
 arrival_is_no_cast : (r : Result FrameFields FrameFault) → own_casts (arrival_said r) ≡ []
 arrival_is_no_cast (Ok (CastFrame c)) = refl
@@ -112,6 +113,7 @@ call_adds : (seat : Identity) (limit : ℕ) (entries : List EntryFields) (call :
 call_adds seat limit entries (ToCast load) none = absurd none
 call_adds seat limit entries (ToTake bytes) none = arrival_adds entries bytes (arrive_answer seat limit entries bytes)
 call_adds seat limit entries ToTick none = tick_adds entries _ (tick_answer seat limit entries)
+call_adds seat limit entries (ToHelp i) none = same_facts (facts_of entries) (facts_of entries) refl
 
 call_is_later : (setting : Setting) (s : GroupState) (i : ℕ) (call : Call) (answer : Answer) → IsNoCast call → IsLater s (and_answer setting s i call answer)
 call_is_later setting s i call answer none = record {
@@ -130,6 +132,7 @@ asked_is_later : (setting : Setting) (s : GroupState) (asked : Asked) → ((i : 
 asked_is_later setting s (Calls i (ToCast load)) none = absurd (none i load refl)
 asked_is_later setting s (Calls i (ToTake bytes)) none = call_is_later setting s i (ToTake bytes) (answer_of (seat_at setting i) setting.limit (s.histories i) (ToTake bytes)) tt
 asked_is_later setting s (Calls i ToTick) none = call_is_later setting s i ToTick (answer_of (seat_at setting i) setting.limit (s.histories i) ToTick) tt
+asked_is_later setting s (Calls i (ToHelp k)) none = call_is_later setting s i (ToHelp k) (answer_of (seat_at setting i) setting.limit (s.histories i) (ToHelp k)) tt
 asked_is_later setting s OfNoMember none = nothing_is_later s OfNoMember NoSuchMember
 asked_is_later setting s OfNoFrame none = nothing_is_later s OfNoFrame NoSuchFrame
 asked_is_later setting s OfNoBytes none = nothing_is_later s OfNoBytes NoBytes
@@ -138,6 +141,8 @@ pub no_cast : (setting : Setting) (sent : List SentFrame) (step : Step) → IsNo
 no_cast setting sent (CastStep i load) none j other = absurd none
 no_cast setting sent (TickStep i) none j other =
     cond_both (ltb i setting.group.size) (Calls i ToTick) OfNoMember (λ (asked : Asked). asked ≡ Calls j (ToCast other) → ⊥) (λ _ e. cc) (λ _ e. cc)
+no_cast setting sent (HelpStep i k) none j other =
+    cond_both (ltb i setting.group.size) (Calls i (ToHelp k)) OfNoMember (λ (asked : Asked). asked ≡ Calls j (ToCast other) → ⊥) (λ _ e. cc) (λ _ e. cc)
 no_cast setting sent (ArriveStep i number) none j other =
     cond_both (ltb i setting.group.size) (handed_over i (slice_get sent number)) OfNoMember (λ (asked : Asked). asked ≡ Calls j (ToCast other) → ⊥)
     (λ _. handed (slice_get sent number)) (λ _ e. cc)

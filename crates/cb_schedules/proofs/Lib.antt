@@ -1,11 +1,14 @@
 mod Rows
 mod RoundRows
 mod ForgettingRows
+mod HelpRows
+mod HelpRoundRows
 pub mod GoingOn
 pub mod Lists
 pub mod Members
 pub mod Growing
 pub mod Stamping
+pub mod Handing
 pub mod Sending
 pub mod Calling
 pub mod Answering
@@ -15,6 +18,7 @@ pub mod Closing
 pub mod FromBytes
 pub mod Knowing
 pub mod Headlines
+pub mod Lacking
 pub mod StepByStep
 pub mod Later
 pub mod Happening
@@ -22,13 +26,22 @@ pub mod Covering
 pub mod Hearing
 pub mod Waves
 pub mod Asking
+pub mod Spreading
+pub mod HelpWaves
+pub mod Helped
+pub mod Depending
 pub mod Repairing
 pub mod Quieting
 pub mod Ending
+pub mod Holding
 pub mod RoundLaws
 pub mod Once
+pub mod HelpSteps
+pub mod Outliving
+pub mod HelpRoundLaws
 pub mod Room
 pub mod Within
 pub mod Forgetting
 pub mod Cores
 pub mod CoreRounds
+pub mod CoreHelpRounds

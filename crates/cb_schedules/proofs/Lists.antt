@@ -1,9 +1,10 @@
 -- Elements of lists, and what is so of all of them.
-use Rattle.std.proofs.Common.{◌≡◌, ℕ, zero, suc, Bool, true, List, [], ◌∷◌, ◌++◌, map, take, Some, refl, sym, ap, subst, ◌∙◌, inl, inr}
+use Rattle.std.proofs.Common.{◌≡◌, ℕ, zero, suc, Bool, true, List, [], ◌∷◌, ◌++◌, map, take, drop, Some, refl, sym, ap, subst, ◌∙◌, inl, inr}
 use Rattle.std.specs.Prelude.{slice_get}
 use Rattle.std.specs.List.{AllByRecursion, flat_map, list_any}
 use Rattle.std.proofs.lemmas.Bool.{or_cases}
 use Rattle.cb_history.proofs.Views.{IsIn, or_left, or_right}
+use Rattle.cb_history.proofs.Lists.{in_append, in_front, in_back}
 
 -- ---- all
 
@@ -49,6 +50,11 @@ in_take (suc n) [] a there = absurd there
 in_take (suc n) (x ∷ xs) a (inl same) = inl same
 in_take (suc n) (x ∷ xs) a (inr later) = inr (in_take n xs a later)
 
+pub in_drop : {A : Type 0} (n : ℕ) (xs : List A) (a : A) → IsIn a (drop n xs) → IsIn a xs
+in_drop zero xs a there = there
+in_drop (suc n) [] a there = absurd there
+in_drop (suc n) (x ∷ xs) a there = inr (in_drop n xs a there)
+
 pub in_by_index : {A : Type 0} (xs : List A) (n : ℕ) (x : A) → slice_get xs n ≡ Some x → IsIn x xs
 in_by_index [] n x e = absurd cc
 in_by_index (y ∷ xs) zero x e = inl cc
@@ -58,6 +64,18 @@ pub in_map : {A B : Type 0} (g : A → B) (xs : List A) (x : A) → IsIn x xs �
 in_map g [] x there = absurd there
 in_map g (y ∷ xs) x (inl same) = inl (ap g same)
 in_map g (y ∷ xs) x (inr later) = inr (in_map g xs x later)
+
+pub in_flat : {A B : Type 0} (g : A → List B) (xs : List A) (x : A) (b : B) → IsIn x xs → IsIn b (g x) → IsIn b (flat_map g xs)
+in_flat g [] x b there here = absurd there
+in_flat g (y ∷ xs) x b (inl same) here = in_front b (g y) (flat_map g xs) (subst (λ z. IsIn b (g z)) same here)
+in_flat g (y ∷ xs) x b (inr later) here = in_back b (g y) (flat_map g xs) (in_flat g xs x b later here)
+
+pub flat_in : {A B : Type 0} (g : A → List B) (xs : List A) (b : B) → IsIn b (flat_map g xs) → (x : A) × IsIn x xs × IsIn b (g x)
+flat_in g [] b there = absurd there
+flat_in g (x ∷ xs) b there = elim (in_append b (g x) (flat_map g xs) there) [
+  | inl here ↦ (x, inl refl, here)
+  | inr later ↦ let (found, at, has) = flat_in g xs b later in (found, inr at, has)
+]
 
 -- some element passes a test
 pub any_in : {A : Type 0} (p : A → Bool) (xs : List A) → list_any p xs ≡ true → (a : A) × IsIn a xs × (p a ≡ true)

@@ -4,7 +4,7 @@ use Rattle.std.specs.Prelude.{slice_get}
 use Rattle.std.specs.List.{filter, range_with_len}
 use Rattle.std.proofs.lemmas.Bool.{cond_both, cases_lt, cases_eq, eq-eqb, ne_eqb, lt-ltb, le-ltb}
 use Rattle.std.proofs.Math.Seq.{drop-append_seam}
-use Rattle.cb_schedules.specs.Schedule.{Setting, IsSetting, CastStep, ArriveStep, TickStep, Schedule, SentFrame, GroupState, run_from}
+use Rattle.cb_schedules.specs.Schedule.{Setting, IsSetting, CastStep, ArriveStep, TickStep, HelpStep, Schedule, SentFrame, GroupState, run_from}
 use Rattle.cb_schedules.specs.Consistent.{IsConsistent}
 use Rattle.cb_schedules.specs.Rounds.{tick_steps, receivers, arrivals_from, arrivals_since, ticked, answered, round_steps}
 use Rattle.cb_schedules.specs.RoundLaws.{ticks_of, arrivals_at, names_receiver, is_sent_to, EachTicksOnce, NothingOldArrives}
@@ -30,7 +30,7 @@ get_before (x ∷ xs) ys (suc k) less = get_before xs ys k (omega (arith, less))
 
 -- ---- how often a number stands in a list
 
-times_in : ℕ → List ℕ → ℕ
+unfoldable pub times_in : ℕ → List ℕ → ℕ
 times_in j [] = 0
 times_in j (i ∷ is) = cond (eqb i j) 1 0 + times_in j is
 
@@ -43,7 +43,7 @@ none_times p a (suc n) j low =
     cond_both (p a) (a ∷ filter p (range_with_len (a + 1) n)) (filter p (range_with_len (a + 1) n)) (λ (ks : List ℕ). times_in j ks ≡ 0) (λ _. rw other (zero_plus (times_in j (filter p (range_with_len (a + 1) n))) ∙ rest)) (λ _. rest)
 
 -- a number of a range that passes a test stands there once
-once : (p : ℕ → Bool) (a n j : ℕ) → a ≤ j → times_in j (filter p (range_with_len a n)) ≡ cond (ltb j (a + n) && p j) 1 0
+pub once : (p : ℕ → Bool) (a n j : ℕ) → a ≤ j → times_in j (filter p (range_with_len a n)) ≡ cond (ltb j (a + n) && p j) 1 0
 unfolding times_in
 once p a zero j low = let beyond : ltb j (a + 0) ≡ false = le-ltb j (a + 0) (omega (arith, low)) in rw beyond refl
 once p a (suc n) j low = elim (cases_eq a j) [
@@ -70,18 +70,19 @@ receives_once size from (Some k) j = let e : cond (eqb k j) 1 0 + 0 ≡ cond (eq
 
 -- ---- ticks
 
-ticks-append : (i : ℕ) (steps more : Schedule) → ticks_of i (steps ++ more) ≡ ticks_of i steps + ticks_of i more
+pub ticks-append : (i : ℕ) (steps more : Schedule) → ticks_of i (steps ++ more) ≡ ticks_of i steps + ticks_of i more
 ticks-append i [] more = omega arith
 ticks-append i (CastStep j load ∷ steps) more = ticks-append i steps more
 ticks-append i (ArriveStep j number ∷ steps) more = ticks-append i steps more
 ticks-append i (TickStep j ∷ steps) more = let rest = ticks-append i steps more in omega (arith, rest)
+ticks-append i (HelpStep j k ∷ steps) more = ticks-append i steps more
 
 ticks_are : (i a n : ℕ) → ticks_of i (map TickStep (range_with_len a n)) ≡ times_in i (filter (λ k. true) (range_with_len a n))
 unfolding times_in
 ticks_are i a zero = refl
 ticks_are i a (suc n) = ap (λ (k : ℕ). cond (eqb a i) 1 0 + k) (ticks_are i (a + 1) n)
 
-no_ticks_to : (i number : ℕ) (js : List ℕ) → ticks_of i (map (λ j. ArriveStep j number) js) ≡ 0
+pub no_ticks_to : (i number : ℕ) (js : List ℕ) → ticks_of i (map (λ j. ArriveStep j number) js) ≡ 0
 no_ticks_to i number [] = refl
 no_ticks_to i number (j ∷ js) = no_ticks_to i number js
 
@@ -113,6 +114,7 @@ arrivals-append j number [] more = omega arith
 arrivals-append j number (CastStep i load ∷ steps) more = arrivals-append j number steps more
 arrivals-append j number (ArriveStep i n ∷ steps) more = let rest = arrivals-append j number steps more in omega (arith, rest)
 arrivals-append j number (TickStep i ∷ steps) more = arrivals-append j number steps more
+arrivals-append j number (HelpStep i k ∷ steps) more = arrivals-append j number steps more
 
 no_arrivals : (j number : ℕ) (ks : List ℕ) → arrivals_at j number (map TickStep ks) ≡ 0
 no_arrivals j number [] = refl

@@ -17,7 +17,7 @@ use Rattle.cb_history.specs.Facts.{EntryFields, TickEntry, Fact, OwnCast, CastRe
 use Rattle.cb_history.specs.View.{view, counts}
 use Rattle.cb_history.specs.Known.{value_in, known, acknowledged_of, acknowledged_by, acknowledged, stable}
 use Rattle.cb_history.specs.Answers.{delivered, own_casts, is_full, are_members, is_impossible, is_repeat, is_news, ArrivalSays, frame_answer, answer_to, arrive_answer, status_of, last_status, says_the_time, is_new_status, tick_answer}
-use Rattle.cb_history.specs.Legal.{Call, ToCast, ToTake, ToTick, arrive_entry, tick_entry, and_entry, history_after}
+use Rattle.cb_history.specs.Legal.{Call, ToCast, ToTake, ToTick, ToHelp, arrive_entry, tick_entry, and_entry, history_after}
 use Rattle.cb_history.specs.LegalFacts.{AreFactsOf}
 use Rattle.cb_history.proofs.Views.{IsIn, all_in_range}
 use Rattle.cb_history.proofs.Lists.{all_of, carried_there, both_false, among_is}
@@ -44,7 +44,7 @@ use Rattle.cb_schedules.proofs.Courses.{IsFair, asked_is, step_goes_on}
 use Rattle.cb_schedules.proofs.Members.{own_is_there, own_sender, delivered_at_most, stands_at, inside}
 use Rattle.cb_schedules.proofs.Knowing.{value_below, stable_of_is_so, own_number}
 use Rattle.cb_schedules.proofs.Later.{IsLater, grows, no_cast, delivered_later, cast_count_later, later_joins}
-use Rattle.cb_schedules.proofs.Waves.{Waves}
+use Rattle.cb_schedules.proofs.Waves.{Waves, AllLive}
 use Rattle.cb_schedules.proofs.Asking.{status_comes}
 
 -- ---- a status that says the time
@@ -126,7 +126,7 @@ pub record IsQuiet (setting : Setting) (facts : ℕ → List Fact) : Type 0 wher
   pub reported : (j : ℕ) → j < setting.group.size → is_new_status (seat_at setting j) (facts j) ≡ false
 
 -- a round from where everything is delivered ends so
-module _ (setting : Setting) (s t : GroupState) (inv : IsConsistent setting s) (w : Waves setting s t) (all : (j i : ℕ) → j < setting.group.size → i < setting.group.size → delivered (seat_at setting j) (facts_at s j) i ≡ cast_count setting s i) where
+module _ (setting : Setting) (s t : GroupState) (inv : IsConsistent setting s) (w : Waves AllLive setting s t) (all : (j i : ℕ) → j < setting.group.size → i < setting.group.size → delivered (seat_at setting j) (facts_at s j) i ≡ cast_count setting s i) where
   s_to_end : IsLater s t
   s_to_end = later_joins s w.asking t w.to_asking (later_joins w.asking w.answered t w.to_answered w.to_end)
 
@@ -141,7 +141,7 @@ module _ (setting : Setting) (s t : GroupState) (inv : IsConsistent setting s) (
 
   then_reported : (j : ℕ) → j < setting.group.size → is_new_status (seat_at setting j) (facts_at t j) ≡ false
   then_reported j lt =
-      let k = w.ticks j lt in
+      let k = w.ticks j lt tt in
       let reported = tick_tells (seat_at setting j) setting.limit (k.now.histories j) (k.consistent.together.legal j lt) k.room in
       let next_reported : is_new_status (seat_at setting j) (facts_at k.next j) ≡ false = subst (λ (es : List EntryFields). is_new_status (seat_at setting j) (facts_of es) ≡ false) (sym k.history) reported in
       let to_end = later_joins k.next w.asking t k.after (later_joins w.asking w.answered t w.to_answered w.to_end) in
@@ -160,7 +160,7 @@ module _ (setting : Setting) (s t : GroupState) (inv : IsConsistent setting s) (
         let told = own_column_is_known (seat_at setting m) (facts_at t m) j (w.end_consistent.together.legal m lt_m) in
         subst (λ (k : ℕ). delivered (seat_at setting j) (facts_at t j) k ≤ acknowledged_of (seat_at setting m) (facts_at t m) j k) (sym own) (omega (arith, told, still_delivered m j lt_m lt_j))
     | inr other ↦
-        let comes = (status_comes setting s t inv w j m lt_j lt_m ne).1 i lt_i other in
+        let comes = (status_comes AllLive setting s t inv w j m lt_j lt_m tt tt ne).1 i lt_i other in
         omega (arith, comes, all j i lt_j lt_i, still_delivered j i lt_j lt_i, count_is i lt_i)
   ]
 
@@ -304,6 +304,7 @@ module _ (setting : Setting) (s : GroupState) (inv : IsConsistent setting s) (qu
     call_changes_nothing (ToCast load) fair none k = absurd (none load refl)
     call_changes_nothing (ToTake bytes) fair none k = same_with (history_after (seat_at setting i) setting.limit (s.histories i) (ToTake bytes)) (arrival_changes_nothing bytes fair) k
     call_changes_nothing ToTick fair none k = same_with (history_after (seat_at setting i) setting.limit (s.histories i) ToTick) tick_changes_nothing k
+    call_changes_nothing (ToHelp l) fair none k = same_with (s.histories i) refl k
 
   step_changes_nothing : (step : Step) → IsNoCastStep step → (k : ℕ) → (step_after setting s step).histories k ≡ s.histories k
   unfolding step_after

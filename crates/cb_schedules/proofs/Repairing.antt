@@ -8,7 +8,7 @@ use Rattle.cb_history.specs.Facts.{casts_in, is_there}
 use Rattle.cb_history.specs.Known.{known}
 use Rattle.cb_history.specs.View.{view}
 use Rattle.cb_history.specs.Answers.{delivered, own_casts}
-use Rattle.cb_history.proofs.Runs.{run_at_most, expanded_are_there, delivered_is_expanded}
+use Rattle.cb_history.proofs.Runs.{expanded_are_there, delivered_is_expanded}
 use Rattle.cb_history.proofs.Times.{seen_is_there}
 use Rattle.cb_schedules.specs.Schedule.{Setting, IsSetting, seat_at, GroupState, run_from}
 use Rattle.cb_schedules.specs.Messages.{facts_at, HasDelivered}
@@ -22,12 +22,12 @@ use Rattle.cb_schedules.proofs.Lists.{all_both}
 use Rattle.cb_schedules.proofs.Members.{delivered_at_most, stands_at}
 use Rattle.cb_schedules.proofs.Moments.{has_there, own_cast_of, is_made, seen_has}
 use Rattle.cb_schedules.proofs.Closing.{IsClosed, seen_number, closed_is_seen}
-use Rattle.cb_schedules.proofs.Knowing.{near_is_so, heard_is_so}
+use Rattle.cb_schedules.proofs.Knowing.{heard_is_so}
 use Rattle.cb_schedules.proofs.Headlines.{member_has, cast_stands, numbered}
-use Rattle.cb_schedules.proofs.Later.{IsLater, run_is_later, cast_count_later}
+use Rattle.cb_schedules.proofs.Later.{IsLater, later_itself, run_is_later, cast_count_later}
 use Rattle.cb_schedules.proofs.Happening.{FindNoneFullFrom, ticks_cast_nothing, arrivals_cast_nothing}
-use Rattle.cb_schedules.proofs.Waves.{Waves, waves_of, none_full_splits}
-use Rattle.cb_schedules.proofs.Asking.{status_comes, cast_comes}
+use Rattle.cb_schedules.proofs.Waves.{Waves, AllLive, waves_of, none_full_splits}
+use Rattle.cb_schedules.proofs.Spreading.{AreRounds, heard_behind, all_brought}
 
 -- ---- rounds
 
@@ -67,48 +67,47 @@ module _ (setting : Setting) (is : IsSetting setting) (s : GroupState) (inv : Is
   consistent_behind n = consistent_from setting is s inv (steps_of_rounds setting n s)
 
   -- the last of so many rounds
-  pub last_round : (n : ℕ) → FindNoneFullFrom setting s (steps_of_rounds setting (suc n) s) → Waves setting (behind n) (behind (suc n))
+  pub last_round : (n : ℕ) → FindNoneFullFrom setting s (steps_of_rounds setting (suc n) s) → Waves AllLive setting (behind n) (behind (suc n))
   last_round n none =
-      subst (Waves setting (behind n)) (sym (next_round setting n s))
+      subst (Waves AllLive setting (behind n)) (sym (next_round setting n s))
       (waves_of setting is (behind n) (consistent_behind n) (none_full_before setting n s none).1)
 
+  -- so with the first ones
+  none_full_first : (n k : ℕ) → k ≤ n → FindNoneFullFrom setting s (steps_of_rounds setting n s) → FindNoneFullFrom setting s (steps_of_rounds setting k s)
+  none_full_first zero k le none = let e : 0 ≡ k = omega (arith, le) in subst (λ (m : ℕ). FindNoneFullFrom setting s (steps_of_rounds setting m s)) e none
+  none_full_first (suc n) k le none = elim (cases_lt n k) [
+    | inl last ↦ let e : suc n ≡ k = omega (arith, le, last) in subst (λ (m : ℕ). FindNoneFullFrom setting s (steps_of_rounds setting m s)) e none
+    | inr before ↦ none_full_first n k before (none_full_before setting n s none).0
+  ]
+
+  rounds_are : (n : ℕ) → FindNoneFullFrom setting s (steps_of_rounds setting n s) → AreRounds AllLive setting behind n
+  rounds_are n none = record {
+    consistent = consistent_behind;
+    later = λ k. subst (IsLater (behind k)) (sym (next_round setting k s)) (run_is_later setting (behind k) (round_steps setting (behind k)) (round_casts_nothing setting (behind k)));
+    round = λ k lt. record {
+      supplied = behind (suc k);
+      waves = last_round k (none_full_first n (suc k) (omega (arith, lt)) none);
+      to_end = later_itself (behind (suc k));
+    };
+  }
+
   -- as many casts as before
-  pub same_count : (n i : ℕ) → i < setting.group.size → cast_count setting (behind n) i ≡ cast_count setting s i
-  same_count n i lt = cast_count_later setting s (behind n) inv (consistent_behind n) (rounds_are_later setting n s) i lt
+  pub same_count_behind : (n i : ℕ) → i < setting.group.size → cast_count setting (behind n) i ≡ cast_count setting s i
+  same_count_behind n i lt = cast_count_later setting s (behind n) inv (consistent_behind n) (rounds_are_later setting n s) i lt
 
   -- everybody has heard of every cast
-  pub heard_behind : (n : ℕ) → FindNoneFullFrom setting s (steps_of_rounds setting (suc n) s) → EverybodyHasHeard setting (behind (suc n))
-  heard_behind n none j i lt_j lt_i ne =
-      let comes = status_comes setting (behind n) (behind (suc n)) (consistent_behind n) (last_round n none) i j lt_i lt_j ne in
+  pub everybody_heard_behind : (n : ℕ) → FindNoneFullFrom setting s (steps_of_rounds setting (suc n) s) → EverybodyHasHeard setting (behind (suc n))
+  everybody_heard_behind n none j i lt_j lt_i ne =
+      let heard = heard_behind AllLive setting behind (suc n) (rounds_are (suc n) none) n j i (omega arith) lt_j lt_i tt tt ne in
       let most = heard_is_so setting.group (facts_at (behind (suc n))) (consistent_behind (suc n)).together j i lt_j lt_i in
-      omega (arith, comes.0, most, same_count n i lt_i, same_count (suc n) i lt_i)
+      omega (arith, heard, most, same_count_behind 0 i lt_i, same_count_behind (suc n) i lt_i)
 
-  -- what is expanded behind one round more, where everybody has heard of every cast
-  pub round_expands : (n m j i : ℕ) → EverybodyHasHeard setting (behind n) → FindNoneFullFrom setting s (steps_of_rounds setting (suc n) s) → j < setting.group.size → i < setting.group.size → j ≢ i
-      → m ≤ cast_count setting (behind n) i → m ≤ expanded_at (behind n) j i + MOST_FRAMES → m ≤ expanded_at (behind (suc n)) j i
-  round_expands n m j i heard none lt_j lt_i ne cast near =
-      let known_all = heard j i lt_j lt_i ne in
-      run_at_most (casts_in (facts_at (behind (suc n)) j)) i m (λ k low high.
-      cast_comes setting (behind n) (behind (suc n)) (consistent_behind n) (last_round n none) i j k lt_i lt_j ne low (omega (arith, high, cast)) (omega (arith, known_all)) (omega (arith, high, near)))
-
-  -- the first casts, up to as many below all of them as the window is wider than so many answers, are expanded
-  pub expanded_behind : (n m j i : ℕ) → FindNoneFullFrom setting s (steps_of_rounds setting (suc n) s) → j < setting.group.size → i < setting.group.size → j ≢ i
-      → m ≤ cast_count setting s i → m + setting.group.window ≤ cast_count setting s i + n * MOST_FRAMES → m ≤ expanded_at (behind (suc n)) j i
-  expanded_behind zero m j i none lt_j lt_i ne cast near =
-      let h = (consistent_behind 1).together in
-      let close = near_is_so setting.group (facts_at (behind 1)) h i j lt_i lt_j in
-      let low = (delivered_is_expanded (seat_at setting j) (facts_at (behind 1) j) (h.legal j lt_j)).0 i in
-      omega (arith, near, close, low, same_count 1 i lt_i)
-  expanded_behind (suc n) m j i none lt_j lt_i ne cast near =
-      let before = (none_full_before setting (suc n) s none).0 in
-      let same = same_count (suc n) i lt_i in
-      let begun : m ≤ expanded_at (behind (suc n)) j i + MOST_FRAMES = elim (cases_lt m MOST_FRAMES) [
-        | inl few ↦ omega (arith, few)
-        | inr many ↦
-            let rest = expanded_behind n (m - MOST_FRAMES) j i before lt_j lt_i ne (omega (arith, cast)) (omega (arith, near, many)) in
-            omega (arith, rest, many)
-      ] in
-      round_expands (suc n) m j i (heard_behind n before) none lt_j lt_i ne (omega (arith, cast, same)) begun
+  -- and all casts are expanded
+  pub everything_is_expanded : (n j i : ℕ) → setting.group.window ≤ n * MOST_FRAMES → FindNoneFullFrom setting s (steps_of_rounds setting (suc n) s) → j < setting.group.size → i < setting.group.size → j ≢ i
+      → cast_count setting s i ≤ expanded_at (behind (suc n)) j i
+  everything_is_expanded n j i wide none lt_j lt_i ne =
+      let all = all_brought AllLive setting behind n (rounds_are (suc n) none) wide j i lt_j lt_i tt tt ne in
+      omega (arith, all, same_count_behind 0 i lt_i)
 
 -- ---- where everything has arrived
 
@@ -120,7 +119,7 @@ pub all_behind : (setting : Setting) (is : IsSetting setting) (s : GroupState) (
     → FindNoneFullFrom setting s (steps_of_rounds setting (suc n) s) → HasAll setting (after_rounds setting (suc n) s)
 all_behind setting is s inv n wide none j i m lt_j lt_i low high =
     let now = after_rounds setting (suc n) s in
-    let same = same_count setting is s inv (suc n) i lt_i in
+    let same = same_count_behind setting is s inv (suc n) i lt_i in
     elim (cases_eq j i) [
       | inl own ↦
           let h = (consistent_behind setting is s inv (suc n)).together in
@@ -128,7 +127,7 @@ all_behind setting is s inv n wide none j i m lt_j lt_i low high =
           seen_is_there (seat_at setting i) (casts_in (facts_at now i)) (view setting.group.size (facts_at now i)) (own_casts (facts_at now i)) i m (stands_at setting.group (facts_at now) h i lt_i) low high in
           subst (λ (k : ℕ). is_there (casts_in (facts_at now k)) i m ≡ true) (sym own) here
       | inr other ↦
-          let most = expanded_behind setting is s inv n (cast_count setting s i) j i none lt_j lt_i other (omega arith) (omega (arith, wide)) in
+          let most = everything_is_expanded setting is s inv n j i wide none lt_j lt_i other in
           expanded_are_there (casts_in (facts_at now j)) i m low (omega (arith, most, high, same))
     ]
 

@@ -12,7 +12,7 @@ use Rattle.cb_history.specs.CastFault.{CastFault}
 use Rattle.cb_history.specs.Group.{Identity}
 use Rattle.cb_history.specs.Facts.{EntryFields, facts_of}
 use Rattle.cb_history.specs.Answers.{is_full, is_too_many, cast_answer, group_of, are_members, is_impossible, is_repeat, is_overlap, is_too_far, is_change, ArrivalSays, frame_answer, answer_to, arrive_answer, is_new_status, tick_answer}
-use Rattle.cb_history.specs.Legal.{Call, ToCast, ToTake, ToTick, entry_of, and_entry, history_after}
+use Rattle.cb_history.specs.Legal.{Call, ToCast, ToTake, ToTick, ToHelp, entry_of, and_entry, history_after}
 use Rattle.cb_schedules.specs.Schedule.{Setting, seat_at, Step, Schedule, Asked, Calls, OfNoMember, OfNoFrame, OfNoBytes, CastAnswer, ArrivalAnswer, TickAnswer, answer_of, GroupState, asked_by, after_asked, step_after}
 use Rattle.cb_schedules.specs.Rounds.{IsNotFull}
 use Rattle.cb_schedules.specs.RoundLaws.{RoomForEachStepIsEnough}
@@ -64,6 +64,7 @@ module _ (seat : Identity) (limit : ℕ) (entries : List EntryFields) (room : le
   call_not_full (ToCast load) = cast_not_full load
   call_not_full (ToTake bytes) = arrival_not_full bytes
   call_not_full ToTick = tick_not_full
+  call_not_full (ToHelp i) = tt
 
 one_more : (entries : List EntryFields) (o : Option EntryFields) → length (and_entry entries o) ≤ length entries + 1
 one_more entries None = omega arith

@@ -18,9 +18,9 @@ use Rattle.cb_schedules.proofs.Courses.{runs_are_consistent}
 use Rattle.cb_schedules.proofs.Headlines.{each_schedule, headline_holds}
 use Rattle.cb_schedules.proofs.Later.{own_casts_later}
 use Rattle.cb_schedules.proofs.Happening.{FindNoneFullFrom, none_full_from}
-use Rattle.cb_schedules.proofs.Waves.{waves_of}
+use Rattle.cb_schedules.proofs.Waves.{AllLive, waves_of}
 use Rattle.cb_schedules.proofs.Asking.{cast_comes}
-use Rattle.cb_schedules.proofs.Repairing.{rounds_cast_nothing, next_round, rounds_are_later, consistent_behind, last_round, none_full_before, heard_behind, HasAll, all_behind, has_everything, has_the_same, none_missing, all_delivered, arrived_is_delivered}
+use Rattle.cb_schedules.proofs.Repairing.{rounds_cast_nothing, next_round, rounds_are_later, consistent_behind, last_round, none_full_before, everybody_heard_behind, HasAll, all_behind, has_everything, has_the_same, none_missing, all_delivered, arrived_is_delivered}
 use Rattle.cb_schedules.proofs.Quieting.{IsQuiet, round_makes_quiet, everything_is_stable, everybody_knows_what_is_stable, quiet_stays}
 use Rattle.cb_schedules.proofs.Ending.{round_ends_there}
 use Rattle.cb_schedules.proofs.Once.{arrives_once}
@@ -56,7 +56,7 @@ behind_rounds rounds P holds setting steps is none =
 pub everybody_hears : BehindRounds one_round EverybodyHasHeard
 everybody_hears setting steps is none =
     let s = run setting steps in
-    heard_behind setting is s (runs_are_consistent setting steps is) 0 (none_full_from setting s (steps_of_rounds setting 1 s) none)
+    everybody_heard_behind setting is s (runs_are_consistent setting steps is) 0 (none_full_from setting s (steps_of_rounds setting 1 s) none)
 
 pub rounds_expand : RoundsExpand
 rounds_expand setting steps j i is heard none lt_j lt_i ne =
@@ -67,7 +67,7 @@ rounds_expand setting steps j i is heard none lt_j lt_i ne =
     let known_all = heard j i lt_j lt_i ne in
     let most = min (delivered (seat_at setting i) (facts_at s i) i) (expanded_count (casts_in (facts_at s j)) i + MOST_FRAMES) in
     run_at_most (casts_in (facts_at t j)) i most (λ k low high.
-    cast_comes setting s t inv w i j k lt_i lt_j ne low (omega (arith, high)) (omega (arith, known_all)) (omega (arith, high)))
+    cast_comes AllLive setting s t inv w i j k lt_i lt_j tt tt ne low (omega (arith, high)) (omega (arith, high, known_all)) (omega (arith, high)))
 
 -- ---- enough rounds
 

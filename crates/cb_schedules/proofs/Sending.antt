@@ -1,13 +1,13 @@
 -- What a member sends is a frame of the group that says what is so.
-use Rattle.std.proofs.Common.{◌≡◌, ◌≢◌, ℕ, ◌<◌, ◌≤◌, false, not, eqb, ltb, List, [], ◌∷◌, length, take, Some, Result, Ok, Err, refl, sym, ap, subst, arith, inl, inr}
+use Rattle.std.proofs.Common.{◌≡◌, ◌≢◌, ℕ, ◌<◌, ◌≤◌, false, not, ◌&&◌, eqb, ltb, List, [], ◌∷◌, length, take, Option, Some, None, Result, Ok, Err, refl, sym, ap, subst, arith, inl, inr}
 use Rattle.std.specs.List.{AllByRecursion, flat_map, filter, range_with_len}
-use Rattle.std.proofs.lemmas.Bool.{cond_both, eqb-false}
+use Rattle.std.proofs.lemmas.Bool.{cond_both, eqb-false, and_from, lt-ltb}
 use Rattle.cb_varint.specs.Reading.{spelling}
 use Rattle.cb_frames.specs.declared.frame.TheConstants.{MOST_RANGES, MOST_FRAMES}
 use Rattle.cb_frames.specs.declared.frame.Range.{Range}
 use Rattle.cb_frames.specs.declared.fault.FrameFault.{FrameFault}
-use Rattle.cb_frames.specs.Fields.{Load, payloads_of, load_bytes, CastFields, RequestFields, FrameFields, CastFrame, StatusFrame, RequestFrame, HelpFrame, last_number}
-use Rattle.cb_frames.specs.Text.{text_of, request_kind, request_numbers}
+use Rattle.cb_frames.specs.Fields.{Load, payloads_of, load_bytes, CastFields, RequestFields, HelpFields, FrameFields, CastFrame, StatusFrame, RequestFrame, HelpFrame, last_number}
+use Rattle.cb_frames.specs.Text.{text_of, request_kind, request_numbers, help_kind, help_numbers}
 use Rattle.cb_history.specs.Load.{FitsFrame}
 use Rattle.cb_history.specs.Read.{frame_read}
 use Rattle.cb_frames.specs.Laws.{IsBytes, CanBeWritten}
@@ -15,8 +15,9 @@ use Rattle.cb_frames.proofs.Decoding.{reading_is_exact, text_is_read}
 use Rattle.cb_frames.proofs.Unique.{one_text, some_text}
 use Rattle.cb_history.specs.declared.answer.Outgoing.{Outgoing}
 use Rattle.cb_history.specs.Group.{Parameters, IsIdentity}
-use Rattle.cb_history.specs.Facts.{Fact}
+use Rattle.cb_history.specs.Facts.{Fact, casts_in}
 use Rattle.cb_history.specs.Known.{missing, ranges_of, stable}
+use Rattle.cb_history.specs.Helping.{handed_on, helper_for, help_to, help_for}
 use Rattle.cb_history.specs.Answers.{is_too_many, delivered, next_cast, status_of, own_casts, window, is_asked_for, sent_in_answer, request_to, requests}
 use Rattle.cb_history.specs.LegalFacts.{AreFactsOf}
 use Rattle.cb_history.specs.BufferLaws.{IsCastOf}
@@ -27,10 +28,12 @@ use Rattle.cb_history.proofs.Written.{each_from, fitting_can}
 use Rattle.cb_history.proofs.Requests.{own_frames_have_texts}
 use Rattle.cb_history.proofs.OwnFrames.{own_casts_are_of_the_group, own_statuses_are_of_the_group, own_requests_are_of_the_group}
 use Rattle.cb_history.proofs.Replays.{one_more_byte, numbers_are_bytes, cast_is_bytes, status_is_bytes}
-use Rattle.cb_schedules.specs.Schedule.{SentFrame}
+use Rattle.cb_schedules.specs.Schedule.{SentFrame, HelpAnswer, frames_sent}
 use Rattle.cb_schedules.specs.Messages.{cast_read}
 use Rattle.cb_schedules.specs.Honest.{member_of, IsHonest}
 use Rattle.cb_schedules.proofs.Lists.{all_flat, all_map, in_take}
+use Rattle.cb_schedules.proofs.Members.{own_is_there}
+use Rattle.cb_schedules.proofs.Handing.{handed_on_is_there, helper_is_third}
 use Rattle.cb_history.proofs.Agreement.{all_at}
 use Rattle.cb_history.proofs.Keeping.{range_in}
 
@@ -108,17 +111,74 @@ module _ (group : Parameters) (facts : ℕ → List Fact) (i : ℕ) (are : AreFa
       let lt = range_in 0 group.size k parts.1 in
       request_goes_out k (ranges_of (missing (member_of group i) (facts i) k)) (omega (arith, lt)) (eqb-false k i (not_true (eqb k i) parts.0)) refl)
 
-  -- own casts that are sent again, where each own cast is honest
-  pub resent_are_honest : ((c : CastFields) → IsIn c (own_casts (facts i)) → IsHonest group facts (text_of (CastFrame c))) → (frame : FrameFields) → AllByRecursion GoesOut (sent_in_answer (member_of group i) (facts i) frame)
+  -- a help frame: its ranges are those of a request
+  pub help_can : (k helper : ℕ) (r : Range) (ranges : List Range) → k < group.size → helper < group.size → ranges_of (missing (member_of group i) (facts i) k) ≡ r ∷ ranges
+      → CanBeWritten (HelpFrame (record { group = group.number; requester = i; helper = helper; sender = k; ranges = take MOST_RANGES (r ∷ ranges) }))
+  help_can k helper r ranges lt inside is =
+      let request = (own_frames_have_texts (member_of group i) (facts i) are).2 k r ranges lt is in
+      let few = are.group.size.at_most_sixty_four in (
+        record {
+          requester = request.0.requester;
+          helper = omega (arith, inside, few);
+          sender = request.0.asked;
+          some = request.0.some;
+          few = request.0.few;
+          ranges = request.0.ranges;
+        },
+        omega arith,
+        (request.2.0, (request.2.1.0, (omega (arith, inside, few), (request.2.1.1.0, request.2.1.1.1)))),
+      )
+
+  help_is_honest : (k helper : ℕ) (r : Range) (ranges : List Range) → k < group.size → k ≢ i → (helper < group.size) × (helper ≢ k) × (helper ≢ i) → ranges_of (missing (member_of group i) (facts i) k) ≡ r ∷ ranges
+      → IsHonest group facts (text_of (HelpFrame (record { group = group.number; requester = i; helper = helper; sender = k; ranges = take MOST_RANGES (r ∷ ranges) })))
+  unfolding text_of
+  help_is_honest k helper r ranges lt ne third is =
+      let fields : HelpFields = record { group = group.number; requester = i; helper = helper; sender = k; ranges = take MOST_RANGES (r ∷ ranges) } in
+      let inside = third.0 in
+      let can = help_can k helper r ranges lt inside is in
+      let bytes : IsBytes (text_of (HelpFrame (record { group = group.number; requester = i; helper = helper; sender = k; ranges = take MOST_RANGES (r ∷ ranges) }))) =
+      one_more_byte help_kind (flat_map spelling (help_numbers fields)) (omega arith) (numbers_are_bytes (help_numbers fields) can.2) in
+      record {
+        are_bytes = bytes;
+        frame = HelpFrame fields;
+        read = text_is_read (text_of (HelpFrame fields)) (HelpFrame fields) bytes ((some_text (HelpFrame fields)).1 can);
+        of_group = record {
+          number = refl;
+          members = and_from (ltb i group.size && ltb helper group.size) (ltb k group.size)
+              (and_from (ltb i group.size) (ltb helper group.size) (lt-ltb i group.size are.member) (lt-ltb helper group.size inside)) (lt-ltb k group.size lt);
+        };
+        so = (λ e. third.2 (sym e), λ e. ne (sym e), third.1);
+      }
+
+  -- all that is sent where help is asked for
+  pub asking_is_honest : (k : ℕ) → k < group.size → k ≢ i → AllByRecursion GoesOut (frames_sent (HelpAnswer (Ok (help_for (member_of group i) (facts i) k (ranges_of (missing (member_of group i) (facts i) k))))))
+  asking_is_honest k lt ne = by_ranges (ranges_of (missing (member_of group i) (facts i) k)) refl
+    where
+      by_helper : (r : Range) (ranges : List Range) → ranges_of (missing (member_of group i) (facts i) k) ≡ r ∷ ranges → (found : Option ℕ) → helper_for (member_of group i) (facts i) k r.first ≡ found
+          → AllByRecursion GoesOut (frames_sent (HelpAnswer (Ok (help_to (member_of group i) k (r ∷ ranges) found))))
+      by_helper r ranges is None found = tt
+      by_helper r ranges is (Some helper) found = (help_is_honest k helper r ranges lt ne (helper_is_third (member_of group i) (facts i) k r.first helper found) is, tt)
+
+      by_ranges : (ranges : List Range) → ranges_of (missing (member_of group i) (facts i) k) ≡ ranges → AllByRecursion GoesOut (frames_sent (HelpAnswer (Ok (help_for (member_of group i) (facts i) k ranges))))
+      by_ranges [] is = tt
+      by_ranges (r ∷ ranges) is = by_helper r ranges is (helper_for (member_of group i) (facts i) k r.first) refl
+
+  -- casts that are sent again, own ones and those of others, where each cast that is there is honest
+  pub resent_are_honest : ((c : CastFields) → IsIn c (casts_in (facts i)) → IsHonest group facts (text_of (CastFrame c))) → (frame : FrameFields) → AllByRecursion GoesOut (sent_in_answer (member_of group i) (facts i) frame)
   resent_are_honest each (CastFrame c) = tt
   resent_are_honest each (StatusFrame s) = tt
   resent_are_honest each (RequestFrame r) =
       cond_both (eqb r.asked i) _ _ (AllByRecursion GoesOut)
       (λ _. all_map GoesOut (λ c. record { to = Some r.requester; bytes = text_of (CastFrame c) }) (take MOST_FRAMES (filter (is_asked_for r.ranges) (window (member_of group i) (facts i)))) (λ c there.
       let asked = filter_in (is_asked_for r.ranges) (window (member_of group i) (facts i)) c (in_take MOST_FRAMES (filter (is_asked_for r.ranges) (window (member_of group i) (facts i))) c there) in
-      each c (filter_in (λ c. ltb (stable (member_of group i) (facts i)) (last_number c)) (own_casts (facts i)) c asked.1).1))
+      each c (own_is_there (facts i) c (filter_in (λ c. ltb (stable (member_of group i) (facts i)) (last_number c)) (own_casts (facts i)) c asked.1).1)))
       (λ _. tt)
-  resent_are_honest each (HelpFrame h) = tt
+  resent_are_honest each (HelpFrame h) =
+      cond_both (eqb h.helper i) _ _ (AllByRecursion GoesOut)
+      (λ _. all_map GoesOut (λ c. record { to = Some h.requester; bytes = text_of (CastFrame c) }) (take MOST_FRAMES (filter (is_asked_for h.ranges) (handed_on (member_of group i) (facts i) h.sender))) (λ c there.
+      let asked = filter_in (is_asked_for h.ranges) (handed_on (member_of group i) (facts i) h.sender) c (in_take MOST_FRAMES (filter (is_asked_for h.ranges) (handed_on (member_of group i) (facts i) h.sender)) c there) in
+      each c (handed_on_is_there (member_of group i) (facts i) h.sender c asked.1)))
+      (λ _. tt)
 
 -- ---- frames that were sent
 

@@ -9,6 +9,9 @@ pub mod Headline
 pub mod StepLaws
 pub mod Rounds
 pub mod RoundLaws
+pub mod HelpLaws
+pub mod HelpRounds
+pub mod HelpRoundLaws
 pub mod Forgetting
 pub mod ForgettingLaws
 pub mod ForgettingRounds

@@ -7,7 +7,7 @@ use Rattle.cb_frames.specs.declared.frame.TheConstants.{MOST_FRAMES}
 use Rattle.cb_history.specs.Facts.{casts_in}
 use Rattle.cb_history.specs.Known.{known, expanded_count, missing, stable_of, stable}
 use Rattle.cb_history.specs.Answers.{delivered, own_casts, window}
-use Rattle.cb_schedules.specs.Schedule.{Setting, IsSetting, seat_at, Step, CastStep, ArriveStep, TickStep, Schedule, SentFrame, GroupState, run_from, run}
+use Rattle.cb_schedules.specs.Schedule.{Setting, IsSetting, seat_at, Step, CastStep, ArriveStep, TickStep, HelpStep, Schedule, SentFrame, GroupState, run_from, run}
 use Rattle.cb_schedules.specs.Messages.{facts_at, has_arrived, WasCast, HasDelivered}
 use Rattle.cb_schedules.specs.Rounds.{answered, round_steps, after_round, steps_of_rounds, after_rounds, FindNoneFull}
 
@@ -19,6 +19,7 @@ ticks_of i [] = 0
 ticks_of i (CastStep j load ∷ steps) = ticks_of i steps
 ticks_of i (ArriveStep j number ∷ steps) = ticks_of i steps
 ticks_of i (TickStep j ∷ steps) = (if j == i then 1 else 0) + ticks_of i steps
+ticks_of i (HelpStep j k ∷ steps) = ticks_of i steps
 
 -- how many are arrivals of the frame with this number at member j
 abbrev pub arrivals_at : ℕ → ℕ → Schedule → ℕ
@@ -26,6 +27,7 @@ arrivals_at j number [] = 0
 arrivals_at j number (CastStep i load ∷ steps) = arrivals_at j number steps
 arrivals_at j number (ArriveStep i n ∷ steps) = (if i == j && n == number then 1 else 0) + arrivals_at j number steps
 arrivals_at j number (TickStep i ∷ steps) = arrivals_at j number steps
+arrivals_at j number (HelpStep i k ∷ steps) = arrivals_at j number steps
 
 -- whether a frame was sent to member j: it names j, or nobody and j is another member than its sender
 abbrev pub names_receiver : ℕ → ℕ → Option ℕ → ℕ → Bool
@@ -163,13 +165,14 @@ abbrev pub EverybodyKnowsWhatIsStable : Setting → GroupState → Type 0
 EverybodyKnowsWhatIsStable setting s =
     (j i : ℕ) → j < setting.group.size → i < setting.group.size → stable_of (seat_at setting j) (facts_at s j) i ≡ cast_count setting s i
 
--- a step that is a tick or an arrival
+-- a step that is a tick, an arrival, or asks for help
 abbrev pub IsNoCastStep : Step → Type 0
 IsNoCastStep (CastStep i load) = ⊥
 IsNoCastStep (ArriveStep j number) = Unit {0}
 IsNoCastStep (TickStep i) = Unit {0}
+IsNoCastStep (HelpStep j i) = Unit {0}
 
--- whatever ticks and whatever arrives from now on, of all frames that were ever sent, no history changes
+-- whatever ticks, asks for help and arrives from now on, of all frames that were ever sent, no history changes
 abbrev pub NothingChangesAnyMore : Setting → GroupState → Type 0
 NothingChangesAnyMore setting s =
     (steps : Schedule) (k : ℕ) → AllByRecursion IsNoCastStep steps

@@ -6,11 +6,13 @@ use Rattle.cb_frames.specs.Text.{text_of}
 use Rattle.cb_history.specs.declared.answer.ArriveRefusal.{ArriveRefusal}
 use Rattle.cb_history.specs.declared.answer.TickRefusal.{TickRefusal}
 use Rattle.cb_history.specs.declared.answer.Outgoing.{Outgoing}
+use Rattle.cb_history.specs.declared.answer.HelpFault.{HelpFault}
 use Rattle.cb_history.specs.CastFault.{CastFault}
 use Rattle.cb_history.specs.Group.{Parameters, AreParameters, Identity}
 use Rattle.cb_history.specs.Facts.{EntryFields}
+use Rattle.cb_history.specs.Helping.{help_answer}
 use Rattle.cb_history.specs.Answers.{cast_answer, arrive_answer, tick_answer, ArrivalSays, Accepted}
-use Rattle.cb_history.specs.Legal.{longest_history, Call, ToCast, ToTake, ToTick, history_after}
+use Rattle.cb_history.specs.Legal.{longest_history, Call, ToCast, ToTake, ToTick, ToHelp, history_after}
 
 -- a group, and how many entries the history of each member may have
 pub record Setting : Type 0 where
@@ -33,11 +35,13 @@ seat_at setting i = record { group = setting.group; me = i }
 
 -- ---- schedules
 
--- one thing that happens: a member casts a load, a frame that was sent arrives at a member, or a member ticks
+-- one thing that happens: a member casts a load, a frame that was sent arrives at a member, a member ticks, or a member asks a third one
+-- for what it lacks of a sender
 pub data Step : Type 0 where
   CastStep : ℕ → Load → Step
   ArriveStep : ℕ → ℕ → Step
   TickStep : ℕ → Step
+  HelpStep : ℕ → ℕ → Step
 
 -- what happens, one thing after another; whatever is lost, comes again or comes late is so by the schedule's choice
 abbrev pub Schedule : Type 0
@@ -73,6 +77,7 @@ abbrev pub asked_by : Setting → List SentFrame → Step → Asked
 asked_by setting sent (CastStep i load) = of_member setting i (if are_bytes (load_bytes load) then Calls i (ToCast load) else OfNoBytes)
 asked_by setting sent (ArriveStep j number) = of_member setting j (handed_over j (slice_get sent number))
 asked_by setting sent (TickStep i) = of_member setting i (Calls i ToTick)
+asked_by setting sent (HelpStep j i) = of_member setting j (Calls j (ToHelp i))
 
 -- ---- answers
 
@@ -81,6 +86,7 @@ pub data Answer : Type 0 where
   CastAnswer : Result CastFields CastFault → Answer
   ArrivalAnswer : Result ArrivalSays ArriveRefusal → Answer
   TickAnswer : Result (Bool × List Outgoing) TickRefusal → Answer
+  HelpAnswer : Result (Option Outgoing) HelpFault → Answer
   NoSuchMember : Answer
   NoSuchFrame : Answer
   NoBytes : Answer
@@ -89,12 +95,14 @@ abbrev pub answer_of : Identity → ℕ → List EntryFields → Call → Answer
 answer_of seat limit entries (ToCast load) = CastAnswer (cast_answer seat limit entries load)
 answer_of seat limit entries (ToTake bytes) = ArrivalAnswer (arrive_answer seat limit entries bytes)
 answer_of seat limit entries ToTick = TickAnswer (tick_answer seat limit entries)
+answer_of seat limit entries (ToHelp i) = HelpAnswer (help_answer seat entries i)
 
--- the frames that an answer sends: a cast's to all others, those in answer to a request, a status and requests
+-- the frames that an answer sends: a cast's to all others, those in answer to a request or a help frame, a status and requests, a help frame
 abbrev pub frames_sent : Answer → List Outgoing
 frames_sent (CastAnswer (Ok c)) = record { to = None; bytes = text_of (CastFrame c) } ∷ []
 frames_sent (ArrivalAnswer (Ok (Accepted deliveries changed out))) = out
 frames_sent (TickAnswer (Ok t)) = t.1
+frames_sent (HelpAnswer (Ok (Some out))) = out ∷ []
 frames_sent other = []
 
 abbrev pub sent_by : ℕ → Outgoing → SentFrame

@@ -3,6 +3,7 @@
 mod forgetting;
 mod frames;
 mod headline;
+mod help;
 mod invariant;
 mod knowledge;
 mod rounds;
@@ -14,6 +15,11 @@ pub use forgetting::{
 };
 pub use frames::sent_frames_say_what_is_so;
 pub use headline::causal_broadcast_over_lossy_links;
+pub use help::{
+    a_silent_sender_is_not_needed, cores_need_no_silent_sender,
+    nothing_that_cores_lack_is_forgotten, nothing_that_is_lacked_is_forgotten,
+    rounds_without_a_silent_member_are_steps_of_the_others,
+};
 pub use invariant::{
     each_step_goes_on_at_the_ends, histories_stay_within_their_limit, runs_are_consistent,
     steps_extend_the_machines,

@@ -64,7 +64,7 @@ pub fn one_round_more_makes_everything_stable()
     ensures known { BehindRounds rounds_to_be_stable EverybodyKnowsWhatIsStable }
 {}
 
-/// From then on no history changes, whatever ticks and whatever arrives, until somebody casts. So every further round is quiet.
+/// From then on no history changes, whatever ticks, asks for help and arrives, until somebody casts. So every further round is quiet.
 pub fn then_nothing_changes_any_more()
     ensures nothing { BehindRounds rounds_to_be_stable NothingChangesAnyMore }
     ensures rounds { FurtherRoundsAreQuiet }
