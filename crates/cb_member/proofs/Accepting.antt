@@ -86,6 +86,10 @@ pub record IsAsked (old mid new : Recorder) : Type 0 where
   pub events : mid.events.items ≡ old.events.items
   pub same : IsSame mid new
 
+-- where the state is what it was
+pub same_still : (mid reserved : Recorder) (state : State) → state ≡ reserved.state → IsSame mid reserved → IsSame mid (record reserved { state = state })
+same_still mid reserved state is same = record { limit = same.limit; state = is ∙ same.state; entries = same.entries; events = same.events }
+
 pub kept_asked : (old mid new : Recorder) → IsKept old → IsAsked old mid new → IsKept new
 kept_asked old mid new k a = kept_with_room mid new a.same (kept_alike old mid k a.alike a.limit a.entries a.events)
 

@@ -19,6 +19,7 @@ use Rattle.cb_member.specs.Delivery.{IsSettled, NoneReady, LeavesWaiting}
 use Rattle.cb_member.specs.Knowledge.{KnowsFacts}
 use Rattle.cb_member.specs.Reception as reception
 use Rattle.cb_member.specs.Reception.{HasReceived, HasReceivedAll}
+use Rattle.cb_member.specs.Relaying.{KeepsAllRelays}
 use Rattle.cb_member.specs.Sending.{HasSent}
 use Rattle.cb_member.specs.State.{HasDelivered, IsAlike, Keeps}
 use Rattle.cb_member.specs.Taking.{CanFollow, CanKeep, WouldExpand}
@@ -85,6 +86,7 @@ alike_back old new same = record {
   reception = reception_back old.reception new.reception same.reception;
   knowledge = sym same.knowledge;
   sending = sym same.sending;
+  relays = sym same.relays;
 }
 
 pub alike_again : (a b d : State) → IsAlike a b → IsAlike b d → IsAlike a d
@@ -105,19 +107,20 @@ alike_again a b d first later = record {
   };
   knowledge = later.knowledge ∙ first.knowledge;
   sending = later.sending ∙ first.sending;
+  relays = later.relays ∙ first.relays;
 }
 
 settled_itself : (d : Delivery) → IsSettled d d
 settled_itself d = record { time = refl; queue = record { size = refl; window = refl; now_held = refl } }
 
 pub with_room : (state : State) (r : Reception) → reception.IsAlike state.reception r → IsAlike state (record state { reception = r })
-with_room state r same = record { seat = refl; delivery = settled_itself state.delivery; reception = same; knowledge = refl; sending = refl }
+with_room state r same = record { seat = refl; delivery = settled_itself state.delivery; reception = same; knowledge = refl; sending = refl; relays = refl }
 
 pub with_settled : (state : State) (d : Delivery) → IsSettled state.delivery d → IsAlike state (record state { delivery = d })
-with_settled state d same = record { seat = refl; delivery = same; reception = record { buffers = refl; expander = refl; spares = refl }; knowledge = refl; sending = refl }
+with_settled state d same = record { seat = refl; delivery = same; reception = record { buffers = refl; expander = refl; spares = refl }; knowledge = refl; sending = refl; relays = refl }
 
 pub with_both : (state : State) (d : Delivery) (r : Reception) → IsSettled state.delivery d → reception.IsAlike state.reception r → IsAlike state (record state { delivery = d; reception = r })
-with_both state d r settled same = record { seat = refl; delivery = settled; reception = same; knowledge = refl; sending = refl }
+with_both state d r settled same = record { seat = refl; delivery = settled; reception = same; knowledge = refl; sending = refl; relays = refl }
 
 pub keeps_alike : (facts : List Fact) (old new : State) → IsAlike old new → Keeps facts old → Keeps facts new
 keeps_alike facts old new same k = record {
@@ -125,6 +128,7 @@ keeps_alike facts old new same k = record {
   received = subst (λ (seat : Identity). HasReceivedAll seat facts new.reception) (sym same.seat) (reception_alike old.seat facts _ old.reception new.reception same.reception k.received);
   knows = subst (λ (seat : Identity). KnowsFacts seat facts new.knowledge) (sym same.seat) (subst (KnowsFacts old.seat facts) (sym same.knowledge) k.knows);
   sent = subst (λ (seat : Identity). HasSent seat facts new.sending) (sym same.seat) (subst (HasSent old.seat facts) (sym same.sending) k.sent);
+  relayed = subst (λ (seat : Identity). KeepsAllRelays seat facts new.relays.items) (sym same.seat) (subst (KeepsAllRelays old.seat facts) (sym same.relays) k.relayed);
 }
 
 pub legal_alike : (facts : List Fact) (old new : State) → IsAlike old new → AreFactsOf old.seat facts → AreFactsOf new.seat facts

@@ -1,6 +1,8 @@
 -- What is kept is so of the facts with a cast of another member, once it is taken in and delivered.
 use Rattle.std.proofs.Common.{◌≡◌, ◌≢◌, ◌⊎◌, ℕ, ◌+◌, ◌-◌, ◌<◌, ◌≤◌, max, cond, eqb, inl, inr, List, [], ◌∷◌, ◌++◌, length, length-append, map, drop, take, None, refl, sym, ap, subst, ◌∙◌, arith}
 use Rattle.std.specs.List.{All}
+use Rattle.std.specs.declared.vec.Vec.{Vec}
+use Rattle.std.specs.declared.alloc.Global.{Global}
 use Rattle.std.proofs.lemmas.Bool.{cases_eq, eq-eqb, ne_eqb}
 use Rattle.std.proofs.lemmas.List.{drop_at, take_rest}
 use Rattle.std.proofs.lemmas.List.Elements.{All-cons, All-nil}
@@ -12,6 +14,7 @@ use Rattle.cb_delay.specs.declared.message.Event.{Event}
 use Rattle.cb_delay.specs.declared.message.Event.TheVariants.{Deliver}
 use Rattle.cb_diffs.specs.Expansion.{expanded_field}
 use Rattle.cb_stability.specs.Known as acks
+use Rattle.cb_stability.specs.Relays.{Relayed}
 use Rattle.cb_history.specs.Group.{Identity}
 use Rattle.cb_history.specs.Facts.{Fact, CastReceived, casts_in}
 use Rattle.cb_history.specs.View.{count, view, time_of, drain, message_in}
@@ -39,10 +42,12 @@ use Rattle.cb_member.specs.Course.{CanGo, TakesAndDelivers}
 use Rattle.cb_member.specs.Delivery.{IsDrained, Waits, delivered_in}
 use Rattle.cb_member.specs.Knowledge.{HasTimeOf, KnowsFacts, LearnsAll, delivered_by, reached_in, reported_in}
 use Rattle.cb_member.specs.Reception.{HasReceivedAll}
+use Rattle.cb_member.specs.Relaying.{KeepsAllRelays, RelaysCast}
 use Rattle.cb_member.specs.Sending.{HasSent, TrimsToStable}
 use Rattle.cb_member.specs.State.{HasDelivered, Keeps}
 use Rattle.cb_member.specs.Taking.{CanFollow, HasTakenIn, OnlyTakesIn}
 use Rattle.cb_member.proofs.OwnCasts.{still_reported}
+use Rattle.cb_member.proofs.TakingIn.{of_member}
 
 -- whatever its course, the cast may follow some facts that are kept
 pub can_follow : (c : CastFields) (course : Course) (state : State) → CanGo c course state → CanFollow c state
@@ -235,12 +240,18 @@ module _ (facts : List Fact) (c : CastFields) (old mid : State) (before after : 
   pub time_fits_acks : length mid.delivery.time ≡ mid.knowledge.acks.size
   time_fits_acks = ap (λ (time : List ℕ). length time) is.drained.waits.time ∙ length-map-range_with_len (count (view size facts ++ is.drained.more)) 0 size ∙ sym acks_size
 
+  -- its sender has relays
+  pub relays_fit : c.sender < length mid.relays.items
+  relays_fit =
+      subst (λ (v : Vec Relayed Global). c.sender < length v.items) (sym is.only.relays)
+      (subst (λ (n : ℕ). c.sender < n) (sym is.keeps.relayed.members) (of_member seat facts c is.legal))
+
   -- ---- all of it
 
   module _ (new : State) (same_seat : new.seat ≡ mid.seat) (same_delivery : new.delivery ≡ mid.delivery) (same_reception : new.reception ≡ mid.reception) (same_known : new.knowledge.known ≡ mid.knowledge.known)
       (learns : LearnsAll mid.seat.me mid.delivery.time (delivered_by (drop (length before) after)) mid.knowledge.acks new.knowledge.acks)
       (trims : TrimsToStable mid.seat.me new.knowledge.acks mid.sending.window new.sending.window)
-      (rest : new.sending ≡ record mid.sending { window = new.sending.window }) where
+      (rest : new.sending ≡ record mid.sending { window = new.sending.window }) (now_relays : List Relayed) (same_relays : new.relays.items ≡ now_relays) (relays : RelaysCast c mid.relays.items now_relays) where
     seat_is : new.seat ≡ seat
     seat_is = same_seat ∙ is.only.seat
 
@@ -258,6 +269,9 @@ module _ (facts : List Fact) (c : CastFields) (old mid : State) (before after : 
       acknowledged = knows_acknowledged new.knowledge.acks learnt;
     }
 
+    relayed_now : KeepsAllRelays seat now new.relays.items
+    relayed_now = subst (KeepsAllRelays seat now) (sym same_relays) (relays seat facts is.legal (subst (λ (v : Vec Relayed Global). KeepsAllRelays seat facts v.items) (sym is.only.relays) is.keeps.relayed))
+
     pub all_delivered : DeliversOn facts c old new before after
     all_delivered = record {
       keeps = record {
@@ -265,6 +279,7 @@ module _ (facts : List Fact) (c : CastFields) (old mid : State) (before after : 
         received = subst (λ (s : Identity). HasReceivedAll s now new.reception) (sym seat_is) (subst (HasReceivedAll seat now) (sym same_reception) is.taken.received);
         knows = subst (λ (s : Identity). KnowsFacts s now new.knowledge) (sym seat_is) knows_now;
         sent = subst (λ (s : Identity). HasSent s now new.sending) (sym seat_is) (sent_with_it new.knowledge.acks new.sending learnt trimmed rest);
+        relayed = subst (λ (s : Identity). KeepsAllRelays s now new.relays.items) (sym seat_is) relayed_now;
       };
       events = events_join;
     }

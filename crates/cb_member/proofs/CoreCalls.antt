@@ -67,7 +67,7 @@ may_cast_so told_by state load (Err refusal) refuses = refused_load state load (
 
 -- but for the block it is the same
 with_block : (old mid : State) → (facts : List Fact) → Keeps facts old → Keeps facts (record old { block = mid.block })
-with_block old mid facts k = record { delivered = k.delivered; received = k.received; knows = k.knows; sent = k.sent }
+with_block old mid facts k = record { delivered = k.delivered; received = k.received; knows = k.knows; sent = k.sent; relayed = k.relayed }
 
 -- so the cast that was made is still the next one
 pub can_keep : (load : Load) (old mid : State) (casting : Casting) → IsCore (core_of old) → CanCast old load → MakesCasting old load casting → IsSameButBlock old mid → CanKeepOnEach load mid casting
@@ -75,7 +75,7 @@ can_keep load old mid casting is can makes block =
     subst (λ (state : State). CanKeepOnEach load state casting) (sym block) (record {
       core = is;
       can = record { bytes = can.bytes; fits = can.fits; room = can.room };
-      makes = λ facts are k. makes facts are (record { delivered = k.delivered; received = k.received; knows = k.knows; sent = k.sent });
+      makes = λ facts are k. makes facts are (record { delivered = k.delivered; received = k.received; knows = k.knows; sent = k.sent; relayed = k.relayed });
     })
 
 -- it can be kept, with the time of its last message

@@ -41,6 +41,7 @@ alike_of a b same = record {
   knowledge = same_knowledge b.knowledge.known a.knowledge.known b.knowledge.acks a.knowledge.acks (sym (ap (λ (c : Core). c.heard) same)) (sym (ap (λ (c : Core). c.acknowledged) same));
   sending = same_sending b.sending.window a.sending.window b.sending.last_cast a.sending.last_cast b.sending.has_reported a.sending.has_reported b.sending.last_reported a.sending.last_reported
       (sym (ap (λ (c : Core). c.sent) same)) (sym (ap (λ (c : Core). c.last_cast) same)) (sym (ap (λ (c : Core). c.has_reported) same)) (sym (ap (λ (c : Core). c.last_reported) same));
+  relays = sym (ap (λ (c : Core). c.relays) same);
 }
 
 -- and room is all that differs between alike ones
@@ -57,6 +58,7 @@ same_core old new alike =
       alike.reception.spares,
       alike.knowledge,
       alike.sending,
+      alike.relays,
     ) refl
 
 pub same_but_block : (old new : State) → IsSameButBlock old new → core_of new ≡ core_of old

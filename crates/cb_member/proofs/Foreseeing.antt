@@ -7,19 +7,30 @@ use Rattle.cb_frames.specs.Fields.{CastFields, CastFrame}
 use Rattle.cb_delay.specs.declared.message.Event.{Event}
 use Rattle.cb_delay.specs.declared.message.Event.TheVariants.{Deliver}
 use Rattle.cb_delay.specs.declared.message.Message.{Message}
+use Rattle.cb_stability.specs.Relays.{Relayed}
 use Rattle.cb_history.specs.Answers.{deliveries}
 use Rattle.cb_history.specs.Facts.{CastReceived}
 use Rattle.cb_history.specs.Group.{Identity}
+use Rattle.cb_member.specs.declared.reception.Reception.{Reception}
 use Rattle.cb_member.specs.declared.state.State.{State}
-use Rattle.cb_member.specs.Arriving.{DeliversWith}
-use Rattle.cb_member.specs.Course.{CanLetGoAt, HoldsAtMost}
+use Rattle.cb_member.specs.Course.{CanLetGoAt, HoldsAtMost, TakesAndDelivers}
 use Rattle.cb_member.specs.Foreseen.{AreDeliveries}
 use Rattle.cb_member.specs.Knowledge.{delivered_by}
+use Rattle.cb_member.specs.Reception as reception
 use Rattle.cb_member.specs.Reception.{HasPlaceFor}
 use Rattle.cb_member.specs.Singles.{AreSparesFor}
-use Rattle.cb_member.specs.State.{IsAlike}
+use Rattle.cb_member.specs.State.{IsAlike, IsAlikeButRelays}
 use Rattle.cb_member.specs.Taking.{CanTakeIn}
-use Rattle.cb_member.proofs.Alike.{can_follow_alike, holds_alike, keeps_alike, legal_alike}
+use Rattle.cb_member.proofs.Alike.{alike_again, can_follow_alike, holds_alike, keeps_alike, legal_alike, with_room}
+use Rattle.cb_member.proofs.Arriving.{events_join, is_delivered}
+
+-- with more room and the relays of the old one, what knows the same is alike
+pub has_relays : (old twin : State) (r : Reception) (relays : Vec Relayed Global) → IsAlikeButRelays old twin → reception.IsAlike twin.reception r → relays ≡ old.relays
+    → IsAlike old (record twin { reception = r; relays = relays })
+has_relays old twin r relays same room is =
+    let first = record twin { relays = old.relays } in
+    subst (λ (v : Vec Relayed Global). IsAlike old (record twin { reception = r; relays = v })) (sym is)
+    (alike_again old first (record first { reception = r }) same (with_room first r room))
 
 pub can_let_go : (c : CastFields) (count : ℕ) (spares : List (List ℕ)) (old twin : State) → IsAlike old twin → CanLetGoAt c count old → AreSparesFor c old.seat.group.size spares
     → HasPlaceFor c.sender (length spares) twin.reception → CanTakeIn c spares twin × HoldsAtMost c twin count
@@ -36,11 +47,11 @@ delivered_alone : (messages : List Message) → delivered_by (map (λ m. Deliver
 delivered_alone [] = refl
 delivered_alone (m ∷ messages) = ap (λ (rest : List Message). m ∷ rest) (delivered_alone messages)
 
-pub are_its_deliveries : (c : CastFields) (old twin new : State) (before after : List Event) (messages : List Message) → IsAlike old twin → DeliversWith c twin new before after → before ≡ [] → messages ≡ delivered_by after
+pub are_its_deliveries : (c : CastFields) (old twin new : State) (before after : List Event) (messages : List Message) → IsAlike old twin → TakesAndDelivers c twin new before after → before ≡ [] → messages ≡ delivered_by after
     → AreDeliveries c old messages
 are_its_deliveries c old twin new before after messages same delivers none is facts are keeps =
-    let there = delivers.delivers facts (legal_alike (facts ++ CastReceived c ∷ []) old twin same are) (keeps_alike facts old twin same keeps) in
-    is ∙ ap delivered_by (there.events ∙ ap (λ (es : List Event). es ++ map (λ m. Deliver m) (deliveries twin.seat facts (CastFrame c))) none)
+    let there = is_delivered facts c twin new before after delivers (legal_alike (facts ++ CastReceived c ∷ []) old twin same are) (keeps_alike facts old twin same keeps) in
+    is ∙ ap delivered_by (events_join facts c twin new before after there ∙ ap (λ (es : List Event). es ++ map (λ m. Deliver m) (deliveries twin.seat facts (CastFrame c))) none)
     ∙ delivered_alone (deliveries twin.seat facts (CastFrame c)) ∙ ap (λ (seat : Identity). deliveries seat facts (CastFrame c)) same.seat
 
 pub foretold : {E : Type 0} (P Q : List Message → Type 0) (r : Result (Vec Message Global) E) → ((messages : List Message) → P messages → Q messages) → IfOk r (λ copies. P copies.items) → IfOk r (λ copies. Q copies.items)

@@ -1,12 +1,15 @@
 -- A received status: what the rules say of it, and what is kept of it.
 use Rattle.std.proofs.Common.{◌≡◌, ◌≢◌, ℕ, zero, suc, ◌+◌, ◌<◌, max, Bool, true, false, not, cond, eqb, ltb, ◌&&◌, ◌||◌, List, [], ◌∷◌, ◌++◌, length, map, drop, None, refl, sym, ap, subst, ◌∙◌, arith, inl, inr}
 use Rattle.std.specs.List.{list_all, list_any, range_with_len}
+use Rattle.std.specs.declared.vec.Vec.{Vec}
+use Rattle.std.specs.declared.alloc.Global.{Global}
 use Rattle.std.proofs.lemmas.Bool.{cases_eq, eq-eqb, ne_eqb, ltb-true}
 use Rattle.std.proofs.lemmas.List.{append-nil, drop_all}
 use Rattle.cb_times.specs.Order.{field}
 use Rattle.cb_frames.specs.declared.frame.Change.{Change}
 use Rattle.cb_frames.specs.Fields.{Carried, StatusFields, StatusFrame}
 use Rattle.cb_stability.specs.Known.{Known, count}
+use Rattle.cb_stability.specs.Relays.{Relayed}
 use Rattle.cb_history.specs.Group.{Identity}
 use Rattle.cb_history.specs.Facts.{Fact, StatusReceived, casts_in}
 use Rattle.cb_history.specs.View as view
@@ -14,6 +17,7 @@ use Rattle.cb_history.specs.View.{message_in, time_of, view}
 use Rattle.cb_history.specs.Known.{acknowledged_of, known, value_in}
 use Rattle.cb_history.specs.Answers.{deliveries, delivered, is_news}
 use Rattle.cb_history.specs.LegalFacts.{AreFactsOf}
+use Rattle.cb_history.specs.RelayLaws.{RelaysStay}
 use Rattle.cb_history.specs.StabilityLaws.{KnowsAcknowledged}
 use Rattle.cb_history.proofs.Prefixes.{last_fact_is_a_step}
 use Rattle.cb_history.proofs.Rising.{status_is_acknowledged_of, status_is_known}
@@ -26,9 +30,11 @@ use Rattle.cb_member.specs.declared.knowledge.Knowledge.{Knowledge}
 use Rattle.cb_member.specs.declared.sending.Sending.{Sending}
 use Rattle.cb_member.specs.declared.state.State.{State}
 use Rattle.cb_member.specs.Knowledge.{HearsStatus, KnowsFacts}
+use Rattle.cb_member.specs.Relaying.{KeepsAllRelays, TrimsRelays}
 use Rattle.cb_member.specs.Sending.{HasSent, TellsLast, TrimsToStable}
 use Rattle.cb_member.specs.State.{HasDelivered, Keeps}
 use Rattle.cb_member.proofs.Reading.{time_at}
+use Rattle.cb_member.proofs.HandingOn.{all_stay}
 use Rattle.cb_member.proofs.Staying.{delivered_stays, received_stays}
 use Rattle.cb_member.proofs.Values.{both_true, tells_more}
 
@@ -137,10 +143,10 @@ sent_stays seat facts s k old new are knows trims rest sent =
     subst (HasSent seat (facts ++ StatusReceived s ∷ [])) (sym rest) stays
 
 -- the state that knows what the status says, and keeps what is not stable then, keeps the status as well
-pub heard_keeps : (state : State) (facts : List Fact) (s : StatusFields) (knowledge : Knowledge) (sending : Sending) → AreFactsOf state.seat (facts ++ StatusReceived s ∷ []) → Keeps facts state
+pub heard_keeps : RelaysStay → (state : State) (facts : List Fact) (s : StatusFields) (knowledge : Knowledge) (sending : Sending) (relays : Vec Relayed Global) (now_relays : List Relayed) → AreFactsOf state.seat (facts ++ StatusReceived s ∷ []) → Keeps facts state
     → HearsStatus s state.knowledge knowledge → TrimsToStable state.seat.me knowledge.acks state.sending.window sending.window → sending ≡ record state.sending { window = sending.window }
-    → Keeps (facts ++ StatusReceived s ∷ []) (record state { knowledge = knowledge; sending = sending })
-heard_keeps state facts s knowledge sending are keeps hears trims rest =
+    → relays.items ≡ now_relays → TrimsRelays knowledge.acks state.relays.items now_relays → Keeps (facts ++ StatusReceived s ∷ []) (record state { knowledge = knowledge; sending = sending; relays = relays })
+heard_keeps stay state facts s knowledge sending relays now_relays are keeps hears trims rest same lets_go =
     let seat = state.seat in
     let now = facts ++ StatusReceived s ∷ [] in
     let knows = knows_more seat facts s state.knowledge knowledge are hears keeps.knows in
@@ -149,6 +155,7 @@ heard_keeps state facts s knowledge sending are keeps hears trims rest =
       received = received_stays seat facts now state.reception (no_cast_heard facts s) keeps.received;
       knows = knows;
       sent = sent_stays seat facts s knowledge state.sending sending are knows trims rest keeps.sent;
+      relayed = subst (KeepsAllRelays seat now) (sym same) (lets_go seat now are knows.acknowledged (all_stay stay seat facts (StatusReceived s) state.relays.items are (λ i other. tt) keeps.relayed));
     }
 
 -- a status delivers nothing

@@ -15,6 +15,7 @@ pub mod Draining
 pub mod Entering
 pub mod Foreseeing
 pub mod Going
+pub mod HandingOn
 pub mod Hearing
 pub mod Judging
 pub mod JudgingCasts

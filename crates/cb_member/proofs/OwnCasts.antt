@@ -14,6 +14,7 @@ use Rattle.cb_history.specs.Answers.{delivered, next_cast, last_status}
 use Rattle.cb_history.specs.LegalFacts.{AreFactsOf}
 use Rattle.cb_history.specs.BufferLaws.{HoldsWhatWaits}
 use Rattle.cb_history.specs.ExpanderLaws.{KeepsTimeOf}
+use Rattle.cb_history.specs.RelayLaws.{RelaysStay}
 use Rattle.cb_history.specs.StabilityLaws.{KnowsAcknowledged}
 use Rattle.cb_history.specs.Singles.{singles_in}
 use Rattle.cb_history.proofs.Views.{casts_in-append}
@@ -38,6 +39,7 @@ use Rattle.cb_member.specs.Sending.{TellsLast, HasSent}
 use Rattle.cb_member.specs.State.{HasDelivered, Keeps}
 use Rattle.cb_member.specs.Casting.{next_time, next_text}
 use Rattle.cb_member.proofs.Receiving.{singles_with_cast}
+use Rattle.cb_member.proofs.HandingOn.{all_stay}
 
 abbrev with_cast : Identity → List Fact → Load → List Fact
 with_cast seat facts load = facts ++ OwnCast (next_cast seat facts load) ∷ []
@@ -127,15 +129,16 @@ sent_with_cast seat facts load time n s window are has at many put =
     }
 
 -- the state with the time and the frame of the next cast keeps that cast as well
-pub cast_keeps : (old : State) (facts : List Fact) (load : Load) (time last frame : List ℕ) (n : ℕ) (acks : Known) (window : Sent) → AreFactsOf old.seat (facts ++ OwnCast (next_cast old.seat facts load) ∷ []) → Keeps facts old
+pub cast_keeps : RelaysStay → (old : State) (facts : List Fact) (load : Load) (time last frame : List ℕ) (n : ℕ) (acks : Known) (window : Sent) → AreFactsOf old.seat (facts ++ OwnCast (next_cast old.seat facts load) ∷ []) → Keeps facts old
     → time ≡ next_time old.seat facts load → last ≡ next_time old.seat facts load → frame ≡ next_text old.seat facts load → n ≡ length (payloads_of load)
     → Learns old.knowledge.acks acks old.seat.me old.seat.me (field time old.seat.me) → Puts old.sending.window window n frame
     → Keeps (facts ++ OwnCast (next_cast old.seat facts load) ∷ [])
     (record old { delivery = record old.delivery { time = time }; knowledge = record old.knowledge { acks = acks }; sending = record old.sending { window = window; last_cast = last } })
-cast_keeps old facts load time last frame n acks window are keeps at last_at is many learns put = record {
+cast_keeps stay old facts load time last frame n acks window are keeps at last_at is many learns put = record {
   delivered = delivered_with_cast old.seat facts load time old.delivery are keeps.delivered at;
   received = received_with_cast old.seat facts load old.reception are keeps.received;
   knows = known_with_cast old.seat facts load time old.knowledge acks are keeps.knows at learns;
   sent = sent_with_cast old.seat facts load last n old.sending window are keeps.sent last_at many
       (subst (Puts old.sending.window window n) is put);
+  relayed = all_stay stay old.seat facts (OwnCast (next_cast old.seat facts load)) old.relays.items are (λ i other. tt) keeps.relayed;
 }

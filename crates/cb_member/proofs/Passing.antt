@@ -193,7 +193,7 @@ module _ (c : CastFields) (old : State) (reception : Reception) (known_then : Kn
   begun = record old { reception = takes.between; knowledge = known_then }
 
   only_begun : OnlyTakesIn old begun
-  only_begun = record { seat = refl; time = refl; acks = hears.acks; sending = refl }
+  only_begun = record { seat = refl; time = refl; acks = hears.acks; sending = refl; relays = refl }
 
   takes_first : (facts : List Fact) → AreFactsOf old.seat (facts ++ CastReceived c ∷ []) → Keeps facts old → TakesIn facts c (expanded_count (casts_in facts) c.sender) begun
   takes_first facts are keeps =
@@ -233,7 +233,7 @@ module _ (c : CastFields) (old : State) (reception : Reception) (known_then : Kn
     taken_in = record old { delivery = held; reception = reception; knowledge = heard }
 
     only_taken : OnlyTakesIn begun taken_in
-    only_taken = record { seat = refl; time = holds.time; acks = acks; sending = refl }
+    only_taken = record { seat = refl; time = holds.time; acks = acks; sending = refl; relays = refl }
 
     takes_it : TakesOne c.sender begun taken_in message
     takes_it = record { expands = takes.expands; fields = fields; raised = raised; is_queue = holds.is_queue; queue = holds.queue; only = only_taken }

@@ -7,8 +7,9 @@ use Rattle.cb_frames.specs.declared.frame.Range.{Range}
 use Rattle.cb_frames.specs.declared.frame.TheConstants.{LAST_NUMBER}
 use Rattle.cb_frames.specs.Fields.{CastFields, CastFrame, first_number, last_number}
 use Rattle.cb_frames.specs.Laws.{IsBytes, ReadingIsExact}
-use Rattle.cb_frames.specs.Text.{IsText, RisesFrom}
+use Rattle.cb_frames.specs.Text.{IsText, RisesFrom, text_of}
 use Rattle.cb_frames.proofs.Carried.{carries_few}
+use Rattle.cb_frames.proofs.Decoding.{reading_is_exact}
 use Rattle.cb_frames.proofs.Unique.{one_text, some_text}
 use Rattle.cb_gaps.specs.Buffer as buffers
 use Rattle.cb_gaps.specs.Buffer.{Buffer}
@@ -45,6 +46,10 @@ cast_says exact bytes c are read =
       numbered = frame_numbered bytes c read;
       numbers = (carries_few c text.0).last (omega (arith, small));
     }
+
+-- the bytes that are read are the frame's text
+pub read_text : (bytes frame : List ℕ) (c : CastFields) → IsBytes bytes → frame_read bytes ≡ Ok (CastFrame c) → frame ≡ bytes → frame ≡ text_of (CastFrame c)
+read_text bytes frame c are read same = same ∙ one_text (CastFrame c) bytes ((reading_is_exact.text bytes (CastFrame c) are).0 read)
 
 -- the time has a field for each member, which is how many of its messages are delivered
 pub time_long : (seat : Identity) (facts : List Fact) (d : Delivery) → HasDelivered seat facts d → length d.time ≡ seat.group.size

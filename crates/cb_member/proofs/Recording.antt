@@ -86,7 +86,7 @@ may_be_cast r load k can few = is_ok_of (answer_to_cast (held_by r) load) (next_
 pub kept_with_block : (old mid : Recorder) → IsKept old → IsSameButBlock old.state mid.state → mid.limit ≡ old.limit → mid.entries ≡ old.entries → mid.events ≡ old.events → IsKept mid
 kept_with_block old mid k block limit entries events =
     kept_over old mid k (ap (λ (s : State). s.seat) block) limit (ap (λ v. v.items) entries) (ap (λ v. v.items) events)
-    (subst (Keeps (facts_held old)) (sym block) (record { delivered = k.keeps.delivered; received = k.keeps.received; knows = k.keeps.knows; sent = k.keeps.sent }))
+    (subst (Keeps (facts_held old)) (sym block) (record { delivered = k.keeps.delivered; received = k.keeps.received; knows = k.keeps.knows; sent = k.keeps.sent; relayed = k.keeps.relayed }))
 
 -- what is so of the seat and the facts of one recorder is so of one that has the same
 moved : (P : Identity → List Fact → Type 0) (old new : Recorder) → new.state.seat ≡ old.state.seat → new.entries.items ≡ old.entries.items → P old.state.seat (facts_held old) → P new.state.seat (facts_held new)

@@ -30,6 +30,7 @@ use Rattle.cb_member.specs.declared.recorder.Recorder.{Recorder}
 use Rattle.cb_member.specs.Delivery.{IsNewDelivery}
 use Rattle.cb_member.specs.Reception.{AreSparesOf, IsNewReception, HasReceivedAll}
 use Rattle.cb_member.specs.Knowledge.{IsNewKnowledge, KnowsFacts}
+use Rattle.cb_member.specs.Relaying.{KeepsAllRelays}
 use Rattle.cb_member.specs.Sending.{IsNewSending, HasSent}
 use Rattle.cb_member.specs.State.{HasDelivered, IsNewState, Keeps}
 use Rattle.cb_member.specs.Recorder.{IsKept, IsNewRecorder}
@@ -131,6 +132,7 @@ new_keeps seat state is new = record {
   received = subst (λ (s : Identity). HasReceivedAll s [] state.reception) (sym new.of_seat) (nothing_received seat state.reception is new.reception);
   knows = subst (λ (s : Identity). KnowsFacts s [] state.knowledge) (sym new.of_seat) (nothing_known seat state.knowledge is new.knowledge);
   sent = subst (λ (s : Identity). HasSent s [] state.sending) (sym new.of_seat) (nothing_sent seat state.sending is new.sending);
+  relayed = subst (λ (s : Identity). KeepsAllRelays s [] state.relays.items) (sym new.of_seat) new.relays;
 }
 
 no_events : (seat : Identity) → events seat [] ≡ []

@@ -231,6 +231,7 @@ only_alike a b d first later = record {
   time = later.time ∙ first.time;
   acks = later.acks ∙ first.acks;
   sending = later.sending ∙ first.sending;
+  relays = later.relays ∙ first.relays;
 }
 
 pub takes_on : (sender : ℕ) (first old new : State) (message : Message) → TakesSoFar sender first old → TakesOne sender old new message → TakesSoFar sender first new

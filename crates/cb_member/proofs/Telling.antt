@@ -1,16 +1,18 @@
 -- The steps of a tick.
-use Rattle.std.proofs.Common.{◌≡◌, ℕ, zero, suc, ◌+◌, ◌-◌, ◌<◌, ◌≤◌, Bool, true, false, not, eqb, ltb, List, [], ◌∷◌, ◌++◌, length, map, Some, refl, sym, ap, subst, ◌∙◌, append_assoc, arith}
+use Rattle.std.proofs.Common.{◌≡◌, ◌≢◌, ℕ, zero, suc, ◌+◌, ◌-◌, ◌<◌, ◌≤◌, Bool, true, false, not, eqb, ltb, List, [], ◌∷◌, ◌++◌, length, map, take, Option, Some, Ok, refl, sym, ap, subst, ◌∙◌, append_assoc, arith}
 use Rattle.std.specs.List.{filter, flat_map, range_with_len}
+use Rattle.std.proofs.lemmas.Bool.{lt-leb, ne_eqb}
 use Rattle.cb_times.specs.Order.{field}
 use Rattle.cb_frames.specs.declared.frame.Change.{Change}
-use Rattle.cb_frames.specs.Fields.{FrameFields, StatusFields}
-use Rattle.cb_frames.specs.Text.{KeepsRules, payload_bytes}
+use Rattle.cb_frames.specs.Fields.{FrameFields, HelpFrame, StatusFields}
+use Rattle.cb_frames.specs.Text.{KeepsHelpRules, KeepsRules, payload_bytes}
 use Rattle.cb_frames.specs.declared.frame.Range.{Range}
-use Rattle.cb_frames.specs.declared.frame.TheConstants.{LONGEST_PAYLOAD}
-use Rattle.cb_gaps.specs.Request.{request_for}
+use Rattle.cb_frames.specs.declared.frame.TheConstants.{LONGEST_PAYLOAD, MOST_RANGES}
+use Rattle.cb_gaps.specs.Request.{request_for, help_for}
 use Rattle.cb_history.specs.declared.answer.Outgoing.{Outgoing}
 use Rattle.cb_history.specs.Group.{Identity}
-use Rattle.cb_history.specs.Facts.{Fact}
+use Rattle.cb_history.specs.Facts.{EntryFields, Fact, facts_of}
+use Rattle.cb_history.specs.Helping.{first_where, help_answer, help_for as help_asked}
 use Rattle.cb_history.specs.Known.{missing, ranges_of}
 use Rattle.cb_history.specs.Answers.{request_to, delivered, status_of}
 use Rattle.cb_history.specs.LegalFacts.{AreFactsOf}
@@ -74,6 +76,41 @@ requested seat facts i (r ∷ ranges) frame are asked is made =
   where
     some_frame : (a b : FrameFields) → Some a ≡ Some b → a ≡ b
     some_frame a b e = cc
+
+-- so is a help frame, to a member of the group
+pub helped : (seat : Identity) (facts : List Fact) (i k : ℕ) (ranges : List Range) (frame : FrameFields) → AreFactsOf seat facts → i < seat.group.size → k < seat.group.size
+    → ranges ≡ ranges_of (missing seat facts i) → Some frame ≡ help_for seat.group.number seat.me k i ranges → KeepsRules frame × (length (payload_bytes frame) ≤ LONGEST_PAYLOAD)
+helped seat facts i k [] frame are asked helper is made = absurd cc
+helped seat facts i k (r ∷ ranges) frame are asked helper is made =
+    let can = (own_frames_have_texts seat facts are).2 i r ranges asked (sym is) in
+    let rules = can.0 in
+    let few = are.group.size.at_most_sixty_four in
+    let keeps : KeepsHelpRules (record { group = seat.group.number; requester = seat.me; helper = k; sender = i; ranges = take MOST_RANGES (r ∷ ranges) }) = record {
+      requester = rules.requester;
+      helper = omega (arith, helper, few);
+      sender = rules.asked;
+      some = rules.some;
+      few = rules.few;
+      ranges = rules.ranges;
+    } in
+    let same : HelpFrame _ ≡ frame = some_frame _ _ (sym made) in
+    (subst KeepsRules same keeps, subst (λ (f : FrameFields). length (payload_bytes f) ≤ LONGEST_PAYLOAD) same can.1)
+  where
+    some_frame : (a b : FrameFields) → Some a ≡ Some b → a ≡ b
+    some_frame a b e = cc
+
+-- the first of some members for which something holds: this one, or one behind it
+pub first_here : (p : ℕ → Bool) (n i : ℕ) → i < n → p i ≡ true → first_where p (range_with_len i (n - i)) ≡ Some i
+first_here p n i lt holds = rw (row_more n i lt, holds) refl
+
+pub first_behind : (p : ℕ → Bool) (n i : ℕ) → i < n → p i ≡ false → first_where p (range_with_len i (n - i)) ≡ first_where p (range_with_len (i + 1) (n - (i + 1)))
+first_behind p n i lt fails = rw (row_more n i lt, fails) refl
+
+-- the answer to a call for help with the casts of another member of the group
+pub help_is_answered : (seat : Identity) (entries : List EntryFields) (i : ℕ) (out : Option Outgoing) → i < seat.group.size → i ≢ seat.me
+    → out ≡ help_asked seat (facts_of entries) i (ranges_of (missing seat (facts_of entries) i)) → help_answer seat entries i ≡ Ok out
+unfolding help_answer
+help_is_answered seat entries i out within other is = rw (lt-leb seat.group.size i within, ne_eqb i seat.me other, is) refl
 
 -- to these members
 abbrev pub requests_to : Identity → List Fact → List ℕ → List Outgoing

@@ -9,6 +9,8 @@ use Rattle.cb_history.specs.Facts.{Fact, OwnStatus, casts_in}
 use Rattle.cb_history.specs.View.{count, time_of}
 use Rattle.cb_history.specs.Known.{acknowledged, stable, least_of}
 use Rattle.cb_history.specs.Answers.{own_casts, status_of, is_new_status, says_the_time}
+use Rattle.cb_history.specs.LegalFacts.{AreFactsOf}
+use Rattle.cb_history.specs.RelayLaws.{RelaysStay}
 use Rattle.cb_history.specs.StabilityLaws.{KeepsOwnCasts, spanned_frame}
 use Rattle.cb_history.proofs.Rising.{own_status_acknowledges_nothing, own_status_tells_nothing}
 use Rattle.cb_history.proofs.Statuses.{last_status_with_one_more, new_status_is_a_new_time}
@@ -23,6 +25,7 @@ use Rattle.cb_member.specs.Knowledge.{KnowsFacts}
 use Rattle.cb_member.specs.Sending.{TellsLast, HasSent}
 use Rattle.cb_member.specs.State.{HasDelivered, Keeps}
 use Rattle.cb_member.proofs.Reading.{time_long}
+use Rattle.cb_member.proofs.HandingOn.{all_stay}
 use Rattle.cb_member.proofs.Staying.{delivered_stays, received_stays}
 
 -- ---- whether the status is news
@@ -97,9 +100,9 @@ reported_sends seat facts d s time has sent same = record {
 }
 
 -- the state whose last status says its time keeps that status as well
-pub reported_keeps : (state : State) (facts : List Fact) (time : List ℕ) → Keeps facts state → time ≡ state.delivery.time
+pub reported_keeps : RelaysStay → (state : State) (facts : List Fact) (time : List ℕ) → AreFactsOf state.seat (facts ++ OwnStatus (status_of state.seat facts) ∷ []) → Keeps facts state → time ≡ state.delivery.time
     → Keeps (facts ++ OwnStatus (status_of state.seat facts) ∷ []) (record state { sending = record state.sending { has_reported = true; last_reported = time } })
-reported_keeps state facts time keeps same =
+reported_keeps stay state facts time are keeps same =
     let s = status_of state.seat facts in
     let now = facts ++ OwnStatus s ∷ [] in
     record {
@@ -107,4 +110,5 @@ reported_keeps state facts time keeps same =
       received = received_stays state.seat facts now state.reception (no_cast_reported facts s) keeps.received;
       knows = knows_stays state.seat facts s state.knowledge keeps.knows;
       sent = reported_sends state.seat facts state.delivery state.sending time keeps.delivered keeps.sent same;
+      relayed = all_stay stay state.seat facts (OwnStatus s) state.relays.items are (λ i other. tt) keeps.relayed;
     }

@@ -187,11 +187,12 @@ pub record AnswersArrivalOnEach (noting : Noting) (bytes : List ℕ) (old new : 
   pub same : OnErr result (new ≡ old)
   pub same_events : OnErr result (after ≡ before)
 
--- the cast is that of these bytes and new, has its course, and there is room for the names of what it delivers
+-- the cast is that of these bytes, its frame, and new, has its course, and there is room for the names of what it delivers
 pub record CanCome (wanted : Bool) (bytes : List ℕ) (core : State) (coming : Coming) : Type 0 where
   pub core_is : IsCore (core_of core)
   pub bytes_are : IsBytes bytes
   pub read : frame_read bytes ≡ Ok (CastFrame (unit_fields coming.unit))
+  pub frame : coming.frame ≡ bytes
   pub new : IsNew (unit_fields coming.unit) core
   pub can_go : CanGo (unit_fields coming.unit) coming.course core
   pub noted : wanted ≡ true → (named : Named) × (coming.noted ≡ Some named)

@@ -7,6 +7,7 @@ use Rattle.cb_delay.specs.Message.{name_cmp}
 use Rattle.cb_delay.specs.Queue.{message_code, name_code}
 use Rattle.cb_gaps.specs.Buffer.{Buffer, buffer_code}
 use Rattle.cb_stability.specs.Known.{Known, known_code}
+use Rattle.cb_stability.specs.Relays.{Relayed, relayed_code}
 use Rattle.cb_stability.specs.Sent.{Sent, sent_code}
 use Rattle.cb_history.specs.Group.{Identity, identity_code}
 use Rattle.cb_history.specs.Facts.{EntryFields, facts_of}
@@ -19,7 +20,7 @@ use Rattle.cb_member.specs.State.{Keeps}
 -- All that a core knows: the member; how many messages of each member are delivered; what waits for the delay rule, and for how many of
 -- which group there is room; the casts that wait for those before them, the times of those that don't, and the times to write over; what
 -- was heard of, and what is acknowledged; the own casts that are not stable, the time of the last one, whether a status was sent, and the
--- time that the last one said.
+-- time that the last one said; and of each other member what may be handed on.
 pub record Core : Type 0 where
   pub seat : Identity
   pub time : List ℕ
@@ -35,6 +36,7 @@ pub record Core : Type 0 where
   pub last_cast : List ℕ
   pub has_reported : Bool
   pub last_reported : List ℕ
+  pub relays : List Relayed
 
 -- what a state knows, without how much room there is in memory
 abbrev pub core_of : State → Core
@@ -53,6 +55,7 @@ core_of state = record {
   last_cast = state.sending.last_cast;
   has_reported = state.sending.has_reported;
   last_reported = state.sending.last_reported;
+  relays = state.relays.items;
 }
 
 -- These entries are a member's, and what they say is what is known: it is what a state knows that keeps what they say.
@@ -89,9 +92,9 @@ pub record GoesOn (call : Call) (old new : Core) : Type 0 where
 abbrev pub times_code : Coded (List (List ℕ))
 times_code = coded_list (coded_list coded_ℕ)
 
--- what was sent
-abbrev pub sending_code : Coded (Sent × (List ℕ × (Bool × List ℕ)))
-sending_code = coded× sent_code (coded× (coded_list coded_ℕ) (coded× coded_bool (coded_list coded_ℕ)))
+-- what was sent, and what may be handed on
+abbrev pub sending_code : Coded (Sent × (List ℕ × (Bool × (List ℕ × List Relayed))))
+sending_code = coded× sent_code (coded× (coded_list coded_ℕ) (coded× coded_bool (coded× (coded_list coded_ℕ) (coded_list relayed_code))))
 
 -- what was received, and what is known of the others
 abbrev pub hearing_code : Coded (List Buffer × (List (List ℕ) × (List (List (List ℕ)) × (List ℕ × Known))))
@@ -100,11 +103,11 @@ hearing_code = coded× (coded_list buffer_code) (coded× times_code (coded× (co
 abbrev pub core_code : Coded Core
 core_code =
     code_by (Identity × (List ℕ × (ℕ × (ℕ × (fin.FinMap name_cmp Message
-    × ((List Buffer × (List (List ℕ) × (List (List (List ℕ)) × (List ℕ × Known)))) × (Sent × (List ℕ × (Bool × List ℕ)))))))))
+    × ((List Buffer × (List (List ℕ) × (List (List (List ℕ)) × (List ℕ × Known)))) × (Sent × (List ℕ × (Bool × (List ℕ × List Relayed))))))))))
     (coded× identity_code (coded× (coded_list coded_ℕ) (coded× coded_ℕ (coded× coded_ℕ (coded× (fin.code name_code message_code) (coded× hearing_code sending_code))))))
     (λ c. (
       c.seat,
-      (c.time, (c.size, (c.width, (c.waiting, ((c.buffers, (c.expanded, (c.spares, (c.heard, c.acknowledged)))), (c.sent, (c.last_cast, (c.has_reported, c.last_reported)))))))),
+      (c.time, (c.size, (c.width, (c.waiting, ((c.buffers, (c.expanded, (c.spares, (c.heard, c.acknowledged)))), (c.sent, (c.last_cast, (c.has_reported, (c.last_reported, c.relays))))))))),
     ))
     (λ p. record {
       seat = p.0;
@@ -120,5 +123,6 @@ core_code =
       sent = p.1.1.1.1.1.1.0;
       last_cast = p.1.1.1.1.1.1.1.0;
       has_reported = p.1.1.1.1.1.1.1.1.0;
-      last_reported = p.1.1.1.1.1.1.1.1.1;
+      last_reported = p.1.1.1.1.1.1.1.1.1.0;
+      relays = p.1.1.1.1.1.1.1.1.1.1;
     }) (λ _. refl)

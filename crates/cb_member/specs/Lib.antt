@@ -14,6 +14,7 @@ pub mod Passing
 pub mod Received
 pub mod Reception
 pub mod Recorder
+pub mod Relaying
 pub mod Sending
 pub mod Singles
 pub mod State

@@ -89,11 +89,12 @@ pub record HasRoomForNames (bytes : List ℕ) (room : ℕ) (named : Named) : Typ
 abbrev pub HasRoomForWanted : List ℕ → ℕ → Option Named → Type 0
 HasRoomForWanted bytes room named = (n : Named) → named ≡ Some n → HasRoomForNames bytes room n
 
--- the cast is that of these bytes and new, has its course, there is room for what it delivers, and what is wanted is made
+-- the cast is that of these bytes, its frame, and new, has its course, there is room for what it delivers, and what is wanted is made
 pub record CanEnter (wanted : Wanted) (bytes : List ℕ) (r : Recorder) (arriving : Arriving) : Type 0 where
   pub kept : IsKept r
   pub bytes_are : IsBytes bytes
   pub read : frame_read bytes ≡ Ok (CastFrame (unit_fields arriving.unit))
+  pub frame : arriving.frame ≡ bytes
   pub new : IsNew (unit_fields arriving.unit) r.state
   pub few : length r.entries.items < r.limit
   pub can_go : CanGo (unit_fields arriving.unit) arriving.course r.state

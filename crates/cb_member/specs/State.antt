@@ -1,5 +1,5 @@
 -- What a member keeps of its history, and what each part is of the facts in it.
-use Rattle.std.specs.Prelude.{◌≡◌, List}
+use Rattle.std.specs.Prelude.{◌≡◌, List, []}
 use Rattle.cb_history.specs.Group.{Identity}
 use Rattle.cb_history.specs.Facts.{Fact, casts_in}
 use Rattle.cb_history.specs.LegalFacts.{AreFactsOf}
@@ -11,6 +11,7 @@ use Rattle.cb_member.specs.Reception as reception
 use Rattle.cb_member.specs.Reception.{IsNewReception, HasReceivedAll}
 use Rattle.cb_member.specs.Knowledge.{IsNewKnowledge, KnowsFacts}
 use Rattle.cb_member.specs.Sending.{IsNewSending, HasSent}
+use Rattle.cb_member.specs.Relaying.{KeepsAllRelays}
 
 -- the view is delivered, and what else is expanded waits
 pub record HasDelivered (seat : Identity) (facts : List Fact) (d : Delivery) : Type 0 where
@@ -23,6 +24,7 @@ pub record Keeps (facts : List Fact) (state : State) : Type 0 where
   pub received : HasReceivedAll state.seat facts state.reception
   pub knows : KnowsFacts state.seat facts state.knowledge
   pub sent : HasSent state.seat facts state.sending
+  pub relayed : KeepsAllRelays state.seat facts state.relays.items
 
 -- it is what some facts say that a member may have
 pub record IsState (state : State) : Type 0 where
@@ -41,6 +43,7 @@ pub record IsNewState (seat : Identity) (state : State) : Type 0 where
   pub reception : IsNewReception seat.group.size seat.group.window state.reception
   pub knowledge : IsNewKnowledge seat.group.size state.knowledge
   pub sending : IsNewSending seat.group.size seat.group.window state.sending
+  pub relays : KeepsAllRelays seat [] state.relays.items
 
 -- nothing has changed but how much room there is, and what the delay queue remembers of its last answer
 pub record IsAlike (old new : State) : Type 0 where
@@ -49,3 +52,8 @@ pub record IsAlike (old new : State) : Type 0 where
   pub reception : reception.IsAlike old.reception new.reception
   pub knowledge : new.knowledge ≡ old.knowledge
   pub sending : new.sending ≡ old.sending
+  pub relays : new.relays.items ≡ old.relays.items
+
+-- so it would be with the relays of the old one
+abbrev pub IsAlikeButRelays : State → State → Type 0
+IsAlikeButRelays old new = IsAlike old (record new { relays = old.relays })

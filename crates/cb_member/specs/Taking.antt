@@ -143,12 +143,13 @@ pub record IsTakingIn (sender : ℕ) (state : State) : Type 0 where
   pub of_sender : cast.sender ≡ sender
   pub takes : TakesIn facts cast taken state
 
--- the deliveries so far, what was sent and what is acknowledged are as they were
+-- the deliveries so far, what was sent, what is acknowledged and what may be handed on are as they were
 pub record OnlyTakesIn (old new : State) : Type 0 where
   pub seat : new.seat ≡ old.seat
   pub time : new.delivery.time ≡ old.delivery.time
   pub acks : new.knowledge.acks ≡ old.knowledge.acks
   pub sending : new.sending ≡ old.sending
+  pub relays : new.relays ≡ old.relays
 
 -- the queue, which is one that keeps what every delay queue does, can hold the message next
 abbrev pub HasTurn : Queue → Message → Type 0

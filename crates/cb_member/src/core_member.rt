@@ -11,7 +11,7 @@ ghost use Rattle.cb_history.specs.EventLaws.{new_events};
 ghost use Rattle.cb_history.specs.Facts.{OwnCast, entry_fields};
 ghost use Rattle.cb_history.specs.Load.{many_of};
 ghost use Rattle.cb_history.specs.Known.{ranges_of};
-ghost use Rattle.cb_history.specs.State.{time_in, stable_in, stable_of_in, missing_in, answer_to_cast, entry_by, facts_in, next_in, state_after, HasCast, HasCastBurst, HasTicked, RefusesTick};
+ghost use Rattle.cb_history.specs.State.{time_in, stable_in, stable_of_in, missing_in, answer_to_cast, answer_to_help, entry_by, facts_in, next_in, state_after, HasCast, HasCastBurst, HasTicked, RefusesHelp, RefusesTick};
 ghost use Rattle.cb_member.specs.Casting.{RefusesBurstExactly, RefusesExactly};
 ghost use Rattle.cb_member.specs.CoreCalls.{HasEntryOnEach, JoinsAs, MayCast, ReceivesOnEach, RefusesOnEach, RefusesWithin, joined};
 ghost use Rattle.cb_member.specs.Received.{count_said};
@@ -29,8 +29,8 @@ use bytes::Bytes;
 use cb_delay::Event;
 use cb_frames::Range;
 use cb_history::{
-    ArriveRefusal, BurstDone, BurstRefusal, CastDone, CastRefusal, Entry, Group, Identity,
-    MissingFault, NewFault, TickRefusal, Ticked,
+    ArriveRefusal, BurstDone, BurstRefusal, CastDone, CastRefusal, Entry, Group, HelpFault,
+    Identity, MissingFault, NewFault, Outgoing, TickRefusal, Ticked,
 };
 use cb_times::{NoMemory, VectorTime};
 use std::alloc::Global;
@@ -136,6 +136,33 @@ impl CoreMember {
             ≡ ranges_of (missing_in m i))) }
     {
         self.state.missing(i)
+    }
+
+    /// The frame that asks a third member for the missing casts of member i: it goes to the first one, other than both, that is known to
+    /// have delivered the first of them. `None` where none is missing, or nobody is known to have it. Nothing changes.
+    ///
+    /// `BadMember` where the group has no member i, or it is this one; that takes no memory.
+    #[tactic(auto, unfolding(cb_history::specs::Helping::help_answer))]
+    pub fn help(&self, i: u32) -> Result<Option<Outgoing>, HelpFault>
+        ensures asked { IfOk result (λ out. OnEach self.now (λ m. answer_to_help m i ≡ Ok out)) }
+        ensures refused { IfErr result (λ fault. OnEach self.now (λ m. RefusesHelp m i fault)) }
+        ensures bad_member { (result ≡ Err HelpFault.BadMember)
+            ↔ ((self.now.seat.group.size ≤ i) ⊎ (i ≡ self.now.seat.me)) }
+    {
+        let seat = self.seat();
+        if i >= seat.group().size() || i == seat.me() {
+            return Err(HelpFault::BadMember);
+        }
+        let help = self.help_with(i)?;
+        Ok(help)
+    }
+
+    fn help_with(&self, i: u32) -> Result<Option<Outgoing>, NoMemory>
+        requires of_group { i < self.now.seat.group.size }
+        requires other { i ≢ self.now.seat.me }
+        ensures { IfOk result (λ out. OnEach self.now (λ m. answer_to_help m i ≡ Ok out)) }
+    {
+        self.state.help(i)
     }
 
     /// Casts a message of this payload, of up to 1,024 bytes, and answers its name, its time and

@@ -23,15 +23,16 @@ pub struct Knowledge {
 }
 
 impl Knowledge {
-    /// Nothing is known.
-    pub fn new(alloc: Global, size: u32) -> Result<Knowledge, NoMemory>
-        requires { IsGroupSize size }
+    /// Nothing is known. What is stable of this member's own casts will be asked most often.
+    pub fn new(alloc: Global, size: u32, me: u32) -> Result<Knowledge, NoMemory>
+        requires size { IsGroupSize size }
+        requires me { me < size }
         ensures { IfOk result (IsNewKnowledge size) }
     {
-        Ok(Knowledge {
-            known: VectorTime::zero(alloc, size)?,
-            acks: Acks::new(alloc, size)?,
-        })
+        let known = VectorTime::zero(alloc, size)?;
+        let mut acks = Acks::new(alloc, size)?;
+        acks.watch(me);
+        Ok(Knowledge { known, acks })
     }
 
     pub fn copy(&self) -> Result<Knowledge, NoMemory>

@@ -11,6 +11,7 @@
 mod arrival;
 mod core_member;
 mod delivery;
+mod helping;
 mod knowledge;
 mod laws;
 mod member;
@@ -18,6 +19,7 @@ mod own_burst;
 mod own_cast;
 mod reception;
 mod recorder;
+mod relaying;
 mod sending;
 mod singles;
 mod state;
@@ -28,8 +30,8 @@ mod tick;
 pub use cb_frames::{FrameFault, Range};
 pub use cb_history::{
     Arrival, ArriveRefusal, BadGroup, BurstDone, BurstRefusal, CastDone, CastRefusal, Entry, Event,
-    Group, GroupMember, History, Identity, LONGEST_HISTORY, Message, MissingFault, Name, NewFault,
-    Outgoing, TickRefusal, Ticked,
+    Group, GroupMember, HelpFault, History, Identity, LONGEST_HISTORY, Message, MissingFault, Name,
+    NewFault, Outgoing, TickRefusal, Ticked,
 };
 pub use cb_times::{NoMemory, TimeOrder, VectorTime};
 pub use core_member::CoreMember;

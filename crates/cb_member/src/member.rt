@@ -1,6 +1,6 @@
 //! The member, and what is read of it.
 
-ghost use Rattle.std.specs.Prelude.{◌≡◌, ◌≢◌, ◌↔◌, ◌⊎◌, ◌≤◌, ◌<◌, [], IfOk, IfErr, OnErr, Some, Err, map, option_map};
+ghost use Rattle.std.specs.Prelude.{◌≡◌, ◌≢◌, ◌↔◌, ◌⊎◌, ◌≤◌, ◌<◌, [], IfOk, IfErr, OnErr, Some, Ok, Err, map, option_map};
 ghost use Rattle.cb_frames.specs.Fields.{One};
 ghost use Rattle.cb_history.specs.Group.{IsIdentity};
 ghost use Rattle.cb_history.specs.Legal.{longest_history, ToCast, ToTake, ToTick};
@@ -8,7 +8,7 @@ ghost use Rattle.cb_history.specs.LegalHistory.{IsLegalHistory};
 ghost use Rattle.cb_history.specs.Facts.{entry_fields};
 ghost use Rattle.cb_history.specs.Load.{many_of};
 ghost use Rattle.cb_history.specs.Known.{ranges_of};
-ghost use Rattle.cb_history.specs.State.{IsMemberState, state_of, time_in, events_in, stable_in, stable_of_in, missing_in, entry_by, HasCast, HasCastBurst, HasTaken, RefusesArrival, HasTicked, RefusesTick};
+ghost use Rattle.cb_history.specs.State.{IsMemberState, state_of, time_in, events_in, stable_in, stable_of_in, missing_in, answer_to_help, entry_by, HasCast, HasCastBurst, HasTaken, RefusesArrival, HasTicked, RefusesHelp, RefusesTick};
 ghost use Rattle.cb_member.specs.Casting.{RefusesExactly, RefusesBurstExactly};
 ghost use Rattle.cb_member.specs.Received.{HasReceivedFrame, HasTakenToSend};
 
@@ -17,8 +17,8 @@ use bytes::Bytes;
 use cb_frames::Range;
 use cb_history::{
     Arrival, ArriveRefusal, BurstDone, BurstRefusal, CastDone, CastRefusal, Entry, Event, Group,
-    GroupMember, History, Identity, LONGEST_HISTORY, MissingFault, NewFault, Outgoing, TickRefusal,
-    Ticked,
+    GroupMember, HelpFault, History, Identity, LONGEST_HISTORY, MissingFault, NewFault, Outgoing,
+    TickRefusal, Ticked,
 };
 use cb_times::{NoMemory, VectorTime};
 use std::alloc::Global;
@@ -140,6 +140,31 @@ impl Member {
         ensures { IfOk result (λ ranges. ranges.items ≡ ranges_of (missing_in self.now i)) }
     {
         self.recorder.state.missing(i)
+    }
+
+    /// The frame that asks a third member for the missing casts of member i: it goes to the first one, other than both, that is known to
+    /// have delivered the first of them. `None` where none is missing, or nobody is known to have it. Nothing changes.
+    ///
+    /// `BadMember` where the group has no member i, or it is this one; that takes no memory.
+    #[tactic(auto, unfolding(cb_history::specs::Helping::help_answer))]
+    pub fn help(&self, i: u32) -> Result<Option<Outgoing>, HelpFault>
+        ensures asked { IfOk result (λ out. answer_to_help self.now i ≡ Ok out) }
+        ensures refused { IfErr result (RefusesHelp self.now i) }
+    {
+        let seat = self.seat();
+        if i >= seat.group().size() || i == seat.me() {
+            return Err(HelpFault::BadMember);
+        }
+        let help = self.help_with(i)?;
+        Ok(help)
+    }
+
+    fn help_with(&self, i: u32) -> Result<Option<Outgoing>, NoMemory>
+        requires of_group { i < self.now.seat.group.size }
+        requires other { i ≢ self.now.seat.me }
+        ensures { IfOk result (λ out. answer_to_help self.now i ≡ Ok out) }
+    {
+        self.recorder.state.help(i)
     }
 
     /// Casts a message of this payload, of up to 1,024 bytes, and answers its name, its time and the frame that goes to all others.
@@ -306,6 +331,10 @@ impl GroupMember for Member {
 
     fn tick(&mut self) -> Result<Ticked, TickRefusal> {
         Member::tick(self)
+    }
+
+    fn help(&self, i: u32) -> Result<Option<Outgoing>, HelpFault> {
+        Member::help(self, i)
     }
 
     fn time(&self) -> Result<VectorTime, NoMemory> {

@@ -18,6 +18,7 @@ use cb_delay::{Event, Message};
 use cb_diffs::difference;
 use cb_frames::{Cast, LONGEST_PAYLOAD};
 use cb_history::CastRefusal;
+use cb_history::laws::relays_keep_what_is_handed_on;
 use cb_times::{Name, NoMemory, VectorTime};
 
 /// A cast of one message or several that can be kept without memory.
@@ -121,6 +122,8 @@ impl State {
         requires { CanKeepCast time.now sent count self.old }
         ensures { HasKept time.now sent count self.old self.new }
     {
+        // asked for what is true of relays with a fact more
+        relays_keep_what_is_handed_on();
         let me = self.seat.me();
         self.delivery.time.copy_from(time);
         self.knowledge.acks.learn(me, me, time.get(me));

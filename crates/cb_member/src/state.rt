@@ -3,14 +3,16 @@
 ghost use Rattle.std.specs.Prelude.{◌≡◌, ◌≢◌, ◌<◌, IfOk, Some, None, length, nat_lt, if◌then◌else◌};
 ghost use Rattle.cb_history.specs.Group.{IsIdentity};
 ghost use Rattle.cb_history.specs.Known.{missing, ranges_of, stable_of};
-ghost use Rattle.cb_member.specs.State.{IsNewState, IsState, IsAlike, OnAll};
+ghost use Rattle.cb_member.specs.State.{IsNewState, IsState, IsAlikeButRelays, OnAll};
 
 use crate::delivery::Delivery;
 use crate::knowledge::Knowledge;
 use crate::reception::Reception;
+use crate::relaying::no_relays;
 use crate::sending::Sending;
 use cb_frames::{FrameBlock, Range};
 use cb_history::Identity;
+use cb_stability::Relays;
 use cb_times::NoMemory;
 use std::alloc::Global;
 
@@ -25,6 +27,8 @@ pub struct State {
     pub reception: Reception,
     pub knowledge: Knowledge,
     pub sending: Sending,
+    /// Of each other member the accepted frames that may be handed on; the member's own keep none.
+    pub relays: Vec<Relays>,
     /// Where the frames of its casts are made.
     pub block: FrameBlock,
 }
@@ -41,14 +45,16 @@ impl State {
             seat,
             delivery: Delivery::new(alloc, size, window)?,
             reception: Reception::new(alloc, size, window)?,
-            knowledge: Knowledge::new(alloc, size)?,
+            knowledge: Knowledge::new(alloc, size, seat.me())?,
             sending: Sending::new(alloc, size, window)?,
+            relays: no_relays(alloc, seat)?,
             block: FrameBlock::new(alloc),
         })
     }
 
+    /// One that knows the same, but keeps nothing to be handed on.
     pub fn copy(&self) -> Result<State, NoMemory>
-        ensures { IfOk result (IsAlike self.now) }
+        ensures { IfOk result (IsAlikeButRelays self.now) }
     {
         Ok(State {
             alloc: self.alloc,
@@ -57,6 +63,7 @@ impl State {
             reception: self.reception.copy()?,
             knowledge: self.knowledge.copy()?,
             sending: self.sending.copy()?,
+            relays: Vec::new(self.alloc),
             block: FrameBlock::new(self.alloc),
         })
     }

@@ -13,6 +13,7 @@ use bytes::Bytes;
 use cb_frames::{Change, Frame, Status, frame_text};
 use cb_gaps::request_of;
 use cb_history::Outgoing;
+use cb_history::laws::relays_keep_what_is_handed_on;
 use cb_times::{NoMemory, VectorTime};
 use std::alloc::Global;
 
@@ -93,6 +94,8 @@ impl State {
         requires { IsState self.old }
         ensures { HasReported self.old self.new }
     {
+        // asked for what is true of relays with a fact more
+        relays_keep_what_is_handed_on();
         self.sending.has_reported = true;
         self.sending.last_reported.copy_from(&self.delivery.time);
     }

@@ -4,7 +4,7 @@ ghost use Rattle.std.specs.Prelude.{◌≡◌, ◌+◌, ◌≤◌, ◌++◌, ◌
 ghost use Rattle.std.specs.Vec.{vec_capacity, vec_len};
 ghost use Rattle.cb_frames.specs.declared.frame.TheConstants.{LAST_NUMBER};
 ghost use Rattle.cb_frames.specs.Fields.{cast_fields, unit_fields, first_number, last_number, CastFrame};
-ghost use Rattle.cb_frames.specs.Text.{RisesFrom};
+ghost use Rattle.cb_frames.specs.Text.{RisesFrom, text_of};
 ghost use Rattle.cb_history.specs.Answers.{are_members};
 ghost use Rattle.cb_history.specs.Load.{FitsFrame};
 ghost use Rattle.cb_member.specs.State.{IsState};
@@ -19,8 +19,10 @@ ghost use Rattle.cb_delay.specs.declared.message.Event.TheVariants.{Deliver};
 use crate::arrival::are_fields;
 use crate::arrival::course::Course;
 use crate::delivery::hold_next;
+use crate::relaying::relay;
 use crate::singles::{Spares, only_cast};
 use crate::state::State;
+use bytes::Bytes;
 use cb_delay::Event;
 use cb_frames::{Cast, Unit};
 use cb_gaps::Admission;
@@ -59,9 +61,10 @@ impl State {
         judge_other(self.reception.buffers[sender as usize].judge(delivered, unit.first(), last))
     }
 
-    /// Takes the unit on its course. What is delivered joins the events, which have room for it; this takes no memory.
-    pub fn take_cast(&mut self, unit: Unit, course: Course, events: &mut Vec<Event>)
+    /// Takes the unit on its course, and keeps its frame. What is delivered joins the events, which have room for it; this takes no memory.
+    pub fn take_cast(&mut self, unit: Unit, frame: Bytes, course: Course, events: &mut Vec<Event>)
         requires can { CanGo (unit_fields unit) course self.old }
+        requires frame { frame ≡ text_of (CastFrame (unit_fields unit)) }
         requires room { vec_len events.old + most course ≤ vec_capacity events.old }
         ensures delivers { DeliversWith (unit_fields unit) self.old self.new events.old.items
             events.new.items }
@@ -69,13 +72,16 @@ impl State {
         ensures few { vec_len events.new ≤ vec_len events.old + most course }
     {
         let before = events.len();
+        let (sender, first, last) = (unit.sender(), unit.first(), unit.last());
         self.go(unit, course, events);
+        relay(&mut self.relays, sender, first, last, frame);
         let (me, time) = (self.seat.me(), &self.delivery.time);
         self.knowledge.acknowledge(me, time, &events[before..]);
         self.sending.trim(me, &self.knowledge.acks);
     }
 
-    fn go(&mut self, unit: Unit, course: Course, events: &mut Vec<Event>)
+    /// Keeps and delivers, and learns nothing of it yet.
+    pub fn go(&mut self, unit: Unit, course: Course, events: &mut Vec<Event>)
         requires can { CanGo (unit_fields unit) course self.old }
         requires room { vec_len events.old + most course ≤ vec_capacity events.old }
         ensures takes { TakesAndDelivers (unit_fields unit) self.old self.new events.old.items

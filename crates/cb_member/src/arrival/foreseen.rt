@@ -1,6 +1,6 @@
 //! Copies of what a cast or a burst will deliver, for a caller who wants messages of its own.
 
-ghost use Rattle.std.specs.Prelude.{◌≡◌, ◌∷◌, [], IfOk};
+ghost use Rattle.std.specs.Prelude.{◌≡◌, ◌∷◌, [], true, IfOk};
 ghost use Rattle.cb_frames.specs.Fields.{unit_fields};
 ghost use Rattle.cb_history.specs.Singles.{IsSingle};
 ghost use Rattle.cb_member.specs.Course.{CanGo, CanLetGoAt};
@@ -15,12 +15,32 @@ use cb_delay::{Event, Message};
 use cb_frames::Unit;
 use cb_times::{Name, NoMemory, VectorTime};
 use std::alloc::Global;
+use std::mem;
 
 impl State {
-    /// Copies of the messages that the unit will deliver on its course, while nothing changes.
-    pub fn foreseen(&self, unit: &Unit, course: &Course) -> Result<Vec<Message>, NoMemory>
-        requires { CanGo (unit_fields unit.now) course.now self.now }
-        ensures { IfOk result (λ copies. AreCopies (unit_fields unit.now) course.now self.now
+    /// Copies of the messages that the unit will deliver on its course, where they are wanted. Nothing changes.
+    pub fn foreseen_if(
+        &mut self,
+        wanted: bool,
+        unit: &Unit,
+        course: &Course,
+    ) -> Result<Vec<Message>, NoMemory>
+        requires { CanGo (unit_fields unit.now) course.now self.old }
+        ensures same { self.new ≡ self.old }
+        ensures copies { IfOk result (λ copies. wanted ≡ true
+            → AreCopies (unit_fields unit.now) course.now self.old copies.items) }
+    {
+        if wanted {
+            self.foreseen(unit, course)
+        } else {
+            Ok(Vec::new(self.alloc))
+        }
+    }
+
+    fn foreseen(&mut self, unit: &Unit, course: &Course) -> Result<Vec<Message>, NoMemory>
+        requires { CanGo (unit_fields unit.now) course.now self.old }
+        ensures same { self.new ≡ self.old }
+        ensures copies { IfOk result (λ copies. AreCopies (unit_fields unit.now) course.now self.old
             copies.items) }
     {
         match course {
@@ -31,17 +51,22 @@ impl State {
         }
     }
 
-    /// What a copy of the state delivers. Rarely is more than one message delivered, and then only is this paid.
-    fn delivered_by_twin(&self, unit: &Unit, most: usize) -> Result<Vec<Message>, NoMemory>
-        requires { CanLetGoAt (unit_fields unit.now) most self.now }
-        ensures { IfOk result (λ copies. AreDeliveries (unit_fields unit.now) self.now
+    /// What a copy of the state delivers. Rarely is more than one message delivered, and then only is this paid. The copy has the
+    /// relays for so long, which are not copied.
+    fn delivered_by_twin(&mut self, unit: &Unit, most: usize) -> Result<Vec<Message>, NoMemory>
+        requires { CanLetGoAt (unit_fields unit.now) most self.old }
+        ensures same { self.new ≡ self.old }
+        ensures copies { IfOk result (λ copies. AreDeliveries (unit_fields unit.now) self.old
             copies.items) }
     {
         let mut twin = self.copy()?;
         let spares = Spares::for_cast(self.alloc, self.seat.group().size(), unit)?;
         twin.reception.reserve(unit.sender(), spares.len())?;
         let mut events = Vec::with_capacity(self.alloc, most)?;
-        twin.take_cast(unit.copy()?, Course::LetsGo { spares, most }, &mut events);
+        let unit = unit.copy()?;
+        mem::swap(&mut self.relays, &mut twin.relays);
+        twin.go(unit, Course::LetsGo { spares, most }, &mut events);
+        mem::swap(&mut self.relays, &mut twin.relays);
         drop(twin);
         messages_of(self.alloc, events)
     }

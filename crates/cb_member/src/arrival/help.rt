@@ -1,14 +1,52 @@
-//! A received help frame: it is judged, and changes nothing.
+//! A received help frame: what is kept of its sender is handed on, and nothing changes.
 
-ghost use Rattle.std.specs.Prelude.{◌≡◌, ◌==◌, ◌||◌};
-ghost use Rattle.cb_frames.specs.Fields.{help_fields};
-ghost use Rattle.cb_member.specs.Answering.{JudgesHelp};
+ghost use Rattle.std.specs.Prelude.{◌≡◌, ◌≢◌, ◌<◌, ◌==◌, ◌||◌, IfOk};
+ghost use Rattle.cb_frames.specs.Fields.{help_fields, HelpFrame};
+ghost use Rattle.cb_history.specs.Answers.{sent_in_answer};
+ghost use Rattle.cb_member.specs.Answering.{IsAnswered, JudgesHelp};
+ghost use Rattle.cb_member.specs.State.{IsState, OnAll};
 
+use crate::arrival::request::sent_to;
+use crate::state::State;
 use cb_frames::Help;
-use cb_history::{ArriveRefusal, Identity};
+use cb_history::laws::relays_keep_what_is_handed_on;
+use cb_history::{ArriveRefusal, Identity, Outgoing};
+use cb_times::NoMemory;
 
-/// The first rule that the help frame breaks. One that breaks none is accepted, and nothing is sent.
-pub fn judge_help(seat: Identity, help: &Help) -> Result<(), ArriveRefusal>
+impl State {
+    /// What is sent in answer to a help frame, which changes nothing.
+    pub fn answer_help(&self, help: &Help) -> Result<Vec<Outgoing>, ArriveRefusal>
+        requires { IsState self.now }
+        ensures { IsAnswered self.now (HelpFrame (help_fields help.now)) result }
+    {
+        judge(self.seat, help)?;
+        let out = self.handed_on(help)?;
+        Ok(out)
+    }
+
+    /// At its helper the first frames that are asked for of those that this member hands on.
+    fn handed_on(&self, help: &Help) -> Result<Vec<Outgoing>, NoMemory>
+        requires state { IsState self.now }
+        requires member { help.now.sender < self.now.seat.group.size }
+        requires third { help.now.helper ≢ help.now.sender }
+        ensures { IfOk result (λ out. OnAll self.now (λ facts. out.items
+            ≡ sent_in_answer self.now.seat facts (HelpFrame (help_fields help.now)))) }
+    {
+        // asked for what is true of the frames that are kept
+        relays_keep_what_is_handed_on();
+        if help.helper != self.seat.me() {
+            return Ok(Vec::new(self.alloc));
+        }
+        let sender = help.sender;
+        let stable = self.knowledge.acks.stable(sender);
+        let delivered = self.delivery.time.get(sender);
+        let frames = self.relays[sender as usize].frames_in(stable, delivered, &help.ranges)?;
+        sent_to(self.alloc, help.requester, frames)
+    }
+}
+
+/// The first rule that the help frame breaks.
+fn judge(seat: Identity, help: &Help) -> Result<(), ArriveRefusal>
     ensures { JudgesHelp seat (help_fields help.now) result }
 {
     let size = seat.group().size();

@@ -18,7 +18,7 @@ impl State {
     /// What is sent in answer to a request, which changes nothing.
     pub fn answer_request(&self, request: &Request) -> Result<Vec<Outgoing>, ArriveRefusal>
         requires { IsState self.now }
-        ensures { IsAnswered self.now (request_fields request.now) result }
+        ensures { IsAnswered self.now (RequestFrame (request_fields request.now)) result }
     {
         judge(self.seat, request)?;
         let out = self.sent_in_answer(request)?;
@@ -57,7 +57,7 @@ fn judge(seat: Identity, request: &Request) -> Result<(), ArriveRefusal>
 }
 
 /// The frames, each to this member.
-fn sent_to(alloc: Global, to: u32, frames: Vec<Bytes>) -> Result<Vec<Outgoing>, NoMemory>
+pub fn sent_to(alloc: Global, to: u32, frames: Vec<Bytes>) -> Result<Vec<Outgoing>, NoMemory>
     ensures { IfOk result (λ out. out.items ≡ map (sent_to to) frames.items) }
 {
     let mut out = Vec::with_capacity(alloc, frames.len())?;

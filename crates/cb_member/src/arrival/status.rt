@@ -12,8 +12,10 @@ ghost use Rattle.cb_member.specs.Knowledge.{AreValuesOf};
 
 use crate::arrival::are_fields;
 use crate::knowledge::Knowledge;
+use crate::relaying::trim_relays;
 use crate::state::State;
 use cb_frames::{Change, Status};
+use cb_history::laws::relays_keep_what_is_handed_on;
 use cb_history::{ArriveRefusal, Identity};
 use cb_times::VectorTime;
 
@@ -115,8 +117,11 @@ impl State {
         requires { CanHear (status_fields status.now) self.old }
         ensures { HasHeard (status_fields status.now) self.old self.new }
     {
+        // asked for what is true of relays with a fact more
+        relays_keep_what_is_handed_on();
         self.knowledge.hear_status(status);
         self.sending.trim(self.seat.me(), &self.knowledge.acks);
+        trim_relays(&mut self.relays, status.sender, &self.knowledge.acks);
     }
 }
 

@@ -17,11 +17,11 @@ ghost use Rattle.cb_member.specs.Received.{count_said, received_says};
 
 use crate::arrival::cast::Judged;
 use crate::arrival::course::Course;
-use crate::arrival::help::judge_help;
 use crate::arrival::status;
 use crate::recorder::Received;
 use crate::recorder::arriving::{Named, heard_in, read};
 use crate::state::State;
+use crate::text::another;
 use bytes::Bytes;
 use cb_delay::Event;
 use cb_frames::{Frame, Help, Request, Status, Unit, each_is_a_text_or_a_fault};
@@ -51,6 +51,8 @@ pub struct Heard {
 #[derive(Drop)]
 pub struct Coming {
     pub unit: Unit,
+    /// Its frame, to be handed on.
+    pub frame: Bytes,
     pub course: Course,
     pub noted: Option<Named>,
 }
@@ -150,6 +152,7 @@ impl State {
             None
         };
         Ok(Coming {
+            frame: another(bytes)?,
             unit,
             course,
             noted,
@@ -164,11 +167,12 @@ impl State {
     {
         let Coming {
             unit,
+            frame,
             course,
             noted,
         } = coming;
         let first = events.len();
-        self.take_cast(unit, course, events);
+        self.take_cast(unit, frame, course, events);
         let noted = match noted {
             Some(named) => Some(named.entry(&events[first..])),
             None => None,
@@ -234,7 +238,7 @@ impl State {
         }
     }
 
-    /// A help frame changes nothing, and nothing is sent.
+    /// What is sent in answer to a help frame, which changes nothing.
     fn receive_help(&self, help: &Help) -> Result<Heard, ArriveRefusal>
         requires { IsCore (core_of self.now) }
         ensures { (noting : Notings) (bytes : List ℕ) (events : List Events)
@@ -242,11 +246,8 @@ impl State {
             → AnswersArrivalOnEach noting bytes (core_of self.now) (core_of self.now) events events
             result }
     {
-        match judge_help(self.seat, help) {
-            Ok(()) => {
-                let out = Vec::new(self.alloc);
-                Ok(not_noted(nothing(false, out)))
-            }
+        match self.answer_help(help) {
+            Ok(out) => Ok(not_noted(nothing(false, out))),
             Err(refusal) => Err(refusal),
         }
     }

@@ -1,5 +1,5 @@
 //! Which course a cast takes. Each would do that lets all go, so no clause says that a cast takes the cheapest one. And what bursts do
-//! that arrive, and statuses of what others delivered: their values are from outside.
+//! that arrive, statuses of what others delivered, and help frames: their values are from outside.
 
 ghost use Rattle.std.specs.Prelude.{◌≡◌, Ok};
 ghost use Rattle.cb_frames.specs.Fields.{unit_fields, CastFrame};
@@ -15,7 +15,7 @@ use crate::recorder::arriving::read;
 use bytes::Bytes;
 use cb_delay::Message;
 use cb_frames::{Frame, Unit, each_is_a_text_or_a_fault};
-use cb_history::{Arrival, ArriveRefusal, Group};
+use cb_history::{Arrival, ArriveRefusal, Group, HelpFault, Outgoing};
 use std::alloc::Global;
 use std::process::Abort;
 
@@ -72,14 +72,14 @@ fn a_cast_takes_the_cheapest_course(rt: HostRuntime) {
         (&[FIRST], FIRST, Way::Nowhere),
     ];
     for (before, frame, way) in ROWS {
-        let member = member_after(&rt, rt.alloc(), before);
+        let member = member_after(&rt, rt.alloc(), 2, before);
         let taken = way_at(rt.alloc(), member, frame);
         assert_eq!(rt; taken, *way);
     }
 }
 
-fn member_after(rt: &impl Abort, alloc: Global, frames: &[&'static [u8]]) -> Member {
-    let mut member = member_at(rt, alloc, 2);
+fn member_after(rt: &impl Abort, alloc: Global, me: u32, frames: &[&'static [u8]]) -> Member {
+    let mut member = member_at(rt, alloc, me);
     for frame in frames {
         let received = member.receive(&Bytes::from_static(frame));
         received.expect(rt, "the frame is taken");
@@ -268,6 +268,103 @@ fn what_others_delivered_is_learnt_of_every_sender(rt: HostRuntime) {
         );
     }
     assert_eq!(rt; member.stable_of(3), None);
+}
+
+/// Member 1 delivered the first two messages of member 0; so member 2, which lacks them, asks it for both. Or it asks for the second
+/// alone; or it asks member 0 for the first message of member 1.
+const HEARD: &[u8] = b"\x12\x07\x01\x01\x00\x02";
+
+const HELP: &[u8] = b"\x23\x07\x02\x01\x00\x01\x00\x01";
+
+const HELP_WITH_SECOND: &[u8] = b"\x23\x07\x02\x01\x00\x01\x01\x00";
+
+const HELP_ELSEWHERE: &[u8] = b"\x23\x07\x02\x00\x01\x01\x00\x00";
+
+/// The first cast of member 2, which had delivered nothing.
+const ASIDE: &[u8] = b"\x11\x07\x02\x01\x00\x02hm";
+
+/// What member 1 received before, a help frame, and what is sent to member 2 in answer.
+type HandedOn = (
+    &'static [&'static [u8]],
+    &'static [u8],
+    &'static [&'static [u8]],
+);
+
+#[test]
+fn what_is_delivered_and_not_stable_is_handed_on_as_it_came(rt: HostRuntime) {
+    const ROWS: &[HandedOn] = &[
+        (&[FIRST, SECOND], HELP, &[FIRST, SECOND]),
+        (&[FIRST, SECOND], HELP_WITH_SECOND, &[SECOND]),
+        // the helper went on by then
+        (&[FIRST, ASIDE], HELP, &[FIRST]),
+        // it waits, and then is delivered
+        (&[SECOND], HELP, &[]),
+        (&[SECOND, FIRST], HELP, &[FIRST, SECOND]),
+        // of a burst one message is asked for
+        (&[GREETING], HELP_WITH_SECOND, &[GREETING]),
+        // the one who asks has it
+        (&[FIRST, SECOND, SAID], HELP, &[]),
+        (&[FIRST, SECOND], HELP_ELSEWHERE, &[]),
+    ];
+    for (before, help, wanted) in ROWS {
+        let mut member = member_after(&rt, rt.alloc(), 1, before);
+        let answer = member.arrive(&Bytes::from_static(help));
+        drop(member);
+        let as_wanted = are_sent(answer, wanted);
+        assert_eq!(rt; as_wanted, true);
+    }
+}
+
+/// Nothing is delivered or changed, and these frames go to member 2.
+fn are_sent(answer: Result<Arrival, ArriveRefusal>, wanted: &[&[u8]]) -> bool {
+    match answer {
+        Ok(
+            Arrival::Accepted {
+                deliveries,
+                changed,
+                out,
+            },
+        ) => {
+            deliveries.is_empty()
+                && !changed
+                && out.len() == wanted.len()
+                && out.iter().zip(wanted).all(is_sent)
+        }
+        Ok(Arrival::Repeat) | Err(_) => false,
+    }
+}
+
+fn is_sent(both: (&Outgoing, &&[u8])) -> bool {
+    let (frame, wanted) = both;
+    frame.to == Some(2) && frame.bytes.as_slice() == *wanted
+}
+
+/// A member, and whether help with its casts is asked of member 1, of nobody, or refused.
+type Asked = (u32, Result<bool, HelpFault>);
+
+#[test]
+fn who_is_known_to_have_it_is_asked_for_what_is_missing(rt: HostRuntime) {
+    const ROWS: &[Asked] = &[
+        (0, Ok(true)),
+        (1, Ok(false)),
+        (2, Err(HelpFault::BadMember)),
+        (3, Err(HelpFault::BadMember)),
+    ];
+    let member = member_after(&rt, rt.alloc(), 2, &[HEARD]);
+    for (i, wanted) in ROWS {
+        let asked = member.help(*i);
+        let as_wanted = is_asked(asked, *wanted);
+        assert_eq!(rt; as_wanted, true);
+    }
+}
+
+fn is_asked(asked: Result<Option<Outgoing>, HelpFault>, wanted: Result<bool, HelpFault>) -> bool {
+    match (asked, wanted) {
+        (Ok(Some(help)), Ok(true)) => help.to == Some(1) && help.bytes.as_slice() == HELP,
+        (Ok(None), Ok(false)) => true,
+        (Err(fault), Err(wanted)) => fault == wanted,
+        _ => false,
+    }
 }
 
 fn changes(answer: Result<Arrival, ArriveRefusal>) -> bool {

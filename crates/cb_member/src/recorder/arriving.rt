@@ -14,7 +14,6 @@ ghost use Rattle.cb_member.specs.declared.recorder.taken.Wanted.{Wanted as Wants
 
 use crate::arrival::cast::Judged;
 use crate::arrival::course::Course;
-use crate::arrival::help::judge_help;
 use crate::arrival::status;
 use crate::recorder::Recorder;
 use crate::recorder::taken::{Received, Taken, Wanted};
@@ -32,6 +31,8 @@ use std::alloc::Global;
 #[derive(Drop)]
 pub struct Arriving {
     pub unit: Unit,
+    /// Its frame, to be handed on.
+    pub frame: Bytes,
     pub course: Course,
     pub entry: Named,
     /// What the caller wants of it.
@@ -103,17 +104,14 @@ impl Recorder {
         let course = self.state.course_of(&unit)?;
         let most = course.most();
         self.reserve(most)?;
-        let deliveries = if wanted.deliveries {
-            self.state.foreseen(&unit, &course)?
-        } else {
-            Vec::new(self.state.alloc)
-        };
+        let deliveries = self.state.foreseen_if(wanted.deliveries, &unit, &course)?;
         let noted = if wanted.entry {
             Some(Named::with_room(self.state.alloc, bytes, most)?)
         } else {
             None
         };
         Ok(Arriving {
+            frame: another(bytes)?,
             entry: Named::with_room(self.state.alloc, bytes, most)?,
             unit,
             course,
@@ -129,13 +127,14 @@ impl Recorder {
     {
         let Arriving {
             unit,
+            frame,
             course,
             entry,
             deliveries,
             noted,
         } = arriving;
         let first = self.events.len();
-        self.state.take_cast(unit, course, &mut self.events);
+        self.state.take_cast(unit, frame, course, &mut self.events);
         let delivered = &self.events[first..];
         let noted = match noted {
             Some(named) => Some(named.entry(delivered)),
@@ -215,15 +214,22 @@ impl Recorder {
         }
     }
 
-    /// A help frame changes nothing, and nothing is sent.
+    /// What is sent in answer to a help frame, which changes nothing.
     fn answer_help(&self, help: &Help) -> Result<Taken, ArriveRefusal>
         requires { IsKept self.now }
         ensures { (wanted : Wants) (bytes : List ℕ)
             → frame_read bytes ≡ Ok (HelpFrame (help_fields help.now))
             → AnswersBytes wanted bytes self.now self.now result }
     {
-        match judge_help(self.state.seat, help) {
-            Ok(()) => Ok(unchanged(self.state.alloc, nothing(self.state.alloc, false))),
+        match self.state.answer_help(help) {
+            Ok(out) => Ok(unchanged(
+                self.state.alloc,
+                Received::Accepted {
+                    delivered: 0,
+                    changed: false,
+                    out,
+                },
+            )),
             Err(refusal) => Err(refusal),
         }
     }

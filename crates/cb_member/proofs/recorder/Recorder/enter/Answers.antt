@@ -1,4 +1,5 @@
 use Rattle.std.proofs.Common.{◌≡◌, ◌-◌, ◌∙◌, true, ℕ, List, length, drop, take, Some, refl, ap}
+use Rattle.cb_frames.specs.Fields.{unit_fields}
 use Rattle.cb_history.specs.declared.history.Entry.{Entry}
 use Rattle.cb_history.specs.declared.answer.Outgoing.{Outgoing}
 use Rattle.cb_history.specs.Answers.{Accepted}
@@ -6,8 +7,14 @@ use Rattle.cb_history.specs.Facts.{ArriveEntry, entry_fields}
 use Rattle.cb_member.specs.declared.recorder.arriving.Named.{Named}
 use Rattle.cb_member.specs.Received.{names_of}
 use Rattle.cb_member.proofs.Accepting.{entered, same_named, no_named}
+use Rattle.cb_member.proofs.Reading.{read_text}
 use Rattle.cb_member.proofs.recorder.Recorder.enter.Goals as goal
 use Rattle.cb_member.proofs.recorder.Recorder.enter.Goals.{in-Some, in-None}
+
+pub take_cast-requires-clause-frame : goal.take_cast-requires-clause-frame
+take_cast-requires-clause-frame c =
+    let can = c.requires.can in
+    read_text c.requires.bytes c.args.arriving.frame (unit_fields c.args.arriving.unit) can.bytes_are can.read can.frame
 
 pub returns : goal.returns
 returns c wanted bytes can =

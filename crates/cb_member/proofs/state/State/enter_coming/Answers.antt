@@ -1,5 +1,6 @@
 use Rattle.std.proofs.Common.{◌≡◌, ◌-◌, ◌∙◌, ℕ, true, List, length, map, drop, take, Some, ap}
 use Rattle.std.specs.Prelude.{option_map}
+use Rattle.cb_frames.specs.Fields.{unit_fields}
 use Rattle.cb_delay.specs.declared.message.Event.{Event}
 use Rattle.cb_history.specs.declared.answer.Outgoing.{Outgoing}
 use Rattle.cb_history.specs.Answers.{Accepted}
@@ -10,8 +11,14 @@ use Rattle.cb_member.specs.Received.{names_of}
 use Rattle.cb_member.proofs.Accepting.{same_named, no_named}
 use Rattle.cb_member.proofs.Arriving.{since_then}
 use Rattle.cb_member.proofs.CoreArrivals.{came_so}
+use Rattle.cb_member.proofs.Reading.{read_text}
 use Rattle.cb_member.proofs.state.State.enter_coming.Goals as goal
 use Rattle.cb_member.proofs.state.State.enter_coming.Goals.{in-Some, in-None}
+
+pub take_cast-requires-clause-frame : goal.take_cast-requires-clause-frame
+take_cast-requires-clause-frame c =
+    let can = c.requires.coming.can in
+    read_text c.requires.coming.bytes c.args.coming.frame (unit_fields c.args.coming.unit) can.bytes_are can.read can.frame
 
 pub returns : goal.returns
 returns c wanted bytes can =

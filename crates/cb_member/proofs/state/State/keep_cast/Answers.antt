@@ -22,7 +22,7 @@ returns c = record {
       let acks = c.args.self.now.knowledge.acks in
       let me = c.me-me.result in
       let learns = subst (Learns acks c.learn.new.self me me) (c.get.ensures.field ∙ ap (λ (time : List ℕ). field time me) (sym c.copy_from.ensures.copied)) c.learn.ensures in
-      cast_keeps c.args.self.now facts load c.copy_from.new.self c.copy_from-2.new.self c.args.sent c.args.count c.learn.new.self c.put.new.self are keeps
+      cast_keeps c.relays_keep_what_is_handed_on.ensures.stay c.args.self.now facts load c.copy_from.new.self c.copy_from-2.new.self c.args.sent c.args.count c.learn.new.self c.put.new.self are keeps
       (c.copy_from.ensures.copied ∙ at) (c.copy_from-2.ensures.copied ∙ at) is many
       (subst (λ (k : ℕ). Learns acks c.learn.new.self k k (field c.copy_from.new.self k)) c.me-me.ensures.me learns) c.put.ensures;
 }

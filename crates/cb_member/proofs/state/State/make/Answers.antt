@@ -25,14 +25,14 @@ payload_in-requires c =
 
 pub message_of-requires-clause-next : goal.message_of-requires-clause-next
 message_of-requires-clause-next c facts are keeps = c.in_ok-cast.ensures facts are
-    (record { delivered = keeps.delivered; received = keeps.received; knows = keeps.knows; sent = keeps.sent }) (One c.in_ok-payload_in.field-0)
+    (record { delivered = keeps.delivered; received = keeps.received; knows = keeps.knows; sent = keeps.sent; relayed = keeps.relayed }) (One c.in_ok-payload_in.field-0)
 
 pub returns-clause-made : goal.returns-clause-made
 returns-clause-made c facts are keeps =
     let load = One c.args.payload.now in
     let out = c.in_ok-out.ensures ∙ ap (λ (cast : CastFields). text_of (CastFrame cast)) (c.in_ok-cast.ensures facts are keeps load) in
     record {
-      messages = ap (λ (others : List Message). c.in_ok-first.first ∷ others) c.new-others.ensures.items ∙ c.in_ok-first.ensures facts are (record { delivered = keeps.delivered; received = keeps.received; knows = keeps.knows; sent = keeps.sent })
+      messages = ap (λ (others : List Message). c.in_ok-first.first ∷ others) c.new-others.ensures.items ∙ c.in_ok-first.ensures facts are (record { delivered = keeps.delivered; received = keeps.received; knows = keeps.knows; sent = keeps.sent; relayed = keeps.relayed })
           ∙ ap (λ (bytes : List ℕ). next_messages c.args.self.now.seat facts (One bytes)) c.in_ok-payload_in.ensures;
       out = out;
       sent = c.in_ok-sent.ensures ∙ out;

@@ -28,6 +28,7 @@ returns-clause-can c =
       core_is = subst IsCore (sym (same_core old new same)) c.requires.core;
       bytes_are = c.requires.bytes;
       read = c.requires.read;
+      frame = c.in_ok-another.ensures;
       new = is_new_alike (unit_fields c.args.unit) old new same c.requires.new;
       can_go = c.in_ok-course.ensures.course;
       noted = noted;

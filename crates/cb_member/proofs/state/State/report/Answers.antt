@@ -8,5 +8,5 @@ copy_from-requires c = fields_agree c.args.self.now c.requires.facts c.requires.
 pub returns : goal.returns
 returns c = record {
   seat = refl;
-  keeps = λ facts are keeps. reported_keeps c.args.self.now facts c.copy_from.new.self keeps c.copy_from.ensures.copied;
+  keeps = λ facts are keeps. reported_keeps c.relays_keep_what_is_handed_on.ensures.stay c.args.self.now facts c.copy_from.new.self are keeps c.copy_from.ensures.copied;
 }

@@ -15,7 +15,7 @@ hold_next-requires c = message_has_turn c.args.sender c.messages.self c.expand_n
 pub messages-preserved : goal.messages-preserved
 messages-preserved c =
     let was = c.messages.self in
-    let only : OnlyTakesIn was _ = record { seat = refl; time = refl; acks = refl; sending = refl } in
+    let only : OnlyTakesIn was _ = record { seat = refl; time = refl; acks = refl; sending = refl; relays = refl } in
     let one : TakesOne c.args.sender was _ c.in-Some.message = record {
       expands = c.in-Some.ensures.some;
       fields = c.raise.ensures.size;

@@ -39,7 +39,7 @@ take_all-requires c =
       keeps = c.keep.ensures;
       hears = hears;
       queue = refl;
-      only = record { seat = refl; time = refl; acks = c.hear.ensures.acks; sending = refl };
+      only = record { seat = refl; time = refl; acks = c.hear.ensures.acks; sending = refl; relays = refl };
     } in
     record {
       facts = can.facts;
@@ -53,7 +53,7 @@ pub returns : goal.returns
 returns c =
     let unit = unit_fields c.args.unit in
     let mid : State = record c.args.self.now { reception = c.keep.new.self; knowledge = c.hear.new.self } in
-    let only : OnlyTakesIn c.args.self.now mid = record { seat = refl; time = refl; acks = c.hear.ensures.acks; sending = refl } in
+    let only : OnlyTakesIn c.args.self.now mid = record { seat = refl; time = refl; acks = c.hear.ensures.acks; sending = refl; relays = refl } in
     let hears = subst (λ (i : ℕ). Hears i (last_number unit) c.args.self.now.knowledge c.hear.new.self) c.sender-sender.ensures
     (subst (λ (n : ℕ). Hears c.sender-sender.result n c.args.self.now.knowledge c.hear.new.self) c.last-last.ensures c.hear.ensures) in
     let begun : IsBegun unit (times_in c.args.spares) c.args.self.now mid = record { keeps = c.keep.ensures; hears = hears; queue = refl; only = only } in
