@@ -8,10 +8,10 @@ use Rattle.std.proofs.lemmas.List.{length-set, get_or-set_same, get_or-set_other
 use Rattle.std.proofs.lemmas.List.FromFn.{length-map-range_with_len}
 use Rattle.cb_times.specs.Order.{field}
 use Rattle.cb_frames.specs.declared.frame.TheConstants.{LONGEST_PAYLOAD}
-use Rattle.cb_frames.specs.Carrying.{AreNumberedFrom, IsNumberedCast}
+use Rattle.cb_frames.specs.Carrying.{AreNumberedFrom}
 use Rattle.cb_frames.specs.Fields.{Load, One, IsSome, payloads_of, CastFields, Carried, CastFrame, messages_of, first_number}
 use Rattle.cb_frames.specs.Text.{KeepsCastRules, text_of}
-use Rattle.cb_frames.proofs.Carried.{carried_in_order, carries_payloads, rules_number}
+use Rattle.cb_frames.proofs.Carried.{carried_in_order, carries_payloads}
 use Rattle.cb_history.specs.declared.answer.CastRefusal.{CastRefusal}
 use Rattle.cb_history.specs.declared.answer.CastRefusal.TheVariants as casts
 use Rattle.cb_history.specs.declared.answer.BurstRefusal.{BurstRefusal}
@@ -70,18 +70,13 @@ pub counts_upto_are_small : (m : MemberState) (k : ℕ) → IsMemberState m → 
 counts_upto_are_small m k state =
     omega (arith, upto_below m.seat (facts_in m) k (legal_histories_say_legal_facts m.seat m.entries state.legal).facts_are, counts_are_small m k state)
 
--- its next cast keeps the rules of a frame, and each of its messages has a number
+-- its next cast keeps the rules of a frame
 pub next_keeps_rules : (m : MemberState) (load : Load) → IsMemberState m → FitsFrame load → KeepsCastRules (next_in m load)
 next_keeps_rules m load state fits =
     let few = fits.few in
     let own : delivered m.seat (facts_in m) m.seat.me ≤ most_seen = counts_are_small m m.seat.me state in
     next_keeps m.seat (facts_in m) load (fitting_keeps_rules (delivered m.seat (facts_in m) m.seat.me + 1) load fits (omega (arith, few, own)))
     state.legal.group.size.at_most_sixty_four state.legal.member
-
-pub next_is_numbered : (m : MemberState) (load : Load) → IsMemberState m → FitsFrame load → IsNumberedCast (next_in m load)
-next_is_numbered m load state fits =
-    let own : delivered m.seat (facts_in m) m.seat.me ≤ most_seen = counts_are_small m m.seat.me state in
-    rules_number (next_in m load) (next_keeps_rules m load state fits) (omega (arith, own))
 
 pub next_is_made : (m : MemberState) (head : Head) (load : Load) → IsNextHead m head
     → record { group = head.group; sender = head.sender; number = head.number; changes = head.changes.items; load = load } ≡ next_in m load

@@ -5,5 +5,6 @@ pub mod Bounds
 pub mod Casting
 pub mod Calls
 pub mod Answering
+pub mod Helping
 pub mod Ticking
 pub mod Arriving

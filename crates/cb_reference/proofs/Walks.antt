@@ -1,8 +1,11 @@
 -- Steps of the plain program's loops, over plain variables.
-use Rattle.std.proofs.Common.{◌≡◌, ℕ, suc, ◌+◌, ◌-◌, ◌<◌, ◌≤◌, Bool, true, false, not, ◌&&◌, List, [], ◌∷◌, ◌++◌, Option, Some, None, refl, arith}
-use Rattle.std.specs.List.{list_all, list_any, range_with_len}
+use Rattle.std.proofs.Common.{◌≡◌, ℕ, zero, suc, ◌+◌, ◌-◌, ◌<◌, ◌≤◌, Bool, true, false, not, ◌&&◌, List, [], ◌∷◌, ◌++◌, Option, Some, None, refl, sym, ap, ◌∙◌, append_assoc, arith, inl, inr}
+use Rattle.std.specs.List.{list_all, list_any, flat_map, range_with_len}
+use Rattle.std.proofs.lemmas.Bool.{cases_Bool}
+use Rattle.std.proofs.lemmas.Option.{same_Some}
 use Rattle.cb_frames.specs.Fields.{CastFields, Carried}
 use Rattle.cb_history.specs.View.{lesser_sender, next_delivery, drained}
+use Rattle.cb_history.specs.Helping.{first_where}
 
 -- ---- numbers in a row
 
@@ -55,7 +58,6 @@ drained_end size casts budget i seen le =
     let b : budget - i ≡ 0 = omega arith in
     rw b refl
 
--- each cast carries one message
 -- ---- the first number in a row that meets a test
 
 pub any_more : (p : ℕ → Bool) (n i : ℕ) → i < n → p i ≡ false → list_any p (range_with_len (i + 1) (n - (i + 1))) ≡ list_any p (range_with_len i (n - i))
@@ -66,3 +68,26 @@ any_holds p n i lt holds = rw (row_more n i lt, holds) refl
 
 pub any_end : (p : ℕ → Bool) (a n i : ℕ) → n ≤ i → list_any p (range_with_len a (n - i)) ≡ false
 any_end p a n i le = rw (range_end a n i le) refl
+
+pub first_here : (p : ℕ → Bool) (n i : ℕ) → i < n → p i ≡ true → first_where p (range_with_len i (n - i)) ≡ Some i
+first_here p n i lt holds = rw (row_more n i lt, holds) refl
+
+pub first_later : (p : ℕ → Bool) (n i : ℕ) → i < n → p i ≡ false → first_where p (range_with_len (i + 1) (n - (i + 1))) ≡ first_where p (range_with_len i (n - i))
+first_later p n i lt fails = rw (row_more n i lt, fails) refl
+
+-- it is one of the row
+pub first_below : (p : ℕ → Bool) (a n k : ℕ) → first_where p (range_with_len a n) ≡ Some k → k < a + n
+first_below p a zero k is = absurd cc
+first_below p a (suc n) k is = elim (cases_Bool (p a)) [
+  | inl holds ↦ let here : Some a ≡ Some k = sym (rw holds refl) ∙ is in omega (arith, same_Some a k here)
+  | inr fails ↦ let later : first_where p (range_with_len (a + 1) n) ≡ Some k = sym (rw fails refl) ∙ is in let below = first_below p (a + 1) n k later in omega (arith, below)
+]
+
+-- ---- what is found for one number of a row after another
+
+pub found_more : {A : Type 0} (f : ℕ → List A) (a n i : ℕ) (items new whole : List A) → i < n → new ≡ items ++ f (i + a)
+    → items ++ flat_map f (range_with_len (i + a) (n - i)) ≡ whole → new ++ flat_map f (range_with_len ((i + 1) + a) (n - (i + 1))) ≡ whole
+found_more {A} f a n i items new whole lt pushed h =
+    let others = flat_map f (range_with_len ((i + 1) + a) (n - (i + 1))) in
+    let e : flat_map f (range_with_len (i + a) (n - i)) ≡ f (i + a) ++ others = rw (range_more a n i lt) refl in
+    rw pushed (append_assoc items (f (i + a)) others ∙ ap (λ (xs : List A). items ++ xs) (sym e) ∙ h)

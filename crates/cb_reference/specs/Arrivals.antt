@@ -39,9 +39,9 @@ abbrev pub JudgesRequest : MemberState → RequestFields → Result (Unit {0}) A
 JudgesRequest m r (Ok done) = answer_to_frame m (RequestFrame r) ≡ Ok (Accepted [] false (sent_in_answer m.seat (facts_in m) (RequestFrame r)))
 JudgesRequest m r (Err refusal) = answer_to_frame m (RequestFrame r) ≡ Err refusal
 
--- and of a help frame, which changes nothing and is answered by nothing
+-- and of a help frame, which changes nothing
 abbrev pub JudgesHelp : MemberState → HelpFields → Result (Unit {0}) ArriveRefusal → Type 0
-JudgesHelp m h (Ok done) = answer_to_frame m (HelpFrame h) ≡ Ok (Accepted [] false [])
+JudgesHelp m h (Ok done) = answer_to_frame m (HelpFrame h) ≡ Ok (Accepted [] false (sent_in_answer m.seat (facts_in m) (HelpFrame h)))
 JudgesHelp m h (Err refusal) = answer_to_frame m (HelpFrame h) ≡ Err refusal
 
 -- bytes that are no frame, or out of memory for a frame

@@ -1,4 +1,5 @@
 pub mod Facts
+pub mod Casts
 pub mod Reading
 pub mod Messages
 pub mod Past

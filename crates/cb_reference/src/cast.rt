@@ -2,7 +2,7 @@
 
 ghost use Rattle.std.specs.Prelude.{◌≡◌, ◌⊎◌, ◌+◌, ◌<◌, ◌≤◌, ◌++◌, ◌∷◌, [], nat_lt, false, Ok, Err, IfOk, IfErr, map, length, ℕ, List};
 ghost use Rattle.std.specs.List.{concat};
-ghost use Rattle.cb_frames.specs.Fields.{payloads_of, load_bytes, first_number, unit_fields, Carried, CastFrame};
+ghost use Rattle.cb_frames.specs.Fields.{payloads_of, load_bytes, first_number, fields_of, unit_fields, Carried, CastFrame};
 ghost use Rattle.cb_frames.specs.Laws.{IsBytes};
 ghost use Rattle.cb_frames.specs.Text.{KeepsRules, payload_bytes, text_of};
 ghost use Rattle.cb_diffs.specs.Differences.{differences};
@@ -18,7 +18,7 @@ ghost use Rattle.cb_reference.specs.Facts.{fact_of};
 ghost use Rattle.cb_reference.specs.Messages.{carried_of};
 ghost use Rattle.cb_reference.specs.Past.{most_seen};
 
-use crate::casts::{CastRead, Message};
+use crate::casts::Message;
 use crate::facts::{Fact, facts_of};
 use crate::known::stable;
 use crate::member::ReferenceMember;
@@ -26,7 +26,7 @@ use crate::past::Past;
 use crate::view::{count, counts, view};
 use bytes::Bytes;
 use cb_frames::{
-    Burst, Cast, Change, LAST_NUMBER, LONGEST_PAYLOAD, MOST_MESSAGES, Unit, frame_text,
+    Burst, Cast, Change, Frame, LAST_NUMBER, LONGEST_PAYLOAD, MOST_MESSAGES, Unit, frame_text,
 };
 use cb_history::{BurstDone, BurstRefusal, Entry};
 use cb_times::{Name, NoMemory, VectorTime};
@@ -229,14 +229,22 @@ fn unit_of(alloc: Global, head: Head, load: Load<'_>) -> Result<Unit, NoMemory>
 }
 
 /// The next own cast of this load.
-fn next_cast(past: &Past<'_>, load: Load<'_>) -> Result<CastRead, NoMemory>
+fn next_cast(past: &Past<'_>, load: Load<'_>) -> Result<Unit, NoMemory>
     requires { FitsFrame (load_of load) }
-    ensures { IfOk result (λ cast. cast ≡ next_in past.now (load_of load.entry)) }
+    ensures { IfOk result (λ unit. unit_fields unit ≡ next_in past.now (load_of load.entry)) }
 {
-    let alloc = past.member().allocator();
     let head = next_head(past)?;
-    let unit = unit_of(alloc, head, load)?;
-    Ok(CastRead::of(unit))
+    unit_of(past.allocator(), head, load)
+}
+
+/// The frame of a unit.
+fn frame_of(unit: Unit) -> Frame
+    ensures { fields_of result ≡ CastFrame (unit_fields unit) }
+{
+    match unit {
+        Unit::One(cast) => Frame::Cast(cast),
+        Unit::Many(burst) => Frame::Burst(burst),
+    }
 }
 
 /// A cast that was made, and the entry that it adds.
@@ -258,28 +266,26 @@ fn next_time(past: &Past<'_>) -> Result<VectorTime, NoMemory>
 }
 
 /// The cast as its frame and its entry.
-fn casting_of(
-    alloc: Global,
-    cast: CastRead,
-    count: u32,
-    time: VectorTime,
-) -> Result<Casting, NoMemory>
-    requires rules { KeepsRules (CastFrame cast) }
-    requires payload { length (payload_bytes (CastFrame cast)) ≤ LONGEST_PAYLOAD }
+fn casting_of(alloc: Global, cast: Unit, count: u32, time: VectorTime) -> Result<Casting, NoMemory>
+    requires rules { KeepsRules (CastFrame (unit_fields cast)) }
+    requires payload { length (payload_bytes (CastFrame (unit_fields cast))) ≤ LONGEST_PAYLOAD }
     ensures done { IfOk result (λ casting. casting.done ≡ record {
-      first = record { sender = cast.sender; number = first_number cast };
+      first = record {
+        sender = (unit_fields cast).sender;
+        number = first_number (unit_fields cast);
+      };
       count = count;
       time = time;
-      out = text_of (CastFrame cast);
+      out = text_of (CastFrame (unit_fields cast));
     }) }
     ensures entry { IfOk result (λ casting.
-        entry_fields casting.entry ≡ CastEntry (text_of (CastFrame cast))) }
+        entry_fields casting.entry ≡ CastEntry (text_of (CastFrame (unit_fields cast)))) }
 {
     let first = Name {
         sender: cast.sender(),
         number: cast.first(),
     };
-    let out = frame_text(alloc, &cast.into_frame())?;
+    let out = frame_text(alloc, &frame_of(cast))?;
     let entry = Entry::Cast {
         frame: out.clone()?,
     };

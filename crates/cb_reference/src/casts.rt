@@ -1,14 +1,15 @@
 //! Casts that were read, and the messages that they carry.
 
-ghost use Rattle.std.specs.Prelude.{◌≡◌, ◌≤◌, ◌+◌, IfOk, length, map};
+ghost use Rattle.std.specs.Prelude.{◌≡◌, ◌≤◌, ◌+◌, IfOk, filter, length, map, nat_le, nat_lt};
 ghost use Rattle.cb_frames.specs.declared.frame.TheConstants.{LAST_NUMBER};
 ghost use Rattle.cb_frames.specs.Carrying.{IsNumbered, IsNumberedCast};
-ghost use Rattle.cb_frames.specs.Fields.{CastFrame, fields_of, first_number, last_number, messages_of, numbered, unit_fields};
+ghost use Rattle.cb_frames.specs.Fields.{CastFrame, first_number, last_number, messages_of, numbered, unit_fields};
+ghost use Rattle.cb_frames.specs.Text.{text_of};
 ghost use Rattle.cb_history.specs.Facts.{messages_in};
 ghost use Rattle.cb_reference.specs.Messages.{cast_of, carried_of};
 
 use bytes::Bytes;
-use cb_frames::{Change, Frame, Unit};
+use cb_frames::{Change, Unit};
 use cb_times::NoMemory;
 use std::alloc::Global;
 use std::marker::Model;
@@ -21,30 +22,32 @@ pub struct Message<'a> {
     pub payload: &'a Bytes,
 }
 
-/// A cast of one message or of several. It carries some message, and each has a number.
+/// A cast of one message or of several, and the bytes that it was read from. It carries some message, and each has a number.
 #[derive(Drop)]
 pub struct CastRead {
     unit: Unit,
+    frame: Bytes,
 }
 
 impl Model for CastRead {
-    ghost use Rattle.cb_frames.specs.Carrying.{IsNumbered};
     ghost use Rattle.cb_frames.specs.Fields.{CastFields, unit_fields};
+    ghost use Rattle.cb_reference.specs.Casts.{IsCastRead};
 
     ghost Value = { CastFields };
 
     ghost view = { λ c. unit_fields c.unit };
 
-    ghost invariant = { λ c. IsNumbered c.unit };
+    ghost invariant = { λ c. IsCastRead c.unit c.frame };
 }
 
 impl CastRead {
-    /// The cast that the unit is.
-    pub fn of(unit: Unit) -> CastRead
-        requires { IsNumbered unit }
+    /// The cast that the unit is, which was read from this frame.
+    pub fn of(unit: Unit, frame: Bytes) -> CastRead
+        requires numbered { IsNumbered unit }
+        requires text { frame ≡ text_of (CastFrame (unit_fields unit)) }
         ensures { result ≡ unit_fields unit }
     {
-        CastRead { unit }
+        CastRead { unit, frame }
     }
 
     /// The number of the group.
@@ -101,14 +104,11 @@ impl CastRead {
         }
     }
 
-    /// The frame that it is.
-    pub fn into_frame(self) -> Frame
-        ensures { fields_of result ≡ CastFrame self }
+    /// Its frame, byte for byte.
+    pub fn frame(&self) -> Result<Bytes, NoMemory>
+        ensures { IfOk result (λ bytes. bytes ≡ text_of (CastFrame self.now)) }
     {
-        match self.unit {
-            Unit::One(cast) => Frame::Cast(cast),
-            Unit::Many(burst) => Frame::Burst(burst),
-        }
+        self.frame.clone()
     }
 }
 
@@ -193,4 +193,40 @@ fn messages_in<'a>(alloc: Global, casts: &[&'a CastRead]) -> Result<Vec<Message<
         messages.extend_from_slice(&cast.messages(alloc)?)?;
     }
     Ok(messages)
+}
+
+/// The casts whose last message is none after number n.
+pub fn ending_upto<'a>(
+    alloc: Global,
+    casts: &[&'a CastRead],
+    n: u32,
+) -> Result<Vec<&'a CastRead>, NoMemory>
+    ensures { IfOk result (λ ending. map cast_of ending.items
+        ≡ filter (λ c. nat_le (last_number c) n) (map cast_of casts.now)) }
+{
+    let mut ending = Vec::new(alloc);
+    for cast in casts {
+        if cast.last() <= n {
+            ending.push(*cast)?;
+        }
+    }
+    Ok(ending)
+}
+
+/// The casts whose last message is one after number n.
+pub fn ending_above<'a>(
+    alloc: Global,
+    casts: &[&'a CastRead],
+    n: u32,
+) -> Result<Vec<&'a CastRead>, NoMemory>
+    ensures { IfOk result (λ ending. map cast_of ending.items
+        ≡ filter (λ c. nat_lt n (last_number c)) (map cast_of casts.now)) }
+{
+    let mut ending = Vec::new(alloc);
+    for cast in casts {
+        if n < cast.last() {
+            ending.push(*cast)?;
+        }
+    }
+    Ok(ending)
 }

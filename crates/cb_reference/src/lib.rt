@@ -6,10 +6,13 @@
 #![tactic(auto)]
 
 mod arrival;
+mod asked;
 mod cast;
 mod casts;
 mod events;
 mod facts;
+mod handed_on;
+mod help;
 mod known;
 mod member;
 mod past;

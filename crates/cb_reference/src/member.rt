@@ -11,13 +11,14 @@ ghost use Rattle.cb_history.specs.CastFault.{burst_fault_told, fault_told};
 ghost use Rattle.cb_history.specs.Load.{many_of};
 ghost use Rattle.cb_history.specs.Legal.{longest_history, ToCast, ToTake, ToTick, IsLegal, and_entry};
 ghost use Rattle.cb_history.specs.LegalHistory.{IsLegalHistory};
-ghost use Rattle.cb_history.specs.State.{state_of, events_in, missing_in, stable_in, stable_of_in, time_in, IsMemberState, facts_in, entry_by, HasCast, RefusesCast, HasCastBurst, RefusesBurst, HasTaken, RefusesArrival, HasTicked, RefusesTick};
+ghost use Rattle.cb_history.specs.State.{state_of, events_in, missing_in, stable_in, stable_of_in, time_in, IsMemberState, facts_in, answer_to_help, entry_by, HasCast, RefusesCast, HasCastBurst, RefusesBurst, HasTaken, RefusesArrival, HasTicked, RefusesTick, RefusesHelp};
 ghost use Rattle.cb_reference.specs.Casting.{load_of, IsOfOne};
 
 use crate::arrival::{Accepting, answer_arrival};
 use crate::cast::{Casting, Load, answer_cast};
 use crate::events::events_of;
 use crate::facts::facts_of;
+use crate::help::answer_help;
 use crate::known::{missing, stable, stable_of};
 use crate::past::Past;
 use crate::tick::{Ticking, answer_tick};
@@ -25,7 +26,8 @@ use bytes::Bytes;
 use cb_frames::Range;
 use cb_history::{
     Arrival, ArriveRefusal, BurstDone, BurstRefusal, CastDone, CastRefusal, Entry, Event, Group,
-    GroupMember, History, Identity, LONGEST_HISTORY, MissingFault, NewFault, TickRefusal, Ticked,
+    GroupMember, HelpFault, History, Identity, LONGEST_HISTORY, MissingFault, NewFault, Outgoing,
+    TickRefusal, Ticked,
 };
 use cb_times::{NoMemory, VectorTime};
 use std::alloc::Global;
@@ -177,6 +179,18 @@ impl ReferenceMember {
         Ok(Some(stable_of(&past, i)))
     }
 
+    /// The frame that asks a third member for the missing casts of member i, in place of i itself. Nothing changes.
+    ///
+    /// It asks for the first 32 ranges of what `missing` tells, and goes to the first member, other than i and this one, that is known to
+    /// have delivered the first of these casts. `None` where nothing is missing, or no such member is known. `BadMember` where i is this
+    /// member or none of the group; else `NoMemory` may stand in place of any answer.
+    pub fn help(&self, i: u32) -> Result<Option<Outgoing>, HelpFault>
+        ensures asked { IfOk result (λ out. answer_to_help self.now i ≡ Ok out) }
+        ensures refused { IfErr result (RefusesHelp self.now i) }
+    {
+        answer_help(self, i)
+    }
+
     /// Casts a message of this payload.
     ///
     /// A refusal is that of the definition, in the order of `CastRefusal`. `NoMemory` may stand in place of any answer but
@@ -247,7 +261,7 @@ impl ReferenceMember {
         Ok((done, noted))
     }
 
-    /// Takes received bytes: delivers what they make ready, or answers a request.
+    /// Takes received bytes: delivers what they make ready, or answers a request or a help frame.
     ///
     /// A refusal is that of the definition, in the order of `ArriveRefusal`; a repeat is reported before a cast that is too far ahead.
     /// `NoMemory` may stand in place of any answer for bytes that are a frame; what is no frame is refused without memory.
@@ -318,6 +332,10 @@ impl GroupMember for ReferenceMember {
 
     fn tick(&mut self) -> Result<Ticked, TickRefusal> {
         ReferenceMember::tick(self)
+    }
+
+    fn help(&self, i: u32) -> Result<Option<Outgoing>, HelpFault> {
+        ReferenceMember::help(self, i)
     }
 
     fn time(&self) -> Result<VectorTime, NoMemory> {

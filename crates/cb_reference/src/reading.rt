@@ -4,13 +4,14 @@ ghost use Rattle.std.specs.Prelude.{◌≡◌, IfOk};
 ghost use Rattle.cb_frames.specs.Fields.{fields_of};
 ghost use Rattle.cb_frames.specs.Laws.{IsBytes};
 ghost use Rattle.cb_frames.specs.Reading.{Gives};
-ghost use Rattle.cb_frames.specs.Text.{IsText, KeepsRules};
+ghost use Rattle.cb_frames.specs.Text.{IsText, KeepsRules, text_of};
 ghost use Rattle.cb_history.specs.Read.{frame_read};
 ghost use Rattle.cb_reference.specs.Reading.{read_fields};
 
 use crate::casts::CastRead;
 use bytes::Bytes;
-use cb_frames::{Frame, FrameFault, Help, Request, Status, Unit, decode};
+use cb_frames::{Frame, FrameFault, Help, Request, Status, Unit, decode, one_text};
+use cb_times::NoMemory;
 use std::alloc::Global;
 
 /// A frame that was read.
@@ -28,22 +29,24 @@ pub fn read(alloc: Global, bytes: &Bytes) -> Result<FrameRead, FrameFault>
     ensures exact { Gives read_fields result (frame_read bytes.now) }
     ensures bytes { IsBytes bytes.now }
 {
+    one_text();
     match decode(alloc, bytes) {
-        Ok(frame) => Ok(as_read(frame)),
+        Ok(frame) => Ok(as_read(frame, bytes)?),
         Err(fault) => Err(fault),
     }
 }
 
-/// A cast frame carries one message or several.
-fn as_read(frame: Frame) -> FrameRead
-    requires { KeepsRules (fields_of frame) }
-    ensures { read_fields result ≡ fields_of frame }
+/// A cast frame carries one message or several, and keeps the bytes that it was read from.
+fn as_read(frame: Frame, bytes: &Bytes) -> Result<FrameRead, NoMemory>
+    requires rules { KeepsRules (fields_of frame) }
+    requires text { bytes.now ≡ text_of (fields_of frame) }
+    ensures { IfOk result (λ read. read_fields read ≡ fields_of frame) }
 {
-    match frame {
-        Frame::Cast(cast) => FrameRead::Cast(CastRead::of(Unit::One(cast))),
-        Frame::Burst(burst) => FrameRead::Cast(CastRead::of(Unit::Many(burst))),
+    Ok(match frame {
+        Frame::Cast(cast) => FrameRead::Cast(CastRead::of(Unit::One(cast), bytes.clone()?)),
+        Frame::Burst(burst) => FrameRead::Cast(CastRead::of(Unit::Many(burst), bytes.clone()?)),
         Frame::Status(status) => FrameRead::Status(status),
         Frame::Request(request) => FrameRead::Request(request),
         Frame::Help(help) => FrameRead::Help(help),
-    }
+    })
 }

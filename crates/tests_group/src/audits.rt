@@ -248,6 +248,7 @@ fn line_of(alloc: Global, step: &Step) -> Result<String, Fail> {
         }
         Step::Arrive(j, number) => format!(in alloc; "arrive {j} {number}\n")?,
         Step::Tick(i) => format!(in alloc; "tick {i}\n")?,
+        Step::Help(j, i) => format!(in alloc; "help {j} {i}\n")?,
     })
 }
 
@@ -413,10 +414,11 @@ fn random_burst(alloc: Global, seed: &mut u32, member: u32) -> Result<Step, Fail
 
 fn random_step(alloc: Global, seed: &mut u32, sent: usize) -> Result<Step, Fail> {
     let member = next(seed) % 3;
-    Ok(match next(seed) % 8 {
+    Ok(match next(seed) % 9 {
         0 => Step::Cast(member, Bytes::from_static(b"x")),
         1 => random_burst(alloc, seed, member)?,
         2 | 3 => Step::Tick(member),
+        4 => Step::Help(member, next(seed) % 3),
         _ => Step::Arrive(member, next(seed) as usize % sent.max(1)),
     })
 }

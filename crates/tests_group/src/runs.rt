@@ -1,7 +1,7 @@
 //! Runs of whole schedules.
 
 use bytes::Bytes;
-use cb_member::{BurstRefusal, Event, Group, Name};
+use cb_member::{BurstRefusal, Event, Group, HelpFault, Name};
 use cb_world::{Answer, PlayFault, Run, Step, play};
 use std::alloc::Global;
 use std::process::Abort;
@@ -19,6 +19,8 @@ const A_AND_B: &[u8] = &[0x21, 7, 1, 1, 1, 0, 2, 2, 1, b'a', 1, b'b'];
 const C: &[u8] = &[0x11, 7, 1, 3, 0, 1, b'c'];
 
 const STATUS: &[u8] = &[0x12, 7, 1, 1, 0, 1];
+
+const HELP: &[u8] = &[0x23, 7, 2, 1, 0, 1, 0, 0];
 
 const NOTHING: &[u8] = &[];
 
@@ -61,6 +63,10 @@ fn word(answer: &Answer) -> &'static str {
         Answer::Ticked { entered: true } => "entered",
         Answer::Ticked { .. } => "not entered",
         Answer::TickRefused(_refusal) => "tick refused",
+        Answer::Help { asked: true } => "asked",
+        Answer::Help { .. } => "asked nobody",
+        Answer::HelpRefused(HelpFault::BadMember) => "bad member",
+        Answer::HelpRefused(_fault) => "help refused",
         Answer::NoSuchMember => "no such member",
         Answer::NoSuchFrame => "no such frame",
     }
@@ -311,4 +317,56 @@ fn a_burst_is_refused_as_a_whole(rt: HostRuntime) {
     ];
     assert_outcomes(&rt, &run, rows);
     assert_eq!(rt; run.history(0).map(|entries| entries.len()), Some(2));
+}
+
+/// Member 2 has heard of "hi" by member 1, which delivered it.
+const HELPED: &[(&str, usize, usize)] = &[
+    ("cast", 0, 1),
+    ("changed", 1, 0),
+    ("entered", 1, 1),
+    ("asked nobody", 2, 0),
+    ("changed", 2, 0),
+    ("asked", 2, 1),
+    ("asked nobody", 3, 0),
+    ("bad member", 3, 0),
+    ("bad member", 3, 0),
+    ("no such member", 3, 0),
+    ("same", 3, 0),
+    ("same", 3, 1),
+    ("changed", 4, 0),
+    ("asked nobody", 4, 0),
+];
+
+#[test]
+fn a_third_member_hands_on_what_is_missing(rt: HostRuntime) {
+    let steps = [
+        cast(0, b"hi"),
+        Step::Arrive(1, 0),
+        Step::Tick(1),
+        Step::Help(2, 0),
+        Step::Arrive(2, 1),
+        Step::Help(2, 0),
+        Step::Help(2, 1),
+        Step::Help(2, 2),
+        Step::Help(2, 3),
+        Step::Help(3, 0),
+        Step::Arrive(0, 2),
+        Step::Arrive(1, 2),
+        Step::Arrive(2, 3),
+        Step::Help(2, 0),
+    ];
+    let run = run_of(&rt, rt.alloc(), &steps);
+    assert_outcomes(&rt, &run, HELPED);
+    assert_frames(&rt, &run, &[HI, STATUS, HELP, HI]);
+    let sent = &run.frames()[2..];
+    assert_eq!(rt;
+        sent.first().map(|frame| (frame.from, frame.to)),
+        Some((2, Some(1)))
+    );
+    assert_eq!(rt;
+        sent.last().map(|frame| (frame.from, frame.to)),
+        Some((1, Some(2)))
+    );
+    assert_names(&rt, &run, 2, &[(0, 1)]);
+    assert_eq!(rt; run.history(2).map(|entries| entries.len()), Some(2));
 }

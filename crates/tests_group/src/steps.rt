@@ -5,13 +5,14 @@ use cb_world::{Step, payload_slices};
 use std::alloc::Global;
 use std::process::Abort;
 
-/// The kind, the member, and the frame's number or how many bytes of payload there are.
+/// The kind, the member, and the frame's number, how many bytes of payload there are, or the sender.
 fn numbers(step: &Step) -> (u32, u32, usize) {
     match step {
         Step::Cast(i, payload) => (0, *i, payload.len()),
         Step::Arrive(j, number) => (1, *j, *number),
         Step::Tick(i) => (2, *i, 0),
         Step::Burst(i, payloads) => (3, *i, bytes_in(payloads)),
+        Step::Help(j, i) => (4, *j, *i as usize),
     }
 }
 
@@ -33,6 +34,7 @@ fn a_copy_is_the_same_step(rt: HostRuntime) {
     is_copied(&rt, Step::Cast(1, Bytes::from_static(b"hi")));
     is_copied(&rt, Step::Arrive(2, 7));
     is_copied(&rt, Step::Tick(3));
+    is_copied(&rt, Step::Help(4, 1));
 }
 
 const PAYLOADS: [&[u8]; 3] = [b"hi", b"", b"yo"];

@@ -311,7 +311,7 @@ impl Trial {
 
     /// A call of any kind.
     fn call<R: Abort>(&mut self, rt: &R, alloc: Global, dice: &mut Dice) -> Result<(), Fail> {
-        match dice.below(34) {
+        match dice.below(36) {
             0..=2 => self.send(rt, alloc, Call::Cast(&[dice.byte()])),
             3 => self.send_burst(rt, alloc, dice),
             4 => self.forms.call(rt, alloc, too_long(dice)),
@@ -325,6 +325,10 @@ impl Trial {
             11 | 12 => {
                 let member = dice.below(self.group.size());
                 self.forms.call(rt, alloc, Call::StableOf(member))
+            }
+            13 | 14 => {
+                let member = dice.below(self.group.size());
+                self.forms.call(rt, alloc, Call::Help(member))
             }
             _ => {
                 let frame = self.frame(alloc, dice)?;
@@ -383,6 +387,7 @@ impl Trial {
         for member in 0..=self.group.size() {
             self.forms.call(rt, alloc, Call::Missing(member))?;
             self.forms.call(rt, alloc, Call::StableOf(member))?;
+            self.forms.call(rt, alloc, Call::Help(member))?;
         }
         assert_eq!(rt;
             self.forms.quick.stable_of(self.me),

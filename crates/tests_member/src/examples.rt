@@ -9,6 +9,7 @@ pub mod cores;
 mod courses;
 mod five;
 mod help;
+mod relays;
 mod statuses;
 
 pub use crate::examples::bursts::{
@@ -30,6 +31,11 @@ pub use crate::examples::five::{
 };
 pub use crate::examples::help::{
     A_HELP_FRAME_CHANGES_NOTHING, A_HELP_FRAME_IS_REFUSED_BY_THE_FIRST_RULE_THAT_IT_BREAKS,
+};
+pub use crate::examples::relays::{
+    A_BURST_IS_HANDED_ON_WHOLE, A_HELPER_HANDS_ON_THE_LAST_OF_ITS_WINDOW,
+    A_HELPER_HANDS_ON_WHAT_NOT_ALL_HAVE, A_MEMBER_ASKS_THE_FIRST_THAT_HAS_WHAT_IT_LACKS,
+    A_MEMBER_HANDS_ON_WHAT_IT_HAS_DELIVERED, WHAT_IS_HANDED_ON_IS_AS_IT_CAME,
 };
 pub use crate::examples::statuses::{
     A_STATUS_IS_NEWS_BY_THE_DELIVERIES_OF_EVERY_SENDER,
@@ -718,6 +724,41 @@ pub fn at_most_64_frames_are_sent_again_at_once<M: Made, R: Abort>(
     alloc: Global,
 ) -> Result<(), Fail> {
     let out = sent_of_65::<M>(alloc)?;
+    assert_eq!(rt; out.len(), 64);
+    are_casts_from_2(rt, &out);
+    Ok(())
+}
+
+/// A member that has delivered 66 casts of member 0.
+fn after_66_deliveries<M: Made>(alloc: Global) -> Result<M, Fail> {
+    let mut member = M::made(alloc, group_of(7, 3, 100)?, 1, 100)?;
+    for number in 1..=66 {
+        take_cast_of_x(alloc, &mut member, number)?;
+    }
+    Ok(member)
+}
+
+fn take_cast_of_x<M: Made>(alloc: Global, member: &mut M, number: u8) -> Result<(), Fail> {
+    let frame = Bytes::copy_from_slice(alloc, &[17, 7, 0, number, 0, 1, b'x'])?;
+    match member.arrive(&frame) {
+        Ok(_) => Ok(()),
+        Err(_) => Err(Fail::new("an arrival")),
+    }
+}
+
+/// What is handed on of casts 2 to 66, which are asked for.
+fn handed_on_of_65<M: Made>(alloc: Global) -> Result<Vec<Outgoing>, Fail> {
+    let mut member = after_66_deliveries::<M>(alloc)?;
+    let help = Bytes::from_static(b"\x23\x07\x02\x01\x00\x01\x01\x40");
+    sent_again(&mut member, &help)
+}
+
+/// Of 65 that are asked for, casts 2 to 65.
+pub fn at_most_64_frames_are_handed_on_at_once<M: Made, R: Abort>(
+    rt: &R,
+    alloc: Global,
+) -> Result<(), Fail> {
+    let out = handed_on_of_65::<M>(alloc)?;
     assert_eq!(rt; out.len(), 64);
     are_casts_from_2(rt, &out);
     Ok(())

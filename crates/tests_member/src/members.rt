@@ -292,6 +292,29 @@ fn a_help_frame_changes_nothing(rt: HostRuntime) -> Result<(), Fail> {
 }
 
 #[test]
+fn helpers_hand_on_what_others_lack(rt: HostRuntime) -> Result<(), Fail> {
+    for scripts in [
+        examples::A_HELPER_HANDS_ON_WHAT_NOT_ALL_HAVE,
+        examples::A_HELPER_HANDS_ON_THE_LAST_OF_ITS_WINDOW,
+        examples::WHAT_IS_HANDED_ON_IS_AS_IT_CAME,
+        examples::A_MEMBER_HANDS_ON_WHAT_IT_HAS_DELIVERED,
+        examples::A_BURST_IS_HANDED_ON_WHOLE,
+    ] {
+        examples::run_each(&rt, rt.alloc(), scripts)?;
+    }
+    Ok(())
+}
+
+#[test]
+fn a_member_asks_the_first_that_has_what_it_lacks(rt: HostRuntime) -> Result<(), Fail> {
+    examples::run_each(
+        &rt,
+        rt.alloc(),
+        examples::A_MEMBER_ASKS_THE_FIRST_THAT_HAS_WHAT_IT_LACKS,
+    )
+}
+
+#[test]
 fn a_status_is_news_by_the_deliveries_of_every_sender(rt: HostRuntime) -> Result<(), Fail> {
     examples::run_each(
         &rt,
@@ -456,6 +479,12 @@ fn a_payload_of_1024_bytes_is_cast(rt: HostRuntime) -> Result<(), Fail> {
 fn a_frame_with_a_longer_payload_is_malformed(rt: HostRuntime) -> Result<(), Fail> {
     examples::a_frame_with_a_longer_payload_is_malformed::<ReferenceMember, _>(&rt, rt.alloc())?;
     examples::a_frame_with_a_longer_payload_is_malformed::<Member, _>(&rt, rt.alloc())
+}
+
+#[test]
+fn at_most_64_frames_are_handed_on_at_once(rt: HostRuntime) -> Result<(), Fail> {
+    examples::at_most_64_frames_are_handed_on_at_once::<ReferenceMember, _>(&rt, rt.alloc())?;
+    examples::at_most_64_frames_are_handed_on_at_once::<Member, _>(&rt, rt.alloc())
 }
 
 #[test]

@@ -1,15 +1,21 @@
-//! The answer to a received help frame.
+//! The answer to a received help frame: frames of another member that this one has delivered.
 
 ghost use Rattle.std.specs.Prelude.{◌≡◌, ◌&&◌, ◌||◌, ◌==◌, IfOk, IfErr};
 ghost use Rattle.cb_frames.specs.Fields.{help_fields, HelpFrame};
-ghost use Rattle.cb_history.specs.Answers.{are_members};
+ghost use Rattle.cb_history.specs.Answers.{are_members, sent_in_answer};
+ghost use Rattle.cb_history.specs.State.{facts_in};
 ghost use Rattle.cb_reference.specs.Arrivals.{answer_to_frame, IsAccepting, JudgesHelp, MayRefuse};
 
 use crate::arrival::Accepting;
+use crate::asked::first_asked;
+use crate::facts::facts_of;
+use crate::handed_on::handed_on;
 use crate::member::ReferenceMember;
+use crate::past::Past;
 use bytes::Bytes;
 use cb_frames::Help;
-use cb_history::{Arrival, ArriveRefusal};
+use cb_history::{Arrival, ArriveRefusal, Outgoing};
+use cb_times::NoMemory;
 
 /// Who asks, who helps and whose casts they are: all of the group.
 fn are_members(size: u32, help: &Help) -> bool
@@ -43,7 +49,20 @@ fn check(member: &ReferenceMember, help: &Help) -> Result<(), ArriveRefusal>
     Ok(())
 }
 
-/// The answer to a help frame, which changes nothing and sends nothing.
+/// What is sent in answer: at the helper the first 64 frames that it hands on and that are asked for.
+fn sent_in_answer(past: &Past<'_>, help: &Help) -> Result<Vec<Outgoing>, NoMemory>
+    ensures { IfOk result (λ out. out.items ≡ sent_in_answer past.now.seat (facts_in past.now)
+        (HelpFrame (help_fields help.now))) }
+{
+    let alloc = past.allocator();
+    if help.helper != past.me() {
+        return Ok(Vec::new(alloc));
+    }
+    let casts = handed_on(past, help.sender)?;
+    first_asked(alloc, &casts, help.requester, &help.ranges)
+}
+
+/// The answer to a help frame, which never changes the state.
 pub fn answer(
     member: &ReferenceMember,
     help: &Help,
@@ -56,11 +75,14 @@ pub fn answer(
 {
     check(member, help)?;
     let alloc = member.allocator();
+    let facts = facts_of(alloc, member.history())?;
+    let past = Past::of(member, &facts)?;
+    let out = sent_in_answer(&past, help)?;
     Ok(Accepting {
         arrival: Arrival::Accepted {
             deliveries: Vec::new(alloc),
             changed: false,
-            out: Vec::new(alloc),
+            out,
         },
         entry: None,
     })

@@ -1,128 +1,50 @@
 //! The answer to a received request: frames that are sent again.
 
-ghost use Rattle.std.specs.Prelude.{◌≡◌, ◌&&◌, [], ◌∷◌, nat_le, Ok, Err, IfOk, IfErr, map};
-ghost use Rattle.std.specs.List.{list_any};
-ghost use Rattle.cb_frames.specs.Fields.{request_fields, messages_of, CastFields, CastFrame, RequestFrame};
-ghost use Rattle.cb_frames.specs.Text.{text_of};
-ghost use Rattle.cb_history.specs.Read.{frame_read};
-ghost use Rattle.cb_history.specs.Facts.{entry_fields, facts_of, cast_said, said_by};
-ghost use Rattle.cb_history.specs.Answers.{are_members, is_asked_for, own_casts, sent_in_answer};
+ghost use Rattle.std.specs.Prelude.{◌≡◌, Ok, Err, IfOk, IfErr, map};
+ghost use Rattle.cb_frames.specs.Fields.{request_fields, RequestFrame};
+ghost use Rattle.cb_history.specs.Answers.{own_casts, window, sent_in_answer};
 ghost use Rattle.cb_history.specs.State.{facts_in};
-ghost use Rattle.cb_reference.specs.Messages.{carried_of};
-ghost use Rattle.cb_reference.specs.Requests.{as_texts, asked_texts, first_asked};
+ghost use Rattle.cb_reference.specs.Facts.{fact_of};
+ghost use Rattle.cb_reference.specs.Messages.{cast_of};
+ghost use Rattle.cb_reference.specs.Requests.{first_asked};
 ghost use Rattle.cb_reference.specs.Arrivals.{answer_to_frame, IsAccepting, JudgesRequest, MayRefuse};
 
 use crate::arrival::Accepting;
-use crate::casts::{CastRead, Message};
-use crate::facts::facts_of;
+use crate::asked::first_asked;
+use crate::casts::{CastRead, ending_above};
+use crate::facts::{Fact, facts_of};
 use crate::known::stable;
 use crate::member::ReferenceMember;
 use crate::past::Past;
-use crate::reading::{FrameRead, read};
 use bytes::Bytes;
-use cb_frames::{FrameFault, MOST_FRAMES, Range, Request, one_text};
-use cb_history::{Arrival, ArriveRefusal, Entry, Outgoing};
+use cb_frames::Request;
+use cb_history::{Arrival, ArriveRefusal, Outgoing};
 use cb_times::NoMemory;
-use std::alloc::{AllocError, Global};
+use std::alloc::Global;
 
-/// One of the ranges has the number.
-fn is_in_some(ranges: &[Range], number: u32) -> bool
-    ensures { result ≡ list_any (λ r. nat_le r.first number && nat_le number r.last) ranges.now }
+/// The casts that the member made.
+fn own_casts(alloc: Global, facts: &[Fact]) -> Result<Vec<&CastRead>, NoMemory>
+    ensures { IfOk result (λ casts. map cast_of casts.items
+        ≡ own_casts (map fact_of facts.now)) }
 {
-    ranges
-        .iter()
-        .any(|range| range.first <= number && number <= range.last)
-}
-
-/// Some of these messages is asked for.
-fn is_asked_for(ranges: &[Range], messages: &[Message<'_>]) -> bool
-    ensures { (cast : CastFields) → map carried_of messages.now ≡ messages_of cast
-        → result ≡ is_asked_for ranges.now cast }
-{
-    messages.iter().any(|m| is_in_some(ranges, m.number))
-}
-
-/// The bytes of an own cast where it is above what is stable and asked for.
-fn text_if_asked(
-    alloc: Global,
-    cast: &CastRead,
-    frame: &Bytes,
-    stable: u32,
-    ranges: &[Range],
-) -> Result<Option<Bytes>, NoMemory>
-    requires { frame.now ≡ text_of (CastFrame cast.now) }
-    ensures { IfOk result (λ text. as_texts text
-        ≡ asked_texts stable ranges.now (cast.now ∷ [])) }
-{
-    if stable < cast.last() && is_asked_for(ranges, &cast.messages(alloc)?) {
-        Ok(Some(frame.clone()?))
-    } else {
-        Ok(None)
-    }
-}
-
-/// The bytes of an own cast that is above what is stable and asked for.
-fn asked_text(
-    alloc: Global,
-    frame: &Bytes,
-    stable: u32,
-    ranges: &[Range],
-) -> Result<Option<Bytes>, NoMemory>
-    ensures { IfOk result (λ text. as_texts text ≡ asked_texts stable ranges.now (own_casts
-        (cast_said (frame_read frame.now)))) }
-{
-    one_text();
-    match read(alloc, frame) {
-        Ok(FrameRead::Cast(cast)) => text_if_asked(alloc, &cast, frame, stable, ranges),
-        Ok(FrameRead::Status(_)) => Ok(None),
-        Ok(FrameRead::Request(_)) => Ok(None),
-        Ok(FrameRead::Help(_)) => Ok(None),
-        Err(FrameFault::NoMemory) => Err(AllocError),
-        Err(_) => Ok(None),
-    }
-}
-
-/// The bytes of the entry's frame, where it is such a cast.
-fn asked_frame(
-    alloc: Global,
-    entry: &Entry,
-    stable: u32,
-    ranges: &[Range],
-) -> Result<Option<Bytes>, NoMemory>
-    ensures { IfOk result (λ text. as_texts text ≡ asked_texts stable ranges.now (own_casts
-        (said_by (entry_fields entry.now)))) }
-{
-    match entry {
-        Entry::Cast { frame } => asked_text(alloc, frame, stable, ranges),
-        Entry::Arrive { .. } => Ok(None),
-        Entry::Tick { .. } => Ok(None),
-    }
-}
-
-/// The first of the frames above what is stable that the request asks for, to who asks.
-fn frames_asked_for(
-    alloc: Global,
-    entries: &[Entry],
-    stable: u32,
-    request: &Request,
-) -> Result<Vec<Outgoing>, NoMemory>
-    ensures { IfOk result (λ out. out.items
-        ≡ first_asked stable request.now.requester request.now.ranges.items (facts_of
-        (map entry_fields entries.now))) }
-{
-    let mut out = Vec::new(alloc);
-    for entry in entries {
-        if out.len() >= MOST_FRAMES {
-            return Ok(out);
-        }
-        if let Some(bytes) = asked_frame(alloc, entry, stable, &request.ranges)? {
-            out.push(Outgoing {
-                to: Some(request.requester),
-                bytes,
-            })?;
+    let mut casts = Vec::new(alloc);
+    for fact in facts {
+        match fact {
+            Fact::OwnCast(cast) => casts.push(cast)?,
+            Fact::CastReceived(_) | Fact::StatusReceived(_) | Fact::OwnStatus(_) => {}
         }
     }
-    Ok(out)
+    Ok(casts)
+}
+
+/// The own casts that not every other member is known to have delivered.
+fn window<'a>(past: &'a Past<'_>) -> Result<Vec<&'a CastRead>, NoMemory>
+    ensures { IfOk result (λ casts. map cast_of casts.items
+        ≡ window past.now.seat (facts_in past.now)) }
+{
+    let alloc = past.allocator();
+    let own = own_casts(alloc, past.facts())?;
+    ending_above(alloc, &own, stable(past))
 }
 
 /// What is sent in answer: at the asked member the first 64 frames of its window that are asked for.
@@ -130,11 +52,12 @@ fn sent_in_answer(past: &Past<'_>, request: &Request) -> Result<Vec<Outgoing>, N
     ensures { IfOk result (λ out. out.items ≡ sent_in_answer past.now.seat (facts_in past.now)
         (RequestFrame (request_fields request.now))) }
 {
+    let alloc = past.allocator();
     if request.asked != past.me() {
-        return Ok(Vec::new(past.allocator()));
+        return Ok(Vec::new(alloc));
     }
-    let entries = past.member().history();
-    frames_asked_for(past.allocator(), entries, stable(past), request)
+    let casts = window(past)?;
+    first_asked(alloc, &casts, request.requester, &request.ranges)
 }
 
 /// The first rule that the request breaks.

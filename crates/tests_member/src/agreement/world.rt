@@ -46,7 +46,7 @@ impl World {
         Ok(())
     }
 
-    /// One of the others casts, reports its time, or takes a frame that was sent.
+    /// One of the others casts, reports its time, asks for help, or takes a frame that was sent.
     pub fn act(&mut self, alloc: Global, dice: &mut Dice) -> Result<(), Fail> {
         let came = self.frame(dice)?;
         let sent = self.sent(alloc, dice, &came)?;
@@ -87,10 +87,11 @@ fn sent_by(
     came: &Bytes,
     dice: &mut Dice,
 ) -> Result<Vec<Outgoing>, Fail> {
-    match dice.below(8) {
+    match dice.below(9) {
         0 | 1 => cast_by(alloc, member, dice.byte()),
         2 => burst_by(alloc, member, dice),
         3 => reported_by(alloc, member),
+        4 => asked_by(alloc, member, dice),
         _ => answered_by(alloc, member, came),
     }
 }
@@ -124,6 +125,16 @@ fn reported_by(alloc: Global, member: &mut Member) -> Result<Vec<Outgoing>, Fail
         Ok(ticked) => Ok(ticked.out),
         Err(_) => Ok(Vec::new(alloc)),
     }
+}
+
+/// The help frame for what is missing of some member.
+fn asked_by(alloc: Global, member: &Member, dice: &mut Dice) -> Result<Vec<Outgoing>, Fail> {
+    let mut sent = Vec::new(alloc);
+    let sender = dice.below(member.seat().group().size());
+    if let Ok(Some(help)) = member.help(sender) {
+        sent.push(help)?;
+    }
+    Ok(sent)
 }
 
 fn answered_by(alloc: Global, member: &mut Member, came: &Bytes) -> Result<Vec<Outgoing>, Fail> {

@@ -5,7 +5,7 @@ use bytes::Bytes;
 use cb_frames::{Change, Frame, Range, decode};
 use cb_history::{
     Arrival, ArriveRefusal, BurstDone, BurstRefusal, CastDone, CastRefusal, Entry, Event, Group,
-    GroupMember, Message, MissingFault, Name, Outgoing, TickRefusal, Ticked,
+    GroupMember, HelpFault, Message, MissingFault, Name, Outgoing, TickRefusal, Ticked,
 };
 use cb_member::Member;
 use cb_reference::ReferenceMember;
@@ -44,6 +44,8 @@ pub enum Call<'a> {
     Take(&'a [u8]),
     /// To report to the others what it has.
     Tick,
+    /// To ask a third member for what is missing of one.
+    Help(u32),
     /// Its time, events, entries, how many own casts are stable, how many of a member's, and what is missing of one.
     Time,
     Events,
@@ -179,6 +181,21 @@ pub fn tick_text(alloc: Global, answer: &Result<Ticked, TickRefusal>) -> Result<
     }
 }
 
+/// The frame with whom it goes to, where there is one.
+pub fn help_text(
+    alloc: Global,
+    answer: &Result<Option<Outgoing>, HelpFault>,
+) -> Result<String, Fail> {
+    match answer {
+        Ok(Some(frame)) => {
+            let frame = frame_text(alloc, frame)?;
+            Ok(format!(in alloc; "asks{frame}")?)
+        }
+        Ok(None) => Ok(format!(in alloc; "asks nobody")?),
+        Err(fault) => Ok(format!(in alloc; "{fault}")?),
+    }
+}
+
 /// What a call that changes something did: how many entries there are after it, and its answer.
 pub fn answer<M: Made>(alloc: Global, member: &mut M, call: Call<'_>) -> Result<String, Fail> {
     match call {
@@ -221,6 +238,7 @@ fn reading<M: Made>(alloc: Global, member: &M, call: Call<'_>) -> Result<String,
         Call::Stable => stable_text(alloc, member),
         Call::StableOf(i) => count_text(alloc, member.stable_of(i)?),
         Call::Missing(i) => missing_text(alloc, member, i),
+        Call::Help(i) => help_text(alloc, &member.help(i)),
         Call::TimeOf(name) => time_of_text(alloc, member, name),
         _ => Err(Fail::new("a call that changes something")),
     }

@@ -2,7 +2,7 @@
 
 use crate::examples::calls::{
     Call, Script, arrival_text, burst_text, cast_text, count_text, entries, events, group_of,
-    missing, tick_text, time_of,
+    help_text, missing, tick_text, time_of,
 };
 use bytes::Bytes;
 use cb_history::{
@@ -59,6 +59,7 @@ fn reading(alloc: Global, core: &CoreMember, call: Call<'_>) -> Result<String, F
         Call::Stable => Ok(core.stable().to_string(alloc)?),
         Call::StableOf(i) => count_text(alloc, core.stable_of(i)),
         Call::Missing(i) => missing(alloc, &core.missing(i)),
+        Call::Help(i) => help_text(alloc, &core.help(i)),
         _ => Err(Fail::new("a call that a core knows")),
     }
 }

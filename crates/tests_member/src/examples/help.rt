@@ -1,4 +1,4 @@
-//! Help frames: how members refuse them, and that they do nothing with the others.
+//! Help frames: how members refuse them, and that they change nothing.
 
 use crate::examples::calls::{Call, Script};
 
@@ -93,7 +93,10 @@ pub const A_HELP_FRAME_CHANGES_NOTHING: &[Script<'static>] = &[
             (Call::Take(A), "1: changed, 0.1 [1,0,0,0] (61)"),
             (Call::Cast(b"x"), "2: 1.1 [1,1,0,0] 110701010100010178"),
             (Call::Take(B), "3: changed, 0.2 [2,0,0,0] (62)"),
-            (Call::Take(HELP), "3: unchanged"),
+            (
+                Call::Take(HELP),
+                "3: unchanged, to 2: 11070001000161, to 2: 11070002000162",
+            ),
             (
                 Call::Entries,
                 "arrive 11070001000161 0.1;cast 110701010100010178;arrive 11070002000162 0.2;",
@@ -153,7 +156,7 @@ pub const A_HELP_FRAME_CHANGES_NOTHING: &[Script<'static>] = &[
         calls: &[
             (Call::Take(A), "1: changed, 0.1 [1,0,0,0] (61)"),
             (Call::Take(B), "1: HistoryFull"),
-            (Call::Take(HELP), "1: unchanged"),
+            (Call::Take(HELP), "1: unchanged, to 2: 11070001000161"),
             (
                 Call::Take(b"\x23\x07\x01\x01\x00\x01\x00\x00"),
                 "1: Impossible",

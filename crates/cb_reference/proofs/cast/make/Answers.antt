@@ -1,5 +1,5 @@
 use Rattle.std.proofs.Common.{◌≡◌, ◌++◌, ◌∙◌, List, take, ap, subst, sym}
-use Rattle.cb_frames.specs.Fields.{CastFields, Carried, CastFrame, messages_of}
+use Rattle.cb_frames.specs.Fields.{CastFields, Carried, CastFrame, messages_of, unit_fields}
 use Rattle.cb_frames.specs.Text.{KeepsCastRules, text_of}
 use Rattle.cb_history.specs.Facts.{CastEntry}
 use Rattle.cb_history.specs.View.{counts}
@@ -21,6 +21,6 @@ returns c =
     let time : c.in_ok-time.time ≡ counts m.seat.group.size (view_in m ++ take 1 (messages_of next)) =
     c.in_ok-time.ensures first.first first.sender_is ∙ ap (λ (ms : List Carried). counts m.seat.group.size (view_in m ++ ms)) (sym first.alone) in
     record {
-      done = c.in_ok-casting.ensures.done ∙ done_is m load c.in_ok-cast.cast c.count_of.result c.in_ok-time.time c.in_ok-cast.ensures c.count_of.ensures time;
+      done = c.in_ok-casting.ensures.done ∙ done_is m load (unit_fields c.in_ok-cast.cast) c.count_of.result c.in_ok-time.time c.in_ok-cast.ensures c.count_of.ensures time;
       entry = c.in_ok-casting.ensures.entry ∙ ap (λ (x : CastFields). CastEntry (text_of (CastFrame x))) c.in_ok-cast.ensures;
     }

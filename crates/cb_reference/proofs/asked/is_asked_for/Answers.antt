@@ -7,7 +7,7 @@ use Rattle.cb_frames.specs.Fields.{Carried}
 use Rattle.cb_reference.specs.declared.casts.Message.{Message}
 use Rattle.cb_reference.specs.Messages.{carried_of}
 use Rattle.cb_reference.proofs.Messages.{any_carried}
-use Rattle.cb_reference.proofs.arrival.request.is_asked_for.Goals as goal
+use Rattle.cb_reference.proofs.asked.is_asked_for.Goals as goal
 
 pub returns : goal.returns
 returns c = λ cast are.

@@ -2,7 +2,7 @@ use Rattle.std.proofs.Common.{◌&&◌, leb, rules, tests}
 use Rattle.std.proofs.lemmas.Iterator.{YieldsList-from_slice}
 use Rattle.std.proofs.lemmas.Iterator.Search.{any_from_yields_List}
 use Rattle.cb_frames.specs.declared.frame.Range.{Range}
-use Rattle.cb_reference.proofs.arrival.request.is_in_some.Goals as goal
+use Rattle.cb_reference.proofs.asked.is_in_some.Goals as goal
 
 pub returns : goal.returns
 returns c =
