@@ -120,7 +120,7 @@ impl<L: Ledger> SharedMember<L> {
         self.held.lock(rt).tick(seat)
     }
 
-    /// Shows the member to `f` under the lock, and answers what `f` answers.
+    /// Shows the member to `f` under the lock, and answers what `f` answers: so is asked what changes nothing, as `help`.
     ///
     /// What the seat has receipts of, the member's history has. The seat stays as it is.
     pub fn with_state<R, F: FnOnce(&Member) -> R>(

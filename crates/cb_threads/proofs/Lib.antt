@@ -3,3 +3,4 @@ pub mod Order
 pub mod Planning
 pub mod Sending
 pub mod Bundles
+pub mod Helps

@@ -4,3 +4,4 @@ pub mod Reports
 pub mod Groups
 pub mod Talking
 pub mod Bundles
+pub mod Helps

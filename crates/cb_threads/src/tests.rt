@@ -9,6 +9,7 @@ mod ending;
 mod faults;
 mod gathering;
 mod group;
+mod helps;
 mod naps;
 mod parts;
 mod plan;

@@ -67,7 +67,7 @@ pub fn make_crew<I, O, P, T, L: Ledger>(
             end: ends.receiver,
         },
         timer: Worker {
-            part: Ticking { pace: parts.timer },
+            part: Ticking::new(parts.timer),
             seat: seats.timer,
             end: ends.timer,
         },

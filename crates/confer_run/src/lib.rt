@@ -8,6 +8,8 @@
 
 mod fault;
 #[cfg(test)]
+mod helped;
+#[cfg(test)]
 mod pacing;
 mod participant;
 mod running;

@@ -41,9 +41,8 @@ const GROUP: u32 = 7;
 const HISTORY_MAX: usize = 100_000;
 
 /// How many entries a member has at most for each cast of its group: the cast or its arrival, a tick that is
-/// the first to say so, a status that is the first to make it known, and one that is the first to
-/// acknowledge it.
-const ENTRIES_A_CAST: usize = 4;
+/// the first to say so, and of each other member the status that is the first to tell of it.
+const ENTRIES_A_CAST: usize = MOST_WORKING as usize + 1;
 
 /// No conference fills a history: it would stop for ever.
 const _: () = prove!(
@@ -69,9 +68,9 @@ impl Pace for Millisecond {
 
 /// What is printed of a conference, and whether its audit said no.
 #[derive(Drop)]
-struct RunText {
-    refused: bool,
-    text: Vec<u8>,
+pub struct RunText {
+    pub refused: bool,
+    pub text: Vec<u8>,
 }
 
 /// Runs a conference in threads, has the histories of its members audited, and writes a line for each member,
@@ -157,7 +156,7 @@ fn run_linked<R: Threads + Wait + Clock + Net<Listener = TcpListener, Stream = T
 }
 
 /// What is printed of a conference over these links, of which each member has one.
-fn run_over<I: Inlet + Send + Drop, O: Outlet + Send + Drop, R: Threads + Wait + Clock + Sync>(
+pub fn run_over<I: Inlet + Send + Drop, O: Outlet + Send + Drop, R: Threads + Wait + Clock + Sync>(
     rt: &R,
     alloc: Global,
     setting: RunSetting,

@@ -5,7 +5,7 @@ ghost use Rattle.std.specs.Prelude.{◌≡◌, ◌≤◌, []};
 use super::{claims_all, closed, member, said, seats};
 use crate::{Payloads, Seat, SharedMember, Tried};
 use bytes::Bytes;
-use cb_member::Member;
+use cb_member::{HelpFault, Member, Outgoing};
 use std::alloc::Global;
 use std::marker::Brand;
 use std::process::Abort;
@@ -19,6 +19,7 @@ enum Call {
     Burst(&'static [&'static [u8]]),
     Take(&'static [u8]),
     Tick,
+    Help(u32),
 }
 
 /// Calls, and what each answers.
@@ -60,6 +61,9 @@ const B: &[u8] = b"\x11\x07\x00\x02\x00\x01b";
 
 /// Member 2 asks for the casts 1 and 2 of member 0.
 const ASKS_FOR_BOTH: &[u8] = b"\x13\x07\x02\x00\x01\x00\x01";
+
+/// So it asks member 1.
+const ASKS_A_THIRD: &[u8] = b"\x23\x07\x02\x01\x00\x01\x00\x01";
 
 /// Member 2 lacks the casts 2 and 3 of member 0.
 const ASKS: &[u8] = b"\x13\x07\x02\x00\x01\x01\x01";
@@ -164,6 +168,40 @@ const SCRIPTS: &[Script] = &[
         window: 4,
         limit: 100,
         calls: &[(Call::Take(ASKS), "unchanged")],
+    },
+    // of what a silent sender said a third member is asked that has delivered it
+    Script {
+        me: 2,
+        window: 4,
+        limit: 100,
+        calls: &[
+            (Call::Help(0), "no help"),
+            (Call::Take(b"\x12\x07\x01\x01\x00\x02"), "changed"),
+            (Call::Help(0), "help, to 1: 2307020100010001"),
+            (Call::Help(1), "no help"),
+            (Call::Help(2), "BadMember"),
+            (Call::Help(3), "BadMember"),
+            (Call::Take(A), "changed 0.1"),
+            (Call::Help(0), "help, to 1: 2307020100010100"),
+            (Call::Take(B), "changed 0.2"),
+            (Call::Help(0), "no help"),
+        ],
+    },
+    // which hands it on, until it knows that the other one has it
+    Script {
+        me: 1,
+        window: 4,
+        limit: 100,
+        calls: &[
+            (Call::Take(A), "changed 0.1"),
+            (Call::Take(B), "changed 0.2"),
+            (
+                Call::Take(ASKS_A_THIRD),
+                "unchanged, to 2: 11070001000161, to 2: 11070002000162",
+            ),
+            (Call::Take(b"\x12\x07\x02\x01\x00\x02"), "changed"),
+            (Call::Take(ASKS_A_THIRD), "unchanged"),
+        ],
     },
     // the history is full
     Script {
@@ -306,6 +344,7 @@ fn plain_answer(rt: &impl Abort, alloc: Global, member: &mut Member, call: &Call
         Call::Burst(payloads) => said::by_burst(alloc, member.cast_burst(payloads)),
         Call::Take(bytes) => said::by_arrival(alloc, member.arrive(&Bytes::from_static(bytes))),
         Call::Tick => said::by_tick(alloc, member.tick()),
+        Call::Help(sender) => said::by_help(alloc, member.help(*sender)),
     };
     said.expect(rt, "memory")
 }
@@ -339,6 +378,7 @@ fn locked_answer<L: Ledger>(
             said::by_arrival(alloc, shared.arrive(rt, seat, &Bytes::from_static(bytes)))
         }
         Call::Tick => said::by_tick(alloc, shared.tick(rt, seat)),
+        Call::Help(sender) => said::by_help(alloc, ask_for_help(rt, shared, seat, *sender)),
     };
     said.expect(rt, "memory")
 }
@@ -396,7 +436,18 @@ fn receive_call<L: Ledger>(
         Call::Burst(payloads) => say_all(rt, alloc, shared, seat, payloads),
         Call::Take(bytes) => drop(shared.receive(rt, seat, Bytes::from_static(bytes))),
         Call::Tick => drop(shared.tick(rt, seat)),
+        Call::Help(sender) => drop(ask_for_help(rt, shared, seat, *sender)),
     }
+}
+
+/// A help changes nothing: it is read under the lock, and leaves no receipt.
+fn ask_for_help<L: Ledger>(
+    rt: &impl Wait,
+    shared: &SharedMember<L>,
+    seat: &mut Seat<L>,
+    sender: u32,
+) -> Result<Option<Outgoing>, HelpFault> {
+    shared.with_state(rt, seat, move |member| member.help(sender))
 }
 
 /// The payload is handed back, whether or not it is cast.

@@ -2,8 +2,8 @@
 
 use bytes::Bytes;
 use cb_member::{
-    Arrival, ArriveRefusal, BurstDone, BurstRefusal, CastDone, CastRefusal, Message, Outgoing,
-    TickRefusal, Ticked,
+    Arrival, ArriveRefusal, BurstDone, BurstRefusal, CastDone, CastRefusal, HelpFault, Message,
+    Outgoing, TickRefusal, Ticked,
 };
 use std::alloc::{AllocError, Global};
 
@@ -75,6 +75,15 @@ pub fn by_tick(alloc: Global, answer: Result<Ticked, TickRefusal>) -> Result<Str
     said
 }
 
+pub fn by_help(
+    alloc: Global,
+    answer: Result<Option<Outgoing>, HelpFault>,
+) -> Result<String, AllocError> {
+    let said = of_help(alloc, &answer);
+    drop(answer);
+    said
+}
+
 fn of_cast(alloc: Global, answer: &Result<CastDone, CastRefusal>) -> Result<String, AllocError> {
     match answer {
         Ok(CastDone { name, time, out }) => {
@@ -133,5 +142,19 @@ fn of_tick(alloc: Global, answer: &Result<Ticked, TickRefusal>) -> Result<String
             format!(in alloc; "{state}{out}")
         }
         Err(refusal) => format!(in alloc; "{refusal}"),
+    }
+}
+
+fn of_help(
+    alloc: Global,
+    answer: &Result<Option<Outgoing>, HelpFault>,
+) -> Result<String, AllocError> {
+    match answer {
+        Ok(Some(help)) => {
+            let help = one_frame(alloc, help)?;
+            format!(in alloc; "help{help}")
+        }
+        Ok(None) => format!(in alloc; "no help"),
+        Err(fault) => format!(in alloc; "{fault}"),
     }
 }

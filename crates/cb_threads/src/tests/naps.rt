@@ -86,14 +86,15 @@ fn work<L: Ledger + Send + Sync, R: Wait + Clock + Abort>(
     fail(rt, alloc, &shared, seat, who)
 }
 
-/// Of a member whose workers make seven turns.
+/// Of a member whose workers make so many turns.
 pub fn desk<'a, L: Ledger>(
     alloc: Global,
     shared: &'a SharedMember<L>,
     stop: &'a Stop,
+    turns: u64,
 ) -> Desk<'a, L> {
     let ending = Ending {
-        limits: Limits { turns: 7 },
+        limits: Limits { turns },
         stop,
         talking: None,
     };
@@ -124,7 +125,7 @@ fn run<L: Ledger + Send + Sync, R: Wait + Clock>(
         }
         Who::Timer => {
             let pace = broken(LinkFault::Device);
-            let part = Ticking { pace };
+            let part = Ticking::new(pace);
             Worker { part, seat, end }.run(rt, desk)
         }
     }
@@ -138,7 +139,7 @@ fn fail<L: Ledger + Send + Sync, R: Wait + Clock + Abort>(
     who: Who,
 ) -> (u64, u64) {
     let stop = Stop::new();
-    let desk = desk(alloc, shared, &stop);
+    let desk = desk(alloc, shared, &stop, 7);
     let (slot, mailbox) = new_mailbox(alloc).expect(rt, "a mailbox");
     let counted = Counted {
         rt,

@@ -71,7 +71,7 @@ fn send<L: Ledger + Send + Sync, R: Wait + Clock + Abort>(
     part: ChannelOutlet,
 ) -> (u64, u64) {
     let stop = Stop::new();
-    let desk = desk(alloc, shared, &stop);
+    let desk = desk(alloc, shared, &stop, 7);
     let end = waiting(rt, alloc);
     let worked = Worker { part, seat, end }.run(rt, &desk);
     let counts = (worked.lost, worked.failures);
