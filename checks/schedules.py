@@ -18,7 +18,7 @@ THEMES = [
     (
         "repair",
         "What is lost, repeated or late, and how it is repaired",
-        ["a_burst_is_lost_and_given_whole", "a_frame_comes_again", "a_loss_and_its_repair", "a_request_comes_late", "all_is_lost_and_two_rounds_repair_it"],
+        ["a_burst_is_lost_and_given_whole", "a_frame_comes_again", "a_loss_and_its_repair", "a_request_comes_late", "a_third_member_hands_on_what_is_lost", "all_is_lost_and_two_rounds_repair_it"],
     ),
     (
         "limits",

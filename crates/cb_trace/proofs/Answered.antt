@@ -19,7 +19,7 @@ use Rattle.cb_history.specs.Group.{Identity}
 use Rattle.cb_history.specs.Facts.{EntryFields, CastEntry, ArriveEntry, TickEntry, Fact, facts_of}
 use Rattle.cb_history.specs.Known.{missing, ranges_of}
 use Rattle.cb_history.specs.Answers.{is_full, is_too_many, next_cast, cast_answer, group_of, are_members, is_impossible, is_repeat, is_overlap, is_too_far, is_change, deliveries, sent_in_answer, ArrivalSays, Accepted, Repeat, frame_answer, answer_to, arrive_answer, status_of, is_new_status, request_to, requests, tick_answer}
-use Rattle.cb_history.specs.Legal.{Call, ToCast, ToTake, ToTick, cast_entry, arrive_entry, tick_entry, entry_of}
+use Rattle.cb_history.specs.Legal.{Call, ToCast, ToTake, ToTick, ToHelp, cast_entry, arrive_entry, tick_entry, entry_of}
 use Rattle.cb_history.specs.ReplayLaws.{call_of}
 use Rattle.cb_history.proofs.Views.{IsIn}
 use Rattle.cb_schedules.specs.Schedule.{CastAnswer, ArrivalAnswer, TickAnswer, answer_of, frames_sent}
@@ -75,6 +75,7 @@ module _ (seat : Identity) (limit other : ℕ) (entries : List EntryFields) (sam
   entry_room (ToCast load) = ap cast_entry (cast_room load)
   entry_room (ToTake bytes) = ap (arrive_entry bytes) (arrive_room bytes)
   entry_room ToTick = ap (tick_entry (text_of (StatusFrame (status_of seat (facts_of entries))))) tick_room
+  entry_room (ToHelp i) = refl
 
 -- ---- what is sent
 

@@ -1,5 +1,5 @@
 -- An answer sends few frames.
-use Rattle.std.proofs.Common.{ℕ, ◌≤◌, Bool, true, false, not, ◌&&◌, eqb, ltb, List, [], ◌∷◌, length, map, take, filter, Some, None, Result, Ok, Err, arith}
+use Rattle.std.proofs.Common.{ℕ, ◌≤◌, Bool, true, false, not, ◌&&◌, eqb, ltb, List, [], ◌∷◌, length, map, take, filter, Option, Some, None, Result, Ok, Err, arith}
 use Rattle.std.specs.List.{range_with_len}
 use Rattle.std.proofs.lemmas.Bool.{cond_both}
 use Rattle.std.proofs.lemmas.List.{length-map}
@@ -12,6 +12,7 @@ use Rattle.cb_frames.specs.Text.{text_of}
 use Rattle.cb_history.specs.Read.{frame_read}
 use Rattle.cb_history.specs.declared.answer.ArriveRefusal.{ArriveRefusal}
 use Rattle.cb_history.specs.declared.answer.TickRefusal.{TickRefusal}
+use Rattle.cb_history.specs.declared.answer.HelpFault.{HelpFault}
 use Rattle.cb_history.specs.declared.answer.ArriveRefusal.TheVariants as arrivals
 use Rattle.cb_history.specs.declared.answer.TickRefusal.TheVariants as ticks
 use Rattle.cb_history.specs.declared.answer.Outgoing.{Outgoing}
@@ -19,9 +20,10 @@ use Rattle.cb_history.specs.CastFault.{CastFault, EmptyBurst, BurstTooLong, Payl
 use Rattle.cb_history.specs.Group.{Identity}
 use Rattle.cb_history.specs.Facts.{EntryFields, Fact, facts_of}
 use Rattle.cb_history.specs.Known.{missing, ranges_of}
+use Rattle.cb_history.specs.Helping.{handed_on, help_answer}
 use Rattle.cb_history.specs.Answers.{is_full, is_too_many, next_cast, cast_answer, group_of, are_members, is_impossible, is_repeat, is_overlap, is_too_far, is_change, deliveries, is_asked_for, window, sent_in_answer, ArrivalSays, Accepted, Repeat, answer_to, arrive_answer, status_of, is_new_status, request_to, requests, tick_answer}
-use Rattle.cb_history.specs.Legal.{Call, ToCast, ToTake, ToTick}
-use Rattle.cb_schedules.specs.Schedule.{Answer, CastAnswer, ArrivalAnswer, TickAnswer, answer_of, frames_sent}
+use Rattle.cb_history.specs.Legal.{Call, ToCast, ToTake, ToTick, ToHelp}
+use Rattle.cb_schedules.specs.Schedule.{Answer, CastAnswer, ArrivalAnswer, TickAnswer, HelpAnswer, answer_of, frames_sent}
 use Rattle.cb_world.specs.declared.taking.TheConstants.{MOST_SENT_OUT}
 use Rattle.cb_world.proofs.Lists.{short_flat, short_filter, short_take}
 
@@ -82,9 +84,16 @@ module _ (seat : Identity) (limit : ℕ) (entries : List EntryFields) where
   few_asked_for : (facts : List Fact) (frame : FrameFields) → length (sent_in_answer seat facts frame) ≤ MOST_SENT_OUT
   few_asked_for facts (CastFrame c) = none_asked_for
   few_asked_for facts (StatusFrame s) = none_asked_for
-  few_asked_for facts (HelpFrame h) = none_asked_for
+  few_asked_for facts (HelpFrame h) =
+      cond_both (eqb h.helper seat.me) _ _ (λ (out : List Outgoing). length out ≤ MOST_SENT_OUT)
+      (λ _. first_asked_for h.requester (filter (is_asked_for h.ranges) (handed_on seat facts h.sender))) (λ _. none_asked_for)
   few_asked_for facts (RequestFrame r) =
       cond_both (eqb r.asked seat.me) _ _ (λ (out : List Outgoing). length out ≤ MOST_SENT_OUT) (λ _. first_asked_for r.requester (filter (is_asked_for r.ranges) (window seat facts))) (λ _. none_asked_for)
+
+  few_in_help : (r : Result (Option Outgoing) HelpFault) → Few (HelpAnswer r)
+  few_in_help (Ok None) = omega arith
+  few_in_help (Ok (Some out)) = omega arith
+  few_in_help (Err fault) = omega arith
 
   arrival_refused : (refusal : ArriveRefusal) → Few (ArrivalAnswer (Err refusal))
   arrival_refused refusal = omega arith
@@ -115,3 +124,4 @@ module _ (seat : Identity) (limit : ℕ) (entries : List EntryFields) where
   few_sent_out (ToCast load) size = few_in_a_cast load
   few_sent_out (ToTake bytes) size = few_in_an_arrival bytes
   few_sent_out ToTick size = few_in_a_tick size
+  few_sent_out (ToHelp i) size = few_in_help (help_answer seat entries i)

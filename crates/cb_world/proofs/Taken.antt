@@ -8,7 +8,7 @@ use Rattle.cb_frames.specs.Fields.{Load, load_bytes}
 use Rattle.cb_history.specs.Facts.{EntryFields}
 use Rattle.cb_history.specs.Legal.{Call, ToCast, history_after}
 use Rattle.cb_history.specs.State.{MemberState}
-use Rattle.cb_schedules.specs.Schedule.{Setting, seat_at, Step, CastStep, ArriveStep, TickStep, SentFrame, Asked, Calls, OfNoMember, OfNoFrame, OfNoBytes, are_bytes, handed_over, asked_by, answer_of, frames_sent, sent_by, GroupState, with_history, after_asked, step_after}
+use Rattle.cb_schedules.specs.Schedule.{Setting, seat_at, Step, CastStep, ArriveStep, TickStep, HelpStep, SentFrame, Asked, Calls, OfNoMember, OfNoFrame, OfNoBytes, are_bytes, handed_over, asked_by, answer_of, frames_sent, sent_by, GroupState, with_history, after_asked, step_after}
 use Rattle.cb_world.specs.declared.outcome.Answer.{Answer}
 use Rattle.cb_world.specs.declared.outcome.Sent.{Sent}
 use Rattle.cb_world.specs.Steps.{member_of}
@@ -22,11 +22,13 @@ names_nobody : (setting : Setting) (sent : List SentFrame) (step : Step) → ltb
 names_nobody setting sent (CastStep i load) e = rw e refl
 names_nobody setting sent (ArriveStep j number) e = rw e refl
 names_nobody setting sent (TickStep i) e = rw e refl
+names_nobody setting sent (HelpStep j i) e = rw e refl
 
 names_one : (setting : Setting) (sent : List SentFrame) (step : Step) → ltb (member_of step) setting.group.size ≡ true → asked_by setting sent step ≡ asks sent step
 names_one setting sent (CastStep i load) e = rw e refl
 names_one setting sent (ArriveStep j number) e = rw e refl
 names_one setting sent (TickStep i) e = rw e refl
+names_one setting sent (HelpStep j i) e = rw e refl
 
 -- where it asks for a call, it is that of the member that it names
 abbrev IsBy : ℕ → Asked → Type 0
@@ -47,6 +49,7 @@ asks_by : (sent : List SentFrame) (step : Step) → IsBy (member_of step) (asks 
 asks_by sent (CastStep i load) = load_is_by i load (are_bytes (load_bytes load))
 asks_by sent (ArriveStep j number) = frame_is_by j (slice_get sent number)
 asks_by sent (TickStep i) = refl
+asks_by sent (HelpStep j i) = refl
 
 -- bytes in memory are below 256
 pub bytes_are_bytes : (bytes : List ℕ) → ((i : ℕ) → slice_index_or bytes i 0 < 256) → are_bytes bytes ≡ true

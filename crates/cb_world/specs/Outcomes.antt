@@ -1,15 +1,16 @@
 -- What the program reports of a step, against what the definition answers.
-use Rattle.std.specs.Prelude.{◌≡◌, ℕ, Bool, List, [], ◌∷◌, ◌++◌, length, Option, Some, Ok, Err}
+use Rattle.std.specs.Prelude.{◌≡◌, ℕ, Bool, true, false, List, [], ◌∷◌, ◌++◌, length, Option, Some, None, Ok, Err}
 use Rattle.cb_times.specs.declared.name.Name.{Name}
 use Rattle.cb_frames.specs.Fields.{Load, One, Many, CastFields}
 use Rattle.cb_delay.specs.declared.message.Message.{Message}
 use Rattle.cb_history.specs.declared.answer.ArriveRefusal.{ArriveRefusal}
 use Rattle.cb_history.specs.declared.answer.TickRefusal.{TickRefusal}
+use Rattle.cb_history.specs.declared.answer.HelpFault.{HelpFault}
 use Rattle.cb_history.specs.CastFault.{CastFault, fault_told, burst_fault_told}
 use Rattle.cb_history.specs.Group.{Identity}
 use Rattle.cb_history.specs.Facts.{Fact}
 use Rattle.cb_history.specs.Answers.{Accepted, Repeat, cast_done, burst_done}
-use Rattle.cb_schedules.specs.Schedule.{Setting, seat_at, Step, Schedule, SentFrame, Asked, Calls, OfNoMember, OfNoFrame, OfNoBytes, asked_by, GroupState, run, CastAnswer, ArrivalAnswer, TickAnswer, NoSuchMember, NoSuchFrame, NoBytes, answer_of, frames_sent}
+use Rattle.cb_schedules.specs.Schedule.{Setting, seat_at, Step, Schedule, SentFrame, Asked, Calls, OfNoMember, OfNoFrame, OfNoBytes, asked_by, GroupState, run, CastAnswer, ArrivalAnswer, TickAnswer, HelpAnswer, NoSuchMember, NoSuchFrame, NoBytes, answer_of, frames_sent}
 use Rattle.cb_schedules.specs.Schedule as schedules
 use Rattle.cb_schedules.specs.Messages.{facts_at}
 use Rattle.cb_world.specs.declared.outcome.Answer.{Answer}
@@ -31,6 +32,8 @@ pub data Reported : Type 0 where
   ArrivalRefused : ArriveRefusal → Reported
   TickReported : Bool → Reported
   TickRefused : TickRefusal → Reported
+  HelpReported : Bool → Reported
+  HelpRefused : HelpFault → Reported
   NoMemberReported : Reported
   NoFrameReported : Reported
   NoBytesReported : Reported
@@ -46,6 +49,8 @@ reported answers.Repeat = RepeatReported
 reported (answers.ArrivalRefused refusal) = ArrivalRefused refusal
 reported (answers.Ticked entered) = TickReported entered
 reported (answers.TickRefused refusal) = TickRefused refusal
+reported (answers.Help asked) = HelpReported asked
+reported (answers.HelpRefused fault) = HelpRefused fault
 reported answers.NoSuchMember = NoMemberReported
 reported answers.NoSuchFrame = NoFrameReported
 
@@ -71,6 +76,9 @@ reported_by seat facts (ArrivalAnswer (Ok Repeat)) = RepeatReported
 reported_by seat facts (ArrivalAnswer (Err refusal)) = ArrivalRefused refusal
 reported_by seat facts (TickAnswer (Ok t)) = TickReported t.0
 reported_by seat facts (TickAnswer (Err refusal)) = TickRefused refusal
+reported_by seat facts (HelpAnswer (Ok None)) = HelpReported false
+reported_by seat facts (HelpAnswer (Ok (Some out))) = HelpReported true
+reported_by seat facts (HelpAnswer (Err fault)) = HelpRefused fault
 reported_by seat facts NoSuchMember = NoMemberReported
 reported_by seat facts NoSuchFrame = NoFrameReported
 reported_by seat facts NoBytes = NoBytesReported

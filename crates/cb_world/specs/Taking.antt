@@ -1,9 +1,9 @@
 -- What one step does to the member that it names, and to the frames that were sent.
 use Rattle.std.specs.Prelude.{◌≡◌, ℕ, List, ◌++◌, length, map, slice_get, Some, if◌then◌else◌}
 use Rattle.cb_frames.specs.Fields.{load_bytes}
-use Rattle.cb_history.specs.Legal.{Call, ToCast, ToTick}
+use Rattle.cb_history.specs.Legal.{Call, ToCast, ToTick, ToHelp}
 use Rattle.cb_history.specs.State.{MemberState, facts_in, state_after}
-use Rattle.cb_schedules.specs.Schedule.{Setting, seat_at, Step, CastStep, ArriveStep, TickStep, SentFrame, Asked, Calls, OfNoMember, OfNoFrame, OfNoBytes, are_bytes, handed_over, asked_by, answer_of, frames_sent, sent_by, GroupState, step_after}
+use Rattle.cb_schedules.specs.Schedule.{Setting, seat_at, Step, CastStep, ArriveStep, TickStep, HelpStep, SentFrame, Asked, Calls, OfNoMember, OfNoFrame, OfNoBytes, are_bytes, handed_over, asked_by, answer_of, frames_sent, sent_by, GroupState, step_after}
 use Rattle.cb_world.specs.declared.outcome.Answer.{Answer}
 use Rattle.cb_world.specs.declared.outcome.Sent.{Sent}
 use Rattle.cb_world.specs.Outcomes.{sent_fields, Reported, NoMemberReported, NoFrameReported, NoBytesReported, reported, reported_by, reported_of}
@@ -34,6 +34,7 @@ abbrev pub asks : List SentFrame → Step → Asked
 asks sent (CastStep i load) = if are_bytes (load_bytes load) then Calls i (ToCast load) else OfNoBytes
 asks sent (ArriveStep j number) = handed_over j (slice_get sent number)
 asks sent (TickStep i) = Calls i ToTick
+asks sent (HelpStep j i) = Calls j (ToHelp i)
 
 -- ---- the group
 

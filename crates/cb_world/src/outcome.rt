@@ -1,7 +1,9 @@
 //! The outcome of a step.
 
 use bytes::Bytes;
-use cb_member::{ArriveRefusal, BurstRefusal, CastRefusal, Message, Name, TickRefusal, VectorTime};
+use cb_member::{
+    ArriveRefusal, BurstRefusal, CastRefusal, HelpFault, Message, Name, TickRefusal, VectorTime,
+};
 
 /// A frame that was sent.
 #[derive(Debug, Drop)]
@@ -39,6 +41,11 @@ pub enum Answer {
         entered: bool,
     },
     TickRefused(TickRefusal),
+    /// Whether a third member was asked, by the one frame that is then sent.
+    Help {
+        asked: bool,
+    },
+    HelpRefused(HelpFault),
     /// The group has no member of this number.
     NoSuchMember,
     /// No frame of this number was sent so far.

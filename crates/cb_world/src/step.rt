@@ -18,6 +18,8 @@ pub enum Step {
     Arrive(u32, usize),
     /// The member ticks.
     Tick(u32),
+    /// The first member asks a third one for what it lacks of the second one's casts.
+    Help(u32, u32),
 }
 
 impl Step {
@@ -30,6 +32,7 @@ impl Step {
             Step::Burst(i, _payloads) => *i,
             Step::Arrive(j, _number) => *j,
             Step::Tick(i) => *i,
+            Step::Help(j, _sender) => *j,
         }
     }
 
@@ -44,6 +47,7 @@ impl Step {
             }
             Step::Arrive(j, number) => Step::Arrive(*j, *number),
             Step::Tick(i) => Step::Tick(*i),
+            Step::Help(j, i) => Step::Help(*j, *i),
         })
     }
 }

@@ -4,7 +4,7 @@ ghost use Rattle.std.specs.Prelude.{◌≡◌, ℕ, ◌+◌, ◌≤◌, [], ◌�
 ghost use Rattle.std.specs.Vec.{vec_capacity, vec_len};
 ghost use Rattle.cb_frames.specs.Fields.{One, Many, load_bytes};
 ghost use Rattle.cb_history.specs.Load.{many_of};
-ghost use Rattle.cb_history.specs.Legal.{ToCast, ToTake, ToTick};
+ghost use Rattle.cb_history.specs.Legal.{ToCast, ToTake, ToTick, ToHelp};
 ghost use Rattle.cb_schedules.specs.Schedule.{are_bytes, handed_over, sent_by};
 ghost use Rattle.cb_world.specs.declared.taking.TheConstants.{MOST_SENT_OUT};
 ghost use Rattle.cb_world.specs.Outcomes.{sent_fields};
@@ -17,8 +17,8 @@ use crate::step::Step;
 use bytes::Bytes;
 use cb_frames::MOST_FRAMES;
 use cb_member::{
-    Arrival, ArriveRefusal, BurstDone, BurstRefusal, CastDone, CastRefusal, Member, NoMemory,
-    Outgoing, TickRefusal, Ticked,
+    Arrival, ArriveRefusal, BurstDone, BurstRefusal, CastDone, CastRefusal, HelpFault, Member,
+    NoMemory, Outgoing, TickRefusal, Ticked,
 };
 use std::alloc::AllocError;
 
@@ -176,6 +176,29 @@ fn tick(member: &mut Member, sent: &mut Vec<Sent>) -> Result<Answer, NoMemory>
     }
 }
 
+/// Asks a third member for what is missing of member i. The member stays as it is.
+fn help(member: &Member, i: u32, sent: &mut Vec<Sent>) -> Result<Answer, NoMemory>
+    requires { vec_len sent.old + MOST_SENT_OUT ≤ vec_capacity sent.old }
+    ensures done { IfOk result (HasAnswered member.now member.now (ToHelp i)
+        (map sent_fields sent.old.items) (map sent_fields sent.new.items)) }
+    ensures sent { OnErr result (sent.new.items ≡ sent.old.items) }
+{
+    let from = member.seat().me();
+    match member.help(i) {
+        Ok(None) => Ok(Answer::Help { asked: false }),
+        Ok(Some(Outgoing { to, bytes: frame })) => {
+            sent.push_reserved(Sent {
+                from,
+                to,
+                bytes: frame,
+            });
+            Ok(Answer::Help { asked: true })
+        }
+        Err(HelpFault::NoMemory) => Err(AllocError),
+        Err(fault) => Ok(Answer::HelpRefused(fault)),
+    }
+}
+
 /// The member does what the step asks for.
 fn call(member: &mut Member, step: &Step, sent: &mut Vec<Sent>) -> Result<Answer, NoMemory>
     requires { vec_len sent.old + MOST_SENT_OUT ≤ vec_capacity sent.old }
@@ -190,6 +213,7 @@ fn call(member: &mut Member, step: &Step, sent: &mut Vec<Sent>) -> Result<Answer
         Step::Burst(_, payloads) => cast_all(member, payloads, sent),
         Step::Arrive(_, number) => hand_over(member, *number, sent),
         Step::Tick(_) => tick(member, sent),
+        Step::Help(_, i) => help(member, *i, sent),
     }
 }
 

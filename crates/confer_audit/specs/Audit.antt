@@ -4,7 +4,7 @@ use Rattle.std.specs.List.{flat_map}
 use Rattle.std.specs.Io.KnownBytes.{Appends}
 use Rattle.hex.specs.Hex.{encode_lower}
 use Rattle.cb_frames.specs.Fields.{Load, One, Many}
-use Rattle.cb_schedules.specs.Schedule.{Setting, Step, CastStep, ArriveStep, TickStep}
+use Rattle.cb_schedules.specs.Schedule.{Setting, Step, CastStep, ArriveStep, TickStep, HelpStep}
 use Rattle.cb_world.specs.World.{WorldState}
 use Rattle.cb_trace.specs.declared.fault.AuditFault.{AuditFault}
 use Rattle.cb_trace.specs.declared.fault.AuditFault.TheVariants as audits
@@ -43,6 +43,7 @@ unfoldable pub step_text : Step → List ℕ
 step_text (CastStep i load) = parameter_text (cast_verb load) i ++ load_text load ++ codes "\n"
 step_text (ArriveStep j number) = parameter_text (codes "arrive ") j ++ parameter_text (codes " ") number ++ codes "\n"
 step_text (TickStep i) = parameter_text (codes "tick ") i ++ codes "\n"
+step_text (HelpStep j i) = parameter_text (codes "help ") j ++ parameter_text (codes " ") i ++ codes "\n"
 
 -- the group, and how many entries a history may have
 unfoldable pub first_text : Setting → List ℕ

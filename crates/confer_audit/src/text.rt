@@ -3,7 +3,7 @@
 ghost use Rattle.std.specs.Prelude.{◌≡◌, ◌++◌, IfOk, OnOk, map};
 ghost use Rattle.std.specs.List.{flat_map};
 ghost use Rattle.cb_frames.specs.Fields.{One, Many};
-ghost use Rattle.cb_schedules.specs.Schedule.{CastStep, ArriveStep, TickStep};
+ghost use Rattle.cb_schedules.specs.Schedule.{CastStep, ArriveStep, TickStep, HelpStep};
 ghost use Rattle.cb_world.specs.Steps.{step_fields};
 ghost use Rattle.confer_audit.specs.Audit.{first_text, digits_text, load_text, payload_word, script_text, step_text};
 
@@ -57,6 +57,7 @@ fn put_step(out: &mut Vec<u8>, step: &Step) -> Result<(), NoMemory>
         Step::Burst(i, payloads) => put_burst(out, *i, payloads),
         Step::Arrive(j, number) => put_arrive(out, *j, *number),
         Step::Tick(i) => put_tick(out, *i),
+        Step::Help(j, i) => put_help(out, *j, *i),
     }
 }
 
@@ -112,6 +113,15 @@ fn put_tick(out: &mut Vec<u8>, i: u32) -> Result<(), NoMemory>
     ensures { OnOk result (out.new.items ≡ out.old.items ++ step_text (TickStep i)) }
 {
     put_parameter(out, b"tick ", i as usize)?;
+    out.extend_from_slice(b"\n")
+}
+
+#[tactic(auto, unfolding(crate::specs::Audit::step_text))]
+fn put_help(out: &mut Vec<u8>, j: u32, i: u32) -> Result<(), NoMemory>
+    ensures { OnOk result (out.new.items ≡ out.old.items ++ step_text (HelpStep j i)) }
+{
+    put_parameter(out, b"help ", j as usize)?;
+    put_parameter(out, b" ", i as usize)?;
     out.extend_from_slice(b"\n")
 }
 

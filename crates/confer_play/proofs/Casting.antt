@@ -28,7 +28,7 @@ use Rattle.cb_history.specs.Answers.{next_cast, cast_answer, ArrivalSays, Accept
 use Rattle.cb_history.specs.Events.{events}
 use Rattle.cb_history.specs.EventLaws.{new_events}
 use Rattle.cb_history.specs.View.{message_in}
-use Rattle.cb_history.specs.Legal.{Call, ToCast, ToTake, ToTick, cast_entry, arrive_entry, tick_entry, entry_of, and_entry, history_after, AreEntriesOf}
+use Rattle.cb_history.specs.Legal.{Call, ToCast, ToTake, ToTick, ToHelp, cast_entry, arrive_entry, tick_entry, entry_of, and_entry, history_after, AreEntriesOf}
 use Rattle.cb_history.specs.LegalFacts.{AreFactsOf}
 use Rattle.cb_history.proofs.Loads.{answered}
 use Rattle.cb_history.proofs.Lists.{flat_map-append}
@@ -37,7 +37,7 @@ use Rattle.cb_history.proofs.Histories.{entries_say_legal_facts}
 use Rattle.cb_history.proofs.Calls.{calls_keep_entries}
 use Rattle.cb_history.proofs.ReadBack.{cast_read}
 use Rattle.cb_history.proofs.Written.{fitting_can}
-use Rattle.cb_schedules.specs.Schedule.{Setting, IsSetting, Step, CastStep, ArriveStep, TickStep, SentFrame, seat_at, Asked, Calls, OfNoMember, OfNoFrame, OfNoBytes, are_bytes, asked_by, handed_over, after_asked, step_after, with_history, GroupState}
+use Rattle.cb_schedules.specs.Schedule.{Setting, IsSetting, Step, CastStep, ArriveStep, TickStep, HelpStep, SentFrame, seat_at, Asked, Calls, OfNoMember, OfNoFrame, OfNoBytes, are_bytes, asked_by, handed_over, after_asked, step_after, with_history, GroupState}
 use Rattle.cb_schedules.specs.Messages.{stamped_lists, causal_lists}
 use Rattle.cb_schedules.specs.Consistent.{IsConsistent}
 use Rattle.cb_schedules.proofs.Courses.{IsFair, asked_is}
@@ -188,6 +188,7 @@ module _ (setting : Setting) (is : IsSetting setting) (s : GroupState) (inv : Is
   call_goes_on ToTick fair =
       by_entry ToTick seat now (entry_of seat setting.limit now ToTick)
       (calls_keep_entries seat setting.limit now ToTick (inv.legal i lt) tt) (tick_adds _ (tick_answer seat setting.limit now))
+  call_goes_on (ToHelp k) fair = by_entry (ToHelp k) seat now None (inv.legal i lt) (adds_none (ToHelp k))
 
 -- ---- one step
 
@@ -233,6 +234,8 @@ asks_its_member setting sent (ArriveStep k number) i call =
     handed (Some frame) e = cc
 asks_its_member setting sent (TickStep k) i call =
     cond_both (ltb k setting.group.size) (Calls k ToTick) OfNoMember (λ (asked : Asked). asked ≡ Calls i call → k ≡ i) (λ _ e. cc) (λ _ e. absurd (cc e))
+asks_its_member setting sent (HelpStep k sender) i call =
+    cond_both (ltb k setting.group.size) (Calls k (ToHelp sender)) OfNoMember (λ (asked : Asked). asked ≡ Calls i call → k ≡ i) (λ _ e. cc) (λ _ e. absurd (cc e))
 
 -- and a cast is asked for by the step that casts
 asks_to_cast : (setting : Setting) (sent : List SentFrame) (step : Step) (i : ℕ) (load : Load) → asked_by setting sent step ≡ Calls i (ToCast load) → step ≡ CastStep i load
@@ -242,6 +245,7 @@ asks_to_cast setting sent (CastStep k other) i load =
     (λ _ e. absurd (cc e))
 asks_to_cast setting sent (ArriveStep k number) i load = λ e. absurd (no_cast setting sent (ArriveStep k number) tt i load e)
 asks_to_cast setting sent (TickStep k) i load = λ e. absurd (no_cast setting sent (TickStep k) tt i load e)
+asks_to_cast setting sent (HelpStep k sender) i load = λ e. absurd (no_cast setting sent (HelpStep k sender) tt i load e)
 
 -- the step casts a load of member j that has this payload
 abbrev pub IsCastBy : Step → ℕ → List ℕ → Type 0

@@ -10,7 +10,7 @@ use Rattle.cb_rooms.specs.Line.{LineFields, fields_of, IsPayload}
 use Rattle.cb_rooms.specs.Compose.{compose_fault}
 use Rattle.cb_rooms.specs.Conference.{held}
 use Rattle.cb_rooms.specs.View.{ViewLine, lines_after, screen_text}
-use Rattle.cb_schedules.specs.Schedule.{Setting, IsSetting, Step, CastStep, ArriveStep, TickStep}
+use Rattle.cb_schedules.specs.Schedule.{Setting, IsSetting, Step, CastStep, ArriveStep, TickStep, HelpStep}
 use Rattle.cb_schedules.specs.Messages.{causal_lists}
 use Rattle.cb_world.specs.Steps.{step_fields}
 use Rattle.cb_world.specs.World.{WorldState, run_in, and_step}
@@ -80,6 +80,7 @@ abbrev pub CastsNoAnswer : ScriptOrder → Type 0
 CastsNoAnswer (Takes (CastStep i load)) = AllByRecursion (λ payload. ¬ IsAnswer payload) (payloads_of load)
 CastsNoAnswer (Takes (ArriveStep j number)) = Unit {0}
 CastsNoAnswer (Takes (TickStep i)) = Unit {0}
+CastsNoAnswer (Takes (HelpStep j i)) = Unit {0}
 CastsNoAnswer (Composes i line) = Unit {0}
 CastsNoAnswer (Shows i) = Unit {0}
 

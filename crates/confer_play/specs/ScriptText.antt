@@ -4,7 +4,7 @@ use Rattle.std.specs.Io.KnownBytes.{Appends}
 use Rattle.std.specs.List.{slice_split}
 use Rattle.cb_frames.specs.Fields.{One, Many}
 use Rattle.cb_rooms.specs.Line.{SayLine, AnswerLine}
-use Rattle.cb_schedules.specs.Schedule.{Setting, CastStep, ArriveStep, TickStep}
+use Rattle.cb_schedules.specs.Schedule.{Setting, CastStep, ArriveStep, TickStep, HelpStep}
 use Rattle.confer_play.specs.Play.{IsPayloadWord}
 use Rattle.confer_play.specs.Playing.{ScriptOrder, Takes, Composes, Shows, IsRunText}
 
@@ -35,6 +35,7 @@ Orders line (Takes (CastStep i (Many payloads))) =
     (words : List ℕ) × (line ≡ labelled (codes "burst") i words) × ArePayloadWords (slice_split (λ b. b == 32) words) payloads
 Orders line (Takes (ArriveStep j number)) = line ≡ labelled (codes "arrive") j (decimal number)
 Orders line (Takes (TickStep i)) = line ≡ spaced (codes "tick") (decimal i)
+Orders line (Takes (HelpStep j i)) = line ≡ labelled (codes "help") j (decimal i)
 Orders line (Composes i (SayLine room text)) = (line ≡ labelled (codes "say") i (spaced room text)) × (room ≢ [])
 Orders line (Composes i (AnswerLine question text)) =
     line ≡ labelled (codes "answer") i (spaced (decimal question.sender ++ (codes "." ++ decimal question.number)) text)

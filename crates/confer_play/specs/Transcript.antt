@@ -6,7 +6,7 @@ use Rattle.cb_times.specs.declared.name.Name.{Name}
 use Rattle.cb_times.specs.Name.{name_text}
 use Rattle.cb_times.specs.Time.{text_of}
 use Rattle.cb_delay.specs.declared.message.Message.{Message}
-use Rattle.cb_history.specs.Refusals.{arrive_refusal_text, burst_refusal_text, cast_refusal_text, tick_refusal_text}
+use Rattle.cb_history.specs.Refusals.{arrive_refusal_text, burst_refusal_text, cast_refusal_text, help_fault_text, tick_refusal_text}
 use Rattle.cb_history.specs.State.{MemberState, time_in, stable_in}
 use Rattle.cb_world.specs.declared.outcome.Answer.{Answer}
 use Rattle.cb_world.specs.declared.outcome.Answer.TheVariants as answers
@@ -27,6 +27,10 @@ abbrev pub ticked_text : Bool → List ℕ
 ticked_text true = codes " tick entered\n"
 ticked_text false = codes " tick same\n"
 
+abbrev pub help_text : Bool → List ℕ
+help_text true = codes " help\n"
+help_text false = codes " help none\n"
+
 -- the name of the last of so many messages, of which this is the name of the first
 abbrev pub last_name : Name → ℕ → Name
 last_name first count = record { sender = first.sender; number = first.number + count - 1 }
@@ -45,6 +49,8 @@ answer_text answers.Repeat = codes " arrive repeat\n"
 answer_text (answers.ArrivalRefused refusal) = refused_text (arrive_refusal_text refusal)
 answer_text (answers.Ticked entered) = ticked_text entered
 answer_text (answers.TickRefused refusal) = refused_text (tick_refusal_text refusal)
+answer_text (answers.Help asked) = help_text asked
+answer_text (answers.HelpRefused refusal) = refused_text (help_fault_text refusal)
 answer_text answers.NoSuchMember = refused_text (codes "NoSuchMember")
 answer_text answers.NoSuchFrame = refused_text (codes "NoSuchFrame")
 

@@ -194,6 +194,7 @@ fn verb_of(alloc: Global, text: &str) -> Result<ScriptStep<'_>, LineFault>
         "burst" => burst_of(alloc, rest),
         "arrive" => arrive_of(rest),
         "tick" => tick_of(rest),
+        "help" => help_of(rest),
         "say" => say_of(rest),
         "answer" => answer_of(rest),
         "screen" => screen_of(rest),
@@ -280,6 +281,15 @@ fn tick_of(words: &str) -> Result<ScriptStep<'_>, LineFault>
 {
     let i = number(words)?;
     Ok(ScriptStep::Take(Step::Tick(i)))
+}
+
+/// `J I`, behind `help`.
+fn help_of(words: &str) -> Result<ScriptStep<'_>, LineFault>
+    ensures { IfOk result (λ step. Orders (spaced (codes "help") words.now) (order_of step)) }
+{
+    let (j, i) = numbered(words)?;
+    let i = number(i)?;
+    Ok(ScriptStep::Take(Step::Help(j, i)))
 }
 
 /// `I ROOM TEXT`, behind `say`. The text may be empty, the room may not.

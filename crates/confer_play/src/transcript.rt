@@ -5,13 +5,13 @@
 
 ghost use Rattle.std.specs.Prelude.{◌≡◌, ◌++◌, ◌+◌, ◌<◌, ◌^◌, IfOk, OnOk, codes, decimal, flat_map, length, map};
 ghost use Rattle.std.specs.Str.Lines.{lines};
-ghost use Rattle.cb_history.specs.Refusals.{arrive_refusal_text, cast_refusal_text, tick_refusal_text};
+ghost use Rattle.cb_history.specs.Refusals.{arrive_refusal_text, cast_refusal_text, help_fault_text, tick_refusal_text};
 ghost use Rattle.cb_rooms.specs.FaultText.{compose_fault_text};
 ghost use Rattle.cb_times.specs.Name.{name_text};
 ghost use Rattle.cb_times.specs.Time.{text_of};
 ghost use Rattle.confer_text.specs.Texts.{parameter_text};
 ghost use Rattle.confer_play.specs.Playing.{behind_bar, screen_lines, screen_part};
-ghost use Rattle.confer_play.specs.Transcript.{accepted_text, answer_text, deliveries_text, delivery_text, frame_text, frames_text, member_text, names_text, receiver_text, refused_text, step_text, ticked_text};
+ghost use Rattle.confer_play.specs.Transcript.{accepted_text, answer_text, deliveries_text, delivery_text, frame_text, frames_text, help_text, member_text, names_text, receiver_text, refused_text, step_text, ticked_text};
 
 use cb_member::{Member, Message, Name, VectorTime};
 use cb_rooms::ComposeFault;
@@ -56,6 +56,8 @@ fn put_answer(text: &mut Vec<u8>, number: usize, answer: &Answer) -> Result<(), 
         Answer::ArrivalRefused(refusal) => put_fault(text, " refused ", *refusal),
         Answer::Ticked { entered } => put_ticked(text, *entered),
         Answer::TickRefused(refusal) => put_fault(text, " refused ", *refusal),
+        Answer::Help { asked } => put_help(text, *asked),
+        Answer::HelpRefused(refusal) => put_fault(text, " refused ", *refusal),
         Answer::NoSuchMember => text.extend_from_slice(b" refused NoSuchMember\n"),
         Answer::NoSuchFrame => text.extend_from_slice(b" refused NoSuchFrame\n"),
     }
@@ -112,6 +114,16 @@ fn put_ticked(text: &mut Vec<u8>, entered: bool) -> Result<(), NoMemory>
         text.extend_from_slice(b" tick entered\n")
     } else {
         text.extend_from_slice(b" tick same\n")
+    }
+}
+
+fn put_help(text: &mut Vec<u8>, asked: bool) -> Result<(), NoMemory>
+    ensures { OnOk result (text.new.items ≡ text.old.items ++ help_text asked) }
+{
+    if asked {
+        text.extend_from_slice(b" help\n")
+    } else {
+        text.extend_from_slice(b" help none\n")
     }
 }
 

@@ -134,6 +134,64 @@ member 1 time [2,0] stable 0 entries 4
 "#,
 };
 
+const A_THIRD_MEMBER_HANDS_ON_WHAT_IS_LOST: Schedule = Schedule {
+    script: r#"group 7 size 3 window 4 history 100
+cast 0 61
+cast 0 62
+arrive 1 0
+arrive 1 1
+help 2 0
+tick 1
+arrive 2 2
+tick 2
+help 2 0
+arrive 1 5
+arrive 2 7
+arrive 2 6
+tick 2
+arrive 1 8
+arrive 1 5
+help 2 0
+arrive 0 2
+arrive 0 8
+"#,
+    text: r#"1 cast 0.1 [1,0,0]
+ > 0 all 11070001000161
+2 cast 0.2 [2,0,0]
+ > 1 all 11070002000162
+3 arrive accepted changed
+ = 0.1 [1,0,0] "a"
+4 arrive accepted changed
+ = 0.2 [2,0,0] "b"
+5 help none
+6 tick entered
+ > 2 all 120701010002
+7 arrive accepted changed
+8 tick entered
+ > 3 all 12070200
+ > 4 0 13070200010001
+9 help
+ > 5 1 2307020100010001
+10 arrive accepted same
+ > 6 2 11070001000161
+ > 7 2 11070002000162
+11 arrive accepted changed
+12 arrive accepted changed
+ = 0.1 [1,0,0] "a"
+ = 0.2 [2,0,0] "b"
+13 tick entered
+ > 8 all 120702010002
+14 arrive accepted changed
+15 arrive accepted same
+16 help none
+17 arrive accepted changed
+18 arrive accepted changed
+member 0 time [2,0,0] stable 2 entries 4
+member 1 time [2,0,0] stable 0 entries 4
+member 2 time [2,0,0] stable 0 entries 5
+"#,
+};
+
 const ALL_IS_LOST_AND_TWO_ROUNDS_REPAIR_IT: Schedule = Schedule {
     script: r#"group 7 size 3 window 16 history 100
 cast 0 61
@@ -318,6 +376,7 @@ const ALL: &[Schedule] = &[
     A_FRAME_COMES_AGAIN,
     A_LOSS_AND_ITS_REPAIR,
     A_REQUEST_COMES_LATE,
+    A_THIRD_MEMBER_HANDS_ON_WHAT_IS_LOST,
     ALL_IS_LOST_AND_TWO_ROUNDS_REPAIR_IT,
 ];
 
