@@ -118,6 +118,7 @@ static void test_closed(jolunza_handle *handle)
     CHECK(jolunza_receive_loaded(handle, 0, 0, &f->received) == JOLUNZA_CLOSED);
     CHECK(jolunza_receive_parts(handle, 0, (const size_t[]){0}, 1, &f->count) == JOLUNZA_CLOSED);
     CHECK(jolunza_tick(handle) == JOLUNZA_CLOSED);
+    CHECK(jolunza_help(handle, 1) == JOLUNZA_CLOSED);
     CHECK(jolunza_count(handle, &f->counts) == JOLUNZA_CLOSED);
     CHECK(jolunza_frame(handle, 0, f->frames, f->bytes, sizeof f->bytes) == JOLUNZA_CLOSED);
     CHECK(jolunza_frames(handle, 0, f->frames, 4, f->bytes, sizeof f->bytes, &f->count) == JOLUNZA_CLOSED);
@@ -555,6 +556,63 @@ static void test_tick_and_frame(void)
     jolunza_close(&handle);
 }
 
+static const uint8_t help[] = {0x23, 7, 2, 1, 0, 1, 0, 1};
+
+/* Member 2 hears that member 1 has 0.1 and 0.2, and asks it for both; of 1.1, which it lacks too, nobody else is known to have any.
+ * Events and entries stay as the call before left them. */
+static void test_help(size_t limit)
+{
+    jolunza_handle handle = JOLUNZA_CLOSED_HANDLE;
+    jolunza_counts before;
+
+    CHECK(jolunza_open(&handle, GROUP, SIZE, WINDOW, 2, limit) == JOLUNZA_DONE);
+    CHECK(cast(&handle, "hi") == JOLUNZA_DONE);
+    CHECK(jolunza_help(&handle, 0) == JOLUNZA_DONE && counts(&handle, 0, 1, 1));
+    CHECK(receive(&handle, BYTES(0x12, 7, 1, 2, 0, 2, 0, 1)) == JOLUNZA_DONE);
+    before = counts_of(&handle);
+    CHECK(jolunza_help(&handle, 0) == JOLUNZA_DONE);
+    CHECK(counts(&handle, 1, before.events, before.entries) && is_frame(&handle, 0, 1, help, sizeof help));
+    CHECK(jolunza_help(&handle, 2) == JOLUNZA_BAD_MEMBER);
+    CHECK(jolunza_help(&handle, 3) == JOLUNZA_BAD_MEMBER);
+    CHECK(jolunza_help(&handle, UINT32_MAX) == JOLUNZA_BAD_MEMBER);
+    CHECK(counts(&handle, 1, before.events, before.entries) && is_frame(&handle, 0, 1, help, sizeof help));
+    CHECK(jolunza_help(&handle, 1) == JOLUNZA_DONE);
+    CHECK(counts(&handle, 0, before.events, before.entries));
+    jolunza_close(&handle);
+}
+
+/* Both casts of member 0 are there to be sent to member 2, as they came. */
+static bool hands_on(jolunza_handle *handle, const uint8_t *frames)
+{
+    return counts_of(handle).frames == 2 && is_frame(handle, 0, 2, frames, 7) && is_frame(handle, 1, 2, frames + 7, 7);
+}
+
+/* Member 1 hands on what it is asked for by any call that takes it, until it knows that all but the sender have it. */
+static void test_helper(size_t limit)
+{
+    static const uint8_t loaded[] = {0x11, 7, 0, 1, 0, 1, 'a', 0x11, 7, 0, 2, 0, 1, 'b', 0x23, 7, 2, 1, 0, 1, 0, 1};
+    jolunza_handle handle = JOLUNZA_CLOSED_HANDLE;
+
+    CHECK(jolunza_open(&handle, GROUP, SIZE, WINDOW, 1, limit) == JOLUNZA_DONE);
+    CHECK(receive(&handle, help, sizeof help) == JOLUNZA_DONE && counts(&handle, 0, 0, 0));
+    CHECK(jolunza_load(&handle, loaded, sizeof loaded) == JOLUNZA_DONE);
+    CHECK(jolunza_receive_parts(&handle, 0, (const size_t[]){7, 7, 8}, 3, &filled.count) == JOLUNZA_DONE);
+    CHECK(filled.count == 3 && hands_on(&handle, loaded));
+    CHECK(cast(&handle, "hi") == JOLUNZA_DONE);
+    CHECK(receive(&handle, help, sizeof help) == JOLUNZA_DONE);
+    CHECK(has_received(false, false, 0) && hands_on(&handle, loaded));
+    CHECK(jolunza_tick(&handle) == JOLUNZA_DONE);
+    CHECK(jolunza_receive_loaded(&handle, 14, 8, &filled.received) == JOLUNZA_DONE);
+    CHECK(has_received(false, false, 0) && hands_on(&handle, loaded));
+    refuses(&handle, JOLUNZA_IMPOSSIBLE, BYTES(0x23, 7, 1, 1, 0, 1, 0, 0));
+    refuses(&handle, JOLUNZA_BAD_MEMBER, BYTES(0x23, 7, 2, 1, 3, 1, 0, 0));
+    refuses(&handle, JOLUNZA_MALFORMED, BYTES(0x23, 7, 2, 1, 0, 0));
+    CHECK(receive(&handle, BYTES(0x12, 7, 2, 1, 0, 2)) == JOLUNZA_DONE);
+    CHECK(receive(&handle, help, sizeof help) == JOLUNZA_DONE);
+    CHECK(has_received(false, false, 0) && counts_of(&handle).frames == 0);
+    jolunza_close(&handle);
+}
+
 /* Copies frames into so much room, and says how many came. */
 static size_t copy_frames(jolunza_handle *handle, size_t first, size_t heads, size_t bytes)
 {
@@ -816,6 +874,10 @@ int main(void)
     test_full_history();
     test_no_history();
     test_tick_and_frame();
+    test_help(LIMIT);
+    test_help(0);
+    test_helper(LIMIT);
+    test_helper(0);
     test_frames();
     test_event();
     test_events();

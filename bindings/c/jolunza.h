@@ -51,7 +51,8 @@ enum jolunza_code {
     JOLUNZA_CLOSED = 1,           /* the handle holds no member */
     JOLUNZA_NO_MEMORY = 2,        /* try again */
     JOLUNZA_BAD_GROUP = 3,        /* open: the size is not 2 to 64, or the window not 1 to 256 */
-    JOLUNZA_BAD_MEMBER = 4,       /* open, receive, missing, stable_of: a number that no member of the group has; missing: its own too */
+    JOLUNZA_BAD_MEMBER = 4,       /* open, receive, help, missing, stable_of: a number that no member of the group has; help and
+                                     missing: its own too */
     JOLUNZA_BAD_LIMIT = 5,        /* open: the limit of the history is above 16,777,216 */
     JOLUNZA_PAYLOAD_TOO_LONG = 6, /* cast: more than 1,024 bytes; cast_burst: all payloads together */
     JOLUNZA_WINDOW_FULL = 7,      /* cast, cast_burst: wait for the others' statuses, keep the payloads, try again; a burst wants
@@ -79,8 +80,8 @@ typedef struct jolunza_handle {
 
 /* How many there are to be read. */
 typedef struct jolunza_counts {
-    size_t frames;  /* of the last call of cast, receive or tick that was done; a cast is said of a burst too */
-    size_t events;  /* since the member was opened; without a history, of that call */
+    size_t frames;  /* of the last call of cast, receive, tick or help that was done; a cast is said of a burst too */
+    size_t events;  /* since the member was opened; without a history, of the last of these calls but help */
     size_t entries; /* of its history; without one, of that call: 1 or 0, or one of each part that changed the member */
 } jolunza_counts;
 
@@ -151,8 +152,8 @@ uint32_t jolunza_cast(jolunza_handle *handle, const uint8_t *payload, size_t len
 uint32_t jolunza_cast_burst(jolunza_handle *handle, const uint8_t *payloads, size_t length, const size_t *lengths, size_t count);
 
 /*
- * Takes received bytes: one frame, whole. The frames to be sent answer a request: there are none where it is a repeat or entered.
- * What is delivered are the last events.
+ * Takes received bytes: one frame, whole. The frames to be sent answer a request for casts of this member, or a help frame, which
+ * asks this member for casts of another: there are none where it is a repeat or entered. What is delivered are the last events.
  */
 uint32_t jolunza_receive(jolunza_handle *handle, const uint8_t *bytes, size_t length, jolunza_received *received);
 
@@ -185,6 +186,15 @@ uint32_t jolunza_receive_parts(jolunza_handle *handle, size_t first, const size_
 
 /* The frames to be sent are the status, to all others, and a request to each member of whom something is missing. */
 uint32_t jolunza_tick(jolunza_handle *handle);
+
+/*
+ * Asks a third member for the missing casts of another member, for where that one is silent. The one frame to be sent goes to the
+ * first member, other than both, that is known to have delivered the first of them. Where none is missing, or nobody is known to
+ * have it, there is no frame, and the code is DONE. The member stays as it is, and so do the events and entries that can be read:
+ * only the frames of the call before are gone. BAD_MEMBER for itself and for who is none, or NO_MEMORY.
+ * Call it now and then for each other member, as after each fourth tick. What comes back are casts, received as any others.
+ */
+uint32_t jolunza_help(jolunza_handle *handle, uint32_t member);
 
 uint32_t jolunza_count(jolunza_handle *handle, jolunza_counts *counts);
 

@@ -75,7 +75,7 @@ static void add_number(uint64_t number)
     add(&number, sizeof number);
 }
 
-enum { GROUP = 7, SIZE = 2, WINDOW = 64, LIMIT = 1000, CASTS = 40, MOST_FRAMES = 64 };
+enum { GROUP = 7, SIZE = 3, WINDOW = 64, LIMIT = 1000, CASTS = 40, MOST_FRAMES = 64 };
 
 struct frame {
     jolunza_frame_head head;
@@ -133,7 +133,7 @@ static void add_entries(jolunza_handle *handle)
 
 static uint64_t digest_of(jolunza_handle *handle)
 {
-    uint32_t time[SIZE] = {0, 0}, stable = 0;
+    uint32_t time[SIZE] = {0, 0, 0}, stable = 0;
 
     digest = 0xcbf29ce484222325u;
     add_frames(handle);
@@ -219,7 +219,7 @@ static void load_all(jolunza_handle *handle, const struct frame *frames, size_t 
     }
 }
 
-/* Member 1 tells what it has and asks for what it misses, and member 0 sends it again. */
+/* Member 1 tells what it has and asks for what it misses, and member 0 sends it again. What it then tells is left to be sent. */
 static void repair(jolunza_handle *of_0, jolunza_handle *of_1)
 {
     static struct frame asked[MOST_FRAMES], sent[MOST_FRAMES];
@@ -239,10 +239,26 @@ static void repair(jolunza_handle *of_0, jolunza_handle *of_1)
     receive_all(of_0, sent, frames_of(of_1, sent));
 }
 
+/* Member 2 has got nothing. It hears what member 1 has, asks it for that, and tells member 0 when it has it too. */
+static void help(jolunza_handle *of_0, jolunza_handle *of_1, jolunza_handle *of_2)
+{
+    static struct frame sent[MOST_FRAMES];
+    jolunza_received received;
+
+    receive_all(of_2, sent, frames_of(of_1, sent));
+    TRY(of_2, jolunza_help(of_2, 0));
+    MUST(frames_of(of_2, sent) == 1 && sent[0].head.to == 1);
+    TRY(of_1, jolunza_receive(of_1, sent[0].bytes, sent[0].head.length, &received));
+    MUST(frames_of(of_1, sent) == CASTS);
+    receive_all(of_2, sent, CASTS);
+    TRY(of_2, jolunza_tick(of_2));
+    receive_all(of_0, sent, frames_of(of_2, sent));
+}
+
 /* A run of members with this limit in which this many allocations are granted before one is refused: a digest of how both end. */
 static uint64_t run(size_t limit, long before_the_refusal)
 {
-    jolunza_handle of_0 = JOLUNZA_CLOSED_HANDLE, of_1 = JOLUNZA_CLOSED_HANDLE;
+    jolunza_handle of_0 = JOLUNZA_CLOSED_HANDLE, of_1 = JOLUNZA_CLOSED_HANDLE, of_2 = JOLUNZA_CLOSED_HANDLE;
     uint64_t ends;
     uint32_t stable;
 
@@ -250,12 +266,15 @@ static uint64_t run(size_t limit, long before_the_refusal)
     is_refused = false;
     TRY(&of_0, jolunza_open(&of_0, GROUP, SIZE, WINDOW, 0, limit));
     TRY(&of_1, jolunza_open(&of_1, GROUP, SIZE, WINDOW, 1, limit));
+    TRY(&of_2, jolunza_open(&of_2, GROUP, SIZE, WINDOW, 2, limit));
     cast_some(&of_0, &of_1);
     repair(&of_0, &of_1);
+    help(&of_0, &of_1, &of_2);
     MUST(jolunza_stable(&of_0, &stable) == JOLUNZA_DONE && stable == CASTS + CASTS / 4);
-    ends = digest_of(&of_0) ^ 3 * digest_of(&of_1);
+    ends = digest_of(&of_0) ^ 3 * digest_of(&of_1) ^ 5 * digest_of(&of_2);
     jolunza_close(&of_0);
     jolunza_close(&of_1);
+    jolunza_close(&of_2);
     MUST(blocks == 0);
     return ends;
 }

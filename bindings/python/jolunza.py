@@ -85,7 +85,7 @@ class Name(NamedTuple):
 
 class Counts(NamedTuple):
     """How many there are: frames of the last call that was done, events since the member was opened, entries of its history. Without a
-    history events and entries are those of that call."""
+    history events and entries are those of that call, or, where it was `help`, of the one before."""
 
     frames: int
     events: int
@@ -193,6 +193,7 @@ FUNCTIONS: dict[str, tuple[Any, list[tuple[str, Any]]]] = {
         [HANDLE, ("first", c_size_t), ("lengths", const_size_t), ("count", c_size_t), ("taken", POINTER(c_size_t))],
     ),
     "jolunza_tick": (c_uint32, [HANDLE]),
+    "jolunza_help": (c_uint32, [HANDLE, ("member", c_uint32)]),
     "jolunza_count": (c_uint32, [HANDLE, ("counts", POINTER(jolunza_counts))]),
     "jolunza_frame": (
         c_uint32,
@@ -360,7 +361,8 @@ class Member:
             self._call("cast_burst", joined, len(joined), lengths, len(given))
 
     def receive(self, frame: Given) -> Received:
-        """Takes received bytes: one frame, whole. The last `delivered` events are new, and frames to be sent answer a request."""
+        """Takes received bytes: one frame, whole. The last `delivered` events are new, and frames to be sent answer a request for casts of
+        this member, or a help frame, which asks this member for casts of another."""
         given, received = _given(frame), jolunza_received()
         with self._lock:
             self._call("receive", given, len(given), byref(received))
@@ -396,6 +398,13 @@ class Member:
         with self._lock:
             self._call("tick")
 
+    def help(self, member: int) -> None:
+        """Asks a third member for the missing casts of another member, for where that one is silent: the one frame to be sent goes to the
+        first member, other than both, that is known to have delivered the first of them. There is none where none is missing, or nobody
+        is known to have it. The member and its events stay as they are."""
+        with self._lock:
+            self._call("help", _number(member, 32))
+
     def counts(self) -> Counts:
         counts = jolunza_counts()
         with self._lock:
@@ -403,7 +412,7 @@ class Member:
         return Counts(counts.frames, counts.events, counts.entries)
 
     def frames(self) -> list[Frame]:
-        """The frames to be sent of the last call of `cast`, `cast_burst`, `receive` or `tick` that was done."""
+        """The frames to be sent of the last call of `cast`, `cast_burst`, `receive`, `tick` or `help` that was done."""
         with self._lock:
             frames: list[Frame] = []
             more = self._frames(0)

@@ -26,6 +26,7 @@ HI = bytes.fromhex("11 07 00 01 00 02 68 69")
 YO = bytes.fromhex("11 07 01 01 01 00 01 02 79 6f")
 HI_YO = bytes.fromhex("21 07 00 01 00 02 02 68 69 02 79 6f")
 A_B = bytes.fromhex("21 07 01 01 01 00 02 02 01 61 01 62")
+HELP = bytes.fromhex("23 07 02 01 00 01 00 01")
 CHANGED, UNCHANGED = Received(False, True, 0), Received(False, False, 0)
 
 
@@ -60,6 +61,7 @@ def calls(member: Member) -> tuple[Callable[[], object], ...]:
         lambda: member.receive_loaded(0, len(YO)),
         lambda: member.receive_parts(0, [len(YO)]),
         member.tick,
+        lambda: member.help(1),
         member.counts,
         member.frames,
         lambda: list(member.events()),
@@ -108,6 +110,18 @@ def state(member: Member) -> tuple[object, ...]:
     """All that can be read of it."""
     read = (member.counts(), member.frames(), list(member.events()), list(member.entries()))
     return (*read, member.time(), member.stable(), [member.stable_of(other) for other in range(3)], missing(member))
+
+
+def helps(member: Member) -> list[list[Frame]]:
+    """Whom it asks for what is missing of each other member of a group of three. What its last call left to be sent is gone then."""
+    asked = []
+    for other in range(3):
+        try:
+            member.help(other)
+        except Refusal:
+            continue  # itself
+        asked.append(member.frames())
+    return asked
 
 
 def missing(member: Member) -> list[list[range]]:
@@ -240,6 +254,42 @@ class WorkedExamples(Case):
         self.answers(member, "13 07 02 00 01 01 01", UNCHANGED)
         self.assertEqual(member.frames(), [])
 
+    def test_a_third_member_is_asked_for_what_is_missing(self) -> None:
+        for history_max in (100, 0):
+            member = opened(2, history_max=history_max)
+            self.assertEqual(helps(member), [[], []])
+            self.assertEqual(member.receive(bytes.fromhex("12 07 01 01 00 02")), CHANGED)
+            before = state(member)
+            self.assertEqual(helps(member), [[Frame(1, HELP)], []])
+            self.assertEqual(state(member), before)
+            member.receive(bytes.fromhex("11 07 00 01 00 01 61"))
+            self.assertEqual(helps(member), [[Frame(1, bytes.fromhex("23 07 02 01 00 01 01 00"))], []])
+            member.receive(bytes.fromhex("11 07 00 02 00 01 62"))
+            self.assertEqual(helps(member), [[], []])
+
+    def test_a_helper_hands_on_what_it_has_delivered(self) -> None:
+        frames = [bytes.fromhex("11 07 00 01 00 01 61"), bytes.fromhex("11 07 00 02 00 01 62")]
+        for window, handed_on in ((4, frames), (1, frames[1:])):
+            member = after(1, *frames, window=window)
+            member.cast(b"x")
+            self.assertEqual(member.receive(HELP), UNCHANGED)
+            self.assertEqual(member.frames(), [Frame(2, frame) for frame in handed_on])
+        self.answers(member, "12 07 02 01 00 02", CHANGED)
+        self.assertEqual(member.receive(HELP), UNCHANGED)
+        self.assertEqual((member.stable_of(0), member.frames()), (2, []))
+        member = after(1, *frames[1:])
+        self.assertEqual(member.receive(HELP), UNCHANGED)
+        self.assertEqual(member.frames(), [])
+        for given, answer in (
+            ("23 07 01 01 00 01 00 00", Code.IMPOSSIBLE),
+            ("23 07 02 01 02 01 00 00", Code.IMPOSSIBLE),
+            ("23 07 02 01 01 01 00 00", Code.IMPOSSIBLE),
+            ("23 07 02 01 03 01 00 00", Code.BAD_MEMBER),
+            ("23 08 02 01 00 01 00 00", Code.OTHER_GROUP),
+            ("23 07 02 01 00 00", Code.MALFORMED),
+        ):
+            self.answers(member, given, answer)
+
     def test_a_cast_beyond_the_window(self) -> None:
         member = opened(2)
         self.answers(member, "11 07 00 05 00 00", Code.TOO_FAR)
@@ -305,6 +355,15 @@ class Refusals(Case):
             with self.assertRaises(Refusal) as raised:
                 opened(1).stable_of(member)
             self.assertEqual(raised.exception.code, Code.BAD_MEMBER)
+
+    def test_of_help(self) -> None:
+        member, _ = that_cast(1, b"hi")
+        before = state(member)
+        for other in (1, 3, 0xFFFF_FFFF):
+            with self.assertRaises(Refusal) as raised:
+                member.help(other)
+            self.assertEqual(raised.exception.code, Code.BAD_MEMBER)
+        self.assertEqual(state(member), before)
 
     def test_of_missing(self) -> None:
         for member in (1, 3, 0xFFFF_FFFF):
@@ -518,6 +577,8 @@ class Values(Case):
             opened(0).missing((1 << 32) + 1)
         with self.assertRaises(OverflowError):
             opened(0).stable_of(1 << 32)
+        with self.assertRaises(OverflowError):
+            opened(0).help(1 << 32)
         for read in (opened(0).events, opened(0).entries):
             with self.assertRaises(OverflowError):
                 list(read(-1))
@@ -744,6 +805,7 @@ class Comeback(Case):
                 make(other, record)
                 frames.append(other.frames())
             self.assertEqual(state(other), state(group.members[1]))
+            self.assertEqual(helps(other), helps(group.members[1]))
         return frames
 
     def test_without_a_history_too(self) -> None:

@@ -25,8 +25,9 @@
 //! }
 //! ```
 //!
-//! After [`Member::cast`], [`Member::cast_burst`], [`Member::receive`] and [`Member::tick`] send [`Member::frames`], each whole and as it is,
-//! and show [`Member::new_events`]. Tick now and then: a tick says what the member has, and asks for what it misses.
+//! After [`Member::cast`], [`Member::cast_burst`], [`Member::receive`], [`Member::tick`] and [`Member::help`] send [`Member::frames`],
+//! each whole and as it is, and show [`Member::new_events`]. Tick now and then: a tick says what the member has, and asks for what it
+//! misses. More rarely ask for help with each other member: a third one then sends what that one casts and does not send again.
 //!
 //! A member goes to another thread, and no two threads use one at a time:
 //!

@@ -53,9 +53,9 @@ pub struct Received {
 /// How many there are to be read.
 #[derive(Clone, Copy, Debug, PartialEq, Eq)]
 pub struct Counts {
-    /// Of the last call of `cast`, `cast_burst`, `receive` or `tick` that was done.
+    /// Of the last call of `cast`, `cast_burst`, `receive`, `tick` or `help` that was done.
     pub frames: usize,
-    /// Since the member was opened; without a history, of that call.
+    /// Since the member was opened; without a history, of the last of these calls but `help`.
     pub events: usize,
     /// Of the history; without one, of that call: 1 or 0, or one of each part that changed the member.
     pub entries: usize,
@@ -147,7 +147,8 @@ impl Member {
         Ok(())
     }
 
-    /// Takes received bytes: one frame, whole. What is delivered are the last events; the frames answer a request.
+    /// Takes received bytes: one frame, whole. What is delivered are the last events; the frames answer a request for casts
+    /// of this member, or a help frame, which asks this member for casts of another.
     #[inline]
     pub fn receive(&mut self, bytes: &[u8]) -> Result<Received, Refusal> {
         let mut received = sys::jolunza_received::default();
@@ -231,7 +232,7 @@ impl Member {
     fn taken(&mut self, received: sys::jolunza_received) -> Received {
         let sys::jolunza_received { is_repeat, is_entered, delivered } = received;
         self.add_events(delivered);
-        // frames answer a request, which is never entered
+        // frames answer a request or a help frame, which are never entered
         self.left = if is_repeat || is_entered { Left::NoFrame } else { Left::Frames };
         Received { is_repeat, is_entered, delivered }
     }
@@ -245,6 +246,34 @@ impl Member {
         Ok(())
     }
 
+    /// Asks a third member for the missing casts of another member, for where that one is silent: the one frame goes to the
+    /// first member, other than both, that is known to have delivered the first of them. There is no frame where none is
+    /// missing, or nobody is known to have it. The member and its events stay as they are. `BadMember` of this one and of who
+    /// is none.
+    ///
+    /// ```
+    /// # use jolunza::{Member, Refusal, Settings};
+    /// # let open = |me| Member::open(Settings { group: 7, size: 3, window: 4, me, history_max: 100 });
+    /// # let (mut anna, mut bert, mut cleo) = (open(0)?, open(1)?, open(2)?);
+    /// anna.cast(b"when?")?; // which does not come to Cleo, and then Anna is silent
+    /// bert.receive(anna.frames().next().unwrap().bytes)?;
+    /// bert.tick()?;
+    /// cleo.receive(bert.frames().next().unwrap().bytes)?;
+    /// cleo.help(0)?;
+    /// let help = cleo.frames().next().unwrap();
+    /// assert_eq!(help.to, Some(1));
+    /// bert.receive(help.bytes)?;
+    /// cleo.receive(bert.frames().next().unwrap().bytes)?;
+    /// assert_eq!(cleo.new_events().next().unwrap().payload, b"when?");
+    /// # Ok::<(), Refusal>(())
+    /// ```
+    #[inline]
+    pub fn help(&mut self, member: u32) -> Result<(), Refusal> {
+        answered(unsafe { sys::jolunza_help(self.handle.get(), member) })?;
+        self.left = Left::Frames;
+        Ok(())
+    }
+
     /// A call that was done has made so many. Without a history those of the call before can't be read any more.
     #[inline]
     fn add_events(&mut self, more: usize) {
@@ -254,7 +283,7 @@ impl Member {
         self.unshown += more;
     }
 
-    /// The frames of the last call of `cast`, `cast_burst`, `receive` or `tick` that was done.
+    /// The frames of the last call of `cast`, `cast_burst`, `receive`, `tick` or `help` that was done.
     #[inline]
     pub fn frames(&mut self) -> Frames<'_> {
         match self.left {

@@ -141,6 +141,8 @@ extern "C" {
 
     pub fn jolunza_tick(handle: *mut jolunza_handle) -> u32;
 
+    pub fn jolunza_help(handle: *mut jolunza_handle, member: u32) -> u32;
+
     pub fn jolunza_count(handle: *mut jolunza_handle, counts: *mut jolunza_counts) -> u32;
 
     pub fn jolunza_frame(

@@ -26,6 +26,7 @@ fn answer(member: &mut Member, call: &str) -> String {
         "burst" => counted(member, |member| burst(member, rest)),
         "take" => counted(member, |member| take(member, &bytes_of(rest))),
         "tick" => counted(member, tick),
+        "help" => counted(member, |member| help(member, rest.parse().unwrap())),
         "time" => printed_time(&member.time()),
         "stable" => member.stable().to_string(),
         "stable_of" => stable_of(member, rest.parse().unwrap()),
@@ -95,6 +96,14 @@ fn tick(member: &mut Member) -> Result<String, Refusal> {
     member.tick()?;
     let entered = if member.counts().entries > before { "entered" } else { "not entered" };
     Ok(entered.to_string() + &frames(member))
+}
+
+fn help(member: &mut Member, other: u32) -> Result<String, Refusal> {
+    let before = member.counts();
+    member.help(other)?;
+    assert_eq!(Counts { frames: before.frames, ..member.counts() }, before);
+    let text = frames(member);
+    Ok(text.strip_prefix(", ").unwrap_or("none").into())
 }
 
 fn frames(member: &mut Member) -> String {

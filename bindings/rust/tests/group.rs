@@ -2,7 +2,7 @@
 
 mod network;
 
-use jolunza::{Member, Name, Refusal, Settings};
+use jolunza::{Counts, Member, Name, Refusal, Settings};
 use network::{Dice, Network};
 use std::collections::{HashMap, HashSet};
 use std::hash::{DefaultHasher, Hash, Hasher};
@@ -67,6 +67,12 @@ impl Group {
 
     fn tick(&mut self, me: u32) {
         self.members[me as usize].tick().unwrap();
+        self.note(me);
+    }
+
+    /// Asks a third member for what is missing of another one.
+    fn help(&mut self, me: u32, other: u32) {
+        self.members[me as usize].help(other).unwrap();
         self.note(me);
     }
 
@@ -160,14 +166,15 @@ impl Bits {
     }
 }
 
-/// All cast, tick and are brought frames by chance, until all is cast; then in quiet rounds nothing is lost.
+/// All cast, tick, ask for help and are brought frames by chance, until all is cast; then in quiet rounds nothing is lost.
 fn held(seed: u64, history_max: usize) -> (Group, usize) {
     let (mut group, mut dice) = (Group::new(seed, history_max), Dice(seed));
     while group.left > 0 {
         let me = dice.below(SIZE.into()) as u32;
-        match dice.below(10) {
-            0 => group.tick(me),
-            1 | 2 => group.cast(me),
+        match dice.below(20) {
+            0 | 1 => group.tick(me),
+            2..=5 => group.cast(me),
+            6 => group.help(me, (me + 1) % SIZE),
             _ => group.bring(),
         }
     }
@@ -276,6 +283,41 @@ fn parts_of_loaded_bytes_are_received() {
         let payloads: Vec<_> = taker.events(events - 3..).map(|event| event.payload.to_vec()).collect();
         assert_eq!(payloads, ["a", "bc", "def"].map(|text| text.as_bytes().to_vec()));
         assert_eq!(taker.receive_loaded(0..ends[1]), Err(Refusal::NoneThere));
+    }
+}
+
+/// The casts come to member 1 alone, and then their sender is silent: member 2 hears of them by a status of member 1, which hands them
+/// on when it is asked.
+#[test]
+fn what_a_silent_member_has_cast_comes_from_a_third() {
+    for history_max in [100, 0] {
+        let open = |me| Member::open(Settings { group: 7, size: SIZE, window: 16, me, history_max }).unwrap();
+        let (mut silent, mut helper, mut taker) = (open(0), open(1), open(2));
+        for text in ["a", "bc", "def"] {
+            silent.cast(text.as_bytes()).unwrap();
+            helper.receive(silent.frames().next().unwrap().bytes).unwrap();
+        }
+        taker.help(0).unwrap();
+        assert_eq!(taker.frames().len(), 0, "it has not heard of them");
+        helper.tick().unwrap();
+        taker.receive(helper.frames().next().unwrap().bytes).unwrap();
+        let before = taker.counts();
+        taker.help(0).unwrap();
+        assert_eq!(taker.counts(), Counts { frames: 1, ..before });
+        assert_eq!(taker.help(2), Err(Refusal::BadMember));
+        assert_eq!(taker.help(SIZE), Err(Refusal::BadMember));
+        let help = taker.frames().next().unwrap();
+        assert_eq!(help.to, Some(1));
+        helper.receive(help.bytes).unwrap();
+        assert!(helper.frames().all(|frame| frame.to == Some(2)));
+        let mut payloads = Vec::new();
+        for frame in helper.frames() {
+            taker.receive(frame.bytes).unwrap();
+            payloads.extend(taker.new_events().map(|event| event.payload.to_vec()));
+        }
+        assert_eq!(payloads, ["a", "bc", "def"].map(|text| text.as_bytes().to_vec()));
+        taker.help(0).unwrap();
+        assert_eq!(taker.frames().len(), 0, "nothing is missing");
     }
 }
 

@@ -61,10 +61,11 @@ fn entered(member: &mut Member) -> Option<String> {
     })
 }
 
-/// All that can be read of a member, as text; without a history not what its last call added.
+/// All that can be read of a member, as text, and whom it would ask for help; without a history not what its last call added.
 fn reading(member: &mut Member) -> Vec<String> {
     let mut lines = vec![format!("{:?} {}", member.time(), member.stable())];
     lines.extend((0..SIZE).map(|other| format!("{:?} {:?}", member.stable_of(other), member.missing(other))));
+    lines.extend((0..SIZE).map(|other| format!("{:?} {:?}", member.help(other), frames(member))));
     if member.settings().history_max == 0 {
         return lines;
     }

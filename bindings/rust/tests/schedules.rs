@@ -77,6 +77,7 @@ impl Play {
             "burst" => return self.burst(place, line.split(' ').skip(2)),
             "arrive" => return self.arrive(place, words[2]),
             "tick" => return self.tick(place),
+            "help" => return self.help(place, words[2]),
             "screen" => return self.screen(place),
             _ => panic!("{line}"),
         };
@@ -122,6 +123,12 @@ impl Play {
         let done = member.tick();
         let entered = if member.counts().entries > before { "entered" } else { "same" };
         self.answered(place, done, |_| format!("tick {entered}"));
+    }
+
+    fn help(&mut self, place: usize, other: &str) {
+        let member = &mut self.players[place].member;
+        let done = member.help(other.parse().unwrap()).map(|()| member.frames().len());
+        self.answered(place, done, |frames| if frames == 0 { "help none".into() } else { "help".into() });
     }
 
     fn screen(&mut self, place: usize) {

@@ -1,5 +1,5 @@
 -- What the calls do to a member with its frames.
-use Rattle.std.specs.Prelude.{◌≡◌, ◌⊎◌, ℕ, ◌+◌, ◌≤◌, Bool, true, false, List, [], ◌∷◌, ◌++◌, length, slice_range, None, Ok, Err}
+use Rattle.std.specs.Prelude.{◌≡◌, ◌⊎◌, ℕ, ◌+◌, ◌≤◌, Bool, true, false, List, [], ◌∷◌, ◌++◌, length, slice_range, Option, None, option_to_list, Ok, Err}
 use Rattle.cb_delay.specs.declared.message.Event.{Event}
 use Rattle.cb_frames.specs.Fields.{Load, CastFrame}
 use Rattle.cb_frames.specs.Text.{text_of}
@@ -10,7 +10,7 @@ use Rattle.cb_history.specs.Answers.{ArrivalSays, Accepted, Repeat}
 use Rattle.cb_history.specs.Facts.{EntryFields}
 use Rattle.cb_history.specs.Group.{Identity}
 use Rattle.cb_history.specs.Legal.{Call, ToCast, ToTake, ToTick}
-use Rattle.cb_history.specs.State.{MemberState, answer_to_cast, answer_to_arrival, answer_to_tick, events_in, next_in, state_after}
+use Rattle.cb_history.specs.State.{MemberState, answer_to_cast, answer_to_arrival, answer_to_help, answer_to_tick, events_in, next_in, state_after}
 use Rattle.cb_member.specs.declared.recorder.taken.Received as taken
 use Rattle.cb_member.specs.declared.recorder.taken.Received.TheVariants as takens
 use Rattle.cb_member.specs.Received.{count_said, deliveries_in, received_says, sent_by}
@@ -133,3 +133,10 @@ pub record HasTicked (old new : KeptMember) (frames : List Outgoing) : Type 0 wh
 -- and they are those that are to be sent; what is loaded stays
 abbrev pub HasTickedToSend : Held → Held → Type 0
 HasTickedToSend old new = (new.loaded ≡ old.loaded) × HasTicked old.kept new.kept (frames_of new.frames)
+
+-- help is asked for from a third member for what is missing of member i, or nothing is: that is what is to be sent; the member, what can be
+-- read of it and what is loaded stay
+abbrev pub HasHelpToSend : Held → Held → ℕ → Type 0
+HasHelpToSend old new i =
+    (out : Option Outgoing) × OnEach old (λ m. answer_to_help m i ≡ Ok out) × (frames_of new.frames ≡ option_to_list out)
+    × (new.loaded ≡ old.loaded) × (new.kept ≡ old.kept)

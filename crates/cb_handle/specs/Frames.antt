@@ -3,12 +3,12 @@ use Rattle.std.specs.Prelude.{◌≡◌, ℕ, ◌≤◌, List, [], ◌∷◌, le
 use Rattle.std.specs.List.{flat_map}
 use Rattle.cb_history.specs.declared.answer.Outgoing.{Outgoing}
 use Rattle.cb_handle.specs.declared.frames.Frames.{Frames}
-use Rattle.cb_handle.specs.declared.frames.Frames.TheVariants.{Cast, Several}
+use Rattle.cb_handle.specs.declared.frames.Frames.TheVariants.{One, Several}
 use Rattle.cb_handle.specs.declared.rows.FrameHead.{FrameHead}
 use Rattle.cb_handle.specs.Copies.{placed, copied, AreMost}
 
 abbrev pub frames_of : Frames → List Outgoing
-frames_of (Cast frame) = frame ∷ []
+frames_of (One frame) = frame ∷ []
 frames_of (Several frames) = frames.items
 
 abbrev pub frame_head : Outgoing → FrameHead

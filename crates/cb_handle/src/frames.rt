@@ -1,6 +1,6 @@
 //! The frames of a call.
 
-ghost use Rattle.std.specs.Prelude.{◌≡◌, [], ◌∷◌, None};
+ghost use Rattle.std.specs.Prelude.{◌≡◌, [], ◌∷◌, None, option_to_list};
 ghost use Rattle.cb_handle.specs.Frames.{frames_of, frame_head, ShowsFrame, ShowsFrames};
 
 use crate::copies::{copy_at, copy_front};
@@ -10,10 +10,10 @@ use cb_member::Outgoing;
 use std::alloc::Global;
 use std::slice;
 
-/// The frames of a call that are to be sent. The one frame of a cast takes no memory for a list.
+/// The frames of a call that are to be sent. One alone, as that of a cast, takes no memory for a list.
 #[derive(Drop)]
 pub enum Frames {
-    Cast(Outgoing),
+    One(Outgoing),
     Several(Vec<Outgoing>),
 }
 
@@ -22,7 +22,7 @@ impl Frames {
     pub fn of_cast(bytes: Bytes) -> Frames
         ensures { frames_of result ≡ record { to = None; bytes = bytes } ∷ [] }
     {
-        Frames::Cast(Outgoing { to: None, bytes })
+        Frames::One(Outgoing { to: None, bytes })
     }
 
     /// The frames of a call that casts nothing. A list without frames stays where it is.
@@ -32,6 +32,16 @@ impl Frames {
     {
         if !(frames.is_empty() && self.as_slice().is_empty()) {
             *self = Frames::Several(frames);
+        }
+    }
+
+    /// One frame, or none. This takes no memory.
+    pub fn replace_by(&mut self, alloc: Global, frame: Option<Outgoing>)
+        ensures { frames_of self.new ≡ option_to_list frame }
+    {
+        match frame {
+            Some(frame) => *self = Frames::One(frame),
+            None => self.clear(alloc),
         }
     }
 
@@ -48,7 +58,7 @@ impl Frames {
         ensures { result.now ≡ frames_of self.now }
     {
         match self {
-            Frames::Cast(frame) => slice::from_ref(frame),
+            Frames::One(frame) => slice::from_ref(frame),
             Frames::Several(frames) => frames.as_slice(),
         }
     }

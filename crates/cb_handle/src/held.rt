@@ -2,7 +2,7 @@
 
 ghost use Rattle.std.specs.Prelude.{◌≡◌, ◌⊎◌, ◌↔◌, ◌≤◌, [], length, drop, slice_get, map, IfOk, IfErr, OnOk, OnErr, MatchOption, Ok, Err, ◌==◌, ◌+◌, slice_range, if◌then◌else◌};
 ghost use Rattle.cb_frames.specs.Fields.{One};
-ghost use Rattle.cb_history.specs.State.{time_in, stable_in, stable_of_in, missing_in, RefusesArrival, RefusesTick};
+ghost use Rattle.cb_history.specs.State.{time_in, stable_in, stable_of_in, missing_in, RefusesArrival, RefusesHelp, RefusesTick};
 ghost use Rattle.cb_history.specs.Known.{ranges_of};
 ghost use Rattle.cb_history.specs.Load.{many_of};
 ghost use Rattle.cb_member.specs.Casting.{RefusesBurstExactly, RefusesExactly};
@@ -14,7 +14,7 @@ ghost use Rattle.cb_handle.specs.Entries.{ShowsEntry, range_row};
 ghost use Rattle.cb_handle.specs.Opening.{RefusesToOpen, IsNewOf};
 ghost use Rattle.cb_handle.specs.Parts.{HasReceivedParts, Leaves, RefusesParts};
 ghost use Rattle.cb_handle.specs.Payloads.{AreThere, RefusesPayloads, burst_in};
-ghost use Rattle.cb_handle.specs.Calling.{OnEach, seat_held, events_held, entries_held, HasCastToSend, HasReceivedToSend, HasTickedToSend, RefusesBytes, HasReceivedLoaded, RefusesLoaded, with_loaded, AreLoaded, counts_of, row_of};
+ghost use Rattle.cb_handle.specs.Calling.{OnEach, seat_held, events_held, entries_held, HasCastToSend, HasReceivedToSend, HasTickedToSend, HasHelpToSend, RefusesBytes, HasReceivedLoaded, RefusesLoaded, with_loaded, AreLoaded, counts_of, row_of};
 
 use crate::copies::{copy_front, from};
 use crate::frames::{Frames, show_frame, show_frames};
@@ -26,7 +26,7 @@ use crate::rows::{Counts, EntryHead, EventHead, FrameHead, Name, Range, Received
 use bytes::Bytes;
 use cb_frames::MOST_MESSAGES;
 use cb_member::{
-    ArriveRefusal, BurstRefusal, CastRefusal, Group, MissingFault, NewFault, TickRefusal,
+    ArriveRefusal, BurstRefusal, CastRefusal, Group, HelpFault, MissingFault, NewFault, TickRefusal,
 };
 use std::alloc::{AllocError, Global};
 
@@ -287,6 +287,26 @@ impl Held {
                 Ok(())
             }
             Err(refusal) => Err(refusal),
+        }
+    }
+
+    /// Asks a third member for the missing casts of a member: the frame to it is the one frame, or there is none where none is missing or
+    /// nobody else is known to have the first of them. The member stays as it is. After a fault nothing has changed.
+    pub fn help(&mut self, alloc: Global, member: u32) -> Result<(), HelpFault>
+        ensures asked { OnOk result (HasHelpToSend self.old self.new member) }
+        ensures refused { IfErr result (λ fault. OnEach self.old (λ m.
+            RefusesHelp m member fault)) }
+        ensures bad_member { (result ≡ Err HelpFault.BadMember)
+            ↔ (((seat_held self.old).group.size ≤ member)
+            ⊎ (member ≡ (seat_held self.old).me)) }
+        ensures same { OnErr result (self.new ≡ self.old) }
+    {
+        match self.kept.help(member) {
+            Ok(frame) => {
+                self.frames.replace_by(alloc, frame);
+                Ok(())
+            }
+            Err(fault) => Err(fault),
         }
     }
 

@@ -8,7 +8,7 @@ ghost use Rattle.cb_history.specs.Known.{ranges_of};
 ghost use Rattle.std.specs.Vec.{vec_capacity, vec_len};
 ghost use Rattle.cb_history.specs.Facts.{entry_fields};
 ghost use Rattle.cb_history.specs.Legal.{and_entry, longest_history};
-ghost use Rattle.cb_history.specs.State.{missing_in, stable_in, stable_of_in, time_in, RefusesArrival, RefusesTick};
+ghost use Rattle.cb_history.specs.State.{missing_in, stable_in, stable_of_in, time_in, answer_to_help, RefusesArrival, RefusesHelp, RefusesTick};
 ghost use Rattle.cb_member.specs.Casting.{RefusesBurstExactly, RefusesExactly};
 ghost use Rattle.cb_member.specs.CoreCalls.{MayCast};
 ghost use Rattle.cb_handle.specs.Kept.{OnEach, seat_of, events_of, entries_of};
@@ -19,8 +19,8 @@ ghost use Rattle.cb_handle.specs.Parts.{HasReceivedBehind};
 use bytes::Bytes;
 use cb_history::LONGEST_HISTORY;
 use cb_member::{
-    ArriveRefusal, BurstRefusal, CastRefusal, CoreMember, Entry, Event, Group, MissingFault,
-    NewFault, Outgoing, Range, Received, TickRefusal, VectorTime,
+    ArriveRefusal, BurstRefusal, CastRefusal, CoreMember, Entry, Event, Group, HelpFault,
+    MissingFault, NewFault, Outgoing, Range, Received, TickRefusal, VectorTime,
 };
 use cb_times::make_room;
 use std::alloc::Global;
@@ -213,6 +213,19 @@ impl Kept {
             ↔ (((seat_of self.now).group.size ≤ member) ⊎ (member ≡ (seat_of self.now).me)) }
     {
         self.core.missing(member)
+    }
+
+    /// The frame that asks a third member for the missing casts of a member; `None` where none is missing, or nobody else is known to have
+    /// the first of them. Nothing changes.
+    pub fn help(&self, member: u32) -> Result<Option<Outgoing>, HelpFault>
+        ensures asked { IfOk result (λ out. OnEach self.now (λ m.
+            answer_to_help m member ≡ Ok out)) }
+        ensures refused { IfErr result (λ fault. OnEach self.now (λ m.
+            RefusesHelp m member fault)) }
+        ensures bad_member { (result ≡ Err HelpFault.BadMember)
+            ↔ (((seat_of self.now).group.size ≤ member) ⊎ (member ≡ (seat_of self.now).me)) }
+    {
+        self.core.help(member)
     }
 }
 

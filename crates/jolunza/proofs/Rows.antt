@@ -7,12 +7,13 @@ use Rattle.cb_history.specs.declared.answer.CastRefusal.TheVariants as casts
 use Rattle.cb_history.specs.declared.answer.BurstRefusal.TheVariants as bursts
 use Rattle.cb_history.specs.declared.answer.ArriveRefusal.TheVariants as arrivals
 use Rattle.cb_history.specs.declared.answer.TickRefusal.TheVariants as ticks
+use Rattle.cb_history.specs.declared.answer.HelpFault.TheVariants as helps
 use Rattle.cb_history.specs.declared.answer.MissingFault.TheVariants as missings
 use Rattle.cb_handle.specs.declared.held.LoadedRefusal.TheVariants as loadeds
 use Rattle.cb_handle.specs.declared.held.OpenFault.TheVariants as opens
 use Rattle.cb_handle.specs.declared.held.PayloadsRefusal.TheVariants as payloads
 use Rattle.jolunza.specs.declared.code.TheConstants.{CLOSED, NONE_THERE}
-use Rattle.jolunza.specs.Codes.{open_code, cast_code, burst_code, payloads_code, arrive_code, loaded_code, tick_code, missing_code, answer_code}
+use Rattle.jolunza.specs.Codes.{open_code, cast_code, burst_code, payloads_code, arrive_code, loaded_code, tick_code, help_code, missing_code, answer_code}
 
 done : answer_code cast_code (Ok tt) ≡ 0
 done = refl
@@ -32,6 +33,12 @@ no_memory_to_receive = refl
 no_memory_to_tick : tick_code ticks.NoMemory ≡ 2
 no_memory_to_tick = refl
 
+help_asked_for : answer_code help_code (Ok tt) ≡ 0
+help_asked_for = refl
+
+no_memory_to_ask_for_help : answer_code help_code (Err helps.NoMemory) ≡ 2
+no_memory_to_ask_for_help = refl
+
 no_memory_to_look : missing_code missings.NoMemory ≡ 2
 no_memory_to_look = refl
 
@@ -43,6 +50,9 @@ bad_member_to_open = refl
 
 bad_member_in_a_frame : arrive_code arrivals.BadMember ≡ 4
 bad_member_in_a_frame = refl
+
+bad_member_to_ask_for_help_with : help_code helps.BadMember ≡ 4
+bad_member_to_ask_for_help_with = refl
 
 bad_member_to_look_at : missing_code missings.BadMember ≡ 4
 bad_member_to_look_at = refl

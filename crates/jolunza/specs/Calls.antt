@@ -1,12 +1,13 @@
 -- What a call by a handle does.
-use Rattle.std.specs.Prelude.{◌≡◌, ◌≢◌, ◌⊎◌, ℕ, ◌≤◌, List, length, map, Option, Some, None}
+use Rattle.std.specs.Prelude.{◌≡◌, ◌≢◌, ◌⊎◌, ◌↔◌, ℕ, ◌≤◌, List, length, map, Option, Some, None}
 use Rattle.cb_frames.specs.Fields.{Load}
 use Rattle.cb_history.specs.declared.answer.CastRefusal.{CastRefusal}
 use Rattle.cb_history.specs.declared.answer.ArriveRefusal.{ArriveRefusal}
 use Rattle.cb_history.specs.declared.answer.TickRefusal.{TickRefusal}
+use Rattle.cb_history.specs.declared.answer.HelpFault.{HelpFault}
 use Rattle.cb_history.specs.Group.{Parameters}
 use Rattle.cb_history.specs.Known.{ranges_of}
-use Rattle.cb_history.specs.State.{missing_in, stable_of_in, RefusesTick}
+use Rattle.cb_history.specs.State.{missing_in, stable_of_in, RefusesTick, RefusesHelp}
 use Rattle.cb_member.specs.Casting.{RefusesExactly}
 use Rattle.cb_handle.specs.declared.held.Held.{Held}
 use Rattle.cb_handle.specs.declared.held.LoadedRefusal.{LoadedRefusal}
@@ -16,12 +17,12 @@ use Rattle.cb_handle.specs.declared.rows.Received.{Received}
 use Rattle.cb_handle.specs.Copies.{copied}
 use Rattle.cb_handle.specs.Entries.{range_row}
 use Rattle.cb_handle.specs.Opening.{RefusesToOpen, IsNewOf}
-use Rattle.cb_handle.specs.Calling.{OnEach, seat_held, HasCastToSend, HasReceivedToSend, HasTickedToSend, RefusesBytes, HasReceivedLoaded, RefusesLoaded, with_loaded}
+use Rattle.cb_handle.specs.Calling.{OnEach, seat_held, HasCastToSend, HasReceivedToSend, HasTickedToSend, HasHelpToSend, RefusesBytes, HasReceivedLoaded, RefusesLoaded, with_loaded}
 use Rattle.cb_handle.specs.Parts.{HasReceivedParts, RefusesParts}
 use Rattle.cb_handle.specs.declared.held.PayloadsRefusal.{PayloadsRefusal}
 use Rattle.cb_handle.specs.Payloads.{AreThere, RefusesPayloads, burst_in}
 use Rattle.jolunza.specs.declared.code.TheConstants.{DONE, CLOSED, NO_MEMORY, BAD_MEMBER, NONE_THERE}
-use Rattle.jolunza.specs.Codes.{open_code, cast_code, payloads_code, arrive_code, loaded_code, tick_code}
+use Rattle.jolunza.specs.Codes.{open_code, cast_code, payloads_code, arrive_code, loaded_code, tick_code, help_code}
 
 -- a closed handle stays closed and answers so; an open one stays open, and what it holds does this
 abbrev pub Calls : (Held → Held → ℕ → Type 0) → Option Held → Option Held → ℕ → Type 0
@@ -64,6 +65,16 @@ abbrev pub Ticks : Held → Held → ℕ → Type 0
 Ticks before after code =
     IsDoneOr (HasTickedToSend before after) TickRefusal tick_code (λ refusal. OnEach before (λ m. RefusesTick m refusal)) before after code
 
+-- the member is none of the group, or the one that is held
+abbrev pub IsNoOther : Held → ℕ → Type 0
+IsNoOther held member = ((seat_held held).group.size ≤ member) ⊎ (member ≡ (seat_held held).me)
+
+-- a third member is asked for the missing casts of another one, where one can be; the code of a bad member stands just for one that is
+-- no other
+pub record Helps (member : ℕ) (before after : Held) (code : ℕ) : Type 0 where
+  pub asks : IsDoneOr (HasHelpToSend before after member) HelpFault help_code (λ fault. OnEach before (λ m. RefusesHelp m member fault)) before after code
+  pub bad_member : (code ≡ BAD_MEMBER) ↔ IsNoOther before member
+
 -- a reading changes nothing
 abbrev pub Reads : (Held → ℕ → Type 0) → Held → Held → ℕ → Type 0
 Reads Shows before after code = (after ≡ before) × Shows before code
@@ -81,8 +92,8 @@ ShowsAt Shows (Some x) code = (code ≡ DONE) × Shows x
 pub record ShowsMissing (member : ℕ) (ranges new_ranges : List Range) (count : ℕ) (held : Held) (code : ℕ) : Type 0 where
   pub done : code ≡ DONE → OnEach held (λ m. (count ≡ length (ranges_of (missing_in m member)))
       × (new_ranges ≡ copied (map range_row (ranges_of (missing_in m member))) ranges))
-  pub bad_member : code ≡ BAD_MEMBER → ((seat_held held).group.size ≤ member) ⊎ (member ≡ (seat_held held).me)
-  pub other_code : code ≢ BAD_MEMBER → ¬ (((seat_held held).group.size ≤ member) ⊎ (member ≡ (seat_held held).me))
+  pub bad_member : code ≡ BAD_MEMBER → IsNoOther held member
+  pub other_code : code ≢ BAD_MEMBER → ¬ IsNoOther held member
   pub codes : (code ≡ DONE) ⊎ ((code ≡ BAD_MEMBER) ⊎ (code ≡ NO_MEMORY))
 
 -- the count is told, or there is no such member

@@ -9,6 +9,8 @@ use Rattle.cb_history.specs.declared.answer.ArriveRefusal.{ArriveRefusal}
 use Rattle.cb_history.specs.declared.answer.ArriveRefusal.TheVariants as arrivals
 use Rattle.cb_history.specs.declared.answer.TickRefusal.{TickRefusal}
 use Rattle.cb_history.specs.declared.answer.TickRefusal.TheVariants as ticks
+use Rattle.cb_history.specs.declared.answer.HelpFault.{HelpFault}
+use Rattle.cb_history.specs.declared.answer.HelpFault.TheVariants as helps
 use Rattle.cb_history.specs.declared.answer.MissingFault.{MissingFault}
 use Rattle.cb_history.specs.declared.answer.MissingFault.TheVariants as missings
 use Rattle.cb_handle.specs.declared.held.LoadedRefusal.{LoadedRefusal}
@@ -61,6 +63,10 @@ loaded_code (loadeds.Refused refusal) = arrive_code refusal
 abbrev pub tick_code : TickRefusal → ℕ
 tick_code ticks.HistoryFull = HISTORY_FULL
 tick_code ticks.NoMemory = NO_MEMORY
+
+abbrev pub help_code : HelpFault → ℕ
+help_code helps.BadMember = BAD_MEMBER
+help_code helps.NoMemory = NO_MEMORY
 
 abbrev pub missing_code : MissingFault → ℕ
 missing_code missings.BadMember = BAD_MEMBER

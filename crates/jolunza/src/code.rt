@@ -1,10 +1,12 @@
 //! The codes that the calls answer.
 
 ghost use Rattle.std.specs.Prelude.{◌≡◌};
-ghost use Rattle.jolunza.specs.Codes.{answer_code, open_code, cast_code, burst_code, payloads_code, arrive_code, loaded_code, tick_code, missing_code, reading_code};
+ghost use Rattle.jolunza.specs.Codes.{answer_code, open_code, cast_code, burst_code, payloads_code, arrive_code, loaded_code, tick_code, help_code, missing_code, reading_code};
 
 use cb_handle::{LoadedRefusal, NoneThere, OpenFault, PayloadsRefusal};
-use cb_member::{ArriveRefusal, BurstRefusal, CastRefusal, MissingFault, NewFault, TickRefusal};
+use cb_member::{
+    ArriveRefusal, BurstRefusal, CastRefusal, HelpFault, MissingFault, NewFault, TickRefusal,
+};
 
 pub const DONE: u32 = 0;
 
@@ -119,6 +121,16 @@ pub fn of_tick(answer: Result<(), TickRefusal>) -> u32
         Ok(()) => DONE,
         Err(TickRefusal::HistoryFull) => HISTORY_FULL,
         Err(TickRefusal::NoMemory) => NO_MEMORY,
+    }
+}
+
+pub fn of_help(answer: Result<(), HelpFault>) -> u32
+    ensures { result ≡ answer_code help_code answer }
+{
+    match answer {
+        Ok(()) => DONE,
+        Err(HelpFault::BadMember) => BAD_MEMBER,
+        Err(HelpFault::NoMemory) => NO_MEMORY,
     }
 }
 

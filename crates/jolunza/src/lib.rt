@@ -13,7 +13,7 @@ ghost use Rattle.cb_handle.specs.Events.{ShowsEvent, ShowsEvents};
 ghost use Rattle.cb_handle.specs.Entries.{ShowsEntry};
 ghost use Rattle.cb_handle.specs.Calling.{OnEach, counts_of, entries_held, events_held};
 ghost use Rattle.jolunza.specs.declared.code.TheConstants.{DONE};
-ghost use Rattle.jolunza.specs.Calls.{Calls, Casts, CastsBurst, Receives, Loads, ReceivesLoaded, ReceivesParts, Ticks, Reads, IsDone, ShowsAt, ShowsMissing, ShowsStable, Opens};
+ghost use Rattle.jolunza.specs.Calls.{Calls, Casts, CastsBurst, Receives, Loads, ReceivesLoaded, ReceivesParts, Ticks, Helps, Reads, IsDone, ShowsAt, ShowsMissing, ShowsStable, Opens};
 
 mod code;
 #[cfg(test)]
@@ -93,7 +93,7 @@ pub extern "C" fn jolunza_cast_burst(
     code::of_payloads(answer)
 }
 
-/// Takes received bytes. The frames that are to be sent answer a request; what is delivered are the last events.
+/// Takes received bytes. The frames that are to be sent answer a request or a help frame; what is delivered are the last events.
 #[unsafe(no_mangle)]
 pub extern "C" fn jolunza_receive(
     alloc: Global,
@@ -182,6 +182,21 @@ pub extern "C" fn jolunza_tick(alloc: Global, handle: &mut Handle) -> u32
     let answer = held.tick();
     put(handle, held);
     code::of_tick(answer)
+}
+
+/// Asks a third member for the missing casts of another one: its frame, to that third member alone, is the one that is to be sent. There
+/// is none where none is missing, or nobody else is known to have the first of them. The member stays as it is.
+#[unsafe(no_mangle)]
+#[tactic(auto, using(crate::proofs::Helping::helps_so))]
+pub extern "C" fn jolunza_help(alloc: Global, handle: &mut Handle, member: u32) -> u32
+    ensures { Calls (Helps member) handle.old.held handle.new.held result }
+{
+    let Some(mut held) = take(alloc, handle) else {
+        return CLOSED;
+    };
+    let answer = held.help(alloc, member);
+    put(handle, held);
+    code::of_help(answer)
 }
 
 /// How many frames, events and entries there are to be read.

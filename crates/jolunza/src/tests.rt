@@ -5,13 +5,14 @@ mod bulk;
 mod bursts;
 mod codes;
 mod forgetting;
+mod helping;
 mod loading;
 mod parts;
 mod reading;
 
 use crate::code::DONE;
-use crate::{jolunza_cast, jolunza_count, jolunza_open, jolunza_receive};
-use cb_handle::{Counts, Handle, Received, closed};
+use crate::{jolunza_cast, jolunza_count, jolunza_frame, jolunza_open, jolunza_receive};
+use cb_handle::{Counts, FrameHead, Handle, Received, closed};
 use std::alloc::Global;
 use std::process::Abort;
 
@@ -50,4 +51,17 @@ pub fn receive(rt: &impl Abort, alloc: Global, handle: &mut Handle, bytes: &[u8]
     let mut received = Received::default();
     assert_eq!(rt; jolunza_receive(alloc, handle, bytes, &mut received), DONE);
     received
+}
+
+/// The one frame goes to all others where `to` is None, and has these bytes.
+pub fn is_sent(rt: &impl Abort, alloc: Global, handle: &mut Handle, to: Option<u32>, frame: &[u8]) {
+    let (mut head, mut bytes) = (FrameHead::default(), [0; 16]);
+    assert_eq!(rt; counts(rt, alloc, handle).0, 1);
+    assert_eq!(rt;
+        jolunza_frame(alloc, handle, 0, &mut head, &mut bytes),
+        DONE
+    );
+    assert_eq!(rt; (head.to_all, head.to), (to.is_none(), to.unwrap_or(0)));
+    assert_eq!(rt; head.length, frame.len());
+    assert!(rt; bytes.starts_with(frame));
 }

@@ -1,15 +1,15 @@
 //! Bursts: several casts in one frame.
 
-use super::{cast, counts, member_of_three, member_with_limit, receive};
+use super::{cast, counts, is_sent, member_of_three, member_with_limit, receive};
 use crate::code::{
     BURST_TOO_LONG, DONE, EMPTY_BURST, HISTORY_FULL, MALFORMED, NONE_THERE, OVERLAP,
     PAYLOAD_TOO_LONG, TOO_FAR, WINDOW_FULL,
 };
 use crate::{
-    jolunza_cast_burst, jolunza_close, jolunza_entry, jolunza_event, jolunza_frame, jolunza_open,
-    jolunza_receive, jolunza_stable,
+    jolunza_cast_burst, jolunza_close, jolunza_entry, jolunza_event, jolunza_open, jolunza_receive,
+    jolunza_stable,
 };
-use cb_handle::{ARRIVE, CAST, EntryHead, EventHead, FrameHead, Handle, Name, Received, closed};
+use cb_handle::{ARRIVE, CAST, EntryHead, EventHead, Handle, Name, Received, closed};
 use std::alloc::Global;
 use std::process::Abort;
 
@@ -39,19 +39,6 @@ fn are_events(rt: &impl Abort, alloc: Global, handle: &mut Handle, first: usize,
     for (place, shown) in events.iter().enumerate() {
         assert_eq!(rt; event(rt, alloc, handle, first.wrapping_add(place)), *shown);
     }
-}
-
-/// The one frame goes to all others where `to` is None, and has these bytes.
-fn is_sent(rt: &impl Abort, alloc: Global, handle: &mut Handle, to: Option<u32>, frame: &[u8]) {
-    let (mut head, mut bytes) = (FrameHead::default(), [0; 16]);
-    assert_eq!(rt; counts(rt, alloc, handle).0, 1);
-    assert_eq!(rt;
-        jolunza_frame(alloc, handle, 0, &mut head, &mut bytes),
-        DONE
-    );
-    assert_eq!(rt; (head.to_all, head.to), (to.is_none(), to.unwrap_or(0)));
-    assert_eq!(rt; head.length, frame.len());
-    assert!(rt; bytes.starts_with(frame));
 }
 
 /// The kind of the entry, the length of its frame, and how many names it has.
