@@ -61,20 +61,15 @@ const FRESH_OF_64: Receiver = Receiver {
     before: &[],
 };
 
-/// The frames of the worked examples, and a burst and a help frame.
-const SHORT: &[Case] = &[
+/// The casts of the worked examples.
+const CASTS: &[Case] = &[
     (FRESH, &[(1, b"\x11\x07\x00\x01\x00\x02hi")]),
     (FRESH, &[(1, b"\x11\x07\x01\x01\x01\x00\x01\x02yo")]),
     (FRESH, &[(1, b"\x11\x07\x01\x02\x00\x02ok")]),
     (FRESH, &[(1, b"\x11\x07\x00\x01\x00\x01a")]),
     (FRESH, &[(1, b"\x11\x07\x00\x02\x00\x01b")]),
-    (FRESH, &[(1, b"\x12\x07\x01\x01\x00\x02")]),
-    (FRESH, &[(1, b"\x12\x07\x02\x01\x00\x02")]),
     (FRESH, &[(1, b"\x11\x07\x00\x03\x00\x01c")]),
-    (FRESH, &[(1, b"\x12\x07\x02\x00")]),
     (FRESH, &[(1, b"\x11\x07\x00\x04\x00\x01d")]),
-    (FRESH, &[(1, b"\x12\x07\x02\x01\x00\x01")]),
-    (FRESH, &[(1, b"\x13\x07\x02\x00\x01\x01\x01")]),
     (
         FRESH_OF_5,
         &[(1, b"\x11\xac\x02\x02\x01\x03\x00\x03\x00\x01\x02\x02\x00")],
@@ -83,6 +78,15 @@ const SHORT: &[Case] = &[
         FRESH_OF_5,
         &[(1, b"\x11\xac\x02\x02\x02\x01\x00\xc8\x01\x00")],
     ),
+];
+
+/// Their statuses and their request.
+const STATUSES: &[Case] = &[
+    (FRESH, &[(1, b"\x12\x07\x01\x01\x00\x02")]),
+    (FRESH, &[(1, b"\x12\x07\x02\x01\x00\x02")]),
+    (FRESH, &[(1, b"\x12\x07\x02\x00")]),
+    (FRESH, &[(1, b"\x12\x07\x02\x01\x00\x01")]),
+    (FRESH, &[(1, b"\x13\x07\x02\x00\x01\x01\x01")]),
     (
         FRESH_OF_5,
         &[(
@@ -90,6 +94,10 @@ const SHORT: &[Case] = &[
             b"\x12\xac\x02\x02\x04\x00\xcb\x01\x00\x01\x00\x02\x01\x02",
         )],
     ),
+];
+
+/// A burst and a help frame; and what comes to a member that took something before, of which some is a repeat then, or overlaps.
+const OTHERS: &[Case] = &[
     (FRESH, &[(1, b"\x21\x07\x00\x01\x00\x02\x02hi\x02yo")]),
     (FRESH, &[(1, b"\x23\x07\x01\x02\x00\x01\x00\x01")]),
     (BUSY, &[(1, b"\x11\x07\x00\x02\x00\x01b")]),
@@ -230,7 +238,7 @@ fn add(rt: &impl Abort, text: &mut Vec<u8>, count: usize, part: &[u8]) {
 
 #[test]
 fn a_part_of_a_frame_is_short_and_a_byte_more_is_trailing(rt: HostRuntime) {
-    for (receiver, parts) in SHORT.iter().chain(LONG) {
+    for (receiver, parts) in CASTS.iter().chain(STATUSES).chain(OTHERS).chain(LONG) {
         is_whole_only(&rt, rt.alloc(), *receiver, text_of(&rt, rt.alloc(), parts));
     }
 }
@@ -256,18 +264,31 @@ fn are_alike(rt: &impl Abort, member: Forms, other: &Forms) {
 }
 
 #[test]
-fn a_frame_with_another_byte_is_refused_or_stands_in_the_history(rt: HostRuntime) {
-    for (receiver, parts) in SHORT {
-        let text = text_of(&rt, rt.alloc(), parts);
-        withstands(&rt, rt.alloc(), *receiver, &text, 64);
-    }
+fn a_cast_with_another_byte_is_refused_or_stands_in_the_history(rt: HostRuntime) {
+    withstand(&rt, rt.alloc(), CASTS, 1);
+}
+
+#[test]
+fn a_status_with_another_byte_is_refused_or_stands_in_the_history(rt: HostRuntime) {
+    withstand(&rt, rt.alloc(), STATUSES, 1);
+}
+
+#[test]
+fn other_frames_with_another_byte_are_refused_or_stand_in_the_history(rt: HostRuntime) {
+    withstand(&rt, rt.alloc(), OTHERS, 1);
 }
 
 #[test]
 fn a_long_frame_with_another_byte_is_refused_or_stands_in_the_history(rt: HostRuntime) {
-    for (receiver, parts) in LONG {
-        let text = text_of(&rt, rt.alloc(), parts);
-        withstands(&rt, rt.alloc(), *receiver, &text, EVERY);
+    withstand(&rt, rt.alloc(), LONG, EVERY);
+}
+
+/// One damage in so many of each frame.
+fn withstand(rt: &impl Abort, alloc: Global, cases: &[Case], every: usize) {
+    for (receiver, parts) in cases {
+        let text = text_of(rt, alloc, parts);
+        withstands(rt, alloc, *receiver, &text, every);
+        drop(text);
     }
 }
 
