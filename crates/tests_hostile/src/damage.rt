@@ -295,17 +295,19 @@ fn withstand(rt: &impl Abort, alloc: Global, cases: &[Case], every: usize) {
 /// The text with each value in place of each byte, but for one in so many.
 fn withstands(rt: &impl Abort, alloc: Global, receiver: Receiver, text: &[u8], every: usize) {
     let untouched = receiver.member(rt, alloc);
-    for turn in (0..text.len().saturating_mul(256)).step_by(every) {
-        let damaged = damaged(rt, alloc, text, turn);
-        takes(rt, alloc, receiver, &damaged, &untouched);
-        drop(damaged);
+    for turn in 0..text.len().saturating_mul(256) {
+        if turn.checked_rem(every) == Some(0) {
+            let damaged = damaged(rt, alloc, text, turn);
+            takes(rt, alloc, receiver, &damaged, &untouched);
+            drop(damaged);
+        }
     }
     drop(untouched);
 }
 
 fn damaged(rt: &impl Abort, alloc: Global, text: &[u8], turn: usize) -> Vec<u8> {
     let mut damaged = text.to_vec(alloc).expect(rt, "memory");
-    *damaged.get_mut(turn / 256).expect(rt, "a byte") = (turn % 256) as u8;
+    *damaged.get_mut(turn / 256).expect(rt, "a byte") = u8::try_from(turn % 256).unwrap_or(0);
     damaged
 }
 
