@@ -3,6 +3,7 @@
 use crate::cli::{run_plain, run_words};
 use confer_fakes::{Sink, writing};
 use std::alloc::Global;
+use std::io;
 use std::io::Read;
 use std::net::{Net, TcpListener, TcpStream};
 use std::process::Abort;
@@ -38,6 +39,17 @@ fn is_text(rt: &impl Abort, bytes: &[u8], wanted: &[u8]) {
     if bytes != wanted {
         let text = str::from_utf8(bytes).unwrap_or("no text");
         panic!(rt; "{text}");
+    }
+}
+
+/// An input of `x` without end.
+#[derive(Drop)]
+pub struct Endless;
+
+impl Read for Endless {
+    fn read(&mut self, buf: &mut [u8]) -> io::Result<usize> {
+        buf.fill(b'x');
+        Ok(buf.len())
     }
 }
 

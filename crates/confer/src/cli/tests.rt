@@ -5,7 +5,7 @@ mod rows;
 mod traces;
 
 use crate::cli::{Fault, report};
-use crate::harness::{Outcome, run_on, run_whole};
+use crate::harness::{Endless, Outcome, run_on, run_whole};
 use confer_audit::TraceInputFault;
 use confer_fakes::{reading, writing};
 use confer_play::ScriptFault;
@@ -276,6 +276,13 @@ fn fails_to_write<
     let outcome = run_whole(rt, alloc, run.words, &mut input, output);
     drop(input);
     outcome.is(rt, 3, first, "confer: write fault\n");
+}
+
+#[test]
+fn an_input_without_end_fails(rt: HostRuntime) {
+    let output = writing(rt.alloc());
+    let outcome = run_whole(&rt, rt.alloc(), PLAY, &mut Endless, output);
+    outcome.is(&rt, 3, b"", "confer: input too long\n");
 }
 
 /// Words that order an expansion: the frame in group 7 is accepted.

@@ -48,6 +48,12 @@ member 1 time [1,1,0] stable 0 entries 2
 member 2 time [1,1,0] stable 0 entries 2
 ";
 
+/// A question, its answer and one more cast of who answered, a frame in each line.
+const FRAMES: &str = "1107000100026869\n1107010101000102796f\n1107010200026f6b\n";
+
+/// What is printed of these frames.
+const EXPANDED: &str = "0.1 [1,0,0] \"hi\"\n1.1 [1,1,0] \"yo\"\n1.2 [1,2,0] \"ok\"\n";
+
 /// The words print this text of the input, say nothing, and end with this status.
 fn prints<
     H: Threads + Wait + Clock + Net<Listener = TcpListener, Stream = TcpStream> + Abort + Sync,
@@ -61,12 +67,36 @@ fn prints<
 
 #[test]
 fn a_question_and_its_answer_are_expanded(rt: HostRuntime) {
-    let lines = "1107000100026869\n1107010101000102796f\n1107010200026f6b\n";
-    let text = "0.1 [1,0,0] \"hi\"\n1.1 [1,1,0] \"yo\"\n1.2 [1,2,0] \"ok\"\n";
-    prints(&rt, rt.alloc(), EXPAND, lines, (0, text));
+    prints(&rt, rt.alloc(), EXPAND, FRAMES, (0, EXPANDED));
     let lines = "1107000100026869\n1107010200026f6b\n1107010101000102796f\n";
     let text = "0.1 [1,0,0] \"hi\"\nrefused NotNext expected 1 found 2\n1.1 [1,1,0] \"yo\"\n";
     prints(&rt, rt.alloc(), EXPAND, lines, (1, text));
+}
+
+#[test]
+fn each_write_of_an_expansion_fails_in_turn(rt: HostRuntime) {
+    for good in 0..18 {
+        stops_at_write(&rt, rt.alloc(), good);
+    }
+}
+
+/// The write after so many good ones fails: what was written stays. A line has 17 bytes, and takes six writes of three.
+fn stops_at_write<
+    H: Threads + Wait + Clock + Net<Listener = TcpListener, Stream = TcpStream> + Abort + Sync,
+>(rt: &H, alloc: Global, good: usize) {
+    let mut output = writing(alloc);
+    output.good = good;
+    let mut input = reading(FRAMES.as_bytes());
+    let outcome = run_whole(rt, alloc, EXPAND, &mut input, output);
+    drop(input);
+    let written = (good / 6).saturating_mul(17).saturating_add(good % 6 * 3);
+    let printed = EXPANDED.as_bytes().get(..written);
+    outcome.is(
+        rt,
+        3,
+        printed.expect(rt, "the text"),
+        "confer: write fault\n",
+    );
 }
 
 #[test]
