@@ -42,7 +42,7 @@ add_case() {
 # refuse_each CRATE [EVERY [EXPECTED]]: runs the crate's program with each growth that it asks for refused, or every so manyth one; each run has
 # to print the expected line. How many growths it asks for is told by a run in which none is refused.
 refuse_each() {
-    local every=${2:-1} expected=${3:-as the examples} bytes
+    local every=${2:-${STEP:-1}} expected=${3:-as the examples} bytes
     add_case 0 "$expected"
     run_cases "$1" 1000000 20000000
     growths=$(sed -n 's/^allocations: //p' "$work/shown")
