@@ -7,7 +7,7 @@ set -eu
 . "$(dirname "$0")/refused.sh"
 copy_whole
 # shellcheck disable=SC2046
-add_crate refused_calls $(sed -n 's/^cb_member: //p' "$top/crates.txt") cb_member
+add_crate refused_calls $(below cb_member)
 refuse_each refused_calls
 { echo '100 new' && calls '' 0 && echo '200 new, without history' && calls ', without history' 100; } > "$work/rows"
 count_rows < "$work/rows"

@@ -6,7 +6,7 @@ set -eu
 . "$(dirname "$0")/refused.sh"
 copy_whole
 # shellcheck disable=SC2046
-add_crate refused_locked $(sed -n 's/^cb_lock: //p' "$top/crates.txt") cb_lock
+add_crate refused_locked $(below cb_lock)
 refuse_each refused_locked
 count_rows << 'END'
 1 cast

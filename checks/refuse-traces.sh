@@ -6,7 +6,7 @@ set -eu
 . "$(dirname "$0")/refused.sh"
 copy_whole
 # shellcheck disable=SC2046
-add_crate refused_traces $(sed -n 's/^cb_trace: //p' "$top/crates.txt") cb_trace
+add_crate refused_traces $(below cb_trace)
 refuse_each refused_traces
 count_rows << 'END'
 1 a trace that is read

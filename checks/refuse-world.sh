@@ -6,7 +6,7 @@ set -eu
 . "$(dirname "$0")/refused.sh"
 copy_whole
 # shellcheck disable=SC2046
-add_crate refused_world $(sed -n 's/^cb_world: //p' "$top/crates.txt") cb_world
+add_crate refused_world $(below cb_world)
 refuse_each refused_world
 count_rows << 'END'
 1 a new group

@@ -12,14 +12,25 @@ copy_whole() {
     (cd "$top" && tar -c --exclude=out --exclude=.git --exclude='inc-*' .) | tar -x -C "$work/whole"
 }
 
-# add_crate NAME LIBRARY..: the program in checks/NAME becomes a crate of the copy, with what it shares with others
-add_crate() {
-    local name=$1 to=$work/whole/crates/$1/src file
+# add_program CRATE FOLDER: the program in checks/FOLDER becomes that of a crate of the copy, with those of its modules that others have too
+add_program() {
+    local from=$top/checks/$2 to=$work/whole/crates/$1/src file
     mkdir -p "$to"
-    for file in "$top"/checks/refused/*.txt "$top/checks/$name"/*.txt; do
-        cp "$file" "$to/$(basename "$file" .txt).rt"
+    for file in "$from"/*.txt $(sed -n "s|^mod \(.*\);|$top/checks/refused/\1.txt|p" "$from/main.txt"); do
+        [ ! -e "$file" ] || cp "$file" "$to/$(basename "$file" .txt).rt"
     done
-    echo "$name: ${*:2}" >> "$work/whole/crates.txt"
+}
+
+# add_crate NAME LIBRARY..: the program in checks/NAME becomes a crate of this name, which stands on these libraries
+add_crate() {
+    add_program "$1" "$1"
+    echo "$1: ${*:2}" >> "$work/whole/crates.txt"
+}
+
+# below NAME: the crate of this name, and what it stands on
+below() {
+    sed -n "s/^$1: //p" "$top/crates.txt"
+    echo "$1"
 }
 
 # run_cases CRATE NTH STEPS: tries the crate on each file of $work/cases, with this growth refused in each run
