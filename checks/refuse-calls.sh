@@ -1,14 +1,16 @@
 #!/usr/bin/env bash
-# Refuses each growth of each call of the quick member in turn, and of one that keeps no history: the call answers that there is no memory,
-# nothing has changed, and the same call then answers as its example. Refusals by a rule and of bytes that are no frame come all the
-# same. The program is refused_calls/main.txt, its rows are refused/plays.txt; how it is run stands in refused.sh. `refuse-locked.sh` makes
-# the same calls of a locked member.
+# Refuses each growth of each call of the quick member in turn, and of one that keeps no history: the call answers
+# that there is no memory, nothing has changed, and the same call then answers as its example. Refusals by a rule and
+# of bytes that are no frame come all the same. The program is refused_calls/main.txt, its rows are refused/plays.txt;
+# how it is run stands in refused.sh. `refuse-locked.sh` makes the same calls of a locked member.
 set -eu
 . "$(dirname "$0")/refused.sh"
 copy_whole
 # shellcheck disable=SC2046
 add_crate refused_calls $(below cb_member)
 refuse_each refused_calls
+# What is refused by a rule takes no memory, but for a help frame, nor do casts for which all room is there. Where room
+# for deliveries is all that is wanted, less is asked for once more is refused.
 count_rows << 'END'
 100 new
 102 cast
@@ -39,9 +41,6 @@ count_rows << 'END'
 134 missing of two casts
 135 a tick with a request for both
 136 a first cast
-137 a second cast
-138 a third cast
-139 a fourth cast
 140 a request for the two in the middle
 141 a status of casts that are missing
 142 help
@@ -66,32 +65,21 @@ count_rows << 'END'
 215 cast before what comes early, without history
 216 an arrival that comes early, without history
 217 a received cast that comes early, without history
-218 a received cast that lets another go, without history
 219 a received status that is news, without history
 220 a received request that is answered, without history
 224 a burst, without history
 225 a burst that arrives and waits, without history
 226 a burst that arrives and delivers four messages, without history
 227 a request that is answered by a burst, without history
-228 a question that arrives, without history
 229 the cast that answers it, without history
 230 an answer that arrives before its question, without history
-231 the question, which delivers both, without history
-232 a first cast that arrives, without history
 233 a fourth cast that arrives, without history
 234 missing of two casts, without history
 235 a tick with a request for both, without history
 236 a first cast, without history
-237 a second cast, without history
-238 a third cast, without history
-239 a fourth cast, without history
 240 a request for the two in the middle, without history
 241 a status of casts that are missing, without history
 242 help, without history
-245 a cast that was handed on, without history
-246 another, without history
-247 a cast that arrives at a helper, without history
-248 another, without history
 249 a tick of the helper, without history
 250 a help frame that is answered, without history
 251 a received help frame that is answered, without history

@@ -1,7 +1,8 @@
 #!/usr/bin/env bash
-# Refuses each growth of each call of a locked member in turn: the call answers that there is no memory, there is no entry and no receipt, and
-# the same call then answers as its example. A closing that is refused hands the member out. The program is refused_locked/main.txt, its
-# rows but for the first are refused/plays.txt; how it is run stands in refused.sh.
+# Refuses each growth of each call of a locked member in turn: the call answers that there is no memory, there is no
+# entry and no receipt, and the same call then answers as its example. A closing that is refused hands the member out.
+# The program is refused_locked/main.txt, its rows but for the first are refused/plays.txt; how it is run stands in
+# refused.sh.
 set -eu
 . "$(dirname "$0")/refused.sh"
 copy_whole

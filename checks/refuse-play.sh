@@ -1,7 +1,8 @@
 #!/usr/bin/env bash
-# Runs `confer play` on all schedules with one of its growths refused, every STEPth one in turn, by the kit's own switch: a run prints its whole text, or
-# ends with status 5, says so, and has printed nothing. The program is refused_play/main.txt over the sources of confer and the texts of confer_play;
-# how it is run stands in refused.sh. `refuse-memory.sh` refuses each growth, of the built program.
+# Runs `confer play` on all schedules with one of its growths refused, every STEPth one in turn, by the kit's own
+# switch: a run prints its whole text, or ends with status 5, says so, and has printed nothing. The program is
+# refused_play/main.txt over the sources of confer and the texts of confer_play; how it is run stands in refused.sh.
+# `refuse-memory.sh` refuses each growth, of the built program.
 set -eu
 . "$(dirname "$0")/refused.sh"
 copy_whole

@@ -1,7 +1,7 @@
 #!/usr/bin/env bash
-# Refuses each growth of reading, writing and auditing a trace, and of the reader of a stream, in turn: the call answers that there is no
-# memory, nothing has changed, and the same call then answers as its example. The program is refused_traces/main.txt; how it is run
-# stands in refused.sh.
+# Refuses each growth of reading, writing and auditing a trace, and of the reader of a stream, in turn: the call
+# answers that there is no memory, nothing has changed, and the same call then answers as its example. The program is
+# refused_traces/main.txt; how it is run stands in refused.sh.
 set -eu
 . "$(dirname "$0")/refused.sh"
 copy_whole

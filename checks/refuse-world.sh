@@ -1,7 +1,7 @@
 #!/usr/bin/env bash
-# Refuses each growth of each kind of step of a group, and of whole runs, in turn: the call answers that there is no memory, all that is read of
-# the group is as before, and the same call then answers as its example. The program is refused_world/main.txt; how it is run stands
-# in refused.sh. `refuse-play.sh` refuses the program's `confer play`.
+# Refuses each growth of each kind of step of a group, and of whole runs, in turn: the call answers that there is no
+# memory, all that is read of the group is as before, and the same call then answers as its example. The program is
+# refused_world/main.txt; how it is run stands in refused.sh. `refuse-play.sh` refuses the program's `confer play`.
 set -eu
 . "$(dirname "$0")/refused.sh"
 copy_whole

@@ -1,7 +1,8 @@
-# What the scripts that refuse memory in turn share; they source it. Each has a program in a folder refused_NAME, which becomes a crate of a
-# scratch copy of the repository, and is not proved there. The kit's switch refuses the growth of one number in all runs of a program that it
-# builds once: a run on an input of n bytes first takes memory n times, and so has another growth of its calls refused.
-# STEPS=20000000 has each run made by the interpreter too, which takes ten times as long; else that makes only the one in which none is refused.
+# What the scripts that refuse memory in turn share; they source it. Each has a program in a folder refused_NAME,
+# which becomes a crate of a scratch copy of the repository, and is not proved there. The kit's switch refuses the
+# growth of one number in all runs of a program that it builds once: a run on an input of n bytes first takes memory n
+# times, and so has another growth of its calls refused.
+# STEPS=20000000 has each run made by the interpreter too, which takes longer; else only one in which none is refused.
 top=$(cd "$(dirname "$0")/.." && pwd)
 work=$(mktemp -d)
 trap 'rm -rf "$work"' EXIT
@@ -12,7 +13,8 @@ copy_whole() {
     (cd "$top" && tar -c --exclude=out --exclude=.git --exclude='inc-*' .) | tar -x -C "$work/whole"
 }
 
-# add_program CRATE FOLDER: the program in checks/FOLDER becomes that of a crate of the copy, with those of its modules that others have too
+# add_program CRATE FOLDER: the program in checks/FOLDER becomes that of a crate of the copy, with those of its
+# modules that others have too
 add_program() {
     local from=$top/checks/$2 to=$work/whole/crates/$1/src file
     mkdir -p "$to"
@@ -35,7 +37,8 @@ below() {
 
 # run_cases CRATE NTH STEPS: tries the crate on each file of $work/cases, with this growth refused in each run
 run_cases() {
-    (cd "$work/whole/crates/$1" && rt try --steps "$3" --fail-alloc "$2" --cases "$work/cases") > "$work/shown" 2>&1 || {
+    local crate=$work/whole/crates/$1
+    (cd "$crate" && rt try --steps "$3" --fail-alloc "$2" --cases "$work/cases") > "$work/shown" 2>&1 || {
         tail -n 40 "$work/shown"
         exit 1
     }
@@ -50,8 +53,9 @@ add_case() {
     echo "$2" > "$work/cases/$name.stdout"
 }
 
-# refuse_each CRATE [EVERY [EXPECTED]]: runs the crate's program with each growth that it asks for refused, or every so manyth one; each run has
-# to print the expected line. How many growths it asks for is told by a run in which none is refused.
+# refuse_each CRATE [EVERY [EXPECTED]]: runs the crate's program with each growth that it asks for refused, or only
+# each second or third one, say; a run has to print the expected line. How many growths it asks for is told by a run in
+# which none is refused.
 refuse_each() {
     local every=${2:-${STEP:-1}} expected=${3:-as the examples} bytes
     add_case 0 "$expected"
@@ -64,8 +68,9 @@ refuse_each() {
     run_cases "$1" "$growths" "${STEPS:-1}"
 }
 
-# count_rows: the status of a run tells in which row of the program a call was refused memory, 0 being none. Says of each row, read as a
-# status and a name, how many of its growths were refused; in each of these rows one was, and none in any other.
+# count_rows: the status of a run tells in which row of the program a call was refused memory, 0 being none. Says of
+# each row, read as a status and a name, how many of its growths were refused; in each of these rows one was, and none
+# in any other.
 count_rows() {
     local -A refused=()
     local status row total=0
