@@ -9,28 +9,10 @@ copy_whole
 # shellcheck disable=SC2046
 add_crate refused_locked $(below cb_lock)
 refuse_each refused_locked
-count_rows << 'END'
+cat > "$work/rows" << 'END'
 1 cast
 2 a tick with a seat that was split off
 3 close
-100 new
-124 a burst
-125 a burst that arrives and waits
-126 a burst that arrives and delivers four messages
-127 a request that is answered by a burst
-128 a question that arrives
-129 the cast that answers it
-130 an answer that arrives before its question
-131 the question, which delivers both
-141 a status of casts that are missing
-142 help
-145 a cast that was handed on
-146 another
-147 a cast that arrives at a helper
-148 another
-149 a tick of the helper
-150 a help frame that is answered
-151 a received help frame that is answered
-152 a status of the member that asked
-153 a help frame when all have the casts
 END
+name_rows 100 124 125 126 127 128 129 130 131 141 142 145 146 147 148 149 150 151 152 153 >> "$work/rows"
+count_rows < "$work/rows"

@@ -68,6 +68,19 @@ refuse_each() {
     run_cases "$1" "$growths" "${STEPS:-1}"
 }
 
+# name_rows NUMBER..: these rows of refused/plays.txt with their names; from 200 on they are those of a member without
+# history
+name_rows() {
+    local number names=$top/checks/refused/names
+    for number in "$@"; do
+        if [ "$number" -lt 200 ]; then
+            grep "^$number " "$names"
+        else
+            sed -n "s/^$((number - 100)) \(.*\)/$number \1, without history/p" "$names"
+        fi
+    done
+}
+
 # count_rows: the status of a run tells in which row of the program a call was refused memory, 0 being none. Says of
 # each row, read as a status and a name, how many of its growths were refused; in each of these rows one was, and none
 # in any other.
