@@ -21,7 +21,6 @@ enum { ALL = -1 };
 static long granted = ALL; /* how many allocations more; then one is refused, and then all are granted */
 static long blocks;        /* how many are not freed */
 static bool is_refused;    /* one was */
-static long out_of_memory; /* how many calls were */
 
 static bool refuse(void)
 {
@@ -58,6 +57,39 @@ static void must(bool holds, const char *what, int line)
 }
 
 #define MUST(holds) must((holds), #holds, __LINE__)
+
+/* How many calls of each kind were out of memory. */
+static struct kind {
+    const char *call;
+    long out_of_memory;
+} kinds[] = {
+    {"jolunza_open", 0},
+    {"jolunza_cast", 0},
+    {"jolunza_cast_burst", 0},
+    {"jolunza_receive", 0},
+    {"jolunza_receive of a request", 0},
+    {"jolunza_receive of a help frame", 0},
+    {"jolunza_receive of a frame that was handed on", 0},
+    {"jolunza_load", 0},
+    {"jolunza_receive_loaded", 0},
+    {"jolunza_receive_parts", 0},
+    {"jolunza_tick", 0},
+    {"jolunza_help", 0},
+    {"jolunza_missing", 0},
+};
+
+enum { KINDS = sizeof kinds / sizeof kinds[0] };
+
+/* Counts a call that was out of memory, by its name, or by the text of the call, in which the name stands first. */
+static void count_refusal(const char *call)
+{
+    size_t length = strcspn(call, "("), i = 0;
+
+    while (i < KINDS && (strlen(kinds[i].call) != length || memcmp(kinds[i].call, call, length) != 0))
+        i++;
+    MUST(i < KINDS);
+    kinds[i].out_of_memory++;
+}
 
 /* All that can be read of a member, in 64 bits (the hash of Fowler, Noll and Vo). */
 static uint64_t digest;
@@ -150,25 +182,27 @@ static uint64_t digest_of(jolunza_handle *handle)
     return digest;
 }
 
-/* Makes the call. Where it is out of memory nothing has changed, and the same call succeeds. */
-#define TRY(handle, call)                              \
+/* Makes a call of this kind. Where it is out of memory nothing has changed, and the same call succeeds. */
+#define TRY_AS(kind, handle, call)                     \
     do {                                               \
         uint64_t before = digest_of(handle);           \
         uint32_t code = (call);                        \
         if (code == JOLUNZA_NO_MEMORY) {               \
-            out_of_memory++;                           \
+            count_refusal(kind);                       \
             MUST(digest_of(handle) == before);         \
             code = (call);                             \
         }                                              \
         MUST(code == JOLUNZA_DONE);                    \
     } while (0)
 
-static void receive_all(jolunza_handle *handle, const struct frame *frames, size_t count)
+#define TRY(handle, call) TRY_AS(#call, handle, call)
+
+static void receive_all(const char *kind, jolunza_handle *handle, const struct frame *frames, size_t count)
 {
     jolunza_received received;
 
     for (size_t i = 0; i < count; i++)
-        TRY(handle, jolunza_receive(handle, frames[i].bytes, frames[i].head.length, &received));
+        TRY_AS(kind, handle, jolunza_receive(handle, frames[i].bytes, frames[i].head.length, &received));
 }
 
 /* Member 0 casts, every fourth time a burst of two; every fifth frame is lost, the others come in pairs, the later one first. */
@@ -224,7 +258,6 @@ static void repair(jolunza_handle *of_0, jolunza_handle *of_1)
 {
     static struct frame asked[MOST_FRAMES], sent[MOST_FRAMES];
     jolunza_range ranges[WINDOW];
-    jolunza_received received;
     size_t count;
 
     TRY(of_1, jolunza_missing(of_1, 0, ranges, WINDOW, &count));
@@ -232,27 +265,26 @@ static void repair(jolunza_handle *of_0, jolunza_handle *of_1)
     TRY(of_1, jolunza_tick(of_1));
     count = frames_of(of_1, asked);
     for (size_t i = 0; i < count; i++) {
-        TRY(of_0, jolunza_receive(of_0, asked[i].bytes, asked[i].head.length, &received));
+        receive_all(i == 0 ? "jolunza_receive" : "jolunza_receive of a request", of_0, asked + i, 1);
         load_all(of_1, sent, frames_of(of_0, sent));
     }
     TRY(of_1, jolunza_tick(of_1));
-    receive_all(of_0, sent, frames_of(of_1, sent));
+    receive_all("jolunza_receive", of_0, sent, frames_of(of_1, sent));
 }
 
 /* Member 2 has got nothing. It hears what member 1 has, asks it for that, and tells member 0 when it has it too. */
 static void help(jolunza_handle *of_0, jolunza_handle *of_1, jolunza_handle *of_2)
 {
     static struct frame sent[MOST_FRAMES];
-    jolunza_received received;
 
-    receive_all(of_2, sent, frames_of(of_1, sent));
+    receive_all("jolunza_receive", of_2, sent, frames_of(of_1, sent));
     TRY(of_2, jolunza_help(of_2, 0));
     MUST(frames_of(of_2, sent) == 1 && sent[0].head.to == 1);
-    TRY(of_1, jolunza_receive(of_1, sent[0].bytes, sent[0].head.length, &received));
+    receive_all("jolunza_receive of a help frame", of_1, sent, 1);
     MUST(frames_of(of_1, sent) == CASTS);
-    receive_all(of_2, sent, CASTS);
+    receive_all("jolunza_receive of a frame that was handed on", of_2, sent, CASTS);
     TRY(of_2, jolunza_tick(of_2));
-    receive_all(of_0, sent, frames_of(of_2, sent));
+    receive_all("jolunza_receive", of_0, sent, frames_of(of_2, sent));
 }
 
 /* A run of members with this limit in which this many allocations are granted before one is refused: a digest of how both end. */
@@ -279,19 +311,33 @@ static uint64_t run(size_t limit, long before_the_refusal)
     return ends;
 }
 
+/* Tells how many calls of each kind were out of memory, and forgets it: at least one of each kind. The number of all. */
+static long tell_refusals(void)
+{
+    long all = 0;
+
+    for (size_t i = 0; i < KINDS; i++) {
+        printf("%s: %ld times out of memory\n", kinds[i].call, kinds[i].out_of_memory);
+        MUST(kinds[i].out_of_memory > 0);
+        all += kinds[i].out_of_memory;
+        kinds[i].out_of_memory = 0;
+    }
+    return all;
+}
+
 /* Each allocation of a run is refused, one in each run; the run ends as one in which none is. */
 static void refuse_each(size_t limit)
 {
     uint64_t whole = run(limit, ALL);
-    long allocations = 0, calls = out_of_memory;
+    long allocations = 0, calls;
 
     do {
         MUST(run(limit, allocations) == whole);
         allocations += is_refused;
     } while (is_refused);
-    calls = out_of_memory - calls;
+    printf("%ld allocations, each refused in turn, %s a history\n", allocations, limit > 0 ? "with" : "without");
+    calls = tell_refusals();
     MUST(allocations > CASTS && calls > CASTS);
-    printf("%ld allocations, each refused in turn: %ld calls were out of memory, and then succeeded\n", allocations, calls);
 }
 
 int main(void)
