@@ -313,14 +313,33 @@ static size_t gather(uint32_t member, size_t first)
     return first;
 }
 
-/* Parts were taken in one call, from one that begins here on. */
-static void took(uint32_t member, size_t first, size_t part, size_t count)
+/* Parts were taken in one call, from one that begins here on. Answers where they end. */
+static size_t took(uint32_t member, size_t first, size_t part, size_t count)
 {
     for (; count > 0; count--) {
         if (is_trusted(member))
             note_arrival(member, parts.bytes + first, parts.lengths[part]);
         first += parts.lengths[part++];
     }
+    return first;
+}
+
+/* One call takes parts, as many as it can, from one that begins here on; or the first is refused. Answers how many are behind. */
+static size_t step_parts(uint32_t member, size_t *first, size_t part)
+{
+    size_t before = events_before(member);
+    struct parts_taken taken = checked_receive_parts(&group.members[member], *first, parts.lengths + part, parts.count - part);
+
+    check_arrival(member, &sent.frames[parts.indexes[part]], taken.code);
+    if (taken.count == 0) {
+        *first += parts.lengths[part];
+        return 1;
+    }
+    *first = took(member, *first, part, taken.count);
+    see_from(member, before);
+    check_member(member);
+    send(member);
+    return taken.count;
 }
 
 static void step_load(uint32_t member)
@@ -329,21 +348,8 @@ static void step_load(uint32_t member)
 
     if (parts.count > 0)
         checked_load(&group.members[member], parts.bytes, parts.length);
-    for (size_t part = 0; part < parts.count;) {
-        size_t before = events_before(member), left = parts.count - part;
-        struct parts_taken taken = checked_receive_parts(&group.members[member], first, parts.lengths + part, left);
-
-        check_arrival(member, &sent.frames[parts.indexes[part]], taken.code);
-        took(member, first, part, taken.count);
-        if (taken.count > 0) {
-            see_from(member, before);
-            check_member(member);
-            send(member);
-        }
-        taken.count += taken.count == 0;
-        for (; taken.count > 0; taken.count--)
-            first += parts.lengths[part++];
-    }
+    for (size_t part = 0; part < parts.count;)
+        part += step_parts(member, &first, part);
 }
 
 /* Ticks, help, forgeries. */
@@ -531,6 +537,18 @@ static void step_next(uint32_t member, uint8_t how)
         step_arrive(member, group.next[member]++);
 }
 
+/* Any frame comes. */
+static void step_any(uint32_t member, uint8_t how)
+{
+    if (sent.count > 0)
+        step_arrive(member, how % sent.count);
+}
+
+static void step_burst_of(uint32_t member, uint8_t how)
+{
+    step_burst(member, 1 + how % 8 * (how % 8 == 7 ? 4 : 1), how / 8);
+}
+
 static void step(struct input *input)
 {
     uint8_t what = take_byte(input), how = take_byte(input);
@@ -542,13 +560,12 @@ static void step(struct input *input)
         step_cast(member, how % 64);
         break;
     case 2:
-        step_burst(member, 1 + how % 8 * (how % 8 == 7 ? 4 : 1), how / 8);
+        step_burst_of(member, how);
         break;
     case 3:
     case 4:
     case 5:
-        if (sent.count > 0)
-            step_arrive(member, how % sent.count);
+        step_any(member, how);
         break;
     case 6:
     case 7:

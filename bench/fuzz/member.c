@@ -131,8 +131,9 @@ static void call_load(struct input *input)
 }
 
 /* All parts are handed over, as a service does: where one is refused the next call begins behind it. */
-static void call_all_parts(void)
+static void call_all_parts(struct input *input)
 {
+    (void)input;
     for (size_t i = 0; i < parts.count;) {
         struct parts_taken taken = checked_receive_parts(&member, parts.firsts[i], parts.lengths + i, parts.count - i);
 
@@ -193,51 +194,25 @@ static void call_seldom(struct input *input)
     }
 }
 
+static void call_tick(struct input *input)
+{
+    (void)input;
+    checked_tick(&member);
+}
+
+static void call_help(struct input *input)
+{
+    checked_help(&member, take_member(input, member.model.size));
+}
+
 static void call(struct input *input)
 {
-    switch (take_byte(input) % 16) {
-    case 0:
-        call_cast(input);
-        break;
-    case 1:
-        call_burst(input);
-        break;
-    case 2:
-        checked_tick(&member);
-        break;
-    case 3:
-        checked_help(&member, take_member(input, member.model.size));
-        break;
-    case 4:
-        call_raw(input);
-        break;
-    case 5:
-        call_load(input);
-        break;
-    case 6:
-        call_all_parts();
-        break;
-    case 7:
-        call_some_parts(input);
-        break;
-    case 8:
-        call_one_part(input);
-        break;
-    case 9:
-        call_reading(input);
-        break;
-    case 10:
-        call_seldom(input);
-        break;
-    case 11:
-        make_later(input);
-        break;
-    case 12:
-        call_again(input);
-        break;
-    default:
-        call_made(input);
-    }
+    static void (*const BY_BYTE[16])(struct input *) = {
+        call_cast,     call_burst,   call_tick,   call_help,  call_raw,  call_load, call_all_parts, call_some_parts,
+        call_one_part, call_reading, call_seldom, make_later, call_again, call_made, call_made,     call_made,
+    };
+
+    BY_BYTE[take_byte(input) % 16](input);
 }
 
 /* The member that it was goes on as it would have. */

@@ -114,16 +114,23 @@ static bool is_full(const struct model *model)
     return model->limit > 0 && model->log.entries >= model->limit;
 }
 
+static size_t length_of(const struct cast *cast)
+{
+    size_t length = 0;
+
+    for (; cast != NULL; cast = cast->next)
+        length++;
+    return length;
+}
+
 /* Counts what is stable, and frees the first frames that need not be sent again. */
 static void prune_peer(struct model *model, uint32_t member)
 {
     struct peer *peer = &model->peers[member];
     uint32_t stable = least_of_others(model, member);
-    size_t count = 0;
+    size_t count = length_of(peer->done);
 
     model->stable[member] = stable;
-    for (const struct cast *cast = peer->done; cast != NULL; cast = cast->next)
-        count++;
     while (peer->done != NULL && (peer->done->last <= stable || (member != model->me && count > model->window))) {
         struct cast *next = peer->done->next;
 

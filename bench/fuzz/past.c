@@ -40,8 +40,7 @@ uint32_t names_count(const struct names *names, uint32_t sender)
     uint32_t count = 0;
 
     for (size_t i = 0; i < WORDS_OF_ONE; i++)
-        for (uint64_t word = names->words[sender * WORDS_OF_ONE + i]; word != 0; word &= word - 1)
-            count++;
+        count += (uint32_t)__builtin_popcountll(names->words[sender * WORDS_OF_ONE + i]);
     return count;
 }
 

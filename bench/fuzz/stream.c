@@ -59,22 +59,28 @@ static void cut(void)
     memmove(kept.bytes, kept.bytes + at, kept.length);
 }
 
-/* One member takes them as parts of what is loaded: several in a call, or one. */
+/* One call takes several parts, or one; a part that is refused is behind too. Answers how many are. */
+static size_t take_parts(bool at_once, size_t first, size_t part)
+{
+    size_t taken = 0;
+
+    if (at_once)
+        taken = checked_receive_parts(&loader, first, whole.lengths + part, whole.count - part).count;
+    else
+        checked_receive_loaded(&loader, first, whole.lengths[part]);
+    return taken > 0 ? taken : 1;
+}
+
+/* One member takes them as parts of what is loaded. */
 static void take_loaded(bool at_once)
 {
-    size_t first = 0;
+    size_t first = 0, behind = 0;
 
     checked_load(&loader, whole.bytes, whole.length);
-    for (size_t i = 0; i < whole.count;) {
-        size_t taken = 1;
-
-        if (at_once)
-            taken = checked_receive_parts(&loader, first, whole.lengths + i, whole.count - i).count;
-        else
-            checked_receive_loaded(&loader, first, whole.lengths[i]);
-        taken += taken == 0;
-        for (; taken > 0; taken--)
-            first += whole.lengths[i++];
+    for (size_t part = 0; part < whole.count; part++) {
+        if (part == behind)
+            behind += take_parts(at_once, first, part);
+        first += whole.lengths[part];
     }
 }
 
