@@ -23,6 +23,8 @@ add() {
 }
 
 add rt ci
+# what the gate has just proved need not be proved once more
+export JOLUNZA_OVER_GATE=1
 add bindings/check.sh
 echo "$passed passed, $failed failed"
 [ "$failed" = 0 ]

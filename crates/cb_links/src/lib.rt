@@ -2,7 +2,7 @@
 //!
 //! A link is an `Outlet` for what a member sends and an `Inlet` for what it receives, and each counts
 //! its failures. The links here go over channels of one process, or over UDP or TCP on the loopback
-//! address.
+//! address. `FailInlet` and `FailOutlet` stand around any of them, and fail at one call.
 //! Below the channels lies a mailbox, which also carries what the workers of a member hand over.
 //!
 //! Stands on `cb_history` for what is sent, on `cb_frames` for what a frame is and on
@@ -11,6 +11,7 @@
 
 mod channel;
 mod coming;
+mod failing;
 mod going;
 mod laws;
 mod link;
@@ -21,6 +22,7 @@ mod waits;
 
 pub use cb_frames::LONGEST_FRAME;
 pub use channel::{ChannelInlet, ChannelLink, ChannelOutlet};
+pub use failing::{FailInlet, FailOutlet};
 pub use laws::each_frame_fits;
 pub use link::{Inlet, LinkFault, Outlet, Received, Unsent, and_fault};
 pub use mailbox::{MOST_AT_ONCE, Mailbox, Slot, Taken, new_mailbox};

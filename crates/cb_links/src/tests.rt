@@ -5,6 +5,7 @@ ghost use Rattle.std.specs.Prelude.{◌≡◌};
 mod addressed;
 mod channel;
 mod coming;
+mod failing;
 mod fakes;
 mod going;
 mod links;

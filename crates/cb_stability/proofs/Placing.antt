@@ -1,6 +1,6 @@
 -- What the order of the frames says of the place of one more, and of the frames behind the first ones.
-use Rattle.std.proofs.Common.{◌≡◌, ℕ, zero, suc, ◌+◌, ◌-◌, ◌<◌, ◌≤◌, Bool, true, ◌&&◌, List, [], ◌∷◌, ◌++◌, length, take, drop, leb, sym, ◌∙◌, ap, arith, refl, inl, inr}
-use Rattle.std.specs.Prelude.{Some, None, if◌then◌else◌, ◌==◌, slice_get}
+use Rattle.std.proofs.Common.{◌≡◌, ℕ, zero, suc, ◌+◌, ◌-◌, ◌<◌, ◌≤◌, Bool, true, ◌&&◌, List, [], ◌∷◌, ◌++◌, length, take, drop, leb, ltb, sym, ◌∙◌, ap, arith, refl, inl, inr}
+use Rattle.std.specs.Prelude.{Some, None, if◌then◌else◌, ◌==◌, slice_get, slice_set}
 use Rattle.std.specs.List.{list_all, prefix_len}
 use Rattle.std.proofs.lemmas.Bool.{true≢false, cases_lt, lt-leb, lt-ltb, le-leb, le-ltb}
 use Rattle.std.proofs.lemmas.List.{length-drop}
@@ -49,6 +49,50 @@ placed_last frame (next ∷ others) all =
           let rest : all_begun frame.first others ≡ true = sym (ap (λ b. b && all_begun frame.first others) (le-leb next.first frame.first le)) ∙ all in
           rw (le-ltb frame.first next.first le) (ap (λ (rest : List Spanned). next ∷ rest) (placed_last frame others rest))
     ]
+
+at_in_order : (least place : ℕ) (frames : List Spanned) (frame : Spanned) → AreInOrder least frames → slice_get frames place ≡ Some frame
+    → least ≤ frame.first
+at_in_order least place [] frame order is = absurd (none-some frame is)
+at_in_order least zero (next ∷ others) frame order is = rw (← same_Some next frame is) order.0
+at_in_order least (suc place) (next ∷ others) frame order is = omega (arith, order.0, at_in_order next.first place others frame order.1 is)
+
+-- the frame at a place begins above a number just where no more than so many frames begin by it
+pub above_at : (number least place : ℕ) (frames : List Spanned) (frame : Spanned) → AreInOrder least frames → slice_get frames place ≡ Some frame
+    → ltb number frame.first ≡ leb (begun number frames) place
+above_at number least place [] frame order is = absurd (none-some frame is)
+above_at number least zero (next ∷ others) frame order is =
+    rw (← same_Some next frame is)
+    (elim (cases_lt number next.first) as (λ _. ltb number next.first ≡ leb (begun number (next ∷ others)) zero) [
+      | inl lt ↦ rw (lt-leb next.first number lt, lt-ltb number next.first lt) refl
+      | inr le ↦ rw (le-leb next.first number le, le-ltb number next.first le) (grind (arith, nat_tests))
+    ])
+above_at number least (suc place) (next ∷ others) frame order is =
+    elim (cases_lt number next.first) as (λ _. ltb number frame.first ≡ leb (begun number (next ∷ others)) (suc place)) [
+      | inl lt ↦
+          let low = at_in_order next.first place others frame order.1 is in
+          rw (lt-leb next.first number lt, lt-ltb number frame.first (omega (arith, lt, low))) (grind (arith, nat_tests))
+      | inr le ↦ rw (le-leb next.first number le) (above_at number next.first place others frame order.1 is ∙ grind (arith, nat_tests))
+    ]
+
+-- ---- how the frames behind its place make room
+
+pub has_one : (place : ℕ) (frames : List Spanned) → place < length frames → slice_get frames place ≡ None → ⊥
+has_one place [] low is = omega (arith, low)
+has_one zero (frame ∷ frames) low is = none-some frame (sym is)
+has_one (suc place) (frame ∷ frames) low is = has_one place frames (omega (arith, low)) is
+
+pub as_many : (place : ℕ) (carried : Spanned) (frames : List Spanned) → length (slice_set frames place carried) ≡ length frames
+as_many place carried [] = refl
+as_many zero carried (frame ∷ frames) = refl
+as_many (suc place) carried (frame ∷ frames) = ap (λ (n : ℕ). suc n) (as_many place carried frames)
+
+-- a frame is carried on by one place
+pub carried_on : (place : ℕ) (carried kept : Spanned) (frames : List Spanned) → slice_get frames place ≡ Some kept
+    → take (suc place) (slice_set frames place carried) ++ kept ∷ drop (suc place) (slice_set frames place carried)
+    ≡ take place frames ++ carried ∷ drop place frames
+carried_on place carried kept [] is = absurd (none-some kept is)
+carried_on zero carried kept (next ∷ others) is = rw (← same_Some next kept is) refl
+carried_on (suc place) carried kept (next ∷ others) is = ap (λ (rest : List Spanned). next ∷ rest) (carried_on place carried kept others is)
 
 -- ---- whether it is the last one's
 

@@ -13,6 +13,7 @@ use cb_times::NoMemory;
 use circular_buffer::HeapCircularBuffer;
 use std::alloc::Global;
 use std::marker::Model;
+use std::mem;
 
 /// The accepted frames of another member, of which a member hands on those that it has delivered and that are not stable.
 ///
@@ -168,18 +169,38 @@ fn insert(frames: &mut HeapCircularBuffer<Spanned>, place: usize, frame: Spanned
     ensures { let all = frames.old.items in
         frames.new ≡ buffer (take place all ++ frame ∷ drop place all) frames.old.capacity }
 {
-    frames.push_back(frame);
-    frames.make_contiguous()[place..].rotate_right(1);
+    let mut carried = frame;
+    for index in place..frames.len() {
+        if let Some(kept) = frames.get_mut(index) {
+            mem::swap(kept, &mut carried);
+        }
+    }
+    frames.push_back(carried);
 }
 
-// How many frames at the front begin at this number or below it.
+// How many frames at the front begin at this number or below it. What comes late has its place near the back.
 fn count_begun(frames: &HeapCircularBuffer<Spanned>, number: u32) -> usize
+    requires in_order { AreInOrder 0 frames.now.items }
     ensures { result ≡ prefix_len (λ frame. nat_le frame.first number) frames.now.items }
 {
-    frames
-        .iter()
-        .take_while(|frame| frame.first <= number)
-        .count()
+    let mut count = frames.len();
+    while count > 0 && begins_above(frames, count - 1, number) {
+        count -= 1;
+    }
+    count
+}
+
+// The frame at this place begins above the number, and so do those behind it.
+fn begins_above(frames: &HeapCircularBuffer<Spanned>, place: usize, number: u32) -> bool
+    requires in_order { AreInOrder 0 frames.now.items }
+    requires place { place < length frames.now.items }
+    ensures { let begun = prefix_len (λ frame. nat_le frame.first number) frames.now.items in
+        result ≡ nat_le begun place }
+{
+    match frames.get(place) {
+        None => false,
+        Some(frame) => number < frame.first,
+    }
 }
 
 // The numbers that are delivered and not stable.

@@ -5,3 +5,4 @@ pub mod Groups
 pub mod Talking
 pub mod Bundles
 pub mod Helps
+pub mod Refusals

@@ -95,10 +95,10 @@ pub record AreAllThere {R T S D : Type 0} (each : PerWorker (Option R) (Option T
 abbrev pub parts_of : {I O P T E F L : Type 0} → PerWorker (Worker (Receiving I) E L) (Worker (Ticking P) E L) (Worker (Talking T) E L) (Worker O F L) → PerWorker I P T O
 parts_of crew = record { receiver = crew.receiver.part.inlet; timer = crew.timer.part.pace; speaker = crew.speaker.part.talker; sender = crew.sender.part }
 
--- what a worker lost: nothing, where its thread could not be started
-abbrev pub lost_in : {W : Type 0} → Option W → (W → ℕ) → ℕ
-lost_in None lost = 0
-lost_in (Some w) lost = lost w
+-- what a worker counted: nothing, where its thread could not be started
+abbrev pub count_in : {W : Type 0} → Option W → (W → ℕ) → ℕ
+count_in None count = 0
+count_in (Some w) count = count w
 
 -- ---- failures
 

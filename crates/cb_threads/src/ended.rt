@@ -5,7 +5,7 @@ ghost use Rattle.std.specs.Vec.{vec_capacity, vec_len};
 ghost use Rattle.cb_links.specs.Counts.{MetAtMost, held};
 ghost use Rattle.cb_threads.specs.Offers.{FailuresAreLost};
 ghost use Rattle.cb_threads.specs.declared.report.Failures.{Failures};
-ghost use Rattle.cb_threads.specs.Reports.{AreAllThere, HandsBack, HaveMet, TellsFailures, failures_in, lost_in};
+ghost use Rattle.cb_threads.specs.Reports.{AreAllThere, HandsBack, HaveMet, TellsFailures, count_in, failures_in};
 
 use crate::pace::Pace;
 use crate::per_worker::{Parts, Seats};
@@ -21,8 +21,9 @@ pub fn unstarted<I: Inlet, O: Outlet, P: Pace, T, L: Ledger>(
     parts: Parts<I, O, P, T>,
     seats: Seats<L>,
 ) -> Ended<I, O, P, T, L>
-    ensures { HaveMet I.failed O.failed P.failed
+    ensures met { HaveMet I.failed O.failed P.failed
         (failures_in I.failed O.failed P.failed parts) result }
+    ensures refused { count_in result.receiver (λ w. w.refused) ≡ 0 }
 {
     Ended {
         receiver: Some(idle(parts.receiver, seats.receiver)),
@@ -33,13 +34,15 @@ pub fn unstarted<I: Inlet, O: Outlet, P: Pace, T, L: Ledger>(
 }
 
 fn idle<D, L: Ledger>(part: D, seat: Seat<L>) -> Worked<D, L>
-    ensures { (result.part ≡ part) × (result.failures ≡ 0) × (result.lost ≡ 0) }
+    ensures counts { (result.failures ≡ 0) × (result.lost ≡ 0) × (result.refused ≡ 0) }
+    ensures part { result.part ≡ part }
 {
     Worked {
         part,
         seat,
         lost: 0,
         failures: 0,
+        refused: 0,
     }
 }
 
@@ -71,9 +74,10 @@ pub fn reported<I: Inlet, O: Outlet, P: Pace, T, L: Ledger>(
     ensures failures { (before : Failures)
         → HaveMet I.failed O.failed P.failed before ended
         → TellsFailures I.failed O.failed P.failed before result.0 }
-    ensures lost { result.0.lost ≡ held (lost_in ended.receiver (λ w. w.lost)
-        + lost_in ended.timer (λ w. w.lost) + lost_in ended.speaker (λ w. w.lost)
-        + lost_in ended.sender (λ w. w.lost)) }
+    ensures lost { result.0.lost ≡ held (count_in ended.receiver (λ w. w.lost)
+        + count_in ended.timer (λ w. w.lost) + count_in ended.speaker (λ w. w.lost)
+        + count_in ended.sender (λ w. w.lost)) }
+    ensures refused { result.0.refused ≡ count_in ended.receiver (λ w. w.refused) }
 {
     let mut seats = seats;
     let receiver = hand_back(ended.receiver, &mut seats);
@@ -85,6 +89,7 @@ pub fn reported<I: Inlet, O: Outlet, P: Pace, T, L: Ledger>(
         casts: 0,
         deliveries: 0,
         entries: 0,
+        refused: receiver.refused,
         lost,
         receive_failures: receiver.failures,
         send_failures: sender.failures,
@@ -115,13 +120,15 @@ struct HandedBack<D> {
     part: Option<D>,
     lost: u64,
     failures: u64,
+    refused: u64,
 }
 
 /// Puts the worker's seat to the others.
 fn hand_back<D, L: Ledger>(worked: Option<Worked<D, L>>, seats: &mut Vec<Seat<L>>) -> HandedBack<D>
     ensures part { MatchOption worked ((result.part ≡ None) × (result.failures ≡ 0))
         (λ w. (result.part ≡ Some w.part) × (result.failures ≡ w.failures)) }
-    ensures lost { result.lost ≡ lost_in worked (λ w. w.lost) }
+    ensures lost { result.lost ≡ count_in worked (λ w. w.lost) }
+    ensures refused { result.refused ≡ count_in worked (λ w. w.refused) }
     ensures unsent { IfSome worked (λ w. FailuresAreLost w.failures w.lost)
         → FailuresAreLost result.failures result.lost }
     ensures seat { vec_len seats.old < vec_capacity seats.old
@@ -137,12 +144,14 @@ fn hand_back<D, L: Ledger>(worked: Option<Worked<D, L>>, seats: &mut Vec<Seat<L>
                 part: Some(worked.part),
                 lost: worked.lost,
                 failures: worked.failures,
+                refused: worked.refused,
             }
         }
         None => HandedBack {
             part: None,
             lost: 0,
             failures: 0,
+            refused: 0,
         },
     }
 }

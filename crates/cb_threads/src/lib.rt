@@ -22,8 +22,9 @@ mod threads;
 mod workers;
 
 pub use cb_links::{
-    ChannelInlet, ChannelLink, ChannelOutlet, Inlet, LONGEST_FRAME, LinkFault, Outlet, Received,
-    TcpInlet, TcpLink, TcpOutlet, UdpInlet, UdpLink, UdpOutlet, Unsent, each_frame_fits,
+    ChannelInlet, ChannelLink, ChannelOutlet, FailInlet, FailOutlet, Inlet, LONGEST_FRAME,
+    LinkFault, Outlet, Received, TcpInlet, TcpLink, TcpOutlet, UdpInlet, UdpLink, UdpOutlet,
+    Unsent, each_frame_fits,
 };
 pub use gathering::Gathering;
 pub use group::{GroupFault, run_group};

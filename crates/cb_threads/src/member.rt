@@ -60,6 +60,7 @@ pub fn run_member<
     ensures pace { MatchOption result.0.pace (result.0.pace_failures ≡ 0)
         (λ after. MetAtMost result.0.pace_failures (P.failed pace) (P.failed after)) }
     ensures lost { FailuresAreLost result.0.send_failures result.0.lost }
+    ensures refused { result.0.refused ≤ limits.turns }
 {
     let (receiver, timer, speaker, sender) = seats;
     let seats = Seats {
@@ -108,6 +109,7 @@ pub fn run_at<
     ensures parts { HandsBack result.0 }
     ensures failures { TellsFailures I.failed O.failed P.failed
         (failures_in I.failed O.failed P.failed parts) result.0 }
+    ensures refused { result.0.refused ≤ desk.now.ending.limits.turns }
 {
     let (list, ends) = room(desk.alloc);
     match ends {

@@ -44,6 +44,8 @@ pub struct MemberReport<I, O, P, T> {
     pub deliveries: u64,
     /// The entries that the workers added to its history.
     pub entries: u64,
+    /// The arrivals that the member refused, also where it was out of memory.
+    pub refused: u64,
     /// The frames that the workers' channel or the link did not take.
     pub lost: u64,
     /// How often the inlet answered `Device`.

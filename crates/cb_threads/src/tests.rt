@@ -14,6 +14,7 @@ mod naps;
 mod parts;
 mod plan;
 mod post;
+mod refusals;
 mod reports;
 mod sender;
 mod speaker;

@@ -1,7 +1,7 @@
 //! The threads of a member's workers.
 
-ghost use Rattle.std.specs.Prelude.{◌≡◌, IfSome, MatchOption, None};
-ghost use Rattle.cb_threads.specs.Reports.{HaveMet, failures_in, parts_of};
+ghost use Rattle.std.specs.Prelude.{◌≡◌, ◌≤◌, IfSome, MatchOption, None};
+ghost use Rattle.cb_threads.specs.Reports.{HaveMet, count_in, failures_in, parts_of};
 
 use crate::limits::Ending;
 use crate::pace::Pace;
@@ -94,15 +94,19 @@ pub fn run_workers<
     L: Ledger + Send + Sync,
     R: Threads + Wait + Clock + Sync,
 >(rt: &R, desk: &Desk<'_, L>, crew: Crew<I, O, P, T, L>) -> Ended<I, O, P, T, L>
-    ensures { HaveMet I.failed O.failed P.failed
+    ensures met { HaveMet I.failed O.failed P.failed
         (failures_in I.failed O.failed P.failed (parts_of crew)) result }
+    ensures refused { count_in result.receiver (λ w. w.refused)
+        ≤ desk.now.ending.limits.turns }
 {
     thread::scope(
         thread::scope_env(),
         rt,
         |scope| -> Ended<I, O, P, T, L>
-            ensures { HaveMet I.failed O.failed P.failed
+            ensures met { HaveMet I.failed O.failed P.failed
                 (failures_in I.failed O.failed P.failed (parts_of crew)) result }
+            ensures refused { count_in result.receiver (λ w. w.refused)
+                ≤ desk.entry.now.ending.limits.turns }
         {
             // Taken whole: the clause speaks of it.
             let workers = crew;
@@ -135,14 +139,15 @@ pub fn end_unless_all_run<A, B, C, D>(
     }
 }
 
-/// A promise: what is handed back is what this job hands back.
+/// A promise: what is handed back is what this job hands back, where so many turns may be made.
 #[derive(Drop)]
 pub struct OfJob<J> {
     pub job: Snapshot<J>,
+    pub turns: u64,
 }
 
 impl<J: Job<L>, L: Ledger> Promise<Worked<J::Part, L>> for OfJob<J> {
-    ghost kept_by = { λ promise worked. J.kept promise.job.value worked };
+    ghost kept_by = { λ promise worked. J.kept promise.job.value promise.turns worked };
 }
 
 fn start<
@@ -157,10 +162,12 @@ fn start<
     desk: &'s Desk<'s, L>,
     job: J,
 ) -> Option<PromisedHandle<Worked<J::Part, L>, OfJob<J>>>
-    ensures { IfSome result (λ handle. handle.promise.job.value ≡ job) }
+    ensures { IfSome result (λ handle. (handle.promise.job.value ≡ job)
+        × (handle.promise.turns ≡ desk.now.ending.limits.turns)) }
 {
     let promise = OfJob {
         job: Snapshot::of(&job),
+        turns: desk.ending.limits.turns,
     };
     scope.spawn_with(promise, move || job.run(rt, desk)).ok()
 }

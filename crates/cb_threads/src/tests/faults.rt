@@ -2,11 +2,11 @@
 
 ghost use Rattle.std.specs.Prelude.{◌≡◌};
 
-use super::parts::{Counting, Failing, Silent, Uneven};
+use super::parts::{Counting, Silent, Uneven};
 use super::reports::{hands_all_back, has_delivered, has_failed};
 use crate::{
-    ChannelInlet, ChannelLink, ChannelOutlet, GroupReport, Limits, MemberReport, Pace, Stop,
-    run_group, run_member,
+    ChannelInlet, ChannelLink, ChannelOutlet, FailInlet, FailOutlet, GroupReport, Limits,
+    MemberReport, Pace, Stop, run_group, run_member,
 };
 use cb_lock::{Seat, SharedMember};
 use cb_member::{Group, Member};
@@ -19,11 +19,11 @@ use std::test::*;
 use std::thread::Threads;
 use std::time::Clock;
 
-type FailingLink = (Failing<ChannelInlet>, Failing<ChannelOutlet>);
+type FailingLink = (FailInlet<ChannelInlet>, FailOutlet<ChannelOutlet>);
 
 /// What a group reports of which member 1's inlet and outlet fail at these calls, and every pace at
 /// each.
-type Failed = GroupReport<Failing<ChannelInlet>, Failing<ChannelOutlet>, Uneven, Counting>;
+type Failed = GroupReport<FailInlet<ChannelInlet>, FailOutlet<ChannelOutlet>, Uneven, Counting>;
 
 fn run_failing<R: Threads + Wait + Clock + Abort + Sync>(
     rt: &R,
@@ -76,8 +76,8 @@ fn failing_links(
             (0, 0)
         };
         let link = (
-            Failing::new(inlet, inlet_at),
-            Failing::new(outlet, outlet_at),
+            FailInlet::new(inlet, inlet_at),
+            FailOutlet::new(outlet, outlet_at),
         );
         links.push(link).expect(rt, "memory");
     }

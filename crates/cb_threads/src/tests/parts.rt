@@ -1,7 +1,7 @@
 //! Parts for tests: what waits for others, talks a little, or fails at a call.
 
-ghost use Rattle.std.specs.Prelude.{◌≡◌, ◌≤◌, IfErr, false};
-ghost use Rattle.cb_links.specs.Counts.{HasCounted, LinkCounts};
+ghost use Rattle.std.specs.Prelude.{◌≡◌, ◌≤◌, false};
+ghost use Rattle.cb_links.specs.Counts.{HasCounted};
 
 use crate::{Inlet, LinkFault, Outlet, Pace, PaceFault, Received, Talk, Talker};
 use cb_member::{Event, NoMemory, Outgoing};
@@ -203,85 +203,6 @@ impl Talker for Counting {
 
     fn is_quick(&self) -> bool {
         self.quick
-    }
-}
-
-/// A link of which call number `at` fails, from 1; 0 is never.
-#[derive(Drop)]
-pub struct Failing<D> {
-    pub inner: D,
-    pub at: u64,
-    pub calls: u64,
-    pub failures: u64,
-}
-
-impl<D> Failing<D> {
-    /// One that fails at this call.
-    pub fn new(inner: D, at: u64) -> Failing<D> {
-        Failing {
-            inner,
-            at,
-            calls: 0,
-            failures: 0,
-        }
-    }
-
-    /// Counts a call. Whether it is the one that fails.
-    fn fails(&mut self) -> bool
-        ensures { self.new.failures ≡ self.old.failures }
-    {
-        self.calls = self.calls.saturating_add(1);
-        self.calls == self.at
-    }
-
-    /// Counts a device that failed.
-    fn note<A>(&mut self, answer: Result<A, LinkFault>) -> Result<A, LinkFault>
-        ensures rises { self.old.failures ≤ self.new.failures }
-        ensures fault { IfErr result (λ fault. LinkCounts fault self.old.failures
-            self.new.failures) }
-    {
-        if let Err(LinkFault::Device) = &answer {
-            self.failures = self.failures.saturating_add(1);
-        }
-        answer
-    }
-}
-
-impl<I: Inlet> Inlet for Failing<I> {
-    ghost failed = { λ f. f.failures };
-
-    fn failures(&self) -> u64 {
-        self.failures
-    }
-
-    fn receive<R: Wait + Clock>(&mut self, rt: &R) -> Result<Received, LinkFault> {
-        let answer = if self.fails() {
-            Err(LinkFault::Device)
-        } else {
-            self.inner.receive(rt)
-        };
-        self.note(answer)
-    }
-
-    fn close(&mut self) {
-        self.inner.close();
-    }
-}
-
-impl<O: Outlet> Outlet for Failing<O> {
-    ghost failed = { λ f. f.failures };
-
-    fn failures(&self) -> u64 {
-        self.failures
-    }
-
-    fn send<R: Wait>(&mut self, rt: &R, out: &Outgoing) -> Result<(), LinkFault> {
-        let answer = if self.fails() {
-            Err(LinkFault::Device)
-        } else {
-            self.inner.send(rt, out)
-        };
-        self.note(answer)
     }
 }
 

@@ -1,5 +1,6 @@
 //! What a worker is: what it works with, where it works, and what it hands back.
 
+ghost use Rattle.std.specs.Prelude.{ℕ};
 ghost use Rattle.cb_threads.specs.declared.workers.desk.Worked.{Worked};
 
 use crate::limits::Ending;
@@ -35,16 +36,18 @@ pub struct Worked<D, L: Ledger> {
     pub lost: u64,
     /// How often what it worked with failed.
     pub failures: u64,
+    /// The arrivals that were answered by a refusal: none but at the receiver.
+    pub refused: u64,
 }
 
 /// What a thread runs: a worker, from its first turn to its last.
 pub trait Job<L: Ledger> {
     type Part: Send + Drop;
 
-    /// What holds of what it hands back.
-    ghost kept: { Self → Worked Self.Part L → Type 0 };
+    /// What holds of what it hands back, where so many turns may be made.
+    ghost kept: { Self → ℕ → Worked Self.Part L → Type 0 };
 
     /// Works at this desk.
     fn run<R: Wait + Clock>(self, rt: &R, desk: &Desk<'_, L>) -> Worked<Self::Part, L>
-        ensures { kept self result };
+        ensures { kept self desk.now.ending.limits.turns result };
 }

@@ -34,10 +34,7 @@ impl<I: Inlet + Send + Drop> Role for Receiving<I> {
         place: &mut Place<'_, L>,
     ) -> Result<Turn, Failed> {
         match self.inlet.receive(rt) {
-            Ok(Received::Frame(frame)) => {
-                place.receive(rt, frame);
-                Ok(Turn::Done)
-            }
+            Ok(Received::Frame(frame)) => Ok(place.receive(rt, frame)),
             Ok(Received::Nothing) => Ok(Turn::Done),
             Err(LinkFault::NoMemory) => Ok(Turn::Idle),
             Err(LinkFault::Device) => Err(Failed),
@@ -54,13 +51,15 @@ impl<I: Inlet + Send + Drop> Role for Receiving<I> {
 }
 
 impl<'a, L: Ledger> Place<'a, L> {
-    /// A frame arrives, and what is sent in answer goes to the sender. One that finds no memory is
-    /// dropped: it was lost on the way.
-    fn receive<R: Wait>(&mut self, rt: &R, frame: Bytes) {
-        if let Ok(out) = self.desk.shared.receive(rt, &mut self.seat, frame)
-            && !out.is_empty()
-        {
+    /// A frame arrives, and what is sent in answer goes to the sender. One that is refused is
+    /// dropped, as if it were lost on the way.
+    fn receive<R: Wait>(&mut self, rt: &R, frame: Bytes) -> Turn {
+        let Ok(out) = self.desk.shared.receive(rt, &mut self.seat, frame) else {
+            return Turn::Refused;
+        };
+        if !out.is_empty() {
             self.post.put_all(rt, out);
         }
+        Turn::Done
     }
 }

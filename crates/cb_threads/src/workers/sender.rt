@@ -15,7 +15,7 @@ use std::time::Clock;
 impl<O: Outlet + Send + Drop, L: Ledger + Send + Sync> Job<L> for Worker<O, Mailbox<Outgoing>, L> {
     type Part = O;
 
-    ghost kept = { λ worker worked. MetAtMost worked.failures (O.failed worker.part)
+    ghost kept = { λ worker turns worked. MetAtMost worked.failures (O.failed worker.part)
         (O.failed worked.part) × FailuresAreLost worked.failures worked.lost };
 
     /// Sends what the other workers hand over, until all of them have ended.
@@ -28,6 +28,7 @@ impl<O: Outlet + Send + Drop, L: Ledger + Send + Sync> Job<L> for Worker<O, Mail
             seat,
             lost: 0,
             failures: 0,
+            refused: 0,
         };
         for _ in rt.forever() {
             let Some(frame) = batch.next(rt) else {

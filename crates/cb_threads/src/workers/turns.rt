@@ -2,6 +2,7 @@
 
 ghost use Rattle.std.specs.Prelude.{◌≡◌, ◌≢◌, ℕ, ◌+◌, ◌≤◌, Decides, MatchResult, OnErr, false};
 ghost use Rattle.cb_links.specs.Counts.{Counts, HasCounted, MetAtMost, held};
+ghost use Rattle.cb_threads.specs.Refusals.{refused_with};
 ghost use Rattle.cb_threads.specs.declared.workers.turns.Turn.TheVariants.{Finished, Idle};
 
 use crate::limits::Ending;
@@ -26,6 +27,8 @@ pub struct Place<'a, L: Ledger> {
 #[derive(Clone, Copy)]
 pub enum Turn {
     Done,
+    /// A frame was received, and its arrival was refused.
+    Refused,
     /// Nothing came of it: a sleep of a millisecond follows.
     Idle,
     /// No further turn is made.
@@ -65,16 +68,18 @@ pub trait Role {
 struct Course {
     last: Turn,
     failures: u64,
+    refused: u64,
 }
 
 impl Course {
     /// Before the first turn.
     fn begun() -> Course
-        ensures { result.failures ≡ 0 }
+        ensures { (result.failures ≡ 0) × (result.refused ≡ 0) }
     {
         Course {
             last: Turn::Done,
             failures: 0,
+            refused: 0,
         }
     }
 
@@ -100,6 +105,10 @@ impl Course {
             (λ _. result.last ≡ Idle) }
         ensures failures { MatchResult outcome (λ _. result.failures ≡ self.failures)
             (λ _. result.failures ≡ held (self.failures + 1)) }
+        ensures refused { MatchResult outcome
+            (λ turn. result.refused ≡ refused_with self.refused turn)
+            (λ _. result.refused ≡ self.refused) }
+        ensures at_most { result.refused ≤ self.refused + 1 }
         ensures met { (old new : ℕ) → old ≤ new → OnErr outcome (HasCounted old new)
             → Counts self.failures old result.failures new }
     {
@@ -107,12 +116,25 @@ impl Course {
             Ok(last) => Course {
                 last,
                 failures: self.failures,
+                refused: and_refused(self.refused, last),
             },
             Err(Failed) => Course {
                 last: Turn::Idle,
                 failures: self.failures.saturating_add(1),
+                refused: self.refused,
             },
         }
+    }
+}
+
+/// The arrivals that were refused, with one turn more.
+fn and_refused(refused: u64, turn: Turn) -> u64
+    ensures exact { result ≡ refused_with refused turn }
+    ensures at_most { result ≤ refused + 1 }
+{
+    match turn {
+        Turn::Refused => refused.saturating_add(1),
+        Turn::Done | Turn::Idle | Turn::Finished => refused,
     }
 }
 
@@ -124,9 +146,10 @@ impl<'a, L: Ledger> Place<'a, L> {
     }
 
     /// Behind the last turn: what the workers' channel did not take was lost.
-    fn left<D>(self, part: D, failures: u64) -> Worked<D, L>
+    fn left<D>(self, part: D, course: Course) -> Worked<D, L>
         ensures part { result.part ≡ part }
-        ensures failures { result.failures ≡ failures }
+        ensures failures { result.failures ≡ course.failures }
+        ensures refused { result.refused ≡ course.refused }
         ensures lost { result.lost ≡ self.entry.post.lost }
     {
         let lost = self.post.lost();
@@ -134,7 +157,8 @@ impl<'a, L: Ledger> Place<'a, L> {
             part,
             seat: self.seat,
             lost,
-            failures,
+            failures: course.failures,
+            refused: course.refused,
         }
     }
 }
@@ -142,8 +166,9 @@ impl<'a, L: Ledger> Place<'a, L> {
 impl<W: Role, L: Ledger + Send + Sync> Job<L> for Worker<W, Slot<Outgoing>, L> {
     type Part = W::Part;
 
-    ghost kept = { λ worker worked. MetAtMost worked.failures (W.failed (W.part worker.part))
-        (W.failed worked.part) };
+    ghost kept = { λ worker turns worked.
+        MetAtMost worked.failures (W.failed (W.part worker.part)) (W.failed worked.part)
+        × (worked.refused ≤ turns) };
 
     /// One turn after the other, until the stop is set, the limit is reached or it has finished.
     fn run<R: Wait + Clock>(self, rt: &R, desk: &Desk<'_, L>) -> Worked<W::Part, L> {
@@ -164,6 +189,6 @@ impl<W: Role, L: Ledger + Send + Sync> Job<L> for Worker<W, Slot<Outgoing>, L> {
                 place.rest(rt);
             }
         }
-        place.left(role.end(desk.ending), course.failures)
+        place.left(role.end(desk.ending), course)
     }
 }
