@@ -6,6 +6,8 @@
 //! are here and in no other subcommand.
 #![tactic(auto)]
 
+#[cfg(test)]
+mod failing;
 mod fault;
 #[cfg(test)]
 mod helped;

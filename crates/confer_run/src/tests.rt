@@ -163,6 +163,7 @@ fn report(
         casts: 11,
         deliveries: 12,
         entries: 13,
+        refused: 20,
         lost: 14,
         receive_failures: 15,
         send_failures: 16,
