@@ -1,7 +1,7 @@
 #!/usr/bin/env bash
 # Puts each value in place of each byte of the longest frames (LONG in src/damage.rt of tests_hostile) and gives them to fresh members of
 # 64, in a scratch copy of the repository and without its proof. The gate does so with all short frames, but of these with one damage in
-# thousands. A member that refuses is as it was; one that takes the frame is as one that takes the frames of its entries.
+# 53. A member that refuses is as it was; one that takes the frame is as one that takes the frames of its entries.
 #   checks/damage.sh [EVERY]     one damage in so many, or all 1,600,000, which take many hours
 set -eu
 every=${1:-1}

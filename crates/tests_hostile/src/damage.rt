@@ -10,7 +10,7 @@ use std::process::Abort;
 use std::test::*;
 
 /// Of the long frames one damage in so many is tried.
-const EVERY: usize = 4_001;
+const EVERY: usize = 53;
 
 /// A part of a text, and how often it stands there.
 pub type Part = (usize, &'static [u8]);
