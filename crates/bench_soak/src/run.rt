@@ -50,11 +50,11 @@ fn run_over<I: Inlet + Send + Drop, O: Outlet + Send + Drop, R: Threads + Wait +
     plan: Plan,
     links: Vec<(I, O)>,
 ) -> Result<Ran, Fault> {
-    let links = lossy(alloc, plan, links)?;
+    let links = lossy(alloc, plan.seed, links)?;
     let mut paces = Vec::new(alloc);
     let mut talkers = Vec::new(alloc);
     for member in 0..plan.group.size() {
-        paces.push(Uneven::new(chance_of(plan, member, 1)))?;
+        paces.push(Uneven::new(chance_of(plan.seed, member, 1)))?;
         talkers.push(Gathering::new(Caster::new(alloc, plan), plan.burst))?;
     }
     let (group, history_max) = (plan.group, plan.history_max);
@@ -66,20 +66,20 @@ fn run_over<I: Inlet + Send + Drop, O: Outlet + Send + Drop, R: Threads + Wait +
 }
 
 /// What the links and the paces of a member draw from, each from numbers of its own.
-fn chance_of(plan: Plan, member: u32, which: u64) -> Chance {
+fn chance_of(seed: u64, member: u32, which: u64) -> Chance {
     let of_member = u64::from(member).saturating_mul(2).saturating_add(which);
-    Chance::new(plan.seed.saturating_mul(1_000).saturating_add(of_member))
+    Chance::new(seed.saturating_mul(1_000).saturating_add(of_member))
 }
 
 fn lossy<I: Drop, O: Drop>(
     alloc: Global,
-    plan: Plan,
+    seed: u64,
     links: Vec<(I, O)>,
 ) -> Result<Vec<(Lossy<I>, O)>, Fault> {
     let mut all = Vec::with_capacity(alloc, links.len())?;
     let mut member = 0;
     for (inner, outlet) in links {
-        let inlet = Lossy::new(alloc, inner, chance_of(plan, member, 0));
+        let inlet = Lossy::new(alloc, inner, chance_of(seed, member, 0));
         all.push((inlet, outlet))?;
         member = member.saturating_add(1);
     }
