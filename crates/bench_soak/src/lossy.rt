@@ -1,7 +1,8 @@
 //! A link that loses some frames, repeats some, and holds some back. What becomes of each is drawn by a
 //! fixed generator.
 
-ghost use Rattle.std.specs.Prelude.{◌≡◌, ◌<◌, ◌≤◌, IfSome, length};
+ghost use Rattle.std.specs.Prelude.{◌≡◌, ◌<◌, ◌≤◌, IfErr, IfSome, length};
+ghost use Rattle.cb_links.specs.declared.link.LinkFault.TheVariants.{NoMemory};
 
 use bytes::Bytes;
 use cb_threads::{Inlet, LinkFault, Received};
@@ -77,13 +78,18 @@ impl<I> Lossy<I> {
     }
 
     /// A frame whose time has come.
-    fn due(&mut self, now: Duration) -> Option<Bytes> {
+    fn due(&mut self, now: Duration) -> Option<Bytes>
+        ensures { self.new.inner ≡ self.old.inner }
+    {
         let place = first_due(&self.held, now)?;
         Some(self.held.swap_remove(place).frame)
     }
 
     /// What becomes of a frame that has come.
-    fn draw(&mut self, now: Duration, frame: Bytes) -> Result<Received, LinkFault> {
+    fn draw(&mut self, now: Duration, frame: Bytes) -> Result<Received, LinkFault>
+        ensures inner { self.new.inner ≡ self.old.inner }
+        ensures fault { IfErr result (λ fault. fault ≡ NoMemory) }
+    {
         let drawn = self.chance.percent();
         if drawn <= LOST {
             return Ok(Received::Nothing);
