@@ -24,7 +24,7 @@ const FRAMES: [&[u8]; 2] = [b"\x11\x07\x00\x01\x00\x02hi", b"\x11\x07\x02\x01\x0
 /// An inlet that gives these frames, and then nothing.
 #[derive(Drop)]
 struct Given {
-    frames: &'static [&'static [u8]],
+    count: usize,
 }
 
 impl Inlet for Given {
@@ -35,12 +35,13 @@ impl Inlet for Given {
     }
 
     fn receive<R: Wait + Clock>(&mut self, _rt: &R) -> Result<Received, LinkFault> {
-        let Some((frame, later)) = self.frames.split_first() else {
-            return Ok(Received::Nothing);
-        };
-        let frame = *frame;
-        self.frames = later;
-        Ok(Received::Frame(Bytes::from_static(frame)))
+        match FRAMES.get(self.count) {
+            None => Ok(Received::Nothing),
+            Some(frame) => {
+                self.count = self.count.saturating_add(1);
+                Ok(Received::Frame(Bytes::from_static(frame)))
+            }
+        }
     }
 }
 
@@ -91,7 +92,7 @@ fn run_shared<L: Ledger + Send + Sync, R: Threads + Wait + Clock + Abort + Sync>
     let seats = (seat.split(), seat.split(), seat.split(), seat);
     let mut links = ChannelLink::group(alloc, 3).expect(rt, "links");
     let (_inlet, outlet) = links.pop().expect(rt, "a link");
-    let link = (Given { frames: &FRAMES }, outlet);
+    let link = (Given { count: 0 }, outlet);
     let stop = Stop::new();
     let limits = Limits { turns: 2 };
     let (report, seats) = run_member(rt, alloc, shared, seats, link, Hasty, Silent, &stop, limits);
