@@ -3,6 +3,7 @@ mod RoundRows
 mod ForgettingRows
 mod HelpRows
 mod HelpRoundRows
+pub mod RestartRows
 pub mod GoingOn
 pub mod Lists
 pub mod Members
@@ -41,6 +42,9 @@ pub mod Outliving
 pub mod HelpRoundLaws
 pub mod Room
 pub mod Within
+pub mod Entered
+pub mod Journaled
+pub mod RestartLaws
 pub mod Forgetting
 pub mod Cores
 pub mod CoreRounds

@@ -15,3 +15,5 @@ pub mod HelpRoundLaws
 pub mod Forgetting
 pub mod ForgettingLaws
 pub mod ForgettingRounds
+pub mod Restarts
+pub mod RestartLaws

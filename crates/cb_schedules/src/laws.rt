@@ -6,6 +6,7 @@ mod headline;
 mod help;
 mod invariant;
 mod knowledge;
+mod restarts;
 mod rounds;
 mod runs;
 
@@ -27,6 +28,10 @@ pub use invariant::{
 pub use knowledge::{
     arrivals_are_welcome, what_is_heard_of_is_cast, what_is_stable_is_delivered_everywhere,
     what_is_stable_of_any_sender_is_delivered_everywhere,
+};
+pub use restarts::{
+    causal_broadcast_with_restarts, frames_outlive_restarts, nothing_is_taken_back,
+    restarts_leave_a_schedule, sending_first_is_wrong,
 };
 pub use rounds::{
     a_few_rounds_repair_whatever_was_lost, a_round_is_a_tick_of_each_and_its_arrivals,

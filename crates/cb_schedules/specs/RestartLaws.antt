@@ -1,0 +1,71 @@
+-- Where entries are written first, a run with restarts is a run of the schedule without the steps that were dropped.
+use Rattle.std.specs.Prelude.{◌≡◌, ℕ, List, [], ◌∷◌, ◌++◌, take, map}
+use Rattle.cb_delay.specs.declared.message.Event.{Event}
+use Rattle.cb_history.specs.Facts.{EntryFields}
+use Rattle.cb_schedules.specs.Schedule.{Setting, IsSetting, SentFrame, Calls, GroupState, run}
+use Rattle.cb_schedules.specs.Messages.{stamped_lists}
+use Rattle.cb_schedules.specs.SentLaws.{WasSent, OneNameSameBytes}
+use Rattle.cb_schedules.specs.StepLaws.{FramesGoOn}
+use Rattle.cb_schedules.specs.Restarts.{JournaledState, JournaledStep, WriteFirst, SendFirst, journaled_run, without_dropped, seen_of}
+
+-- it holds after all steps, restarts among them, for every group and every history limit, where entries are written first
+abbrev pub EachJournaledRun : (Setting → JournaledState → Type 0) → Type 0
+EachJournaledRun P =
+    (setting : Setting) (steps : List JournaledStep) → IsSetting setting → P setting (journaled_run WriteFirst setting steps)
+
+-- so it holds of what all can see of it
+abbrev pub OfWhatIsSeen : (Setting → GroupState → Type 0) → Setting → JournaledState → Type 0
+OfWhatIsSeen P setting r = P setting (seen_of r)
+
+-- and so of the run of the schedule without the steps that were dropped
+abbrev pub OfTheRest : (Setting → GroupState → Type 0) → Setting → JournaledState → Type 0
+OfTheRest P setting r = P setting (run setting (without_dropped r))
+
+-- ---- what is left is a schedule
+
+-- each of its steps asks for just the call that was entered
+abbrev pub AsksForWhatWasEntered : Setting → JournaledState → Type 0
+AsksForWhatWasEntered setting r =
+    map (λ outcome. outcome.asked) (run setting (without_dropped r)).outcomes ≡ map (λ x. Calls x.member x.call) r.entered
+
+-- the histories of its run are those that the members have
+abbrev pub HasItsHistories : Setting → JournaledState → Type 0
+HasItsHistories setting r = (k : ℕ) → r.histories k ≡ (run setting (without_dropped r)).histories k
+
+-- each frame that was sent, also before a restart, is one of its run
+abbrev pub SentItsFrames : Setting → JournaledState → Type 0
+SentItsFrames setting r =
+    (frame : SentFrame) → WasSent (seen_of r) frame → WasSent (run setting (without_dropped r)) frame
+
+-- what a caller was handed, also before a restart, is the beginning of its member's events
+abbrev pub HandedOutItsEvents : Setting → JournaledState → Type 0
+HandedOutItsEvents setting r =
+    (k : ℕ) → (more : List Event) × (stamped_lists setting (run setting (without_dropped r)) k ≡ r.handed k ++ more)
+
+-- ---- step by step
+
+-- By no step what was sent, handed out or written is taken back: each of these lists goes on at its end.
+pub record NothingIsTakenBack (before after : JournaledState) : Type 0 where
+  pub frames : FramesGoOn before.sent after.sent
+  pub handed : (k : ℕ) → (more : List Event) × (after.handed k ≡ before.handed k ++ more)
+  pub written : (k : ℕ) → (more : List EntryFields)
+      × (take (after.written k) (after.histories k) ≡ take (before.written k) (before.histories k) ++ more)
+
+abbrev pub StepsTakeNothingBack : Type 0
+StepsTakeNothingBack =
+    (setting : Setting) (steps : List JournaledStep) (step : JournaledStep) → IsSetting setting
+    → NothingIsTakenBack (journaled_run WriteFirst setting steps) (journaled_run WriteFirst setting (steps ++ step ∷ []))
+
+-- ---- the other order
+
+-- where frames may be sent before their entries are written, some run has two different frames of one name
+abbrev pub SendingFirstUsesANameTwice : Type 0
+SendingFirstUsesANameTwice =
+    (setting : Setting) × (steps : List JournaledStep) × IsSetting setting
+    × (OneNameSameBytes setting (seen_of (journaled_run SendFirst setting steps)) → ⊥)
+
+-- and where events may be handed out before they are written, some caller was handed what its member never had
+abbrev pub HandingOutFirstIsTakenBack : Type 0
+HandingOutFirstIsTakenBack =
+    (setting : Setting) × (steps : List JournaledStep) × IsSetting setting
+    × (HandedOutItsEvents setting (journaled_run SendFirst setting steps) → ⊥)
