@@ -10,7 +10,7 @@ use Rattle.cb_history.specs.Events.{events}
 use Rattle.cb_history.specs.EventLaws.{new_events}
 use Rattle.cb_history.specs.Legal.{Call, ToCast, ToTake, ToTick, ToHelp, and_entry, entry_of, history_after}
 use Rattle.cb_history.specs.LegalFacts.{AreFactsOf}
-use Rattle.cb_history.proofs.Views.{IsIn, in_filter}
+use Rattle.cb_history.proofs.Views.{IsIn, filter_in, in_filter}
 use Rattle.cb_history.proofs.Lists.{flat_map-append, in_append, in_front, in_back, in_push}
 use Rattle.cb_history.proofs.Prefixes.{prefix_of_facts_is_legal}
 use Rattle.cb_history.proofs.Happening.{events_with_one_more}
@@ -39,6 +39,19 @@ pub record Waits (calls : List EnteredCall) (k : ℕ) (w : WaitingFrame) : Type 
   pub place : call.place ≡ w.behind
   pub out : IsIn w.frame call.out
 
+-- what a call takes is one of these frames
+abbrev pub TakesOneOf : List SentFrame → Call → Type 0
+TakesOneOf sent (ToCast load) = Unit {0}
+TakesOneOf sent (ToTake bytes) = (frame : SentFrame) × IsIn frame sent × (frame.bytes ≡ bytes)
+TakesOneOf sent ToTick = Unit {0}
+TakesOneOf sent (ToHelp k) = Unit {0}
+
+takes_still : (sent more : List SentFrame) (call : Call) → TakesOneOf sent call → TakesOneOf (sent ++ more) call
+takes_still sent more (ToCast load) takes = tt
+takes_still sent more (ToTake bytes) takes = (takes.0, in_front takes.0 sent more takes.1, takes.2)
+takes_still sent more ToTick takes = tt
+takes_still sent more (ToHelp k) takes = tt
+
 -- what a member has written tells at least the events that its caller was handed
 abbrev pub Tells : Setting → ℕ → List EntryFields → List Event → Type 0
 Tells setting k entries handed = (more : List Event) × (events (seat_at setting k) (facts_of entries) ≡ handed ++ more)
@@ -51,6 +64,7 @@ pub record IsJournaled (setting : Setting) (r : JournaledState) : Type 0 where
   pub written : (k : ℕ) → r.written k ≤ length (r.histories k)
   pub waiting : (k : ℕ) (w : WaitingFrame) → IsIn w (r.waiting k) → Waits r.entered k w
   pub sent : (frame : SentFrame) → IsIn frame r.sent → PutOut r.written r.entered frame
+  pub arrivals : (x : EnteredCall) → IsIn x r.entered → TakesOneOf r.sent x.call
   pub handed : (k : ℕ) → Tells setting k (take (r.written k) (r.histories k)) (r.handed k)
 
 starts : (setting : Setting) → IsJournaled setting nothing_journaled
@@ -60,6 +74,7 @@ starts setting = record {
   written = λ k. omega arith;
   waiting = λ k w there. absurd there;
   sent = λ frame there. absurd there;
+  arrivals = λ x there. absurd there;
   handed = λ k. (events (seat_at setting k) (facts_of []), refl);
 }
 
@@ -135,8 +150,8 @@ front_stays w entries None le = refl
 front_stays w entries (Some e) le = take-append-le w entries (e ∷ []) le
 
 module _ (setting : Setting) (r : JournaledState) (h : IsJournaled setting r) where
-  entering : (i : ℕ) (call : Call) → ltb i setting.group.size ≡ true → IsAskable r.written r.entered call → IsJournaled setting (and_entered setting r (entered_call setting i (r.histories i) call))
-  entering i call member can =
+  entering : (i : ℕ) (call : Call) → ltb i setting.group.size ≡ true → IsAskable r.written r.entered call → TakesOneOf r.sent call → IsJournaled setting (and_entered setting r (entered_call setting i (r.histories i) call))
+  entering i call member can takes =
       let x = entered_call setting i (r.histories i) call in
       let o = entry_of (seat_at setting i) setting.limit (r.histories i) call in
       let after = history_after (seat_at setting i) setting.limit (r.histories i) call in
@@ -154,24 +169,28 @@ module _ (setting : Setting) (r : JournaledState) (h : IsJournaled setting r) wh
             ])
             (λ other there. waits_more r.entered x k w (h.waiting k w there));
         sent = λ frame there. put_out_more r.written r.entered x frame (h.sent frame there);
+        arrivals = λ y there. elim (in_push y x r.entered there) [
+          | inl old ↦ h.arrivals y old
+          | inr new ↦ subst (λ (z : EnteredCall). TakesOneOf r.sent z.call) (sym new) takes
+        ];
         handed = λ k. of_each (λ (n : ℕ) (es : List EntryFields). Tells setting n (take (r.written n) es) (r.handed n)) r.histories i after k
             (subst (λ (es : List EntryFields). Tells setting i es (r.handed i)) (sym (front_stays (r.written i) (r.histories i) o (h.written i))) (h.handed i)) (λ other. h.handed k);
       }
 
   -- what is so of each call that can be asked, and of nothing, is so of what a step asks for
-  askable_is : (P : Asked → Type 0) → ((i : ℕ) (call : Call) → ltb i setting.group.size ≡ true → IsAskable r.written r.entered call → P (Calls i call)) → P OfNoMember → P OfNoFrame → P OfNoBytes → (step : Step) → P (asked_by setting r.sent step)
+  askable_is : (P : Asked → Type 0) → ((i : ℕ) (call : Call) → ltb i setting.group.size ≡ true → IsAskable r.written r.entered call → TakesOneOf r.sent call → P (Calls i call)) → P OfNoMember → P OfNoFrame → P OfNoBytes → (step : Step) → P (asked_by setting r.sent step)
   askable_is P calls none no_frame no_bytes (CastStep i load) =
       cond_both (ltb i setting.group.size) _ _ P
-      (λ inside. cond_both (are_bytes (load_bytes load)) (Calls i (ToCast load)) OfNoBytes P (λ all. calls i (ToCast load) inside all) (λ _. no_bytes))
+      (λ inside. cond_both (are_bytes (load_bytes load)) (Calls i (ToCast load)) OfNoBytes P (λ all. calls i (ToCast load) inside all tt) (λ _. no_bytes))
       (λ _. none)
   askable_is P calls none no_frame no_bytes (ArriveStep j number) =
       cond_both (ltb j setting.group.size) _ _ P (λ inside. found inside (slice_get r.sent number) refl) (λ _. none)
     where
       found : ltb j setting.group.size ≡ true → (o : Option SentFrame) → slice_get r.sent number ≡ o → P (handed_over j o)
       found inside None e = no_frame
-      found inside (Some frame) e = calls j (ToTake frame.bytes) inside (frame, refl, h.sent frame (in_by_index r.sent number frame e))
-  askable_is P calls none no_frame no_bytes (TickStep i) = cond_both (ltb i setting.group.size) _ _ P (λ inside. calls i ToTick inside tt) (λ _. none)
-  askable_is P calls none no_frame no_bytes (HelpStep j i) = cond_both (ltb j setting.group.size) _ _ P (λ inside. calls j (ToHelp i) inside tt) (λ _. none)
+      found inside (Some frame) e = (let there = in_by_index r.sent number frame e in calls j (ToTake frame.bytes) inside (frame, refl, h.sent frame there) (frame, there, refl))
+  askable_is P calls none no_frame no_bytes (TickStep i) = cond_both (ltb i setting.group.size) _ _ P (λ inside. calls i ToTick inside tt tt) (λ _. none)
+  askable_is P calls none no_frame no_bytes (HelpStep j i) = cond_both (ltb j setting.group.size) _ _ P (λ inside. calls j (ToHelp i) inside tt tt) (λ _. none)
 
   pub entered_holds : (step : Step) → IsJournaled setting (after_entering setting r (asked_by setting r.sent step))
   entered_holds = askable_is (λ (asked : Asked). IsJournaled setting (after_entering setting r asked)) entering h h h
@@ -199,6 +218,7 @@ module _ (setting : Setting) (r : JournaledState) (h : IsJournaled setting r) wh
     written = λ k. of_each (λ (n m : ℕ). m ≤ length (r.histories n)) r.written j (now_written j) k (writes_within j) (λ other. h.written k);
     waiting = h.waiting;
     sent = λ frame there. put_out_still r.written (with_own r.written j (now_written j)) (writes_more j) r.entered frame (h.sent frame there);
+    arrivals = h.arrivals;
     handed = λ k. of_each (λ (n m : ℕ). Tells setting n (take m (r.histories n)) (r.handed n)) r.written j (now_written j) k
         (let old = h.handed j in
         let more = shows_more setting is r h j (r.written j) (now_written j) (writes j) in
@@ -234,6 +254,7 @@ module _ (setting : Setting) (r : JournaledState) (h : IsJournaled setting r) wh
             out = subst (λ (f : SentFrame). IsIn f waits.call.out) (sym new) waits.out;
           }
     ];
+    arrivals = λ x there. takes_still r.sent (w.frame ∷ []) x.call (h.arrivals x there);
     handed = h.handed;
   }
 
@@ -263,6 +284,7 @@ module _ (setting : Setting) (r : JournaledState) (h : IsJournaled setting r) wh
     written = h.written;
     waiting = h.waiting;
     sent = h.sent;
+    arrivals = h.arrivals;
     handed = λ k. of_each (λ (n : ℕ) (es : List Event). Tells setting n (take (r.written n) (r.histories n)) es) r.handed j (r.handed j ++ e ∷ []) k (handing j e at) (λ other. h.handed k);
   }
 
@@ -290,6 +312,7 @@ module _ (setting : Setting) (r : JournaledState) (h : IsJournaled setting r) wh
         waiting = λ k v. of_each (λ (n : ℕ) (ws : List WaitingFrame). n ≡ k → IsIn v ws → Waits (filter (is_kept r j) r.entered) n v) r.waiting j [] k
             (λ e there. absurd there) (λ other e there. waits_kept j k v other (h.waiting k v there)) refl;
         sent = λ frame there. put_out_kept setting r.written j r.entered frame (h.sent frame there);
+        arrivals = λ x there. h.arrivals x (filter_in (is_kept r j) r.entered x there).1;
         handed = λ k. of_each (λ (n : ℕ) (es : List EntryFields). Tells setting n (take (r.written n) es) (r.handed n)) r.histories j (take w (r.histories j)) k
             (subst (λ (es : List EntryFields). Tells setting j es (r.handed j)) (sym (take-take w w (r.histories j) (omega arith))) (h.handed j)) (λ other. h.handed k);
       }

@@ -1,26 +1,29 @@
 -- The laws of runs with restarts.
-use Rattle.std.proofs.Common.{◌≡◌, ℕ, leb, List, [], ◌∷◌, ◌++◌, length, take, drop, Option, Some, None, slice_get, refl, sym, ap, subst, ◌∙◌, append_assoc, append-nil, arith}
-use Rattle.std.proofs.lemmas.Bool.{cond_both}
-use Rattle.std.proofs.lemmas.List.{take_all, take-take}
+use Rattle.std.proofs.Common.{◌≡◌, ℕ, leb, List, [], ◌∷◌, ◌++◌, length, take, drop, Option, Some, None, slice_get, refl, sym, ap, subst, ◌∙◌, append_assoc, append-nil, arith, eqb, filter, map, Bool, ◌≤◌, ◌+◌}
+use Rattle.std.proofs.lemmas.Bool.{cond_both, cond-true, eq-eqb}
+use Rattle.std.proofs.lemmas.List.{take_all, take-take, take-append-drop, length-append}
 use Rattle.cb_delay.specs.declared.message.Event.{Event}
 use Rattle.cb_causality.proofs.Agreement.{depends_on_lists_alone}
 use Rattle.cb_history.specs.Facts.{EntryFields, facts_of}
 use Rattle.cb_history.specs.Events.{events}
 use Rattle.cb_history.specs.Answers.{own_casts}
-use Rattle.cb_history.specs.Legal.{entry_of, history_after}
+use Rattle.cb_history.specs.Legal.{entry_of, history_after, Call, ToCast, ToTake, ToTick, ToHelp, IsLegal}
 use Rattle.cb_history.specs.BufferLaws.{IsCastOf}
 use Rattle.cb_history.proofs.Views.{IsIn}
-use Rattle.cb_schedules.specs.Schedule.{Setting, IsSetting, seat_at, Asked, Calls, OfNoMember, OfNoFrame, OfNoBytes, asked_by, GroupState, run}
+use Rattle.cb_schedules.specs.Schedule.{Setting, IsSetting, seat_at, Asked, Calls, OfNoMember, OfNoFrame, OfNoBytes, asked_by, GroupState, run, IsSettingOfHistories, SentFrame}
 use Rattle.cb_schedules.specs.Honest.{IsReported}
 use Rattle.cb_schedules.specs.SentLaws.{SentCastsAreOwn, OneNameSameBytes, SentStatusesAreSo, NobodyAsksItself, HelpersAreThird}
 use Rattle.cb_schedules.specs.Headline.{EachSchedule, IsCausalBroadcast, Headline}
 use Rattle.cb_schedules.specs.StepLaws.{FramesGoOn}
-use Rattle.cb_schedules.specs.Restarts.{WaitingFrame, EnteredCall, JournaledState, nothing_journaled, JournaledStep, EnterStep, WriteStep, SendStep, HandOutStep, RestartStep, WriteFirst, after_entering, and_sent, and_handed, journaled_step, journaled_from, journaled_run, without_dropped, seen_of}
-use Rattle.cb_schedules.specs.RestartLaws.{EachJournaledRun, OfTheRest, AsksForWhatWasEntered, HasItsHistories, SentItsFrames, HandedOutItsEvents, NothingIsTakenBack, StepsTakeNothingBack}
+use Rattle.cb_schedules.specs.Restarts.{WaitingFrame, EnteredCall, JournaledState, nothing_journaled, JournaledStep, EnterStep, WriteStep, SendStep, HandOutStep, RestartStep, WriteFirst, after_entering, and_sent, and_handed, journaled_step, journaled_from, journaled_run, without_dropped, seen_of, written_entries, entered_call, is_kept, steps_for, with_own}
+use Rattle.cb_schedules.specs.RestartLaws.{EachJournaledRun, OfTheRest, AsksForWhatWasEntered, HasItsHistories, SentItsFrames, HandedOutItsEvents, NothingIsTakenBack, StepsTakeNothingBack, TakesWhatWasSent, ArrivalsWereSent, written_events, WhatIsWrittenIsHandedOut, WhatIsWrittenIsLegal, CoresRunWhatIsLeft}
 use Rattle.cb_schedules.proofs.Headlines.{each_schedule, headline_holds, sent_casts_are_own, one_name_same_bytes, sent_statuses_are_so, nobody_asks_itself, helpers_are_third}
-use Rattle.cb_schedules.proofs.Lists.{index_of, in_by_index, in_flat}
+use Rattle.cb_schedules.proofs.Lists.{index_of, in_by_index, in_flat, all_from}
 use Rattle.cb_schedules.proofs.Entered.{IsBehind, run_is_behind}
-use Rattle.cb_schedules.proofs.Journaled.{of_each, IsJournaled, shows_more, cuts_go_on, front_stays, now_written, writes, run_holds}
+use Rattle.cb_schedules.proofs.Journaled.{of_each, IsJournaled, shows_more, cuts_go_on, front_stays, now_written, writes, run_holds, TakesOneOf}
+use Rattle.cb_schedules.proofs.Within.{histories_are_legal}
+use Rattle.cb_schedules.proofs.Forgetting.{cores_run_as_members}
+use Rattle.cb_history.proofs.Prefixes.{prefix_is_legal}
 
 -- what is so behind all steps
 pub each_run : (P : Setting → JournaledState → Type 0) → ((setting : Setting) → IsSetting setting → (r : JournaledState) → IsJournaled setting r → P setting r) → EachJournaledRun P
@@ -41,6 +44,15 @@ module _ (setting : Setting) (is : IsSetting setting) (r : JournaledState) (h : 
 
   pub asks_for_what_was_entered : AsksForWhatWasEntered setting r
   asks_for_what_was_entered = behind.asked
+
+  takes_what_was_sent : (call : Call) → TakesOneOf r.sent call → TakesWhatWasSent r call
+  takes_what_was_sent (ToCast load) takes = tt
+  takes_what_was_sent (ToTake bytes) takes = (takes.0, index_of r.sent takes.0 takes.1, takes.2)
+  takes_what_was_sent ToTick takes = tt
+  takes_what_was_sent (ToHelp k) takes = tt
+
+  pub arrivals_were_sent : ArrivalsWereSent setting r
+  arrivals_were_sent = all_from (λ (x : EnteredCall). TakesWhatWasSent r x.call) r.entered (λ x there. takes_what_was_sent x.call (h.arrivals x there))
 
   pub has_its_histories : HasItsHistories setting r
   has_its_histories k = h.memory k ∙ sym (behind.histories k)
@@ -90,11 +102,15 @@ module _ (setting : Setting) (is : IsSetting setting) (r : JournaledState) (h : 
 
 -- ---- step by step
 
-from_joins : (setting : Setting) (r : JournaledState) (steps : List JournaledStep) (step : JournaledStep)
-    → journaled_from WriteFirst setting r (steps ++ step ∷ []) ≡ journaled_step WriteFirst setting (journaled_from WriteFirst setting r steps) step
+from_joins : (setting : Setting) (r : JournaledState) (steps more : List JournaledStep)
+    → journaled_from WriteFirst setting r (steps ++ more) ≡ journaled_from WriteFirst setting (journaled_from WriteFirst setting r steps) more
 unfolding journaled_from
-from_joins setting r [] step = refl
-from_joins setting r (first ∷ steps) step = from_joins setting (journaled_step WriteFirst setting r first) steps step
+from_joins setting r [] more = refl
+from_joins setting r (step ∷ steps) more = from_joins setting (journaled_step WriteFirst setting r step) steps more
+
+one_step : (setting : Setting) (r : JournaledState) (step : JournaledStep) → journaled_from WriteFirst setting r (step ∷ []) ≡ journaled_step WriteFirst setting r step
+unfolding journaled_from
+one_step setting r step = refl
 
 module _ (setting : Setting) (is : IsSetting setting) (r : JournaledState) (h : IsJournaled setting r) where
   frames_stay : FramesGoOn r.sent r.sent
@@ -163,4 +179,89 @@ module _ (setting : Setting) (is : IsSetting setting) (r : JournaledState) (h : 
 pub steps_take_nothing_back : StepsTakeNothingBack
 steps_take_nothing_back setting steps step is =
     let r = journaled_run WriteFirst setting steps in
-    subst (NothingIsTakenBack r) (sym (from_joins setting nothing_journaled steps step)) (nothing_is_taken setting is r (run_holds setting steps is) step)
+    subst (NothingIsTakenBack r) (sym (from_joins setting nothing_journaled steps (step ∷ []) ∙ one_step setting r step)) (nothing_is_taken setting is r (run_holds setting steps is) step)
+
+-- ---- handing out what is written
+
+at_seam : (front back : List Event) (e : Event) → slice_get (front ++ e ∷ back) (length front) ≡ Some e
+at_seam [] back e = refl
+at_seam (x ∷ front) back e = at_seam front back e
+
+-- as many steps as events are lacking
+hands_out : (setting : Setting) (k : ℕ) (lacking : List Event) (r : JournaledState) → written_events setting r k ≡ r.handed k ++ lacking
+    → (journaled_from WriteFirst setting r (map (λ (e : Event). HandOutStep k) lacking)).handed k ≡ written_events setting r k
+unfolding journaled_from journaled_step
+hands_out setting k [] r is = sym (is ∙ append-nil (r.handed k))
+hands_out setting k (e ∷ lacking) r is =
+    let handed = with_own r.handed k (r.handed k ++ e ∷ []) in
+    let has : handed k ≡ r.handed k ++ e ∷ [] = cond-true (eqb k k) (r.handed k ++ e ∷ []) (r.handed k) (eq-eqb k k refl) in
+    let next : slice_get (written_events setting r k) (length (r.handed k)) ≡ Some e = ap (λ (es : List Event). slice_get es (length (r.handed k))) is ∙ at_seam (r.handed k) lacking e in
+    subst (λ (o : Option Event). (journaled_from WriteFirst setting (and_handed r k o) (map (λ (x : Event). HandOutStep k) lacking)).handed k ≡ written_events setting r k) (sym next)
+    (hands_out setting k lacking (record r { handed = handed })
+    (is ∙ sym (append_assoc (r.handed k) (e ∷ []) lacking) ∙ ap (λ (es : List Event). es ++ lacking) (sym has)))
+
+pub what_is_written_is_handed_out : WhatIsWrittenIsHandedOut
+what_is_written_is_handed_out setting steps is k =
+    let r = journaled_run WriteFirst setting steps in
+    let tells = (run_holds setting steps is).handed k in
+    (tells.0, tells.1, ap (λ (s : JournaledState). s.handed k) (from_joins setting nothing_journaled steps (map (λ (e : Event). HandOutStep k) tells.0)) ∙ hands_out setting k tells.0 r tells.1)
+
+-- ---- resuming
+
+pub what_is_written_is_legal : WhatIsWrittenIsLegal
+what_is_written_is_legal setting steps k is lt =
+    let r = journaled_run WriteFirst setting steps in
+    let seat = seat_at setting k in
+    let whole : IsLegal seat (r.histories k) =
+    subst (IsLegal seat) (sym (has_its_histories setting is.is_setting r (run_holds setting steps is.is_setting) k)) (histories_are_legal setting (without_dropped r) k is lt) in
+    prefix_is_legal seat (written_entries r k) (drop (r.written k) (r.histories k)) (subst (IsLegal seat) (sym (take-append-drop (r.written k) (r.histories k))) whole)
+
+-- ---- without histories
+
+filter_few : {A : Type 0} (p : A → Bool) (xs : List A) → length (filter p xs) ≤ length xs
+filter_few p [] = omega arith
+filter_few {A} p (x ∷ xs) = cond_both (p x) (x ∷ filter p xs) (filter p xs) (λ (ys : List A). length ys ≤ length (x ∷ xs)) (λ _. let few = filter_few p xs in omega (arith, few)) (λ _. let few = filter_few p xs in omega (arith, few))
+
+abbrev AreFew : JournaledState → JournaledState → Type 0
+AreFew r s = length s.entered ≤ length r.entered + 1
+
+entering_few : (setting : Setting) (r : JournaledState) (asked : Asked) → AreFew r (after_entering setting r asked)
+entering_few setting r (Calls i call) = omega (arith, length-append r.entered (entered_call setting i (r.histories i) call ∷ []))
+entering_few setting r OfNoMember = omega arith
+entering_few setting r OfNoFrame = omega arith
+entering_few setting r OfNoBytes = omega arith
+
+sending_few : (r : JournaledState) (j n : ℕ) (o : Option WaitingFrame) → AreFew r (and_sent WriteFirst r j n o)
+sending_few r j n None = omega arith
+sending_few r j n (Some w) = cond_both (leb w.behind (r.written j)) _ r (AreFew r) (λ _. omega arith) (λ _. omega arith)
+
+handing_few : (r : JournaledState) (j : ℕ) (o : Option Event) → AreFew r (and_handed r j o)
+handing_few r j None = omega arith
+handing_few r j (Some e) = omega arith
+
+step_few : (setting : Setting) (r : JournaledState) (step : JournaledStep) → AreFew r (journaled_step WriteFirst setting r step)
+unfolding journaled_step
+step_few setting r (EnterStep step) = entering_few setting r (asked_by setting r.sent step)
+step_few setting r (WriteStep j) = omega arith
+step_few setting r (SendStep j n) = sending_few r j n (slice_get (r.waiting j) n)
+step_few setting r (HandOutStep j) = handing_few r j (slice_get (events (seat_at setting j) (facts_of (written_entries r j))) (length (r.handed j)))
+step_few setting r (RestartStep j) = let few = filter_few (is_kept r j) r.entered in omega (arith, few)
+
+from_few : (setting : Setting) (r : JournaledState) (steps : List JournaledStep) → length (journaled_from WriteFirst setting r steps).entered ≤ length r.entered + length steps
+unfolding journaled_from
+from_few setting r [] = omega arith
+from_few setting r (step ∷ steps) =
+    let one = step_few setting r step in
+    let rest = from_few setting (journaled_step WriteFirst setting r step) steps in
+    omega (arith, one, rest)
+
+as_many_steps : (frames : List SentFrame) (calls : List EnteredCall) → length (steps_for frames calls) ≡ length calls
+as_many_steps frames [] = refl
+as_many_steps frames (x ∷ calls) = let rest = as_many_steps (frames ++ x.out) calls in omega (arith, rest)
+
+pub cores_run_what_is_left : CoresRunWhatIsLeft
+cores_run_what_is_left setting steps room =
+    let r = journaled_run WriteFirst setting steps in
+    let few = from_few setting nothing_journaled steps in
+    let many = as_many_steps [] r.entered in
+    cores_run_as_members setting (without_dropped r) (omega (arith, few, many, room))

@@ -13,7 +13,7 @@ use Rattle.cb_history.specs.Answers.{cast_answer, arrive_answer, tick_answer}
 use Rattle.cb_schedules.specs.Schedule.{Setting, IsSetting, CastStep, ArriveStep, TickStep, SentFrame, step_after, run_from, run}
 use Rattle.cb_schedules.specs.Messages.{stamped_lists}
 use Rattle.cb_schedules.specs.SentLaws.{HoldsNumber}
-use Rattle.cb_schedules.specs.Restarts.{JournaledStep, EnterStep, WriteStep, SendStep, HandOutStep, RestartStep, WriteFirst, SendFirst, journaled_step, journaled_from, journaled_run, without_dropped}
+use Rattle.cb_schedules.specs.Restarts.{JournaledStep, EnterStep, WriteStep, SendStep, HandOutStep, RestartStep, WriteFirst, WriteLater, journaled_step, journaled_from, journaled_run, without_dropped}
 use Rattle.cb_schedules.specs.RestartLaws.{SendingFirstUsesANameTwice, HandingOutFirstIsTakenBack}
 
 -- group 7 of two members with a window of 4, and room for 100 entries in each history
@@ -127,7 +127,7 @@ frame_of byte = record { from = 0; to = None; bytes = 17 ∷ 7 ∷ 0 ∷ 1 ∷ 0
 abbrev cast_of : ℕ → CastFields
 cast_of byte = record { group = 7; sender = 0; number = 1; changes = []; load = One (byte ∷ []) }
 
-two_messages_of_one_name : (journaled_run SendFirst two sent_too_early).sent ≡ frame_of 97 ∷ frame_of 98 ∷ []
+two_messages_of_one_name : (journaled_run WriteLater two sent_too_early).sent ≡ frame_of 97 ∷ frame_of 98 ∷ []
 unfolding journaled_step journaled_from cast_answer arrive_answer tick_answer view drained frame_at head_at cast_at status_at request_at pairs_at pair_at number_at text_of spelling messages_of first_number last_number
 two_messages_of_one_name = refl
 
@@ -167,11 +167,11 @@ sending_first_uses_a_name_twice = (
 abbrev handed_too_early : List JournaledStep
 handed_too_early = EnterStep (CastStep 0 (One (97 ∷ []))) ∷ HandOutStep 0 ∷ RestartStep 0 ∷ []
 
-one_was_handed_out : length ((journaled_run SendFirst two handed_too_early).handed 0) ≡ 1
+one_was_handed_out : length ((journaled_run WriteLater two handed_too_early).handed 0) ≡ 1
 unfolding journaled_step journaled_from cast_answer arrive_answer tick_answer view drained frame_at head_at cast_at status_at request_at pairs_at pair_at number_at text_of spelling messages_of first_number last_number
 one_was_handed_out = refl
 
-none_is_left : stamped_lists two (run two (without_dropped (journaled_run SendFirst two handed_too_early))) 0 ≡ []
+none_is_left : stamped_lists two (run two (without_dropped (journaled_run WriteLater two handed_too_early))) 0 ≡ []
 unfolding journaled_step journaled_from step_after run_from cast_answer arrive_answer tick_answer view drained frame_at head_at cast_at status_at request_at pairs_at pair_at number_at text_of spelling messages_of first_number last_number
 none_is_left = refl
 
@@ -185,5 +185,5 @@ handing_out_first_is_taken_back = (
   handed_too_early,
   the_setting,
   λ begins.
-      not_a_beginning ((journaled_run SendFirst two handed_too_early).handed 0) (begins 0).0 one_was_handed_out (sym none_is_left ∙ (begins 0).1),
+      not_a_beginning ((journaled_run WriteLater two handed_too_early).handed 0) (begins 0).0 one_was_handed_out (sym none_is_left ∙ (begins 0).1),
 )

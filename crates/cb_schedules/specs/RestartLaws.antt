@@ -1,12 +1,16 @@
 -- Where entries are written first, a run with restarts is a run of the schedule without the steps that were dropped.
-use Rattle.std.specs.Prelude.{◌≡◌, ℕ, List, [], ◌∷◌, ◌++◌, take, map}
+use Rattle.std.specs.Prelude.{◌≡◌, ℕ, ◌<◌, ◌≤◌, List, [], ◌∷◌, ◌++◌, length, map}
+use Rattle.std.specs.List.{AllByRecursion}
 use Rattle.cb_delay.specs.declared.message.Event.{Event}
-use Rattle.cb_history.specs.Facts.{EntryFields}
-use Rattle.cb_schedules.specs.Schedule.{Setting, IsSetting, SentFrame, Calls, GroupState, run}
+use Rattle.cb_history.specs.Facts.{EntryFields, facts_of}
+use Rattle.cb_history.specs.Events.{events}
+use Rattle.cb_history.specs.Legal.{Call, ToCast, ToTake, ToTick, ToHelp, IsLegal}
+use Rattle.cb_schedules.specs.Schedule.{Setting, IsSetting, IsSettingOfHistories, seat_at, SentFrame, Calls, GroupState, run}
 use Rattle.cb_schedules.specs.Messages.{stamped_lists}
 use Rattle.cb_schedules.specs.SentLaws.{WasSent, OneNameSameBytes}
 use Rattle.cb_schedules.specs.StepLaws.{FramesGoOn}
-use Rattle.cb_schedules.specs.Restarts.{JournaledState, JournaledStep, WriteFirst, SendFirst, journaled_run, without_dropped, seen_of}
+use Rattle.cb_schedules.specs.Forgetting.{run_of_cores}
+use Rattle.cb_schedules.specs.Restarts.{JournaledState, JournaledStep, HandOutStep, WriteFirst, WriteLater, journaled_run, written_entries, without_dropped, seen_of}
 
 -- it holds after all steps, restarts among them, for every group and every history limit, where entries are written first
 abbrev pub EachJournaledRun : (Setting → JournaledState → Type 0) → Type 0
@@ -28,6 +32,17 @@ abbrev pub AsksForWhatWasEntered : Setting → JournaledState → Type 0
 AsksForWhatWasEntered setting r =
     map (λ outcome. outcome.asked) (run setting (without_dropped r)).outcomes ≡ map (λ x. Calls x.member x.call) r.entered
 
+-- what a call takes was sent
+abbrev pub TakesWhatWasSent : JournaledState → Call → Type 0
+TakesWhatWasSent r (ToCast load) = Unit {0}
+TakesWhatWasSent r (ToTake bytes) = (frame : SentFrame) × WasSent (seen_of r) frame × (frame.bytes ≡ bytes)
+TakesWhatWasSent r ToTick = Unit {0}
+TakesWhatWasSent r (ToHelp k) = Unit {0}
+
+-- and so nothing arrives in it but what was sent
+abbrev pub ArrivalsWereSent : Setting → JournaledState → Type 0
+ArrivalsWereSent setting r = AllByRecursion (λ x. TakesWhatWasSent r x.call) r.entered
+
 -- the histories of its run are those that the members have
 abbrev pub HasItsHistories : Setting → JournaledState → Type 0
 HasItsHistories setting r = (k : ℕ) → r.histories k ≡ (run setting (without_dropped r)).histories k
@@ -48,13 +63,42 @@ HandedOutItsEvents setting r =
 pub record NothingIsTakenBack (before after : JournaledState) : Type 0 where
   pub frames : FramesGoOn before.sent after.sent
   pub handed : (k : ℕ) → (more : List Event) × (after.handed k ≡ before.handed k ++ more)
-  pub written : (k : ℕ) → (more : List EntryFields)
-      × (take (after.written k) (after.histories k) ≡ take (before.written k) (before.histories k) ++ more)
+  pub written : (k : ℕ) → (more : List EntryFields) × (written_entries after k ≡ written_entries before k ++ more)
 
 abbrev pub StepsTakeNothingBack : Type 0
 StepsTakeNothingBack =
     (setting : Setting) (steps : List JournaledStep) (step : JournaledStep) → IsSetting setting
     → NothingIsTakenBack (journaled_run WriteFirst setting steps) (journaled_run WriteFirst setting (steps ++ step ∷ []))
+
+-- the events of what a member has written
+abbrev pub written_events : Setting → JournaledState → ℕ → List Event
+written_events setting r k = events (seat_at setting k) (facts_of (written_entries r k))
+
+-- What is written and was not handed out is handed out by as many steps, in its order.
+abbrev pub HandsOutWhatIsWritten : Setting → List JournaledStep → JournaledState → Type 0
+HandsOutWhatIsWritten setting steps r =
+    (k : ℕ) → (lacking : List Event) × (written_events setting r k ≡ r.handed k ++ lacking)
+    × ((journaled_run WriteFirst setting (steps ++ map (λ event. HandOutStep k) lacking)).handed k ≡ written_events setting r k)
+
+abbrev pub WhatIsWrittenIsHandedOut : Type 0
+WhatIsWrittenIsHandedOut =
+    (setting : Setting) (steps : List JournaledStep) → IsSetting setting
+    → HandsOutWhatIsWritten setting steps (journaled_run WriteFirst setting steps)
+
+-- what a member has written is a legal history, at each moment
+abbrev pub WhatIsWrittenIsLegal : Type 0
+WhatIsWrittenIsLegal =
+    (setting : Setting) (steps : List JournaledStep) (k : ℕ) → IsSettingOfHistories setting → k < setting.group.size
+    → IsLegal (seat_at setting k) (written_entries (journaled_run WriteFirst setting steps) k)
+
+-- ---- without histories
+
+-- with a limit that leaves an entry for each step, cores run what is left as members do
+abbrev pub CoresRunWhatIsLeft : Type 0
+CoresRunWhatIsLeft =
+    (setting : Setting) (steps : List JournaledStep) → length steps ≤ setting.limit
+    → run_of_cores setting.group (without_dropped (journaled_run WriteFirst setting steps))
+    ≡ run setting (without_dropped (journaled_run WriteFirst setting steps))
 
 -- ---- the other order
 
@@ -62,10 +106,10 @@ StepsTakeNothingBack =
 abbrev pub SendingFirstUsesANameTwice : Type 0
 SendingFirstUsesANameTwice =
     (setting : Setting) × (steps : List JournaledStep) × IsSetting setting
-    × (OneNameSameBytes setting (seen_of (journaled_run SendFirst setting steps)) → ⊥)
+    × (OneNameSameBytes setting (seen_of (journaled_run WriteLater setting steps)) → ⊥)
 
 -- and where events may be handed out before they are written, some caller was handed what its member never had
 abbrev pub HandingOutFirstIsTakenBack : Type 0
 HandingOutFirstIsTakenBack =
     (setting : Setting) × (steps : List JournaledStep) × IsSetting setting
-    × (HandedOutItsEvents setting (journaled_run SendFirst setting steps) → ⊥)
+    × (HandedOutItsEvents setting (journaled_run WriteLater setting steps) → ⊥)

@@ -51,10 +51,10 @@ pub data JournaledStep : Type 0 where
   HandOutStep : ℕ → JournaledStep
   RestartStep : ℕ → JournaledStep
 
--- Which comes first: an entry is written, and then its frames are sent and its events handed out; or these may go before it is written.
+-- What comes first: an entry is written, and only then its frames are sent and its events handed out; or these need not wait for it.
 pub data JournalOrder : Type 0 where
   WriteFirst : JournalOrder
-  SendFirst : JournalOrder
+  WriteLater : JournalOrder
 
 -- ---- entering
 
@@ -95,7 +95,7 @@ after_writing r j = record r {
 -- what waits behind so many entries may go, where this many are written
 abbrev pub may_go : JournalOrder → ℕ → ℕ → Bool
 may_go WriteFirst behind written = nat_le behind written
-may_go SendFirst behind written = true
+may_go WriteLater behind written = true
 
 abbrev pub and_sent : JournalOrder → JournaledState → ℕ → ℕ → Option WaitingFrame → JournaledState
 and_sent order r j n None = r
@@ -107,10 +107,14 @@ and_sent order r j n (Some w) =
     }
     else r
 
--- the entries whose events may be handed out
+-- the entries of member j that are written
+abbrev pub written_entries : JournaledState → ℕ → List EntryFields
+written_entries r j = take (r.written j) (r.histories j)
+
+-- those whose events may be handed out
 abbrev pub entries_to_show : JournalOrder → JournaledState → ℕ → List EntryFields
-entries_to_show WriteFirst r j = take (r.written j) (r.histories j)
-entries_to_show SendFirst r j = r.histories j
+entries_to_show WriteFirst r j = written_entries r j
+entries_to_show WriteLater r j = r.histories j
 
 abbrev pub and_handed : JournaledState → ℕ → Option Event → JournaledState
 and_handed r j None = r
@@ -130,7 +134,7 @@ is_kept r j x = not (x.member == j) || nat_le x.place (r.written j)
 -- Memory is lost, the waiting frames too. What was sent and handed out has gone.
 abbrev pub after_restart : JournaledState → ℕ → JournaledState
 after_restart r j = record r {
-  histories = with_own r.histories j (take (r.written j) (r.histories j));
+  histories = with_own r.histories j (written_entries r j);
   waiting = with_own r.waiting j [];
   entered = filter (is_kept r j) r.entered;
 }

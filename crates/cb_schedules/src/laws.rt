@@ -30,8 +30,9 @@ pub use knowledge::{
     what_is_stable_of_any_sender_is_delivered_everywhere,
 };
 pub use restarts::{
-    causal_broadcast_with_restarts, frames_outlive_restarts, nothing_is_taken_back,
-    restarts_leave_a_schedule, sending_first_is_wrong,
+    causal_broadcast_with_restarts, cores_come_back_as_members_do, frames_outlive_restarts,
+    nothing_is_taken_back, restarts_leave_a_schedule, sending_first_is_wrong,
+    what_is_written_can_be_resumed,
 };
 pub use rounds::{
     a_few_rounds_repair_whatever_was_lost, a_round_is_a_tick_of_each_and_its_arrivals,

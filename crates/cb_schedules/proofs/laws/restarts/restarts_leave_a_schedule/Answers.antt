@@ -1,9 +1,12 @@
-use Rattle.cb_schedules.specs.RestartLaws.{AsksForWhatWasEntered, HasItsHistories, SentItsFrames, HandedOutItsEvents}
-use Rattle.cb_schedules.proofs.RestartLaws.{each_run, asks_for_what_was_entered, has_its_histories, sent_its_frames, handed_out_its_events}
+use Rattle.cb_schedules.specs.RestartLaws.{AsksForWhatWasEntered, ArrivalsWereSent, HasItsHistories, SentItsFrames, HandedOutItsEvents}
+use Rattle.cb_schedules.proofs.RestartLaws.{each_run, asks_for_what_was_entered, arrivals_were_sent, has_its_histories, sent_its_frames, handed_out_its_events}
 use Rattle.cb_schedules.proofs.laws.restarts.restarts_leave_a_schedule.Goals as goal
 
 pub returns-clause-calls : goal.returns-clause-calls
 returns-clause-calls c = each_run AsksForWhatWasEntered asks_for_what_was_entered
+
+pub returns-clause-arrivals : goal.returns-clause-arrivals
+returns-clause-arrivals c = each_run ArrivalsWereSent arrivals_were_sent
 
 pub returns-clause-histories : goal.returns-clause-histories
 returns-clause-histories c = each_run HasItsHistories has_its_histories
