@@ -107,7 +107,7 @@ module _ (seat : Identity) (limit : ℕ) (entries : List EntryFields) where
       tick_free new out (is_full limit entries) free ∙ sym (ap (a_tick new out) (room_left entries))
 
   -- and so is the entry that it adds
-  call_same : (call : Call) → IsNotFull (answer_of seat limit entries call) → (answer_of seat limit entries call ≡ answer_of seat room entries call) × (entry_of seat limit entries call ≡ entry_of seat room entries call)
+  pub call_same : (call : Call) → IsNotFull (answer_of seat limit entries call) → (answer_of seat limit entries call ≡ answer_of seat room entries call) × (entry_of seat limit entries call ≡ entry_of seat room entries call)
   call_same (ToCast load) free = let same = cast_same load free in (ap CastAnswer same, ap cast_entry same)
   call_same (ToTake bytes) free = let same = arrive_same bytes free in (ap ArrivalAnswer same, ap (arrive_entry bytes) same)
   call_same ToTick free = let same = tick_same free in (ap TickAnswer same, ap (tick_entry (text_of (StatusFrame (status_of seat (facts_of entries))))) same)

@@ -16,7 +16,7 @@ use Rattle.cb_schedules.specs.SentLaws.{SentCastsAreOwn, OneNameSameBytes, SentS
 use Rattle.cb_schedules.specs.Headline.{EachSchedule, IsCausalBroadcast, Headline}
 use Rattle.cb_schedules.specs.StepLaws.{FramesGoOn}
 use Rattle.cb_schedules.specs.Restarts.{WaitingFrame, EnteredCall, JournaledState, nothing_journaled, JournaledStep, EnterStep, WriteStep, SendStep, HandOutStep, RestartStep, WriteFirst, after_entering, and_sent, and_handed, journaled_step, journaled_from, journaled_run, without_dropped, seen_of, written_entries, entered_call, is_kept, steps_for, with_own}
-use Rattle.cb_schedules.specs.RestartLaws.{EachJournaledRun, OfTheRest, AsksForWhatWasEntered, HasItsHistories, SentItsFrames, HandedOutItsEvents, NothingIsTakenBack, StepsTakeNothingBack, TakesWhatWasSent, ArrivalsWereSent, written_events, WhatIsWrittenIsHandedOut, WhatIsWrittenIsLegal, CoresRunWhatIsLeft}
+use Rattle.cb_schedules.specs.RestartLaws.{EachJournaledRun, BesideWhatIsLeft, OfWhatIsLeft, AsksForWhatWasEntered, HasItsHistories, SentItsFrames, HandedOutItsEvents, NothingIsTakenBack, StepsTakeNothingBack, TakesWhatWasSent, ArrivalsWereSent, written_events, WhatIsWrittenIsHandedOut, WhatIsWrittenIsLegal}
 use Rattle.cb_schedules.proofs.Headlines.{each_schedule, headline_holds, sent_casts_are_own, one_name_same_bytes, sent_statuses_are_so, nobody_asks_itself, helpers_are_third}
 use Rattle.cb_schedules.proofs.Lists.{index_of, in_by_index, in_flat, all_from}
 use Rattle.cb_schedules.proofs.Entered.{IsBehind, run_is_behind}
@@ -30,8 +30,8 @@ pub each_run : (P : Setting → JournaledState → Type 0) → ((setting : Setti
 each_run P holds setting steps is = holds setting is (journaled_run WriteFirst setting steps) (run_holds setting steps is)
 
 -- what is so of each schedule is so of what is left
-pub of_the_rest : (P : Setting → GroupState → Type 0) → EachSchedule P → EachJournaledRun (OfTheRest P)
-of_the_rest P each setting steps is = each setting (without_dropped (journaled_run WriteFirst setting steps)) is
+pub of_what_is_left : (P : Setting → GroupState → Type 0) → EachSchedule P → EachJournaledRun (OfWhatIsLeft P)
+of_what_is_left P each setting steps is = each setting (without_dropped (journaled_run WriteFirst setting steps)) is
 
 -- ---- what is left is a schedule
 
@@ -42,7 +42,7 @@ module _ (setting : Setting) (is : IsSetting setting) (r : JournaledState) (h : 
   behind : IsBehind setting r.entered rest
   behind = run_is_behind setting r.written r.entered h.entered
 
-  pub asks_for_what_was_entered : AsksForWhatWasEntered setting r
+  pub asks_for_what_was_entered : BesideWhatIsLeft AsksForWhatWasEntered setting r
   asks_for_what_was_entered = behind.asked
 
   takes_what_was_sent : (call : Call) → TakesOneOf r.sent call → TakesWhatWasSent r call
@@ -51,18 +51,18 @@ module _ (setting : Setting) (is : IsSetting setting) (r : JournaledState) (h : 
   takes_what_was_sent ToTick takes = tt
   takes_what_was_sent (ToHelp k) takes = tt
 
-  pub arrivals_were_sent : ArrivalsWereSent setting r
+  pub arrivals_were_sent : BesideWhatIsLeft ArrivalsWereSent setting r
   arrivals_were_sent = all_from (λ (x : EnteredCall). TakesWhatWasSent r x.call) r.entered (λ x there. takes_what_was_sent x.call (h.arrivals x there))
 
-  pub has_its_histories : HasItsHistories setting r
+  pub has_its_histories : BesideWhatIsLeft HasItsHistories setting r
   has_its_histories k = h.memory k ∙ sym (behind.histories k)
 
-  pub sent_its_frames : SentItsFrames setting r
+  pub sent_its_frames : BesideWhatIsLeft SentItsFrames setting r
   sent_its_frames frame sent =
       let put = h.sent frame (in_by_index r.sent sent.0 frame sent.1) in
       index_of rest.sent frame (subst (IsIn frame) (sym behind.sent) (in_flat (λ (x : EnteredCall). x.out) r.entered put.call frame put.there put.out))
 
-  pub handed_out_its_events : HandedOutItsEvents setting r
+  pub handed_out_its_events : BesideWhatIsLeft HandedOutItsEvents setting r
   handed_out_its_events k =
       let old = h.handed k in
       let entries = r.histories k in
@@ -200,11 +200,17 @@ hands_out setting k (e ∷ lacking) r is =
     (hands_out setting k lacking (record r { handed = handed })
     (is ∙ sym (append_assoc (r.handed k) (e ∷ []) lacking) ∙ ap (λ (es : List Event). es ++ lacking) (sym has)))
 
+-- so behind other steps
+pub hands_out_behind : (setting : Setting) (steps : List JournaledStep) (k : ℕ) (lacking : List Event) → written_events setting (journaled_run WriteFirst setting steps) k ≡ (journaled_run WriteFirst setting steps).handed k ++ lacking
+    → (journaled_run WriteFirst setting (steps ++ map (λ (e : Event). HandOutStep k) lacking)).handed k ≡ written_events setting (journaled_run WriteFirst setting steps) k
+hands_out_behind setting steps k lacking is =
+    ap (λ (s : JournaledState). s.handed k) (from_joins setting nothing_journaled steps (map (λ (e : Event). HandOutStep k) lacking))
+    ∙ hands_out setting k lacking (journaled_run WriteFirst setting steps) is
+
 pub what_is_written_is_handed_out : WhatIsWrittenIsHandedOut
 what_is_written_is_handed_out setting steps is k =
-    let r = journaled_run WriteFirst setting steps in
     let tells = (run_holds setting steps is).handed k in
-    (tells.0, tells.1, ap (λ (s : JournaledState). s.handed k) (from_joins setting nothing_journaled steps (map (λ (e : Event). HandOutStep k) tells.0)) ∙ hands_out setting k tells.0 r tells.1)
+    (tells.0, tells.1, hands_out_behind setting steps k tells.0 tells.1)
 
 -- ---- resuming
 
@@ -215,53 +221,3 @@ what_is_written_is_legal setting steps k is lt =
     let whole : IsLegal seat (r.histories k) =
     subst (IsLegal seat) (sym (has_its_histories setting is.is_setting r (run_holds setting steps is.is_setting) k)) (histories_are_legal setting (without_dropped r) k is lt) in
     prefix_is_legal seat (written_entries r k) (drop (r.written k) (r.histories k)) (subst (IsLegal seat) (sym (take-append-drop (r.written k) (r.histories k))) whole)
-
--- ---- without histories
-
-filter_few : {A : Type 0} (p : A → Bool) (xs : List A) → length (filter p xs) ≤ length xs
-filter_few p [] = omega arith
-filter_few {A} p (x ∷ xs) = cond_both (p x) (x ∷ filter p xs) (filter p xs) (λ (ys : List A). length ys ≤ length (x ∷ xs)) (λ _. let few = filter_few p xs in omega (arith, few)) (λ _. let few = filter_few p xs in omega (arith, few))
-
-abbrev AreFew : JournaledState → JournaledState → Type 0
-AreFew r s = length s.entered ≤ length r.entered + 1
-
-entering_few : (setting : Setting) (r : JournaledState) (asked : Asked) → AreFew r (after_entering setting r asked)
-entering_few setting r (Calls i call) = omega (arith, length-append r.entered (entered_call setting i (r.histories i) call ∷ []))
-entering_few setting r OfNoMember = omega arith
-entering_few setting r OfNoFrame = omega arith
-entering_few setting r OfNoBytes = omega arith
-
-sending_few : (r : JournaledState) (j n : ℕ) (o : Option WaitingFrame) → AreFew r (and_sent WriteFirst r j n o)
-sending_few r j n None = omega arith
-sending_few r j n (Some w) = cond_both (leb w.behind (r.written j)) _ r (AreFew r) (λ _. omega arith) (λ _. omega arith)
-
-handing_few : (r : JournaledState) (j : ℕ) (o : Option Event) → AreFew r (and_handed r j o)
-handing_few r j None = omega arith
-handing_few r j (Some e) = omega arith
-
-step_few : (setting : Setting) (r : JournaledState) (step : JournaledStep) → AreFew r (journaled_step WriteFirst setting r step)
-unfolding journaled_step
-step_few setting r (EnterStep step) = entering_few setting r (asked_by setting r.sent step)
-step_few setting r (WriteStep j) = omega arith
-step_few setting r (SendStep j n) = sending_few r j n (slice_get (r.waiting j) n)
-step_few setting r (HandOutStep j) = handing_few r j (slice_get (events (seat_at setting j) (facts_of (written_entries r j))) (length (r.handed j)))
-step_few setting r (RestartStep j) = let few = filter_few (is_kept r j) r.entered in omega (arith, few)
-
-from_few : (setting : Setting) (r : JournaledState) (steps : List JournaledStep) → length (journaled_from WriteFirst setting r steps).entered ≤ length r.entered + length steps
-unfolding journaled_from
-from_few setting r [] = omega arith
-from_few setting r (step ∷ steps) =
-    let one = step_few setting r step in
-    let rest = from_few setting (journaled_step WriteFirst setting r step) steps in
-    omega (arith, one, rest)
-
-as_many_steps : (frames : List SentFrame) (calls : List EnteredCall) → length (steps_for frames calls) ≡ length calls
-as_many_steps frames [] = refl
-as_many_steps frames (x ∷ calls) = let rest = as_many_steps (frames ++ x.out) calls in omega (arith, rest)
-
-pub cores_run_what_is_left : CoresRunWhatIsLeft
-cores_run_what_is_left setting steps room =
-    let r = journaled_run WriteFirst setting steps in
-    let few = from_few setting nothing_journaled steps in
-    let many = as_many_steps [] r.entered in
-    cores_run_as_members setting (without_dropped r) (omega (arith, few, many, room))

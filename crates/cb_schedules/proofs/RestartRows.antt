@@ -163,7 +163,27 @@ sending_first_uses_a_name_twice = (
       omega (arith, last),
 )
 
--- Its caller is handed "a" before it is written, and the member comes back without it.
+-- "a" arrives at member 1, which does not write it and ticks twice. Its second status has no entry of its own, and says that "a" is
+-- delivered. Then it ends.
+abbrev status_too_early : List JournaledStep
+status_too_early =
+    EnterStep (CastStep 0 (One (97 ∷ []))) ∷ WriteStep 0 ∷ SendStep 0 0
+    ∷ EnterStep (ArriveStep 1 0) ∷ EnterStep (TickStep 1) ∷ EnterStep (TickStep 1) ∷ SendStep 1 1 ∷ RestartStep 1 ∷ []
+
+it_said_too_much : map (λ f. f.bytes) (journaled_run WriteLater two status_too_early).sent ≡ (17 ∷ 7 ∷ 0 ∷ 1 ∷ 0 ∷ 1 ∷ 97 ∷ []) ∷ (18 ∷ 7 ∷ 1 ∷ 1 ∷ 0 ∷ 1 ∷ []) ∷ []
+unfolding journaled_step journaled_from cast_answer arrive_answer tick_answer view drained frame_at head_at cast_at status_at request_at pairs_at pair_at number_at text_of spelling messages_of first_number last_number
+it_said_too_much = refl
+
+for_it_has_nothing : (journaled_run WriteLater two status_too_early).histories 1 ≡ []
+unfolding journaled_step journaled_from cast_answer arrive_answer tick_answer view drained frame_at head_at cast_at status_at request_at pairs_at pair_at number_at text_of spelling messages_of first_number last_number
+for_it_has_nothing = refl
+
+-- so it has to wait for the entries before it
+it_waits : length (journaled_run WriteFirst two status_too_early).sent ≡ 1
+unfolding journaled_step journaled_from cast_answer arrive_answer tick_answer view drained frame_at head_at cast_at status_at request_at pairs_at pair_at number_at text_of spelling messages_of first_number last_number
+it_waits = refl
+
+-- The caller of member 0 is handed "a" before it is written, and it comes back without it.
 abbrev handed_too_early : List JournaledStep
 handed_too_early = EnterStep (CastStep 0 (One (97 ∷ []))) ∷ HandOutStep 0 ∷ RestartStep 0 ∷ []
 

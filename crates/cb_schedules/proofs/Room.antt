@@ -60,13 +60,13 @@ module _ (seat : Identity) (limit : ℕ) (entries : List EntryFields) (room : le
       cond_both (is_new_status seat (facts_of entries) && is_full limit entries) _ _ (λ (r : Result (Bool × List Outgoing) TickRefusal). IsNotFull (TickAnswer r))
       (λ full. absurd (never_full (and_parts (is_new_status seat (facts_of entries)) (is_full limit entries) full).1)) (λ _. tt)
 
-  call_not_full : (call : Call) → IsNotFull (answer_of seat limit entries call)
+  pub call_not_full : (call : Call) → IsNotFull (answer_of seat limit entries call)
   call_not_full (ToCast load) = cast_not_full load
   call_not_full (ToTake bytes) = arrival_not_full bytes
   call_not_full ToTick = tick_not_full
   call_not_full (ToHelp i) = tt
 
-one_more : (entries : List EntryFields) (o : Option EntryFields) → length (and_entry entries o) ≤ length entries + 1
+pub one_more : (entries : List EntryFields) (o : Option EntryFields) → length (and_entry entries o) ≤ length entries + 1
 one_more entries None = omega arith
 one_more entries (Some e) = grown entries
   where

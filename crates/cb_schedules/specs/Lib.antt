@@ -17,3 +17,4 @@ pub mod ForgettingLaws
 pub mod ForgettingRounds
 pub mod Restarts
 pub mod RestartLaws
+pub mod ForgettingRestarts

@@ -1,5 +1,5 @@
 -- Where entries are written first, a run with restarts is a run of the schedule without the steps that were dropped.
-use Rattle.std.specs.Prelude.{◌≡◌, ℕ, ◌<◌, ◌≤◌, List, [], ◌∷◌, ◌++◌, length, map}
+use Rattle.std.specs.Prelude.{◌≡◌, ℕ, ◌<◌, List, [], ◌∷◌, ◌++◌, map}
 use Rattle.std.specs.List.{AllByRecursion}
 use Rattle.cb_delay.specs.declared.message.Event.{Event}
 use Rattle.cb_history.specs.Facts.{EntryFields, facts_of}
@@ -9,7 +9,6 @@ use Rattle.cb_schedules.specs.Schedule.{Setting, IsSetting, IsSettingOfHistories
 use Rattle.cb_schedules.specs.Messages.{stamped_lists}
 use Rattle.cb_schedules.specs.SentLaws.{WasSent, OneNameSameBytes}
 use Rattle.cb_schedules.specs.StepLaws.{FramesGoOn}
-use Rattle.cb_schedules.specs.Forgetting.{run_of_cores}
 use Rattle.cb_schedules.specs.Restarts.{JournaledState, JournaledStep, HandOutStep, WriteFirst, WriteLater, journaled_run, written_entries, without_dropped, seen_of}
 
 -- it holds after all steps, restarts among them, for every group and every history limit, where entries are written first
@@ -21,16 +20,19 @@ EachJournaledRun P =
 abbrev pub OfWhatIsSeen : (Setting → GroupState → Type 0) → Setting → JournaledState → Type 0
 OfWhatIsSeen P setting r = P setting (seen_of r)
 
--- and so of the run of the schedule without the steps that were dropped
-abbrev pub OfTheRest : (Setting → GroupState → Type 0) → Setting → JournaledState → Type 0
-OfTheRest P setting r = P setting (run setting (without_dropped r))
+-- what is left of it, the run of the schedule without the steps that were dropped, and the state beside it
+abbrev pub BesideWhatIsLeft : (Setting → GroupState → JournaledState → Type 0) → Setting → JournaledState → Type 0
+BesideWhatIsLeft P setting r = P setting (run setting (without_dropped r)) r
 
--- ---- what is left is a schedule
+-- and what is left alone
+abbrev pub OfWhatIsLeft : (Setting → GroupState → Type 0) → Setting → JournaledState → Type 0
+OfWhatIsLeft P setting r = P setting (run setting (without_dropped r))
 
--- each of its steps asks for just the call that was entered
-abbrev pub AsksForWhatWasEntered : Setting → JournaledState → Type 0
-AsksForWhatWasEntered setting r =
-    map (λ outcome. outcome.asked) (run setting (without_dropped r)).outcomes ≡ map (λ x. Calls x.member x.call) r.entered
+-- ---- what is left is a run of a schedule
+
+-- each of its steps asked for just the call that was entered
+abbrev pub AsksForWhatWasEntered : Setting → GroupState → JournaledState → Type 0
+AsksForWhatWasEntered setting s r = map (λ outcome. outcome.asked) s.outcomes ≡ map (λ x. Calls x.member x.call) r.entered
 
 -- what a call takes was sent
 abbrev pub TakesWhatWasSent : JournaledState → Call → Type 0
@@ -39,23 +41,21 @@ TakesWhatWasSent r (ToTake bytes) = (frame : SentFrame) × WasSent (seen_of r) f
 TakesWhatWasSent r ToTick = Unit {0}
 TakesWhatWasSent r (ToHelp k) = Unit {0}
 
--- and so nothing arrives in it but what was sent
-abbrev pub ArrivalsWereSent : Setting → JournaledState → Type 0
-ArrivalsWereSent setting r = AllByRecursion (λ x. TakesWhatWasSent r x.call) r.entered
+-- and so nothing arrived in it but what was sent
+abbrev pub ArrivalsWereSent : Setting → GroupState → JournaledState → Type 0
+ArrivalsWereSent setting s r = AllByRecursion (λ x. TakesWhatWasSent r x.call) r.entered
 
--- the histories of its run are those that the members have
-abbrev pub HasItsHistories : Setting → JournaledState → Type 0
-HasItsHistories setting r = (k : ℕ) → r.histories k ≡ (run setting (without_dropped r)).histories k
+-- its histories are those that the members have
+abbrev pub HasItsHistories : Setting → GroupState → JournaledState → Type 0
+HasItsHistories setting s r = (k : ℕ) → r.histories k ≡ s.histories k
 
--- each frame that was sent, also before a restart, is one of its run
-abbrev pub SentItsFrames : Setting → JournaledState → Type 0
-SentItsFrames setting r =
-    (frame : SentFrame) → WasSent (seen_of r) frame → WasSent (run setting (without_dropped r)) frame
+-- each frame that was sent, also before a restart, is one of its frames
+abbrev pub SentItsFrames : Setting → GroupState → JournaledState → Type 0
+SentItsFrames setting s r = (frame : SentFrame) → WasSent (seen_of r) frame → WasSent s frame
 
 -- what a caller was handed, also before a restart, is the beginning of its member's events
-abbrev pub HandedOutItsEvents : Setting → JournaledState → Type 0
-HandedOutItsEvents setting r =
-    (k : ℕ) → (more : List Event) × (stamped_lists setting (run setting (without_dropped r)) k ≡ r.handed k ++ more)
+abbrev pub HandedOutItsEvents : Setting → GroupState → JournaledState → Type 0
+HandedOutItsEvents setting s r = (k : ℕ) → (more : List Event) × (stamped_lists setting s k ≡ r.handed k ++ more)
 
 -- ---- step by step
 
@@ -74,31 +74,22 @@ StepsTakeNothingBack =
 abbrev pub written_events : Setting → JournaledState → ℕ → List Event
 written_events setting r k = events (seat_at setting k) (facts_of (written_entries r k))
 
--- What is written and was not handed out is handed out by as many steps, in its order.
-abbrev pub HandsOutWhatIsWritten : Setting → List JournaledStep → JournaledState → Type 0
-HandsOutWhatIsWritten setting steps r =
+-- What is written and was not handed out is handed out by as many steps, in its order: these lead from the state before them to `after`.
+abbrev pub HandsOutWhatIsWritten : Setting → JournaledState → (List JournaledStep → JournaledState) → Type 0
+HandsOutWhatIsWritten setting r after =
     (k : ℕ) → (lacking : List Event) × (written_events setting r k ≡ r.handed k ++ lacking)
-    × ((journaled_run WriteFirst setting (steps ++ map (λ event. HandOutStep k) lacking)).handed k ≡ written_events setting r k)
+    × ((after (map (λ event. HandOutStep k) lacking)).handed k ≡ written_events setting r k)
 
 abbrev pub WhatIsWrittenIsHandedOut : Type 0
 WhatIsWrittenIsHandedOut =
     (setting : Setting) (steps : List JournaledStep) → IsSetting setting
-    → HandsOutWhatIsWritten setting steps (journaled_run WriteFirst setting steps)
+    → HandsOutWhatIsWritten setting (journaled_run WriteFirst setting steps) (λ more. journaled_run WriteFirst setting (steps ++ more))
 
 -- what a member has written is a legal history, at each moment
 abbrev pub WhatIsWrittenIsLegal : Type 0
 WhatIsWrittenIsLegal =
     (setting : Setting) (steps : List JournaledStep) (k : ℕ) → IsSettingOfHistories setting → k < setting.group.size
     → IsLegal (seat_at setting k) (written_entries (journaled_run WriteFirst setting steps) k)
-
--- ---- without histories
-
--- with a limit that leaves an entry for each step, cores run what is left as members do
-abbrev pub CoresRunWhatIsLeft : Type 0
-CoresRunWhatIsLeft =
-    (setting : Setting) (steps : List JournaledStep) → length steps ≤ setting.limit
-    → run_of_cores setting.group (without_dropped (journaled_run WriteFirst setting steps))
-    ≡ run setting (without_dropped (journaled_run WriteFirst setting steps))
 
 -- ---- the other order
 
@@ -112,4 +103,4 @@ SendingFirstUsesANameTwice =
 abbrev pub HandingOutFirstIsTakenBack : Type 0
 HandingOutFirstIsTakenBack =
     (setting : Setting) × (steps : List JournaledStep) × IsSetting setting
-    × (HandedOutItsEvents setting (journaled_run WriteLater setting steps) → ⊥)
+    × (BesideWhatIsLeft HandedOutItsEvents setting (journaled_run WriteLater setting steps) → ⊥)

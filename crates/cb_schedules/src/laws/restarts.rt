@@ -1,10 +1,16 @@
 //! Members that come back: each writes its entries into a journal, and has after a restart what was written.
 
+ghost use Rattle.cb_schedules.specs.ForgettingRestarts.{BesideWhatCoresLeave};
+ghost use Rattle.cb_schedules.specs.ForgettingRestarts.{EachJournaledRunOfCores};
+ghost use Rattle.cb_schedules.specs.ForgettingRestarts.{JournaledCoresRunAsMembers};
+ghost use Rattle.cb_schedules.specs.ForgettingRestarts.{OfWhatCoresLeave};
+ghost use Rattle.cb_schedules.specs.ForgettingRestarts.{StepsOfCoresTakeNothingBack};
+ghost use Rattle.cb_schedules.specs.ForgettingRestarts.{WhatCoresWroteIsHandedOut};
 ghost use Rattle.cb_schedules.specs.Headline.{Headline, IsCausalBroadcast};
 ghost use Rattle.cb_schedules.specs.RestartLaws.{ArrivalsWereSent, AsksForWhatWasEntered};
-ghost use Rattle.cb_schedules.specs.RestartLaws.{CoresRunWhatIsLeft, EachJournaledRun};
+ghost use Rattle.cb_schedules.specs.RestartLaws.{BesideWhatIsLeft, EachJournaledRun};
 ghost use Rattle.cb_schedules.specs.RestartLaws.{HandedOutItsEvents, HandingOutFirstIsTakenBack};
-ghost use Rattle.cb_schedules.specs.RestartLaws.{HasItsHistories, OfTheRest, OfWhatIsSeen};
+ghost use Rattle.cb_schedules.specs.RestartLaws.{HasItsHistories, OfWhatIsLeft, OfWhatIsSeen};
 ghost use Rattle.cb_schedules.specs.RestartLaws.{SendingFirstUsesANameTwice, SentItsFrames};
 ghost use Rattle.cb_schedules.specs.RestartLaws.{StepsTakeNothingBack, WhatIsWrittenIsHandedOut};
 ghost use Rattle.cb_schedules.specs.RestartLaws.{WhatIsWrittenIsLegal};
@@ -18,17 +24,17 @@ ghost use Rattle.cb_schedules.specs.SentLaws.{SentCastsAreOwn, SentStatusesAreSo
 ///
 /// Members may end at any moment and as often as they like, several of them at once.
 pub fn restarts_leave_a_schedule()
-    ensures calls { EachJournaledRun AsksForWhatWasEntered }
-    ensures arrivals { EachJournaledRun ArrivalsWereSent }
-    ensures histories { EachJournaledRun HasItsHistories }
-    ensures frames { EachJournaledRun SentItsFrames }
-    ensures handed { EachJournaledRun HandedOutItsEvents }
+    ensures calls { EachJournaledRun (BesideWhatIsLeft AsksForWhatWasEntered) }
+    ensures arrivals { EachJournaledRun (BesideWhatIsLeft ArrivalsWereSent) }
+    ensures histories { EachJournaledRun (BesideWhatIsLeft HasItsHistories) }
+    ensures frames { EachJournaledRun (BesideWhatIsLeft SentItsFrames) }
+    ensures handed { EachJournaledRun (BesideWhatIsLeft HandedOutItsEvents) }
 {}
 
 /// So the headline holds of it, word for word: the members' casts and deliveries are a run of the causal machine, each has delivered
 /// just the closed arrivals, and the times in the bytes compare as happened-before does.
 pub fn causal_broadcast_with_restarts()
-    ensures headline { EachJournaledRun (OfTheRest Headline) }
+    ensures headline { EachJournaledRun (OfWhatIsLeft Headline) }
     ensures causal { EachJournaledRun (OfWhatIsSeen IsCausalBroadcast) }
 {}
 
@@ -46,7 +52,7 @@ pub fn frames_outlive_restarts()
 /// restart, is handed out by as many steps, in its order.
 pub fn nothing_is_taken_back()
     ensures back { StepsTakeNothingBack }
-    ensures handed { WhatIsWrittenIsHandedOut }
+    ensures shown { WhatIsWrittenIsHandedOut }
 {}
 
 /// At each moment what a member has written is a legal history, with which it can be resumed, where its limit is one that histories can
@@ -55,9 +61,21 @@ pub fn what_is_written_can_be_resumed()
     ensures { WhatIsWrittenIsLegal }
 {}
 
-/// Cores, which keep no history, run what is left as members do that have an entry left for each step.
+/// So it is with cores, which keep no history beside their journal. With every limit that leaves an entry for each step, members with
+/// journals do what cores with journals do. What is left of any run of these, however long, is a run of cores: it has their histories,
+/// their frames and the events handed out. The headline holds of it, no number is used twice, nothing is taken back, and what is
+/// written is handed out.
 pub fn cores_come_back_as_members_do()
-    ensures { CoresRunWhatIsLeft }
+    ensures alike { JournaledCoresRunAsMembers }
+    ensures calls { EachJournaledRunOfCores (BesideWhatCoresLeave AsksForWhatWasEntered) }
+    ensures arrivals { EachJournaledRunOfCores (BesideWhatCoresLeave ArrivalsWereSent) }
+    ensures histories { EachJournaledRunOfCores (BesideWhatCoresLeave HasItsHistories) }
+    ensures frames { EachJournaledRunOfCores (BesideWhatCoresLeave SentItsFrames) }
+    ensures handed { EachJournaledRunOfCores (BesideWhatCoresLeave HandedOutItsEvents) }
+    ensures headline { EachJournaledRunOfCores (OfWhatCoresLeave Headline) }
+    ensures bytes { EachJournaledRunOfCores (OfWhatIsSeen OneNameSameBytes) }
+    ensures back { StepsOfCoresTakeNothingBack }
+    ensures shown { WhatCoresWroteIsHandedOut }
 {}
 
 /// The order is needed. A member that sends before it writes may use one name for two messages, and one that hands out before it writes
