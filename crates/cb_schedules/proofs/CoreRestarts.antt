@@ -1,5 +1,5 @@
 -- Cores come back as members do.
-use Rattle.std.proofs.Common.{◌≡◌, ℕ, suc, ◌+◌, ◌<◌, ◌≤◌, Bool, leb, List, [], ◌∷◌, ◌++◌, length, map, take, filter, Option, Some, None, slice_get, refl, sym, ap, subst, ◌∙◌, arith}
+use Rattle.std.proofs.Common.{◌≡◌, ℕ, suc, ◌+◌, ◌≤◌, Bool, leb, List, [], ◌∷◌, ◌++◌, length, map, take, filter, Option, Some, None, slice_get, refl, sym, ap, subst, ◌∙◌, arith}
 use Rattle.std.proofs.lemmas.Bool.{cond_both}
 use Rattle.std.proofs.lemmas.List.{length-append, length-take}
 use Rattle.cb_delay.specs.declared.message.Event.{Event}
@@ -7,18 +7,18 @@ use Rattle.cb_history.specs.Group.{Parameters, AreParameters}
 use Rattle.cb_history.specs.Facts.{EntryFields, facts_of}
 use Rattle.cb_history.specs.Events.{events}
 use Rattle.cb_history.specs.Legal.{Call, room_for_one, and_entry, entry_of, history_after}
-use Rattle.cb_schedules.specs.Schedule.{Setting, IsSetting, seat_at, Step, CastStep, ArriveStep, TickStep, HelpStep, SentFrame, Asked, Calls, OfNoMember, OfNoFrame, OfNoBytes, Answer, answer_of, frames_sent, sent_by, asked_by, GroupState, run}
+use Rattle.cb_schedules.specs.Schedule.{Setting, IsSetting, seat_at, CastStep, ArriveStep, TickStep, HelpStep, SentFrame, Asked, Calls, OfNoMember, OfNoFrame, OfNoBytes, Answer, answer_of, frames_sent, sent_by, asked_by, GroupState, run}
 use Rattle.cb_schedules.specs.SentLaws.{OneNameSameBytes}
 use Rattle.cb_schedules.specs.Headline.{Headline}
 use Rattle.cb_schedules.specs.Forgetting.{run_of_cores}
-use Rattle.cb_schedules.specs.Restarts.{WaitingFrame, EnteredCall, JournaledState, nothing_journaled, with_own, JournaledStep, EnterStep, WriteStep, SendStep, HandOutStep, RestartStep, WriteFirst, entered_call, waiting_frames, after_entering, and_sent, written_entries, and_handed, is_kept, journaled_step, journaled_from, journaled_run, steps_for, without_dropped, seen_of}
-use Rattle.cb_schedules.specs.RestartLaws.{EachJournaledRun, OfWhatIsSeen, BesideWhatIsLeft, AsksForWhatWasEntered, ArrivalsWereSent, HasItsHistories, SentItsFrames, HandedOutItsEvents, NothingIsTakenBack, written_events}
+use Rattle.cb_schedules.specs.Restarts.{WaitingFrame, EnteredCall, JournaledState, nothing_journaled, with_own, JournaledStep, EnterStep, WriteStep, SendStep, HandOutStep, RestartStep, WriteFirst, entered_call, waiting_frames, after_entering, and_sent, written_entries, and_handed, is_kept, journaled_step, journaled_from, journaled_run, steps_for, without_dropped, there_now}
+use Rattle.cb_schedules.specs.RestartLaws.{EachJournaledRun, OfWhatIsThere, BesideWhatIsLeft, AsksForWhatWasEntered, ArrivalsWereSent, HasItsHistories, SentItsFrames, HandedOutItsEvents, NothingIsTakenBack, written_events}
 use Rattle.cb_schedules.specs.ForgettingRestarts.{after_entering_of_cores, journaled_step_of_cores, journaled_cores_from, journaled_run_of_cores, JournaledCoresRunAsMembers, EachJournaledRunOfCores, BesideWhatCoresLeave, OfWhatCoresLeave, WhatCoresWroteIsHandedOut, StepsOfCoresTakeNothingBack}
 use Rattle.cb_schedules.proofs.Room.{call_not_full, one_more}
 use Rattle.cb_schedules.proofs.Forgetting.{call_same, cores_run_as_members}
 use Rattle.cb_schedules.proofs.Cores.{headline_of_cores}
 use Rattle.cb_schedules.proofs.Journaled.{of_each, run_holds}
-use Rattle.cb_schedules.proofs.RestartLaws.{each_run, asks_for_what_was_entered, arrivals_were_sent, has_its_histories, sent_its_frames, handed_out_its_events, seen_names_have_one_text, steps_take_nothing_back, hands_out_behind}
+use Rattle.cb_schedules.proofs.RestartLaws.{each_run, asks_for_what_was_entered, arrivals_were_sent, has_its_histories, sent_its_frames, handed_out_its_events, names_have_one_text_now, steps_take_nothing_back, hands_out_behind}
 
 -- ---- no more calls are left than steps were made
 
@@ -186,9 +186,9 @@ cores_handed_out_its_events setting steps are = of_cores HandedOutItsEvents (eac
 pub headline_of_cores_with_restarts : EachJournaledRunOfCores (OfWhatCoresLeave Headline)
 headline_of_cores_with_restarts setting steps are = headline_of_cores setting (without_dropped (journaled_run_of_cores setting.group steps)) are
 
-pub cores_names_have_one_text : EachJournaledRunOfCores (OfWhatIsSeen OneNameSameBytes)
+pub cores_names_have_one_text : EachJournaledRunOfCores (OfWhatIsThere OneNameSameBytes)
 cores_names_have_one_text setting steps are =
-    of_cores (λ (within : Setting) (s : GroupState) (r : JournaledState). OneNameSameBytes within (seen_of r)) (each_run (OfWhatIsSeen OneNameSameBytes) seen_names_have_one_text) setting.group steps are
+    of_cores (λ (within : Setting) (s : GroupState) (r : JournaledState). OneNameSameBytes within (there_now r)) (each_run (OfWhatIsThere OneNameSameBytes) names_have_one_text_now) setting.group steps are
 
 pub steps_of_cores_take_nothing_back : StepsOfCoresTakeNothingBack
 steps_of_cores_take_nothing_back setting steps step are =

@@ -1,7 +1,7 @@
 -- The laws of runs with restarts.
-use Rattle.std.proofs.Common.{◌≡◌, ℕ, leb, List, [], ◌∷◌, ◌++◌, length, take, drop, Option, Some, None, slice_get, refl, sym, ap, subst, ◌∙◌, append_assoc, append-nil, arith, eqb, filter, map, Bool, ◌≤◌, ◌+◌}
+use Rattle.std.proofs.Common.{◌≡◌, ℕ, leb, List, [], ◌∷◌, ◌++◌, length, take, drop, Option, Some, None, slice_get, refl, sym, ap, subst, ◌∙◌, append_assoc, append-nil, arith, eqb, map}
 use Rattle.std.proofs.lemmas.Bool.{cond_both, cond-true, eq-eqb}
-use Rattle.std.proofs.lemmas.List.{take_all, take-take, take-append-drop, length-append}
+use Rattle.std.proofs.lemmas.List.{take_all, take-take, take-append-drop}
 use Rattle.cb_delay.specs.declared.message.Event.{Event}
 use Rattle.cb_causality.proofs.Agreement.{depends_on_lists_alone}
 use Rattle.cb_history.specs.Facts.{EntryFields, facts_of}
@@ -10,19 +10,18 @@ use Rattle.cb_history.specs.Answers.{own_casts}
 use Rattle.cb_history.specs.Legal.{entry_of, history_after, Call, ToCast, ToTake, ToTick, ToHelp, IsLegal}
 use Rattle.cb_history.specs.BufferLaws.{IsCastOf}
 use Rattle.cb_history.proofs.Views.{IsIn}
-use Rattle.cb_schedules.specs.Schedule.{Setting, IsSetting, seat_at, Asked, Calls, OfNoMember, OfNoFrame, OfNoBytes, asked_by, GroupState, run, IsSettingOfHistories, SentFrame}
+use Rattle.cb_schedules.specs.Schedule.{Setting, IsSetting, seat_at, Asked, Calls, OfNoMember, OfNoFrame, OfNoBytes, asked_by, GroupState, run}
 use Rattle.cb_schedules.specs.Honest.{IsReported}
 use Rattle.cb_schedules.specs.SentLaws.{SentCastsAreOwn, OneNameSameBytes, SentStatusesAreSo, NobodyAsksItself, HelpersAreThird}
 use Rattle.cb_schedules.specs.Headline.{EachSchedule, IsCausalBroadcast, Headline}
 use Rattle.cb_schedules.specs.StepLaws.{FramesGoOn}
-use Rattle.cb_schedules.specs.Restarts.{WaitingFrame, EnteredCall, JournaledState, nothing_journaled, JournaledStep, EnterStep, WriteStep, SendStep, HandOutStep, RestartStep, WriteFirst, after_entering, and_sent, and_handed, journaled_step, journaled_from, journaled_run, without_dropped, seen_of, written_entries, entered_call, is_kept, steps_for, with_own}
+use Rattle.cb_schedules.specs.Restarts.{WaitingFrame, EnteredCall, JournaledState, nothing_journaled, JournaledStep, EnterStep, WriteStep, SendStep, HandOutStep, RestartStep, WriteFirst, after_entering, and_sent, and_handed, journaled_step, journaled_from, journaled_run, without_dropped, there_now, written_entries, with_own}
 use Rattle.cb_schedules.specs.RestartLaws.{EachJournaledRun, BesideWhatIsLeft, OfWhatIsLeft, AsksForWhatWasEntered, HasItsHistories, SentItsFrames, HandedOutItsEvents, NothingIsTakenBack, StepsTakeNothingBack, TakesWhatWasSent, ArrivalsWereSent, written_events, WhatIsWrittenIsHandedOut, WhatIsWrittenIsLegal}
 use Rattle.cb_schedules.proofs.Headlines.{each_schedule, headline_holds, sent_casts_are_own, one_name_same_bytes, sent_statuses_are_so, nobody_asks_itself, helpers_are_third}
 use Rattle.cb_schedules.proofs.Lists.{index_of, in_by_index, in_flat, all_from}
 use Rattle.cb_schedules.proofs.Entered.{IsBehind, run_is_behind}
 use Rattle.cb_schedules.proofs.Journaled.{of_each, IsJournaled, shows_more, cuts_go_on, front_stays, now_written, writes, run_holds, TakesOneOf}
 use Rattle.cb_schedules.proofs.Within.{histories_are_legal}
-use Rattle.cb_schedules.proofs.Forgetting.{cores_run_as_members}
 use Rattle.cb_history.proofs.Prefixes.{prefix_is_legal}
 
 -- what is so behind all steps
@@ -73,30 +72,30 @@ module _ (setting : Setting) (is : IsSetting setting) (r : JournaledState) (h : 
             ∙ more.1 ∙ ap (λ (es : List Event). es ++ more.0) old.1 ∙ append_assoc (r.handed k) old.0 more.0,
       )
 
-  -- ---- what all can see
+  -- ---- what there is now
 
-  pub seen_casts_are_own : SentCastsAreOwn setting (seen_of r)
-  seen_casts_are_own frame c sent read =
+  pub casts_are_own_now : SentCastsAreOwn setting (there_now r)
+  casts_are_own_now frame c sent read =
       let own = each_schedule SentCastsAreOwn sent_casts_are_own setting (without_dropped r) is frame c (sent_its_frames frame sent) read in
       (subst (λ (es : List EntryFields). IsCastOf c (own_casts (facts_of es))) (sym (has_its_histories c.sender)) own.0, own.1)
 
-  pub seen_names_have_one_text : OneNameSameBytes setting (seen_of r)
-  seen_names_have_one_text frame other c d n sent other_sent =
+  pub names_have_one_text_now : OneNameSameBytes setting (there_now r)
+  names_have_one_text_now frame other c d n sent other_sent =
       each_schedule OneNameSameBytes one_name_same_bytes setting (without_dropped r) is frame other c d n (sent_its_frames frame sent) (sent_its_frames other other_sent)
 
-  pub seen_statuses_are_so : SentStatusesAreSo setting (seen_of r)
-  seen_statuses_are_so frame t sent read =
+  pub statuses_are_so_now : SentStatusesAreSo setting (there_now r)
+  statuses_are_so_now frame t sent read =
       depends_on_lists_alone (λ (histories : ℕ → List EntryFields). IsReported setting.group (λ (k : ℕ). facts_of (histories k)) t) rest.histories r.histories (λ k. sym (has_its_histories k))
       (each_schedule SentStatusesAreSo sent_statuses_are_so setting (without_dropped r) is frame t (sent_its_frames frame sent) read)
 
-  pub nobody_is_seen_to_ask_itself : NobodyAsksItself setting (seen_of r)
-  nobody_is_seen_to_ask_itself frame q sent = each_schedule NobodyAsksItself nobody_asks_itself setting (without_dropped r) is frame q (sent_its_frames frame sent)
+  pub nobody_asks_itself_now : NobodyAsksItself setting (there_now r)
+  nobody_asks_itself_now frame q sent = each_schedule NobodyAsksItself nobody_asks_itself setting (without_dropped r) is frame q (sent_its_frames frame sent)
 
-  pub seen_helpers_are_third : HelpersAreThird setting (seen_of r)
-  seen_helpers_are_third frame q sent = each_schedule HelpersAreThird helpers_are_third setting (without_dropped r) is frame q (sent_its_frames frame sent)
+  pub helpers_are_third_now : HelpersAreThird setting (there_now r)
+  helpers_are_third_now frame q sent = each_schedule HelpersAreThird helpers_are_third setting (without_dropped r) is frame q (sent_its_frames frame sent)
 
-  pub seen_is_causal : IsCausalBroadcast setting (seen_of r)
-  seen_is_causal =
+  pub is_causal_now : IsCausalBroadcast setting (there_now r)
+  is_causal_now =
       depends_on_lists_alone (λ (histories : ℕ → List EntryFields). IsCausalBroadcast setting (record { histories = histories; sent = []; outcomes = [] })) rest.histories r.histories (λ k. sym (has_its_histories k))
       (each_schedule Headline headline_holds setting (without_dropped r) is).causal
 

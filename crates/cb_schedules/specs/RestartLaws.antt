@@ -9,16 +9,16 @@ use Rattle.cb_schedules.specs.Schedule.{Setting, IsSetting, IsSettingOfHistories
 use Rattle.cb_schedules.specs.Messages.{stamped_lists}
 use Rattle.cb_schedules.specs.SentLaws.{WasSent, OneNameSameBytes}
 use Rattle.cb_schedules.specs.StepLaws.{FramesGoOn}
-use Rattle.cb_schedules.specs.Restarts.{JournaledState, JournaledStep, HandOutStep, WriteFirst, WriteLater, journaled_run, written_entries, without_dropped, seen_of}
+use Rattle.cb_schedules.specs.Restarts.{JournaledState, JournaledStep, HandOutStep, WriteFirst, WriteLater, journaled_run, written_entries, without_dropped, there_now}
 
 -- it holds after all steps, restarts among them, for every group and every history limit, where entries are written first
 abbrev pub EachJournaledRun : (Setting → JournaledState → Type 0) → Type 0
 EachJournaledRun P =
     (setting : Setting) (steps : List JournaledStep) → IsSetting setting → P setting (journaled_run WriteFirst setting steps)
 
--- so it holds of what all can see of it
-abbrev pub OfWhatIsSeen : (Setting → GroupState → Type 0) → Setting → JournaledState → Type 0
-OfWhatIsSeen P setting r = P setting (seen_of r)
+-- so it holds of the histories and the frames that there are
+abbrev pub OfWhatIsThere : (Setting → GroupState → Type 0) → Setting → JournaledState → Type 0
+OfWhatIsThere P setting r = P setting (there_now r)
 
 -- what is left of it, the run of the schedule without the steps that were dropped, and the state beside it
 abbrev pub BesideWhatIsLeft : (Setting → GroupState → JournaledState → Type 0) → Setting → JournaledState → Type 0
@@ -37,7 +37,7 @@ AsksForWhatWasEntered setting s r = map (λ outcome. outcome.asked) s.outcomes �
 -- what a call takes was sent
 abbrev pub TakesWhatWasSent : JournaledState → Call → Type 0
 TakesWhatWasSent r (ToCast load) = Unit {0}
-TakesWhatWasSent r (ToTake bytes) = (frame : SentFrame) × WasSent (seen_of r) frame × (frame.bytes ≡ bytes)
+TakesWhatWasSent r (ToTake bytes) = (frame : SentFrame) × WasSent (there_now r) frame × (frame.bytes ≡ bytes)
 TakesWhatWasSent r ToTick = Unit {0}
 TakesWhatWasSent r (ToHelp k) = Unit {0}
 
@@ -51,7 +51,7 @@ HasItsHistories setting s r = (k : ℕ) → r.histories k ≡ s.histories k
 
 -- each frame that was sent, also before a restart, is one of its frames
 abbrev pub SentItsFrames : Setting → GroupState → JournaledState → Type 0
-SentItsFrames setting s r = (frame : SentFrame) → WasSent (seen_of r) frame → WasSent s frame
+SentItsFrames setting s r = (frame : SentFrame) → WasSent (there_now r) frame → WasSent s frame
 
 -- what a caller was handed, also before a restart, is the beginning of its member's events
 abbrev pub HandedOutItsEvents : Setting → GroupState → JournaledState → Type 0
@@ -97,7 +97,7 @@ WhatIsWrittenIsLegal =
 abbrev pub SendingFirstUsesANameTwice : Type 0
 SendingFirstUsesANameTwice =
     (setting : Setting) × (steps : List JournaledStep) × IsSetting setting
-    × (OneNameSameBytes setting (seen_of (journaled_run WriteLater setting steps)) → ⊥)
+    × (OneNameSameBytes setting (there_now (journaled_run WriteLater setting steps)) → ⊥)
 
 -- and where events may be handed out before they are written, some caller was handed what its member never had
 abbrev pub HandingOutFirstIsTakenBack : Type 0

@@ -176,6 +176,6 @@ steps_for frames (x ∷ calls) = step_for frames x.member x.call ∷ steps_for (
 abbrev pub without_dropped : JournaledState → Schedule
 without_dropped r = steps_for [] r.entered
 
--- what all can see, as a state of a group: the histories in memory and the frames that were sent
-abbrev pub seen_of : JournaledState → GroupState
-seen_of r = record { histories = r.histories; sent = r.sent; outcomes = [] }
+-- what there is now, as a state of a group: the histories in memory and all frames that were sent
+abbrev pub there_now : JournaledState → GroupState
+there_now r = record { histories = r.histories; sent = r.sent; outcomes = [] }

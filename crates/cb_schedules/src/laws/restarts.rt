@@ -10,7 +10,7 @@ ghost use Rattle.cb_schedules.specs.Headline.{Headline, IsCausalBroadcast};
 ghost use Rattle.cb_schedules.specs.RestartLaws.{ArrivalsWereSent, AsksForWhatWasEntered};
 ghost use Rattle.cb_schedules.specs.RestartLaws.{BesideWhatIsLeft, EachJournaledRun};
 ghost use Rattle.cb_schedules.specs.RestartLaws.{HandedOutItsEvents, HandingOutFirstIsTakenBack};
-ghost use Rattle.cb_schedules.specs.RestartLaws.{HasItsHistories, OfWhatIsLeft, OfWhatIsSeen};
+ghost use Rattle.cb_schedules.specs.RestartLaws.{HasItsHistories, OfWhatIsLeft, OfWhatIsThere};
 ghost use Rattle.cb_schedules.specs.RestartLaws.{SendingFirstUsesANameTwice, SentItsFrames};
 ghost use Rattle.cb_schedules.specs.RestartLaws.{StepsTakeNothingBack, WhatIsWrittenIsHandedOut};
 ghost use Rattle.cb_schedules.specs.RestartLaws.{WhatIsWrittenIsLegal};
@@ -35,17 +35,17 @@ pub fn restarts_leave_a_schedule()
 /// just the closed arrivals, and the times in the bytes compare as happened-before does.
 pub fn causal_broadcast_with_restarts()
     ensures headline { EachJournaledRun (OfWhatIsLeft Headline) }
-    ensures causal { EachJournaledRun (OfWhatIsSeen IsCausalBroadcast) }
+    ensures causal { EachJournaledRun (OfWhatIsThere IsCausalBroadcast) }
 {}
 
 /// What was sent, before a restart or after it, says what is so. No number is used twice: cast frames that hold one name have the same
 /// bytes.
 pub fn frames_outlive_restarts()
-    ensures casts { EachJournaledRun (OfWhatIsSeen SentCastsAreOwn) }
-    ensures bytes { EachJournaledRun (OfWhatIsSeen OneNameSameBytes) }
-    ensures statuses { EachJournaledRun (OfWhatIsSeen SentStatusesAreSo) }
-    ensures requests { EachJournaledRun (OfWhatIsSeen NobodyAsksItself) }
-    ensures helps { EachJournaledRun (OfWhatIsSeen HelpersAreThird) }
+    ensures casts { EachJournaledRun (OfWhatIsThere SentCastsAreOwn) }
+    ensures bytes { EachJournaledRun (OfWhatIsThere OneNameSameBytes) }
+    ensures statuses { EachJournaledRun (OfWhatIsThere SentStatusesAreSo) }
+    ensures requests { EachJournaledRun (OfWhatIsThere NobodyAsksItself) }
+    ensures helps { EachJournaledRun (OfWhatIsThere HelpersAreThird) }
 {}
 
 /// No step takes back what was sent, handed out or written, a restart neither. What is written and was not handed out, before or after a
@@ -73,7 +73,7 @@ pub fn cores_come_back_as_members_do()
     ensures frames { EachJournaledRunOfCores (BesideWhatCoresLeave SentItsFrames) }
     ensures handed { EachJournaledRunOfCores (BesideWhatCoresLeave HandedOutItsEvents) }
     ensures headline { EachJournaledRunOfCores (OfWhatCoresLeave Headline) }
-    ensures bytes { EachJournaledRunOfCores (OfWhatIsSeen OneNameSameBytes) }
+    ensures bytes { EachJournaledRunOfCores (OfWhatIsThere OneNameSameBytes) }
     ensures back { StepsOfCoresTakeNothingBack }
     ensures shown { WhatCoresWroteIsHandedOut }
 {}
